@@ -1,0 +1,33 @@
+use Rattle.std.proofs.Common.{◌≡◌, ℕ, ◌+◌, ◌<◌, ◌≤◌, List, [], ◌∷◌, ◌++◌, Option, Some, None, length, take, drop, refl, sym, ◌∙◌, ap, arith, append_assoc, length-append, subst, append-nil}
+use Rattle.std.proofs.lemmas.Grind.{common_steps}
+use Rattle.sym_edges.specs.Outside.{Reads, ReadsFront}
+use Rattle.sym_edges.specs.WholeFile.{IsParted, IsWhole, IsLonger}
+
+-- a list in front of another is cut by a front of that one
+regrouped : (bytes rest front : List ℕ) (n : ℕ) → front ≡ take n rest → bytes ++ rest ≡ (bytes ++ front) ++ drop n rest
+regrouped bytes rest front n is = grind (arith, common_steps)
+
+-- a front of what is left joins what was read
+pub parted_more : (whole left after : Option (List ℕ)) (bytes front : List ℕ) (n room : ℕ) → IsParted whole bytes left → Reads left n room front after → IsParted whole (bytes ++ front) after
+parted_more None None after bytes front n room parted reads = reads
+parted_more None (Some left) after bytes front n room parted reads = cc
+parted_more (Some whole) None after bytes front n room parted reads = let h = parted.1 in cc
+parted_more (Some whole) (Some left) after bytes front n room parted reads =
+    let same : left ≡ parted.0 = (let h = parted.1 in cc) in
+    let is : front ≡ take n parted.0 = (let h = reads.front in cc) in
+    let rest : after ≡ Some (drop n parted.0) = (let h = reads.rest in cc) in
+    (drop n parted.0, rest, parted.2 ∙ regrouped bytes parted.0 front n is)
+
+-- where nothing could be read, the file was read whole
+pub parted_whole : (whole left after : Option (List ℕ)) (bytes front : List ℕ) (room limit : ℕ) → IsParted whole bytes left → Reads left 0 room front after → 0 < room → length bytes ≤ limit → IsWhole whole bytes limit
+parted_whole None left after bytes front room limit parted reads some few = few
+parted_whole (Some whole) None after bytes front room limit parted reads some few = let h = parted.1 in cc
+parted_whole (Some whole) (Some left) after bytes front room limit parted reads some few =
+    let none : left ≡ [] = (reads.ended some).0 refl in
+    let rest : parted.0 ≡ [] = (let h = parted.1 in cc) in
+    (parted.2 ∙ ap (λ r. bytes ++ r) rest ∙ append-nil bytes, few)
+
+-- more was read than the limit
+pub parted_longer : (whole left : Option (List ℕ)) (bytes : List ℕ) (limit : ℕ) → IsParted whole bytes left → limit < length bytes → IsLonger whole limit
+parted_longer None left bytes limit parted more = tt
+parted_longer (Some whole) left bytes limit parted more = omega (arith, length-append bytes parted.0, ap length parted.2)

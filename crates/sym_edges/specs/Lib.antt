@@ -1,0 +1,4 @@
+pub mod Addresses
+pub mod Outside
+pub mod Memory
+pub mod WholeFile

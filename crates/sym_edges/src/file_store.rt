@@ -1,0 +1,71 @@
+ghost use Rattle.std.specs.Prelude.{◌≡◌, ℕ, ◌≤◌, ◌<◌, List, [], None};
+ghost use Rattle.sym_edges.specs.Outside.{MatchStop, OnFault, OnNoMemory, Rose};
+
+use crate::fault::{Failed, Stop};
+use crate::name::NameText;
+use crate::store::Store;
+use std::alloc::Global;
+use std::fs;
+use std::io::Read;
+use std::rt::Files;
+
+/// The system's files. It tells neither their bytes nor what is left, and counts each error of the system.
+#[derive(Drop)]
+pub struct FileStore<'a, R: Files> {
+    system: &'a R,
+    alloc: Global,
+    asked: Vec<NameText>,
+    open: Option<R::File>,
+    faults: u64,
+}
+
+impl<'a, R: Files> FileStore<'a, R> {
+    /// Nothing is open.
+    pub fn new(alloc: Global, system: &'a R) -> FileStore<'a, R> {
+        FileStore {
+            system,
+            alloc,
+            asked: Vec::new(alloc),
+            open: None,
+            faults: 0,
+        }
+    }
+}
+
+impl<R: Files> Store for FileStore<'_, R> {
+    ghost asked = { λ s. s.asked.items };
+
+    ghost files = { λ _. None };
+
+    ghost left = { λ _. None };
+
+    ghost faults = { λ s. s.faults };
+
+    fn open_file(&mut self, name: &str) -> Result<(), Stop<Failed>> {
+        let asked = NameText::of(String::from_str(self.alloc, name)?);
+        self.asked.push(asked)?;
+        match fs::open(self.system, name) {
+            Ok(file) => {
+                self.open = Some(file);
+                Ok(())
+            }
+            Err(_) => {
+                self.faults = self.faults.saturating_add(1);
+                Err(Stop::Fault(Failed))
+            }
+        }
+    }
+
+    fn read(&mut self, buf: &mut [u8]) -> Result<usize, Failed> {
+        match &mut self.open {
+            None => Ok(0),
+            Some(file) => match file.read(buf) {
+                Ok(count) => Ok(count),
+                Err(_) => {
+                    self.faults = self.faults.saturating_add(1);
+                    Err(Failed)
+                }
+            },
+        }
+    }
+}

@@ -1,0 +1,40 @@
+//! The edges of the program: where bytes come in, where text goes out, and the small types that every layer shares.
+//!
+//! A `Store` gives the bytes of named files and a `Sink` takes bytes; both may fail, and both count
+//! their faults, so that a caller can tell a fault of the outside from one of its own. `read_all` gives a whole
+//! file or says why not, and `write_all` writes all bytes or leaves a front of them. `MemStore` and `MemSink`
+//! tell everything and serve tests; `FileStore` and `StreamSink` are the system's files and streams.
+#![tactic(auto)]
+
+mod fault;
+mod file_store;
+mod list;
+mod mem_sink;
+mod mem_store;
+mod name;
+mod part;
+mod reading;
+mod reason;
+mod sink;
+mod span;
+mod store;
+mod stream_sink;
+mod writing;
+
+pub use fault::{Failed, OutOfMemory, Stop};
+pub use file_store::FileStore;
+pub use list::{ByteRun, CallList, ListOf};
+pub use mem_sink::MemSink;
+pub use mem_store::{FileList, MemStore};
+pub use name::{NameText, NamedFile};
+pub use part::{Part, Sect};
+pub use reading::{ReadEnd, read_all};
+pub use reason::Reason;
+pub use sink::Sink;
+pub use span::Span;
+pub use store::Store;
+pub use stream_sink::StreamSink;
+pub use writing::write_all;
+
+#[cfg(test)]
+mod tests;

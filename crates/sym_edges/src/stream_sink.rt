@@ -1,0 +1,38 @@
+ghost use Rattle.std.specs.Prelude.{None};
+
+use crate::fault::Failed;
+use crate::sink::Sink;
+use std::io::Write;
+
+/// A stream of the system, as standard output. Each piece is handed to the system in one call, and nothing is kept in a
+/// buffer. It tells no bytes, and counts each error of the system, and a write of 0 bytes as one.
+#[derive(Drop)]
+pub struct StreamSink<W: Write + Drop> {
+    stream: W,
+    faults: u64,
+}
+
+impl<W: Write + Drop> StreamSink<W> {
+    pub fn new(stream: W) -> StreamSink<W> {
+        StreamSink { stream, faults: 0 }
+    }
+}
+
+impl<W: Write + Drop> Sink for StreamSink<W> {
+    ghost taken = { λ _. None };
+
+    ghost faults = { λ s. s.faults };
+
+    fn write(&mut self, piece: &[u8]) -> Result<usize, Failed> {
+        if piece.is_empty() {
+            return Ok(0);
+        }
+        match self.stream.write(piece) {
+            Ok(count) if count > 0 => Ok(count),
+            _ => {
+                self.faults = self.faults.saturating_add(1);
+                Err(Failed)
+            }
+        }
+    }
+}
