@@ -1,0 +1,5 @@
+pub mod Ahead
+pub mod Readings
+pub mod Passes
+pub mod Steps
+pub mod Groups

@@ -1,0 +1,45 @@
+//! Numbers of fixed width, the lowest byte first.
+ghost use Rattle.std.specs.Prelude.{◌≡◌, ◌≤◌, length};
+ghost use Rattle.leb_cursor.specs.Readings.{fixed_sum};
+
+/// The number of two bytes at the front.
+#[inline]
+#[tactic(auto, unfolding(crate::specs::Readings::fixed_sum))]
+pub fn front_u16(bytes: &[u8]) -> u16
+    requires { 2 ≤ length bytes.now }
+    ensures { result ≡ fixed_sum 2 bytes.now }
+{
+    u16::from_le_bytes([bytes[0], bytes[1]])
+}
+
+/// The number of three bytes at the front.
+#[inline]
+#[tactic(auto, unfolding(crate::specs::Readings::fixed_sum))]
+pub fn front_u24(bytes: &[u8]) -> u32
+    requires { 3 ≤ length bytes.now }
+    ensures { result ≡ fixed_sum 3 bytes.now }
+{
+    u32::from_le_bytes([bytes[0], bytes[1], bytes[2], 0])
+}
+
+/// The number of four bytes at the front.
+#[inline]
+#[tactic(auto, unfolding(crate::specs::Readings::fixed_sum))]
+pub fn front_u32(bytes: &[u8]) -> u32
+    requires { 4 ≤ length bytes.now }
+    ensures { result ≡ fixed_sum 4 bytes.now }
+{
+    u32::from_le_bytes([bytes[0], bytes[1], bytes[2], bytes[3]])
+}
+
+/// The number of eight bytes at the front.
+#[inline]
+#[tactic(auto, unfolding(crate::specs::Readings::fixed_sum))]
+pub fn front_u64(bytes: &[u8]) -> u64
+    requires { 8 ≤ length bytes.now }
+    ensures { result ≡ fixed_sum 8 bytes.now }
+{
+    u64::from_le_bytes([
+        bytes[0], bytes[1], bytes[2], bytes[3], bytes[4], bytes[5], bytes[6], bytes[7],
+    ])
+}

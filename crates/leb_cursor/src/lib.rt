@@ -1,0 +1,25 @@
+//! A cursor over a run of bytes, which reads what DWARF's sections are made of: numbers of fixed
+//! width with the lowest byte first, LEB128 numbers (DWARF 5, 7.6), texts up to a zero byte, and
+//! runs of so many bytes.
+//!
+//! A contract sees a cursor as what is ahead of it: the bytes that are left, and the place of the
+//! first of them. Each call promises one equation: its answer and what is left afterwards are what
+//! `specs/Readings.antt` gives for what was left before. So a number is the sum of its bytes, or of
+//! its groups of seven bits; a refusal comes exactly where the definition has one, and names the
+//! place at which the call began; and a refused call leaves the cursor as it was. No call takes
+//! memory.
+//!
+//! The laws of [`laws`](crate::laws) say how far a reading goes, and that a number of fixed width is
+//! the one that `from_le_bytes` reads.
+#![tactic(auto)]
+
+mod cursor;
+mod fault;
+mod fixed;
+pub mod laws;
+mod leb;
+#[cfg(test)]
+mod tests;
+
+pub use crate::cursor::Cursor;
+pub use crate::fault::CursorFault;
