@@ -1,0 +1,4 @@
+pub mod Rises
+pub mod Rows
+pub mod Layouts
+pub mod FrameOps

@@ -1,0 +1,64 @@
+//! Layouts of operands, and what is read by them.
+
+/// The layout of one operand. Fixed numbers have their lowest byte first.
+#[derive(Clone, Copy, PartialEq, Eq, Debug)]
+pub enum Kind {
+    /// No bytes.
+    Nothing,
+    U8,
+    U16,
+
+    /// A number of three bytes.
+    U24,
+    U32,
+    U64,
+
+    /// Sixteen bytes.
+    Bytes16,
+
+    /// An unsigned LEB128.
+    Uleb,
+
+    /// A signed LEB128.
+    Sleb,
+
+    /// A text up to its zero byte.
+    ZeroText,
+
+    /// A length of one byte, and so many bytes.
+    Block1,
+
+    /// A length of two bytes, and so many bytes.
+    Block2,
+
+    /// A length of four bytes, and so many bytes.
+    Block4,
+
+    /// A length as an unsigned LEB128, and so many bytes.
+    BlockUleb,
+}
+
+/// The layouts of a code's two operands, one behind the other.
+#[derive(Clone, Copy, PartialEq, Eq, Debug)]
+pub struct Shape {
+    pub first: Kind,
+    pub second: Kind,
+}
+
+/// An operand.
+#[derive(Clone, Copy, PartialEq, Eq, Debug)]
+pub enum Operand {
+    Nothing,
+    Num(u64),
+    Signed(i64),
+
+    /// A text without its zero byte, or the bytes of a block: where they begin, and how many.
+    Run { start: usize, len: usize },
+}
+
+/// The operands that a shape gives.
+#[derive(Clone, Copy, PartialEq, Eq, Debug)]
+pub struct Operands {
+    pub first: Operand,
+    pub second: Operand,
+}
