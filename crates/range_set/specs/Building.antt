@@ -1,0 +1,33 @@
+-- What is kept while a set is made from ranges in the order of their starts.
+use Rattle.std.specs.Prelude.{◌≡◌, ℕ, ◌<◌, ◌≤◌, max, List, [], ◌∷◌, Option, None, Some}
+use Rattle.sym_edges.specs.Addresses.{Range}
+use Rattle.range_set.specs.Canonical.{IsCanonical}
+
+-- the greatest start, or 0 where there is no range
+abbrev pub last_start : List Range → ℕ
+last_start [] = 0
+last_start (range ∷ ranges) = max range.start (last_start ranges)
+
+-- each range starts at or above the address
+abbrev pub AllFrom : ℕ → List Range → Type 0
+AllFrom a [] = Unit {0}
+AllFrom a (range ∷ ranges) = (a ≤ range.start) × AllFrom a ranges
+
+-- each range ends below the address
+abbrev pub EndsBelow : ℕ → List Range → Type 0
+EndsBelow a [] = Unit {0}
+EndsBelow a (range ∷ ranges) = (range.end < a) × EndsBelow a ranges
+
+-- the ranges that are done, and the last one, which may still grow
+abbrev pub IsBuilt : List Range → Option Range → Type 0
+IsBuilt done None = done ≡ []
+IsBuilt done (Some last) = (last.start < last.end) × EndsBelow last.start done × IsCanonical done
+
+-- each range starts at or below those after it
+abbrev pub AreAscending : List Range → Type 0
+AreAscending [] = Unit {0}
+AreAscending (range ∷ ranges) = AllFrom range.start ranges × AreAscending ranges
+
+-- the ranges of the first list start at or below those of the second
+abbrev pub StartsBefore : List Range → List Range → Type 0
+StartsBefore xs ys = AllFrom (last_start xs) ys

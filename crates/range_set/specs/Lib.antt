@@ -1,0 +1,4 @@
+pub mod Members
+pub mod Canonical
+pub mod Building
+pub mod Kept

@@ -1,0 +1,28 @@
+//! Sets of addresses.
+//!
+//! A [`RangeSet`] is a list of spans that are sorted and disjoint and do not touch, and contracts see it as that list.
+//! [`of_ranges`] makes the set of all addresses that some span of a slice holds; `join`, `meet` and `minus` hold what one of
+//! two sets holds, what both hold, and what the first holds and the second does not; `has` looks one address up. Each
+//! contract says so of every address. A set of addresses has one such list only, which is what
+//! [`same_addresses_same_list`] promises, so these contracts settle each answer down to its last span.
+//!
+//! A set of one span, by far the most frequent, and the empty one take no memory beyond the struct.
+//!
+//! To read: `set` first, then `building`, on which the merges stand, the merges `joining`, `meeting` and `cutting`, then
+//! `searching` and `law`.
+#![tactic(auto)]
+
+mod building;
+mod cutting;
+mod joining;
+mod law;
+mod meeting;
+mod searching;
+mod set;
+
+pub use joining::of_ranges;
+pub use law::same_addresses_same_list;
+pub use set::RangeSet;
+
+#[cfg(test)]
+mod tests;
