@@ -1,0 +1,6 @@
+pub mod TableLemmas
+pub mod ProgramLemmas
+pub mod NoteLemmas
+pub mod IdentityLemmas
+pub mod TextLemmas
+pub mod SymbolLemmas

@@ -1,0 +1,30 @@
+use Rattle.std.proofs.Common.{◌≡◌, ℕ, zero, suc, ◌+◌, ◌-◌, ◌*◌, ◌<◌, ◌≤◌, ◌==◌, Bool, true, false, cond, List, [], ◌∷◌, Option, Some, None, length, map, find, refl, sym, ◌∙◌, ap, arith, add-one}
+use Rattle.std.proofs.lemmas.Grind.{common_steps}
+use Rattle.std.specs.List.{range_with_len}
+use Rattle.std.specs.Option.{option_map_or}
+use Rattle.elf_sections.specs.declared.program.ProgramHeader.{ProgramHeader}
+use Rattle.elf_sections.specs.declared.constants.TheConstants.{PROGRAM_HEADER, PT_LOAD}
+use Rattle.elf_sections.specs.Programs.{program_at, programs_from, loaded_address}
+
+-- the first header of what is left
+programs_next : (file : List ℕ) (table k n : ℕ) → programs_from file table k (suc n) ≡ program_at file (table + PROGRAM_HEADER * k) ∷ programs_from file table (k + 1) n
+unfolding programs_from
+programs_next file table k n = refl
+
+-- a loaded header in front gives the address, and any other leaves it to the rest
+pub address_found : (file : List ℕ) (table k n m : ℕ) → n ≡ m + 1 → ((program_at file (table + PROGRAM_HEADER * k)).kind == PT_LOAD) ≡ true → loaded_address (programs_from file table k n) ≡ (program_at file (table + PROGRAM_HEADER * k)).address
+unfolding loaded_address
+address_found file table k n m is test =
+    ap (λ j. loaded_address (programs_from file table k j)) (is ∙ add-one m) ∙ ap loaded_address (programs_next file table k m) ∙ rw test refl
+
+pub address_passed : (file : List ℕ) (table k n m : ℕ) → n ≡ m + 1 → ((program_at file (table + PROGRAM_HEADER * k)).kind == PT_LOAD) ≡ false → loaded_address (programs_from file table k n) ≡ loaded_address (programs_from file table (k + 1) m)
+unfolding loaded_address
+address_passed file table k n m is test =
+    ap (λ j. loaded_address (programs_from file table k j)) (is ∙ add-one m) ∙ ap loaded_address (programs_next file table k m) ∙ rw test refl
+
+none_left : (file : List ℕ) (table k : ℕ) → loaded_address (programs_from file table k 0) ≡ 0
+unfolding loaded_address programs_from
+none_left file table k = refl
+
+pub address_none : (file : List ℕ) (table k n : ℕ) → n ≡ 0 → loaded_address (programs_from file table k n) ≡ 0
+address_none file table k n is = ap (λ j. loaded_address (programs_from file table k j)) is ∙ none_left file table k

@@ -1,0 +1,136 @@
+use Rattle.std.specs.Prelude.{◌≡◌, ℕ, ◌==◌, ◌&&◌, Bool, true, false, List, [], ◌∷◌, Option, Some, None, Result, Ok, Err, length, find, is_none, codes, if◌then◌else◌}
+use Rattle.std.specs.Option.{option_map_or}
+use Rattle.sym_edges.specs.Addresses.{Range}
+use Rattle.sym_edges.specs.declared.part.Part.{Part}
+use Rattle.sym_edges.specs.declared.part.Sect.{Sect}
+use Rattle.sym_edges.specs.declared.part.Sect.TheVariants.{Info, Abbrev, Line, LineStr, Str, StrOffsets, Addr, Ranges, Rnglists, DebugFrame, EhFrame, Text}
+use Rattle.elf_sections.specs.FileHeader.{header_fault, later_fault, fault_if}
+use Rattle.elf_sections.specs.Sections.{sections, names, is_named, bytes_of, names_fault, bytes_fault, compressed_fault}
+use Rattle.elf_sections.specs.Programs.{program_fault, base, code}
+use Rattle.elf_sections.specs.Notes.{build_id}
+use Rattle.elf_sections.specs.Identity.{folded, front16}
+use Rattle.elf_sections.specs.Symbols.{SymbolParts, symbols, symbols_fault}
+use Rattle.elf_sections.specs.declared.section.SectionHeader.{SectionHeader}
+use Rattle.elf_sections.specs.declared.fault.ElfFault.{ElfFault}
+use Rattle.elf_sections.specs.declared.fault.ElfFault.TheVariants.{NoIdentity}
+
+-- the bytes of a section, and its address
+pub record SectionPart : Type 0 where
+  pub bytes : List ℕ
+  pub address : ℕ
+
+-- a part as it is handed out
+abbrev pub part_view : Part → SectionPart
+part_view p = record { bytes = p.bytes.now; address = p.address }
+
+-- the part of a section, or the empty one at address 0
+abbrev pub part_of : List ℕ → Option SectionHeader → SectionPart
+part_of file None = record { bytes = []; address = 0 }
+part_of file (Some s) = record { bytes = bytes_of file s; address = s.address }
+
+-- the first section of that name
+unfoldable pub part_named : List ℕ → List ℕ → SectionPart
+part_named file name = part_of file (find (is_named (names file) name) (sections file))
+
+-- the section's name
+abbrev pub name_of : Sect → List ℕ
+name_of Info = codes ".debug_info"
+name_of Abbrev = codes ".debug_abbrev"
+name_of Line = codes ".debug_line"
+name_of LineStr = codes ".debug_line_str"
+name_of Str = codes ".debug_str"
+name_of StrOffsets = codes ".debug_str_offsets"
+name_of Addr = codes ".debug_addr"
+name_of Ranges = codes ".debug_ranges"
+name_of Rnglists = codes ".debug_rnglists"
+name_of DebugFrame = codes ".debug_frame"
+name_of EhFrame = codes ".eh_frame"
+name_of Text = codes ".text"
+
+-- the bytes of `.text` from which a file without a build id takes its identity
+abbrev pub IDENTITY_BYTES : ℕ
+IDENTITY_BYTES = 4096
+
+-- the identity: the front of the build id, or else of the code
+abbrev pub identity_of : List ℕ → Option (List ℕ) → List ℕ
+identity_of text None = folded IDENTITY_BYTES text
+identity_of text (Some id) = front16 id
+
+-- there is neither a build id nor code to take an identity from
+unfoldable pub identity_fault : List ℕ → Option ElfFault
+identity_fault file = fault_if (is_none (build_id file) && (length (part_named file (name_of Text)).bytes == 0)) NoIdentity None
+
+-- the first of the twelve faults, in their order
+unfoldable pub image_fault : List ℕ → Option ElfFault
+image_fault file = later_fault (header_fault file) (later_fault (names_fault file) (later_fault (bytes_fault file)
+    (later_fault (compressed_fault file) (later_fault (program_fault file) (later_fault (symbols_fault file) (identity_fault file))))))
+
+-- what an image is: its sections by name, base, code, build id, identity and function symbols
+pub record ImageParts : Type 0 where
+  pub info : SectionPart
+  pub abbrevs : SectionPart
+  pub line : SectionPart
+  pub line_str : SectionPart
+  pub str : SectionPart
+  pub str_offsets : SectionPart
+  pub addr : SectionPart
+  pub ranges : SectionPart
+  pub rnglists : SectionPart
+  pub debug_frame : SectionPart
+  pub eh_frame : SectionPart
+  pub text : SectionPart
+  pub base : ℕ
+  pub code : List Range
+  pub build_id : Option (List ℕ)
+  pub identity : List ℕ
+  pub symbols : List SymbolParts
+
+-- the parts of a file
+unfoldable pub parts_of : List ℕ → ImageParts
+parts_of file = record {
+  info = part_named file (name_of Info);
+  abbrevs = part_named file (name_of Abbrev);
+  line = part_named file (name_of Line);
+  line_str = part_named file (name_of LineStr);
+  str = part_named file (name_of Str);
+  str_offsets = part_named file (name_of StrOffsets);
+  addr = part_named file (name_of Addr);
+  ranges = part_named file (name_of Ranges);
+  rnglists = part_named file (name_of Rnglists);
+  debug_frame = part_named file (name_of DebugFrame);
+  eh_frame = part_named file (name_of EhFrame);
+  text = part_named file (name_of Text);
+  base = base file;
+  code = code file;
+  build_id = build_id file;
+  identity = identity_of (part_named file (name_of Text)).bytes (build_id file);
+  symbols = symbols file;
+}
+
+abbrev pub image_by : Option ElfFault → ImageParts → Result ImageParts ElfFault
+image_by None parts = Ok parts
+image_by (Some fault) parts = Err fault
+
+-- the image of a file: its first fault, or its parts
+unfoldable pub image : List ℕ → Result ImageParts ElfFault
+image file = image_by (image_fault file) (parts_of file)
+
+-- a section of an image
+abbrev pub section_of : ImageParts → Sect → SectionPart
+section_of i Info = i.info
+section_of i Abbrev = i.abbrevs
+section_of i Line = i.line
+section_of i LineStr = i.line_str
+section_of i Str = i.str
+section_of i StrOffsets = i.str_offsets
+section_of i Addr = i.addr
+section_of i Ranges = i.ranges
+section_of i Rnglists = i.rnglists
+section_of i DebugFrame = i.debug_frame
+section_of i EhFrame = i.eh_frame
+section_of i Text = i.text
+
+-- what a reading of the identity answers: none exactly where there is none
+abbrev pub ReadsIdentity : Option (List ℕ) → List ℕ → Option (List ℕ) → Type 0
+ReadsIdentity None text id = (is_none id && (length text == 0)) ≡ true
+ReadsIdentity (Some identity) text id = ((is_none id && (length text == 0)) ≡ false) × (identity ≡ identity_of text id)

@@ -1,0 +1,9 @@
+pub mod Numbers
+pub mod FileHeader
+pub mod Sections
+pub mod Programs
+pub mod Notes
+pub mod Identity
+pub mod Texts
+pub mod Symbols
+pub mod Image

@@ -1,0 +1,119 @@
+ghost use Rattle.std.specs.Prelude.{◌≡◌, ◌≤◌, [], length, unwrap_or, map};
+ghost use Rattle.std.specs.Option.{option_copied};
+ghost use Rattle.elf_sections.specs.Symbols.{symbol_view};
+ghost use Rattle.elf_sections.specs.Image.{part_view, section_of};
+
+use crate::symbols::Symbol;
+use std::marker::Model;
+use sym_edges::{Part, Sect, Span};
+
+/// What is read of an ELF file. Its parts are slices of the file.
+#[derive(Drop)]
+pub struct Image<'a> {
+    pub(crate) info: Part<'a>,
+    pub(crate) abbrevs: Part<'a>,
+    pub(crate) line: Part<'a>,
+    pub(crate) line_str: Part<'a>,
+    pub(crate) strs: Part<'a>,
+    pub(crate) str_offsets: Part<'a>,
+    pub(crate) addr: Part<'a>,
+    pub(crate) ranges: Part<'a>,
+    pub(crate) rnglists: Part<'a>,
+    pub(crate) debug_frame: Part<'a>,
+    pub(crate) eh_frame: Part<'a>,
+    pub(crate) text: Part<'a>,
+    pub(crate) base: u64,
+    pub(crate) code: Vec<Span>,
+    pub(crate) build_id: Option<&'a [u8]>,
+    pub(crate) identity: [u8; 16],
+    pub(crate) symbols: Vec<Symbol<'a>>,
+}
+
+impl<'a> Model for Image<'a> {
+    ghost use Rattle.std.specs.Prelude.{◌≤◌, [], length, map, unwrap_or};
+    ghost use Rattle.std.specs.Option.{option_copied};
+    ghost use Rattle.elf_sections.specs.Symbols.{symbol_view};
+    ghost use Rattle.elf_sections.specs.Image.{ImageParts, part_view};
+
+    ghost Value = { ImageParts };
+
+    ghost view = { λ i. record {
+      info = part_view i.info;
+      abbrevs = part_view i.abbrevs;
+      line = part_view i.line;
+      line_str = part_view i.line_str;
+      str = part_view i.strs;
+      str_offsets = part_view i.str_offsets;
+      addr = part_view i.addr;
+      ranges = part_view i.ranges;
+      rnglists = part_view i.rnglists;
+      debug_frame = part_view i.debug_frame;
+      eh_frame = part_view i.eh_frame;
+      text = part_view i.text;
+      base = i.base;
+      code = i.code.items;
+      build_id = option_copied i.build_id;
+      identity = i.identity;
+      symbols = map symbol_view i.symbols.items;
+    } };
+
+    ghost invariant = { λ i. length (unwrap_or (option_copied i.build_id) []) ≤ 64 };
+}
+
+impl<'a> Image<'a> {
+    /// The bytes and the address of a section: the first of that name, or no bytes at address 0.
+    pub fn section(&self, which: Sect) -> Part<'a>
+        ensures { part_view result ≡ section_of self.now which }
+    {
+        match which {
+            Sect::Info => self.info,
+            Sect::Abbrev => self.abbrevs,
+            Sect::Line => self.line,
+            Sect::LineStr => self.line_str,
+            Sect::Str => self.strs,
+            Sect::StrOffsets => self.str_offsets,
+            Sect::Addr => self.addr,
+            Sect::Ranges => self.ranges,
+            Sect::Rnglists => self.rnglists,
+            Sect::DebugFrame => self.debug_frame,
+            Sect::EhFrame => self.eh_frame,
+            Sect::Text => self.text,
+        }
+    }
+
+    /// The ELF address of the first loaded segment, or 0. Addresses in the text are ELF addresses minus the base.
+    pub fn base(&self) -> u64
+        ensures { result ≡ self.now.base }
+    {
+        self.base
+    }
+
+    /// The ELF addresses of code, in the order of its sections.
+    pub fn code(&self) -> &[Span]
+        ensures { result.now ≡ self.now.code }
+    {
+        self.code.as_slice()
+    }
+
+    /// The GNU build id, of 1 to 64 bytes.
+    pub fn build_id(&self) -> Option<&'a [u8]>
+        ensures id { option_copied result ≡ self.now.build_id }
+        ensures short { length (unwrap_or self.now.build_id []) ≤ 64 }
+    {
+        self.build_id
+    }
+
+    /// The front of the build id, or else the exclusive or of the front of `.text`.
+    pub fn identity(&self) -> [u8; 16]
+        ensures { result ≡ self.now.identity }
+    {
+        self.identity
+    }
+
+    /// The function symbols, in the order of the symbol table.
+    pub fn symbols(&self) -> &[Symbol<'a>]
+        ensures { map symbol_view result.now ≡ self.now.symbols }
+    {
+        self.symbols.as_slice()
+    }
+}

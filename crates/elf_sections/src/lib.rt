@@ -1,0 +1,29 @@
+//! The image of an ELF64 x86-64 file: its sections, base, code, build id, identity and function symbols.
+//!
+//! `read_image` reads the file header, the section and program header tables, the notes and the symbol table (System V
+//! ABI, ELF64; LSB notes). It refuses a file exactly with the first of twelve faults, in the order of `ElfFault`, and
+//! else answers an `Image`, each part of which is chosen from the list of all headers by a condition.
+#![tactic(auto)]
+
+mod code;
+mod constants;
+mod fault;
+mod header;
+mod image;
+mod notes;
+mod numbers;
+mod program;
+mod reading;
+mod section;
+mod strings;
+mod symbols;
+mod tables;
+mod text_identity;
+
+pub use fault::ElfFault;
+pub use image::Image;
+pub use reading::read_image;
+pub use symbols::Symbol;
+
+#[cfg(test)]
+mod tests;

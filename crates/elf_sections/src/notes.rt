@@ -1,0 +1,123 @@
+ghost use Rattle.std.specs.Prelude.{◌≡◌, ◌+◌, ◌≤◌, length, drop, find, filter, true, false, Some, None, IsTrue, IfSome, MatchOption};
+ghost use Rattle.std.specs.List.{flat_map};
+ghost use Rattle.std.specs.Option.{option_copied, option_map};
+ghost use Rattle.elf_sections.specs.Numbers.{u32_at};
+ghost use Rattle.elf_sections.specs.Sections.{bytes_of};
+ghost use Rattle.elf_sections.specs.Notes.{note_view, notes, notes_in, has_note, note_at, after_note, padded, first_id, is_build_id, notes_of};
+
+use crate::constants::{NT_GNU_BUILD_ID, SHT_NOTE};
+use crate::numbers::read_u32;
+use crate::section::{SectionHeader, read_content};
+
+/// A note in front of some bytes, and what stands behind it.
+#[derive(Clone, Copy)]
+struct Note<'a> {
+    name: &'a [u8],
+    kind: u32,
+    descriptor: &'a [u8],
+    rest: &'a [u8],
+}
+
+#[tactic(auto, unfolding(crate::specs::Notes::padded))]
+fn padded_len(len: u32) -> u64
+    ensures exact { result ≡ padded len }
+    ensures longer { len ≤ result }
+    ensures near { result ≤ len + 3 }
+{
+    (u64::from(len) + 3) / 4 * 4
+}
+
+/// What stands behind the first `len` bytes, or nothing where there are fewer.
+fn behind(bytes: &[u8], len: u64) -> &[u8]
+    ensures { result.now ≡ drop len bytes.now }
+{
+    if len <= bytes.len() as u64 {
+        bytes.split_at(len as usize).1
+    } else {
+        &[]
+    }
+}
+
+/// The note in front of the bytes, where it fits.
+#[tactic(auto, unfolding(crate::specs::Notes::has_note, crate::specs::Notes::note_len, crate::specs::Notes::note_at, crate::specs::Notes::after_note))]
+fn read_note(bytes: &[u8]) -> Option<Note<'_>>
+    ensures { MatchOption result (has_note bytes.now ≡ false)
+        (λ note. (has_note bytes.now ≡ true) × (note_view note ≡ note_at bytes.now) × (note.rest.now ≡ after_note bytes.now)) }
+{
+    if bytes.len() < 12 {
+        return None;
+    }
+    let name_len = read_u32(bytes, 0);
+    let descriptor_len = read_u32(bytes, 4);
+    let descriptor_at = 12 + padded_len(name_len);
+    if descriptor_at + u64::from(descriptor_len) > bytes.len() as u64 {
+        return None;
+    }
+    Some(Note {
+        name: bytes.split_at(12).1.split_at(name_len as usize).0,
+        kind: read_u32(bytes, 8),
+        descriptor: behind(bytes, descriptor_at)
+            .split_at(descriptor_len as usize)
+            .0,
+        rest: behind(bytes, descriptor_at + padded_len(descriptor_len)),
+    })
+}
+
+#[tactic(auto, unfolding(crate::specs::Notes::is_build_id))]
+fn is_id(note: &Note<'_>) -> bool
+    ensures exact { result ≡ is_build_id (note_view note.now) }
+    ensures short { IsTrue result → length note.now.descriptor.now ≤ 64 }
+{
+    note.name == b"GNU\0".as_slice()
+        && (note.kind == NT_GNU_BUILD_ID
+            && (!note.descriptor.is_empty() && note.descriptor.len() <= 64))
+}
+
+/// The first build id among the notes of a section.
+#[tactic(auto, using(crate::proofs::NoteLemmas::notes_begin, crate::proofs::NoteLemmas::no_note, crate::proofs::NoteLemmas::next_id, crate::proofs::NoteLemmas::next_other))]
+fn find_id(bytes: &[u8]) -> Option<&[u8]>
+    ensures first { option_copied result ≡ first_id (notes bytes.now) }
+    ensures short { IfSome result (λ id. length id.now ≤ 64) }
+{
+    let mut rest = bytes;
+    'notes: for _ in 0..bytes.len() {
+        match read_note(rest) {
+            None => return None,
+            Some(note) => {
+                if is_id(&note) {
+                    return Some(note.descriptor);
+                }
+                rest = note.rest;
+            }
+        }
+    }
+    None
+}
+
+/// The build id of one section, where it is a section of notes.
+#[tactic(auto, unfolding(crate::specs::Sections::bytes_of, crate::specs::Notes::notes_of, crate::specs::Notes::first_id, crate::specs::Notes::notes, crate::specs::Notes::notes_in))]
+fn id_in<'a>(file: &'a [u8], section: &SectionHeader) -> Option<&'a [u8]>
+    ensures first { option_copied result ≡ first_id (notes_of file.now section.now) }
+    ensures short { IfSome result (λ id. length id.now ≤ 64) }
+{
+    if section.kind != SHT_NOTE {
+        return None;
+    }
+    match read_content(file, section) {
+        None => None,
+        Some(bytes) => find_id(bytes),
+    }
+}
+
+/// The first build id over the sections of notes, in their order.
+pub fn find_build_id<'a>(file: &'a [u8], sections: &[SectionHeader]) -> Option<&'a [u8]>
+    ensures first { option_copied result ≡ first_id (flat_map (notes_of file.now) sections.now) }
+    ensures short { IfSome result (λ id. length id.now ≤ 64) }
+{
+    'sections: for section in sections {
+        if let Some(id) = id_in(file, section) {
+            return Some(id);
+        }
+    }
+    None
+}

@@ -1,0 +1,111 @@
+ghost use Rattle.std.specs.Prelude.{◌≡◌, ◌≤◌, ◌<◌, ◌+◌, length, drop, IfOk};
+ghost use Rattle.std.specs.Option.{option_copied};
+ghost use Rattle.elf_sections.specs.Texts.{text_at, text_end, AreEnds};
+
+use memchr::memchr;
+use std::alloc::{AllocError, Global};
+use std::marker::Model;
+
+/// The bytes of a block of a table of texts.
+const BLOCK: usize = 4096;
+
+/// A table of zero-ended texts. The first zero at or behind the start of each block is known, so that no text is walked
+/// through for more than a block, however many texts end at one zero.
+#[derive(Drop)]
+pub struct Texts<'a> {
+    table: &'a [u8],
+    block: usize,
+    ends: Vec<usize>,
+}
+
+impl<'a> Model for Texts<'a> {
+    ghost use Rattle.std.specs.Prelude.{List, ℕ};
+    ghost use Rattle.elf_sections.specs.Texts.{AreEnds};
+
+    ghost Value = { List ℕ };
+
+    ghost view = { λ t. t.table.now };
+
+    ghost invariant = { λ t. AreEnds t.table.now t.block t.ends.items };
+}
+
+/// The place of the first zero from a place on, or the end of the table.
+#[tactic(auto, using(crate::proofs::TextLemmas::end_found, crate::proofs::TextLemmas::end_missing))]
+fn find_end(table: &[u8], at: usize) -> usize
+    requires { at ≤ length table.now }
+    ensures end { result ≡ text_end table.now at }
+    ensures order { at ≤ result }
+    ensures inside { result ≤ length table.now }
+{
+    match memchr(0, table.split_at(at).1) {
+        Some(len) => at + len,
+        None => table.len(),
+    }
+}
+
+/// The ends at the starts of all blocks.
+#[tactic(auto, using(crate::proofs::TextLemmas::end_again))]
+fn find_ends(alloc: Global, table: &[u8], block: usize) -> Result<Vec<usize>, AllocError>
+    requires { 0 < block }
+    ensures { IfOk result (λ ends. AreEnds table.now block ends.items) }
+{
+    let count = table.len() / block + 1;
+    let mut ends = Vec::with_capacity(alloc, count)?;
+    let mut end = find_end(table, 0);
+    'starts: for k in 0..count {
+        let start = k * block;
+        if end < start {
+            end = find_end(table, start);
+        }
+        ends.push(end)?;
+    }
+    Ok(ends)
+}
+
+impl<'a> Texts<'a> {
+    pub fn new(alloc: Global, table: &'a [u8]) -> Result<Texts<'a>, AllocError>
+        ensures { IfOk result (λ texts. texts ≡ table.now) }
+    {
+        let block = BLOCK;
+        Ok(Texts {
+            table,
+            block,
+            ends: find_ends(alloc, table, block)?,
+        })
+    }
+
+    /// The place of the first zero from a place on, or the end of the table.
+    #[tactic(auto, using(crate::proofs::TextLemmas::end_in_block, crate::proofs::TextLemmas::end_behind_block, crate::proofs::TextLemmas::end_order))]
+    fn end_of(&self, at: usize) -> usize
+        requires { at < length self.now }
+        ensures end { result ≡ text_end self.now at }
+        ensures order { at ≤ result }
+    {
+        let block = at / self.block;
+        if block + 1 < self.ends.len() {
+            let next = (block + 1) * self.block;
+            match memchr(0, self.table.split_at(at).1.split_at(next - at).0) {
+                Some(len) => at + len,
+                None => self.ends[block + 1],
+            }
+        } else {
+            find_end(self.table, at)
+        }
+    }
+
+    /// The zero-ended text at a place, or none where no zero follows.
+    #[tactic(auto, using(crate::proofs::TextLemmas::text_found, crate::proofs::TextLemmas::text_missing, crate::proofs::TextLemmas::text_outside))]
+    pub fn text(&self, at: usize) -> Option<&'a [u8]>
+        ensures { option_copied result ≡ text_at self.now at }
+    {
+        if at >= self.table.len() {
+            return None;
+        }
+        let end = self.end_of(at);
+        if end < self.table.len() {
+            Some(self.table.split_at(at).1.split_at(end - at).0)
+        } else {
+            None
+        }
+    }
+}

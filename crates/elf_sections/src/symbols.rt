@@ -1,0 +1,139 @@
+ghost use Rattle.std.specs.Prelude.{◌≡◌, ◌≤◌, IfOk, ◌+◌, ◌*◌, ◌/◌, ◌==◌, Some, None, length, find, option_and_then, slice_get};
+ghost use Rattle.std.specs.List.{filter_map, list_any};
+ghost use Rattle.std.specs.Option.{option_copied, option_map};
+ghost use Rattle.sym_edges.specs.Outside.{MatchStop};
+ghost use Rattle.elf_sections.specs.Texts.{text_at};
+ghost use Rattle.elf_sections.specs.Programs.{is_in_code};
+ghost use Rattle.elf_sections.specs.Symbols.{symbol_at, is_function, symbol_table, linked, entries_of, Classifies, ReadsSymbols};
+ghost use Rattle.elf_sections.specs.declared.constants.TheConstants.{SYMBOL};
+
+use crate::code::holds_code;
+use crate::constants::{SHT_DYNSYM, SHT_STRTAB, SHT_SYMTAB, STT_FUNC, STT_GNU_IFUNC, SYMBOL};
+use crate::numbers::{read_u16, read_u32, read_u64};
+use crate::section::SectionHeader;
+use crate::strings::Texts;
+use std::alloc::{AllocError, Global};
+use sym_edges::Span;
+
+/// A function in code, by the symbol table: its ELF address, and its name as it stands in the file.
+#[derive(Clone, Copy, Debug)]
+pub struct Symbol<'a> {
+    pub address: u64,
+    pub name: &'a [u8],
+}
+
+/// The fields of a symbol that are read.
+#[derive(Clone, Copy, Debug)]
+pub struct SymbolEntry {
+    pub name: u32,
+    pub info: u8,
+    pub section: u16,
+    pub value: u64,
+}
+
+#[tactic(auto, unfolding(crate::specs::Symbols::symbol_at))]
+fn read_symbol(table: &[u8], at: usize) -> SymbolEntry
+    requires { at + SYMBOL ≤ length table.now }
+    ensures { result ≡ symbol_at table.now at }
+{
+    SymbolEntry {
+        name: read_u32(table, at),
+        info: table[at + 4],
+        section: read_u16(table, at + 6),
+        value: read_u64(table, at + 8),
+    }
+}
+
+/// Whether a symbol is a function in code, by its type, its section and its address.
+#[tactic(auto, unfolding(crate::specs::Symbols::is_function))]
+fn names_function(code: &[Span], entry: &SymbolEntry) -> bool
+    ensures { result ≡ is_function code.now entry.now }
+{
+    let kind = entry.info % 16;
+    (kind == STT_FUNC || kind == STT_GNU_IFUNC)
+        && (entry.section != 0 && holds_code(code, entry.value))
+}
+
+fn first_of_kind(sections: &[SectionHeader], kind: u32) -> Option<&SectionHeader>
+    ensures { option_copied result ≡ find (λ s. s.kind == kind) sections.now }
+{
+    sections.iter().find(|section| section.kind == kind)
+}
+
+/// The first symbol table, else the first table of dynamic symbols.
+#[tactic(auto, unfolding(crate::specs::Symbols::symbol_table))]
+pub fn find_symbol_table(sections: &[SectionHeader]) -> Option<&SectionHeader>
+    ensures { option_copied result ≡ symbol_table sections.now }
+{
+    match first_of_kind(sections, SHT_SYMTAB) {
+        None => first_of_kind(sections, SHT_DYNSYM),
+        Some(table) => Some(table),
+    }
+}
+
+/// The section of texts that a symbol table links to.
+#[tactic(auto, unfolding(crate::specs::Symbols::linked))]
+pub fn find_linked<'s>(
+    sections: &'s [SectionHeader],
+    table: &SectionHeader,
+) -> Option<&'s SectionHeader>
+    ensures { option_copied result ≡ linked sections.now table.now }
+{
+    match sections.get(table.link as usize) {
+        None => None,
+        Some(section) => {
+            if section.kind == SHT_STRTAB {
+                Some(section)
+            } else {
+                None
+            }
+        }
+    }
+}
+
+/// What an entry is: a function without a zero-ended name, no function symbol, or one.
+enum Found<'a> {
+    Nameless,
+    Other,
+    Function(Symbol<'a>),
+}
+
+#[tactic(auto, unfolding(crate::specs::Symbols::is_nameless, crate::specs::Symbols::function_of))]
+fn classify<'a>(code: &[Span], texts: &Texts<'a>, entry: &SymbolEntry) -> Found<'a>
+    ensures { Classifies result code.now texts.now entry.now }
+{
+    if !names_function(code, entry) {
+        return Found::Other;
+    }
+    match texts.text(entry.name as usize) {
+        None => Found::Nameless,
+        Some([]) => Found::Other,
+        Some(name) => Found::Function(Symbol {
+            address: entry.value,
+            name,
+        }),
+    }
+}
+
+/// The function symbols of a table, in its order, or none where a function's name is not zero-ended.
+#[tactic(auto, using(crate::proofs::SymbolLemmas::reading_begins, crate::proofs::SymbolLemmas::reading_other, crate::proofs::SymbolLemmas::reading_found, crate::proofs::SymbolLemmas::reading_nameless))]
+pub fn read_symbols<'a>(
+    alloc: Global,
+    code: &[Span],
+    table: &[u8],
+    texts: &Texts<'a>,
+) -> Result<Option<Vec<Symbol<'a>>>, AllocError>
+    ensures { IfOk result (λ found. ReadsSymbols (option_map (λ v. v.items) found) code.now texts.now (entries_of table.now (length table.now / SYMBOL))) }
+{
+    let count = table.len() / SYMBOL;
+    let mut symbols = Vec::new(alloc);
+    'entries: for k in 0..count {
+        let entry = read_symbol(table, SYMBOL * k);
+        match classify(code, texts, &entry) {
+            Found::Nameless => return Ok(None),
+            Found::Other => {}
+            Found::Function(symbol) => symbols.push(symbol)?,
+        }
+    }
+    Ok(Some(symbols))
+}
