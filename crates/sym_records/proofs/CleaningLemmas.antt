@@ -1,0 +1,126 @@
+use Rattle.std.proofs.Common.{◌≡◌, ◌≢◌, ℕ, ◌+◌, ◌-◌, ◌<◌, ◌≤◌, ◌==◌, cond, Bool, true, false, not, List, [], ◌∷◌, ◌++◌, length, map, take, drop, set, get_or, min, codes, refl, sym, ◌∙◌, ap, arith, zero, suc, nat_le, length-take}
+use Rattle.std.specs.List.{list_all}
+use Rattle.std.proofs.lemmas.Grind.{common_steps, get_or_default_zero}
+use Rattle.std.proofs.lemmas.Bool.Decides.{nat_tests}
+use Rattle.std.proofs.lemmas.List.Recursion.{and_at}
+use Rattle.std.proofs.lemmas.List.Edits.{map_over_more}
+use Rattle.std.proofs.lemmas.List.{take-map, take_min}
+use Rattle.sym_records.proofs.BoolLemmas.{and_true, both, some_bytes, not_false, if_both}
+use Rattle.sym_records.proofs.EndLemmas.{Begins, begins_skip}
+use Rattle.sym_records.specs.Cuts.{is_space, is_within_line, skip}
+use Rattle.sym_records.specs.Cleaning.{shown_byte, or_omitted, cleaned_upto}
+use Rattle.sym_records.specs.Validity.{is_name}
+
+longer : (f : ℕ → ℕ) (name bytes : List ℕ) (i : ℕ) → i < length bytes → name ≡ map f (take i bytes) ++ drop i bytes → i < length name
+longer f name bytes i within is = grind (arith, common_steps)
+
+read : (xs : List ℕ) (i : ℕ) → i < length xs → get_or xs i 0 ≡ get_or xs i (get_or xs i 0)
+read xs i within = sym (get_or_default_zero xs i (get_or xs i 0) within)
+
+step_by : (f : ℕ → ℕ) (name bytes : List ℕ) (i y : ℕ) → i < length bytes → name ≡ map f (take i bytes) ++ drop i bytes → y ≡ f (get_or name i 0) → set name i y ≡ map f (take (i + 1) bytes) ++ drop (i + 1) bytes
+step_by f name bytes i y within is at = ap (set name i) at ∙ map_over_more f bytes name i (get_or name i 0) within is (read name i (longer f name bytes i within is))
+
+-- one more byte is shown
+pub shown_step : (name bytes : List ℕ) (i y : ℕ) → i < length bytes → name ≡ map shown_byte (take i bytes) ++ drop i bytes → y ≡ shown_byte (get_or name i 0) → set name i y ≡ map shown_byte (take (i + 1) bytes) ++ drop (i + 1) bytes
+shown_step name bytes i y within is at = step_by shown_byte name bytes i y within is at
+
+shown_space : (b : ℕ) → (shown_byte b == 32) ≡ (b == 32)
+shown_space b = grind (arith, nat_tests)
+
+shown_cond : (t : Bool) (b : ℕ) (bytes : List ℕ) → skip is_space (map shown_byte bytes) ≡ map shown_byte (skip is_space bytes) → cond t (skip is_space (map shown_byte bytes)) (shown_byte b ∷ map shown_byte bytes) ≡ map shown_byte (cond t (skip is_space bytes) (b ∷ bytes))
+shown_cond true b bytes is = is
+shown_cond false b bytes is = refl
+
+-- spaces go before or after the bytes are shown
+skip_shown : (bytes : List ℕ) → skip is_space (map shown_byte bytes) ≡ map shown_byte (skip is_space bytes)
+unfolding skip
+skip_shown [] = refl
+skip_shown (b ∷ bytes) = ap (λ t. cond t (skip is_space (map shown_byte bytes)) (shown_byte b ∷ map shown_byte bytes)) (shown_space b) ∙ shown_cond (b == 32) b bytes (skip_shown bytes)
+
+take_map : (f : ℕ → ℕ) (n : ℕ) (xs : List ℕ) → take n (map f xs) ≡ map f (take (min n (length xs)) xs)
+take_map f n xs = take-map f n xs ∙ ap (map f) (sym (take_min n xs))
+
+whole : (limit : ℕ) (bytes front : List ℕ) → front ≡ take (min limit (length (skip is_space bytes))) (skip is_space bytes) → cleaned_upto limit bytes ≡ or_omitted (map shown_byte front)
+unfolding cleaned_upto
+whole limit bytes front is = ap or_omitted (ap (take limit) (skip_shown bytes) ∙ take_map shown_byte limit (skip is_space bytes) ∙ ap (map shown_byte) (sym is))
+
+omitted_none : (xs : List ℕ) → length xs ≡ 0 → or_omitted (map shown_byte xs) ≡ codes "<name omitted>"
+omitted_none [] is = refl
+omitted_none (x ∷ xs) is = absurd (omega arith)
+
+omitted_some : (xs : List ℕ) → length xs ≢ 0 → or_omitted (map shown_byte xs) ≡ map shown_byte xs
+omitted_some [] some = absurd (some refl)
+omitted_some (x ∷ xs) some = refl
+
+-- a name of which nothing is left
+pub cleaned_none : (limit : ℕ) (bytes front : List ℕ) → front ≡ take (min limit (length (skip is_space bytes))) (skip is_space bytes) → length front ≡ 0 → cleaned_upto limit bytes ≡ codes "<name omitted>"
+cleaned_none limit bytes front is none = whole limit bytes front is ∙ omitted_none front none
+
+-- a name of which something is left
+pub cleaned_some : (limit : ℕ) (bytes front : List ℕ) → front ≡ take (min limit (length (skip is_space bytes))) (skip is_space bytes) → length front ≢ 0 → cleaned_upto limit bytes ≡ map shown_byte front
+cleaned_some limit bytes front is some = whole limit bytes front is ∙ omitted_some front some
+
+-- a byte that may stand in a cleaned name
+abbrev pub is_shown : ℕ → Bool
+is_shown b = nat_le 32 b
+
+shown_is : (b : ℕ) → is_shown (shown_byte b) ≡ true
+shown_is b = grind (arith, nat_tests)
+
+all_shown : (bytes : List ℕ) → list_all is_shown (map shown_byte bytes) ≡ true
+all_shown [] = refl
+all_shown (b ∷ bytes) = both (shown_is b) (all_shown bytes)
+
+all_skipped : (p : ℕ → Bool) (xs : List ℕ) → list_all is_shown xs ≡ true → list_all is_shown (skip p xs) ≡ true
+unfolding skip
+all_skipped p [] all = refl
+all_skipped p (x ∷ xs) all = if_both (λ l. list_all is_shown l ≡ true) (p x) (skip p xs) (x ∷ xs) (all_skipped p xs (and_true all).1) all
+
+all_taken : (n : ℕ) (xs : List ℕ) → list_all is_shown xs ≡ true → list_all is_shown (take n xs) ≡ true
+all_taken zero xs all = refl
+all_taken (suc n) [] all = refl
+all_taken (suc n) (x ∷ xs) all = both (and_true all).0 (all_taken n xs (and_true all).1)
+
+begins_take : (n : ℕ) (xs : List ℕ) → Begins xs → Begins (take n xs)
+begins_take zero xs begins = tt
+begins_take (suc n) [] begins = tt
+begins_take (suc n) (x ∷ xs) begins = begins
+
+shown_within : (x : ℕ) → nat_le 32 x ≡ true → not (x == 10) ≡ true
+shown_within x is = grind (arith, nat_tests)
+
+shown_no_cr : (x : ℕ) → is_shown x ≡ true → (x == 13) ≡ false
+shown_no_cr x is = grind (arith, nat_tests)
+
+all_at : (xs : List ℕ) (i : ℕ) → i < length xs → list_all is_shown xs ≡ true → is_shown (get_or xs i 0) ≡ true
+all_at xs i within all = and_at (list_all is_shown) is_shown refl (λ _ _. refl) xs i 0 within all
+
+within_line : (xs : List ℕ) → list_all is_shown xs ≡ true → list_all is_within_line xs ≡ true
+within_line [] all = refl
+within_line (x ∷ xs) all = both (shown_within x (and_true all).0) (within_line xs (and_true all).1)
+
+last_shown : (xs : List ℕ) (i : ℕ) → i < length xs → list_all is_shown xs ≡ true → (get_or xs i 0 == 13) ≡ false
+last_shown xs i within all = shown_no_cr (get_or xs i 0) (all_at xs i within all)
+
+-- shown bytes without a space in front are a name
+pub named : (xs : List ℕ) → list_all is_shown xs ≡ true → Begins xs → is_name (or_omitted xs) ≡ true
+unfolding is_name
+named [] all begins = refl
+named (x ∷ xs) all begins = both (both (both (some_bytes x xs) (not_false begins)) (not_false (last_shown (x ∷ xs) (length (x ∷ xs) - 1) (omega arith) all))) (within_line (x ∷ xs) all)
+
+-- a cleaned name is a name
+pub cleaned_named : (limit : ℕ) (bytes : List ℕ) → is_name (cleaned_upto limit bytes) ≡ true
+unfolding cleaned_upto
+cleaned_named limit bytes =
+    named (take limit (skip is_space (map shown_byte bytes)))
+    (all_taken limit (skip is_space (map shown_byte bytes)) (all_skipped is_space (map shown_byte bytes) (all_shown bytes)))
+    (begins_take limit (skip is_space (map shown_byte bytes)) (begins_skip (map shown_byte bytes)))
+
+omitted_short : (xs : List ℕ) (limit : ℕ) → 14 ≤ limit → length xs ≤ limit → length (or_omitted xs) ≤ limit
+omitted_short [] limit room short = room
+omitted_short (x ∷ xs) limit room short = short
+
+-- and has at most as many bytes as it is cut after
+pub cleaned_short : (limit : ℕ) (bytes : List ℕ) → 14 ≤ limit → length (cleaned_upto limit bytes) ≤ limit
+unfolding cleaned_upto
+cleaned_short limit bytes room = omitted_short (take limit (skip is_space (map shown_byte bytes))) limit room (omega (arith, length-take limit (skip is_space (map shown_byte bytes))))

@@ -1,0 +1,30 @@
+use Rattle.std.proofs.Common.{◌≡◌, ◌≢◌, ℕ, ◌+◌, ◌<◌, ◌≤◌, List, [], ◌∷◌, length, drop, get_or, refl, sym, ◌∙◌, ap, arith}
+use Rattle.std.proofs.lemmas.Grind.{common_steps}
+use Rattle.std.proofs.lemmas.List.{at_drop_more}
+use Rattle.std.proofs.lemmas.Bool.Decides.{nat_tests}
+use Rattle.sym_records.specs.Cuts.{is_space, skip}
+
+skip_here : (x : ℕ) (xs : List ℕ) → x ≢ 32 → skip is_space (x ∷ xs) ≡ x ∷ xs
+unfolding skip
+skip_here x xs other = grind (arith, nat_tests)
+
+skip_space : (x : ℕ) (xs : List ℕ) → x ≡ 32 → skip is_space (x ∷ xs) ≡ skip is_space xs
+unfolding skip
+skip_space x xs is = grind (arith, nat_tests)
+
+-- a search for the first byte that is other space ends at one
+pub skip_stop : (bytes : List ℕ) (i : ℕ) → i < length bytes → get_or bytes i 0 ≢ 32 → skip is_space (drop i bytes) ≡ drop i bytes
+skip_stop bytes i within other =
+    at_drop_more (skip is_space) bytes i 0 within ∙ skip_here (get_or bytes i 0) (drop (i + 1) bytes) other ∙ sym (at_drop_more (λ xs. xs) bytes i 0 within)
+
+-- and goes on at a space
+pub skip_more : (bytes : List ℕ) (i : ℕ) → i < length bytes → get_or bytes i 0 ≡ 32 → skip is_space (drop (i + 1) bytes) ≡ skip is_space (drop i bytes)
+skip_more bytes i within is = sym (at_drop_more (skip is_space) bytes i 0 within ∙ skip_space (get_or bytes i 0) (drop (i + 1) bytes) is)
+
+skip_none : skip is_space [] ≡ []
+unfolding skip
+skip_none = refl
+
+-- there is nothing behind the last byte
+pub skip_end : (bytes : List ℕ) (i : ℕ) → length bytes ≤ i → skip is_space (drop i bytes) ≡ []
+skip_end bytes i past = ap (skip is_space) (grind (arith, common_steps)) ∙ skip_none

@@ -1,0 +1,13 @@
+pub mod BoolLemmas
+pub mod CutsLemmas
+pub mod CleaningLemmas
+pub mod DigitsLemmas
+pub mod BufferLemmas
+pub mod FileLemmas
+pub mod EndLemmas
+pub mod TextLemmas
+pub mod SoundLemmas
+pub mod LengthLemmas
+pub mod ValidityLemmas
+pub mod ReadingLemmas
+pub mod MakingLemmas

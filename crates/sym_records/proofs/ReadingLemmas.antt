@@ -1,0 +1,105 @@
+-- The canonical text of a valid list reads back as the list.
+use Rattle.std.proofs.Common.{◌≡◌, ℕ, ◌^◌, ◌≤◌, ◌&&◌, cond, Bool, true, false, not, List, [], ◌∷◌, ◌++◌, length, codes, Ok, Err, nat_lt, refl, sym, ◌∙◌, ap, arith, append_assoc, append-nil}
+use Rattle.std.specs.List.{list_all}
+use Rattle.std.specs.Str.{bytes_eq}
+use Rattle.std.proofs.lemmas.Bool.Decides.{nat_tests}
+use Rattle.sym_records.proofs.BoolLemmas.{and_true, not_true}
+use Rattle.sym_records.proofs.EndLemmas.{trim_kept}
+use Rattle.sym_records.proofs.TextLemmas.{NameParts, name_parts, spaced_ends}
+use Rattle.sym_records.proofs.ValidityLemmas.{valid_fits}
+use Rattle.sym_records.specs.Steps.{◌>>=◌}
+use Rattle.sym_records.specs.Cuts.{is_space, is_within_line, before, skip, onto, split_lines}
+use Rattle.sym_records.specs.Canon.{spaced, body, canon, canon_text}
+use Rattle.sym_records.specs.Text.{is_blank, key_of, line_at}
+use Rattle.sym_records.specs.Reading.{fits, leads, Seen, next_number, start, is_start, lacks_module, with_record, with_text, numbered, with_lines, some_records, reading_within, reading}
+use Rattle.sym_records.specs.Validity.{Stands, AreValidFrom, AreValid, has_fields, fields_fit}
+use Rattle.sym_records.specs.declared.line.SymLine.{SymLine}
+use Rattle.sym_records.specs.declared.line.SymLine.TheVariants.{Module, Info, Public}
+use Rattle.sym_records.specs.declared.place.Place.{Place}
+use Rattle.sym_records.specs.declared.place.Place.TheVariants.{Start, Inside}
+use Rattle.sym_records.specs.declared.text_fault.TextKind.TheVariants.{LongLine, NoModule, Misplaced}
+
+-- bytes without LF, and an LF behind them, are the first line
+split_first : (xs ys : List ℕ) → list_all is_within_line xs ≡ true → split_lines (xs ++ 10 ∷ ys) ≡ xs ∷ split_lines ys
+unfolding split_lines
+split_first [] ys all = refl
+split_first (x ∷ xs) ys all =
+    ap (λ t. cond t ([] ∷ split_lines (xs ++ 10 ∷ ys)) (onto x (split_lines (xs ++ 10 ∷ ys)))) (not_true (and_true all).0)
+    ∙ ap (onto x) (split_first xs ys (and_true all).1)
+
+canon_first : (s : SymLine) (lines : List SymLine) → canon_text (s ∷ lines) ≡ body s ++ (10 ∷ canon_text lines)
+unfolding canon_text canon
+canon_first s lines = append_assoc (body s) (10 ∷ []) (canon_text lines)
+
+-- a record joins what was seen
+added : Seen → SymLine → Seen
+added seen s = record { records = seen.records ++ s ∷ []; place = leads seen.place s; number = next_number seen.number }
+
+-- records join it, and the end of the text counts as a line
+all_added : Seen → List SymLine → Seen
+all_added seen [] = record seen { number = next_number seen.number }
+all_added seen (s ∷ lines) = all_added (added seen s) lines
+
+records_added : (seen : Seen) (lines : List SymLine) → (all_added seen lines).records ≡ seen.records ++ lines
+unfolding all_added added
+records_added seen [] = sym (append-nil seen.records)
+records_added seen (s ∷ lines) = records_added (added seen s) lines ∙ append_assoc seen.records (s ∷ []) lines
+
+key_module : (os arch id name : List ℕ) → NameParts name → key_of (body (Module os arch id name)) ≡ codes "MODULE"
+unfolding key_of body before skip
+key_module os arch id name parts =
+    ap (λ l. before 32 (skip is_space l)) (trim_kept (spaced (codes "MODULE") (os ∷ arch ∷ id ∷ name ∷ [])) (spaced_ends (codes "MODULE") (os ∷ arch ∷ id ∷ []) name parts))
+
+and_none : (b : Bool) → (b && false) ≡ false
+and_none true = refl
+and_none false = refl
+
+-- a record that may stand first is a MODULE
+has_module : (place : Place) (s : SymLine) → has_fields s ≡ true → fits place s ≡ true → lacks_module place (body s) ≡ false
+unfolding lacks_module
+has_module Start (Module os arch id name) fit stands =
+    ap (λ k. is_start Start && not (is_blank (body (Module os arch id name))) && not (bytes_eq k (codes "MODULE"))) (key_module os arch id name (name_parts name (and_true fit).1))
+    ∙ and_none (is_start Start && not (is_blank (body (Module os arch id name))))
+has_module Start (Info text) fit stands = cc
+has_module Start (Public many address params name) fit stands = cc
+has_module Inside s fit stands = refl
+
+lt_none : (limit n : ℕ) → n ≤ limit → nat_lt limit n ≡ false
+lt_none limit n short = grind (arith, nat_tests)
+
+text_added : (seen : Seen) (s : SymLine) → Stands seen.place s → with_text (2 ^ 20) seen (body s) ≡ Ok (added seen s)
+unfolding with_text added fields_fit
+text_added seen s stands =
+    ap (λ t. cond t (Err LongLine) (cond (lacks_module seen.place (body s)) (Err NoModule) (line_at (body s) >>= with_record seen))) (lt_none (2 ^ 20) (length (body s)) stands.0.short)
+    ∙ ap (λ t. cond t (Err NoModule) (line_at (body s) >>= with_record seen)) (has_module seen.place s (and_true (valid_fits s stands.0)).0 stands.1)
+    ∙ ap (λ r. r >>= with_record seen) stands.0.reads
+    ∙ ap (λ t. cond t (Ok (added seen s)) (Err Misplaced)) stands.1
+
+blank_place : (place : Place) → lacks_module place [] ≡ false
+unfolding lacks_module
+blank_place Start = refl
+blank_place Inside = refl
+
+text_ended : (seen : Seen) → with_text (2 ^ 20) seen [] ≡ Ok (record seen { number = next_number seen.number })
+unfolding with_text line_at
+text_ended seen = ap (λ t. cond t (Err NoModule) (line_at [] >>= with_record seen)) (blank_place seen.place)
+
+split_nothing : split_lines (canon_text []) ≡ [] ∷ []
+unfolding split_lines canon_text
+split_nothing = refl
+
+all_read : (seen : Seen) (lines : List SymLine) → AreValidFrom seen.place lines → with_lines (2 ^ 20) seen (split_lines (canon_text lines)) ≡ Ok (all_added seen lines)
+unfolding with_lines all_added added
+all_read seen [] valid = ap (λ l. with_lines (2 ^ 20) seen l) split_nothing ∙ ap (λ r. numbered (next_number seen.number) r >>= λ after. Ok after) (text_ended seen)
+all_read seen (s ∷ lines) valid =
+    ap (λ l. with_lines (2 ^ 20) seen (split_lines l)) (canon_first s lines)
+    ∙ ap (with_lines (2 ^ 20) seen) (split_first (body s) (canon_text lines) valid.0.0.one_line)
+    ∙ ap (λ r. numbered (next_number seen.number) r >>= λ after. with_lines (2 ^ 20) after (split_lines (canon_text lines))) (text_added seen s valid.0)
+    ∙ all_read (added seen s) lines valid.1
+
+pub reads_back : (lines : List SymLine) → AreValid lines → reading (canon_text lines) ≡ Ok lines
+unfolding reading reading_within
+reads_back [] valid = absurd valid
+reads_back (s ∷ lines) valid =
+    ap (λ r. r >>= λ after. some_records after.records) (all_read start (s ∷ lines) valid)
+    ∙ ap some_records (records_added start (s ∷ lines))

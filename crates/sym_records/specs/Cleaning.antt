@@ -1,0 +1,20 @@
+-- The cleaning of a name, so that a record may carry it.
+use Rattle.std.specs.Prelude.{ℕ, ◌==◌, ◌||◌, nat_lt, if◌then◌else◌, List, [], ◌∷◌, map, take, codes}
+use Rattle.sym_records.specs.Cuts.{is_space, skip}
+
+-- control bytes, below 0x20 and 0x7f, become `?`
+abbrev pub shown_byte : ℕ → ℕ
+shown_byte b = if nat_lt b 32 || b == 127 then 63 else b
+
+-- an empty name is said to be left out
+abbrev pub or_omitted : List ℕ → List ℕ
+or_omitted [] = codes "<name omitted>"
+or_omitted (b ∷ bytes) = b ∷ bytes
+
+-- shown bytes, without the spaces in front, cut after so many
+unfoldable pub cleaned_upto : ℕ → List ℕ → List ℕ
+cleaned_upto limit bytes = or_omitted (take limit (skip is_space (map shown_byte bytes)))
+
+-- a cleaned name has at most 65,536 bytes
+unfoldable pub cleaned : List ℕ → List ℕ
+cleaned bytes = cleaned_upto 65536 bytes

@@ -1,0 +1,47 @@
+-- Where a text is cut into lines and a line into fields (Breakpad's symbol_files.md).
+use Rattle.std.specs.Prelude.{ℕ, ◌==◌, ◌||◌, Bool, not, if◌then◌else◌, List, [], ◌∷◌}
+use Rattle.std.specs.List.{list_all}
+
+abbrev pub is_space : ℕ → Bool
+is_space b = b == 32
+
+abbrev pub is_cr : ℕ → Bool
+is_cr b = b == 13
+
+-- what a line may have beside its fields
+abbrev pub is_margin : ℕ → Bool
+is_margin b = is_space b || is_cr b
+
+-- a byte that ends no line
+abbrev pub is_within_line : ℕ → Bool
+is_within_line b = not (b == 10)
+
+-- what stands before the first of these bytes
+unfoldable pub before : ℕ → List ℕ → List ℕ
+before b [] = []
+before b (x ∷ xs) = if x == b then [] else x ∷ before b xs
+
+-- what stands from the first of these bytes on
+unfoldable pub from : ℕ → List ℕ → List ℕ
+from b [] = []
+from b (x ∷ xs) = if x == b then x ∷ xs else from b xs
+
+-- without the bytes of a kind in front
+unfoldable pub skip : (ℕ → Bool) → List ℕ → List ℕ
+skip p [] = []
+skip p (x ∷ xs) = if p x then skip p xs else x ∷ xs
+
+-- without the bytes of a kind at the end
+unfoldable pub trim_end : (ℕ → Bool) → List ℕ → List ℕ
+trim_end p [] = []
+trim_end p (x ∷ xs) = if list_all p (x ∷ xs) then [] else x ∷ trim_end p xs
+
+-- a byte in front of the first line
+abbrev pub onto : ℕ → List (List ℕ) → List (List ℕ)
+onto b [] = (b ∷ []) ∷ []
+onto b (line ∷ lines) = (b ∷ line) ∷ lines
+
+-- the lines of a text: the last is what stands behind the last LF, and it may be empty
+unfoldable pub split_lines : List ℕ → List (List ℕ)
+split_lines [] = [] ∷ []
+split_lines (b ∷ bytes) = if b == 10 then [] ∷ split_lines bytes else onto b (split_lines bytes)

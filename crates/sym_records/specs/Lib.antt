@@ -1,0 +1,8 @@
+pub mod Steps
+pub mod Cuts
+pub mod Canon
+pub mod Text
+pub mod Reading
+pub mod Validity
+pub mod Cleaning
+pub mod Buffer

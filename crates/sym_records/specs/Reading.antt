@@ -1,0 +1,86 @@
+-- The reading of a whole text (Breakpad's symbol_files.md): its records in order, or its first fault with the number of the line.
+use Rattle.std.specs.Prelude.{ℕ, ◌+◌, ◌-◌, ◌^◌, ◌&&◌, Bool, true, false, not, min, nat_lt, if◌then◌else◌, List, [], ◌∷◌, ◌++◌, length, codes, Option, Some, None, Result, Ok, Err}
+use Rattle.std.specs.Str.{bytes_eq}
+use Rattle.sym_records.specs.Steps.{◌>>=◌}
+use Rattle.sym_records.specs.Cuts.{split_lines}
+use Rattle.sym_records.specs.Text.{is_blank, key_of, line_at}
+use Rattle.sym_records.specs.declared.line.SymLine.{SymLine}
+use Rattle.sym_records.specs.declared.line.SymLine.TheVariants.{Module, Info, Public}
+use Rattle.sym_records.specs.declared.place.Place.{Place}
+use Rattle.sym_records.specs.declared.place.Place.TheVariants.{Start, Inside}
+use Rattle.sym_records.specs.declared.text_fault.TextFault.{TextFault}
+use Rattle.sym_records.specs.declared.text_fault.TextKind.{TextKind}
+use Rattle.sym_records.specs.declared.text_fault.TextKind.TheVariants.{Empty, Misplaced, LongLine, NoModule}
+
+-- whether a record may stand at a place: MODULE first and nowhere else
+abbrev pub fits : Place → SymLine → Bool
+fits Start (Module os arch id name) = true
+fits Start (Info text) = false
+fits Start (Public many address params name) = false
+fits Inside (Module os arch id name) = false
+fits Inside (Info text) = true
+fits Inside (Public many address params name) = true
+
+-- the place behind a record
+abbrev pub leads : Place → SymLine → Place
+leads place (Module os arch id name) = Inside
+leads place (Info text) = Inside
+leads place (Public many address params name) = Inside
+
+-- what the lines so far gave: their records, the place behind them, and how many lines there were
+pub record Seen : Type 0 where
+  pub records : List SymLine
+  pub place : Place
+  pub number : ℕ
+
+-- the number of the next line; it stands still at the greatest u64
+abbrev pub next_number : ℕ → ℕ
+next_number number = min (number + 1) (2 ^ 64 - 1)
+
+-- no line yet
+abbrev pub start : Seen
+start = record { records = []; place = Start; number = 0 }
+
+abbrev pub is_start : Place → Bool
+is_start Start = true
+is_start Inside = false
+
+-- the first line that is not blank has another keyword than MODULE
+unfoldable pub lacks_module : Place → List ℕ → Bool
+lacks_module place line = is_start place && not (is_blank line) && not (bytes_eq (key_of line) (codes "MODULE"))
+
+-- what a line holds joins what was seen
+abbrev pub with_record : Seen → Option SymLine → Result Seen TextKind
+with_record seen None = Ok (record seen { number = next_number seen.number })
+with_record seen (Some s) =
+    if fits seen.place s then Ok (record { records = seen.records ++ s ∷ []; place = leads seen.place s; number = next_number seen.number })
+    else Err Misplaced
+
+-- a line by its bytes; the kinds of fault in the order in which they are looked for
+unfoldable pub with_text : ℕ → Seen → List ℕ → Result Seen TextKind
+with_text limit seen line =
+    if nat_lt limit (length line) then Err LongLine
+    else if lacks_module seen.place line then Err NoModule
+    else line_at line >>= with_record seen
+
+-- a fault is given the number of its line
+abbrev pub numbered : {A : Type 0} → ℕ → Result A TextKind → Result A TextFault
+numbered number (Ok x) = Ok x
+numbered number (Err kind) = Err (record { kind = kind; line = number })
+
+unfoldable pub with_lines : ℕ → Seen → List (List ℕ) → Result Seen TextFault
+with_lines limit seen [] = Ok seen
+with_lines limit seen (line ∷ lines) = numbered (next_number seen.number) (with_text limit seen line) >>= λ after. with_lines limit after lines
+
+-- a text holds at least one record
+abbrev pub some_records : List SymLine → Result (List SymLine) TextFault
+some_records [] = Err (record { kind = Empty; line = 1 })
+some_records (s ∷ records) = Ok (s ∷ records)
+
+-- the reading of a text whose lines have at most `limit` bytes without LF
+unfoldable pub reading_within : ℕ → List ℕ → Result (List SymLine) TextFault
+reading_within limit bytes = with_lines limit start (split_lines bytes) >>= λ after. some_records after.records
+
+-- the reading of a text
+unfoldable pub reading : List ℕ → Result (List SymLine) TextFault
+reading bytes = reading_within (2 ^ 20) bytes

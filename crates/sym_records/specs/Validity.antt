@@ -1,0 +1,74 @@
+-- Which records a text can spell, and in which lists they may stand (Breakpad's symbol_files.md).
+use Rattle.std.specs.Prelude.{◌≡◌, ℕ, ◌+◌, ◌-◌, ◌^◌, ◌==◌, ◌&&◌, ◌≤◌, Bool, true, not, nat_lt, nat_le, zero, suc, if◌then◌else◌, List, [], ◌∷◌, length, slice_index, Option, Some, None, Ok}
+use Rattle.std.specs.List.{list_all}
+use Rattle.sym_records.specs.Cuts.{is_within_line}
+use Rattle.sym_records.specs.Canon.{body}
+use Rattle.sym_records.specs.Text.{line_at}
+use Rattle.sym_records.specs.Reading.{fits, leads}
+use Rattle.sym_records.specs.declared.line.SymLine.{SymLine}
+use Rattle.sym_records.specs.declared.line.SymLine.TheVariants.{Module, Info, Public}
+use Rattle.sym_records.specs.declared.place.Place.{Place}
+use Rattle.sym_records.specs.declared.place.Place.TheVariants.{Start}
+
+-- a record is valid where its canonical spelling is one line of at most 2^20 bytes, and the reading of that line is the record
+pub record IsValid (s : SymLine) : Type 0 where
+  pub reads : line_at (body s) ≡ Ok (Some s)
+  pub one_line : list_all is_within_line (body s) ≡ true
+  pub short : length (body s) ≤ 2 ^ 20
+
+-- the record is valid, and may stand at the place
+abbrev pub Stands : Place → SymLine → Type 0
+Stands place s = IsValid s × (fits place s ≡ true)
+
+-- each record is valid, and may stand behind those before it
+abbrev pub AreValidFrom : Place → List SymLine → Type 0
+AreValidFrom place [] = Unit {0}
+AreValidFrom place (s ∷ lines) = Stands place s × AreValidFrom (leads place s) lines
+
+-- a list is valid where it is not empty, each record is valid, and each may stand where it stands
+abbrev pub AreValid : List SymLine → Type 0
+AreValid [] = ⊥
+AreValid (s ∷ lines) = AreValidFrom Start (s ∷ lines)
+
+-- the record at the index is the first that is not valid or may not stand there
+abbrev pub IsFirstBadFrom : Place → List SymLine → ℕ → Type 0
+IsFirstBadFrom place [] i = ⊥
+IsFirstBadFrom place (s ∷ lines) zero = ¬ Stands place s
+IsFirstBadFrom place (s ∷ lines) (suc i) = Stands place s × IsFirstBadFrom (leads place s) lines i
+
+-- the index of the first bad record, and 0 of the empty list
+abbrev pub IsFirstBad : List SymLine → ℕ → Type 0
+IsFirstBad [] i = i ≡ 0
+IsFirstBad (s ∷ lines) i = IsFirstBadFrom Start (s ∷ lines) i
+
+-- a byte that may stand in a field
+abbrev pub is_within_field : ℕ → Bool
+is_within_field b = not (b == 32) && not (b == 10)
+
+-- a field: not empty, without spaces and LFs
+unfoldable pub is_field : List ℕ → Bool
+is_field bytes = nat_lt 0 (length bytes) && list_all is_within_field bytes
+
+-- a name: not empty, no space in front, no CR at the end, without LFs
+unfoldable pub is_name : List ℕ → Bool
+is_name bytes = nat_lt 0 (length bytes) && not (slice_index bytes 0 == 32) && not (slice_index bytes (length bytes - 1) == 13) && list_all is_within_line bytes
+
+-- each field of the record is one that its line can carry
+abbrev pub has_fields : SymLine → Bool
+has_fields (Module os arch id name) = is_field os && is_field arch && is_field id && is_name name
+has_fields (Info text) = is_name text
+has_fields (Public many address params name) = nat_lt address (2 ^ 64) && nat_lt params (2 ^ 64) && is_name name
+
+-- the test of a record by its fields and its length: it is true exactly where the record is valid
+unfoldable pub fields_fit : SymLine → Bool
+fields_fit s = has_fields s && nat_le (length (body s)) (2 ^ 20)
+
+-- the index of the first bad record of those behind a place, found by the test
+unfoldable pub first_bad_from : ℕ → Place → List SymLine → Option ℕ
+first_bad_from i place [] = None
+first_bad_from i place (s ∷ lines) = if fits place s && fields_fit s then first_bad_from (i + 1) (leads place s) lines else Some i
+
+-- the index of the first bad record, and 0 of the empty list
+unfoldable pub first_bad : List SymLine → Option ℕ
+first_bad [] = Some 0
+first_bad (s ∷ lines) = first_bad_from 0 Start (s ∷ lines)

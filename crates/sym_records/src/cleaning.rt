@@ -1,0 +1,66 @@
+ghost use Rattle.std.specs.Prelude.{◌≡◌, ◌≤◌, ◌==◌, map, length, true, IfOk, take};
+ghost use Rattle.sym_records.specs.Cuts.{is_space, skip};
+ghost use Rattle.sym_records.specs.Cleaning.{shown_byte, cleaned, cleaned_upto};
+ghost use Rattle.sym_records.specs.Validity.{is_name};
+
+use crate::line::ByteText;
+use std::alloc::{AllocError, Global};
+use sym_edges::OutOfMemory;
+
+/// A name has at most so many bytes.
+const NAME_LIMIT: usize = 65_536;
+
+/// The bytes without the spaces in front.
+#[tactic(auto, using(crate::proofs::CutsLemmas::skip_stop, crate::proofs::CutsLemmas::skip_more, crate::proofs::CutsLemmas::skip_end))]
+fn unspaced(bytes: &[u8]) -> &[u8]
+    ensures { result.now ≡ skip is_space bytes.now }
+{
+    for (at, b) in bytes.iter().enumerate() {
+        if *b != b' ' {
+            return bytes.split_at(at).1;
+        }
+    }
+    &[]
+}
+
+/// The byte, or `?` for a control byte.
+fn shown_byte(b: u8) -> u8
+    ensures { result ≡ shown_byte b }
+{
+    if b < 0x20 || b == 0x7f { b'?' } else { b }
+}
+
+/// The bytes with `?` for each control byte.
+#[tactic(auto, using(crate::proofs::CleaningLemmas::shown_step))]
+fn shown(alloc: Global, bytes: &[u8]) -> Result<Vec<u8>, AllocError>
+    ensures { IfOk result (λ v. v.items ≡ map shown_byte bytes.now) }
+{
+    let mut name = Vec::from_slice(alloc, bytes)?;
+    for at in 0..name.len() {
+        name[at] = shown_byte(name[at]);
+    }
+    Ok(name)
+}
+
+#[tactic(auto, using(crate::proofs::CleaningLemmas::cleaned_none, crate::proofs::CleaningLemmas::cleaned_some))]
+pub(crate) fn clean_upto(alloc: Global, limit: usize, bytes: &[u8]) -> Result<ByteText, OutOfMemory>
+    ensures { IfOk result (λ t. t ≡ cleaned_upto limit bytes.now) }
+{
+    let rest = unspaced(bytes);
+    let front = rest.split_at(limit.min(rest.len())).0;
+    if front.is_empty() {
+        return Ok(ByteText::of(Vec::from_slice(alloc, b"<name omitted>")?));
+    }
+    Ok(ByteText::of(shown(alloc, front)?))
+}
+
+/// A name for a record, of any bytes: control bytes become `?`, leading spaces go, the rest is cut after 65,536 bytes, and
+/// an empty name becomes `<name omitted>`.
+#[tactic(auto, using(crate::proofs::CleaningLemmas::cleaned_named, crate::proofs::CleaningLemmas::cleaned_short), unfolding(crate::specs::Cleaning::cleaned))]
+pub fn clean(alloc: Global, bytes: &[u8]) -> Result<ByteText, OutOfMemory>
+    ensures cleaned { IfOk result (λ t. t ≡ cleaned bytes.now) }
+    ensures named { IfOk result (λ t. is_name t ≡ true) }
+    ensures short { IfOk result (λ t. length t ≤ 65536) }
+{
+    clean_upto(alloc, NAME_LIMIT, bytes)
+}

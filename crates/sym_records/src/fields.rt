@@ -1,0 +1,38 @@
+ghost use Rattle.std.specs.Prelude.{◌≡◌};
+ghost use Rattle.std.specs.List.{list_all};
+ghost use Rattle.sym_records.specs.Cuts.{is_within_line};
+ghost use Rattle.sym_records.specs.Validity.{is_within_field, is_field, is_name};
+
+/// Whether the bytes have no end of a line among them.
+fn are_one_line(bytes: &[u8]) -> bool
+    ensures { result ≡ list_all is_within_line bytes.now }
+{
+    bytes.iter().all(|b| *b != b'\n')
+}
+
+/// Whether the bytes have no space and no end of a line among them.
+fn are_unparted(bytes: &[u8]) -> bool
+    ensures { result ≡ list_all is_within_field bytes.now }
+{
+    bytes.iter().all(|b| *b != b' ' && *b != b'\n')
+}
+
+/// Whether a record may carry the bytes as a field: they are not empty, and have no space and no LF.
+#[tactic(auto, unfolding(crate::specs::Validity::is_field))]
+pub fn is_field(bytes: &[u8]) -> bool
+    ensures { result ≡ is_field bytes.now }
+{
+    !bytes.is_empty() && are_unparted(bytes)
+}
+
+/// Whether a record may carry the bytes as its name: they are not empty, begin with no space, end with no CR, and have
+/// no LF.
+#[tactic(auto, unfolding(crate::specs::Validity::is_name))]
+pub fn is_name(bytes: &[u8]) -> bool
+    ensures { result ≡ is_name bytes.now }
+{
+    if bytes.is_empty() {
+        return false;
+    }
+    bytes[0] != b' ' && bytes[bytes.len() - 1] != b'\r' && are_one_line(bytes)
+}

@@ -1,0 +1,31 @@
+use sym_edges::ListOf;
+
+/// Bytes of a text, as a field or a name.
+pub type ByteText = ListOf<u8>;
+
+/// A record of a symbol file (Breakpad's symbol_files.md).
+#[derive(Debug, Drop)]
+pub enum SymLine {
+    /// `MODULE os arch id name`: the binary.
+    Module {
+        os: ByteText,
+        arch: ByteText,
+        id: ByteText,
+        name: ByteText,
+    },
+    /// `INFO text`: what else is known of the binary, as `CODE_ID` and its build id.
+    Info {
+        text: ByteText,
+    },
+    /// `PUBLIC [m] address params name`: a symbol's address, relative to the binary's base, and the size of its
+    /// parameters on the stack. `m` says that symbols of other names have the address too.
+    Public {
+        many: bool,
+        address: u64,
+        params: u64,
+        name: ByteText,
+    },
+}
+
+/// Records in order.
+pub type SymLines = ListOf<SymLine>;

@@ -1,0 +1,174 @@
+ghost use Rattle.std.specs.Prelude.{◌≡◌, ◌+◌, ◌≤◌, [], ◌∷◌, ◌++◌, IfOk, OnOk, OnErr};
+ghost use Rattle.std.specs.List.{flat_map};
+ghost use Rattle.sym_edges.specs.Outside.{append_told, AddsFront, Rose};
+ghost use Rattle.sym_records.specs.Buffer.{Passes};
+ghost use Rattle.sym_records.specs.Canon.{canon};
+
+use crate::digits::HexText;
+use crate::line::SymLine;
+use crate::waiting::Waiting;
+use sym_edges::{Failed, Sink, write_all};
+
+/// Hands on what waits.
+pub(crate) fn hand_on<O: Sink, const N: usize>(
+    sink: &mut O,
+    waiting: &mut Waiting<N>,
+) -> Result<(), Failed>
+    ensures written { OnOk result (O.taken sink.new ≡ append_told (O.taken sink.old) waiting.old) }
+    ensures empty { OnOk result (waiting.new ≡ []) }
+    ensures front { OnErr result (AddsFront (O.taken sink.old) (O.taken sink.new) waiting.old) }
+    ensures faults { O.faults sink.old ≤ O.faults sink.new }
+    ensures cause { OnErr result (Rose (O.faults sink.old) (O.faults sink.new)) }
+{
+    match write_all(sink, waiting.as_slice()) {
+        Ok(()) => {
+            waiting.clear();
+            Ok(())
+        }
+        Err(Failed) => Err(Failed),
+    }
+}
+
+/// Puts bytes behind those that wait. Where they do not fit, what waits is handed on first, and a piece that does not
+/// fit into an empty buffer goes straight to the sink.
+#[tactic(auto, using(crate::proofs::BufferLemmas::passes_held, crate::proofs::BufferLemmas::passes_on, crate::proofs::BufferLemmas::passes_through, crate::proofs::BufferLemmas::front_longer, crate::proofs::BufferLemmas::front_through))]
+fn put<O: Sink, const N: usize>(
+    sink: &mut O,
+    waiting: &mut Waiting<N>,
+    bytes: &[u8],
+) -> Result<(), Failed>
+    ensures passed { OnOk result (Passes (O.taken sink.old) waiting.old bytes.now (O.taken sink.new) waiting.new) }
+    ensures front { OnErr result (AddsFront (O.taken sink.old) (O.taken sink.new) (waiting.old ++ bytes.now)) }
+    ensures faults { O.faults sink.old ≤ O.faults sink.new }
+    ensures cause { OnErr result (Rose (O.faults sink.old) (O.faults sink.new)) }
+{
+    if bytes.len() <= waiting.room() {
+        waiting.put(bytes);
+        return Ok(());
+    }
+    match hand_on(sink, waiting) {
+        Ok(()) => {}
+        Err(Failed) => return Err(Failed),
+    }
+    if bytes.len() <= waiting.room() {
+        waiting.put(bytes);
+        return Ok(());
+    }
+    match write_all(sink, bytes) {
+        Ok(()) => Ok(()),
+        Err(Failed) => Err(Failed),
+    }
+}
+
+/// Puts a field behind one space.
+fn put_field<O: Sink, const N: usize>(
+    sink: &mut O,
+    waiting: &mut Waiting<N>,
+    field: &[u8],
+) -> Result<(), Failed>
+    ensures passed { OnOk result (Passes (O.taken sink.old) waiting.old (32 ∷ field.now) (O.taken sink.new) waiting.new) }
+    ensures front { OnErr result (AddsFront (O.taken sink.old) (O.taken sink.new) (waiting.old ++ 32 ∷ field.now)) }
+    ensures faults { O.faults sink.old ≤ O.faults sink.new }
+    ensures cause { OnErr result (Rose (O.faults sink.old) (O.faults sink.new)) }
+{
+    match put(sink, waiting, b" ") {
+        Ok(()) => {}
+        Err(Failed) => return Err(Failed),
+    }
+    match put(sink, waiting, field) {
+        Ok(()) => Ok(()),
+        Err(Failed) => Err(Failed),
+    }
+}
+
+/// Puts fields, with one space in front of each.
+fn put_fields<O: Sink, const N: usize>(
+    sink: &mut O,
+    waiting: &mut Waiting<N>,
+    fields: &[&[u8]],
+) -> Result<(), Failed>
+    ensures passed { OnOk result (Passes (O.taken sink.old) waiting.old (flat_map (λ f. 32 ∷ f.now) fields.now) (O.taken sink.new) waiting.new) }
+    ensures front { OnErr result (AddsFront (O.taken sink.old) (O.taken sink.new) (waiting.old ++ flat_map (λ f. 32 ∷ f.now) fields.now)) }
+    ensures faults { O.faults sink.old ≤ O.faults sink.new }
+    ensures cause { OnErr result (Rose (O.faults sink.old) (O.faults sink.new)) }
+{
+    for field in fields {
+        match put_field(sink, waiting, field) {
+            Ok(()) => {}
+            Err(Failed) => return Err(Failed),
+        }
+    }
+    Ok(())
+}
+
+/// Puts a keyword and fields, with one space in front of each field, and the end of the line.
+fn put_line<O: Sink, const N: usize>(
+    sink: &mut O,
+    waiting: &mut Waiting<N>,
+    keyword: &[u8],
+    fields: &[&[u8]],
+) -> Result<(), Failed>
+    ensures passed { OnOk result (Passes (O.taken sink.old) waiting.old ((keyword.now ++ flat_map (λ f. 32 ∷ f.now) fields.now) ++ 10 ∷ []) (O.taken sink.new) waiting.new) }
+    ensures front { OnErr result (AddsFront (O.taken sink.old) (O.taken sink.new) (waiting.old ++ ((keyword.now ++ flat_map (λ f. 32 ∷ f.now) fields.now) ++ 10 ∷ []))) }
+    ensures faults { O.faults sink.old ≤ O.faults sink.new }
+    ensures cause { OnErr result (Rose (O.faults sink.old) (O.faults sink.new)) }
+{
+    match put(sink, waiting, keyword) {
+        Ok(()) => {}
+        Err(Failed) => return Err(Failed),
+    }
+    match put_fields(sink, waiting, fields) {
+        Ok(()) => {}
+        Err(Failed) => return Err(Failed),
+    }
+    match put(sink, waiting, b"\n") {
+        Ok(()) => Ok(()),
+        Err(Failed) => Err(Failed),
+    }
+}
+
+/// Puts a record's canonical spelling.
+#[tactic(auto, unfolding(crate::specs::Canon::canon, crate::specs::Canon::body))]
+pub(crate) fn put_record<O: Sink, const N: usize>(
+    sink: &mut O,
+    waiting: &mut Waiting<N>,
+    line: &SymLine,
+) -> Result<(), Failed>
+    ensures passed { OnOk result (Passes (O.taken sink.old) waiting.old (canon line.now) (O.taken sink.new) waiting.new) }
+    ensures front { OnErr result (AddsFront (O.taken sink.old) (O.taken sink.new) (waiting.old ++ canon line.now)) }
+    ensures faults { O.faults sink.old ≤ O.faults sink.new }
+    ensures cause { OnErr result (Rose (O.faults sink.old) (O.faults sink.new)) }
+{
+    match line {
+        SymLine::Module { os, arch, id, name } => {
+            let fields = [
+                os.as_slice(),
+                arch.as_slice(),
+                id.as_slice(),
+                name.as_slice(),
+            ];
+            put_line(sink, waiting, b"MODULE", &fields)
+        }
+        SymLine::Info { text } => put_line(sink, waiting, b"INFO", &[text.as_slice()]),
+        SymLine::Public {
+            many,
+            address,
+            params,
+            name,
+        } => {
+            let address = HexText::of(*address);
+            let params = HexText::of(*params);
+            let fields = [
+                b"m".as_slice(),
+                address.as_slice(),
+                params.as_slice(),
+                name.as_slice(),
+            ];
+            if *many {
+                put_line(sink, waiting, b"PUBLIC", &fields)
+            } else {
+                put_line(sink, waiting, b"PUBLIC", &fields[1..])
+            }
+        }
+    }
+}

@@ -1,0 +1,31 @@
+/// What is wrong with a line of a symbol file, in the order of the kinds' numbers.
+#[derive(Clone, Copy, Debug, PartialEq, Eq)]
+pub enum TextKind {
+    /// No line holds a record.
+    Empty,
+    /// No such keyword.
+    Unknown,
+    /// A field or a name is missing, or there is one too many.
+    Fields,
+    /// A field is no hexadecimal number.
+    Hex,
+    /// A field is no decimal number.
+    Decimal,
+    /// A frame rule is bad or missing.
+    Rule,
+    /// The record may not stand there.
+    Misplaced,
+    /// The line has more than 2^20 bytes.
+    LongLine,
+    /// A frame record of Windows.
+    Windows,
+    /// The first record is no `MODULE`.
+    NoModule,
+}
+
+/// The first fault of a text, with its line, counted from 1.
+#[derive(Clone, Copy, Debug, PartialEq, Eq)]
+pub struct TextFault {
+    pub kind: TextKind,
+    pub line: u64,
+}
