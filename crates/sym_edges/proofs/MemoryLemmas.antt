@@ -1,7 +1,7 @@
-use Rattle.std.proofs.Common.{◌≡◌, ℕ, ◌+◌, ◌<◌, ◌≤◌, ◌↔◌, List, [], ◌∷◌, ◌++◌, Option, Some, None, length, take, drop, min, refl, sym, ◌∙◌, ap, arith, length-drop, length-take, rules}
+use Rattle.std.proofs.Common.{◌≡◌, ℕ, ◌+◌, ◌<◌, ◌≤◌, List, [], ◌∷◌, ◌++◌, Option, Some, None, length, take, drop, min, refl, ap, arith}
 use Rattle.std.proofs.lemmas.Grind.{common_steps}
 use Rattle.sym_edges.specs.Outside.{ReadsFront}
-use Rattle.sym_edges.specs.Memory.{left_of, bytes_at}
+use Rattle.sym_edges.specs.Memory.{left_of}
 use Rattle.sym_edges.specs.declared.name.NamedFile.{NamedFile}
 
 -- what is left once `n` more bytes were read

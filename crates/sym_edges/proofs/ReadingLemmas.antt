@@ -1,6 +1,6 @@
-use Rattle.std.proofs.Common.{◌≡◌, ℕ, ◌+◌, ◌<◌, ◌≤◌, List, [], ◌∷◌, ◌++◌, Option, Some, None, length, take, drop, refl, sym, ◌∙◌, ap, arith, append_assoc, length-append, subst, append-nil}
+use Rattle.std.proofs.Common.{◌≡◌, ℕ, ◌<◌, ◌≤◌, List, [], ◌++◌, Option, Some, None, length, take, drop, refl, ◌∙◌, ap, arith, length-append, append-nil}
 use Rattle.std.proofs.lemmas.Grind.{common_steps}
-use Rattle.sym_edges.specs.Outside.{Reads, ReadsFront}
+use Rattle.sym_edges.specs.Outside.{Reads}
 use Rattle.sym_edges.specs.WholeFile.{IsParted, IsWhole, IsLonger}
 
 -- a list in front of another is cut by a front of that one

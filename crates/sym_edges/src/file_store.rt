@@ -15,18 +15,22 @@ pub struct FileStore<'a, R: Files> {
     system: &'a R,
     alloc: Global,
     asked: Vec<NameText>,
-    open: Option<R::File>,
+    opened: Option<R::File>,
     faults: u64,
 }
 
 impl<'a, R: Files> FileStore<'a, R> {
     /// Nothing is open.
-    pub fn new(alloc: Global, system: &'a R) -> FileStore<'a, R> {
+    pub fn new(alloc: Global, system: &'a R) -> FileStore<'a, R>
+        ensures asked { result.asked.items ≡ [] }
+        ensures opened { result.opened ≡ None }
+        ensures faults { result.faults ≡ 0 }
+    {
         FileStore {
             system,
             alloc,
             asked: Vec::new(alloc),
-            open: None,
+            opened: None,
             faults: 0,
         }
     }
@@ -46,7 +50,7 @@ impl<R: Files> Store for FileStore<'_, R> {
         self.asked.push(asked)?;
         match fs::open(self.system, name) {
             Ok(file) => {
-                self.open = Some(file);
+                self.opened = Some(file);
                 Ok(())
             }
             Err(_) => {
@@ -57,7 +61,7 @@ impl<R: Files> Store for FileStore<'_, R> {
     }
 
     fn read(&mut self, buf: &mut [u8]) -> Result<usize, Failed> {
-        match &mut self.open {
+        match &mut self.opened {
             None => Ok(0),
             Some(file) => match file.read(buf) {
                 Ok(count) => Ok(count),

@@ -25,7 +25,7 @@ pub struct MemStore {
     fail: CallList,
     calls: u64,
     asked: Vec<NameText>,
-    open: Option<usize>,
+    chosen: Option<usize>,
     place: usize,
     faults: u64,
 }
@@ -42,7 +42,7 @@ impl Model for MemStore {
       fail = s.fail;
       calls = s.calls;
       asked = s.asked.items;
-      left = left_of s.files s.open s.place;
+      left = left_of s.files s.chosen s.place;
       faults = s.faults;
     } };
 
@@ -62,7 +62,7 @@ impl MemStore {
             fail,
             calls: 0,
             asked: Vec::new(alloc),
-            open: None,
+            chosen: None,
             place: 0,
             faults: 0,
         }
@@ -150,7 +150,7 @@ impl Store for MemStore {
                 Err(Stop::Fault(Failed))
             }
             Some(i) => {
-                self.open = Some(i);
+                self.chosen = Some(i);
                 self.place = 0;
                 Ok(())
             }
@@ -176,7 +176,7 @@ impl Store for MemStore {
             self.faults = self.faults.saturating_add(1);
             return Err(Failed);
         }
-        let left = open_bytes(&self.files, self.open, self.place);
+        let left = open_bytes(&self.files, self.chosen, self.place);
         let count = self.step.min(buf.len().min(left.len()));
         buf[..count].copy_from_slice(&left[..count]);
         self.place += count;

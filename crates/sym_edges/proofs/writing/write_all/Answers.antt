@@ -1,7 +1,7 @@
 use Rattle.std.proofs.Common.{◌≡◌, ◌++◌, sym, ◌∙◌, ap, arith, take, append_assoc}
 use Rattle.std.proofs.lemmas.Grind.{common_steps}
 use Rattle.sym_edges.specs.Outside.{append_told}
-use Rattle.sym_edges.proofs.WritingLemmas.{told_twice, told_nothing, adds_front}
+use Rattle.sym_edges.proofs.WritingLemmas.{told_twice, adds_front}
 use Rattle.sym_edges.proofs.writing.write_all.Goals as goal
 
 pub pieces-preserved : goal.pieces-preserved

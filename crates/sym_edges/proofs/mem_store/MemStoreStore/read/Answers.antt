@@ -1,5 +1,5 @@
-use Rattle.std.proofs.Common.{◌≡◌, ◌+◌, Some, length, take, drop, min, sym, ◌∙◌, ap, arith}
-use Rattle.sym_edges.specs.Memory.{MemFiles, left_of}
+use Rattle.std.proofs.Common.{◌≡◌, Some, length, take, drop, min, sym, ◌∙◌, ap}
+use Rattle.sym_edges.specs.Memory.{MemFiles}
 use Rattle.sym_edges.proofs.MemoryLemmas.{left_more, reads_front}
 use Rattle.sym_edges.proofs.mem_store.MemStoreStore.read.Goals as goal
 
@@ -12,4 +12,4 @@ returns-clause-taken c =
     c.min-count.ensures ∙ ap (min inside.step) (c.min.ensures ∙ ap (λ l. min (length c.args.buf.now) (length l)) left) in
     reads_front c.args.self.now.left c.args.buf.now c.copy_from_slice.new.self n inside.step _ c.self.invariant count
     (c.copy_from_slice.ensures.after ∙ ap (take n) left)
-    (ap Some (left_more inside.files inside.open inside.place n ∙ ap (drop n) (sym c.open_bytes-left.ensures.left ∙ left)))
+    (ap Some (left_more inside.files inside.chosen inside.place n ∙ ap (drop n) (sym c.open_bytes-left.ensures.left ∙ left)))
