@@ -1,10 +1,11 @@
-use Rattle.std.proofs.Common.{◌≡◌, ℕ, zero, suc, ◌+◌, ◌-◌, ◌<◌, ◌≤◌, Bool, true, false, cond, List, [], ◌∷◌, ◌++◌, Option, Some, None, length, drop, get_or, find, refl, sym, ◌∙◌, ap, arith, add-one}
+use Rattle.std.proofs.Common.{◌≡◌, ℕ, zero, suc, ◌+◌, ◌<◌, ◌≤◌, true, false, List, [], ◌∷◌, ◌++◌, Option, Some, None, length, drop, get_or, find, if◌then◌else◌, refl, sym, ◌∙◌, ap, arith, add-one, length-drop}
 use Rattle.std.specs.Option.{option_map, option_or}
 use Rattle.std.specs.List.{flat_map}
 use Rattle.std.proofs.lemmas.List.Folds.{find-append}
 use Rattle.std.proofs.Math.Seq.{drop-cons}
 use Rattle.elf_sections.specs.declared.section.SectionHeader.{SectionHeader}
-use Rattle.elf_sections.specs.Notes.{NoteParts, notes, notes_in, has_note, note_at, after_note, first_id, is_build_id, notes_of}
+use Rattle.elf_sections.specs.Notes.{NoteParts, notes, notes_in, has_note, note_at, after_note, padded, first_id, is_build_id, notes_of}
+use Rattle.elf_sections.specs.Numbers.{u32_at}
 
 -- no note in front: none
 pub no_note : (n : ℕ) (bytes : List ℕ) → has_note bytes ≡ false → first_id (notes_in n bytes) ≡ None
@@ -70,3 +71,30 @@ id_later file all i d inside none =
 pub id_end : (file : List ℕ) (all : List SectionHeader) (i : ℕ) → length all ≤ i → None ≡ first_id (flat_map (notes_of file) (drop i all))
 unfolding first_id
 id_end file all i past = sym (ap (λ l. option_map (λ (note : NoteParts). note.descriptor) (find is_build_id (flat_map (notes_of file) l))) (drop_all all i past))
+
+no_bytes : (bytes : List ℕ) → length bytes ≤ 0 → has_note bytes ≡ false
+unfolding has_note
+no_bytes [] within = refl
+no_bytes (b ∷ bytes) within = absurd (omega arith)
+
+after_less : (n : ℕ) (bytes : List ℕ) → length bytes ≤ suc n → length (after_note bytes) ≤ n
+unfolding after_note
+after_less n bytes within = omega (arith, length-drop (12 + padded (u32_at bytes 0) + padded (u32_at bytes 4)) bytes)
+
+-- more steps than bytes find no more notes
+notes_enough : (n m : ℕ) (bytes : List ℕ) → length bytes ≤ n → length bytes ≤ m → notes_in n bytes ≡ notes_in m bytes
+unfolding notes_in
+notes_enough zero zero bytes a b = refl
+notes_enough zero (suc m) bytes a b = rw (no_bytes bytes a) refl
+notes_enough (suc n) zero bytes a b = rw (no_bytes bytes b) refl
+notes_enough (suc n) (suc m) bytes a b =
+    ap (λ l. if has_note bytes then note_at bytes ∷ l else []) (notes_enough n m (after_note bytes) (after_less n bytes a) (after_less m bytes b))
+
+-- the notes are the one in front and those behind it
+pub notes_each : (bytes : List ℕ) → notes bytes ≡ (if has_note bytes then note_at bytes ∷ notes (after_note bytes) else [])
+unfolding notes notes_in
+notes_each bytes =
+    let more : length bytes ≤ suc (length bytes) = omega arith in
+    notes_enough (length bytes) (suc (length bytes)) bytes (omega arith) more
+    ∙ ap (λ l. if has_note bytes then note_at bytes ∷ l else [])
+    (notes_enough (length bytes) (length (after_note bytes)) (after_note bytes) (after_less (length bytes) bytes more) (omega arith))

@@ -1,8 +1,4 @@
-use Rattle.std.proofs.Common.{◌≡◌, ℕ, zero, suc, ◌+◌, ◌-◌, ◌*◌, ◌<◌, ◌≤◌, ◌==◌, Bool, true, false, cond, List, [], ◌∷◌, Option, Some, None, length, map, find, refl, sym, ◌∙◌, ap, arith, add-one}
-use Rattle.std.proofs.lemmas.Grind.{common_steps}
-use Rattle.std.specs.List.{range_with_len}
-use Rattle.std.specs.Option.{option_map_or}
-use Rattle.elf_sections.specs.declared.program.ProgramHeader.{ProgramHeader}
+use Rattle.std.proofs.Common.{◌≡◌, ℕ, suc, ◌+◌, ◌*◌, ◌==◌, true, false, List, ◌∷◌, refl, ◌∙◌, ap, add-one}
 use Rattle.elf_sections.specs.declared.constants.TheConstants.{PROGRAM_HEADER, PT_LOAD}
 use Rattle.elf_sections.specs.Programs.{program_at, programs_from, loaded_address}
 

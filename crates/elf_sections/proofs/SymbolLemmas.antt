@@ -1,5 +1,4 @@
-use Rattle.std.proofs.Common.{◌≡◌, ℕ, zero, suc, ◌+◌, ◌*◌, ◌<◌, ◌||◌, Bool, true, false, cond, List, [], ◌∷◌, ◌++◌, Option, Some, None, map, refl, sym, ◌∙◌, ap, arith, add-one, append-nil}
-use Rattle.std.proofs.lemmas.Grind.{common_steps}
+use Rattle.std.proofs.Common.{◌≡◌, ℕ, zero, suc, ◌+◌, ◌*◌, ◌<◌, ◌||◌, Bool, true, false, List, [], ◌∷◌, ◌++◌, Some, None, map, refl, sym, ◌∙◌, ap, arith, append-nil}
 use Rattle.std.specs.List.{list_any, filter_map, range_with_len}
 use Rattle.std.proofs.lemmas.List.{map-append}
 use Rattle.std.proofs.lemmas.List.Elements.{filter_map-append}
@@ -7,10 +6,8 @@ use Rattle.std.proofs.lemmas.List.FromFn.{map-range_with_len_more}
 use Rattle.sym_edges.specs.Addresses.{Range}
 use Rattle.elf_sections.specs.declared.symbols.SymbolEntry.{SymbolEntry}
 use Rattle.elf_sections.specs.declared.symbols.Symbol.{Symbol}
-use Rattle.elf_sections.specs.declared.symbols.Found.{Found}
-use Rattle.elf_sections.specs.declared.symbols.Found.TheVariants.{Nameless, Other, Function}
 use Rattle.elf_sections.specs.declared.constants.TheConstants.{SYMBOL}
-use Rattle.elf_sections.specs.Symbols.{SymbolParts, symbol_view, symbol_at, entries_of, is_nameless, function_of, has_nameless, functions, ReadsSymbols}
+use Rattle.elf_sections.specs.Symbols.{symbol_view, symbol_at, entries_of, is_nameless, function_of, has_nameless, functions, ReadsSymbols}
 
 entries_more : (table : List ℕ) (k : ℕ) → entries_of table (k + 1) ≡ entries_of table k ++ symbol_at table (SYMBOL * k) ∷ []
 unfolding entries_of

@@ -1,12 +1,10 @@
-use Rattle.std.proofs.Common.{◌≡◌, ℕ, zero, suc, ◌+◌, ◌-◌, ◌*◌, ◌<◌, ◌≤◌, ◌==◌, Bool, true, false, List, [], ◌∷◌, ◌++◌, Option, Some, None, length, take, drop, get_or, nat_lt, refl, sym, ◌∙◌, ap, arith, rules, length-drop, ltb-true, ltb-false, le-ltb}
+use Rattle.std.proofs.Common.{◌≡◌, ℕ, zero, suc, ◌+◌, ◌-◌, ◌*◌, ◌<◌, ◌≤◌, ◌==◌, Bool, true, false, List, [], ◌∷◌, ◌++◌, Some, None, length, drop, get_or, nat_lt, refl, sym, ◌∙◌, ap, arith, length-drop, ltb-true, ltb-false, le-ltb}
 use Rattle.std.proofs.lemmas.Grind.{common_steps}
-use Rattle.std.proofs.lemmas.Bool.Decides.{nat_tests}
 use Rattle.std.specs.List.{list_any}
 use Rattle.std.proofs.lemmas.List.{get_or-drop}
 use Rattle.std.proofs.lemmas.List.FromFn.{map-range_with_len_more, length-map-range_with_len}
-use Rattle.elf_sections.specs.declared.section.SectionHeader.{SectionHeader}
 use Rattle.elf_sections.specs.declared.constants.TheConstants.{SECTION_HEADER}
-use Rattle.memchr.specs.Find.{IsLastByte, IsLast, NoneAfter, Nowhere, Passes, is_byte}
+use Rattle.memchr.specs.Find.{IsLastByte, is_byte}
 use Rattle.elf_sections.specs.Sections.{is_ended, section_at, sections_from}
 
 pub not_true : (b : Bool) → ((b ≡ true) → ⊥) → b ≡ false

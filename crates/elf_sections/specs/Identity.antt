@@ -1,9 +1,5 @@
-use Rattle.std.specs.Prelude.{◌≡◌, ℕ, ◌+◌, ◌-◌, ◌%◌, ◌==◌, ◌&&◌, Bool, List, [], ◌∷◌, ◌++◌, Option, Some, None, length, take, map, fold, min, slice_index, replicate, bit_xor, is_none, codes, if◌then◌else◌}
+use Rattle.std.specs.Prelude.{ℕ, ◌-◌, ◌%◌, ◌==◌, List, ◌++◌, length, take, map, fold, min, slice_index, replicate, bit_xor, if◌then◌else◌}
 use Rattle.std.specs.List.{range_with_len}
-use Rattle.elf_sections.specs.FileHeader.{fault_if}
-use Rattle.elf_sections.specs.Notes.{build_id}
-use Rattle.elf_sections.specs.declared.fault.ElfFault.{ElfFault}
-use Rattle.elf_sections.specs.declared.fault.ElfFault.TheVariants.{NoIdentity}
 
 -- one byte of the exclusive or of groups of 16 bytes: that of the bytes at the group's place j, of the first n bytes
 unfoldable pub folded_byte : ℕ → List ℕ → ℕ → ℕ

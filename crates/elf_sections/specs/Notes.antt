@@ -1,4 +1,4 @@
-use Rattle.std.specs.Prelude.{◌≡◌, ℕ, zero, suc, ◌+◌, ◌*◌, ◌/◌, ◌==◌, ◌&&◌, Bool, List, [], ◌∷◌, Option, Some, None, length, take, drop, filter, find, nat_lt, nat_le, codes, if◌then◌else◌}
+use Rattle.std.specs.Prelude.{ℕ, zero, suc, ◌+◌, ◌*◌, ◌/◌, ◌==◌, ◌&&◌, Bool, List, [], ◌∷◌, Option, length, take, drop, find, nat_lt, nat_le, codes, if◌then◌else◌}
 use Rattle.std.specs.List.{flat_map}
 use Rattle.std.specs.Option.{option_map}
 use Rattle.std.specs.Str.{bytes_eq}
@@ -47,7 +47,8 @@ unfoldable pub notes_in : ℕ → List ℕ → List NoteParts
 notes_in zero bytes = []
 notes_in (suc n) bytes = if has_note bytes then note_at bytes ∷ notes_in n (after_note bytes) else []
 
--- the notes of a section; each has some bytes, so there are no more notes than bytes
+-- the notes of a section; each has some bytes, so there are no more notes than bytes (`find_id` ensures that they are the
+-- note in front, and the notes behind it)
 unfoldable pub notes : List ℕ → List NoteParts
 notes bytes = notes_in (length bytes) bytes
 

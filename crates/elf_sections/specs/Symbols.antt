@@ -1,6 +1,5 @@
-use Rattle.std.specs.Prelude.{◌≡◌, ℕ, ◌+◌, ◌*◌, ◌/◌, ◌%◌, ◌==◌, ◌||◌, ◌&&◌, Bool, true, false, not, List, [], ◌∷◌, ◌++◌, Option, Some, None, length, drop, map, find, filter, is_none, slice_get, slice_index, nat_lt, option_and_then, if◌then◌else◌}
+use Rattle.std.specs.Prelude.{◌≡◌, ℕ, ◌+◌, ◌*◌, ◌/◌, ◌%◌, ◌==◌, ◌||◌, ◌&&◌, Bool, true, false, not, List, [], ◌∷◌, Option, Some, None, length, map, find, is_none, slice_get, slice_index, option_and_then, if◌then◌else◌}
 use Rattle.std.specs.List.{list_any, range_with_len, filter_map}
-use Rattle.std.specs.Option.{option_map}
 use Rattle.sym_edges.specs.Addresses.{Range}
 use Rattle.elf_sections.specs.Numbers.{u16_at, u32_at, u64_at}
 use Rattle.elf_sections.specs.Texts.{text_at}

@@ -1,4 +1,4 @@
-ghost use Rattle.std.specs.Prelude.{◌≡◌, ◌+◌, ◌≤◌, length, drop, find, filter, true, false, Some, None, IsTrue, IfSome, MatchOption};
+ghost use Rattle.std.specs.Prelude.{◌≡◌, ◌+◌, ◌≤◌, ℕ, List, [], ◌∷◌, if◌then◌else◌, length, drop, find, filter, true, false, Some, None, IsTrue, IfSome, MatchOption};
 ghost use Rattle.std.specs.List.{flat_map};
 ghost use Rattle.std.specs.Option.{option_copied, option_map};
 ghost use Rattle.elf_sections.specs.Numbers.{u32_at};
@@ -74,9 +74,10 @@ fn is_id(note: &Note<'_>) -> bool
 }
 
 /// The first build id among the notes of a section.
-#[tactic(auto, using(crate::proofs::NoteLemmas::notes_begin, crate::proofs::NoteLemmas::no_note, crate::proofs::NoteLemmas::next_id, crate::proofs::NoteLemmas::next_other))]
+#[tactic(auto, using(crate::proofs::NoteLemmas::notes_begin, crate::proofs::NoteLemmas::no_note, crate::proofs::NoteLemmas::next_id, crate::proofs::NoteLemmas::next_other, crate::proofs::NoteLemmas::notes_each))]
 fn find_id(bytes: &[u8]) -> Option<&[u8]>
     ensures first { option_copied result ≡ first_id (notes bytes.now) }
+    ensures each { (some : List ℕ) → notes some ≡ (if has_note some then note_at some ∷ notes (after_note some) else []) }
     ensures short { IfSome result (λ id. length id.now ≤ 64) }
 {
     let mut rest = bytes;

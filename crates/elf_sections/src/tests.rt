@@ -153,7 +153,10 @@ fn a_file_that_is_no_image_is_refused_with_its_fault(rt: HostRuntime) -> Result<
         b"a text of more than sixty-four bytes, which is as long as the header of an ELF file\n",
     ];
     for file in texts {
-        assert_eq!(rt; read_image(rt.alloc(), file).err(), Some(Stop::Fault(ElfFault::NotElf)));
+        assert_eq!(rt;
+            read_image(rt.alloc(), file).err(),
+            Some(Stop::Fault(ElfFault::NotElf))
+        );
     }
     let changes = [
         (4, 1, ElfFault::Class),

@@ -1,7 +1,6 @@
-use Rattle.std.proofs.Common.{◌≡◌, ◌+◌, ◌-◌, ◌*◌, ◌==◌, true, eq-eqb, sym, ◌∙◌, ap, arith}
+use Rattle.std.proofs.Common.{◌+◌, ◌-◌, eq-eqb, sym, ◌∙◌, ap, arith}
 use Rattle.elf_sections.specs.declared.program.ProgramHeader.{ProgramHeader}
-use Rattle.elf_sections.specs.declared.constants.TheConstants.{PROGRAM_HEADER, PT_LOAD}
-use Rattle.elf_sections.specs.Programs.{program_at}
+use Rattle.elf_sections.specs.declared.constants.TheConstants.{PT_LOAD}
 use Rattle.elf_sections.proofs.ProgramLemmas.{address_found, address_none}
 use Rattle.elf_sections.proofs.program.find_loaded.Goals as goal
 

@@ -1,7 +1,6 @@
-use Rattle.std.proofs.Common.{◌≡◌, ◌*◌, ◌/◌, Some, true, false, length, sym, ◌∙◌, ap}
-use Rattle.elf_sections.specs.declared.symbols.SymbolEntry.{SymbolEntry}
+use Rattle.std.proofs.Common.{◌/◌, length, sym, ◌∙◌, ap}
 use Rattle.elf_sections.specs.declared.constants.TheConstants.{SYMBOL}
-use Rattle.elf_sections.specs.Symbols.{symbol_at, is_nameless, function_of}
+use Rattle.elf_sections.specs.Symbols.{is_nameless, function_of}
 use Rattle.elf_sections.proofs.SymbolLemmas.{reading_begins, reading_other, reading_found, reading_nameless}
 use Rattle.elf_sections.proofs.symbols.read_symbols.Goals as goal
 use Rattle.elf_sections.proofs.symbols.read_symbols.Goals.{in-Other, in-Function+in_ok-push-in-Function}

@@ -1,7 +1,6 @@
-use Rattle.std.proofs.Common.{◌≡◌, ◌≢◌, ℕ, ◌+◌, ◌%◌, ◌<◌, get_or, set, length, refl, sym, ◌∙◌, ap, arith}
+use Rattle.std.proofs.Common.{refl, sym, ◌∙◌, arith}
 use Rattle.std.proofs.lemmas.Grind.{common_steps}
-use Rattle.elf_sections.specs.Identity.{folded_byte}
-use Rattle.elf_sections.proofs.IdentityLemmas.{folded_none, folded_here, folded_other, zero_at, folded_set}
+use Rattle.elf_sections.proofs.IdentityLemmas.{folded_none, zero_at, folded_set}
 use Rattle.elf_sections.proofs.text_identity.fold_text.Goals as goal
 
 pub bytes-init : goal.bytes-init
