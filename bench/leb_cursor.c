@@ -1,4 +1,4 @@
-// The loops of leb_cursor.rt in C, for machines without rustc: the same forms, the same bytes.
+// The loops of leb_cursor.rt.txt in C, for machines without rustc: the same forms, the same bytes.
 #include <stddef.h>
 #include <stdint.h>
 #include <stdio.h>

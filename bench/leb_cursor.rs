@@ -1,4 +1,4 @@
-// The loops of leb_cursor.rt in safe Rust: the same cursor, the same forms, the same bytes.
+// The loops of leb_cursor.rt.txt in safe Rust: the same cursor, the same forms, the same bytes.
 use std::hint::black_box;
 use std::time::Instant;
 
