@@ -1,0 +1,187 @@
+-- The places of a section's entries rise, and its list does not depend on how many turns are allowed.
+use Rattle.std.proofs.Common.{◌≡◌, ◌≤◌, ◌+◌, ◌-◌, ℕ, zero, suc, Bool, true, false, ◌||◌, nat_eq, nat_lt, nat_le, cond, eq-eqb, List, [], ◌∷◌, length, map, Result, Ok, Err, refl, sym, ap, ◌∙◌, subst, arith}
+use Rattle.std.specs.List.{filter}
+use Rattle.std.proofs.lemmas.Bool.{cond-true}
+use Rattle.sym_edges.specs.declared.part.Sect.{Sect}
+use Rattle.leb_cursor.specs.declared.fault.CursorFault.{CursorFault}
+use Rattle.leb_cursor.specs.Ahead.{Ahead, ◌>>=◌}
+use Rattle.leb_cursor.specs.Passes.{Passes}
+use Rattle.leb_cursor.specs.Readings.{fixed_at, take_at}
+use Rattle.leb_cursor.proofs.PassLemmas.{fixed_passes, take_passes, passes_then}
+use Rattle.frame_entries.specs.declared.fault.FrameKind.TheVariants.{Length, Format64}
+use Rattle.frame_entries.specs.declared.fault.FrameFault.{FrameFault}
+use Rattle.frame_entries.specs.declared.listing.Mark.{Mark}
+use Rattle.frame_entries.specs.declared.listing.Mark.TheVariants.{Terminator, Padding, Listed}
+use Rattle.frame_entries.specs.declared.cie.Cie.{Cie}
+use Rattle.frame_entries.specs.Raw.{Raw}
+use Rattle.frame_entries.specs.Listing.{or_length, is_eh, entry_at, mark_behind, mark_at, listed_from, listed_in, listed_at, listed_by}
+use Rattle.frame_entries.specs.Climbs.{Climbs, places_of}
+use Rattle.frame_entries.specs.FrameEntries.{is_cie, cie_at, cies_of}
+
+-- how far a mark goes
+or_passes : {A : Type 0} (which : Sect) (at : ℕ) (reading : Result (A × Ahead) CursorFault) (least : ℕ) (c : Ahead) → Passes least c reading → Passes least c (or_length which at reading)
+or_passes which at (Ok x) least c goes = goes
+or_passes which at (Err fault) least c goes = tt
+
+weaker : {A E : Type 0} (reading : Result (A × Ahead) E) (least : ℕ) (c : Ahead) → Passes least c reading → Passes 0 c reading
+weaker (Ok x) least c goes = (omega (arith, goes.0), goes.1)
+weaker (Err fault) least c goes = tt
+
+either_passes : {A E : Type 0} (test : Bool) (given other : Result (A × Ahead) E) (least : ℕ) (c : Ahead) → Passes least c given → Passes least c other → Passes least c (cond test given other)
+either_passes true given other least c first second = first
+either_passes false given other least c first second = second
+
+entry_passes : (which : Sect) (at count : ℕ) (c : Ahead) → Passes 0 c (entry_at which at count c)
+unfolding entry_at
+entry_passes which at count c =
+    weaker (entry_at which at count c) (4 + (count - 4 + 0)) c
+    (passes_then (or_length which at (fixed_at 4 c))
+    (λ id. or_length which at (take_at (count - 4) id.1) >>= λ body. Ok (Listed (record { at = at; id_at = c.at; id = id.0; body_at = id.1.at; body = body.0 }), body.1))
+    4 (count - 4 + 0) c (or_passes which at (fixed_at 4 c) 4 c (fixed_passes 4 c))
+    (λ id. passes_then (or_length which at (take_at (count - 4) id.1))
+    (λ body. Ok (Listed (record { at = at; id_at = c.at; id = id.0; body_at = id.1.at; body = body.0 }), body.1))
+    (count - 4) 0 id.1 (or_passes which at (take_at (count - 4) id.1) (count - 4) id.1 (take_passes (count - 4) id.1))
+    (λ body. (omega arith, refl))))
+
+behind_passes : (which : Sect) (at count : ℕ) (c : Ahead) → Passes 0 c (mark_behind which at count c)
+unfolding mark_behind
+behind_passes which at count c =
+    either_passes (nat_eq count 0) _ _ 0 c (omega arith, refl)
+    (either_passes (nat_eq count 0xffffffff) (Err (record { kind = Format64; section = which; at = at })) _ 0 c tt
+    (either_passes (nat_lt count 4 || nat_le 0xfffffff0 count) (Err (record { kind = Length; section = which; at = at })) (entry_at which at count c) 0 c tt (entry_passes which at count c)))
+
+mark_passes : (which : Sect) (c : Ahead) → Passes 4 c (mark_at which c)
+unfolding mark_at
+mark_passes which c =
+    passes_then (or_length which c.at (fixed_at 4 c)) (λ count. mark_behind which c.at count.0 count.1) 4 0 c
+    (or_passes which c.at (fixed_at 4 c) 4 c (fixed_passes 4 c)) (λ count. behind_passes which c.at count.0 count.1)
+
+-- an entry starts where its mark was looked for
+abbrev pub MarkStarts : ℕ → Mark → Type 0
+MarkStarts at Terminator = Unit {0}
+MarkStarts at Padding = Unit {0}
+MarkStarts at (Listed raw) = raw.at ≡ at
+
+abbrev pub Starts : ℕ → Result (Mark × Ahead) FrameFault → Type 0
+Starts at (Ok mark) = MarkStarts at mark.0
+Starts at (Err fault) = Unit {0}
+
+starts_then : {A : Type 0} (at : ℕ) (reading : Result (A × Ahead) FrameFault) (next : A × Ahead → Result (Mark × Ahead) FrameFault) → ((x : A × Ahead) → Starts at (next x)) → Starts at (reading >>= next)
+starts_then at (Ok x) next later = later x
+starts_then at (Err fault) next later = tt
+
+either_starts : (at : ℕ) (test : Bool) (given other : Result (Mark × Ahead) FrameFault) → Starts at given → Starts at other → Starts at (cond test given other)
+either_starts at true given other first second = first
+either_starts at false given other first second = second
+
+zero_starts : (at : ℕ) (test : Bool) → MarkStarts at (cond test Terminator Padding)
+zero_starts at true = tt
+zero_starts at false = tt
+
+entry_starts : (which : Sect) (at count : ℕ) (c : Ahead) → Starts at (entry_at which at count c)
+unfolding entry_at
+entry_starts which at count c =
+    starts_then at (or_length which at (fixed_at 4 c))
+    (λ id. or_length which at (take_at (count - 4) id.1) >>= λ body. Ok (Listed (record { at = at; id_at = c.at; id = id.0; body_at = id.1.at; body = body.0 }), body.1))
+    (λ id. starts_then at (or_length which at (take_at (count - 4) id.1))
+    (λ body. Ok (Listed (record { at = at; id_at = c.at; id = id.0; body_at = id.1.at; body = body.0 }), body.1))
+    (λ body. refl))
+
+behind_starts : (which : Sect) (at count : ℕ) (c : Ahead) → Starts at (mark_behind which at count c)
+unfolding mark_behind
+behind_starts which at count c =
+    either_starts at (nat_eq count 0) _ _ (zero_starts at (is_eh which))
+    (either_starts at (nat_eq count 0xffffffff) (Err (record { kind = Format64; section = which; at = at })) _ tt
+    (either_starts at (nat_lt count 4 || nat_le 0xfffffff0 count) (Err (record { kind = Length; section = which; at = at })) (entry_at which at count c) tt (entry_starts which at count c)))
+
+mark_starts : (which : Sect) (c : Ahead) → Starts c.at (mark_at which c)
+unfolding mark_at
+mark_starts which c =
+    starts_then c.at (or_length which c.at (fixed_at 4 c)) (λ count. mark_behind which c.at count.0 count.1)
+    (λ count. behind_starts which c.at count.0 count.1)
+
+-- places
+abbrev pub starts_of : List Raw → List ℕ
+starts_of raws = map (λ raw. raw.at) raws
+
+climbs_lower : (low high : ℕ) (xs : List ℕ) → low ≤ high → Climbs high xs → Climbs low xs
+climbs_lower low high [] below rising = tt
+climbs_lower low high (x ∷ xs) below rising = let first : high ≤ x = rising.0 in (omega arith, rising.1)
+
+abbrev pub ClimbsFrom : ℕ → Result (List Raw) FrameFault → Type 0
+ClimbsFrom low (Ok raws) = Climbs low (starts_of raws)
+ClimbsFrom low (Err fault) = Unit {0}
+
+from_lower : (low high : ℕ) (later : Result (List Raw) FrameFault) → low ≤ high → ClimbsFrom high later → ClimbsFrom low later
+from_lower low high (Ok raws) below rising = climbs_lower low high (starts_of raws) below rising
+from_lower low high (Err fault) below rising = tt
+
+climbs_behind : (raw : Raw) (later : Result (List Raw) FrameFault) (low high : ℕ) → low + 1 ≤ high → raw.at ≡ low → ClimbsFrom high later → ClimbsFrom low (listed_from (Listed raw) later)
+climbs_behind raw (Ok raws) low high below here rising =
+    (omega arith, climbs_lower (raw.at + 1) high (starts_of raws) (omega arith) rising)
+climbs_behind raw (Err fault) low high below here rising = tt
+
+climbs_mark : (mark : Mark) (later : Result (List Raw) FrameFault) (low high : ℕ) → low + 1 ≤ high → MarkStarts low mark → ClimbsFrom high later → ClimbsFrom low (listed_from mark later)
+climbs_mark Terminator later low high below here rising = tt
+climbs_mark Padding later low high below here rising = from_lower low high later (omega arith) rising
+climbs_mark (Listed raw) later low high below here rising = climbs_behind raw later low high below here rising
+
+climbs_marks : (reading : Result (Mark × Ahead) FrameFault) (c : Ahead) (later : Ahead → Result (List Raw) FrameFault) → Passes 4 c reading → Starts c.at reading → ((d : Ahead) → ClimbsFrom d.at (later d)) → ClimbsFrom c.at (reading >>= λ mark. listed_from mark.0 (later mark.1))
+climbs_marks (Ok mark) c later goes here rising =
+    climbs_mark mark.0 (later mark.1) c.at mark.1.at (omega (arith, goes.0, goes.1)) here (rising mark.1)
+climbs_marks (Err fault) c later goes here rising = tt
+
+either_climbs : (low : ℕ) (test : Bool) (given other : Result (List Raw) FrameFault) → ClimbsFrom low given → ClimbsFrom low other → ClimbsFrom low (cond test given other)
+either_climbs low true given other first second = first
+either_climbs low false given other first second = second
+
+listed_climbs : (n : ℕ) (which : Sect) (c : Ahead) → ClimbsFrom c.at (listed_in n which c)
+unfolding listed_in
+listed_climbs zero which c = tt
+listed_climbs (suc n) which c =
+    either_climbs c.at (nat_eq (length c.bytes) 0) (Ok []) _ tt
+    (climbs_marks (mark_at which c) c (λ d. listed_in n which d) (mark_passes which c) (mark_starts which c) (λ d. listed_climbs n which d))
+
+climbs_chosen : (test : Bool) (low : ℕ) (raw : Raw) (chosen : List Raw) → low ≤ raw.at → Climbs (raw.at + 1) (starts_of chosen) → Climbs low (starts_of (cond test (raw ∷ chosen) chosen))
+climbs_chosen true low raw chosen first rising = (first, rising)
+climbs_chosen false low raw chosen first rising = climbs_lower low (raw.at + 1) (starts_of chosen) (omega arith) rising
+
+climbs_filter : (test : Raw → Bool) (low : ℕ) (raws : List Raw) → Climbs low (starts_of raws) → Climbs low (starts_of (filter test raws))
+climbs_filter test low [] rising = tt
+climbs_filter test low (raw ∷ raws) rising =
+    climbs_chosen (test raw) low raw (filter test raws) rising.0 (climbs_filter test (raw.at + 1) raws rising.1)
+
+climbs_cies : (low : ℕ) (raws : List Raw) → Climbs low (starts_of raws) → Climbs low (places_of (map cie_at raws))
+climbs_cies low [] rising = tt
+climbs_cies low (raw ∷ raws) rising = (rising.0, climbs_cies (raw.at + 1) raws rising.1)
+
+pub cies_climb : (which : Sect) (c : Ahead) (raws : List Raw) (cies : List Cie) → listed_at which c ≡ Ok raws → cies ≡ cies_of which raws → Climbs 0 (places_of cies)
+unfolding listed_at cies_of
+cies_climb which c raws cies is made =
+    let rising : Climbs c.at (starts_of raws) = subst (ClimbsFrom c.at) is (listed_climbs (length c.bytes) which c) in
+    let chosen = climbs_filter (is_cie which) c.at raws rising in
+    let cie_places = climbs_cies c.at (filter (is_cie which) raws) chosen in
+    subst (λ (xs : List Cie). Climbs 0 (places_of xs)) (sym made) (climbs_lower 0 c.at _ (omega arith) cie_places)
+
+-- the list of what is ahead, whatever number of turns is allowed
+marks_same : (reading : Result (Mark × Ahead) FrameFault) (c : Ahead) (f g : Ahead → Result (List Raw) FrameFault) → Passes 4 c reading → ((d : Ahead) → length d.bytes + 4 ≤ length c.bytes → f d ≡ g d) → (reading >>= λ mark. listed_from mark.0 (f mark.1)) ≡ (reading >>= λ mark. listed_from mark.0 (g mark.1))
+marks_same (Ok mark) c f g goes same = ap (listed_from mark.0) (same mark.1 goes.0)
+marks_same (Err fault) c f g goes same = refl
+
+enough : (m n : ℕ) (which : Sect) (c : Ahead) → length c.bytes ≤ m → length c.bytes ≤ n → listed_in m which c ≡ listed_in n which c
+unfolding listed_in
+enough zero zero which c all_m all_n = refl
+enough zero (suc n) which c all_m all_n = sym (cond-true _ _ _ (eq-eqb (length c.bytes) 0 (omega arith)))
+enough (suc m) zero which c all_m all_n = cond-true _ _ _ (eq-eqb (length c.bytes) 0 (omega arith))
+enough (suc m) (suc n) which c all_m all_n =
+    ap (cond (nat_eq (length c.bytes) 0) (Ok []))
+    (marks_same (mark_at which c) c (λ d. listed_in m which d) (λ d. listed_in n which d) (mark_passes which c)
+    (λ d less. enough m n which d (omega arith) (omega arith)))
+
+pub listed_is : (which : Sect) (c : Ahead) → listed_at which c ≡ listed_by listed_at which c
+unfolding listed_at listed_in listed_by
+listed_is which c =
+    enough (length c.bytes) (suc (length c.bytes)) which c (omega arith) (omega arith)
+    ∙ ap (cond (nat_eq (length c.bytes) 0) (Ok []))
+    (marks_same (mark_at which c) c (λ d. listed_in (length c.bytes) which d) (λ d. listed_in (length d.bytes) which d) (mark_passes which c)
+    (λ d less. enough (length c.bytes) (length d.bytes) which d (omega arith) (omega arith)))

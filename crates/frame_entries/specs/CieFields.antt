@@ -1,0 +1,9 @@
+use Rattle.std.specs.Prelude.{ℕ, ℤ, Bool, List}
+
+-- what the FDEs of a CIE need of it (DWARF 5, 6.4.1)
+pub record CieFields : Type 0 where
+  pub code_align : ℕ
+  pub data_align : ℤ
+  pub encoding : ℕ
+  pub augmented : Bool
+  pub first : List ℕ

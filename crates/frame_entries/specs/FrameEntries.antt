@@ -1,0 +1,116 @@
+-- The frame description entries of a section, each with what it says or the first reason to leave it
+-- out (DWARF 5, 6.4.1; LSB Core, ".eh_frame").
+use Rattle.std.specs.Prelude.{ℕ, ◌+◌, ◌-◌, ◌%◌, ◌^◌, ◌==◌, not, nat_le, Bool, if◌then◌else◌, List, map, filter, find, drop, Option, Some, None, option_and_then, Result, Ok, Err}
+use Rattle.sym_edges.specs.declared.part.Sect.{Sect}
+use Rattle.sym_edges.specs.declared.part.Sect.TheVariants.{EhFrame, DebugFrame}
+use Rattle.sym_edges.specs.declared.reason.Reason.{Reason}
+use Rattle.sym_edges.specs.declared.reason.Reason.TheVariants.{Cie as NoCie, Augmentation, Encoding, Column, Entry as BadEntry}
+use Rattle.leb_cursor.specs.declared.fault.CursorFault.{CursorFault}
+use Rattle.leb_cursor.specs.Ahead.{◌>>=◌}
+use Rattle.frame_entries.specs.declared.fault.FrameFault.{FrameFault}
+use Rattle.frame_entries.specs.declared.cie.Cie.{Cie}
+use Rattle.frame_entries.specs.declared.description.Body.{Body}
+use Rattle.frame_entries.specs.declared.description.Body.TheVariants.{Good, Bad}
+use Rattle.frame_entries.specs.declared.description.Entry.{Entry}
+use Rattle.frame_entries.specs.Pointers.{format_of, number_at, pointer_at}
+use Rattle.frame_entries.specs.Raw.{Raw}
+use Rattle.frame_entries.specs.Listing.{is_eh, from_start, listed_at}
+use Rattle.frame_entries.specs.CieFields.{CieFields}
+use Rattle.frame_entries.specs.Cies.{augmentation_at, cie_of}
+use Rattle.frame_entries.specs.FdeFields.{FdeFields}
+
+-- the two sections of frame entries
+abbrev pub IsFrameSection : Sect → Type 0
+IsFrameSection EhFrame = Unit {0}
+IsFrameSection DebugFrame = Unit {0}
+IsFrameSection _ = ⊥
+
+-- the id of a CIE; every other entry is an FDE
+unfoldable pub is_cie : Sect → Raw → Bool
+is_cie which raw = raw.id == (if is_eh which then 0 else 0xffffffff)
+
+-- the CIEs of a section, each with its place
+abbrev pub cie_at : Raw → Cie
+cie_at raw = record { at = raw.at; parts = cie_of raw.body }
+
+unfoldable pub cies_of : Sect → List Raw → List Cie
+cies_of which raws = map cie_at (filter (is_cie which) raws)
+
+-- where the CIE of an FDE starts: in `.eh_frame` so far in front of the id, in `.debug_frame` at that place of the section
+unfoldable pub cie_place : Sect → Raw → Option ℕ
+cie_place which raw =
+    if is_eh which then (if nat_le raw.id raw.id_at then Some (raw.id_at - raw.id) else None) else Some raw.id
+
+-- the CIE that starts at a place, where there is one
+unfoldable pub cie_from : List Cie → ℕ → Option Cie
+cie_from cies place = find (λ cie. cie.at == place) cies
+
+-- the CIE of an FDE, where there is one
+unfoldable pub cie_named : Sect → List Cie → Raw → Option Cie
+cie_named which cies raw = option_and_then (cie_from cies) (cie_place which raw)
+
+-- an address, modulo 2^64, from the address of the place that others are counted from
+unfoldable pub address_at : ℕ → ℕ → ℕ
+address_at base place = (base + place) % 2 ^ 64
+
+-- the fields of an FDE from its body and the address of that; its own instructions are the rest of the body
+unfoldable pub fde_of : CieFields → ℕ → List ℕ → Result FdeFields CursorFault
+fde_of cie base body =
+    pointer_at cie.encoding base (from_start body) >>= λ start.
+    number_at (format_of cie.encoding) start.1 >>= λ size.
+    augmentation_at cie.augmented size.1 >>= λ augmentation.
+    Ok (record {
+      start = start.0;
+      size = size.0;
+      code_align = cie.code_align;
+      data_align = cie.data_align;
+      encoding = cie.encoding;
+      first = cie.first;
+      own = drop augmentation.1.at body;
+      own_address = address_at base augmentation.1.at;
+    })
+
+-- what an FDE is: its fields, or the first reason to leave it out
+abbrev pub body_read : Result FdeFields CursorFault → Body
+body_read (Ok fde) = Good fde
+body_read (Err fault) = Bad BadEntry
+
+abbrev pub body_under : Result CieFields Reason → ℕ → List ℕ → Body
+body_under (Ok cie) base body = body_read (fde_of cie base body)
+body_under (Err reason) base body = Bad reason
+
+abbrev pub body_by : Option Cie → ℕ → List ℕ → Body
+body_by (Some cie) base body = body_under cie.parts base body
+body_by None base body = Bad NoCie
+
+-- the reason to leave an entry out, where there is one
+abbrev pub reason_of : Body → Option Reason
+reason_of (Good fde) = None
+reason_of (Bad reason) = Some reason
+
+-- the reasons that the fields of a CIE and of an FDE give; the others come from instructions and ranges
+abbrev pub IsOfFields : Reason → Type 0
+IsOfFields NoCie = Unit {0}
+IsOfFields Augmentation = Unit {0}
+IsOfFields Encoding = Unit {0}
+IsOfFields Column = Unit {0}
+IsOfFields BadEntry = Unit {0}
+IsOfFields _ = ⊥
+
+-- an FDE of a section that is loaded at an address, and has those CIEs
+unfoldable pub entry_of : Sect → ℕ → List Cie → Raw → Entry
+entry_of which address cies raw = record {
+  section = which;
+  at = raw.at;
+  body = body_by (cie_named which cies raw) (address_at address raw.body_at) raw.body;
+}
+
+-- the FDEs among the entries of a section, in their order
+unfoldable pub entries_of : Sect → ℕ → List Raw → List Entry
+entries_of which address raws =
+    map (entry_of which address (cies_of which raws)) (filter (λ raw. not (is_cie which raw)) raws)
+
+-- the FDEs of a section, or its first fault
+unfoldable pub frame_entries : List ℕ → ℕ → Sect → Result (List Entry) FrameFault
+frame_entries bytes address which =
+    listed_at which (from_start bytes) >>= λ raws. Ok (entries_of which address raws)
