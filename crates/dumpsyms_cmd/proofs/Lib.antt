@@ -1,0 +1,6 @@
+pub mod PublicLemmas
+pub mod WordLemmas
+pub mod RecordLemmas
+pub mod AnswerLemmas
+pub mod WriteLemmas
+pub mod RunLemmas

@@ -1,0 +1,18 @@
+//! The program: words and files in, a status and two texts out.
+//!
+//! `run` reads the file that `dump ELF` names, makes the records of its symbol file (Breakpad's symbol_files.md) and writes
+//! them. Its contract says which status comes when, what each text holds, which names are asked for, and that what was
+//! written reads back as the records of the file.
+#![tactic(auto)]
+
+mod answer;
+mod publics;
+mod records;
+mod refusals;
+mod running;
+mod words;
+
+pub use running::run;
+
+#[cfg(test)]
+mod tests;
