@@ -1,0 +1,89 @@
+-- The rows of an entry, from the states of its two runs of instructions.
+use Rattle.std.proofs.Common.{◌≡◌, ℕ, ◌+◌, ◌<◌, not, true, false, List, Option, Some, None, Err, sym, ◌∙◌, ap, subst}
+use Rattle.std.specs.List.{list_any}
+use Rattle.sym_edges.specs.Outside.{MatchStop}
+use Rattle.sym_edges.specs.declared.fault.Stop.{Stop}
+use Rattle.sym_edges.specs.declared.fault.Stop.TheVariants.{Fault, NoMemory}
+use Rattle.sym_edges.specs.declared.reason.Reason.{Reason}
+use Rattle.sym_edges.specs.declared.reason.Reason.TheVariants as reason
+use Rattle.frame_entries.specs.FdeFields.{FdeFields}
+use Rattle.frame_rows.specs.declared.row.RowAt.{RowAt}
+use Rattle.frame_rows.specs.declared.machine.Setting.{Setting}
+use Rattle.frame_rows.specs.Instructions.{instructions}
+use Rattle.frame_rows.specs.Machine.{Machine}
+use Rattle.frame_rows.specs.Steps.{has_cfa, or_reason, unless}
+use Rattle.frame_rows.specs.Rows.{first_fault, cie_setting, cie_items, cie_begin, own_setting, own_items, own_begin, instruction_fault, lacks_cfa, rows_fault, AreRows, HasCfa, IsSound, row_at}
+use Rattle.frame_rows.specs.Walk.{rows_from}
+use Rattle.frame_rows.proofs.RowLemmas.{are_rows}
+use Rattle.frame_rows.proofs.CfaLemmas.{none_lacks, some_lacks, has_not_lacks}
+use Rattle.frame_rows.proofs.SoundLemmas.{entry_sound}
+
+-- the entry's own instructions, carried out behind the CIE's
+own_fault : (v e : FdeFields) (s : Setting) (m : Machine) (o : Option Reason) → v ≡ e → s ≡ own_setting e → m ≡ own_begin e → first_fault s (instructions v.encoding v.own_address v.own) m ≡ o → first_fault (own_setting e) (own_items e) (own_begin e) ≡ o
+unfolding own_items
+own_fault v e s m o view setting machine is =
+    sym (ap (λ (k : FdeFields). first_fault s (instructions k.encoding k.own_address k.own) m) view
+    ∙ ap (λ k. first_fault k (instructions e.encoding e.own_address e.own) m) setting ∙ ap (first_fault (own_setting e) (instructions e.encoding e.own_address e.own)) machine) ∙ is
+
+own_rows : (v e : FdeFields) (s : Setting) (m : Machine) (end : ℕ) (rows : List RowAt) → v ≡ e → s ≡ own_setting e → m ≡ own_begin e → end ≡ v.start + v.size → rows ≡ rows_from end s (instructions v.encoding v.own_address v.own) m → rows ≡ rows_from (e.start + e.size) (own_setting e) (own_items e) (own_begin e)
+unfolding own_items
+own_rows v e s m end rows view setting machine stop is =
+    is ∙ ap (λ n. rows_from n s (instructions v.encoding v.own_address v.own) m) stop
+    ∙ ap (λ (k : FdeFields). rows_from (k.start + k.size) s (instructions k.encoding k.own_address k.own) m) view
+    ∙ ap (λ k. rows_from (e.start + e.size) k (instructions e.encoding e.own_address e.own) m) setting
+    ∙ ap (rows_from (e.start + e.size) (own_setting e) (instructions e.encoding e.own_address e.own)) machine
+
+-- what is known once both runs are carried out
+pub record Walked (e : FdeFields) (rows : List RowAt) : Type 0 where
+  pub cie : first_fault (cie_setting e) (cie_items e) (cie_begin e) ≡ None
+  pub own : first_fault (own_setting e) (own_items e) (own_begin e) ≡ None
+  pub are : AreRows e rows
+
+pub walked : (v e : FdeFields) (s : Setting) (m : Machine) (end : ℕ) (rows : List RowAt) → first_fault (cie_setting e) (cie_items e) (cie_begin e) ≡ None → v ≡ e → s ≡ own_setting e → m ≡ own_begin e → end ≡ v.start + v.size → first_fault s (instructions v.encoding v.own_address v.own) m ≡ None → rows ≡ rows_from end s (instructions v.encoding v.own_address v.own) m → 0 < e.size → Walked e rows
+walked v e s m end rows cie view setting machine stop good is some =
+    let own = own_fault v e s m None view setting machine good in
+    record {
+      cie = cie;
+      own = own;
+      are = subst (λ (l : List RowAt). AreRows e l) (sym (own_rows v e s m end rows view setting machine stop is)) (are_rows e own some);
+    }
+
+fine : (e : FdeFields) (rows : List RowAt) → Walked e rows → instruction_fault e ≡ None
+unfolding instruction_fault
+fine e rows w = ap (λ o. or_reason o (first_fault (own_setting e) (own_items e) (own_begin e))) w.cie ∙ w.own
+
+-- each row has a rule for the CFA
+pub rows_have : (e : FdeFields) (rows : List RowAt) (b : _) → Walked e rows → b ≡ false → b ≡ list_any (λ r. not (has_cfa r.row)) rows → HasCfa e
+rows_have e rows b w none is = none_lacks e rows w.are (sym is ∙ none)
+
+pub rows_good : (e : FdeFields) (rows : List RowAt) (b : _) → Walked e rows → b ≡ false → b ≡ list_any (λ r. not (has_cfa r.row)) rows → rows_fault e ≡ None
+unfolding rows_fault
+rows_good e rows b w none is =
+    ap (λ o. or_reason o (unless (not (lacks_cfa e)) reason.Cfa)) (fine e rows w) ∙ ap (λ t. unless (not t) reason.Cfa) (has_not_lacks e (rows_have e rows b w none is))
+
+-- some row has none
+pub rows_lack : (e : FdeFields) (rows : List RowAt) (b : _) → Walked e rows → b ≡ true → b ≡ list_any (λ r. not (has_cfa r.row)) rows → rows_fault e ≡ Some reason.Cfa
+unfolding rows_fault
+rows_lack e rows b w some is =
+    ap (λ o. or_reason o (unless (not (lacks_cfa e)) reason.Cfa)) (fine e rows w) ∙ ap (λ t. unless (not t) reason.Cfa) (some_lacks e rows w.are (sym is ∙ some))
+
+pub rows_sound : (e : FdeFields) (rows : List RowAt) → Walked e rows → (a : ℕ) → IsSound (row_at e a)
+rows_sound e rows w a = entry_sound e a (fine e rows w)
+
+-- an instruction of the CIE, or of the entry, is bad
+cie_bad : (e : FdeFields) (why : Reason) → first_fault (cie_setting e) (cie_items e) (cie_begin e) ≡ Some why → rows_fault e ≡ Some why
+unfolding rows_fault instruction_fault
+cie_bad e why bad = ap (λ o. or_reason (or_reason o (first_fault (own_setting e) (own_items e) (own_begin e))) (unless (not (lacks_cfa e)) reason.Cfa)) bad
+
+own_bad : (e : FdeFields) (why : Reason) → first_fault (cie_setting e) (cie_items e) (cie_begin e) ≡ None → first_fault (own_setting e) (own_items e) (own_begin e) ≡ Some why → rows_fault e ≡ Some why
+unfolding rows_fault instruction_fault
+own_bad e why cie bad =
+    ap (λ o. or_reason (or_reason o (first_fault (own_setting e) (own_items e) (own_begin e))) (unless (not (lacks_cfa e)) reason.Cfa)) cie ∙ ap (λ o. or_reason o (unless (not (lacks_cfa e)) reason.Cfa)) bad
+
+pub cie_stopped : (A B : Type 0) (stop : Stop Reason) (e : FdeFields) → MatchStop {A = A} {F = Reason} (Err stop) (λ _. first_fault (cie_setting e) (cie_items e) (cie_begin e) ≡ None) (λ why. first_fault (cie_setting e) (cie_items e) (cie_begin e) ≡ Some why) (Unit {0}) → MatchStop {A = B} {F = Reason} (Err stop) (λ _. rows_fault e ≡ None) (λ why. rows_fault e ≡ Some why) (Unit {0})
+cie_stopped A B (Fault why) e bad = cie_bad e why bad
+cie_stopped A B NoMemory e bad = tt
+
+pub own_stopped : (A B : Type 0) (stop : Stop Reason) (v e : FdeFields) (s : Setting) (m : Machine) → first_fault (cie_setting e) (cie_items e) (cie_begin e) ≡ None → v ≡ e → s ≡ own_setting e → m ≡ own_begin e → MatchStop {A = A} {F = Reason} (Err stop) (λ _. first_fault s (instructions v.encoding v.own_address v.own) m ≡ None) (λ why. first_fault s (instructions v.encoding v.own_address v.own) m ≡ Some why) (Unit {0}) → MatchStop {A = B} {F = Reason} (Err stop) (λ _. rows_fault e ≡ None) (λ why. rows_fault e ≡ Some why) (Unit {0})
+own_stopped A B (Fault why) v e s m cie view setting machine bad = own_bad e why cie (own_fault v e s m (Some why) view setting machine bad)
+own_stopped A B NoMemory v e s m cie view setting machine bad = tt

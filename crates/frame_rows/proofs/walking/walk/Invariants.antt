@@ -1,0 +1,11 @@
+use Rattle.std.proofs.Common.{◌≡◌, ◌-◌, ◌++◌, length}
+use Rattle.frame_rows.specs.Instructions.{listed_in, instructions}
+use Rattle.frame_rows.specs.Rows.{first_fault}
+use Rattle.frame_rows.specs.Walk.{rows_from}
+use Rattle.frame_rows.proofs.walking.walk.Given as goal
+
+abbrev pub invariant-turns : goal.invariant-turns
+invariant-turns l = record {
+  faults : first_fault l.setting (listed_in (length l.bytes - l.turn) l.encoding l.base l.cursor) l.machine ≡ first_fault l.setting (instructions l.encoding l.base l.bytes) l.fn.machine;
+  rows : l.rows.items ++ rows_from l.end l.setting (listed_in (length l.bytes - l.turn) l.encoding l.base l.cursor) l.machine ≡ rows_from l.end l.setting (instructions l.encoding l.base l.bytes) l.fn.machine;
+}

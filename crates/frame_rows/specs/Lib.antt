@@ -1,0 +1,5 @@
+pub mod Instructions
+pub mod Machine
+pub mod Steps
+pub mod Rows
+pub mod Walk

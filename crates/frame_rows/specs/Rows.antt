@@ -1,0 +1,150 @@
+-- The row at an address of an entry, the addresses at which rows begin, and the reason for which an entry has no rows
+-- (DWARF 5, sections 6.4.2 and 6.4.3).
+use Rattle.std.specs.Prelude.{◌≡◌, ℕ, ◌+◌, ◌*◌, ◌<◌, ◌≤◌, ◌&&◌, not, nat_lt, nat_le, Bool, true, if◌then◌else◌, List, [], ◌∷◌, map, replicate, Option, Some, None, Ok, Err}
+use Rattle.std.specs.List.{list_any, range_with_len, slice_index_or}
+use Rattle.sym_edges.specs.declared.reason.Reason.{Reason}
+use Rattle.sym_edges.specs.declared.reason.Reason.TheVariants as reason
+use Rattle.leb_cursor.specs.Readings.{fits_i64}
+use Rattle.frame_entries.specs.FdeFields.{FdeFields}
+use Rattle.frame_rows.specs.declared.row.Rule.{Rule}
+use Rattle.frame_rows.specs.declared.row.Rule.TheVariants as rule
+use Rattle.frame_rows.specs.declared.row.CfaRule.{CfaRule}
+use Rattle.frame_rows.specs.declared.row.Row.{Row}
+use Rattle.frame_rows.specs.declared.row.RowAt.{RowAt}
+use Rattle.frame_rows.specs.declared.machine.Setting.{Setting}
+use Rattle.frame_rows.specs.declared.instruction.Instruction.TheVariants.{SetLoc, AdvanceLoc}
+use Rattle.frame_rows.specs.Instructions.{Item, instructions}
+use Rattle.frame_rows.specs.Machine.{Machine}
+use Rattle.frame_rows.specs.Steps.{has_cfa, stepped, step_fault, unless, or_reason}
+
+-- an instruction that cannot be read changes nothing, and is refused for its own reason
+abbrev pub item_stepped : Setting → Item → Machine → Machine
+item_stepped s (Ok instruction) m = stepped s instruction m
+item_stepped s (Err why) m = m
+
+abbrev pub item_fault : Setting → Item → Machine → Option Reason
+item_fault s (Ok instruction) m = step_fault s instruction m
+item_fault s (Err why) m = Some why
+
+-- the state behind all instructions
+unfoldable pub all_stepped : Setting → List Item → Machine → Machine
+all_stepped s [] m = m
+all_stepped s (i ∷ items) m = all_stepped s items (item_stepped s i m)
+
+-- the reason of the first bad instruction
+unfoldable pub first_fault : Setting → List Item → Machine → Option Reason
+first_fault s [] m = None
+first_fault s (i ∷ items) m = or_reason (item_fault s i m) (first_fault s items (item_stepped s i m))
+
+-- the state behind the longest prefix of instructions whose locations are at most an address: each has the location that
+-- those before it left
+unfoldable pub replay : Setting → List Item → Machine → ℕ → Machine
+replay s [] m a = m
+replay s (i ∷ items) m a = if nat_le m.address a then replay s items (item_stepped s i m) a else m
+
+-- no rule for the CFA, and every column at rest
+unfoldable pub empty_row : Row
+empty_row = record { cfa = None; rules = replicate 17 rule.Rest }
+
+-- the instructions of the entry's CIE, from the start of the entry's range; no location instruction may stand there, so
+-- the address of a pointer among them does not count
+unfoldable pub cie_setting : FdeFields → Setting
+cie_setting e = record { code_align = e.code_align; data_align = e.data_align; initial = None }
+
+unfoldable pub cie_items : FdeFields → List Item
+cie_items e = instructions e.encoding 0 e.first
+
+unfoldable pub cie_begin : FdeFields → Machine
+cie_begin e = record { address = e.start; row = empty_row; held = [] }
+
+unfoldable pub cie_end : FdeFields → Machine
+cie_end e = all_stepped (cie_setting e) (cie_items e) (cie_begin e)
+
+-- the entry's own instructions, behind those of the CIE: the row and the rows that are remembered go on
+unfoldable pub own_setting : FdeFields → Setting
+own_setting e = record { code_align = e.code_align; data_align = e.data_align; initial = Some (cie_end e).row }
+
+unfoldable pub own_items : FdeFields → List Item
+own_items e = instructions e.encoding e.own_address e.own
+
+unfoldable pub own_begin : FdeFields → Machine
+own_begin e = record { address = e.start; row = (cie_end e).row; held = (cie_end e).held }
+
+-- the row at an address of the entry
+unfoldable pub row_at : FdeFields → ℕ → Row
+row_at e a = (replay (own_setting e) (own_items e) (own_begin e) a).row
+
+-- where a location instruction moves the location
+abbrev pub next_location : Setting → Item → ℕ → ℕ
+next_location s (Ok (SetLoc address)) at = address
+next_location s (Ok (AdvanceLoc delta)) at = at + delta * s.code_align
+next_location s (Ok _) at = at
+next_location s (Err why) at = at
+
+-- the addresses below an end to which location instructions move the location, each once
+unfoldable pub moves : Setting → ℕ → List Item → ℕ → List ℕ
+moves s end [] at = []
+moves s end (i ∷ items) at =
+    if nat_lt at (next_location s i at) && nat_lt (next_location s i at) end
+    then next_location s i at ∷ moves s end items (next_location s i at)
+    else moves s end items (next_location s i at)
+
+-- where rows begin: at the start of the range, and at each other address of it to which the location moves
+unfoldable pub stops : FdeFields → List ℕ
+stops e = e.start ∷ moves (own_setting e) (e.start + e.size) (own_items e) e.start
+
+-- the reason of the first bad instruction, the CIE's before the entry's own
+unfoldable pub instruction_fault : FdeFields → Option Reason
+instruction_fault e = or_reason (first_fault (cie_setting e) (cie_items e) (cie_begin e)) (first_fault (own_setting e) (own_items e) (own_begin e))
+
+-- some address of the range has no CFA rule
+unfoldable pub lacks_cfa : FdeFields → Bool
+lacks_cfa e = list_any (λ a. not (has_cfa (row_at e a))) (range_with_len e.start e.size)
+
+-- the reason for which an entry has no rows
+unfoldable pub rows_fault : FdeFields → Option Reason
+rows_fault e = or_reason (instruction_fault e) (unless (not (lacks_cfa e)) reason.Cfa)
+
+-- the last row that stands at or below an address
+abbrev pub or_row : Option Row → Option Row → Option Row
+or_row None other = other
+or_row (Some row) other = Some row
+
+unfoldable pub last_at : List RowAt → ℕ → Option Row
+last_at [] a = None
+last_at (r ∷ rows) a = or_row (last_at rows a) (if nat_le r.address a then Some r.row else None)
+
+-- rows rise, from a first address on, up to an end
+abbrev pub Ascending : ℕ → ℕ → List RowAt → Type 0
+Ascending low end [] = Unit {0}
+Ascending low end (r ∷ rows) = (low ≤ r.address) × (r.address < end) × Ascending (r.address + 1) end rows
+
+-- the rows of an entry: they stand where rows begin, in order, and at each address of the range the last one at or below it is
+-- the row there
+pub record AreRows (e : FdeFields) (rows : List RowAt) : Type 0 where
+  pub at_stops : map (λ r. r.address) rows ≡ stops e
+  pub in_order : Ascending e.start (e.start + e.size) rows
+  pub each : (a : ℕ) → e.start ≤ a → a < e.start + e.size → last_at rows a ≡ Some (row_at e a)
+
+-- each address of the range has a CFA rule
+pub record HasCfa (e : FdeFields) : Type 0 where
+  pub everywhere : (a : ℕ) → e.start ≤ a → a < e.start + e.size → has_cfa (row_at e a) ≡ true
+
+-- a rule of a column is sound where it names one of the sixteen registers, if it names one, and its offset is that of an i64:
+-- the return address is no register
+abbrev pub is_sound_rule : ℕ → Rule → Bool
+is_sound_rule column rule.Rest = true
+is_sound_rule column rule.Undefined = true
+is_sound_rule column rule.Same = nat_lt column 16
+is_sound_rule column (rule.Offset n) = fits_i64 n
+is_sound_rule column (rule.ValOffset n) = fits_i64 n
+is_sound_rule column (rule.Register register) = nat_lt register 16
+
+abbrev pub is_sound_cfa : Option CfaRule → Bool
+is_sound_cfa None = true
+is_sound_cfa (Some cfa) = nat_lt cfa.register 16 && fits_i64 cfa.offset
+
+-- a row whose rules are sound
+pub record IsSound (row : Row) : Type 0 where
+  pub cfa : is_sound_cfa row.cfa ≡ true
+  pub columns : (column : ℕ) → is_sound_rule column (slice_index_or row.rules column rule.Rest) ≡ true

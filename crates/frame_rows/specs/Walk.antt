@@ -1,0 +1,24 @@
+-- The rows as one pass makes them; no public clause cites this.
+use Rattle.std.specs.Prelude.{ℕ, ◌&&◌, nat_lt, if◌then◌else◌, List, [], ◌∷◌, ◌++◌}
+use Rattle.frame_rows.specs.declared.row.RowAt.{RowAt}
+use Rattle.frame_rows.specs.declared.machine.Setting.{Setting}
+use Rattle.frame_rows.specs.Instructions.{Item}
+use Rattle.frame_rows.specs.Machine.{Machine}
+use Rattle.frame_rows.specs.Rows.{item_stepped}
+
+-- the row at the location
+abbrev pub row_here : Machine → RowAt
+row_here m = record { address = m.address; row = m.row }
+
+-- the row that ends where the location moves on, where it begins below the end
+abbrev pub ended_row : ℕ → Machine → ℕ → List RowAt
+ended_row end m next = if nat_lt m.address next && nat_lt m.address end then row_here m ∷ [] else []
+
+-- the row at the location, where it is below the end
+abbrev pub last_row : ℕ → Machine → List RowAt
+last_row end m = if nat_lt m.address end then row_here m ∷ [] else []
+
+-- the rows from a state on
+unfoldable pub rows_from : ℕ → Setting → List Item → Machine → List RowAt
+rows_from end s [] m = last_row end m
+rows_from end s (i ∷ items) m = ended_row end m (item_stepped s i m).address ++ rows_from end s items (item_stepped s i m)

@@ -1,0 +1,66 @@
+//! What an instruction does to the state.
+ghost use Rattle.std.specs.Prelude.{◌≡◌, Some, None};
+ghost use Rattle.sym_edges.specs.Outside.{MatchStop};
+ghost use Rattle.frame_rows.specs.Steps.{stepped, step_fault, unless, on_row, put_rule};
+
+use crate::instruction::Instruction;
+use crate::machine::{Machine, Setting};
+use crate::row::Rule;
+use sym_edges::{Reason, Stop};
+
+impl Instruction {
+    /// Carries out the instruction, or says why it may not stand there.
+    #[tactic(auto, unfolding(crate::specs::Steps::stepped, crate::specs::Steps::step_fault))]
+    pub fn step(self, machine: &mut Machine, setting: &Setting) -> Result<(), Stop<Reason>>
+        ensures { MatchStop result
+            (λ _. (step_fault setting.now self machine.old ≡ None) × (machine.new ≡ stepped setting.now self machine.old))
+            (λ why. step_fault setting.now self machine.old ≡ Some why)
+            (Unit {0}) }
+    {
+        match self {
+            Instruction::SetLoc { address } => return machine.set_location(setting, address),
+            Instruction::AdvanceLoc { delta } => return machine.advance(setting, delta),
+            Instruction::DefCfa { register, offset } => {
+                return machine.define_cfa(register, offset.cast_signed());
+            }
+            Instruction::DefCfaSf { register, factored } => {
+                return machine.define_cfa(register, setting.scale(factored));
+            }
+            Instruction::DefCfaRegister { register } => return machine.change_register(register),
+            Instruction::DefCfaOffset { offset } => {
+                return machine.change_offset(offset.cast_signed());
+            }
+            Instruction::DefCfaOffsetSf { factored } => {
+                return machine.change_offset(setting.scale(factored));
+            }
+            Instruction::Undefined { column } => machine.put_rule(column, Rule::Undefined),
+            Instruction::SameValue { column } => return machine.same(column),
+            Instruction::Offset { column, factored } => {
+                machine.put_rule(column, Rule::Offset(setting.scale(factored.cast_signed())));
+            }
+            Instruction::OffsetExtendedSf { column, factored } => {
+                machine.put_rule(column, Rule::Offset(setting.scale(factored)));
+            }
+            Instruction::ValOffset { column, factored } => {
+                machine.put_rule(
+                    column,
+                    Rule::ValOffset(setting.scale(factored.cast_signed())),
+                );
+            }
+            Instruction::ValOffsetSf { column, factored } => {
+                machine.put_rule(column, Rule::ValOffset(setting.scale(factored)));
+            }
+            Instruction::Register { column, register } => {
+                return machine.in_register(column, register);
+            }
+            Instruction::Restore { column } => return machine.restore(setting, column),
+            Instruction::RememberState => machine.remember()?,
+            Instruction::RestoreState => return machine.restore_state(),
+            Instruction::DefCfaExpression { .. }
+            | Instruction::Expression { .. }
+            | Instruction::ValExpression { .. } => return Err(Stop::Fault(Reason::Expression)),
+            Instruction::Nop => {}
+        }
+        Ok(())
+    }
+}

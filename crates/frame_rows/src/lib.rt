@@ -1,0 +1,33 @@
+//! The rows of a frame description entry: for each address of its range the rule of the canonical frame address (CFA)
+//! and a rule for each register (DWARF 5, 6.4).
+//!
+//! [`rows`] carries out the call frame instructions of an entry's CIE and then its own, and gives the row at each
+//! address at which the location changes; between two of them the row stays. Its contract compares them with
+//! `specs/Rows.antt`, where the row at an address is what a replay from the first instruction leaves there.
+//! `specs/Instructions.antt` says how an instruction is read, and `specs/Steps.antt` what each does to the row and to the
+//! rows that are remembered, one equation for each instruction, in the standard's order. [`inspect`] looks at the
+//! instructions alone, for any range.
+//!
+//! An entry is refused exactly with the reason of its first bad instruction, the CIE's before its own, or else with
+//! `Cfa` where some address of the range has no CFA rule. Instructions with a DWARF expression are refused as
+//! `Expression`.
+#![tactic(auto)]
+
+// The rows, and the instructions that make them.
+mod instruction;
+mod row;
+
+// Reading an instruction, and carrying it out.
+mod decoding;
+mod effect;
+mod machine;
+
+// All instructions of an entry.
+mod running;
+#[cfg(test)]
+mod tests;
+mod walking;
+
+pub use crate::row::{CfaRule, Row, RowAt, RowList, Rule};
+pub use crate::running::inspect;
+pub use crate::walking::rows;

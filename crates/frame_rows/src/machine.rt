@@ -1,0 +1,277 @@
+//! The state that instructions change, and each change.
+ghost use Rattle.std.specs.Prelude.{◌≡◌, ◌+◌, ◌*◌, [], ◌∷◌, Some, None, not, nat_lt, ◌==◌, ◌||◌, is_some, MatchResult, OnOk};
+ghost use Rattle.sym_edges.specs.declared.reason.Reason.TheVariants as reason;
+ghost use Rattle.frame_rows.specs.declared.row.Rule.TheVariants as rule;
+ghost use Rattle.sym_edges.specs.Outside.{MatchStop};
+ghost use Rattle.frame_rows.specs.Steps.{scaled, moved, on_row, put_rule, put_cfa, put_register, put_offset, move_fault, register_fault, part_fault, or_reason, unless, rule_behind, has_held, top_or, under};
+
+use crate::row::{COLUMNS, CfaRule, Row, Rule};
+use std::alloc::{AllocError, Global};
+use std::marker::Model;
+use sym_edges::{Reason, Stop};
+
+/// What instructions are carried out with: the alignments of the CIE, and behind it the row that it left.
+#[derive(Clone, Copy)]
+pub struct Setting {
+    pub code_align: u64,
+    pub data_align: i64,
+    pub initial: Option<Row>,
+}
+
+impl Setting {
+    /// A factored offset, modulo 2^64.
+    pub fn scale(&self, factored: i64) -> i64
+        ensures { result ≡ scaled self.now factored }
+    {
+        factored.wrapping_mul(self.data_align)
+    }
+}
+
+/// The location, the row there, and the rows that are remembered.
+#[derive(Drop)]
+pub struct Machine {
+    address: u64,
+    row: Row,
+    held: Vec<Row>,
+}
+
+impl Model for Machine {
+    ghost use Rattle.std.specs.Prelude.{reverse};
+    ghost use Rattle.frame_rows.specs.Machine.{Machine};
+
+    ghost Value = { Machine };
+
+    ghost view = { λ m. record { address = m.address; row = m.row; held = reverse m.held.items } };
+}
+
+/// A register of x86-64 by its number.
+#[tactic(auto, unfolding(crate::specs::Steps::register_fault))]
+fn register_of(number: u64) -> Result<u8, Reason>
+    ensures { MatchResult result (λ register. (register ≡ number) × (register_fault number ≡ None)) (λ why. register_fault number ≡ Some why) }
+{
+    if number < 16 {
+        Ok(number as u8)
+    } else {
+        Err(Reason::Register)
+    }
+}
+
+impl Machine {
+    /// The state at an address, with a row and nothing remembered. Takes no memory.
+    pub fn new(alloc: Global, address: u64, row: &Row) -> Machine
+        ensures { result ≡ record { address = address; row = row.now; held = [] } }
+    {
+        Machine {
+            address,
+            row: *row,
+            held: Vec::new(alloc),
+        }
+    }
+
+    pub fn address(&self) -> u64
+        ensures { result ≡ self.now.address }
+    {
+        self.address
+    }
+
+    pub fn row(&self) -> &Row
+        ensures { result.now ≡ self.now.row }
+    {
+        &self.row
+    }
+
+    /// The same with another row.
+    #[cfg(test)]
+    pub fn set_row(&mut self, row: &Row) {
+        self.row = *row;
+    }
+
+    /// The same at another address.
+    pub fn move_to(&mut self, address: u64)
+        ensures { self.new ≡ moved address self.old }
+    {
+        self.address = address;
+    }
+
+    /// Another rule for a column; columns above 16 are passed over.
+    #[tactic(auto, unfolding(crate::specs::Steps::put_rule))]
+    pub fn put_rule(&mut self, column: u64, rule: Rule)
+        ensures { self.new ≡ on_row (put_rule column rule) self.old }
+    {
+        if column < COLUMNS as u64 {
+            self.row.rules[column as usize] = rule;
+        }
+    }
+
+    /// A CFA rule of a register and an offset.
+    #[tactic(auto, unfolding(crate::specs::Steps::put_cfa))]
+    pub fn define_cfa(&mut self, register: u64, offset: i64) -> Result<(), Stop<Reason>>
+        ensures { MatchStop result
+            (λ _. (register_fault register ≡ None) × (self.new ≡ on_row (put_cfa register offset) self.old))
+            (λ why. register_fault register ≡ Some why)
+            (Unit {0}) }
+    {
+        let register = match register_of(register) {
+            Ok(register) => register,
+            Err(why) => return Err(Stop::Fault(why)),
+        };
+        self.row.cfa = Some(CfaRule { register, offset });
+        Ok(())
+    }
+
+    /// Another register in the CFA rule.
+    #[tactic(auto, unfolding(crate::specs::Steps::put_register))]
+    pub fn change_register(&mut self, register: u64) -> Result<(), Stop<Reason>>
+        ensures { MatchStop result
+            (λ _. (or_reason (register_fault register) (part_fault self.old) ≡ None) × (self.new ≡ on_row (put_register register) self.old))
+            (λ why. or_reason (register_fault register) (part_fault self.old) ≡ Some why)
+            (Unit {0}) }
+    {
+        let register = match register_of(register) {
+            Ok(register) => register,
+            Err(why) => return Err(Stop::Fault(why)),
+        };
+        match self.row.cfa {
+            Some(cfa) => {
+                self.row.cfa = Some(CfaRule {
+                    register,
+                    offset: cfa.offset,
+                });
+                Ok(())
+            }
+            None => Err(Stop::Fault(Reason::State)),
+        }
+    }
+
+    /// Another offset in the CFA rule.
+    #[tactic(auto, unfolding(crate::specs::Steps::put_offset))]
+    pub fn change_offset(&mut self, offset: i64) -> Result<(), Stop<Reason>>
+        ensures { MatchStop result
+            (λ _. (part_fault self.old ≡ None) × (self.new ≡ on_row (put_offset offset) self.old))
+            (λ why. part_fault self.old ≡ Some why)
+            (Unit {0}) }
+    {
+        match self.row.cfa {
+            Some(cfa) => {
+                self.row.cfa = Some(CfaRule {
+                    register: cfa.register,
+                    offset,
+                });
+                Ok(())
+            }
+            None => Err(Stop::Fault(Reason::State)),
+        }
+    }
+
+    /// A location instruction that moves by so many units of code.
+    pub fn advance(&mut self, setting: &Setting, delta: u64) -> Result<(), Stop<Reason>>
+        ensures { MatchStop result
+            (λ _. (move_fault setting.now self.old.address (self.old.address + delta * setting.now.code_align) ≡ None)
+            × (self.new ≡ moved (self.old.address + delta * setting.now.code_align) self.old))
+            (λ why. move_fault setting.now self.old.address (self.old.address + delta * setting.now.code_align) ≡ Some why)
+            (Unit {0}) }
+    {
+        if setting.initial.is_none() {
+            return Err(Stop::Fault(Reason::Range));
+        }
+        match delta.checked_mul(setting.code_align) {
+            Some(bytes) => match self.address.checked_add(bytes) {
+                Some(address) => {
+                    self.address = address;
+                    Ok(())
+                }
+                None => Err(Stop::Fault(Reason::Range)),
+            },
+            None => Err(Stop::Fault(Reason::Range)),
+        }
+    }
+
+    /// A location instruction that names an address.
+    pub fn set_location(&mut self, setting: &Setting, address: u64) -> Result<(), Stop<Reason>>
+        ensures { MatchStop result
+            (λ _. (move_fault setting.now self.old.address address ≡ None) × (self.new ≡ moved address self.old))
+            (λ why. move_fault setting.now self.old.address address ≡ Some why)
+            (Unit {0}) }
+    {
+        if setting.initial.is_none() || address < self.address {
+            return Err(Stop::Fault(Reason::Range));
+        }
+        self.address = address;
+        Ok(())
+    }
+
+    /// A column keeps its value; the return address column has none to keep.
+    pub fn same(&mut self, column: u64) -> Result<(), Stop<Reason>>
+        ensures { MatchStop result
+            (λ _. (unless (not (column == 16)) reason.Register ≡ None) × (self.new ≡ on_row (put_rule column rule.Same) self.old))
+            (λ why. unless (not (column == 16)) reason.Register ≡ Some why)
+            (Unit {0}) }
+    {
+        if column == 16 {
+            return Err(Stop::Fault(Reason::Register));
+        }
+        self.put_rule(column, Rule::Same);
+        Ok(())
+    }
+
+    /// A column's value is in a register; columns above 16 are passed over.
+    #[tactic(auto, unfolding(crate::specs::Steps::put_rule))]
+    pub fn in_register(&mut self, column: u64, register: u64) -> Result<(), Stop<Reason>>
+        ensures { MatchStop result
+            (λ _. (unless (nat_lt 16 column || nat_lt register 16) reason.Register ≡ None) × (self.new ≡ on_row (put_rule column (rule.Register register)) self.old))
+            (λ why. unless (nat_lt 16 column || nat_lt register 16) reason.Register ≡ Some why)
+            (Unit {0}) }
+    {
+        if column > 16 {
+            return Ok(());
+        }
+        if register > 15 {
+            return Err(Stop::Fault(Reason::Register));
+        }
+        self.put_rule(column, Rule::Register(register as u8));
+        Ok(())
+    }
+
+    /// The rule that the CIE left.
+    #[tactic(auto, unfolding(crate::specs::Steps::put_rule))]
+    pub fn restore(&mut self, setting: &Setting, column: u64) -> Result<(), Stop<Reason>>
+        ensures { MatchStop result
+            (λ _. (unless (is_some setting.now.initial) reason.State ≡ None) × (self.new ≡ on_row (put_rule column (rule_behind setting.now.initial column)) self.old))
+            (λ why. unless (is_some setting.now.initial) reason.State ≡ Some why)
+            (Unit {0}) }
+    {
+        match &setting.initial {
+            Some(initial) => {
+                if column < COLUMNS as u64 {
+                    self.put_rule(column, initial.rules[column as usize]);
+                }
+                Ok(())
+            }
+            None => Err(Stop::Fault(Reason::State)),
+        }
+    }
+
+    /// Remembers the row.
+    pub fn remember(&mut self) -> Result<(), AllocError>
+        ensures { OnOk result (self.new ≡ record { address = self.old.address; row = self.old.row; held = self.old.row ∷ self.old.held }) }
+    {
+        self.held.push(self.row)?;
+        Ok(())
+    }
+
+    /// The row that was remembered last.
+    pub fn restore_state(&mut self) -> Result<(), Stop<Reason>>
+        ensures { MatchStop result
+            (λ _. (unless (has_held self.old.held) reason.State ≡ None) × (self.new ≡ record { address = self.old.address; row = top_or self.old.row self.old.held; held = under self.old.held }))
+            (λ why. unless (has_held self.old.held) reason.State ≡ Some why)
+            (Unit {0}) }
+    {
+        match self.held.pop() {
+            Some(row) => {
+                self.row = row;
+                Ok(())
+            }
+            None => Err(Stop::Fault(Reason::State)),
+        }
+    }
+}
