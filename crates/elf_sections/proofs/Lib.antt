@@ -4,3 +4,4 @@ pub mod NoteLemmas
 pub mod IdentityLemmas
 pub mod TextLemmas
 pub mod SymbolLemmas
+pub mod CodeLemmas

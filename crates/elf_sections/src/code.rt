@@ -4,6 +4,7 @@ ghost use Rattle.elf_sections.specs.Programs.{code_range, is_code, is_in_code};
 
 use crate::constants::{SHF_ALLOC, SHF_EXECINSTR};
 use crate::section::SectionHeader;
+use range_set::RangeSet;
 use std::alloc::{AllocError, Global};
 use sym_edges::Span;
 
@@ -42,11 +43,10 @@ pub fn read_code(
         .collect(alloc)
 }
 
-/// Whether an address lies in code.
-#[tactic(auto, unfolding(crate::specs::Programs::is_in_code))]
-pub fn holds_code(code: &[Span], address: u64) -> bool
+/// Whether an address lies in code, by a binary search.
+#[tactic(auto, using(crate::proofs::CodeLemmas::in_code))]
+pub fn holds_code(code: &RangeSet, address: u64) -> bool
     ensures { result ≡ is_in_code code.now address }
 {
-    code.iter()
-        .any(|span| span.start() <= address && address < span.end())
+    code.has(address)
 }

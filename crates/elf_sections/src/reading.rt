@@ -13,7 +13,7 @@ use crate::notes::find_build_id;
 use crate::program::read_base;
 use crate::section::{SectionHeader, begins, read_content};
 use crate::strings::Texts;
-use crate::symbols::{Symbol, find_linked, find_symbol_table, read_symbols};
+use crate::symbols::{Symbol, find_linked, find_symbol_table, read_functions};
 use crate::tables::{Tables, read_tables};
 use crate::text_identity::{fold_text, pad_id};
 use std::alloc::Global;
@@ -93,7 +93,7 @@ fn find_symbols<'a>(
     };
     let texts = Texts::new(alloc, read_content(file, strings).unwrap_or(&[]))?;
     let entries = read_content(file, table).unwrap_or(&[]);
-    match read_symbols(alloc, spans, entries, &texts)? {
+    match read_functions(alloc, spans, entries, &texts)? {
         Some(symbols) => Ok(symbols),
         None => Err(Stop::Fault(ElfFault::SymbolTable)),
     }

@@ -12,8 +12,9 @@ use crate::constants::{SHT_DYNSYM, SHT_STRTAB, SHT_SYMTAB, STT_FUNC, STT_GNU_IFU
 use crate::numbers::{read_u16, read_u32, read_u64};
 use crate::section::SectionHeader;
 use crate::strings::Texts;
+use range_set::{RangeSet, of_ranges};
 use std::alloc::{AllocError, Global};
-use sym_edges::Span;
+use sym_edges::{OutOfMemory, Span};
 
 /// A function in code, by the symbol table: its ELF address, and its name as it stands in the file.
 #[derive(Clone, Copy, Debug)]
@@ -46,7 +47,7 @@ fn read_symbol(table: &[u8], at: usize) -> SymbolEntry
 
 /// Whether a symbol is a function in code, by its type, its section and its address.
 #[tactic(auto, unfolding(crate::specs::Symbols::is_function))]
-fn names_function(code: &[Span], entry: &SymbolEntry) -> bool
+fn names_function(code: &RangeSet, entry: &SymbolEntry) -> bool
     ensures { result ≡ is_function code.now entry.now }
 {
     let kind = entry.info % 16;
@@ -99,7 +100,7 @@ enum Found<'a> {
 }
 
 #[tactic(auto, unfolding(crate::specs::Symbols::is_nameless, crate::specs::Symbols::function_of))]
-fn classify<'a>(code: &[Span], texts: &Texts<'a>, entry: &SymbolEntry) -> Found<'a>
+fn classify<'a>(code: &RangeSet, texts: &Texts<'a>, entry: &SymbolEntry) -> Found<'a>
     ensures { Classifies result code.now texts.now entry.now }
 {
     if !names_function(code, entry) {
@@ -115,11 +116,11 @@ fn classify<'a>(code: &[Span], texts: &Texts<'a>, entry: &SymbolEntry) -> Found<
     }
 }
 
-/// The function symbols of a table, in its order, or none where a function's name is not zero-ended.
+/// The function symbols of a table by the set of all addresses in code, or none where a function's name is not zero-ended.
 #[tactic(auto, using(crate::proofs::SymbolLemmas::reading_begins, crate::proofs::SymbolLemmas::reading_other, crate::proofs::SymbolLemmas::reading_found, crate::proofs::SymbolLemmas::reading_nameless))]
-pub fn read_symbols<'a>(
+fn read_symbols<'a>(
     alloc: Global,
-    code: &[Span],
+    code: &RangeSet,
     table: &[u8],
     texts: &Texts<'a>,
 ) -> Result<Option<Vec<Symbol<'a>>>, AllocError>
@@ -136,4 +137,18 @@ pub fn read_symbols<'a>(
         }
     }
     Ok(Some(symbols))
+}
+
+/// The function symbols of a table, in its order, or none where a function's name is not zero-ended.
+#[tactic(auto, using(crate::proofs::CodeLemmas::same_reading))]
+pub fn read_functions<'a>(
+    alloc: Global,
+    code: &[Span],
+    table: &[u8],
+    texts: &Texts<'a>,
+) -> Result<Option<Vec<Symbol<'a>>>, OutOfMemory>
+    ensures { IfOk result (λ found. ReadsSymbols (option_map (λ v. v.items) found) code.now texts.now (entries_of table.now (length table.now / SYMBOL))) }
+{
+    let addresses = of_ranges(alloc, code)?;
+    Ok(read_symbols(alloc, &addresses, table, texts)?)
 }

@@ -130,6 +130,67 @@ fn a_small_file_gives_its_id_its_code_and_its_function(rt: HostRuntime) -> Resul
     Ok(())
 }
 
+/// A function symbol `main` in section 1 at that address, as it stands in a symbol table.
+fn function_at(address: u64) -> [u8; 24] {
+    let mut symbol = *b"\x01\0\0\0\x12\0\x01\0\0\0\0\0\0\0\0\0\0\0\0\0\0\0\0\0";
+    for (place, byte) in address.to_le_bytes().iter().enumerate() {
+        if place < 8 {
+            symbol[place + 8] = *byte;
+        }
+    }
+    symbol
+}
+
+/// Three sections of code, of which the later two touch and stand below the first: [3000, 3004), [1000, 1004), [1004, 1006).
+#[test]
+fn a_function_counts_in_each_section_of_code(rt: HostRuntime) -> Result<(), Fail> {
+    let cases = [
+        (0xfff, false),
+        (0x1000, true),
+        (0x1003, true),
+        (0x1004, true),
+        (0x1005, true),
+        (0x1006, false),
+        (0x2000, false),
+        (0x3000, true),
+        (0x3003, true),
+        (0x3004, false),
+    ];
+    let mut table = Vec::new(rt.alloc());
+    for (address, _) in cases {
+        table.extend_from_slice(&function_at(address))?;
+    }
+    let high = Section {
+        address: 0x3000,
+        ..text(b"\x55\x90\x5d\xc3")
+    };
+    let next = Section {
+        address: 0x1004,
+        ..text(b"\x90\xc3")
+    };
+    let symbols = Section {
+        link: 5,
+        ..plain(26, 2, &table)
+    };
+    let sections = [
+        plain(0, 0, b""),
+        high,
+        text(b"\x55\x90\x5d\xc3"),
+        next,
+        symbols,
+        plain(34, 3, b"\0main\0"),
+        plain(42, 3, NAMES),
+    ];
+    let file = file_of(&rt, 0x400, &sections)?;
+    let image = read_image(rt.alloc(), &file)?;
+    assert_eq!(rt; image.code().len(), 3);
+    for (address, counts) in cases {
+        let found = image.symbols().iter().any(|s| s.address == address);
+        assert_eq!(rt; found, counts, "a function at {address:x}");
+    }
+    Ok(())
+}
+
 #[test]
 fn without_a_build_id_the_identity_is_the_exclusive_or_of_the_code(
     rt: HostRuntime,

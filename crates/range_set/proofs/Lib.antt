@@ -5,3 +5,5 @@ pub mod MeetLemmas
 pub mod CutLemmas
 pub mod JoinLemmas
 pub mod SearchLemmas
+pub mod EnclosingLemmas
+pub mod OutermostSearch

@@ -25,7 +25,7 @@ pub fn of_ranges(alloc: Global, spans: &[Span]) -> Result<RangeSet, OutOfMemory>
 }
 
 /// The spans in the order of their starts.
-fn sorted_copy(alloc: Global, spans: &[Span]) -> Result<Vec<Span>, OutOfMemory>
+pub(crate) fn sorted_copy(alloc: Global, spans: &[Span]) -> Result<Vec<Span>, OutOfMemory>
     ensures permutation { IfOk result (λ sorted. IsPermutation spans.now sorted.items) }
     ensures ascending { IfOk result (λ sorted. AreAscending sorted.items) }
 {

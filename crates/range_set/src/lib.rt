@@ -6,10 +6,13 @@
 //! contract says so of every address. A set of addresses has one such list only, which is what
 //! [`same_addresses_same_list`] promises, so these contracts settle each answer down to its last span.
 //!
+//! An [`Enclosing`] tells whether some one span of a slice encloses a range of addresses, which a set of addresses cannot tell,
+//! since it joins spans that touch.
+//!
 //! A set of one span, by far the most frequent, and the empty one take no memory beyond the struct.
 //!
 //! To read: `set` first, then `building`, on which the merges stand, the merges `joining`, `meeting` and `cutting`, then
-//! `searching` and `law`.
+//! `searching` and `law`; `outermost` stands alone.
 #![tactic(auto)]
 
 mod building;
@@ -17,11 +20,13 @@ mod cutting;
 mod joining;
 mod law;
 mod meeting;
+mod outermost;
 mod searching;
 mod set;
 
 pub use joining::of_ranges;
 pub use law::same_addresses_same_list;
+pub use outermost::Enclosing;
 pub use set::RangeSet;
 
 #[cfg(test)]

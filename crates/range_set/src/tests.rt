@@ -1,6 +1,6 @@
 ghost use Rattle.std.specs.Prelude.{◌<◌};
 
-use crate::{RangeSet, of_ranges};
+use crate::{Enclosing, RangeSet, of_ranges};
 use std::alloc::{AllocError, Global};
 use std::mem::size_of;
 use std::process::Abort;
@@ -243,6 +243,55 @@ fn random_sets_hold_what_lists_of_addresses_hold(rt: HostRuntime) -> Result<(), 
         assert_eq!(rt; cut.spans(), want.as_slice(), "minus in turn {turn}");
         let want = runs_of(alloc, either.as_slice())?;
         assert_eq!(rt; joined.spans(), want.as_slice(), "join in turn {turn}");
+    }
+    Ok(())
+}
+
+/// Each case: the spans, a start and an end, and whether some one span has all addresses between.
+#[test]
+fn a_range_is_enclosed_by_one_span_alone(rt: HostRuntime) -> Result<(), Fail> {
+    let top = u64::MAX;
+    let none: &[(u64, u64)] = &[];
+    let touching: &[(u64, u64)] = &[(0x10, 0x20), (0x20, 0x30)];
+    let nested: &[(u64, u64)] = &[(0x18, 0x1c), (0x10, 0x40), (0x12, 0x16), (0x30, 0x50)];
+    let equal_starts: &[(u64, u64)] = &[(0x10, 0x18), (0x10, 0x30), (0x10, 0x20)];
+    let high: &[(u64, u64)] = &[(top - 0x10, top), (0, 1)];
+    let cases = [
+        (none, 0, 1, false),
+        (none, 0, 0, false),
+        (touching, 0x10, 0x20, true),
+        (touching, 0x20, 0x30, true),
+        (touching, 0x18, 0x28, false),
+        (touching, 0x10, 0x21, false),
+        (touching, 0x1f, 0x20, true),
+        (touching, 0x1f, 0x21, false),
+        (touching, 0x0f, 0x20, false),
+        (touching, 0x0f, 0x10, false),
+        (touching, 0x30, 0x31, false),
+        (nested, 0x18, 0x1c, true),
+        (nested, 0x18, 0x1d, true),
+        (nested, 0x19, 0x40, true),
+        (nested, 0x2f, 0x41, false),
+        (nested, 0x30, 0x41, true),
+        (nested, 0x30, 0x51, false),
+        (equal_starts, 0x10, 0x30, true),
+        (equal_starts, 0x11, 0x2f, true),
+        (equal_starts, 0x10, 0x31, false),
+        (high, top - 0x10, top, true),
+        (high, top - 0x11, top, false),
+        (high, top - 1, top, true),
+        (high, 0, 1, true),
+        (high, 0, 2, false),
+        (high, top, top, true),
+    ];
+    for (pairs, start, end, want) in cases {
+        let spans = spans_of(rt.alloc(), pairs)?;
+        let enclosing = Enclosing::of_spans(rt.alloc(), spans.as_slice())?;
+        assert_eq!(rt;
+            enclosing.encloses(start, end),
+            want,
+            "{start:x} to {end:x}"
+        );
     }
     Ok(())
 }

@@ -1,4 +1,4 @@
-use Rattle.std.proofs.Common.{◌≡◌, ◌<◌, ◌≤◌, length, sym, ◌∙◌, arith}
+use Rattle.std.proofs.Common.{◌∙◌}
 use Rattle.elf_sections.proofs.NoteLemmas.{id_here, id_later, id_end}
 use Rattle.elf_sections.proofs.notes.find_build_id.Goals as goal
 

@@ -1,5 +1,5 @@
-use Rattle.std.proofs.Common.{◌≡◌, ◌+◌, ◌-◌, Some, true, length, sym, ◌∙◌, ap, arith}
-use Rattle.elf_sections.specs.Notes.{NoteParts, is_build_id, note_view}
+use Rattle.std.proofs.Common.{◌+◌, ◌-◌, Some, length, sym, ◌∙◌, ap, arith}
+use Rattle.elf_sections.specs.Notes.{NoteParts, is_build_id}
 use Rattle.elf_sections.proofs.NoteLemmas.{next_id, notes_end}
 use Rattle.elf_sections.proofs.notes.find_id.Goals as goal
 
