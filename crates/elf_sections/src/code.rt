@@ -1,5 +1,6 @@
 ghost use Rattle.std.specs.Prelude.{◌≡◌, IfOk};
 ghost use Rattle.std.specs.List.{filter_map};
+ghost use Rattle.range_set.specs.Building.{AllFrom};
 ghost use Rattle.elf_sections.specs.Programs.{code_range, is_code, is_in_code};
 
 use crate::constants::{SHF_ALLOC, SHF_EXECINSTR};
@@ -29,8 +30,7 @@ fn span_of(base: u64, section: &SectionHeader) -> Option<Span>
     }
 }
 
-/// The addresses of code, in the order of the sections.
-pub fn read_code(
+fn collect_code(
     alloc: Global,
     base: u64,
     sections: &[SectionHeader],
@@ -41,6 +41,20 @@ pub fn read_code(
         .iter()
         .filter_map(|section| span_of(base, section))
         .collect(alloc)
+}
+
+/// The addresses of code, in the order of the sections. None starts below the base.
+#[tactic(auto, using(crate::proofs::CodeLemmas::code_above))]
+pub fn read_code(
+    alloc: Global,
+    base: u64,
+    sections: &[SectionHeader],
+) -> Result<Vec<Span>, AllocError>
+    ensures ranges { IfOk result (λ v. v.items ≡ filter_map (code_range base) sections.now) }
+    ensures above { IfOk result (λ v. AllFrom base v.items) }
+{
+    let spans = collect_code(alloc, base, sections)?;
+    Ok(spans)
 }
 
 /// Whether an address lies in code, by a binary search.

@@ -1,5 +1,6 @@
 ghost use Rattle.std.specs.Prelude.{◌≡◌, ◌≤◌, [], length, unwrap_or, map};
 ghost use Rattle.std.specs.Option.{option_copied};
+ghost use Rattle.range_set.specs.Building.{AllFrom};
 ghost use Rattle.elf_sections.specs.Symbols.{symbol_view};
 ghost use Rattle.elf_sections.specs.Image.{part_view, section_of};
 
@@ -32,6 +33,7 @@ pub struct Image<'a> {
 impl<'a> Model for Image<'a> {
     ghost use Rattle.std.specs.Prelude.{◌≤◌, [], length, map, unwrap_or};
     ghost use Rattle.std.specs.Option.{option_copied};
+    ghost use Rattle.range_set.specs.Building.{AllFrom};
     ghost use Rattle.elf_sections.specs.Symbols.{symbol_view};
     ghost use Rattle.elf_sections.specs.Image.{ImageParts, part_view};
 
@@ -57,7 +59,7 @@ impl<'a> Model for Image<'a> {
       symbols = map symbol_view i.symbols.items;
     } };
 
-    ghost invariant = { λ i. length (unwrap_or (option_copied i.build_id) []) ≤ 64 };
+    ghost invariant = { λ i. (length (unwrap_or (option_copied i.build_id) []) ≤ 64) × AllFrom i.base i.code.items };
 }
 
 impl<'a> Image<'a> {
@@ -88,9 +90,10 @@ impl<'a> Image<'a> {
         self.base
     }
 
-    /// The ELF addresses of code, in the order of its sections.
+    /// The ELF addresses of code, in the order of its sections. None starts below the base.
     pub fn code(&self) -> &[Span]
-        ensures { result.now ≡ self.now.code }
+        ensures ranges { result.now ≡ self.now.code }
+        ensures above { AllFrom self.now.base self.now.code }
     {
         self.code.as_slice()
     }
