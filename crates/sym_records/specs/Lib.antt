@@ -1,3 +1,4 @@
+pub mod KeptTokens
 pub mod Steps
 pub mod Cuts
 pub mod Canon

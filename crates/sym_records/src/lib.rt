@@ -10,6 +10,7 @@
 // The records, and what may be wrong with a text of them.
 mod line;
 mod place;
+mod rules;
 mod text_fault;
 
 // Which records and lists a text can spell.
@@ -36,6 +37,7 @@ pub use file::{NotValid, SymFile, file_of};
 pub use line::{ByteText, SymLine, SymLines};
 pub use place::Place;
 pub use rendering::render;
+pub use rules::{RuleText, Rules, Target, Token, Tokens};
 pub use text_fault::{TextFault, TextKind};
 pub use validity::is_valid;
 pub use writing::write_file;
