@@ -1,20 +1,32 @@
--- For who makes records: which fields fit, and which lists are valid.
-use Rattle.std.proofs.Common.{◌≡◌, ℕ, ◌+◌, ◌-◌, ◌^◌, ◌<◌, ◌≤◌, ◌==◌, ◌&&◌, cond, Bool, true, false, List, [], ◌∷◌, ◌++◌, length, get_or, codes, Some, None, nat_lt, nat_le, refl, sym, ◌∙◌, ap, arith, subst}
-use Rattle.std.specs.List.{list_all}
+-- For who makes records: which fields fit. Which lists are valid stands in JoiningLemmas.
+pub use Rattle.sym_records.proofs.JoiningLemmas.{first_fits, push_fits}
+use Rattle.std.proofs.Common.{◌≡◌, ℕ, ◌+◌, ◌-◌, ◌^◌, ◌<◌, ◌≤◌, ◌==◌, ◌&&◌, cond, suc, Bool, true, false, pos, negsuc, List, [], ◌∷◌, ◌++◌, length, get_or, codes, Some, None, nat_lt, nat_le, refl, sym, ◌∙◌, ap, arith, subst, length-append, ◌*◌}
+use Rattle.std.specs.List.{list_all, flat_map}
 use Rattle.std.specs.Char.{digit_value}
 use Rattle.std.specs.Str.Parse.{AllDigits}
 use Rattle.std.proofs.lemmas.Bool.Decides.{nat_tests}
 use Rattle.std.proofs.lemmas.List.Recursion.{and_at}
-use Rattle.sym_records.proofs.BoolLemmas.{and_true, both, elim_bool}
+use Rattle.sym_records.proofs.BoolLemmas.{and_true, both, not_false, elim_bool}
+use Rattle.sym_records.proofs.EndLemmas.{last_none}
+use Rattle.sym_records.proofs.RuleLemmas.{decimal_parts, register_parts, is_below, is_up_to}
+use Rattle.sym_records.proofs.RuleLengthLemmas.{length_init, length_change, length_rule}
 use Rattle.sym_records.proofs.LengthLemmas.{length_module, length_info, length_public}
 use Rattle.sym_records.proofs.DigitsLemmas.{length_hex}
 use Rattle.sym_records.proofs.TextLemmas.{digits_within}
 use Rattle.sym_records.proofs.CleaningLemmas.{is_shown, named}
+use Rattle.sym_records.specs.Cuts.{last_is}
+use Rattle.sym_records.specs.Rules.{register_name, target_name, token_word, spelled_token, spelled_rule, spelled_rules}
+use Rattle.sym_records.specs.RuleValidity.{is_target, is_token, is_rule, ends_in_cr, end_in_cr, are_rules, is_plain_target, is_plain_token, is_plain_rule}
+use Rattle.sym_records.specs.declared.rules.Target.{Target}
+use Rattle.sym_records.specs.declared.rules.Target.TheVariants as target
+use Rattle.sym_records.specs.declared.rules.Token.{Token}
+use Rattle.sym_records.specs.declared.rules.Token.TheVariants as token
+use Rattle.sym_records.specs.declared.rules.RuleText.{RuleText}
 use Rattle.sym_records.specs.Canon.{body}
 use Rattle.sym_records.specs.Reading.{fits, leads}
 use Rattle.sym_records.specs.Validity.{is_field, is_name, fields_fit, first_bad_from, first_bad}
 use Rattle.sym_records.specs.declared.line.SymLine.{SymLine}
-use Rattle.sym_records.specs.declared.line.SymLine.TheVariants.{Module, Info, Public}
+use Rattle.sym_records.specs.declared.line.SymLine.TheVariants.{Module, Info, Public, Init, Change}
 use Rattle.sym_records.specs.declared.place.Place.{Place}
 use Rattle.sym_records.specs.declared.place.Place.TheVariants.{Start, Inside}
 
@@ -78,44 +90,96 @@ pub upper_digit : (d : ℕ) → d < 16 → digit_value (get_or (codes "012345678
 unfolding is_digit
 upper_digit d below = digit_true (get_or (codes "0123456789ABCDEF") d 0) (and_at (list_all is_digit) is_digit refl (λ _ _. refl) (codes "0123456789ABCDEF") d 0 below refl)
 
-from_here : (i : ℕ) (place : Place) (s : SymLine) (lines : List SymLine) → fits place s ≡ true → fields_fit s ≡ true → first_bad_from (i + 1) (leads place s) lines ≡ None → first_bad_from i place (s ∷ lines) ≡ None
-unfolding first_bad_from
-from_here i place s lines stands fit rest = ap (λ t. cond t (first_bad_from (i + 1) (leads place s) lines) (Some i)) (both stands fit) ∙ rest
+token_short : (t : Token) → is_plain_token t ≡ true → length (token_word t) ≤ 20
+token_short (token.Number (pos n)) is = let parts = decimal_parts n (let small = is_below n (2 ^ 63) is in omega arith) in let few = parts.few in omega arith
+token_short (token.Number (negsuc n)) is = let parts = decimal_parts (suc n) (let small = is_below n (2 ^ 63) is in omega arith) in let few = parts.few in omega arith
+token_short (token.Reg number) is = let short = is_up_to (length (register_name number)) 4 (register_parts number (is_below number 16 is)).short in omega arith
+token_short (token.Other name) is = cc
+token_short token.Cfa is = omega arith
+token_short token.Undef is = omega arith
+token_short token.Add is = omega arith
+token_short token.Sub is = omega arith
+token_short token.Mul is = omega arith
+token_short token.Div is = omega arith
+token_short token.Rem is = omega arith
+token_short token.Align is = omega arith
+token_short token.Fetch is = omega arith
 
-none_here : (i : ℕ) (place : Place) → first_bad_from i place [] ≡ None
-unfolding first_bad_from
-none_here i place = refl
+target_short : (t : Target) → is_plain_target t ≡ true → length (target_name t) ≤ 4
+target_short target.Cfa is = omega arith
+target_short target.Ra is = omega arith
+target_short (target.Reg number) is = is_up_to (length (register_name number)) 4 (register_parts number (is_below number 16 is)).short
+target_short (target.Other name) is = cc
 
--- one record that may stand first is a valid list
-pub first_fits : (s : SymLine) → fits Start s ≡ true → fields_fit s ≡ true → first_bad (s ∷ []) ≡ None
-unfolding first_bad
-first_fits s stands fit = from_here 0 Start s [] stands fit (none_here 1 (leads Start s))
+tokens_short : (ts : List Token) → list_all is_plain_token ts ≡ true → length (flat_map spelled_token ts) ≤ 21 * length ts
+tokens_short [] all = omega arith
+tokens_short (t ∷ ts) all = omega (arith, length-append (spelled_token t) (flat_map spelled_token ts), token_short t (and_true all).0, tokens_short ts (and_true all).1)
 
-leads_inside : (place : Place) (s : SymLine) → leads place s ≡ Inside
-leads_inside place (Module os arch id name) = refl
-leads_inside place (Info text) = refl
-leads_inside place (Public many address params name) = refl
+rule_short : (r : RuleText) → is_plain_rule r ≡ true → length (spelled_rule r) ≤ 90
+unfolding is_plain_rule
+rule_short r is =
+    let few : length r.tokens ≤ 4 = is_up_to (length r.tokens) 4 (and_true (and_true is).0).1 in
+    omega (arith, length_rule r, target_short r.target (and_true (and_true (and_true is).0).0).0, tokens_short r.tokens (and_true is).1, few)
 
--- a good record and those behind it
-head_fits : (i : ℕ) (place : Place) (x : SymLine) (lines : List SymLine) → first_bad_from i place (x ∷ lines) ≡ None → (fits place x ≡ true) × (fields_fit x ≡ true) × (first_bad_from (i + 1) (leads place x) lines ≡ None)
-unfolding first_bad_from
-head_fits i place x lines none =
-    elim_bool (fits place x && fields_fit x) (λ t. (fits place x && fields_fit x) ≡ t → cond t (first_bad_from (i + 1) (leads place x) lines) (Some i) ≡ None → (fits place x ≡ true) × (fields_fit x ≡ true) × (first_bad_from (i + 1) (leads place x) lines ≡ None))
-    (λ _ good h. ((and_true good).0, (and_true good).1, h)) (λ _ _ h. cc) refl none
+rules_short : (rules : List RuleText) → list_all is_plain_rule rules ≡ true → length (spelled_rules rules) ≤ 90 * length rules
+unfolding spelled_rules
+rules_short [] all = omega arith
+rules_short (r ∷ rules) all = omega (arith, length-append (spelled_rule r) (flat_map spelled_rule rules), rule_short r (and_true all).0, rules_short rules (and_true all).1)
 
-push_step : (i : ℕ) (place : Place) (x : SymLine) (lines : List SymLine) (s : SymLine) → first_bad_from i place (x ∷ lines) ≡ None → (first_bad_from (i + 1) Inside lines ≡ None → fits Inside s ≡ true → fields_fit s ≡ true → first_bad_from (i + 1) Inside (lines ++ s ∷ []) ≡ None) → fits Inside s ≡ true → fields_fit s ≡ true → first_bad_from i place (x ∷ (lines ++ s ∷ [])) ≡ None
-push_step i place x lines s none rest stands fit =
-    let head = head_fits i place x lines none in
-    let inside = leads_inside place x in
-    from_here i place x (lines ++ s ∷ []) head.0 head.1
-    (ap (λ p. first_bad_from (i + 1) p (lines ++ s ∷ [])) inside ∙ rest (ap (λ p. first_bad_from (i + 1) p lines) (sym inside) ∙ head.2) stands fit)
+plain_token : (t : Token) → is_plain_token t ≡ true → (is_token t ≡ true) × (ends_in_cr t ≡ false)
+plain_token (token.Number n) is = (is, refl)
+plain_token (token.Reg number) is = (is, refl)
+plain_token (token.Other name) is = cc
+plain_token token.Cfa is = (refl, refl)
+plain_token token.Undef is = (refl, refl)
+plain_token token.Add is = (refl, refl)
+plain_token token.Sub is = (refl, refl)
+plain_token token.Mul is = (refl, refl)
+plain_token token.Div is = (refl, refl)
+plain_token token.Rem is = (refl, refl)
+plain_token token.Align is = (refl, refl)
+plain_token token.Fetch is = (refl, refl)
 
-push_from : (i : ℕ) (lines : List SymLine) (s : SymLine) → first_bad_from i Inside lines ≡ None → fits Inside s ≡ true → fields_fit s ≡ true → first_bad_from i Inside (lines ++ s ∷ []) ≡ None
-push_from i [] s none stands fit = from_here i Inside s [] stands fit (none_here (i + 1) (leads Inside s))
-push_from i (x ∷ lines) s none stands fit = push_step i Inside x lines s none (push_from (i + 1) lines s) stands fit
+plain_target : (t : Target) → is_plain_target t ≡ true → is_target t ≡ true
+plain_target target.Cfa is = refl
+plain_target target.Ra is = refl
+plain_target (target.Reg number) is = is
+plain_target (target.Other name) is = cc
 
--- a valid list stays valid with one more record behind it
-pub push_fits : (lines : List SymLine) (s : SymLine) → first_bad lines ≡ None → fits Inside s ≡ true → fields_fit s ≡ true → first_bad (lines ++ s ∷ []) ≡ None
-unfolding first_bad
-push_fits [] s none stands fit = cc
-push_fits (x ∷ lines) s none stands fit = push_step 0 Start x lines s none (push_from 1 lines s) stands fit
+plain_tokens : (ts : List Token) → list_all is_plain_token ts ≡ true → list_all is_token ts ≡ true
+plain_tokens [] all = refl
+plain_tokens (t ∷ ts) all = both (plain_token t (and_true all).0).0 (plain_tokens ts (and_true all).1)
+
+plain_rule : (r : RuleText) → is_plain_rule r ≡ true → is_rule r ≡ true
+unfolding is_plain_rule is_rule
+plain_rule r is = both (both (plain_target r.target (and_true (and_true (and_true is).0).0).0) (and_true (and_true (and_true is).0).0).1) (plain_tokens r.tokens (and_true is).1)
+
+plain_end : (r : RuleText) → is_plain_rule r ≡ true → last_is ends_in_cr r.tokens ≡ false
+unfolding is_plain_rule
+plain_end r is = last_none ends_in_cr is_plain_token (λ t plain. (plain_token t plain).1) r.tokens (and_true is).1
+
+plain_rules : (rules : List RuleText) → list_all is_plain_rule rules ≡ true → list_all is_rule rules ≡ true
+plain_rules [] all = refl
+plain_rules (r ∷ rules) all = both (plain_rule r (and_true all).0) (plain_rules rules (and_true all).1)
+
+some_rules : (rules : List RuleText) → 0 < length rules → nat_lt 0 (length rules) ≡ true
+some_rules rules some = lt_true 0 (length rules) some
+
+rules_are : (rules : List RuleText) → list_all is_plain_rule rules ≡ true → 0 < length rules → are_rules rules ≡ true
+unfolding are_rules end_in_cr
+rules_are rules all some =
+    both (both (some_rules rules some) (plain_rules rules all)) (not_false (last_none (λ rule. last_is ends_in_cr rule.tokens) is_plain_rule plain_end rules all))
+
+-- STACK CFI INIT with one to 18 rules that have no names of their own
+pub init_fits : (address size : ℕ) (rules : List RuleText) → address < 2 ^ 64 → size < 2 ^ 64 → list_all is_plain_rule rules ≡ true → 0 < length rules → length rules ≤ 18 → fields_fit (Init address size rules) ≡ true
+unfolding fields_fit
+init_fits address size rules first second all some few =
+    both (both (both (lt_true address (2 ^ 64) first) (lt_true size (2 ^ 64) second)) (rules_are rules all some))
+    (le_true (length (body (Init address size rules))) (2 ^ 20) (omega (arith, length_init address size rules, length_hex address first, length_hex size second, rules_short rules all)))
+
+-- and STACK CFI
+pub change_fits : (address : ℕ) (rules : List RuleText) → address < 2 ^ 64 → list_all is_plain_rule rules ≡ true → 0 < length rules → length rules ≤ 18 → fields_fit (Change address rules) ≡ true
+unfolding fields_fit
+change_fits address rules first all some few =
+    both (both (lt_true address (2 ^ 64) first) (rules_are rules all some))
+    (le_true (length (body (Change address rules))) (2 ^ 20) (omega (arith, length_change address rules, length_hex address first, rules_short rules all)))

@@ -8,15 +8,15 @@ use Rattle.sym_records.proofs.EndLemmas.{trim_kept}
 use Rattle.sym_records.proofs.TextLemmas.{NameParts, name_parts, spaced_ends}
 use Rattle.sym_records.proofs.ValidityLemmas.{valid_fits}
 use Rattle.sym_records.specs.Steps.{◌>>=◌}
-use Rattle.sym_records.specs.Cuts.{is_space, is_within_line, before, skip, onto, split_lines}
+use Rattle.sym_records.specs.Cuts.{is_space, is_cr, is_within_line, before, skip, onto, split_lines}
 use Rattle.sym_records.specs.Canon.{spaced, body, canon, canon_text}
 use Rattle.sym_records.specs.Text.{is_blank, key_of, line_at}
 use Rattle.sym_records.specs.Reading.{fits, leads, Seen, next_number, start, is_start, lacks_module, with_record, with_text, numbered, with_lines, some_records, reading_within, reading}
 use Rattle.sym_records.specs.Validity.{Stands, AreValidFrom, AreValid, has_fields, fields_fit}
 use Rattle.sym_records.specs.declared.line.SymLine.{SymLine}
-use Rattle.sym_records.specs.declared.line.SymLine.TheVariants.{Module, Info, Public}
+use Rattle.sym_records.specs.declared.line.SymLine.TheVariants.{Module, Info, Public, Init, Change}
 use Rattle.sym_records.specs.declared.place.Place.{Place}
-use Rattle.sym_records.specs.declared.place.Place.TheVariants.{Start, Inside}
+use Rattle.sym_records.specs.declared.place.Place.TheVariants.{Start, Inside, Frame}
 use Rattle.sym_records.specs.declared.text_fault.TextKind.TheVariants.{LongLine, NoModule, Misplaced}
 
 -- bytes without LF, and an LF behind them, are the first line
@@ -48,7 +48,7 @@ records_added seen (s ∷ lines) = records_added (added seen s) lines ∙ append
 key_module : (os arch id name : List ℕ) → NameParts name → key_of (body (Module os arch id name)) ≡ codes "MODULE"
 unfolding key_of body before skip
 key_module os arch id name parts =
-    ap (λ l. before 32 (skip is_space l)) (trim_kept (spaced (codes "MODULE") (os ∷ arch ∷ id ∷ name ∷ [])) (spaced_ends (codes "MODULE") (os ∷ arch ∷ id ∷ []) name parts))
+    ap (λ l. before 32 (skip is_space l)) (trim_kept is_cr (spaced (codes "MODULE") (os ∷ arch ∷ id ∷ name ∷ [])) (spaced_ends (codes "MODULE") (os ∷ arch ∷ id ∷ []) name parts))
 
 and_none : (b : Bool) → (b && false) ≡ false
 and_none true = refl
@@ -62,7 +62,10 @@ has_module Start (Module os arch id name) fit stands =
     ∙ and_none (is_start Start && not (is_blank (body (Module os arch id name))))
 has_module Start (Info text) fit stands = cc
 has_module Start (Public many address params name) fit stands = cc
+has_module Start (Init address size rules) fit stands = cc
+has_module Start (Change address rules) fit stands = cc
 has_module Inside s fit stands = refl
+has_module Frame s fit stands = refl
 
 lt_none : (limit n : ℕ) → n ≤ limit → nat_lt limit n ≡ false
 lt_none limit n short = grind (arith, nat_tests)
@@ -79,6 +82,7 @@ blank_place : (place : Place) → lacks_module place [] ≡ false
 unfolding lacks_module
 blank_place Start = refl
 blank_place Inside = refl
+blank_place Frame = refl
 
 text_ended : (seen : Seen) → with_text (2 ^ 20) seen [] ≡ Ok (record seen { number = next_number seen.number })
 unfolding with_text line_at

@@ -9,12 +9,16 @@ use Rattle.std.proofs.lemmas.Int.Digits.{digits_value-lt}
 use Rattle.std.proofs.lemmas.Bool.Decides.{nat_tests}
 use Rattle.std.proofs.Math.Nat.{pow-le-pow_right}
 use Rattle.sym_records.proofs.BoolLemmas.{both, not_false, elim_bool, chosen, bind_ok}
-use Rattle.sym_records.proofs.EndLemmas.{ends_in_cr, ends_at, trim_ends, skip_ends, from_ends, Begins, begins_skip}
+use Rattle.sym_records.proofs.EndLemmas.{ends_in_cr, ends_at, trim_ends, skip_ends, from_ends, all_skip, all_from, all_trim, Begins, begins_skip}
+use Rattle.sym_records.proofs.RuleSoundLemmas.{rules_sound}
 use Rattle.sym_records.specs.Steps.{◌>>=◌}
-use Rattle.sym_records.specs.Cuts.{is_space, is_cr, before, from, skip, trim_end}
-use Rattle.sym_records.specs.Text.{word_at, name_at, name_of, field_of, hex_digit, hex_onto, hex_value, hex_at, mark_at, module_at, info_at, public_at, stack_at, keyed, key_of, record_at, line_at, trimmed, is_blank}
+use Rattle.sym_records.specs.Cuts.{is_space, is_cr, is_margin, is_within_line, before, from, skip, trim_end, last_is}
+use Rattle.sym_records.specs.Text.{word_at, name_at, name_of, field_of, hex_digit, hex_onto, hex_value, hex_at, mark_at, module_at, info_at, public_at, fields_alone, init_at, change_at, next_word, behind_word, cfi_at, stack_at, keyed, key_of, record_at, line_at, trimmed, is_blank}
+use Rattle.sym_records.specs.RuleReading.{rules_at}
+use Rattle.sym_records.specs.RuleValidity.{are_rules}
+use Rattle.sym_records.specs.declared.rules.RuleText.{RuleText}
 use Rattle.sym_records.specs.declared.line.SymLine.{SymLine}
-use Rattle.sym_records.specs.declared.line.SymLine.TheVariants.{Module, Info, Public}
+use Rattle.sym_records.specs.declared.line.SymLine.TheVariants.{Module, Info, Public, Init, Change}
 use Rattle.sym_records.specs.declared.text_fault.TextKind.{TextKind}
 use Rattle.sym_records.specs.declared.text_fault.TextKind.TheVariants.{Unknown, Hex, Windows}
 
@@ -37,6 +41,8 @@ abbrev pub Shaped : SymLine → Type 0
 Shaped (Module os arch id name) = WordParts os × WordParts arch × WordParts id × RestParts name
 Shaped (Info text) = RestParts text
 Shaped (Public many address params name) = (address < 2 ^ 64) × (params < 2 ^ 64) × RestParts name
+Shaped (Init address size rules) = (address < 2 ^ 64) × (size < 2 ^ 64) × (are_rules rules ≡ true)
+Shaped (Change address rules) = (address < 2 ^ 64) × (are_rules rules ≡ true)
 
 -- a reading that gave a value
 abbrev gives : {A : Type 0} → A → Result A TextKind
@@ -69,11 +75,11 @@ Word x = WordParts x.0 × (ends_in_cr x.1 ≡ false)
 field_sound : (z : List ℕ) (x : List ℕ × List ℕ) → Begins z → ends_in_cr z ≡ false → field_of z ≡ Ok x → Word x
 field_sound [] x begins ends is = cc
 field_sound (b ∷ z) x begins ends is =
-    subst Word (ok_is _ x is) (record { some = before_some b z begins; whole = before_whole (b ∷ z) }, from_ends 32 (b ∷ z) ends)
+    subst Word (ok_is _ x is) (record { some = before_some b z begins; whole = before_whole (b ∷ z) }, from_ends is_cr 32 (b ∷ z) ends)
 
 word_sound : (bytes : List ℕ) (x : List ℕ × List ℕ) → ends_in_cr bytes ≡ false → word_at bytes ≡ Ok x → Word x
 unfolding word_at
-word_sound bytes x ends is = field_sound (skip is_space bytes) x (begins_skip bytes) (skip_ends is_space bytes ends) is
+word_sound bytes x ends is = field_sound (skip is_space bytes) x (begins_skip bytes) (skip_ends is_cr is_space bytes ends) is
 
 rest_sound : (z name : List ℕ) → Begins z → ends_in_cr z ≡ false → name_of z ≡ Ok name → RestParts name
 rest_sound [] name begins ends is = cc
@@ -82,7 +88,7 @@ rest_sound (b ∷ z) name begins ends is =
 
 name_sound : (bytes name : List ℕ) → ends_in_cr bytes ≡ false → name_at bytes ≡ Ok name → RestParts name
 unfolding name_at
-name_sound bytes name ends is = rest_sound (skip is_space bytes) name (begins_skip bytes) (skip_ends is_space bytes ends) is
+name_sound bytes name ends is = rest_sound (skip is_space bytes) name (begins_skip bytes) (skip_ends is_cr is_space bytes ends) is
 
 digit_sound : (d v : ℕ) → hex_digit d ≡ Some v → (digit_value d < 16) × (v ≡ digit_value d)
 unfolding hex_digit
@@ -128,7 +134,7 @@ mark_ends : (bytes : List ℕ) → ends_in_cr bytes ≡ false → ends_in_cr (ma
 unfolding mark_at
 mark_ends bytes ends =
     elim_bool (bytes_eq (before 32 (skip is_space bytes)) (codes "m")) (λ t. ends_in_cr (cond {A = Bool × List ℕ} t (true, from 32 (skip is_space bytes)) (false, bytes)).1 ≡ false)
-    (λ _. from_ends 32 (skip is_space bytes) (skip_ends is_space bytes ends)) (λ _. ends)
+    (λ _. from_ends is_cr 32 (skip is_space bytes) (skip_ends is_cr is_space bytes ends)) (λ _. ends)
 
 module_sound : (bytes : List ℕ) (s : SymLine) → ends_in_cr bytes ≡ false → module_at bytes ≡ Ok s → Shaped s
 unfolding module_at
@@ -158,9 +164,79 @@ public_sound bytes s ends is =
     let second = hex_sound address.0.1 params.0 first.1 params.1 in
     subst Shaped (ok_is (Public (mark_at bytes).0 address.0.0 params.0.0 name.0) s name.2) (first.0, second.0, name_sound params.0.1 name.0 second.1 name.1)
 
-stack_sound : (bytes : List ℕ) (s : SymLine) → stack_at bytes ≡ Ok s → ⊥
+-- what stands behind a number that was read
+field_rest : (z : List ℕ) (x : List ℕ × List ℕ) → field_of z ≡ Ok x → x.1 ≡ from 32 z
+field_rest [] x is = cc
+field_rest (b ∷ z) x is = subst (λ (w : List ℕ × List ℕ). w.1 ≡ from 32 (b ∷ z)) (ok_is _ x is) refl
+
+word_rest : (bytes : List ℕ) (x : List ℕ × List ℕ) → word_at bytes ≡ Ok x → x.1 ≡ from 32 (skip is_space bytes)
+unfolding word_at
+word_rest bytes x is = field_rest (skip is_space bytes) x is
+
+-- a number that was read, and what is left of the bytes
+pub record HexParts (bytes : List ℕ) (x : ℕ × List ℕ) : Type 0 where
+  pub below : x.0 < 2 ^ 64
+  pub rest : x.1 ≡ from 32 (skip is_space bytes)
+
+hex_parts : (bytes : List ℕ) (x : ℕ × List ℕ) → hex_at bytes ≡ Ok x → HexParts bytes x
+unfolding hex_at
+hex_parts bytes x is =
+    let first = bind_ok (word_at bytes) _ x is in
+    let second = bind_ok (ok_or (hex_value first.0.0) Hex) _ x first.2 in
+    subst (λ (y : ℕ × List ℕ). HexParts bytes y) (ok_is _ x second.2) (record { below = value_sound first.0.0 second.0 (or_some (hex_value first.0.0) Hex second.0 second.1); rest = word_rest bytes first.0 first.1 })
+
+-- bytes of one line that end in no space and no CR
+abbrev Trimmed : List ℕ → Type 0
+Trimmed bytes = (list_all is_within_line bytes ≡ true) × (last_is is_margin bytes ≡ false)
+
+trimmed_rest : (bytes : List ℕ) (x : ℕ × List ℕ) → Trimmed bytes → HexParts bytes x → Trimmed x.1
+trimmed_rest bytes x kept parts = (
+  ap (list_all is_within_line) parts.rest ∙ all_from is_within_line 32 (skip is_space bytes) (all_skip is_within_line is_space bytes kept.0),
+  ap (last_is is_margin) parts.rest ∙ from_ends is_margin 32 (skip is_space bytes) (skip_ends is_margin is_space bytes kept.1),
+)
+
+alone_trimmed : (bytes : List ℕ) → list_all is_within_line bytes ≡ true → Trimmed (fields_alone bytes)
+alone_trimmed bytes line = (all_trim is_within_line is_margin bytes line, trim_ends is_margin bytes)
+
+init_sound : (bytes : List ℕ) (s : SymLine) → list_all is_within_line bytes ≡ true → init_at bytes ≡ Ok s → Shaped s
+unfolding init_at
+init_sound bytes s line is =
+    let address = bind_ok (hex_at (fields_alone bytes)) _ s is in
+    let size = bind_ok (hex_at address.0.1) _ s address.2 in
+    let rules = bind_ok (rules_at size.0.1) _ s size.2 in
+    let first = hex_parts (fields_alone bytes) address.0 address.1 in
+    let second = hex_parts address.0.1 size.0 size.1 in
+    let behind = trimmed_rest (fields_alone bytes) address.0 (alone_trimmed bytes line) first in
+    let last = trimmed_rest address.0.1 size.0 behind second in
+    subst Shaped (ok_is (Init address.0.0 size.0.0 rules.0) s rules.2) (first.below, second.below, rules_sound size.0.1 rules.0 last.0 last.1 rules.1)
+
+change_sound : (bytes : List ℕ) (s : SymLine) → list_all is_within_line bytes ≡ true → change_at bytes ≡ Ok s → Shaped s
+unfolding change_at
+change_sound bytes s line is =
+    let address = bind_ok (hex_at (fields_alone bytes)) _ s is in
+    let rules = bind_ok (rules_at address.0.1) _ s address.2 in
+    let first = hex_parts (fields_alone bytes) address.0 address.1 in
+    let behind = trimmed_rest (fields_alone bytes) address.0 (alone_trimmed bytes line) first in
+    subst Shaped (ok_is (Change address.0.0 rules.0) s rules.2) (first.below, rules_sound address.0.1 rules.0 behind.0 behind.1 rules.1)
+
+line_behind : (bytes : List ℕ) → list_all is_within_line bytes ≡ true → list_all is_within_line (behind_word bytes) ≡ true
+line_behind bytes line = all_from is_within_line 32 (skip is_space bytes) (all_skip is_within_line is_space bytes line)
+
+cfi_sound : (bytes : List ℕ) (s : SymLine) → list_all is_within_line bytes ≡ true → cfi_at bytes ≡ Ok s → Shaped s
+unfolding cfi_at
+cfi_sound bytes s line is =
+    ⊎_elim (λ h. init_sound (behind_word bytes) s (line_behind bytes line) h.1) (λ h. change_sound bytes s line h.1)
+    (chosen (bytes_eq (next_word bytes) (codes "INIT")) (init_at (behind_word bytes)) (change_at bytes) (Ok s) is)
+
+else_windows : (b : Bool) (s : SymLine) → cond b (refuses Windows) (refuses Unknown) ≡ gives s → ⊥
+else_windows true s is = refused Windows s is
+else_windows false s is = refused Unknown s is
+
+stack_sound : (bytes : List ℕ) (s : SymLine) → list_all is_within_line bytes ≡ true → stack_at bytes ≡ Ok s → Shaped s
 unfolding stack_at
-stack_sound bytes s is = ⊎_elim (λ h. cc) (λ h. cc) (chosen (bytes_eq (before 32 (skip is_space bytes)) (codes "WIN")) (Err Windows) (Err Unknown) (Ok s) is)
+stack_sound bytes s line is =
+    ⊎_elim (λ h. cfi_sound (behind_word bytes) s (line_behind bytes line) h.1) (λ h. absurd (else_windows (bytes_eq (next_word bytes) (codes "WIN")) s h.1))
+    (chosen (bytes_eq (next_word bytes) (codes "CFI")) (cfi_at (behind_word bytes)) (cond (bytes_eq (next_word bytes) (codes "WIN")) (Err Windows) (Err Unknown)) (Ok s) is)
 
 abbrev else_stack : List ℕ → List ℕ → Result SymLine TextKind
 else_stack word rest = cond (bytes_eq word (codes "STACK")) (stack_at rest) (Err Unknown)
@@ -171,30 +247,31 @@ else_public word rest = cond (bytes_eq word (codes "PUBLIC")) (public_at rest) (
 abbrev else_info : List ℕ → List ℕ → Result SymLine TextKind
 else_info word rest = cond (bytes_eq word (codes "INFO")) (info_at rest) (else_public word rest)
 
-stack_keyed : (word rest : List ℕ) (s : SymLine) → else_stack word rest ≡ Ok s → Shaped s
-stack_keyed word rest s is =
-    ⊎_elim (λ h. absurd (stack_sound rest s h.1)) (λ h. refused Unknown s h.1) (chosen (bytes_eq word (codes "STACK")) (stack_at rest) (Err Unknown) (Ok s) is)
+stack_keyed : (word rest : List ℕ) (s : SymLine) → list_all is_within_line rest ≡ true → else_stack word rest ≡ Ok s → Shaped s
+stack_keyed word rest s line is =
+    ⊎_elim (λ h. stack_sound rest s line h.1) (λ h. refused Unknown s h.1) (chosen (bytes_eq word (codes "STACK")) (stack_at rest) (Err Unknown) (Ok s) is)
 
-public_keyed : (word rest : List ℕ) (s : SymLine) → ends_in_cr rest ≡ false → else_public word rest ≡ Ok s → Shaped s
-public_keyed word rest s ends is =
-    ⊎_elim (λ h. public_sound rest s ends h.1) (λ h. stack_keyed word rest s h.1) (chosen (bytes_eq word (codes "PUBLIC")) (public_at rest) (else_stack word rest) (Ok s) is)
+public_keyed : (word rest : List ℕ) (s : SymLine) → list_all is_within_line rest ≡ true → ends_in_cr rest ≡ false → else_public word rest ≡ Ok s → Shaped s
+public_keyed word rest s line ends is =
+    ⊎_elim (λ h. public_sound rest s ends h.1) (λ h. stack_keyed word rest s line h.1) (chosen (bytes_eq word (codes "PUBLIC")) (public_at rest) (else_stack word rest) (Ok s) is)
 
-info_keyed : (word rest : List ℕ) (s : SymLine) → ends_in_cr rest ≡ false → else_info word rest ≡ Ok s → Shaped s
-info_keyed word rest s ends is =
-    ⊎_elim (λ h. info_sound rest s ends h.1) (λ h. public_keyed word rest s ends h.1) (chosen (bytes_eq word (codes "INFO")) (info_at rest) (else_public word rest) (Ok s) is)
+info_keyed : (word rest : List ℕ) (s : SymLine) → list_all is_within_line rest ≡ true → ends_in_cr rest ≡ false → else_info word rest ≡ Ok s → Shaped s
+info_keyed word rest s line ends is =
+    ⊎_elim (λ h. info_sound rest s ends h.1) (λ h. public_keyed word rest s line ends h.1) (chosen (bytes_eq word (codes "INFO")) (info_at rest) (else_public word rest) (Ok s) is)
 
-keyed_sound : (word rest : List ℕ) (s : SymLine) → ends_in_cr rest ≡ false → keyed word rest ≡ Ok s → Shaped s
+keyed_sound : (word rest : List ℕ) (s : SymLine) → list_all is_within_line rest ≡ true → ends_in_cr rest ≡ false → keyed word rest ≡ Ok s → Shaped s
 unfolding keyed
-keyed_sound word rest s ends is =
-    ⊎_elim (λ h. module_sound rest s ends h.1) (λ h. info_keyed word rest s ends h.1) (chosen (bytes_eq word (codes "MODULE")) (module_at rest) (else_info word rest) (Ok s) is)
+keyed_sound word rest s line ends is =
+    ⊎_elim (λ h. module_sound rest s ends h.1) (λ h. info_keyed word rest s line ends h.1) (chosen (bytes_eq word (codes "MODULE")) (module_at rest) (else_info word rest) (Ok s) is)
 
 -- what a line holds has fields that a line can carry
-pub line_sound : (line : List ℕ) (s : SymLine) → line_at line ≡ Ok (Some s) → Shaped s
+pub line_sound : (line : List ℕ) (s : SymLine) → list_all is_within_line line ≡ true → line_at line ≡ Ok (Some s) → Shaped s
 unfolding line_at record_at
-line_sound line s is =
+line_sound line s whole is =
     ⊎_elim (λ h. nothing s h.1) (λ h.
     let found = bind_ok (keyed (key_of line) (from 32 (trimmed line))) _ (Some s) h.1 in
     let last = found.2 in
     let same : found.0 ≡ s = cc in
-    subst Shaped same (keyed_sound (key_of line) (from 32 (trimmed line)) found.0 (from_ends 32 (trimmed line) (skip_ends is_space (trim_end is_cr line) (trim_ends line))) found.1))
+    let kept = all_from is_within_line 32 (trimmed line) (all_skip is_within_line is_space (trim_end is_cr line) (all_trim is_within_line is_cr line whole)) in
+    subst Shaped same (keyed_sound (key_of line) (from 32 (trimmed line)) found.0 kept (from_ends is_cr 32 (trimmed line) (skip_ends is_cr is_space (trim_end is_cr line) (trim_ends is_cr line))) found.1))
     (chosen (is_blank line) (Ok None) (keyed (key_of line) (from 32 (trimmed line)) >>= λ s. Ok (Some s)) (Ok (Some s)) is)

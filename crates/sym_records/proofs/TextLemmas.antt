@@ -1,4 +1,4 @@
--- A record whose fields fit is read from its canonical spelling.
+-- The fields of a record are read from their canonical spelling.
 use Rattle.std.proofs.Common.{◌≡◌, ℕ, ◌+◌, ◌-◌, ◌*◌, ◌^◌, ◌<◌, ◌≤◌, ◌==◌, ◌&&◌, ◌||◌, cond, Bool, true, false, List, [], ◌∷◌, ◌++◌, length, get_or, codes, Some, None, Ok, nat_lt, refl, sym, ◌∙◌, ap, arith, subst, append_assoc, append-nil}
 use Rattle.std.specs.List.{list_all, flat_map}
 use Rattle.std.specs.Option.{option_and_then}
@@ -13,17 +13,17 @@ use Rattle.sym_records.proofs.BoolLemmas.{and_true, both, not_false, not_true, e
 use Rattle.sym_records.proofs.DigitsLemmas.{length_hex}
 use Rattle.sym_records.proofs.EndLemmas.{ends_in_cr, ends_at, trim_kept, end_behind}
 use Rattle.sym_records.specs.Steps.{◌>>=◌}
-use Rattle.sym_records.specs.Cuts.{is_space, is_cr, is_margin, is_within_line, before, from, skip, trim_end}
+use Rattle.sym_records.specs.Cuts.{is_space, is_cr, is_margin, is_within_line, is_within_field, before, from, skip, trim_end}
 use Rattle.sym_records.specs.Canon.{hex, fields, spaced, body}
 use Rattle.sym_records.specs.Text.{word_at, name_at, name_of, field_of, hex_digit, hex_onto, hex_value, hex_at, mark_at, module_at, info_at, public_at, keyed, key_of, record_at, line_at}
-use Rattle.sym_records.specs.Validity.{is_within_field, is_field, is_name, has_fields}
+use Rattle.sym_records.specs.Validity.{is_field, is_name, has_fields}
 use Rattle.sym_records.specs.declared.line.SymLine.{SymLine}
 use Rattle.sym_records.specs.declared.line.SymLine.TheVariants.{Module, Info, Public}
 
 not_space : (x : ℕ) → is_within_field x ≡ true → (x == 32) ≡ false
 not_space x is = not_true (and_true is).0
 
-before_field : (w rest : List ℕ) → list_all is_within_field w ≡ true → before 32 (w ++ 32 ∷ rest) ≡ w
+pub before_field : (w rest : List ℕ) → list_all is_within_field w ≡ true → before 32 (w ++ 32 ∷ rest) ≡ w
 unfolding before
 before_field [] rest all = refl
 before_field (x ∷ w) rest all =
@@ -39,12 +39,12 @@ pub skip_field : (x : ℕ) (rest : List ℕ) → (x == 32) ≡ false → skip is
 unfolding skip
 skip_field x rest is = ap (λ t. cond t (skip is_space rest) (x ∷ rest)) is
 
-skip_all : (w rest : List ℕ) → is_field w ≡ true → skip is_space (w ++ rest) ≡ w ++ rest
+pub skip_all : (w rest : List ℕ) → is_field w ≡ true → skip is_space (w ++ rest) ≡ w ++ rest
 unfolding is_field
 skip_all [] rest is = cc
 skip_all (x ∷ w) rest is = skip_field x (w ++ rest) (not_space x (and_true (and_true is).1).0)
 
-skip_one : (rest : List ℕ) → skip is_space (32 ∷ rest) ≡ skip is_space rest
+pub skip_one : (rest : List ℕ) → skip is_space (32 ∷ rest) ≡ skip is_space rest
 unfolding skip
 skip_one rest = refl
 
@@ -97,7 +97,7 @@ lt_true a b is = grind (arith, nat_tests)
 lt_false : (a b : ℕ) → b ≤ a → nat_lt a b ≡ false
 lt_false a b is = grind (arith, nat_tests)
 
-wide : (n : ℕ) → n < 2 ^ 64 → n < 16 ^ 64
+pub wide : (n : ℕ) → n < 2 ^ 64 → n < 16 ^ 64
 wide n small = omega arith
 
 digit_is : (d : ℕ) → digit_value d < 16 → hex_digit d ≡ Some (digit_value d)
@@ -156,16 +156,16 @@ mark_none n rest small =
     ∙ ap (λ w. cond (bytes_eq w (codes "m")) (true, from 32 (hex n ++ 32 ∷ rest)) (false, 32 ∷ (hex n ++ 32 ∷ rest))) (before_field (hex n) rest within)
     ∙ ap (λ t. cond t (true, from 32 (hex n ++ 32 ∷ rest)) (false, 32 ∷ (hex n ++ 32 ∷ rest))) (hex_no_mark n small)
 
-module_reads : (os arch id name : List ℕ) → is_field os ≡ true → is_field arch ≡ true → is_field id ≡ true → NameParts name → module_at (flat_map (λ f. 32 ∷ f) (fields (Module os arch id name))) ≡ Ok (Module os arch id name)
+pub module_reads : (os arch id name : List ℕ) → is_field os ≡ true → is_field arch ≡ true → is_field id ≡ true → NameParts name → module_at (flat_map (λ f. 32 ∷ f) (fields (Module os arch id name))) ≡ Ok (Module os arch id name)
 unfolding module_at
 module_reads os arch id name first second third parts =
     rw (append-nil, word_is os (arch ++ (32 ∷ id ++ (32 ∷ name))) first, word_is arch (id ++ (32 ∷ name)) second, word_is id name third, name_is name parts) refl
 
-info_reads : (text : List ℕ) → NameParts text → info_at (flat_map (λ f. 32 ∷ f) (fields (Info text))) ≡ Ok (Info text)
+pub info_reads : (text : List ℕ) → NameParts text → info_at (flat_map (λ f. 32 ∷ f) (fields (Info text))) ≡ Ok (Info text)
 unfolding info_at
 info_reads text parts = rw (append-nil, name_is text parts) refl
 
-public_reads : (many : Bool) (address params : ℕ) (name : List ℕ) → address < 2 ^ 64 → params < 2 ^ 64 → NameParts name → public_at (flat_map (λ f. 32 ∷ f) (fields (Public many address params name))) ≡ Ok (Public many address params name)
+pub public_reads : (many : Bool) (address params : ℕ) (name : List ℕ) → address < 2 ^ 64 → params < 2 ^ 64 → NameParts name → public_at (flat_map (λ f. 32 ∷ f) (fields (Public many address params name))) ≡ Ok (Public many address params name)
 unfolding public_at
 public_reads true address params name first second parts =
     rw (append-nil, mark_yes (hex address ++ (32 ∷ hex params ++ (32 ∷ name))), hex_is address (hex params ++ (32 ∷ name)) first, hex_is params name second, name_is name parts) refl
@@ -175,15 +175,15 @@ public_reads false address params name first second parts =
 no_margin : (c : ℕ) → is_margin c ≡ false → (c == 32) ≡ false
 no_margin c is = elim_bool (c == 32) (λ t. (t || (c == 13)) ≡ false → t ≡ false) (λ _ h. h) (λ _ _. refl) is
 
-below : {n : ℕ} → nat_lt n (2 ^ 64) ≡ true → n < 2 ^ 64
+pub below : {n : ℕ} → nat_lt n (2 ^ 64) ≡ true → n < 2 ^ 64
 below is = grind (arith, nat_tests)
 
 -- a line that begins with a letter and does not end in CR is read by its keyword
-line_kept : (c : ℕ) (rest : List ℕ) → is_margin c ≡ false → ends_in_cr (c ∷ rest) ≡ false → line_at (c ∷ rest) ≡ (keyed (before 32 (c ∷ rest)) (from 32 (c ∷ rest)) >>= λ s. Ok (Some s))
+pub line_kept : (c : ℕ) (rest : List ℕ) → is_margin c ≡ false → ends_in_cr (c ∷ rest) ≡ false → line_at (c ∷ rest) ≡ (keyed (before 32 (c ∷ rest)) (from 32 (c ∷ rest)) >>= λ s. Ok (Some s))
 unfolding line_at record_at key_of
 line_kept c rest letter ends =
     ap (λ t. cond (t && list_all is_margin rest) (Ok None) (keyed (before 32 (skip is_space (trim_end is_cr (c ∷ rest)))) (from 32 (skip is_space (trim_end is_cr (c ∷ rest)))) >>= λ s. Ok (Some s))) letter
-    ∙ ap (λ l. keyed (before 32 l) (from 32 l) >>= λ s. Ok (Some s)) (ap (skip is_space) (trim_kept (c ∷ rest) ends) ∙ skip_field c rest (no_margin c letter))
+    ∙ ap (λ l. keyed (before 32 l) (from 32 l) >>= λ s. Ok (Some s)) (ap (skip is_space) (trim_kept is_cr (c ∷ rest) ends) ∙ skip_field c rest (no_margin c letter))
 
 -- a record's last field stands at the end of its line
 spaced_last : (word : List ℕ) (rest : List (List ℕ)) (name : List ℕ) → spaced word (rest ++ name ∷ []) ≡ (word ++ (flat_map (λ f. 32 ∷ f) rest ++ 32 ∷ [])) ++ name
@@ -193,27 +193,7 @@ spaced_last word rest name =
 
 name_ends : (name : List ℕ) (front : List ℕ) → NameParts name → ends_in_cr (front ++ name) ≡ false
 name_ends [] front parts = absurd (omega (arith, parts.some))
-name_ends (x ∷ name) front parts = end_behind front x name ∙ ends_at x name ∙ parts.ends
+name_ends (x ∷ name) front parts = end_behind is_cr front x name ∙ ends_at x name ∙ parts.ends
 
 pub spaced_ends : (word : List ℕ) (rest : List (List ℕ)) (name : List ℕ) → NameParts name → ends_in_cr (spaced word (rest ++ name ∷ [])) ≡ false
 spaced_ends word rest name parts = ap ends_in_cr (spaced_last word rest name) ∙ name_ends name (word ++ (flat_map (λ f. 32 ∷ f) rest ++ 32 ∷ [])) parts
-
--- a record whose fields fit is read from its line
-pub line_reads : (s : SymLine) → has_fields s ≡ true → line_at (body s) ≡ Ok (Some s)
-unfolding body keyed before from
-line_reads (Module os arch id name) fit =
-    let parts = name_parts name (and_true fit).1 in
-    line_kept 77 _ refl (spaced_ends (codes "MODULE") (os ∷ arch ∷ id ∷ []) name parts)
-    ∙ ap (λ r. r >>= λ s. Ok (Some s)) (module_reads os arch id name (and_true (and_true (and_true fit).0).0).0 (and_true (and_true (and_true fit).0).0).1 (and_true (and_true fit).0).1 parts)
-line_reads (Info text) fit =
-    let parts = name_parts text fit in
-    line_kept 73 _ refl (spaced_ends (codes "INFO") [] text parts)
-    ∙ ap (λ r. r >>= λ s. Ok (Some s)) (info_reads text parts)
-line_reads (Public true address params name) fit =
-    let parts = name_parts name (and_true fit).1 in
-    line_kept 80 _ refl (spaced_ends (codes "PUBLIC") (codes "m" ∷ hex address ∷ hex params ∷ []) name parts)
-    ∙ ap (λ r. r >>= λ s. Ok (Some s)) (public_reads true address params name (below (and_true (and_true fit).0).0) (below (and_true (and_true fit).0).1) parts)
-line_reads (Public false address params name) fit =
-    let parts = name_parts name (and_true fit).1 in
-    line_kept 80 _ refl (spaced_ends (codes "PUBLIC") (hex address ∷ hex params ∷ []) name parts)
-    ∙ ap (λ r. r >>= λ s. Ok (Some s)) (public_reads false address params name (below (and_true (and_true fit).0).0) (below (and_true (and_true fit).0).1) parts)

@@ -4,14 +4,20 @@ use Rattle.std.specs.List.{list_all, flat_map}
 use Rattle.std.proofs.lemmas.List.Folds.{list_all-append}
 use Rattle.std.proofs.lemmas.Bool.Decides.{nat_tests}
 use Rattle.sym_records.proofs.BoolLemmas.{and_true, both, not_false, elim_bool, false_true}
-use Rattle.sym_records.proofs.TextLemmas.{name_parts, line_reads, hex_field}
+use Rattle.sym_records.proofs.TextLemmas.{name_parts, hex_field}
+use Rattle.sym_records.proofs.LineLemmas.{line_reads}
+use Rattle.sym_records.proofs.WordLemmas.{is_word}
+use Rattle.sym_records.proofs.RuleListLemmas.{rules_parts}
 use Rattle.sym_records.proofs.SoundLemmas.{WordParts, RestParts, Shaped, no_space, line_sound}
-use Rattle.sym_records.specs.Cuts.{is_within_line}
+use Rattle.sym_records.specs.Cuts.{is_within_line, is_within_field}
+use Rattle.sym_records.specs.Rules.{rule_words}
+use Rattle.sym_records.specs.RuleValidity.{are_rules}
+use Rattle.sym_records.specs.declared.rules.RuleText.{RuleText}
 use Rattle.sym_records.specs.Canon.{hex, keyword, fields, spaced, body}
 use Rattle.sym_records.specs.Reading.{fits, leads}
-use Rattle.sym_records.specs.Validity.{IsValid, AreValidFrom, AreValid, IsFirstBadFrom, IsFirstBad, is_within_field, is_field, is_name, has_fields, fields_fit, first_bad_from, first_bad}
+use Rattle.sym_records.specs.Validity.{IsValid, AreValidFrom, AreValid, IsFirstBadFrom, IsFirstBad, is_field, is_name, has_fields, fields_fit, first_bad_from, first_bad}
 use Rattle.sym_records.specs.declared.line.SymLine.{SymLine}
-use Rattle.sym_records.specs.declared.line.SymLine.TheVariants.{Module, Info, Public}
+use Rattle.sym_records.specs.declared.line.SymLine.TheVariants.{Module, Info, Public, Init, Change}
 use Rattle.sym_records.specs.declared.place.Place.{Place}
 use Rattle.sym_records.specs.declared.place.Place.TheVariants.{Start}
 
@@ -40,6 +46,20 @@ below is = grind (arith, nat_tests)
 above : {n : ℕ} → n < 2 ^ 64 → nat_lt n (2 ^ 64) ≡ true
 above is = grind (arith, nat_tests)
 
+word_line : (w : List ℕ) → is_word w ≡ true → list_all is_within_line w ≡ true
+word_line [] is = cc
+word_line (x ∷ w) is = within_line (x ∷ w) is
+
+words_line : (ws : List (List ℕ)) → list_all is_word ws ≡ true → list_all (list_all is_within_line) ws ≡ true
+words_line [] all = refl
+words_line (w ∷ ws) all = both (word_line w (and_true all).0) (words_line ws (and_true all).1)
+
+rules_line : (rules : List RuleText) → are_rules rules ≡ true → list_all (list_all is_within_line) (flat_map rule_words rules) ≡ true
+rules_line rules good = words_line (flat_map rule_words rules) (rules_parts rules good).words
+
+number_line : (n : ℕ) → nat_lt n (2 ^ 64) ≡ true → list_all is_within_line (hex n) ≡ true
+number_line n small = field_line (hex n) (hex_field n (below small))
+
 -- fields that fit are on one line
 fit_line : (s : SymLine) → has_fields s ≡ true → list_all (list_all is_within_line) (fields s) ≡ true
 fit_line (Module os arch id name) fit =
@@ -52,11 +72,16 @@ fit_line (Public true address params name) fit =
 fit_line (Public false address params name) fit =
     both (field_line (hex address) (hex_field address (below (and_true (and_true fit).0).0)))
     (both (field_line (hex params) (hex_field params (below (and_true (and_true fit).0).1))) (both (name_line name (and_true fit).1) refl))
+fit_line (Init address size rules) fit =
+    both (number_line address (and_true (and_true fit).0).0) (both (number_line size (and_true (and_true fit).0).1) (rules_line rules (and_true fit).1))
+fit_line (Change address rules) fit = both (number_line address (and_true fit).0) (rules_line rules (and_true fit).1)
 
 keyword_line : (s : SymLine) → list_all is_within_line (keyword s) ≡ true
 keyword_line (Module os arch id name) = refl
 keyword_line (Info text) = refl
 keyword_line (Public many address params name) = refl
+keyword_line (Init address size rules) = refl
+keyword_line (Change address rules) = refl
 
 le_true : (a b : ℕ) → nat_le a b ≡ true → a ≤ b
 le_true a b is = grind (arith, nat_tests)
@@ -115,12 +140,14 @@ shaped_fit (Public true address params name) shaped ends =
 shaped_fit (Public false address params name) shaped ends =
     let third = first_line (hex params) (name ∷ []) (first_line (hex address) (hex params ∷ name ∷ []) ends).1 in
     both (both (above shaped.0) (above shaped.1)) (rest_name name shaped.2 (first_line name [] third.1).0)
+shaped_fit (Init address size rules) shaped ends = both (both (above shaped.0) (above shaped.1)) shaped.2
+shaped_fit (Change address rules) shaped ends = both (above shaped.0) shaped.1
 
 -- and a valid record passes it
 pub valid_fits : (s : SymLine) → IsValid s → fields_fit s ≡ true
 unfolding fields_fit are_lines
 valid_fits s valid =
-    both (shaped_fit s (line_sound (body s) s valid.reads) (and_true {a = list_all is_within_line (keyword s)} (sym (one_line s) ∙ valid.one_line)).1)
+    both (shaped_fit s (line_sound (body s) s valid.one_line valid.reads) (and_true {a = list_all is_within_line (keyword s)} (sym (one_line s) ∙ valid.one_line)).1)
     (true_le (length (body s)) (2 ^ 20) valid.short)
 
 pub valid_iff : (s : SymLine) (r : Bool) → r ≡ fields_fit s → IsTrue r ↔ IsValid s

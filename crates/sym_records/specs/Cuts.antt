@@ -1,5 +1,5 @@
 -- Where a text is cut into lines and a line into fields (Breakpad's symbol_files.md).
-use Rattle.std.specs.Prelude.{ℕ, ◌==◌, ◌||◌, Bool, not, if◌then◌else◌, List, [], ◌∷◌}
+use Rattle.std.specs.Prelude.{ℕ, ◌==◌, ◌||◌, ◌&&◌, Bool, false, not, if◌then◌else◌, List, [], ◌∷◌}
 use Rattle.std.specs.List.{list_all}
 
 abbrev pub is_space : ℕ → Bool
@@ -36,12 +36,22 @@ unfoldable pub trim_end : (ℕ → Bool) → List ℕ → List ℕ
 trim_end p [] = []
 trim_end p (x ∷ xs) = if list_all p (x ∷ xs) then [] else x ∷ trim_end p xs
 
--- a byte in front of the first line
-abbrev pub onto : ℕ → List (List ℕ) → List (List ℕ)
-onto b [] = (b ∷ []) ∷ []
-onto b (line ∷ lines) = (b ∷ line) ∷ lines
+-- one more in front of the first of several lists, as a byte in front of the first line
+abbrev pub onto : {A : Type 0} → A → List (List A) → List (List A)
+onto x [] = (x ∷ []) ∷ []
+onto x (first ∷ later) = (x ∷ first) ∷ later
 
 -- the lines of a text: the last is what stands behind the last LF, and it may be empty
 unfoldable pub split_lines : List ℕ → List (List ℕ)
 split_lines [] = [] ∷ []
 split_lines (b ∷ bytes) = if b == 10 then [] ∷ split_lines bytes else onto b (split_lines bytes)
+
+-- whether there is a last member and it is of a kind
+unfoldable pub last_is : {A : Type 0} → (A → Bool) → List A → Bool
+last_is p [] = false
+last_is p (x ∷ []) = p x
+last_is p (x ∷ y ∷ ys) = last_is p (y ∷ ys)
+
+-- a byte that may stand in a field
+abbrev pub is_within_field : ℕ → Bool
+is_within_field b = not (b == 32) && not (b == 10)

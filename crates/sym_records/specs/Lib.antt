@@ -1,5 +1,9 @@
+pub mod KeptTokens
 pub mod Steps
 pub mod Cuts
+pub mod Rules
+pub mod RuleReading
+pub mod RuleValidity
 pub mod Canon
 pub mod Text
 pub mod Reading

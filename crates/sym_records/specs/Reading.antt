@@ -5,27 +5,38 @@ use Rattle.sym_records.specs.Steps.{◌>>=◌}
 use Rattle.sym_records.specs.Cuts.{split_lines}
 use Rattle.sym_records.specs.Text.{is_blank, key_of, line_at}
 use Rattle.sym_records.specs.declared.line.SymLine.{SymLine}
-use Rattle.sym_records.specs.declared.line.SymLine.TheVariants.{Module, Info, Public}
+use Rattle.sym_records.specs.declared.line.SymLine.TheVariants.{Module, Info, Public, Init, Change}
 use Rattle.sym_records.specs.declared.place.Place.{Place}
-use Rattle.sym_records.specs.declared.place.Place.TheVariants.{Start, Inside}
+use Rattle.sym_records.specs.declared.place.Place.TheVariants.{Start, Inside, Frame}
 use Rattle.sym_records.specs.declared.text_fault.TextFault.{TextFault}
 use Rattle.sym_records.specs.declared.text_fault.TextKind.{TextKind}
 use Rattle.sym_records.specs.declared.text_fault.TextKind.TheVariants.{Empty, Misplaced, LongLine, NoModule}
 
--- whether a record may stand at a place: MODULE first and nowhere else
+-- whether a record may stand at a place: MODULE first and nowhere else, and a change of frame rules directly behind a frame record
 abbrev pub fits : Place → SymLine → Bool
 fits Start (Module os arch id name) = true
 fits Start (Info text) = false
 fits Start (Public many address params name) = false
+fits Start (Init address size rules) = false
+fits Start (Change address rules) = false
 fits Inside (Module os arch id name) = false
 fits Inside (Info text) = true
 fits Inside (Public many address params name) = true
+fits Inside (Init address size rules) = true
+fits Inside (Change address rules) = false
+fits Frame (Module os arch id name) = false
+fits Frame (Info text) = true
+fits Frame (Public many address params name) = true
+fits Frame (Init address size rules) = true
+fits Frame (Change address rules) = true
 
 -- the place behind a record
 abbrev pub leads : Place → SymLine → Place
 leads place (Module os arch id name) = Inside
 leads place (Info text) = Inside
 leads place (Public many address params name) = Inside
+leads place (Init address size rules) = Frame
+leads place (Change address rules) = Frame
 
 -- what the lines so far gave: their records, the place behind them, and how many lines there were
 pub record Seen : Type 0 where
@@ -44,6 +55,7 @@ start = record { records = []; place = Start; number = 0 }
 abbrev pub is_start : Place → Bool
 is_start Start = true
 is_start Inside = false
+is_start Frame = false
 
 -- the first line that is not blank has another keyword than MODULE
 unfoldable pub lacks_module : Place → List ℕ → Bool

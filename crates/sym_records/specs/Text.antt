@@ -1,13 +1,15 @@
 -- A line of a symbol file, read from left to right (Breakpad's symbol_files.md): fields stand behind one or more spaces, and the last may be a
--- name, which is the rest of the line. The first thing that is wrong decides the kind of fault.
+-- name, which is the rest of the line. In a line without a name the spaces and CRs behind the last field do not count. The first thing that is
+-- wrong decides the kind of fault.
 use Rattle.std.specs.Prelude.{ℕ, ◌+◌, ◌*◌, Bool, true, false, nat_lt, if◌then◌else◌, List, [], ◌∷◌, length, codes, Option, Some, None, ok_or, option_and_then, Result, Ok, Err}
 use Rattle.std.specs.List.{list_all}
 use Rattle.std.specs.Char.{digit_value}
 use Rattle.std.specs.Str.{bytes_eq}
 use Rattle.sym_records.specs.Steps.{◌>>=◌}
 use Rattle.sym_records.specs.Cuts.{is_space, is_cr, is_margin, before, from, skip, trim_end}
+use Rattle.sym_records.specs.RuleReading.{rules_at}
 use Rattle.sym_records.specs.declared.line.SymLine.{SymLine}
-use Rattle.sym_records.specs.declared.line.SymLine.TheVariants.{Module, Info, Public}
+use Rattle.sym_records.specs.declared.line.SymLine.TheVariants.{Module, Info, Public, Init, Change}
 use Rattle.sym_records.specs.declared.text_fault.TextKind.{TextKind}
 use Rattle.sym_records.specs.declared.text_fault.TextKind.TheVariants.{Unknown, Fields, Hex, Windows}
 
@@ -76,9 +78,42 @@ public_at bytes = do
   name ← name_at params.1
   Ok (Public (mark_at bytes).0 address.0 params.0 name)
 
--- STACK: its second word decides; no record of it is read yet
+-- without the spaces and CRs behind the last field
+abbrev pub fields_alone : List ℕ → List ℕ
+fields_alone bytes = trim_end is_margin bytes
+
+-- STACK CFI INIT: two hexadecimal fields and frame rules
+unfoldable pub init_at : List ℕ → Result SymLine TextKind
+init_at bytes = do
+  address ← hex_at (fields_alone bytes)
+  size ← hex_at address.1
+  rules ← rules_at size.1
+  Ok (Init address.0 size.0 rules)
+
+-- STACK CFI: one hexadecimal field and frame rules
+unfoldable pub change_at : List ℕ → Result SymLine TextKind
+change_at bytes = do
+  address ← hex_at (fields_alone bytes)
+  rules ← rules_at address.1
+  Ok (Change address.0 rules)
+
+-- the next word, and what stands behind it
+abbrev pub next_word : List ℕ → List ℕ
+next_word bytes = before 32 (skip is_space bytes)
+
+abbrev pub behind_word : List ℕ → List ℕ
+behind_word bytes = from 32 (skip is_space bytes)
+
+-- STACK CFI: its third word may be INIT
+unfoldable pub cfi_at : List ℕ → Result SymLine TextKind
+cfi_at bytes = if bytes_eq (next_word bytes) (codes "INIT") then init_at (behind_word bytes) else change_at bytes
+
+-- STACK: its second word decides
 unfoldable pub stack_at : List ℕ → Result SymLine TextKind
-stack_at bytes = if bytes_eq (before 32 (skip is_space bytes)) (codes "WIN") then Err Windows else Err Unknown
+stack_at bytes =
+    if bytes_eq (next_word bytes) (codes "CFI") then cfi_at (behind_word bytes)
+    else if bytes_eq (next_word bytes) (codes "WIN") then Err Windows
+    else Err Unknown
 
 -- a record by its keyword
 unfoldable pub keyed : List ℕ → List ℕ → Result SymLine TextKind

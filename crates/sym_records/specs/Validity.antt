@@ -1,12 +1,13 @@
 -- Which records a text can spell, and in which lists they may stand (Breakpad's symbol_files.md).
-use Rattle.std.specs.Prelude.{◌≡◌, ℕ, ◌+◌, ◌-◌, ◌^◌, ◌==◌, ◌&&◌, ◌≤◌, Bool, true, not, nat_lt, nat_le, zero, suc, if◌then◌else◌, List, [], ◌∷◌, length, slice_index, Option, Some, None, Ok}
+use Rattle.std.specs.Prelude.{◌≡◌, ℕ, ◌+◌, ◌-◌, ◌^◌, ◌==◌, ◌&&◌, ◌≤◌, Bool, true, false, not, nat_lt, nat_le, zero, suc, if◌then◌else◌, List, [], ◌∷◌, length, slice_index, Option, Some, None, Ok}
 use Rattle.std.specs.List.{list_all}
-use Rattle.sym_records.specs.Cuts.{is_within_line}
+use Rattle.sym_records.specs.Cuts.{is_within_line, is_within_field}
 use Rattle.sym_records.specs.Canon.{body}
 use Rattle.sym_records.specs.Text.{line_at}
 use Rattle.sym_records.specs.Reading.{fits, leads}
+use Rattle.sym_records.specs.RuleValidity.{are_rules}
 use Rattle.sym_records.specs.declared.line.SymLine.{SymLine}
-use Rattle.sym_records.specs.declared.line.SymLine.TheVariants.{Module, Info, Public}
+use Rattle.sym_records.specs.declared.line.SymLine.TheVariants.{Module, Info, Public, Init, Change}
 use Rattle.sym_records.specs.declared.place.Place.{Place}
 use Rattle.sym_records.specs.declared.place.Place.TheVariants.{Start}
 
@@ -41,10 +42,6 @@ abbrev pub IsFirstBad : List SymLine → ℕ → Type 0
 IsFirstBad [] i = i ≡ 0
 IsFirstBad (s ∷ lines) i = IsFirstBadFrom Start (s ∷ lines) i
 
--- a byte that may stand in a field
-abbrev pub is_within_field : ℕ → Bool
-is_within_field b = not (b == 32) && not (b == 10)
-
 -- a field: not empty, without spaces and LFs
 unfoldable pub is_field : List ℕ → Bool
 is_field bytes = nat_lt 0 (length bytes) && list_all is_within_field bytes
@@ -58,6 +55,8 @@ abbrev pub has_fields : SymLine → Bool
 has_fields (Module os arch id name) = is_field os && is_field arch && is_field id && is_name name
 has_fields (Info text) = is_name text
 has_fields (Public many address params name) = nat_lt address (2 ^ 64) && nat_lt params (2 ^ 64) && is_name name
+has_fields (Init address size rules) = nat_lt address (2 ^ 64) && nat_lt size (2 ^ 64) && are_rules rules
+has_fields (Change address rules) = nat_lt address (2 ^ 64) && are_rules rules
 
 -- the test of a record by its fields and its length: it is true exactly where the record is valid
 unfoldable pub fields_fit : SymLine → Bool
@@ -67,6 +66,19 @@ fields_fit s = has_fields s && nat_le (length (body s)) (2 ^ 20)
 unfoldable pub first_bad_from : ℕ → Place → List SymLine → Option ℕ
 first_bad_from i place [] = None
 first_bad_from i place (s ∷ lines) = if fits place s && fields_fit s then first_bad_from (i + 1) (leads place s) lines else Some i
+
+-- the place behind records
+unfoldable pub place_behind : Place → List SymLine → Place
+place_behind place [] = place
+place_behind place (s ∷ lines) = place_behind (leads place s) lines
+
+-- a STACK CFI record
+abbrev pub is_change : SymLine → Bool
+is_change (Module os arch id name) = false
+is_change (Info text) = false
+is_change (Public many address params name) = false
+is_change (Init address size rules) = false
+is_change (Change address rules) = true
 
 -- the index of the first bad record, and 0 of the empty list
 unfoldable pub first_bad : List SymLine → Option ℕ

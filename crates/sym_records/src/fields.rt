@@ -1,7 +1,7 @@
 ghost use Rattle.std.specs.Prelude.{◌≡◌};
 ghost use Rattle.std.specs.List.{list_all};
-ghost use Rattle.sym_records.specs.Cuts.{is_within_line};
-ghost use Rattle.sym_records.specs.Validity.{is_within_field, is_field, is_name};
+ghost use Rattle.sym_records.specs.Cuts.{is_within_line, is_within_field};
+ghost use Rattle.sym_records.specs.Validity.{is_field, is_name};
 
 /// Whether the bytes have no end of a line among them.
 fn are_one_line(bytes: &[u8]) -> bool
@@ -11,7 +11,7 @@ fn are_one_line(bytes: &[u8]) -> bool
 }
 
 /// Whether the bytes have no space and no end of a line among them.
-fn are_unparted(bytes: &[u8]) -> bool
+pub(crate) fn are_unparted(bytes: &[u8]) -> bool
     ensures { result ≡ list_all is_within_field bytes.now }
 {
     bytes.iter().all(|b| *b != b' ' && *b != b'\n')

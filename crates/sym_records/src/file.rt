@@ -33,15 +33,17 @@ pub struct NotValid {
     pub index: usize,
 }
 
-/// Whether the record may stand at the place: `MODULE` first and nowhere else.
+/// Whether the record may stand at the place: `MODULE` first and nowhere else, and a change of frame rules directly behind
+/// a frame record.
 fn fits(place: Place, line: &SymLine) -> bool
     ensures { result ≡ fits place line.now }
 {
     match (place, line) {
         (Place::Start, SymLine::Module { .. }) => true,
         (Place::Start, _) => false,
-        (Place::Inside, SymLine::Module { .. }) => false,
-        (Place::Inside, _) => true,
+        (Place::Inside | Place::Frame, SymLine::Module { .. }) => false,
+        (Place::Inside, SymLine::Change { .. }) => false,
+        (Place::Inside | Place::Frame, _) => true,
     }
 }
 
@@ -51,6 +53,7 @@ fn leads(_place: Place, line: &SymLine) -> Place
 {
     match line {
         SymLine::Module { .. } | SymLine::Info { .. } | SymLine::Public { .. } => Place::Inside,
+        SymLine::Init { .. } | SymLine::Change { .. } => Place::Frame,
     }
 }
 

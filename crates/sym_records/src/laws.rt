@@ -1,9 +1,13 @@
 //! Laws of the definitions, for proofs above. Each function does nothing: its contract is the law.
-ghost use Rattle.std.specs.Prelude.{◌≡◌, ◌↔◌, List, Ok, None, true};
+ghost use Rattle.std.specs.Prelude.{◌≡◌, ◌↔◌, ℕ, ◌<◌, ◌≤◌, ◌^◌, List, [], ◌∷◌, ◌++◌, length, Ok, None, true};
+ghost use Rattle.std.specs.List.{list_all};
 ghost use Rattle.sym_records.specs.declared.line.SymLine.{SymLine};
+ghost use Rattle.sym_records.specs.declared.place.Place.{Place};
+ghost use Rattle.sym_records.specs.declared.rules.RuleText.{RuleText};
 ghost use Rattle.sym_records.specs.Canon.{canon_text};
-ghost use Rattle.sym_records.specs.Reading.{reading};
-ghost use Rattle.sym_records.specs.Validity.{fields_fit, first_bad, IsValid, AreValid};
+ghost use Rattle.sym_records.specs.Reading.{reading, fits, leads};
+ghost use Rattle.sym_records.specs.RuleValidity.{is_plain_rule};
+ghost use Rattle.sym_records.specs.Validity.{fields_fit, first_bad, first_bad_from, place_behind, is_change, IsValid, AreValid};
 
 /// The canonical text of a valid list reads back as the list.
 #[tactic(auto, using(crate::proofs::ReadingLemmas::reads_back))]
@@ -18,4 +22,21 @@ pub fn tests_say_validity()
     ensures record_is_passed { (s : SymLine) → IsValid s → fields_fit s ≡ true }
     ensures list_passes { (lines : List SymLine) → first_bad lines ≡ None → AreValid lines }
     ensures list_is_passed { (lines : List SymLine) → AreValid lines → first_bad lines ≡ None }
+{}
+
+/// A frame record of at most 18 rules passes the test, where each has one to four tokens and no names of its own.
+#[tactic(auto, using(crate::proofs::MakingLemmas::init_fits, crate::proofs::MakingLemmas::change_fits))]
+pub fn plain_rules_fit()
+    ensures init { (address size : ℕ) (rules : List RuleText) → address < 2 ^ 64 → size < 2 ^ 64 → list_all is_plain_rule rules ≡ true → 0 < length rules → length rules ≤ 18 → fields_fit (SymLine.Init address size rules) ≡ true }
+    ensures change { (address : ℕ) (rules : List RuleText) → address < 2 ^ 64 → list_all is_plain_rule rules ≡ true → 0 < length rules → length rules ≤ 18 → fields_fit (SymLine.Change address rules) ≡ true }
+{}
+
+/// Lists of good records, one behind another, are a list of good records.
+#[tactic(auto, using(crate::proofs::JoiningLemmas::join_fits, crate::proofs::JoiningLemmas::join_behind, crate::proofs::JoiningLemmas::push_behind, crate::proofs::JoiningLemmas::behind_pushed, crate::proofs::JoiningLemmas::frame_fits))]
+pub fn good_lists_are_joined()
+    ensures whole { (xs ys : List SymLine) → first_bad xs ≡ None → first_bad_from 0 Place.Inside ys ≡ None → first_bad (xs ++ ys) ≡ None }
+    ensures behind { (xs ys : List SymLine) → first_bad_from 0 Place.Inside xs ≡ None → first_bad_from 0 Place.Inside ys ≡ None → first_bad_from 0 Place.Inside (xs ++ ys) ≡ None }
+    ensures pushed { (place : Place) (lines : List SymLine) (s : SymLine) → first_bad_from 0 place lines ≡ None → fits (place_behind place lines) s ≡ true → fields_fit s ≡ true → first_bad_from 0 place (lines ++ s ∷ []) ≡ None }
+    ensures place { (place : Place) (lines : List SymLine) (s : SymLine) → place_behind place (lines ++ s ∷ []) ≡ leads (place_behind place lines) s }
+    ensures frame { (address size : ℕ) (rules : List RuleText) (changes : List SymLine) → fields_fit (SymLine.Init address size rules) ≡ true → list_all is_change changes ≡ true → list_all fields_fit changes ≡ true → first_bad_from 0 Place.Inside (SymLine.Init address size rules ∷ changes) ≡ None }
 {}

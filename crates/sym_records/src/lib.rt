@@ -1,7 +1,8 @@
 //! The records of a Breakpad symbol file, their canonical spelling, and the reading of a text of them.
 //!
-//! A symbol file is a text of lines, each a record (Breakpad's symbol_files.md). Here stand three of them: `MODULE`
-//! names the binary, `INFO` carries its code id, and `PUBLIC` gives a symbol's address. A `SymFile` is a list of records
+//! A symbol file is a text of lines, each a record (Breakpad's symbol_files.md). Here stand five of them: `MODULE`
+//! names the binary, `INFO` carries its code id, `PUBLIC` gives a symbol's address, and `STACK CFI INIT` and `STACK CFI` give
+//! frame rules, by which a caller's registers are found. A `SymFile` is a list of records
 //! that a text can spell: `file_of` makes it, or names the first record that no text can spell or that may not stand
 //! where it stands. `render` spells one record and `write_file` all of them, each with one space between its fields, and
 //! what is written reads back as the same records. `clean` makes of any bytes a name that a record may carry.
@@ -10,16 +11,20 @@
 // The records, and what may be wrong with a text of them.
 mod line;
 mod place;
+mod rules;
 mod text_fault;
 
 // Which records and lists a text can spell.
 mod fields;
 mod file;
+mod rule_validity;
 mod validity;
 
 // How they are spelled.
 mod digits;
 mod rendering;
+mod rule_spelling;
+mod rule_words;
 mod spelling;
 mod waiting;
 mod writing;
@@ -36,6 +41,7 @@ pub use file::{NotValid, SymFile, file_of};
 pub use line::{ByteText, SymLine, SymLines};
 pub use place::Place;
 pub use rendering::render;
+pub use rules::{RuleText, Rules, Target, Token, Tokens};
 pub use text_fault::{TextFault, TextKind};
 pub use validity::is_valid;
 pub use writing::write_file;

@@ -1,3 +1,4 @@
+use crate::rules::Rules;
 use sym_edges::ListOf;
 
 /// Bytes of a text, as a field or a name.
@@ -24,6 +25,18 @@ pub enum SymLine {
         address: u64,
         params: u64,
         name: ByteText,
+    },
+    /// `STACK CFI INIT address size rules`: the frame rules from an address on, relative to the binary's base, for so
+    /// many bytes.
+    Init {
+        address: u64,
+        size: u64,
+        rules: Rules,
+    },
+    /// `STACK CFI address rules`: the frame rules that change there, of the last `Init` before it.
+    Change {
+        address: u64,
+        rules: Rules,
     },
 }
 

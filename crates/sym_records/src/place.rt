@@ -3,6 +3,8 @@
 pub enum Place {
     /// No record.
     Start,
-    /// `MODULE`, and perhaps more records.
+    /// `MODULE` or another record that is none of frames.
     Inside,
+    /// `STACK CFI INIT` or `STACK CFI`.
+    Frame,
 }

@@ -2,10 +2,13 @@ ghost use Rattle.std.specs.Prelude.{◌≡◌, ◌+◌, ◌≤◌, [], ◌∷◌
 ghost use Rattle.std.specs.List.{flat_map};
 ghost use Rattle.sym_edges.specs.Outside.{append_told, AddsFront, Rose};
 ghost use Rattle.sym_records.specs.Buffer.{Passes};
-ghost use Rattle.sym_records.specs.Canon.{canon};
+ghost use Rattle.sym_records.specs.Canon.{body, canon};
+ghost use Rattle.sym_records.specs.Rules.{spelled_rules};
 
 use crate::digits::HexText;
 use crate::line::SymLine;
+use crate::rule_spelling::put_rules;
+use crate::rules::RuleText;
 use crate::waiting::Waiting;
 use sym_edges::{Failed, Sink, write_all};
 
@@ -32,7 +35,7 @@ pub(crate) fn hand_on<O: Sink, const N: usize>(
 /// Puts bytes behind those that wait. Where they do not fit, what waits is handed on first, and a piece that does not
 /// fit into an empty buffer goes straight to the sink.
 #[tactic(auto, using(crate::proofs::BufferLemmas::passes_held, crate::proofs::BufferLemmas::passes_on, crate::proofs::BufferLemmas::passes_through, crate::proofs::BufferLemmas::front_longer, crate::proofs::BufferLemmas::front_through))]
-fn put<O: Sink, const N: usize>(
+pub(crate) fn put<O: Sink, const N: usize>(
     sink: &mut O,
     waiting: &mut Waiting<N>,
     bytes: &[u8],
@@ -61,7 +64,7 @@ fn put<O: Sink, const N: usize>(
 }
 
 /// Puts a field behind one space.
-fn put_field<O: Sink, const N: usize>(
+pub(crate) fn put_field<O: Sink, const N: usize>(
     sink: &mut O,
     waiting: &mut Waiting<N>,
     field: &[u8],
@@ -101,15 +104,16 @@ fn put_fields<O: Sink, const N: usize>(
     Ok(())
 }
 
-/// Puts a keyword and fields, with one space in front of each field, and the end of the line.
-fn put_line<O: Sink, const N: usize>(
+/// Puts keywords and fields, with one space in front of each field.
+#[tactic(auto, using(crate::proofs::BufferLemmas::passes_more, crate::proofs::BufferLemmas::front_more, crate::proofs::BufferLemmas::front_behind))]
+fn put_head<O: Sink, const N: usize>(
     sink: &mut O,
     waiting: &mut Waiting<N>,
     keyword: &[u8],
     fields: &[&[u8]],
 ) -> Result<(), Failed>
-    ensures passed { OnOk result (Passes (O.taken sink.old) waiting.old ((keyword.now ++ flat_map (λ f. 32 ∷ f.now) fields.now) ++ 10 ∷ []) (O.taken sink.new) waiting.new) }
-    ensures front { OnErr result (AddsFront (O.taken sink.old) (O.taken sink.new) (waiting.old ++ ((keyword.now ++ flat_map (λ f. 32 ∷ f.now) fields.now) ++ 10 ∷ []))) }
+    ensures passed { OnOk result (Passes (O.taken sink.old) waiting.old (keyword.now ++ flat_map (λ f. 32 ∷ f.now) fields.now) (O.taken sink.new) waiting.new) }
+    ensures front { OnErr result (AddsFront (O.taken sink.old) (O.taken sink.new) (waiting.old ++ (keyword.now ++ flat_map (λ f. 32 ∷ f.now) fields.now))) }
     ensures faults { O.faults sink.old ≤ O.faults sink.new }
     ensures cause { OnErr result (Rose (O.faults sink.old) (O.faults sink.new)) }
 {
@@ -118,24 +122,82 @@ fn put_line<O: Sink, const N: usize>(
         Err(Failed) => return Err(Failed),
     }
     match put_fields(sink, waiting, fields) {
-        Ok(()) => {}
-        Err(Failed) => return Err(Failed),
-    }
-    match put(sink, waiting, b"\n") {
         Ok(()) => Ok(()),
         Err(Failed) => Err(Failed),
     }
 }
 
-/// Puts a record's canonical spelling.
-#[tactic(auto, unfolding(crate::specs::Canon::canon, crate::specs::Canon::body))]
-pub(crate) fn put_record<O: Sink, const N: usize>(
+/// Puts keywords, fields and frame rules, with one space in front of each field and each word.
+#[tactic(auto, using(crate::proofs::BufferLemmas::passes_more, crate::proofs::BufferLemmas::front_more, crate::proofs::BufferLemmas::front_behind))]
+fn put_frame<O: Sink, const N: usize>(
+    sink: &mut O,
+    waiting: &mut Waiting<N>,
+    keyword: &[u8],
+    fields: &[&[u8]],
+    rules: &[RuleText],
+) -> Result<(), Failed>
+    ensures passed { OnOk result (Passes (O.taken sink.old) waiting.old ((keyword.now ++ flat_map (λ f. 32 ∷ f.now) fields.now) ++ spelled_rules rules.now) (O.taken sink.new) waiting.new) }
+    ensures front { OnErr result (AddsFront (O.taken sink.old) (O.taken sink.new) (waiting.old ++ ((keyword.now ++ flat_map (λ f. 32 ∷ f.now) fields.now) ++ spelled_rules rules.now))) }
+    ensures faults { O.faults sink.old ≤ O.faults sink.new }
+    ensures cause { OnErr result (Rose (O.faults sink.old) (O.faults sink.new)) }
+{
+    match put_head(sink, waiting, keyword, fields) {
+        Ok(()) => {}
+        Err(Failed) => return Err(Failed),
+    }
+    match put_rules(sink, waiting, rules) {
+        Ok(()) => Ok(()),
+        Err(Failed) => Err(Failed),
+    }
+}
+
+/// Puts `STACK CFI INIT` without the end of its line.
+#[tactic(auto, using(crate::proofs::SpellingLemmas::init_passes, crate::proofs::SpellingLemmas::init_front))]
+fn put_init<O: Sink, const N: usize>(
+    sink: &mut O,
+    waiting: &mut Waiting<N>,
+    address: u64,
+    size: u64,
+    rules: &[RuleText],
+) -> Result<(), Failed>
+    ensures passed { OnOk result (Passes (O.taken sink.old) waiting.old (body (SymLine.Init address size rules.now)) (O.taken sink.new) waiting.new) }
+    ensures front { OnErr result (AddsFront (O.taken sink.old) (O.taken sink.new) (waiting.old ++ body (SymLine.Init address size rules.now))) }
+    ensures faults { O.faults sink.old ≤ O.faults sink.new }
+    ensures cause { OnErr result (Rose (O.faults sink.old) (O.faults sink.new)) }
+{
+    let start = HexText::of(address);
+    let room = HexText::of(size);
+    let fields = [start.as_slice(), room.as_slice()];
+    put_frame(sink, waiting, b"STACK CFI INIT", &fields, rules)
+}
+
+/// Puts `STACK CFI` without the end of its line.
+#[tactic(auto, using(crate::proofs::SpellingLemmas::change_passes, crate::proofs::SpellingLemmas::change_front))]
+fn put_change<O: Sink, const N: usize>(
+    sink: &mut O,
+    waiting: &mut Waiting<N>,
+    address: u64,
+    rules: &[RuleText],
+) -> Result<(), Failed>
+    ensures passed { OnOk result (Passes (O.taken sink.old) waiting.old (body (SymLine.Change address rules.now)) (O.taken sink.new) waiting.new) }
+    ensures front { OnErr result (AddsFront (O.taken sink.old) (O.taken sink.new) (waiting.old ++ body (SymLine.Change address rules.now))) }
+    ensures faults { O.faults sink.old ≤ O.faults sink.new }
+    ensures cause { OnErr result (Rose (O.faults sink.old) (O.faults sink.new)) }
+{
+    let start = HexText::of(address);
+    let fields = [start.as_slice()];
+    put_frame(sink, waiting, b"STACK CFI", &fields, rules)
+}
+
+/// Puts a record without the end of its line.
+#[tactic(auto, unfolding(crate::specs::Canon::body))]
+fn put_body<O: Sink, const N: usize>(
     sink: &mut O,
     waiting: &mut Waiting<N>,
     line: &SymLine,
 ) -> Result<(), Failed>
-    ensures passed { OnOk result (Passes (O.taken sink.old) waiting.old (canon line.now) (O.taken sink.new) waiting.new) }
-    ensures front { OnErr result (AddsFront (O.taken sink.old) (O.taken sink.new) (waiting.old ++ canon line.now)) }
+    ensures passed { OnOk result (Passes (O.taken sink.old) waiting.old (body line.now) (O.taken sink.new) waiting.new) }
+    ensures front { OnErr result (AddsFront (O.taken sink.old) (O.taken sink.new) (waiting.old ++ body line.now)) }
     ensures faults { O.faults sink.old ≤ O.faults sink.new }
     ensures cause { OnErr result (Rose (O.faults sink.old) (O.faults sink.new)) }
 {
@@ -147,9 +209,9 @@ pub(crate) fn put_record<O: Sink, const N: usize>(
                 id.as_slice(),
                 name.as_slice(),
             ];
-            put_line(sink, waiting, b"MODULE", &fields)
+            put_head(sink, waiting, b"MODULE", &fields)
         }
-        SymLine::Info { text } => put_line(sink, waiting, b"INFO", &[text.as_slice()]),
+        SymLine::Info { text } => put_head(sink, waiting, b"INFO", &[text.as_slice()]),
         SymLine::Public {
             many,
             address,
@@ -165,10 +227,40 @@ pub(crate) fn put_record<O: Sink, const N: usize>(
                 name.as_slice(),
             ];
             if *many {
-                put_line(sink, waiting, b"PUBLIC", &fields)
+                put_head(sink, waiting, b"PUBLIC", &fields)
             } else {
-                put_line(sink, waiting, b"PUBLIC", &fields[1..])
+                put_head(sink, waiting, b"PUBLIC", &fields[1..])
             }
         }
+        SymLine::Init {
+            address,
+            size,
+            rules,
+        } => put_init(sink, waiting, *address, *size, rules.as_slice()),
+        SymLine::Change { address, rules } => {
+            put_change(sink, waiting, *address, rules.as_slice())
+        }
+    }
+}
+
+/// Puts a record's canonical spelling.
+#[tactic(auto, unfolding(crate::specs::Canon::canon), using(crate::proofs::BufferLemmas::passes_more, crate::proofs::BufferLemmas::front_more, crate::proofs::BufferLemmas::front_behind))]
+pub(crate) fn put_record<O: Sink, const N: usize>(
+    sink: &mut O,
+    waiting: &mut Waiting<N>,
+    line: &SymLine,
+) -> Result<(), Failed>
+    ensures passed { OnOk result (Passes (O.taken sink.old) waiting.old (canon line.now) (O.taken sink.new) waiting.new) }
+    ensures front { OnErr result (AddsFront (O.taken sink.old) (O.taken sink.new) (waiting.old ++ canon line.now)) }
+    ensures faults { O.faults sink.old ≤ O.faults sink.new }
+    ensures cause { OnErr result (Rose (O.faults sink.old) (O.faults sink.new)) }
+{
+    match put_body(sink, waiting, line) {
+        Ok(()) => {}
+        Err(Failed) => return Err(Failed),
+    }
+    match put(sink, waiting, b"\n") {
+        Ok(()) => Ok(()),
+        Err(Failed) => Err(Failed),
     }
 }

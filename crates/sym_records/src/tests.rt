@@ -2,6 +2,8 @@ ghost use Rattle.std.specs.Prelude.{◌≡◌, ◌∷◌, [], IfOk, true, None};
 ghost use Rattle.sym_records.specs.Reading.{fits};
 ghost use Rattle.sym_records.specs.Validity.{fields_fit, first_bad};
 
+mod frames;
+
 use crate::cleaning::clean_upto;
 use crate::{ByteText, Place, SymFile, SymLine, clean, file_of, is_valid, render, write_file};
 use std::alloc::{AllocError, Global};

@@ -5,6 +5,8 @@ ghost use Rattle.sym_records.specs.Validity.{has_fields, fields_fit, IsValid};
 use crate::digits::HexText;
 use crate::fields::{is_field, is_name};
 use crate::line::SymLine;
+use crate::rule_validity::are_rules;
+use crate::rule_words::rules_length;
 
 /// A line has at most so many bytes without its LF.
 const LINE_LIMIT: usize = 1 << 20;
@@ -24,7 +26,7 @@ fn fit_within(limit: usize, lengths: &[usize]) -> bool
 }
 
 /// Whether the record's line has at most so many bytes without its LF.
-#[tactic(auto, using(crate::proofs::LengthLemmas::module_short, crate::proofs::LengthLemmas::info_short, crate::proofs::LengthLemmas::public_short))]
+#[tactic(auto, using(crate::proofs::LengthLemmas::module_short, crate::proofs::LengthLemmas::info_short, crate::proofs::LengthLemmas::public_short, crate::proofs::RuleLengthLemmas::init_short, crate::proofs::RuleLengthLemmas::change_short))]
 fn is_short(limit: usize, line: &SymLine) -> bool
     ensures { result ≡ nat_le (length (body line.now)) limit }
 {
@@ -43,6 +45,21 @@ fn is_short(limit: usize, line: &SymLine) -> bool
             let address = HexText::of(*address);
             let params = HexText::of(*params);
             fit_within(limit, &[keys, address.len(), params.len(), name.len()])
+        }
+        SymLine::Init {
+            address,
+            size,
+            rules,
+        } => {
+            let address = HexText::of(*address);
+            let size = HexText::of(*size);
+            let rest = rules_length(rules.as_slice());
+            fit_within(limit, &[16, address.len(), size.len(), rest])
+        }
+        SymLine::Change { address, rules } => {
+            let address = HexText::of(*address);
+            let rest = rules_length(rules.as_slice());
+            fit_within(limit, &[10, address.len(), rest])
         }
     }
 }
@@ -67,6 +84,18 @@ fn has_fields(line: &SymLine) -> bool
         } => {
             let _numbers = (*address, *params);
             is_name(name.as_slice())
+        }
+        SymLine::Init {
+            address,
+            size,
+            rules,
+        } => {
+            let _numbers = (*address, *size);
+            are_rules(rules.as_slice())
+        }
+        SymLine::Change { address, rules } => {
+            let _number = *address;
+            are_rules(rules.as_slice())
         }
     }
 }
