@@ -5,9 +5,9 @@ use std::marker::Model;
 
 const GLYPHS: &[u8; 16] = b"0123456789abcdef";
 
-/// A number in lower-case hexadecimal, which contracts see as its digits.
+/// A number in lower-case hexadecimal without leading zeros, which contracts see as its digits. Takes no memory.
 #[derive(Drop)]
-pub(crate) struct HexText {
+pub struct HexText {
     digits: [u8; 16],
     start: usize,
 }
@@ -23,7 +23,7 @@ impl Model for HexText {
 }
 
 impl HexText {
-    pub(crate) fn of(number: u64) -> HexText
+    pub fn of(number: u64) -> HexText
         ensures { result ≡ hex number }
     {
         let mut digits = [0; 16];
@@ -39,13 +39,13 @@ impl HexText {
         unreachable!()
     }
 
-    pub(crate) fn as_slice(&self) -> &[u8]
+    pub fn as_slice(&self) -> &[u8]
         ensures { result.now ≡ self.now }
     {
         &self.digits[self.start..]
     }
 
-    pub(crate) fn len(&self) -> usize
+    pub fn len(&self) -> usize
         ensures { result ≡ length self.now }
     {
         16 - self.start

@@ -36,6 +36,7 @@ mod cleaning;
 pub mod laws;
 
 pub use cleaning::clean;
+pub use digits::HexText;
 pub use fields::{is_field, is_name};
 pub use file::{NotValid, SymFile, file_of};
 pub use line::{ByteText, SymLine, SymLines};
