@@ -20,3 +20,4 @@ pub mod SpellingLemmas
 pub mod JoiningLemmas
 pub mod MakingLemmas
 pub mod LastLemmas
+pub mod WorkedLines

@@ -1,23 +1,21 @@
 -- A record whose fields fit is read from its canonical spelling.
-use Rattle.std.proofs.Common.{◌≡◌, ℕ, ◌^◌, ◌<◌, ◌&&◌, cond, Bool, true, false, not, List, [], ◌∷◌, ◌++◌, length, codes, Some, None, Ok, Err, nat_lt, refl, ◌∙◌, ap, arith, subst}
+use Rattle.std.proofs.Common.{◌≡◌, ℕ, ◌^◌, ◌<◌, cond, true, false, List, [], ◌∷◌, ◌++◌, codes, Some, Ok, refl, ◌∙◌, ap, arith, subst}
 use Rattle.std.specs.List.{flat_map}
-use Rattle.std.specs.Char.{digit_value}
 use Rattle.std.specs.Str.{bytes_eq}
 use Rattle.std.specs.Str.Parse.{AllDigits}
 use Rattle.std.proofs.lemmas.Fmt.{digits_is_IsNumeral}
 use Rattle.std.proofs.lemmas.Slice.Eq.{bytes_eq-Decides}
 use Rattle.sym_records.proofs.BoolLemmas.{and_true, elim_bool}
-use Rattle.sym_records.proofs.EndLemmas.{ends_in_cr, trim_kept, end_behind, last_later}
+use Rattle.sym_records.proofs.EndLemmas.{ends_in_cr, trim_kept, end_behind}
 use Rattle.sym_records.proofs.TextLemmas.{name_parts, module_reads, info_reads, public_reads, below, line_kept, spaced_ends, before_field, skip_all, skip_one, hex_field, hex_is, wide}
 use Rattle.sym_records.proofs.WordLemmas.{parted}
-use Rattle.sym_records.proofs.RuleListLemmas.{RulesParts, rules_parts, rules_read, cr_none}
+use Rattle.sym_records.proofs.RuleListLemmas.{rules_parts, rules_read, cr_none}
 use Rattle.sym_records.specs.Steps.{◌>>=◌}
 use Rattle.sym_records.specs.Cuts.{is_space, is_cr, is_margin, before, from, skip, last_is}
-use Rattle.sym_records.specs.Rules.{rule_words, target_word}
-use Rattle.sym_records.specs.RuleReading.{rules_at}
+use Rattle.sym_records.specs.Rules.{rule_words}
 use Rattle.sym_records.specs.RuleValidity.{are_rules}
-use Rattle.sym_records.specs.Canon.{hex, fields, body}
-use Rattle.sym_records.specs.Text.{hex_at, fields_alone, init_at, change_at, cfi_at, stack_at, keyed, line_at}
+use Rattle.sym_records.specs.Canon.{hex, body}
+use Rattle.sym_records.specs.Text.{init_at, change_at, cfi_at, stack_at, keyed, line_at}
 use Rattle.sym_records.specs.Validity.{is_field, has_fields}
 use Rattle.sym_records.specs.declared.rules.RuleText.{RuleText}
 use Rattle.sym_records.specs.declared.line.SymLine.{SymLine}

@@ -1,6 +1,6 @@
 -- For who makes records: which fields fit. Which lists are valid stands in JoiningLemmas.
-pub use Rattle.sym_records.proofs.JoiningLemmas.{first_fits, push_fits}
-use Rattle.std.proofs.Common.{◌≡◌, ℕ, ◌+◌, ◌-◌, ◌^◌, ◌<◌, ◌≤◌, ◌==◌, ◌&&◌, cond, suc, Bool, true, false, pos, negsuc, List, [], ◌∷◌, ◌++◌, length, get_or, codes, Some, None, nat_lt, nat_le, refl, sym, ◌∙◌, ap, arith, subst, length-append, ◌*◌}
+pub use Rattle.sym_records.proofs.JoiningLemmas.{first_fits, push_fits, join_fits, join_behind, push_behind, behind_pushed, frame_fits}
+use Rattle.std.proofs.Common.{◌≡◌, ℕ, ◌+◌, ◌-◌, ◌^◌, ◌<◌, ◌≤◌, ◌==◌, cond, suc, Bool, true, false, pos, negsuc, List, [], ◌∷◌, ◌++◌, length, get_or, codes, nat_lt, nat_le, refl, ap, arith, subst, length-append, ◌*◌}
 use Rattle.std.specs.List.{list_all, flat_map}
 use Rattle.std.specs.Char.{digit_value}
 use Rattle.std.specs.Str.Parse.{AllDigits}
@@ -23,12 +23,8 @@ use Rattle.sym_records.specs.declared.rules.Token.{Token}
 use Rattle.sym_records.specs.declared.rules.Token.TheVariants as token
 use Rattle.sym_records.specs.declared.rules.RuleText.{RuleText}
 use Rattle.sym_records.specs.Canon.{body}
-use Rattle.sym_records.specs.Reading.{fits, leads}
-use Rattle.sym_records.specs.Validity.{is_field, is_name, fields_fit, first_bad_from, first_bad}
-use Rattle.sym_records.specs.declared.line.SymLine.{SymLine}
+use Rattle.sym_records.specs.Validity.{is_field, is_name, fields_fit}
 use Rattle.sym_records.specs.declared.line.SymLine.TheVariants.{Module, Info, Public, Init, Change}
-use Rattle.sym_records.specs.declared.place.Place.{Place}
-use Rattle.sym_records.specs.declared.place.Place.TheVariants.{Start, Inside}
 
 le_true : (a b : ℕ) → a ≤ b → nat_le a b ≡ true
 le_true a b is = grind (arith, nat_tests)

@@ -1,17 +1,17 @@
 -- The words of targets and tokens are read as these.
-use Rattle.std.proofs.Common.{◌≡◌, ℕ, ◌+◌, ◌-◌, ◌^◌, ◌<◌, ◌≤◌, ◌==◌, ◌&&◌, ◌||◌, cond, zero, suc, Bool, true, false, not, ℤ, pos, negsuc, neg_ℤ, List, [], ◌∷◌, ◌++◌, length, take, drop, map, get_or, codes, Option, Some, None, ok_or, Result, Ok, Err, nat_lt, nat_le, refl, sym, ◌∙◌, ap, arith, subst, length-append}
-use Rattle.std.specs.List.{list_all, list_any, flat_map, position, prefix_len}
+use Rattle.std.proofs.Common.{◌≡◌, ℕ, ◌+◌, ◌-◌, ◌^◌, ◌<◌, ◌≤◌, ◌==◌, ◌&&◌, ◌||◌, cond, suc, Bool, true, false, not, ℤ, pos, negsuc, neg_ℤ, List, [], ◌∷◌, ◌++◌, length, take, drop, get_or, codes, Some, None, ok_or, Ok, Err, nat_lt, nat_le, refl, ◌∙◌, ap, arith, length-append}
+use Rattle.std.specs.List.{list_all, list_any, prefix_len}
 use Rattle.std.specs.Option.{option_or, option_map, option_map_or}
 use Rattle.std.specs.Char.{digit_value}
 use Rattle.std.specs.Str.{bytes_eq}
 use Rattle.std.specs.Str.Parse.{AllDigits, digits_value}
-use Rattle.std.specs.Fmt.{decimal, signed_decimal}
+use Rattle.std.specs.Fmt.{decimal}
 use Rattle.std.proofs.Math.Seq.{take-append_seam}
 use Rattle.std.proofs.lemmas.Fmt.{decimal_is_IsNumeral, length-decimal-le}
 use Rattle.std.proofs.lemmas.Str.Parse.{digit_from_value}
 use Rattle.std.proofs.lemmas.Bool.Decides.{nat_tests}
 use borrow.Author.Count.{below_none, below_more}
-use Rattle.sym_records.proofs.BoolLemmas.{and_true, both, not_false, not_true, elim_bool, false_true}
+use Rattle.sym_records.proofs.BoolLemmas.{and_true, both, not_false, not_true}
 use Rattle.sym_records.proofs.EndLemmas.{end_behind, last_one, last_none}
 use Rattle.sym_records.proofs.WordLemmas.{is_word, goes_on}
 use Rattle.sym_records.specs.Cuts.{is_cr, is_margin, is_within_field, last_is}
@@ -22,7 +22,6 @@ use Rattle.sym_records.specs.declared.rules.Target.{Target}
 use Rattle.sym_records.specs.declared.rules.Target.TheVariants as target
 use Rattle.sym_records.specs.declared.rules.Token.{Token}
 use Rattle.sym_records.specs.declared.rules.Token.TheVariants as token
-use Rattle.sym_records.specs.declared.text_fault.TextKind.{TextKind}
 use Rattle.sym_records.specs.declared.text_fault.TextKind.TheVariants.{Rule}
 
 -- what the name of a register is

@@ -1,5 +1,5 @@
 -- How long the line of a frame record is.
-use Rattle.std.proofs.Common.{◌≡◌, ℕ, ◌+◌, ◌-◌, ◌*◌, ◌^◌, ◌<◌, ◌≤◌, min, List, [], ◌∷◌, ◌++◌, length, take, get_or, sum, codes, nat_le, refl, sym, ◌∙◌, ap, arith, map, length-append}
+use Rattle.std.proofs.Common.{◌≡◌, ℕ, ◌+◌, ◌-◌, ◌^◌, ◌<◌, ◌≤◌, min, List, [], ◌∷◌, ◌++◌, length, take, get_or, sum, codes, nat_le, refl, ◌∙◌, ap, arith, length-append}
 use Rattle.std.specs.List.{flat_map}
 use Rattle.std.proofs.lemmas.List.{take_all}
 use Rattle.std.proofs.lemmas.List.Concat.{flat_map-append}
@@ -8,7 +8,7 @@ use Rattle.std.proofs.lemmas.Bool.Decides.{nat_tests}
 use Rattle.sym_records.proofs.BufferLemmas.{pieces_more}
 use Rattle.sym_records.proofs.WordLemmas.{parted}
 use Rattle.sym_records.specs.Rules.{target_name, target_word, token_word, rule_words, spelled_token, spelled_rule, spelled_rules}
-use Rattle.sym_records.specs.Canon.{hex, spaced, body}
+use Rattle.sym_records.specs.Canon.{hex, body}
 use Rattle.sym_records.specs.declared.rules.RuleText.{RuleText}
 use Rattle.sym_records.specs.declared.line.SymLine.{SymLine}
 use Rattle.sym_records.specs.declared.line.SymLine.TheVariants.{Init, Change}

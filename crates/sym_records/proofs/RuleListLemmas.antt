@@ -1,16 +1,15 @@
 -- Frame rules are read from their words.
-use Rattle.std.proofs.Common.{◌≡◌, ℕ, ◌<◌, ◌==◌, ◌&&◌, ◌||◌, Bool, true, false, not, List, [], ◌∷◌, ◌++◌, length, map, Ok, Err, nat_lt, refl, sym, ◌∙◌, ap, arith, append-nil}
+use Rattle.std.proofs.Common.{◌≡◌, ℕ, ◌<◌, ◌==◌, ◌||◌, Bool, true, false, List, [], ◌∷◌, ◌++◌, length, map, Ok, nat_lt, refl, sym, ◌∙◌, ap, arith, append-nil}
 use Rattle.std.specs.List.{list_all, flat_map}
 use Rattle.std.proofs.lemmas.List.Folds.{list_all-append}
 use Rattle.std.proofs.lemmas.Bool.Decides.{nat_tests}
-use Rattle.sym_records.proofs.BoolLemmas.{and_true, both, not_true, elim_bool, no_bytes}
+use Rattle.sym_records.proofs.BoolLemmas.{and_true, both, not_true, elim_bool}
 use Rattle.sym_records.proofs.EndLemmas.{end_behind, last_later, last_one, last_nothing}
 use Rattle.sym_records.proofs.WordLemmas.{parted, is_word, goes_on, words_are, Begun, groups_first, each_are}
 use Rattle.sym_records.proofs.RuleLemmas.{target_reads, target_ends, target_is_word, token_parts}
-use Rattle.sym_records.specs.Steps.{◌>>=◌}
 use Rattle.sym_records.specs.Cuts.{is_cr, is_margin, last_is}
 use Rattle.sym_records.specs.Rules.{target_word, token_word, rule_words}
-use Rattle.sym_records.specs.RuleReading.{words, groups, each, some_of, token_at, rule_at, rules_at}
+use Rattle.sym_records.specs.RuleReading.{groups, some_of, token_at, rule_at, rules_at}
 use Rattle.sym_records.specs.RuleValidity.{is_target, is_token, is_rule, ends_in_cr, end_in_cr, are_rules}
 use Rattle.sym_records.specs.declared.rules.Token.{Token}
 use Rattle.sym_records.specs.declared.rules.RuleText.{RuleText}

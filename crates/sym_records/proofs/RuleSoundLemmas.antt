@@ -1,14 +1,14 @@
 -- What is read as frame rules is spelled by words.
-use Rattle.std.proofs.Common.{◌≡◌, ℕ, ◌-◌, ◌+◌, ◌^◌, ◌<◌, ◌≤◌, ◌==◌, ◌&&◌, ◌||◌, cond, zero, suc, Bool, true, false, not, ℤ, pos, neg_ℤ, List, [], ◌∷◌, length, take, drop, get_or, codes, Option, Some, None, ok_or, Result, Ok, Err, nat_lt, refl, sym, ◌∙◌, ap, arith, subst, ⊎_elim}
-use Rattle.std.specs.List.{list_all, list_any, position, prefix_len}
+use Rattle.std.proofs.Common.{◌≡◌, ℕ, ◌-◌, ◌+◌, ◌<◌, ◌≤◌, ◌==◌, ◌&&◌, ◌||◌, cond, zero, suc, Bool, true, false, not, ℤ, pos, neg_ℤ, List, [], ◌∷◌, length, take, drop, get_or, codes, Option, Some, None, ok_or, Result, Ok, Err, nat_lt, refl, sym, ◌∙◌, ap, arith, subst, ⊎_elim}
+use Rattle.std.specs.List.{list_all, list_any, prefix_len}
 use Rattle.std.specs.Option.{option_or, option_map, option_map_or}
 use Rattle.std.specs.Str.{bytes_eq}
 use Rattle.std.specs.Str.Parse.{digits_value}
 use Rattle.std.proofs.lemmas.Bool.Decides.{nat_tests}
 use Rattle.std.proofs.lemmas.List.Quantifiers.{position-Some}
-use Rattle.sym_records.proofs.BoolLemmas.{and_true, both, not_false, elim_bool, chosen, bind_ok, false_true}
-use Rattle.sym_records.proofs.EndLemmas.{last_later, last_nothing}
-use Rattle.sym_records.proofs.WordLemmas.{WordsOf, words_sound, GroupsOf, groups_sound, ok_same, each_all, each_last, each_cons}
+use Rattle.sym_records.proofs.BoolLemmas.{and_true, both, not_false, elim_bool, chosen, bind_ok}
+use Rattle.sym_records.proofs.EndLemmas.{last_later}
+use Rattle.sym_records.proofs.WordLemmas.{words_sound, groups_sound, ok_same, each_all, each_last, each_cons}
 use Rattle.sym_records.specs.Steps.{◌>>=◌}
 use Rattle.sym_records.specs.Cuts.{is_cr, is_margin, is_within_line, is_within_field, last_is}
 use Rattle.sym_records.specs.Rules.{register_names}

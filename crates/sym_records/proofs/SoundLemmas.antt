@@ -16,7 +16,6 @@ use Rattle.sym_records.specs.Cuts.{is_space, is_cr, is_margin, is_within_line, b
 use Rattle.sym_records.specs.Text.{word_at, name_at, name_of, field_of, hex_digit, hex_onto, hex_value, hex_at, mark_at, module_at, info_at, public_at, fields_alone, init_at, change_at, next_word, behind_word, cfi_at, stack_at, keyed, key_of, record_at, line_at, trimmed, is_blank}
 use Rattle.sym_records.specs.RuleReading.{rules_at}
 use Rattle.sym_records.specs.RuleValidity.{are_rules}
-use Rattle.sym_records.specs.declared.rules.RuleText.{RuleText}
 use Rattle.sym_records.specs.declared.line.SymLine.{SymLine}
 use Rattle.sym_records.specs.declared.line.SymLine.TheVariants.{Module, Info, Public, Init, Change}
 use Rattle.sym_records.specs.declared.text_fault.TextKind.{TextKind}

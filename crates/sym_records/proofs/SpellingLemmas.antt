@@ -1,5 +1,5 @@
 -- The line of a frame record, as it is handed on.
-use Rattle.std.proofs.Common.{◌≡◌, ℕ, List, [], ◌∷◌, ◌++◌, Option, codes, refl, sym, ◌∙◌, ap, subst, append_assoc}
+use Rattle.std.proofs.Common.{◌≡◌, ℕ, List, [], ◌∷◌, ◌++◌, Option, codes, sym, ◌∙◌, ap, subst, append_assoc}
 use Rattle.std.specs.List.{flat_map}
 use Rattle.std.proofs.lemmas.List.Concat.{flat_map-append}
 use Rattle.sym_edges.specs.Outside.{AddsFront}
@@ -12,7 +12,6 @@ use Rattle.sym_records.specs.Canon.{hex, spaced, body}
 use Rattle.sym_records.specs.declared.rules.Target.{Target}
 use Rattle.sym_records.specs.declared.rules.Token.{Token}
 use Rattle.sym_records.specs.declared.rules.RuleText.{RuleText}
-use Rattle.sym_records.specs.declared.line.SymLine.{SymLine}
 use Rattle.sym_records.specs.declared.line.SymLine.TheVariants.{Init, Change}
 
 spaced_rules : (word : List ℕ) (fs : List (List ℕ)) (rules : List RuleText) → (word ++ parted fs) ++ spelled_rules rules ≡ spaced word (fs ++ flat_map rule_words rules)

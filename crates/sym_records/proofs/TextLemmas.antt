@@ -14,10 +14,9 @@ use Rattle.sym_records.proofs.DigitsLemmas.{length_hex}
 use Rattle.sym_records.proofs.EndLemmas.{ends_in_cr, ends_at, trim_kept, end_behind}
 use Rattle.sym_records.specs.Steps.{◌>>=◌}
 use Rattle.sym_records.specs.Cuts.{is_space, is_cr, is_margin, is_within_line, is_within_field, before, from, skip, trim_end}
-use Rattle.sym_records.specs.Canon.{hex, fields, spaced, body}
+use Rattle.sym_records.specs.Canon.{hex, fields, spaced}
 use Rattle.sym_records.specs.Text.{word_at, name_at, name_of, field_of, hex_digit, hex_onto, hex_value, hex_at, mark_at, module_at, info_at, public_at, keyed, key_of, record_at, line_at}
-use Rattle.sym_records.specs.Validity.{is_field, is_name, has_fields}
-use Rattle.sym_records.specs.declared.line.SymLine.{SymLine}
+use Rattle.sym_records.specs.Validity.{is_field, is_name}
 use Rattle.sym_records.specs.declared.line.SymLine.TheVariants.{Module, Info, Public}
 
 not_space : (x : ℕ) → is_within_field x ≡ true → (x == 32) ≡ false

@@ -1,11 +1,11 @@
 -- The words of a line, and the groups of words.
-use Rattle.std.proofs.Common.{◌≡◌, ℕ, ◌==◌, ◌&&◌, ◌||◌, cond, Bool, true, false, not, List, [], ◌∷◌, ◌++◌, length, Result, Ok, Err, refl, sym, ◌∙◌, ap, subst, map}
+use Rattle.std.proofs.Common.{◌≡◌, ℕ, ◌==◌, ◌||◌, cond, Bool, true, false, not, List, [], ◌∷◌, ◌++◌, Result, Ok, refl, sym, ◌∙◌, ap, map}
 use Rattle.std.specs.List.{list_all, flat_map}
 use Rattle.sym_records.proofs.BoolLemmas.{and_true, both, not_true, not_false, elim_bool, bind_ok}
 use Rattle.sym_records.proofs.EndLemmas.{last_later, last_one, last_nothing}
 use Rattle.sym_records.specs.Steps.{◌>>=◌}
-use Rattle.sym_records.specs.Cuts.{is_space, is_cr, is_margin, is_within_line, is_within_field, onto, last_is}
-use Rattle.sym_records.specs.RuleReading.{ends_word, words, ends_in_colon, begins_rule, groups, each}
+use Rattle.sym_records.specs.Cuts.{is_cr, is_margin, is_within_line, is_within_field, onto, last_is}
+use Rattle.sym_records.specs.RuleReading.{ends_word, words, ends_in_colon, groups, each}
 use Rattle.sym_records.specs.declared.text_fault.TextKind.{TextKind}
 
 no_space : (x : ℕ) → is_within_field x ≡ true → (x == 32) ≡ false

@@ -1,7 +1,7 @@
 -- The reading of frame rules (Breakpad's symbol_files.md). The rest of the line is split into words at spaces; a word that ends with `:` begins a
 -- rule. Whatever is wrong inside the rules is a fault of the kind `Rule`.
 use Rattle.std.specs.Prelude.{ℕ, ◌-◌, ◌==◌, ◌||◌, ◌&&◌, Bool, true, false, not, nat_lt, nat_le, if◌then◌else◌, ◌^◌, ℤ, pos, negsuc, neg_ℤ, List, [], ◌∷◌, length, take, drop, slice_index, codes, Option, Some, None, ok_or, Result, Ok, Err}
-use Rattle.std.specs.Option.{option_or, option_map, option_map_or, option_and_then}
+use Rattle.std.specs.Option.{option_or, option_map, option_map_or}
 use Rattle.std.specs.List.{list_all, position}
 use Rattle.std.specs.Char.{digit_value}
 use Rattle.std.specs.Str.{bytes_eq}
@@ -71,10 +71,11 @@ but_last bytes = take (length bytes - 1) bytes
 unfoldable pub target_at : List ℕ → Result Target TextKind
 target_at word = if ends_in_colon word && is_symbol (but_last word) then Ok (named_target (but_last word)) else Err Rule
 
--- one to 20 decimal digits
+-- a decimal digit
 abbrev pub is_digit : ℕ → Bool
 is_digit b = nat_lt (digit_value b) 10
 
+-- one to 20 decimal digits
 unfoldable pub are_digits : List ℕ → Bool
 are_digits bytes = nat_lt 0 (length bytes) && nat_le (length bytes) 20 && list_all is_digit bytes
 
@@ -83,6 +84,7 @@ abbrev pub fits_i64 : ℤ → Bool
 fits_i64 (pos n) = nat_lt n (2 ^ 63)
 fits_i64 (negsuc n) = nat_lt n (2 ^ 63)
 
+-- an integer, where it is one of these
 abbrev pub in_i64 : ℤ → Option ℤ
 in_i64 n = if fits_i64 n then Some n else None
 

@@ -48,12 +48,14 @@ target_word target = target_name target ++ 58 ∷ []
 abbrev pub rule_words : RuleText → List (List ℕ)
 rule_words rule = target_word rule.target ∷ map token_word rule.tokens
 
--- a token, a rule and rules with one space in front of each word
+-- a token with one space in front
 abbrev pub spelled_token : Token → List ℕ
 spelled_token t = 32 ∷ token_word t
 
+-- a rule with one space in front of each word
 unfoldable pub spelled_rule : RuleText → List ℕ
 spelled_rule rule = (32 ∷ target_word rule.target) ++ flat_map spelled_token rule.tokens
 
+-- rules one behind another, with one space in front of each word
 unfoldable pub spelled_rules : List RuleText → List ℕ
 spelled_rules rules = flat_map spelled_rule rules

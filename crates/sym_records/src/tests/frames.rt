@@ -1,8 +1,13 @@
+ghost use Rattle.std.specs.Prelude.{◌≡◌, ◌<◌, length, true, IfOk};
+ghost use Rattle.std.specs.List.{list_all};
+ghost use Rattle.sym_records.specs.RuleValidity.{is_plain_rule};
+ghost use Rattle.sym_records.specs.Validity.{fields_fit};
+
 use super::{info, is_rendered, long_text, module, public, text};
 use crate::{RuleText, Rules, SymLine, Target, Token, Tokens, file_of, is_valid, write_file};
 use std::alloc::{AllocError, Global};
 use std::test::Fail;
-use sym_edges::{CallList, MemSink};
+use sym_edges::{CallList, MemSink, OutOfMemory};
 
 /// A target or a token of a table: a name of its own, or what has a variant.
 #[derive(Clone, Copy)]
@@ -361,6 +366,7 @@ fn frame_records_are_written(rt: HostRuntime) -> Result<(), Fail> {
 
 #[test]
 fn tokens_are_kept_in_order(rt: HostRuntime) -> Result<(), Fail> {
+    let numbers = [1, 2, 3, 4, 5];
     let words = [
         Word::Number(1),
         Word::Number(2),
@@ -373,10 +379,8 @@ fn tokens_are_kept_in_order(rt: HostRuntime) -> Result<(), Fail> {
         assert_eq!(rt; kept.len(), count);
         assert_eq!(rt; kept.is_empty(), count == 0);
         assert!(rt; kept.get(count).is_none());
-        let mut want = 1;
-        for token in kept.as_slice() {
-            assert!(rt; matches!(token, Token::Number(n) if *n == want));
-            want += 1;
+        for (token, want) in kept.as_slice().iter().zip(&numbers) {
+            assert!(rt; matches!(token, Token::Number(n) if *n == *want));
         }
     }
     Ok(())
@@ -395,6 +399,42 @@ fn a_frame_record_has_at_most_two_to_the_twentieth_bytes(rt: HostRuntime) -> Res
             rules: Rules::of(rules),
         };
         assert_eq!(rt; is_valid(&line), want);
+    }
+    Ok(())
+}
+
+/// As a caller makes rules: each has a variant for all that it names.
+#[tactic(auto, unfolding(crate::specs::RuleValidity::is_plain_rule))]
+fn made_rules(alloc: Global) -> Result<Rules, OutOfMemory>
+    ensures plain { IfOk result (λ rules. list_all is_plain_rule rules ≡ true) }
+    ensures one { IfOk result (λ rules. length rules ≡ 1) }
+{
+    let mut rules = Vec::new(alloc);
+    rules.push(RuleText {
+        target: Target::Cfa,
+        tokens: Tokens::three(Token::Reg(7), Token::Number(8), Token::Add),
+    })?;
+    Ok(Rules::of(rules))
+}
+
+/// A record that passes the test by what is known of its rules.
+#[tactic(auto, using(crate::proofs::MakingLemmas::init_fits))]
+fn made_init(alloc: Global, address: u64, size: u64) -> Result<SymLine, OutOfMemory>
+    ensures { IfOk result (λ line. fields_fit line ≡ true) }
+{
+    let rules = made_rules(alloc)?;
+    Ok(SymLine::Init {
+        address,
+        size,
+        rules,
+    })
+}
+
+#[test]
+fn made_frame_records_are_valid(rt: HostRuntime) -> Result<(), Fail> {
+    match made_init(rt.alloc(), u64::MAX, 1) {
+        Ok(line) => assert!(rt; is_valid(&line)),
+        Err(_) => assert!(rt; false, "there is memory for a record"),
     }
     Ok(())
 }
