@@ -1,0 +1,5 @@
+pub mod PartLemmas
+pub mod RulesLemmas
+pub mod WriterLemmas
+pub mod LinesLemmas
+pub mod EntryLemmas
