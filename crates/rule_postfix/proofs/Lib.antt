@@ -3,3 +3,4 @@ pub mod RulesLemmas
 pub mod WriterLemmas
 pub mod LinesLemmas
 pub mod EntryLemmas
+pub mod OverlapLemmas

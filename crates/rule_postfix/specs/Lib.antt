@@ -2,3 +2,5 @@ pub mod Parts
 pub mod Rules
 pub mod FrameLines
 pub mod Writing
+pub mod Overlaps
+pub mod Written

@@ -1,7 +1,10 @@
 //! The rows of frame entries as frame records.
 #![tactic(auto)]
 
+mod all;
+mod omission;
 mod parts;
 mod rules;
-mod writer;
+mod taken;
 mod translate;
+mod writer;
