@@ -1,10 +1,14 @@
 -- The rows of an entry, and its records.
-use Rattle.std.proofs.Common.{◌≡◌, ℕ, ◌+◌, ◌<◌, ◌≤◌, List, ◌∙◌}
+use Rattle.std.proofs.Common.{◌≡◌, ℕ, ◌+◌, ◌<◌, ◌≤◌, List, true, ◌∙◌, ap, sym, subst}
 use Rattle.frame_entries.specs.FdeFields.{FdeFields}
 use Rattle.frame_rows.specs.declared.row.RowAt.{RowAt}
 use Rattle.frame_rows.specs.Rows.{Ascending, AreRows, row_at}
 use Rattle.sym_records.specs.declared.line.SymLine.{SymLine}
+use Rattle.sym_edges.specs.Addresses.{Range}
+use Rattle.range_set.specs.Enclosing.{encloses}
 use Rattle.rule_postfix.specs.FrameLines.{frame_lines}
+use Rattle.rule_postfix.specs.Written.{entry_lines as one_entry}
+use Rattle.rule_postfix.specs.Deciding.{LiesAbove, EndsAt}
 use Rattle.rule_postfix.specs.Writing.{lines_of}
 use Rattle.rule_postfix.proofs.WriterLemmas.{lower}
 use Rattle.rule_postfix.proofs.LinesLemmas.{lines_are}
@@ -16,3 +20,13 @@ rising base e rows are le = lower base e.start (e.start + e.size) rows le are.in
 -- the pass over the rows of an entry gives its records
 pub entry_lines : (base : ℕ) (e : FdeFields) (rows : List RowAt) (lines : List SymLine) → AreRows e rows → 0 < e.size → lines ≡ lines_of base (e.start + e.size) rows → lines ≡ frame_lines (row_at e) e.start e.size base
 entry_lines base e rows lines are some made = made ∙ lines_are (row_at e) e.start e.size base rows some are.in_order are.each
+
+-- the same with an end that is known
+pub rising_to : (base end : ℕ) (code : List Range) (e : FdeFields) (rows : List RowAt) → AreRows e rows → EndsAt e end → LiesAbove base code → encloses code e.start end ≡ true → Ascending base end rows
+rising_to base end code e rows are ends above place =
+    let P : ℕ → Type 0 = λ k. Ascending base k rows in
+    subst P (sym ends.sum) (rising base e rows are (above.at e.start end place))
+
+pub lines_to : (base end : ℕ) (e : FdeFields) (rows : List RowAt) (lines : List SymLine) → AreRows e rows → EndsAt e end → lines ≡ lines_of base end rows → lines ≡ one_entry base e
+unfolding one_entry
+lines_to base end e rows lines are ends made = entry_lines base e rows lines are ends.some (made ∙ ap (λ k. lines_of base k rows) ends.sum)

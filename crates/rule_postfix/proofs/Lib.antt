@@ -4,3 +4,5 @@ pub mod WriterLemmas
 pub mod LinesLemmas
 pub mod EntryLemmas
 pub mod OverlapLemmas
+pub mod ReasonLemmas
+pub mod DecidedLemmas

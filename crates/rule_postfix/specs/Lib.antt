@@ -4,3 +4,4 @@ pub mod FrameLines
 pub mod Writing
 pub mod Overlaps
 pub mod Written
+pub mod Deciding

@@ -32,24 +32,31 @@ rows_reason e = if has_range e then rows_fault e else instruction_fault e
 unfoldable pub is_code : List Range → FdeFields → Bool
 is_code code e = has_range e && encloses code e.start (e.start + e.size)
 
--- the first reason to leave out an entry whose fields can be read: its rows, its place, the entries that are written before it
-unfoldable pub reason_behind : List Range → List FdeFields → FdeFields → Option Reason
-reason_behind code written e =
+-- the first reason to leave out an entry whose fields can be read: its rows, its place, the ranges that are taken
+unfoldable pub reason_among : List Range → List Range → FdeFields → Option Reason
+reason_among code taken e =
     or_reason (rows_reason e)
     (or_reason (unless (is_code code e) reason.Outside)
-    (unless (not (any_meets (range_of e) (map range_of written))) reason.Overlap))
+    (unless (not (any_meets (range_of e) taken)) reason.Overlap))
+
+-- the ranges of the entries that are written before it are taken
+unfoldable pub reason_behind : List Range → List FdeFields → FdeFields → Option Reason
+reason_behind code written e = reason_among code (map range_of written) e
 
 -- what was decided so far
 pub record Decided : Type 0 where
   pub written : List FdeFields
   pub omitted : List Omission
 
--- an entry more is written, or left out with a reason
+-- an entry more is left out with a reason, or written
 abbrev pub left_out : Entry → Reason → Decided → Decided
 left_out entry why d = record { written = d.written; omitted = d.omitted ++ record { section = entry.section; at = entry.at; reason = why } ∷ [] }
 
+abbrev pub with_written : FdeFields → Decided → Decided
+with_written e d = record { written = d.written ++ e ∷ []; omitted = d.omitted }
+
 abbrev pub with_good : Entry → FdeFields → Option Reason → Decided → Decided
-with_good entry e None d = record { written = d.written ++ e ∷ []; omitted = d.omitted }
+with_good entry e None d = with_written e d
 with_good entry e (Some why) d = left_out entry why d
 
 abbrev pub with_body : List Range → Entry → Body → Decided → Decided

@@ -13,7 +13,7 @@ use sym_edges::{ListOf, OutOfMemory, Reason, Stop};
 use sym_records::SymLines;
 
 /// The records of rows, each row compared with the one before it.
-fn lines_of(
+pub fn lines_of(
     alloc: Global,
     rows: &[RowAt],
     end: u64,
