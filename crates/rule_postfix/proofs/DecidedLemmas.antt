@@ -11,6 +11,7 @@ use Rattle.sym_edges.specs.declared.fault.Stop.{Stop}
 use Rattle.sym_edges.specs.declared.fault.Stop.TheVariants.{Fault, NoMemory}
 use Rattle.sym_edges.specs.Outside.{MatchStop}
 use Rattle.sym_edges.specs.Addresses.{Range}
+use Rattle.range_set.specs.Building.{AllFrom}
 use Rattle.range_set.specs.Enclosing.{encloses}
 use Rattle.frame_entries.specs.declared.description.Body.{Body}
 use Rattle.frame_entries.specs.declared.description.Body.TheVariants.{Good, Bad}
@@ -18,11 +19,13 @@ use Rattle.frame_entries.specs.declared.description.Entry.{Entry}
 use Rattle.frame_entries.specs.FdeFields.{FdeFields}
 use Rattle.frame_rows.specs.Steps.{unless, or_reason}
 use Rattle.sym_records.specs.declared.line.SymLine.{SymLine}
+use Rattle.sym_records.specs.declared.place.Place.TheVariants.{Inside}
+use Rattle.sym_records.specs.Validity.{first_bad_from}
 use Rattle.rule_postfix.specs.declared.all.Progress.{Progress}
 use Rattle.rule_postfix.specs.declared.omission.Omission.{Omission}
 use Rattle.rule_postfix.specs.Overlaps.{meet, any_meets}
 use Rattle.rule_postfix.specs.Written.{Decided, range_of, has_range, is_code, reason_among, reason_behind, rows_reason, left_out, with_written, with_good, with_body, with_entry, with_entries, decided, none_decided, written, omitted, entry_lines, written_lines}
-use Rattle.rule_postfix.specs.Deciding.{StartsAbove, LiesAbove, IfRefused, Shows}
+use Rattle.rule_postfix.specs.Deciding.{LiesAbove, IfRefused, Shows}
 
 -- one entry more
 map_more : (ws : List FdeFields) (e : FdeFields) → map range_of (ws ++ e ∷ []) ≡ map range_of ws ++ range_of e ∷ []
@@ -43,23 +46,25 @@ meets_more range ws e =
     ap (list_any (meet range)) (map_more ws e) ∙ list_any-append (meet range) (map range_of ws) (range_of e ∷ [])
     ∙ ap (λ t. list_any (meet range) (map range_of ws) || t) (or_nothing (meet range (range_of e)))
 
-pub shows_more : (base : ℕ) (p q : Progress) (e : FdeFields) (d : Decided) (lines : List SymLine) → lines ≡ entry_lines base e → q.lines.items ≡ p.lines.items ++ lines → q.omitted.items ≡ p.omitted.items → ((range : Range) → any_meets range q.taken ≡ (any_meets range p.taken || meet range (range_of e))) → Shows base p d → Shows base q (with_written e d)
-shows_more base p q e d lines these more same taken so = record {
+pub shows_more : (base : ℕ) (p q : Progress) (e : FdeFields) (d : Decided) (lines : List SymLine) → lines ≡ entry_lines base e → first_bad_from 0 Inside lines ≡ None → q.lines.items ≡ p.lines.items ++ lines → q.omitted.items ≡ p.omitted.items → ((range : Range) → any_meets range q.taken ≡ (any_meets range p.taken || meet range (range_of e))) →
+    ((xs ys : List SymLine) → first_bad_from 0 Inside xs ≡ None → first_bad_from 0 Inside ys ≡ None → first_bad_from 0 Inside (xs ++ ys) ≡ None) → Shows base p d → Shows base q (with_written e d)
+shows_more base p q e d lines these fit more same taken joined so = record {
   lines = more ∙ ap (λ xs. xs ++ lines) so.lines ∙ ap (λ xs. written_lines base d.written ++ xs) these ∙ sym (lines_more base d.written e);
   omitted = same ∙ so.omitted;
+  valid = ap (first_bad_from 0 Inside) more ∙ joined p.lines.items lines so.valid fit;
   taken = λ range. taken range ∙ ap (λ t. t || meet range (range_of e)) (so.taken range) ∙ sym (meets_more range d.written e);
 }
 
 -- nothing yet
 pub shows_none : (base : ℕ) (p : Progress) → p.lines.items ≡ [] → p.omitted.items ≡ [] → p.taken ≡ [] → Shows base p none_decided
-unfolding written_lines
-shows_none base p lines omitted taken = record { lines = lines; omitted = omitted; taken = λ range. ap (any_meets range) taken }
+unfolding written_lines first_bad_from
+shows_none base p lines omitted taken = record { lines = lines; omitted = omitted; valid = ap (first_bad_from 0 Inside) lines; taken = λ range. ap (any_meets range) taken }
 
 false_true : false ≡ true → ⊥
 false_true e = cc
 
 -- what is enclosed by code above a base lies above it
-enclosed_above : (base start end : ℕ) (code : List Range) → StartsAbove base code → encloses code start end ≡ true → base ≤ start
+enclosed_above : (base start end : ℕ) (code : List Range) → AllFrom base code → encloses code start end ≡ true → base ≤ start
 unfolding encloses
 enclosed_above base start end [] above is = absurd (false_true is)
 enclosed_above base start end (r ∷ code) above is =
@@ -68,7 +73,7 @@ enclosed_above base start end (r ∷ code) above is =
     | inr later ↦ enclosed_above base start end code above.1 later
     ]
 
-pub lies_above : (base : ℕ) (code kept : List Range) → StartsAbove base code → ((start end : ℕ) → encloses kept start end ≡ encloses code start end) → LiesAbove base kept
+pub lies_above : (base : ℕ) (code kept : List Range) → AllFrom base code → ((start end : ℕ) → encloses kept start end ≡ encloses code start end) → LiesAbove base kept
 lies_above base code kept above same = record { at = λ start end is. enclosed_above base start end code above (sym (same start end) ∙ is) }
 
 some_none : (why : Reason) → Some why ≡ None → ⊥
@@ -202,3 +207,6 @@ shown_lines base code first second r lines so these = these ∙ so.lines
 pub shown_omitted : (base : ℕ) (code : List Range) (first second : List Entry) (r : Progress) (left : List Omission) → Shows base r (decided code first second) → left ≡ r.omitted.items → left ≡ omitted code first second
 unfolding omitted
 shown_omitted base code first second r left so these = these ∙ so.omitted
+
+pub shown_valid : (base : ℕ) (code : List Range) (first second : List Entry) (r : Progress) (lines : List SymLine) → Shows base r (decided code first second) → lines ≡ r.lines.items → first_bad_from 0 Inside lines ≡ None
+shown_valid base code first second r lines so these = ap (first_bad_from 0 Inside) these ∙ so.valid

@@ -6,3 +6,5 @@ pub mod EntryLemmas
 pub mod OverlapLemmas
 pub mod ReasonLemmas
 pub mod DecidedLemmas
+pub mod PlainLemmas
+pub mod ValidLemmas

@@ -1,19 +1,16 @@
--- What the pass over the entries holds; no public clause cites this but `StartsAbove`.
-use Rattle.std.specs.Prelude.{◌≡◌, ℕ, ◌+◌, ◌^◌, ◌<◌, ◌≤◌, true, List, [], ◌∷◌, map}
+-- What the pass over the entries holds; no public clause cites this.
+use Rattle.std.specs.Prelude.{◌≡◌, ℕ, ◌+◌, ◌^◌, ◌<◌, ◌≤◌, true, List, [], ◌∷◌, map, None}
 use Rattle.sym_edges.specs.declared.fault.Stop.{Stop}
 use Rattle.sym_edges.specs.declared.fault.Stop.TheVariants.{Fault, NoMemory}
 use Rattle.sym_edges.specs.declared.reason.Reason.{Reason}
 use Rattle.sym_edges.specs.Addresses.{Range}
 use Rattle.range_set.specs.Enclosing.{encloses}
 use Rattle.frame_entries.specs.FdeFields.{FdeFields}
+use Rattle.sym_records.specs.declared.place.Place.TheVariants.{Inside}
+use Rattle.sym_records.specs.Validity.{first_bad_from}
 use Rattle.rule_postfix.specs.declared.all.Progress.{Progress}
 use Rattle.rule_postfix.specs.Overlaps.{any_meets}
 use Rattle.rule_postfix.specs.Written.{Decided, has_range, range_of, written_lines}
-
--- each range starts at or above an address
-abbrev pub StartsAbove : ℕ → List Range → Type 0
-StartsAbove base [] = Unit {0}
-StartsAbove base (range ∷ ranges) = (base ≤ range.start) × StartsAbove base ranges
 
 -- what lies in one of the ranges starts at or above an address
 pub record LiesAbove (base : ℕ) (code : List Range) : Type 0 where
@@ -31,8 +28,10 @@ abbrev pub IfRefused : Stop Reason → (Reason → Type 0) → Type 0
 IfRefused (Fault why) P = P why
 IfRefused NoMemory P = ⊥
 
--- the records and omissions are those of what was decided, and the ranges that are taken are met as those that are written
+-- the records and omissions are those of what was decided, the records are valid behind any record, and the ranges that are taken are
+-- met as those that are written
 pub record Shows (base : ℕ) (p : Progress) (d : Decided) : Type 0 where
   pub lines : p.lines.items ≡ written_lines base d.written
   pub omitted : p.omitted.items ≡ d.omitted
+  pub valid : first_bad_from 0 Inside p.lines.items ≡ None
   pub taken : (range : Range) → any_meets range p.taken ≡ any_meets range (map range_of d.written)

@@ -2,9 +2,12 @@
 ghost use Rattle.std.specs.Prelude.{◌≡◌, ℕ, List, [], ◌++◌, ◌∷◌, ◌+◌, ◌^◌, ◌<◌, ◌≤◌, true, false, None, Some, MatchOption, IfOk, OnOk};
 ghost use Rattle.sym_edges.specs.Outside.{MatchStop};
 ghost use Rattle.sym_edges.specs.Addresses.{Range};
+ghost use Rattle.range_set.specs.Building.{AllFrom};
+ghost use Rattle.sym_records.specs.declared.place.Place.{Place};
+ghost use Rattle.sym_records.specs.Validity.{first_bad_from};
 ghost use Rattle.rule_postfix.specs.Overlaps.{any_meets};
 ghost use Rattle.rule_postfix.specs.Written.{Decided, has_range, range_of, reason_among, entry_lines, left_out, with_written, with_entry, with_entries, decided, none_decided, written, omitted, written_lines};
-ghost use Rattle.rule_postfix.specs.Deciding.{StartsAbove, LiesAbove, EndsAt, IfRefused, Shows};
+ghost use Rattle.rule_postfix.specs.Deciding.{LiesAbove, EndsAt, IfRefused, Shows};
 
 use crate::omission::{Omission, Omissions};
 use crate::taken::Taken;
@@ -14,6 +17,7 @@ use frame_rows::{inspect, rows};
 use range_set::Enclosing;
 use std::alloc::Global;
 use sym_edges::{ListOf, OutOfMemory, Reason, Span, Stop};
+use sym_records::laws::{good_lists_are_joined, plain_rules_fit};
 use sym_records::{SymLine, SymLines};
 
 /// The frame records of a file, and the entries that are left out.
@@ -65,8 +69,11 @@ fn lines_or_reason(
 ) -> Result<SymLines, Stop<Reason>>
     requires { LiesAbove base code.now }
     ensures lines { MatchStop result (λ lines. lines ≡ entry_lines base fde.now) (λ _. Unit {0}) (Unit {0}) }
+    ensures valid { MatchStop result (λ lines. first_bad_from 0 Place.Inside lines ≡ None) (λ _. Unit {0}) (Unit {0}) }
     ensures exact { MatchStop result (λ _. reason_among code.now taken.now fde.now ≡ None) (λ why. reason_among code.now taken.now fde.now ≡ Some why) (Unit {0}) }
 {
+    plain_rules_fit();
+    good_lists_are_joined();
     let Some(end) = end_of(fde) else {
         return Err(Stop::Fault(reason_without_range(alloc, fde)?));
     };
@@ -114,9 +121,11 @@ fn leave_out_where_refused(
 fn write(progress: &mut Progress, fde: &Fde<'_>, lines: SymLines) -> Result<(), OutOfMemory>
     requires some { 0 < fde.now.size }
     requires fits { fde.now.start + fde.now.size < 2 ^ 64 }
+    requires valid { first_bad_from 0 Place.Inside lines ≡ None }
     requires apart { any_meets (range_of fde.now) progress.old.taken ≡ false }
     ensures { OnOk result ((base : ℕ) (d : Decided) → lines ≡ entry_lines base fde.now → Shows base progress.old d → Shows base progress.new (with_written fde.now d)) }
 {
+    good_lists_are_joined();
     progress.taken.put(fde.start, fde.start + fde.size)?;
     let mut lines = lines.into_vec();
     progress.lines.append(&mut lines)?;
@@ -170,8 +179,9 @@ pub fn translate_all(
     code: &[Span],
     base: u64,
 ) -> Result<Frames, OutOfMemory>
-    requires { StartsAbove base code.now }
+    requires { AllFrom base code.now }
     ensures lines { IfOk result (λ frames. frames.lines ≡ written_lines base (written code.now first.now second.now)) }
+    ensures valid { IfOk result (λ frames. first_bad_from 0 Place.Inside frames.lines ≡ None) }
     ensures omitted { IfOk result (λ frames. frames.omitted ≡ omitted code.now first.now second.now) }
 {
     let enclosing = Enclosing::of_spans(alloc, code)?;

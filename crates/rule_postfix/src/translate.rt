@@ -2,6 +2,8 @@
 ghost use Rattle.std.specs.Prelude.{◌≡◌, ◌+◌, ◌^◌, ◌<◌, ◌≤◌, Some, None, IfOk};
 ghost use Rattle.sym_edges.specs.Outside.{MatchStop};
 ghost use Rattle.frame_rows.specs.Rows.{Ascending, row_at, rows_fault};
+ghost use Rattle.sym_records.specs.declared.place.Place.{Place};
+ghost use Rattle.sym_records.specs.Validity.{first_bad_from};
 ghost use Rattle.rule_postfix.specs.FrameLines.{frame_lines};
 ghost use Rattle.rule_postfix.specs.Writing.{lines_of};
 
@@ -11,6 +13,7 @@ use frame_rows::{RowAt, rows};
 use std::alloc::Global;
 use sym_edges::{ListOf, OutOfMemory, Reason, Stop};
 use sym_records::SymLines;
+use sym_records::laws::{good_lists_are_joined, plain_rules_fit};
 
 /// The records of rows, each row compared with the one before it.
 pub fn lines_of(
@@ -42,8 +45,11 @@ pub fn translate(alloc: Global, fde: &Fde<'_>, base: u64) -> Result<SymLines, St
     requires fits { fde.now.start + fde.now.size < 2 ^ 64 }
     requires based { base ≤ fde.now.start }
     ensures lines { MatchStop result (λ lines. lines ≡ frame_lines (row_at fde.now) fde.now.start fde.now.size base) (λ _. Unit {0}) (Unit {0}) }
+    ensures valid { MatchStop result (λ lines. first_bad_from 0 Place.Inside lines ≡ None) (λ _. Unit {0}) (Unit {0}) }
     ensures exact { MatchStop result (λ _. rows_fault fde.now ≡ None) (λ why. rows_fault fde.now ≡ Some why) (Unit {0}) }
 {
+    plain_rules_fit();
+    good_lists_are_joined();
     let rows = rows(alloc, fde)?;
     Ok(lines_of(alloc, rows.as_slice(), fde.start + fde.size, base)?)
 }

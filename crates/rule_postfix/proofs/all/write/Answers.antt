@@ -7,6 +7,6 @@ use Rattle.rule_postfix.proofs.all.write.Goals as goal
 
 pub returns : goal.returns
 returns c =
-    λ base d these so. shows_more base c.args.progress.now _ c.args.fde.now d c.args.lines these
+    λ base d these so. shows_more base c.args.progress.now _ c.args.fde.now d c.args.lines these c.requires.valid
     (c.in_ok-append.ensures.items ∙ ap (λ xs. c.args.progress.now.lines.items ++ xs) c.into_vec-lines.ensures) refl
-    (λ range. c.in_ok-put.ensures range ∙ ap (λ (e : FdeFields). any_meets range c.args.progress.now.taken || meet range (range_of e)) c.fde.view_is) so
+    (λ range. c.in_ok-put.ensures range ∙ ap (λ (e : FdeFields). any_meets range c.args.progress.now.taken || meet range (range_of e)) c.fde.view_is) c.good_lists_are_joined.ensures.behind so
