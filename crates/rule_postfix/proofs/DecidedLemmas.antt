@@ -64,13 +64,13 @@ false_true : false ≡ true → ⊥
 false_true e = cc
 
 -- what is enclosed by code above a base lies above it
-enclosed_above : (base start end : ℕ) (code : List Range) → AllFrom base code → encloses code start end ≡ true → base ≤ start
+pub enclosed_above : (base start end : ℕ) (code : List Range) → AllFrom base code → encloses code start end ≡ true → base ≤ start
 unfolding encloses
 enclosed_above base start end [] above is = absurd (false_true is)
 enclosed_above base start end (r ∷ code) above is =
     elim (or_cases (nat_le r.start start && nat_le end r.end) (list_any (λ x. nat_le x.start start && nat_le end x.end) code) is) [
-      inl here ↦ omega (arith, above.0, leb-true r.start start (and_parts (nat_le r.start start) (nat_le end r.end) here).0)
-    | inr later ↦ enclosed_above base start end code above.1 later
+      | inl here ↦ omega (arith, above.0, leb-true r.start start (and_parts (nat_le r.start start) (nat_le end r.end) here).0)
+      | inr later ↦ enclosed_above base start end code above.1 later
     ]
 
 pub lies_above : (base : ℕ) (code kept : List Range) → AllFrom base code → ((start end : ℕ) → encloses kept start end ≡ encloses code start end) → LiesAbove base kept
@@ -96,13 +96,14 @@ not_true : (t : Bool) → not t ≡ true → t ≡ false
 not_true true is = sym is
 not_true false is = refl
 
--- its range is one of addresses, and meets none of those that are taken
-pub record IsFree (taken : List Range) (e : FdeFields) : Type 0 where
+-- its range is one of addresses, lies in one range of code, and meets none of those that are taken
+pub record IsFree (code taken : List Range) (e : FdeFields) : Type 0 where
   pub some : 0 < e.size
   pub fits : e.start + e.size < 2 ^ 64
+  pub inside : encloses code e.start (e.start + e.size) ≡ true
   pub apart : any_meets (range_of e) taken ≡ false
 
-pub is_free : (code taken : List Range) (e : FdeFields) → reason_among code taken e ≡ None → IsFree taken e
+pub is_free : (code taken : List Range) (e : FdeFields) → reason_among code taken e ≡ None → IsFree code taken e
 unfolding reason_among is_code has_range
 is_free code taken e none =
     let later : or_reason (unless (is_code code e) reason.Outside) (unless (not (any_meets (range_of e) taken)) reason.Overlap) ≡ None = or_right (rows_reason e) (or_reason (unless (is_code code e) reason.Outside) (unless (not (any_meets (range_of e) taken)) reason.Overlap)) none in
@@ -112,6 +113,7 @@ is_free code taken e none =
     record {
       some = ltb-true 0 e.size parts.0;
       fits = ltb-true (e.start + e.size) (2 ^ 64) parts.1;
+      inside = (and_parts (has_range e) (encloses code e.start (e.start + e.size)) inside).1;
       apart = not_true (any_meets (range_of e) taken) (unless_true (not (any_meets (range_of e) taken)) reason.Overlap (or_right (unless (is_code code e) reason.Outside) (unless (not (any_meets (range_of e) taken)) reason.Overlap) later));
     }
 

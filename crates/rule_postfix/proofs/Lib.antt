@@ -8,3 +8,6 @@ pub mod ReasonLemmas
 pub mod DecidedLemmas
 pub mod PlainLemmas
 pub mod ValidLemmas
+pub mod CoveringLemmas
+pub mod KeptLemmas
+pub mod TestLemmas

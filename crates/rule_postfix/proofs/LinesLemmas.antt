@@ -103,7 +103,7 @@ cut_of : (row : ℕ → Row) (start b n : ℕ) (cut : Bool) → is_cut row start
 unfolding first_cut
 cut_of row start b n cut e = ap (λ t. cond t b (first_cut row start (b + 1) n)) e
 
-line_of : (row : ℕ → Row) (start end base b n : ℕ) (before after : Row) (cut : Bool) → end ≡ b + 1 + n → before ≡ row (b - 1) → after ≡ row b → is_cut row start b ≡ cut → line_at row start end base b ≡ cond cut (Init (b - base) (first_cut row start (b + 1) n - b) (row_rules after) ∷ []) (change (b - base) (changed_rules before after))
+pub line_of : (row : ℕ → Row) (start end base b n : ℕ) (before after : Row) (cut : Bool) → end ≡ b + 1 + n → before ≡ row (b - 1) → after ≡ row b → is_cut row start b ≡ cut → line_at row start end base b ≡ cond cut (Init (b - base) (first_cut row start (b + 1) n - b) (row_rules after) ∷ []) (change (b - base) (changed_rules before after))
 unfolding line_at
 line_of row start end base b n before after cut size e f is =
     let left : end - (b + 1) ≡ n = omega (arith, size) in
@@ -180,8 +180,8 @@ rests row start end b (suc n) before [] o size above e rising follows =
 rests row start end b (suc n) before (r ∷ rows) o size above e rising follows =
     let size : end ≡ b + 1 + n = omega (arith, size) in
     elim (cases_lt b r.address) [
-      inl below ↦ stays_more row start end b n before (r ∷ rows) o size above e (omega (arith, below), rising.1, rising.2) follows (λ back up on. rests row start end (b + 1) n before (r ∷ rows) o size (omega arith) back up on)
-    | inr past ↦ moves_more row start end b n before r rows o size above e rising follows (omega (arith, past, rising.0)) (λ back up on. rests row start end (b + 1) n r.row rows (with_row b before r.row o) size (omega arith) back up on)
+      | inl below ↦ stays_more row start end b n before (r ∷ rows) o size above e (omega (arith, below), rising.1, rising.2) follows (λ back up on. rests row start end (b + 1) n before (r ∷ rows) o size (omega arith) back up on)
+      | inr past ↦ moves_more row start end b n before r rows o size above e rising follows (omega (arith, past, rising.0)) (λ back up on. rests row start end (b + 1) n r.row rows (with_row b before r.row o) size (omega arith) back up on)
     ]
 
 none_some : (x : Row) → None ≡ Some x → ⊥
@@ -191,8 +191,8 @@ none_some x e = cc
 first_at : (row : ℕ → Row) (start end : ℕ) (r : RowAt) (rows : List RowAt) → Ascending start end (r ∷ rows) → last_at (r ∷ rows) start ≡ Some (row start) → r.address ≡ start
 first_at row start end r rows rising at =
     elim (cases_lt start r.address) [
-      inl below ↦ absurd (none_some (row start) (sym (past_all (start + 1) end start (r ∷ rows) (omega (arith, below), rising.1, rising.2) (omega arith)) ∙ at))
-    | inr past ↦ omega (arith, past, rising.0)
+      | inl below ↦ absurd (none_some (row start) (sym (past_all (start + 1) end start (r ∷ rows) (omega (arith, below), rising.1, rising.2) (omega arith)) ∙ at))
+      | inr past ↦ omega (arith, past, rising.0)
     ]
 
 follows_first : (row : ℕ → Row) (start end : ℕ) (r : RowAt) (rows : List RowAt) → ((a : ℕ) → start ≤ a → a < end → last_at (r ∷ rows) a ≡ Some (row a)) → r.address ≡ start → Follows row (start + 1) end r.row rows

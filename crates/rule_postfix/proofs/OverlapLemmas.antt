@@ -42,9 +42,9 @@ last_end-append (e ∷ entries) entry = ap (λ o. or_end o (Some e.1)) (last_end
 pub below_is : (below start : ℕ) → (true && not (is_le (nat_cmp below start))) ≡ nat_lt start below
 below_is below start =
     elim (cases_order below start) [
-      inl same ↦ ap (λ t. not (is_le (cond t Less (cond (below == start) Equal Greater)))) (le-ltb below start (omega (arith, same))) ∙ ap (λ t. not (is_le (cond t Equal Greater))) (eq-eqb below start same) ∙ sym (le-ltb start below (omega (arith, same)))
-    | inr (inl less) ↦ ap (λ t. not (is_le (cond t Less (cond (below == start) Equal Greater)))) (lt-ltb below start less) ∙ sym (le-ltb start below (omega (arith, less)))
-    | inr (inr more) ↦ ap (λ t. not (is_le (cond t Less (cond (below == start) Equal Greater)))) (le-ltb below start (omega (arith, more))) ∙ ap (λ t. not (is_le (cond t Equal Greater))) (ne_eqb below start (λ same. absurd (omega (arith, more, same)))) ∙ sym (lt-ltb start below more)
+      | inl same ↦ ap (λ t. not (is_le (cond t Less (cond (below == start) Equal Greater)))) (le-ltb below start (omega (arith, same))) ∙ ap (λ t. not (is_le (cond t Equal Greater))) (eq-eqb below start same) ∙ sym (le-ltb start below (omega (arith, same)))
+      | inr (inl less) ↦ ap (λ t. not (is_le (cond t Less (cond (below == start) Equal Greater)))) (lt-ltb below start less) ∙ sym (le-ltb start below (omega (arith, less)))
+      | inr (inr more) ↦ ap (λ t. not (is_le (cond t Less (cond (below == start) Equal Greater)))) (le-ltb below start (omega (arith, more))) ∙ ap (λ t. not (is_le (cond t Equal Greater))) (ne_eqb below start (λ same. absurd (omega (arith, more, same)))) ∙ sym (lt-ltb start below more)
     ]
 
 last_by : (test : ℕ × ℕ → Bool) (below : ℕ) (e : ℕ × ℕ) (entries : List (ℕ × ℕ)) (t : Bool) → test e ≡ t → nat_lt e.0 below ≡ t → last_end (filter test entries) ≡ last_end_below below entries → last_end (filter test (e ∷ entries)) ≡ last_end_below below (e ∷ entries)
@@ -110,12 +110,12 @@ unfolding ranges_by last_end_below decides
 met q [] apart = refl
 met q (e ∷ entries) apart =
     elim (cases_lt e.0 q.end) [
-      inl below ↦
-        ap (λ t. meet q (range_by e) || t) (met q entries apart.2) ∙ met_by q e (last_end_below q.end entries) below (λ l is. last_above q.end e.1 l entries apart.1 apart.2 is)
-        ∙ sym (ap (λ t. decides q.start (or_end (last_end_below q.end entries) (cond t (Some e.1) None))) (lt-ltb e.0 q.end below))
-    | inr past ↦
-        none_meets q e.0 (e ∷ entries) past (omega arith) apart
-        ∙ sym (ap (decides q.start) (none_below q.end e.0 (e ∷ entries) past (omega arith) apart))
+      | inl below ↦
+          ap (λ t. meet q (range_by e) || t) (met q entries apart.2) ∙ met_by q e (last_end_below q.end entries) below (λ l is. last_above q.end e.1 l entries apart.1 apart.2 is)
+          ∙ sym (ap (λ t. decides q.start (or_end (last_end_below q.end entries) (cond t (Some e.1) None))) (lt-ltb e.0 q.end below))
+      | inr past ↦
+          none_meets q e.0 (e ∷ entries) past (omega arith) apart
+          ∙ sym (ap (decides q.start) (none_below q.end e.0 (e ∷ entries) past (omega arith) apart))
     ]
 
 pub meets_none : (q : Range) (entries : List (ℕ × ℕ)) → AreApart entries → None ≡ last_end_below q.end entries → false ≡ any_meets q (ranges_by entries)
@@ -146,8 +146,8 @@ starts_with a start end [] apart some none from le = le
 starts_with a start end (e ∷ entries) apart some none from le =
     let P : List (ℕ × ℕ) → Type 0 = λ xs. StartsFrom a xs in
     elim (sides start end e (or_parts (meet (record { start = start; end = end }) (range_by e)) (list_any (meet (record { start = start; end = end })) (map range_by entries)) none).0) [
-      inl behind ↦ subst P (sym (goes_behind start end e entries (omega (arith, behind, apart.0)))) from
-    | inr before ↦ subst P (sym (goes_before start end e entries (omega (arith, before, some)))) le
+      | inl behind ↦ subst P (sym (goes_behind start end e entries (omega (arith, behind, apart.0)))) from
+      | inr before ↦ subst P (sym (goes_before start end e entries (omega (arith, before, some)))) le
     ]
 
 inserted_apart : (start end : ℕ) (entries : List (ℕ × ℕ)) → AreApart entries → start < end → list_any (meet (record { start = start; end = end })) (ranges_by entries) ≡ false → AreApart (insert_entry nat_cmp entries start end)
@@ -157,8 +157,8 @@ inserted_apart start end (e ∷ entries) apart some none =
     let parts : (meet (record { start = start; end = end }) (range_by e) ≡ false) × (list_any (meet (record { start = start; end = end })) (map range_by entries) ≡ false) = or_parts (meet (record { start = start; end = end }) (range_by e)) (list_any (meet (record { start = start; end = end })) (map range_by entries)) none in
     let P : List (ℕ × ℕ) → Type 0 = λ xs. AreApart xs in
     elim (sides start end e parts.0) [
-      inl behind ↦ subst P (sym (goes_behind start end e entries (omega (arith, behind, apart.0)))) (apart.0, starts_with e.1 start end entries apart.2 some parts.1 apart.1 behind, inserted_apart start end entries apart.2 some parts.1)
-    | inr before ↦ subst P (sym (goes_before start end e entries (omega (arith, before, some)))) (some, before, apart)
+      | inl behind ↦ subst P (sym (goes_behind start end e entries (omega (arith, behind, apart.0)))) (apart.0, starts_with e.1 start end entries apart.2 some parts.1 apart.1 behind, inserted_apart start end entries apart.2 some parts.1)
+      | inr before ↦ subst P (sym (goes_before start end e entries (omega (arith, before, some)))) (some, before, apart)
     ]
 
 pub put_apart : (start end : ℕ) (entries more : List (ℕ × ℕ)) → AreApart entries → start < end → any_meets (record { start = start; end = end }) (ranges_by entries) ≡ false → more ≡ insert_entry nat_cmp entries start end → AreApart more
@@ -177,13 +177,13 @@ inserted_meets q start end (e ∷ entries) apart some none =
     let parts : (meet (record { start = start; end = end }) (range_by e) ≡ false) × (list_any (meet (record { start = start; end = end })) (map range_by entries) ≡ false) = or_parts (meet (record { start = start; end = end }) (range_by e)) (list_any (meet (record { start = start; end = end })) (map range_by entries)) none in
     let any : List (ℕ × ℕ) → Bool = λ xs. list_any (meet q) (map range_by xs) in
     elim (sides start end e parts.0) [
-      inl behind ↦
-        ap any (goes_behind start end e entries (omega (arith, behind, apart.0)))
-        ∙ ap (λ t. meet q (range_by e) || t) (inserted_meets q start end entries apart.2 some parts.1)
-        ∙ sym (or_assoc_by (meet q (range_by e)) (any entries) (meet q (record { start = start; end = end })))
-    | inr before ↦
-        ap any (goes_before start end e entries (omega (arith, before, some)))
-        ∙ or_comm (meet q (record { start = start; end = end })) (any (e ∷ entries))
+      | inl behind ↦
+          ap any (goes_behind start end e entries (omega (arith, behind, apart.0)))
+          ∙ ap (λ t. meet q (range_by e) || t) (inserted_meets q start end entries apart.2 some parts.1)
+          ∙ sym (or_assoc_by (meet q (range_by e)) (any entries) (meet q (record { start = start; end = end })))
+      | inr before ↦
+          ap any (goes_before start end e entries (omega (arith, before, some)))
+          ∙ or_comm (meet q (record { start = start; end = end })) (any (e ∷ entries))
     ]
 
 pub put_meets : (start end : ℕ) (entries more : List (ℕ × ℕ)) → AreApart entries → start < end → any_meets (record { start = start; end = end }) (ranges_by entries) ≡ false → more ≡ insert_entry nat_cmp entries start end →

@@ -110,8 +110,8 @@ rest_at : (column : ℕ) → rule_at empty_row column ≡ rule.Rest
 unfolding empty_row
 rest_at column =
     elim (cases_lt column 17) [
-      inl below ↦ get_or-replicate 17 column rule.Rest rule.Rest below
-    | inr past ↦ get_or_past (replicate 17 rule.Rest) column rule.Rest (omega (arith, length-replicate 17 rule.Rest))
+      | inl below ↦ get_or-replicate 17 column rule.Rest rule.Rest below
+      | inr past ↦ get_or_past (replicate 17 rule.Rest) column rule.Rest (omega (arith, length-replicate 17 rule.Rest))
     ]
 
 resting_part : (column : ℕ) → column_part column rule.Rest ≡ AtRest

@@ -47,7 +47,7 @@ cut_by : (cut : Bool) (b c end : ℕ) → b ≤ end → c ≤ end → cond cut b
 cut_by true b c end first second = first
 cut_by false b c end first second = second
 
-cut_within : (row : ℕ → Row) (start b n : ℕ) → first_cut row start b n ≤ b + n
+pub cut_within : (row : ℕ → Row) (start b n : ℕ) → first_cut row start b n ≤ b + n
 unfolding first_cut
 cut_within row start b zero = omega arith
 cut_within row start b (suc n) = cut_by (is_cut row start b) b (first_cut row start (b + 1) n) (b + suc n) (omega arith) (omega (arith, cut_within row start (b + 1) n))

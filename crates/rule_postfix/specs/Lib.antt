@@ -5,3 +5,4 @@ pub mod Writing
 pub mod Overlaps
 pub mod Written
 pub mod Deciding
+pub mod Covering

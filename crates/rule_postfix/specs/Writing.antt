@@ -27,7 +27,11 @@ closed o end = o.lines ++ Init (o.start - o.base) (end - o.start) o.rules ∷ o.
 -- the changes at a row inside it
 abbrev pub with_changes : ℕ → List RuleText → Open → Open
 with_changes b rules o = record {
-  base = o.base; lines = o.lines; start = o.start; rules = o.rules; changes = o.changes ++ change (b - o.base) rules
+  base = o.base;
+  lines = o.lines;
+  start = o.start;
+  rules = o.rules;
+  changes = o.changes ++ change (b - o.base) rules;
 }
 
 -- one row more, behind another

@@ -88,7 +88,11 @@ fn changed_column(target: &Target, column: u8, before: Rule, after: Rule) -> Opt
     if before == after {
         return None;
     }
-    spelled_if_other(target, column_part(column, before), column_part(column, after))
+    spelled_if_other(
+        target,
+        column_part(column, before),
+        column_part(column, after),
+    )
 }
 
 /// The tokens of a target, where two rows differ in it.
@@ -109,7 +113,11 @@ fn changed(before: &Row, after: &Row, target: &Target) -> Option<Tokens>
     }
 }
 
-fn put_rule(rules: &mut Vec<RuleText>, target: Target, tokens: Option<Tokens>) -> Result<(), OutOfMemory>
+fn put_rule(
+    rules: &mut Vec<RuleText>,
+    target: Target,
+    tokens: Option<Tokens>,
+) -> Result<(), OutOfMemory>
     ensures { OnOk result (rules.new.items ≡ rules.old.items ++ option_to_list (rule_of target tokens)) }
 {
     if let Some(tokens) = tokens {

@@ -1,7 +1,7 @@
 use Rattle.std.proofs.Common.{drop}
 use Rattle.rule_postfix.specs.Writing.{with_rows}
 use Rattle.rule_postfix.proofs.WriterLemmas.{Writing}
-use Rattle.rule_postfix.proofs.translate.lines_of.Given as goal
+use Rattle.rule_postfix.proofs.translating.lines_of.Given as goal
 
 abbrev pub invariant-loop-next : goal.invariant-loop-next
 invariant-loop-next l =

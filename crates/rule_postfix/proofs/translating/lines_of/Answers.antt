@@ -4,7 +4,7 @@ use Rattle.frame_rows.specs.declared.row.RowAt.{RowAt}
 use Rattle.frame_rows.specs.Rows.{Ascending}
 use Rattle.rule_postfix.specs.Writing.{lines_of, closed}
 use Rattle.rule_postfix.proofs.WriterLemmas.{writing_begins, writing_on, writing_ends, writing_none}
-use Rattle.rule_postfix.proofs.translate.lines_of.Goals as goal
+use Rattle.rule_postfix.proofs.translating.lines_of.Goals as goal
 
 pub returns-in_default : goal.returns-in_default
 returns-in_default c = writing_none c.args.base c.args.end c.args.rows.now c.of.result c.in_default.ensures.cases (c.of.ensures ∙ c.new.ensures.items)

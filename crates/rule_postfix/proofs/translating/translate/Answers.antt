@@ -1,7 +1,7 @@
 use Rattle.std.proofs.Common.{◌+◌, ap}
 use Rattle.frame_entries.specs.FdeFields.{FdeFields}
 use Rattle.rule_postfix.proofs.EntryLemmas.{entry_valid}
-use Rattle.rule_postfix.proofs.translate.translate.Goals as goal
+use Rattle.rule_postfix.proofs.translating.translate.Goals as goal
 
 pub returns-clause-valid : goal.returns-clause-valid
 returns-clause-valid c =

@@ -16,12 +16,7 @@ use sym_records::SymLines;
 use sym_records::laws::{good_lists_are_joined, plain_rules_fit};
 
 /// The records of rows, each row compared with the one before it.
-pub fn lines_of(
-    alloc: Global,
-    rows: &[RowAt],
-    end: u64,
-    base: u64,
-) -> Result<SymLines, OutOfMemory>
+pub fn lines_of(alloc: Global, rows: &[RowAt], end: u64, base: u64) -> Result<SymLines, OutOfMemory>
     requires { Ascending base end rows.now }
     ensures { IfOk result (λ lines. lines ≡ lines_of base end rows.now) }
 {
