@@ -1,5 +1,5 @@
 -- The entries that are written lie above the base, and no two have an address in common.
-use Rattle.std.proofs.Common.{◌≡◌, ℕ, ◌+◌, ◌≤◌, Bool, true, false, List, [], ◌∷◌, ◌++◌, map, Option, None, Some, refl, ap, sym, ◌∙◌}
+use Rattle.std.proofs.Common.{◌≡◌, ℕ, ◌+◌, List, [], ◌∷◌, map, Option, None, Some, refl, ap, ◌∙◌}
 use Rattle.sym_edges.specs.declared.reason.Reason.{Reason}
 use Rattle.sym_edges.specs.Addresses.{Range}
 use Rattle.range_set.specs.Building.{AllFrom}
@@ -8,8 +8,7 @@ use Rattle.frame_entries.specs.declared.description.Body.TheVariants.{Good, Bad}
 use Rattle.frame_entries.specs.declared.description.Entry.{Entry}
 use Rattle.frame_entries.specs.FdeFields.{FdeFields}
 use Rattle.sym_records.specs.declared.line.SymLine.{SymLine}
-use Rattle.rule_postfix.specs.Overlaps.{any_meets}
-use Rattle.rule_postfix.specs.Written.{Decided, range_of, reason_behind, left_out, with_written, with_good, with_body, with_entry, with_entries, decided, none_decided, written, written_lines}
+use Rattle.rule_postfix.specs.Written.{Decided, range_of, reason_behind, with_good, with_body, with_entry, with_entries, decided, none_decided, written, written_lines}
 use Rattle.rule_postfix.specs.Covering.{inits_at, entries_at, AreDisjoint}
 use Rattle.rule_postfix.proofs.DecidedLemmas.{IsFree, is_free, enclosed_above}
 use Rattle.rule_postfix.proofs.CoveringLemmas.{AreAbove, above_more, above_none, disjoint_more, written_inits}

@@ -1,16 +1,15 @@
 -- The pass over the rows gives the records that the rows at each address have.
-use Rattle.std.proofs.Common.{◌≡◌, ℕ, zero, suc, ◌+◌, ◌-◌, ◌<◌, ◌≤◌, ◌==◌, ◌&&◌, ◌||◌, not, nat_le, Bool, true, false, cond, List, [], ◌∷◌, ◌++◌, Option, Some, None, refl, ap, sym, subst, ◌∙◌, ◌⊎◌, inl, inr, arith, append_assoc, eq-eqb}
-use Rattle.std.specs.List.{flat_map, range_with_len, list_any, filter_map, cons_option}
-use Rattle.std.proofs.lemmas.Bool.{cases_lt, cases_eq, ne_eqb, le-leb, lt-leb, and_right, or_from}
+use Rattle.std.proofs.Common.{◌≡◌, ℕ, zero, suc, ◌+◌, ◌-◌, ◌<◌, ◌≤◌, ◌&&◌, ◌||◌, not, nat_le, Bool, true, false, cond, List, [], ◌∷◌, ◌++◌, Option, Some, None, refl, ap, sym, subst, ◌∙◌, inl, inr, arith, append_assoc, eq-eqb}
+use Rattle.std.specs.List.{flat_map, range_with_len, list_any, cons_option}
+use Rattle.std.proofs.lemmas.Bool.{cases_lt, ne_eqb, le-leb, lt-leb, and_right, or_from}
 use Rattle.std.proofs.lemmas.List.{append-nil}
 use Rattle.frame_rows.specs.declared.row.Row.{Row}
 use Rattle.frame_rows.specs.declared.row.RowAt.{RowAt}
 use Rattle.frame_rows.specs.Rows.{Ascending, last_at, or_row}
 use Rattle.sym_records.specs.declared.line.SymLine.{SymLine}
-use Rattle.sym_records.specs.declared.line.SymLine.TheVariants.{Init, Change}
+use Rattle.sym_records.specs.declared.line.SymLine.TheVariants.{Init}
 use Rattle.sym_records.specs.declared.rules.RuleText.{RuleText}
 use Rattle.sym_records.specs.declared.rules.Target.{Target}
-use Rattle.sym_records.specs.declared.rules.Token.{Token}
 use Rattle.rule_postfix.specs.Parts.{rests_anew, starts_anew, is_rest, column_part, rule_at, part_of}
 use Rattle.rule_postfix.specs.Rules.{rule_of, rules_of, rules_by, targets, if_changed, comes_to_rest, rests_below, row_rules, changed_rules}
 use Rattle.rule_postfix.specs.FrameLines.{is_cut, first_cut, change, line_at, frame_lines}

@@ -1,7 +1,7 @@
 -- The rules of sound rows can be spelled.
-use Rattle.std.proofs.Common.{◌≡◌, ℕ, ℤ, ◌+◌, ◌<◌, ◌≤◌, ◌==◌, ◌&&◌, not, nat_lt, nat_le, Bool, true, false, cond, List, [], ◌∷◌, ◌++◌, map, length, Option, None, Some, is_some, refl, ap, sym, subst, ◌∙◌, ◌⊎◌, inl, inr, arith}
-use Rattle.std.specs.List.{list_all, range_with_len, cons_option}
-use Rattle.std.proofs.lemmas.Bool.{and_from, and_parts, lt-ltb, ltb-true}
+use Rattle.std.proofs.Common.{◌≡◌, ℕ, ◌+◌, ◌<◌, ◌≤◌, ◌==◌, ◌&&◌, nat_lt, nat_le, Bool, true, false, cond, List, [], ◌∷◌, length, Option, None, Some, is_some, refl, ap, ◌∙◌, arith}
+use Rattle.std.specs.List.{list_all, cons_option}
+use Rattle.std.proofs.lemmas.Bool.{and_from, and_parts}
 use Rattle.frame_rows.specs.declared.row.Rule.{Rule}
 use Rattle.frame_rows.specs.declared.row.Rule.TheVariants as rule
 use Rattle.frame_rows.specs.declared.row.CfaRule.{CfaRule}
@@ -18,7 +18,7 @@ use Rattle.sym_records.specs.RuleValidity.{is_plain_target, is_plain_token, is_p
 use Rattle.rule_postfix.specs.declared.parts.Part.{Part}
 use Rattle.rule_postfix.specs.declared.parts.Part.TheVariants.{AtRest, Base, Column}
 use Rattle.rule_postfix.specs.Parts.{is_kept, stack_pointer, own_as_same, by_group, column_part, cfa_part, rule_at, part_of, is_rest, same_part}
-use Rattle.rule_postfix.specs.Rules.{resting, own_name, rule_spelled, spelled, registers, targets, rule_of, rule_by, rules_of, rules_by, if_not_at_rest, if_changed, row_rules, changed_rules}
+use Rattle.rule_postfix.specs.Rules.{resting, own_name, rule_spelled, spelled, registers, targets, rule_of, rules_of, rules_by, if_not_at_rest, if_changed, row_rules, changed_rules}
 
 -- a part whose registers are the sixteen, and whose offsets are those of an i64
 sound_part : Part → Bool

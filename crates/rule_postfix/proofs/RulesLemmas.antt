@@ -1,6 +1,6 @@
 -- Rules of records, one target after another.
-use Rattle.std.proofs.Common.{◌≡◌, ℕ, ◌+◌, ◌<◌, ◌≤◌, ◌&&◌, ◌||◌, not, Bool, true, false, List, [], ◌∷◌, ◌++◌, map, length, cond, Option, None, Some, is_some, refl, ap, sym, ◌∙◌, arith, append_assoc, length-append, get_or, replicate, inl, inr}
-use Rattle.std.specs.List.{cons_option, list_any, range_with_len, filter_map, slice_index_or}
+use Rattle.std.proofs.Common.{◌≡◌, ℕ, ◌+◌, ◌<◌, ◌≤◌, ◌||◌, true, false, List, [], ◌∷◌, ◌++◌, map, length, cond, Option, None, Some, refl, ap, sym, ◌∙◌, arith, append_assoc, length-append, get_or, replicate, inl, inr}
+use Rattle.std.specs.List.{cons_option, list_any, range_with_len, filter_map}
 use Rattle.std.specs.Option.{option_to_list}
 use Rattle.std.proofs.lemmas.Bool.{cases_lt, or_from}
 use Rattle.std.proofs.lemmas.List.{append-nil, get_or_past, get_or-replicate, length-replicate}

@@ -1,5 +1,5 @@
 -- For the tests: every range starts at or above 0.
-use Rattle.std.proofs.Common.{ℕ, ◌≤◌, List, [], ◌∷◌, arith}
+use Rattle.std.proofs.Common.{List, [], ◌∷◌, arith}
 use Rattle.sym_edges.specs.Addresses.{Range}
 use Rattle.range_set.specs.Building.{AllFrom}
 

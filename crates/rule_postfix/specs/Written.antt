@@ -1,7 +1,7 @@
 -- Which frame entries are written, and the reason for which each other is left out (Breakpad's symbol_files.md, "STACK CFI INIT": the
 -- records of a range are those of one entry).
 use Rattle.std.specs.Prelude.{ℕ, ◌+◌, ◌^◌, ◌&&◌, not, nat_lt, Bool, if◌then◌else◌, List, [], ◌∷◌, ◌++◌, map, Option, None, Some}
-use Rattle.std.specs.List.{flat_map, list_any}
+use Rattle.std.specs.List.{flat_map}
 use Rattle.sym_edges.specs.declared.reason.Reason.{Reason}
 use Rattle.sym_edges.specs.declared.reason.Reason.TheVariants as reason
 use Rattle.sym_edges.specs.Addresses.{Range}

@@ -1,4 +1,4 @@
-use Rattle.std.proofs.Common.{◌<◌, ◌^◌, ◌∙◌, ℕ, sym, subst}
+use Rattle.std.proofs.Common.{◌<◌, ◌^◌, ℕ, subst}
 use Rattle.rule_postfix.proofs.EntryLemmas.{entry_valid}
 use Rattle.rule_postfix.proofs.ReasonLemmas.{rows_refused}
 use Rattle.rule_postfix.proofs.all.lines_or_reason.Goals as goal

@@ -1,7 +1,4 @@
-use Rattle.std.proofs.Common.{◌≡◌, sym}
 use Rattle.std.proofs.lemmas.Result.{IfOk-weaker}
-use Rattle.rule_postfix.specs.Written.{Decided, entry_lines, with_written, left_out, with_entry}
-use Rattle.rule_postfix.specs.Deciding.{Shows}
 use Rattle.rule_postfix.proofs.DecidedLemmas.{is_free, written_too, refused_too, bad_too}
 use Rattle.rule_postfix.proofs.all.put_entry.Goals as goal
 

@@ -1,6 +1,3 @@
-use Rattle.std.proofs.Common.{◌≡◌}
-use Rattle.rule_postfix.specs.Written.{decided}
-use Rattle.rule_postfix.specs.Deciding.{Shows}
 use Rattle.rule_postfix.proofs.DecidedLemmas.{shown_all, shown_lines, shown_valid, shown_omitted}
 use Rattle.rule_postfix.proofs.KeptLemmas.{written_cover, written_apart}
 use Rattle.rule_postfix.proofs.all.translate_all.Goals as goal

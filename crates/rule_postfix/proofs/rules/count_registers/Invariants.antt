@@ -1,6 +1,4 @@
-use Rattle.std.proofs.Common.{◌≡◌, ◌≤◌, length}
 use Rattle.rule_postfix.proofs.RulesLemmas.{Counting}
-use Rattle.rule_postfix.specs.Rules.{rules_of, registers, if_changed}
 use Rattle.rule_postfix.proofs.rules.count_registers.Given as goal
 
 abbrev pub invariant-loop-number : goal.invariant-loop-number

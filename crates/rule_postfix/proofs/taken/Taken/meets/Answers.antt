@@ -1,4 +1,4 @@
-use Rattle.std.proofs.Common.{◌≡◌, ◌∙◌, ap, sym, Some}
+use Rattle.std.proofs.Common.{◌∙◌, ap, sym}
 use Rattle.rule_postfix.specs.Overlaps.{any_meets}
 use Rattle.rule_postfix.proofs.OverlapLemmas.{meets_last}
 use Rattle.rule_postfix.proofs.taken.Taken.meets.Goals as goal

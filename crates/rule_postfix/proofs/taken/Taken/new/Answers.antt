@@ -1,4 +1,4 @@
-use Rattle.std.proofs.Common.{◌≡◌, ap}
+use Rattle.std.proofs.Common.{ap}
 use Rattle.rule_postfix.specs.Overlaps.{ranges_by}
 use Rattle.rule_postfix.proofs.taken.Taken.new.Goals as goal
 

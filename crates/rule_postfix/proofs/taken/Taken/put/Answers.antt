@@ -1,4 +1,4 @@
-use Rattle.std.proofs.Common.{◌≡◌, ◌∙◌, ◌||◌, ap}
+use Rattle.std.proofs.Common.{◌∙◌, ◌||◌, ap}
 use Rattle.rule_postfix.specs.Overlaps.{any_meets, meet}
 use Rattle.rule_postfix.proofs.OverlapLemmas.{put_apart, put_meets}
 use Rattle.rule_postfix.proofs.taken.Taken.put.Goals as goal
