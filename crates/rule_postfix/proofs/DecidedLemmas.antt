@@ -1,0 +1,214 @@
+-- What the pass over the entries holds, entry after entry.
+use Rattle.std.proofs.Common.{◌≡◌, ℕ, ◌+◌, ◌<◌, ◌≤◌, ◌&&◌, ◌||◌, ◌^◌, not, nat_lt, nat_le, Bool, true, false, List, [], ◌∷◌, ◌++◌, map, take, length, get_or, Option, None, Some, Err, refl, ap, sym, ◌∙◌, inl, inr, arith, subst}
+use Rattle.std.specs.List.{flat_map, list_any}
+use Rattle.std.proofs.lemmas.Bool.{and_parts, or_cases, leb-true, ltb-true}
+use Rattle.std.proofs.lemmas.Grind.{flat_map-append}
+use Rattle.std.proofs.lemmas.List.{append-nil, take_more}
+use Rattle.std.proofs.lemmas.List.Folds.{list_any-append}
+use Rattle.sym_edges.specs.declared.reason.Reason.{Reason}
+use Rattle.sym_edges.specs.declared.reason.Reason.TheVariants as reason
+use Rattle.sym_edges.specs.declared.fault.Stop.{Stop}
+use Rattle.sym_edges.specs.declared.fault.Stop.TheVariants.{Fault, NoMemory}
+use Rattle.sym_edges.specs.Outside.{MatchStop}
+use Rattle.sym_edges.specs.Addresses.{Range}
+use Rattle.range_set.specs.Building.{AllFrom}
+use Rattle.range_set.specs.Enclosing.{encloses}
+use Rattle.frame_entries.specs.declared.description.Body.{Body}
+use Rattle.frame_entries.specs.declared.description.Body.TheVariants.{Good, Bad}
+use Rattle.frame_entries.specs.declared.description.Entry.{Entry}
+use Rattle.frame_entries.specs.FdeFields.{FdeFields}
+use Rattle.frame_rows.specs.Steps.{unless, or_reason}
+use Rattle.sym_records.specs.declared.line.SymLine.{SymLine}
+use Rattle.sym_records.specs.declared.place.Place.TheVariants.{Inside}
+use Rattle.sym_records.specs.Validity.{first_bad_from}
+use Rattle.rule_postfix.specs.declared.all.Progress.{Progress}
+use Rattle.rule_postfix.specs.declared.omission.Omission.{Omission}
+use Rattle.rule_postfix.specs.Overlaps.{meet, any_meets}
+use Rattle.rule_postfix.specs.Written.{Decided, range_of, has_range, is_code, reason_among, reason_behind, rows_reason, left_out, with_written, with_good, with_body, with_entry, with_entries, decided, none_decided, written, omitted, entry_lines, written_lines}
+use Rattle.rule_postfix.specs.Deciding.{LiesAbove, IfRefused, Shows}
+
+-- one entry more
+map_more : (ws : List FdeFields) (e : FdeFields) → map range_of (ws ++ e ∷ []) ≡ map range_of ws ++ range_of e ∷ []
+map_more [] e = refl
+map_more (w ∷ ws) e = ap (λ xs. range_of w ∷ xs) (map_more ws e)
+
+lines_more : (base : ℕ) (ws : List FdeFields) (e : FdeFields) → written_lines base (ws ++ e ∷ []) ≡ written_lines base ws ++ entry_lines base e
+unfolding written_lines
+lines_more base ws e = flat_map-append (entry_lines base) ws (e ∷ []) ∙ ap (λ xs. flat_map (entry_lines base) ws ++ xs) (append-nil (entry_lines base e))
+
+or_nothing : (t : Bool) → (t || false) ≡ t
+or_nothing true = refl
+or_nothing false = refl
+
+meets_more : (range : Range) (ws : List FdeFields) (e : FdeFields) → any_meets range (map range_of (ws ++ e ∷ [])) ≡ (any_meets range (map range_of ws) || meet range (range_of e))
+unfolding any_meets
+meets_more range ws e =
+    ap (list_any (meet range)) (map_more ws e) ∙ list_any-append (meet range) (map range_of ws) (range_of e ∷ [])
+    ∙ ap (λ t. list_any (meet range) (map range_of ws) || t) (or_nothing (meet range (range_of e)))
+
+pub shows_more : (base : ℕ) (p q : Progress) (e : FdeFields) (d : Decided) (lines : List SymLine) → lines ≡ entry_lines base e → first_bad_from 0 Inside lines ≡ None → q.lines.items ≡ p.lines.items ++ lines → q.omitted.items ≡ p.omitted.items → ((range : Range) → any_meets range q.taken ≡ (any_meets range p.taken || meet range (range_of e))) →
+    ((xs ys : List SymLine) → first_bad_from 0 Inside xs ≡ None → first_bad_from 0 Inside ys ≡ None → first_bad_from 0 Inside (xs ++ ys) ≡ None) → Shows base p d → Shows base q (with_written e d)
+shows_more base p q e d lines these fit more same taken joined so = record {
+  lines = more ∙ ap (λ xs. xs ++ lines) so.lines ∙ ap (λ xs. written_lines base d.written ++ xs) these ∙ sym (lines_more base d.written e);
+  omitted = same ∙ so.omitted;
+  valid = ap (first_bad_from 0 Inside) more ∙ joined p.lines.items lines so.valid fit;
+  taken = λ range. taken range ∙ ap (λ t. t || meet range (range_of e)) (so.taken range) ∙ sym (meets_more range d.written e);
+}
+
+-- nothing yet
+pub shows_none : (base : ℕ) (p : Progress) → p.lines.items ≡ [] → p.omitted.items ≡ [] → p.taken ≡ [] → Shows base p none_decided
+unfolding written_lines first_bad_from
+shows_none base p lines omitted taken = record { lines = lines; omitted = omitted; valid = ap (first_bad_from 0 Inside) lines; taken = λ range. ap (any_meets range) taken }
+
+false_true : false ≡ true → ⊥
+false_true e = cc
+
+-- what is enclosed by code above a base lies above it
+pub enclosed_above : (base start end : ℕ) (code : List Range) → AllFrom base code → encloses code start end ≡ true → base ≤ start
+unfolding encloses
+enclosed_above base start end [] above is = absurd (false_true is)
+enclosed_above base start end (r ∷ code) above is =
+    elim (or_cases (nat_le r.start start && nat_le end r.end) (list_any (λ x. nat_le x.start start && nat_le end x.end) code) is) [
+      | inl here ↦ omega (arith, above.0, leb-true r.start start (and_parts (nat_le r.start start) (nat_le end r.end) here).0)
+      | inr later ↦ enclosed_above base start end code above.1 later
+    ]
+
+pub lies_above : (base : ℕ) (code kept : List Range) → AllFrom base code → ((start end : ℕ) → encloses kept start end ≡ encloses code start end) → LiesAbove base kept
+lies_above base code kept above same = record { at = λ start end is. enclosed_above base start end code above (sym (same start end) ∙ is) }
+
+some_none : (why : Reason) → Some why ≡ None → ⊥
+some_none why e = cc
+
+-- of an entry with no reason to leave it out
+or_left : (a b : Option Reason) → or_reason a b ≡ None → a ≡ None
+or_left None b is = refl
+or_left (Some why) b is = is
+
+or_right : (a b : Option Reason) → or_reason a b ≡ None → b ≡ None
+or_right None b is = is
+or_right (Some why) b is = absurd (some_none why is)
+
+unless_true : (t : Bool) (why : Reason) → unless t why ≡ None → t ≡ true
+unless_true true why is = refl
+unless_true false why is = absurd (some_none why is)
+
+not_true : (t : Bool) → not t ≡ true → t ≡ false
+not_true true is = sym is
+not_true false is = refl
+
+-- its range is one of addresses, lies in one range of code, and meets none of those that are taken
+pub record IsFree (code taken : List Range) (e : FdeFields) : Type 0 where
+  pub some : 0 < e.size
+  pub fits : e.start + e.size < 2 ^ 64
+  pub inside : encloses code e.start (e.start + e.size) ≡ true
+  pub apart : any_meets (range_of e) taken ≡ false
+
+pub is_free : (code taken : List Range) (e : FdeFields) → reason_among code taken e ≡ None → IsFree code taken e
+unfolding reason_among is_code has_range
+is_free code taken e none =
+    let later : or_reason (unless (is_code code e) reason.Outside) (unless (not (any_meets (range_of e) taken)) reason.Overlap) ≡ None = or_right (rows_reason e) (or_reason (unless (is_code code e) reason.Outside) (unless (not (any_meets (range_of e) taken)) reason.Overlap)) none in
+    let inside : is_code code e ≡ true = unless_true (is_code code e) reason.Outside (or_left (unless (is_code code e) reason.Outside) (unless (not (any_meets (range_of e) taken)) reason.Overlap) later) in
+    let ranged : has_range e ≡ true = (and_parts (has_range e) (encloses code e.start (e.start + e.size)) inside).0 in
+    let parts : (nat_lt 0 e.size ≡ true) × (nat_lt (e.start + e.size) (2 ^ 64) ≡ true) = and_parts (nat_lt 0 e.size) (nat_lt (e.start + e.size) (2 ^ 64)) ranged in
+    record {
+      some = ltb-true 0 e.size parts.0;
+      fits = ltb-true (e.start + e.size) (2 ^ 64) parts.1;
+      inside = (and_parts (has_range e) (encloses code e.start (e.start + e.size)) inside).1;
+      apart = not_true (any_meets (range_of e) taken) (unless_true (not (any_meets (range_of e) taken)) reason.Overlap (or_right (unless (is_code code e) reason.Outside) (unless (not (any_meets (range_of e) taken)) reason.Overlap) later));
+    }
+
+-- what is decided of an entry
+same_reason : (base : ℕ) (code : List Range) (p : Progress) (e : FdeFields) (d : Decided) → Shows base p d → reason_behind code d.written e ≡ reason_among code p.taken e
+unfolding reason_behind reason_among
+same_reason base code p e d so = ap (λ t. or_reason (rows_reason e) (or_reason (unless (is_code code e) reason.Outside) (unless (not t) reason.Overlap))) (sym (so.taken (range_of e)))
+
+pub entry_bad : (code : List Range) (entry : Entry) (why : Reason) (d : Decided) → entry.body ≡ Bad why → with_entry code entry d ≡ left_out entry why d
+unfolding with_entry
+entry_bad code entry why d body = ap (λ b. with_body code entry b d) body
+
+good_by : (base : ℕ) (code : List Range) (p : Progress) (entry : Entry) (e : FdeFields) (o : Option Reason) (d : Decided) → entry.body ≡ Good e → reason_among code p.taken e ≡ o → Shows base p d → with_entry code entry d ≡ with_good entry e o d
+unfolding with_entry
+good_by base code p entry e o d body is so = ap (λ b. with_body code entry b d) body ∙ ap (λ r. with_good entry e r d) (same_reason base code p e d so ∙ is)
+
+pub written_too : (base : ℕ) (code : List Range) (p q : Progress) (entry : Entry) (e : FdeFields) (lines : List SymLine) → entry.body ≡ Good e → reason_among code p.taken e ≡ None → lines ≡ entry_lines base e →
+    ((base : ℕ) (d : Decided) → lines ≡ entry_lines base e → Shows base p d → Shows base q (with_written e d)) → (d : Decided) → Shows base p d → Shows base q (with_entry code entry d)
+written_too base code p q entry e lines body is these more d so =
+    let P : Decided → Type 0 = λ x. Shows base q x in
+    subst P (sym (good_by base code p entry e None d body is so)) (more base d these so)
+
+left_too : (base : ℕ) (code : List Range) (p q : Progress) (entry : Entry) (e : FdeFields) (why : Reason) → entry.body ≡ Good e → reason_among code p.taken e ≡ Some why →
+    ((base : ℕ) (d : Decided) → Shows base p d → Shows base q (left_out entry why d)) → (d : Decided) → Shows base p d → Shows base q (with_entry code entry d)
+left_too base code p q entry e why body is more d so =
+    let P : Decided → Type 0 = λ x. Shows base q x in
+    subst P (sym (good_by base code p entry e (Some why) d body is so)) (more base d so)
+
+pub refused_too : (base : ℕ) (code : List Range) (p q : Progress) (entry : Entry) (e : FdeFields) (stop : Stop Reason) → entry.body ≡ Good e → MatchStop {A = List SymLine} (Err stop) (λ _. reason_among code p.taken e ≡ None) (λ why. reason_among code p.taken e ≡ Some why) (Unit {0}) →
+    IfRefused stop (λ why. (base : ℕ) (d : Decided) → Shows base p d → Shows base q (left_out entry why d)) → (d : Decided) → Shows base p d → Shows base q (with_entry code entry d)
+refused_too base code p q entry e (Fault why) body is more = left_too base code p q entry e why body is more
+refused_too base code p q entry e NoMemory body is more = absurd more
+
+pub bad_too : (base : ℕ) (code : List Range) (p q : Progress) (entry : Entry) (why : Reason) → entry.body ≡ Bad why →
+    ((base : ℕ) (d : Decided) → Shows base p d → Shows base q (left_out entry why d)) → (d : Decided) → Shows base p d → Shows base q (with_entry code entry d)
+bad_too base code p q entry why body more d so =
+    let P : Decided → Type 0 = λ x. Shows base q x in
+    subst P (sym (entry_bad code entry why d body)) (more base d so)
+
+-- entries in order
+entries_append : (code : List Range) (xs ys : List Entry) (d : Decided) → with_entries code (xs ++ ys) d ≡ with_entries code ys (with_entries code xs d)
+unfolding with_entries
+entries_append code [] ys d = refl
+entries_append code (x ∷ xs) ys d = entries_append code xs ys (with_entry code x d)
+
+pub entries_more : (code : List Range) (entries : List Entry) (i : ℕ) (entry : Entry) (d : Decided) → i < length entries → entry ≡ get_or entries i entry → with_entries code (take (i + 1) entries) d ≡ with_entry code entry (with_entries code (take i entries) d)
+unfolding with_entries
+entries_more code entries i entry d inside is =
+    ap (λ xs. with_entries code xs d) (take_more entries i entry inside) ∙ entries_append code (take i entries) (get_or entries i entry ∷ []) d
+    ∙ ap (λ x. with_entry code x (with_entries code (take i entries) d)) (sym is)
+
+pub entries_none : (code : List Range) (d : Decided) → with_entries code [] d ≡ d
+unfolding with_entries
+entries_none code d = refl
+
+pub on_more : (base : ℕ) (code : List Range) (entries : List Entry) (i : ℕ) (entry : Entry) (p q r : Progress) → i < length entries → entry ≡ get_or entries i entry →
+    ((d : Decided) → Shows base p d → Shows base q (with_entries code (take i entries) d)) → ((d : Decided) → Shows base q d → Shows base r (with_entry code entry d)) →
+    (d : Decided) → Shows base p d → Shows base r (with_entries code (take (i + 1) entries) d)
+on_more base code entries i entry p q r inside is so more d first =
+    let P : Decided → Type 0 = λ x. Shows base r x in
+    subst P (sym (entries_more code entries i entry d inside is)) (more (with_entries code (take i entries) d) (so d first))
+
+-- code by its outermost ranges decides as code by all of them
+pub record SameCode (kept code : List Range) : Type 0 where
+  pub at : (start end : ℕ) → encloses kept start end ≡ encloses code start end
+
+same_behind : (kept code : List Range) (ws : List FdeFields) (e : FdeFields) → SameCode kept code → reason_behind kept ws e ≡ reason_behind code ws e
+unfolding reason_behind reason_among is_code
+same_behind kept code ws e same = ap (λ t. or_reason (rows_reason e) (or_reason (unless (has_range e && t) reason.Outside) (unless (not (any_meets (range_of e) (map range_of ws))) reason.Overlap))) (same.at e.start (e.start + e.size))
+
+same_body : (kept code : List Range) (entry : Entry) (b : Body) (d : Decided) → SameCode kept code → with_body kept entry b d ≡ with_body code entry b d
+same_body kept code entry (Good e) d same = ap (λ o. with_good entry e o d) (same_behind kept code d.written e same)
+same_body kept code entry (Bad why) d same = refl
+
+same_entries : (kept code : List Range) (entries : List Entry) (d : Decided) → SameCode kept code → with_entries kept entries d ≡ with_entries code entries d
+unfolding with_entries with_entry
+same_entries kept code [] d same = refl
+same_entries kept code (x ∷ entries) d same = ap (with_entries kept entries) (same_body kept code x x.body d same) ∙ same_entries kept code entries (with_entry code x d) same
+
+pub shown_all : (base : ℕ) (kept code : List Range) (first second one two : List Entry) (p q r : Progress) → ((start end : ℕ) → encloses kept start end ≡ encloses code start end) → p.lines.items ≡ [] → p.omitted.items ≡ [] → p.taken ≡ [] → one ≡ first → two ≡ second →
+    ((d : Decided) → Shows base p d → Shows base q (with_entries kept one d)) → ((d : Decided) → Shows base q d → Shows base r (with_entries kept two d)) → Shows base r (decided code first second)
+unfolding decided
+shown_all base kept code first second one two p q r at lines omitted taken one_is two_is on_one on_two =
+    let same : SameCode kept code = record { at = at } in
+    let P : Decided → Type 0 = λ x. Shows base r x in
+    subst P (ap (λ xs. with_entries kept xs (with_entries kept one none_decided)) two_is ∙ ap (λ xs. with_entries kept second (with_entries kept xs none_decided)) one_is ∙ same_entries kept code second (with_entries kept first none_decided) same ∙ ap (with_entries code second) (same_entries kept code first none_decided same))
+    (on_two (with_entries kept one none_decided) (on_one none_decided (shows_none base p lines omitted taken)))
+
+pub shown_lines : (base : ℕ) (code : List Range) (first second : List Entry) (r : Progress) (lines : List SymLine) → Shows base r (decided code first second) → lines ≡ r.lines.items → lines ≡ written_lines base (written code first second)
+unfolding written
+shown_lines base code first second r lines so these = these ∙ so.lines
+
+pub shown_omitted : (base : ℕ) (code : List Range) (first second : List Entry) (r : Progress) (left : List Omission) → Shows base r (decided code first second) → left ≡ r.omitted.items → left ≡ omitted code first second
+unfolding omitted
+shown_omitted base code first second r left so these = these ∙ so.omitted
+
+pub shown_valid : (base : ℕ) (code : List Range) (first second : List Entry) (r : Progress) (lines : List SymLine) → Shows base r (decided code first second) → lines ≡ r.lines.items → first_bad_from 0 Inside lines ≡ None
+shown_valid base code first second r lines so these = ap (first_bad_from 0 Inside) these ∙ so.valid

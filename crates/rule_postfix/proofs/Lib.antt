@@ -1,0 +1,13 @@
+pub mod PartLemmas
+pub mod RulesLemmas
+pub mod WriterLemmas
+pub mod LinesLemmas
+pub mod EntryLemmas
+pub mod OverlapLemmas
+pub mod ReasonLemmas
+pub mod DecidedLemmas
+pub mod PlainLemmas
+pub mod ValidLemmas
+pub mod CoveringLemmas
+pub mod KeptLemmas
+pub mod TestLemmas

@@ -1,0 +1,234 @@
+-- The pass over the rows gives the records that the rows at each address have.
+use Rattle.std.proofs.Common.{◌≡◌, ℕ, zero, suc, ◌+◌, ◌-◌, ◌<◌, ◌≤◌, ◌&&◌, ◌||◌, not, nat_le, Bool, true, false, cond, List, [], ◌∷◌, ◌++◌, Option, Some, None, refl, ap, sym, subst, ◌∙◌, inl, inr, arith, append_assoc, eq-eqb}
+use Rattle.std.specs.List.{flat_map, range_with_len, list_any, cons_option}
+use Rattle.std.proofs.lemmas.Bool.{cases_lt, ne_eqb, le-leb, lt-leb, and_right, or_from}
+use Rattle.std.proofs.lemmas.List.{append-nil}
+use Rattle.frame_rows.specs.declared.row.Row.{Row}
+use Rattle.frame_rows.specs.declared.row.RowAt.{RowAt}
+use Rattle.frame_rows.specs.Rows.{Ascending, last_at, or_row}
+use Rattle.sym_records.specs.declared.line.SymLine.{SymLine}
+use Rattle.sym_records.specs.declared.line.SymLine.TheVariants.{Init}
+use Rattle.sym_records.specs.declared.rules.RuleText.{RuleText}
+use Rattle.sym_records.specs.declared.rules.Target.{Target}
+use Rattle.rule_postfix.specs.Parts.{rests_anew, starts_anew, is_rest, column_part, rule_at, part_of}
+use Rattle.rule_postfix.specs.Rules.{rule_of, rules_of, rules_by, targets, if_changed, comes_to_rest, rests_below, row_rules, changed_rules}
+use Rattle.rule_postfix.specs.FrameLines.{is_cut, first_cut, change, line_at, frame_lines}
+use Rattle.rule_postfix.specs.Writing.{Open, opened, closed, with_changes, with_row, with_rows, lines_of}
+use Rattle.rule_postfix.proofs.PartLemmas.{no_other}
+
+-- a row beside itself: nothing rests anew, and nothing changes
+not_both : (t : Bool) → (t && not t) ≡ false
+not_both true = refl
+not_both false = refl
+
+rests_same : (x : Row) (k : ℕ) → rests_anew x x k ≡ false
+unfolding rests_anew
+rests_same x k = and_right (starts_anew k) (is_rest (column_part k (rule_at x k)) && not (is_rest (column_part k (rule_at x k)))) (not_both (is_rest (column_part k (rule_at x k))))
+
+any_rests : (x : Row) (ks : List ℕ) → list_any (rests_anew x x) ks ≡ false
+any_rests x [] = refl
+any_rests x (k ∷ ks) = or_from (rests_anew x x k) (list_any (rests_anew x x) ks) (rests_same x k) (any_rests x ks)
+
+never_rests : (x : Row) → comes_to_rest x x ≡ false
+unfolding comes_to_rest rests_below
+never_rests x = any_rests x (range_with_len 0 17)
+
+no_change : (x : Row) (t : Target) → if_changed x x t ≡ None
+unfolding if_changed
+no_change x t = no_other t (part_of x t)
+
+no_rules : (x : Row) (ts : List Target) → rules_of (if_changed x x) ts ≡ []
+unfolding rules_of
+no_rules x [] = refl
+no_rules x (t ∷ ts) = ap (λ o. cons_option (rule_of t o) (rules_of (if_changed x x) ts)) (no_change x t) ∙ no_rules x ts
+
+never_changes : (x : Row) → changed_rules x x ≡ []
+unfolding changed_rules rules_by
+never_changes x = no_rules x targets
+
+-- rows from an address on say nothing below it
+past_all : (low end a : ℕ) (rows : List RowAt) → Ascending low end rows → a < low → last_at rows a ≡ None
+unfolding last_at
+past_all low end a [] rising below = refl
+past_all low end a (r ∷ rows) rising below =
+    ap (λ o. or_row o (cond (nat_le r.address a) (Some r.row) None)) (past_all (r.address + 1) end a rows rising.2 (omega (arith, rising.0)))
+    ∙ ap (λ t. cond t (Some r.row) None) (lt-leb r.address a (omega (arith, rising.0)))
+
+-- behind a row and those that follow it stand the rows of the range from an address on, so many
+Follows : (ℕ → Row) → ℕ → ℕ → Row → List RowAt → Type 0
+Follows row b end before rows = (a : ℕ) → b ≤ a → a < end → or_row (last_at rows a) (Some before) ≡ Some (row a)
+
+or_twice : (o : Option Row) (x y : Row) → or_row (or_row o (Some x)) (Some y) ≡ or_row o (Some x)
+or_twice None x y = refl
+or_twice (Some z) x y = refl
+
+some_same : (x y : Row) → Some x ≡ Some y → x ≡ y
+some_same x y e = cc
+
+last_on : (r : RowAt) (rows : List RowAt) (a : ℕ) → r.address ≤ a → last_at (r ∷ rows) a ≡ or_row (last_at rows a) (Some r.row)
+unfolding last_at
+last_on r rows a le = ap (λ t. or_row (last_at rows a) (cond t (Some r.row) None)) (le-leb r.address a le)
+
+-- the row at the next address is the one before, where none begins there
+stands : (row : ℕ → Row) (b end : ℕ) (before : Row) (rows : List RowAt) → Follows row b end before rows → b < end → Ascending (b + 1) end rows → before ≡ row b
+unfolding Follows
+stands row b end before rows follows inside rising =
+    some_same before (row b) (ap (λ o. or_row o (Some before)) (sym (past_all (b + 1) end b rows rising (omega arith))) ∙ follows b (omega arith) inside)
+
+begins : (row : ℕ → Row) (b end : ℕ) (before : Row) (r : RowAt) (rows : List RowAt) → Follows row b end before (r ∷ rows) → r.address ≡ b → b < end → Ascending (r.address + 1) end rows → r.row ≡ row b
+unfolding Follows
+begins row b end before r rows follows at inside rising =
+    some_same r.row (row b)
+    (ap (λ o. or_row (or_row o (Some r.row)) (Some before)) (sym (past_all (r.address + 1) end b rows rising (omega arith)))
+    ∙ ap (λ o. or_row o (Some before)) (sym (last_on r rows b (omega arith))) ∙ follows b (omega arith) inside)
+
+follows_on : (row : ℕ → Row) (b end : ℕ) (before : Row) (r : RowAt) (rows : List RowAt) → Follows row b end before (r ∷ rows) → r.address ≡ b → Follows row (b + 1) end r.row rows
+unfolding Follows
+follows_on row b end before r rows follows at a le below =
+    sym (or_twice (last_at rows a) r.row before) ∙ ap (λ o. or_row o (Some before)) (sym (last_on r rows a (omega arith))) ∙ follows a (omega arith) below
+
+follows_same : (row : ℕ → Row) (b end : ℕ) (before : Row) (rows : List RowAt) → Follows row b end before rows → Follows row (b + 1) end before rows
+unfolding Follows
+follows_same row b end before rows follows a le below = follows a (omega arith) below
+
+-- an address at which the row stays
+cut_at : (row : ℕ → Row) (start b : ℕ) (before after : Row) → start < b → before ≡ row (b - 1) → after ≡ row b → is_cut row start b ≡ comes_to_rest before after
+unfolding is_cut
+cut_at row start b before after above e f =
+    ap (λ t. t || comes_to_rest (row (b - 1)) (row b)) (ne_eqb b start (λ same. absurd (omega (arith, same))))
+    ∙ ap (λ x. comes_to_rest x (row b)) (sym e) ∙ ap (λ x. comes_to_rest before x) (sym f)
+
+cut_of : (row : ℕ → Row) (start b n : ℕ) (cut : Bool) → is_cut row start b ≡ cut → first_cut row start b (suc n) ≡ cond cut b (first_cut row start (b + 1) n)
+unfolding first_cut
+cut_of row start b n cut e = ap (λ t. cond t b (first_cut row start (b + 1) n)) e
+
+pub line_of : (row : ℕ → Row) (start end base b n : ℕ) (before after : Row) (cut : Bool) → end ≡ b + 1 + n → before ≡ row (b - 1) → after ≡ row b → is_cut row start b ≡ cut → line_at row start end base b ≡ cond cut (Init (b - base) (first_cut row start (b + 1) n - b) (row_rules after) ∷ []) (change (b - base) (changed_rules before after))
+unfolding line_at
+line_of row start end base b n before after cut size e f is =
+    let left : end - (b + 1) ≡ n = omega (arith, size) in
+    ap (λ t. cond t (Init (b - base) (first_cut row start (b + 1) (end - (b + 1)) - b) (row_rules (row b)) ∷ []) (change (b - base) (changed_rules (row (b - 1)) (row b)))) is
+    ∙ ap (λ m. cond cut (Init (b - base) (first_cut row start (b + 1) m - b) (row_rules (row b)) ∷ []) (change (b - base) (changed_rules (row (b - 1)) (row b)))) left
+    ∙ ap (λ x. cond cut (Init (b - base) (first_cut row start (b + 1) n - b) (row_rules (row b)) ∷ []) (change (b - base) (changed_rules x (row b)))) (sym e)
+    ∙ ap (λ x. cond cut (Init (b - base) (first_cut row start (b + 1) n - b) (row_rules x) ∷ []) (change (b - base) (changed_rules before x))) (sym f)
+
+-- what is written with a row more, and what is written then
+ended_by : (cut : Bool) (b c : ℕ) (after : Row) (rules : List RuleText) (o : Open) (rest : List SymLine) →
+    closed (cond cut (opened o.base (closed o b) b after) (with_changes b rules o)) c ++ rest
+    ≡ closed o (cond cut b c) ++ (cond cut (Init (b - o.base) (c - b) (row_rules after) ∷ []) (change (b - o.base) rules) ++ rest)
+ended_by true b c after rules o rest = append_assoc (closed o b) (Init (b - o.base) (c - b) (row_rules after) ∷ []) rest
+ended_by false b c after rules o rest =
+    ap (λ xs. xs ++ rest) (sym (append_assoc o.lines (Init (o.start - o.base) (c - o.start) o.rules ∷ o.changes) (change (b - o.base) rules)))
+    ∙ append_assoc (closed o c) (change (b - o.base) rules) rest
+
+base_by : (cut : Bool) (b : ℕ) (after : Row) (rules : List RuleText) (o : Open) → (cond cut (opened o.base (closed o b) b after) (with_changes b rules o)).base ≡ o.base
+base_by true b after rules o = refl
+base_by false b after rules o = refl
+
+-- the records from an address on, behind those that are written
+Rests : (ℕ → Row) → ℕ → ℕ → ℕ → ℕ → Row → List RowAt → Open → Type 0
+Rests row start end b n before rows o =
+    closed (with_rows before rows o) end ≡ closed o (first_cut row start b n) ++ flat_map (line_at row start end o.base) (range_with_len b n)
+
+stay : (row : ℕ → Row) (start end b n : ℕ) (before : Row) (rows : List RowAt) (o : Open) → end ≡ b + 1 + n → start < b → before ≡ row (b - 1) → before ≡ row b → Rests row start end (b + 1) n before rows o → Rests row start end b (suc n) before rows o
+unfolding Rests
+stay row start end b n before rows o size above e f rest =
+    let cut : is_cut row start b ≡ false = cut_at row start b before before above e f ∙ never_rests before in
+    let none : line_at row start end o.base b ≡ [] = line_of row start end o.base b n before before false size e f cut ∙ ap (change (b - o.base)) (never_changes before) in
+    rest ∙ ap (λ c. closed o c ++ flat_map (line_at row start end o.base) (range_with_len (b + 1) n)) (sym (cut_of row start b n false cut))
+    ∙ ap (λ xs. closed o (first_cut row start b (suc n)) ++ (xs ++ flat_map (line_at row start end o.base) (range_with_len (b + 1) n))) (sym none)
+
+move : (row : ℕ → Row) (start end b n : ℕ) (before : Row) (r : RowAt) (rows : List RowAt) (o : Open) → end ≡ b + 1 + n → start < b → before ≡ row (b - 1) → r.row ≡ row b → r.address ≡ b → Rests row start end (b + 1) n r.row rows (with_row b before r.row o) → Rests row start end b (suc n) before (r ∷ rows) o
+unfolding Rests with_rows with_row
+move row start end b n before r rows o size above e f at rest =
+    let cut : Bool = comes_to_rest before r.row in
+    let rules : List RuleText = changed_rules before r.row in
+    let is : is_cut row start b ≡ cut = cut_at row start b before r.row above e f in
+    let c : ℕ = first_cut row start (b + 1) n in
+    let lines : ℕ → List SymLine = λ k. flat_map (line_at row start end k) (range_with_len (b + 1) n) in
+    let next : Open = cond cut (opened o.base (closed o b) b r.row) (with_changes b rules o) in
+    ap (λ k. closed (with_rows r.row rows (with_row k before r.row o)) end) at
+    ∙ rest
+    ∙ ap (λ k. closed next c ++ lines k) (base_by cut b r.row rules o)
+    ∙ ended_by cut b c r.row rules o (lines o.base)
+    ∙ ap (λ k. closed o k ++ (cond cut (Init (b - o.base) (c - b) (row_rules r.row) ∷ []) (change (b - o.base) rules) ++ lines o.base)) (sym (cut_of row start b n cut is))
+    ∙ ap (λ xs. closed o (first_cut row start b (suc n)) ++ (xs ++ lines o.base)) (sym (line_of row start end o.base b n before r.row cut size e f is))
+
+stays_more : (row : ℕ → Row) (start end b n : ℕ) (before : Row) (rows : List RowAt) (o : Open) → end ≡ b + 1 + n → start < b → before ≡ row (b - 1) → Ascending (b + 1) end rows → Follows row b end before rows →
+    (before ≡ row (b + 1 - 1) → Ascending (b + 1) end rows → Follows row (b + 1) end before rows → Rests row start end (b + 1) n before rows o) → Rests row start end b (suc n) before rows o
+stays_more row start end b n before rows o size above e rising follows rest =
+    let f : before ≡ row b = stands row b end before rows follows (omega (arith, size)) rising in
+    let back : b + 1 - 1 ≡ b = omega arith in
+    stay row start end b n before rows o size above e f (rest (f ∙ ap row (sym back)) rising (follows_same row b end before rows follows))
+
+moves_more : (row : ℕ → Row) (start end b n : ℕ) (before : Row) (r : RowAt) (rows : List RowAt) (o : Open) → end ≡ b + 1 + n → start < b → before ≡ row (b - 1) → Ascending b end (r ∷ rows) → Follows row b end before (r ∷ rows) → r.address ≡ b →
+    (r.row ≡ row (b + 1 - 1) → Ascending (b + 1) end rows → Follows row (b + 1) end r.row rows → Rests row start end (b + 1) n r.row rows (with_row b before r.row o)) → Rests row start end b (suc n) before (r ∷ rows) o
+moves_more row start end b n before r rows o size above e rising follows at rest =
+    let f : r.row ≡ row b = begins row b end before r rows follows at (omega (arith, size)) rising.2 in
+    let back : b + 1 - 1 ≡ b = omega arith in
+    let P : ℕ → Type 0 = λ k. Ascending (k + 1) end rows in
+    move row start end b n before r rows o size above e f at (rest (f ∙ ap row (sym back)) (subst P at rising.2) (follows_on row b end before r rows follows at))
+
+rests : (row : ℕ → Row) (start end b n : ℕ) (before : Row) (rows : List RowAt) (o : Open) → end ≡ b + n → start < b → before ≡ row (b - 1) → Ascending b end rows → Follows row b end before rows → Rests row start end b n before rows o
+unfolding Rests first_cut with_rows
+rests row start end b zero before [] o size above e rising follows =
+    ap (closed o) (let same : end ≡ b = omega (arith, size) in same) ∙ sym (append-nil (closed o b))
+rests row start end b zero before (r ∷ rows) o size above e rising follows = absurd (omega (arith, size, rising.0, rising.1))
+rests row start end b (suc n) before [] o size above e rising follows =
+    let size : end ≡ b + 1 + n = omega (arith, size) in
+    stays_more row start end b n before [] o size above e tt follows (λ back up on. rests row start end (b + 1) n before [] o size (omega arith) back up on)
+rests row start end b (suc n) before (r ∷ rows) o size above e rising follows =
+    let size : end ≡ b + 1 + n = omega (arith, size) in
+    elim (cases_lt b r.address) [
+      | inl below ↦ stays_more row start end b n before (r ∷ rows) o size above e (omega (arith, below), rising.1, rising.2) follows (λ back up on. rests row start end (b + 1) n before (r ∷ rows) o size (omega arith) back up on)
+      | inr past ↦ moves_more row start end b n before r rows o size above e rising follows (omega (arith, past, rising.0)) (λ back up on. rests row start end (b + 1) n r.row rows (with_row b before r.row o) size (omega arith) back up on)
+    ]
+
+none_some : (x : Row) → None ≡ Some x → ⊥
+none_some x e = cc
+
+-- the first row stands at the start
+first_at : (row : ℕ → Row) (start end : ℕ) (r : RowAt) (rows : List RowAt) → Ascending start end (r ∷ rows) → last_at (r ∷ rows) start ≡ Some (row start) → r.address ≡ start
+first_at row start end r rows rising at =
+    elim (cases_lt start r.address) [
+      | inl below ↦ absurd (none_some (row start) (sym (past_all (start + 1) end start (r ∷ rows) (omega (arith, below), rising.1, rising.2) (omega arith)) ∙ at))
+      | inr past ↦ omega (arith, past, rising.0)
+    ]
+
+follows_first : (row : ℕ → Row) (start end : ℕ) (r : RowAt) (rows : List RowAt) → ((a : ℕ) → start ≤ a → a < end → last_at (r ∷ rows) a ≡ Some (row a)) → r.address ≡ start → Follows row (start + 1) end r.row rows
+unfolding Follows
+follows_first row start end r rows each at a le below = sym (last_on r rows a (omega (arith, at))) ∙ each a (omega arith) below
+
+first_row : (row : ℕ → Row) (start end : ℕ) (r : RowAt) (rows : List RowAt) → Ascending start end (r ∷ rows) → last_at (r ∷ rows) start ≡ Some (row start) → r.address ≡ start → r.row ≡ row start
+first_row row start end r rows rising says at =
+    some_same r.row (row start) (ap (λ o. or_row o (Some r.row)) (sym (past_all (r.address + 1) end start rows rising.2 (omega (arith, at)))) ∙ sym (last_on r rows start (omega (arith, at))) ∙ says)
+
+first_line : (row : ℕ → Row) (start base n end : ℕ) → end ≡ start + 1 + n → line_at row start end base start ≡ Init (start - base) (first_cut row start (start + 1) n - start) (row_rules (row start)) ∷ []
+unfolding line_at is_cut
+first_line row start base n end size =
+    let left : end - (start + 1) ≡ n = omega (arith, size) in
+    ap (λ t. cond (t || comes_to_rest (row (start - 1)) (row start)) (Init (start - base) (first_cut row start (start + 1) (end - (start + 1)) - start) (row_rules (row start)) ∷ []) (change (start - base) (changed_rules (row (start - 1)) (row start)))) (eq-eqb start start refl)
+    ∙ ap (λ m. Init (start - base) (first_cut row start (start + 1) m - start) (row_rules (row start)) ∷ []) left
+
+from_first : (row : ℕ → Row) (start base n end : ℕ) (r : RowAt) (rows : List RowAt) → end ≡ start + 1 + n → Ascending start end (r ∷ rows) → r.address ≡ start → r.row ≡ row start → Follows row (start + 1) end r.row rows →
+    lines_of base end (r ∷ rows) ≡ flat_map (line_at row start end base) (start ∷ range_with_len (start + 1) n)
+unfolding lines_of Rests
+from_first row start base n end r rows size rising at e follows =
+    let back : start + 1 - 1 ≡ start = omega arith in
+    let P : ℕ → Type 0 = λ k. Ascending (k + 1) end rows in
+    let tail : List SymLine = flat_map (line_at row start end base) (range_with_len (start + 1) n) in
+    rests row start end (start + 1) n r.row rows (opened base [] r.address r.row) size (omega arith) (e ∙ ap row (sym back)) (subst P at rising.2) follows
+    ∙ ap (λ k. (Init (k - base) (first_cut row start (start + 1) n - k) (row_rules r.row) ∷ []) ++ tail) at
+    ∙ ap (λ x. (Init (start - base) (first_cut row start (start + 1) n - start) (row_rules x) ∷ []) ++ tail) e
+    ∙ ap (λ xs. xs ++ tail) (sym (first_line row start base n end size))
+
+-- the pass over the rows of a range gives the records of the range
+pub lines_are : (row : ℕ → Row) (start size base : ℕ) (rows : List RowAt) → 0 < size → Ascending start (start + size) rows → ((a : ℕ) → start ≤ a → a < start + size → last_at rows a ≡ Some (row a)) → lines_of base (start + size) rows ≡ frame_lines row start size base
+unfolding last_at frame_lines
+lines_are row start zero base rows some rising each = absurd (omega (arith, some))
+lines_are row start (suc n) base [] some rising each = absurd (none_some (row start) (each start (omega arith) (omega arith)))
+lines_are row start (suc n) base (r ∷ rows) some rising each =
+    let end : ℕ = start + suc n in
+    let size : end ≡ start + 1 + n = omega arith in
+    let says : last_at (r ∷ rows) start ≡ Some (row start) = each start (omega arith) (omega arith) in
+    let at : r.address ≡ start = first_at row start end r rows rising says in
+    from_first row start base n end r rows size rising at (first_row row start end r rows rising says at) (follows_first row start end r rows each at)

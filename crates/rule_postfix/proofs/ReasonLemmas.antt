@@ -1,0 +1,77 @@
+-- The first reason to leave an entry out.
+use Rattle.std.proofs.Common.{◌≡◌, ℕ, ◌+◌, ◌<◌, ◌≤◌, ◌&&◌, ◌^◌, not, nat_lt, Bool, true, false, cond, List, Option, None, Some, Err, refl, ap, sym, ◌∙◌, arith}
+use Rattle.std.proofs.lemmas.Bool.{and_right, and_from, le-ltb, lt-ltb}
+use Rattle.sym_edges.specs.declared.fault.Stop.{Stop}
+use Rattle.sym_edges.specs.declared.fault.Stop.TheVariants.{Fault, NoMemory}
+use Rattle.sym_edges.specs.Outside.{MatchStop}
+use Rattle.frame_rows.specs.declared.row.RowAt.{RowAt}
+use Rattle.sym_records.specs.declared.line.SymLine.{SymLine}
+use Rattle.rule_postfix.specs.Deciding.{EndsAt}
+use Rattle.sym_edges.specs.declared.reason.Reason.{Reason}
+use Rattle.sym_edges.specs.declared.reason.Reason.TheVariants as reason
+use Rattle.sym_edges.specs.Addresses.{Range}
+use Rattle.range_set.specs.Enclosing.{encloses}
+use Rattle.frame_entries.specs.FdeFields.{FdeFields}
+use Rattle.frame_rows.specs.Steps.{unless, or_reason}
+use Rattle.frame_rows.specs.Rows.{rows_fault, instruction_fault}
+use Rattle.rule_postfix.specs.Overlaps.{any_meets}
+use Rattle.rule_postfix.specs.Written.{range_of, has_range, rows_reason, is_code, reason_among}
+
+-- without a range the instructions decide, and then it is not code
+unranged : (code taken : List Range) (e : FdeFields) (why : Option Reason) → has_range e ≡ false → why ≡ instruction_fault e → reason_among code taken e ≡ or_reason why (Some reason.Outside)
+unfolding reason_among rows_reason is_code
+unranged code taken e why none is =
+    ap (λ t. or_reason (cond t (rows_fault e) (instruction_fault e)) (or_reason (unless (t && encloses code e.start (e.start + e.size)) reason.Outside) (unless (not (any_meets (range_of e) taken)) reason.Overlap))) none
+    ∙ ap (λ o. or_reason o (Some reason.Outside)) (sym is)
+
+pub unranged_bad : (code taken : List Range) (e : FdeFields) (why : Reason) → has_range e ≡ false → Some why ≡ instruction_fault e → reason_among code taken e ≡ Some why
+unranged_bad code taken e why none is = unranged code taken e (Some why) none is
+
+pub unranged_good : (code taken : List Range) (e : FdeFields) → has_range e ≡ false → None ≡ instruction_fault e → reason_among code taken e ≡ Some reason.Outside
+unranged_good code taken e none is = unranged code taken e None none is
+
+-- with a range its rows decide, then its place, then the ranges that are taken
+ranged : (code taken : List Range) (e : FdeFields) (why : Option Reason) (inside meets : Bool) → has_range e ≡ true → rows_fault e ≡ why → encloses code e.start (e.start + e.size) ≡ inside → any_meets (range_of e) taken ≡ meets → reason_among code taken e ≡ or_reason why (or_reason (unless inside reason.Outside) (unless (not meets) reason.Overlap))
+unfolding reason_among rows_reason is_code
+ranged code taken e why inside meets has rows place met =
+    ap (λ t. or_reason (cond t (rows_fault e) (instruction_fault e)) (or_reason (unless (t && encloses code e.start (e.start + e.size)) reason.Outside) (unless (not (any_meets (range_of e) taken)) reason.Overlap))) has
+    ∙ ap (λ o. or_reason o (or_reason (unless (encloses code e.start (e.start + e.size)) reason.Outside) (unless (not (any_meets (range_of e) taken)) reason.Overlap))) rows
+    ∙ ap (λ t. or_reason why (or_reason (unless t reason.Outside) (unless (not (any_meets (range_of e) taken)) reason.Overlap))) place
+    ∙ ap (λ t. or_reason why (or_reason (unless inside reason.Outside) (unless (not t) reason.Overlap))) met
+
+no_rows : (code taken : List Range) (e : FdeFields) (why : Reason) → has_range e ≡ true → rows_fault e ≡ Some why → reason_among code taken e ≡ Some why
+no_rows code taken e why has rows = ranged code taken e (Some why) (encloses code e.start (e.start + e.size)) (any_meets (range_of e) taken) has rows refl refl
+
+pub rows_refused : (code taken : List Range) (e : FdeFields) (end : ℕ) (stop : Stop Reason) → EndsAt e end → MatchStop {A = List RowAt} (Err stop) (λ _. rows_fault e ≡ None) (λ why. rows_fault e ≡ Some why) (Unit {0}) → MatchStop {A = List SymLine} (Err stop) (λ _. reason_among code taken e ≡ None) (λ why. reason_among code taken e ≡ Some why) (Unit {0})
+rows_refused code taken e end (Fault why) ends rows = no_rows code taken e why ends.ranged rows
+rows_refused code taken e end NoMemory ends rows = tt
+
+pub no_code : (code taken : List Range) (e : FdeFields) (end : ℕ) → EndsAt e end → rows_fault e ≡ None → encloses code e.start end ≡ false → reason_among code taken e ≡ Some reason.Outside
+no_code code taken e end ends rows place = ranged code taken e None false (any_meets (range_of e) taken) ends.ranged rows (ap (encloses code e.start) (sym ends.sum) ∙ place) refl
+
+at_end : (taken : List Range) (e : FdeFields) (end : ℕ) (meets : Bool) → EndsAt e end → any_meets (record { start = e.start; end = end }) taken ≡ meets → any_meets (range_of e) taken ≡ meets
+at_end taken e end meets ends met = ap (λ (k : ℕ). any_meets (record { start = e.start; end = k }) taken) (sym ends.sum) ∙ met
+
+pub overlaps : (code taken : List Range) (e : FdeFields) (end : ℕ) → EndsAt e end → rows_fault e ≡ None → encloses code e.start end ≡ true → any_meets (record { start = e.start; end = end }) taken ≡ true → reason_among code taken e ≡ Some reason.Overlap
+overlaps code taken e end ends rows place met = ranged code taken e None true true ends.ranged rows (ap (encloses code e.start) (sym ends.sum) ∙ place) (at_end taken e end true ends met)
+
+pub no_reason : (code taken : List Range) (e : FdeFields) (end : ℕ) → EndsAt e end → rows_fault e ≡ None → encloses code e.start end ≡ true → any_meets (record { start = e.start; end = end }) taken ≡ false → reason_among code taken e ≡ None
+no_reason code taken e end ends rows place met = ranged code taken e None true false ends.ranged rows (ap (encloses code e.start) (sym ends.sum) ∙ place) (at_end taken e end false ends met)
+
+-- the range of an entry as its start and size say
+pub is_empty : (e : FdeFields) → e.size ≡ 0 → has_range e ≡ false
+unfolding has_range
+is_empty e none = ap (λ n. nat_lt 0 n && nat_lt (e.start + n) (2 ^ 64)) none
+
+pub leaves : (e : FdeFields) → 2 ^ 64 ≤ e.start + e.size → has_range e ≡ false
+unfolding has_range
+leaves e past = and_right (nat_lt 0 e.size) (nat_lt (e.start + e.size) (2 ^ 64)) (le-ltb (e.start + e.size) (2 ^ 64) past)
+
+pub ends_at : (e : FdeFields) (end : ℕ) → 0 < e.size → end ≡ e.start + e.size → end < 2 ^ 64 → EndsAt e end
+unfolding has_range
+ends_at e end some sum fits = record {
+  ranged = and_from (nat_lt 0 e.size) (nat_lt (e.start + e.size) (2 ^ 64)) (lt-ltb 0 e.size some) (lt-ltb (e.start + e.size) (2 ^ 64) (omega (arith, sum, fits)));
+  some = some;
+  sum = sum;
+  fits = fits;
+}

@@ -1,0 +1,141 @@
+-- Rules of records, one target after another.
+use Rattle.std.proofs.Common.{◌≡◌, ℕ, ◌+◌, ◌<◌, ◌≤◌, ◌||◌, true, false, List, [], ◌∷◌, ◌++◌, map, length, cond, Option, None, Some, refl, ap, sym, ◌∙◌, arith, append_assoc, length-append, get_or, replicate, inl, inr}
+use Rattle.std.specs.List.{cons_option, list_any, range_with_len, filter_map}
+use Rattle.std.specs.Option.{option_to_list}
+use Rattle.std.proofs.lemmas.Bool.{cases_lt, or_from}
+use Rattle.std.proofs.lemmas.List.{append-nil, get_or_past, get_or-replicate, length-replicate}
+use Rattle.std.proofs.lemmas.List.Elements.{filter_map-append}
+use Rattle.std.proofs.lemmas.List.FromFn.{map-range_with_len_more, get_or-range_with_len, length-range_with_len}
+use Rattle.std.proofs.lemmas.List.Folds.{list_any-append, list_any_at}
+use Rattle.frame_rows.specs.declared.row.Row.{Row}
+use Rattle.sym_records.specs.declared.rules.Target.{Target}
+use Rattle.sym_records.specs.declared.rules.Target.TheVariants.{Cfa, Ra, Reg, Other}
+use Rattle.sym_records.specs.declared.rules.Token.{Token}
+use Rattle.sym_records.specs.declared.rules.RuleText.{RuleText}
+use Rattle.frame_rows.specs.Rows.{empty_row}
+use Rattle.frame_rows.specs.declared.row.Rule.TheVariants as rule
+use Rattle.rule_postfix.specs.declared.parts.Part.{Part}
+use Rattle.rule_postfix.specs.declared.parts.Part.TheVariants.{AtRest, Base, Column}
+use Rattle.rule_postfix.specs.Parts.{rests_anew, is_rest, cfa_part, rule_at, part_of, column_part}
+use Rattle.rule_postfix.specs.Rules.{rule_of, rule_by, rules_of, rules_by, registers, targets, if_other, spelled, if_not_at_rest, row_rules, if_changed, changed_rules, rests_below}
+
+-- no register yet
+pub no_register : (tokens : Target → Option (List Token)) (rules : List RuleText) → rules ≡ rules ++ rules_of tokens (registers 0)
+unfolding rules_of registers
+no_register tokens rules = sym (append-nil rules)
+
+-- one more
+registers_more : (n : ℕ) → registers (n + 1) ≡ registers n ++ Reg n ∷ []
+unfolding registers
+registers_more n = map-range_with_len_more Reg 0 n n (omega arith)
+
+one_rule : (tokens : Target → Option (List Token)) (t : Target) → rules_of tokens (t ∷ []) ≡ option_to_list (rule_of t (tokens t))
+unfolding rules_of
+one_rule tokens t = elim (tokens t) as (λ o. filter_map (λ (u : Target). rule_of t o) (t ∷ []) ≡ option_to_list (rule_of t o)) [ None ↦ refl | Some words ↦ refl ]
+
+rules_append : (tokens : Target → Option (List Token)) (xs ys : List Target) → rules_of tokens (xs ++ ys) ≡ rules_of tokens xs ++ rules_of tokens ys
+unfolding rules_of
+rules_append tokens xs ys = filter_map-append (rule_by tokens) xs ys
+
+rules_more : (tokens : Target → Option (List Token)) (n : ℕ) → rules_of tokens (registers (n + 1)) ≡ rules_of tokens (registers n) ++ option_to_list (rule_of (Reg n) (tokens (Reg n)))
+rules_more tokens n = ap (rules_of tokens) (registers_more n) ∙ rules_append tokens (registers n) (Reg n ∷ []) ∙ ap (λ xs. rules_of tokens (registers n) ++ xs) (one_rule tokens (Reg n))
+
+pub one_register_more : (tokens : Target → Option (List Token)) (n : ℕ) (front rules more : List RuleText) → rules ≡ front ++ rules_of tokens (registers n) → more ≡ rules ++ option_to_list (rule_of (Reg n) (tokens (Reg n))) → more ≡ front ++ rules_of tokens (registers (n + 1))
+one_register_more tokens n front rules more e f = f ∙ ap (λ xs. xs ++ option_to_list (rule_of (Reg n) (tokens (Reg n)))) e ∙ append_assoc front (rules_of tokens (registers n)) (option_to_list (rule_of (Reg n) (tokens (Reg n)))) ∙ ap (λ xs. front ++ xs) (sym (rules_more tokens n))
+
+-- so many rules are counted, of so many registers
+pub record Counting (before after : Row) (n count : ℕ) : Type 0 where
+  pub exact : count ≡ length (rules_of (if_changed before after) (registers n))
+  pub most : count ≤ n
+
+pub counted_none : (before after : Row) → Counting before after 0 0
+unfolding rules_of registers
+counted_none before after = record { exact = refl; most = omega arith }
+
+counts : (t : Target) (o : Option (List Token)) → length (option_to_list (rule_of t o)) ≡ length (option_to_list o)
+counts t None = refl
+counts t (Some words) = refl
+
+counted : (tokens : Target → Option (List Token)) (n count : ℕ) → count ≡ length (rules_of tokens (registers n)) → count + length (option_to_list (tokens (Reg n))) ≡ length (rules_of tokens (registers (n + 1)))
+counted tokens n count e = ap (λ c. c + length (option_to_list (tokens (Reg n)))) e ∙ ap (λ c. length (rules_of tokens (registers n)) + c) (sym (counts (Reg n) (tokens (Reg n)))) ∙ sym (ap length (rules_more tokens n) ∙ length-append (rules_of tokens (registers n)) (option_to_list (rule_of (Reg n) (tokens (Reg n)))))
+
+pub counted_more : (before after : Row) (n count one : ℕ) → Counting before after n count → one ≡ length (option_to_list (if_changed before after (Reg n))) → one ≤ 1 → Counting before after (n + 1) (count + one)
+counted_more before after n count one so e small = record { exact = ap (λ c. count + c) e ∙ counted (if_changed before after) n count so.exact; most = omega (arith, so.most) }
+
+-- the three parts of a record's rules
+rules_cons : (tokens : Target → Option (List Token)) (t : Target) (ts : List Target) → rules_of tokens (t ∷ ts) ≡ option_to_list (rule_of t (tokens t)) ++ rules_of tokens ts
+rules_cons tokens t ts = rules_append tokens (t ∷ []) ts ∙ ap (λ xs. xs ++ rules_of tokens ts) (one_rule tokens t)
+
+pub all_rules : (before after : Row) (first second third : List RuleText) → first ≡ [] ++ option_to_list (rule_of Cfa (if_changed before after Cfa)) → second ≡ first ++ option_to_list (rule_of Ra (if_changed before after Ra)) → third ≡ second ++ rules_of (if_changed before after) (registers 16) → third ≡ changed_rules before after
+unfolding changed_rules rules_by
+all_rules before after first second third a b c =
+    let tokens : Target → Option (List Token) = if_changed before after in
+    c ∙ ap (λ xs. xs ++ rules_of tokens (registers 16)) (b ∙ ap (λ xs. xs ++ option_to_list (rule_of Ra (tokens Ra))) a) ∙ append_assoc (option_to_list (rule_of Cfa (tokens Cfa))) (option_to_list (rule_of Ra (tokens Ra))) (rules_of tokens (registers 16))
+    ∙ sym (rules_cons tokens Cfa (Ra ∷ registers 16) ∙ ap (λ xs. option_to_list (rule_of Cfa (tokens Cfa)) ++ xs) (rules_cons tokens Ra (registers 16)))
+
+-- columns that come to rest
+pub none_rests : (before after : Row) → rests_below before after 0 ≡ false
+unfolding rests_below
+none_rests before after = refl
+
+map_same : (xs : List ℕ) → map (λ k. k) xs ≡ xs
+map_same [] = refl
+map_same (x ∷ xs) = ap (λ ys. x ∷ ys) (map_same xs)
+
+pub range_from_more : (a n : ℕ) → range_with_len a (n + 1) ≡ range_with_len a n ++ (a + n) ∷ []
+range_from_more a n = sym (map_same (range_with_len a (n + 1))) ∙ map-range_with_len_more (λ k. k) a n (a + n) refl ∙ ap (λ xs. xs ++ (a + n) ∷ []) (map_same (range_with_len a n))
+
+range_more : (n : ℕ) → range_with_len 0 (n + 1) ≡ range_with_len 0 n ++ n ∷ []
+range_more n = let from : 0 + n ≡ n = omega arith in range_from_more 0 n ∙ ap (λ k. range_with_len 0 n ++ k ∷ []) from
+
+pub no_more_rests : (before after : Row) (n : ℕ) → rests_below before after n ≡ false → rests_anew before after n ≡ false → rests_below before after (n + 1) ≡ false
+unfolding rests_below
+no_more_rests before after n none stays =
+    ap (list_any (rests_anew before after)) (range_more n) ∙ list_any-append (rests_anew before after) (range_with_len 0 n) (n ∷ [])
+    ∙ or_from (list_any (rests_anew before after) (range_with_len 0 n)) (rests_anew before after n || false) none (or_from (rests_anew before after n) false stays refl)
+
+pub some_rests : (before after : Row) (n : ℕ) → n < 17 → rests_anew before after n ≡ true → true ≡ rests_below before after 17
+unfolding rests_below
+some_rests before after n below rests =
+    let here : get_or (range_with_len 0 17) n 0 ≡ n = get_or-range_with_len 0 17 n 0 below ∙ (omega arith) in
+    sym (list_any_at (rests_anew before after) (range_with_len 0 17) n 0 (omega (arith, length-range_with_len 0 17)) (ap (rests_anew before after) here ∙ rests))
+
+-- beside a row that says nothing, what differs is what is not at rest
+if_from_rest : (t : Target) (p : Part) → if_other t AtRest p ≡ cond (is_rest p) None (spelled t p)
+if_from_rest t AtRest = refl
+if_from_rest t (Base cfa) = refl
+if_from_rest t (Column given) = refl
+
+rest_at : (column : ℕ) → rule_at empty_row column ≡ rule.Rest
+unfolding empty_row
+rest_at column =
+    elim (cases_lt column 17) [
+      | inl below ↦ get_or-replicate 17 column rule.Rest rule.Rest below
+      | inr past ↦ get_or_past (replicate 17 rule.Rest) column rule.Rest (omega (arith, length-replicate 17 rule.Rest))
+    ]
+
+resting_part : (column : ℕ) → column_part column rule.Rest ≡ AtRest
+unfolding column_part
+resting_part column = refl
+
+empty_part : (column : ℕ) → column_part column (rule_at empty_row column) ≡ AtRest
+empty_part column = ap (column_part column) (rest_at column) ∙ resting_part column
+
+if_from_empty : (row : Row) (t : Target) → if_changed empty_row row t ≡ if_not_at_rest row t
+unfolding if_changed if_not_at_rest part_of empty_row
+if_from_empty row Cfa = if_from_rest Cfa (cfa_part row.cfa)
+if_from_empty row Ra = ap (λ p. if_other Ra p (column_part 16 (rule_at row 16))) (empty_part 16) ∙ if_from_rest Ra (column_part 16 (rule_at row 16))
+if_from_empty row (Reg k) = ap (λ p. if_other (Reg k) p (column_part k (rule_at row k))) (empty_part k) ∙ if_from_rest (Reg k) (column_part k (rule_at row k))
+if_from_empty row (Other name) = refl
+
+rules_same : (f g : Target → Option (List Token)) → ((t : Target) → f t ≡ g t) → (ts : List Target) → rules_of f ts ≡ rules_of g ts
+unfolding rules_of
+rules_same f g same [] = refl
+rules_same f g same (t ∷ ts) = ap (λ o. cons_option (rule_of t o) (rules_of f ts)) (same t) ∙ ap (cons_option (rule_of t (g t))) (rules_same f g same ts)
+
+rules_from_empty : (row : Row) → changed_rules empty_row row ≡ row_rules row
+unfolding changed_rules row_rules rules_by
+rules_from_empty row = rules_same (if_changed empty_row row) (if_not_at_rest row) (if_from_empty row) targets
+
+pub from_empty : (empty row : Row) (rules : List RuleText) → empty ≡ empty_row → rules ≡ changed_rules empty row → rules ≡ row_rules row
+from_empty empty row rules e made = made ∙ ap (λ r. changed_rules r row) e ∙ rules_from_empty row

@@ -1,0 +1,108 @@
+-- The records of sound rows are valid behind any record.
+use Rattle.std.proofs.Common.{◌≡◌, ℕ, zero, suc, ◌+◌, ◌-◌, ◌<◌, ◌≤◌, ◌||◌, ◌^◌, Bool, true, false, cond, List, [], ◌∷◌, ◌++◌, length, None, refl, ap, sym, subst, ◌∙◌, arith, eq-eqb}
+use Rattle.std.specs.List.{list_all, flat_map, range_with_len}
+use Rattle.std.proofs.lemmas.Grind.{flat_map-append}
+use Rattle.std.proofs.lemmas.List.{append-nil}
+use Rattle.frame_rows.specs.declared.row.Row.{Row}
+use Rattle.frame_rows.specs.Steps.{has_cfa}
+use Rattle.frame_rows.specs.Rows.{IsSound}
+use Rattle.sym_records.specs.declared.line.SymLine.{SymLine}
+use Rattle.sym_records.specs.declared.line.SymLine.TheVariants.{Init, Change}
+use Rattle.sym_records.specs.declared.place.Place.{Place}
+use Rattle.sym_records.specs.declared.place.Place.TheVariants.{Inside, Frame}
+use Rattle.sym_records.specs.declared.rules.RuleText.{RuleText}
+use Rattle.sym_records.specs.Reading.{fits, leads}
+use Rattle.sym_records.specs.RuleValidity.{is_plain_rule}
+use Rattle.sym_records.specs.Validity.{fields_fit, first_bad_from, place_behind}
+use Rattle.rule_postfix.specs.Rules.{comes_to_rest, row_rules, changed_rules}
+use Rattle.rule_postfix.specs.FrameLines.{is_cut, first_cut, change, line_at, frame_lines}
+use Rattle.rule_postfix.proofs.PlainLemmas.{row_plain, changes_plain, row_most, changes_most, row_some}
+use Rattle.rule_postfix.proofs.RulesLemmas.{range_from_more}
+
+-- what holds of records
+pub record RecordLaws : Type 0 where
+  pub init : (address size : ℕ) (rules : List RuleText) → address < 2 ^ 64 → size < 2 ^ 64 → list_all is_plain_rule rules ≡ true → 0 < length rules → length rules ≤ 18 → fields_fit (Init address size rules) ≡ true
+  pub change : (address : ℕ) (rules : List RuleText) → address < 2 ^ 64 → list_all is_plain_rule rules ≡ true → 0 < length rules → length rules ≤ 18 → fields_fit (Change address rules) ≡ true
+  pub pushed : (place : Place) (lines : List SymLine) (s : SymLine) → first_bad_from 0 place lines ≡ None → fits (place_behind place lines) s ≡ true → fields_fit s ≡ true → first_bad_from 0 place (lines ++ s ∷ []) ≡ None
+  pub place : (place : Place) (lines : List SymLine) (s : SymLine) → place_behind place (lines ++ s ∷ []) ≡ leads (place_behind place lines) s
+
+-- each row of a range is sound and has a CFA rule
+pub record GoodRows (row : ℕ → Row) (start size base : ℕ) : Type 0 where
+  pub sound : (a : ℕ) → IsSound (row a)
+  pub cfa : (a : ℕ) → start ≤ a → a < start + size → has_cfa (row a) ≡ true
+  pub inside : start + size < 2 ^ 64
+
+-- records are valid behind any record, and leave a place
+record Good (place : Place) (lines : List SymLine) : Type 0 where
+  valid : first_bad_from 0 Inside lines ≡ None
+  behind : place_behind Inside lines ≡ place
+
+push : RecordLaws → (place : Place) (lines : List SymLine) (s : SymLine) → Good place lines → fits place s ≡ true → leads place s ≡ Frame → fields_fit s ≡ true → Good Frame (lines ++ s ∷ [])
+push laws place lines s good stands to fit = record {
+  valid = laws.pushed Inside lines s good.valid (ap (λ p. fits p s) good.behind ∙ stands) fit;
+  behind = laws.place Inside lines s ∙ ap (λ p. leads p s) good.behind ∙ to;
+}
+
+cut_by : (cut : Bool) (b c end : ℕ) → b ≤ end → c ≤ end → cond cut b c ≤ end
+cut_by true b c end first second = first
+cut_by false b c end first second = second
+
+pub cut_within : (row : ℕ → Row) (start b n : ℕ) → first_cut row start b n ≤ b + n
+unfolding first_cut
+cut_within row start b zero = omega arith
+cut_within row start b (suc n) = cut_by (is_cut row start b) b (first_cut row start (b + 1) n) (b + suc n) (omega arith) (omega (arith, cut_within row start (b + 1) n))
+
+init_fit : RecordLaws → (row : ℕ → Row) (start size base b end : ℕ) → GoodRows row start size base → end ≡ start + size → start ≤ b → b < end → fields_fit (Init (b - base) (first_cut row start (b + 1) (end - (b + 1)) - b) (row_rules (row b))) ≡ true
+init_fit laws row start size base b end rows is from below =
+    laws.init (b - base) (first_cut row start (b + 1) (end - (b + 1)) - b) (row_rules (row b)) (omega (arith, rows.inside, is)) (omega (arith, rows.inside, is, cut_within row start (b + 1) (end - (b + 1))))
+    (row_plain (row b) (rows.sound b)) (row_some (row b) (rows.cfa b from (omega (arith, is)))) (row_most (row b))
+
+-- a record of changes, if there is one
+changes_good : RecordLaws → (row : ℕ → Row) (start size base b : ℕ) (rules : List RuleText) (lines : List SymLine) → GoodRows row start size base → b < start + size → list_all is_plain_rule rules ≡ true → length rules ≤ 18 → Good Frame lines → Good Frame (lines ++ change (b - base) rules)
+changes_good laws row start size base b [] lines rows below plain most good = let P : List SymLine → Type 0 = λ xs. Good Frame xs in subst P (sym (append-nil lines)) good
+changes_good laws row start size base b (r ∷ rules) lines rows below plain most good =
+    push laws Frame lines (Change (b - base) (r ∷ rules)) good refl refl (laws.change (b - base) (r ∷ rules) (omega (arith, rows.inside)) plain (omega arith) most)
+
+next_by : RecordLaws → (row : ℕ → Row) (start size base b end : ℕ) (cut : Bool) (lines : List SymLine) → GoodRows row start size base → end ≡ start + size → start ≤ b → b < end → Good Frame lines →
+    Good Frame (lines ++ cond cut (Init (b - base) (first_cut row start (b + 1) (end - (b + 1)) - b) (row_rules (row b)) ∷ []) (change (b - base) (changed_rules (row (b - 1)) (row b))))
+next_by laws row start size base b end true lines rows is from below good =
+    push laws Frame lines (Init (b - base) (first_cut row start (b + 1) (end - (b + 1)) - b) (row_rules (row b))) good refl refl (init_fit laws row start size base b end rows is from below)
+next_by laws row start size base b end false lines rows is from below good =
+    changes_good laws row start size base b (changed_rules (row (b - 1)) (row b)) lines rows (omega (arith, is)) (changes_plain (row (b - 1)) (row b) (rows.sound b)) (changes_most (row (b - 1)) (row b)) good
+
+next_good : RecordLaws → (row : ℕ → Row) (start size base b end : ℕ) (lines : List SymLine) → GoodRows row start size base → end ≡ start + size → start ≤ b → b < end → Good Frame lines → Good Frame (lines ++ line_at row start end base b)
+unfolding line_at
+next_good laws row start size base b end lines rows is from below good = next_by laws row start size base b end (is_cut row start b) lines rows is from below good
+
+first_good : RecordLaws → (row : ℕ → Row) (start size base end : ℕ) → GoodRows row start size base → end ≡ start + size → 0 < size → Good Frame (line_at row start end base start)
+unfolding line_at is_cut first_bad_from place_behind
+first_good laws row start size base end rows is some =
+    let line : Bool → List SymLine = λ t. cond (t || comes_to_rest (row (start - 1)) (row start)) (Init (start - base) (first_cut row start (start + 1) (end - (start + 1)) - start) (row_rules (row start)) ∷ []) (change (start - base) (changed_rules (row (start - 1)) (row start))) in
+    let P : List SymLine → Type 0 = λ xs. Good Frame xs in
+    subst P (sym (ap line (eq-eqb start start refl)))
+    (push laws Inside [] (Init (start - base) (first_cut row start (start + 1) (end - (start + 1)) - start) (row_rules (row start))) (record { valid = refl; behind = refl }) refl refl (init_fit laws row start size base start end rows is (omega arith) (omega (arith, is))))
+
+lines_more : (row : ℕ → Row) (start end base n : ℕ) → flat_map (line_at row start end base) (range_with_len start (n + 1)) ≡ flat_map (line_at row start end base) (range_with_len start n) ++ line_at row start end base (start + n)
+lines_more row start end base n =
+    ap (flat_map (line_at row start end base)) (range_from_more start n) ∙ flat_map-append (line_at row start end base) (range_with_len start n) ((start + n) ∷ [])
+    ∙ ap (λ xs. flat_map (line_at row start end base) (range_with_len start n) ++ xs) (append-nil (line_at row start end base (start + n)))
+
+all_good : RecordLaws → (row : ℕ → Row) (start size base end n : ℕ) → GoodRows row start size base → end ≡ start + size → n < size → Good Frame (flat_map (line_at row start end base) (range_with_len start (n + 1)))
+all_good laws row start size base end zero rows is below =
+    let P : List SymLine → Type 0 = λ xs. Good Frame xs in
+    subst P (sym (append-nil (line_at row start end base start))) (first_good laws row start size base end rows is below)
+all_good laws row start size base end (suc n) rows is below =
+    let P : List SymLine → Type 0 = λ xs. Good Frame xs in
+    let one : suc n ≡ n + 1 = omega arith in
+    subst P (sym (lines_more row start end base (suc n)))
+    (next_good laws row start size base (start + suc n) end (flat_map (line_at row start end base) (range_with_len start (suc n))) rows is (omega arith) (omega (arith, is, below))
+    (let Q : ℕ → Type 0 = λ k. Good Frame (flat_map (line_at row start end base) (range_with_len start k)) in subst Q (sym one) (all_good laws row start size base end n rows is (omega (arith, below)))))
+
+-- the records of a range of good rows are valid behind any record
+pub lines_valid : RecordLaws → (row : ℕ → Row) (start size base : ℕ) → GoodRows row start size base → 0 < size → first_bad_from 0 Inside (frame_lines row start size base) ≡ None
+unfolding frame_lines
+lines_valid laws row start zero base rows some = absurd (omega (arith, some))
+lines_valid laws row start (suc n) base rows some =
+    let one : n + 1 ≡ suc n = omega arith in
+    ap (λ k. first_bad_from 0 Inside (flat_map (line_at row start (start + suc n) base) (range_with_len start k))) (sym one)
+    ∙ (all_good laws row start (suc n) base (start + suc n) n rows refl (omega arith)).valid

@@ -1,0 +1,34 @@
+-- The frame records of an entry (Breakpad's symbol_files.md, "STACK CFI INIT" and "STACK CFI"), by the row at each address:
+-- neighbouring addresses are compared, whatever made the rows.
+use Rattle.std.specs.Prelude.{ℕ, ◌+◌, ◌-◌, ◌==◌, ◌||◌, Bool, zero, suc, if◌then◌else◌, List, [], ◌∷◌}
+use Rattle.std.specs.List.{flat_map, range_with_len}
+use Rattle.frame_rows.specs.declared.row.Row.{Row}
+use Rattle.sym_records.specs.declared.line.SymLine.{SymLine}
+use Rattle.sym_records.specs.declared.line.SymLine.TheVariants.{Init, Change}
+use Rattle.sym_records.specs.declared.rules.RuleText.{RuleText}
+use Rattle.rule_postfix.specs.Rules.{row_rules, changed_rules, comes_to_rest}
+
+-- where an INIT begins: at the start of the range, and where a column comes to rest of which no line can say so
+unfoldable pub is_cut : (ℕ → Row) → ℕ → ℕ → Bool
+is_cut row start b = b == start || comes_to_rest (row (b - 1)) (row b)
+
+-- the first cut at or above an address, among the next n; else the address behind these
+unfoldable pub first_cut : (ℕ → Row) → ℕ → ℕ → ℕ → ℕ
+first_cut row start b zero = b
+first_cut row start b (suc n) = if is_cut row start b then b else first_cut row start (b + 1) n
+
+-- a record of changes, where there are any
+abbrev pub change : ℕ → List RuleText → List SymLine
+change address [] = []
+change address (r ∷ rules) = Change address (r ∷ rules) ∷ []
+
+-- the record at an address: at a cut an INIT with the whole row, up to the next cut or the end of the range; else the changes
+unfoldable pub line_at : (ℕ → Row) → ℕ → ℕ → ℕ → ℕ → List SymLine
+line_at row start end base b =
+    if is_cut row start b
+    then Init (b - base) (first_cut row start (b + 1) (end - (b + 1)) - b) (row_rules (row b)) ∷ []
+    else change (b - base) (changed_rules (row (b - 1)) (row b))
+
+-- the records of a range, with addresses counted from the base
+unfoldable pub frame_lines : (ℕ → Row) → ℕ → ℕ → ℕ → List SymLine
+frame_lines row start size base = flat_map (line_at row start (start + size) base) (range_with_len start size)

@@ -1,0 +1,92 @@
+-- The rules of frame records (Breakpad's symbol_files.md, "STACK CFI"): how a part is spelled, and which rules a record has.
+use Rattle.std.specs.Prelude.{ℕ, ◌==◌, Bool, if◌then◌else◌, List, [], ◌∷◌, map, Option, Some, None}
+use Rattle.std.specs.List.{list_any, range_with_len, filter_map}
+use Rattle.frame_rows.specs.declared.row.Rule.{Rule}
+use Rattle.frame_rows.specs.declared.row.Rule.TheVariants as rule
+use Rattle.frame_rows.specs.declared.row.Row.{Row}
+use Rattle.sym_records.specs.declared.rules.Target.{Target}
+use Rattle.sym_records.specs.declared.rules.Target.TheVariants.{Cfa, Ra, Reg, Other}
+use Rattle.sym_records.specs.declared.rules.Token.{Token}
+use Rattle.sym_records.specs.declared.rules.Token.TheVariants as token
+use Rattle.sym_records.specs.declared.rules.RuleText.{RuleText}
+use Rattle.rule_postfix.specs.declared.parts.Part.{Part}
+use Rattle.rule_postfix.specs.declared.parts.Part.TheVariants.{AtRest, Base, Column}
+use Rattle.rule_postfix.specs.Parts.{is_kept, stack_pointer, is_rest, same_part, part_of, rests_anew}
+
+-- at rest a kept register has the value that it still has, and rsp is the CFA; of the others nothing is known
+abbrev pub resting : Target → Option (List Token)
+resting Cfa = None
+resting Ra = None
+resting (Reg column) =
+    if is_kept column then Some (token.Reg column ∷ []) else
+    if column == stack_pointer then Some (token.Cfa ∷ []) else None
+resting (Other name) = None
+
+-- a register by its own name
+abbrev pub own_name : Target → Option (List Token)
+own_name Cfa = None
+own_name Ra = None
+own_name (Reg column) = Some (token.Reg column ∷ [])
+own_name (Other name) = None
+
+-- a column's rule: the word at the CFA plus an offset, the CFA plus an offset, or a register
+abbrev pub rule_spelled : Target → Rule → Option (List Token)
+rule_spelled t rule.Rest = None
+rule_spelled t rule.Undefined = None
+rule_spelled t rule.Same = own_name t
+rule_spelled t (rule.Offset n) = Some (token.Cfa ∷ token.Number n ∷ token.Add ∷ token.Fetch ∷ [])
+rule_spelled t (rule.ValOffset n) = Some (token.Cfa ∷ token.Number n ∷ token.Add ∷ [])
+rule_spelled t (rule.Register register) = Some (token.Reg register ∷ [])
+
+-- the tokens of a part, where it has a spelling; the CFA is a register plus an offset
+unfoldable pub spelled : Target → Part → Option (List Token)
+spelled t AtRest = resting t
+spelled t (Base cfa) = Some (token.Reg cfa.register ∷ token.Number cfa.offset ∷ token.Add ∷ [])
+spelled t (Column given) = rule_spelled t given
+
+-- the targets in the order of rules: `.cfa`, `.ra`, then the registers by number
+unfoldable pub registers : ℕ → List Target
+registers n = map Reg (range_with_len 0 n)
+
+abbrev pub targets : List Target
+targets = Cfa ∷ Ra ∷ registers 16
+
+-- a target with its tokens, where it has any
+abbrev pub rule_of : Target → Option (List Token) → Option RuleText
+rule_of t None = None
+rule_of t (Some words) = Some (record { target = t; tokens = words })
+
+abbrev pub rule_by : (Target → Option (List Token)) → Target → Option RuleText
+rule_by tokens t = rule_of t (tokens t)
+
+-- the rules of those targets that have tokens
+unfoldable pub rules_of : (Target → Option (List Token)) → List Target → List RuleText
+rules_of tokens ts = filter_map (rule_by tokens) ts
+
+unfoldable pub rules_by : (Target → Option (List Token)) → List RuleText
+rules_by tokens = rules_of tokens targets
+
+-- what is not at rest at a row
+unfoldable pub if_not_at_rest : Row → Target → Option (List Token)
+if_not_at_rest row t = if is_rest (part_of row t) then None else spelled t (part_of row t)
+
+-- what differs between two rows, as it is at the second
+abbrev pub if_other : Target → Part → Part → Option (List Token)
+if_other t before after = if same_part before after then None else spelled t after
+
+unfoldable pub if_changed : Row → Row → Target → Option (List Token)
+if_changed before after t = if_other t (part_of before t) (part_of after t)
+
+-- the rules of a row, and the changes between two
+unfoldable pub row_rules : Row → List RuleText
+row_rules row = rules_by (if_not_at_rest row)
+
+unfoldable pub changed_rules : Row → Row → List RuleText
+changed_rules before after = rules_by (if_changed before after)
+
+-- some column comes to rest of which no line can say so
+unfoldable pub rests_below : Row → Row → ℕ → Bool
+rests_below before after n = list_any (rests_anew before after) (range_with_len 0 n)
+
+unfoldable pub comes_to_rest : Row → Row → Bool
+comes_to_rest before after = rests_below before after 17

@@ -1,0 +1,207 @@
+//! The records of all entries.
+ghost use Rattle.std.specs.Prelude.{◌≡◌, ℕ, List, [], ◌++◌, ◌∷◌, ◌+◌, ◌^◌, ◌<◌, ◌≤◌, true, false, None, Some, MatchOption, IfOk, OnOk};
+ghost use Rattle.sym_edges.specs.Outside.{MatchStop};
+ghost use Rattle.sym_edges.specs.Addresses.{Range};
+ghost use Rattle.range_set.specs.Building.{AllFrom};
+ghost use Rattle.sym_records.specs.declared.place.Place.{Place};
+ghost use Rattle.sym_records.specs.Validity.{first_bad_from};
+ghost use Rattle.rule_postfix.specs.Overlaps.{any_meets};
+ghost use Rattle.rule_postfix.specs.Written.{Decided, has_range, range_of, reason_among, entry_lines, left_out, with_written, with_entry, with_entries, decided, none_decided, written, omitted, written_lines};
+ghost use Rattle.rule_postfix.specs.Covering.{inits_at, entries_at, AreDisjoint};
+ghost use Rattle.rule_postfix.specs.Deciding.{LiesAbove, EndsAt, IfRefused, Shows};
+
+use crate::omission::{Omission, Omissions};
+use crate::taken::Taken;
+use crate::translating::lines_of;
+use frame_entries::{Body, Entry, EntryList, Fde};
+use frame_rows::{inspect, rows};
+use range_set::Enclosing;
+use std::alloc::Global;
+use sym_edges::{ListOf, OutOfMemory, Reason, Span, Stop};
+use sym_records::laws::{good_lists_are_joined, plain_rules_fit};
+use sym_records::{SymLine, SymLines};
+
+/// The frame records of a file, and the entries that are left out.
+#[derive(Debug, Drop)]
+pub struct Frames {
+    pub lines: SymLines,
+    pub omitted: Omissions,
+}
+
+/// What was decided so far, and the ranges of the entries that are written.
+#[derive(Drop)]
+struct Progress {
+    lines: Vec<SymLine>,
+    omitted: Vec<Omission>,
+    taken: Taken,
+}
+
+/// The end of a range of addresses that is not empty and ends below 2^64.
+#[tactic(auto, using(crate::proofs::ReasonLemmas::ends_at, crate::proofs::ReasonLemmas::is_empty, crate::proofs::ReasonLemmas::leaves))]
+fn end_of(fde: &Fde<'_>) -> Option<u64>
+    ensures { MatchOption result (has_range fde.now ≡ false) (λ end. EndsAt fde.now end) }
+{
+    if fde.size == 0 {
+        return None;
+    }
+    fde.start.checked_add(fde.size)
+}
+
+/// Why an entry without such a range is left out.
+#[tactic(auto, using(crate::proofs::ReasonLemmas::unranged_bad, crate::proofs::ReasonLemmas::unranged_good))]
+fn reason_without_range(alloc: Global, fde: &Fde<'_>) -> Result<Reason, OutOfMemory>
+    requires { has_range fde.now ≡ false }
+    ensures { IfOk result (λ why. (code taken : List Range) → reason_among code taken fde.now ≡ Some why) }
+{
+    match inspect(alloc, fde)? {
+        Some(why) => Ok(why),
+        None => Ok(Reason::Outside),
+    }
+}
+
+/// The records of an entry, or the first reason to leave it out: its rows come first, and are spelled last.
+#[tactic(auto, using(crate::proofs::ReasonLemmas::rows_refused, crate::proofs::ReasonLemmas::no_code, crate::proofs::ReasonLemmas::overlaps, crate::proofs::ReasonLemmas::no_reason, crate::proofs::EntryLemmas::rising_to, crate::proofs::EntryLemmas::lines_to))]
+fn lines_or_reason(
+    alloc: Global,
+    fde: &Fde<'_>,
+    code: &Enclosing,
+    taken: &Taken,
+    base: u64,
+) -> Result<SymLines, Stop<Reason>>
+    requires { LiesAbove base code.now }
+    ensures lines { MatchStop result (λ lines. lines ≡ entry_lines base fde.now) (λ _. Unit {0}) (Unit {0}) }
+    ensures valid { MatchStop result (λ lines. first_bad_from 0 Place.Inside lines ≡ None) (λ _. Unit {0}) (Unit {0}) }
+    ensures exact { MatchStop result (λ _. reason_among code.now taken.now fde.now ≡ None) (λ why. reason_among code.now taken.now fde.now ≡ Some why) (Unit {0}) }
+{
+    plain_rules_fit();
+    good_lists_are_joined();
+    let Some(end) = end_of(fde) else {
+        return Err(Stop::Fault(reason_without_range(alloc, fde)?));
+    };
+    let rows = match rows(alloc, fde) {
+        Ok(rows) => rows,
+        Err(stop) => return Err(stop),
+    };
+    if !code.encloses(fde.start, end) {
+        return Err(Stop::Fault(Reason::Outside));
+    }
+    if taken.meets(fde.start, end) {
+        return Err(Stop::Fault(Reason::Overlap));
+    }
+    Ok(lines_of(alloc, rows.as_slice(), end, base)?)
+}
+
+/// An entry is left out.
+fn leave_out(progress: &mut Progress, entry: &Entry<'_>, reason: Reason) -> Result<(), OutOfMemory>
+    ensures { OnOk result ((base : ℕ) (d : Decided) → Shows base progress.old d → Shows base progress.new (left_out entry.now reason d)) }
+{
+    progress.omitted.push(Omission {
+        section: entry.section,
+        at: entry.at,
+        reason,
+    })?;
+    Ok(())
+}
+
+/// An entry is left out, where it was refused.
+fn leave_out_where_refused(
+    progress: &mut Progress,
+    entry: &Entry<'_>,
+    stop: Stop<Reason>,
+) -> Result<(), OutOfMemory>
+    ensures { OnOk result (IfRefused stop (λ why. (base : ℕ) (d : Decided) → Shows base progress.old d → Shows base progress.new (left_out entry.now why d))) }
+{
+    match stop {
+        Stop::Fault(reason) => leave_out(progress, entry, reason),
+        Stop::NoMemory => Err(OutOfMemory),
+    }
+}
+
+/// An entry is written.
+#[tactic(auto, using(crate::proofs::DecidedLemmas::shows_more))]
+fn write(progress: &mut Progress, fde: &Fde<'_>, lines: SymLines) -> Result<(), OutOfMemory>
+    requires some { 0 < fde.now.size }
+    requires fits { fde.now.start + fde.now.size < 2 ^ 64 }
+    requires valid { first_bad_from 0 Place.Inside lines ≡ None }
+    requires apart { any_meets (range_of fde.now) progress.old.taken ≡ false }
+    ensures { OnOk result ((base : ℕ) (d : Decided) → lines ≡ entry_lines base fde.now → Shows base progress.old d → Shows base progress.new (with_written fde.now d)) }
+{
+    good_lists_are_joined();
+    progress.taken.put(fde.start, fde.start + fde.size)?;
+    let mut lines = lines.into_vec();
+    progress.lines.append(&mut lines)?;
+    Ok(())
+}
+
+/// An entry is written or left out.
+fn put_entry(
+    alloc: Global,
+    progress: &mut Progress,
+    entry: &Entry<'_>,
+    code: &Enclosing,
+    base: u64,
+) -> Result<(), OutOfMemory>
+    requires { LiesAbove base code.now }
+    ensures { OnOk result ((d : Decided) → Shows base progress.old d → Shows base progress.new (with_entry code.now entry.now d)) }
+{
+    match &entry.body {
+        Body::Bad(reason) => leave_out(progress, entry, *reason),
+        Body::Good(fde) => match lines_or_reason(alloc, fde, code, &progress.taken, base) {
+            Ok(lines) => write(progress, fde, lines),
+            Err(stop) => leave_out_where_refused(progress, entry, stop),
+        },
+    }
+}
+
+/// Entries in order.
+fn put_entries(
+    alloc: Global,
+    progress: &mut Progress,
+    entries: &[Entry<'_>],
+    code: &Enclosing,
+    base: u64,
+) -> Result<(), OutOfMemory>
+    requires { LiesAbove base code.now }
+    ensures { OnOk result ((d : Decided) → Shows base progress.old d → Shows base progress.new (with_entries code.now entries.now d)) }
+{
+    for entry in entries {
+        put_entry(alloc, progress, entry, code, base)?;
+    }
+    Ok(())
+}
+
+/// The frame records of all entries, those of the first list before those of the second, with addresses counted from
+/// `base`; and the entries that are left out, each with its first reason.
+#[tactic(auto, using(crate::proofs::DecidedLemmas::lies_above, crate::proofs::DecidedLemmas::shows_none, crate::proofs::DecidedLemmas::shown_lines, crate::proofs::DecidedLemmas::shown_omitted))]
+pub fn translate_all(
+    alloc: Global,
+    first: &EntryList<'_>,
+    second: &EntryList<'_>,
+    code: &[Span],
+    base: u64,
+) -> Result<Frames, OutOfMemory>
+    requires { AllFrom base code.now }
+    ensures lines { IfOk result (λ frames. frames.lines ≡ written_lines base (written code.now first.now second.now)) }
+    ensures valid { IfOk result (λ frames. first_bad_from 0 Place.Inside frames.lines ≡ None) }
+    ensures covers { IfOk result (λ frames. (x : ℕ) → inits_at frames.lines x ≡ entries_at (written code.now first.now second.now) (x + base)) }
+    ensures disjoint { IfOk result (λ _. AreDisjoint (written code.now first.now second.now)) }
+    ensures omitted { IfOk result (λ frames. frames.omitted ≡ omitted code.now first.now second.now) }
+{
+    let enclosing = Enclosing::of_spans(alloc, code)?;
+    let mut progress = Progress {
+        lines: Vec::new(alloc),
+        omitted: Vec::new(alloc),
+        taken: Taken::new(alloc),
+    };
+    put_entries(alloc, &mut progress, first.as_slice(), &enclosing, base)?;
+    put_entries(alloc, &mut progress, second.as_slice(), &enclosing, base)?;
+    let Progress {
+        lines,
+        omitted,
+        taken: _,
+    } = progress;
+    Ok(Frames {
+        lines: ListOf::of(lines),
+        omitted: ListOf::of(omitted),
+    })
+}

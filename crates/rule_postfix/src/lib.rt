@@ -1,0 +1,31 @@
+//! Frame entries as frame records (Breakpad's symbol_files.md, STACK CFI INIT and STACK CFI).
+//!
+//! [`translate`] gives the records of one entry: an INIT with the rules of its first row, and a record of changes at each
+//! address at which the row says something else than at the address before. Where nothing is known any more of a column of
+//! which no record could say so, a new INIT begins. `specs/Parts.antt` says which rules mean the same and which are at rest,
+//! `specs/Rules.antt` how they are spelled and in which order they stand, and `specs/FrameLines.antt` which records a range
+//! has, by the row at each of its addresses.
+//!
+//! [`translate_all`] goes over the entries of both sections, those of `.eh_frame` first, and writes an entry unless there is
+//! a reason to leave it out: that of its fields, of its instructions or of an address without a CFA rule; a range that is not
+//! wholly in one range of code; one that meets the range of an entry written before it. Each entry that is left out is listed
+//! with its first reason. `specs/Written.antt` has that choice, and `specs/Covering.antt` what it comes to: each address of a
+//! written entry is covered by one INIT, and no other address by any.
+//!
+//! To read: `parts`, `rules`, `writer`, `translating`, then `omission`, `taken` and `all`.
+#![tactic(auto)]
+
+mod all;
+mod omission;
+mod parts;
+mod rules;
+mod taken;
+mod translating;
+mod writer;
+
+pub use crate::all::{Frames, translate_all};
+pub use crate::omission::{Omission, Omissions};
+pub use crate::translating::translate;
+
+#[cfg(test)]
+mod tests;

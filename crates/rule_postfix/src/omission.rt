@@ -1,0 +1,13 @@
+//! Entries that are left out.
+use sym_edges::{ListOf, Reason, Sect};
+
+/// An entry that is left out: where it stands in its section, and why.
+#[derive(Clone, Copy, PartialEq, Eq, Debug)]
+pub struct Omission {
+    pub section: Sect,
+    pub at: u64,
+    pub reason: Reason,
+}
+
+/// The entries that are left out, in order.
+pub type Omissions = ListOf<Omission>;

@@ -1,0 +1,210 @@
+//! The rules of a record: those of a row that are not at rest, and those that differ between two rows.
+ghost use Rattle.std.specs.Prelude.{◌≡◌, ◌≤◌, ◌++◌, length, IfOk, OnOk};
+ghost use Rattle.std.specs.Option.{option_to_list};
+ghost use Rattle.frame_rows.specs.Rows.{empty_row};
+ghost use Rattle.rule_postfix.specs.Parts.{column_part};
+ghost use Rattle.rule_postfix.specs.Rules.{resting, own_name, rule_spelled, spelled, rule_of, rules_of, registers, if_other, if_changed, row_rules, changed_rules, comes_to_rest};
+
+use crate::parts::{Part, cfa_part, column_part, is_kept, rests_anew, rule_at, same_part};
+use frame_rows::{Row, Rule};
+use std::alloc::Global;
+use sym_edges::{ListOf, OutOfMemory};
+use sym_records::{RuleText, Rules, Target, Token, Tokens};
+
+fn resting(target: &Target) -> Option<Tokens>
+    ensures { result ≡ resting target.now }
+{
+    match target {
+        Target::Reg(column) => {
+            if is_kept(*column) {
+                Some(Tokens::one(Token::Reg(*column)))
+            } else if *column == 7 {
+                Some(Tokens::one(Token::Cfa))
+            } else {
+                None
+            }
+        }
+        _ => None,
+    }
+}
+
+fn own_name(target: &Target) -> Option<Tokens>
+    ensures { result ≡ own_name target.now }
+{
+    match target {
+        Target::Reg(column) => Some(Tokens::one(Token::Reg(*column))),
+        _ => None,
+    }
+}
+
+fn rule_spelled(target: &Target, given: Rule) -> Option<Tokens>
+    ensures { result ≡ rule_spelled target.now given }
+{
+    match given {
+        Rule::Rest => None,
+        Rule::Undefined => None,
+        Rule::Same => own_name(target),
+        Rule::Offset(n) => Some(Tokens::four(
+            Token::Cfa,
+            Token::Number(n),
+            Token::Add,
+            Token::Fetch,
+        )),
+        Rule::ValOffset(n) => Some(Tokens::three(Token::Cfa, Token::Number(n), Token::Add)),
+        Rule::Register(register) => Some(Tokens::one(Token::Reg(register))),
+    }
+}
+
+#[tactic(auto, unfolding(crate::specs::Rules::spelled))]
+fn spelled(target: &Target, part: Part) -> Option<Tokens>
+    ensures { result ≡ spelled target.now part }
+{
+    match part {
+        Part::AtRest => resting(target),
+        Part::Base(cfa) => Some(Tokens::three(
+            Token::Reg(cfa.register),
+            Token::Number(cfa.offset),
+            Token::Add,
+        )),
+        Part::Column(given) => rule_spelled(target, given),
+    }
+}
+
+fn spelled_if_other(target: &Target, before: Part, after: Part) -> Option<Tokens>
+    ensures { result ≡ if_other target.now before after }
+{
+    if same_part(before, after) {
+        None
+    } else {
+        spelled(target, after)
+    }
+}
+
+/// Two equal rules are tested first: most columns stay from one row to the next.
+#[tactic(auto, using(crate::proofs::PartLemmas::same_rules))]
+fn changed_column(target: &Target, column: u8, before: Rule, after: Rule) -> Option<Tokens>
+    ensures { result ≡ if_other target.now (column_part column before) (column_part column after) }
+{
+    if before == after {
+        return None;
+    }
+    spelled_if_other(
+        target,
+        column_part(column, before),
+        column_part(column, after),
+    )
+}
+
+/// The tokens of a target, where two rows differ in it.
+#[tactic(auto, unfolding(crate::specs::Rules::if_changed, crate::specs::Parts::part_of))]
+fn changed(before: &Row, after: &Row, target: &Target) -> Option<Tokens>
+    ensures { result ≡ if_changed before.now after.now target.now }
+{
+    match target {
+        Target::Cfa => spelled_if_other(target, cfa_part(before.cfa), cfa_part(after.cfa)),
+        Target::Ra => changed_column(target, 16, rule_at(before, 16), rule_at(after, 16)),
+        Target::Reg(column) => changed_column(
+            target,
+            *column,
+            rule_at(before, *column),
+            rule_at(after, *column),
+        ),
+        Target::Other(_) => None,
+    }
+}
+
+fn put_rule(
+    rules: &mut Vec<RuleText>,
+    target: Target,
+    tokens: Option<Tokens>,
+) -> Result<(), OutOfMemory>
+    ensures { OnOk result (rules.new.items ≡ rules.old.items ++ option_to_list (rule_of target tokens)) }
+{
+    if let Some(tokens) = tokens {
+        rules.push(RuleText { target, tokens })?;
+    }
+    Ok(())
+}
+
+/// The rules of the registers in which two rows differ, by number.
+#[tactic(auto, using(crate::proofs::RulesLemmas::no_register, crate::proofs::RulesLemmas::one_register_more))]
+fn put_registers(rules: &mut Vec<RuleText>, before: &Row, after: &Row) -> Result<(), OutOfMemory>
+    ensures { OnOk result (rules.new.items ≡ rules.old.items ++ rules_of (if_changed before.now after.now) (registers 16)) }
+{
+    for number in 0..16u8 {
+        let target = Target::Reg(number);
+        let tokens = changed(before, after, &target);
+        put_rule(rules, target, tokens)?;
+    }
+    Ok(())
+}
+
+fn count_of(tokens: &Option<Tokens>) -> usize
+    ensures most { result ≤ 1 }
+    ensures count { result ≡ length (option_to_list tokens.now) }
+{
+    match tokens {
+        Some(_) => 1,
+        None => 0,
+    }
+}
+
+/// How many registers two rows differ in.
+#[tactic(auto, using(crate::proofs::RulesLemmas::counted_none, crate::proofs::RulesLemmas::counted_more))]
+fn count_registers(before: &Row, after: &Row) -> usize
+    ensures most { result ≤ 16 }
+    ensures count { result ≡ length (rules_of (if_changed before.now after.now) (registers 16)) }
+{
+    let mut count = 0;
+    for number in 0..16u8 {
+        count += count_of(&changed(before, after, &Target::Reg(number)));
+    }
+    count
+}
+
+/// The rules of the targets in which two rows differ. Room is taken for these alone.
+#[tactic(auto, using(crate::proofs::RulesLemmas::all_rules))]
+pub fn changed_rules(alloc: Global, before: &Row, after: &Row) -> Result<Rules, OutOfMemory>
+    ensures { IfOk result (λ rules. rules ≡ changed_rules before.now after.now) }
+{
+    let cfa = changed(before, after, &Target::Cfa);
+    let address = changed(before, after, &Target::Ra);
+    let count = count_registers(before, after);
+    let mut rules = Vec::with_capacity(alloc, count + count_of(&cfa) + count_of(&address))?;
+    put_rule(&mut rules, Target::Cfa, cfa)?;
+    put_rule(&mut rules, Target::Ra, address)?;
+    put_registers(&mut rules, before, after)?;
+    Ok(ListOf::of(rules))
+}
+
+/// The row that says nothing: seventeen columns, those of the registers and that of the return address.
+#[tactic(auto, unfolding(frame_rows::specs::Rows::empty_row))]
+fn empty_row() -> Row
+    ensures { result ≡ empty_row }
+{
+    Row {
+        cfa: None,
+        rules: [Rule::Rest; 17],
+    }
+}
+
+/// The rules of the targets that are not at rest at a row.
+#[tactic(auto, using(crate::proofs::RulesLemmas::from_empty))]
+pub fn row_rules(alloc: Global, row: &Row) -> Result<Rules, OutOfMemory>
+    ensures { IfOk result (λ rules. rules ≡ row_rules row.now) }
+{
+    changed_rules(alloc, &empty_row(), row)
+}
+
+/// Whether some column comes to rest and no line can say so.
+#[tactic(auto, using(crate::proofs::RulesLemmas::none_rests, crate::proofs::RulesLemmas::no_more_rests, crate::proofs::RulesLemmas::some_rests), unfolding(crate::specs::Rules::comes_to_rest))]
+pub fn comes_to_rest(before: &Row, after: &Row) -> bool
+    ensures { result ≡ comes_to_rest before.now after.now }
+{
+    for column in 0..17u8 {
+        if rests_anew(before, after, column) {
+            return true;
+        }
+    }
+    false
+}

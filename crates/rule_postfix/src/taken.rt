@@ -1,0 +1,70 @@
+//! The ranges that are taken.
+ghost use Rattle.std.specs.Prelude.{◌≡◌, ◌<◌, ◌∷◌, [], false, Some, None, Bool, ◌||◌, MatchOption, IfOk, OnOk};
+ghost use Rattle.std.specs.BTreeMap.{BTreeMap};
+ghost use Rattle.sym_edges.specs.Addresses.{Range};
+ghost use Rattle.rule_postfix.specs.Overlaps.{meet, any_meets, last_end_below};
+
+use std::alloc::Global;
+use std::collections::BTreeMap;
+use std::marker::Model;
+use sym_edges::OutOfMemory;
+
+/// Ranges of addresses of which no two meet.
+#[derive(Drop)]
+pub struct Taken {
+    ends: BTreeMap<u64, u64>,
+}
+
+impl Model for Taken {
+    ghost use Rattle.std.specs.Prelude.{List};
+    ghost use Rattle.sym_edges.specs.Addresses.{Range};
+    ghost use Rattle.rule_postfix.specs.Overlaps.{ranges_by, AreApart};
+
+    ghost Value = { List Range };
+
+    ghost view = { λ t. ranges_by t.ends.entries };
+
+    ghost invariant = { λ t. AreApart t.ends.entries };
+}
+
+/// The end of the last range that starts below an address.
+fn last_end(ends: &BTreeMap<u64, u64>, below: u64) -> Option<u64>
+    ensures { result ≡ last_end_below below ends.now.entries }
+{
+    match ends.range(..below).next_back() {
+        Some((_, end)) => Some(*end),
+        None => None,
+    }
+}
+
+impl Taken {
+    pub fn new(alloc: Global) -> Taken
+        ensures { result ≡ [] }
+    {
+        Taken {
+            ends: BTreeMap::new(alloc),
+        }
+    }
+
+    #[tactic(auto, using(crate::proofs::OverlapLemmas::meets_none, crate::proofs::OverlapLemmas::meets_last))]
+    /// Whether a range that is not empty meets one of those: the last that starts below its end decides.
+    pub fn meets(&self, start: u64, end: u64) -> bool
+        requires { start < end }
+        ensures { result ≡ any_meets (record { start = start; end = end }) self.now }
+    {
+        match last_end(&self.ends, end) {
+            Some(last) => start < last,
+            None => false,
+        }
+    }
+
+    /// A range more, which is not empty and meets none of them.
+    pub fn put(&mut self, start: u64, end: u64) -> Result<(), OutOfMemory>
+        requires some { start < end }
+        requires apart { any_meets (record { start = start; end = end }) self.old ≡ false }
+        ensures { OnOk result ((range : Range) → any_meets range self.new ≡ (any_meets range self.old || meet range (record { start = start; end = end }))) }
+    {
+        self.ends.insert(start, end)?;
+        Ok(())
+    }
+}
