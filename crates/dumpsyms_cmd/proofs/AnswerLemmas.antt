@@ -9,10 +9,16 @@ use Rattle.sym_edges.specs.declared.reading.ReadEnd.{ReadEnd}
 use Rattle.sym_edges.specs.declared.reading.ReadEnd.TheVariants.{CantOpen, CantRead, TooLong}
 use Rattle.elf_sections.specs.Image.{ImageParts, image}
 use Rattle.elf_sections.specs.declared.fault.ElfFault.{ElfFault}
+use Rattle.frame_entries.specs.declared.fault.FrameFault.{FrameFault}
+use Rattle.sym_records.specs.Canon.{canon_text}
+use Rattle.sym_records.specs.declared.line.SymLine.{SymLine}
+use Rattle.rule_postfix.specs.Written.{omitted}
+use Rattle.dumpsyms_cmd.specs.Dump.{is_unbuilt}
+use Rattle.dumpsyms_cmd.specs.Frames.{frames}
 use Rattle.dumpsyms_cmd.specs.Words.{dump, files_of, module_name}
-use Rattle.dumpsyms_cmd.specs.Refusals.{elf_line, too_long_line}
-use Rattle.dumpsyms_cmd.specs.Verdict.{refused, dump_verdict, command_verdict, image_verdict, file_verdict, LIMIT}
-use Rattle.dumpsyms_cmd.specs.Answers.{AsksFor, AnswersParts, AnswersBytes, AnswersStop, AnswersCommand}
+use Rattle.dumpsyms_cmd.specs.Refusals.{elf_line, frame_line, omitted_text, too_long_line, unbuilt_line}
+use Rattle.dumpsyms_cmd.specs.Verdict.{Verdict, refused, dump_verdict, command_verdict, frames_verdict, parts_verdict, image_verdict, file_verdict, LIMIT}
+use Rattle.dumpsyms_cmd.specs.Answers.{AsksFor, DumpsParts, AnswersParts, AnswersBytes, AnswersStop, AnswersCommand}
 use Rattle.dumpsyms_cmd.specs.declared.answer.Answer.{Answer}
 use Rattle.dumpsyms_cmd.specs.declared.answer.Answer.TheVariants.{NoRow, Unread, Refused, Dumped, NoMemory}
 
@@ -21,13 +27,31 @@ pub within : (name bytes : List ℕ) → length bytes ≤ LIMIT → dump_verdict
 unfolding dump_verdict
 within name bytes few = let no : nat_lt LIMIT (length bytes) ≡ false = grind (arith, nat_tests) in rw no refl
 
+-- debug entries are refused before anything is said of frames
+pub unbuilt_answer : (parts : ImageParts) (name text : List ℕ) → is_unbuilt parts ≡ true → text ≡ unbuilt_line → parts_verdict parts name ≡ refused text
+unfolding parts_verdict
+unbuilt_answer parts name text is line = rw is (ap refused (sym line))
+
+-- a section of frame entries is refused with its first fault
+pub frames_refused : (parts : ImageParts) (name text : List ℕ) (fault : FrameFault) → is_unbuilt parts ≡ false → frames parts ≡ Err fault → text ≡ frame_line fault → parts_verdict parts name ≡ refused text
+unfolding parts_verdict
+frames_refused parts name text fault built is line = rw built (ap (λ f. frames_verdict f parts name) is ∙ ap refused (sym line))
+
+-- the verdict of an image whose frame entries can be read
+pub frames_told : (parts : ImageParts) (name : List ℕ) (lines : List SymLine) (text : List ℕ) → DumpsParts parts name lines text → parts_verdict parts name ≡ record { status = 0; out = canon_text lines; err = text }
+unfolding parts_verdict
+frames_told parts name lines text dumps =
+    rw dumps.built
+    (ap (λ f. frames_verdict f parts name) dumps.found_is
+    ∙ ap (λ (l : List SymLine). (let v : Verdict = record { status = 0; out = canon_text l; err = omitted_text (omitted parts.code dumps.found.first dumps.found.second) } in v)) (sym dumps.lines_are)
+    ∙ ap (λ (t : List ℕ). (let v : Verdict = record { status = 0; out = canon_text lines; err = t } in v)) (sym dumps.text_is))
+
 -- an answer on the parts of an image is one on the bytes
 pub parts_answer : (answer : Answer) (name bytes : List ℕ) (parts : ImageParts) → length bytes ≤ LIMIT → image bytes ≡ Ok parts → AnswersParts answer name parts → AnswersBytes answer name bytes
 parts_answer NoRow name bytes parts few is says = says
 parts_answer Unread name bytes parts few is says = says
-parts_answer (Refused text) name bytes parts few is says =
-    within name bytes few ∙ ap (λ i. image_verdict i name) is ∙ rw says.0 (ap refused (sym says.1))
-parts_answer (Dumped lines) name bytes parts few is says = record { parts = parts; image_is = is; built = says.0; lines_are = says.1 }
+parts_answer (Refused text) name bytes parts few is says = within name bytes few ∙ ap (λ i. image_verdict i name) is ∙ says
+parts_answer (Dumped lines text) name bytes parts few is says = record { parts = parts; image_is = is; dumps = says }
 parts_answer NoMemory name bytes parts few is says = tt
 
 -- and so is the line of a fault
@@ -41,8 +65,8 @@ bytes_told Unread files elf bytes before after holds says = absurd says
 bytes_told (Refused text) None elf bytes before after holds says = (refl, tt)
 bytes_told (Refused text) (Some files) elf bytes before after holds says =
     (refl, ap (file_verdict elf) holds.1 ∙ ap (dump_verdict LIMIT (module_name elf)) holds.2.0 ∙ says)
-bytes_told (Dumped lines) None elf bytes before after holds says = (refl, tt)
-bytes_told (Dumped lines) (Some files) elf bytes before after holds says =
+bytes_told (Dumped lines text) None elf bytes before after holds says = (refl, tt)
+bytes_told (Dumped lines text) (Some files) elf bytes before after holds says =
     (refl, record { file = bytes; there = holds.1 ∙ ap Some holds.2.0; few = holds.2.1; dumps = says })
 bytes_told NoMemory files elf bytes before after holds says = refl
 
@@ -67,7 +91,7 @@ stop_command (Refused text) (Fault CantOpen) files elf before after read says = 
 stop_command (Refused text) (Fault CantRead) files elf before after read says = absurd says
 stop_command (Refused text) (Fault TooLong) files elf before after read says = (refl, longer files elf text read says)
 stop_command (Refused text) stop.NoMemory files elf before after read says = absurd says
-stop_command (Dumped lines) end files elf before after read says = absurd says
+stop_command (Dumped lines text) end files elf before after read says = absurd says
 stop_command NoMemory end files elf before after read says = refl
 
 -- the names asked for by a reading of the row's one file

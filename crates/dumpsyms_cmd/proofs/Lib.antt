@@ -4,3 +4,4 @@ pub mod RecordLemmas
 pub mod AnswerLemmas
 pub mod WriteLemmas
 pub mod RunLemmas
+pub mod FrameLemmas

@@ -1,17 +1,15 @@
-use Rattle.std.proofs.Common.{◌≡◌, ◌⊎◌, inl, inr, ℕ, zero, suc, take, ◌<◌, ◌≤◌, true, List, [], ◌∷◌, Option, Some, None, IsSome, refl, sym, ◌∙◌, ap, arith, subst}
-use Rattle.std.specs.List.{list_all}
+use Rattle.std.proofs.Common.{◌≡◌, ◌⊎◌, inl, inr, ℕ, zero, suc, take, ◌<◌, ◌≤◌, List, [], Option, Some, None, IsSome, refl, sym, ◌∙◌, ap, arith, subst}
 use Rattle.sym_edges.specs.Outside.{Files, Tells, Rose, AddsFront, append_told}
 use Rattle.sym_records.specs.Canon.{canon_text}
 use Rattle.sym_records.specs.declared.line.SymLine.{SymLine}
-use Rattle.sym_records.specs.declared.line.SymLine.TheVariants.{Module, Info, Public}
 use Rattle.dumpsyms_cmd.specs.Words.{Asked, dump, module_name}
 use Rattle.dumpsyms_cmd.specs.Verdict.{Verdict, usage, unread, image_verdict, file_verdict, command_verdict}
 use Rattle.dumpsyms_cmd.specs.Answers.{answer_verdict, DumpsFor, AnswersCommand}
-use Rattle.dumpsyms_cmd.specs.Program.{Received, HoldsFronts, Stood, Means, is_plain, Answered, KeepsMeaning, IsUsage, NoRowIsUsage, IsUnread, IsUnwritten, LeavesFronts, IsOutOfMemory, IsComplete}
+use Rattle.dumpsyms_cmd.specs.Program.{Received, HoldsFronts, Stood, Means, Answered, KeepsMeaning, IsUsage, NoRowIsUsage, IsUnread, IsUnwritten, LeavesFronts, IsOutOfMemory, IsComplete}
 use Rattle.dumpsyms_cmd.specs.Writes.{Writes, ReadsBack}
 use Rattle.dumpsyms_cmd.specs.declared.answer.Answer.{Answer}
 use Rattle.dumpsyms_cmd.specs.declared.answer.Answer.TheVariants.{NoRow, Unread, Refused, Dumped, NoMemory}
-use Rattle.dumpsyms_cmd.proofs.AnswerLemmas.{within}
+use Rattle.dumpsyms_cmd.proofs.AnswerLemmas.{within, frames_told}
 use Rattle.dumpsyms_cmd.proofs.WriteLemmas.{nothing}
 
 -- what follows of what is told
@@ -24,20 +22,20 @@ always Q None f = tt
 always Q (Some x) f = f x
 
 -- the verdict of a file that was dumped
-dumped_verdict : (command : Option Asked) (files : Files) (lines : List SymLine) → DumpsFor command files lines → command_verdict command files ≡ record { status = 0; out = canon_text lines; err = [] }
-dumped_verdict None files lines dumps = absurd dumps
-dumped_verdict (Some (dump elf)) files lines dumps =
+dumped_verdict : (command : Option Asked) (files : Files) (lines : List SymLine) (text : List ℕ) → DumpsFor command files lines text → command_verdict command files ≡ record { status = 0; out = canon_text lines; err = text }
+dumped_verdict None files lines text dumps = absurd dumps
+dumped_verdict (Some (dump elf)) files lines text dumps =
     ap (file_verdict elf) dumps.there ∙ within (module_name elf) dumps.file dumps.few
     ∙ ap (λ i. image_verdict i (module_name elf)) dumps.dumps.image_is
-    ∙ rw dumps.dumps.built (ap (λ (l : List SymLine). record { status = 0; out = canon_text l; err = [] }) (sym dumps.dumps.lines_are))
+    ∙ frames_told dumps.dumps.parts (module_name elf) lines text dumps.dumps.dumps
 
 -- an answer of status 0, 1 or 2 is the verdict
 judged : (answer : Answer) (command : Option Asked) (files : Option Files) (s s' : ℕ) → AnswersCommand answer command files s s' → (answer_verdict answer).status < 3 → Tells files (λ f. command_verdict command f ≡ answer_verdict answer)
 judged NoRow command files s s' says low = always (λ f. command_verdict command f ≡ usage) files (λ f. ap (λ c. command_verdict c f) says)
 judged Unread command files s s' says low = absurd (omega arith)
 judged (Refused text) command files s s' says low = says.1
-judged (Dumped lines) command files s s' says low =
-    told (λ f. DumpsFor command f lines) (λ f. command_verdict command f ≡ answer_verdict (Dumped lines)) files (λ f dumps. dumped_verdict command f lines dumps) says.1
+judged (Dumped lines text) command files s s' says low =
+    told (λ f. DumpsFor command f lines text) (λ f. command_verdict command f ≡ answer_verdict (Dumped lines text)) files (λ f dumps. dumped_verdict command f lines text dumps) says.1
 judged NoMemory command files s s' says low = absurd (omega arith)
 
 pub answered : (answer : Answer) (result : ℕ) (command : Option Asked) (files : Option Files) (s s' of of' ef ef' : ℕ) (ob oa eb ea : Option (List ℕ)) → AnswersCommand answer command files s s' → Writes result (answer_verdict answer) ob oa of of' eb ea ef ef' → Answered result command files ob oa eb ea
@@ -51,21 +49,14 @@ answered answer result command files s s' of of' ef ef' ob oa eb ea says (inl wh
     ))
     (judged answer command files s s' says (omega arith))
 
--- all of today's records are plain
-all_plain : (lines : List SymLine) → list_all is_plain lines ≡ true
-all_plain [] = refl
-all_plain (Module os arch id name ∷ lines) = all_plain lines
-all_plain (Info text ∷ lines) = all_plain lines
-all_plain (Public many address params name ∷ lines) = all_plain lines
-
-pub meaning : (answer : Answer) (result : ℕ) (command : Option Asked) (files : Option Files) (s s' of of' ef ef' : ℕ) (ob oa eb ea : Option (List ℕ)) → AnswersCommand answer command files s s' → Writes result (answer_verdict answer) ob oa of of' eb ea ef ef' → ReadsBack answer → KeepsMeaning result command files ob oa
+pub meaning : (answer : Answer) (result : ℕ) (command : Option Asked) (files : Option Files) (s s' of of' ef ef' : ℕ) (ob oa eb ea : Option (List ℕ)) → AnswersCommand answer command files s s' → Writes result (answer_verdict answer) ob oa of of' eb ea ef ef' → ReadsBack answer → KeepsMeaning result command files ob oa eb ea
 meaning answer result command files s s' of of' ef ef' ob oa eb ea says (inr failed) reads done = absurd (let is = failed.0 in omega arith)
 meaning NoRow result command files s s' of of' ef ef' ob oa eb ea says (inl whole) reads done = absurd (let is = whole.0 in omega arith)
 meaning Unread result command files s s' of of' ef ef' ob oa eb ea says (inl whole) reads done = absurd (let is = whole.0 in omega arith)
 meaning (Refused text) result command files s s' of of' ef ef' ob oa eb ea says (inl whole) reads done = absurd (let is = whole.0 in omega arith)
-meaning (Dumped lines) result command files s s' of of' ef ef' ob oa eb ea says (inl whole) reads done =
-    told (λ f. DumpsFor command f lines) (λ f. Means command f ob oa) files
-    (λ f dumps. record { lines = lines; dumped = dumps; received = whole.1.out; reads = reads; plain = all_plain lines }) says.1
+meaning (Dumped lines text) result command files s s' of of' ef ef' ob oa eb ea says (inl whole) reads done =
+    told (λ f. DumpsFor command f lines text) (λ f. Means command f ob oa eb ea) files
+    (λ f dumps. record { lines = lines; text = text; dumped = dumps; received = whole.1.out; reads = reads; listed = whole.1.err }) says.1
 meaning NoMemory result command files s s' of of' ef ef' ob oa eb ea says (inl whole) reads done = absurd (let is = whole.0 in omega arith)
 
 pub usage_only : (answer : Answer) (result : ℕ) (command : Option Asked) (files : Option Files) (s s' of of' ef ef' : ℕ) (ob oa eb ea : Option (List ℕ)) → AnswersCommand answer command files s s' → Writes result (answer_verdict answer) ob oa of of' eb ea ef ef' → IsUsage result command ob oa eb ea
@@ -73,7 +64,7 @@ usage_only answer result command files s s' of of' ef ef' ob oa eb ea says (inr 
 usage_only NoRow result command files s s' of of' ef ef' ob oa eb ea says (inl whole) two = (says, whole.1.out ∙ nothing ob, whole.1.err)
 usage_only Unread result command files s s' of of' ef ef' ob oa eb ea says (inl whole) two = absurd (let is = whole.0 in omega arith)
 usage_only (Refused text) result command files s s' of of' ef ef' ob oa eb ea says (inl whole) two = absurd (let is = whole.0 in omega arith)
-usage_only (Dumped lines) result command files s s' of of' ef ef' ob oa eb ea says (inl whole) two = absurd (let is = whole.0 in omega arith)
+usage_only (Dumped lines text) result command files s s' of of' ef ef' ob oa eb ea says (inl whole) two = absurd (let is = whole.0 in omega arith)
 usage_only NoMemory result command files s s' of of' ef ef' ob oa eb ea says (inl whole) two = absurd (let is = whole.0 in omega arith)
 
 none_some : {A : Type 0} (o : Option A) → o ≡ None → IsSome o → ⊥
@@ -88,7 +79,7 @@ absent : (answer : Answer) (command : Option Asked) (files : Option Files) (s s'
 absent NoRow command files s s' says none = refl
 absent Unread command files s s' says none = absurd (none_some command none says.0)
 absent (Refused text) command files s s' says none = absurd (none_some command none says.0)
-absent (Dumped lines) command files s s' says none = absurd (none_some command none says.0)
+absent (Dumped lines text) command files s s' says none = absurd (none_some command none says.0)
 absent NoMemory command files s s' says none = absurd (none_some command none says)
 
 pub no_row : (answer : Answer) (result : ℕ) (command : Option Asked) (files : Option Files) (s s' of of' ef ef' : ℕ) (ob oa eb ea : Option (List ℕ)) → AnswersCommand answer command files s s' → Writes result (answer_verdict answer) ob oa of of' eb ea ef ef' → NoRowIsUsage result command ef ef'
@@ -102,7 +93,7 @@ unread_only answer result command files s s' of of' ef ef' ob oa eb ea says (inr
 unread_only NoRow result command files s s' of of' ef ef' ob oa eb ea says (inl whole) three = absurd (let is = whole.0 in omega arith)
 unread_only Unread result command files s s' of of' ef ef' ob oa eb ea says (inl whole) three = (says.1, whole.1.out ∙ nothing ob, whole.1.err)
 unread_only (Refused text) result command files s s' of of' ef ef' ob oa eb ea says (inl whole) three = absurd (let is = whole.0 in omega arith)
-unread_only (Dumped lines) result command files s s' of of' ef ef' ob oa eb ea says (inl whole) three = absurd (let is = whole.0 in omega arith)
+unread_only (Dumped lines text) result command files s s' of of' ef ef' ob oa eb ea says (inl whole) three = absurd (let is = whole.0 in omega arith)
 unread_only NoMemory result command files s s' of of' ef ef' ob oa eb ea says (inl whole) three = absurd (let is = whole.0 in omega arith)
 
 some_rose : (status of of' ef ef' : ℕ) → (((status ≡ 0) × Rose of of') ⊎ Rose ef ef') → Rose of of' ⊎ Rose ef ef'
@@ -113,7 +104,7 @@ status_known : (answer : Answer) → ((answer_verdict answer).status ≡ 4) → 
 status_known NoRow is = absurd (omega arith)
 status_known Unread is = absurd (omega arith)
 status_known (Refused text) is = absurd (omega arith)
-status_known (Dumped lines) is = absurd (omega arith)
+status_known (Dumped lines text) is = absurd (omega arith)
 status_known NoMemory is = absurd (omega arith)
 
 pub unwritten : (answer : Answer) (result of of' ef ef' : ℕ) (ob oa eb ea : Option (List ℕ)) → Writes result (answer_verdict answer) ob oa of of' eb ea ef ef' → IsUnwritten result of of' ef ef'
@@ -139,7 +130,7 @@ fronts_by : (answer : Answer) (command : Option Asked) (files : Option Files) (s
 fronts_by NoRow command files s s' ob oa eb ea says holds = inr (judged_fronts NoRow command files s s' ob oa eb ea says (omega arith) holds)
 fronts_by Unread command files s s' ob oa eb ea says holds = inl (says.1, holds)
 fronts_by (Refused text) command files s s' ob oa eb ea says holds = inr (judged_fronts (Refused text) command files s s' ob oa eb ea says (omega arith) holds)
-fronts_by (Dumped lines) command files s s' ob oa eb ea says holds = inr (judged_fronts (Dumped lines) command files s s' ob oa eb ea says (omega arith) holds)
+fronts_by (Dumped lines text) command files s s' ob oa eb ea says holds = inr (judged_fronts (Dumped lines text) command files s s' ob oa eb ea says (omega arith) holds)
 fronts_by NoMemory command files s s' ob oa eb ea says holds =
     inr (always (λ f. HoldsFronts (command_verdict command f) ob oa eb ea) files (λ f. record {
       out = empty_front ob oa (command_verdict command f).out holds.out;
@@ -156,14 +147,14 @@ no_memory answer result command files s s' of of' ef ef' ob oa eb ea says (inr f
 no_memory NoRow result command files s s' of of' ef ef' ob oa eb ea says (inl whole) five = absurd (let is = whole.0 in omega arith)
 no_memory Unread result command files s s' of of' ef ef' ob oa eb ea says (inl whole) five = absurd (let is = whole.0 in omega arith)
 no_memory (Refused text) result command files s s' of of' ef ef' ob oa eb ea says (inl whole) five = absurd (let is = whole.0 in omega arith)
-no_memory (Dumped lines) result command files s s' of of' ef ef' ob oa eb ea says (inl whole) five = absurd (let is = whole.0 in omega arith)
+no_memory (Dumped lines text) result command files s s' of of' ef ef' ob oa eb ea says (inl whole) five = absurd (let is = whole.0 in omega arith)
 no_memory NoMemory result command files s s' of of' ef ef' ob oa eb ea says (inl whole) five = (says, whole.1.out ∙ nothing ob, whole.1.err ∙ nothing eb)
 
 status_small : (answer : Answer) → (answer_verdict answer).status ≤ 5
 status_small NoRow = omega arith
 status_small Unread = omega arith
 status_small (Refused text) = omega arith
-status_small (Dumped lines) = omega arith
+status_small (Dumped lines text) = omega arith
 status_small NoMemory = omega arith
 
 pub ranged : (answer : Answer) (result of of' ef ef' : ℕ) (ob oa eb ea : Option (List ℕ)) → Writes result (answer_verdict answer) ob oa of of' eb ea ef ef' → result ≤ 5
@@ -186,7 +177,7 @@ complete_by : (answer : Answer) (result : ℕ) (command : Option Asked) (files :
 complete_by NoRow result command files s s' says stood is = low_status NoRow result command files s s' says (omega arith) is
 complete_by Unread result command files s s' says stood is = absurd (stood_rose s s' stood says.1)
 complete_by (Refused text) result command files s s' says stood is = low_status (Refused text) result command files s s' says (omega arith) is
-complete_by (Dumped lines) result command files s s' says stood is = low_status (Dumped lines) result command files s s' says (omega arith) is
+complete_by (Dumped lines text) result command files s s' says stood is = low_status (Dumped lines text) result command files s s' says (omega arith) is
 complete_by NoMemory result command files s s' says stood is = always (λ f. (result ≡ (command_verdict command f).status) ⊎ (result ≡ 5)) files (λ f. inr is)
 
 pub complete : (answer : Answer) (result : ℕ) (command : Option Asked) (files : Option Files) (s s' of of' ef ef' : ℕ) (ob oa eb ea : Option (List ℕ)) → AnswersCommand answer command files s s' → Writes result (answer_verdict answer) ob oa of of' eb ea ef ef' → IsComplete result command files s s' of of' ef ef'

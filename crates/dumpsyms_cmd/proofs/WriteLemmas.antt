@@ -1,4 +1,5 @@
-use Rattle.std.proofs.Common.{◌≡◌, inl, inr, ℕ, List, [], Option, Some, None, refl, sym, ◌∙◌, ap, arith, append-nil, subst}
+use Rattle.std.proofs.Common.{◌≡◌, inl, inr, ℕ, List, [], length, Option, Some, None, refl, sym, ◌∙◌, ap, arith, append-nil, subst}
+use Rattle.std.proofs.lemmas.List.{take_all}
 use Rattle.sym_edges.specs.Outside.{Rose, AddsFront, append_told}
 use Rattle.dumpsyms_cmd.specs.Verdict.{Verdict}
 use Rattle.dumpsyms_cmd.specs.Program.{HoldsFronts}
@@ -35,19 +36,25 @@ said result status text v out_before out_after of of' before after ef ef' (inr f
       inr failed.2,
     )
 
--- a text on out alone, written whole
-pub dumped : (result : ℕ) (text : List ℕ) (out_before out_after : Option (List ℕ)) (of of' : ℕ) (before after : Option (List ℕ)) (ef ef' : ℕ) → result ≡ 0 → out_after ≡ append_told out_before text → after ≡ before → Writes result (record { status = 0; out = text; err = [] }) out_before out_after of of' before after ef ef'
-dumped result text out_before out_after of of' before after ef ef' zero whole same =
-    inl (zero, record { out = whole; err = same ∙ sym (nothing before) })
+-- a whole text is a front of itself
+whole_front : (before after : Option (List ℕ)) (text : List ℕ) → after ≡ append_told before text → AddsFront before after text
+whole_front before after text is = record { count = length text; within = omega arith; added = is ∙ ap (append_told before) (sym (take_all (length text) text (omega arith))) }
+
+-- a text on out, written whole, and lines on err behind it
+pub dumped_said : (result : ℕ) (text lines : List ℕ) (out_before out_after : Option (List ℕ)) (of of' : ℕ) (before after : Option (List ℕ)) (ef ef' : ℕ) → Says result 0 lines before after ef ef' → out_after ≡ append_told out_before text → Writes result (record { status = 0; out = text; err = lines }) out_before out_after of of' before after ef ef'
+dumped_said result text lines out_before out_after of of' before after ef ef' (inl whole) out =
+    inl (whole.0, record { out = out; err = whole.1 })
+dumped_said result text lines out_before out_after of of' before after ef ef' (inr failed) out =
+    inr (failed.0, record { out = whole_front out_before out_after text out; err = failed.1; order = inr out }, inr failed.2)
 
 -- and one whose writing failed
-pub undumped : (result : ℕ) (text : List ℕ) (out_before out_after : Option (List ℕ)) (of of' : ℕ) (before after : Option (List ℕ)) (ef ef' : ℕ) → result ≡ 4 → AddsFront out_before out_after text → Rose of of' → after ≡ before → Writes result (record { status = 0; out = text; err = [] }) out_before out_after of of' before after ef ef'
-undumped result text out_before out_after of of' before after ef ef' four front rose same =
+pub undumped : (result : ℕ) (text lines : List ℕ) (out_before out_after : Option (List ℕ)) (of of' : ℕ) (before after : Option (List ℕ)) (ef ef' : ℕ) → result ≡ 4 → AddsFront out_before out_after text → Rose of of' → after ≡ before → Writes result (record { status = 0; out = text; err = lines }) out_before out_after of of' before after ef ef'
+undumped result text lines out_before out_after of of' before after ef ef' four front rose same =
     inr (
       four,
       record {
         out = front;
-        err = (let Q : Option (List ℕ) → Type 0 = λ o. AddsFront before o [] in subst Q (sym same) (no_front before []));
+        err = (let Q : Option (List ℕ) → Type 0 = λ o. AddsFront before o lines in subst Q (sym same) (no_front before lines));
         order = inl same;
       },
       inl (refl, rose),

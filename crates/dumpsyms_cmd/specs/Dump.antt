@@ -1,11 +1,14 @@
 -- The records of a dumped file (Breakpad's symbol_files.md).
-use Rattle.std.specs.Prelude.{ℕ, ◌==◌, ◌||◌, Bool, not, List, [], ◌∷◌, ◌++◌, Option, Some, None, length, map, slice_index, codes}
+use Rattle.std.specs.Prelude.{ℕ, ◌==◌, Bool, not, List, [], ◌∷◌, ◌++◌, Option, Some, None, length, map, slice_index, codes}
 use Rattle.hex.specs.Hex.{encode_upper}
 use Rattle.elf_sections.specs.Image.{ImageParts}
 use Rattle.sym_records.specs.Cleaning.{cleaned}
 use Rattle.sym_records.specs.declared.line.SymLine.{SymLine}
 use Rattle.sym_records.specs.declared.line.SymLine.TheVariants.{Module, Info}
+use Rattle.rule_postfix.specs.Written.{written_lines}
+use Rattle.dumpsyms_cmd.specs.declared.frames.FrameLists.{FrameLists}
 use Rattle.dumpsyms_cmd.specs.Publics.{publics}
+use Rattle.dumpsyms_cmd.specs.Frames.{written_of}
 
 -- the identity as a GUID is written: its first four bytes, the next two and the next two, each turned round
 unfoldable pub turned : List ℕ → List ℕ
@@ -28,10 +31,14 @@ abbrev pub info_lines : Option (List ℕ) → List SymLine
 info_lines None = []
 info_lines (Some id) = info_line id ∷ []
 
--- the records of a file without debug or frame sections, under the cleaned part of its path after the last slash
-unfoldable pub dump_lines : ImageParts → List ℕ → List SymLine
-dump_lines image name = (module_line image.identity (cleaned name) ∷ info_lines image.build_id) ++ publics image.base image.symbols
+-- the records in front of those of frames, under the cleaned part of the file's path after the last slash
+unfoldable pub head_lines : ImageParts → List ℕ → List SymLine
+head_lines image name = (module_line image.identity (cleaned name) ∷ info_lines image.build_id) ++ publics image.base image.symbols
 
--- the file has debug or frame sections, which are not dumped yet
+-- the records of a file without debug entries
+unfoldable pub dump_lines : ImageParts → List ℕ → FrameLists → List SymLine
+dump_lines image name found = head_lines image name ++ written_lines image.base (written_of image found)
+
+-- the file has debug entries, which are not dumped yet
 unfoldable pub is_unbuilt : ImageParts → Bool
-is_unbuilt image = not (length image.info.bytes == 0) || (not (length image.debug_frame.bytes == 0) || not (length image.eh_frame.bytes == 0))
+is_unbuilt image = not (length image.info.bytes == 0)

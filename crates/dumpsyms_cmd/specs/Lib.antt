@@ -1,6 +1,7 @@
 pub mod Publics
 pub mod Words
 pub mod Refusals
+pub mod Frames
 pub mod Dump
 pub mod Verdict
 pub mod Answers

@@ -1,11 +1,9 @@
 -- What the program promises of its status, its two texts and the names that it asks for.
-use Rattle.std.specs.Prelude.{◌≡◌, ◌⊎◌, ℕ, ◌+◌, ◌^◌, ◌<◌, Bool, true, List, Option, None, Ok, IsSome}
-use Rattle.std.specs.List.{list_all}
+use Rattle.std.specs.Prelude.{◌≡◌, ◌⊎◌, ℕ, ◌+◌, ◌^◌, ◌<◌, List, Option, None, Ok, IsSome}
 use Rattle.sym_edges.specs.Outside.{Files, Tells, Rose, AddsFront, append_told}
 use Rattle.sym_records.specs.Canon.{canon_text}
 use Rattle.sym_records.specs.Reading.{reading}
 use Rattle.sym_records.specs.declared.line.SymLine.{SymLine}
-use Rattle.sym_records.specs.declared.line.SymLine.TheVariants.{Module, Info, Public}
 use Rattle.dumpsyms_cmd.specs.Words.{Asked}
 use Rattle.dumpsyms_cmd.specs.Refusals.{usage_line, unread_line}
 use Rattle.dumpsyms_cmd.specs.Verdict.{Verdict, unread, command_verdict}
@@ -26,19 +24,15 @@ pub record HoldsFronts (v : Verdict) (out_before out_after err_before err_after 
 abbrev pub Stood : ℕ → ℕ → Type 0
 Stood before after = (after ≡ before) × (before + 1 < 2 ^ 64)
 
--- a record that says nothing of functions, chains, lines or frames
-abbrev pub is_plain : SymLine → Bool
-is_plain (Module os arch id name) = true
-is_plain (Info text) = true
-is_plain (Public many address params name) = true
-
--- what out received means: its text reads as the records of the file, none of which names a function, a chain, a line or a frame rule
-pub record Means (command : Option Asked) (files : Files) (before after : Option (List ℕ)) : Type 0 where
+-- what out and err received means: out's text reads as the records of the file, of which those of frames are those of its
+-- written entries and all others are plain; err's lists the other entries
+pub record Means (command : Option Asked) (files : Files) (out_before out_after err_before err_after : Option (List ℕ)) : Type 0 where
   pub lines : List SymLine
-  pub dumped : DumpsFor command files lines
-  pub received : after ≡ append_told before (canon_text lines)
+  pub text : List ℕ
+  pub dumped : DumpsFor command files lines text
+  pub received : out_after ≡ append_told out_before (canon_text lines)
   pub reads : reading (canon_text lines) ≡ Ok lines
-  pub plain : list_all is_plain lines ≡ true
+  pub listed : err_after ≡ append_told err_before text
 
 -- status 0, 1 and 2: the verdict's, and its texts were received whole
 abbrev pub Answered : ℕ → Option Asked → Option Files → Option (List ℕ) → Option (List ℕ) → Option (List ℕ) → Option (List ℕ) → Type 0
@@ -83,6 +77,7 @@ IsComplete result command files faults faults_after out_faults out_faults_after 
     Stood faults faults_after → Stood out_faults out_faults_after → Stood err_faults err_faults_after
     → Tells files (λ f. (result ≡ (command_verdict command f).status) ⊎ (result ≡ 5))
 
--- on status 0 the text that out received means what the file says
-abbrev pub KeepsMeaning : ℕ → Option Asked → Option Files → Option (List ℕ) → Option (List ℕ) → Type 0
-KeepsMeaning result command files out_before out_after = result ≡ 0 → Tells files (λ f. Means command f out_before out_after)
+-- on status 0 the texts that out and err received mean what the file says
+abbrev pub KeepsMeaning : ℕ → Option Asked → Option Files → Option (List ℕ) → Option (List ℕ) → Option (List ℕ) → Option (List ℕ) → Type 0
+KeepsMeaning result command files out_before out_after err_before err_after =
+    result ≡ 0 → Tells files (λ f. Means command f out_before out_after err_before err_after)

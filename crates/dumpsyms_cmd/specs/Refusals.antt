@@ -1,7 +1,17 @@
 -- The lines on standard error.
 use Rattle.std.specs.Prelude.{ℕ, List, [], ◌∷◌, ◌++◌, Option, Some, None, codes, decimal}
+use Rattle.std.specs.List.{flat_map}
+use Rattle.sym_edges.specs.declared.part.Sect.{Sect}
+use Rattle.sym_edges.specs.declared.part.Sect.TheVariants as sect
+use Rattle.sym_edges.specs.declared.reason.Reason.{Reason}
+use Rattle.sym_edges.specs.declared.reason.Reason.TheVariants as reason
 use Rattle.elf_sections.specs.declared.fault.ElfFault.{ElfFault}
 use Rattle.elf_sections.specs.declared.fault.ElfFault.TheVariants.{NotElf, Class, Order, Machine, Kind, SectionTable, SectionNames, SectionBytes, Compressed, ProgramTable, SymbolTable, NoIdentity}
+use Rattle.frame_entries.specs.declared.fault.FrameKind.{FrameKind}
+use Rattle.frame_entries.specs.declared.fault.FrameKind.TheVariants.{Length, Format64}
+use Rattle.frame_entries.specs.declared.fault.FrameFault.{FrameFault}
+use Rattle.sym_records.specs.Canon.{hex, spaced}
+use Rattle.rule_postfix.specs.declared.omission.Omission.{Omission}
 
 -- the word of an image fault
 abbrev pub fault_word : ElfFault → List ℕ
@@ -46,3 +56,51 @@ usage_line = line (codes "usage: dumpsyms dump ELF, check SYM, lookup SYM ADDR, 
 abbrev pub joined_word : List ℕ → Option ℕ → List ℕ
 joined_word word None = word
 joined_word word (Some index) = word ++ decimal index
+
+-- the word of a section: its name without the point in front
+abbrev pub section_word : Sect → List ℕ
+section_word sect.Info = codes "debug_info"
+section_word sect.Abbrev = codes "debug_abbrev"
+section_word sect.Line = codes "debug_line"
+section_word sect.LineStr = codes "debug_line_str"
+section_word sect.Str = codes "debug_str"
+section_word sect.StrOffsets = codes "debug_str_offsets"
+section_word sect.Addr = codes "debug_addr"
+section_word sect.Ranges = codes "debug_ranges"
+section_word sect.Rnglists = codes "debug_rnglists"
+section_word sect.DebugFrame = codes "debug_frame"
+section_word sect.EhFrame = codes "eh_frame"
+section_word sect.Text = codes "text"
+
+-- the word of a fault of a section of frame entries
+abbrev pub kind_word : FrameKind → List ℕ
+kind_word Length = codes "length"
+kind_word Format64 = codes "format64"
+
+-- a section of frame entries has a fault: the section, and the place in hexadecimal
+abbrev pub frame_line : FrameFault → List ℕ
+frame_line fault = line (spaced (codes "refused frame") (kind_word fault.kind ∷ section_word fault.section ∷ hex fault.at ∷ []))
+
+-- the word of a reason
+abbrev pub reason_word : Reason → List ℕ
+reason_word reason.Cie = codes "cie"
+reason_word reason.Augmentation = codes "augmentation"
+reason_word reason.Encoding = codes "encoding"
+reason_word reason.Column = codes "column"
+reason_word reason.Entry = codes "entry"
+reason_word reason.Expression = codes "expression"
+reason_word reason.Instruction = codes "instruction"
+reason_word reason.Register = codes "register"
+reason_word reason.State = codes "state"
+reason_word reason.Range = codes "range"
+reason_word reason.Cfa = codes "cfa"
+reason_word reason.Outside = codes "outside"
+reason_word reason.Overlap = codes "overlap"
+
+-- an entry is left out: its section, its place in hexadecimal, and the reason
+abbrev pub omitted_line : Omission → List ℕ
+omitted_line o = line (spaced (codes "omitted") (section_word o.section ∷ hex o.at ∷ reason_word o.reason ∷ []))
+
+-- the entries that are left out, in order
+unfoldable pub omitted_text : List Omission → List ℕ
+omitted_text omissions = flat_map omitted_line omissions

@@ -3,9 +3,13 @@ use Rattle.std.specs.Prelude.{ℕ, ◌^◌, length, nat_lt, List, [], Option, So
 use Rattle.sym_edges.specs.Outside.{Files}
 use Rattle.elf_sections.specs.Image.{ImageParts, image}
 use Rattle.elf_sections.specs.declared.fault.ElfFault.{ElfFault}
+use Rattle.frame_entries.specs.declared.fault.FrameFault.{FrameFault}
 use Rattle.sym_records.specs.Canon.{canon_text}
+use Rattle.rule_postfix.specs.Written.{omitted}
+use Rattle.dumpsyms_cmd.specs.declared.frames.FrameLists.{FrameLists}
+use Rattle.dumpsyms_cmd.specs.Frames.{frames}
 use Rattle.dumpsyms_cmd.specs.Words.{Asked, dump, command_of, module_name}
-use Rattle.dumpsyms_cmd.specs.Refusals.{elf_line, too_long_line, unbuilt_line, unread_line, usage_line}
+use Rattle.dumpsyms_cmd.specs.Refusals.{elf_line, frame_line, omitted_text, too_long_line, unbuilt_line, unread_line, usage_line}
 use Rattle.dumpsyms_cmd.specs.Dump.{dump_lines, is_unbuilt}
 
 -- a status, and the texts on standard output and standard error
@@ -30,11 +34,23 @@ unread = record { status = 3; out = []; err = unread_line }
 abbrev pub LIMIT : ℕ
 LIMIT = 2 ^ 29
 
--- the verdict of a dump, by the image
+-- the verdict of a dump, by the frame entries: out has the records, and err the entries that are left out
+abbrev pub frames_verdict : Result FrameLists FrameFault → ImageParts → List ℕ → Verdict
+frames_verdict (Err fault) parts name = refused (frame_line fault)
+frames_verdict (Ok found) parts name = record {
+  status = 0;
+  out = canon_text (dump_lines parts name found);
+  err = omitted_text (omitted parts.code found.first found.second);
+}
+
+-- by the parts of the image: debug entries come before frame entries
+unfoldable pub parts_verdict : ImageParts → List ℕ → Verdict
+parts_verdict parts name = if is_unbuilt parts then refused unbuilt_line else frames_verdict (frames parts) parts name
+
+-- by the image
 abbrev pub image_verdict : Result ImageParts ElfFault → List ℕ → Verdict
 image_verdict (Err fault) name = refused (elf_line fault)
-image_verdict (Ok parts) name = if is_unbuilt parts then refused unbuilt_line else
-    record { status = 0; out = canon_text (dump_lines parts name); err = [] }
+image_verdict (Ok parts) name = parts_verdict parts name
 
 -- the verdict of a dump, by the bytes of the file
 unfoldable pub dump_verdict : ℕ → List ℕ → List ℕ → Verdict

@@ -26,5 +26,5 @@ abbrev pub ReadsBack : Answer → Type 0
 ReadsBack NoRow = Unit {0}
 ReadsBack Unread = Unit {0}
 ReadsBack (Refused text) = Unit {0}
-ReadsBack (Dumped lines) = reading (canon_text lines) ≡ Ok lines
+ReadsBack (Dumped lines omitted) = reading (canon_text lines) ≡ Ok lines
 ReadsBack NoMemory = Unit {0}

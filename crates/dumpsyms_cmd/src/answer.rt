@@ -1,14 +1,18 @@
-ghost use Rattle.std.specs.Prelude.{◌≡◌, ◌≤◌, Some, IfOk, length, map};
+ghost use Rattle.std.specs.Prelude.{◌≡◌, ◌≤◌, Some, Ok, false, IfOk, length, map};
 ghost use Rattle.std.specs.String.{string_bytes};
 ghost use Rattle.elf_sections.specs.Image.{image};
 ghost use Rattle.dumpsyms_cmd.specs.Words.{command_of, files_of, dump};
+ghost use Rattle.dumpsyms_cmd.specs.Frames.{frames};
+ghost use Rattle.dumpsyms_cmd.specs.Dump.{is_unbuilt};
 ghost use Rattle.dumpsyms_cmd.specs.Verdict.{LIMIT};
 ghost use Rattle.dumpsyms_cmd.specs.Answers.{AsksFor, AnswersParts, AnswersBytes, AnswersStop, AnswersCommand};
 
+use crate::frames::{FrameLists, list_omissions, read_frames};
 use crate::records::dump_file;
-use crate::refusals::{TOO_LONG, UNBUILT, fault_line};
+use crate::refusals::{TOO_LONG, UNBUILT, fault_line, frame_line};
 use crate::words::{Command, name_of, parse_words};
 use elf_sections::{Image, read_image};
+use rule_postfix::{Frames, translate_all};
 use std::alloc::Global;
 use sym_edges::{OutOfMemory, ReadEnd, Sect, Stop, Store, read_all};
 use sym_records::{ByteText, SymFile};
@@ -25,8 +29,8 @@ pub enum Answer {
     Unread,
     /// The input is refused with this line.
     Refused(ByteText),
-    /// The file was dumped.
-    Dumped(SymFile),
+    /// The file was dumped, with this text on the frame entries that are left out.
+    Dumped(SymFile, ByteText),
     /// Memory ran out.
     NoMemory,
 }
@@ -38,18 +42,44 @@ fn refuse(alloc: Global, line: &[u8]) -> Result<Answer, OutOfMemory>
     Ok(Answer::Refused(ByteText::of(Vec::from_slice(alloc, line)?)))
 }
 
+/// The answer to a dump of an image with these frame entries.
+fn answer_frames(
+    alloc: Global,
+    image: &Image<'_>,
+    found: &FrameLists<'_>,
+    name: &[u8],
+) -> Result<Answer, OutOfMemory>
+    requires built { is_unbuilt image.now ≡ false }
+    requires found { frames image.now ≡ Ok found.now }
+    ensures { IfOk result (λ answer. AnswersParts answer name.now image.now) }
+{
+    let framed = translate_all(
+        alloc,
+        &found.first,
+        &found.second,
+        image.code(),
+        image.base(),
+    )?;
+    let Frames { lines, omitted } = framed;
+    let text = list_omissions(alloc, omitted.as_slice())?;
+    let file = dump_file(alloc, image, name, lines)?;
+    Ok(Answer::Dumped(file, text))
+}
+
 /// The answer to a dump of an image.
-#[tactic(auto, unfolding(crate::specs::Dump::is_unbuilt))]
+#[tactic(auto, using(crate::proofs::AnswerLemmas::unbuilt_answer, crate::proofs::AnswerLemmas::frames_refused), unfolding(crate::specs::Dump::is_unbuilt))]
 fn answer_image(alloc: Global, image: &Image<'_>, name: &[u8]) -> Result<Answer, OutOfMemory>
     ensures { IfOk result (λ answer. AnswersParts answer name.now image.now) }
 {
     let info = image.section(Sect::Info);
-    let debug_frame = image.section(Sect::DebugFrame);
-    let eh_frame = image.section(Sect::EhFrame);
-    if !info.bytes.is_empty() || (!debug_frame.bytes.is_empty() || !eh_frame.bytes.is_empty()) {
+    if !info.bytes.is_empty() {
         return refuse(alloc, UNBUILT);
     }
-    Ok(Answer::Dumped(dump_file(alloc, image, name)?))
+    match read_frames(alloc, image) {
+        Ok(found) => answer_frames(alloc, image, &found, name),
+        Err(Stop::Fault(fault)) => Ok(Answer::Refused(frame_line(alloc, fault)?)),
+        Err(Stop::NoMemory) => Err(OutOfMemory),
+    }
 }
 
 /// The answer to a dump of a file's bytes.

@@ -6,6 +6,7 @@
 #![tactic(auto)]
 
 mod answer;
+mod frames;
 mod publics;
 mod records;
 mod refusals;

@@ -1,19 +1,19 @@
-ghost use Rattle.std.specs.Prelude.{◌≡◌, ◌*◌, ◌≤◌, [], true, None, length, map, unwrap_or, IfOk, OnOk};
+ghost use Rattle.std.specs.Prelude.{◌≡◌, ◌*◌, ◌≤◌, ◌++◌, [], true, None, length, map, unwrap_or, IfOk, OnOk};
 ghost use Rattle.std.specs.Str.Parse.{AllDigits};
 ghost use Rattle.hex.specs.Hex.{encode_upper};
 ghost use Rattle.elf_sections.specs.Symbols.{symbol_view};
 ghost use Rattle.sym_records.specs.Cleaning.{cleaned};
 ghost use Rattle.sym_records.specs.Reading.{fits};
-ghost use Rattle.sym_records.specs.Validity.{first_bad, fields_fit};
-ghost use Rattle.sym_records.specs.declared.place.Place.TheVariants.{Start};
+ghost use Rattle.sym_records.specs.Validity.{first_bad, first_bad_from, fields_fit};
+ghost use Rattle.sym_records.specs.declared.place.Place.TheVariants.{Start, Inside};
 ghost use Rattle.dumpsyms_cmd.specs.Publics.{FitsInside, publics};
-ghost use Rattle.dumpsyms_cmd.specs.Dump.{turned, module_id, module_line, info_line, info_lines, dump_lines};
+ghost use Rattle.dumpsyms_cmd.specs.Dump.{turned, module_id, module_line, info_line, info_lines, head_lines};
 
 use crate::publics::add_publics;
 use elf_sections::Image;
 use std::alloc::Global;
 use sym_edges::OutOfMemory;
-use sym_records::{ByteText, SymFile, SymLine, clean, file_of};
+use sym_records::{ByteText, SymFile, SymLine, SymLines, clean, file_of};
 
 /// Bytes in upper-case hexadecimal.
 #[tactic(auto, using(crate::proofs::RecordLemmas::text_length))]
@@ -77,10 +77,11 @@ fn make_info(alloc: Global, id: &[u8]) -> Result<SymLine, OutOfMemory>
     })
 }
 
-/// The records of a file without debug or frame sections, under its cleaned name.
-#[tactic(auto, using(sym_records::proofs::MakingLemmas::first_fits, crate::proofs::PublicLemmas::one_more), unfolding(crate::specs::Dump::dump_lines))]
-pub fn dump_file(alloc: Global, image: &Image<'_>, name: &[u8]) -> Result<SymFile, OutOfMemory>
-    ensures { IfOk result (λ file. file ≡ dump_lines image.now name.now) }
+/// The records in front of those of frames, under the file's cleaned name.
+#[tactic(auto, using(sym_records::proofs::MakingLemmas::first_fits, crate::proofs::PublicLemmas::one_more), unfolding(crate::specs::Dump::head_lines))]
+fn make_head(alloc: Global, image: &Image<'_>, name: &[u8]) -> Result<Vec<SymLine>, OutOfMemory>
+    ensures lines { IfOk result (λ lines. lines.items ≡ head_lines image.now name.now) }
+    ensures valid { IfOk result (λ lines. first_bad lines.items ≡ None) }
 {
     let mut lines = Vec::new(alloc);
     lines.push(make_module(alloc, image.identity(), name)?)?;
@@ -88,6 +89,23 @@ pub fn dump_file(alloc: Global, image: &Image<'_>, name: &[u8]) -> Result<SymFil
         lines.push(make_info(alloc, id)?)?;
     }
     add_publics(alloc, image.base(), image.symbols(), &mut lines)?;
+    Ok(lines)
+}
+
+/// The records of a file without debug entries: those in front, and then the given records of frames.
+#[tactic(auto, using(sym_records::proofs::JoiningLemmas::join_fits))]
+pub fn dump_file(
+    alloc: Global,
+    image: &Image<'_>,
+    name: &[u8],
+    frames: SymLines,
+) -> Result<SymFile, OutOfMemory>
+    requires { first_bad_from 0 Inside frames ≡ None }
+    ensures { IfOk result (λ file. file ≡ head_lines image.now name.now ++ frames) }
+{
+    let mut lines = make_head(alloc, image, name)?;
+    let mut frames = frames.into_vec();
+    lines.append(&mut frames)?;
     match file_of(lines) {
         Ok(file) => Ok(file),
         Err(_) => unreachable!(),

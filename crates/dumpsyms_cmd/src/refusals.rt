@@ -1,10 +1,13 @@
-ghost use Rattle.std.specs.Prelude.{◌≡◌, IfOk};
-ghost use Rattle.dumpsyms_cmd.specs.Refusals.{elf_line, fault_word, joined_word};
+ghost use Rattle.std.specs.Prelude.{◌≡◌, ◌++◌, map, IfOk, OnOk};
+ghost use Rattle.sym_records.specs.Canon.{spaced};
+ghost use Rattle.dumpsyms_cmd.specs.Refusals.{line, elf_line, fault_word, joined_word, section_word, kind_word, frame_line, reason_word};
 
 use elf_sections::ElfFault;
+use frame_entries::{FrameFault, FrameKind};
 use itoa::Buffer;
 use std::alloc::{AllocError, Global};
-use sym_records::ByteText;
+use sym_edges::{Reason, Sect};
+use sym_records::{ByteText, HexText};
 
 /// The file passes the limit.
 pub const TOO_LONG: &[u8] = b"refused input too-long\n";
@@ -51,5 +54,83 @@ pub fn fault_line(alloc: Global, fault: ElfFault) -> Result<ByteText, AllocError
         text.extend_from_slice(buffer.format(index).as_bytes())?;
     }
     text.extend_from_slice(b"\n")?;
+    Ok(ByteText::of(text))
+}
+
+/// Adds a line of words, with one space in front of each but the first.
+pub fn add_line(text: &mut Vec<u8>, first: &[u8], words: &[&[u8]]) -> Result<(), AllocError>
+    ensures { OnOk result (text.new.items ≡ text.old.items ++ line (spaced first.now (map (λ word. word.now) words.now))) }
+{
+    text.extend_from_slice(first)?;
+    'words: for word in words {
+        text.push(b' ')?;
+        text.extend_from_slice(word)?;
+    }
+    text.push(b'\n')?;
+    Ok(())
+}
+
+/// The word of a section.
+pub fn section_word(section: Sect) -> &'static [u8]
+    ensures { result.now ≡ section_word section }
+{
+    match section {
+        Sect::Info => b"debug_info",
+        Sect::Abbrev => b"debug_abbrev",
+        Sect::Line => b"debug_line",
+        Sect::LineStr => b"debug_line_str",
+        Sect::Str => b"debug_str",
+        Sect::StrOffsets => b"debug_str_offsets",
+        Sect::Addr => b"debug_addr",
+        Sect::Ranges => b"debug_ranges",
+        Sect::Rnglists => b"debug_rnglists",
+        Sect::DebugFrame => b"debug_frame",
+        Sect::EhFrame => b"eh_frame",
+        Sect::Text => b"text",
+    }
+}
+
+fn kind_word(kind: FrameKind) -> &'static [u8]
+    ensures { result.now ≡ kind_word kind }
+{
+    match kind {
+        FrameKind::Length => b"length",
+        FrameKind::Format64 => b"format64",
+    }
+}
+
+/// The word of a reason to leave an entry out.
+pub fn reason_word(reason: Reason) -> &'static [u8]
+    ensures { result.now ≡ reason_word reason }
+{
+    match reason {
+        Reason::Cie => b"cie",
+        Reason::Augmentation => b"augmentation",
+        Reason::Encoding => b"encoding",
+        Reason::Column => b"column",
+        Reason::Entry => b"entry",
+        Reason::Expression => b"expression",
+        Reason::Instruction => b"instruction",
+        Reason::Register => b"register",
+        Reason::State => b"state",
+        Reason::Range => b"range",
+        Reason::Cfa => b"cfa",
+        Reason::Outside => b"outside",
+        Reason::Overlap => b"overlap",
+    }
+}
+
+/// The line that names a fault of a section of frame entries.
+pub fn frame_line(alloc: Global, fault: FrameFault) -> Result<ByteText, AllocError>
+    ensures { IfOk result (λ text. text ≡ frame_line fault) }
+{
+    let at = HexText::of(fault.at);
+    let words = [
+        kind_word(fault.kind),
+        section_word(fault.section),
+        at.as_slice(),
+    ];
+    let mut text = Vec::new(alloc);
+    add_line(&mut text, b"refused frame", &words)?;
     Ok(ByteText::of(text))
 }

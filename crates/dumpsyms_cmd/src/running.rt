@@ -14,7 +14,7 @@ use sym_records::write_file;
 /// The status where a write failed.
 const UNWRITTEN: u8 = 4;
 
-/// Writes a line on standard error, and answers the status.
+/// Writes lines on standard error, and answers the status.
 fn say<E: Sink>(err: &mut E, line: &[u8], status: u8) -> u8
     ensures said { Says result status line.now (E.taken err.old) (E.taken err.new) (E.faults err.old) (E.faults err.new) }
 {
@@ -25,7 +25,7 @@ fn say<E: Sink>(err: &mut E, line: &[u8], status: u8) -> u8
 }
 
 /// Writes an answer, out first, and answers the status. Takes no memory.
-#[tactic(auto, using(crate::proofs::WriteLemmas::said, crate::proofs::WriteLemmas::dumped, crate::proofs::WriteLemmas::undumped, crate::proofs::WriteLemmas::nothing_said))]
+#[tactic(auto, using(crate::proofs::WriteLemmas::said, crate::proofs::WriteLemmas::dumped_said, crate::proofs::WriteLemmas::undumped, crate::proofs::WriteLemmas::nothing_said))]
 fn write_answer<O: Sink, E: Sink>(answer: &Answer, out: &mut O, err: &mut E) -> u8
     ensures written { Writes result (answer_verdict answer.now)
         (O.taken out.old) (O.taken out.new) (O.faults out.old) (O.faults out.new)
@@ -36,8 +36,8 @@ fn write_answer<O: Sink, E: Sink>(answer: &Answer, out: &mut O, err: &mut E) -> 
         Answer::NoRow => say(err, USAGE, 2),
         Answer::Unread => say(err, UNREAD, 3),
         Answer::Refused(line) => say(err, line.as_slice(), 1),
-        Answer::Dumped(file) => match write_file(file, out) {
-            Ok(()) => 0,
+        Answer::Dumped(file, omitted) => match write_file(file, out) {
+            Ok(()) => say(err, omitted.as_slice(), 0),
             Err(Failed) => UNWRITTEN,
         },
         Answer::NoMemory => 5,
@@ -59,7 +59,7 @@ pub fn run<S: Store, O: Sink, E: Sink>(
     ensures answered { Answered result (command_of (map string_bytes words.now)) (S.files store.old)
         (O.taken out.old) (O.taken out.new) (E.taken err.old) (E.taken err.new) }
     ensures headline { KeepsMeaning result (command_of (map string_bytes words.now)) (S.files store.old)
-        (O.taken out.old) (O.taken out.new) }
+        (O.taken out.old) (O.taken out.new) (E.taken err.old) (E.taken err.new) }
 
     ensures usage { IsUsage result (command_of (map string_bytes words.now))
         (O.taken out.old) (O.taken out.new) (E.taken err.old) (E.taken err.new) }

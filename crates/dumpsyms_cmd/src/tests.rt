@@ -2,6 +2,7 @@
 
 mod build;
 mod faults;
+mod frames;
 mod ids;
 mod outside;
 mod ranges;

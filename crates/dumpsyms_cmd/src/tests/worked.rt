@@ -120,20 +120,20 @@ fn files_of_another_class_or_with_another_section_size_are_refused(
 }
 
 #[test]
-fn files_with_debug_or_frame_bytes_are_not_dumped_yet(rt: HostRuntime) -> Result<(), Fail> {
-    for name in [".debug_info", ".debug_frame", ".eh_frame"] {
-        let file = worked_with(rt.alloc(), &[MAIN], &[plain(name, PROGBITS, b"\0")])?;
-        expect_refusal(&rt, rt.alloc(), name, &file, b"refused unbuilt\n")?;
-        let back = [plain(name, PROGBITS, b""), plain(name, PROGBITS, b"\0")];
-        let file = worked_with(rt.alloc(), &[MAIN], &back)?;
-        expect_lines(&rt, rt.alloc(), name, &file, b"PUBLIC 1000 0 main\n")?;
-    }
+fn files_with_debug_entries_are_not_dumped_yet(rt: HostRuntime) -> Result<(), Fail> {
+    let info = plain(".debug_info", PROGBITS, b"\0");
+    let file = worked_with(rt.alloc(), &[MAIN], &[info])?;
+    expect_refusal(&rt, rt.alloc(), "info", &file, b"refused unbuilt\n")?;
+    let lines = b"PUBLIC 1000 0 main\n";
     let file = worked_with(
         rt.alloc(),
         &[MAIN],
-        &[plain(".debug_line", PROGBITS, b"\0")],
+        &[plain(".debug_info", PROGBITS, b""), info],
     )?;
-    expect_lines(&rt, rt.alloc(), "line", &file, b"PUBLIC 1000 0 main\n")
+    expect_lines(&rt, rt.alloc(), "the first is empty", &file, lines)?;
+    let line = plain(".debug_line", PROGBITS, b"\0");
+    let file = worked_with(rt.alloc(), &[MAIN], &[line])?;
+    expect_lines(&rt, rt.alloc(), "line", &file, lines)
 }
 
 #[test]

@@ -1,0 +1,110 @@
+-- The lines on standard error, and what the records of a file say of its frame entries.
+use Rattle.std.proofs.Common.{◌≡◌, ℕ, ◌+◌, ◌≤◌, ◌&&◌, cond, Bool, true, false, List, [], ◌∷◌, ◌++◌, map, length, take, Option, Some, None, Ok, refl, sym, ◌∙◌, ap, append_assoc, subst, count_by}
+use Rattle.std.specs.List.{flat_map, fold, list_all}
+use Rattle.std.proofs.lemmas.List.{take_all}
+use Rattle.sym_edges.specs.Addresses.{Range}
+use Rattle.elf_sections.specs.Image.{ImageParts}
+use Rattle.elf_sections.specs.Symbols.{SymbolParts}
+use Rattle.sym_records.specs.Canon.{spaced}
+use Rattle.sym_records.specs.declared.line.SymLine.{SymLine}
+use Rattle.sym_records.specs.declared.line.SymLine.TheVariants.{Module, Info, Public, Init, Change}
+use Rattle.rule_postfix.specs.Written.{omitted, written, written_lines}
+use Rattle.rule_postfix.specs.Covering.{init_covers, inits_at, entries_at, AreDisjoint}
+use Rattle.rule_postfix.specs.declared.omission.Omission.{Omission}
+use Rattle.dumpsyms_cmd.specs.declared.frames.FrameLists.{FrameLists}
+use Rattle.dumpsyms_cmd.specs.Publics.{publics, public_at}
+use Rattle.dumpsyms_cmd.specs.Refusals.{line, omitted_line, omitted_text}
+use Rattle.dumpsyms_cmd.specs.Frames.{frames, written_of, is_plain}
+use Rattle.dumpsyms_cmd.specs.Dump.{module_line, info_line, info_lines, head_lines, dump_lines, is_unbuilt}
+use Rattle.dumpsyms_cmd.specs.Answers.{DumpsParts}
+
+-- words by what they are, and words as they are
+fields_are : {X : Type 0} (f : X → List ℕ) (words : List X) → flat_map (λ word. 32 ∷ f word) words ≡ flat_map (λ field. 32 ∷ field) (map f words)
+fields_are f [] = refl
+fields_are f (w ∷ words) = ap (λ l. (32 ∷ f w) ++ l) (fields_are f words)
+
+-- behind the last word stands the end of the line
+pub words_end : {X : Type 0} (f : X → List ℕ) (before first text whole : List ℕ) (words : List X) (i : ℕ) → length words ≤ i → text ≡ (before ++ first) ++ flat_map (λ word. 32 ∷ f word) (take i words) → whole ≡ text ++ 10 ∷ [] → whole ≡ before ++ line (spaced first (map f words))
+words_end f before first text whole words i past is ended =
+    ended
+    ∙ ap (λ t. t ++ 10 ∷ []) (is ∙ ap (λ l. (before ++ first) ++ flat_map (λ word. 32 ∷ f word) l) (take_all i words past) ∙ ap (λ l. (before ++ first) ++ l) (fields_are f words))
+    ∙ ap (λ t. t ++ 10 ∷ []) (append_assoc before first (flat_map (λ field. 32 ∷ field) (map f words)))
+    ∙ append_assoc before (spaced first (map f words)) (10 ∷ [])
+
+-- behind the last line
+pub lines_end : (text : List ℕ) (omissions : List Omission) (i : ℕ) → length omissions ≤ i → text ≡ flat_map omitted_line (take i omissions) → text ≡ omitted_text omissions
+unfolding omitted_text
+lines_end text omissions i past is = is ∙ ap (flat_map omitted_line) (take_all i omissions past)
+
+plain_publics : (base : ℕ) (symbols : List SymbolParts) (addresses : List ℕ) → list_all is_plain (map (public_at base symbols) addresses) ≡ true
+unfolding public_at
+plain_publics base symbols [] = refl
+plain_publics base symbols (a ∷ addresses) = plain_publics base symbols addresses
+
+plain_infos : (id : Option (List ℕ)) (rest : List SymLine) → list_all is_plain rest ≡ true → list_all is_plain (info_lines id ++ rest) ≡ true
+unfolding info_line
+plain_infos None rest all = all
+plain_infos (Some id) rest all = all
+
+-- the records in front of those of frames are plain
+pub plain_head : (image : ImageParts) (name : List ℕ) → list_all is_plain (head_lines image name) ≡ true
+unfolding head_lines module_line publics
+plain_head image name = plain_infos image.build_id (publics image.base image.symbols) (plain_publics image.base image.symbols _)
+
+-- plain records cover nothing
+line_plain : (x : ℕ) (s : SymLine) → is_plain s ≡ true → init_covers x s ≡ false
+line_plain x (Module os arch id name) plain = refl
+line_plain x (Info text) plain = refl
+line_plain x (Public many address params name) plain = refl
+line_plain x (Init address size rules) plain = cc
+line_plain x (Change address rules) plain = cc
+
+and_true : {a b : Bool} → (a && b) ≡ true → (a ≡ true) × (b ≡ true)
+and_true {a = true} is = (refl, is)
+and_true {a = false} is = cc
+
+covered_behind : (x : ℕ) (front rest : List SymLine) → list_all is_plain front ≡ true → count_by (init_covers x) (front ++ rest) ≡ count_by (init_covers x) rest
+covered_behind x [] rest plain = refl
+covered_behind x (s ∷ front) rest plain =
+    let parts = and_true {a = is_plain s} plain in
+    ap (λ t. fold (λ count line. count + cond (init_covers x line) 1 0) (0 + cond t 1 0) (front ++ rest)) (line_plain x s parts.0) ∙ covered_behind x front rest parts.1
+
+covers_behind : (x : ℕ) (front rest : List SymLine) → list_all is_plain front ≡ true → inits_at (front ++ rest) x ≡ inits_at rest x
+unfolding inits_at
+covers_behind x front rest plain = covered_behind x front rest plain
+
+-- which addresses the records of written entries cover
+pub record CoversWritten (base : ℕ) (image : ImageParts) (found : FrameLists) : Type 0 where
+  pub disjoint : AreDisjoint (written_of image found)
+  pub at : (x : ℕ) → inits_at (written_lines base (written_of image found)) x ≡ entries_at (written_of image found) (x + base)
+
+-- the records of a file say which written entry covers an address
+pub frames_dumped : (image : ImageParts) (name text : List ℕ) (found : FrameLists) (lines : List SymLine) → is_unbuilt image ≡ false → frames image ≡ Ok found → lines ≡ head_lines image name ++ written_lines image.base (written_of image found) → text ≡ omitted_text (omitted image.code found.first found.second) → CoversWritten image.base image found → DumpsParts image name lines text
+unfolding dump_lines
+frames_dumped image name text found lines built found_is are listed cover = record {
+  found = found;
+  built = built;
+  found_is = found_is;
+  lines_are = are;
+  text_is = listed;
+  says = record {
+    front = head_lines image name;
+    plain = plain_head image name;
+    whole = are;
+    disjoint = cover.disjoint;
+    covered = λ x. ap (λ l. inits_at l x) are ∙ covers_behind x (head_lines image name) (written_lines image.base (written_of image found)) (plain_head image name) ∙ cover.at x;
+  };
+}
+
+-- the same, by what each call gave
+pub dumps_framed : (image : ImageParts) (name text : List ℕ) (found : FrameLists) (lines framed : List SymLine) (base : ℕ) (code : List Range) (omissions : List Omission) → is_unbuilt image ≡ false → frames image ≡ Ok found → base ≡ image.base → code ≡ image.code → framed ≡ written_lines base (written code found.first found.second) → ((x : ℕ) → inits_at framed x ≡ entries_at (written code found.first found.second) (x + base)) → AreDisjoint (written code found.first found.second) → omissions ≡ omitted code found.first found.second → lines ≡ head_lines image name ++ framed → text ≡ omitted_text omissions → DumpsParts image name lines text
+dumps_framed image name text found lines framed base code omissions built found_is low ranges framed_is cover apart left are listed =
+    let all : framed ≡ written_lines image.base (written_of image found) =
+    framed_is ∙ ap (λ b. written_lines b (written code found.first found.second)) low ∙ ap (λ k. written_lines image.base (written k found.first found.second)) ranges in
+    frames_dumped image name text found lines built found_is
+    (are ∙ ap (λ l. head_lines image name ++ l) all)
+    (listed ∙ ap omitted_text (left ∙ ap (λ k. omitted k found.first found.second) ranges))
+    (record {
+      disjoint = subst (λ (k : List Range). AreDisjoint (written k found.first found.second)) ranges apart;
+      at = λ x. ap (λ l. inits_at l x) (sym all) ∙ cover x ∙ ap (λ b. entries_at (written code found.first found.second) (x + b)) low ∙ ap (λ k. entries_at (written k found.first found.second) (x + image.base)) ranges;
+    })
