@@ -1,5 +1,5 @@
 -- Rules of records, one target after another.
-use Rattle.std.proofs.Common.{◌≡◌, ℕ, ◌+◌, ◌<◌, ◌≤◌, ◌||◌, true, false, List, [], ◌∷◌, ◌++◌, map, length, cond, Option, None, Some, refl, ap, sym, ◌∙◌, arith, append_assoc, length-append, get_or, replicate, inl, inr}
+use Rattle.std.proofs.Common.{◌≡◌, ℕ, ◌+◌, ◌<◌, ◌||◌, true, false, List, [], ◌∷◌, ◌++◌, map, cond, Option, None, Some, refl, ap, sym, ◌∙◌, arith, append_assoc, get_or, replicate, inl, inr}
 use Rattle.std.specs.List.{cons_option, list_any, range_with_len, filter_map}
 use Rattle.std.specs.Option.{option_to_list}
 use Rattle.std.proofs.lemmas.Bool.{cases_lt, or_from}
@@ -8,6 +8,7 @@ use Rattle.std.proofs.lemmas.List.Elements.{filter_map-append}
 use Rattle.std.proofs.lemmas.List.FromFn.{map-range_with_len_more, get_or-range_with_len, length-range_with_len}
 use Rattle.std.proofs.lemmas.List.Folds.{list_any-append, list_any_at}
 use Rattle.frame_rows.specs.declared.row.Row.{Row}
+use Rattle.frame_rows.specs.declared.row.Rule.{Rule}
 use Rattle.sym_records.specs.declared.rules.Target.{Target}
 use Rattle.sym_records.specs.declared.rules.Target.TheVariants.{Cfa, Ra, Reg, Other}
 use Rattle.sym_records.specs.declared.rules.Token.{Token}
@@ -17,6 +18,7 @@ use Rattle.frame_rows.specs.declared.row.Rule.TheVariants as rule
 use Rattle.rule_postfix.specs.declared.parts.Part.{Part}
 use Rattle.rule_postfix.specs.declared.parts.Part.TheVariants.{AtRest, Base, Column}
 use Rattle.rule_postfix.specs.Parts.{rests_anew, is_rest, cfa_part, rule_at, part_of, column_part}
+use Rattle.rule_postfix.proofs.PartLemmas.{same_rules}
 use Rattle.rule_postfix.specs.Rules.{rule_of, rule_by, rules_of, rules_by, registers, targets, if_other, spelled, if_not_at_rest, row_rules, if_changed, changed_rules, rests_below}
 
 -- no register yet
@@ -40,34 +42,22 @@ rules_append tokens xs ys = filter_map-append (rule_by tokens) xs ys
 rules_more : (tokens : Target → Option (List Token)) (n : ℕ) → rules_of tokens (registers (n + 1)) ≡ rules_of tokens (registers n) ++ option_to_list (rule_of (Reg n) (tokens (Reg n)))
 rules_more tokens n = ap (rules_of tokens) (registers_more n) ∙ rules_append tokens (registers n) (Reg n ∷ []) ∙ ap (λ xs. rules_of tokens (registers n) ++ xs) (one_rule tokens (Reg n))
 
-pub one_register_more : (tokens : Target → Option (List Token)) (n : ℕ) (front rules more : List RuleText) → rules ≡ front ++ rules_of tokens (registers n) → more ≡ rules ++ option_to_list (rule_of (Reg n) (tokens (Reg n))) → more ≡ front ++ rules_of tokens (registers (n + 1))
-one_register_more tokens n front rules more e f = f ∙ ap (λ xs. xs ++ option_to_list (rule_of (Reg n) (tokens (Reg n)))) e ∙ append_assoc front (rules_of tokens (registers n)) (option_to_list (rule_of (Reg n) (tokens (Reg n)))) ∙ ap (λ xs. front ++ xs) (sym (rules_more tokens n))
+pub one_register_more : (before after : Row) (n : ℕ) (front rules more : List RuleText) → rules ≡ front ++ rules_of (if_changed before after) (registers n) → more ≡ rules ++ option_to_list (rule_of (Reg n) (if_other (Reg n) (column_part n (rule_at before n)) (column_part n (rule_at after n)))) → more ≡ front ++ rules_of (if_changed before after) (registers (n + 1))
+unfolding if_changed part_of
+one_register_more before after n front rules more e f =
+    let tokens : Target → Option (List Token) = if_changed before after in
+    f ∙ ap (λ xs. xs ++ option_to_list (rule_of (Reg n) (tokens (Reg n)))) e ∙ append_assoc front (rules_of tokens (registers n)) (option_to_list (rule_of (Reg n) (tokens (Reg n)))) ∙ ap (λ xs. front ++ xs) (sym (rules_more tokens n))
 
--- so many rules are counted, of so many registers
-pub record Counting (before after : Row) (n count : ℕ) : Type 0 where
-  pub exact : count ≡ length (rules_of (if_changed before after) (registers n))
-  pub most : count ≤ n
-
-pub counted_none : (before after : Row) → Counting before after 0 0
-unfolding rules_of registers
-counted_none before after = record { exact = refl; most = omega arith }
-
-counts : (t : Target) (o : Option (List Token)) → length (option_to_list (rule_of t o)) ≡ length (option_to_list o)
-counts t None = refl
-counts t (Some words) = refl
-
-counted : (tokens : Target → Option (List Token)) (n count : ℕ) → count ≡ length (rules_of tokens (registers n)) → count + length (option_to_list (tokens (Reg n))) ≡ length (rules_of tokens (registers (n + 1)))
-counted tokens n count e = ap (λ c. c + length (option_to_list (tokens (Reg n)))) e ∙ ap (λ c. length (rules_of tokens (registers n)) + c) (sym (counts (Reg n) (tokens (Reg n)))) ∙ sym (ap length (rules_more tokens n) ∙ length-append (rules_of tokens (registers n)) (option_to_list (rule_of (Reg n) (tokens (Reg n)))))
-
-pub counted_more : (before after : Row) (n count one : ℕ) → Counting before after n count → one ≡ length (option_to_list (if_changed before after (Reg n))) → one ≤ 1 → Counting before after (n + 1) (count + one)
-counted_more before after n count one so e small = record { exact = ap (λ c. count + c) e ∙ counted (if_changed before after) n count so.exact; most = omega (arith, so.most) }
+-- a column that stays has no rule
+pub column_stays : (t : Target) (column : ℕ) (before after : Rule) (rules : List RuleText) → before ≡ after → rules ≡ rules ++ option_to_list (rule_of t (if_other t (column_part column before) (column_part column after)))
+column_stays t column before after rules e = sym (ap (λ o. rules ++ option_to_list (rule_of t o)) (sym (same_rules t column before after e)) ∙ append-nil rules)
 
 -- the three parts of a record's rules
 rules_cons : (tokens : Target → Option (List Token)) (t : Target) (ts : List Target) → rules_of tokens (t ∷ ts) ≡ option_to_list (rule_of t (tokens t)) ++ rules_of tokens ts
 rules_cons tokens t ts = rules_append tokens (t ∷ []) ts ∙ ap (λ xs. xs ++ rules_of tokens ts) (one_rule tokens t)
 
-pub all_rules : (before after : Row) (first second third : List RuleText) → first ≡ [] ++ option_to_list (rule_of Cfa (if_changed before after Cfa)) → second ≡ first ++ option_to_list (rule_of Ra (if_changed before after Ra)) → third ≡ second ++ rules_of (if_changed before after) (registers 16) → third ≡ changed_rules before after
-unfolding changed_rules rules_by
+pub all_rules : (before after : Row) (first second third : List RuleText) → first ≡ [] ++ option_to_list (rule_of Cfa (if_other Cfa (cfa_part before.cfa) (cfa_part after.cfa))) → second ≡ first ++ option_to_list (rule_of Ra (if_other Ra (column_part 16 (rule_at before 16)) (column_part 16 (rule_at after 16)))) → third ≡ second ++ rules_of (if_changed before after) (registers 16) → third ≡ changed_rules before after
+unfolding changed_rules rules_by if_changed part_of
 all_rules before after first second third a b c =
     let tokens : Target → Option (List Token) = if_changed before after in
     c ∙ ap (λ xs. xs ++ rules_of tokens (registers 16)) (b ∙ ap (λ xs. xs ++ option_to_list (rule_of Ra (tokens Ra))) a) ∙ append_assoc (option_to_list (rule_of Cfa (tokens Cfa))) (option_to_list (rule_of Ra (tokens Ra))) (rules_of tokens (registers 16))

@@ -1,5 +1,5 @@
 //! The rules of a record: those of a row that are not at rest, and those that differ between two rows.
-ghost use Rattle.std.specs.Prelude.{◌≡◌, ◌≤◌, ◌++◌, length, IfOk, OnOk};
+ghost use Rattle.std.specs.Prelude.{◌≡◌, ◌≤◌, ◌++◌, IfOk, OnOk};
 ghost use Rattle.std.specs.Option.{option_to_list};
 ghost use Rattle.frame_rows.specs.Rows.{empty_row};
 ghost use Rattle.rule_postfix.specs.Parts.{column_part};
@@ -80,39 +80,6 @@ fn spelled_if_other(target: &Target, before: Part, after: Part) -> Option<Tokens
     }
 }
 
-/// Two equal rules are tested first: most columns stay from one row to the next.
-#[tactic(auto, using(crate::proofs::PartLemmas::same_rules))]
-fn changed_column(target: &Target, column: u8, before: Rule, after: Rule) -> Option<Tokens>
-    ensures { result ≡ if_other target.now (column_part column before) (column_part column after) }
-{
-    if before == after {
-        return None;
-    }
-    spelled_if_other(
-        target,
-        column_part(column, before),
-        column_part(column, after),
-    )
-}
-
-/// The tokens of a target, where two rows differ in it.
-#[tactic(auto, unfolding(crate::specs::Rules::if_changed, crate::specs::Parts::part_of))]
-fn changed(before: &Row, after: &Row, target: &Target) -> Option<Tokens>
-    ensures { result ≡ if_changed before.now after.now target.now }
-{
-    match target {
-        Target::Cfa => spelled_if_other(target, cfa_part(before.cfa), cfa_part(after.cfa)),
-        Target::Ra => changed_column(target, 16, rule_at(before, 16), rule_at(after, 16)),
-        Target::Reg(column) => changed_column(
-            target,
-            *column,
-            rule_at(before, *column),
-            rule_at(after, *column),
-        ),
-        Target::Other(_) => None,
-    }
-}
-
 fn put_rule(
     rules: &mut Vec<RuleText>,
     target: Target,
@@ -126,38 +93,57 @@ fn put_rule(
     Ok(())
 }
 
+/// Adds the rule of a column, where two rows differ in it. Equal rules are tested first: most columns stay from one row to the next.
+#[tactic(auto, using(crate::proofs::RulesLemmas::column_stays))]
+fn put_column(
+    rules: &mut Vec<RuleText>,
+    target: Target,
+    column: u8,
+    before: Rule,
+    after: Rule,
+) -> Result<(), OutOfMemory>
+    ensures { OnOk result (rules.new.items ≡ rules.old.items ++ option_to_list (rule_of target (if_other target (column_part column before) (column_part column after)))) }
+{
+    if before == after {
+        return Ok(());
+    }
+    let tokens = spelled_if_other(
+        &target,
+        column_part(column, before),
+        column_part(column, after),
+    );
+    put_rule(rules, target, tokens)
+}
+
 /// The rules of the registers in which two rows differ, by number.
 #[tactic(auto, using(crate::proofs::RulesLemmas::no_register, crate::proofs::RulesLemmas::one_register_more))]
 fn put_registers(rules: &mut Vec<RuleText>, before: &Row, after: &Row) -> Result<(), OutOfMemory>
     ensures { OnOk result (rules.new.items ≡ rules.old.items ++ rules_of (if_changed before.now after.now) (registers 16)) }
 {
     for number in 0..16u8 {
-        let target = Target::Reg(number);
-        let tokens = changed(before, after, &target);
-        put_rule(rules, target, tokens)?;
+        put_column(
+            rules,
+            Target::Reg(number),
+            number,
+            rule_at(before, number),
+            rule_at(after, number),
+        )?;
     }
     Ok(())
 }
 
-fn count_of(tokens: &Option<Tokens>) -> usize
-    ensures most { result ≤ 1 }
-    ensures count { result ≡ length (option_to_list tokens.now) }
-{
-    match tokens {
-        Some(_) => 1,
-        None => 0,
-    }
-}
-
-/// How many registers two rows differ in.
-#[tactic(auto, using(crate::proofs::RulesLemmas::counted_none, crate::proofs::RulesLemmas::counted_more))]
-fn count_registers(before: &Row, after: &Row) -> usize
-    ensures most { result ≤ 16 }
-    ensures count { result ≡ length (rules_of (if_changed before.now after.now) (registers 16)) }
+/// How many rules two rows may differ in: the CFA's and those of the columns.
+fn count_changes(before: &Row, after: &Row) -> usize
+    ensures { result ≤ 18 }
 {
     let mut count = 0;
-    for number in 0..16u8 {
-        count += count_of(&changed(before, after, &Target::Reg(number)));
+    for column in 0..17u8 {
+        if rule_at(before, column) != rule_at(after, column) {
+            count += 1;
+        }
+    }
+    if before.cfa != after.cfa {
+        count += 1;
     }
     count
 }
@@ -167,12 +153,16 @@ fn count_registers(before: &Row, after: &Row) -> usize
 pub fn changed_rules(alloc: Global, before: &Row, after: &Row) -> Result<Rules, OutOfMemory>
     ensures { IfOk result (λ rules. rules ≡ changed_rules before.now after.now) }
 {
-    let cfa = changed(before, after, &Target::Cfa);
-    let address = changed(before, after, &Target::Ra);
-    let count = count_registers(before, after);
-    let mut rules = Vec::with_capacity(alloc, count + count_of(&cfa) + count_of(&address))?;
+    let mut rules = Vec::with_capacity(alloc, count_changes(before, after))?;
+    let cfa = spelled_if_other(&Target::Cfa, cfa_part(before.cfa), cfa_part(after.cfa));
     put_rule(&mut rules, Target::Cfa, cfa)?;
-    put_rule(&mut rules, Target::Ra, address)?;
+    put_column(
+        &mut rules,
+        Target::Ra,
+        16,
+        rule_at(before, 16),
+        rule_at(after, 16),
+    )?;
     put_registers(&mut rules, before, after)?;
     Ok(ListOf::of(rules))
 }
