@@ -9,7 +9,7 @@ use Rattle.sym_records.specs.Canon.{spaced}
 use Rattle.sym_records.specs.declared.line.SymLine.{SymLine}
 use Rattle.sym_records.specs.declared.line.SymLine.TheVariants.{Module, Info, Public, Init, Change}
 use Rattle.rule_postfix.specs.Written.{omitted, written, written_lines}
-use Rattle.rule_postfix.specs.Covering.{init_covers, inits_at, entries_at, AreDisjoint}
+use Rattle.rule_postfix.specs.Covering.{init_covers, inits_at, entries_at, AreDisjoint, AreNested}
 use Rattle.rule_postfix.specs.declared.omission.Omission.{Omission}
 use Rattle.dumpsyms_cmd.specs.declared.frames.FrameLists.{FrameLists}
 use Rattle.dumpsyms_cmd.specs.Publics.{publics, public_at}
@@ -73,10 +73,23 @@ covers_behind : (x : ℕ) (front rest : List SymLine) → list_all is_plain fron
 unfolding inits_at
 covers_behind x front rest plain = covered_behind x front rest plain
 
+false_true : false ≡ true → ⊥
+false_true e = cc
+
+-- nested records are nested behind plain ones
+nested_behind : (front rest : List SymLine) → list_all is_plain front ≡ true → AreNested 0 0 rest → AreNested 0 0 (front ++ rest)
+nested_behind [] rest plain nested = nested
+nested_behind (Module os arch id name ∷ front) rest plain nested = nested_behind front rest plain nested
+nested_behind (Info text ∷ front) rest plain nested = nested_behind front rest plain nested
+nested_behind (Public many address params name ∷ front) rest plain nested = nested_behind front rest plain nested
+nested_behind (Init address size rules ∷ front) rest plain nested = absurd (false_true plain)
+nested_behind (Change address rules ∷ front) rest plain nested = absurd (false_true plain)
+
 -- which addresses the records of written entries cover
 pub record CoversWritten (base : ℕ) (image : ImageParts) (found : FrameLists) : Type 0 where
   pub disjoint : AreDisjoint (written_of image found)
   pub at : (x : ℕ) → inits_at (written_lines base (written_of image found)) x ≡ entries_at (written_of image found) (x + base)
+  pub nested : AreNested 0 0 (written_lines base (written_of image found))
 
 -- the records of a file say which written entry covers an address
 pub frames_dumped : (image : ImageParts) (name text : List ℕ) (found : FrameLists) (lines : List SymLine) → is_unbuilt image ≡ false → frames image ≡ Ok found → lines ≡ head_lines image name ++ written_lines image.base (written_of image found) → text ≡ omitted_text (omitted image.code found.first found.second) → CoversWritten image.base image found → DumpsParts image name lines text
@@ -93,12 +106,13 @@ frames_dumped image name text found lines built found_is are listed cover = reco
     whole = are;
     disjoint = cover.disjoint;
     covered = λ x. ap (λ l. inits_at l x) are ∙ covers_behind x (head_lines image name) (written_lines image.base (written_of image found)) (plain_head image name) ∙ cover.at x;
+    nested = subst (AreNested 0 0) (sym are) (nested_behind (head_lines image name) (written_lines image.base (written_of image found)) (plain_head image name) cover.nested);
   };
 }
 
 -- the same, by what each call gave
-pub dumps_framed : (image : ImageParts) (name text : List ℕ) (found : FrameLists) (lines framed : List SymLine) (base : ℕ) (code : List Range) (omissions : List Omission) → is_unbuilt image ≡ false → frames image ≡ Ok found → base ≡ image.base → code ≡ image.code → framed ≡ written_lines base (written code found.first found.second) → ((x : ℕ) → inits_at framed x ≡ entries_at (written code found.first found.second) (x + base)) → AreDisjoint (written code found.first found.second) → omissions ≡ omitted code found.first found.second → lines ≡ head_lines image name ++ framed → text ≡ omitted_text omissions → DumpsParts image name lines text
-dumps_framed image name text found lines framed base code omissions built found_is low ranges framed_is cover apart left are listed =
+pub dumps_framed : (image : ImageParts) (name text : List ℕ) (found : FrameLists) (lines framed : List SymLine) (base : ℕ) (code : List Range) (omissions : List Omission) → is_unbuilt image ≡ false → frames image ≡ Ok found → base ≡ image.base → code ≡ image.code → framed ≡ written_lines base (written code found.first found.second) → ((x : ℕ) → inits_at framed x ≡ entries_at (written code found.first found.second) (x + base)) → AreNested 0 0 framed → AreDisjoint (written code found.first found.second) → omissions ≡ omitted code found.first found.second → lines ≡ head_lines image name ++ framed → text ≡ omitted_text omissions → DumpsParts image name lines text
+dumps_framed image name text found lines framed base code omissions built found_is low ranges framed_is cover nested apart left are listed =
     let all : framed ≡ written_lines image.base (written_of image found) =
     framed_is ∙ ap (λ b. written_lines b (written code found.first found.second)) low ∙ ap (λ k. written_lines image.base (written k found.first found.second)) ranges in
     frames_dumped image name text found lines built found_is
@@ -107,4 +121,5 @@ dumps_framed image name text found lines framed base code omissions built found_
     (record {
       disjoint = subst (λ (k : List Range). AreDisjoint (written k found.first found.second)) ranges apart;
       at = λ x. ap (λ l. inits_at l x) (sym all) ∙ cover x ∙ ap (λ b. entries_at (written code found.first found.second) (x + b)) low ∙ ap (λ k. entries_at (written k found.first found.second) (x + image.base)) ranges;
+      nested = subst (AreNested 0 0) all nested;
     })

@@ -10,7 +10,7 @@ use Rattle.sym_records.specs.Steps.{◌>>=◌}
 use Rattle.sym_records.specs.declared.line.SymLine.{SymLine}
 use Rattle.sym_records.specs.declared.line.SymLine.TheVariants.{Module, Info, Public, Init, Change}
 use Rattle.rule_postfix.specs.Written.{written, written_lines}
-use Rattle.rule_postfix.specs.Covering.{inits_at, entries_at, AreDisjoint}
+use Rattle.rule_postfix.specs.Covering.{inits_at, entries_at, AreDisjoint, AreNested}
 use Rattle.dumpsyms_cmd.specs.declared.frames.FrameLists.{FrameLists}
 
 -- the entries of `.eh_frame` and those of `.debug_frame`, or the first fault of these sections, in this order
@@ -33,10 +33,12 @@ is_plain (Init address size rules) = false
 is_plain (Change address rules) = false
 
 -- what records say of frames: behind plain records stand those of the written entries, one entry behind another; no two of
--- these have an address in common; and as many INITs cover an address as written entries hold it, so one or none
+-- these have an address in common; as many INITs cover an address as written entries hold it, so one or none; and the changes of
+-- an INIT stand inside it, at addresses that rise
 pub record SaysFrames (image : ImageParts) (found : FrameLists) (lines : List SymLine) : Type 0 where
   pub front : List SymLine
   pub plain : list_all is_plain front ≡ true
   pub whole : lines ≡ front ++ written_lines image.base (written_of image found)
   pub disjoint : AreDisjoint (written_of image found)
   pub covered : (x : ℕ) → inits_at lines x ≡ entries_at (written_of image found) (x + image.base)
+  pub nested : AreNested 0 0 lines

@@ -55,7 +55,7 @@ least : (cut : Bool) (b c : ℕ) → b ≤ c → b ≤ cond cut b c
 least true b c le = omega arith
 least false b c le = le
 
-cut_above : (row : ℕ → Row) (start b n : ℕ) → b ≤ first_cut row start b n
+pub cut_above : (row : ℕ → Row) (start b n : ℕ) → b ≤ first_cut row start b n
 unfolding first_cut
 cut_above row start b zero = omega arith
 cut_above row start b (suc n) = least (is_cut row start b) b (first_cut row start (b + 1) n) (omega (arith, cut_above row start (b + 1) n))
@@ -73,7 +73,7 @@ line_inits row start base end x b n false size le is rest =
     ∙ ap (λ k. k + from_to c end (x + base)) (no_init (b - base) x (changed_rules (row (b - 1)) (row b)))
     ∙ (omega arith)
 
-first_by : (row : ℕ → Row) (start b n : ℕ) → first_cut row start b (suc n) ≡ cond (is_cut row start b) b (first_cut row start (b + 1) n)
+pub first_by : (row : ℕ → Row) (start b n : ℕ) → first_cut row start b (suc n) ≡ cond (is_cut row start b) b (first_cut row start (b + 1) n)
 unfolding first_cut
 first_by row start b n = refl
 
@@ -97,7 +97,7 @@ unfolding frame_lines
 range_inits row start size base x le = inits_from row start base (start + size) x start size refl le ∙ ap (λ k. from_to k (start + size) (x + base)) (first_is_start row start size)
 
 -- entries that start at or above a base
-pub AreAbove : ℕ → List FdeFields → Type 0
+unfoldable pub AreAbove : ℕ → List FdeFields → Type 0
 AreAbove base [] = Unit {0}
 AreAbove base (e ∷ entries) = (base ≤ e.start) × AreAbove base entries
 

@@ -1,5 +1,5 @@
 -- The entries that are written lie above the base, and no two have an address in common.
-use Rattle.std.proofs.Common.{◌≡◌, ℕ, ◌+◌, List, [], ◌∷◌, map, Option, None, Some, refl, ap, ◌∙◌}
+use Rattle.std.proofs.Common.{◌≡◌, ℕ, ◌+◌, List, [], ◌∷◌, map, Option, None, Some, refl, ap, sym, ◌∙◌, subst}
 use Rattle.sym_edges.specs.declared.reason.Reason.{Reason}
 use Rattle.sym_edges.specs.Addresses.{Range}
 use Rattle.range_set.specs.Building.{AllFrom}
@@ -9,9 +9,10 @@ use Rattle.frame_entries.specs.declared.description.Entry.{Entry}
 use Rattle.frame_entries.specs.FdeFields.{FdeFields}
 use Rattle.sym_records.specs.declared.line.SymLine.{SymLine}
 use Rattle.rule_postfix.specs.Written.{Decided, range_of, reason_behind, with_good, with_body, with_entry, with_entries, decided, none_decided, written, written_lines}
-use Rattle.rule_postfix.specs.Covering.{inits_at, entries_at, AreDisjoint}
+use Rattle.rule_postfix.specs.Covering.{inits_at, entries_at, AreDisjoint, AreNested}
 use Rattle.rule_postfix.proofs.DecidedLemmas.{IsFree, is_free, enclosed_above}
 use Rattle.rule_postfix.proofs.CoveringLemmas.{AreAbove, above_more, above_none, disjoint_more, written_inits}
+use Rattle.rule_postfix.proofs.NestingLemmas.{written_nested}
 
 pub record Kept (base : ℕ) (d : Decided) : Type 0 where
   pub above : AreAbove base d.written
@@ -50,3 +51,10 @@ written_apart base code first second from = (all_kept base code first second fro
 pub written_cover : (base : ℕ) (code : List Range) (first second : List Entry) (lines : List SymLine) → AllFrom base code → lines ≡ written_lines base (written code first second) → (x : ℕ) → inits_at lines x ≡ entries_at (written code first second) (x + base)
 unfolding written
 written_cover base code first second lines from these x = ap (λ ls. inits_at ls x) these ∙ written_inits base x (decided code first second).written (all_kept base code first second from).above
+
+-- changes stand inside the INIT of their range
+pub written_changes : (base : ℕ) (code : List Range) (first second : List Entry) (lines : List SymLine) → AllFrom base code → lines ≡ written_lines base (written code first second) → AreNested 0 0 lines
+unfolding written
+written_changes base code first second lines from these =
+    let P : List SymLine → Type 0 = λ ls. AreNested 0 0 ls in
+    subst P (sym these) ((written_nested base (decided code first second).written (all_kept base code first second from).above).at 0 0)

@@ -9,5 +9,6 @@ pub mod DecidedLemmas
 pub mod PlainLemmas
 pub mod ValidLemmas
 pub mod CoveringLemmas
+pub mod NestingLemmas
 pub mod KeptLemmas
 pub mod TestLemmas

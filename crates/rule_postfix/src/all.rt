@@ -7,7 +7,7 @@ ghost use Rattle.sym_records.specs.declared.place.Place.{Place};
 ghost use Rattle.sym_records.specs.Validity.{first_bad_from};
 ghost use Rattle.rule_postfix.specs.Overlaps.{any_meets};
 ghost use Rattle.rule_postfix.specs.Written.{Decided, has_range, range_of, reason_among, entry_lines, left_out, with_written, with_entry, with_entries, decided, none_decided, written, omitted, written_lines};
-ghost use Rattle.rule_postfix.specs.Covering.{inits_at, entries_at, AreDisjoint};
+ghost use Rattle.rule_postfix.specs.Covering.{inits_at, entries_at, AreDisjoint, AreNested};
 ghost use Rattle.rule_postfix.specs.Deciding.{LiesAbove, EndsAt, IfRefused, Shows};
 
 use crate::omission::{Omission, Omissions};
@@ -184,6 +184,7 @@ pub fn translate_all(
     ensures lines { IfOk result (λ frames. frames.lines ≡ written_lines base (written code.now first.now second.now)) }
     ensures valid { IfOk result (λ frames. first_bad_from 0 Place.Inside frames.lines ≡ None) }
     ensures covers { IfOk result (λ frames. (x : ℕ) → inits_at frames.lines x ≡ entries_at (written code.now first.now second.now) (x + base)) }
+    ensures nested { IfOk result (λ frames. AreNested 0 0 frames.lines) }
     ensures disjoint { IfOk result (λ _. AreDisjoint (written code.now first.now second.now)) }
     ensures omitted { IfOk result (λ frames. frames.omitted ≡ omitted code.now first.now second.now) }
 {
