@@ -1,6 +1,7 @@
 -- The lines on standard error, and what the records of a file say of its frame entries.
-use Rattle.std.proofs.Common.{◌≡◌, ℕ, ◌+◌, ◌≤◌, ◌&&◌, cond, Bool, true, false, List, [], ◌∷◌, ◌++◌, map, length, take, Option, Some, None, Ok, refl, sym, ◌∙◌, ap, append_assoc, subst, count_by}
+use Rattle.std.proofs.Common.{◌≡◌, ℕ, ◌+◌, ◌≤◌, cond, true, false, List, [], ◌∷◌, ◌++◌, map, length, take, Option, Some, None, Ok, refl, sym, ◌∙◌, ap, append_assoc, subst, count_by}
 use Rattle.std.specs.List.{flat_map, fold, list_all}
+use Rattle.std.proofs.lemmas.Bool.{and_parts}
 use Rattle.std.proofs.lemmas.List.{take_all}
 use Rattle.sym_edges.specs.Addresses.{Range}
 use Rattle.elf_sections.specs.Image.{ImageParts}
@@ -59,22 +60,15 @@ line_plain x (Public many address params name) plain = refl
 line_plain x (Init address size rules) plain = cc
 line_plain x (Change address rules) plain = cc
 
-and_true : {a b : Bool} → (a && b) ≡ true → (a ≡ true) × (b ≡ true)
-and_true {a = true} is = (refl, is)
-and_true {a = false} is = cc
-
 covered_behind : (x : ℕ) (front rest : List SymLine) → list_all is_plain front ≡ true → count_by (init_covers x) (front ++ rest) ≡ count_by (init_covers x) rest
 covered_behind x [] rest plain = refl
 covered_behind x (s ∷ front) rest plain =
-    let parts = and_true {a = is_plain s} plain in
+    let parts = and_parts (is_plain s) (list_all is_plain front) plain in
     ap (λ t. fold (λ count line. count + cond (init_covers x line) 1 0) (0 + cond t 1 0) (front ++ rest)) (line_plain x s parts.0) ∙ covered_behind x front rest parts.1
 
 covers_behind : (x : ℕ) (front rest : List SymLine) → list_all is_plain front ≡ true → inits_at (front ++ rest) x ≡ inits_at rest x
 unfolding inits_at
 covers_behind x front rest plain = covered_behind x front rest plain
-
-false_true : false ≡ true → ⊥
-false_true e = cc
 
 -- nested records are nested behind plain ones
 nested_behind : (front rest : List SymLine) → list_all is_plain front ≡ true → AreNested 0 0 rest → AreNested 0 0 (front ++ rest)
@@ -82,8 +76,8 @@ nested_behind [] rest plain nested = nested
 nested_behind (Module os arch id name ∷ front) rest plain nested = nested_behind front rest plain nested
 nested_behind (Info text ∷ front) rest plain nested = nested_behind front rest plain nested
 nested_behind (Public many address params name ∷ front) rest plain nested = nested_behind front rest plain nested
-nested_behind (Init address size rules ∷ front) rest plain nested = absurd (false_true plain)
-nested_behind (Change address rules ∷ front) rest plain nested = absurd (false_true plain)
+nested_behind (Init address size rules ∷ front) rest plain nested = cc
+nested_behind (Change address rules ∷ front) rest plain nested = cc
 
 -- which addresses the records of written entries cover
 pub record CoversWritten (base : ℕ) (image : ImageParts) (found : FrameLists) : Type 0 where

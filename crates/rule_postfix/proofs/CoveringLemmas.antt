@@ -4,6 +4,7 @@ use Rattle.std.specs.List.{list_any, flat_map, range_with_len}
 use Rattle.std.proofs.Math.Bool.{and_comm}
 use Rattle.std.proofs.lemmas.Bool.{or_from, or_parts}
 use Rattle.std.proofs.lemmas.Bool.Decides.{nat_tests}
+use Rattle.std.proofs.lemmas.List.{map-append}
 use Rattle.std.proofs.lemmas.List.Folds.{list_any-append}
 use Rattle.std.proofs.lemmas.List.Sums.{sum_by-append}
 use Rattle.frame_rows.specs.declared.row.Row.{Row}
@@ -29,6 +30,10 @@ joined : (a low mid high : ℕ) → low ≤ mid → mid ≤ high → from_to low
 unfolding from_to
 joined a low mid high le more = grind (arith, nat_tests)
 
+counts_one : (t : Bool) → 0 + cond t 1 0 ≡ cond t 1 0
+counts_one true = refl
+counts_one false = refl
+
 inits_append : (xs ys : List SymLine) (x : ℕ) → inits_at (xs ++ ys) x ≡ inits_at xs x + inits_at ys x
 unfolding inits_at
 inits_append xs ys x = sum_by-append (λ s. cond (init_covers x s) 1 0) xs ys
@@ -43,8 +48,7 @@ covers_same low high base x le more = grind (arith, nat_tests)
 one_init : (low high base x : ℕ) (rules : List RuleText) → base ≤ low → low ≤ high → inits_at (Init (low - base) (high - low) rules ∷ []) x ≡ from_to low high (x + base)
 unfolding inits_at from_to
 one_init low high base x rules le more =
-    let plain : (t : Bool) → 0 + cond t 1 0 ≡ cond t 1 0 = λ t. elim t as (λ v. 0 + cond v 1 0 ≡ cond v 1 0) [ true ↦ refl | false ↦ refl ] in
-    plain (nat_le (low - base) x && nat_lt x (low - base + (high - low))) ∙ ap (λ t. cond t 1 0) (covers_same low high base x le more)
+    counts_one (nat_le (low - base) x && nat_lt x (low - base + (high - low))) ∙ ap (λ t. cond t 1 0) (covers_same low high base x le more)
 
 no_init : (address x : ℕ) (rules : List RuleText) → inits_at (change address rules) x ≡ 0
 unfolding inits_at
@@ -104,8 +108,7 @@ AreAbove base (e ∷ entries) = (base ≤ e.start) × AreAbove base entries
 entries_cons : (e : FdeFields) (entries : List FdeFields) (a : ℕ) → entries_at (e ∷ entries) a ≡ from_to e.start (e.start + e.size) a + entries_at entries a
 unfolding entries_at from_to
 entries_cons e entries a =
-    let plain : (t : Bool) → 0 + cond t 1 0 ≡ cond t 1 0 = λ t. elim t as (λ v. 0 + cond v 1 0 ≡ cond v 1 0) [ true ↦ refl | false ↦ refl ] in
-    sum_by-append (λ w. cond (holds_address a w) 1 0) (e ∷ []) entries ∙ ap (λ k. k + entries_at entries a) (plain (holds_address a e))
+    sum_by-append (λ w. cond (holds_address a w) 1 0) (e ∷ []) entries ∙ ap (λ k. k + entries_at entries a) (counts_one (holds_address a e))
 
 pub written_inits : (base x : ℕ) (entries : List FdeFields) → AreAbove base entries → inits_at (written_lines base entries) x ≡ entries_at entries (x + base)
 unfolding written_lines inits_at entries_at entry_lines AreAbove
@@ -125,16 +128,12 @@ unfolding AreAbove
 above_more base [] e above le = (le, tt)
 above_more base (w ∷ entries) e above le = (above.0, above_more base entries e above.1 le)
 
-map_more : (entries : List FdeFields) (e : FdeFields) → map range_of (entries ++ e ∷ []) ≡ map range_of entries ++ range_of e ∷ []
-map_more [] e = refl
-map_more (w ∷ entries) e = ap (λ xs. range_of w ∷ xs) (map_more entries e)
-
 pub disjoint_more : (entries : List FdeFields) (e : FdeFields) → AreDisjoint entries → any_meets (range_of e) (map range_of entries) ≡ false → AreDisjoint (entries ++ e ∷ [])
 unfolding any_meets
 disjoint_more [] e apart none = (refl, tt)
 disjoint_more (w ∷ entries) e apart none =
     let parts : (meet (range_of e) (range_of w) ≡ false) × (list_any (meet (range_of e)) (map range_of entries) ≡ false) = or_parts (meet (range_of e) (range_of w)) (list_any (meet (range_of e)) (map range_of entries)) none in (
-      ap (list_any (meet (range_of w))) (map_more entries e) ∙ list_any-append (meet (range_of w)) (map range_of entries) (range_of e ∷ [])
+      ap (list_any (meet (range_of w))) (map-append range_of entries (e ∷ [])) ∙ list_any-append (meet (range_of w)) (map range_of entries) (range_of e ∷ [])
           ∙ or_from (list_any (meet (range_of w)) (map range_of entries)) (meet (range_of w) (range_of e) || false) apart.0 (or_from (meet (range_of w) (range_of e)) false (and_comm (nat_lt w.start (e.start + e.size)) (nat_lt e.start (w.start + w.size)) ∙ parts.0) refl),
       disjoint_more entries e apart.1 parts.1,
     )

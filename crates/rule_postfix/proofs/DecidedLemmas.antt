@@ -1,9 +1,9 @@
 -- What the pass over the entries holds, entry after entry.
 use Rattle.std.proofs.Common.{◌≡◌, ℕ, ◌+◌, ◌<◌, ◌≤◌, ◌&&◌, ◌||◌, ◌^◌, not, nat_lt, nat_le, Bool, true, false, List, [], ◌∷◌, ◌++◌, map, take, length, get_or, Option, None, Some, Err, refl, ap, sym, ◌∙◌, inl, inr, arith, subst}
 use Rattle.std.specs.List.{flat_map, list_any}
-use Rattle.std.proofs.lemmas.Bool.{and_parts, or_cases, leb-true, ltb-true}
+use Rattle.std.proofs.lemmas.Bool.{and_parts, not-true, or_cases, leb-true, ltb-true}
 use Rattle.std.proofs.lemmas.Grind.{flat_map-append}
-use Rattle.std.proofs.lemmas.List.{append-nil, take_more}
+use Rattle.std.proofs.lemmas.List.{append-nil, map-append, take_more}
 use Rattle.std.proofs.lemmas.List.Folds.{list_any-append}
 use Rattle.sym_edges.specs.declared.reason.Reason.{Reason}
 use Rattle.sym_edges.specs.declared.reason.Reason.TheVariants as reason
@@ -28,10 +28,6 @@ use Rattle.rule_postfix.specs.Written.{Decided, range_of, has_range, is_code, re
 use Rattle.rule_postfix.specs.Deciding.{LiesAbove, IfRefused, Shows}
 
 -- one entry more
-map_more : (ws : List FdeFields) (e : FdeFields) → map range_of (ws ++ e ∷ []) ≡ map range_of ws ++ range_of e ∷ []
-map_more [] e = refl
-map_more (w ∷ ws) e = ap (λ xs. range_of w ∷ xs) (map_more ws e)
-
 lines_more : (base : ℕ) (ws : List FdeFields) (e : FdeFields) → written_lines base (ws ++ e ∷ []) ≡ written_lines base ws ++ entry_lines base e
 unfolding written_lines
 lines_more base ws e = flat_map-append (entry_lines base) ws (e ∷ []) ∙ ap (λ xs. flat_map (entry_lines base) ws ++ xs) (append-nil (entry_lines base e))
@@ -43,7 +39,7 @@ or_nothing false = refl
 meets_more : (range : Range) (ws : List FdeFields) (e : FdeFields) → any_meets range (map range_of (ws ++ e ∷ [])) ≡ (any_meets range (map range_of ws) || meet range (range_of e))
 unfolding any_meets
 meets_more range ws e =
-    ap (list_any (meet range)) (map_more ws e) ∙ list_any-append (meet range) (map range_of ws) (range_of e ∷ [])
+    ap (list_any (meet range)) (map-append range_of ws (e ∷ [])) ∙ list_any-append (meet range) (map range_of ws) (range_of e ∷ [])
     ∙ ap (λ t. list_any (meet range) (map range_of ws) || t) (or_nothing (meet range (range_of e)))
 
 pub shows_more : (base : ℕ) (p q : Progress) (e : FdeFields) (d : Decided) (lines : List SymLine) → lines ≡ entry_lines base e → first_bad_from 0 Inside lines ≡ None → q.lines.items ≡ p.lines.items ++ lines → q.omitted.items ≡ p.omitted.items → ((range : Range) → any_meets range q.taken ≡ (any_meets range p.taken || meet range (range_of e))) →
@@ -60,13 +56,10 @@ pub shows_none : (base : ℕ) (p : Progress) → p.lines.items ≡ [] → p.omit
 unfolding written_lines first_bad_from
 shows_none base p lines omitted taken = record { lines = lines; omitted = omitted; valid = ap (first_bad_from 0 Inside) lines; taken = λ range. ap (any_meets range) taken }
 
-false_true : false ≡ true → ⊥
-false_true e = cc
-
 -- what is enclosed by code above a base lies above it
 pub enclosed_above : (base start end : ℕ) (code : List Range) → AllFrom base code → encloses code start end ≡ true → base ≤ start
 unfolding encloses
-enclosed_above base start end [] above is = absurd (false_true is)
+enclosed_above base start end [] above is = cc
 enclosed_above base start end (r ∷ code) above is =
     elim (or_cases (nat_le r.start start && nat_le end r.end) (list_any (λ x. nat_le x.start start && nat_le end x.end) code) is) [
       | inl here ↦ omega (arith, above.0, leb-true r.start start (and_parts (nat_le r.start start) (nat_le end r.end) here).0)
@@ -76,9 +69,6 @@ enclosed_above base start end (r ∷ code) above is =
 pub lies_above : (base : ℕ) (code kept : List Range) → AllFrom base code → ((start end : ℕ) → encloses kept start end ≡ encloses code start end) → LiesAbove base kept
 lies_above base code kept above same = record { at = λ start end is. enclosed_above base start end code above (sym (same start end) ∙ is) }
 
-some_none : (why : Reason) → Some why ≡ None → ⊥
-some_none why e = cc
-
 -- of an entry with no reason to leave it out
 or_left : (a b : Option Reason) → or_reason a b ≡ None → a ≡ None
 or_left None b is = refl
@@ -86,15 +76,11 @@ or_left (Some why) b is = is
 
 or_right : (a b : Option Reason) → or_reason a b ≡ None → b ≡ None
 or_right None b is = is
-or_right (Some why) b is = absurd (some_none why is)
+or_right (Some why) b is = cc
 
 unless_true : (t : Bool) (why : Reason) → unless t why ≡ None → t ≡ true
 unless_true true why is = refl
-unless_true false why is = absurd (some_none why is)
-
-not_true : (t : Bool) → not t ≡ true → t ≡ false
-not_true true is = sym is
-not_true false is = refl
+unless_true false why is = cc
 
 -- its range is one of addresses, lies in one range of code, and meets none of those that are taken
 pub record IsFree (code taken : List Range) (e : FdeFields) : Type 0 where
@@ -114,7 +100,7 @@ is_free code taken e none =
       some = ltb-true 0 e.size parts.0;
       fits = ltb-true (e.start + e.size) (2 ^ 64) parts.1;
       inside = (and_parts (has_range e) (encloses code e.start (e.start + e.size)) inside).1;
-      apart = not_true (any_meets (range_of e) taken) (unless_true (not (any_meets (range_of e) taken)) reason.Overlap (or_right (unless (is_code code e) reason.Outside) (unless (not (any_meets (range_of e) taken)) reason.Overlap) later));
+      apart = not-true (any_meets (range_of e) taken) (unless_true (not (any_meets (range_of e) taken)) reason.Overlap (or_right (unless (is_code code e) reason.Outside) (unless (not (any_meets (range_of e) taken)) reason.Overlap) later));
     }
 
 -- what is decided of an entry

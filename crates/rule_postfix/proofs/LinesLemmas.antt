@@ -14,6 +14,7 @@ use Rattle.rule_postfix.specs.Parts.{rests_anew, starts_anew, is_rest, column_pa
 use Rattle.rule_postfix.specs.Rules.{rule_of, rules_of, rules_by, targets, if_changed, comes_to_rest, rests_below, row_rules, changed_rules}
 use Rattle.rule_postfix.specs.FrameLines.{is_cut, first_cut, change, line_at, frame_lines}
 use Rattle.rule_postfix.specs.Writing.{Open, opened, closed, with_changes, with_row, with_rows, lines_of}
+use Rattle.rule_postfix.proofs.OptionLemmas.{some_same, none_some}
 use Rattle.rule_postfix.proofs.PartLemmas.{no_other}
 
 -- a row beside itself: nothing rests anew, and nothing changes
@@ -61,9 +62,6 @@ Follows row b end before rows = (a : ℕ) → b ≤ a → a < end → or_row (la
 or_twice : (o : Option Row) (x y : Row) → or_row (or_row o (Some x)) (Some y) ≡ or_row o (Some x)
 or_twice None x y = refl
 or_twice (Some z) x y = refl
-
-some_same : (x y : Row) → Some x ≡ Some y → x ≡ y
-some_same x y e = cc
 
 last_on : (r : RowAt) (rows : List RowAt) (a : ℕ) → r.address ≤ a → last_at (r ∷ rows) a ≡ or_row (last_at rows a) (Some r.row)
 unfolding last_at
@@ -182,9 +180,6 @@ rests row start end b (suc n) before (r ∷ rows) o size above e rising follows 
       | inl below ↦ stays_more row start end b n before (r ∷ rows) o size above e (omega (arith, below), rising.1, rising.2) follows (λ back up on. rests row start end (b + 1) n before (r ∷ rows) o size (omega arith) back up on)
       | inr past ↦ moves_more row start end b n before r rows o size above e rising follows (omega (arith, past, rising.0)) (λ back up on. rests row start end (b + 1) n r.row rows (with_row b before r.row o) size (omega arith) back up on)
     ]
-
-none_some : (x : Row) → None ≡ Some x → ⊥
-none_some x e = cc
 
 -- the first row stands at the start
 first_at : (row : ℕ → Row) (start end : ℕ) (r : RowAt) (rows : List RowAt) → Ascending start end (r ∷ rows) → last_at (r ∷ rows) start ≡ Some (row start) → r.address ≡ start

@@ -21,7 +21,7 @@ pub record NestedAlways (lines : List SymLine) : Type 0 where
 -- the record of one address, before records that are nested behind it
 nested_line : (cut : Bool) (b c base last end : ℕ) (row rules : List RuleText) (lines : List SymLine) → base ≤ b → last + base < b → b < c → end + base ≡ cond cut b c →
     ((l e : ℕ) → l + base < b + 1 → e + base ≡ c → AreNested l e lines) → AreNested last end (cond cut (Init (b - base) (c - b) row ∷ []) (change (b - base) rules) ++ lines)
-nested_line true b c base last end row rules lines le above below is more = more (b - base) (b - base + (c - b)) (omega (arith, le)) (omega (arith, le, below))
+nested_line true b c base last end row rules lines le above below is more = (omega (arith, below), more (b - base) (b - base + (c - b)) (omega (arith, le)) (omega (arith, le, below)))
 nested_line false b c base last end row [] lines le above below is more = more last end (omega (arith, above)) is
 nested_line false b c base last end row (r ∷ rules) lines le above below is more = (omega (arith, above), (omega (arith, is, below, le), more (b - base) end (omega (arith, le)) is))
 
@@ -53,8 +53,10 @@ nested_range row start base (suc n) lines le always = record {
       let rest : List SymLine = flat_map (line_at row start end base) (range_with_len (start + 1) n) in
       let line : line_at row start end base start ≡ Init (start - base) (c - start) (row_rules (row start)) ∷ [] = line_of row start end base start n (row (start - 1)) (row start) true (omega arith) refl refl (starts_cut row start) in
       let P : List SymLine → Type 0 = λ ls. AreNested last stop ls in
-      subst P (sym (ap (λ ls. (ls ++ rest) ++ lines) line ∙ append_assoc (Init (start - base) (c - start) (row_rules (row start)) ∷ []) rest lines))
-      (nested_from row start base end (start + 1) n (start - base) (start - base + (c - start)) lines (omega arith) (omega (arith, le)) (omega (arith, le)) (omega (arith, le, cut_above row start (start + 1) n)) always);
+      subst P (sym (ap (λ ls. (ls ++ rest) ++ lines) line ∙ append_assoc (Init (start - base) (c - start) (row_rules (row start)) ∷ []) rest lines)) (
+        omega (arith, cut_above row start (start + 1) n),
+        nested_from row start base end (start + 1) n (start - base) (start - base + (c - start)) lines (omega arith) (omega (arith, le)) (omega (arith, le)) (omega (arith, le, cut_above row start (start + 1) n)) always,
+      );
 }
 
 nested_none : NestedAlways []

@@ -9,16 +9,11 @@ use Rattle.std.proofs.Math.Bool.{or_comm}
 use Rattle.std.proofs.lemmas.Bool.{cases_lt, cases_order, lt-ltb, le-ltb, ltb-true, ltb-false, ne_eqb, or_parts, or_from, and_right, and_cases}
 use Rattle.sym_edges.specs.Addresses.{Range}
 use Rattle.rule_postfix.specs.Overlaps.{meet, any_meets, range_by, ranges_by, StartsFrom, AreApart, or_end, last_end_below}
+use Rattle.rule_postfix.proofs.OptionLemmas.{some_same, none_some}
 
 or_none : (o : Option ℕ) → or_end o None ≡ o
 or_none None = refl
 or_none (Some end) = refl
-
-none_some : (x : ℕ) → None ≡ Some x → ⊥
-none_some x e = cc
-
-some_same : (x y : ℕ) → Some x ≡ Some y → x ≡ y
-some_same x y e = cc
 
 and_or : (t : Bool) → ((t && true) || false) ≡ t
 and_or true = refl

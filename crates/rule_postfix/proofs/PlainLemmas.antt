@@ -111,9 +111,6 @@ part_sound row Ra sound = column_sound row 16 sound
 part_sound row (Reg k) sound = column_sound row k sound
 part_sound row (Other name) sound = refl
 
-false_true : false ≡ true → ⊥
-false_true e = cc
-
 four : (a b c d : Bool) → a ≡ true → (b && c && d) ≡ true → (a && b && c && d) ≡ true
 four a b c d first rest = ap (λ t. t && b && c && d) first ∙ rest
 
@@ -180,7 +177,7 @@ changes_most before after = omega (arith, rules_most (if_changed before after) t
 -- a row with a CFA rule has a rule
 cfa_first : (cfa : Option CfaRule) (rules : List RuleText) → is_some cfa ≡ true → 0 < length (cons_option (rule_of Cfa (cond (is_rest (cfa_part cfa)) None (spelled Cfa (cfa_part cfa)))) rules)
 unfolding spelled
-cfa_first None rules some = absurd (false_true some)
+cfa_first None rules some = cc
 cfa_first (Some cfa) rules some = omega arith
 
 pub row_some : (row : Row) → has_cfa row ≡ true → 0 < length (row_rules row)

@@ -31,12 +31,12 @@ abbrev pub AreDisjoint : List FdeFields → Type 0
 AreDisjoint [] = Unit {0}
 AreDisjoint (e ∷ entries) = (any_meets (range_of e) (map range_of entries) ≡ false) × AreDisjoint entries
 
--- each record of changes stands behind an INIT, at an address above the record before it and inside the range of the INIT; said of
--- the records behind one at the address `last`, in a range that ends at `end`
+-- no INIT is empty, and each record of changes stands behind an INIT, at an address above the record before it and inside the range
+-- of the INIT; said of the records behind one at the address `last`, in a range that ends at `end`
 abbrev pub AreNested : ℕ → ℕ → List SymLine → Type 0
 AreNested last end [] = Unit {0}
 AreNested last end (Module os arch id name ∷ lines) = AreNested 0 0 lines
 AreNested last end (Info text ∷ lines) = AreNested 0 0 lines
 AreNested last end (Public many address params name ∷ lines) = AreNested 0 0 lines
-AreNested last end (Init address size rules ∷ lines) = AreNested address (address + size) lines
+AreNested last end (Init address size rules ∷ lines) = (0 < size) × AreNested address (address + size) lines
 AreNested last end (Change address rules ∷ lines) = (last < address) × ((address < end) × AreNested address end lines)
