@@ -1,7 +1,8 @@
 -- How the operands of a layout are read, one behind the other (DWARF 5, sections 6.4.2 and 7.5.6).
 use Rattle.std.specs.Prelude.{ℕ, length, Result, Ok}
 use Rattle.leb_cursor.specs.declared.fault.CursorFault.{CursorFault}
-use Rattle.leb_cursor.specs.Ahead.{Ahead, ◌>>=◌}
+use Rattle.sym_edges.specs.Results.{◌>>=◌}
+use Rattle.leb_cursor.specs.Ahead.{Ahead}
 use Rattle.leb_cursor.specs.Readings.{fixed_at, uleb_at, sleb_at, text_at, take_at}
 use Rattle.code_table.specs.declared.kind.Kind.{Kind}
 use Rattle.code_table.specs.declared.kind.Kind.TheVariants.{Nothing, U8, U16, U24, U32, U64, Bytes16, Uleb, Sleb, ZeroText, Block1, Block2, Block4, BlockUleb}

@@ -9,7 +9,8 @@ use Rattle.sym_edges.specs.declared.reading.ReadEnd.{ReadEnd}
 use Rattle.sym_edges.specs.declared.reading.ReadEnd.TheVariants.{CantOpen, CantRead, TooLong}
 use Rattle.elf_sections.specs.Image.{ImageParts, image}
 use Rattle.elf_sections.specs.declared.fault.ElfFault.{ElfFault}
-use Rattle.frame_entries.specs.declared.fault.FrameFault.{FrameFault}
+use Rattle.sym_edges.specs.declared.located.Located.{Located}
+use Rattle.frame_entries.specs.declared.fault.FrameKind.{FrameKind}
 use Rattle.sym_records.specs.Canon.{canon_text}
 use Rattle.sym_records.specs.declared.line.SymLine.{SymLine}
 use Rattle.rule_postfix.specs.Written.{omitted}
@@ -33,7 +34,7 @@ unfolding parts_verdict
 unbuilt_answer parts name text is line = rw is (ap refused (sym line))
 
 -- a section of frame entries is refused with its first fault
-pub frames_refused : (parts : ImageParts) (name text : List ℕ) (fault : FrameFault) → is_unbuilt parts ≡ false → frames parts ≡ Err fault → text ≡ frame_line fault → parts_verdict parts name ≡ refused text
+pub frames_refused : (parts : ImageParts) (name text : List ℕ) (fault : Located FrameKind) → is_unbuilt parts ≡ false → frames parts ≡ Err fault → text ≡ frame_line fault → parts_verdict parts name ≡ refused text
 unfolding parts_verdict
 frames_refused parts name text fault built is line = rw built (ap (λ f. frames_verdict f parts name) is ∙ ap refused (sym line))
 
@@ -70,8 +71,8 @@ bytes_told (Dumped lines text) (Some files) elf bytes before after holds says =
     (refl, record { file = bytes; there = holds.1 ∙ ap Some holds.2.0; few = holds.2.1; dumps = says })
 bytes_told NoMemory files elf bytes before after holds says = refl
 
-pub bytes_command : (answer : Answer) (files : Option Files) (elf bytes : List ℕ) (before after : ℕ) → ReadAll (Ok bytes) files elf LIMIT before after → AnswersBytes answer (module_name elf) bytes → AnswersCommand answer (Some (dump elf)) files before after
-bytes_command = bytes_told
+pub bytes_command : (answer : Answer) (files : Option Files) (elf bytes : List ℕ) (left left_after : Option (List ℕ)) (before after : ℕ) → ReadAll (Ok bytes) files elf LIMIT left left_after before after → AnswersBytes answer (module_name elf) bytes → AnswersCommand answer (Some (dump elf)) files before after
+bytes_command answer files elf bytes left left_after before after read says = bytes_told answer files elf bytes before after read says
 
 -- a file that is longer is refused for it
 longer : (files : Option Files) (elf text : List ℕ) → HoldsFile files elf (λ whole. IsLonger whole LIMIT) → text ≡ too_long_line → Tells files (λ f. command_verdict (Some (dump elf)) f ≡ refused text)
@@ -81,18 +82,18 @@ longer (Some files) elf text holds is =
     let more : nat_lt LIMIT (length holds.0) ≡ true = (let lt = holds.2 in grind (arith, nat_tests)) in
     ap (file_verdict elf) holds.1 ∙ rw more (ap refused (sym is))
 
-pub stop_command : (answer : Answer) (end : Stop ReadEnd) (files : Option Files) (elf : List ℕ) (before after : ℕ) → ReadAll (Err end) files elf LIMIT before after → AnswersStop answer end → AnswersCommand answer (Some (dump elf)) files before after
-stop_command NoRow end files elf before after read says = absurd says
-stop_command Unread (Fault CantOpen) files elf before after read says = (refl, read)
-stop_command Unread (Fault CantRead) files elf before after read says = (refl, read)
-stop_command Unread (Fault TooLong) files elf before after read says = absurd says
-stop_command Unread stop.NoMemory files elf before after read says = absurd says
-stop_command (Refused text) (Fault CantOpen) files elf before after read says = absurd says
-stop_command (Refused text) (Fault CantRead) files elf before after read says = absurd says
-stop_command (Refused text) (Fault TooLong) files elf before after read says = (refl, longer files elf text read says)
-stop_command (Refused text) stop.NoMemory files elf before after read says = absurd says
-stop_command (Dumped lines text) end files elf before after read says = absurd says
-stop_command NoMemory end files elf before after read says = refl
+pub stop_command : (answer : Answer) (end : Stop ReadEnd) (files : Option Files) (elf : List ℕ) (left left_after : Option (List ℕ)) (before after : ℕ) → ReadAll (Err end) files elf LIMIT left left_after before after → AnswersStop answer end → AnswersCommand answer (Some (dump elf)) files before after
+stop_command NoRow end files elf left left_after before after read says = absurd says
+stop_command Unread (Fault CantOpen) files elf left left_after before after read says = (refl, read.0)
+stop_command Unread (Fault CantRead) files elf left left_after before after read says = (refl, read.0)
+stop_command Unread (Fault TooLong) files elf left left_after before after read says = absurd says
+stop_command Unread stop.NoMemory files elf left left_after before after read says = absurd says
+stop_command (Refused text) (Fault CantOpen) files elf left left_after before after read says = absurd says
+stop_command (Refused text) (Fault CantRead) files elf left left_after before after read says = absurd says
+stop_command (Refused text) (Fault TooLong) files elf left left_after before after read says = (refl, longer files elf text read says)
+stop_command (Refused text) stop.NoMemory files elf left left_after before after read says = absurd says
+stop_command (Dumped lines text) end files elf left left_after before after read says = absurd says
+stop_command NoMemory end files elf left left_after before after read says = refl
 
 -- the names asked for by a reading of the row's one file
 pub asks_one : (read : Result (List ℕ) (Stop ReadEnd)) (elf : List ℕ) (before after : List (List ℕ)) → AsksOnce read before elf after → AsksFor (files_of (Some (dump elf))) before after

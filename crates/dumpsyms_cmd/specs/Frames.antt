@@ -3,10 +3,11 @@ use Rattle.std.specs.Prelude.{◌≡◌, ℕ, ◌+◌, Bool, true, false, List, 
 use Rattle.std.specs.List.{list_all}
 use Rattle.sym_edges.specs.declared.part.Sect.TheVariants.{EhFrame, DebugFrame}
 use Rattle.elf_sections.specs.Image.{ImageParts}
-use Rattle.frame_entries.specs.declared.fault.FrameFault.{FrameFault}
+use Rattle.sym_edges.specs.declared.located.Located.{Located}
+use Rattle.frame_entries.specs.declared.fault.FrameKind.{FrameKind}
 use Rattle.frame_entries.specs.FrameEntries.{frame_entries}
 use Rattle.frame_entries.specs.FdeFields.{FdeFields}
-use Rattle.sym_records.specs.Steps.{◌>>=◌}
+use Rattle.sym_edges.specs.Results.{◌>>=◌}
 use Rattle.sym_records.specs.declared.line.SymLine.{SymLine}
 use Rattle.sym_records.specs.declared.line.SymLine.TheVariants.{Module, Info, Public, Init, Change}
 use Rattle.rule_postfix.specs.Written.{written, written_lines}
@@ -14,7 +15,7 @@ use Rattle.rule_postfix.specs.Covering.{inits_at, entries_at, AreDisjoint, AreNe
 use Rattle.dumpsyms_cmd.specs.declared.frames.FrameLists.{FrameLists}
 
 -- the entries of `.eh_frame` and those of `.debug_frame`, or the first fault of these sections, in this order
-unfoldable pub frames : ImageParts → Result FrameLists FrameFault
+unfoldable pub frames : ImageParts → Result FrameLists (Located FrameKind)
 frames image =
     frame_entries image.eh_frame.bytes image.eh_frame.address EhFrame >>= λ first.
     frame_entries image.debug_frame.bytes image.debug_frame.address DebugFrame >>= λ second.

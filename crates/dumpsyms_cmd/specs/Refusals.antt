@@ -9,7 +9,7 @@ use Rattle.elf_sections.specs.declared.fault.ElfFault.{ElfFault}
 use Rattle.elf_sections.specs.declared.fault.ElfFault.TheVariants.{NotElf, Class, Order, Machine, Kind, SectionTable, SectionNames, SectionBytes, Compressed, ProgramTable, SymbolTable, NoIdentity}
 use Rattle.frame_entries.specs.declared.fault.FrameKind.{FrameKind}
 use Rattle.frame_entries.specs.declared.fault.FrameKind.TheVariants.{Length, Format64}
-use Rattle.frame_entries.specs.declared.fault.FrameFault.{FrameFault}
+use Rattle.sym_edges.specs.declared.located.Located.{Located}
 use Rattle.sym_records.specs.Canon.{hex, spaced}
 use Rattle.rule_postfix.specs.declared.omission.Omission.{Omission}
 
@@ -78,7 +78,7 @@ kind_word Length = codes "length"
 kind_word Format64 = codes "format64"
 
 -- a section of frame entries has a fault: the section, and the place in hexadecimal
-abbrev pub frame_line : FrameFault → List ℕ
+abbrev pub frame_line : Located FrameKind → List ℕ
 frame_line fault = line (spaced (codes "refused frame") (kind_word fault.kind ∷ section_word fault.section ∷ hex fault.at ∷ []))
 
 -- the word of a reason

@@ -3,7 +3,8 @@ use Rattle.std.specs.Prelude.{ℕ, ◌^◌, length, nat_lt, List, [], Option, So
 use Rattle.sym_edges.specs.Outside.{Files}
 use Rattle.elf_sections.specs.Image.{ImageParts, image}
 use Rattle.elf_sections.specs.declared.fault.ElfFault.{ElfFault}
-use Rattle.frame_entries.specs.declared.fault.FrameFault.{FrameFault}
+use Rattle.sym_edges.specs.declared.located.Located.{Located}
+use Rattle.frame_entries.specs.declared.fault.FrameKind.{FrameKind}
 use Rattle.sym_records.specs.Canon.{canon_text}
 use Rattle.rule_postfix.specs.Written.{omitted}
 use Rattle.dumpsyms_cmd.specs.declared.frames.FrameLists.{FrameLists}
@@ -35,7 +36,7 @@ abbrev pub LIMIT : ℕ
 LIMIT = 2 ^ 29
 
 -- the verdict of a dump, by the frame entries: out has the records, and err the entries that are left out
-abbrev pub frames_verdict : Result FrameLists FrameFault → ImageParts → List ℕ → Verdict
+abbrev pub frames_verdict : Result FrameLists (Located FrameKind) → ImageParts → List ℕ → Verdict
 frames_verdict (Err fault) parts name = refused (frame_line fault)
 frames_verdict (Ok found) parts name = record {
   status = 0;

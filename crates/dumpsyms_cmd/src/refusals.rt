@@ -124,7 +124,7 @@ pub fn reason_word(reason: Reason) -> &'static [u8]
 pub fn frame_line(alloc: Global, fault: FrameFault) -> Result<ByteText, AllocError>
     ensures { IfOk result (λ text. text ≡ frame_line fault) }
 {
-    let at = HexText::of(fault.at);
+    let at = HexText::of(fault.at as u64);
     let words = [
         kind_word(fault.kind),
         section_word(fault.section),

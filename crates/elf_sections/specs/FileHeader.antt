@@ -1,5 +1,7 @@
 use Rattle.std.specs.Prelude.{ℕ, ◌+◌, ◌*◌, ◌==◌, ◌||◌, ◌&&◌, Bool, not, List, [], ◌∷◌, Option, Some, None, length, take, slice_index, nat_lt, nat_le, if◌then◌else◌}
 use Rattle.std.specs.Str.{bytes_eq}
+use Rattle.std.specs.Option.{option_or}
+use Rattle.sym_edges.specs.Results.{fault_if}
 use Rattle.elf_sections.specs.Numbers.{u16_at, u64_at}
 use Rattle.elf_sections.specs.declared.header.FileHeader.{FileHeader}
 use Rattle.elf_sections.specs.declared.fault.ElfFault.{ElfFault}
@@ -21,15 +23,6 @@ header_of file = record {
 -- the four bytes that begin each ELF file
 abbrev pub magic : List ℕ
 magic = 0x7f ∷ 0x45 ∷ 0x4c ∷ 0x46 ∷ []
-
--- a fault where a test holds, else what comes later
-abbrev pub fault_if : Bool → ElfFault → Option ElfFault → Option ElfFault
-fault_if test fault later = if test then Some fault else later
-
--- the first of two faults, in their order
-abbrev pub later_fault : Option ElfFault → Option ElfFault → Option ElfFault
-later_fault None later = later
-later_fault (Some fault) later = Some fault
 
 -- it has no file header
 unfoldable pub is_not_elf : List ℕ → Bool
@@ -55,4 +48,4 @@ ident_fault file = fault_if (is_not_elf file) NotElf
 
 -- the first fault of the file header
 unfoldable pub header_fault : List ℕ → Option ElfFault
-header_fault file = later_fault (ident_fault file) (fault_if (not (has_sections (header_of file) (length file))) SectionTable None)
+header_fault file = option_or (ident_fault file) (fault_if (not (has_sections (header_of file) (length file))) SectionTable None)

@@ -3,7 +3,9 @@ use Rattle.sym_edges.specs.Addresses.{Range}
 use Rattle.sym_edges.specs.declared.part.Part.{Part}
 use Rattle.sym_edges.specs.declared.part.Sect.{Sect}
 use Rattle.sym_edges.specs.declared.part.Sect.TheVariants.{Info, Abbrev, Line, LineStr, Str, StrOffsets, Addr, Ranges, Rnglists, DebugFrame, EhFrame, Text}
-use Rattle.elf_sections.specs.FileHeader.{header_fault, later_fault, fault_if}
+use Rattle.sym_edges.specs.Results.{fault_if}
+use Rattle.std.specs.Option.{option_or}
+use Rattle.elf_sections.specs.FileHeader.{header_fault}
 use Rattle.elf_sections.specs.Sections.{sections, names, is_named, bytes_of, names_fault, bytes_fault, compressed_fault}
 use Rattle.elf_sections.specs.Programs.{program_fault, base, code}
 use Rattle.elf_sections.specs.Notes.{build_id}
@@ -61,8 +63,8 @@ identity_fault file = fault_if (is_none (build_id file) && (length (part_named f
 
 -- the first of the twelve faults, in their order
 unfoldable pub image_fault : List ℕ → Option ElfFault
-image_fault file = later_fault (header_fault file) (later_fault (names_fault file) (later_fault (bytes_fault file)
-    (later_fault (compressed_fault file) (later_fault (program_fault file) (later_fault (symbols_fault file) (identity_fault file))))))
+image_fault file = option_or (header_fault file) (option_or (names_fault file) (option_or (bytes_fault file)
+    (option_or (compressed_fault file) (option_or (program_fault file) (option_or (symbols_fault file) (identity_fault file))))))
 
 -- what an image is: its sections by name, base, code, build id, identity and function symbols
 pub record ImageParts : Type 0 where

@@ -3,7 +3,8 @@ use Rattle.std.specs.List.{list_any, range_with_len, filter_map}
 use Rattle.std.specs.Option.{option_map_or}
 use Rattle.sym_edges.specs.Addresses.{Range}
 use Rattle.elf_sections.specs.Numbers.{u32_at, u64_at}
-use Rattle.elf_sections.specs.FileHeader.{header_of, fault_if}
+use Rattle.sym_edges.specs.Results.{fault_if}
+use Rattle.elf_sections.specs.FileHeader.{header_of}
 use Rattle.elf_sections.specs.Sections.{sections, has_flag}
 use Rattle.elf_sections.specs.declared.header.FileHeader.{FileHeader}
 use Rattle.elf_sections.specs.declared.section.SectionHeader.{SectionHeader}

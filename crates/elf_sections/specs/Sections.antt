@@ -2,7 +2,8 @@ use Rattle.std.specs.Prelude.{◌≡◌, ℕ, ◌+◌, ◌*◌, ◌^◌, ◌<◌
 use Rattle.std.specs.List.{list_any, range_with_len, starts_with}
 use Rattle.std.specs.Option.{option_map}
 use Rattle.elf_sections.specs.Numbers.{u32_at, u64_at}
-use Rattle.elf_sections.specs.FileHeader.{header_of, fault_if}
+use Rattle.sym_edges.specs.Results.{fault_if}
+use Rattle.elf_sections.specs.FileHeader.{header_of}
 use Rattle.elf_sections.specs.declared.section.SectionHeader.{SectionHeader}
 use Rattle.elf_sections.specs.declared.header.FileHeader.{FileHeader}
 use Rattle.elf_sections.specs.declared.fault.ElfFault.{ElfFault}

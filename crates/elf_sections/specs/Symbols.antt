@@ -1,9 +1,10 @@
 use Rattle.std.specs.Prelude.{◌≡◌, ℕ, ◌+◌, ◌*◌, ◌/◌, ◌%◌, ◌==◌, ◌||◌, ◌&&◌, Bool, true, false, not, List, [], ◌∷◌, Option, Some, None, length, map, find, is_none, slice_get, slice_index, option_and_then, if◌then◌else◌}
 use Rattle.std.specs.List.{list_any, range_with_len, filter_map}
+use Rattle.std.specs.Option.{option_or}
 use Rattle.sym_edges.specs.Addresses.{Range}
 use Rattle.elf_sections.specs.Numbers.{u16_at, u32_at, u64_at}
 use Rattle.elf_sections.specs.Texts.{text_at}
-use Rattle.elf_sections.specs.FileHeader.{fault_if}
+use Rattle.sym_edges.specs.Results.{fault_if}
 use Rattle.elf_sections.specs.Sections.{sections, bytes_of}
 use Rattle.elf_sections.specs.Programs.{code, is_in_code}
 use Rattle.elf_sections.specs.declared.section.SectionHeader.{SectionHeader}
@@ -36,14 +37,9 @@ entries table = entries_of table (length table / SYMBOL)
 unfoldable pub is_function : List Range → SymbolEntry → Bool
 is_function ranges e = (e.info % 16 == STT_FUNC || e.info % 16 == STT_GNU_IFUNC) && (not (e.section == 0) && is_in_code ranges e.value)
 
--- the first of two options that is there
-abbrev pub first_some : Option SectionHeader → Option SectionHeader → Option SectionHeader
-first_some None other = other
-first_some (Some s) other = Some s
-
 -- the first symbol table, else the first table of dynamic symbols
 unfoldable pub symbol_table : List SectionHeader → Option SectionHeader
-symbol_table all = first_some (find (λ s. s.kind == SHT_SYMTAB) all) (find (λ s. s.kind == SHT_DYNSYM) all)
+symbol_table all = option_or (find (λ s. s.kind == SHT_SYMTAB) all) (find (λ s. s.kind == SHT_DYNSYM) all)
 
 -- the section of texts that a symbol table links to
 unfoldable pub linked : List SectionHeader → SectionHeader → Option SectionHeader

@@ -1,8 +1,8 @@
 ghost use Rattle.std.specs.Prelude.{◌≡◌, ◌+◌, ◌*◌, ◌≤◌, ◌<◌, ◌^◌, not, ℕ, List, Some, None, IfOk, length, position, drop, option_and_then, slice_get, nat_lt, nat_eq, find, ◌==◌};
 ghost use Rattle.std.specs.List.{list_any, starts_with};
-ghost use Rattle.std.specs.Option.{option_copied, option_map};
+ghost use Rattle.std.specs.Option.{option_copied, option_map, option_or};
 ghost use Rattle.sym_edges.specs.Outside.{MatchStop};
-ghost use Rattle.elf_sections.specs.FileHeader.{header_fault, header_of, has_sections, later_fault};
+ghost use Rattle.elf_sections.specs.FileHeader.{header_fault, header_of, has_sections};
 ghost use Rattle.elf_sections.specs.Sections.{sections_from, sections, content, is_ended, is_named, leaves_file, is_compressed, names, names_fault, bytes_fault, compressed_fault};
 ghost use Rattle.elf_sections.specs.declared.constants.TheConstants.{SECTION_HEADER};
 ghost use Rattle.elf_sections.specs.declared.fault.ElfFault.TheVariants.{SectionBytes, Compressed};
@@ -42,8 +42,8 @@ impl<'a> Model for Tables<'a> {
 #[tactic(auto, using(crate::proofs::TableLemmas::length_sections), unfolding(crate::specs::Sections::sections, crate::specs::Sections::name_table, crate::specs::Sections::names, crate::specs::Sections::names_fault))]
 pub fn read_tables(alloc: Global, file: &[u8]) -> Result<Tables<'_>, Stop<ElfFault>>
     ensures read { MatchStop result
-        (λ tables. (later_fault (header_fault file.now) (names_fault file.now) ≡ None) × (tables ≡ file.now))
-        (λ fault. later_fault (header_fault file.now) (names_fault file.now) ≡ Some fault) (Unit {0}) }
+        (λ tables. (option_or (header_fault file.now) (names_fault file.now) ≡ None) × (tables ≡ file.now))
+        (λ fault. option_or (header_fault file.now) (names_fault file.now) ≡ Some fault) (Unit {0}) }
 {
     let header = match read_header(file) {
         Ok(header) => header,
@@ -97,7 +97,7 @@ impl<'a> Tables<'a> {
     /// The lowest section that is read and leaves the file, else the lowest that is compressed.
     #[tactic(auto, unfolding(crate::specs::Sections::bytes_fault, crate::specs::Sections::compressed_fault))]
     pub fn find_section_fault(&self) -> Option<ElfFault>
-        ensures { result ≡ later_fault (bytes_fault self.now) (compressed_fault self.now) }
+        ensures { result ≡ option_or (bytes_fault self.now) (compressed_fault self.now) }
     {
         if let Some(index) = first_leaving(self.file, self.names, &self.sections) {
             return Some(ElfFault::SectionBytes {

@@ -2,7 +2,8 @@
 use Rattle.std.proofs.Common.{◌≡◌, ◌+◌, ◌<◌, ◌≤◌, ℕ, true, List, drop, get_or, length, Ok, Err, refl, sym, ◌∙◌, ap, add-one, drop-cons}
 use Rattle.std.proofs.lemmas.List.{drop_all}
 use Rattle.sym_edges.specs.declared.reason.Reason.{Reason}
-use Rattle.leb_cursor.specs.Ahead.{Ahead, ◌>>=◌}
+use Rattle.sym_edges.specs.Results.{◌>>=◌}
+use Rattle.leb_cursor.specs.Ahead.{Ahead}
 use Rattle.frame_entries.specs.declared.augmentation.Encodings.{Encodings}
 use Rattle.frame_entries.specs.Pointers.{is_format, is_encoding}
 use Rattle.frame_entries.specs.Cies.{letter_at, letters_at}

@@ -2,14 +2,16 @@
 use Rattle.std.proofs.Common.{◌≡◌, ◌+◌, ℕ, zero, suc, true, false, nat_eq, List, [], ◌∷◌, ◌++◌, length, Result, Ok, Err, refl, sym, ap, ◌∙◌, arith, append_assoc, append-nil}
 use Rattle.std.proofs.lemmas.Bool.{cond-true, cond-false}
 use Rattle.sym_edges.specs.declared.part.Sect.{Sect}
-use Rattle.leb_cursor.specs.Ahead.{Ahead, ◌>>=◌}
-use Rattle.frame_entries.specs.declared.fault.FrameFault.{FrameFault}
+use Rattle.sym_edges.specs.Results.{◌>>=◌}
+use Rattle.leb_cursor.specs.Ahead.{Ahead}
+use Rattle.sym_edges.specs.declared.located.Located.{Located}
+use Rattle.frame_entries.specs.declared.fault.FrameKind.{FrameKind}
 use Rattle.frame_entries.specs.declared.listing.Mark.TheVariants.{Terminator, Padding, Listed}
 use Rattle.frame_entries.specs.Raw.{Raw}
 use Rattle.frame_entries.specs.Listing.{mark_at, listed_from, listed_in}
 
 -- entries that were read, and those still to come
-abbrev pub behind : List Raw → Result (List Raw) FrameFault → Result (List Raw) FrameFault
+abbrev pub behind : List Raw → Result (List Raw) (Located FrameKind) → Result (List Raw) (Located FrameKind)
 behind done later = later >>= λ raws. Ok (done ++ raws)
 
 -- one step of the list, where bytes are left
@@ -30,11 +32,11 @@ unfolding listed_in
 no_fuel zero which c none = refl
 no_fuel (suc n) which c none = absurd (omega arith)
 
-none_behind : (done : List Raw) (later : Result (List Raw) FrameFault) → later ≡ Ok [] → behind done later ≡ Ok done
+none_behind : (done : List Raw) (later : Result (List Raw) (Located FrameKind)) → later ≡ Ok [] → behind done later ≡ Ok done
 none_behind done later is = ap (behind done) is ∙ ap Ok (append-nil done)
 
 -- the loop's steps
-pub listing_begins : (done : List Raw) (later : Result (List Raw) FrameFault) → done ≡ [] → behind done later ≡ later
+pub listing_begins : (done : List Raw) (later : Result (List Raw) (Located FrameKind)) → done ≡ [] → behind done later ≡ later
 listing_begins done (Ok raws) none = ap (λ xs. Ok (xs ++ raws)) none
 listing_begins done (Err fault) none = refl
 
@@ -49,7 +51,7 @@ listing_ended done m n which c d more left is =
     none_behind done (listed_in m which c)
     (step m n which c more left ∙ ap (λ r. r >>= λ mark. listed_from mark.0 (listed_in n which mark.1)) (sym is))
 
-pub listing_refused : (done : List Raw) (m n : ℕ) (which : Sect) (c : Ahead) (fault : FrameFault) → m ≡ n + 1 → nat_eq (length c.bytes) 0 ≡ false → Err fault ≡ mark_at which c → behind done (listed_in m which c) ≡ Err fault
+pub listing_refused : (done : List Raw) (m n : ℕ) (which : Sect) (c : Ahead) (fault : Located FrameKind) → m ≡ n + 1 → nat_eq (length c.bytes) 0 ≡ false → Err fault ≡ mark_at which c → behind done (listed_in m which c) ≡ Err fault
 listing_refused done m n which c fault more left is =
     ap (behind done)
     (step m n which c more left ∙ ap (λ r. r >>= λ mark. listed_from mark.0 (listed_in n which mark.1)) (sym is))
@@ -59,7 +61,7 @@ listing_passed done m n which c d more left is =
     ap (behind done)
     (step m n which c more left ∙ ap (λ r. r >>= λ mark. listed_from mark.0 (listed_in n which mark.1)) (sym is))
 
-behind_more : (done : List Raw) (raw : Raw) (later : Result (List Raw) FrameFault) → behind done (listed_from (Listed raw) later) ≡ behind (done ++ raw ∷ []) later
+behind_more : (done : List Raw) (raw : Raw) (later : Result (List Raw) (Located FrameKind)) → behind done (listed_from (Listed raw) later) ≡ behind (done ++ raw ∷ []) later
 behind_more done raw (Ok raws) = ap Ok (sym (append_assoc done (raw ∷ []) raws))
 behind_more done raw (Err fault) = refl
 

@@ -4,12 +4,14 @@ use Rattle.std.specs.List.{filter}
 use Rattle.std.proofs.lemmas.Bool.{cond-true}
 use Rattle.sym_edges.specs.declared.part.Sect.{Sect}
 use Rattle.leb_cursor.specs.declared.fault.CursorFault.{CursorFault}
-use Rattle.leb_cursor.specs.Ahead.{Ahead, ◌>>=◌}
+use Rattle.sym_edges.specs.Results.{◌>>=◌}
+use Rattle.leb_cursor.specs.Ahead.{Ahead}
 use Rattle.leb_cursor.specs.Passes.{Passes}
 use Rattle.leb_cursor.specs.Readings.{fixed_at, take_at}
 use Rattle.leb_cursor.proofs.PassLemmas.{fixed_passes, take_passes, passes_then}
 use Rattle.frame_entries.specs.declared.fault.FrameKind.TheVariants.{Length, Format64}
-use Rattle.frame_entries.specs.declared.fault.FrameFault.{FrameFault}
+use Rattle.sym_edges.specs.declared.located.Located.{Located}
+use Rattle.frame_entries.specs.declared.fault.FrameKind.{FrameKind}
 use Rattle.frame_entries.specs.declared.listing.Mark.{Mark}
 use Rattle.frame_entries.specs.declared.listing.Mark.TheVariants.{Terminator, Padding, Listed}
 use Rattle.frame_entries.specs.declared.cie.Cie.{Cie}
@@ -62,15 +64,15 @@ MarkStarts at Terminator = Unit {0}
 MarkStarts at Padding = Unit {0}
 MarkStarts at (Listed raw) = raw.at ≡ at
 
-abbrev pub Starts : ℕ → Result (Mark × Ahead) FrameFault → Type 0
+abbrev pub Starts : ℕ → Result (Mark × Ahead) (Located FrameKind) → Type 0
 Starts at (Ok mark) = MarkStarts at mark.0
 Starts at (Err fault) = Unit {0}
 
-starts_then : {A : Type 0} (at : ℕ) (reading : Result (A × Ahead) FrameFault) (next : A × Ahead → Result (Mark × Ahead) FrameFault) → ((x : A × Ahead) → Starts at (next x)) → Starts at (reading >>= next)
+starts_then : {A : Type 0} (at : ℕ) (reading : Result (A × Ahead) (Located FrameKind)) (next : A × Ahead → Result (Mark × Ahead) (Located FrameKind)) → ((x : A × Ahead) → Starts at (next x)) → Starts at (reading >>= next)
 starts_then at (Ok x) next later = later x
 starts_then at (Err fault) next later = tt
 
-either_starts : (at : ℕ) (test : Bool) (given other : Result (Mark × Ahead) FrameFault) → Starts at given → Starts at other → Starts at (cond test given other)
+either_starts : (at : ℕ) (test : Bool) (given other : Result (Mark × Ahead) (Located FrameKind)) → Starts at given → Starts at other → Starts at (cond test given other)
 either_starts at true given other first second = first
 either_starts at false given other first second = second
 
@@ -108,30 +110,30 @@ climbs_lower : (low high : ℕ) (xs : List ℕ) → low ≤ high → Climbs high
 climbs_lower low high [] below rising = tt
 climbs_lower low high (x ∷ xs) below rising = let first : high ≤ x = rising.0 in (omega arith, rising.1)
 
-abbrev pub ClimbsFrom : ℕ → Result (List Raw) FrameFault → Type 0
+abbrev pub ClimbsFrom : ℕ → Result (List Raw) (Located FrameKind) → Type 0
 ClimbsFrom low (Ok raws) = Climbs low (starts_of raws)
 ClimbsFrom low (Err fault) = Unit {0}
 
-from_lower : (low high : ℕ) (later : Result (List Raw) FrameFault) → low ≤ high → ClimbsFrom high later → ClimbsFrom low later
+from_lower : (low high : ℕ) (later : Result (List Raw) (Located FrameKind)) → low ≤ high → ClimbsFrom high later → ClimbsFrom low later
 from_lower low high (Ok raws) below rising = climbs_lower low high (starts_of raws) below rising
 from_lower low high (Err fault) below rising = tt
 
-climbs_behind : (raw : Raw) (later : Result (List Raw) FrameFault) (low high : ℕ) → low + 1 ≤ high → raw.at ≡ low → ClimbsFrom high later → ClimbsFrom low (listed_from (Listed raw) later)
+climbs_behind : (raw : Raw) (later : Result (List Raw) (Located FrameKind)) (low high : ℕ) → low + 1 ≤ high → raw.at ≡ low → ClimbsFrom high later → ClimbsFrom low (listed_from (Listed raw) later)
 climbs_behind raw (Ok raws) low high below here rising =
     (omega arith, climbs_lower (raw.at + 1) high (starts_of raws) (omega arith) rising)
 climbs_behind raw (Err fault) low high below here rising = tt
 
-climbs_mark : (mark : Mark) (later : Result (List Raw) FrameFault) (low high : ℕ) → low + 1 ≤ high → MarkStarts low mark → ClimbsFrom high later → ClimbsFrom low (listed_from mark later)
+climbs_mark : (mark : Mark) (later : Result (List Raw) (Located FrameKind)) (low high : ℕ) → low + 1 ≤ high → MarkStarts low mark → ClimbsFrom high later → ClimbsFrom low (listed_from mark later)
 climbs_mark Terminator later low high below here rising = tt
 climbs_mark Padding later low high below here rising = from_lower low high later (omega arith) rising
 climbs_mark (Listed raw) later low high below here rising = climbs_behind raw later low high below here rising
 
-climbs_marks : (reading : Result (Mark × Ahead) FrameFault) (c : Ahead) (later : Ahead → Result (List Raw) FrameFault) → Passes 4 c reading → Starts c.at reading → ((d : Ahead) → ClimbsFrom d.at (later d)) → ClimbsFrom c.at (reading >>= λ mark. listed_from mark.0 (later mark.1))
+climbs_marks : (reading : Result (Mark × Ahead) (Located FrameKind)) (c : Ahead) (later : Ahead → Result (List Raw) (Located FrameKind)) → Passes 4 c reading → Starts c.at reading → ((d : Ahead) → ClimbsFrom d.at (later d)) → ClimbsFrom c.at (reading >>= λ mark. listed_from mark.0 (later mark.1))
 climbs_marks (Ok mark) c later goes here rising =
     climbs_mark mark.0 (later mark.1) c.at mark.1.at (omega (arith, goes.0, goes.1)) here (rising mark.1)
 climbs_marks (Err fault) c later goes here rising = tt
 
-either_climbs : (low : ℕ) (test : Bool) (given other : Result (List Raw) FrameFault) → ClimbsFrom low given → ClimbsFrom low other → ClimbsFrom low (cond test given other)
+either_climbs : (low : ℕ) (test : Bool) (given other : Result (List Raw) (Located FrameKind)) → ClimbsFrom low given → ClimbsFrom low other → ClimbsFrom low (cond test given other)
 either_climbs low true given other first second = first
 either_climbs low false given other first second = second
 
@@ -164,7 +166,7 @@ cies_climb which c raws cies is made =
     subst (λ (xs : List Cie). Climbs 0 (places_of xs)) (sym made) (climbs_lower 0 c.at _ (omega arith) cie_places)
 
 -- the list of what is ahead, whatever number of turns is allowed
-marks_same : (reading : Result (Mark × Ahead) FrameFault) (c : Ahead) (f g : Ahead → Result (List Raw) FrameFault) → Passes 4 c reading → ((d : Ahead) → length d.bytes + 4 ≤ length c.bytes → f d ≡ g d) → (reading >>= λ mark. listed_from mark.0 (f mark.1)) ≡ (reading >>= λ mark. listed_from mark.0 (g mark.1))
+marks_same : (reading : Result (Mark × Ahead) (Located FrameKind)) (c : Ahead) (f g : Ahead → Result (List Raw) (Located FrameKind)) → Passes 4 c reading → ((d : Ahead) → length d.bytes + 4 ≤ length c.bytes → f d ≡ g d) → (reading >>= λ mark. listed_from mark.0 (f mark.1)) ≡ (reading >>= λ mark. listed_from mark.0 (g mark.1))
 marks_same (Ok mark) c f g goes same = ap (listed_from mark.0) (same mark.1 goes.0)
 marks_same (Err fault) c f g goes same = refl
 

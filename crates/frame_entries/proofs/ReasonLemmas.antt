@@ -6,7 +6,8 @@ use Rattle.sym_edges.specs.declared.part.Sect.{Sect}
 use Rattle.sym_edges.specs.declared.reason.Reason.{Reason}
 use Rattle.sym_edges.specs.declared.reason.Reason.TheVariants.{Cie as BadCie, Augmentation, Encoding, Column}
 use Rattle.leb_cursor.specs.declared.fault.CursorFault.{CursorFault}
-use Rattle.leb_cursor.specs.Ahead.{Ahead, ◌>>=◌}
+use Rattle.sym_edges.specs.Results.{◌>>=◌}
+use Rattle.leb_cursor.specs.Ahead.{Ahead}
 use Rattle.leb_cursor.specs.Readings.{fixed_at, text_at}
 use Rattle.frame_entries.specs.declared.numbers.Numbers.{Numbers}
 use Rattle.frame_entries.specs.declared.augmentation.Encodings.{Encodings}

@@ -5,7 +5,8 @@ use Rattle.std.specs.List.{list_all}
 use Rattle.sym_edges.specs.declared.reason.Reason.{Reason}
 use Rattle.sym_edges.specs.declared.reason.Reason.TheVariants.{Cie, Augmentation, Encoding, Column}
 use Rattle.leb_cursor.specs.declared.fault.CursorFault.{CursorFault}
-use Rattle.leb_cursor.specs.Ahead.{Ahead, ◌>>=◌}
+use Rattle.sym_edges.specs.Results.{◌>>=◌}
+use Rattle.leb_cursor.specs.Ahead.{Ahead}
 use Rattle.leb_cursor.specs.Readings.{fixed_at, uleb_at, sleb_at, text_at, take_at}
 use Rattle.frame_entries.specs.declared.numbers.Numbers.{Numbers}
 use Rattle.frame_entries.specs.declared.augmentation.Encodings.{Encodings}

@@ -6,8 +6,9 @@ use Rattle.sym_edges.specs.declared.part.Sect.TheVariants.{EhFrame, DebugFrame}
 use Rattle.sym_edges.specs.declared.reason.Reason.{Reason}
 use Rattle.sym_edges.specs.declared.reason.Reason.TheVariants.{Cie as NoCie, Augmentation, Encoding, Column, Entry as BadEntry}
 use Rattle.leb_cursor.specs.declared.fault.CursorFault.{CursorFault}
-use Rattle.leb_cursor.specs.Ahead.{◌>>=◌}
-use Rattle.frame_entries.specs.declared.fault.FrameFault.{FrameFault}
+use Rattle.sym_edges.specs.Results.{◌>>=◌}
+use Rattle.sym_edges.specs.declared.located.Located.{Located}
+use Rattle.frame_entries.specs.declared.fault.FrameKind.{FrameKind}
 use Rattle.frame_entries.specs.declared.cie.Cie.{Cie}
 use Rattle.frame_entries.specs.declared.description.Body.{Body}
 use Rattle.frame_entries.specs.declared.description.Body.TheVariants.{Good, Bad}
@@ -111,6 +112,6 @@ entries_of which address raws =
     map (entry_of which address (cies_of which raws)) (filter (λ raw. not (is_cie which raw)) raws)
 
 -- the FDEs of a section, or its first fault
-unfoldable pub frame_entries : List ℕ → ℕ → Sect → Result (List Entry) FrameFault
+unfoldable pub frame_entries : List ℕ → ℕ → Sect → Result (List Entry) (Located FrameKind)
 frame_entries bytes address which =
     listed_at which (from_start bytes) >>= λ raws. Ok (entries_of which address raws)

@@ -3,10 +3,12 @@ use Rattle.std.specs.Prelude.{ℕ, zero, suc, ◌-◌, ◌==◌, ◌||◌, nat_l
 use Rattle.sym_edges.specs.declared.part.Sect.{Sect}
 use Rattle.sym_edges.specs.declared.part.Sect.TheVariants.{EhFrame}
 use Rattle.leb_cursor.specs.declared.fault.CursorFault.{CursorFault}
-use Rattle.leb_cursor.specs.Ahead.{Ahead, ◌>>=◌}
+use Rattle.sym_edges.specs.Results.{◌>>=◌}
+use Rattle.leb_cursor.specs.Ahead.{Ahead}
 use Rattle.leb_cursor.specs.Readings.{fixed_at, take_at}
 use Rattle.frame_entries.specs.declared.fault.FrameKind.TheVariants.{Length, Format64}
-use Rattle.frame_entries.specs.declared.fault.FrameFault.{FrameFault}
+use Rattle.sym_edges.specs.declared.located.Located.{Located}
+use Rattle.frame_entries.specs.declared.fault.FrameKind.{FrameKind}
 use Rattle.frame_entries.specs.declared.listing.Mark.{Mark}
 use Rattle.frame_entries.specs.declared.listing.Mark.TheVariants.{Terminator, Padding, Listed}
 use Rattle.frame_entries.specs.Raw.{Raw}
@@ -21,19 +23,19 @@ abbrev pub from_start : List ℕ → Ahead
 from_start bytes = record { bytes = bytes; at = 0 }
 
 -- a reading that must not be refused, by the place of the entry
-abbrev pub or_length : {A : Type 0} → Sect → ℕ → Result A CursorFault → Result A FrameFault
+abbrev pub or_length : {A : Type 0} → Sect → ℕ → Result A CursorFault → Result A (Located FrameKind)
 or_length which at (Ok x) = Ok x
 or_length which at (Err fault) = Err (record { kind = Length; section = which; at = at })
 
 -- behind a length of four at least: the id, and the body, which has the bytes that are left of the length
-unfoldable pub entry_at : Sect → ℕ → ℕ → Ahead → Result (Mark × Ahead) FrameFault
+unfoldable pub entry_at : Sect → ℕ → ℕ → Ahead → Result (Mark × Ahead) (Located FrameKind)
 entry_at which at count c =
     or_length which at (fixed_at 4 c) >>= λ id.
     or_length which at (take_at (count - 4) id.1) >>= λ body.
     Ok (Listed (record { at = at; id_at = c.at; id = id.0; body_at = id.1.at; body = body.0 }), body.1)
 
 -- behind a length: a zero is no entry, and ends `.eh_frame`
-unfoldable pub mark_behind : Sect → ℕ → ℕ → Ahead → Result (Mark × Ahead) FrameFault
+unfoldable pub mark_behind : Sect → ℕ → ℕ → Ahead → Result (Mark × Ahead) (Located FrameKind)
 mark_behind which at count c =
     if count == 0 then Ok (if is_eh which then Terminator else Padding, c) else
     if count == 0xffffffff then Err (record { kind = Format64; section = which; at = at }) else
@@ -41,26 +43,26 @@ mark_behind which at count c =
     entry_at which at count c
 
 -- what stands next: its length comes first
-unfoldable pub mark_at : Sect → Ahead → Result (Mark × Ahead) FrameFault
+unfoldable pub mark_at : Sect → Ahead → Result (Mark × Ahead) (Located FrameKind)
 mark_at which c = or_length which c.at (fixed_at 4 c) >>= λ count. mark_behind which c.at count.0 count.1
 
 -- the entries from a mark on, by those behind it
-abbrev pub listed_from : Mark → Result (List Raw) FrameFault → Result (List Raw) FrameFault
+abbrev pub listed_from : Mark → Result (List Raw) (Located FrameKind) → Result (List Raw) (Located FrameKind)
 listed_from Terminator later = Ok []
 listed_from Padding later = later
 listed_from (Listed raw) later = later >>= λ raws. Ok (raw ∷ raws)
 
 -- the entries ahead, n marks at most, or the first fault
-unfoldable pub listed_in : ℕ → Sect → Ahead → Result (List Raw) FrameFault
+unfoldable pub listed_in : ℕ → Sect → Ahead → Result (List Raw) (Located FrameKind)
 listed_in zero which c = Ok []
 listed_in (suc n) which c =
     if length c.bytes == 0 then Ok [] else (mark_at which c >>= λ m. listed_from m.0 (listed_in n which m.1))
 
 -- the entries ahead: each mark has four bytes at least, so there are no more marks than bytes
-unfoldable pub listed_at : Sect → Ahead → Result (List Raw) FrameFault
+unfoldable pub listed_at : Sect → Ahead → Result (List Raw) (Located FrameKind)
 listed_at which c = listed_in (length c.bytes) which c
 
 -- the entries ahead by the first mark, where the entries behind it are known
-unfoldable pub listed_by : (Sect → Ahead → Result (List Raw) FrameFault) → Sect → Ahead → Result (List Raw) FrameFault
+unfoldable pub listed_by : (Sect → Ahead → Result (List Raw) (Located FrameKind)) → Sect → Ahead → Result (List Raw) (Located FrameKind)
 listed_by later which c =
     if length c.bytes == 0 then Ok [] else (mark_at which c >>= λ m. listed_from m.0 (later which m.1))

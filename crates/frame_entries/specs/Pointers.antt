@@ -3,7 +3,8 @@
 use Rattle.std.specs.Prelude.{ℕ, ◌+◌, ◌%◌, ◌^◌, ◌==◌, ◌&&◌, ◌||◌, nat_lt, nat_le, Bool, if◌then◌else◌, Result, Ok}
 use Rattle.std.specs.Int.{w16, w32, w64, cast_signed, cast_unsigned}
 use Rattle.leb_cursor.specs.declared.fault.CursorFault.{CursorFault}
-use Rattle.leb_cursor.specs.Ahead.{Ahead, ◌>>=◌}
+use Rattle.sym_edges.specs.Results.{◌>>=◌}
+use Rattle.leb_cursor.specs.Ahead.{Ahead}
 use Rattle.leb_cursor.specs.Readings.{fixed_at, uleb_at, sleb_at}
 use Rattle.frame_entries.specs.declared.pointer.Format.{Format}
 use Rattle.frame_entries.specs.declared.pointer.Format.TheVariants.{U64, Uleb, U16, U32, Sleb, I16, I32}

@@ -1,5 +1,5 @@
 //! Why a section of frame entries is refused.
-use sym_edges::Sect;
+use sym_edges::Located;
 
 /// What is wrong with an entry's length.
 #[derive(Clone, Copy, PartialEq, Eq, Debug)]
@@ -11,10 +11,5 @@ pub enum FrameKind {
     Format64,
 }
 
-/// The first entry of a section whose length is bad: `at` is the place of its first byte.
-#[derive(Clone, Copy, PartialEq, Eq, Debug)]
-pub struct FrameFault {
-    pub kind: FrameKind,
-    pub section: Sect,
-    pub at: u64,
-}
+/// The first entry of a section whose length is bad: its place is that of its first byte.
+pub type FrameFault = Located<FrameKind>;

@@ -8,7 +8,7 @@ use crate::fault::{FrameFault, FrameKind};
 use leb_cursor::Cursor;
 use std::alloc::Global;
 use std::marker::Model;
-use sym_edges::{Sect, Stop};
+use sym_edges::{Located, Sect, Stop};
 
 /// An entry as it lies in its section: the places of its first byte, of its id and of its body.
 #[derive(Drop)]
@@ -63,10 +63,10 @@ pub fn is_eh(which: Sect) -> bool
 fn fault_at(kind: FrameKind, which: Sect, at: usize) -> FrameFault
     ensures { result ≡ record { kind = kind; section = which; at = at } }
 {
-    FrameFault {
+    Located {
         kind,
         section: which,
-        at: at as u64,
+        at,
     }
 }
 

@@ -5,7 +5,8 @@ use Rattle.frame_entries.specs.FdeFields.{FdeFields}
 use Rattle.frame_rows.specs.declared.row.Row.{Row}
 use Rattle.frame_rows.specs.declared.row.RowAt.{RowAt}
 use Rattle.frame_rows.specs.Steps.{has_cfa}
-use Rattle.frame_rows.specs.Rows.{last_at, or_row, Ascending, AreRows, HasCfa, row_at, lacks_cfa}
+use Rattle.std.specs.Option.{option_or}
+use Rattle.frame_rows.specs.Rows.{last_at, Ascending, AreRows, HasCfa, row_at, lacks_cfa}
 use Rattle.frame_rows.proofs.TestLemmas.{elim_bool}
 use Rattle.frame_rows.proofs.RowLemmas.{below_or, none_said, above_said, here_said, later_said, said_by}
 
@@ -26,7 +27,7 @@ not_true true is = cc
 not_true false is = refl
 
 -- the last row at an address, by those behind the first
-or_said : (later : Option Row) (here : Bool) (mine row : Row) → or_row later (cond here (Some mine) None) ≡ Some row → has_cfa mine ≡ true → (later ≡ Some row → has_cfa row ≡ true) → has_cfa row ≡ true
+or_said : (later : Option Row) (here : Bool) (mine row : Row) → option_or later (cond here (Some mine) None) ≡ Some row → has_cfa mine ≡ true → (later ≡ Some row → has_cfa row ≡ true) → has_cfa row ≡ true
 or_said (Some other) here mine row said have rest = rest said
 or_said None true mine row said have rest = let same : mine ≡ row = cc in ap has_cfa (sym same) ∙ have
 or_said None false mine row said have rest = cc

@@ -11,7 +11,9 @@ use Rattle.frame_rows.specs.declared.row.RowAt.{RowAt}
 use Rattle.frame_rows.specs.declared.machine.Setting.{Setting}
 use Rattle.frame_rows.specs.Instructions.{instructions}
 use Rattle.frame_rows.specs.Machine.{Machine}
-use Rattle.frame_rows.specs.Steps.{has_cfa, or_reason, unless}
+use Rattle.sym_edges.specs.Results.{unless}
+use Rattle.std.specs.Option.{option_or}
+use Rattle.frame_rows.specs.Steps.{has_cfa}
 use Rattle.frame_rows.specs.Rows.{first_fault, cie_setting, cie_items, cie_begin, own_setting, own_items, own_begin, instruction_fault, lacks_cfa, rows_fault, AreRows, HasCfa, IsSound, row_at}
 use Rattle.frame_rows.specs.Walk.{rows_from}
 use Rattle.frame_rows.proofs.RowLemmas.{are_rows}
@@ -50,7 +52,7 @@ walked v e s m end rows cie view setting machine stop good is some =
 
 fine : (e : FdeFields) (rows : List RowAt) → Walked e rows → instruction_fault e ≡ None
 unfolding instruction_fault
-fine e rows w = ap (λ o. or_reason o (first_fault (own_setting e) (own_items e) (own_begin e))) w.cie ∙ w.own
+fine e rows w = ap (λ o. option_or o (first_fault (own_setting e) (own_items e) (own_begin e))) w.cie ∙ w.own
 
 -- each row has a rule for the CFA
 pub rows_have : (e : FdeFields) (rows : List RowAt) (b : _) → Walked e rows → b ≡ false → b ≡ list_any (λ r. not (has_cfa r.row)) rows → HasCfa e
@@ -59,13 +61,13 @@ rows_have e rows b w none is = none_lacks e rows w.are (sym is ∙ none)
 pub rows_good : (e : FdeFields) (rows : List RowAt) (b : _) → Walked e rows → b ≡ false → b ≡ list_any (λ r. not (has_cfa r.row)) rows → rows_fault e ≡ None
 unfolding rows_fault
 rows_good e rows b w none is =
-    ap (λ o. or_reason o (unless (not (lacks_cfa e)) reason.Cfa)) (fine e rows w) ∙ ap (λ t. unless (not t) reason.Cfa) (has_not_lacks e (rows_have e rows b w none is))
+    ap (λ o. option_or o (unless (not (lacks_cfa e)) reason.Cfa)) (fine e rows w) ∙ ap (λ t. unless (not t) reason.Cfa) (has_not_lacks e (rows_have e rows b w none is))
 
 -- some row has none
 pub rows_lack : (e : FdeFields) (rows : List RowAt) (b : _) → Walked e rows → b ≡ true → b ≡ list_any (λ r. not (has_cfa r.row)) rows → rows_fault e ≡ Some reason.Cfa
 unfolding rows_fault
 rows_lack e rows b w some is =
-    ap (λ o. or_reason o (unless (not (lacks_cfa e)) reason.Cfa)) (fine e rows w) ∙ ap (λ t. unless (not t) reason.Cfa) (some_lacks e rows w.are (sym is ∙ some))
+    ap (λ o. option_or o (unless (not (lacks_cfa e)) reason.Cfa)) (fine e rows w) ∙ ap (λ t. unless (not t) reason.Cfa) (some_lacks e rows w.are (sym is ∙ some))
 
 pub rows_sound : (e : FdeFields) (rows : List RowAt) → Walked e rows → (a : ℕ) → IsSound (row_at e a)
 rows_sound e rows w a = entry_sound e a (fine e rows w)
@@ -73,12 +75,12 @@ rows_sound e rows w a = entry_sound e a (fine e rows w)
 -- an instruction of the CIE, or of the entry, is bad
 cie_bad : (e : FdeFields) (why : Reason) → first_fault (cie_setting e) (cie_items e) (cie_begin e) ≡ Some why → rows_fault e ≡ Some why
 unfolding rows_fault instruction_fault
-cie_bad e why bad = ap (λ o. or_reason (or_reason o (first_fault (own_setting e) (own_items e) (own_begin e))) (unless (not (lacks_cfa e)) reason.Cfa)) bad
+cie_bad e why bad = ap (λ o. option_or (option_or o (first_fault (own_setting e) (own_items e) (own_begin e))) (unless (not (lacks_cfa e)) reason.Cfa)) bad
 
 own_bad : (e : FdeFields) (why : Reason) → first_fault (cie_setting e) (cie_items e) (cie_begin e) ≡ None → first_fault (own_setting e) (own_items e) (own_begin e) ≡ Some why → rows_fault e ≡ Some why
 unfolding rows_fault instruction_fault
 own_bad e why cie bad =
-    ap (λ o. or_reason (or_reason o (first_fault (own_setting e) (own_items e) (own_begin e))) (unless (not (lacks_cfa e)) reason.Cfa)) cie ∙ ap (λ o. or_reason o (unless (not (lacks_cfa e)) reason.Cfa)) bad
+    ap (λ o. option_or (option_or o (first_fault (own_setting e) (own_items e) (own_begin e))) (unless (not (lacks_cfa e)) reason.Cfa)) cie ∙ ap (λ o. option_or o (unless (not (lacks_cfa e)) reason.Cfa)) bad
 
 pub cie_stopped : (A B : Type 0) (stop : Stop Reason) (e : FdeFields) → MatchStop {A = A} {F = Reason} (Err stop) (λ _. first_fault (cie_setting e) (cie_items e) (cie_begin e) ≡ None) (λ why. first_fault (cie_setting e) (cie_items e) (cie_begin e) ≡ Some why) (Unit {0}) → MatchStop {A = B} {F = Reason} (Err stop) (λ _. rows_fault e ≡ None) (λ why. rows_fault e ≡ Some why) (Unit {0})
 cie_stopped A B (Fault why) e bad = cie_bad e why bad

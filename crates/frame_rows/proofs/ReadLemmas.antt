@@ -11,7 +11,8 @@ use Rattle.frame_rows.specs.declared.instruction.Instruction.{Instruction}
 use Rattle.frame_rows.specs.declared.machine.Setting.{Setting}
 use Rattle.frame_rows.specs.Instructions.{Item, instruction_at, onto_later, listed_in, instructions}
 use Rattle.frame_rows.specs.Machine.{Machine}
-use Rattle.frame_rows.specs.Steps.{stepped, step_fault, or_reason}
+use Rattle.std.specs.Option.{option_or}
+use Rattle.frame_rows.specs.Steps.{stepped, step_fault}
 use Rattle.frame_rows.specs.Rows.{item_stepped, item_fault, all_stepped, first_fault}
 
 empty_is : (n : ℕ) → n ≢ 0 → (n == 0) ≡ false
@@ -70,11 +71,11 @@ fault_none s m = refl
 
 pub fault_more : (s : Setting) (i : Item) (items : List Item) (m : Machine) → item_fault s i m ≡ None → first_fault s (i ∷ items) m ≡ first_fault s items (item_stepped s i m)
 unfolding first_fault
-fault_more s i items m good = ap (λ o. or_reason o (first_fault s items (item_stepped s i m))) good
+fault_more s i items m good = ap (λ o. option_or o (first_fault s items (item_stepped s i m))) good
 
 pub fault_here : (s : Setting) (i : Item) (items : List Item) (m : Machine) (why : Reason) → item_fault s i m ≡ Some why → first_fault s (i ∷ items) m ≡ Some why
 unfolding first_fault
-fault_here s i items m why bad = ap (λ o. or_reason o (first_fault s items (item_stepped s i m))) bad
+fault_here s i items m why bad = ap (λ o. option_or o (first_fault s items (item_stepped s i m))) bad
 
 pub stepped_none : (s : Setting) (m : Machine) → all_stepped s [] m ≡ m
 unfolding all_stepped

@@ -6,7 +6,8 @@ use Rattle.frame_rows.specs.declared.row.RowAt.{RowAt}
 use Rattle.frame_rows.specs.declared.machine.Setting.{Setting}
 use Rattle.frame_rows.specs.Instructions.{Item}
 use Rattle.frame_rows.specs.Machine.{Machine}
-use Rattle.frame_rows.specs.Rows.{item_stepped, item_fault, first_fault, replay, next_location, moves, or_row, last_at, Ascending, own_setting, own_items, own_begin, row_at, stops, AreRows}
+use Rattle.std.specs.Option.{option_or}
+use Rattle.frame_rows.specs.Rows.{item_stepped, item_fault, first_fault, replay, next_location, moves, last_at, Ascending, own_setting, own_items, own_begin, row_at, stops, AreRows}
 use Rattle.frame_rows.specs.Walk.{row_here, ended_row, rows_from}
 use Rattle.frame_rows.proofs.TestLemmas.{lt_true, lt_false, le_true, le_false, true_lt, false_lt, elim_bool, and_true, neither}
 use Rattle.frame_rows.proofs.StepLemmas.{location, grows, keeps}
@@ -32,20 +33,20 @@ unfolding last_at
 none_said a = refl
 
 -- the last row of a list with one more in front
-pub said_by : (r : RowAt) (rows : List RowAt) (a : ℕ) → last_at (r ∷ rows) a ≡ or_row (last_at rows a) (cond (nat_le r.address a) (Some r.row) None)
+pub said_by : (r : RowAt) (rows : List RowAt) (a : ℕ) → last_at (r ∷ rows) a ≡ option_or (last_at rows a) (cond (nat_le r.address a) (Some r.row) None)
 unfolding last_at
 said_by r rows a = refl
 
 pub above_said : (r : RowAt) (rows : List RowAt) (a : ℕ) → a < r.address → last_at rows a ≡ None → last_at (r ∷ rows) a ≡ None
 above_said r rows a above none =
-    said_by r rows a ∙ ap (λ o. or_row o (cond (nat_le r.address a) (Some r.row) None)) none ∙ ap (λ t. cond t (Some r.row) None) (le_false r.address a above)
+    said_by r rows a ∙ ap (λ o. option_or o (cond (nat_le r.address a) (Some r.row) None)) none ∙ ap (λ t. cond t (Some r.row) None) (le_false r.address a above)
 
 pub here_said : (r : RowAt) (rows : List RowAt) (a : ℕ) → r.address ≤ a → last_at rows a ≡ None → last_at (r ∷ rows) a ≡ Some r.row
 here_said r rows a below none =
-    said_by r rows a ∙ ap (λ o. or_row o (cond (nat_le r.address a) (Some r.row) None)) none ∙ ap (λ t. cond t (Some r.row) None) (le_true r.address a below)
+    said_by r rows a ∙ ap (λ o. option_or o (cond (nat_le r.address a) (Some r.row) None)) none ∙ ap (λ t. cond t (Some r.row) None) (le_true r.address a below)
 
 pub later_said : (r : RowAt) (rows : List RowAt) (a : ℕ) (row : Row) → last_at rows a ≡ Some row → last_at (r ∷ rows) a ≡ Some row
-later_said r rows a row some = said_by r rows a ∙ ap (λ o. or_row o (cond (nat_le r.address a) (Some r.row) None)) some
+later_said r rows a row some = said_by r rows a ∙ ap (λ o. option_or o (cond (nat_le r.address a) (Some r.row) None)) some
 
 and_no : {A : Type 0} (b : Bool) (x y : A) → cond (b && false) x y ≡ y
 and_no true x y = refl

@@ -3,7 +3,7 @@ use Rattle.std.proofs.Common.{◌≡◌, ℕ, ℤ, pos, negsuc, zero, suc, ◌-�
 use Rattle.std.proofs.lemmas.Bool.Decides.{nat_tests}
 use Rattle.std.specs.Int.{w64, cast_signed, cast_unsigned}
 use Rattle.sym_edges.specs.declared.reason.Reason.TheVariants as reason
-use Rattle.leb_cursor.specs.Readings.{fits_i64}
+use Rattle.sym_edges.specs.Integers.{fits_i64}
 use Rattle.frame_entries.specs.FdeFields.{FdeFields}
 use Rattle.frame_rows.specs.declared.row.Rule.{Rule}
 use Rattle.frame_rows.specs.declared.row.Rule.TheVariants as rule

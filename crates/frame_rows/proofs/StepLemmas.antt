@@ -7,7 +7,8 @@ use Rattle.frame_rows.specs.declared.instruction.Instruction.TheVariants.{SetLoc
 use Rattle.frame_rows.specs.declared.machine.Setting.{Setting}
 use Rattle.frame_rows.specs.Instructions.{Item}
 use Rattle.frame_rows.specs.Machine.{Machine}
-use Rattle.frame_rows.specs.Steps.{stepped, step_fault, unless, move_fault}
+use Rattle.sym_edges.specs.Results.{unless}
+use Rattle.frame_rows.specs.Steps.{stepped, step_fault, move_fault}
 use Rattle.frame_rows.specs.Rows.{item_stepped, item_fault, next_location}
 use Rattle.frame_rows.proofs.TestLemmas.{and_true, true_le}
 

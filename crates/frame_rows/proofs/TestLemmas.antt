@@ -2,7 +2,7 @@
 use Rattle.std.proofs.Common.{◌≡◌, ℕ, ◌<◌, ◌≤◌, ◌&&◌, Bool, true, false, Option, Some, None, nat_lt, nat_le, refl, arith}
 use Rattle.std.proofs.lemmas.Bool.Decides.{nat_tests}
 use Rattle.sym_edges.specs.declared.reason.Reason.{Reason}
-use Rattle.frame_rows.specs.Steps.{or_reason}
+use Rattle.std.specs.Option.{option_or}
 
 pub lt_true : (a b : ℕ) → a < b → nat_lt a b ≡ true
 lt_true a b less = grind (arith, nat_tests)
@@ -39,6 +39,6 @@ both {a = true} first second = second
 both {a = false} first second = cc
 
 -- neither of two reasons is there
-pub neither : (first later : Option Reason) → or_reason first later ≡ None → (first ≡ None) × (later ≡ None)
+pub neither : (first later : Option Reason) → option_or first later ≡ None → (first ≡ None) × (later ≡ None)
 neither None later is = (refl, is)
 neither (Some why) later is = cc

@@ -4,7 +4,7 @@ use Rattle.std.specs.Prelude.{◌≡◌, ℕ, ◌+◌, ◌*◌, ◌<◌, ◌≤�
 use Rattle.std.specs.List.{list_any, range_with_len, slice_index_or}
 use Rattle.sym_edges.specs.declared.reason.Reason.{Reason}
 use Rattle.sym_edges.specs.declared.reason.Reason.TheVariants as reason
-use Rattle.leb_cursor.specs.Readings.{fits_i64}
+use Rattle.sym_edges.specs.Integers.{fits_i64}
 use Rattle.frame_entries.specs.FdeFields.{FdeFields}
 use Rattle.frame_rows.specs.declared.row.Rule.{Rule}
 use Rattle.frame_rows.specs.declared.row.Rule.TheVariants as rule
@@ -15,7 +15,9 @@ use Rattle.frame_rows.specs.declared.machine.Setting.{Setting}
 use Rattle.frame_rows.specs.declared.instruction.Instruction.TheVariants.{SetLoc, AdvanceLoc}
 use Rattle.frame_rows.specs.Instructions.{Item, instructions}
 use Rattle.frame_rows.specs.Machine.{Machine}
-use Rattle.frame_rows.specs.Steps.{has_cfa, stepped, step_fault, unless, or_reason}
+use Rattle.sym_edges.specs.Results.{unless}
+use Rattle.std.specs.Option.{option_or}
+use Rattle.frame_rows.specs.Steps.{has_cfa, stepped, step_fault}
 
 -- an instruction that cannot be read changes nothing, and is refused for its own reason
 abbrev pub item_stepped : Setting → Item → Machine → Machine
@@ -34,7 +36,7 @@ all_stepped s (i ∷ items) m = all_stepped s items (item_stepped s i m)
 -- the reason of the first bad instruction
 unfoldable pub first_fault : Setting → List Item → Machine → Option Reason
 first_fault s [] m = None
-first_fault s (i ∷ items) m = or_reason (item_fault s i m) (first_fault s items (item_stepped s i m))
+first_fault s (i ∷ items) m = option_or (item_fault s i m) (first_fault s items (item_stepped s i m))
 
 -- the state behind the longest prefix of instructions whose locations are at most an address: each has the location that
 -- those before it left
@@ -95,7 +97,7 @@ stops e = e.start ∷ moves (own_setting e) (e.start + e.size) (own_items e) e.s
 
 -- the reason of the first bad instruction, the CIE's before the entry's own
 unfoldable pub instruction_fault : FdeFields → Option Reason
-instruction_fault e = or_reason (first_fault (cie_setting e) (cie_items e) (cie_begin e)) (first_fault (own_setting e) (own_items e) (own_begin e))
+instruction_fault e = option_or (first_fault (cie_setting e) (cie_items e) (cie_begin e)) (first_fault (own_setting e) (own_items e) (own_begin e))
 
 -- some address of the range has no CFA rule
 unfoldable pub lacks_cfa : FdeFields → Bool
@@ -103,16 +105,12 @@ lacks_cfa e = list_any (λ a. not (has_cfa (row_at e a))) (range_with_len e.star
 
 -- the reason for which an entry has no rows
 unfoldable pub rows_fault : FdeFields → Option Reason
-rows_fault e = or_reason (instruction_fault e) (unless (not (lacks_cfa e)) reason.Cfa)
+rows_fault e = option_or (instruction_fault e) (unless (not (lacks_cfa e)) reason.Cfa)
 
 -- the last row that stands at or below an address
-abbrev pub or_row : Option Row → Option Row → Option Row
-or_row None other = other
-or_row (Some row) other = Some row
-
 unfoldable pub last_at : List RowAt → ℕ → Option Row
 last_at [] a = None
-last_at (r ∷ rows) a = or_row (last_at rows a) (if nat_le r.address a then Some r.row else None)
+last_at (r ∷ rows) a = option_or (last_at rows a) (if nat_le r.address a then Some r.row else None)
 
 -- rows rise, from a first address on, up to an end
 abbrev pub Ascending : ℕ → ℕ → List RowAt → Type 0

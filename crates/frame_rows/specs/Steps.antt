@@ -1,6 +1,8 @@
 -- What each call frame instruction does (DWARF 5, section 6.4.2), and where it may not stand.
 use Rattle.std.specs.Prelude.{ℕ, ℤ, ◌+◌, ◌*◌, ◌^◌, ◌==◌, ◌&&◌, ◌||◌, true, false, not, nat_lt, nat_le, Bool, if◌then◌else◌, List, [], ◌∷◌, Option, Some, None, is_some, slice_set}
 use Rattle.std.specs.List.{slice_index_or}
+use Rattle.std.specs.Option.{option_or}
+use Rattle.sym_edges.specs.Results.{unless}
 use Rattle.std.specs.Int.{w64, cast_signed, int_wrapping_mul}
 use Rattle.sym_edges.specs.declared.reason.Reason.{Reason}
 use Rattle.sym_edges.specs.declared.reason.Reason.TheVariants as reason
@@ -102,15 +104,6 @@ stepped s RestoreState m = record { address = m.address; row = top_or m.row m.he
 -- padding (6.4.2.5)
 stepped s Nop m = m
 
--- a reason, unless it is well
-abbrev pub unless : Bool → Reason → Option Reason
-unless well why = if well then None else Some why
-
--- the first of two reasons that is there
-abbrev pub or_reason : Option Reason → Option Reason → Option Reason
-or_reason None later = later
-or_reason (Some why) later = Some why
-
 -- a location instruction: none may stand in a CIE, and the location rises and stays below 2^64
 abbrev pub move_fault : Setting → ℕ → ℕ → Option Reason
 move_fault s before after = unless (is_some s.initial && (nat_le before after && nat_lt after (2 ^ 64))) reason.Range
@@ -128,7 +121,7 @@ step_fault s (SetLoc address) m = move_fault s m.address address
 step_fault s (AdvanceLoc delta) m = move_fault s m.address (m.address + delta * s.code_align)
 step_fault s (DefCfa register offset) m = register_fault register
 step_fault s (DefCfaSf register factored) m = register_fault register
-step_fault s (DefCfaRegister register) m = or_reason (register_fault register) (part_fault m)
+step_fault s (DefCfaRegister register) m = option_or (register_fault register) (part_fault m)
 step_fault s (DefCfaOffset offset) m = part_fault m
 step_fault s (DefCfaOffsetSf factored) m = part_fault m
 step_fault s (DefCfaExpression start len) m = Some reason.Expression

@@ -1,7 +1,8 @@
 //! What an instruction does to the state.
 ghost use Rattle.std.specs.Prelude.{◌≡◌, Some, None};
 ghost use Rattle.sym_edges.specs.Outside.{MatchStop};
-ghost use Rattle.frame_rows.specs.Steps.{stepped, step_fault, unless, on_row, put_rule};
+ghost use Rattle.sym_edges.specs.Results.{unless};
+ghost use Rattle.frame_rows.specs.Steps.{stepped, step_fault, on_row, put_rule};
 
 use crate::instruction::Instruction;
 use crate::machine::{Machine, Setting};

@@ -3,7 +3,9 @@ ghost use Rattle.std.specs.Prelude.{◌≡◌, ◌+◌, ◌*◌, [], ◌∷◌, 
 ghost use Rattle.sym_edges.specs.declared.reason.Reason.TheVariants as reason;
 ghost use Rattle.frame_rows.specs.declared.row.Rule.TheVariants as rule;
 ghost use Rattle.sym_edges.specs.Outside.{MatchStop};
-ghost use Rattle.frame_rows.specs.Steps.{scaled, moved, on_row, put_rule, put_cfa, put_register, put_offset, move_fault, register_fault, part_fault, or_reason, unless, rule_behind, has_held, top_or, under};
+ghost use Rattle.sym_edges.specs.Results.{unless};
+ghost use Rattle.std.specs.Option.{option_or};
+ghost use Rattle.frame_rows.specs.Steps.{scaled, moved, on_row, put_rule, put_cfa, put_register, put_offset, move_fault, register_fault, part_fault, rule_behind, has_held, top_or, under};
 
 use crate::row::{COLUMNS, CfaRule, Row, Rule};
 use std::alloc::{AllocError, Global};
@@ -123,8 +125,8 @@ impl Machine {
     #[tactic(auto, unfolding(crate::specs::Steps::put_register))]
     pub fn change_register(&mut self, register: u64) -> Result<(), Stop<Reason>>
         ensures { MatchStop result
-            (λ _. (or_reason (register_fault register) (part_fault self.old) ≡ None) × (self.new ≡ on_row (put_register register) self.old))
-            (λ why. or_reason (register_fault register) (part_fault self.old) ≡ Some why)
+            (λ _. (option_or (register_fault register) (part_fault self.old) ≡ None) × (self.new ≡ on_row (put_register register) self.old))
+            (λ why. option_or (register_fault register) (part_fault self.old) ≡ Some why)
             (Unit {0}) }
     {
         let register = match register_of(register) {

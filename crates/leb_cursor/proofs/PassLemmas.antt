@@ -5,9 +5,11 @@ use Rattle.std.specs.List.{position}
 use Rattle.std.proofs.lemmas.Bool.{ltb-false}
 use Rattle.std.proofs.lemmas.List.{length-drop, length-take}
 use Rattle.std.proofs.lemmas.List.Quantifiers.{position-Some}
-use Rattle.leb_cursor.specs.Ahead.{Ahead, passed, ◌>>=◌}
+use Rattle.sym_edges.specs.Results.{◌>>=◌}
+use Rattle.leb_cursor.specs.Ahead.{Ahead, passed}
 use Rattle.leb_cursor.specs.Passes.{Passes}
-use Rattle.leb_cursor.specs.Readings.{fixed_at, leb_length, leb_sum, sleb_sum, fits_i64, uleb_at, uleb_by, sleb_at, sleb_by, text_at, text_by, take_at}
+use Rattle.sym_edges.specs.Integers.{fits_i64}
+use Rattle.leb_cursor.specs.Readings.{fixed_at, leb_length, leb_sum, sleb_sum, uleb_at, uleb_by, sleb_at, sleb_by, text_at, text_by, take_at}
 
 -- whatever value goes with it, passing n bytes that are there passes n bytes
 passed_by : (n least : ℕ) (c : Ahead) → n ≤ length c.bytes → least ≤ n → (length (passed n c).bytes + least ≤ length c.bytes) × ((passed n c).at + length (passed n c).bytes ≡ c.at + length c.bytes)

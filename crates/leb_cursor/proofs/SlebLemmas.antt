@@ -5,7 +5,8 @@ use Rattle.std.proofs.lemmas.Int.{ints}
 use Rattle.leb_cursor.specs.declared.fault.CursorFault.{CursorFault}
 use Rattle.leb_cursor.specs.declared.fault.CursorFault.TheVariants.{Ends, LebLong}
 use Rattle.leb_cursor.specs.Ahead.{Ahead, passed}
-use Rattle.leb_cursor.specs.Readings.{leb_sum, leb_length, fits_i64, sleb_sum, sleb_at, sleb_by}
+use Rattle.sym_edges.specs.Integers.{fits_i64}
+use Rattle.leb_cursor.specs.Readings.{leb_sum, leb_length, sleb_sum, sleb_at, sleb_by}
 use Rattle.leb_cursor.specs.Groups.{SoFar, EndsWith}
 use Rattle.leb_cursor.proofs.AheadLemmas.{moved, same_ahead}
 use Rattle.leb_cursor.proofs.GroupLemmas.{leb_sum_one, leb_length_some, groups_fit}

@@ -19,9 +19,3 @@ gave (Err fault) c = Err fault
 abbrev pub gave_as : {A B E : Type 0} → (A → B) → Result A E → Ahead → Result (B × Ahead) E
 gave_as view (Ok x) c = Ok (view x, c)
 gave_as view (Err fault) c = Err fault
-
--- a reading, and then the one that its value asks for: the first refusal counts
-infixl 10 ◌>>=◌
-abbrev pub ◌>>=◌ : {A B E : Type 0} → Result A E → (A → Result B E) → Result B E
-(Ok x) >>= next = next x
-(Err fault) >>= next = Err fault

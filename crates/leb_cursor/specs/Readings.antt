@@ -3,6 +3,7 @@
 use Rattle.std.specs.Prelude.{ℕ, ◌+◌, ◌-◌, ◌*◌, ◌%◌, ◌^◌, ◌==◌, nat_lt, Bool, if◌then◌else◌, List, length, take, map, sum, position, slice_index, Option, None, Some, Result, Ok, Err, ℤ, pos, negsuc, ◌-ℤ◌}
 use Rattle.std.specs.Option.{option_map}
 use Rattle.std.specs.List.{range_with_len}
+use Rattle.sym_edges.specs.Integers.{fits_i64}
 use Rattle.leb_cursor.specs.declared.fault.CursorFault.{CursorFault}
 use Rattle.leb_cursor.specs.declared.fault.CursorFault.TheVariants.{Ends, LebLong, NoZero}
 use Rattle.leb_cursor.specs.Ahead.{Ahead, passed}
@@ -42,11 +43,6 @@ uleb_at c = uleb_by c (leb_length c.bytes)
 unfoldable pub sleb_sum : ℕ → List ℕ → ℤ
 sleb_sum count bytes =
     pos (leb_sum count bytes) -ℤ pos (if nat_lt (slice_index bytes (count - 1)) 64 then 0 else 128 ^ count)
-
--- within an i64
-abbrev pub fits_i64 : ℤ → Bool
-fits_i64 (pos n) = nat_lt n (2 ^ 63)
-fits_i64 (negsuc n) = nat_lt n (2 ^ 63)
 
 -- a signed LEB128 of so many bytes, within an i64
 abbrev pub sleb_by : Ahead → Option ℕ → Result (ℤ × Ahead) CursorFault

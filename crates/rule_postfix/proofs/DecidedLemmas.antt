@@ -17,7 +17,8 @@ use Rattle.frame_entries.specs.declared.description.Body.{Body}
 use Rattle.frame_entries.specs.declared.description.Body.TheVariants.{Good, Bad}
 use Rattle.frame_entries.specs.declared.description.Entry.{Entry}
 use Rattle.frame_entries.specs.FdeFields.{FdeFields}
-use Rattle.frame_rows.specs.Steps.{unless, or_reason}
+use Rattle.sym_edges.specs.Results.{unless}
+use Rattle.std.specs.Option.{option_or}
 use Rattle.sym_records.specs.declared.line.SymLine.{SymLine}
 use Rattle.sym_records.specs.declared.place.Place.TheVariants.{Inside}
 use Rattle.sym_records.specs.Validity.{first_bad_from}
@@ -70,11 +71,11 @@ pub lies_above : (base : ℕ) (code kept : List Range) → AllFrom base code →
 lies_above base code kept above same = record { at = λ start end is. enclosed_above base start end code above (sym (same start end) ∙ is) }
 
 -- of an entry with no reason to leave it out
-or_left : (a b : Option Reason) → or_reason a b ≡ None → a ≡ None
+or_left : (a b : Option Reason) → option_or a b ≡ None → a ≡ None
 or_left None b is = refl
 or_left (Some why) b is = is
 
-or_right : (a b : Option Reason) → or_reason a b ≡ None → b ≡ None
+or_right : (a b : Option Reason) → option_or a b ≡ None → b ≡ None
 or_right None b is = is
 or_right (Some why) b is = cc
 
@@ -92,7 +93,7 @@ pub record IsFree (code taken : List Range) (e : FdeFields) : Type 0 where
 pub is_free : (code taken : List Range) (e : FdeFields) → reason_among code taken e ≡ None → IsFree code taken e
 unfolding reason_among is_code has_range
 is_free code taken e none =
-    let later : or_reason (unless (is_code code e) reason.Outside) (unless (not (any_meets (range_of e) taken)) reason.Overlap) ≡ None = or_right (rows_reason e) (or_reason (unless (is_code code e) reason.Outside) (unless (not (any_meets (range_of e) taken)) reason.Overlap)) none in
+    let later : option_or (unless (is_code code e) reason.Outside) (unless (not (any_meets (range_of e) taken)) reason.Overlap) ≡ None = or_right (rows_reason e) (option_or (unless (is_code code e) reason.Outside) (unless (not (any_meets (range_of e) taken)) reason.Overlap)) none in
     let inside : is_code code e ≡ true = unless_true (is_code code e) reason.Outside (or_left (unless (is_code code e) reason.Outside) (unless (not (any_meets (range_of e) taken)) reason.Overlap) later) in
     let ranged : has_range e ≡ true = (and_parts (has_range e) (encloses code e.start (e.start + e.size)) inside).0 in
     let parts : (nat_lt 0 e.size ≡ true) × (nat_lt (e.start + e.size) (2 ^ 64) ≡ true) = and_parts (nat_lt 0 e.size) (nat_lt (e.start + e.size) (2 ^ 64)) ranged in
@@ -106,7 +107,7 @@ is_free code taken e none =
 -- what is decided of an entry
 same_reason : (base : ℕ) (code : List Range) (p : Progress) (e : FdeFields) (d : Decided) → Shows base p d → reason_behind code d.written e ≡ reason_among code p.taken e
 unfolding reason_behind reason_among
-same_reason base code p e d so = ap (λ t. or_reason (rows_reason e) (or_reason (unless (is_code code e) reason.Outside) (unless (not t) reason.Overlap))) (sym (so.taken (range_of e)))
+same_reason base code p e d so = ap (λ t. option_or (rows_reason e) (option_or (unless (is_code code e) reason.Outside) (unless (not t) reason.Overlap))) (sym (so.taken (range_of e)))
 
 pub entry_bad : (code : List Range) (entry : Entry) (why : Reason) (d : Decided) → entry.body ≡ Bad why → with_entry code entry d ≡ left_out entry why d
 unfolding with_entry
@@ -168,7 +169,7 @@ pub record SameCode (kept code : List Range) : Type 0 where
 
 same_behind : (kept code : List Range) (ws : List FdeFields) (e : FdeFields) → SameCode kept code → reason_behind kept ws e ≡ reason_behind code ws e
 unfolding reason_behind reason_among is_code
-same_behind kept code ws e same = ap (λ t. or_reason (rows_reason e) (or_reason (unless (has_range e && t) reason.Outside) (unless (not (any_meets (range_of e) (map range_of ws))) reason.Overlap))) (same.at e.start (e.start + e.size))
+same_behind kept code ws e same = ap (λ t. option_or (rows_reason e) (option_or (unless (has_range e && t) reason.Outside) (unless (not (any_meets (range_of e) (map range_of ws))) reason.Overlap))) (same.at e.start (e.start + e.size))
 
 same_body : (kept code : List Range) (entry : Entry) (b : Body) (d : Decided) → SameCode kept code → with_body kept entry b d ≡ with_body code entry b d
 same_body kept code entry (Good e) d same = ap (λ o. with_good entry e o d) (same_behind kept code d.written e same)

@@ -5,7 +5,8 @@ use Rattle.std.proofs.lemmas.Bool.{cases_lt, ne_eqb, le-leb, lt-leb, and_right, 
 use Rattle.std.proofs.lemmas.List.{append-nil}
 use Rattle.frame_rows.specs.declared.row.Row.{Row}
 use Rattle.frame_rows.specs.declared.row.RowAt.{RowAt}
-use Rattle.frame_rows.specs.Rows.{Ascending, last_at, or_row}
+use Rattle.std.specs.Option.{option_or}
+use Rattle.frame_rows.specs.Rows.{Ascending, last_at}
 use Rattle.sym_records.specs.declared.line.SymLine.{SymLine}
 use Rattle.sym_records.specs.declared.line.SymLine.TheVariants.{Init}
 use Rattle.sym_records.specs.declared.rules.RuleText.{RuleText}
@@ -52,38 +53,38 @@ past_all : (low end a : ℕ) (rows : List RowAt) → Ascending low end rows → 
 unfolding last_at
 past_all low end a [] rising below = refl
 past_all low end a (r ∷ rows) rising below =
-    ap (λ o. or_row o (cond (nat_le r.address a) (Some r.row) None)) (past_all (r.address + 1) end a rows rising.2 (omega (arith, rising.0)))
+    ap (λ o. option_or o (cond (nat_le r.address a) (Some r.row) None)) (past_all (r.address + 1) end a rows rising.2 (omega (arith, rising.0)))
     ∙ ap (λ t. cond t (Some r.row) None) (lt-leb r.address a (omega (arith, rising.0)))
 
 -- behind a row and those that follow it stand the rows of the range from an address on, so many
 Follows : (ℕ → Row) → ℕ → ℕ → Row → List RowAt → Type 0
-Follows row b end before rows = (a : ℕ) → b ≤ a → a < end → or_row (last_at rows a) (Some before) ≡ Some (row a)
+Follows row b end before rows = (a : ℕ) → b ≤ a → a < end → option_or (last_at rows a) (Some before) ≡ Some (row a)
 
-or_twice : (o : Option Row) (x y : Row) → or_row (or_row o (Some x)) (Some y) ≡ or_row o (Some x)
+or_twice : (o : Option Row) (x y : Row) → option_or (option_or o (Some x)) (Some y) ≡ option_or o (Some x)
 or_twice None x y = refl
 or_twice (Some z) x y = refl
 
-last_on : (r : RowAt) (rows : List RowAt) (a : ℕ) → r.address ≤ a → last_at (r ∷ rows) a ≡ or_row (last_at rows a) (Some r.row)
+last_on : (r : RowAt) (rows : List RowAt) (a : ℕ) → r.address ≤ a → last_at (r ∷ rows) a ≡ option_or (last_at rows a) (Some r.row)
 unfolding last_at
-last_on r rows a le = ap (λ t. or_row (last_at rows a) (cond t (Some r.row) None)) (le-leb r.address a le)
+last_on r rows a le = ap (λ t. option_or (last_at rows a) (cond t (Some r.row) None)) (le-leb r.address a le)
 
 -- the row at the next address is the one before, where none begins there
 stands : (row : ℕ → Row) (b end : ℕ) (before : Row) (rows : List RowAt) → Follows row b end before rows → b < end → Ascending (b + 1) end rows → before ≡ row b
 unfolding Follows
 stands row b end before rows follows inside rising =
-    some_same before (row b) (ap (λ o. or_row o (Some before)) (sym (past_all (b + 1) end b rows rising (omega arith))) ∙ follows b (omega arith) inside)
+    some_same before (row b) (ap (λ o. option_or o (Some before)) (sym (past_all (b + 1) end b rows rising (omega arith))) ∙ follows b (omega arith) inside)
 
 begins : (row : ℕ → Row) (b end : ℕ) (before : Row) (r : RowAt) (rows : List RowAt) → Follows row b end before (r ∷ rows) → r.address ≡ b → b < end → Ascending (r.address + 1) end rows → r.row ≡ row b
 unfolding Follows
 begins row b end before r rows follows at inside rising =
     some_same r.row (row b)
-    (ap (λ o. or_row (or_row o (Some r.row)) (Some before)) (sym (past_all (r.address + 1) end b rows rising (omega arith)))
-    ∙ ap (λ o. or_row o (Some before)) (sym (last_on r rows b (omega arith))) ∙ follows b (omega arith) inside)
+    (ap (λ o. option_or (option_or o (Some r.row)) (Some before)) (sym (past_all (r.address + 1) end b rows rising (omega arith)))
+    ∙ ap (λ o. option_or o (Some before)) (sym (last_on r rows b (omega arith))) ∙ follows b (omega arith) inside)
 
 follows_on : (row : ℕ → Row) (b end : ℕ) (before : Row) (r : RowAt) (rows : List RowAt) → Follows row b end before (r ∷ rows) → r.address ≡ b → Follows row (b + 1) end r.row rows
 unfolding Follows
 follows_on row b end before r rows follows at a le below =
-    sym (or_twice (last_at rows a) r.row before) ∙ ap (λ o. or_row o (Some before)) (sym (last_on r rows a (omega arith))) ∙ follows a (omega arith) below
+    sym (or_twice (last_at rows a) r.row before) ∙ ap (λ o. option_or o (Some before)) (sym (last_on r rows a (omega arith))) ∙ follows a (omega arith) below
 
 follows_same : (row : ℕ → Row) (b end : ℕ) (before : Row) (rows : List RowAt) → Follows row b end before rows → Follows row (b + 1) end before rows
 unfolding Follows
@@ -195,7 +196,7 @@ follows_first row start end r rows each at a le below = sym (last_on r rows a (o
 
 first_row : (row : ℕ → Row) (start end : ℕ) (r : RowAt) (rows : List RowAt) → Ascending start end (r ∷ rows) → last_at (r ∷ rows) start ≡ Some (row start) → r.address ≡ start → r.row ≡ row start
 first_row row start end r rows rising says at =
-    some_same r.row (row start) (ap (λ o. or_row o (Some r.row)) (sym (past_all (r.address + 1) end start rows rising.2 (omega (arith, at)))) ∙ sym (last_on r rows start (omega (arith, at))) ∙ says)
+    some_same r.row (row start) (ap (λ o. option_or o (Some r.row)) (sym (past_all (r.address + 1) end start rows rising.2 (omega (arith, at)))) ∙ sym (last_on r rows start (omega (arith, at))) ∙ says)
 
 first_line : (row : ℕ → Row) (start base n end : ℕ) → end ≡ start + 1 + n → line_at row start end base start ≡ Init (start - base) (first_cut row start (start + 1) n - start) (row_rules (row start)) ∷ []
 unfolding line_at is_cut

@@ -13,11 +13,12 @@ use Rattle.sym_records.specs.declared.rules.Target.TheVariants.{Cfa, Ra, Reg, Ot
 use Rattle.sym_records.specs.declared.rules.Token.{Token}
 use Rattle.sym_records.specs.declared.rules.Token.TheVariants as token
 use Rattle.sym_records.specs.declared.rules.RuleText.{RuleText}
-use Rattle.sym_records.specs.RuleReading.{fits_i64}
+use Rattle.sym_edges.specs.Integers.{fits_i64}
 use Rattle.sym_records.specs.RuleValidity.{is_plain_target, is_plain_token, is_plain_rule}
 use Rattle.rule_postfix.specs.declared.parts.Part.{Part}
 use Rattle.rule_postfix.specs.declared.parts.Part.TheVariants.{AtRest, Base, Column}
-use Rattle.rule_postfix.specs.Parts.{is_kept, stack_pointer, own_as_same, by_group, column_part, cfa_part, rule_at, part_of, is_rest, same_part}
+use Rattle.sym_edges.specs.Abi.{is_kept, stack_pointer}
+use Rattle.rule_postfix.specs.Parts.{own_as_same, by_group, column_part, cfa_part, rule_at, part_of, is_rest, same_part}
 use Rattle.rule_postfix.specs.Rules.{resting, own_name, rule_spelled, spelled, registers, targets, rule_of, rules_of, rules_by, if_not_at_rest, if_changed, row_rules, changed_rules}
 
 -- a part whose registers are the sixteen, and whose offsets are those of an i64

@@ -12,17 +12,18 @@ use Rattle.sym_edges.specs.declared.reason.Reason.TheVariants as reason
 use Rattle.sym_edges.specs.Addresses.{Range}
 use Rattle.range_set.specs.Enclosing.{encloses}
 use Rattle.frame_entries.specs.FdeFields.{FdeFields}
-use Rattle.frame_rows.specs.Steps.{unless, or_reason}
+use Rattle.sym_edges.specs.Results.{unless}
+use Rattle.std.specs.Option.{option_or}
 use Rattle.frame_rows.specs.Rows.{rows_fault, instruction_fault}
 use Rattle.rule_postfix.specs.Overlaps.{any_meets}
 use Rattle.rule_postfix.specs.Written.{range_of, has_range, rows_reason, is_code, reason_among}
 
 -- without a range the instructions decide, and then it is not code
-unranged : (code taken : List Range) (e : FdeFields) (why : Option Reason) → has_range e ≡ false → why ≡ instruction_fault e → reason_among code taken e ≡ or_reason why (Some reason.Outside)
+unranged : (code taken : List Range) (e : FdeFields) (why : Option Reason) → has_range e ≡ false → why ≡ instruction_fault e → reason_among code taken e ≡ option_or why (Some reason.Outside)
 unfolding reason_among rows_reason is_code
 unranged code taken e why none is =
-    ap (λ t. or_reason (cond t (rows_fault e) (instruction_fault e)) (or_reason (unless (t && encloses code e.start (e.start + e.size)) reason.Outside) (unless (not (any_meets (range_of e) taken)) reason.Overlap))) none
-    ∙ ap (λ o. or_reason o (Some reason.Outside)) (sym is)
+    ap (λ t. option_or (cond t (rows_fault e) (instruction_fault e)) (option_or (unless (t && encloses code e.start (e.start + e.size)) reason.Outside) (unless (not (any_meets (range_of e) taken)) reason.Overlap))) none
+    ∙ ap (λ o. option_or o (Some reason.Outside)) (sym is)
 
 pub unranged_bad : (code taken : List Range) (e : FdeFields) (why : Reason) → has_range e ≡ false → Some why ≡ instruction_fault e → reason_among code taken e ≡ Some why
 unranged_bad code taken e why none is = unranged code taken e (Some why) none is
@@ -31,13 +32,13 @@ pub unranged_good : (code taken : List Range) (e : FdeFields) → has_range e �
 unranged_good code taken e none is = unranged code taken e None none is
 
 -- with a range its rows decide, then its place, then the ranges that are taken
-ranged : (code taken : List Range) (e : FdeFields) (why : Option Reason) (inside meets : Bool) → has_range e ≡ true → rows_fault e ≡ why → encloses code e.start (e.start + e.size) ≡ inside → any_meets (range_of e) taken ≡ meets → reason_among code taken e ≡ or_reason why (or_reason (unless inside reason.Outside) (unless (not meets) reason.Overlap))
+ranged : (code taken : List Range) (e : FdeFields) (why : Option Reason) (inside meets : Bool) → has_range e ≡ true → rows_fault e ≡ why → encloses code e.start (e.start + e.size) ≡ inside → any_meets (range_of e) taken ≡ meets → reason_among code taken e ≡ option_or why (option_or (unless inside reason.Outside) (unless (not meets) reason.Overlap))
 unfolding reason_among rows_reason is_code
 ranged code taken e why inside meets has rows place met =
-    ap (λ t. or_reason (cond t (rows_fault e) (instruction_fault e)) (or_reason (unless (t && encloses code e.start (e.start + e.size)) reason.Outside) (unless (not (any_meets (range_of e) taken)) reason.Overlap))) has
-    ∙ ap (λ o. or_reason o (or_reason (unless (encloses code e.start (e.start + e.size)) reason.Outside) (unless (not (any_meets (range_of e) taken)) reason.Overlap))) rows
-    ∙ ap (λ t. or_reason why (or_reason (unless t reason.Outside) (unless (not (any_meets (range_of e) taken)) reason.Overlap))) place
-    ∙ ap (λ t. or_reason why (or_reason (unless inside reason.Outside) (unless (not t) reason.Overlap))) met
+    ap (λ t. option_or (cond t (rows_fault e) (instruction_fault e)) (option_or (unless (t && encloses code e.start (e.start + e.size)) reason.Outside) (unless (not (any_meets (range_of e) taken)) reason.Overlap))) has
+    ∙ ap (λ o. option_or o (option_or (unless (encloses code e.start (e.start + e.size)) reason.Outside) (unless (not (any_meets (range_of e) taken)) reason.Overlap))) rows
+    ∙ ap (λ t. option_or why (option_or (unless t reason.Outside) (unless (not (any_meets (range_of e) taken)) reason.Overlap))) place
+    ∙ ap (λ t. option_or why (option_or (unless inside reason.Outside) (unless (not t) reason.Overlap))) met
 
 no_rows : (code taken : List Range) (e : FdeFields) (why : Reason) → has_range e ≡ true → rows_fault e ≡ Some why → reason_among code taken e ≡ Some why
 no_rows code taken e why has rows = ranged code taken e (Some why) (encloses code e.start (e.start + e.size)) (any_meets (range_of e) taken) has rows refl refl

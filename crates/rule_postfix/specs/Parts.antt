@@ -1,6 +1,7 @@
 -- What a row says of each target, in the one form by which lines are written: rules that mean the same are one part
 -- (DWARF 5, section 6.4.1; System V ABI for AMD64, section 3.2.1).
 use Rattle.std.specs.Prelude.{ℕ, ◌==◌, ◌&&◌, ◌||◌, not, nat_le, Bool, true, false, if◌then◌else◌, Option, Some, None}
+use Rattle.sym_edges.specs.Abi.{is_kept, stack_pointer, return_address}
 use Rattle.std.specs.List.{slice_index_or}
 use Rattle.std.specs.Ordering.{int_eq}
 use Rattle.frame_rows.specs.declared.row.Rule.{Rule}
@@ -11,17 +12,6 @@ use Rattle.sym_records.specs.declared.rules.Target.{Target}
 use Rattle.sym_records.specs.declared.rules.Target.TheVariants.{Cfa, Ra, Reg, Other}
 use Rattle.rule_postfix.specs.declared.parts.Part.{Part}
 use Rattle.rule_postfix.specs.declared.parts.Part.TheVariants.{AtRest, Base, Column}
-
--- the registers that a call keeps: rbx, rbp, r12 to r15
-unfoldable pub is_kept : ℕ → Bool
-is_kept column = column == 3 || (column == 6 || (nat_le 12 column && nat_le column 15))
-
--- the number of rsp, and that of the return address
-abbrev pub stack_pointer : ℕ
-stack_pointer = 7
-
-abbrev pub return_address : ℕ
-return_address = 16
 
 -- the register's own value is what it still has
 abbrev pub own_as_same : ℕ → Rule → Rule

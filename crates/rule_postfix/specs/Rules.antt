@@ -11,7 +11,8 @@ use Rattle.sym_records.specs.declared.rules.Token.TheVariants as token
 use Rattle.sym_records.specs.declared.rules.RuleText.{RuleText}
 use Rattle.rule_postfix.specs.declared.parts.Part.{Part}
 use Rattle.rule_postfix.specs.declared.parts.Part.TheVariants.{AtRest, Base, Column}
-use Rattle.rule_postfix.specs.Parts.{is_kept, stack_pointer, is_rest, same_part, part_of, rests_anew}
+use Rattle.sym_edges.specs.Abi.{is_kept, stack_pointer}
+use Rattle.rule_postfix.specs.Parts.{is_rest, same_part, part_of, rests_anew}
 
 -- at rest a kept register has the value that it still has, and rsp is the CFA; of the others nothing is known
 abbrev pub resting : Target → Option (List Token)

@@ -10,7 +10,8 @@ use Rattle.frame_entries.specs.declared.description.Body.{Body}
 use Rattle.frame_entries.specs.declared.description.Body.TheVariants.{Good, Bad}
 use Rattle.frame_entries.specs.declared.description.Entry.{Entry}
 use Rattle.frame_entries.specs.FdeFields.{FdeFields}
-use Rattle.frame_rows.specs.Steps.{unless, or_reason}
+use Rattle.sym_edges.specs.Results.{unless}
+use Rattle.std.specs.Option.{option_or}
 use Rattle.frame_rows.specs.Rows.{row_at, rows_fault, instruction_fault}
 use Rattle.sym_records.specs.declared.line.SymLine.{SymLine}
 use Rattle.rule_postfix.specs.declared.omission.Omission.{Omission}
@@ -35,8 +36,8 @@ is_code code e = has_range e && encloses code e.start (e.start + e.size)
 -- the first reason to leave out an entry whose fields can be read: its rows, its place, the ranges that are taken
 unfoldable pub reason_among : List Range → List Range → FdeFields → Option Reason
 reason_among code taken e =
-    or_reason (rows_reason e)
-    (or_reason (unless (is_code code e) reason.Outside)
+    option_or (rows_reason e)
+    (option_or (unless (is_code code e) reason.Outside)
     (unless (not (any_meets (range_of e) taken)) reason.Overlap))
 
 -- the ranges of the entries that are written before it are taken

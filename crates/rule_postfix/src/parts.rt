@@ -1,6 +1,7 @@
 //! What a row says of each target, in one form.
 ghost use Rattle.std.specs.Prelude.{◌≡◌};
-ghost use Rattle.rule_postfix.specs.Parts.{is_kept, own_as_same, by_group, column_part, cfa_part, part_of, is_rest, rule_at, rests_anew, same_rule, same_part, starts_anew};
+ghost use Rattle.sym_edges.specs.Abi.{is_kept};
+ghost use Rattle.rule_postfix.specs.Parts.{own_as_same, by_group, column_part, cfa_part, part_of, is_rest, rule_at, rests_anew, same_rule, same_part, starts_anew};
 
 use frame_rows::{CfaRule, Row, Rule};
 
@@ -13,7 +14,7 @@ pub enum Part {
 }
 
 /// rbx, rbp and r12 to r15, which a call keeps.
-#[tactic(auto, unfolding(crate::specs::Parts::is_kept))]
+#[tactic(auto, unfolding(sym_edges::specs::Abi::is_kept))]
 pub fn is_kept(column: u8) -> bool
     ensures { result ≡ is_kept column }
 {

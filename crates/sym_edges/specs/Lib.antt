@@ -2,3 +2,6 @@ pub mod Addresses
 pub mod Outside
 pub mod Memory
 pub mod WholeFile
+pub mod Results
+pub mod Integers
+pub mod Abi

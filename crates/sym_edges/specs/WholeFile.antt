@@ -21,28 +21,38 @@ abbrev pub IsLonger : Option (List ℕ) → ℕ → Type 0
 IsLonger None limit = Unit {0}
 IsLonger (Some whole) limit = limit < length whole
 
+-- a file, where it is told, is the bytes that were read and what is left
+abbrev pub IsParted : Option (List ℕ) → List ℕ → Option (List ℕ) → Type 0
+IsParted None bytes left = left ≡ None
+IsParted (Some whole) bytes left = (rest : List ℕ) × (left ≡ Some rest) × (whole ≡ bytes ++ rest)
+
+-- an end of the file is left, where the file is told
+abbrev pub LeavesEnd : Option (List ℕ) → Option (List ℕ) → Type 0
+LeavesEnd whole left = (bytes : List ℕ) × IsParted whole bytes left
+
 -- what a reading of the rest of a file answers, and when
-abbrev pub ReadRest : Result (List ℕ) (Stop ReadEnd) → Option (List ℕ) → ℕ → ℕ → ℕ → Type 0
-ReadRest (Ok bytes) left limit before after = IsWhole left bytes limit
-ReadRest (Err (Fault CantOpen)) left limit before after = ⊥
-ReadRest (Err (Fault CantRead)) left limit before after = Rose before after
-ReadRest (Err (Fault TooLong)) left limit before after = IsLonger left limit
-ReadRest (Err NoMemory) left limit before after = Unit {0}
+abbrev pub ReadRest : Result (List ℕ) (Stop ReadEnd) → Option (List ℕ) → Option (List ℕ) → ℕ → ℕ → ℕ → Type 0
+ReadRest (Ok bytes) left left_after limit before after = IsWhole left bytes limit
+ReadRest (Err (Fault CantOpen)) left left_after limit before after = ⊥
+ReadRest (Err (Fault CantRead)) left left_after limit before after = Rose before after × LeavesEnd left left_after
+ReadRest (Err (Fault TooLong)) left left_after limit before after = IsLonger left limit
+ReadRest (Err NoMemory) left left_after limit before after = Unit {0}
 
 -- the file of that name, where the files are told
 abbrev pub HoldsFile : Option Files → List ℕ → (Option (List ℕ) → Type 0) → Type 0
 HoldsFile None name P = P None
 HoldsFile (Some files) name P = (bytes : List ℕ) × (files name ≡ Some bytes) × P (Some bytes)
 
--- what a reading of the file of that name answers, and when
-abbrev pub ReadAll : Result (List ℕ) (Stop ReadEnd) → Option Files → List ℕ → ℕ → ℕ → ℕ → Type 0
-ReadAll (Ok bytes) files name limit before after = HoldsFile files name (λ whole. IsWhole whole bytes limit)
-ReadAll (Err (Fault CantOpen)) files name limit before after = Rose before after
-ReadAll (Err (Fault CantRead)) files name limit before after = Rose before after
-ReadAll (Err (Fault TooLong)) files name limit before after = HoldsFile files name (λ whole. IsLonger whole limit)
-ReadAll (Err NoMemory) files name limit before after = Unit {0}
+-- the file of that name is there, and an end of it is left, where the files are told
+abbrev pub StopsInside : Option Files → List ℕ → Option (List ℕ) → Type 0
+StopsInside None name left = Unit {0}
+StopsInside (Some files) name left = (bytes : List ℕ) × (files name ≡ Some bytes) × LeavesEnd (Some bytes) left
 
--- a file, where it is told, is the bytes that were read and what is left
-abbrev pub IsParted : Option (List ℕ) → List ℕ → Option (List ℕ) → Type 0
-IsParted None bytes left = left ≡ None
-IsParted (Some whole) bytes left = (rest : List ℕ) × (left ≡ Some rest) × (whole ≡ bytes ++ rest)
+-- what a reading of the file of that name answers, and when: where it cannot be opened, what was left of another file still is;
+-- where it cannot be read, it was opened
+abbrev pub ReadAll : Result (List ℕ) (Stop ReadEnd) → Option Files → List ℕ → ℕ → Option (List ℕ) → Option (List ℕ) → ℕ → ℕ → Type 0
+ReadAll (Ok bytes) files name limit left left_after before after = HoldsFile files name (λ whole. IsWhole whole bytes limit)
+ReadAll (Err (Fault CantOpen)) files name limit left left_after before after = Rose before after × (left_after ≡ left)
+ReadAll (Err (Fault CantRead)) files name limit left left_after before after = Rose before after × StopsInside files name left_after
+ReadAll (Err (Fault TooLong)) files name limit left left_after before after = HoldsFile files name (λ whole. IsLonger whole limit)
+ReadAll (Err NoMemory) files name limit left left_after before after = Unit {0}

@@ -3,13 +3,13 @@ ghost use Rattle.sym_edges.specs.Outside.{MatchStop, OnFault, OnNoMemory, Rose};
 
 use crate::fault::{Failed, Stop};
 use crate::name::NameText;
+use crate::retrying::read_retrying;
 use crate::store::Store;
 use std::alloc::Global;
 use std::fs;
-use std::io::Read;
 use std::rt::Files;
 
-/// The system's files. It tells neither their bytes nor what is left, and counts each error of the system.
+/// The system's files. It tells neither their bytes nor what is left, and counts each error of the system; a read that a signal interrupts is tried again.
 #[derive(Drop)]
 pub struct FileStore<'a, R: Files> {
     system: &'a R,
@@ -22,9 +22,10 @@ pub struct FileStore<'a, R: Files> {
 impl<'a, R: Files> FileStore<'a, R> {
     /// Nothing is open.
     pub fn new(alloc: Global, system: &'a R) -> FileStore<'a, R>
-        ensures asked { result.asked.items ≡ [] }
-        ensures opened { result.opened ≡ None }
-        ensures faults { result.faults ≡ 0 }
+        ensures asked { ⟦<FileStore<'a, R> as Store>⟧.asked result ≡ [] }
+        ensures files { ⟦<FileStore<'a, R> as Store>⟧.files result ≡ None }
+        ensures left { ⟦<FileStore<'a, R> as Store>⟧.left result ≡ None }
+        ensures faults { ⟦<FileStore<'a, R> as Store>⟧.faults result ≡ 0 }
     {
         FileStore {
             system,
@@ -63,9 +64,9 @@ impl<R: Files> Store for FileStore<'_, R> {
     fn read(&mut self, buf: &mut [u8]) -> Result<usize, Failed> {
         match &mut self.opened {
             None => Ok(0),
-            Some(file) => match file.read(buf) {
+            Some(file) => match read_retrying(file, buf) {
                 Ok(count) => Ok(count),
-                Err(_) => {
+                Err(Failed) => {
                     self.faults = self.faults.saturating_add(1);
                     Err(Failed)
                 }

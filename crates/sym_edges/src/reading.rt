@@ -24,8 +24,8 @@ const PIECE: usize = 65536;
 
 /// The whole file of that name, which has at most `limit` bytes. The store is asked for this name alone, at most once.
 ///
-/// `CantOpen` and `CantRead` come only where the store's count of faults rose, and `TooLong` exactly where more than `limit`
-/// bytes were taken.
+/// `CantOpen` and `CantRead` come only where the store's count of faults rose: before `CantRead` the file was opened, and after
+/// `CantOpen` what was left of an earlier file still is. `TooLong` comes exactly where more than `limit` bytes were taken.
 pub fn read_all<S: Store>(
     alloc: Global,
     store: &mut S,
@@ -35,7 +35,7 @@ pub fn read_all<S: Store>(
     ensures asked { AsksOnce result (S.asked store.old) name.now (S.asked store.new) }
     ensures files { S.files store.new ≡ S.files store.old }
     ensures faults { S.faults store.old ≤ S.faults store.new }
-    ensures read { ReadAll result (S.files store.old) name.now limit (S.faults store.old) (S.faults store.new) }
+    ensures read { ReadAll result (S.files store.old) name.now limit (S.left store.old) (S.left store.new) (S.faults store.old) (S.faults store.new) }
 {
     match store.open_file(name) {
         Ok(()) => read_rest(alloc, store, limit, PIECE),
@@ -56,7 +56,7 @@ fn read_rest<S: Store>(
     ensures asked { S.asked store.new ≡ S.asked store.old }
     ensures files { S.files store.new ≡ S.files store.old }
     ensures faults { S.faults store.old ≤ S.faults store.new }
-    ensures read { ReadRest result (S.left store.old) limit (S.faults store.old) (S.faults store.new) }
+    ensures read { ReadRest result (S.left store.old) (S.left store.new) limit (S.faults store.old) (S.faults store.new) }
 {
     let mut bytes = Vec::new(alloc);
     let mut buffer = vec![in alloc; 0; room]?;

@@ -1,11 +1,12 @@
 ghost use Rattle.std.specs.Prelude.{◌≡◌, None};
 
 use crate::fault::Failed;
+use crate::retrying::write_retrying;
 use crate::sink::Sink;
 use std::io::Write;
 
 /// A stream of the system, as standard output. Each piece is handed to the system in one call, and nothing is kept in a
-/// buffer. It tells no bytes, and counts each error of the system, and a write of 0 bytes as one.
+/// buffer. It tells no bytes, and counts each error of the system, and a write of 0 bytes as one; a write that a signal interrupts is tried again.
 #[derive(Drop)]
 pub struct StreamSink<W: Write + Drop> {
     stream: W,
@@ -14,8 +15,8 @@ pub struct StreamSink<W: Write + Drop> {
 
 impl<W: Write + Drop> StreamSink<W> {
     pub fn new(stream: W) -> StreamSink<W>
-        ensures stream { result.stream ≡ stream }
-        ensures faults { result.faults ≡ 0 }
+        ensures taken { ⟦<StreamSink<W> as Sink>⟧.taken result ≡ None }
+        ensures faults { ⟦<StreamSink<W> as Sink>⟧.faults result ≡ 0 }
     {
         StreamSink { stream, faults: 0 }
     }
@@ -30,7 +31,7 @@ impl<W: Write + Drop> Sink for StreamSink<W> {
         if piece.is_empty() {
             return Ok(0);
         }
-        match self.stream.write(piece) {
+        match write_retrying(&mut self.stream, piece) {
             Ok(count) if count > 0 => Ok(count),
             _ => {
                 self.faults = self.faults.saturating_add(1);

@@ -1,6 +1,6 @@
 use Rattle.std.proofs.Common.{◌≡◌, ℕ, ◌==◌, ◌&&◌, cond, Bool, true, false, not, List, ◌∷◌, length, nat_lt, ◌<◌, Result, Ok, Err, refl, arith, ◌⊎◌, inl, inr}
 use Rattle.std.proofs.lemmas.Bool.Decides.{nat_tests}
-use Rattle.sym_records.specs.Steps.{◌>>=◌}
+use Rattle.sym_edges.specs.Results.{◌>>=◌}
 
 -- both tests are true
 pub and_true : {a b : Bool} → (a && b) ≡ true → (a ≡ true) × (b ≡ true)

@@ -6,7 +6,7 @@ use Rattle.std.specs.Str.{bytes_eq}
 use Rattle.std.proofs.lemmas.List.{at_drop_more}
 use Rattle.std.proofs.lemmas.Grind.{common_steps}
 use Rattle.sym_records.specs.Cuts.{last_is}
-use Rattle.sym_records.specs.Rules.{register_names, register_name}
+use Rattle.sym_edges.specs.Abi.{register_names, register_name}
 use Rattle.sym_records.specs.RuleReading.{begins_symbol, is_symbol}
 
 next_got : {A : Type 0} (x y : A) (ys : List A) → slice_get (x ∷ y ∷ ys) (length (x ∷ y ∷ ys) - 1) ≡ slice_get (y ∷ ys) (length (y ∷ ys) - 1)

@@ -10,7 +10,7 @@ use Rattle.sym_records.proofs.EndLemmas.{ends_in_cr, trim_kept, end_behind}
 use Rattle.sym_records.proofs.TextLemmas.{name_parts, module_reads, info_reads, public_reads, below, line_kept, spaced_ends, before_field, skip_all, skip_one, hex_field, hex_is, wide}
 use Rattle.sym_records.proofs.WordLemmas.{parted}
 use Rattle.sym_records.proofs.RuleListLemmas.{rules_parts, rules_read, cr_none}
-use Rattle.sym_records.specs.Steps.{◌>>=◌}
+use Rattle.sym_edges.specs.Results.{◌>>=◌}
 use Rattle.sym_records.specs.Cuts.{is_space, is_cr, is_margin, before, from, skip, last_is}
 use Rattle.sym_records.specs.Rules.{rule_words}
 use Rattle.sym_records.specs.RuleValidity.{are_rules}

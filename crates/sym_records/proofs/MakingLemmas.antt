@@ -15,7 +15,8 @@ use Rattle.sym_records.proofs.DigitsLemmas.{length_hex}
 use Rattle.sym_records.proofs.TextLemmas.{digits_within}
 use Rattle.sym_records.proofs.CleaningLemmas.{is_shown, named}
 use Rattle.sym_records.specs.Cuts.{last_is}
-use Rattle.sym_records.specs.Rules.{register_name, target_name, token_word, spelled_token, spelled_rule, spelled_rules}
+use Rattle.sym_edges.specs.Abi.{register_name}
+use Rattle.sym_records.specs.Rules.{target_name, token_word, spelled_token, spelled_rule, spelled_rules}
 use Rattle.sym_records.specs.RuleValidity.{is_target, is_token, is_rule, ends_in_cr, end_in_cr, are_rules, is_plain_target, is_plain_token, is_plain_rule}
 use Rattle.sym_records.specs.declared.rules.Target.{Target}
 use Rattle.sym_records.specs.declared.rules.Target.TheVariants as target

@@ -7,7 +7,7 @@ use Rattle.sym_records.proofs.BoolLemmas.{and_true, not_true}
 use Rattle.sym_records.proofs.EndLemmas.{trim_kept}
 use Rattle.sym_records.proofs.TextLemmas.{NameParts, name_parts, spaced_ends}
 use Rattle.sym_records.proofs.ValidityLemmas.{valid_fits}
-use Rattle.sym_records.specs.Steps.{◌>>=◌}
+use Rattle.sym_edges.specs.Results.{◌>>=◌}
 use Rattle.sym_records.specs.Cuts.{is_space, is_cr, is_within_line, before, skip, onto, split_lines}
 use Rattle.sym_records.specs.Canon.{spaced, body, canon, canon_text}
 use Rattle.sym_records.specs.Text.{is_blank, key_of, line_at}

@@ -15,8 +15,10 @@ use Rattle.sym_records.proofs.BoolLemmas.{and_true, both, not_false, not_true}
 use Rattle.sym_records.proofs.EndLemmas.{end_behind, last_one, last_none}
 use Rattle.sym_records.proofs.WordLemmas.{is_word, goes_on}
 use Rattle.sym_records.specs.Cuts.{is_cr, is_margin, is_within_field, last_is}
-use Rattle.sym_records.specs.Rules.{register_names, register_name, target_name, token_word, target_word}
-use Rattle.sym_records.specs.RuleReading.{ends_in_colon, begins_symbol, is_symbol, register_of, named_target, but_last, target_at, is_digit, are_digits, fits_i64, in_i64, integer_of, sign_of, named_token, token_at}
+use Rattle.sym_edges.specs.Abi.{register_names, register_name}
+use Rattle.sym_records.specs.Rules.{target_name, token_word, target_word}
+use Rattle.sym_edges.specs.Integers.{fits_i64}
+use Rattle.sym_records.specs.RuleReading.{ends_in_colon, begins_symbol, is_symbol, register_of, named_target, but_last, target_at, is_digit, are_digits, in_i64, integer_of, sign_of, named_token, token_at}
 use Rattle.sym_records.specs.RuleValidity.{is_other, target_names, token_names, is_target, is_token, ends_in_cr}
 use Rattle.sym_records.specs.declared.rules.Target.{Target}
 use Rattle.sym_records.specs.declared.rules.Target.TheVariants as target

@@ -9,10 +9,11 @@ use Rattle.std.proofs.lemmas.List.Quantifiers.{position-Some}
 use Rattle.sym_records.proofs.BoolLemmas.{and_true, both, not_false, elim_bool, chosen, bind_ok}
 use Rattle.sym_records.proofs.EndLemmas.{last_later}
 use Rattle.sym_records.proofs.WordLemmas.{words_sound, groups_sound, ok_same, each_all, each_last, each_cons}
-use Rattle.sym_records.specs.Steps.{◌>>=◌}
+use Rattle.sym_edges.specs.Results.{◌>>=◌}
 use Rattle.sym_records.specs.Cuts.{is_cr, is_margin, is_within_line, is_within_field, last_is}
-use Rattle.sym_records.specs.Rules.{register_names}
-use Rattle.sym_records.specs.RuleReading.{words, groups, ends_in_colon, is_symbol, register_of, named_target, but_last, target_at, are_digits, fits_i64, in_i64, integer_of, sign_of, named_token, token_at, each, some_of, rule_at, rules_at}
+use Rattle.sym_edges.specs.Abi.{register_names}
+use Rattle.sym_edges.specs.Integers.{fits_i64}
+use Rattle.sym_records.specs.RuleReading.{words, groups, ends_in_colon, is_symbol, register_of, named_target, but_last, target_at, are_digits, in_i64, integer_of, sign_of, named_token, token_at, each, some_of, rule_at, rules_at}
 use Rattle.sym_records.specs.RuleValidity.{is_other, target_names, token_names, is_target, is_token, is_rule, ends_in_cr, end_in_cr, are_rules}
 use Rattle.sym_records.specs.declared.rules.Target.{Target}
 use Rattle.sym_records.specs.declared.rules.Target.TheVariants as target

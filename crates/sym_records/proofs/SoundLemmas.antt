@@ -11,7 +11,7 @@ use Rattle.std.proofs.Math.Nat.{pow-le-pow_right}
 use Rattle.sym_records.proofs.BoolLemmas.{both, not_false, elim_bool, chosen, bind_ok}
 use Rattle.sym_records.proofs.EndLemmas.{ends_in_cr, ends_at, trim_ends, skip_ends, from_ends, all_skip, all_from, all_trim, Begins, begins_skip}
 use Rattle.sym_records.proofs.RuleSoundLemmas.{rules_sound}
-use Rattle.sym_records.specs.Steps.{◌>>=◌}
+use Rattle.sym_edges.specs.Results.{◌>>=◌}
 use Rattle.sym_records.specs.Cuts.{is_space, is_cr, is_margin, is_within_line, before, from, skip, trim_end, last_is}
 use Rattle.sym_records.specs.Text.{word_at, name_at, name_of, field_of, hex_digit, hex_onto, hex_value, hex_at, mark_at, module_at, info_at, public_at, fields_alone, init_at, change_at, next_word, behind_word, cfi_at, stack_at, keyed, key_of, record_at, line_at, trimmed, is_blank}
 use Rattle.sym_records.specs.RuleReading.{rules_at}

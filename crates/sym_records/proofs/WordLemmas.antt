@@ -3,7 +3,7 @@ use Rattle.std.proofs.Common.{◌≡◌, ℕ, ◌==◌, ◌||◌, cond, Bool, tr
 use Rattle.std.specs.List.{list_all, flat_map}
 use Rattle.sym_records.proofs.BoolLemmas.{and_true, both, not_true, not_false, elim_bool, bind_ok}
 use Rattle.sym_records.proofs.EndLemmas.{last_later, last_one, last_nothing}
-use Rattle.sym_records.specs.Steps.{◌>>=◌}
+use Rattle.sym_edges.specs.Results.{◌>>=◌}
 use Rattle.sym_records.specs.Cuts.{is_cr, is_margin, is_within_line, is_within_field, onto, last_is}
 use Rattle.sym_records.specs.RuleReading.{ends_word, words, ends_in_colon, groups, each}
 use Rattle.sym_records.specs.declared.text_fault.TextKind.{TextKind}

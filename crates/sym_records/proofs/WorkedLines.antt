@@ -1,7 +1,7 @@
 -- Worked lines: what the reading of a line says of them.
 use Rattle.std.proofs.Common.{◌≡◌, pos, negsuc, [], ◌∷◌, ◌++◌, codes, Some, Ok, Err, refl}
 use Rattle.sym_records.specs.Cuts.{before, from, skip, trim_end, last_is}
-use Rattle.sym_records.specs.Rules.{register_names}
+use Rattle.sym_edges.specs.Abi.{register_names}
 use Rattle.sym_records.specs.RuleReading.{words, groups, is_symbol, register_of, named_target, target_at, are_digits, integer_of, sign_of, named_token, token_at, each, rule_at, rules_at}
 use Rattle.sym_records.specs.Text.{word_at, hex_digit, hex_onto, hex_value, hex_at, init_at, change_at, cfi_at, stack_at, keyed, key_of, record_at, line_at}
 use Rattle.sym_records.specs.declared.rules.Target.TheVariants as target

@@ -1,5 +1,4 @@
 pub mod KeptTokens
-pub mod Steps
 pub mod Cuts
 pub mod Rules
 pub mod RuleReading

@@ -1,7 +1,7 @@
 -- The reading of a whole text (Breakpad's symbol_files.md): its records in order, or its first fault with the number of the line.
 use Rattle.std.specs.Prelude.{ℕ, ◌+◌, ◌-◌, ◌^◌, ◌&&◌, Bool, true, false, not, min, nat_lt, if◌then◌else◌, List, [], ◌∷◌, ◌++◌, length, codes, Option, Some, None, Result, Ok, Err}
 use Rattle.std.specs.Str.{bytes_eq}
-use Rattle.sym_records.specs.Steps.{◌>>=◌}
+use Rattle.sym_edges.specs.Results.{◌>>=◌}
 use Rattle.sym_records.specs.Cuts.{split_lines}
 use Rattle.sym_records.specs.Text.{is_blank, key_of, line_at}
 use Rattle.sym_records.specs.declared.line.SymLine.{SymLine}

@@ -6,9 +6,10 @@ use Rattle.std.specs.List.{list_all, position}
 use Rattle.std.specs.Char.{digit_value}
 use Rattle.std.specs.Str.{bytes_eq}
 use Rattle.std.specs.Str.Parse.{digits_value}
-use Rattle.sym_records.specs.Steps.{◌>>=◌}
+use Rattle.sym_edges.specs.Results.{◌>>=◌}
 use Rattle.sym_records.specs.Cuts.{onto, last_is}
-use Rattle.sym_records.specs.Rules.{register_names}
+use Rattle.sym_edges.specs.Abi.{register_names}
+use Rattle.sym_edges.specs.Integers.{fits_i64}
 use Rattle.sym_records.specs.declared.rules.Target.{Target}
 use Rattle.sym_records.specs.declared.rules.Target.TheVariants as target
 use Rattle.sym_records.specs.declared.rules.Token.{Token}
@@ -78,11 +79,6 @@ is_digit b = nat_lt (digit_value b) 10
 -- one to 20 decimal digits
 unfoldable pub are_digits : List ℕ → Bool
 are_digits bytes = nat_lt 0 (length bytes) && nat_le (length bytes) 20 && list_all is_digit bytes
-
--- an integer from -2^63 to 2^63 - 1
-abbrev pub fits_i64 : ℤ → Bool
-fits_i64 (pos n) = nat_lt n (2 ^ 63)
-fits_i64 (negsuc n) = nat_lt n (2 ^ 63)
 
 -- an integer, where it is one of these
 abbrev pub in_i64 : ℤ → Option ℤ

@@ -3,8 +3,9 @@ use Rattle.std.specs.Prelude.{ℕ, ◌==◌, ◌&&◌, Bool, true, false, not, n
 use Rattle.std.specs.List.{list_all, list_any}
 use Rattle.std.specs.Str.{bytes_eq}
 use Rattle.sym_records.specs.Cuts.{is_within_field, last_is}
-use Rattle.sym_records.specs.Rules.{register_names}
-use Rattle.sym_records.specs.RuleReading.{is_symbol, fits_i64}
+use Rattle.sym_edges.specs.Abi.{register_names}
+use Rattle.sym_edges.specs.Integers.{fits_i64}
+use Rattle.sym_records.specs.RuleReading.{is_symbol}
 use Rattle.sym_records.specs.declared.rules.Target.{Target}
 use Rattle.sym_records.specs.declared.rules.Target.TheVariants as target
 use Rattle.sym_records.specs.declared.rules.Token.{Token}

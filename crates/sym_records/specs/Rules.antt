@@ -2,21 +2,12 @@
 use Rattle.std.specs.Prelude.{ℕ, List, [], ◌∷◌, ◌++◌, map, slice_index_or, codes}
 use Rattle.std.specs.List.{flat_map}
 use Rattle.std.specs.Fmt.{signed_decimal}
+use Rattle.sym_edges.specs.Abi.{register_name}
 use Rattle.sym_records.specs.declared.rules.Target.{Target}
 use Rattle.sym_records.specs.declared.rules.Target.TheVariants as target
 use Rattle.sym_records.specs.declared.rules.Token.{Token}
 use Rattle.sym_records.specs.declared.rules.Token.TheVariants as token
 use Rattle.sym_records.specs.declared.rules.RuleText.{RuleText}
-
--- the registers by their DWARF numbers, 0 to 15
-unfoldable pub register_names : List (List ℕ)
-register_names =
-    codes "$rax" ∷ codes "$rdx" ∷ codes "$rcx" ∷ codes "$rbx" ∷ codes "$rsi" ∷ codes "$rdi" ∷ codes "$rbp" ∷ codes "$rsp"
-    ∷ codes "$r8" ∷ codes "$r9" ∷ codes "$r10" ∷ codes "$r11" ∷ codes "$r12" ∷ codes "$r13" ∷ codes "$r14" ∷ codes "$r15" ∷ []
-
--- the name of a register; from 16 on there is none
-unfoldable pub register_name : ℕ → List ℕ
-register_name number = slice_index_or register_names number []
 
 -- the name of a target
 abbrev pub target_name : Target → List ℕ

@@ -5,7 +5,7 @@ use Rattle.std.specs.Prelude.{ℕ, ◌+◌, ◌*◌, Bool, true, false, nat_lt, 
 use Rattle.std.specs.List.{list_all}
 use Rattle.std.specs.Char.{digit_value}
 use Rattle.std.specs.Str.{bytes_eq}
-use Rattle.sym_records.specs.Steps.{◌>>=◌}
+use Rattle.sym_edges.specs.Results.{◌>>=◌}
 use Rattle.sym_records.specs.Cuts.{is_space, is_cr, is_margin, before, from, skip, trim_end}
 use Rattle.sym_records.specs.RuleReading.{rules_at}
 use Rattle.sym_records.specs.declared.line.SymLine.{SymLine}

@@ -2,7 +2,7 @@ ghost use Rattle.std.specs.Prelude.{◌≡◌, ◌==◌};
 ghost use Rattle.std.specs.List.{list_all, list_any};
 ghost use Rattle.std.specs.Str.{bytes_eq};
 ghost use Rattle.sym_records.specs.Cuts.{last_is};
-ghost use Rattle.sym_records.specs.Rules.{register_names};
+ghost use Rattle.sym_edges.specs.Abi.{register_names};
 ghost use Rattle.sym_records.specs.RuleReading.{begins_symbol, is_symbol};
 ghost use Rattle.sym_records.specs.RuleValidity.{is_other, target_names, token_names, is_target, is_token, is_rule, ends_in_cr, end_in_cr, are_rules};
 

@@ -1,12 +1,13 @@
 ghost use Rattle.std.specs.Prelude.{◌≡◌, ◌^◌, ◌-◌, min, length};
 ghost use Rattle.std.specs.List.{flat_map};
-ghost use Rattle.sym_records.specs.Rules.{register_name, target_name, token_word, spelled_token, spelled_rule, spelled_rules};
+ghost use Rattle.sym_edges.specs.Abi.{register_name};
+ghost use Rattle.sym_records.specs.Rules.{target_name, token_word, spelled_token, spelled_rule, spelled_rules};
 
 use crate::rules::{RuleText, Target, Token};
 use itoa::Buffer;
 
 /// The name of a register by its DWARF number; from 16 on there is none.
-#[tactic(auto, unfolding(crate::specs::Rules::register_name, crate::specs::Rules::register_names))]
+#[tactic(auto, unfolding(sym_edges::specs::Abi::register_name, sym_edges::specs::Abi::register_names))]
 pub(crate) fn register_name(number: u8) -> &'static [u8]
     ensures { result.now ≡ register_name number }
 {

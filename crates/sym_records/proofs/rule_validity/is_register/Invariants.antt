@@ -1,7 +1,7 @@
 use Rattle.std.proofs.Common.{◌≡◌, drop}
 use Rattle.std.specs.List.{list_any}
 use Rattle.std.specs.Str.{bytes_eq}
-use Rattle.sym_records.specs.Rules.{register_names}
+use Rattle.sym_edges.specs.Abi.{register_names}
 use Rattle.sym_records.proofs.rule_validity.is_register.Given as goal
 
 abbrev pub invariant-loop-number : goal.invariant-loop-number

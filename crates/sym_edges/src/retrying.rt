@@ -1,0 +1,48 @@
+//! Calls of the system that a signal may interrupt (POSIX, EINTR): they are tried again.
+ghost use Rattle.std.specs.Prelude.{◌≡◌, ◌≤◌, ◌<◌, length, take, IfOk, OnErr};
+ghost use Rattle.std.specs.Io.KnownBytes.{Appends, Consumes, IsAtEnd, Keeps};
+
+use crate::fault::Failed;
+use std::io::{ErrorKind, Read, Write};
+
+/// How often a call is made that is interrupted each time, before that is a fault like any other.
+const TRIES: u32 = 100;
+
+/// One read, tried again where a signal interrupts it.
+pub fn read_retrying<R: Read>(reader: &mut R, buf: &mut [u8]) -> Result<usize, Failed>
+    ensures within { IfOk result (λ n. n ≤ length buf.old) }
+    ensures taken { IfOk result (λ n. Consumes (R.remaining reader.old) (R.remaining reader.new) (take n buf.new)) }
+    ensures end { IfOk result (λ n. n ≡ 0 → 0 < length buf.old → IsAtEnd (R.remaining reader.new)) }
+    ensures kept { OnErr result (Keeps (R.remaining reader.old) (R.remaining reader.new)) }
+{
+    'tries: for _ in 0..TRIES {
+        match reader.read(buf) {
+            Ok(count) => return Ok(count),
+            Err(error) => {
+                if error.kind() != ErrorKind::Interrupted {
+                    return Err(Failed);
+                }
+            }
+        }
+    }
+    Err(Failed)
+}
+
+/// One write, tried again where a signal interrupts it.
+pub fn write_retrying<W: Write>(writer: &mut W, piece: &[u8]) -> Result<usize, Failed>
+    ensures within { IfOk result (λ n. n ≤ length piece.now) }
+    ensures taken { IfOk result (λ n. Appends (W.contents writer.old) (W.contents writer.new) (take n piece.now)) }
+    ensures kept { OnErr result (Keeps (W.contents writer.old) (W.contents writer.new)) }
+{
+    'tries: for _ in 0..TRIES {
+        match writer.write(piece) {
+            Ok(count) => return Ok(count),
+            Err(error) => {
+                if error.kind() != ErrorKind::Interrupted {
+                    return Err(Failed);
+                }
+            }
+        }
+    }
+    Err(Failed)
+}
