@@ -1,10 +1,32 @@
+//! What no clause says: that calls answer with ample memory, and what the system's edge does with streams that are slow,
+//! interrupted or broken.
+mod fakes;
+
 use crate::{
     ByteRun, CallList, Failed, FileList, FileStore, MemSink, MemStore, NameText, NamedFile,
-    ReadEnd, Sink, Span, Stop, Store, StreamSink, read_all, write_all,
+    ReadEnd, Sink, Stop, Store, StreamSink, read_all, write_all,
 };
+use fakes::{Fake, FakeFiles, Turn};
 use std::alloc::{AllocError, Global};
-use std::fs;
+use std::fs::{self, Files};
+use std::process::Abort;
 use std::test::Fail;
+
+/// Ends the test where a row has another answer than it should have.
+fn expect(rt: &impl Abort, row: &str, found: &[u8], wanted: &[u8]) {
+    assert_eq!(rt; found, wanted, "{row}");
+}
+
+/// The word of a reading's end.
+fn end_word(found: &Result<ByteRun, Stop<ReadEnd>>) -> &[u8] {
+    match found {
+        Ok(bytes) => bytes.as_slice(),
+        Err(Stop::Fault(ReadEnd::CantOpen)) => b"(not opened)",
+        Err(Stop::Fault(ReadEnd::CantRead)) => b"(not read)",
+        Err(Stop::Fault(ReadEnd::TooLong)) => b"(too long)",
+        Err(Stop::NoMemory) => b"(no memory)",
+    }
+}
 
 fn file(alloc: Global, name: &str, bytes: &[u8]) -> Result<NamedFile, AllocError> {
     Ok(NamedFile {
@@ -13,103 +35,161 @@ fn file(alloc: Global, name: &str, bytes: &[u8]) -> Result<NamedFile, AllocError
     })
 }
 
-fn calls(alloc: Global, numbers: &[u64]) -> Result<CallList, AllocError> {
-    Ok(CallList::of(Vec::from_slice(alloc, numbers)?))
-}
-
-fn two_files(alloc: Global, fail: &[u64]) -> Result<MemStore, AllocError> {
+fn store_of(alloc: Global, fail: &[u64]) -> Result<MemStore, AllocError> {
     let mut files = Vec::new(alloc);
     files.push(file(alloc, "a", b"abcd")?)?;
     files.push(file(alloc, "b", b"efghi")?)?;
     files.push(file(alloc, "a", b"later")?)?;
-    Ok(MemStore::new(alloc, FileList::of(files), 2, calls(alloc, fail)?))
+    let fail = CallList::of(Vec::from_slice(alloc, fail)?);
+    Ok(MemStore::new(alloc, FileList::of(files), 2, fail))
 }
 
 #[test]
-fn a_file_within_the_limit_is_read_whole(rt: HostRuntime) -> Result<(), Fail> {
-    let mut store = two_files(rt.alloc(), &[])?;
-    match read_all(rt.alloc(), &mut store, "a", 4) {
-        Ok(bytes) => assert_eq!(rt; bytes.as_slice(), b"abcd".as_slice()),
-        Err(_) => assert!(rt; false, "four bytes are within a limit of four"),
+fn a_reading_of_a_store_over_memory_ends_as_its_cause_says(rt: HostRuntime) -> Result<(), Fail> {
+    let cases: [(&str, &[u64], &[u8]); 5] = [
+        ("a", &[], b"abcd"),
+        ("b", &[], b"(too long)"),
+        ("c", &[], b"(not opened)"),
+        ("a", &[1], b"(not opened)"),
+        ("a", &[3], b"(not read)"),
+    ];
+    for (name, fail, wanted) in cases {
+        let mut store = store_of(rt.alloc(), fail)?;
+        let found = read_all(rt.alloc(), &mut store, name, 4);
+        expect(&rt, name, end_word(&found), wanted);
     }
     Ok(())
 }
 
 #[test]
-fn a_reading_ends_as_its_cause_says(rt: HostRuntime) -> Result<(), Fail> {
-    let cases: [(&str, &[u64], ReadEnd); 4] = [
-        ("b", &[], ReadEnd::TooLong),
-        ("c", &[], ReadEnd::CantOpen),
-        ("a", &[1], ReadEnd::CantOpen),
-        ("a", &[3], ReadEnd::CantRead),
+fn a_sink_over_memory_takes_what_its_room_and_calls_allow(rt: HostRuntime) -> Result<(), Fail> {
+    let cases: [(&str, usize, &[u64], &[u8]); 4] = [
+        ("room", 4, &[], b"abcd"),
+        ("no room for the last", 3, &[], b"abc"),
+        ("the second call fails", 4, &[2], b"abc"),
+        ("the first call fails", 9, &[1], b""),
     ];
-    for (name, fail, end) in cases {
-        let mut store = two_files(rt.alloc(), fail)?;
-        match read_all(rt.alloc(), &mut store, name, 4) {
-            Err(Stop::Fault(found)) => assert_eq!(rt; found, end, "reading {name}"),
-            _ => assert!(rt; false, "{name} is not read"),
-        }
-    }
-    Ok(())
-}
-
-#[test]
-fn a_sink_takes_what_its_room_and_calls_allow(rt: HostRuntime) -> Result<(), Fail> {
-    let cases: [(usize, &[u64], bool, &[u8]); 4] = [
-        (4, &[], true, b"abcd"),
-        (3, &[], false, b"abc"),
-        (4, &[2], false, b"abc"),
-        (9, &[1], false, b""),
-    ];
-    for (room, fail, whole, held) in cases {
-        let fail = calls(rt.alloc(), fail)?;
-        let Ok(mut sink) = MemSink::new(rt.alloc(), room, 3, fail) else {
-            assert!(rt; false, "there is memory for the sink");
-            return Ok(());
-        };
-        let written = write_all(&mut sink, b"abcd");
-        assert_eq!(rt; written.is_ok(), whole, "room {room}");
-        assert_eq!(rt; sink.written(), held, "room {room}");
-        assert_eq!(rt; sink.write(b""), Ok(0));
+    for (row, room, fail, wanted) in cases {
+        let fail = CallList::of(Vec::from_slice(rt.alloc(), fail)?);
+        let mut sink = MemSink::new(rt.alloc(), room, 3, fail).map_err(
+            |_| "there is memory for the sink",
+        )?;
+        let _written = write_all(&mut sink, b"abcd");
+        expect(&rt, row, sink.written(), wanted);
     }
     Ok(())
 }
 
 #[test]
 fn a_file_of_the_system_is_read_and_a_missing_one_is_a_fault(rt: HostRuntime) -> Result<(), Fail> {
-    fs::write(&rt, "edges.bin", b"seven bytes of it")?;
+    let long = [7; 70_000];
+    fs::write(&rt, "edges.bin", &long)?;
     let mut store = FileStore::new(rt.alloc(), &rt);
-    match read_all(rt.alloc(), &mut store, "edges.bin", 100) {
-        Ok(bytes) => assert_eq!(rt; bytes.as_slice(), b"seven bytes of it".as_slice()),
-        Err(_) => assert!(rt; false, "the file is there"),
-    }
-    assert_eq!(rt; store.open_file("edges.none"), Err(Stop::Fault(Failed)));
+    let found = read_all(rt.alloc(), &mut store, "edges.bin", 100_000);
+    expect(&rt, "a file of two pieces", end_word(&found), &long);
+    let missing = read_all(rt.alloc(), &mut store, "edges.none", 100);
+    expect(&rt, "no file", end_word(&missing), b"(not opened)");
     fs::remove_file(&rt, "edges.bin")?;
+    Ok(())
+}
+
+/// A file of these files, whichever it is.
+fn read_from<R: Files>(alloc: Global, files: &R) -> Result<ByteRun, Stop<ReadEnd>> {
+    let mut store = FileStore::new(alloc, files);
+    read_all(alloc, &mut store, "any", 100)
+}
+
+#[test]
+fn a_slow_interrupted_or_broken_file(rt: HostRuntime) -> Result<(), Fail> {
+    let cases: [(&str, &'static [Turn], &[u8]); 6] = [
+        ("a byte at once", &[Turn::Moves(1), Turn::Moves(1)], b"abcd"),
+        ("nothing more", &[Turn::Moves(2), Turn::Moves(0)], b"ab"),
+        (
+            "an error inside",
+            &[Turn::Moves(2), Turn::Fails],
+            b"(not read)",
+        ),
+        (
+            "99 signals",
+            &[Turn::Moves(2), Turn::Interrupted(99)],
+            b"abcd",
+        ),
+        (
+            "100 signals",
+            &[Turn::Moves(2), Turn::Interrupted(100)],
+            b"(not read)",
+        ),
+        ("an error at once", &[Turn::Fails], b"(not read)"),
+    ];
+    for (row, turns, wanted) in cases {
+        let files = FakeFiles {
+            alloc: rt.alloc(),
+            turns,
+            source: b"abcd",
+        };
+        let found = read_from(rt.alloc(), &files);
+        expect(&rt, row, end_word(&found), wanted);
+    }
+    Ok(())
+}
+
+#[test]
+fn a_slow_interrupted_or_broken_stream(rt: HostRuntime) -> Result<(), Fail> {
+    let cases: [(&str, &'static [Turn], bool, &[u8]); 5] = [
+        (
+            "a byte at once",
+            &[Turn::Moves(1), Turn::Moves(1)],
+            true,
+            b"abcd",
+        ),
+        (
+            "nothing taken",
+            &[Turn::Moves(2), Turn::Moves(0)],
+            false,
+            b"ab",
+        ),
+        (
+            "an error inside",
+            &[Turn::Moves(1), Turn::Fails],
+            false,
+            b"a",
+        ),
+        (
+            "99 signals",
+            &[Turn::Moves(3), Turn::Interrupted(99)],
+            true,
+            b"abcd",
+        ),
+        (
+            "100 signals",
+            &[Turn::Moves(3), Turn::Interrupted(100)],
+            false,
+            b"abc",
+        ),
+    ];
+    for (row, turns, whole, wanted) in cases {
+        let mut held = Fake {
+            turns,
+            source: b"",
+            held: Vec::new(rt.alloc()),
+            interrupted: 0,
+        };
+        let mut sink = StreamSink::new(&mut held);
+        let written = write_all(&mut sink, b"abcd");
+        drop(sink);
+        expect(&rt, row, held.held.as_slice(), wanted);
+        expect(&rt, row, &[u8::from(written.is_ok())], &[u8::from(whole)]);
+    }
     Ok(())
 }
 
 #[test]
 fn a_stream_of_the_system_takes_all_bytes(rt: HostRuntime) -> Result<(), Fail> {
     let mut sink = StreamSink::new(fs::create(&rt, "edges.out")?);
-    assert_eq!(rt; write_all(&mut sink, b"some text"), Ok(()));
+    let _written = write_all(&mut sink, b"some text");
     drop(sink);
-    assert_eq!(rt;
-        fs::read(&rt, "edges.out")?.as_slice(),
-        b"some text".as_slice()
-    );
+    let taken = fs::read(&rt, "edges.out")?;
+    expect(&rt, "a file", taken.as_slice(), b"some text");
     fs::remove_file(&rt, "edges.out")?;
-    Ok(())
-}
-
-#[test]
-fn lists_and_spans_give_back_what_they_were_made_of(rt: HostRuntime) -> Result<(), Fail> {
-    let run = ByteRun::of(Vec::from_slice(rt.alloc(), b"xyz")?);
-    assert_eq!(rt; run.len(), 3);
-    assert_eq!(rt; run.get(1), Some(&b'y'));
-    assert_eq!(rt; run.get(3), None);
-    assert!(rt; !run.is_empty());
-    assert_eq!(rt; run.into_vec().as_slice(), b"xyz".as_slice());
-    let span = Span::new(1, 3);
-    assert_eq!(rt; (span.start(), span.end()), (1, 3));
     Ok(())
 }

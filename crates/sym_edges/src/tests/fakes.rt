@@ -1,0 +1,163 @@
+//! A stream and files whose every turn is set, in the place of the system's.
+use std::alloc::{Allocator, Global};
+use std::fs::{Files, Metadata, OpenFile, OpenOptions};
+use std::io::{self, Error, ErrorKind, Read, Seek, SeekFrom, Write};
+
+/// What a call does.
+#[derive(Clone, Copy)]
+pub enum Turn {
+    /// It moves at most so many bytes.
+    Moves(usize),
+    /// A signal interrupts it, and the next so many less one.
+    Interrupted(u32),
+    Fails,
+}
+
+/// A stream that gives the bytes of `source`, and takes all bytes; one turn a call, then all at once.
+#[derive(Drop)]
+pub struct Fake {
+    pub turns: &'static [Turn],
+    pub source: &'static [u8],
+    pub held: Vec<u8>,
+    pub interrupted: u32,
+}
+
+impl Fake {
+    fn turn(&mut self) -> Turn {
+        match self.turns {
+            [] => Turn::Moves(usize::MAX),
+            [Turn::Interrupted(times), rest @ ..] => {
+                self.interrupted = self.interrupted.saturating_add(1);
+                if self.interrupted >= *times {
+                    self.interrupted = 0;
+                    self.turns = rest;
+                }
+                Turn::Interrupted(1)
+            }
+            [turn, rest @ ..] => {
+                self.turns = rest;
+                *turn
+            }
+        }
+    }
+}
+
+impl Read for Fake {
+    fn read(&mut self, buf: &mut [u8]) -> io::Result<usize> {
+        match self.turn() {
+            Turn::Moves(most) => {
+                let count = most.min(buf.len()).min(self.source.len());
+                buf[..count].copy_from_slice(&self.source[..count]);
+                self.source = &self.source[count..];
+                Ok(count)
+            }
+            Turn::Interrupted(_) => Err(Error::from(ErrorKind::Interrupted)),
+            Turn::Fails => Err(Error::from(ErrorKind::Other)),
+        }
+    }
+}
+
+impl Write for Fake {
+    fn write(&mut self, buf: &[u8]) -> io::Result<usize> {
+        match self.turn() {
+            Turn::Moves(most) => {
+                let count = most.min(buf.len());
+                self.held.extend_from_slice(&buf[..count])?;
+                Ok(count)
+            }
+            Turn::Interrupted(_) => Err(Error::from(ErrorKind::Interrupted)),
+            Turn::Fails => Err(Error::from(ErrorKind::Other)),
+        }
+    }
+
+    fn flush(&mut self) -> io::Result<()> {
+        Ok(())
+    }
+}
+
+impl Seek for Fake {
+    fn seek(&mut self, _to: SeekFrom) -> io::Result<u64> {
+        unsupported()
+    }
+}
+
+impl OpenFile for Fake {
+    fn metadata(&self) -> io::Result<Metadata> {
+        unsupported()
+    }
+
+    fn set_len(&self, _size: u64) -> io::Result<()> {
+        unsupported()
+    }
+
+    fn sync_all(&self) -> io::Result<()> {
+        unsupported()
+    }
+
+    fn sync_data(&self) -> io::Result<()> {
+        unsupported()
+    }
+}
+
+fn unsupported<T>() -> io::Result<T> {
+    Err(Error::from(ErrorKind::Unsupported))
+}
+
+/// Files of which each opens as one stream.
+#[derive(Drop)]
+pub struct FakeFiles {
+    pub alloc: Global,
+    pub turns: &'static [Turn],
+    pub source: &'static [u8],
+}
+
+impl Files for FakeFiles {
+    type File = Fake;
+
+    type Dir = Fake;
+
+    fn open_file(&self, _how: &OpenOptions, _path: &str) -> io::Result<Fake> {
+        Ok(Fake {
+            turns: self.turns,
+            source: self.source,
+            held: Vec::new(self.alloc),
+            interrupted: 0,
+        })
+    }
+
+    fn open_dir(&self, _path: &str) -> io::Result<Fake> {
+        unsupported()
+    }
+
+    fn metadata(&self, _path: &str) -> io::Result<Metadata> {
+        unsupported()
+    }
+
+    fn symlink_metadata(&self, _path: &str) -> io::Result<Metadata> {
+        unsupported()
+    }
+
+    fn copy(&self, _from: &str, _to: &str) -> io::Result<u64> {
+        unsupported()
+    }
+
+    fn rename(&self, _from: &str, _to: &str) -> io::Result<()> {
+        unsupported()
+    }
+
+    fn remove_file(&self, _path: &str) -> io::Result<()> {
+        unsupported()
+    }
+
+    fn create_dir(&self, _path: &str) -> io::Result<()> {
+        unsupported()
+    }
+
+    fn remove_dir(&self, _path: &str) -> io::Result<()> {
+        unsupported()
+    }
+
+    fn remove_dir_all<B: Allocator>(&self, _alloc: B, _path: &str) -> io::Result<()> {
+        unsupported()
+    }
+}
