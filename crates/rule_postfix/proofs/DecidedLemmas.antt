@@ -25,7 +25,7 @@ use Rattle.sym_records.specs.Validity.{first_bad_from}
 use Rattle.rule_postfix.specs.declared.all.Progress.{Progress}
 use Rattle.rule_postfix.specs.declared.omission.Omission.{Omission}
 use Rattle.rule_postfix.specs.Overlaps.{meet, any_meets}
-use Rattle.rule_postfix.specs.Written.{Decided, range_of, has_range, is_code, reason_among, reason_behind, rows_reason, left_out, with_written, with_good, with_body, with_entry, with_entries, decided, none_decided, written, omitted, entry_lines, written_lines}
+use Rattle.rule_postfix.specs.Written.{Decided, range_of, has_range, is_code, reason_among, reason_behind, rows_reason, body_reason, reason_of, left_out, with_written, with_fields, with_decision, with_entry, with_entries, decided_behind, decided_of, decided, written, omitted, entry_lines, written_lines}
 use Rattle.rule_postfix.specs.Deciding.{LiesAbove, IfRefused, Shows}
 
 -- one entry more
@@ -53,6 +53,9 @@ shows_more base p q e d lines these fit more same taken joined so = record {
 }
 
 -- nothing yet
+abbrev pub none_decided : Decided
+none_decided = record { written = []; omitted = [] }
+
 pub shows_none : (base : ℕ) (p : Progress) → p.lines.items ≡ [] → p.omitted.items ≡ [] → p.taken ≡ [] → Shows base p none_decided
 unfolding written_lines first_bad_from
 shows_none base p lines omitted taken = record { lines = lines; omitted = omitted; valid = ap (first_bad_from 0 Inside) lines; taken = λ range. ap (any_meets range) taken }
@@ -110,12 +113,21 @@ unfolding reason_behind reason_among
 same_reason base code p e d so = ap (λ t. option_or (rows_reason e) (option_or (unless (is_code code e) reason.Outside) (unless (not t) reason.Overlap))) (sym (so.taken (range_of e)))
 
 pub entry_bad : (code : List Range) (entry : Entry) (why : Reason) (d : Decided) → entry.body ≡ Bad why → with_entry code entry d ≡ left_out entry why d
-unfolding with_entry
-entry_bad code entry why d body = ap (λ b. with_body code entry b d) body
+unfolding with_entry reason_of
+entry_bad code entry why d body = ap (λ b. with_decision entry (body_reason code d.written b) d) body
+
+abbrev pub with_good : Entry → FdeFields → Option Reason → Decided → Decided
+with_good entry e None d = with_written e d
+with_good entry e (Some why) d = left_out entry why d
+
+decision_good : (entry : Entry) (e : FdeFields) (o : Option Reason) (d : Decided) → entry.body ≡ Good e → with_decision entry o d ≡ with_good entry e o d
+decision_good entry e None d body = ap (λ b. with_fields b d) body
+decision_good entry e (Some why) d body = refl
 
 good_by : (base : ℕ) (code : List Range) (p : Progress) (entry : Entry) (e : FdeFields) (o : Option Reason) (d : Decided) → entry.body ≡ Good e → reason_among code p.taken e ≡ o → Shows base p d → with_entry code entry d ≡ with_good entry e o d
-unfolding with_entry
-good_by base code p entry e o d body is so = ap (λ b. with_body code entry b d) body ∙ ap (λ r. with_good entry e r d) (same_reason base code p e d so ∙ is)
+unfolding with_entry reason_of
+good_by base code p entry e o d body is so =
+    ap (λ b. with_decision entry (body_reason code d.written b) d) body ∙ ap (λ r. with_decision entry r d) (same_reason base code p e d so ∙ is) ∙ decision_good entry e o d body
 
 pub written_too : (base : ℕ) (code : List Range) (p q : Progress) (entry : Entry) (e : FdeFields) (lines : List SymLine) → entry.body ≡ Good e → reason_among code p.taken e ≡ None → lines ≡ entry_lines base e →
     ((base : ℕ) (d : Decided) → lines ≡ entry_lines base e → Shows base p d → Shows base q (with_written e d)) → (d : Decided) → Shows base p d → Shows base q (with_entry code entry d)
@@ -141,7 +153,7 @@ bad_too base code p q entry why body more d so =
     subst P (sym (entry_bad code entry why d body)) (more base d so)
 
 -- entries in order
-entries_append : (code : List Range) (xs ys : List Entry) (d : Decided) → with_entries code (xs ++ ys) d ≡ with_entries code ys (with_entries code xs d)
+pub entries_append : (code : List Range) (xs ys : List Entry) (d : Decided) → with_entries code (xs ++ ys) d ≡ with_entries code ys (with_entries code xs d)
 unfolding with_entries
 entries_append code [] ys d = refl
 entries_append code (x ∷ xs) ys d = entries_append code xs ys (with_entry code x d)
@@ -171,22 +183,23 @@ same_behind : (kept code : List Range) (ws : List FdeFields) (e : FdeFields) →
 unfolding reason_behind reason_among is_code
 same_behind kept code ws e same = ap (λ t. option_or (rows_reason e) (option_or (unless (has_range e && t) reason.Outside) (unless (not (any_meets (range_of e) (map range_of ws))) reason.Overlap))) (same.at e.start (e.start + e.size))
 
-same_body : (kept code : List Range) (entry : Entry) (b : Body) (d : Decided) → SameCode kept code → with_body kept entry b d ≡ with_body code entry b d
-same_body kept code entry (Good e) d same = ap (λ o. with_good entry e o d) (same_behind kept code d.written e same)
-same_body kept code entry (Bad why) d same = refl
+same_body : (kept code : List Range) (ws : List FdeFields) (b : Body) → SameCode kept code → body_reason kept ws b ≡ body_reason code ws b
+same_body kept code ws (Good e) same = same_behind kept code ws e same
+same_body kept code ws (Bad why) same = refl
 
 same_entries : (kept code : List Range) (entries : List Entry) (d : Decided) → SameCode kept code → with_entries kept entries d ≡ with_entries code entries d
-unfolding with_entries with_entry
+unfolding with_entries with_entry reason_of
 same_entries kept code [] d same = refl
-same_entries kept code (x ∷ entries) d same = ap (with_entries kept entries) (same_body kept code x x.body d same) ∙ same_entries kept code entries (with_entry code x d) same
+same_entries kept code (x ∷ entries) d same =
+    ap (λ o. with_entries kept entries (with_decision x o d)) (same_body kept code d.written x.body same) ∙ same_entries kept code entries (with_entry code x d) same
 
 pub shown_all : (base : ℕ) (kept code : List Range) (first second one two : List Entry) (p q r : Progress) → ((start end : ℕ) → encloses kept start end ≡ encloses code start end) → p.lines.items ≡ [] → p.omitted.items ≡ [] → p.taken ≡ [] → one ≡ first → two ≡ second →
     ((d : Decided) → Shows base p d → Shows base q (with_entries kept one d)) → ((d : Decided) → Shows base q d → Shows base r (with_entries kept two d)) → Shows base r (decided code first second)
-unfolding decided
+unfolding decided decided_of decided_behind
 shown_all base kept code first second one two p q r at lines omitted taken one_is two_is on_one on_two =
     let same : SameCode kept code = record { at = at } in
     let P : Decided → Type 0 = λ x. Shows base r x in
-    subst P (ap (λ xs. with_entries kept xs (with_entries kept one none_decided)) two_is ∙ ap (λ xs. with_entries kept second (with_entries kept xs none_decided)) one_is ∙ same_entries kept code second (with_entries kept first none_decided) same ∙ ap (with_entries code second) (same_entries kept code first none_decided same))
+    subst P (ap (λ xs. with_entries kept xs (with_entries kept one none_decided)) two_is ∙ ap (λ xs. with_entries kept second (with_entries kept xs none_decided)) one_is ∙ same_entries kept code second (with_entries kept first none_decided) same ∙ ap (with_entries code second) (same_entries kept code first none_decided same) ∙ sym (entries_append code first second none_decided))
     (on_two (with_entries kept one none_decided) (on_one none_decided (shows_none base p lines omitted taken)))
 
 pub shown_lines : (base : ℕ) (code : List Range) (first second : List Entry) (r : Progress) (lines : List SymLine) → Shows base r (decided code first second) → lines ≡ r.lines.items → lines ≡ written_lines base (written code first second)

@@ -1,5 +1,5 @@
 -- The entries that are written lie above the base, and no two have an address in common.
-use Rattle.std.proofs.Common.{◌≡◌, ℕ, ◌+◌, List, [], ◌∷◌, map, Option, None, Some, refl, ap, sym, ◌∙◌, subst}
+use Rattle.std.proofs.Common.{◌≡◌, ℕ, ◌+◌, List, [], ◌∷◌, ◌++◌, map, Option, None, Some, refl, ap, sym, ◌∙◌, subst}
 use Rattle.sym_edges.specs.declared.reason.Reason.{Reason}
 use Rattle.sym_edges.specs.Addresses.{Range}
 use Rattle.range_set.specs.Building.{AllFrom}
@@ -8,9 +8,9 @@ use Rattle.frame_entries.specs.declared.description.Body.TheVariants.{Good, Bad}
 use Rattle.frame_entries.specs.declared.description.Entry.{Entry}
 use Rattle.frame_entries.specs.FdeFields.{FdeFields}
 use Rattle.sym_records.specs.declared.line.SymLine.{SymLine}
-use Rattle.rule_postfix.specs.Written.{Decided, range_of, reason_behind, with_good, with_body, with_entry, with_entries, decided, none_decided, written, written_lines}
+use Rattle.rule_postfix.specs.Written.{Decided, range_of, reason_behind, body_reason, reason_of, with_fields, with_decision, with_entry, with_entries, decided_behind, decided_of, decided, written, written_lines}
 use Rattle.rule_postfix.specs.Covering.{inits_at, entries_at, AreDisjoint, AreNested}
-use Rattle.rule_postfix.proofs.DecidedLemmas.{IsFree, is_free, enclosed_above}
+use Rattle.rule_postfix.proofs.DecidedLemmas.{IsFree, is_free, enclosed_above, none_decided}
 use Rattle.rule_postfix.proofs.CoveringLemmas.{AreAbove, above_more, above_none, disjoint_more, written_inits}
 use Rattle.rule_postfix.proofs.NestingLemmas.{written_nested}
 
@@ -18,29 +18,29 @@ pub record Kept (base : ℕ) (d : Decided) : Type 0 where
   pub above : AreAbove base d.written
   pub apart : AreDisjoint d.written
 
-good_keeps : (base : ℕ) (code : List Range) (entry : Entry) (e : FdeFields) (o : Option Reason) (d : Decided) → AllFrom base code → reason_behind code d.written e ≡ o → Kept base d → Kept base (with_good entry e o d)
+good_keeps : (base : ℕ) (code : List Range) (entry : Entry) (e : FdeFields) (o : Option Reason) (d : Decided) → AllFrom base code → entry.body ≡ Good e → reason_behind code d.written e ≡ o → Kept base d → Kept base (with_decision entry o d)
 unfolding reason_behind
-good_keeps base code entry e None d from is kept =
+good_keeps base code entry e None d from body is kept =
     let free : IsFree code (map range_of d.written) e = is_free code (map range_of d.written) e is in
-    record {
+    let P : Body → Type 0 = λ b. Kept base (with_fields b d) in
+    subst P (sym body) (record {
       above = above_more base d.written e kept.above (enclosed_above base e.start (e.start + e.size) code from free.inside);
       apart = disjoint_more d.written e kept.apart free.apart;
-    }
-good_keeps base code entry e (Some why) d from is kept = record { above = kept.above; apart = kept.apart }
+    })
+good_keeps base code entry e (Some why) d from body is kept = record { above = kept.above; apart = kept.apart }
 
-body_keeps : (base : ℕ) (code : List Range) (entry : Entry) (b : Body) (d : Decided) → AllFrom base code → Kept base d → Kept base (with_body code entry b d)
-body_keeps base code entry (Good e) d from kept = good_keeps base code entry e (reason_behind code d.written e) d from refl kept
-body_keeps base code entry (Bad why) d from kept = record { above = kept.above; apart = kept.apart }
+body_keeps : (base : ℕ) (code : List Range) (entry : Entry) (b : Body) (d : Decided) → AllFrom base code → entry.body ≡ b → Kept base d → Kept base (with_decision entry (body_reason code d.written b) d)
+body_keeps base code entry (Good e) d from body kept = good_keeps base code entry e (reason_behind code d.written e) d from body refl kept
+body_keeps base code entry (Bad why) d from body kept = record { above = kept.above; apart = kept.apart }
 
 entries_keep : (base : ℕ) (code : List Range) (entries : List Entry) (d : Decided) → AllFrom base code → Kept base d → Kept base (with_entries code entries d)
-unfolding with_entries with_entry
+unfolding with_entries with_entry reason_of
 entries_keep base code [] d from kept = kept
-entries_keep base code (x ∷ entries) d from kept = entries_keep base code entries (with_entry code x d) from (body_keeps base code x x.body d from kept)
+entries_keep base code (x ∷ entries) d from kept = entries_keep base code entries (with_entry code x d) from (body_keeps base code x x.body d from refl kept)
 
 all_kept : (base : ℕ) (code : List Range) (first second : List Entry) → AllFrom base code → Kept base (decided code first second)
-unfolding decided
-all_kept base code first second from =
-    entries_keep base code second (with_entries code first none_decided) from (entries_keep base code first none_decided from (record { above = above_none base; apart = tt }))
+unfolding decided decided_of decided_behind
+all_kept base code first second from = entries_keep base code (first ++ second) none_decided from (record { above = above_none base; apart = tt })
 
 -- no two entries that are written have an address in common
 pub written_apart : (base : ℕ) (code : List Range) (first second : List Entry) → AllFrom base code → AreDisjoint (written code first second)

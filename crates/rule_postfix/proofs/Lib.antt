@@ -13,3 +13,4 @@ pub mod CoveringLemmas
 pub mod NestingLemmas
 pub mod KeptLemmas
 pub mod TestLemmas
+pub mod OmittedLemmas

@@ -6,3 +6,4 @@ pub mod Overlaps
 pub mod Written
 pub mod Deciding
 pub mod Covering
+pub mod Decision

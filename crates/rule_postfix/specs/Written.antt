@@ -44,7 +44,15 @@ reason_among code taken e =
 unfoldable pub reason_behind : List Range → List FdeFields → FdeFields → Option Reason
 reason_behind code written e = reason_among code (map range_of written) e
 
--- what was decided so far
+-- the whole reason to leave an entry out, behind those that are written: the first that applies
+abbrev pub body_reason : List Range → List FdeFields → Body → Option Reason
+body_reason code before (Good e) = reason_behind code before e
+body_reason code before (Bad why) = Some why
+
+unfoldable pub reason_of : List Range → List FdeFields → Entry → Option Reason
+reason_of code before entry = body_reason code before entry.body
+
+-- what was decided so far: the entries that are written, and those that are left out with their reasons
 pub record Decided : Type 0 where
   pub written : List FdeFields
   pub omitted : List Omission
@@ -56,28 +64,32 @@ left_out entry why d = record { written = d.written; omitted = d.omitted ++ reco
 abbrev pub with_written : FdeFields → Decided → Decided
 with_written e d = record { written = d.written ++ e ∷ []; omitted = d.omitted }
 
-abbrev pub with_good : Entry → FdeFields → Option Reason → Decided → Decided
-with_good entry e None d = with_written e d
-with_good entry e (Some why) d = left_out entry why d
+abbrev pub with_fields : Body → Decided → Decided
+with_fields (Good e) d = with_written e d
+with_fields (Bad why) d = d
 
-abbrev pub with_body : List Range → Entry → Body → Decided → Decided
-with_body code entry (Good e) d = with_good entry e (reason_behind code d.written e) d
-with_body code entry (Bad why) d = left_out entry why d
+abbrev pub with_decision : Entry → Option Reason → Decided → Decided
+with_decision entry None d = with_fields entry.body d
+with_decision entry (Some why) d = left_out entry why d
 
 unfoldable pub with_entry : List Range → Entry → Decided → Decided
-with_entry code entry d = with_body code entry entry.body d
+with_entry code entry d = with_decision entry (reason_of code d.written entry) d
 
 unfoldable pub with_entries : List Range → List Entry → Decided → Decided
 with_entries code [] d = d
 with_entries code (entry ∷ entries) d = with_entries code entries (with_entry code entry d)
 
--- no entry yet
-abbrev pub none_decided : Decided
-none_decided = record { written = []; omitted = [] }
+-- what is decided of entries, where these were written before them
+unfoldable pub decided_behind : List Range → List FdeFields → List Entry → Decided
+decided_behind code before entries = with_entries code entries (record { written = before; omitted = [] })
 
--- the entries in order, those of `.eh_frame` before those of `.debug_frame`
+-- what is decided of entries in their order
+unfoldable pub decided_of : List Range → List Entry → Decided
+decided_of code entries = decided_behind code [] entries
+
+-- those of `.eh_frame` stand before those of `.debug_frame`
 unfoldable pub decided : List Range → List Entry → List Entry → Decided
-decided code first second = with_entries code second (with_entries code first none_decided)
+decided code first second = decided_of code (first ++ second)
 
 -- the entries that are written, and the others with their reasons
 unfoldable pub written : List Range → List Entry → List Entry → List FdeFields

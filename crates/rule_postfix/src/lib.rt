@@ -16,6 +16,7 @@
 #![tactic(auto)]
 
 mod all;
+pub mod laws;
 mod omission;
 mod parts;
 mod rules;
