@@ -13,8 +13,8 @@ use Rattle.frame_entries.specs.FdeFields.{FdeFields}
 use Rattle.sym_records.specs.declared.line.SymLine.{SymLine}
 use Rattle.sym_records.specs.declared.line.SymLine.TheVariants.{Init}
 use Rattle.sym_records.specs.declared.rules.RuleText.{RuleText}
-use Rattle.rule_postfix.specs.Rules.{comes_to_rest, row_rules, changed_rules}
-use Rattle.rule_postfix.specs.FrameLines.{is_cut, first_cut, change, line_at, frame_lines}
+use Rattle.rule_postfix.specs.RowRules.{some_becomes_unspecified, row_rules, changed_rules}
+use Rattle.rule_postfix.specs.FrameLines.{is_cut, first_cut, change, records_at, frame_lines}
 use Rattle.rule_postfix.specs.Overlaps.{meet, any_meets}
 use Rattle.rule_postfix.specs.Written.{range_of, entry_lines, written_lines}
 use Rattle.rule_postfix.specs.Covering.{init_covers, inits_at, holds_address, entries_at, AreDisjoint}
@@ -64,8 +64,8 @@ unfolding first_cut
 cut_above row start b zero = omega arith
 cut_above row start b (suc n) = least (is_cut row start b) b (first_cut row start (b + 1) n) (omega (arith, cut_above row start (b + 1) n))
 
-line_inits : (row : ℕ → Row) (start base end x b n : ℕ) (cut : Bool) → end ≡ b + 1 + n → base ≤ b → is_cut row start b ≡ cut → inits_at (flat_map (line_at row start end base) (range_with_len (b + 1) n)) x ≡ from_to (first_cut row start (b + 1) n) end (x + base) →
-    inits_at (line_at row start end base b) x + from_to (first_cut row start (b + 1) n) end (x + base) ≡ from_to (cond cut b (first_cut row start (b + 1) n)) end (x + base)
+line_inits : (row : ℕ → Row) (start base end x b n : ℕ) (cut : Bool) → end ≡ b + 1 + n → base ≤ b → is_cut row start b ≡ cut → inits_at (flat_map (records_at row start end base) (range_with_len (b + 1) n)) x ≡ from_to (first_cut row start (b + 1) n) end (x + base) →
+    inits_at (records_at row start end base b) x + from_to (first_cut row start (b + 1) n) end (x + base) ≡ from_to (cond cut b (first_cut row start (b + 1) n)) end (x + base)
 line_inits row start base end x b n true size le is rest =
     let c : ℕ = first_cut row start (b + 1) n in
     ap (λ xs. inits_at xs x + from_to c end (x + base)) (line_of row start end base b n (row (b - 1)) (row b) true size refl refl is)
@@ -81,19 +81,19 @@ pub first_by : (row : ℕ → Row) (start b n : ℕ) → first_cut row start b (
 unfolding first_cut
 first_by row start b n = refl
 
-inits_from : (row : ℕ → Row) (start base end x b n : ℕ) → end ≡ b + n → base ≤ b → inits_at (flat_map (line_at row start end base) (range_with_len b n)) x ≡ from_to (first_cut row start b n) end (x + base)
+inits_from : (row : ℕ → Row) (start base end x b n : ℕ) → end ≡ b + n → base ≤ b → inits_at (flat_map (records_at row start end base) (range_with_len b n)) x ≡ from_to (first_cut row start b n) end (x + base)
 unfolding first_cut inits_at
 inits_from row start base end x b zero size le = sym (empty (x + base) b) ∙ ap (λ k. from_to b k (x + base)) (let same : b ≡ end = omega (arith, size) in same)
 inits_from row start base end x b (suc n) size le =
-    let rest : inits_at (flat_map (line_at row start end base) (range_with_len (b + 1) n)) x ≡ from_to (first_cut row start (b + 1) n) end (x + base) = inits_from row start base end x (b + 1) n (omega (arith, size)) (omega (arith, le)) in
-    inits_append (line_at row start end base b) (flat_map (line_at row start end base) (range_with_len (b + 1) n)) x
-    ∙ ap (λ k. inits_at (line_at row start end base b) x + k) rest
+    let rest : inits_at (flat_map (records_at row start end base) (range_with_len (b + 1) n)) x ≡ from_to (first_cut row start (b + 1) n) end (x + base) = inits_from row start base end x (b + 1) n (omega (arith, size)) (omega (arith, le)) in
+    inits_append (records_at row start end base b) (flat_map (records_at row start end base) (range_with_len (b + 1) n)) x
+    ∙ ap (λ k. inits_at (records_at row start end base b) x + k) rest
     ∙ line_inits row start base end x b n (is_cut row start b) (omega (arith, size)) le refl rest
 
 first_is_start : (row : ℕ → Row) (start n : ℕ) → first_cut row start start n ≡ start
 unfolding first_cut is_cut
 first_is_start row start zero = refl
-first_is_start row start (suc n) = ap (λ t. cond (t || comes_to_rest (row (start - 1)) (row start)) start (first_cut row start (start + 1) n)) (eq-eqb start start refl)
+first_is_start row start (suc n) = ap (λ t. cond (t || some_becomes_unspecified (row (start - 1)) (row start)) start (first_cut row start (start + 1) n)) (eq-eqb start start refl)
 
 -- the INITs of a range cover its addresses once
 range_inits : (row : ℕ → Row) (start size base x : ℕ) → base ≤ start → inits_at (frame_lines row start size base) x ≡ from_to start (start + size) (x + base)

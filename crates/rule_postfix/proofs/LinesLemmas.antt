@@ -11,9 +11,9 @@ use Rattle.sym_records.specs.declared.line.SymLine.{SymLine}
 use Rattle.sym_records.specs.declared.line.SymLine.TheVariants.{Init}
 use Rattle.sym_records.specs.declared.rules.RuleText.{RuleText}
 use Rattle.sym_records.specs.declared.rules.Target.{Target}
-use Rattle.rule_postfix.specs.Parts.{rests_anew, starts_anew, is_rest, column_part, rule_at, part_of}
-use Rattle.rule_postfix.specs.Rules.{rule_of, rules_of, rules_by, targets, if_changed, comes_to_rest, rests_below, row_rules, changed_rules}
-use Rattle.rule_postfix.specs.FrameLines.{is_cut, first_cut, change, line_at, frame_lines}
+use Rattle.rule_postfix.specs.RowParts.{becomes_unspecified, is_unspecified, is_unruled, column_part, rule_at, part_of}
+use Rattle.rule_postfix.specs.RowRules.{rule_of, rules_of, rules_by, targets, if_changed, some_becomes_unspecified, some_unspecified_below, row_rules, changed_rules}
+use Rattle.rule_postfix.specs.FrameLines.{is_cut, first_cut, change, records_at, frame_lines}
 use Rattle.rule_postfix.specs.Writing.{Open, opened, closed, with_changes, with_row, with_rows, lines_of}
 use Rattle.rule_postfix.proofs.OptionLemmas.{some_same, none_some}
 use Rattle.rule_postfix.proofs.PartLemmas.{no_other}
@@ -23,16 +23,16 @@ not_both : (t : Bool) → (t && not t) ≡ false
 not_both true = refl
 not_both false = refl
 
-rests_same : (x : Row) (k : ℕ) → rests_anew x x k ≡ false
-unfolding rests_anew
-rests_same x k = and_right (starts_anew k) (is_rest (column_part k (rule_at x k)) && not (is_rest (column_part k (rule_at x k)))) (not_both (is_rest (column_part k (rule_at x k))))
+rests_same : (x : Row) (k : ℕ) → becomes_unspecified x x k ≡ false
+unfolding becomes_unspecified
+rests_same x k = and_right (is_unspecified k) (is_unruled (column_part k (rule_at x k)) && not (is_unruled (column_part k (rule_at x k)))) (not_both (is_unruled (column_part k (rule_at x k))))
 
-any_rests : (x : Row) (ks : List ℕ) → list_any (rests_anew x x) ks ≡ false
+any_rests : (x : Row) (ks : List ℕ) → list_any (becomes_unspecified x x) ks ≡ false
 any_rests x [] = refl
-any_rests x (k ∷ ks) = or_from (rests_anew x x k) (list_any (rests_anew x x) ks) (rests_same x k) (any_rests x ks)
+any_rests x (k ∷ ks) = or_from (becomes_unspecified x x k) (list_any (becomes_unspecified x x) ks) (rests_same x k) (any_rests x ks)
 
-never_rests : (x : Row) → comes_to_rest x x ≡ false
-unfolding comes_to_rest rests_below
+never_rests : (x : Row) → some_becomes_unspecified x x ≡ false
+unfolding some_becomes_unspecified some_unspecified_below
 never_rests x = any_rests x (range_with_len 0 17)
 
 no_change : (x : Row) (t : Target) → if_changed x x t ≡ None
@@ -91,18 +91,18 @@ unfolding Follows
 follows_same row b end before rows follows a le below = follows a (omega arith) below
 
 -- an address at which the row stays
-cut_at : (row : ℕ → Row) (start b : ℕ) (before after : Row) → start < b → before ≡ row (b - 1) → after ≡ row b → is_cut row start b ≡ comes_to_rest before after
+cut_at : (row : ℕ → Row) (start b : ℕ) (before after : Row) → start < b → before ≡ row (b - 1) → after ≡ row b → is_cut row start b ≡ some_becomes_unspecified before after
 unfolding is_cut
 cut_at row start b before after above e f =
-    ap (λ t. t || comes_to_rest (row (b - 1)) (row b)) (ne_eqb b start (λ same. absurd (omega (arith, same))))
-    ∙ ap (λ x. comes_to_rest x (row b)) (sym e) ∙ ap (λ x. comes_to_rest before x) (sym f)
+    ap (λ t. t || some_becomes_unspecified (row (b - 1)) (row b)) (ne_eqb b start (λ same. absurd (omega (arith, same))))
+    ∙ ap (λ x. some_becomes_unspecified x (row b)) (sym e) ∙ ap (λ x. some_becomes_unspecified before x) (sym f)
 
 cut_of : (row : ℕ → Row) (start b n : ℕ) (cut : Bool) → is_cut row start b ≡ cut → first_cut row start b (suc n) ≡ cond cut b (first_cut row start (b + 1) n)
 unfolding first_cut
 cut_of row start b n cut e = ap (λ t. cond t b (first_cut row start (b + 1) n)) e
 
-pub line_of : (row : ℕ → Row) (start end base b n : ℕ) (before after : Row) (cut : Bool) → end ≡ b + 1 + n → before ≡ row (b - 1) → after ≡ row b → is_cut row start b ≡ cut → line_at row start end base b ≡ cond cut (Init (b - base) (first_cut row start (b + 1) n - b) (row_rules after) ∷ []) (change (b - base) (changed_rules before after))
-unfolding line_at
+pub line_of : (row : ℕ → Row) (start end base b n : ℕ) (before after : Row) (cut : Bool) → end ≡ b + 1 + n → before ≡ row (b - 1) → after ≡ row b → is_cut row start b ≡ cut → records_at row start end base b ≡ cond cut (Init (b - base) (first_cut row start (b + 1) n - b) (row_rules after) ∷ []) (change (b - base) (changed_rules before after))
+unfolding records_at
 line_of row start end base b n before after cut size e f is =
     let left : end - (b + 1) ≡ n = omega (arith, size) in
     ap (λ t. cond t (Init (b - base) (first_cut row start (b + 1) (end - (b + 1)) - b) (row_rules (row b)) ∷ []) (change (b - base) (changed_rules (row (b - 1)) (row b)))) is
@@ -126,24 +126,24 @@ base_by false b after rules o = refl
 -- the records from an address on, behind those that are written
 Rests : (ℕ → Row) → ℕ → ℕ → ℕ → ℕ → Row → List RowAt → Open → Type 0
 Rests row start end b n before rows o =
-    closed (with_rows before rows o) end ≡ closed o (first_cut row start b n) ++ flat_map (line_at row start end o.base) (range_with_len b n)
+    closed (with_rows before rows o) end ≡ closed o (first_cut row start b n) ++ flat_map (records_at row start end o.base) (range_with_len b n)
 
 stay : (row : ℕ → Row) (start end b n : ℕ) (before : Row) (rows : List RowAt) (o : Open) → end ≡ b + 1 + n → start < b → before ≡ row (b - 1) → before ≡ row b → Rests row start end (b + 1) n before rows o → Rests row start end b (suc n) before rows o
 unfolding Rests
 stay row start end b n before rows o size above e f rest =
     let cut : is_cut row start b ≡ false = cut_at row start b before before above e f ∙ never_rests before in
-    let none : line_at row start end o.base b ≡ [] = line_of row start end o.base b n before before false size e f cut ∙ ap (change (b - o.base)) (never_changes before) in
-    rest ∙ ap (λ c. closed o c ++ flat_map (line_at row start end o.base) (range_with_len (b + 1) n)) (sym (cut_of row start b n false cut))
-    ∙ ap (λ xs. closed o (first_cut row start b (suc n)) ++ (xs ++ flat_map (line_at row start end o.base) (range_with_len (b + 1) n))) (sym none)
+    let none : records_at row start end o.base b ≡ [] = line_of row start end o.base b n before before false size e f cut ∙ ap (change (b - o.base)) (never_changes before) in
+    rest ∙ ap (λ c. closed o c ++ flat_map (records_at row start end o.base) (range_with_len (b + 1) n)) (sym (cut_of row start b n false cut))
+    ∙ ap (λ xs. closed o (first_cut row start b (suc n)) ++ (xs ++ flat_map (records_at row start end o.base) (range_with_len (b + 1) n))) (sym none)
 
 move : (row : ℕ → Row) (start end b n : ℕ) (before : Row) (r : RowAt) (rows : List RowAt) (o : Open) → end ≡ b + 1 + n → start < b → before ≡ row (b - 1) → r.row ≡ row b → r.address ≡ b → Rests row start end (b + 1) n r.row rows (with_row b before r.row o) → Rests row start end b (suc n) before (r ∷ rows) o
 unfolding Rests with_rows with_row
 move row start end b n before r rows o size above e f at rest =
-    let cut : Bool = comes_to_rest before r.row in
+    let cut : Bool = some_becomes_unspecified before r.row in
     let rules : List RuleText = changed_rules before r.row in
     let is : is_cut row start b ≡ cut = cut_at row start b before r.row above e f in
     let c : ℕ = first_cut row start (b + 1) n in
-    let lines : ℕ → List SymLine = λ k. flat_map (line_at row start end k) (range_with_len (b + 1) n) in
+    let lines : ℕ → List SymLine = λ k. flat_map (records_at row start end k) (range_with_len (b + 1) n) in
     let next : Open = cond cut (opened o.base (closed o b) b r.row) (with_changes b rules o) in
     ap (λ k. closed (with_rows r.row rows (with_row k before r.row o)) end) at
     ∙ rest
@@ -198,20 +198,20 @@ first_row : (row : ℕ → Row) (start end : ℕ) (r : RowAt) (rows : List RowAt
 first_row row start end r rows rising says at =
     some_same r.row (row start) (ap (λ o. option_or o (Some r.row)) (sym (past_all (r.address + 1) end start rows rising.2 (omega (arith, at)))) ∙ sym (last_on r rows start (omega (arith, at))) ∙ says)
 
-first_line : (row : ℕ → Row) (start base n end : ℕ) → end ≡ start + 1 + n → line_at row start end base start ≡ Init (start - base) (first_cut row start (start + 1) n - start) (row_rules (row start)) ∷ []
-unfolding line_at is_cut
+first_line : (row : ℕ → Row) (start base n end : ℕ) → end ≡ start + 1 + n → records_at row start end base start ≡ Init (start - base) (first_cut row start (start + 1) n - start) (row_rules (row start)) ∷ []
+unfolding records_at is_cut
 first_line row start base n end size =
     let left : end - (start + 1) ≡ n = omega (arith, size) in
-    ap (λ t. cond (t || comes_to_rest (row (start - 1)) (row start)) (Init (start - base) (first_cut row start (start + 1) (end - (start + 1)) - start) (row_rules (row start)) ∷ []) (change (start - base) (changed_rules (row (start - 1)) (row start)))) (eq-eqb start start refl)
+    ap (λ t. cond (t || some_becomes_unspecified (row (start - 1)) (row start)) (Init (start - base) (first_cut row start (start + 1) (end - (start + 1)) - start) (row_rules (row start)) ∷ []) (change (start - base) (changed_rules (row (start - 1)) (row start)))) (eq-eqb start start refl)
     ∙ ap (λ m. Init (start - base) (first_cut row start (start + 1) m - start) (row_rules (row start)) ∷ []) left
 
 from_first : (row : ℕ → Row) (start base n end : ℕ) (r : RowAt) (rows : List RowAt) → end ≡ start + 1 + n → Ascending start end (r ∷ rows) → r.address ≡ start → r.row ≡ row start → Follows row (start + 1) end r.row rows →
-    lines_of base end (r ∷ rows) ≡ flat_map (line_at row start end base) (start ∷ range_with_len (start + 1) n)
+    lines_of base end (r ∷ rows) ≡ flat_map (records_at row start end base) (start ∷ range_with_len (start + 1) n)
 unfolding lines_of Rests
 from_first row start base n end r rows size rising at e follows =
     let back : start + 1 - 1 ≡ start = omega arith in
     let P : ℕ → Type 0 = λ k. Ascending (k + 1) end rows in
-    let tail : List SymLine = flat_map (line_at row start end base) (range_with_len (start + 1) n) in
+    let tail : List SymLine = flat_map (records_at row start end base) (range_with_len (start + 1) n) in
     rests row start end (start + 1) n r.row rows (opened base [] r.address r.row) size (omega arith) (e ∙ ap row (sym back)) (subst P at rising.2) follows
     ∙ ap (λ k. (Init (k - base) (first_cut row start (start + 1) n - k) (row_rules r.row) ∷ []) ++ tail) at
     ∙ ap (λ x. (Init (start - base) (first_cut row start (start + 1) n - start) (row_rules x) ∷ []) ++ tail) e

@@ -7,8 +7,8 @@ use Rattle.frame_entries.specs.FdeFields.{FdeFields}
 use Rattle.sym_records.specs.declared.line.SymLine.{SymLine}
 use Rattle.sym_records.specs.declared.line.SymLine.TheVariants.{Init}
 use Rattle.sym_records.specs.declared.rules.RuleText.{RuleText}
-use Rattle.rule_postfix.specs.Rules.{comes_to_rest, row_rules, changed_rules}
-use Rattle.rule_postfix.specs.FrameLines.{is_cut, first_cut, change, line_at, frame_lines}
+use Rattle.rule_postfix.specs.RowRules.{some_becomes_unspecified, row_rules, changed_rules}
+use Rattle.rule_postfix.specs.FrameLines.{is_cut, first_cut, change, records_at, frame_lines}
 use Rattle.rule_postfix.specs.Written.{entry_lines, written_lines}
 use Rattle.rule_postfix.specs.Covering.{AreNested}
 use Rattle.rule_postfix.proofs.LinesLemmas.{line_of}
@@ -26,13 +26,13 @@ nested_line false b c base last end row [] lines le above below is more = more l
 nested_line false b c base last end row (r ∷ rules) lines le above below is more = (omega (arith, above), (omega (arith, is, below, le), more (b - base) end (omega (arith, le)) is))
 
 -- the records from an address on
-nested_from : (row : ℕ → Row) (start base end b n last stop : ℕ) (lines : List SymLine) → end ≡ b + n → base ≤ b → last + base < b → stop + base ≡ first_cut row start b n → NestedAlways lines → AreNested last stop (flat_map (line_at row start end base) (range_with_len b n) ++ lines)
+nested_from : (row : ℕ → Row) (start base end b n last stop : ℕ) (lines : List SymLine) → end ≡ b + n → base ≤ b → last + base < b → stop + base ≡ first_cut row start b n → NestedAlways lines → AreNested last stop (flat_map (records_at row start end base) (range_with_len b n) ++ lines)
 nested_from row start base end b zero last stop lines size le above is always = always.at last stop
 nested_from row start base end b (suc n) last stop lines size le above is always =
     let c : ℕ = first_cut row start (b + 1) n in
     let cut : Bool = is_cut row start b in
-    let rest : List SymLine = flat_map (line_at row start end base) (range_with_len (b + 1) n) in
-    let line : line_at row start end base b ≡ cond cut (Init (b - base) (c - b) (row_rules (row b)) ∷ []) (change (b - base) (changed_rules (row (b - 1)) (row b))) = line_of row start end base b n (row (b - 1)) (row b) cut (omega (arith, size)) refl refl refl in
+    let rest : List SymLine = flat_map (records_at row start end base) (range_with_len (b + 1) n) in
+    let line : records_at row start end base b ≡ cond cut (Init (b - base) (c - b) (row_rules (row b)) ∷ []) (change (b - base) (changed_rules (row (b - 1)) (row b))) = line_of row start end base b n (row (b - 1)) (row b) cut (omega (arith, size)) refl refl refl in
     let P : List SymLine → Type 0 = λ ls. AreNested last stop ls in
     subst P (sym (ap (λ ls. (ls ++ rest) ++ lines) line ∙ append_assoc (cond cut (Init (b - base) (c - b) (row_rules (row b)) ∷ []) (change (b - base) (changed_rules (row (b - 1)) (row b)))) rest lines))
     (nested_line cut b c base last stop (row_rules (row b)) (changed_rules (row (b - 1)) (row b)) (rest ++ lines) le above (omega (arith, cut_above row start (b + 1) n)) (is ∙ first_by row start b n)
@@ -40,7 +40,7 @@ nested_from row start base end b (suc n) last stop lines size le above is always
 
 starts_cut : (row : ℕ → Row) (start : ℕ) → is_cut row start start ≡ true
 unfolding is_cut
-starts_cut row start = ap (λ t. t || comes_to_rest (row (start - 1)) (row start)) (eq-eqb start start refl)
+starts_cut row start = ap (λ t. t || some_becomes_unspecified (row (start - 1)) (row start)) (eq-eqb start start refl)
 
 -- the records of a range begin with an INIT
 nested_range : (row : ℕ → Row) (start base n : ℕ) (lines : List SymLine) → base ≤ start → NestedAlways lines → NestedAlways (frame_lines row start n base ++ lines)
@@ -50,8 +50,8 @@ nested_range row start base (suc n) lines le always = record {
   at = λ last stop.
       let end : ℕ = start + suc n in
       let c : ℕ = first_cut row start (start + 1) n in
-      let rest : List SymLine = flat_map (line_at row start end base) (range_with_len (start + 1) n) in
-      let line : line_at row start end base start ≡ Init (start - base) (c - start) (row_rules (row start)) ∷ [] = line_of row start end base start n (row (start - 1)) (row start) true (omega arith) refl refl (starts_cut row start) in
+      let rest : List SymLine = flat_map (records_at row start end base) (range_with_len (start + 1) n) in
+      let line : records_at row start end base start ≡ Init (start - base) (c - start) (row_rules (row start)) ∷ [] = line_of row start end base start n (row (start - 1)) (row start) true (omega arith) refl refl (starts_cut row start) in
       let P : List SymLine → Type 0 = λ ls. AreNested last stop ls in
       subst P (sym (ap (λ ls. (ls ++ rest) ++ lines) line ∙ append_assoc (Init (start - base) (c - start) (row_rules (row start)) ∷ []) rest lines)) (
         omega (arith, cut_above row start (start + 1) n),

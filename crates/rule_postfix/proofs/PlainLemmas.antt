@@ -15,15 +15,15 @@ use Rattle.sym_records.specs.declared.rules.Token.TheVariants as token
 use Rattle.sym_records.specs.declared.rules.RuleText.{RuleText}
 use Rattle.sym_edges.specs.Integers.{fits_i64}
 use Rattle.sym_records.specs.RuleValidity.{is_plain_target, is_plain_token, is_plain_rule}
-use Rattle.rule_postfix.specs.declared.parts.Part.{Part}
-use Rattle.rule_postfix.specs.declared.parts.Part.TheVariants.{AtRest, Base, Column}
-use Rattle.sym_edges.specs.Abi.{is_kept, stack_pointer}
-use Rattle.rule_postfix.specs.Parts.{own_as_same, by_group, column_part, cfa_part, rule_at, part_of, is_rest, same_part}
-use Rattle.rule_postfix.specs.Rules.{resting, own_name, rule_spelled, spelled, registers, targets, rule_of, rules_of, rules_by, if_not_at_rest, if_changed, row_rules, changed_rules}
+use Rattle.rule_postfix.specs.declared.parts.RowPart.{RowPart}
+use Rattle.rule_postfix.specs.declared.parts.RowPart.TheVariants.{Unruled, Base, Column}
+use Rattle.sym_edges.specs.Abi.{Default, KeepsValue, IsCfa, Unspecified, default_of, is_kept}
+use Rattle.rule_postfix.specs.RowParts.{own_as_same, by_group, column_part, cfa_part, rule_at, part_of, is_unruled, same_part}
+use Rattle.rule_postfix.specs.RowRules.{default_tokens, unruled_tokens, own_name, rule_spelled, spelled, registers, targets, rule_of, rules_of, rules_by, if_ruled, if_changed, row_rules, changed_rules}
 
 -- a part whose registers are the sixteen, and whose offsets are those of an i64
-sound_part : Part → Bool
-sound_part AtRest = true
+sound_part : RowPart → Bool
+sound_part Unruled = true
 sound_part (Base cfa) = is_sound_cfa (Some cfa)
 sound_part (Column r) = is_sound_rule 0 r
 
@@ -35,18 +35,18 @@ plain_or_none : Option (List Token) → Bool
 plain_or_none None = true
 plain_or_none (Some words) = are_plain words
 
-resting_by : (k : ℕ) (kept stack : Bool) → nat_lt k 16 ≡ true → plain_or_none (cond kept (Some (token.Reg k ∷ [])) (cond stack (Some (token.Cfa ∷ [])) None)) ≡ true
+default_plain : (d : Default) (k : ℕ) → nat_lt k 16 ≡ true → plain_or_none (default_tokens d k) ≡ true
 unfolding plain_or_none are_plain
-resting_by k true stack below = ap (λ t. t && true) below
-resting_by k false true below = refl
-resting_by k false false below = refl
+default_plain KeepsValue k below = ap (λ t. t && true) below
+default_plain IsCfa k below = refl
+default_plain Unspecified k below = refl
 
-resting_plain : (t : Target) → is_plain_target t ≡ true → plain_or_none (resting t) ≡ true
+unruled_plain : (t : Target) → is_plain_target t ≡ true → plain_or_none (unruled_tokens t) ≡ true
 unfolding plain_or_none
-resting_plain Cfa plain = refl
-resting_plain Ra plain = refl
-resting_plain (Reg k) plain = resting_by k (is_kept k) (k == stack_pointer) plain
-resting_plain (Other name) plain = refl
+unruled_plain Cfa plain = refl
+unruled_plain Ra plain = refl
+unruled_plain (Reg k) plain = default_plain (default_of k) k plain
+unruled_plain (Other name) plain = refl
 
 own_plain : (t : Target) → is_plain_target t ≡ true → plain_or_none (own_name t) ≡ true
 unfolding plain_or_none are_plain
@@ -73,9 +73,9 @@ base_plain : (t : Target) (cfa : CfaRule) → is_sound_cfa (Some cfa) ≡ true �
 unfolding are_plain
 base_plain t cfa sound = trail (nat_lt cfa.register 16) (fits_i64 cfa.offset) sound
 
-spelled_plain : (t : Target) (p : Part) → is_plain_target t ≡ true → sound_part p ≡ true → plain_or_none (spelled t p) ≡ true
+spelled_plain : (t : Target) (p : RowPart) → is_plain_target t ≡ true → sound_part p ≡ true → plain_or_none (spelled t p) ≡ true
 unfolding spelled plain_or_none sound_part
-spelled_plain t AtRest plain sound = resting_plain t plain
+spelled_plain t Unruled plain sound = unruled_plain t plain
 spelled_plain t (Base cfa) plain sound = base_plain t cfa sound
 spelled_plain t (Column r) plain sound = rule_plain t r plain sound
 
@@ -121,9 +121,9 @@ unfolding plain_or_none
 unless_plain true words plain = refl
 unless_plain false words plain = plain
 
-kept_plain : (row : Row) (t : Target) → IsSound row → is_plain_target t ≡ true → plain_or_none (if_not_at_rest row t) ≡ true
-unfolding if_not_at_rest
-kept_plain row t sound plain = unless_plain (is_rest (part_of row t)) (spelled t (part_of row t)) (spelled_plain t (part_of row t) plain (part_sound row t sound))
+kept_plain : (row : Row) (t : Target) → IsSound row → is_plain_target t ≡ true → plain_or_none (if_ruled row t) ≡ true
+unfolding if_ruled
+kept_plain row t sound plain = unless_plain (is_unruled (part_of row t)) (spelled t (part_of row t)) (spelled_plain t (part_of row t) plain (part_sound row t sound))
 
 changed_plain : (before after : Row) (t : Target) → IsSound after → is_plain_target t ≡ true → plain_or_none (if_changed before after t) ≡ true
 unfolding if_changed
@@ -147,7 +147,7 @@ targets_plain = refl
 
 pub row_plain : (row : Row) → IsSound row → list_all is_plain_rule (row_rules row) ≡ true
 unfolding row_rules rules_by
-row_plain row sound = rules_plain (if_not_at_rest row) targets (λ t plain. kept_plain row t sound plain) targets_plain
+row_plain row sound = rules_plain (if_ruled row) targets (λ t plain. kept_plain row t sound plain) targets_plain
 
 pub changes_plain : (before after : Row) → IsSound after → list_all is_plain_rule (changed_rules before after) ≡ true
 unfolding changed_rules rules_by
@@ -169,18 +169,18 @@ eighteen = refl
 
 pub row_most : (row : Row) → length (row_rules row) ≤ 18
 unfolding row_rules rules_by
-row_most row = omega (arith, rules_most (if_not_at_rest row) targets, eighteen)
+row_most row = omega (arith, rules_most (if_ruled row) targets, eighteen)
 
 pub changes_most : (before after : Row) → length (changed_rules before after) ≤ 18
 unfolding changed_rules rules_by
 changes_most before after = omega (arith, rules_most (if_changed before after) targets, eighteen)
 
 -- a row with a CFA rule has a rule
-cfa_first : (cfa : Option CfaRule) (rules : List RuleText) → is_some cfa ≡ true → 0 < length (cons_option (rule_of Cfa (cond (is_rest (cfa_part cfa)) None (spelled Cfa (cfa_part cfa)))) rules)
+cfa_first : (cfa : Option CfaRule) (rules : List RuleText) → is_some cfa ≡ true → 0 < length (cons_option (rule_of Cfa (cond (is_unruled (cfa_part cfa)) None (spelled Cfa (cfa_part cfa)))) rules)
 unfolding spelled
 cfa_first None rules some = cc
 cfa_first (Some cfa) rules some = omega arith
 
 pub row_some : (row : Row) → has_cfa row ≡ true → 0 < length (row_rules row)
-unfolding row_rules rules_by rules_of if_not_at_rest part_of
-row_some row some = cfa_first row.cfa (rules_of (if_not_at_rest row) (Ra ∷ registers 16)) some
+unfolding row_rules rules_by rules_of if_ruled part_of
+row_some row some = cfa_first row.cfa (rules_of (if_ruled row) (Ra ∷ registers 16)) some

@@ -15,11 +15,11 @@ use Rattle.sym_records.specs.declared.rules.Token.{Token}
 use Rattle.sym_records.specs.declared.rules.RuleText.{RuleText}
 use Rattle.frame_rows.specs.Rows.{empty_row}
 use Rattle.frame_rows.specs.declared.row.Rule.TheVariants as rule
-use Rattle.rule_postfix.specs.declared.parts.Part.{Part}
-use Rattle.rule_postfix.specs.declared.parts.Part.TheVariants.{AtRest, Base, Column}
-use Rattle.rule_postfix.specs.Parts.{rests_anew, is_rest, cfa_part, rule_at, part_of, column_part}
+use Rattle.rule_postfix.specs.declared.parts.RowPart.{RowPart}
+use Rattle.rule_postfix.specs.declared.parts.RowPart.TheVariants.{Unruled, Base, Column}
+use Rattle.rule_postfix.specs.RowParts.{becomes_unspecified, is_unruled, cfa_part, rule_at, part_of, column_part}
 use Rattle.rule_postfix.proofs.PartLemmas.{same_rules}
-use Rattle.rule_postfix.specs.Rules.{rule_of, rule_by, rules_of, rules_by, registers, targets, if_other, spelled, if_not_at_rest, row_rules, if_changed, changed_rules, rests_below}
+use Rattle.rule_postfix.specs.RowRules.{rule_of, rule_by, rules_of, rules_by, registers, targets, if_other, spelled, if_ruled, row_rules, if_changed, changed_rules, some_unspecified_below}
 
 -- no register yet
 pub no_register : (tokens : Target → Option (List Token)) (rules : List RuleText) → rules ≡ rules ++ rules_of tokens (registers 0)
@@ -64,8 +64,8 @@ all_rules before after first second third a b c =
     ∙ sym (rules_cons tokens Cfa (Ra ∷ registers 16) ∙ ap (λ xs. option_to_list (rule_of Cfa (tokens Cfa)) ++ xs) (rules_cons tokens Ra (registers 16)))
 
 -- columns that come to rest
-pub none_rests : (before after : Row) → rests_below before after 0 ≡ false
-unfolding rests_below
+pub none_rests : (before after : Row) → some_unspecified_below before after 0 ≡ false
+unfolding some_unspecified_below
 none_rests before after = refl
 
 map_same : (xs : List ℕ) → map (λ k. k) xs ≡ xs
@@ -78,21 +78,21 @@ range_from_more a n = sym (map_same (range_with_len a (n + 1))) ∙ map-range_wi
 range_more : (n : ℕ) → range_with_len 0 (n + 1) ≡ range_with_len 0 n ++ n ∷ []
 range_more n = let from : 0 + n ≡ n = omega arith in range_from_more 0 n ∙ ap (λ k. range_with_len 0 n ++ k ∷ []) from
 
-pub no_more_rests : (before after : Row) (n : ℕ) → rests_below before after n ≡ false → rests_anew before after n ≡ false → rests_below before after (n + 1) ≡ false
-unfolding rests_below
+pub no_more_rests : (before after : Row) (n : ℕ) → some_unspecified_below before after n ≡ false → becomes_unspecified before after n ≡ false → some_unspecified_below before after (n + 1) ≡ false
+unfolding some_unspecified_below
 no_more_rests before after n none stays =
-    ap (list_any (rests_anew before after)) (range_more n) ∙ list_any-append (rests_anew before after) (range_with_len 0 n) (n ∷ [])
-    ∙ or_from (list_any (rests_anew before after) (range_with_len 0 n)) (rests_anew before after n || false) none (or_from (rests_anew before after n) false stays refl)
+    ap (list_any (becomes_unspecified before after)) (range_more n) ∙ list_any-append (becomes_unspecified before after) (range_with_len 0 n) (n ∷ [])
+    ∙ or_from (list_any (becomes_unspecified before after) (range_with_len 0 n)) (becomes_unspecified before after n || false) none (or_from (becomes_unspecified before after n) false stays refl)
 
-pub some_rests : (before after : Row) (n : ℕ) → n < 17 → rests_anew before after n ≡ true → true ≡ rests_below before after 17
-unfolding rests_below
+pub some_rests : (before after : Row) (n : ℕ) → n < 17 → becomes_unspecified before after n ≡ true → true ≡ some_unspecified_below before after 17
+unfolding some_unspecified_below
 some_rests before after n below rests =
     let here : get_or (range_with_len 0 17) n 0 ≡ n = get_or-range_with_len 0 17 n 0 below ∙ (omega arith) in
-    sym (list_any_at (rests_anew before after) (range_with_len 0 17) n 0 (omega (arith, length-range_with_len 0 17)) (ap (rests_anew before after) here ∙ rests))
+    sym (list_any_at (becomes_unspecified before after) (range_with_len 0 17) n 0 (omega (arith, length-range_with_len 0 17)) (ap (becomes_unspecified before after) here ∙ rests))
 
 -- beside a row that says nothing, what differs is what is not at rest
-if_from_rest : (t : Target) (p : Part) → if_other t AtRest p ≡ cond (is_rest p) None (spelled t p)
-if_from_rest t AtRest = refl
+if_from_rest : (t : Target) (p : RowPart) → if_other t Unruled p ≡ cond (is_unruled p) None (spelled t p)
+if_from_rest t Unruled = refl
 if_from_rest t (Base cfa) = refl
 if_from_rest t (Column given) = refl
 
@@ -104,15 +104,15 @@ rest_at column =
       | inr past ↦ get_or_past (replicate 17 rule.Rest) column rule.Rest (omega (arith, length-replicate 17 rule.Rest))
     ]
 
-resting_part : (column : ℕ) → column_part column rule.Rest ≡ AtRest
+resting_part : (column : ℕ) → column_part column rule.Rest ≡ Unruled
 unfolding column_part
 resting_part column = refl
 
-empty_part : (column : ℕ) → column_part column (rule_at empty_row column) ≡ AtRest
+empty_part : (column : ℕ) → column_part column (rule_at empty_row column) ≡ Unruled
 empty_part column = ap (column_part column) (rest_at column) ∙ resting_part column
 
-if_from_empty : (row : Row) (t : Target) → if_changed empty_row row t ≡ if_not_at_rest row t
-unfolding if_changed if_not_at_rest part_of empty_row
+if_from_empty : (row : Row) (t : Target) → if_changed empty_row row t ≡ if_ruled row t
+unfolding if_changed if_ruled part_of empty_row
 if_from_empty row Cfa = if_from_rest Cfa (cfa_part row.cfa)
 if_from_empty row Ra = ap (λ p. if_other Ra p (column_part 16 (rule_at row 16))) (empty_part 16) ∙ if_from_rest Ra (column_part 16 (rule_at row 16))
 if_from_empty row (Reg k) = ap (λ p. if_other (Reg k) p (column_part k (rule_at row k))) (empty_part k) ∙ if_from_rest (Reg k) (column_part k (rule_at row k))
@@ -125,7 +125,7 @@ rules_same f g same (t ∷ ts) = ap (λ o. cons_option (rule_of t o) (rules_of f
 
 rules_from_empty : (row : Row) → changed_rules empty_row row ≡ row_rules row
 unfolding changed_rules row_rules rules_by
-rules_from_empty row = rules_same (if_changed empty_row row) (if_not_at_rest row) (if_from_empty row) targets
+rules_from_empty row = rules_same (if_changed empty_row row) (if_ruled row) (if_from_empty row) targets
 
 pub from_empty : (empty row : Row) (rules : List RuleText) → empty ≡ empty_row → rules ≡ changed_rules empty row → rules ≡ row_rules row
 from_empty empty row rules e made = made ∙ ap (λ r. changed_rules r row) e ∙ rules_from_empty row

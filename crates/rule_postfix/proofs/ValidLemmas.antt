@@ -14,8 +14,8 @@ use Rattle.sym_records.specs.declared.rules.RuleText.{RuleText}
 use Rattle.sym_records.specs.Reading.{fits, leads}
 use Rattle.sym_records.specs.RuleValidity.{is_plain_rule}
 use Rattle.sym_records.specs.Validity.{fields_fit, first_bad_from, place_behind}
-use Rattle.rule_postfix.specs.Rules.{comes_to_rest, row_rules, changed_rules}
-use Rattle.rule_postfix.specs.FrameLines.{is_cut, first_cut, change, line_at, frame_lines}
+use Rattle.rule_postfix.specs.RowRules.{some_becomes_unspecified, row_rules, changed_rules}
+use Rattle.rule_postfix.specs.FrameLines.{is_cut, first_cut, change, records_at, frame_lines}
 use Rattle.rule_postfix.proofs.PlainLemmas.{row_plain, changes_plain, row_most, changes_most, row_some}
 use Rattle.rule_postfix.proofs.RulesLemmas.{range_from_more}
 
@@ -70,33 +70,33 @@ next_by laws row start size base b end true lines rows is from below good =
 next_by laws row start size base b end false lines rows is from below good =
     changes_good laws row start size base b (changed_rules (row (b - 1)) (row b)) lines rows (omega (arith, is)) (changes_plain (row (b - 1)) (row b) (rows.sound b)) (changes_most (row (b - 1)) (row b)) good
 
-next_good : RecordLaws → (row : ℕ → Row) (start size base b end : ℕ) (lines : List SymLine) → GoodRows row start size base → end ≡ start + size → start ≤ b → b < end → Good Frame lines → Good Frame (lines ++ line_at row start end base b)
-unfolding line_at
+next_good : RecordLaws → (row : ℕ → Row) (start size base b end : ℕ) (lines : List SymLine) → GoodRows row start size base → end ≡ start + size → start ≤ b → b < end → Good Frame lines → Good Frame (lines ++ records_at row start end base b)
+unfolding records_at
 next_good laws row start size base b end lines rows is from below good = next_by laws row start size base b end (is_cut row start b) lines rows is from below good
 
-first_good : RecordLaws → (row : ℕ → Row) (start size base end : ℕ) → GoodRows row start size base → end ≡ start + size → 0 < size → Good Frame (line_at row start end base start)
-unfolding line_at is_cut first_bad_from place_behind
+first_good : RecordLaws → (row : ℕ → Row) (start size base end : ℕ) → GoodRows row start size base → end ≡ start + size → 0 < size → Good Frame (records_at row start end base start)
+unfolding records_at is_cut first_bad_from place_behind
 first_good laws row start size base end rows is some =
-    let line : Bool → List SymLine = λ t. cond (t || comes_to_rest (row (start - 1)) (row start)) (Init (start - base) (first_cut row start (start + 1) (end - (start + 1)) - start) (row_rules (row start)) ∷ []) (change (start - base) (changed_rules (row (start - 1)) (row start))) in
+    let line : Bool → List SymLine = λ t. cond (t || some_becomes_unspecified (row (start - 1)) (row start)) (Init (start - base) (first_cut row start (start + 1) (end - (start + 1)) - start) (row_rules (row start)) ∷ []) (change (start - base) (changed_rules (row (start - 1)) (row start))) in
     let P : List SymLine → Type 0 = λ xs. Good Frame xs in
     subst P (sym (ap line (eq-eqb start start refl)))
     (push laws Inside [] (Init (start - base) (first_cut row start (start + 1) (end - (start + 1)) - start) (row_rules (row start))) (record { valid = refl; behind = refl }) refl refl (init_fit laws row start size base start end rows is (omega arith) (omega (arith, is))))
 
-lines_more : (row : ℕ → Row) (start end base n : ℕ) → flat_map (line_at row start end base) (range_with_len start (n + 1)) ≡ flat_map (line_at row start end base) (range_with_len start n) ++ line_at row start end base (start + n)
+lines_more : (row : ℕ → Row) (start end base n : ℕ) → flat_map (records_at row start end base) (range_with_len start (n + 1)) ≡ flat_map (records_at row start end base) (range_with_len start n) ++ records_at row start end base (start + n)
 lines_more row start end base n =
-    ap (flat_map (line_at row start end base)) (range_from_more start n) ∙ flat_map-append (line_at row start end base) (range_with_len start n) ((start + n) ∷ [])
-    ∙ ap (λ xs. flat_map (line_at row start end base) (range_with_len start n) ++ xs) (append-nil (line_at row start end base (start + n)))
+    ap (flat_map (records_at row start end base)) (range_from_more start n) ∙ flat_map-append (records_at row start end base) (range_with_len start n) ((start + n) ∷ [])
+    ∙ ap (λ xs. flat_map (records_at row start end base) (range_with_len start n) ++ xs) (append-nil (records_at row start end base (start + n)))
 
-all_good : RecordLaws → (row : ℕ → Row) (start size base end n : ℕ) → GoodRows row start size base → end ≡ start + size → n < size → Good Frame (flat_map (line_at row start end base) (range_with_len start (n + 1)))
+all_good : RecordLaws → (row : ℕ → Row) (start size base end n : ℕ) → GoodRows row start size base → end ≡ start + size → n < size → Good Frame (flat_map (records_at row start end base) (range_with_len start (n + 1)))
 all_good laws row start size base end zero rows is below =
     let P : List SymLine → Type 0 = λ xs. Good Frame xs in
-    subst P (sym (append-nil (line_at row start end base start))) (first_good laws row start size base end rows is below)
+    subst P (sym (append-nil (records_at row start end base start))) (first_good laws row start size base end rows is below)
 all_good laws row start size base end (suc n) rows is below =
     let P : List SymLine → Type 0 = λ xs. Good Frame xs in
     let one : suc n ≡ n + 1 = omega arith in
     subst P (sym (lines_more row start end base (suc n)))
-    (next_good laws row start size base (start + suc n) end (flat_map (line_at row start end base) (range_with_len start (suc n))) rows is (omega arith) (omega (arith, is, below))
-    (let Q : ℕ → Type 0 = λ k. Good Frame (flat_map (line_at row start end base) (range_with_len start k)) in subst Q (sym one) (all_good laws row start size base end n rows is (omega (arith, below)))))
+    (next_good laws row start size base (start + suc n) end (flat_map (records_at row start end base) (range_with_len start (suc n))) rows is (omega arith) (omega (arith, is, below))
+    (let Q : ℕ → Type 0 = λ k. Good Frame (flat_map (records_at row start end base) (range_with_len start k)) in subst Q (sym one) (all_good laws row start size base end n rows is (omega (arith, below)))))
 
 -- the records of a range of good rows are valid behind any record
 pub lines_valid : RecordLaws → (row : ℕ → Row) (start size base : ℕ) → GoodRows row start size base → 0 < size → first_bad_from 0 Inside (frame_lines row start size base) ≡ None
@@ -104,5 +104,5 @@ unfolding frame_lines
 lines_valid laws row start zero base rows some = absurd (omega (arith, some))
 lines_valid laws row start (suc n) base rows some =
     let one : n + 1 ≡ suc n = omega arith in
-    ap (λ k. first_bad_from 0 Inside (flat_map (line_at row start (start + suc n) base) (range_with_len start k))) (sym one)
+    ap (λ k. first_bad_from 0 Inside (flat_map (records_at row start (start + suc n) base) (range_with_len start k))) (sym one)
     ∙ (all_good laws row start (suc n) base (start + suc n) n rows refl (omega arith)).valid

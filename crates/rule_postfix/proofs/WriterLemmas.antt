@@ -6,7 +6,7 @@ use Rattle.frame_rows.specs.declared.row.RowAt.{RowAt}
 use Rattle.frame_rows.specs.Rows.{Ascending}
 use Rattle.sym_records.specs.declared.line.SymLine.{SymLine}
 use Rattle.sym_records.specs.declared.rules.RuleText.{RuleText}
-use Rattle.rule_postfix.specs.Rules.{comes_to_rest, changed_rules}
+use Rattle.rule_postfix.specs.RowRules.{some_becomes_unspecified, changed_rules}
 use Rattle.rule_postfix.specs.Writing.{Open, opened, closed, with_changes, with_row, with_rows, lines_of}
 
 -- a later first address
@@ -38,7 +38,7 @@ starts_by false b after rules w low first second = first
 
 starts : (b : ℕ) (before after : Row) (w : Open) (low : ℕ) → w.start ≤ low → b ≤ low → (with_row b before after w).start ≤ low
 unfolding with_row
-starts b before after w low first second = starts_by (comes_to_rest before after) b after (changed_rules before after) w low first second
+starts b before after w low first second = starts_by (some_becomes_unspecified before after) b after (changed_rules before after) w low first second
 
 above_by : (cut : Bool) (b : ℕ) (after : Row) (rules : List RuleText) (w : Open) (low : ℕ) → low ≤ w.start → low ≤ b → low ≤ (cond cut (opened w.base (closed w b) b after) (with_changes b rules w)).start
 above_by true b after rules w low first second = second
@@ -46,7 +46,7 @@ above_by false b after rules w low first second = first
 
 aboves : (b : ℕ) (before after : Row) (w : Open) (low : ℕ) → low ≤ w.start → low ≤ b → low ≤ (with_row b before after w).start
 unfolding with_row
-aboves b before after w low first second = above_by (comes_to_rest before after) b after (changed_rules before after) w low first second
+aboves b before after w low first second = above_by (some_becomes_unspecified before after) b after (changed_rules before after) w low first second
 
 bases_by : (cut : Bool) (b : ℕ) (after : Row) (rules : List RuleText) (w : Open) → (cond cut (opened w.base (closed w b) b after) (with_changes b rules w)).base ≡ w.base
 bases_by true b after rules w = refl
@@ -54,7 +54,7 @@ bases_by false b after rules w = refl
 
 bases : (b : ℕ) (before after : Row) (w : Open) → (with_row b before after w).base ≡ w.base
 unfolding with_row
-bases b before after w = bases_by (comes_to_rest before after) b after (changed_rules before after) w
+bases b before after w = bases_by (some_becomes_unspecified before after) b after (changed_rules before after) w
 
 below_by : (cut : Bool) (b end : ℕ) (after : Row) (rules : List RuleText) (w : Open) → w.start < end → b < end → (cond cut (opened w.base (closed w b) b after) (with_changes b rules w)).start < end
 below_by true b end after rules w first second = second
@@ -62,7 +62,7 @@ below_by false b end after rules w first second = first
 
 belows : (b end : ℕ) (before after : Row) (w : Open) → w.start < end → b < end → (with_row b before after w).start < end
 unfolding with_row
-belows b end before after w first second = below_by (comes_to_rest before after) b end after (changed_rules before after) w first second
+belows b end before after w first second = below_by (some_becomes_unspecified before after) b end after (changed_rules before after) w first second
 
 one_on : (base end : ℕ) (before : Row) (next : RowAt) (rest : List RowAt) (w whole : Open) → Writing base end before (next ∷ rest) w whole → Writing base end next.row rest (with_row next.address before next.row w) whole
 unfolding with_rows

@@ -6,11 +6,11 @@ use Rattle.frame_rows.specs.declared.row.Row.{Row}
 use Rattle.sym_records.specs.declared.line.SymLine.{SymLine}
 use Rattle.sym_records.specs.declared.line.SymLine.TheVariants.{Init, Change}
 use Rattle.sym_records.specs.declared.rules.RuleText.{RuleText}
-use Rattle.rule_postfix.specs.Rules.{row_rules, changed_rules, comes_to_rest}
+use Rattle.rule_postfix.specs.RowRules.{row_rules, changed_rules, some_becomes_unspecified}
 
--- where an INIT begins: at the start of the range, and where a column comes to rest of which no line can say so
+-- where an INIT begins: at the start of the range, and where a column becomes unspecified, of which no line can say so
 unfoldable pub is_cut : (ℕ → Row) → ℕ → ℕ → Bool
-is_cut row start b = b == start || comes_to_rest (row (b - 1)) (row b)
+is_cut row start b = b == start || some_becomes_unspecified (row (b - 1)) (row b)
 
 -- the first cut at or above an address, among the next n; else the address behind these
 unfoldable pub first_cut : (ℕ → Row) → ℕ → ℕ → ℕ → ℕ
@@ -23,12 +23,12 @@ change address [] = []
 change address (r ∷ rules) = Change address (r ∷ rules) ∷ []
 
 -- the record at an address: at a cut an INIT with the whole row, up to the next cut or the end of the range; else the changes
-unfoldable pub line_at : (ℕ → Row) → ℕ → ℕ → ℕ → ℕ → List SymLine
-line_at row start end base b =
+unfoldable pub records_at : (ℕ → Row) → ℕ → ℕ → ℕ → ℕ → List SymLine
+records_at row start end base b =
     if is_cut row start b
     then Init (b - base) (first_cut row start (b + 1) (end - (b + 1)) - b) (row_rules (row b)) ∷ []
     else change (b - base) (changed_rules (row (b - 1)) (row b))
 
 -- the records of a range, with addresses counted from the base
 unfoldable pub frame_lines : (ℕ → Row) → ℕ → ℕ → ℕ → List SymLine
-frame_lines row start size base = flat_map (line_at row start (start + size) base) (range_with_len start size)
+frame_lines row start size base = flat_map (records_at row start (start + size) base) (range_with_len start size)

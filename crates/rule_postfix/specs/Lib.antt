@@ -1,5 +1,5 @@
-pub mod Parts
-pub mod Rules
+pub mod RowParts
+pub mod RowRules
 pub mod FrameLines
 pub mod Writing
 pub mod Overlaps

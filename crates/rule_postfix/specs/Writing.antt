@@ -5,7 +5,7 @@ use Rattle.frame_rows.specs.declared.row.RowAt.{RowAt}
 use Rattle.sym_records.specs.declared.line.SymLine.{SymLine}
 use Rattle.sym_records.specs.declared.line.SymLine.TheVariants.{Init}
 use Rattle.sym_records.specs.declared.rules.RuleText.{RuleText}
-use Rattle.rule_postfix.specs.Rules.{row_rules, changed_rules, comes_to_rest}
+use Rattle.rule_postfix.specs.RowRules.{row_rules, changed_rules, some_becomes_unspecified}
 use Rattle.rule_postfix.specs.FrameLines.{change}
 
 -- the records so far, and the INIT whose end is not known yet: its start, its rules and the changes in it
@@ -37,7 +37,7 @@ with_changes b rules o = record {
 -- one row more, behind another
 unfoldable pub with_row : ℕ → Row → Row → Open → Open
 with_row b before after o =
-    if comes_to_rest before after then opened o.base (closed o b) b after
+    if some_becomes_unspecified before after then opened o.base (closed o b) b after
     else with_changes b (changed_rules before after) o
 
 -- rows, behind another

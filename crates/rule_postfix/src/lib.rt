@@ -1,9 +1,9 @@
 //! Frame entries as frame records (Breakpad's symbol_files.md, STACK CFI INIT and STACK CFI).
 //!
 //! [`translate`] gives the records of one entry: an INIT with the rules of its first row, and a record of changes at each
-//! address at which the row says something else than at the address before. Where nothing is known any more of a column of
-//! which no record could say so, a new INIT begins. `specs/Parts.antt` says which rules mean the same and which are at rest,
-//! `specs/Rules.antt` how they are spelled and in which order they stand, and `specs/FrameLines.antt` which records a range
+//! address at which the row says something else than at the address before. Where a column becomes unspecified, of
+//! which no record could say so, a new INIT begins. `specs/RowParts.antt` says which rules mean the same and which targets are unruled,
+//! `specs/RowRules.antt` how they are spelled and in which order they stand, and `specs/FrameLines.antt` which records a range
 //! has, by the row at each of its addresses.
 //!
 //! [`translate_all`] goes over the entries of both sections, those of `.eh_frame` first, and writes an entry unless there is

@@ -1,14 +1,14 @@
 //! What a row says of each target, in one form.
 ghost use Rattle.std.specs.Prelude.{◌≡◌};
 ghost use Rattle.sym_edges.specs.Abi.{is_kept};
-ghost use Rattle.rule_postfix.specs.Parts.{own_as_same, by_group, column_part, cfa_part, part_of, is_rest, rule_at, rests_anew, same_rule, same_part, starts_anew};
+ghost use Rattle.rule_postfix.specs.RowParts.{own_as_same, by_group, column_part, cfa_part, part_of, is_unruled, rule_at, becomes_unspecified, same_rule, same_part, is_unspecified};
 
 use frame_rows::{CfaRule, Row, Rule};
 
 /// What a row says of a target: nothing that a line has to say, the CFA's rule, or a column's.
 #[derive(Clone, Copy, PartialEq, Eq, Debug)]
-pub enum Part {
-    AtRest,
+pub enum RowPart {
+    Unruled,
     Base(CfaRule),
     Column(Rule),
 }
@@ -21,9 +21,10 @@ pub fn is_kept(column: u8) -> bool
     column == 3 || column == 6 || (12 <= column && column <= 15)
 }
 
-/// Whether no line can say that the column is at rest again.
-pub fn starts_anew(column: u8) -> bool
-    ensures { result ≡ starts_anew column }
+/// Whether nothing is specified of the column where no rule is given, so that no line can say that it is unruled again.
+#[tactic(auto, unfolding(crate::specs::RowParts::is_unspecified, sym_edges::specs::Abi::default_of))]
+pub fn is_unspecified(column: u8) -> bool
+    ensures { result ≡ is_unspecified column }
 {
     !is_kept(column) && column != 7
 }
@@ -43,46 +44,46 @@ fn own_as_same(column: u8, given: Rule) -> Rule
     }
 }
 
-fn by_group(kept: bool, given: Rule) -> Part
+fn by_group(kept: bool, given: Rule) -> RowPart
     ensures { result ≡ by_group kept given }
 {
     match given {
-        Rule::Rest => Part::AtRest,
-        Rule::Undefined => Part::AtRest,
+        Rule::Rest => RowPart::Unruled,
+        Rule::Undefined => RowPart::Unruled,
         Rule::Same => {
             if kept {
-                Part::AtRest
+                RowPart::Unruled
             } else {
-                Part::Column(Rule::Same)
+                RowPart::Column(Rule::Same)
             }
         }
-        _ => Part::Column(given),
+        _ => RowPart::Column(given),
     }
 }
 
 /// The part of a column that has a rule.
-#[tactic(auto, unfolding(crate::specs::Parts::column_part))]
-pub fn column_part(column: u8, given: Rule) -> Part
+#[tactic(auto, unfolding(crate::specs::RowParts::column_part))]
+pub fn column_part(column: u8, given: Rule) -> RowPart
     ensures { result ≡ column_part column given }
 {
     by_group(is_kept(column), own_as_same(column, given))
 }
 
 /// The part of the CFA.
-pub fn cfa_part(cfa: Option<CfaRule>) -> Part
+pub fn cfa_part(cfa: Option<CfaRule>) -> RowPart
     ensures { result ≡ cfa_part cfa }
 {
     match cfa {
-        None => Part::AtRest,
-        Some(cfa) => Part::Base(cfa),
+        None => RowPart::Unruled,
+        Some(cfa) => RowPart::Base(cfa),
     }
 }
 
-pub fn is_rest(part: Part) -> bool
-    ensures { result ≡ is_rest part }
+pub fn is_unruled(part: RowPart) -> bool
+    ensures { result ≡ is_unruled part }
 {
     match part {
-        Part::AtRest => true,
+        RowPart::Unruled => true,
         _ => false,
     }
 }
@@ -101,13 +102,13 @@ fn same_rule(a: Rule, b: Rule) -> bool
     }
 }
 
-pub fn same_part(a: Part, b: Part) -> bool
+pub fn same_part(a: RowPart, b: RowPart) -> bool
     ensures { result ≡ same_part a b }
 {
     match (a, b) {
-        (Part::AtRest, Part::AtRest) => true,
-        (Part::Base(x), Part::Base(y)) => x.register == y.register && x.offset == y.offset,
-        (Part::Column(x), Part::Column(y)) => same_rule(x, y),
+        (RowPart::Unruled, RowPart::Unruled) => true,
+        (RowPart::Base(x), RowPart::Base(y)) => x.register == y.register && x.offset == y.offset,
+        (RowPart::Column(x), RowPart::Column(y)) => same_rule(x, y),
         _ => false,
     }
 }
@@ -122,12 +123,12 @@ pub fn rule_at(row: &Row, column: u8) -> Rule
     }
 }
 
-/// Whether the column comes to rest and no line can say so.
-#[tactic(auto, unfolding(crate::specs::Parts::rests_anew))]
-pub fn rests_anew(before: &Row, after: &Row, column: u8) -> bool
-    ensures { result ≡ rests_anew before.now after.now column }
+/// Whether the column becomes unspecified.
+#[tactic(auto, unfolding(crate::specs::RowParts::becomes_unspecified))]
+pub fn becomes_unspecified(before: &Row, after: &Row, column: u8) -> bool
+    ensures { result ≡ becomes_unspecified before.now after.now column }
 {
-    starts_anew(column)
-        && is_rest(column_part(column, rule_at(after, column)))
-        && !is_rest(column_part(column, rule_at(before, column)))
+    is_unspecified(column)
+        && is_unruled(column_part(column, rule_at(after, column)))
+        && !is_unruled(column_part(column, rule_at(before, column)))
 }

@@ -1,18 +1,19 @@
-//! The rules of a record: those of a row that are not at rest, and those that differ between two rows.
+//! The rules of a record: those that a row has, and those that differ between two rows.
 ghost use Rattle.std.specs.Prelude.{◌≡◌, ◌≤◌, ◌++◌, IfOk, OnOk};
 ghost use Rattle.std.specs.Option.{option_to_list};
 ghost use Rattle.frame_rows.specs.Rows.{empty_row};
-ghost use Rattle.rule_postfix.specs.Parts.{column_part};
-ghost use Rattle.rule_postfix.specs.Rules.{resting, own_name, rule_spelled, spelled, rule_of, rules_of, registers, if_other, if_changed, row_rules, changed_rules, comes_to_rest};
+ghost use Rattle.rule_postfix.specs.RowParts.{column_part};
+ghost use Rattle.rule_postfix.specs.RowRules.{unruled_tokens, own_name, rule_spelled, spelled, rule_of, rules_of, registers, if_other, if_changed, row_rules, changed_rules, some_becomes_unspecified};
 
-use crate::parts::{Part, cfa_part, column_part, is_kept, rests_anew, rule_at, same_part};
+use crate::parts::{RowPart, cfa_part, column_part, is_kept, becomes_unspecified, rule_at, same_part};
 use frame_rows::{Row, Rule};
 use std::alloc::Global;
 use sym_edges::{ListOf, OutOfMemory};
 use sym_records::{RuleText, Rules, Target, Token, Tokens};
 
-fn resting(target: &Target) -> Option<Tokens>
-    ensures { result ≡ resting target.now }
+#[tactic(auto, unfolding(sym_edges::specs::Abi::default_of))]
+fn unruled_tokens(target: &Target) -> Option<Tokens>
+    ensures { result ≡ unruled_tokens target.now }
 {
     match target {
         Target::Reg(column) => {
@@ -55,22 +56,22 @@ fn rule_spelled(target: &Target, given: Rule) -> Option<Tokens>
     }
 }
 
-#[tactic(auto, unfolding(crate::specs::Rules::spelled))]
-fn spelled(target: &Target, part: Part) -> Option<Tokens>
+#[tactic(auto, unfolding(crate::specs::RowRules::spelled))]
+fn spelled(target: &Target, part: RowPart) -> Option<Tokens>
     ensures { result ≡ spelled target.now part }
 {
     match part {
-        Part::AtRest => resting(target),
-        Part::Base(cfa) => Some(Tokens::three(
+        RowPart::Unruled => unruled_tokens(target),
+        RowPart::Base(cfa) => Some(Tokens::three(
             Token::Reg(cfa.register),
             Token::Number(cfa.offset),
             Token::Add,
         )),
-        Part::Column(given) => rule_spelled(target, given),
+        RowPart::Column(given) => rule_spelled(target, given),
     }
 }
 
-fn spelled_if_other(target: &Target, before: Part, after: Part) -> Option<Tokens>
+fn spelled_if_other(target: &Target, before: RowPart, after: RowPart) -> Option<Tokens>
     ensures { result ≡ if_other target.now before after }
 {
     if same_part(before, after) {
@@ -178,7 +179,7 @@ fn empty_row() -> Row
     }
 }
 
-/// The rules of the targets that are not at rest at a row.
+/// The rules that a row has.
 #[tactic(auto, using(crate::proofs::RulesLemmas::from_empty))]
 pub fn row_rules(alloc: Global, row: &Row) -> Result<Rules, OutOfMemory>
     ensures { IfOk result (λ rules. rules ≡ row_rules row.now) }
@@ -186,13 +187,13 @@ pub fn row_rules(alloc: Global, row: &Row) -> Result<Rules, OutOfMemory>
     changed_rules(alloc, &empty_row(), row)
 }
 
-/// Whether some column comes to rest and no line can say so.
-#[tactic(auto, using(crate::proofs::RulesLemmas::none_rests, crate::proofs::RulesLemmas::no_more_rests, crate::proofs::RulesLemmas::some_rests), unfolding(crate::specs::Rules::comes_to_rest))]
-pub fn comes_to_rest(before: &Row, after: &Row) -> bool
-    ensures { result ≡ comes_to_rest before.now after.now }
+/// Whether some column becomes unspecified, of which no line can say so.
+#[tactic(auto, using(crate::proofs::RulesLemmas::none_rests, crate::proofs::RulesLemmas::no_more_rests, crate::proofs::RulesLemmas::some_rests), unfolding(crate::specs::RowRules::some_becomes_unspecified))]
+pub fn some_becomes_unspecified(before: &Row, after: &Row) -> bool
+    ensures { result ≡ some_becomes_unspecified before.now after.now }
 {
     for column in 0..17u8 {
-        if rests_anew(before, after, column) {
+        if becomes_unspecified(before, after, column) {
             return true;
         }
     }

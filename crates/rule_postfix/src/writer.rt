@@ -3,7 +3,7 @@ ghost use Rattle.std.specs.Prelude.{◌≡◌, ◌≤◌, [], ◌∷◌, ◌++�
 ghost use Rattle.rule_postfix.specs.FrameLines.{change};
 ghost use Rattle.rule_postfix.specs.Writing.{opened, closed, with_changes, with_row};
 
-use crate::rules::{changed_rules, comes_to_rest, row_rules};
+use crate::rules::{changed_rules, some_becomes_unspecified, row_rules};
 use frame_rows::Row;
 use std::alloc::Global;
 use std::marker::Model;
@@ -87,7 +87,7 @@ impl Writer {
         requires above_base { self.old.base ≤ self.old.start }
         ensures { OnOk result (self.new ≡ with_row address before.now after.now self.old) }
     {
-        if comes_to_rest(before, after) {
+        if some_becomes_unspecified(before, after) {
             let rules = row_rules(alloc, after)?;
             self.end_init(address, rules)
         } else {

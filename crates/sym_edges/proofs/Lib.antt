@@ -1,3 +1,5 @@
 pub mod MemoryLemmas
 pub mod ReadingLemmas
 pub mod WritingLemmas
+pub mod Hex
+pub mod Shown

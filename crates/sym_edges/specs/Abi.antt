@@ -24,13 +24,13 @@ unfoldable pub is_kept : ℕ → Bool
 is_kept column = column == 3 || (column == 6 || (nat_le 12 column && nat_le column 15))
 
 -- what a column means for which no rule is given
-pub data Unruled : Type 0 where
+pub data Default : Type 0 where
   -- the register has the value that it still has
-  KeepsValue : Unruled
+  KeepsValue : Default
   -- the register is the CFA, as rsp is behind a return
-  IsCfa : Unruled
+  IsCfa : Default
   -- nothing is specified
-  Unspecified : Unruled
+  Unspecified : Default
 
-unfoldable pub unruled : ℕ → Unruled
-unruled column = if is_kept column then KeepsValue else if column == stack_pointer then IsCfa else Unspecified
+unfoldable pub default_of : ℕ → Default
+default_of column = if is_kept column then KeepsValue else if column == stack_pointer then IsCfa else Unspecified

@@ -1,5 +1,5 @@
 use Rattle.std.proofs.Common.{◌≡◌, ◌++◌}
-use Rattle.rule_postfix.specs.Rules.{rules_of, registers, if_changed}
+use Rattle.rule_postfix.specs.RowRules.{rules_of, registers, if_changed}
 use Rattle.rule_postfix.proofs.rules.put_registers.Given as goal
 
 abbrev pub invariant-loop-number : goal.invariant-loop-number

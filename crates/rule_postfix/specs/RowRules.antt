@@ -9,19 +9,23 @@ use Rattle.sym_records.specs.declared.rules.Target.TheVariants.{Cfa, Ra, Reg, Ot
 use Rattle.sym_records.specs.declared.rules.Token.{Token}
 use Rattle.sym_records.specs.declared.rules.Token.TheVariants as token
 use Rattle.sym_records.specs.declared.rules.RuleText.{RuleText}
-use Rattle.rule_postfix.specs.declared.parts.Part.{Part}
-use Rattle.rule_postfix.specs.declared.parts.Part.TheVariants.{AtRest, Base, Column}
-use Rattle.sym_edges.specs.Abi.{is_kept, stack_pointer}
-use Rattle.rule_postfix.specs.Parts.{is_rest, same_part, part_of, rests_anew}
+use Rattle.rule_postfix.specs.declared.parts.RowPart.{RowPart}
+use Rattle.rule_postfix.specs.declared.parts.RowPart.TheVariants.{Unruled, Base, Column}
+use Rattle.sym_edges.specs.Abi.{Default, KeepsValue, IsCfa, Unspecified, default_of}
+use Rattle.rule_postfix.specs.RowParts.{is_unruled, same_part, part_of, becomes_unspecified}
 
--- at rest a kept register has the value that it still has, and rsp is the CFA; of the others nothing is known
-abbrev pub resting : Target → Option (List Token)
-resting Cfa = None
-resting Ra = None
-resting (Reg column) =
-    if is_kept column then Some (token.Reg column ∷ []) else
-    if column == stack_pointer then Some (token.Cfa ∷ []) else None
-resting (Other name) = None
+-- what says that a target is unruled again: a kept register has the value that it still has, and rsp is the CFA; of the others nothing
+-- can be said
+abbrev pub default_tokens : Default → ℕ → Option (List Token)
+default_tokens KeepsValue column = Some (token.Reg column ∷ [])
+default_tokens IsCfa column = Some (token.Cfa ∷ [])
+default_tokens Unspecified column = None
+
+abbrev pub unruled_tokens : Target → Option (List Token)
+unruled_tokens Cfa = None
+unruled_tokens Ra = None
+unruled_tokens (Reg column) = default_tokens (default_of column) column
+unruled_tokens (Other name) = None
 
 -- a register by its own name
 abbrev pub own_name : Target → Option (List Token)
@@ -40,8 +44,8 @@ rule_spelled t (rule.ValOffset n) = Some (token.Cfa ∷ token.Number n ∷ token
 rule_spelled t (rule.Register register) = Some (token.Reg register ∷ [])
 
 -- the tokens of a part, where it has a spelling; the CFA is a register plus an offset
-unfoldable pub spelled : Target → Part → Option (List Token)
-spelled t AtRest = resting t
+unfoldable pub spelled : Target → RowPart → Option (List Token)
+spelled t Unruled = unruled_tokens t
 spelled t (Base cfa) = Some (token.Reg cfa.register ∷ token.Number cfa.offset ∷ token.Add ∷ [])
 spelled t (Column given) = rule_spelled t given
 
@@ -67,12 +71,12 @@ rules_of tokens ts = filter_map (rule_by tokens) ts
 unfoldable pub rules_by : (Target → Option (List Token)) → List RuleText
 rules_by tokens = rules_of tokens targets
 
--- what is not at rest at a row
-unfoldable pub if_not_at_rest : Row → Target → Option (List Token)
-if_not_at_rest row t = if is_rest (part_of row t) then None else spelled t (part_of row t)
+-- what has a rule at a row
+unfoldable pub if_ruled : Row → Target → Option (List Token)
+if_ruled row t = if is_unruled (part_of row t) then None else spelled t (part_of row t)
 
 -- what differs between two rows, as it is at the second
-abbrev pub if_other : Target → Part → Part → Option (List Token)
+abbrev pub if_other : Target → RowPart → RowPart → Option (List Token)
 if_other t before after = if same_part before after then None else spelled t after
 
 unfoldable pub if_changed : Row → Row → Target → Option (List Token)
@@ -80,14 +84,14 @@ if_changed before after t = if_other t (part_of before t) (part_of after t)
 
 -- the rules of a row, and the changes between two
 unfoldable pub row_rules : Row → List RuleText
-row_rules row = rules_by (if_not_at_rest row)
+row_rules row = rules_by (if_ruled row)
 
 unfoldable pub changed_rules : Row → Row → List RuleText
 changed_rules before after = rules_by (if_changed before after)
 
--- some column comes to rest of which no line can say so
-unfoldable pub rests_below : Row → Row → ℕ → Bool
-rests_below before after n = list_any (rests_anew before after) (range_with_len 0 n)
+-- some column becomes unspecified, of which no line can say so
+unfoldable pub some_unspecified_below : Row → Row → ℕ → Bool
+some_unspecified_below before after n = list_any (becomes_unspecified before after) (range_with_len 0 n)
 
-unfoldable pub comes_to_rest : Row → Row → Bool
-comes_to_rest before after = rests_below before after 17
+unfoldable pub some_becomes_unspecified : Row → Row → Bool
+some_becomes_unspecified before after = some_unspecified_below before after 17

@@ -1,7 +1,7 @@
 -- What a row says of each target, in the one form by which lines are written: rules that mean the same are one part
 -- (DWARF 5, section 6.4.1; System V ABI for AMD64, section 3.2.1).
 use Rattle.std.specs.Prelude.{ℕ, ◌==◌, ◌&&◌, ◌||◌, not, nat_le, Bool, true, false, if◌then◌else◌, Option, Some, None}
-use Rattle.sym_edges.specs.Abi.{is_kept, stack_pointer, return_address}
+use Rattle.sym_edges.specs.Abi.{Default, KeepsValue, IsCfa, Unspecified, default_of, is_kept, return_address}
 use Rattle.std.specs.List.{slice_index_or}
 use Rattle.std.specs.Ordering.{int_eq}
 use Rattle.frame_rows.specs.declared.row.Rule.{Rule}
@@ -10,8 +10,8 @@ use Rattle.frame_rows.specs.declared.row.CfaRule.{CfaRule}
 use Rattle.frame_rows.specs.declared.row.Row.{Row}
 use Rattle.sym_records.specs.declared.rules.Target.{Target}
 use Rattle.sym_records.specs.declared.rules.Target.TheVariants.{Cfa, Ra, Reg, Other}
-use Rattle.rule_postfix.specs.declared.parts.Part.{Part}
-use Rattle.rule_postfix.specs.declared.parts.Part.TheVariants.{AtRest, Base, Column}
+use Rattle.rule_postfix.specs.declared.parts.RowPart.{RowPart}
+use Rattle.rule_postfix.specs.declared.parts.RowPart.TheVariants.{Unruled, Base, Column}
 
 -- the register's own value is what it still has
 abbrev pub own_as_same : ℕ → Rule → Rule
@@ -22,36 +22,36 @@ own_as_same column (rule.Offset n) = rule.Offset n
 own_as_same column (rule.ValOffset n) = rule.ValOffset n
 own_as_same column (rule.Register register) = if register == column then rule.Same else rule.Register register
 
--- a column without a rule is at rest, and so is one that is not known; a kept register that still has its value is too
-abbrev pub by_group : Bool → Rule → Part
-by_group kept rule.Rest = AtRest
-by_group kept rule.Undefined = AtRest
-by_group kept rule.Same = if kept then AtRest else Column rule.Same
+-- a column without a rule is unruled, and so is one that is undefined; a kept register that still has its value is too
+abbrev pub by_group : Bool → Rule → RowPart
+by_group kept rule.Rest = Unruled
+by_group kept rule.Undefined = Unruled
+by_group kept rule.Same = if kept then Unruled else Column rule.Same
 by_group kept (rule.Offset n) = Column (rule.Offset n)
 by_group kept (rule.ValOffset n) = Column (rule.ValOffset n)
 by_group kept (rule.Register register) = Column (rule.Register register)
 
-unfoldable pub column_part : ℕ → Rule → Part
+unfoldable pub column_part : ℕ → Rule → RowPart
 column_part column given = by_group (is_kept column) (own_as_same column given)
 
-abbrev pub cfa_part : Option CfaRule → Part
-cfa_part None = AtRest
+abbrev pub cfa_part : Option CfaRule → RowPart
+cfa_part None = Unruled
 cfa_part (Some cfa) = Base cfa
 
 -- the rule of a column, and the part of a target
 abbrev pub rule_at : Row → ℕ → Rule
 rule_at row column = slice_index_or row.rules column rule.Rest
 
-unfoldable pub part_of : Row → Target → Part
+unfoldable pub part_of : Row → Target → RowPart
 part_of row Cfa = cfa_part row.cfa
 part_of row Ra = column_part return_address (rule_at row return_address)
 part_of row (Reg column) = column_part column (rule_at row column)
-part_of row (Other name) = AtRest
+part_of row (Other name) = Unruled
 
-abbrev pub is_rest : Part → Bool
-is_rest AtRest = true
-is_rest (Base cfa) = false
-is_rest (Column given) = false
+abbrev pub is_unruled : RowPart → Bool
+is_unruled Unruled = true
+is_unruled (Base cfa) = false
+is_unruled (Column given) = false
 
 -- the same part
 abbrev pub same_rule : Rule → Rule → Bool
@@ -63,17 +63,23 @@ same_rule (rule.ValOffset m) (rule.ValOffset n) = int_eq m n
 same_rule (rule.Register r) (rule.Register s) = r == s
 same_rule _ _ = false
 
-abbrev pub same_part : Part → Part → Bool
-same_part AtRest AtRest = true
+abbrev pub same_part : RowPart → RowPart → Bool
+same_part Unruled Unruled = true
 same_part (Base a) (Base b) = a.register == b.register && int_eq a.offset b.offset
 same_part (Column a) (Column b) = same_rule a b
 same_part _ _ = false
 
--- no line can say that the column is at rest again: the return address, and the registers that a call may change
-abbrev pub starts_anew : ℕ → Bool
-starts_anew column = not (is_kept column) && not (column == stack_pointer)
+-- nothing is specified of the column where no rule is given: the return address, and the registers that a call may change. Of these no
+-- line can say that they are unruled again
+abbrev pub leaves_unspecified : Default → Bool
+leaves_unspecified KeepsValue = false
+leaves_unspecified IsCfa = false
+leaves_unspecified Unspecified = true
 
--- at the second of two rows such a column is at rest, and at the first it is not
-unfoldable pub rests_anew : Row → Row → ℕ → Bool
-rests_anew before after column =
-    starts_anew column && (is_rest (column_part column (rule_at after column)) && not (is_rest (column_part column (rule_at before column))))
+unfoldable pub is_unspecified : ℕ → Bool
+is_unspecified column = leaves_unspecified (default_of column)
+
+-- at the second of two rows such a column is unruled, and at the first it is not
+unfoldable pub becomes_unspecified : Row → Row → ℕ → Bool
+becomes_unspecified before after column =
+    is_unspecified column && (is_unruled (column_part column (rule_at after column)) && not (is_unruled (column_part column (rule_at before column))))
