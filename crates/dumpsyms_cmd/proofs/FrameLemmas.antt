@@ -17,7 +17,9 @@ use Rattle.dumpsyms_cmd.specs.Publics.{publics, public_at}
 use Rattle.dumpsyms_cmd.specs.Refusals.{line, omitted_line, omitted_text}
 use Rattle.dumpsyms_cmd.specs.Frames.{frames, written_of, is_plain}
 use Rattle.dumpsyms_cmd.specs.Dump.{module_line, info_line, info_lines, head_lines, dump_lines, is_unbuilt}
-use Rattle.dumpsyms_cmd.specs.Answers.{DumpsParts}
+use Rattle.sym_records.specs.Canon.{canon_text}
+use Rattle.sym_records.specs.Reading.{reading}
+use Rattle.dumpsyms_cmd.specs.Judged.{DumpsParts}
 
 -- words by what they are, and words as they are
 fields_are : {X : Type 0} (f : X → List ℕ) (words : List X) → flat_map (λ word. 32 ∷ f word) words ≡ flat_map (λ field. 32 ∷ field) (map f words)
@@ -86,14 +88,15 @@ pub record CoversWritten (base : ℕ) (image : ImageParts) (found : FrameLists) 
   pub nested : AreNested 0 0 (written_lines base (written_of image found))
 
 -- the records of a file say which written entry covers an address
-pub frames_dumped : (image : ImageParts) (name text : List ℕ) (found : FrameLists) (lines : List SymLine) → is_unbuilt image ≡ false → frames image ≡ Ok found → lines ≡ head_lines image name ++ written_lines image.base (written_of image found) → text ≡ omitted_text (omitted image.code found.first found.second) → CoversWritten image.base image found → DumpsParts image name lines text
+pub frames_dumped : (image : ImageParts) (name text : List ℕ) (found : FrameLists) (lines : List SymLine) → is_unbuilt image ≡ false → frames image ≡ Ok found → lines ≡ head_lines image name ++ written_lines image.base (written_of image found) → text ≡ omitted_text (omitted image.code found.first found.second) → CoversWritten image.base image found → reading (canon_text lines) ≡ Ok lines → DumpsParts image name lines text
 unfolding dump_lines
-frames_dumped image name text found lines built found_is are listed cover = record {
+frames_dumped image name text found lines built found_is are listed cover reads = record {
   found = found;
   built = built;
   found_is = found_is;
   lines_are = are;
   text_is = listed;
+  reads = reads;
   says = record {
     front = head_lines image name;
     plain = plain_head image name;
@@ -105,8 +108,8 @@ frames_dumped image name text found lines built found_is are listed cover = reco
 }
 
 -- the same, by what each call gave
-pub dumps_framed : (image : ImageParts) (name text : List ℕ) (found : FrameLists) (lines framed : List SymLine) (base : ℕ) (code : List Range) (omissions : List Omission) → is_unbuilt image ≡ false → frames image ≡ Ok found → base ≡ image.base → code ≡ image.code → framed ≡ written_lines base (written code found.first found.second) → ((x : ℕ) → inits_at framed x ≡ entries_at (written code found.first found.second) (x + base)) → AreNested 0 0 framed → AreDisjoint (written code found.first found.second) → omissions ≡ omitted code found.first found.second → lines ≡ head_lines image name ++ framed → text ≡ omitted_text omissions → DumpsParts image name lines text
-dumps_framed image name text found lines framed base code omissions built found_is low ranges framed_is cover nested apart left are listed =
+pub dumps_framed : (image : ImageParts) (name text : List ℕ) (found : FrameLists) (lines framed : List SymLine) (base : ℕ) (code : List Range) (omissions : List Omission) → is_unbuilt image ≡ false → frames image ≡ Ok found → base ≡ image.base → code ≡ image.code → framed ≡ written_lines base (written code found.first found.second) → ((x : ℕ) → inits_at framed x ≡ entries_at (written code found.first found.second) (x + base)) → AreNested 0 0 framed → AreDisjoint (written code found.first found.second) → omissions ≡ omitted code found.first found.second → lines ≡ head_lines image name ++ framed → reading (canon_text lines) ≡ Ok lines → text ≡ omitted_text omissions → DumpsParts image name lines text
+dumps_framed image name text found lines framed base code omissions built found_is low ranges framed_is cover nested apart left are reads listed =
     let all : framed ≡ written_lines image.base (written_of image found) =
     framed_is ∙ ap (λ b. written_lines b (written code found.first found.second)) low ∙ ap (λ k. written_lines image.base (written k found.first found.second)) ranges in
     frames_dumped image name text found lines built found_is
@@ -117,3 +120,4 @@ dumps_framed image name text found lines framed base code omissions built found_
       at = λ x. ap (λ l. inits_at l x) (sym all) ∙ cover x ∙ ap (λ b. entries_at (written code found.first found.second) (x + b)) low ∙ ap (λ k. entries_at (written k found.first found.second) (x + image.base)) ranges;
       nested = subst (AreNested 0 0) all nested;
     })
+    reads

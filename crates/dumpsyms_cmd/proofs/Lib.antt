@@ -1,7 +1,7 @@
 pub mod PublicLemmas
 pub mod WordLemmas
 pub mod RecordLemmas
-pub mod AnswerLemmas
+pub mod JudgedLemmas
 pub mod WriteLemmas
 pub mod RunLemmas
 pub mod FrameLemmas

@@ -1,186 +1,175 @@
-use Rattle.std.proofs.Common.{◌≡◌, ◌⊎◌, inl, inr, ℕ, zero, suc, take, ◌<◌, ◌≤◌, List, [], Option, Some, None, IsSome, refl, sym, ◌∙◌, ap, arith, subst}
+-- The promises of a run, by the three kinds of answer.
+use Rattle.std.proofs.Common.{◌≡◌, ◌⊎◌, inl, inr, ℕ, zero, suc, take, ◌<◌, ◌≤◌, Bool, true, false, List, [], Option, Some, None, IsSome, refl, sym, ◌∙◌, ap, arith, subst}
 use Rattle.sym_edges.specs.Outside.{Files, Tells, Rose, AddsFront, append_told}
-use Rattle.sym_records.specs.Canon.{canon_text}
-use Rattle.sym_records.specs.declared.line.SymLine.{SymLine}
-use Rattle.dumpsyms_cmd.specs.Words.{Asked, dump, module_name}
-use Rattle.dumpsyms_cmd.specs.Verdict.{Verdict, usage, unread, image_verdict, file_verdict, command_verdict}
-use Rattle.dumpsyms_cmd.specs.Answers.{answer_verdict, DumpsFor, AnswersCommand}
-use Rattle.dumpsyms_cmd.specs.Program.{Received, HoldsFronts, Stood, Means, Answered, KeepsMeaning, IsUsage, NoRowIsUsage, IsUnread, IsUnwritten, LeavesFronts, IsOutOfMemory, IsComplete}
-use Rattle.dumpsyms_cmd.specs.Writes.{Writes, ReadsBack}
-use Rattle.dumpsyms_cmd.specs.declared.answer.Answer.{Answer}
-use Rattle.dumpsyms_cmd.specs.declared.answer.Answer.TheVariants.{NoRow, Unread, Refused, Dumped, NoMemory}
-use Rattle.dumpsyms_cmd.proofs.AnswerLemmas.{within, frames_told}
+use Rattle.dumpsyms_cmd.specs.Words.{Asked, files_of}
+use Rattle.dumpsyms_cmd.specs.Refusals.{usage_line, unread_line}
+use Rattle.dumpsyms_cmd.specs.Verdict.{Verdict, unread, command_verdict}
+use Rattle.dumpsyms_cmd.specs.Observed.{Reading, Writing, Stood, StoreFailed, SinkFailed, StoreStood, SinkStood, Received, ReceivedFront, ReceivedNothing, ReceivedWhole, ReceivedFronts, Asks}
+use Rattle.dumpsyms_cmd.specs.Judged.{out_bytes, err_bytes, is_some_output, has_output, judgement_verdict, answer_verdict, IsUsage, IsJudged, AnswersCommand}
+use Rattle.dumpsyms_cmd.specs.Writes.{Writes}
+use Rattle.dumpsyms_cmd.specs.Program.{Run, command, WasJudged, Promises}
+use Rattle.dumpsyms_cmd.specs.declared.judgement.Output.{Output}
+use Rattle.dumpsyms_cmd.specs.declared.judgement.Output.TheVariants.{Nothing}
+use Rattle.dumpsyms_cmd.specs.declared.judgement.Judgement.{Judgement}
+use Rattle.dumpsyms_cmd.specs.declared.judgement.Answer.{Answer}
+use Rattle.dumpsyms_cmd.specs.declared.judgement.Answer.TheVariants.{Judged, Unread, NoMemory}
+use Rattle.dumpsyms_cmd.proofs.JudgedLemmas.{told, always}
 use Rattle.dumpsyms_cmd.proofs.WriteLemmas.{nothing}
-
--- what follows of what is told
-told : {A : Type 0} (P Q : A → Type 0) (o : Option A) → ((x : A) → P x → Q x) → Tells o P → Tells o Q
-told P Q None f h = tt
-told P Q (Some x) f h = f x h
-
-always : {A : Type 0} (Q : A → Type 0) (o : Option A) → ((x : A) → Q x) → Tells o Q
-always Q None f = tt
-always Q (Some x) f = f x
-
--- the verdict of a file that was dumped
-dumped_verdict : (command : Option Asked) (files : Files) (lines : List SymLine) (text : List ℕ) → DumpsFor command files lines text → command_verdict command files ≡ record { status = 0; out = canon_text lines; err = text }
-dumped_verdict None files lines text dumps = absurd dumps
-dumped_verdict (Some (dump elf)) files lines text dumps =
-    ap (file_verdict elf) dumps.there ∙ within (module_name elf) dumps.file dumps.few
-    ∙ ap (λ i. image_verdict i (module_name elf)) dumps.dumps.image_is
-    ∙ frames_told dumps.dumps.parts (module_name elf) lines text dumps.dumps.dumps
-
--- an answer of status 0, 1 or 2 is the verdict
-judged : (answer : Answer) (command : Option Asked) (files : Option Files) (s s' : ℕ) → AnswersCommand answer command files s s' → (answer_verdict answer).status < 3 → Tells files (λ f. command_verdict command f ≡ answer_verdict answer)
-judged NoRow command files s s' says low = always (λ f. command_verdict command f ≡ usage) files (λ f. ap (λ c. command_verdict c f) says)
-judged Unread command files s s' says low = absurd (omega arith)
-judged (Refused text) command files s s' says low = says.1
-judged (Dumped lines text) command files s s' says low =
-    told (λ f. DumpsFor command f lines text) (λ f. command_verdict command f ≡ answer_verdict (Dumped lines text)) files (λ f dumps. dumped_verdict command f lines text dumps) says.1
-judged NoMemory command files s s' says low = absurd (omega arith)
-
-pub answered : (answer : Answer) (result : ℕ) (command : Option Asked) (files : Option Files) (s s' of of' ef ef' : ℕ) (ob oa eb ea : Option (List ℕ)) → AnswersCommand answer command files s s' → Writes result (answer_verdict answer) ob oa of of' eb ea ef ef' → Answered result command files ob oa eb ea
-answered answer result command files s s' of of' ef ef' ob oa eb ea says (inr failed) low = absurd (let is = failed.0 in omega arith)
-answered answer result command files s s' of of' ef ef' ob oa eb ea says (inl whole) low =
-    let is = whole.0 in
-    told (λ f. command_verdict command f ≡ answer_verdict answer) (λ f. (result ≡ (command_verdict command f).status) × Received (command_verdict command f) ob oa eb ea) files
-    (λ f same. (
-      is ∙ ap (λ (v : Verdict). v.status) (sym same),
-      (let P : Verdict → Type 0 = λ v. Received v ob oa eb ea in subst P (sym same) whole.1),
-    ))
-    (judged answer command files s s' says (omega arith))
-
-pub meaning : (answer : Answer) (result : ℕ) (command : Option Asked) (files : Option Files) (s s' of of' ef ef' : ℕ) (ob oa eb ea : Option (List ℕ)) → AnswersCommand answer command files s s' → Writes result (answer_verdict answer) ob oa of of' eb ea ef ef' → ReadsBack answer → KeepsMeaning result command files ob oa eb ea
-meaning answer result command files s s' of of' ef ef' ob oa eb ea says (inr failed) reads done = absurd (let is = failed.0 in omega arith)
-meaning NoRow result command files s s' of of' ef ef' ob oa eb ea says (inl whole) reads done = absurd (let is = whole.0 in omega arith)
-meaning Unread result command files s s' of of' ef ef' ob oa eb ea says (inl whole) reads done = absurd (let is = whole.0 in omega arith)
-meaning (Refused text) result command files s s' of of' ef ef' ob oa eb ea says (inl whole) reads done = absurd (let is = whole.0 in omega arith)
-meaning (Dumped lines text) result command files s s' of of' ef ef' ob oa eb ea says (inl whole) reads done =
-    told (λ f. DumpsFor command f lines text) (λ f. Means command f ob oa eb ea) files
-    (λ f dumps. record { lines = lines; text = text; dumped = dumps; received = whole.1.out; reads = reads; listed = whole.1.err }) says.1
-meaning NoMemory result command files s s' of of' ef ef' ob oa eb ea says (inl whole) reads done = absurd (let is = whole.0 in omega arith)
-
-pub usage_only : (answer : Answer) (result : ℕ) (command : Option Asked) (files : Option Files) (s s' of of' ef ef' : ℕ) (ob oa eb ea : Option (List ℕ)) → AnswersCommand answer command files s s' → Writes result (answer_verdict answer) ob oa of of' eb ea ef ef' → IsUsage result command ob oa eb ea
-usage_only answer result command files s s' of of' ef ef' ob oa eb ea says (inr failed) two = absurd (let is = failed.0 in omega arith)
-usage_only NoRow result command files s s' of of' ef ef' ob oa eb ea says (inl whole) two = (says, whole.1.out ∙ nothing ob, whole.1.err)
-usage_only Unread result command files s s' of of' ef ef' ob oa eb ea says (inl whole) two = absurd (let is = whole.0 in omega arith)
-usage_only (Refused text) result command files s s' of of' ef ef' ob oa eb ea says (inl whole) two = absurd (let is = whole.0 in omega arith)
-usage_only (Dumped lines text) result command files s s' of of' ef ef' ob oa eb ea says (inl whole) two = absurd (let is = whole.0 in omega arith)
-usage_only NoMemory result command files s s' of of' ef ef' ob oa eb ea says (inl whole) two = absurd (let is = whole.0 in omega arith)
 
 none_some : {A : Type 0} (o : Option A) → o ≡ None → IsSome o → ⊥
 none_some None is some = cc
 none_some (Some x) is some = cc
 
-err_rose : (status of of' ef ef' : ℕ) → status ≡ 2 → (((status ≡ 0) × Rose of of') ⊎ Rose ef ef') → Rose ef ef'
-err_rose status of of' ef ef' two (inl out) = absurd (let zero = out.0 in omega arith)
-err_rose status of of' ef ef' two (inr rose) = rose
+-- a write failed
+some_failed : (has : Bool) (out err : Writing) → (((has ≡ true) × SinkFailed out) ⊎ SinkFailed err) → SinkFailed out ⊎ SinkFailed err
+some_failed has out err (inl failed) = inl failed.1
+some_failed has out err (inr failed) = inr failed
 
-absent : (answer : Answer) (command : Option Asked) (files : Option Files) (s s' : ℕ) → AnswersCommand answer command files s s' → command ≡ None → answer_verdict answer ≡ usage
-absent NoRow command files s s' says none = refl
-absent Unread command files s s' says none = absurd (none_some command none says.0)
-absent (Refused text) command files s s' says none = absurd (none_some command none says.0)
-absent (Dumped lines text) command files s s' says none = absurd (none_some command none says.0)
-absent NoMemory command files s s' says none = absurd (none_some command none says)
+err_failed : (has : Bool) (out err : Writing) → has ≡ false → (((has ≡ true) × SinkFailed out) ⊎ SinkFailed err) → SinkFailed err
+err_failed has out err none (inl failed) = absurd (let h = failed.0 in cc)
+err_failed has out err none (inr failed) = failed
 
-pub no_row : (answer : Answer) (result : ℕ) (command : Option Asked) (files : Option Files) (s s' of of' ef ef' : ℕ) (ob oa eb ea : Option (List ℕ)) → AnswersCommand answer command files s s' → Writes result (answer_verdict answer) ob oa of of' eb ea ef ef' → NoRowIsUsage result command ef ef'
-no_row answer result command files s s' of of' ef ef' ob oa eb ea says (inl whole) none =
-    inl (whole.0 ∙ ap (λ (v : Verdict). v.status) (absent answer command files s s' says none))
-no_row answer result command files s s' of of' ef ef' ob oa eb ea says (inr failed) none =
-    inr (failed.0, err_rose (answer_verdict answer).status of of' ef ef' (ap (λ (v : Verdict). v.status) (absent answer command files s s' says none)) failed.2)
+-- a count that rose did not stand
+stood_rose : (before after : ℕ) → Stood before after → Rose before after → ⊥
+stood_rose before after stood rose = let more = rose stood.1 in let same = stood.0 in omega arith
 
-pub unread_only : (answer : Answer) (result : ℕ) (command : Option Asked) (files : Option Files) (s s' of of' ef ef' : ℕ) (ob oa eb ea : Option (List ℕ)) → AnswersCommand answer command files s s' → Writes result (answer_verdict answer) ob oa of of' eb ea ef ef' → IsUnread result s s' ob oa eb ea
-unread_only answer result command files s s' of of' ef ef' ob oa eb ea says (inr failed) three = absurd (let is = failed.0 in omega arith)
-unread_only NoRow result command files s s' of of' ef ef' ob oa eb ea says (inl whole) three = absurd (let is = whole.0 in omega arith)
-unread_only Unread result command files s s' of of' ef ef' ob oa eb ea says (inl whole) three = (says.1, whole.1.out ∙ nothing ob, whole.1.err)
-unread_only (Refused text) result command files s s' of of' ef ef' ob oa eb ea says (inl whole) three = absurd (let is = whole.0 in omega arith)
-unread_only (Dumped lines text) result command files s s' of of' ef ef' ob oa eb ea says (inl whole) three = absurd (let is = whole.0 in omega arith)
-unread_only NoMemory result command files s s' of of' ef ef' ob oa eb ea says (inl whole) three = absurd (let is = whole.0 in omega arith)
+no_failure : (out err : Writing) → SinkStood out → SinkStood err → SinkFailed out ⊎ SinkFailed err → ⊥
+no_failure out err quiet calm (inl failed) = stood_rose out.faults out.faults_after quiet failed
+no_failure out err quiet calm (inr failed) = stood_rose err.faults err.faults_after calm failed
 
-some_rose : (status of of' ef ef' : ℕ) → (((status ≡ 0) × Rose of of') ⊎ Rose ef ef') → Rose of of' ⊎ Rose ef ef'
-some_rose status of of' ef ef' (inl out) = inl out.1
-some_rose status of of' ef ef' (inr rose) = inr rose
+-- a judgement on words that are no row is the usage line
+usage_by : (c : Option Asked) (files : Option Files) (j : Judgement) → IsJudged j c files → c ≡ None → IsUsage j
+usage_by None files j judged none = judged.kept
+usage_by (Some asked) files j judged none = absurd (none_some (Some asked) none refl)
 
-status_known : (answer : Answer) → ((answer_verdict answer).status ≡ 4) → ⊥
-status_known NoRow is = absurd (omega arith)
-status_known Unread is = absurd (omega arith)
-status_known (Refused text) is = absurd (omega arith)
-status_known (Dumped lines text) is = absurd (omega arith)
-status_known NoMemory is = absurd (omega arith)
+row_by : (c : Option Asked) (files : Option Files) (j : Judgement) → IsJudged j c files → j.status ≡ 2 → c ≡ None
+row_by None files j judged two = refl
+row_by (Some asked) files j judged two = absurd (let low = judged.row refl in omega arith)
 
-pub unwritten : (answer : Answer) (result of of' ef ef' : ℕ) (ob oa eb ea : Option (List ℕ)) → Writes result (answer_verdict answer) ob oa of of' eb ea ef ef' → IsUnwritten result of of' ef ef'
-unwritten answer result of of' ef ef' ob oa eb ea (inl whole) four = absurd (status_known answer (sym whole.0 ∙ four))
-unwritten answer result of of' ef ef' ob oa eb ea (inr failed) four = some_rose (answer_verdict answer).status of of' ef ef' failed.2
+-- what follows where the answer is a judgement
+judged_run : (j : Judgement) (run : Run) → IsJudged j (command run) run.store.files → Writes run.status (judgement_verdict j) (is_some_output j.out) run.out run.err → run.status < 3 → WasJudged run
+judged_run j run judged (inl whole) low = record { judgement = j; status = whole.0; received = whole.1; promised = judged.kept; verdict = judged.told }
+judged_run j run judged (inr failed) low = absurd (let is = failed.0 in omega arith)
 
+nothing_out : (j : Judgement) (run : Run) → IsUsage j → Received run.out (out_bytes j.out) → ReceivedNothing run.out
+nothing_out j run usage took = took ∙ ap (λ (o : Output). append_told run.out.taken (out_bytes o)) usage.out ∙ nothing run.out.taken
+
+usage_run : (j : Judgement) (run : Run) → IsJudged j (command run) run.store.files → Writes run.status (judgement_verdict j) (is_some_output j.out) run.out run.err → run.status ≡ 2 → (command run ≡ None) × ReceivedNothing run.out × Received run.err usage_line
+usage_run j run judged (inl whole) two =
+    let none : command run ≡ None = row_by (command run) run.store.files j judged (sym whole.0 ∙ two) in
+    let usage : IsUsage j = usage_by (command run) run.store.files j judged none in
+    (none, nothing_out j run usage whole.1.out_text, whole.1.err_text ∙ ap (append_told run.err.taken) usage.err)
+usage_run j run judged (inr failed) two = absurd (let is = failed.0 in omega arith)
+
+no_row_run : (j : Judgement) (run : Run) → IsJudged j (command run) run.store.files → Writes run.status (judgement_verdict j) (is_some_output j.out) run.out run.err → command run ≡ None → (run.status ≡ 2) ⊎ ((run.status ≡ 4) × SinkFailed run.err)
+no_row_run j run judged (inl whole) none = inl (whole.0 ∙ (usage_by (command run) run.store.files j judged none).status)
+no_row_run j run judged (inr failed) none =
+    inr (failed.0, err_failed (is_some_output j.out) run.out run.err (ap is_some_output (usage_by (command run) run.store.files j judged none).out) failed.2)
+
+-- other statuses than the one that was written
+unlike : (run : Run) (v : Verdict) (has : Bool) (n : ℕ) → Writes run.status v has run.out run.err → run.status ≡ n → (v.status ≡ n → ⊥) → (n ≡ 4 → ⊥) → ⊥
+unlike run v has n (inl whole) is other four = other (sym whole.0 ∙ is)
+unlike run v has n (inr failed) is other four = four (sym is ∙ failed.0)
+
+unwritten_run : (run : Run) (v : Verdict) (has : Bool) → Writes run.status v has run.out run.err → (v.status ≡ 4 → ⊥) → run.status ≡ 4 → SinkFailed run.out ⊎ SinkFailed run.err
+unwritten_run run v has (inl whole) known four = absurd (known (sym whole.0 ∙ four))
+unwritten_run run v has (inr failed) known four = some_failed has run.out run.err failed.2
+
+fronts_run : (run : Run) (v : Verdict) (has : Bool) → Writes run.status v has run.out run.err → (v.status ≡ 4 → ⊥) → run.status ≡ 4 → ReceivedFronts run.out run.err v
+fronts_run run v has (inl whole) known four = absurd (known (sym whole.0 ∙ four))
+fronts_run run v has (inr failed) known four = failed.1
+
+small : (run : Run) (v : Verdict) (has : Bool) → Writes run.status v has run.out run.err → v.status ≤ 5 → run.status ≤ 5
+small run v has (inl whole) low = let is = whole.0 in omega arith
+small run v has (inr failed) low = let is = failed.0 in omega arith
+
+status_said : (run : Run) (v : Verdict) (has : Bool) → Writes run.status v has run.out run.err → SinkStood run.out → SinkStood run.err → run.status ≡ v.status
+status_said run v has (inl whole) quiet calm = whole.0
+status_said run v has (inr failed) quiet calm = absurd (no_failure run.out run.err quiet calm (some_failed has run.out run.err failed.2))
+
+-- a judgement
+pub by_judgement : (j : Judgement) (run : Run) → IsJudged j (command run) run.store.files → Asks (files_of (command run) run.store.files) run.store.asked run.store.asked_after → Writes run.status (judgement_verdict j) (is_some_output j.out) run.out run.err → Promises run
+by_judgement j run judged asks writes =
+    let low : j.status < 3 = judged.low in
+    let v : Verdict = judgement_verdict j in
+    let has : Bool = is_some_output j.out in
+    record {
+      judged = judged_run j run judged writes;
+      usage = usage_run j run judged writes;
+      no_row = no_row_run j run judged writes;
+      not_read = λ three. absurd (unlike run v has 3 writes three (λ is. omega arith) (λ is. omega arith));
+      not_written = unwritten_run run v has writes (λ is. omega arith);
+      fronts = λ four. inr (
+          told (λ f. command_verdict (command run) f ≡ v) (λ f. ReceivedFronts run.out run.err (command_verdict (command run) f)) run.store.files
+          (λ f same. (let P : Verdict → Type 0 = λ w. ReceivedFronts run.out run.err w in subst P (sym same) (fronts_run run v has writes (λ is. omega arith) four)))
+          judged.told);
+      no_memory = λ five. absurd (unlike run v has 5 writes five (λ is. omega arith) (λ is. omega arith));
+      range = small run v has writes (omega arith);
+      asked = asks;
+      complete = λ stood quiet calm.
+          told (λ f. command_verdict (command run) f ≡ v) (λ f. (run.status ≡ (command_verdict (command run) f).status) ⊎ (run.status ≡ 5)) run.store.files
+          (λ f same. inl (status_said run v has writes quiet calm ∙ ap (λ (w : Verdict). w.status) (sym same)))
+          judged.told;
+    }
+
+unread_run : (run : Run) → StoreFailed run.store → Writes run.status unread false run.out run.err → run.status ≡ 3 → StoreFailed run.store × ReceivedNothing run.out × Received run.err unread_line
+unread_run run failed (inl whole) three = (failed, whole.1.out_text ∙ nothing run.out.taken, whole.1.err_text)
+unread_run run failed (inr stopped) three = absurd (let is = stopped.0 in omega arith)
+
+-- a file that could not be read
+pub by_unread : (run : Run) → IsSome (command run) → StoreFailed run.store → Asks (files_of (command run) run.store.files) run.store.asked run.store.asked_after → Writes run.status unread false run.out run.err → Promises run
+by_unread run some failed asks writes = record {
+  judged = λ low. absurd (unlike run unread false run.status writes refl (λ is. omega arith) (λ is. omega arith));
+  usage = λ two. absurd (unlike run unread false 2 writes two (λ is. omega arith) (λ is. omega arith));
+  no_row = λ none. absurd (none_some (command run) none some);
+  not_read = unread_run run failed writes;
+  not_written = unwritten_run run unread false writes (λ is. omega arith);
+  fronts = λ four. inl (failed, fronts_run run unread false writes (λ is. omega arith) four);
+  no_memory = λ five. absurd (unlike run unread false 5 writes five (λ is. omega arith) (λ is. omega arith));
+  range = small run unread false writes (omega arith);
+  asked = asks;
+  complete = λ stood quiet calm. absurd (stood_rose run.store.faults run.store.faults_after stood failed);
+}
+
+-- want of memory
 none_taken : (n : ℕ) → ◌≡◌ {A = List ℕ} (take n []) []
 none_taken zero = refl
 none_taken (suc n) = refl
 
 -- a front of nothing is a front of any text
-empty_front : (before after : Option (List ℕ)) (text : List ℕ) → AddsFront before after [] → AddsFront before after text
-empty_front before after text front = record { count = 0; within = omega arith; added = front.added ∙ ap (append_told before) (none_taken front.count) }
+empty_front : (sink : Writing) (text : List ℕ) → ReceivedFront sink [] → ReceivedFront sink text
+empty_front sink text front = record { count = 0; within = omega arith; added = front.added ∙ ap (append_told sink.taken) (none_taken front.count) }
 
--- the fronts of an answer are those of the verdict
-judged_fronts : (answer : Answer) (command : Option Asked) (files : Option Files) (s s' : ℕ) (ob oa eb ea : Option (List ℕ)) → AnswersCommand answer command files s s' → (answer_verdict answer).status < 3 → HoldsFronts (answer_verdict answer) ob oa eb ea → Tells files (λ f. HoldsFronts (command_verdict command f) ob oa eb ea)
-judged_fronts answer command files s s' ob oa eb ea says low holds =
-    told (λ f. command_verdict command f ≡ answer_verdict answer) (λ f. HoldsFronts (command_verdict command f) ob oa eb ea) files
-    (λ f same. (let P : Verdict → Type 0 = λ v. HoldsFronts v ob oa eb ea in subst P (sym same) holds))
-    (judged answer command files s s' says low)
+empty_fronts : (run : Run) (v : Verdict) → ReceivedFronts run.out run.err (record { status = 5; out = []; err = [] }) → ReceivedFronts run.out run.err v
+empty_fronts run v fronts = record {
+  out_text = empty_front run.out v.out fronts.out_text;
+  err_text = empty_front run.err v.err fronts.err_text;
+  order = inl (fronts.err_text.added ∙ ap (append_told run.err.taken) (none_taken fronts.err_text.count) ∙ nothing run.err.taken);
+}
 
-fronts_by : (answer : Answer) (command : Option Asked) (files : Option Files) (s s' : ℕ) (ob oa eb ea : Option (List ℕ)) → AnswersCommand answer command files s s' → HoldsFronts (answer_verdict answer) ob oa eb ea → (Rose s s' × HoldsFronts unread ob oa eb ea) ⊎ Tells files (λ f. HoldsFronts (command_verdict command f) ob oa eb ea)
-fronts_by NoRow command files s s' ob oa eb ea says holds = inr (judged_fronts NoRow command files s s' ob oa eb ea says (omega arith) holds)
-fronts_by Unread command files s s' ob oa eb ea says holds = inl (says.1, holds)
-fronts_by (Refused text) command files s s' ob oa eb ea says holds = inr (judged_fronts (Refused text) command files s s' ob oa eb ea says (omega arith) holds)
-fronts_by (Dumped lines text) command files s s' ob oa eb ea says holds = inr (judged_fronts (Dumped lines text) command files s s' ob oa eb ea says (omega arith) holds)
-fronts_by NoMemory command files s s' ob oa eb ea says holds =
-    inr (always (λ f. HoldsFronts (command_verdict command f) ob oa eb ea) files (λ f. record {
-      out = empty_front ob oa (command_verdict command f).out holds.out;
-      err = empty_front eb ea (command_verdict command f).err holds.err;
-      order = inl (holds.err.added ∙ ap (append_told eb) (none_taken holds.err.count) ∙ nothing eb);
-    }))
+no_memory_run : (run : Run) → IsSome (command run) → Writes run.status (record { status = 5; out = []; err = [] }) false run.out run.err → run.status ≡ 5 → IsSome (command run) × ReceivedNothing run.out × ReceivedNothing run.err
+no_memory_run run some (inl whole) five = (some, whole.1.out_text ∙ nothing run.out.taken, whole.1.err_text ∙ nothing run.err.taken)
+no_memory_run run some (inr failed) five = absurd (let is = failed.0 in omega arith)
 
-pub fronts : (answer : Answer) (result : ℕ) (command : Option Asked) (files : Option Files) (s s' of of' ef ef' : ℕ) (ob oa eb ea : Option (List ℕ)) → AnswersCommand answer command files s s' → Writes result (answer_verdict answer) ob oa of of' eb ea ef ef' → LeavesFronts result command files s s' ob oa eb ea
-fronts answer result command files s s' of of' ef ef' ob oa eb ea says (inl whole) four = absurd (status_known answer (sym whole.0 ∙ four))
-fronts answer result command files s s' of of' ef ef' ob oa eb ea says (inr failed) four = fronts_by answer command files s s' ob oa eb ea says failed.1
+pub by_no_memory : (run : Run) → IsSome (command run) → Asks (files_of (command run) run.store.files) run.store.asked run.store.asked_after → Writes run.status (record { status = 5; out = []; err = [] }) false run.out run.err → Promises run
+by_no_memory run some asks writes =
+    let v : Verdict = record { status = 5; out = []; err = [] } in
+    record {
+      judged = λ low. absurd (unlike run v false run.status writes refl (λ is. omega arith) (λ is. omega arith));
+      usage = λ two. absurd (unlike run v false 2 writes two (λ is. omega arith) (λ is. omega arith));
+      no_row = λ none. absurd (none_some (command run) none some);
+      not_read = λ three. absurd (unlike run v false 3 writes three (λ is. omega arith) (λ is. omega arith));
+      not_written = unwritten_run run v false writes (λ is. omega arith);
+      fronts = λ four. inr (always (λ f. ReceivedFronts run.out run.err (command_verdict (command run) f)) run.store.files
+          (λ f. empty_fronts run (command_verdict (command run) f) (fronts_run run v false writes (λ is. omega arith) four)));
+      no_memory = no_memory_run run some writes;
+      range = small run v false writes (omega arith);
+      asked = asks;
+      complete = λ stood quiet calm. always (λ f. (run.status ≡ (command_verdict (command run) f).status) ⊎ (run.status ≡ 5)) run.store.files
+          (λ f. inr (status_said run v false writes quiet calm));
+    }
 
-pub no_memory : (answer : Answer) (result : ℕ) (command : Option Asked) (files : Option Files) (s s' of of' ef ef' : ℕ) (ob oa eb ea : Option (List ℕ)) → AnswersCommand answer command files s s' → Writes result (answer_verdict answer) ob oa of of' eb ea ef ef' → IsOutOfMemory result command ob oa eb ea
-no_memory answer result command files s s' of of' ef ef' ob oa eb ea says (inr failed) five = absurd (let is = failed.0 in omega arith)
-no_memory NoRow result command files s s' of of' ef ef' ob oa eb ea says (inl whole) five = absurd (let is = whole.0 in omega arith)
-no_memory Unread result command files s s' of of' ef ef' ob oa eb ea says (inl whole) five = absurd (let is = whole.0 in omega arith)
-no_memory (Refused text) result command files s s' of of' ef ef' ob oa eb ea says (inl whole) five = absurd (let is = whole.0 in omega arith)
-no_memory (Dumped lines text) result command files s s' of of' ef ef' ob oa eb ea says (inl whole) five = absurd (let is = whole.0 in omega arith)
-no_memory NoMemory result command files s s' of of' ef ef' ob oa eb ea says (inl whole) five = (says, whole.1.out ∙ nothing ob, whole.1.err ∙ nothing eb)
-
-status_small : (answer : Answer) → (answer_verdict answer).status ≤ 5
-status_small NoRow = omega arith
-status_small Unread = omega arith
-status_small (Refused text) = omega arith
-status_small (Dumped lines text) = omega arith
-status_small NoMemory = omega arith
-
-pub ranged : (answer : Answer) (result of of' ef ef' : ℕ) (ob oa eb ea : Option (List ℕ)) → Writes result (answer_verdict answer) ob oa of of' eb ea ef ef' → result ≤ 5
-ranged answer result of of' ef ef' ob oa eb ea (inl whole) = omega (arith, whole.0, status_small answer)
-ranged answer result of of' ef ef' ob oa eb ea (inr failed) = omega (arith, failed.0)
-
-stood_rose : (before after : ℕ) → Stood before after → Rose before after → ⊥
-stood_rose before after stood rose = let more = rose stood.1 in let same = stood.0 in omega arith
-
-no_rise : (of of' ef ef' : ℕ) → Stood of of' → Stood ef ef' → Rose of of' ⊎ Rose ef ef' → ⊥
-no_rise of of' ef ef' quiet calm (inl rose) = stood_rose of of' quiet rose
-no_rise of of' ef ef' quiet calm (inr rose) = stood_rose ef ef' calm rose
-
-low_status : (answer : Answer) (result : ℕ) (command : Option Asked) (files : Option Files) (s s' : ℕ) → AnswersCommand answer command files s s' → (answer_verdict answer).status < 3 → result ≡ (answer_verdict answer).status → Tells files (λ f. (result ≡ (command_verdict command f).status) ⊎ (result ≡ 5))
-low_status answer result command files s s' says low is =
-    told (λ f. command_verdict command f ≡ answer_verdict answer) (λ f. (result ≡ (command_verdict command f).status) ⊎ (result ≡ 5)) files
-    (λ f same. inl (is ∙ ap (λ (v : Verdict). v.status) (sym same))) (judged answer command files s s' says low)
-
-complete_by : (answer : Answer) (result : ℕ) (command : Option Asked) (files : Option Files) (s s' : ℕ) → AnswersCommand answer command files s s' → Stood s s' → result ≡ (answer_verdict answer).status → Tells files (λ f. (result ≡ (command_verdict command f).status) ⊎ (result ≡ 5))
-complete_by NoRow result command files s s' says stood is = low_status NoRow result command files s s' says (omega arith) is
-complete_by Unread result command files s s' says stood is = absurd (stood_rose s s' stood says.1)
-complete_by (Refused text) result command files s s' says stood is = low_status (Refused text) result command files s s' says (omega arith) is
-complete_by (Dumped lines text) result command files s s' says stood is = low_status (Dumped lines text) result command files s s' says (omega arith) is
-complete_by NoMemory result command files s s' says stood is = always (λ f. (result ≡ (command_verdict command f).status) ⊎ (result ≡ 5)) files (λ f. inr is)
-
-pub complete : (answer : Answer) (result : ℕ) (command : Option Asked) (files : Option Files) (s s' of of' ef ef' : ℕ) (ob oa eb ea : Option (List ℕ)) → AnswersCommand answer command files s s' → Writes result (answer_verdict answer) ob oa of of' eb ea ef ef' → IsComplete result command files s s' of of' ef ef'
-complete answer result command files s s' of of' ef ef' ob oa eb ea says (inl whole) stood quiet calm = complete_by answer result command files s s' says stood whole.0
-complete answer result command files s s' of of' ef ef' ob oa eb ea says (inr failed) stood quiet calm =
-    absurd (no_rise of of' ef ef' quiet calm (some_rose (answer_verdict answer).status of of' ef ef' failed.2))
+pub promises : (answer : Answer) (run : Run) → AnswersCommand answer (command run) run.store.files run.store.faults run.store.faults_after → Asks (files_of (command run) run.store.files) run.store.asked run.store.asked_after → Writes run.status (answer_verdict answer) (has_output answer) run.out run.err → Promises run
+promises (Judged j) run says asks writes = by_judgement j run says asks writes
+promises Unread run says asks writes = by_unread run says.0 says.1 asks writes
+promises NoMemory run says asks writes = by_no_memory run says asks writes

@@ -1,8 +1,10 @@
-use Rattle.std.proofs.Common.{◌≡◌, inl, inr, ℕ, List, [], length, Option, Some, None, refl, sym, ◌∙◌, ap, arith, append-nil, subst}
+-- What the writing of an answer leaves.
+use Rattle.std.proofs.Common.{◌≡◌, inl, inr, ℕ, Bool, true, false, List, [], length, Option, Some, None, refl, sym, ◌∙◌, ap, arith, append-nil, subst}
 use Rattle.std.proofs.lemmas.List.{take_all}
 use Rattle.sym_edges.specs.Outside.{Rose, AddsFront, append_told}
-use Rattle.dumpsyms_cmd.specs.Verdict.{Verdict}
-use Rattle.dumpsyms_cmd.specs.Program.{HoldsFronts}
+use Rattle.dumpsyms_cmd.specs.Verdict.{Verdict, unread}
+use Rattle.dumpsyms_cmd.specs.Refusals.{unread_line}
+use Rattle.dumpsyms_cmd.specs.Observed.{Writing, SinkFailed, Received, ReceivedFront, ReceivedNothing, ReceivedWhole, ReceivedFronts}
 use Rattle.dumpsyms_cmd.specs.Writes.{Says, Writes}
 
 -- nothing more was taken
@@ -11,56 +13,28 @@ nothing None = refl
 nothing (Some bytes) = ap Some (append-nil bytes)
 
 -- a front of a text was added where nothing was
-no_front : (held : Option (List ℕ)) (text : List ℕ) → AddsFront held held text
-no_front held text = record { count = 0; within = omega arith; added = sym (nothing held) }
-
--- a line on err alone
-pub said : (result status : ℕ) (text : List ℕ) (v : Verdict) (out_before out_after : Option (List ℕ)) (of of' : ℕ) (before after : Option (List ℕ)) (ef ef' : ℕ) → Says result status text before after ef ef' → out_after ≡ out_before → v ≡ record { status = status; out = []; err = text } → Writes result v out_before out_after of of' before after ef ef'
-said result status text v out_before out_after of of' before after ef ef' (inl whole) same is =
-    inl (
-      whole.0 ∙ ap (λ (w : Verdict). w.status) (sym is),
-      record {
-        out = same ∙ sym (nothing out_before) ∙ ap (λ (w : Verdict). append_told out_before w.out) (sym is);
-        err = whole.1 ∙ ap (λ (w : Verdict). append_told before w.err) (sym is);
-      },
-    )
-said result status text v out_before out_after of of' before after ef ef' (inr failed) same is =
-    let P : Verdict → Type 0 = λ w. HoldsFronts w out_before out_after before after in
-    inr (
-      failed.0,
-      subst P (sym is) (record {
-        out = (let Q : Option (List ℕ) → Type 0 = λ o. AddsFront out_before o [] in subst Q (sym same) (no_front out_before []));
-        err = failed.1;
-        order = inr (same ∙ sym (nothing out_before));
-      }),
-      inr failed.2,
-    )
+no_front : (sink : Writing) (text : List ℕ) → ReceivedNothing sink → ReceivedFront sink text
+no_front sink text same = record { count = 0; within = omega arith; added = same ∙ sym (nothing sink.taken) }
 
 -- a whole text is a front of itself
-whole_front : (before after : Option (List ℕ)) (text : List ℕ) → after ≡ append_told before text → AddsFront before after text
-whole_front before after text is = record { count = length text; within = omega arith; added = is ∙ ap (append_told before) (sym (take_all (length text) text (omega arith))) }
+whole_front : (sink : Writing) (text : List ℕ) → Received sink text → ReceivedFront sink text
+whole_front sink text is = record { count = length text; within = omega arith; added = is ∙ ap (append_told sink.taken) (sym (take_all (length text) text (omega arith))) }
 
--- a text on out, written whole, and lines on err behind it
-pub dumped_said : (result : ℕ) (text lines : List ℕ) (out_before out_after : Option (List ℕ)) (of of' : ℕ) (before after : Option (List ℕ)) (ef ef' : ℕ) → Says result 0 lines before after ef ef' → out_after ≡ append_told out_before text → Writes result (record { status = 0; out = text; err = lines }) out_before out_after of of' before after ef ef'
-dumped_said result text lines out_before out_after of of' before after ef ef' (inl whole) out =
-    inl (whole.0, record { out = out; err = whole.1 })
-dumped_said result text lines out_before out_after of of' before after ef ef' (inr failed) out =
-    inr (failed.0, record { out = whole_front out_before out_after text out; err = failed.1; order = inr out }, inr failed.2)
+-- out's text was written whole, and then err's was
+pub said_behind : (result : ℕ) (v : Verdict) (has : Bool) (out err : Writing) (line : List ℕ) → Received out v.out → line ≡ v.err → Says result v.status err line → Writes result v has out err
+said_behind result v has out err line took is (inl whole) = inl (whole.0, record { out_text = took; err_text = whole.1 ∙ ap (append_told err.taken) is })
+said_behind result v has out err line took is (inr failed) =
+    let P : List ℕ → Type 0 = λ text. ReceivedFront err text in
+    inr (failed.0, record { out_text = whole_front out v.out took; err_text = subst P is failed.1; order = inr took }, inr failed.2)
 
--- and one whose writing failed
-pub undumped : (result : ℕ) (text lines : List ℕ) (out_before out_after : Option (List ℕ)) (of of' : ℕ) (before after : Option (List ℕ)) (ef ef' : ℕ) → result ≡ 4 → AddsFront out_before out_after text → Rose of of' → after ≡ before → Writes result (record { status = 0; out = text; err = lines }) out_before out_after of of' before after ef ef'
-undumped result text lines out_before out_after of of' before after ef ef' four front rose same =
-    inr (
-      four,
-      record {
-        out = front;
-        err = (let Q : Option (List ℕ) → Type 0 = λ o. AddsFront before o lines in subst Q (sym same) (no_front before lines));
-        order = inl same;
-      },
-      inl (refl, rose),
-    )
+-- out's was not
+pub not_said : (result : ℕ) (v : Verdict) (has : Bool) (out err : Writing) → result ≡ 4 → ReceivedFront out v.out → SinkFailed out → has ≡ true → ReceivedNothing err → Writes result v has out err
+not_said result v has out err four front failed some same = inr (four, record { out_text = front; err_text = no_front err v.err same; order = inl same }, inl (some, failed))
+
+-- a line on err alone
+pub line_said : (result : ℕ) (out err : Writing) (line : List ℕ) → ReceivedNothing out → line ≡ unread_line → Says result 3 err line → Writes result unread false out err
+line_said result out err line same is says = said_behind result unread false out err line (same ∙ sym (nothing out.taken)) is says
 
 -- nothing is said
-pub nothing_said : (result : ℕ) (out_before out_after : Option (List ℕ)) (of of' : ℕ) (before after : Option (List ℕ)) (ef ef' : ℕ) → result ≡ 5 → out_after ≡ out_before → after ≡ before → Writes result (record { status = 5; out = []; err = [] }) out_before out_after of of' before after ef ef'
-nothing_said result out_before out_after of of' before after ef ef' five same quiet =
-    inl (five, record { out = same ∙ sym (nothing out_before); err = quiet ∙ sym (nothing before) })
+pub nothing_said : (result : ℕ) (out err : Writing) → result ≡ 5 → ReceivedNothing out → ReceivedNothing err → Writes result (record { status = 5; out = []; err = [] }) false out err
+nothing_said result out err five same quiet = inl (five, record { out_text = same ∙ sym (nothing out.taken); err_text = quiet ∙ sym (nothing err.taken) })

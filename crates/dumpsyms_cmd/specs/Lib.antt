@@ -4,6 +4,7 @@ pub mod Refusals
 pub mod Frames
 pub mod Dump
 pub mod Verdict
-pub mod Answers
+pub mod Observed
+pub mod Judged
 pub mod Program
 pub mod Writes

@@ -2,6 +2,7 @@
 use Rattle.std.specs.Prelude.{ℕ, ◌==◌, Bool, List, [], ◌∷◌, Option, Some, None, codes, if◌then◌else◌}
 use Rattle.std.specs.List.{after_last}
 use Rattle.std.specs.Str.{bytes_eq}
+use Rattle.sym_edges.specs.Outside.{Files}
 use Rattle.dumpsyms_cmd.specs.declared.words.Command.{Command}
 use Rattle.dumpsyms_cmd.specs.declared.words.Command.TheVariants.{Dump}
 
@@ -25,10 +26,10 @@ command_of (word ∷ []) = None
 command_of (word ∷ elf ∷ []) = two_words word elf
 command_of (word ∷ elf ∷ more ∷ words) = None
 
--- the files that words ask for, in the order in which they are read
-abbrev pub files_of : Option Asked → List (List ℕ)
-files_of None = []
-files_of (Some (dump elf)) = elf ∷ []
+-- the files that a command asks for, in the order in which they are read, where the store tells its files or tells nothing
+abbrev pub files_of : Option Asked → Option Files → List (List ℕ)
+files_of None files = []
+files_of (Some (dump elf)) files = elf ∷ []
 
 -- the byte is a slash
 abbrev pub is_slash : ℕ → Bool

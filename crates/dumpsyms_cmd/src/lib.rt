@@ -5,8 +5,9 @@
 //! written reads back as the records of the file.
 #![tactic(auto)]
 
-mod answer;
 mod frames;
+mod judgement;
+mod judging;
 mod publics;
 mod records;
 mod refusals;

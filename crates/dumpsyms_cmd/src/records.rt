@@ -1,9 +1,10 @@
-ghost use Rattle.std.specs.Prelude.{◌≡◌, ◌*◌, ◌≤◌, ◌++◌, [], true, None, length, map, unwrap_or, IfOk, OnOk};
+ghost use Rattle.std.specs.Prelude.{◌≡◌, ◌*◌, ◌≤◌, ◌++◌, [], true, None, Ok, length, map, unwrap_or, IfOk, OnOk};
 ghost use Rattle.std.specs.Str.Parse.{AllDigits};
 ghost use Rattle.hex.specs.Hex.{encode_upper};
 ghost use Rattle.elf_sections.specs.Symbols.{symbol_view};
 ghost use Rattle.sym_records.specs.Cleaning.{cleaned};
-ghost use Rattle.sym_records.specs.Reading.{fits};
+ghost use Rattle.sym_records.specs.Canon.{canon_text};
+ghost use Rattle.sym_records.specs.Reading.{fits, reading};
 ghost use Rattle.sym_records.specs.Validity.{first_bad, first_bad_from, fields_fit};
 ghost use Rattle.sym_records.specs.declared.place.Place.TheVariants.{Start, Inside};
 ghost use Rattle.dumpsyms_cmd.specs.Publics.{FitsInside, publics};
@@ -13,6 +14,7 @@ use crate::publics::add_publics;
 use elf_sections::Image;
 use std::alloc::Global;
 use sym_edges::OutOfMemory;
+use sym_records::laws::canonical_text_reads_back;
 use sym_records::{ByteText, SymFile, SymLine, SymLines, clean, file_of};
 
 /// Bytes in upper-case hexadecimal.
@@ -101,8 +103,10 @@ pub fn dump_file(
     frames: SymLines,
 ) -> Result<SymFile, OutOfMemory>
     requires { first_bad_from 0 Inside frames ≡ None }
-    ensures { IfOk result (λ file. file ≡ head_lines image.now name.now ++ frames) }
+    ensures lines { IfOk result (λ file. file ≡ head_lines image.now name.now ++ frames) }
+    ensures reads { IfOk result (λ file. reading (canon_text file) ≡ Ok file) }
 {
+    canonical_text_reads_back();
     let mut lines = make_head(alloc, image, name)?;
     let mut frames = frames.into_vec();
     lines.append(&mut frames)?;

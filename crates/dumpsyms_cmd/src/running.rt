@@ -1,12 +1,13 @@
-ghost use Rattle.std.specs.Prelude.{◌≡◌, ◌≤◌, map};
+ghost use Rattle.std.specs.Prelude.{◌≡◌, true, map, OnOk, OnErr};
 ghost use Rattle.std.specs.String.{string_bytes};
-ghost use Rattle.dumpsyms_cmd.specs.Words.{command_of, files_of};
-ghost use Rattle.dumpsyms_cmd.specs.Answers.{AsksFor, answer_verdict};
-ghost use Rattle.dumpsyms_cmd.specs.Program.{Answered, KeepsMeaning, IsUsage, NoRowIsUsage, IsUnread, IsUnwritten, LeavesFronts, IsOutOfMemory, IsComplete};
-ghost use Rattle.dumpsyms_cmd.specs.Writes.{Says, Writes, ReadsBack};
+ghost use Rattle.sym_edges.specs.Outside.{append_told, AddsFront, Rose};
+ghost use Rattle.dumpsyms_cmd.specs.Judged.{judgement_verdict, answer_verdict, out_bytes, err_bytes, is_some_output, has_output};
+ghost use Rattle.dumpsyms_cmd.specs.Program.{Promises};
+ghost use Rattle.dumpsyms_cmd.specs.Writes.{Says, Writes};
 
-use crate::answer::{Answer, answer_words};
-use crate::refusals::{UNREAD, USAGE};
+use crate::judgement::{Answer, Judgement, Message, Output};
+use crate::judging::answer_words;
+use crate::refusals::UNREAD;
 use std::alloc::Global;
 use sym_edges::{Failed, Sink, Store, write_all};
 use sym_records::write_file;
@@ -16,7 +17,7 @@ const UNWRITTEN: u8 = 4;
 
 /// Writes lines on standard error, and answers the status.
 fn say<E: Sink>(err: &mut E, line: &[u8], status: u8) -> u8
-    ensures said { Says result status line.now (E.taken err.old) (E.taken err.new) (E.faults err.old) (E.faults err.new) }
+    ensures said { Says result status (record { taken = E.taken err.old; taken_after = E.taken err.new; faults = E.faults err.old; faults_after = E.faults err.new }) line.now }
 {
     match write_all(err, line) {
         Ok(()) => status,
@@ -24,22 +25,53 @@ fn say<E: Sink>(err: &mut E, line: &[u8], status: u8) -> u8
     }
 }
 
-/// Writes an answer, out first, and answers the status. Takes no memory.
-#[tactic(auto, using(crate::proofs::WriteLemmas::said, crate::proofs::WriteLemmas::dumped_said, crate::proofs::WriteLemmas::undumped, crate::proofs::WriteLemmas::nothing_said))]
+/// The bytes of a message.
+fn bytes_of(message: &Message) -> &[u8]
+    ensures { result.now ≡ err_bytes message.now }
+{
+    match message {
+        Message::Fixed(line) => line,
+        Message::Made(text) => text.as_slice(),
+    }
+}
+
+/// Writes what standard output gets. Takes no memory.
+fn write_output<O: Sink>(output: &Output, out: &mut O) -> Result<(), Failed>
+    ensures written { OnOk result (O.taken out.new ≡ append_told (O.taken out.old) (out_bytes output.now)) }
+    ensures front { OnErr result (AddsFront (O.taken out.old) (O.taken out.new) (out_bytes output.now)) }
+    ensures cause { OnErr result (Rose (O.faults out.old) (O.faults out.new)) }
+    ensures some { OnErr result (is_some_output output.now ≡ true) }
+{
+    match output {
+        Output::Nothing => Ok(()),
+        Output::Text(file) => write_file(file, out),
+        Output::Bytes(text) => write_all(out, text.as_slice()),
+    }
+}
+
+/// Writes a judgement, out first, and answers the status. Takes no memory.
+#[tactic(auto, using(crate::proofs::WriteLemmas::said_behind, crate::proofs::WriteLemmas::not_said))]
+fn write_judgement<O: Sink, E: Sink>(judgement: &Judgement, out: &mut O, err: &mut E) -> u8
+    ensures { Writes result (judgement_verdict judgement.now) (is_some_output judgement.now.out)
+        (record { taken = O.taken out.old; taken_after = O.taken out.new; faults = O.faults out.old; faults_after = O.faults out.new })
+        (record { taken = E.taken err.old; taken_after = E.taken err.new; faults = E.faults err.old; faults_after = E.faults err.new }) }
+{
+    match write_output(&judgement.out, out) {
+        Ok(()) => say(err, bytes_of(&judgement.err), judgement.status),
+        Err(Failed) => UNWRITTEN,
+    }
+}
+
+/// Writes an answer, and answers the status. Takes no memory.
+#[tactic(auto, using(crate::proofs::WriteLemmas::line_said, crate::proofs::WriteLemmas::nothing_said))]
 fn write_answer<O: Sink, E: Sink>(answer: &Answer, out: &mut O, err: &mut E) -> u8
-    ensures written { Writes result (answer_verdict answer.now)
-        (O.taken out.old) (O.taken out.new) (O.faults out.old) (O.faults out.new)
-        (E.taken err.old) (E.taken err.new) (E.faults err.old) (E.faults err.new) }
-    ensures reads { ReadsBack answer.now }
+    ensures { Writes result (answer_verdict answer.now) (has_output answer.now)
+        (record { taken = O.taken out.old; taken_after = O.taken out.new; faults = O.faults out.old; faults_after = O.faults out.new })
+        (record { taken = E.taken err.old; taken_after = E.taken err.new; faults = E.faults err.old; faults_after = E.faults err.new }) }
 {
     match answer {
-        Answer::NoRow => say(err, USAGE, 2),
+        Answer::Judged(judgement) => write_judgement(judgement, out, err),
         Answer::Unread => say(err, UNREAD, 3),
-        Answer::Refused(line) => say(err, line.as_slice(), 1),
-        Answer::Dumped(file, omitted) => match write_file(file, out) {
-            Ok(()) => say(err, omitted.as_slice(), 0),
-            Err(Failed) => UNWRITTEN,
-        },
         Answer::NoMemory => 5,
     }
 }
@@ -47,8 +79,9 @@ fn write_answer<O: Sink, E: Sink>(answer: &Answer, out: &mut O, err: &mut E) -> 
 /// Does all that the program does: reads the files that the words name, writes the two texts, and answers the status.
 ///
 /// 0: the file was dumped. 1: it was refused. 2: the words are no row. 3: a file could not be read. 4: a text could not be
-/// written. 5: memory ran out. Out is written before err, and nothing before all is known.
-#[tactic(auto, using(crate::proofs::RunLemmas::answered, crate::proofs::RunLemmas::usage_only, crate::proofs::RunLemmas::no_row, crate::proofs::RunLemmas::unread_only, crate::proofs::RunLemmas::unwritten, crate::proofs::RunLemmas::fronts, crate::proofs::RunLemmas::no_memory, crate::proofs::RunLemmas::ranged, crate::proofs::RunLemmas::complete, crate::proofs::RunLemmas::meaning))]
+/// written. 5: memory ran out. Out is written before err, and nothing before all is known. What holds of each status,
+/// `specs/Program.antt` says.
+#[tactic(auto, using(crate::proofs::RunLemmas::promises))]
 pub fn run<S: Store, O: Sink, E: Sink>(
     alloc: Global,
     words: &[String],
@@ -56,26 +89,13 @@ pub fn run<S: Store, O: Sink, E: Sink>(
     out: &mut O,
     err: &mut E,
 ) -> u8
-    ensures answered { Answered result (command_of (map string_bytes words.now)) (S.files store.old)
-        (O.taken out.old) (O.taken out.new) (E.taken err.old) (E.taken err.new) }
-    ensures headline { KeepsMeaning result (command_of (map string_bytes words.now)) (S.files store.old)
-        (O.taken out.old) (O.taken out.new) (E.taken err.old) (E.taken err.new) }
-
-    ensures usage { IsUsage result (command_of (map string_bytes words.now))
-        (O.taken out.old) (O.taken out.new) (E.taken err.old) (E.taken err.new) }
-    ensures no_row { NoRowIsUsage result (command_of (map string_bytes words.now)) (E.faults err.old) (E.faults err.new) }
-    ensures unread { IsUnread result (S.faults store.old) (S.faults store.new)
-        (O.taken out.old) (O.taken out.new) (E.taken err.old) (E.taken err.new) }
-    ensures unwritten { IsUnwritten result (O.faults out.old) (O.faults out.new) (E.faults err.old) (E.faults err.new) }
-    ensures fronts { LeavesFronts result (command_of (map string_bytes words.now)) (S.files store.old) (S.faults store.old) (S.faults store.new)
-        (O.taken out.old) (O.taken out.new) (E.taken err.old) (E.taken err.new) }
-    ensures no_memory { IsOutOfMemory result (command_of (map string_bytes words.now))
-        (O.taken out.old) (O.taken out.new) (E.taken err.old) (E.taken err.new) }
-    ensures range { result ≤ 5 }
-
-    ensures asked { AsksFor (files_of (command_of (map string_bytes words.now))) (S.asked store.old) (S.asked store.new) }
-    ensures complete { IsComplete result (command_of (map string_bytes words.now)) (S.files store.old) (S.faults store.old) (S.faults store.new)
-        (O.faults out.old) (O.faults out.new) (E.faults err.old) (E.faults err.new) }
+    ensures { Promises (record {
+      words = map string_bytes words.now;
+      status = result;
+      store = record { files = S.files store.old; asked = S.asked store.old; asked_after = S.asked store.new; faults = S.faults store.old; faults_after = S.faults store.new };
+      out = record { taken = O.taken out.old; taken_after = O.taken out.new; faults = O.faults out.old; faults_after = O.faults out.new };
+      err = record { taken = E.taken err.old; taken_after = E.taken err.new; faults = E.faults err.old; faults_after = E.faults err.new };
+    }) }
 {
     let answer = answer_words(alloc, words, store);
     write_answer(&answer, out, err)

@@ -1,0 +1,209 @@
+-- Judgements, from the parts of an image up to the words.
+use Rattle.std.proofs.Common.{◌≡◌, inl, inr, ℕ, ◌≤◌, ◌<◌, true, false, List, [], Option, Some, None, IsSome, Ok, Err, Result, length, nat_lt, refl, sym, ◌∙◌, ap, arith, append-nil, subst}
+use Rattle.std.proofs.lemmas.Bool.Decides.{nat_tests}
+use Rattle.sym_edges.specs.Outside.{Files, Tells, Rose}
+use Rattle.sym_edges.specs.WholeFile.{AsksOnce, HoldsFile, IsWhole, IsLonger, ReadAll}
+use Rattle.sym_edges.specs.declared.fault.Stop.{Stop}
+use Rattle.sym_edges.specs.declared.fault.Stop.TheVariants.{Fault}
+use Rattle.sym_edges.specs.declared.fault.Stop.TheVariants as stop
+use Rattle.sym_edges.specs.declared.reading.ReadEnd.{ReadEnd}
+use Rattle.sym_edges.specs.declared.reading.ReadEnd.TheVariants.{CantOpen, CantRead, TooLong}
+use Rattle.sym_edges.specs.declared.located.Located.{Located}
+use Rattle.elf_sections.specs.Image.{ImageParts, image}
+use Rattle.elf_sections.specs.declared.fault.ElfFault.{ElfFault}
+use Rattle.frame_entries.specs.declared.fault.FrameKind.{FrameKind}
+use Rattle.sym_records.specs.Canon.{canon_text}
+use Rattle.sym_records.specs.Reading.{reading}
+use Rattle.sym_records.specs.declared.line.SymLine.{SymLine}
+use Rattle.rule_postfix.specs.Written.{omitted}
+use Rattle.dumpsyms_cmd.specs.Dump.{is_unbuilt}
+use Rattle.dumpsyms_cmd.specs.Frames.{frames}
+use Rattle.dumpsyms_cmd.specs.Words.{Asked, dump, files_of, module_name}
+use Rattle.dumpsyms_cmd.specs.Refusals.{elf_line, frame_line, omitted_text, too_long_line, unbuilt_line, usage_line}
+use Rattle.dumpsyms_cmd.specs.Verdict.{Verdict, refused, usage, dump_verdict, command_verdict, frames_verdict, parts_verdict, image_verdict, file_verdict, LIMIT}
+use Rattle.dumpsyms_cmd.specs.Observed.{Asks}
+use Rattle.dumpsyms_cmd.specs.Judged.{out_bytes, err_bytes, judgement_verdict, Refuses, RefusesOrGives, Judges, DumpsParts, JudgesParts, DumpsImage, JudgesBytes, DumpsFile, DumpPromises, IsUsage, IsJudged, AnswersCommand, AnswersStop}
+use Rattle.dumpsyms_cmd.specs.declared.judgement.Output.{Output}
+use Rattle.dumpsyms_cmd.specs.declared.judgement.Output.TheVariants.{Nothing, Text, Bytes}
+use Rattle.dumpsyms_cmd.specs.declared.judgement.Judgement.{Judgement}
+use Rattle.dumpsyms_cmd.specs.declared.judgement.Answer.{Answer}
+use Rattle.dumpsyms_cmd.specs.declared.judgement.Answer.TheVariants.{Judged, Unread, NoMemory}
+
+-- what follows of what is told
+pub told : {A : Type 0} (P Q : A → Type 0) (o : Option A) → ((x : A) → P x → Q x) → Tells o P → Tells o Q
+told P Q None f h = tt
+told P Q (Some x) f h = f x h
+
+pub always : {A : Type 0} (Q : A → Type 0) (o : Option A) → ((x : A) → Q x) → Tells o Q
+always Q None f = tt
+always Q (Some x) f = f x
+
+-- a refusal is a judgement of its line
+refusing : (j : Judgement) (text : List ℕ) (P : List ℕ → Type 0) (Q : List SymLine → List ℕ → Type 0) → Refuses j text → P text → Judges j P Q
+refusing j text P Q refuses p =
+    let R : Output → Type 0 = λ o. RefusesOrGives o j.status (err_bytes j.err) P Q in
+    subst R (sym refuses.out) (refuses.status, subst P (sym refuses.err) p)
+
+-- what follows of the line, or of the records, is judged too
+judging : (o : Output) (status : ℕ) (err : List ℕ) (P P' : List ℕ → Type 0) (Q Q' : List SymLine → List ℕ → Type 0) → ((e : List ℕ) → P e → P' e) → ((lines : List SymLine) (e : List ℕ) → Q lines e → Q' lines e) → RefusesOrGives o status err P Q → RefusesOrGives o status err P' Q'
+judging Nothing status err P P' Q Q' f g says = (says.0, f err says.1)
+judging (Text lines) status err P P' Q Q' f g says = (says.0, g lines err says.1)
+judging (Bytes text) status err P P' Q Q' f g says = absurd says
+
+-- a file within the limit has the verdict of its image
+within : (name bytes : List ℕ) → length bytes ≤ LIMIT → dump_verdict LIMIT name bytes ≡ image_verdict (image bytes) name
+unfolding dump_verdict
+within name bytes few = let no : nat_lt LIMIT (length bytes) ≡ false = grind (arith, nat_tests) in rw no refl
+
+-- debug entries are refused before anything is said of frames
+pub unbuilt_judged : (j : Judgement) (parts : ImageParts) (name text : List ℕ) → is_unbuilt parts ≡ true → text ≡ unbuilt_line → Refuses j text → JudgesParts j name parts
+unfolding parts_verdict
+unbuilt_judged j parts name text is line refuses =
+    refusing j text (λ err. parts_verdict parts name ≡ refused err) (DumpsParts parts name) refuses (rw is (ap refused (sym line)))
+
+-- a section of frame entries is refused with its first fault
+pub frames_judged : (j : Judgement) (parts : ImageParts) (name text : List ℕ) (fault : Located FrameKind) → is_unbuilt parts ≡ false → frames parts ≡ Err fault → text ≡ frame_line fault → Refuses j text → JudgesParts j name parts
+unfolding parts_verdict
+frames_judged j parts name text fault built is line refuses =
+    refusing j text (λ err. parts_verdict parts name ≡ refused err) (DumpsParts parts name) refuses
+    (rw built (ap (λ f. frames_verdict f parts name) is ∙ ap refused (sym line)))
+
+-- the verdict of an image whose frame entries can be read
+frames_told : (parts : ImageParts) (name : List ℕ) (lines : List SymLine) (text : List ℕ) → DumpsParts parts name lines text → parts_verdict parts name ≡ record { status = 0; out = canon_text lines; err = text }
+unfolding parts_verdict
+frames_told parts name lines text dumps =
+    rw dumps.built
+    (ap (λ f. frames_verdict f parts name) dumps.found_is
+    ∙ ap (λ (l : List SymLine). (let v : Verdict = record { status = 0; out = canon_text l; err = omitted_text (omitted parts.code dumps.found.first dumps.found.second) } in v)) (sym dumps.lines_are)
+    ∙ ap (λ (t : List ℕ). (let v : Verdict = record { status = 0; out = canon_text lines; err = t } in v)) (sym dumps.text_is))
+
+-- a judgement on the parts of an image is one on the bytes
+pub parts_judged : (j : Judgement) (name bytes : List ℕ) (parts : ImageParts) → length bytes ≤ LIMIT → image bytes ≡ Ok parts → JudgesParts j name parts → JudgesBytes j name bytes
+parts_judged j name bytes parts few is says =
+    judging j.out j.status (err_bytes j.err)
+    (λ err. parts_verdict parts name ≡ refused err) (λ err. dump_verdict LIMIT name bytes ≡ refused err)
+    (DumpsParts parts name) (DumpsImage bytes name)
+    (λ err same. within name bytes few ∙ ap (λ i. image_verdict i name) is ∙ same)
+    (λ lines err dumps. record { parts = parts; image_is = is; dumps = dumps })
+    says
+
+-- and so is the line of a fault
+pub fault_judged : (j : Judgement) (name bytes text : List ℕ) (fault : ElfFault) → length bytes ≤ LIMIT → image bytes ≡ Err fault → text ≡ elf_line fault → Refuses j text → JudgesBytes j name bytes
+fault_judged j name bytes text fault few is line refuses =
+    refusing j text (λ err. dump_verdict LIMIT name bytes ≡ refused err) (DumpsImage bytes name) refuses
+    (within name bytes few ∙ ap (λ i. image_verdict i name) is ∙ ap refused (sym line))
+
+-- the verdict of a file that was dumped
+dumped_verdict : (elf : List ℕ) (files : Files) (lines : List SymLine) (text : List ℕ) → DumpsFile elf files lines text → command_verdict (Some (dump elf)) files ≡ record { status = 0; out = canon_text lines; err = text }
+dumped_verdict elf files lines text dumps =
+    ap (file_verdict elf) dumps.there ∙ within (module_name elf) dumps.file dumps.few
+    ∙ ap (λ i. image_verdict i (module_name elf)) dumps.dumps.image_is
+    ∙ frames_told dumps.dumps.parts (module_name elf) lines text dumps.dumps.dumps
+
+-- what the promise of a dump says of its status, and that it is the verdict
+promised_low : (o : Output) (status : ℕ) (err : List ℕ) (P : List ℕ → Type 0) (Q : List SymLine → List ℕ → Type 0) → RefusesOrGives o status err P Q → status < 2
+promised_low Nothing status err P Q says = let is = says.0 in omega arith
+promised_low (Text lines) status err P Q says = let is = says.0 in omega arith
+promised_low (Bytes text) status err P Q says = absurd says
+
+promised_told : (o : Output) (status : ℕ) (err elf : List ℕ) (files : Option Files) → RefusesOrGives o status err (λ e. Tells files (λ f. command_verdict (Some (dump elf)) f ≡ refused e)) (λ lines e. (reading (canon_text lines) ≡ Ok lines) × Tells files (λ f. DumpsFile elf f lines e)) →
+    Tells files (λ f. command_verdict (Some (dump elf)) f ≡ record { status = status; out = out_bytes o; err = err })
+promised_told Nothing status err elf files says =
+    told (λ f. command_verdict (Some (dump elf)) f ≡ refused err) (λ f. command_verdict (Some (dump elf)) f ≡ record { status = status; out = out_bytes Nothing; err = err }) files
+    (λ f same. same ∙ ap (λ (n : ℕ). (let v : Verdict = record { status = n; out = out_bytes Nothing; err = err } in v)) (sym says.0)) says.1
+promised_told (Text lines) status err elf files says =
+    told (λ f. DumpsFile elf f lines err) (λ f. command_verdict (Some (dump elf)) f ≡ record { status = status; out = out_bytes (Text lines); err = err }) files
+    (λ f dumps. dumped_verdict elf f lines err dumps ∙ ap (λ (n : ℕ). (let v : Verdict = record { status = n; out = out_bytes (Text lines); err = err } in v)) (sym says.0)) says.1.1
+promised_told (Bytes text) status err elf files says = absurd says
+
+dump_judged : (j : Judgement) (elf : List ℕ) (files : Option Files) → DumpPromises elf files j → IsJudged j (Some (dump elf)) files
+dump_judged j elf files kept =
+    let low : j.status < 2 = promised_low j.out j.status (err_bytes j.err) (λ e. Tells files (λ f. command_verdict (Some (dump elf)) f ≡ refused e)) (λ lines e. (reading (canon_text lines) ≡ Ok lines) × Tells files (λ f. DumpsFile elf f lines e)) kept in
+    record {
+      low = omega arith;
+      row = λ some. low;
+      told = promised_told j.out j.status (err_bytes j.err) elf files kept;
+      kept = kept;
+    }
+
+-- a judgement on the bytes of the file is one on the command
+refusal_told : (files : Option Files) (elf bytes err : List ℕ) → HoldsFile files elf (λ whole. IsWhole whole bytes LIMIT) → dump_verdict LIMIT (module_name elf) bytes ≡ refused err → Tells files (λ f. command_verdict (Some (dump elf)) f ≡ refused err)
+refusal_told None elf bytes err holds same = tt
+refusal_told (Some files) elf bytes err holds same = ap (file_verdict elf) holds.1 ∙ ap (dump_verdict LIMIT (module_name elf)) holds.2.0 ∙ same
+
+dumping_told : (files : Option Files) (elf bytes : List ℕ) (lines : List SymLine) (err : List ℕ) → HoldsFile files elf (λ whole. IsWhole whole bytes LIMIT) → DumpsImage bytes (module_name elf) lines err → Tells files (λ f. DumpsFile elf f lines err)
+dumping_told None elf bytes lines err holds dumps = tt
+dumping_told (Some files) elf bytes lines err holds dumps = record { file = bytes; there = holds.1 ∙ ap Some holds.2.0; few = holds.2.1; dumps = dumps }
+
+bytes_judged : (j : Judgement) (files : Option Files) (elf bytes : List ℕ) → HoldsFile files elf (λ whole. IsWhole whole bytes LIMIT) → JudgesBytes j (module_name elf) bytes → IsJudged j (Some (dump elf)) files
+bytes_judged j files elf bytes holds says =
+    dump_judged j elf files (
+    judging j.out j.status (err_bytes j.err)
+    (λ err. dump_verdict LIMIT (module_name elf) bytes ≡ refused err) (λ e. Tells files (λ f. command_verdict (Some (dump elf)) f ≡ refused e))
+    (DumpsImage bytes (module_name elf)) (λ lines e. (reading (canon_text lines) ≡ Ok lines) × Tells files (λ f. DumpsFile elf f lines e))
+    (λ err same. refusal_told files elf bytes err holds same)
+    (λ lines err dumps. (dumps.dumps.reads, dumping_told files elf bytes lines err holds dumps))
+    says)
+
+pub bytes_command : (j : Judgement) (files : Option Files) (elf bytes name held : List ℕ) → HoldsFile files elf (λ whole. IsWhole whole bytes LIMIT) → name ≡ module_name elf → held ≡ bytes → JudgesBytes j name held → IsJudged j (Some (dump elf)) files
+bytes_command j files elf bytes name held holds named same says =
+    let P : List ℕ → Type 0 = λ n. JudgesBytes j n held in
+    let Q : List ℕ → Type 0 = λ b. JudgesBytes j (module_name elf) b in
+    bytes_judged j files elf bytes holds (subst Q same (subst P named says))
+
+-- a file that is longer is refused for it
+longer : (files : Option Files) (elf text : List ℕ) → HoldsFile files elf (λ whole. IsLonger whole LIMIT) → text ≡ too_long_line → Tells files (λ f. command_verdict (Some (dump elf)) f ≡ refused text)
+unfolding dump_verdict
+longer None elf text holds is = tt
+longer (Some files) elf text holds is =
+    let more : nat_lt LIMIT (length holds.0) ≡ true = (let lt = holds.2 in grind (arith, nat_tests)) in
+    ap (file_verdict elf) holds.1 ∙ rw more (ap refused (sym is))
+
+pub too_long_judged : (j : Judgement) (text : List ℕ) → text ≡ too_long_line → Refuses j text → AnswersStop (Judged j) (Fault TooLong)
+too_long_judged j text is refuses = refusing j text (λ err. err ≡ too_long_line) (λ lines err. ⊥) refuses is
+
+pub stop_command : (answer : Answer) (end : Stop ReadEnd) (files : Option Files) (elf : List ℕ) (left left_after : Option (List ℕ)) (before after : ℕ) → ReadAll (Err end) files elf LIMIT left left_after before after → AnswersStop answer end → AnswersCommand answer (Some (dump elf)) files before after
+stop_command (Judged j) (Fault CantOpen) files elf left left_after before after read says = absurd says
+stop_command (Judged j) (Fault CantRead) files elf left left_after before after read says = absurd says
+stop_command (Judged j) (Fault TooLong) files elf left left_after before after read says =
+    dump_judged j elf files (
+    judging j.out j.status (err_bytes j.err)
+    (λ err. err ≡ too_long_line) (λ e. Tells files (λ f. command_verdict (Some (dump elf)) f ≡ refused e))
+    (λ lines err. ⊥) (λ lines e. (reading (canon_text lines) ≡ Ok lines) × Tells files (λ f. DumpsFile elf f lines e))
+    (λ err is. longer files elf err read is)
+    (λ lines err no. absurd no)
+    says)
+stop_command (Judged j) stop.NoMemory files elf left left_after before after read says = absurd says
+stop_command Unread (Fault CantOpen) files elf left left_after before after read says = (refl, read.0)
+stop_command Unread (Fault CantRead) files elf left left_after before after read says = (refl, read.0)
+stop_command Unread (Fault TooLong) files elf left left_after before after read says = absurd says
+stop_command Unread stop.NoMemory files elf left left_after before after read says = absurd says
+stop_command NoMemory end files elf left left_after before after read says = refl
+
+-- the usage line
+none_some : (o : Option Asked) → o ≡ None → IsSome o → ⊥
+none_some None is some = cc
+none_some (Some x) is some = cc
+
+pub usage_judged : (j : Judgement) (files : Option Files) (before after : ℕ) → IsUsage j → AnswersCommand (Judged j) None files before after
+usage_judged j files before after is =
+    let two = is.status in
+    record {
+      low = omega arith;
+      row = λ some. absurd (none_some None refl some);
+      told = always (λ f. command_verdict None f ≡ judgement_verdict j) files (λ f.
+          ap (λ (n : ℕ). (let v : Verdict = record { status = n; out = []; err = usage_line } in v)) (sym is.status)
+          ∙ ap (λ (o : Output). (let v : Verdict = record { status = j.status; out = out_bytes o; err = usage_line } in v)) (sym is.out)
+          ∙ ap (λ (e : List ℕ). (let v : Verdict = record { status = j.status; out = out_bytes j.out; err = e } in v)) (sym is.err));
+      kept = is;
+    }
+
+-- the names asked for by a reading of the row's one file
+pub asks_one : (read : Result (List ℕ) (Stop ReadEnd)) (elf : List ℕ) (files : Option Files) (before after : List (List ℕ)) → AsksOnce read before elf after → Asks (files_of (Some (dump elf)) files) before after
+asks_one (Ok bytes) elf files before after asked = (1, omega arith, asked)
+asks_one (Err (Fault end)) elf files before after asked = (1, omega arith, asked)
+asks_one (Err stop.NoMemory) elf files before after (inl asked) = (1, omega arith, asked)
+asks_one (Err stop.NoMemory) elf files before after (inr same) = (0, omega arith, same ∙ sym (append-nil before))
+
+pub asks_none : (files : Option Files) (before after : List (List ℕ)) → after ≡ before → Asks (files_of None files) before after
+asks_none files before after same = (0, omega arith, same ∙ sym (append-nil before))

@@ -1,0 +1,35 @@
+//! What is found out before anything is written.
+use sym_records::{ByteText, SymFile};
+
+/// What standard output gets.
+#[derive(Debug, Drop)]
+pub enum Output {
+    Nothing,
+    /// The canonical text of these records.
+    Text(SymFile),
+    Bytes(ByteText),
+}
+
+/// What standard error gets.
+#[derive(Debug, Drop)]
+pub enum Message {
+    Fixed(&'static [u8]),
+    Made(ByteText),
+}
+
+/// The status 0, 1 or 2, and what both streams get.
+#[derive(Debug, Drop)]
+pub struct Judgement {
+    pub status: u8,
+    pub out: Output,
+    pub err: Message,
+}
+
+/// A judgement, or why there is none.
+#[derive(Debug, Drop)]
+pub enum Answer {
+    Judged(Judgement),
+    /// A file could not be opened or read.
+    Unread,
+    NoMemory,
+}

@@ -1,0 +1,147 @@
+//! The words and the files, judged.
+ghost use Rattle.std.specs.Prelude.{◌≡◌, ◌≤◌, ℕ, Option, Some, None, Ok, false, IfOk, length, map};
+ghost use Rattle.sym_edges.specs.Outside.{Files};
+ghost use Rattle.std.specs.String.{string_bytes};
+ghost use Rattle.elf_sections.specs.Image.{image};
+ghost use Rattle.dumpsyms_cmd.specs.Words.{command_of, files_of, dump};
+ghost use Rattle.dumpsyms_cmd.specs.Frames.{frames};
+ghost use Rattle.dumpsyms_cmd.specs.Dump.{is_unbuilt};
+ghost use Rattle.dumpsyms_cmd.specs.Verdict.{LIMIT};
+ghost use Rattle.dumpsyms_cmd.specs.Judged.{err_bytes, Refuses, JudgesParts, JudgesBytes, AnswersStop, AnswersCommand};
+ghost use Rattle.dumpsyms_cmd.specs.Observed.{Asks};
+
+use crate::frames::{FrameLists, list_omissions, read_frames};
+use crate::judgement::{Answer, Judgement, Message, Output};
+use crate::records::dump_file;
+use crate::refusals::{TOO_LONG, UNBUILT, USAGE, fault_line, frame_line};
+use crate::words::{Command, name_of, parse_words};
+use elf_sections::{Image, read_image};
+use rule_postfix::{Frames, translate_all};
+use std::alloc::Global;
+use sym_edges::{OutOfMemory, ReadEnd, Sect, Stop, Store, read_all};
+
+/// The greatest length of an ELF file, in bytes.
+const ELF_LIMIT: usize = 536_870_912;
+
+/// A refusal with a line.
+fn refuse(line: Message) -> Judgement
+    ensures { Refuses result (err_bytes line) }
+{
+    Judgement {
+        status: 1,
+        out: Output::Nothing,
+        err: line,
+    }
+}
+
+/// A dump of an image with these frame entries.
+fn judge_frames(
+    alloc: Global,
+    image: &Image<'_>,
+    found: &FrameLists<'_>,
+    name: &[u8],
+) -> Result<Judgement, OutOfMemory>
+    requires built { is_unbuilt image.now ≡ false }
+    requires found { frames image.now ≡ Ok found.now }
+    ensures { IfOk result (λ j. JudgesParts j name.now image.now) }
+{
+    let framed = translate_all(
+        alloc,
+        &found.first,
+        &found.second,
+        image.code(),
+        image.base(),
+    )?;
+    let Frames { lines, omitted } = framed;
+    let text = list_omissions(alloc, omitted.as_slice())?;
+    let file = dump_file(alloc, image, name, lines)?;
+    Ok(Judgement {
+        status: 0,
+        out: Output::Text(file),
+        err: Message::Made(text),
+    })
+}
+
+/// A dump of an image.
+#[tactic(auto, using(crate::proofs::JudgedLemmas::unbuilt_judged, crate::proofs::JudgedLemmas::frames_judged), unfolding(crate::specs::Dump::is_unbuilt))]
+fn judge_image(alloc: Global, image: &Image<'_>, name: &[u8]) -> Result<Judgement, OutOfMemory>
+    ensures { IfOk result (λ j. JudgesParts j name.now image.now) }
+{
+    let info = image.section(Sect::Info);
+    if !info.bytes.is_empty() {
+        return Ok(refuse(Message::Fixed(UNBUILT)));
+    }
+    match read_frames(alloc, image) {
+        Ok(found) => judge_frames(alloc, image, &found, name),
+        Err(Stop::Fault(fault)) => Ok(refuse(Message::Made(frame_line(alloc, fault)?))),
+        Err(Stop::NoMemory) => Err(OutOfMemory),
+    }
+}
+
+/// A dump of a file's bytes.
+#[tactic(auto, using(crate::proofs::JudgedLemmas::parts_judged, crate::proofs::JudgedLemmas::fault_judged))]
+fn judge_bytes(alloc: Global, bytes: &[u8], name: &[u8]) -> Result<Judgement, OutOfMemory>
+    requires { length bytes.now ≤ LIMIT }
+    ensures { IfOk result (λ j. JudgesBytes j name.now bytes.now) }
+{
+    match read_image(alloc, bytes) {
+        Ok(image) => judge_image(alloc, &image, name),
+        Err(Stop::Fault(fault)) => Ok(refuse(Message::Made(fault_line(alloc, fault)?))),
+        Err(Stop::NoMemory) => Err(OutOfMemory),
+    }
+}
+
+/// The answer where a file could not be read whole.
+#[tactic(auto, using(crate::proofs::JudgedLemmas::too_long_judged))]
+fn answer_stop(stop: Stop<ReadEnd>) -> Answer
+    ensures { AnswersStop result stop }
+{
+    match stop {
+        Stop::Fault(ReadEnd::TooLong) => Answer::Judged(refuse(Message::Fixed(TOO_LONG))),
+        Stop::Fault(_) => Answer::Unread,
+        Stop::NoMemory => Answer::NoMemory,
+    }
+}
+
+/// The answer to `dump ELF`.
+#[tactic(auto, using(crate::proofs::JudgedLemmas::stop_command, crate::proofs::JudgedLemmas::asks_one))]
+fn answer_dump<S: Store>(alloc: Global, elf: &str, store: &mut S) -> Answer
+    ensures asked { Asks (files_of (Some (dump elf.now)) (S.files store.old)) (S.asked store.old) (S.asked store.new) }
+    ensures files { S.files store.new ≡ S.files store.old }
+    ensures faults { S.faults store.old ≤ S.faults store.new }
+    ensures answered { AnswersCommand result (Some (dump elf.now)) (S.files store.old) (S.faults store.old) (S.faults store.new) }
+{
+    match read_all(alloc, store, elf, ELF_LIMIT) {
+        Ok(bytes) => match judge_bytes(alloc, bytes.as_slice(), name_of(elf.as_bytes())) {
+            Ok(judgement) => Answer::Judged(judgement),
+            Err(OutOfMemory) => Answer::NoMemory,
+        },
+        Err(stop) => answer_stop(stop),
+    }
+}
+
+/// The answer to words that are no row.
+#[tactic(auto, using(crate::proofs::JudgedLemmas::usage_judged))]
+fn answer_usage() -> Answer
+    ensures { (files : Option Files) (before after : ℕ) → AnswersCommand result None files before after }
+{
+    Answer::Judged(Judgement {
+        status: 2,
+        out: Output::Nothing,
+        err: Message::Fixed(USAGE),
+    })
+}
+
+/// The answer to the words, over the files of the store. All memory that the program needs is taken here.
+#[tactic(auto, using(crate::proofs::JudgedLemmas::asks_none))]
+pub fn answer_words<S: Store>(alloc: Global, words: &[String], store: &mut S) -> Answer
+    ensures asked { Asks (files_of (command_of (map string_bytes words.now)) (S.files store.old)) (S.asked store.old) (S.asked store.new) }
+    ensures files { S.files store.new ≡ S.files store.old }
+    ensures faults { S.faults store.old ≤ S.faults store.new }
+    ensures answered { AnswersCommand result (command_of (map string_bytes words.now)) (S.files store.old) (S.faults store.old) (S.faults store.new) }
+{
+    match parse_words(words) {
+        None => answer_usage(),
+        Some(Command::Dump { elf }) => answer_dump(alloc, elf, store),
+    }
+}
