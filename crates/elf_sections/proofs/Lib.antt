@@ -2,6 +2,6 @@ pub mod TableLemmas
 pub mod ProgramLemmas
 pub mod NoteLemmas
 pub mod IdentityLemmas
-pub mod TextLemmas
+pub mod StringLemmas
 pub mod SymbolLemmas
 pub mod CodeLemmas

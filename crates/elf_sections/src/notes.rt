@@ -3,7 +3,8 @@ ghost use Rattle.std.specs.List.{flat_map};
 ghost use Rattle.std.specs.Option.{option_copied, option_map};
 ghost use Rattle.elf_sections.specs.Numbers.{u32_at};
 ghost use Rattle.elf_sections.specs.Sections.{bytes_of};
-ghost use Rattle.elf_sections.specs.Notes.{note_view, notes, notes_in, has_note, note_at, after_note, padded, first_id, is_build_id, notes_of};
+ghost use Rattle.elf_sections.specs.Notes.{notes, notes_in, has_note, note_at, after_note, padded, first_id, is_build_id, notes_of};
+ghost use Rattle.elf_sections.specs.Steps.{note_view};
 
 use crate::constants::{NT_GNU_BUILD_ID, SHT_NOTE};
 use crate::numbers::read_u32;
