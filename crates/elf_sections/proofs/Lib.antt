@@ -1,6 +1,7 @@
 pub mod TableLemmas
 pub mod ProgramLemmas
 pub mod NoteLemmas
+pub mod WalkedLemmas
 pub mod IdentityLemmas
 pub mod StringLemmas
 pub mod SymbolLemmas

@@ -1,3 +1,4 @@
+-- The image of a file, and the first of its twelve faults.
 use Rattle.std.specs.Prelude.{ℕ, ◌==◌, ◌&&◌, List, [], Option, Some, None, Result, Ok, Err, length, find, is_none, codes}
 use Rattle.sym_edges.specs.Addresses.{Range}
 use Rattle.sym_edges.specs.declared.part.Part.{Part}

@@ -1,3 +1,4 @@
+-- Notes, and the build id among them (System V gABI, "Note Section"; LSB core, GNU notes).
 use Rattle.std.specs.Prelude.{ℕ, zero, suc, ◌+◌, ◌*◌, ◌/◌, ◌==◌, ◌&&◌, Bool, List, [], ◌∷◌, Option, length, take, drop, find, nat_lt, nat_le, codes, if◌then◌else◌}
 use Rattle.std.specs.List.{flat_map}
 use Rattle.std.specs.Option.{option_map}

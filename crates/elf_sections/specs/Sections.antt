@@ -1,3 +1,4 @@
+-- Section headers, their names and their bytes (System V gABI, "Sections"), and the faults in them.
 use Rattle.std.specs.Prelude.{ℕ, ◌+◌, ◌*◌, ◌==◌, ◌||◌, ◌&&◌, Bool, not, List, [], ◌∷◌, ◌++◌, Option, Some, None, length, take, drop, map, position, nat_le, nat_eq, unwrap_or, is_none, slice_get, bit_and, codes, option_and_then, if◌then◌else◌}
 use Rattle.std.specs.List.{list_any, range_with_len, starts_with}
 use Rattle.std.specs.Option.{option_map}

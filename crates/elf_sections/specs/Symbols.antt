@@ -1,3 +1,4 @@
+-- The symbol table and the functions in it (System V gABI, "Symbol Table").
 use Rattle.std.specs.Prelude.{ℕ, ◌+◌, ◌*◌, ◌/◌, ◌%◌, ◌==◌, ◌||◌, ◌&&◌, Bool, not, List, [], ◌∷◌, Option, Some, None, length, map, find, is_none, slice_get, slice_index, option_and_then, if◌then◌else◌}
 use Rattle.std.specs.List.{list_any, range_with_len, filter_map}
 use Rattle.std.specs.Option.{option_or}

@@ -131,7 +131,7 @@ pub fn read_image(alloc: Global, bytes: &[u8]) -> Result<Image<'_>, Stop<ElfFaul
     let code = read_code(alloc, base, tables.sections())?;
     let symbols = find_symbols(alloc, &tables, &code)?;
     let text = find_part(&tables, Sect::Text);
-    let build_id = find_build_id(bytes, tables.sections());
+    let build_id = find_build_id(alloc, bytes, tables.sections())?;
     let Some(identity) = find_identity(text.bytes, build_id) else {
         return Err(Stop::Fault(ElfFault::NoIdentity));
     };
