@@ -2,7 +2,7 @@ use Rattle.std.proofs.Common.{◌≡◌, ℕ, ◌+◌, ◌≤◌, ◌&&◌, ◌|
 use Rattle.std.specs.List.{list_any, filter_map, cons_option}
 use Rattle.std.proofs.lemmas.Bool.{and_parts, leb-true}
 use Rattle.sym_edges.specs.Addresses.{Range}
-use Rattle.range_set.specs.Building.{AllFrom}
+use Rattle.range_set.specs.Starts.{AllFrom}
 use Rattle.range_set.specs.Members.{holds, holds_any}
 use Rattle.elf_sections.specs.declared.symbols.SymbolEntry.{SymbolEntry}
 use Rattle.elf_sections.specs.declared.symbols.Symbol.{Symbol}

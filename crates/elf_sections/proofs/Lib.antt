@@ -6,3 +6,8 @@ pub mod IdentityLemmas
 pub mod StringLemmas
 pub mod SymbolLemmas
 pub mod CodeLemmas
+pub mod Computing
+pub mod Elf
+mod WorkedImage
+mod WorkedFaults
+mod WorkedNotes

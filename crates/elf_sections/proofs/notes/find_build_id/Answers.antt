@@ -12,8 +12,8 @@ returns-in-Some-clause-first c =
 pub sections-preserved : goal.sections-preserved
 sections-preserved c = record {
   left = id_later c.args.file.now c.args.sections.now c.sections.section-index _ c.sections-test.true
-    (ap option_copied (sym c.in_default.is) ∙ c.in_ok-id.ensures.first)
-    ∙ c.sections.invariant.left;
+      (ap option_copied (sym c.in_default.is) ∙ c.in_ok-id.ensures.first)
+      ∙ c.sections.invariant.left;
   gave = c.in_ok-id.ensures.walked;
 }
 
