@@ -1,11 +1,11 @@
 -- The twelve faults.
-use Rattle.std.proofs.Common.{◌≡◌, ◌+◌, ◌-◌, ◌*◌, ℕ, List, [], ◌∷◌, ◌++◌, map, take, codes, Option, Some, None, Ok, refl}
+use Rattle.std.proofs.Common.{◌≡◌, ◌+◌, ◌-◌, ◌*◌, ℕ, List, [], ◌∷◌, take, codes, Some, None, refl}
 use Rattle.std.specs.Prelude.{slice_set}
 use Rattle.elf_sections.specs.declared.fault.ElfFault.TheVariants.{NotElf, Class, Order, Machine, Kind, SectionTable, SectionNames, SectionBytes, Compressed, ProgramTable, SymbolTable, NoIdentity}
 use Rattle.elf_sections.specs.Image.{image_fault}
 use Rattle.leb_cursor.proofs.Hex.{bytes}
 use Rattle.elf_sections.proofs.Computing.{elf_sections_computes}
-use Rattle.elf_sections.proofs.Elf.{Section, plain, code_at, function, file_of, strings, symbol_table, note, elf_builds}
+use Rattle.elf_sections.proofs.Elf.{plain, code_at, function, file_of, strings, symbol_table, note, elf_builds}
 
 -- a build id of the bytes 00 to 13, four bytes of code at 1000, and the function `main` at its start
 abbrev id20 : List ℕ

@@ -1,7 +1,6 @@
 -- Whole files, and what is read of them.
-use Rattle.std.proofs.Common.{◌≡◌, ◌+◌, ◌-◌, ◌*◌, ℕ, List, [], ◌∷◌, ◌++◌, map, take, codes, Option, Some, None, Ok, refl}
+use Rattle.std.proofs.Common.{◌≡◌, ◌+◌, ℕ, List, [], ◌∷◌, map, codes, Some, None, Ok, refl}
 use Rattle.std.specs.Prelude.{slice_set}
-use Rattle.sym_edges.specs.Addresses.{Range}
 use Rattle.elf_sections.specs.Symbols.{SymbolParts, symbols}
 use Rattle.elf_sections.specs.Programs.{base, code}
 use Rattle.elf_sections.specs.Image.{SectionPart, image, identity_of, part_named}

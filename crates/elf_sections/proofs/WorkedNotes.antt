@@ -1,13 +1,11 @@
 -- Build ids among notes.
-use Rattle.std.proofs.Common.{◌≡◌, ◌+◌, ◌-◌, ◌*◌, ℕ, List, [], ◌∷◌, ◌++◌, map, take, codes, Option, Some, None, Ok, refl}
-use Rattle.std.specs.Prelude.{slice_set}
-use Rattle.std.specs.List.{range_with_len}
-use Rattle.std.specs.Prelude.{length, replicate}
+use Rattle.std.proofs.Common.{◌≡◌, ℕ, List, [], ◌∷◌, ◌++◌, take, codes, Some, None, refl}
+use Rattle.std.specs.Prelude.{replicate}
 use Rattle.elf_sections.specs.Notes.{notes, first_id, build_id}
 use Rattle.elf_sections.proofs.Elf.{le}
 use Rattle.leb_cursor.proofs.Hex.{bytes}
 use Rattle.elf_sections.proofs.Computing.{elf_sections_computes}
-use Rattle.elf_sections.proofs.Elf.{Section, plain, code_at, function, file_of, strings, symbol_table, note, elf_builds}
+use Rattle.elf_sections.proofs.Elf.{Section, plain, file_of, note, elf_builds}
 
 -- the padding of the last descriptor may be missing
 one_id : first_id (notes (note (bytes (codes "0a0b")))) ≡ Some (bytes (codes "0a0b"))

@@ -1,5 +1,5 @@
 -- Which ranges of addresses lie wholly in one range of a list.
-use Rattle.std.specs.Prelude.{ℕ, ◌≤◌, ◌&&◌, Bool, nat_le, List, [], ◌∷◌}
+use Rattle.std.specs.Prelude.{ℕ, ◌&&◌, Bool, nat_le, List}
 use Rattle.std.specs.List.{list_any}
 use Rattle.sym_edges.specs.Addresses.{Range}
 
