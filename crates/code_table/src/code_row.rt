@@ -3,7 +3,7 @@ use crate::kind::Shape;
 
 /// A code and the layout of its operands.
 #[derive(Clone, Copy)]
-pub struct Row {
+pub struct CodeRow {
     pub code: u64,
     pub shape: Shape,
 }
