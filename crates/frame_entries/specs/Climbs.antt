@@ -1,4 +1,4 @@
--- Places that rise.
+-- No public clause cites this: the places of CIEs, which rise.
 use Rattle.std.specs.Prelude.{ℕ, ◌+◌, ◌≤◌, List, [], ◌∷◌, map}
 use Rattle.frame_entries.specs.declared.cie.Cie.{Cie}
 
