@@ -1,5 +1,6 @@
 -- What holds of every step: the location never falls, and a step that moves leaves the row.
 use Rattle.std.proofs.Common.{◌≡◌, ℕ, ◌+◌, ◌*◌, ◌^◌, ◌<◌, ◌≤◌, ◌&&◌, Bool, true, false, None, is_some, nat_lt, nat_le, Ok, Err, refl, arith}
+use Rattle.std.proofs.lemmas.Bool.{and_parts, leb-true}
 use Rattle.sym_edges.specs.declared.reason.Reason.{Reason}
 use Rattle.sym_edges.specs.declared.reason.Reason.TheVariants as reason
 use Rattle.frame_rows.specs.declared.instruction.Instruction.{Instruction}
@@ -10,14 +11,13 @@ use Rattle.frame_rows.specs.Machine.{Machine}
 use Rattle.sym_edges.specs.Results.{unless}
 use Rattle.frame_rows.specs.Steps.{stepped, step_fault, move_fault}
 use Rattle.frame_rows.specs.Rows.{item_stepped, item_fault, next_location}
-use Rattle.frame_rows.proofs.TestLemmas.{and_true, true_le}
 
 pub unless_none : (well : Bool) (why : Reason) → unless well why ≡ None → well ≡ true
 unless_none true why is = refl
 unless_none false why is = cc
 
 rises : (s : Setting) (before after : ℕ) → move_fault s before after ≡ None → before ≤ after
-rises s before after good = true_le before after (and_true (and_true {a = is_some s.initial} (unless_none (is_some s.initial && (nat_le before after && nat_lt after (2 ^ 64))) reason.Range good)).1).0
+rises s before after good = leb-true before after (and_parts _ _ (and_parts (is_some s.initial) _ (unless_none (is_some s.initial && (nat_le before after && nat_lt after (2 ^ 64))) reason.Range good)).1).0
 
 step_location : (s : Setting) (i : Instruction) (m : Machine) → (stepped s i m).address ≡ next_location s (Ok i) m.address
 unfolding stepped

@@ -42,26 +42,26 @@ put_offset offset row = record { cfa = cfa_offset offset row.cfa; rules = row.ru
 unfoldable pub put_rule : ℕ → Rule → Row → Row
 put_rule column new row = if nat_lt column 17 then record { cfa = row.cfa; rules = slice_set row.rules column new } else row
 
--- an offset that is a whole number, and products with the data alignment, modulo 2^64
+-- an offset that is not factored, and one that is: its product with the data alignment factor, modulo 2^64
 abbrev pub plain : ℕ → ℤ
 plain offset = cast_signed w64 offset
 
 abbrev pub scaled : Setting → ℤ → ℤ
 scaled s factored = int_wrapping_mul w64 factored s.data_align
 
--- the rule that a row's column had behind the CIE
+-- the rule that the initial instructions gave a column
 abbrev pub rule_behind : Option Row → ℕ → Rule
 rule_behind None column = rule.Rest
 rule_behind (Some initial) column = slice_index_or initial.rules column rule.Rest
 
 -- the state at another location, and the state with its row changed
 abbrev pub moved : ℕ → Machine → Machine
-moved address m = record { address = address; row = m.row; held = m.held }
+moved address m = record { address = address; row = m.row; stack = m.stack }
 
 abbrev pub on_row : (Row → Row) → Machine → Machine
-on_row change m = record { address = m.address; row = change m.row; held = m.held }
+on_row change m = record { address = m.address; row = change m.row; stack = m.stack }
 
--- the top of the remembered rows, and those under it
+-- the top of the row stack, and the rows under it
 abbrev pub top_or : Row → List Row → Row
 top_or row [] = row
 top_or row (top ∷ rows) = top
@@ -71,9 +71,9 @@ under [] = []
 under (top ∷ rows) = rows
 
 -- some row is remembered
-abbrev pub has_held : List Row → Bool
-has_held [] = false
-has_held (top ∷ rows) = true
+abbrev pub has_remembered : List Row → Bool
+has_remembered [] = false
+has_remembered (top ∷ rows) = true
 
 -- the state behind an instruction
 unfoldable pub stepped : Setting → Instruction → Machine → Machine
@@ -99,8 +99,8 @@ stepped s (Expression column start len) m = m
 stepped s (ValExpression column start len) m = m
 stepped s (Restore column) m = on_row (put_rule column (rule_behind s.initial column)) m
 -- row state (6.4.2.4)
-stepped s RememberState m = record { address = m.address; row = m.row; held = m.row ∷ m.held }
-stepped s RestoreState m = record { address = m.address; row = top_or m.row m.held; held = under m.held }
+stepped s RememberState m = record { address = m.address; row = m.row; stack = m.row ∷ m.stack }
+stepped s RestoreState m = record { address = m.address; row = top_or m.row m.stack; stack = under m.stack }
 -- padding (6.4.2.5)
 stepped s Nop m = m
 
@@ -136,5 +136,5 @@ step_fault s (Expression column start len) m = Some reason.Expression
 step_fault s (ValExpression column start len) m = Some reason.Expression
 step_fault s (Restore column) m = unless (is_some s.initial) reason.State
 step_fault s RememberState m = None
-step_fault s RestoreState m = unless (has_held m.held) reason.State
+step_fault s RestoreState m = unless (has_remembered m.stack) reason.State
 step_fault s Nop m = None

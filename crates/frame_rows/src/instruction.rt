@@ -1,7 +1,7 @@
 //! The call frame instructions (DWARF 5, 6.4.2).
 
 /// A call frame instruction. Those that differ only in how an operand is written are one. Columns and registers are DWARF
-/// numbers; a factored offset is multiplied by the data alignment of the CIE, and a delta by its code alignment.
+/// numbers; a factored offset is multiplied by the data alignment factor of the CIE, and a delta by its code alignment factor.
 #[derive(Clone, Copy, PartialEq, Eq, Debug)]
 pub enum Instruction {
     SetLoc {
