@@ -12,7 +12,7 @@ use Rattle.frame_rows.specs.declared.row.CfaRule.{CfaRule}
 use Rattle.frame_rows.specs.declared.row.Row.{Row}
 use Rattle.frame_rows.specs.declared.machine.Setting.{Setting}
 use Rattle.frame_rows.specs.declared.instruction.Instruction.{Instruction}
-use Rattle.frame_rows.specs.declared.instruction.Instruction.TheVariants.{SetLoc, AdvanceLoc, DefCfa, DefCfaSf, DefCfaRegister, DefCfaOffset, DefCfaOffsetSf, DefCfaExpression, Undefined, SameValue, Offset, OffsetExtendedSf, ValOffset, ValOffsetSf, Register, Expression, ValExpression, Restore, RememberState, RestoreState, Nop}
+use Rattle.frame_rows.specs.declared.instruction.Instruction.TheVariants.{SetLoc, AdvanceLoc, DefCfa, DefCfaSf, DefCfaRegister, DefCfaOffset, DefCfaOffsetSf, Undefined, SameValue, Offset, OffsetExtendedSf, ValOffset, ValOffsetSf, Register, Restore, RememberState, RestoreState, Nop}
 use Rattle.frame_rows.specs.Instructions.{Item}
 use Rattle.frame_rows.specs.Machine.{Machine}
 use Rattle.frame_rows.specs.Steps.{plain, scaled, stepped, step_fault, register_fault, part_fault, put_cfa, put_register, put_offset, put_rule, cfa_register, cfa_offset, rule_behind, top_or, under}
@@ -108,7 +108,6 @@ step_sound s (DefCfaSf register factored) m good initial names = record { row = 
 step_sound s (DefCfaRegister register) m good initial names = record { row = register_sound register m.row (neither (register_fault register) (part_fault m) good).0 names.row; stack = names.stack }
 step_sound s (DefCfaOffset offset) m good initial names = record { row = offset_sound (plain offset) m.row (plain_fits offset) names.row; stack = names.stack }
 step_sound s (DefCfaOffsetSf factored) m good initial names = record { row = offset_sound (scaled s factored) m.row (scaled_fits s factored) names.row; stack = names.stack }
-step_sound s (DefCfaExpression start len) m good initial names = names
 step_sound s (Undefined column) m good initial names = record { row = put_sound column rule.Undefined m.row (λ low. refl) names.row; stack = names.stack }
 step_sound s (SameValue column) m good initial names = record { row = put_sound column rule.Same m.row (λ low. same_named column (unless_none (not (column == 16)) reason.Register good) low) names.row; stack = names.stack }
 step_sound s (Offset column factored) m good initial names = record { row = put_sound column (rule.Offset (scaled s (plain factored))) m.row (λ low. scaled_fits s (plain factored)) names.row; stack = names.stack }
@@ -116,8 +115,6 @@ step_sound s (OffsetExtendedSf column factored) m good initial names = record { 
 step_sound s (ValOffset column factored) m good initial names = record { row = put_sound column (rule.ValOffset (scaled s (plain factored))) m.row (λ low. scaled_fits s (plain factored)) names.row; stack = names.stack }
 step_sound s (ValOffsetSf column factored) m good initial names = record { row = put_sound column (rule.ValOffset (scaled s factored)) m.row (λ low. scaled_fits s factored) names.row; stack = names.stack }
 step_sound s (Register column register) m good initial names = record { row = put_sound column (rule.Register register) m.row (λ low. source_named column register (unless_none (nat_lt 16 column || nat_lt register 16) reason.Register good) low) names.row; stack = names.stack }
-step_sound s (Expression column start len) m good initial names = names
-step_sound s (ValExpression column start len) m good initial names = names
 step_sound s (Restore column) m good initial names = record { row = put_sound column (rule_behind s.initial column) m.row (λ low. behind_sound s.initial column initial) names.row; stack = names.stack }
 step_sound s RememberState m good initial names = record { row = names.row; stack = (names.row, names.stack) }
 step_sound s RestoreState m good initial names = record { row = top_sound m.row m.stack names.row names.stack; stack = under_sound m.stack names.stack }

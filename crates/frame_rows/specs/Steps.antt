@@ -12,7 +12,7 @@ use Rattle.frame_rows.specs.declared.row.CfaRule.{CfaRule}
 use Rattle.frame_rows.specs.declared.row.Row.{Row}
 use Rattle.frame_rows.specs.declared.machine.Setting.{Setting}
 use Rattle.frame_rows.specs.declared.instruction.Instruction.{Instruction}
-use Rattle.frame_rows.specs.declared.instruction.Instruction.TheVariants.{SetLoc, AdvanceLoc, DefCfa, DefCfaSf, DefCfaRegister, DefCfaOffset, DefCfaOffsetSf, DefCfaExpression, Undefined, SameValue, Offset, OffsetExtendedSf, ValOffset, ValOffsetSf, Register, Expression, ValExpression, Restore, RememberState, RestoreState, Nop}
+use Rattle.frame_rows.specs.declared.instruction.Instruction.TheVariants.{SetLoc, AdvanceLoc, DefCfa, DefCfaSf, DefCfaRegister, DefCfaOffset, DefCfaOffsetSf, Undefined, SameValue, Offset, OffsetExtendedSf, ValOffset, ValOffsetSf, Register, Restore, RememberState, RestoreState, Nop}
 use Rattle.frame_rows.specs.Machine.{Machine}
 
 -- the row has a CFA rule
@@ -86,7 +86,6 @@ stepped s (DefCfaSf register factored) m = on_row (put_cfa register (scaled s fa
 stepped s (DefCfaRegister register) m = on_row (put_register register) m
 stepped s (DefCfaOffset offset) m = on_row (put_offset (plain offset)) m
 stepped s (DefCfaOffsetSf factored) m = on_row (put_offset (scaled s factored)) m
-stepped s (DefCfaExpression start len) m = m
 -- register rules (6.4.2.3)
 stepped s (Undefined column) m = on_row (put_rule column rule.Undefined) m
 stepped s (SameValue column) m = on_row (put_rule column rule.Same) m
@@ -95,8 +94,6 @@ stepped s (OffsetExtendedSf column factored) m = on_row (put_rule column (rule.O
 stepped s (ValOffset column factored) m = on_row (put_rule column (rule.ValOffset (scaled s (plain factored)))) m
 stepped s (ValOffsetSf column factored) m = on_row (put_rule column (rule.ValOffset (scaled s factored))) m
 stepped s (Register column register) m = on_row (put_rule column (rule.Register register)) m
-stepped s (Expression column start len) m = m
-stepped s (ValExpression column start len) m = m
 stepped s (Restore column) m = on_row (put_rule column (rule_behind s.initial column)) m
 -- row state (6.4.2.4)
 stepped s RememberState m = record { address = m.address; row = m.row; stack = m.row ∷ m.stack }
@@ -124,7 +121,6 @@ step_fault s (DefCfaSf register factored) m = register_fault register
 step_fault s (DefCfaRegister register) m = option_or (register_fault register) (part_fault m)
 step_fault s (DefCfaOffset offset) m = part_fault m
 step_fault s (DefCfaOffsetSf factored) m = part_fault m
-step_fault s (DefCfaExpression start len) m = Some reason.Expression
 step_fault s (Undefined column) m = None
 step_fault s (SameValue column) m = unless (not (column == 16)) reason.Register
 step_fault s (Offset column factored) m = None
@@ -132,8 +128,6 @@ step_fault s (OffsetExtendedSf column factored) m = None
 step_fault s (ValOffset column factored) m = None
 step_fault s (ValOffsetSf column factored) m = None
 step_fault s (Register column register) m = unless (nat_lt 16 column || nat_lt register 16) reason.Register
-step_fault s (Expression column start len) m = Some reason.Expression
-step_fault s (ValExpression column start len) m = Some reason.Expression
 step_fault s (Restore column) m = unless (is_some s.initial) reason.State
 step_fault s RememberState m = None
 step_fault s RestoreState m = unless (has_remembered m.stack) reason.State
