@@ -1,2 +1,4 @@
-pub mod FindLemmas
 pub mod OperandLemmas
+pub mod Hex
+pub mod Computing
+mod WorkedLayouts

@@ -1,4 +1,3 @@
-pub mod Rises
 pub mod Rows
 pub mod Layouts
 pub mod FrameOps

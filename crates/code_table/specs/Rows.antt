@@ -1,13 +1,9 @@
 -- A table of codes, as a list of rows.
-use Rattle.std.specs.Prelude.{ℕ, ◌==◌, List, map, find, Option}
+use Rattle.std.specs.Prelude.{ℕ, ◌==◌, List, find, Option}
 use Rattle.std.specs.Option.{option_map}
 use Rattle.code_table.specs.declared.kind.Shape.{Shape}
-use Rattle.code_table.specs.declared.row.Row.{Row}
-
--- the codes of the rows
-abbrev pub codes_of : List Row → List ℕ
-codes_of rows = map (λ row. row.code) rows
+use Rattle.code_table.specs.declared.code_row.CodeRow.{CodeRow}
 
 -- the layout of a code: that of the row which has it, where there is one
-unfoldable pub shape_of : ℕ → List Row → Option Shape
+unfoldable pub shape_of : ℕ → List CodeRow → Option Shape
 shape_of code rows = option_map (λ row. row.shape) (find (λ row. row.code == code) rows)

@@ -1,10 +1,10 @@
 //! The opcodes of call frame instructions (DWARF 5, table 7.29), by the standard's names.
 ghost use Rattle.std.specs.Prelude.{◌≡◌};
 ghost use Rattle.code_table.specs.Rows.{shape_of};
-ghost use Rattle.code_table.specs.FrameOps.{frame_rows};
+ghost use Rattle.code_table.specs.FrameOps.{frame_opcodes};
 
+use crate::code_row::CodeRow;
 use crate::kind::{Kind, Shape};
-use crate::row::Row;
 use crate::table::Table;
 
 // These three have an operand in their low six bits.
@@ -62,48 +62,64 @@ pub const DW_CFA_val_expression: u64 = 0x16;
 
 pub const DW_CFA_GNU_args_size: u64 = 0x2e;
 
-macro_rules! rows {
-    ($($code:ident: $first:ident, $second:ident;)*) => {
-        [$(Row { code: $code, shape: Shape { first: Kind::$first, second: Kind::$second } }),*]
+/// The rows of the table, made into what `$make` writes. The operand of `DW_CFA_set_loc` is a pointer,
+/// whose layout the augmentation gives: its row has none.
+macro_rules! frame_ops {
+    ($make:ident, $given:expr) => {
+        $make! { $given;
+            DW_CFA_nop: Nothing, Nothing;
+            DW_CFA_set_loc: Nothing, Nothing;
+            DW_CFA_advance_loc1: U8, Nothing;
+            DW_CFA_advance_loc2: U16, Nothing;
+            DW_CFA_advance_loc4: U32, Nothing;
+            DW_CFA_offset_extended: Uleb, Uleb;
+            DW_CFA_restore_extended: Uleb, Nothing;
+            DW_CFA_undefined: Uleb, Nothing;
+            DW_CFA_same_value: Uleb, Nothing;
+            DW_CFA_register: Uleb, Uleb;
+            DW_CFA_remember_state: Nothing, Nothing;
+            DW_CFA_restore_state: Nothing, Nothing;
+            DW_CFA_def_cfa: Uleb, Uleb;
+            DW_CFA_def_cfa_register: Uleb, Nothing;
+            DW_CFA_def_cfa_offset: Uleb, Nothing;
+            DW_CFA_def_cfa_expression: BlockUleb, Nothing;
+            DW_CFA_expression: Uleb, BlockUleb;
+            DW_CFA_offset_extended_sf: Uleb, Sleb;
+            DW_CFA_def_cfa_sf: Uleb, Sleb;
+            DW_CFA_def_cfa_offset_sf: Sleb, Nothing;
+            DW_CFA_val_offset: Uleb, Uleb;
+            DW_CFA_val_offset_sf: Uleb, Sleb;
+            DW_CFA_val_expression: Uleb, BlockUleb;
+            DW_CFA_GNU_args_size: Uleb, Nothing;
+        }
     };
 }
 
-/// The instructions whose operands stand behind the opcode. The operand of `DW_CFA_set_loc` is a
-/// pointer, whose layout the augmentation gives: its row has none.
+macro_rules! rows {
+    ($table:expr; $($code:ident: $first:ident, $second:ident;)*) => {
+        [$(CodeRow { code: $code, shape: Shape { first: Kind::$first, second: Kind::$second } }),*]
+    };
+}
+
+macro_rules! shape_by {
+    ($given:expr; $($code:ident: $first:ident, $second:ident;)*) => {
+        match $given {
+            $($code => Some(Shape { first: Kind::$first, second: Kind::$second }),)*
+            _ => None,
+        }
+    };
+}
+
+/// The instructions whose operands stand behind the opcode.
 pub const FRAME_OPS: Table<24> = Table {
-    rows: rows! {
-        DW_CFA_nop: Nothing, Nothing;
-        DW_CFA_set_loc: Nothing, Nothing;
-        DW_CFA_advance_loc1: U8, Nothing;
-        DW_CFA_advance_loc2: U16, Nothing;
-        DW_CFA_advance_loc4: U32, Nothing;
-        DW_CFA_offset_extended: Uleb, Uleb;
-        DW_CFA_restore_extended: Uleb, Nothing;
-        DW_CFA_undefined: Uleb, Nothing;
-        DW_CFA_same_value: Uleb, Nothing;
-        DW_CFA_register: Uleb, Uleb;
-        DW_CFA_remember_state: Nothing, Nothing;
-        DW_CFA_restore_state: Nothing, Nothing;
-        DW_CFA_def_cfa: Uleb, Uleb;
-        DW_CFA_def_cfa_register: Uleb, Nothing;
-        DW_CFA_def_cfa_offset: Uleb, Nothing;
-        DW_CFA_def_cfa_expression: BlockUleb, Nothing;
-        DW_CFA_expression: Uleb, BlockUleb;
-        DW_CFA_offset_extended_sf: Uleb, Sleb;
-        DW_CFA_def_cfa_sf: Uleb, Sleb;
-        DW_CFA_def_cfa_offset_sf: Sleb, Nothing;
-        DW_CFA_val_offset: Uleb, Uleb;
-        DW_CFA_val_offset_sf: Uleb, Sleb;
-        DW_CFA_val_expression: Uleb, BlockUleb;
-        DW_CFA_GNU_args_size: Uleb, Nothing;
-    },
+    rows: frame_ops!(rows, 24),
 };
 
 /// The layout of a call frame instruction that the standard's table gives.
 #[inline]
-#[tactic(auto, unfolding(crate::specs::FrameOps::frame_rows))]
+#[tactic(auto, unfolding(crate::specs::FrameOps::frame_opcodes, crate::specs::Rows::shape_of))]
 pub fn frame_shape(code: u64) -> Option<Shape>
-    ensures { result ≡ shape_of code frame_rows }
+    ensures { result ≡ shape_of code frame_opcodes }
 {
-    FRAME_OPS.find(code)
+    frame_ops!(shape_by, code)
 }

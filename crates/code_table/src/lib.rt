@@ -6,19 +6,19 @@
 //! exactly where the table has it, and [`read_shape`] reads its operands from a cursor: what it
 //! answers and what is left afterwards are what `specs/Layouts.antt` gives for what was left before,
 //! each refusal with the place of the number, text or run of bytes that fails, and a refused call
-//! leaves the cursor as it was. [`frame_shape`] promises that [`FRAME_OPS`] is the standard's table,
-//! which `specs/FrameOps.antt` writes out; no proof above opens the rows. No call takes memory.
+//! leaves the cursor as it was. The rows of [`FRAME_OPS`] are the standard's, which
+//! `specs/FrameOps.antt` writes out (`laws` says so); [`frame_shape`] is the same table as a match.
+//! No call takes memory.
 #![tactic(auto)]
 
+mod code_row;
 mod frame_ops;
 mod kind;
 pub mod laws;
-mod row;
 mod shape;
 mod table;
-#[cfg(test)]
-mod tests;
 
+pub use crate::code_row::CodeRow;
 pub use crate::frame_ops::{
     DW_CFA_GNU_args_size, DW_CFA_advance_loc, DW_CFA_advance_loc1, DW_CFA_advance_loc2,
     DW_CFA_advance_loc4, DW_CFA_def_cfa, DW_CFA_def_cfa_expression, DW_CFA_def_cfa_offset,
@@ -29,6 +29,5 @@ pub use crate::frame_ops::{
     DW_CFA_val_offset_sf, FRAME_OPS, frame_shape,
 };
 pub use crate::kind::{Kind, Operand, Operands, Shape};
-pub use crate::row::Row;
 pub use crate::shape::read_shape;
 pub use crate::table::Table;

@@ -4,3 +4,9 @@ pub mod FindLemmas
 pub mod EntryLemmas
 pub mod PlaceLemmas
 pub mod ReasonLemmas
+pub mod Hex
+pub mod Computing
+mod Sections
+mod WorkedListing
+mod WorkedReasons
+mod WorkedPointers

@@ -4,7 +4,7 @@ use Rattle.std.specs.Option.{IfSome, option_and_then}
 use Rattle.std.specs.List.{filter, find}
 use Rattle.sym_edges.specs.declared.part.Sect.{Sect}
 use Rattle.sym_edges.specs.declared.reason.Reason.{Reason}
-use Rattle.sym_edges.specs.declared.reason.Reason.TheVariants.{Cie as BadCie, Augmentation, Encoding, Column}
+use Rattle.sym_edges.specs.declared.reason.Reason.TheVariants as reason
 use Rattle.leb_cursor.specs.declared.fault.CursorFault.{CursorFault}
 use Rattle.sym_edges.specs.Results.{◌>>=◌}
 use Rattle.leb_cursor.specs.Ahead.{Ahead}
@@ -23,11 +23,11 @@ use Rattle.frame_entries.specs.FrameEntries.{IsOfFields, reason_of, is_cie, cie_
 -- refused for a reason that fields give, if at all
 abbrev pub OfFields : {A : Type 0} → Result A Reason → Type 0
 OfFields (Ok x) = Unit {0}
-OfFields (Err reason) = IsOfFields reason
+OfFields (Err why) = IsOfFields why
 
 then : {A B : Type 0} (reading : Result A Reason) (next : A → Result B Reason) → OfFields reading → ((x : A) → OfFields (next x)) → OfFields (reading >>= next)
 then (Ok x) next first later = later x
-then (Err reason) next first later = first
+then (Err why) next first later = first
 
 unread : {A : Type 0} (reading : Result A CursorFault) → OfFields (or_cie reading)
 unread (Ok x) = tt
@@ -48,11 +48,11 @@ unfolding personality_at
 personality_reason before c =
     then (or_cie (fixed_at 1 c))
     (λ encoding. cond (nat_eq encoding.0 0xff) (Ok (before, encoding.1))
-    (cond (is_personality encoding.0) (or_cie (number_at (format_of encoding.0) encoding.1) >>= λ n. Ok (before, n.1)) (Err Encoding)))
+    (cond (is_personality encoding.0) (or_cie (number_at (format_of encoding.0) encoding.1) >>= λ n. Ok (before, n.1)) (Err reason.Encoding)))
     (unread (fixed_at 1 c))
     (λ encoding. either (nat_eq encoding.0 0xff) (Ok (before, encoding.1))
-    (cond (is_personality encoding.0) (or_cie (number_at (format_of encoding.0) encoding.1) >>= λ n. Ok (before, n.1)) (Err Encoding)) tt
-    (either (is_personality encoding.0) (or_cie (number_at (format_of encoding.0) encoding.1) >>= λ n. Ok (before, n.1)) (Err Encoding)
+    (cond (is_personality encoding.0) (or_cie (number_at (format_of encoding.0) encoding.1) >>= λ n. Ok (before, n.1)) (Err reason.Encoding)) tt
+    (either (is_personality encoding.0) (or_cie (number_at (format_of encoding.0) encoding.1) >>= λ n. Ok (before, n.1)) (Err reason.Encoding)
     (then (or_cie (number_at (format_of encoding.0) encoding.1)) (λ n. Ok (before, n.1)) (unread (number_at (format_of encoding.0) encoding.1)) (λ n. tt)) tt))
 
 letter_reason : (letter : ℕ) (before : Encodings) (c : Ahead) → OfFields (letter_at letter before c)
@@ -79,7 +79,7 @@ encodings_reason : (text augmentation : List ℕ) → OfFields (encodings_of tex
 unfolding encodings_of
 encodings_reason text augmentation = letters_reason (drop 1 text) (record { pointer = 0; known = true }) (from_start augmentation)
 
-fields_by : (known column : Bool) (fields : CieFields) → OfFields (cond (not known) (Err Encoding) (cond (not column) (Err Column) (Ok fields)))
+fields_by : (known column : Bool) (fields : CieFields) → OfFields (cond (not known) (Err reason.Encoding) (cond (not column) (Err reason.Column) (Ok fields)))
 fields_by false column fields = tt
 fields_by true false fields = tt
 fields_by true true fields = tt
@@ -88,7 +88,7 @@ fields_reason : (augmented : Bool) (numbers : Numbers) (encodings : Encodings) (
 unfolding cie_fields
 fields_reason augmented numbers encodings first = fields_by encodings.known (nat_eq numbers.column 16) _
 
-judged_reason : (sizes augmented : Bool) (numbers : Numbers) (text augmentation first : List ℕ) → OfFields (cond sizes (encodings_of text augmentation >>= λ encodings. cie_fields augmented numbers encodings first) (Err BadCie))
+judged_reason : (sizes augmented : Bool) (numbers : Numbers) (text augmentation first : List ℕ) → OfFields (cond sizes (encodings_of text augmentation >>= λ encodings. cie_fields augmented numbers encodings first) (Err reason.Cie))
 judged_reason false augmented numbers text augmentation first = tt
 judged_reason true augmented numbers text augmentation first =
     then (encodings_of text augmentation) (λ encodings. cie_fields augmented numbers encodings first) (encodings_reason text augmentation)
@@ -99,14 +99,14 @@ unfolding cie_behind
 behind_reason version text body c =
     then (or_cie (numbers_at version c))
     (λ numbers. or_cie (augmentation_at (is_augmented text) numbers.1) >>= λ augmentation.
-    cond numbers.0.sizes (encodings_of text augmentation.0 >>= λ encodings. cie_fields (is_augmented text) numbers.0 encodings (drop augmentation.1.at body)) (Err BadCie))
+    cond numbers.0.sizes (encodings_of text augmentation.0 >>= λ encodings. cie_fields (is_augmented text) numbers.0 encodings (drop augmentation.1.at body)) (Err reason.Cie))
     (unread (numbers_at version c))
     (λ numbers. then (or_cie (augmentation_at (is_augmented text) numbers.1))
-    (λ augmentation. cond numbers.0.sizes (encodings_of text augmentation.0 >>= λ encodings. cie_fields (is_augmented text) numbers.0 encodings (drop augmentation.1.at body)) (Err BadCie))
+    (λ augmentation. cond numbers.0.sizes (encodings_of text augmentation.0 >>= λ encodings. cie_fields (is_augmented text) numbers.0 encodings (drop augmentation.1.at body)) (Err reason.Cie))
     (unread (augmentation_at (is_augmented text) numbers.1))
     (λ augmentation. judged_reason numbers.0.sizes (is_augmented text) numbers.0 text augmentation.0 (drop augmentation.1.at body)))
 
-text_reason : (known understood : Bool) (version : ℕ) (text body : List ℕ) (c : Ahead) → OfFields (cond known (cond understood (cie_behind version text body c) (Err Augmentation)) (Err BadCie))
+text_reason : (known understood : Bool) (version : ℕ) (text body : List ℕ) (c : Ahead) → OfFields (cond known (cond understood (cie_behind version text body c) (Err reason.Augmentation)) (Err reason.Cie))
 text_reason false understood version text body c = tt
 text_reason true false version text body c = tt
 text_reason true true version text body c = behind_reason version text body c
@@ -116,10 +116,10 @@ unfolding cie_of
 cie_reason body =
     then (or_cie (fixed_at 1 (from_start body)))
     (λ version. or_cie (text_at version.1) >>= λ text.
-    cond (is_version version.0) (cond (is_understood text.0) (cie_behind version.0 text.0 body text.1) (Err Augmentation)) (Err BadCie))
+    cond (is_version version.0) (cond (is_understood text.0) (cie_behind version.0 text.0 body text.1) (Err reason.Augmentation)) (Err reason.Cie))
     (unread (fixed_at 1 (from_start body)))
     (λ version. then (or_cie (text_at version.1))
-    (λ text. cond (is_version version.0) (cond (is_understood text.0) (cie_behind version.0 text.0 body text.1) (Err Augmentation)) (Err BadCie))
+    (λ text. cond (is_version version.0) (cond (is_understood text.0) (cie_behind version.0 text.0 body text.1) (Err reason.Augmentation)) (Err reason.Cie))
     (unread (text_at version.1))
     (λ text. text_reason (is_version version.0) (is_understood text.0) version.0 text.0 body text.1))
 
@@ -147,7 +147,7 @@ read_reason (Err fault) = tt
 
 under_reason : (parts : Result CieFields Reason) (base : ℕ) (body : List ℕ) → OfFields parts → IfSome (reason_of (body_under parts base body)) IsOfFields
 under_reason (Ok cie) base body early = read_reason (fde_of cie base body)
-under_reason (Err reason) base body early = early
+under_reason (Err why) base body early = early
 
 by_reason : (cie : Option Cie) (base : ℕ) (body : List ℕ) → FoundOfFields cie → IfSome (reason_of (body_by cie base body)) IsOfFields
 by_reason None base body early = tt

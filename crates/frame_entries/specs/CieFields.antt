@@ -1,9 +1,10 @@
 use Rattle.std.specs.Prelude.{ℕ, ℤ, Bool, List}
 
--- what the FDEs of a CIE need of it (DWARF 5, 6.4.1)
+-- what the FDEs of a CIE need of it (DWARF 5, 6.4.1): the code alignment factor, the data alignment factor, the encoding of
+-- pointers, whether there is an augmentation, and the initial instructions
 pub record CieFields : Type 0 where
   pub code_align : ℕ
   pub data_align : ℤ
   pub encoding : ℕ
   pub augmented : Bool
-  pub first : List ℕ
+  pub initial_instructions : List ℕ

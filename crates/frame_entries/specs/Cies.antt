@@ -1,11 +1,12 @@
 -- A common information entry, from the bytes of its body (DWARF 5, 6.4.1; LSB Core, ".eh_frame").
 -- Its fields are read in their order up to the first that cannot be, and that gives the reason.
-use Rattle.std.specs.Prelude.{◌≡◌, ℕ, ◌/◌, ◌%◌, ◌==◌, ◌&&◌, ◌||◌, not, Bool, true, if◌then◌else◌, List, [], ◌∷◌, length, drop, Result, Ok, Err}
+use Rattle.std.specs.Prelude.{ℕ, ◌/◌, ◌%◌, ◌==◌, ◌&&◌, ◌||◌, not, Bool, true, if◌then◌else◌, List, [], ◌∷◌, length, drop, Result, Ok, Err}
 use Rattle.std.specs.List.{list_all}
 use Rattle.sym_edges.specs.declared.reason.Reason.{Reason}
-use Rattle.sym_edges.specs.declared.reason.Reason.TheVariants.{Cie, Augmentation, Encoding, Column}
+use Rattle.sym_edges.specs.declared.reason.Reason.TheVariants as reason
 use Rattle.leb_cursor.specs.declared.fault.CursorFault.{CursorFault}
 use Rattle.sym_edges.specs.Results.{◌>>=◌}
+use Rattle.sym_edges.specs.Abi.{return_address}
 use Rattle.leb_cursor.specs.Ahead.{Ahead}
 use Rattle.leb_cursor.specs.Readings.{fixed_at, uleb_at, sleb_at, text_at, take_at}
 use Rattle.frame_entries.specs.declared.numbers.Numbers.{Numbers}
@@ -17,7 +18,7 @@ use Rattle.frame_entries.specs.CieFields.{CieFields}
 -- a field of the CIE that cannot be read
 abbrev pub or_cie : {A : Type 0} → Result A CursorFault → Result A Reason
 or_cie (Ok x) = Ok x
-or_cie (Err fault) = Err Cie
+or_cie (Err fault) = Err reason.Cie
 
 -- the versions that are read: 1 of `.eh_frame` and DWARF 2, 3, and 4 of DWARF 4 and 5
 unfoldable pub is_version : ℕ → Bool
@@ -71,17 +72,13 @@ personality_at before c =
     if encoding.0 == 0xff then Ok (before, encoding.1) else
     if is_personality encoding.0
     then (or_cie (number_at (format_of encoding.0) encoding.1) >>= λ n. Ok (before, n.1))
-    else Err Encoding
+    else Err reason.Encoding
 
 -- the encoding of pointers, which may be one that is not read
 unfoldable pub encoding_at : Encodings → Ahead → Result (Encodings × Ahead) Reason
 encoding_at before c =
     or_cie (fixed_at 1 c) >>= λ encoding.
     Ok (record { pointer = encoding.0; known = before.known && is_encoding encoding.0 }, encoding.1)
-
--- where each R was one that is read, the last is
-abbrev pub IsSound : Encodings → Type 0
-IsSound encodings = encodings.known ≡ true → is_encoding encodings.pointer ≡ true
 
 -- what a letter has among the augmentation's bytes
 unfoldable pub letter_at : ℕ → Encodings → Ahead → Result (Encodings × Ahead) Reason
@@ -102,15 +99,15 @@ encodings_of text augmentation =
 
 -- all fields were read: the encoding, then the return address column, which must be that of x86-64
 unfoldable pub cie_fields : Bool → Numbers → Encodings → List ℕ → Result CieFields Reason
-cie_fields augmented numbers encodings first =
-    if not encodings.known then Err Encoding else
-    if not (numbers.column == 16) then Err Column else
+cie_fields augmented numbers encodings initial_instructions =
+    if not encodings.known then Err reason.Encoding else
+    if not (numbers.column == return_address) then Err reason.Column else
     Ok (record {
       code_align = numbers.code_align;
       data_align = numbers.data_align;
       encoding = encodings.pointer;
       augmented = augmented;
-      first = first;
+      initial_instructions = initial_instructions;
     })
 
 -- the fields behind an augmentation's text that is understood; the instructions are the rest of the body
@@ -120,7 +117,7 @@ cie_behind version text body c =
     or_cie (augmentation_at (is_augmented text) numbers.1) >>= λ augmentation.
     if numbers.0.sizes
     then (encodings_of text augmentation.0 >>= λ encodings. cie_fields (is_augmented text) numbers.0 encodings (drop augmentation.1.at body))
-    else Err Cie
+    else Err reason.Cie
 
 -- a CIE, or the first reason for which its FDEs are left out
 unfoldable pub cie_of : List ℕ → Result CieFields Reason
@@ -128,5 +125,5 @@ cie_of body =
     or_cie (fixed_at 1 (from_start body)) >>= λ version.
     or_cie (text_at version.1) >>= λ text.
     if is_version version.0
-    then (if is_understood text.0 then cie_behind version.0 text.0 body text.1 else Err Augmentation)
-    else Err Cie
+    then (if is_understood text.0 then cie_behind version.0 text.0 body text.1 else Err reason.Augmentation)
+    else Err reason.Cie

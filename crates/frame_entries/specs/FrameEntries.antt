@@ -4,7 +4,7 @@ use Rattle.std.specs.Prelude.{ℕ, ◌+◌, ◌-◌, ◌%◌, ◌^◌, ◌==◌,
 use Rattle.sym_edges.specs.declared.part.Sect.{Sect}
 use Rattle.sym_edges.specs.declared.part.Sect.TheVariants.{EhFrame, DebugFrame}
 use Rattle.sym_edges.specs.declared.reason.Reason.{Reason}
-use Rattle.sym_edges.specs.declared.reason.Reason.TheVariants.{Cie as NoCie, Augmentation, Encoding, Column, Entry as BadEntry}
+use Rattle.sym_edges.specs.declared.reason.Reason.TheVariants as reason
 use Rattle.leb_cursor.specs.declared.fault.CursorFault.{CursorFault}
 use Rattle.sym_edges.specs.Results.{◌>>=◌}
 use Rattle.sym_edges.specs.declared.located.Located.{Located}
@@ -66,36 +66,36 @@ fde_of cie base body =
       code_align = cie.code_align;
       data_align = cie.data_align;
       encoding = cie.encoding;
-      first = cie.first;
-      own = drop augmentation.1.at body;
-      own_address = address_at base augmentation.1.at;
+      initial_instructions = cie.initial_instructions;
+      instructions = drop augmentation.1.at body;
+      instructions_address = address_at base augmentation.1.at;
     })
 
 -- what an FDE is: its fields, or the first reason to leave it out
 abbrev pub body_read : Result FdeFields CursorFault → Body
 body_read (Ok fde) = Good fde
-body_read (Err fault) = Bad BadEntry
+body_read (Err fault) = Bad reason.Entry
 
 abbrev pub body_under : Result CieFields Reason → ℕ → List ℕ → Body
 body_under (Ok cie) base body = body_read (fde_of cie base body)
-body_under (Err reason) base body = Bad reason
+body_under (Err why) base body = Bad why
 
 abbrev pub body_by : Option Cie → ℕ → List ℕ → Body
 body_by (Some cie) base body = body_under cie.parts base body
-body_by None base body = Bad NoCie
+body_by None base body = Bad reason.Cie
 
 -- the reason to leave an entry out, where there is one
 abbrev pub reason_of : Body → Option Reason
 reason_of (Good fde) = None
-reason_of (Bad reason) = Some reason
+reason_of (Bad why) = Some why
 
 -- the reasons that the fields of a CIE and of an FDE give; the others come from instructions and ranges
 abbrev pub IsOfFields : Reason → Type 0
-IsOfFields NoCie = Unit {0}
-IsOfFields Augmentation = Unit {0}
-IsOfFields Encoding = Unit {0}
-IsOfFields Column = Unit {0}
-IsOfFields BadEntry = Unit {0}
+IsOfFields reason.Cie = Unit {0}
+IsOfFields reason.Augmentation = Unit {0}
+IsOfFields reason.Encoding = Unit {0}
+IsOfFields reason.Column = Unit {0}
+IsOfFields reason.Entry = Unit {0}
 IsOfFields _ = ⊥
 
 -- an FDE of a section that is loaded at an address, and has those CIEs

@@ -6,3 +6,4 @@ pub mod Cies
 pub mod FdeFields
 pub mod FrameEntries
 pub mod Climbs
+pub mod KnownEncodings

@@ -3,7 +3,8 @@ ghost use Rattle.std.specs.Prelude.{◌≡◌, true, IfOk};
 ghost use Rattle.std.specs.List.{list_all};
 ghost use Rattle.leb_cursor.specs.Ahead.{gave};
 ghost use Rattle.frame_entries.specs.Listing.{from_start};
-ghost use Rattle.frame_entries.specs.Cies.{is_letter, is_understood, is_personality, personality_at, encoding_at, letter_at, letters_at, encodings_of, IsSound};
+ghost use Rattle.frame_entries.specs.Cies.{is_letter, is_understood, is_personality, personality_at, encoding_at, letter_at, letters_at, encodings_of};
+ghost use Rattle.frame_entries.specs.KnownEncodings.{LastIsRead};
 
 use crate::listing::cursor_over;
 use crate::pointer::{format_of, is_encoding, is_format, read_number};
@@ -78,7 +79,7 @@ fn read_personality(cursor: &mut Cursor<'_>, before: Encodings) -> Result<Encodi
 #[tactic(auto, unfolding(crate::specs::Cies::encoding_at))]
 fn read_encoding(cursor: &mut Cursor<'_>, before: Encodings) -> Result<Encodings, Reason>
     ensures read { gave result cursor.new ≡ encoding_at before cursor.old }
-    ensures sound { IfOk result (λ after. IsSound after) }
+    ensures sound { IfOk result (λ after. LastIsRead after) }
 {
     let Ok(pointer) = cursor.u8() else {
         return Err(Reason::Cie);
@@ -92,9 +93,9 @@ fn read_encoding(cursor: &mut Cursor<'_>, before: Encodings) -> Result<Encodings
 /// Reads what a letter has among the augmentation's bytes.
 #[tactic(auto, unfolding(crate::specs::Cies::letter_at))]
 fn read_letter(cursor: &mut Cursor<'_>, letter: u8, before: Encodings) -> Result<Encodings, Reason>
-    requires { IsSound before }
+    requires { LastIsRead before }
     ensures read { gave result cursor.new ≡ letter_at letter before cursor.old }
-    ensures sound { IfOk result (λ after. IsSound after) }
+    ensures sound { IfOk result (λ after. LastIsRead after) }
 {
     match letter {
         b'R' => read_encoding(cursor, before),
@@ -110,7 +111,7 @@ fn read_letter(cursor: &mut Cursor<'_>, letter: u8, before: Encodings) -> Result
 #[tactic(auto, using(crate::proofs::LetterLemmas::zero_is_read, crate::proofs::LetterLemmas::letters_next, crate::proofs::LetterLemmas::letters_refused, crate::proofs::LetterLemmas::letters_end))]
 fn read_letters(letters: &[u8], augmentation: &[u8]) -> Result<Encodings, Reason>
     ensures read { result ≡ letters_at letters.now (record { pointer = 0; known = true }) (from_start augmentation.now) }
-    ensures sound { IfOk result (λ after. IsSound after) }
+    ensures sound { IfOk result (λ after. LastIsRead after) }
 {
     let mut cursor = cursor_over(augmentation);
     let mut encodings = Encodings {
@@ -130,7 +131,7 @@ fn read_letters(letters: &[u8], augmentation: &[u8]) -> Result<Encodings, Reason
 #[tactic(auto, unfolding(crate::specs::Cies::encodings_of))]
 pub fn read_encodings(text: &[u8], augmentation: &[u8]) -> Result<Encodings, Reason>
     ensures read { result ≡ encodings_of text.now augmentation.now }
-    ensures sound { IfOk result (λ after. IsSound after) }
+    ensures sound { IfOk result (λ after. LastIsRead after) }
 {
     let letters = if text.is_empty() { text } else { &text[1..] };
     read_letters(letters, augmentation)

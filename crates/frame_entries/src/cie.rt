@@ -1,6 +1,7 @@
 //! Common information entries.
 ghost use Rattle.std.specs.Prelude.{◌≡◌, drop};
-ghost use Rattle.frame_entries.specs.Cies.{IsSound, is_version, is_augmented, cie_fields, cie_behind, cie_of};
+ghost use Rattle.frame_entries.specs.KnownEncodings.{LastIsRead};
+ghost use Rattle.frame_entries.specs.Cies.{is_version, is_augmented, cie_fields, cie_behind, cie_of};
 
 use crate::augmentation::{Encodings, is_understood, read_encodings};
 use crate::listing::cursor_over;
@@ -9,15 +10,15 @@ use leb_cursor::Cursor;
 use std::marker::Model;
 use sym_edges::Reason;
 
-/// What the FDEs of a CIE need of it: the alignments, the encoding of pointers, whether there is an
-/// augmentation, and the instructions.
+/// What the FDEs of a CIE need of it: the code and data alignment factors, the encoding of pointers,
+/// whether there is an augmentation, and the initial instructions.
 #[derive(Drop)]
 pub struct CieParts<'a> {
     pub code_align: u64,
     pub data_align: i64,
     pub encoding: u8,
     pub augmented: bool,
-    pub first: &'a [u8],
+    pub initial_instructions: &'a [u8],
 }
 
 impl<'a> Model for CieParts<'a> {
@@ -32,7 +33,7 @@ impl<'a> Model for CieParts<'a> {
       data_align = p.data_align;
       encoding = p.encoding;
       augmented = p.augmented;
-      first = p.first.now;
+      initial_instructions = p.initial_instructions.now;
     } };
 
     ghost invariant = { λ p. IsTrue (is_encoding p.encoding) };
@@ -67,10 +68,10 @@ fn judge<'a>(
     augmented: bool,
     numbers: Numbers,
     encodings: Encodings,
-    first: &'a [u8],
+    initial_instructions: &'a [u8],
 ) -> Result<CieParts<'a>, Reason>
-    requires { IsSound encodings }
-    ensures { result ≡ cie_fields augmented numbers encodings first.now }
+    requires { LastIsRead encodings }
+    ensures { result ≡ cie_fields augmented numbers encodings initial_instructions.now }
 {
     if !encodings.known {
         return Err(Reason::Encoding);
@@ -83,7 +84,7 @@ fn judge<'a>(
         data_align: numbers.data_align,
         encoding: encodings.pointer,
         augmented,
-        first,
+        initial_instructions,
     })
 }
 

@@ -10,9 +10,9 @@ use leb_cursor::CursorFault;
 use std::marker::Model;
 use sym_edges::{Reason, Sect};
 
-/// A frame description entry that can be used (DWARF 5, 6.4.1): the range of its code, what its CIE
-/// says, the CIE's instructions, its own, and the address of these. Its encoding is one that
-/// [`read_pointer`] reads.
+/// A frame description entry that can be used (DWARF 5, 6.4.1): its address range, what its CIE
+/// says with the initial instructions, its own instructions, and the address of these. Its encoding
+/// is one that [`read_pointer`] reads.
 #[derive(Debug, Drop)]
 pub struct Fde<'a> {
     pub start: u64,
@@ -20,9 +20,9 @@ pub struct Fde<'a> {
     pub code_align: u64,
     pub data_align: i64,
     pub encoding: u8,
-    pub first: &'a [u8],
-    pub own: &'a [u8],
-    pub own_address: u64,
+    pub initial_instructions: &'a [u8],
+    pub instructions: &'a [u8],
+    pub instructions_address: u64,
 }
 
 impl<'a> Model for Fde<'a> {
@@ -38,9 +38,9 @@ impl<'a> Model for Fde<'a> {
       code_align = f.code_align;
       data_align = f.data_align;
       encoding = f.encoding;
-      first = f.first.now;
-      own = f.own.now;
-      own_address = f.own_address;
+      initial_instructions = f.initial_instructions.now;
+      instructions = f.instructions.now;
+      instructions_address = f.instructions_address;
     } };
 
     ghost invariant = { λ f. IsTrue (is_encoding f.encoding) };
@@ -76,9 +76,9 @@ fn read_fde<'a>(cie: &CieParts<'a>, base: u64, body: &'a [u8]) -> Result<Fde<'a>
         code_align: cie.code_align,
         data_align: cie.data_align,
         encoding: cie.encoding,
-        first: cie.first,
-        own: rest_from(body, cursor.at()),
-        own_address: base.wrapping_add(cursor.at() as u64),
+        initial_instructions: cie.initial_instructions,
+        instructions: rest_from(body, cursor.at()),
+        instructions_address: base.wrapping_add(cursor.at() as u64),
     })
 }
 

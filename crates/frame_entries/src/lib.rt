@@ -27,8 +27,6 @@ mod numbers;
 mod pointer;
 mod reading;
 #[cfg(test)]
-mod real_sections;
-#[cfg(test)]
 mod tests;
 
 pub use crate::description::{Body, Entry, Fde};

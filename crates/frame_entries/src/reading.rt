@@ -3,7 +3,7 @@ ghost use Rattle.std.specs.Prelude.{◌≡◌, ◌==◌, Some, Ok, Err, IfOk, fi
 ghost use Rattle.std.specs.Option.{option_copied};
 ghost use Rattle.sym_edges.specs.Outside.{MatchStop};
 ghost use Rattle.frame_entries.specs.FrameEntries.{IsFrameSection, is_cie, cie_at, cies_of, cie_place, cie_from, cie_named, entry_of, entries_of, frame_entries};
-ghost use Rattle.frame_entries.specs.Climbs.{Climbs, places_of};
+ghost use Rattle.frame_entries.specs.Climbs.{Climbs, places_of, Before};
 
 use crate::cie::{Cie, read_cie};
 use crate::description::{Body, Entry, read_body};
@@ -64,27 +64,29 @@ fn cie_place(which: Sect, raw: &RawEntry<'_>) -> Option<usize>
     }
 }
 
-/// The CIE that starts at a place, by halves.
-#[tactic(auto, using(crate::proofs::FindLemmas::cie_found, crate::proofs::FindLemmas::between_start))]
+/// How many CIEs start before a place, by halves.
+fn count_before(cies: &[Cie<'_>], place: usize) -> usize
+    requires { Climbs 0 (places_of cies.now) }
+    ensures { Before place result cies.now }
+{
+    cies.partition_point(|cie| cie.at < place)
+}
+
+/// The CIE that starts at a place.
+#[tactic(auto, using(crate::proofs::FindLemmas::cie_found, crate::proofs::FindLemmas::cie_other, crate::proofs::FindLemmas::cie_none))]
 fn find_cie<'c, 'a>(cies: &'c [Cie<'a>], place: usize) -> Option<&'c Cie<'a>>
     requires { Climbs 0 (places_of cies.now) }
     ensures { option_copied result ≡ cie_from cies.now place }
 {
-    let mut low = 0;
-    let mut high = cies.len();
-    'halves: while low < high {
-        let middle = low + (high - low) / 2;
-        let cie = &cies[middle];
-        if cie.at == place {
-            return Some(cie);
-        }
-        if cie.at < place {
-            low = middle + 1;
-        } else {
-            high = middle;
-        }
+    let count = count_before(cies, place);
+    if count == cies.len() {
+        return None;
     }
-    None
+    let cie = &cies[count];
+    if cie.at != place {
+        return None;
+    }
+    Some(cie)
 }
 
 /// The CIE of an FDE.

@@ -1,5 +1,6 @@
 -- An entry lacks a rule for the CFA where one of its rows does.
 use Rattle.std.proofs.Common.{◌≡◌, ◌⊎◌, inl, inr, ℕ, zero, suc, ◌+◌, ◌<◌, ◌≤◌, ◌||◌, not, cond, Bool, true, false, List, [], ◌∷◌, nat_le, Option, Some, None, refl, sym, ◌∙◌, ap, arith}
+use Rattle.std.proofs.lemmas.Bool.{cases_lt, not-false, not-true, or_parts, or_right}
 use Rattle.std.specs.List.{list_any, range_with_len}
 use Rattle.frame_entries.specs.FdeFields.{FdeFields}
 use Rattle.frame_rows.specs.declared.row.Row.{Row}
@@ -8,23 +9,11 @@ use Rattle.frame_rows.specs.Steps.{has_cfa}
 use Rattle.std.specs.Option.{option_or}
 use Rattle.frame_rows.specs.Rows.{last_at, Ascending, AreRows, HasCfa, row_at, lacks_cfa}
 use Rattle.frame_rows.proofs.TestLemmas.{elim_bool}
-use Rattle.frame_rows.proofs.RowLemmas.{below_or, none_said, above_said, here_said, later_said, said_by}
+use Rattle.frame_rows.proofs.RowLemmas.{none_said, above_said, here_said, later_said, said_by}
 
 -- the row has no rule for the CFA
 lacks : RowAt → Bool
 lacks r = not (has_cfa r.row)
-
-or_false : (a b : Bool) → (a || b) ≡ false → (a ≡ false) × (b ≡ false)
-or_false true b is = cc
-or_false false b is = (refl, is)
-
-not_false : (b : Bool) → not b ≡ false → b ≡ true
-not_false true is = refl
-not_false false is = cc
-
-not_true : (b : Bool) → not b ≡ true → b ≡ false
-not_true true is = cc
-not_true false is = refl
 
 -- the last row at an address, by those behind the first
 or_said : (later : Option Row) (here : Bool) (mine row : Row) → option_or later (cond here (Some mine) None) ≡ Some row → has_cfa mine ≡ true → (later ≡ Some row → has_cfa row ≡ true) → has_cfa row ≡ true
@@ -36,8 +25,8 @@ or_said None false mine row said have rest = cc
 said_have : (rows : List RowAt) (a : ℕ) (row : Row) → list_any (λ r. not (has_cfa r.row)) rows ≡ false → last_at rows a ≡ Some row → has_cfa row ≡ true
 said_have [] a row none said = let no : ◌≡◌ {A = Option Row} None (Some row) = sym (none_said a) ∙ said in cc
 said_have (r ∷ rows) a row none said =
-    let parts = or_false (not (has_cfa r.row)) (list_any (λ r. not (has_cfa r.row)) rows) none in
-    or_said (last_at rows a) (nat_le r.address a) r.row row (sym (said_by r rows a) ∙ said) (not_false (has_cfa r.row) parts.0)
+    let parts = or_parts (not (has_cfa r.row)) (list_any (λ r. not (has_cfa r.row)) rows) none in
+    or_said (last_at rows a) (nat_le r.address a) r.row row (sym (said_by r rows a) ∙ said) (not-false (has_cfa r.row) parts.0)
     (λ later. said_have rows a row parts.1 later)
 
 -- below the first row nothing is said
@@ -51,7 +40,7 @@ lacking : (low end : ℕ) (rows : List RowAt) → Ascending low end rows → lis
 lacking low end [] up some = cc
 lacking low end (r ∷ rows) up some =
     elim_bool (not (has_cfa r.row)) (λ t. not (has_cfa r.row) ≡ t → (t || list_any (λ r. not (has_cfa r.row)) rows) ≡ true → (a : ℕ) × (row : Row) × (low ≤ a) × (a < end) × (last_at (r ∷ rows) a ≡ Some row) × (has_cfa row ≡ false))
-    (λ _ is _. (r.address, r.row, up.0, up.1, here_said r rows r.address (omega arith) (below_none (r.address + 1) end rows r.address up.2 (omega arith)), not_true (has_cfa r.row) is))
+    (λ _ is _. (r.address, r.row, up.0, up.1, here_said r rows r.address (omega arith) (below_none (r.address + 1) end rows r.address up.2 (omega arith)), not-true (has_cfa r.row) is))
     (λ _ _ rest. let more = lacking (r.address + 1) end rows up.2 rest in
     (more.0, more.1, omega (arith, up.0, more.2), more.3, later_said r rows more.0 more.1 more.4, more.5))
     refl some
@@ -62,10 +51,6 @@ none_in f start (suc size) all =
     ap (λ t. not t || list_any (λ a. not (has_cfa (f a))) (range_with_len (start + 1) size)) (all start (omega arith) (omega arith))
     ∙ none_in f (start + 1) size (λ a low high. all a (omega arith) (omega arith))
 
-or_right : (b c : Bool) → c ≡ true → (b || c) ≡ true
-or_right true c is = refl
-or_right false c is = is
-
 some_by : (f : ℕ → Row) (start size a : ℕ) → has_cfa (f a) ≡ false → start ≤ a → (start + 1 ≤ a → list_any (λ a. not (has_cfa (f a))) (range_with_len (start + 1) size) ≡ true) → (start < a) ⊎ (a ≤ start) → (not (has_cfa (f start)) || list_any (λ a. not (has_cfa (f a))) (range_with_len (start + 1) size)) ≡ true
 some_by f start size a is low rest (inl up) = or_right (not (has_cfa (f start))) (list_any (λ a. not (has_cfa (f a))) (range_with_len (start + 1) size)) (rest (omega arith))
 some_by f start size a is low rest (inr down) =
@@ -75,7 +60,7 @@ some_by f start size a is low rest (inr down) =
 some_in : (f : ℕ → Row) (start size a : ℕ) → start ≤ a → a < start + size → has_cfa (f a) ≡ false → list_any (λ a. not (has_cfa (f a))) (range_with_len start size) ≡ true
 some_in f start zero a low high is = absurd (omega arith)
 some_in f start (suc size) a low high is =
-    some_by f start size a is low (λ up. some_in f (start + 1) size a up (omega arith) is) (below_or start a)
+    some_by f start size a is low (λ up. some_in f (start + 1) size a up (omega arith) is) (cases_lt start a)
 
 -- no row lacks a rule for the CFA: no address does
 pub none_lacks : (e : FdeFields) (rows : List RowAt) → AreRows e rows → list_any (λ r. not (has_cfa r.row)) rows ≡ false → HasCfa e

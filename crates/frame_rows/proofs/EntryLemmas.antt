@@ -21,19 +21,19 @@ use Rattle.frame_rows.proofs.CfaLemmas.{none_lacks, some_lacks, has_not_lacks}
 use Rattle.frame_rows.proofs.SoundLemmas.{entry_sound}
 
 -- the entry's own instructions, carried out behind the CIE's
-own_fault : (v e : FdeFields) (s : Setting) (m : Machine) (o : Option Reason) → v ≡ e → s ≡ own_setting e → m ≡ own_begin e → first_fault s (instructions v.encoding v.own_address v.own) m ≡ o → first_fault (own_setting e) (own_items e) (own_begin e) ≡ o
+own_fault : (v e : FdeFields) (s : Setting) (m : Machine) (o : Option Reason) → v ≡ e → s ≡ own_setting e → m ≡ own_begin e → first_fault s (instructions v.encoding v.instructions_address v.instructions) m ≡ o → first_fault (own_setting e) (own_items e) (own_begin e) ≡ o
 unfolding own_items
 own_fault v e s m o view setting machine is =
-    sym (ap (λ (k : FdeFields). first_fault s (instructions k.encoding k.own_address k.own) m) view
-    ∙ ap (λ k. first_fault k (instructions e.encoding e.own_address e.own) m) setting ∙ ap (first_fault (own_setting e) (instructions e.encoding e.own_address e.own)) machine) ∙ is
+    sym (ap (λ (k : FdeFields). first_fault s (instructions k.encoding k.instructions_address k.instructions) m) view
+    ∙ ap (λ k. first_fault k (instructions e.encoding e.instructions_address e.instructions) m) setting ∙ ap (first_fault (own_setting e) (instructions e.encoding e.instructions_address e.instructions)) machine) ∙ is
 
-own_rows : (v e : FdeFields) (s : Setting) (m : Machine) (end : ℕ) (rows : List RowAt) → v ≡ e → s ≡ own_setting e → m ≡ own_begin e → end ≡ v.start + v.size → rows ≡ rows_from end s (instructions v.encoding v.own_address v.own) m → rows ≡ rows_from (e.start + e.size) (own_setting e) (own_items e) (own_begin e)
+own_rows : (v e : FdeFields) (s : Setting) (m : Machine) (end : ℕ) (rows : List RowAt) → v ≡ e → s ≡ own_setting e → m ≡ own_begin e → end ≡ v.start + v.size → rows ≡ rows_from end s (instructions v.encoding v.instructions_address v.instructions) m → rows ≡ rows_from (e.start + e.size) (own_setting e) (own_items e) (own_begin e)
 unfolding own_items
 own_rows v e s m end rows view setting machine stop is =
-    is ∙ ap (λ n. rows_from n s (instructions v.encoding v.own_address v.own) m) stop
-    ∙ ap (λ (k : FdeFields). rows_from (k.start + k.size) s (instructions k.encoding k.own_address k.own) m) view
-    ∙ ap (λ k. rows_from (e.start + e.size) k (instructions e.encoding e.own_address e.own) m) setting
-    ∙ ap (rows_from (e.start + e.size) (own_setting e) (instructions e.encoding e.own_address e.own)) machine
+    is ∙ ap (λ n. rows_from n s (instructions v.encoding v.instructions_address v.instructions) m) stop
+    ∙ ap (λ (k : FdeFields). rows_from (k.start + k.size) s (instructions k.encoding k.instructions_address k.instructions) m) view
+    ∙ ap (λ k. rows_from (e.start + e.size) k (instructions e.encoding e.instructions_address e.instructions) m) setting
+    ∙ ap (rows_from (e.start + e.size) (own_setting e) (instructions e.encoding e.instructions_address e.instructions)) machine
 
 -- what is known once both runs are carried out
 pub record Walked (e : FdeFields) (rows : List RowAt) : Type 0 where
@@ -41,7 +41,7 @@ pub record Walked (e : FdeFields) (rows : List RowAt) : Type 0 where
   pub own : first_fault (own_setting e) (own_items e) (own_begin e) ≡ None
   pub are : AreRows e rows
 
-pub walked : (v e : FdeFields) (s : Setting) (m : Machine) (end : ℕ) (rows : List RowAt) → first_fault (cie_setting e) (cie_items e) (cie_begin e) ≡ None → v ≡ e → s ≡ own_setting e → m ≡ own_begin e → end ≡ v.start + v.size → first_fault s (instructions v.encoding v.own_address v.own) m ≡ None → rows ≡ rows_from end s (instructions v.encoding v.own_address v.own) m → 0 < e.size → Walked e rows
+pub walked : (v e : FdeFields) (s : Setting) (m : Machine) (end : ℕ) (rows : List RowAt) → first_fault (cie_setting e) (cie_items e) (cie_begin e) ≡ None → v ≡ e → s ≡ own_setting e → m ≡ own_begin e → end ≡ v.start + v.size → first_fault s (instructions v.encoding v.instructions_address v.instructions) m ≡ None → rows ≡ rows_from end s (instructions v.encoding v.instructions_address v.instructions) m → 0 < e.size → Walked e rows
 walked v e s m end rows cie view setting machine stop good is some =
     let own = own_fault v e s m None view setting machine good in
     record {
@@ -86,6 +86,6 @@ pub cie_stopped : (A B : Type 0) (stop : Stop Reason) (e : FdeFields) → MatchS
 cie_stopped A B (Fault why) e bad = cie_bad e why bad
 cie_stopped A B NoMemory e bad = tt
 
-pub own_stopped : (A B : Type 0) (stop : Stop Reason) (v e : FdeFields) (s : Setting) (m : Machine) → first_fault (cie_setting e) (cie_items e) (cie_begin e) ≡ None → v ≡ e → s ≡ own_setting e → m ≡ own_begin e → MatchStop {A = A} {F = Reason} (Err stop) (λ _. first_fault s (instructions v.encoding v.own_address v.own) m ≡ None) (λ why. first_fault s (instructions v.encoding v.own_address v.own) m ≡ Some why) (Unit {0}) → MatchStop {A = B} {F = Reason} (Err stop) (λ _. rows_fault e ≡ None) (λ why. rows_fault e ≡ Some why) (Unit {0})
+pub own_stopped : (A B : Type 0) (stop : Stop Reason) (v e : FdeFields) (s : Setting) (m : Machine) → first_fault (cie_setting e) (cie_items e) (cie_begin e) ≡ None → v ≡ e → s ≡ own_setting e → m ≡ own_begin e → MatchStop {A = A} {F = Reason} (Err stop) (λ _. first_fault s (instructions v.encoding v.instructions_address v.instructions) m ≡ None) (λ why. first_fault s (instructions v.encoding v.instructions_address v.instructions) m ≡ Some why) (Unit {0}) → MatchStop {A = B} {F = Reason} (Err stop) (λ _. rows_fault e ≡ None) (λ why. rows_fault e ≡ Some why) (Unit {0})
 own_stopped A B (Fault why) v e s m cie view setting machine bad = own_bad e why cie (own_fault v e s m (Some why) view setting machine bad)
 own_stopped A B NoMemory v e s m cie view setting machine bad = tt

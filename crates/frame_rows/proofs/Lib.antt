@@ -6,3 +6,11 @@ pub mod WalkLemmas
 pub mod SoundLemmas
 pub mod CfaLemmas
 pub mod EntryLemmas
+pub mod FollowLemmas
+pub mod OperandLemmas
+pub mod Computing
+mod Entries
+mod WorkedInstructions
+mod WorkedEffects
+mod WorkedEntries
+mod WorkedReasons

@@ -1,5 +1,6 @@
 -- The list of instructions, one turn after another.
 use Rattle.std.proofs.Common.{◌≡◌, ◌≢◌, ℕ, zero, suc, ◌+◌, ◌-◌, ◌==◌, cond, true, false, List, [], ◌∷◌, length, take, Option, Some, None, Ok, Err, refl, sym, ◌∙◌, ap, arith}
+use Rattle.std.proofs.lemmas.Bool.{eq-eqb, ne_eqb}
 use Rattle.std.proofs.lemmas.Bool.Decides.{nat_tests}
 use Rattle.std.proofs.lemmas.List.{take_all}
 use Rattle.sym_edges.specs.declared.reason.Reason.{Reason}
@@ -9,23 +10,17 @@ use Rattle.sym_edges.specs.declared.fault.Stop.TheVariants.{Fault, NoMemory}
 use Rattle.leb_cursor.specs.Ahead.{Ahead}
 use Rattle.frame_rows.specs.declared.instruction.Instruction.{Instruction}
 use Rattle.frame_rows.specs.declared.machine.Setting.{Setting}
-use Rattle.frame_rows.specs.Instructions.{Item, instruction_at, onto_later, listed_in, instructions}
+use Rattle.frame_rows.specs.Instructions.{Item, instruction_at, onto_later, listed_in, listed_at, instructions}
 use Rattle.frame_rows.specs.Machine.{Machine}
 use Rattle.std.specs.Option.{option_or}
 use Rattle.frame_rows.specs.Steps.{stepped, step_fault}
 use Rattle.frame_rows.specs.Rows.{item_stepped, item_fault, all_stepped, first_fault}
 
-empty_is : (n : ℕ) → n ≢ 0 → (n == 0) ≡ false
-empty_is n some = grind (arith, nat_tests)
-
-ended : (n : ℕ) → n ≡ 0 → (n == 0) ≡ true
-ended n none = grind (arith, nat_tests)
-
 -- no byte is left
 pub listed_ended : (n encoding base : ℕ) (c : Ahead) → length c.bytes ≡ 0 → listed_in n encoding base c ≡ []
 unfolding listed_in
 listed_ended zero encoding base c none = refl
-listed_ended (suc n) encoding base c none = ap (λ t. cond t [] (onto_later (instruction_at encoding base c) (listed_in n encoding base))) (ended (length c.bytes) none)
+listed_ended (suc n) encoding base c none = ap (λ t. cond t [] (onto_later (instruction_at encoding base c) (listed_in n encoding base))) (eq-eqb (length c.bytes) 0 none)
 
 -- no turn is left
 pub listed_out : (n encoding base : ℕ) (c : Ahead) → n ≡ 0 → listed_in n encoding base c ≡ []
@@ -35,7 +30,7 @@ listed_out (suc n) encoding base c none = absurd (omega arith)
 
 turn : (n encoding base : ℕ) (c : Ahead) → length c.bytes ≢ 0 → listed_in (suc n) encoding base c ≡ onto_later (instruction_at encoding base c) (listed_in n encoding base)
 unfolding listed_in
-turn n encoding base c some = ap (λ t. cond t [] (onto_later (instruction_at encoding base c) (listed_in n encoding base))) (empty_is (length c.bytes) some)
+turn n encoding base c some = ap (λ t. cond t [] (onto_later (instruction_at encoding base c) (listed_in n encoding base))) (ne_eqb (length c.bytes) 0 some)
 
 -- an instruction is read
 pub listed_more : (n less encoding base : ℕ) (c later : Ahead) (i : Instruction) → n ≡ less + 1 → length c.bytes ≢ 0 → Ok (i, later) ≡ instruction_at encoding base c → listed_in n encoding base c ≡ Ok i ∷ listed_in less encoding base later
@@ -51,7 +46,7 @@ listed_refused n less encoding base c why count some read =
 
 -- a cursor over all bytes has the whole list ahead
 pub begins : (encoding base : ℕ) (bytes : List ℕ) (c : Ahead) → c ≡ record { bytes = take (length bytes) bytes; at = 0 } → listed_in (length bytes - 0) encoding base c ≡ instructions encoding base bytes
-unfolding instructions
+unfolding instructions listed_at
 begins encoding base bytes c is =
     let count : length bytes - 0 ≡ length bytes = omega arith in
     ap (λ n. listed_in n encoding base c) count

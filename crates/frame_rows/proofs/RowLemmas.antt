@@ -1,5 +1,6 @@
 -- The rows of one pass are those of the replay at each address.
 use Rattle.std.proofs.Common.{◌≡◌, ◌⊎◌, inl, inr, ℕ, ◌+◌, ◌<◌, ◌≤◌, ◌&&◌, cond, Bool, true, false, List, [], ◌∷◌, ◌++◌, map, Some, None, nat_lt, nat_le, refl, sym, ◌∙◌, ap, arith, subst}
+use Rattle.std.proofs.lemmas.Bool.{and_parts, cases_lt, le-leb, le-ltb, lt-leb, lt-ltb, ltb-true}
 use Rattle.frame_entries.specs.FdeFields.{FdeFields}
 use Rattle.frame_rows.specs.declared.row.Row.{Row}
 use Rattle.frame_rows.specs.declared.row.RowAt.{RowAt}
@@ -9,7 +10,7 @@ use Rattle.frame_rows.specs.Machine.{Machine}
 use Rattle.std.specs.Option.{option_or}
 use Rattle.frame_rows.specs.Rows.{item_stepped, item_fault, first_fault, replay, next_location, moves, last_at, Ascending, own_setting, own_items, own_begin, row_at, stops, AreRows}
 use Rattle.frame_rows.specs.Walk.{row_here, ended_row, rows_from}
-use Rattle.frame_rows.proofs.TestLemmas.{lt_true, lt_false, le_true, le_false, true_lt, false_lt, elim_bool, and_true, neither}
+use Rattle.frame_rows.proofs.TestLemmas.{elim_bool, neither}
 use Rattle.frame_rows.proofs.StepLemmas.{location, grows, keeps}
 
 -- where no instruction is bad, the first is not, and none behind it
@@ -21,12 +22,12 @@ parted s i items m good = neither (item_fault s i m) (first_fault s items (item_
 waits : (s : Setting) (items : List Item) (m : Machine) (a : ℕ) → a < m.address → replay s items m a ≡ m
 unfolding replay
 waits s [] m a above = refl
-waits s (i ∷ items) m a above = ap (λ t. cond t (replay s items (item_stepped s i m) a) m) (le_false m.address a above)
+waits s (i ∷ items) m a above = ap (λ t. cond t (replay s items (item_stepped s i m) a) m) (lt-leb m.address a above)
 
 -- and goes on from one that does not
 pub goes_on : (s : Setting) (i : Item) (items : List Item) (m : Machine) (a : ℕ) → m.address ≤ a → replay s (i ∷ items) m a ≡ replay s items (item_stepped s i m) a
 unfolding replay
-goes_on s i items m a below = ap (λ t. cond t (replay s items (item_stepped s i m) a) m) (le_true m.address a below)
+goes_on s i items m a below = ap (λ t. cond t (replay s items (item_stepped s i m) a) m) (le-leb m.address a below)
 
 pub none_said : (a : ℕ) → last_at [] a ≡ None
 unfolding last_at
@@ -39,11 +40,11 @@ said_by r rows a = refl
 
 pub above_said : (r : RowAt) (rows : List RowAt) (a : ℕ) → a < r.address → last_at rows a ≡ None → last_at (r ∷ rows) a ≡ None
 above_said r rows a above none =
-    said_by r rows a ∙ ap (λ o. option_or o (cond (nat_le r.address a) (Some r.row) None)) none ∙ ap (λ t. cond t (Some r.row) None) (le_false r.address a above)
+    said_by r rows a ∙ ap (λ o. option_or o (cond (nat_le r.address a) (Some r.row) None)) none ∙ ap (λ t. cond t (Some r.row) None) (lt-leb r.address a above)
 
 pub here_said : (r : RowAt) (rows : List RowAt) (a : ℕ) → r.address ≤ a → last_at rows a ≡ None → last_at (r ∷ rows) a ≡ Some r.row
 here_said r rows a below none =
-    said_by r rows a ∙ ap (λ o. option_or o (cond (nat_le r.address a) (Some r.row) None)) none ∙ ap (λ t. cond t (Some r.row) None) (le_true r.address a below)
+    said_by r rows a ∙ ap (λ o. option_or o (cond (nat_le r.address a) (Some r.row) None)) none ∙ ap (λ t. cond t (Some r.row) None) (le-leb r.address a below)
 
 pub later_said : (r : RowAt) (rows : List RowAt) (a : ℕ) (row : Row) → last_at rows a ≡ Some row → last_at (r ∷ rows) a ≡ Some row
 later_said r rows a row some = said_by r rows a ∙ ap (λ o. option_or o (cond (nat_le r.address a) (Some r.row) None)) some
@@ -54,24 +55,24 @@ and_no false x y = refl
 
 -- a row that ended stands in front, or none
 pub ended_yes : (end : ℕ) (m : Machine) (next : ℕ) → m.address < next → m.address < end → ended_row end m next ≡ row_here m ∷ []
-ended_yes end m next up low = ap (λ t. cond t (row_here m ∷ []) []) (ap (λ t. t && nat_lt m.address end) (lt_true m.address next up) ∙ lt_true m.address end low)
+ended_yes end m next up low = ap (λ t. cond t (row_here m ∷ []) []) (ap (λ t. t && nat_lt m.address end) (lt-ltb m.address next up) ∙ lt-ltb m.address end low)
 
 ended_either : (end : ℕ) (m : Machine) (next : ℕ) (P : List RowAt → Type 0) → (m.address < next → m.address < end → P (row_here m ∷ [])) → P [] → P (ended_row end m next)
 ended_either end m next P some none =
     elim_bool (nat_lt m.address next && nat_lt m.address end) (λ t. P (cond t (row_here m ∷ []) []))
-    (λ is. some (true_lt m.address next (and_true is).0) (true_lt m.address end (and_true is).1))
+    (λ is. some (ltb-true m.address next (and_parts _ _ is).0) (ltb-true m.address end (and_parts _ _ is).1))
     (λ is. none)
 
 pub ended_no : (end : ℕ) (m : Machine) (next : ℕ) → next ≤ m.address → ended_row end m next ≡ []
-ended_no end m next stays = ap (λ t. cond (t && nat_lt m.address end) (row_here m ∷ []) []) (lt_false m.address next stays)
+ended_no end m next stays = ap (λ t. cond (t && nat_lt m.address end) (row_here m ∷ []) []) (le-ltb m.address next stays)
 
 pub ended_out : (end : ℕ) (m : Machine) (next : ℕ) → end ≤ m.address → ended_row end m next ≡ []
-ended_out end m next over = ap (λ t. cond (nat_lt m.address next && t) (row_here m ∷ []) []) (lt_false m.address end over) ∙ and_no (nat_lt m.address next) (row_here m ∷ []) []
+ended_out end m next over = ap (λ t. cond (nat_lt m.address next && t) (row_here m ∷ []) []) (le-ltb m.address end over) ∙ and_no (nat_lt m.address next) (row_here m ∷ []) []
 
 last_row : (end : ℕ) (s : Setting) (m : Machine) (P : List RowAt → Type 0) → (m.address < end → P (row_here m ∷ [])) → P [] → P (rows_from end s [] m)
 unfolding rows_from
 last_row end s m P some none =
-    elim_bool (nat_lt m.address end) (λ t. P (cond t (row_here m ∷ []) [])) (λ is. some (true_lt m.address end is)) (λ is. none)
+    elim_bool (nat_lt m.address end) (λ t. P (cond t (row_here m ∷ []) [])) (λ is. some (ltb-true m.address end is)) (λ is. none)
 
 pub from_more : (end : ℕ) (s : Setting) (i : Item) (items : List Item) (m : Machine) → rows_from end s (i ∷ items) m ≡ ended_row end m (item_stepped s i m).address ++ rows_from end s items (item_stepped s i m)
 unfolding rows_from
@@ -92,7 +93,7 @@ later end s (i ∷ items) m a good above =
 last_says : (end : ℕ) (s : Setting) (m : Machine) (a : ℕ) → m.address ≤ a → a < end → last_at (rows_from end s [] m) a ≡ Some m.row
 unfolding rows_from
 last_says end s m a below inside =
-    ap (λ t. last_at (cond t (row_here m ∷ []) []) a) (lt_true m.address end (omega arith)) ∙ here_said (row_here m) [] a below (none_said a)
+    ap (λ t. last_at (cond t (row_here m ∷ []) []) a) (lt-ltb m.address end (omega arith)) ∙ here_said (row_here m) [] a below (none_said a)
 
 -- what a state's rows say, by those behind the next step
 says_here : (end : ℕ) (m n : Machine) (rest : List RowAt) (a : ℕ) → m.address < n.address → m.address ≤ a → a < end → last_at rest a ≡ None → last_at (ended_row end m n.address ++ rest) a ≡ Some m.row
@@ -102,10 +103,6 @@ says_here end m n rest a up below inside none =
 says_later : (end : ℕ) (m n : Machine) (rest : List RowAt) (a : ℕ) (row : Row) → last_at rest a ≡ Some row → last_at (ended_row end m n.address ++ rest) a ≡ Some row
 says_later end m n rest a row some =
     ended_either end m n.address (λ rows. last_at (rows ++ rest) a ≡ Some row) (λ up low. later_said (row_here m) rest a row some) some
-
--- a is below b, or it is not
-pub below_or : (a b : ℕ) → (a < b) ⊎ (b ≤ a)
-below_or a b = elim_bool (nat_lt a b) (λ t. (a < b) ⊎ (b ≤ a)) (λ is. inl (true_lt a b is)) (λ is. inr (false_lt a b is))
 
 says_by : (end : ℕ) (s : Setting) (items : List Item) (m n : Machine) (a : ℕ) → first_fault s items n ≡ None → (m.address < n.address → n.row ≡ m.row) → m.address ≤ a → a < end → (n.address ≤ a → last_at (rows_from end s items n) a ≡ Some (replay s items n a).row) → (a < n.address) ⊎ (n.address ≤ a) → last_at (ended_row end m n.address ++ rows_from end s items n) a ≡ Some (replay s items n a).row
 says_by end s items m n a good kept below inside rest (inl above) =
@@ -125,7 +122,7 @@ says end s (i ∷ items) m a good below inside =
     let parts = parted s i items m good in
     ap (λ rows. last_at rows a) (from_more end s i items m)
     ∙ says_by end s items m (item_stepped s i m) a parts.1 (keeps s i m) below inside
-    (λ reached. says end s items (item_stepped s i m) a parts.1 reached inside) (below_or a (item_stepped s i m).address)
+    (λ reached. says end s items (item_stepped s i m) a parts.1 reached inside) (cases_lt a (item_stepped s i m).address)
     ∙ ap Some (sym (ap (λ (k : Machine). k.row) (goes_on s i items m a below)))
 
 -- nothing stands from the end on
@@ -144,18 +141,18 @@ moves_none s end at = refl
 moves_on : (s : Setting) (end : ℕ) (i : Item) (items : List Item) (at : ℕ) → at < next_location s i at → next_location s i at < end → moves s end (i ∷ items) at ≡ next_location s i at ∷ moves s end items (next_location s i at)
 unfolding moves
 moves_on s end i items at up low =
-    ap (λ t. cond (t && nat_lt (next_location s i at) end) (next_location s i at ∷ moves s end items (next_location s i at)) (moves s end items (next_location s i at))) (lt_true at (next_location s i at) up)
-    ∙ ap (λ t. cond t (next_location s i at ∷ moves s end items (next_location s i at)) (moves s end items (next_location s i at))) (lt_true (next_location s i at) end low)
+    ap (λ t. cond (t && nat_lt (next_location s i at) end) (next_location s i at ∷ moves s end items (next_location s i at)) (moves s end items (next_location s i at))) (lt-ltb at (next_location s i at) up)
+    ∙ ap (λ t. cond t (next_location s i at ∷ moves s end items (next_location s i at)) (moves s end items (next_location s i at))) (lt-ltb (next_location s i at) end low)
 
 moves_stay : (s : Setting) (end : ℕ) (i : Item) (items : List Item) (at : ℕ) → next_location s i at ≤ at → moves s end (i ∷ items) at ≡ moves s end items (next_location s i at)
 unfolding moves
 moves_stay s end i items at stays =
-    ap (λ t. cond (t && nat_lt (next_location s i at) end) (next_location s i at ∷ moves s end items (next_location s i at)) (moves s end items (next_location s i at))) (lt_false at (next_location s i at) stays)
+    ap (λ t. cond (t && nat_lt (next_location s i at) end) (next_location s i at ∷ moves s end items (next_location s i at)) (moves s end items (next_location s i at))) (le-ltb at (next_location s i at) stays)
 
 moves_out : (s : Setting) (end : ℕ) (i : Item) (items : List Item) (at : ℕ) → end ≤ next_location s i at → moves s end (i ∷ items) at ≡ moves s end items (next_location s i at)
 unfolding moves
 moves_out s end i items at over =
-    ap (λ t. cond (nat_lt at (next_location s i at) && t) (next_location s i at ∷ moves s end items (next_location s i at)) (moves s end items (next_location s i at))) (lt_false (next_location s i at) end over)
+    ap (λ t. cond (nat_lt at (next_location s i at) && t) (next_location s i at ∷ moves s end items (next_location s i at)) (moves s end items (next_location s i at))) (le-ltb (next_location s i at) end over)
     ∙ and_no (nat_lt at (next_location s i at)) (next_location s i at ∷ moves s end items (next_location s i at)) (moves s end items (next_location s i at))
 
 -- nothing moves from the end on
@@ -184,7 +181,7 @@ stands_by end s i items m n low up next over_rows over_moves rest (inr stays) in
 
 last_stands : (end : ℕ) (s : Setting) (m : Machine) → m.address < end → map (λ r. r.address) (rows_from end s [] m) ≡ m.address ∷ []
 unfolding rows_from
-last_stands end s m low = ap (λ t. map (λ r. r.address) (cond t (row_here m ∷ []) [])) (lt_true m.address end low)
+last_stands end s m low = ap (λ t. map (λ r. r.address) (cond t (row_here m ∷ []) [])) (lt-ltb m.address end low)
 
 -- the rows from a state on stand at its address, and where the location moves
 pub stands : (end : ℕ) (s : Setting) (items : List Item) (m : Machine) → first_fault s items m ≡ None → m.address < end → map (λ r. r.address) (rows_from end s items m) ≡ m.address ∷ moves s end items m.address
@@ -197,7 +194,7 @@ stands end s (i ∷ items) m good low =
     ∙ stands_by end s i items m (item_stepped s i m) low (grows s i m parts.0) (sym (location s i m))
     (λ over. past end s items (item_stepped s i m) parts.1 over) (λ over. moves_past end s items (item_stepped s i m) parts.1 over)
     (λ inside. stands end s items (item_stepped s i m) parts.1 inside)
-    (below_or m.address (item_stepped s i m).address) (below_or (item_stepped s i m).address end)
+    (cases_lt m.address (item_stepped s i m).address) (cases_lt (item_stepped s i m).address end)
 
 -- and rise
 lower : (low lower end : ℕ) (rows : List RowAt) → lower ≤ low → Ascending low end rows → Ascending lower end rows

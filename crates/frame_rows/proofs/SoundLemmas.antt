@@ -1,5 +1,6 @@
 -- The rows of an entry without a bad instruction are sound.
 use Rattle.std.proofs.Common.{◌≡◌, ℕ, ℤ, pos, negsuc, zero, suc, ◌-◌, ◌*◌, ◌%◌, ◌^◌, ◌<◌, ◌==◌, ◌||◌, not, cond, true, List, [], ◌∷◌, set, get_or, replicate, nat_lt, nat_le, Option, Some, None, Ok, Err, refl, ap, arith}
+use Rattle.std.proofs.lemmas.Bool.{and_from, and_parts, lt-ltb, ltb-false, ltb-true}
 use Rattle.std.proofs.lemmas.Bool.Decides.{nat_tests}
 use Rattle.std.specs.Int.{w64, cast_signed, cast_unsigned}
 use Rattle.sym_edges.specs.declared.reason.Reason.TheVariants as reason
@@ -11,12 +12,12 @@ use Rattle.frame_rows.specs.declared.row.CfaRule.{CfaRule}
 use Rattle.frame_rows.specs.declared.row.Row.{Row}
 use Rattle.frame_rows.specs.declared.machine.Setting.{Setting}
 use Rattle.frame_rows.specs.declared.instruction.Instruction.{Instruction}
-use Rattle.frame_rows.specs.declared.instruction.Instruction.TheVariants.{SetLoc, AdvanceLoc, DefCfa, DefCfaSf, DefCfaRegister, DefCfaOffset, DefCfaOffsetSf, DefCfaExpression, Undefined, SameValue, Offset, OffsetExtendedSf, ValOffset, ValOffsetSf, Register, Expression, ValExpression, Restore, RememberState, RestoreState, Nop}
+use Rattle.frame_rows.specs.declared.instruction.Instruction.TheVariants.{SetLoc, AdvanceLoc, DefCfa, DefCfaSf, DefCfaRegister, DefCfaOffset, DefCfaOffsetSf, Undefined, SameValue, Offset, OffsetExtendedSf, ValOffset, ValOffsetSf, Register, Restore, RememberState, RestoreState, Nop}
 use Rattle.frame_rows.specs.Instructions.{Item}
 use Rattle.frame_rows.specs.Machine.{Machine}
 use Rattle.frame_rows.specs.Steps.{plain, scaled, stepped, step_fault, register_fault, part_fault, put_cfa, put_register, put_offset, put_rule, cfa_register, cfa_offset, rule_behind, top_or, under}
 use Rattle.frame_rows.specs.Rows.{item_stepped, item_fault, first_fault, all_stepped, replay, empty_row, cie_setting, cie_items, cie_begin, cie_end, own_setting, own_items, own_begin, row_at, instruction_fault, is_sound_rule, is_sound_cfa, IsSound}
-use Rattle.frame_rows.proofs.TestLemmas.{lt_true, true_lt, false_lt, elim_bool, and_true, both, neither}
+use Rattle.frame_rows.proofs.TestLemmas.{elim_bool, neither}
 use Rattle.frame_rows.proofs.StepLemmas.{unless_none}
 use Rattle.frame_rows.proofs.RowLemmas.{parted}
 
@@ -31,7 +32,7 @@ InitialSound (Some row) = IsSound row
 
 pub record IsSoundState (m : Machine) : Type 0 where
   pub row : IsSound m.row
-  pub held : AllSound m.held
+  pub stack : AllSound m.stack
 
 -- a rule is put into its column
 put_column : (P : ℕ → Rule → Type 0) (rules : List Rule) (column : ℕ) (new d : Rule) → P column new → ((c : ℕ) → P c (get_or rules c d)) → (c : ℕ) → P c (get_or (set rules column new) c d)
@@ -45,14 +46,14 @@ put_sound : (column : ℕ) (new : Rule) (row : Row) → (column < 17 → is_soun
 unfolding put_rule
 put_sound column new row here names =
     elim_bool (nat_lt column 17) (λ t. IsSound (cond t (record { cfa = row.cfa; rules = set row.rules column new }) row))
-    (λ is. record { cfa = names.cfa; columns = put_column (λ c r. is_sound_rule c r ≡ true) row.rules column new rule.Rest (here (true_lt column 17 is)) names.columns })
+    (λ is. record { cfa = names.cfa; columns = put_column (λ c r. is_sound_rule c r ≡ true) row.rules column new rule.Rest (here (ltb-true column 17 is)) names.columns })
     (λ is. names)
 
 -- what is read as an i64 is one
 fits_cast : (n : ℕ) → fits_i64 (cast_signed w64 n) ≡ true
 fits_cast n =
     elim_bool (nat_lt n (2 ^ 63)) (λ t. nat_lt n (2 ^ 63) ≡ t → fits_i64 (cond t (pos n) (negsuc (2 ^ 64 - suc n))) ≡ true)
-    (λ _ is. is) (λ _ is. lt_true (2 ^ 64 - suc n) (2 ^ 63) (omega (arith, false_lt n (2 ^ 63) is))) refl
+    (λ _ is. is) (λ _ is. lt-ltb (2 ^ 64 - suc n) (2 ^ 63) (omega (arith, ltb-false n (2 ^ 63) is))) refl
 
 plain_fits : (offset : ℕ) → fits_i64 (plain offset) ≡ true
 plain_fits offset = fits_cast offset
@@ -62,15 +63,15 @@ scaled_fits s factored = fits_cast ((cast_unsigned w64 factored * cast_unsigned 
 
 cfa_sound : (register : ℕ) (offset : ℤ) (row : Row) → register_fault register ≡ None → fits_i64 offset ≡ true → IsSound row → IsSound (put_cfa register offset row)
 unfolding put_cfa
-cfa_sound register offset row good fits names = record { cfa = both (unless_none (nat_lt register 16) reason.Register good) fits; columns = names.columns }
+cfa_sound register offset row good fits names = record { cfa = and_from _ _ (unless_none (nat_lt register 16) reason.Register good) fits; columns = names.columns }
 
 changed_register : (register : ℕ) (cfa : Option CfaRule) → nat_lt register 16 ≡ true → is_sound_cfa cfa ≡ true → is_sound_cfa (cfa_register register cfa) ≡ true
 changed_register register None is sound = refl
-changed_register register (Some cfa) is sound = both is (and_true {a = nat_lt cfa.register 16} sound).1
+changed_register register (Some cfa) is sound = and_from _ _ is (and_parts (nat_lt cfa.register 16) _ sound).1
 
 changed_offset : (offset : ℤ) (cfa : Option CfaRule) → fits_i64 offset ≡ true → is_sound_cfa cfa ≡ true → is_sound_cfa (cfa_offset offset cfa) ≡ true
 changed_offset offset None fits sound = refl
-changed_offset offset (Some cfa) fits sound = both (and_true sound).0 fits
+changed_offset offset (Some cfa) fits sound = and_from _ _ (and_parts _ _ sound).0 fits
 
 register_sound : (register : ℕ) (row : Row) → register_fault register ≡ None → IsSound row → IsSound (put_register register row)
 unfolding put_register
@@ -84,11 +85,11 @@ behind_sound : (initial : Option Row) (column : ℕ) → InitialSound initial �
 behind_sound None column names = refl
 behind_sound (Some row) column names = names.columns column
 
-top_sound : (row : Row) (held : List Row) → IsSound row → AllSound held → IsSound (top_or row held)
+top_sound : (row : Row) (stack : List Row) → IsSound row → AllSound stack → IsSound (top_or row stack)
 top_sound row [] names all = names
 top_sound row (top ∷ rows) names all = all.0
 
-under_sound : (held : List Row) → AllSound held → AllSound (under held)
+under_sound : (stack : List Row) → AllSound stack → AllSound (under stack)
 under_sound [] all = tt
 under_sound (top ∷ rows) all = all.1
 
@@ -100,26 +101,23 @@ source_named column register either low = grind (arith, nat_tests)
 
 step_sound : (s : Setting) (i : Instruction) (m : Machine) → step_fault s i m ≡ None → InitialSound s.initial → IsSoundState m → IsSoundState (stepped s i m)
 unfolding stepped step_fault
-step_sound s (SetLoc address) m good initial names = record { row = names.row; held = names.held }
-step_sound s (AdvanceLoc delta) m good initial names = record { row = names.row; held = names.held }
-step_sound s (DefCfa register offset) m good initial names = record { row = cfa_sound register (plain offset) m.row good (plain_fits offset) names.row; held = names.held }
-step_sound s (DefCfaSf register factored) m good initial names = record { row = cfa_sound register (scaled s factored) m.row good (scaled_fits s factored) names.row; held = names.held }
-step_sound s (DefCfaRegister register) m good initial names = record { row = register_sound register m.row (neither (register_fault register) (part_fault m) good).0 names.row; held = names.held }
-step_sound s (DefCfaOffset offset) m good initial names = record { row = offset_sound (plain offset) m.row (plain_fits offset) names.row; held = names.held }
-step_sound s (DefCfaOffsetSf factored) m good initial names = record { row = offset_sound (scaled s factored) m.row (scaled_fits s factored) names.row; held = names.held }
-step_sound s (DefCfaExpression start len) m good initial names = names
-step_sound s (Undefined column) m good initial names = record { row = put_sound column rule.Undefined m.row (λ low. refl) names.row; held = names.held }
-step_sound s (SameValue column) m good initial names = record { row = put_sound column rule.Same m.row (λ low. same_named column (unless_none (not (column == 16)) reason.Register good) low) names.row; held = names.held }
-step_sound s (Offset column factored) m good initial names = record { row = put_sound column (rule.Offset (scaled s (plain factored))) m.row (λ low. scaled_fits s (plain factored)) names.row; held = names.held }
-step_sound s (OffsetExtendedSf column factored) m good initial names = record { row = put_sound column (rule.Offset (scaled s factored)) m.row (λ low. scaled_fits s factored) names.row; held = names.held }
-step_sound s (ValOffset column factored) m good initial names = record { row = put_sound column (rule.ValOffset (scaled s (plain factored))) m.row (λ low. scaled_fits s (plain factored)) names.row; held = names.held }
-step_sound s (ValOffsetSf column factored) m good initial names = record { row = put_sound column (rule.ValOffset (scaled s factored)) m.row (λ low. scaled_fits s factored) names.row; held = names.held }
-step_sound s (Register column register) m good initial names = record { row = put_sound column (rule.Register register) m.row (λ low. source_named column register (unless_none (nat_lt 16 column || nat_lt register 16) reason.Register good) low) names.row; held = names.held }
-step_sound s (Expression column start len) m good initial names = names
-step_sound s (ValExpression column start len) m good initial names = names
-step_sound s (Restore column) m good initial names = record { row = put_sound column (rule_behind s.initial column) m.row (λ low. behind_sound s.initial column initial) names.row; held = names.held }
-step_sound s RememberState m good initial names = record { row = names.row; held = (names.row, names.held) }
-step_sound s RestoreState m good initial names = record { row = top_sound m.row m.held names.row names.held; held = under_sound m.held names.held }
+step_sound s (SetLoc address) m good initial names = record { row = names.row; stack = names.stack }
+step_sound s (AdvanceLoc delta) m good initial names = record { row = names.row; stack = names.stack }
+step_sound s (DefCfa register offset) m good initial names = record { row = cfa_sound register (plain offset) m.row good (plain_fits offset) names.row; stack = names.stack }
+step_sound s (DefCfaSf register factored) m good initial names = record { row = cfa_sound register (scaled s factored) m.row good (scaled_fits s factored) names.row; stack = names.stack }
+step_sound s (DefCfaRegister register) m good initial names = record { row = register_sound register m.row (neither (register_fault register) (part_fault m) good).0 names.row; stack = names.stack }
+step_sound s (DefCfaOffset offset) m good initial names = record { row = offset_sound (plain offset) m.row (plain_fits offset) names.row; stack = names.stack }
+step_sound s (DefCfaOffsetSf factored) m good initial names = record { row = offset_sound (scaled s factored) m.row (scaled_fits s factored) names.row; stack = names.stack }
+step_sound s (Undefined column) m good initial names = record { row = put_sound column rule.Undefined m.row (λ low. refl) names.row; stack = names.stack }
+step_sound s (SameValue column) m good initial names = record { row = put_sound column rule.Same m.row (λ low. same_named column (unless_none (not (column == 16)) reason.Register good) low) names.row; stack = names.stack }
+step_sound s (Offset column factored) m good initial names = record { row = put_sound column (rule.Offset (scaled s (plain factored))) m.row (λ low. scaled_fits s (plain factored)) names.row; stack = names.stack }
+step_sound s (OffsetExtendedSf column factored) m good initial names = record { row = put_sound column (rule.Offset (scaled s factored)) m.row (λ low. scaled_fits s factored) names.row; stack = names.stack }
+step_sound s (ValOffset column factored) m good initial names = record { row = put_sound column (rule.ValOffset (scaled s (plain factored))) m.row (λ low. scaled_fits s (plain factored)) names.row; stack = names.stack }
+step_sound s (ValOffsetSf column factored) m good initial names = record { row = put_sound column (rule.ValOffset (scaled s factored)) m.row (λ low. scaled_fits s factored) names.row; stack = names.stack }
+step_sound s (Register column register) m good initial names = record { row = put_sound column (rule.Register register) m.row (λ low. source_named column register (unless_none (nat_lt 16 column || nat_lt register 16) reason.Register good) low) names.row; stack = names.stack }
+step_sound s (Restore column) m good initial names = record { row = put_sound column (rule_behind s.initial column) m.row (λ low. behind_sound s.initial column initial) names.row; stack = names.stack }
+step_sound s RememberState m good initial names = record { row = names.row; stack = (names.row, names.stack) }
+step_sound s RestoreState m good initial names = record { row = top_sound m.row m.stack names.row names.stack; stack = under_sound m.stack names.stack }
 step_sound s Nop m good initial names = names
 
 item_sound : (s : Setting) (i : Item) (m : Machine) → item_fault s i m ≡ None → InitialSound s.initial → IsSoundState m → IsSoundState (item_stepped s i m)
@@ -155,7 +153,7 @@ empty_sound = record { cfa = refl; columns = λ c. rest_sound 17 c }
 
 begin_sound : (e : FdeFields) → IsSoundState (cie_begin e)
 unfolding cie_begin
-begin_sound e = record { row = empty_sound; held = tt }
+begin_sound e = record { row = empty_sound; stack = tt }
 
 end_sound : (e : FdeFields) → first_fault (cie_setting e) (cie_items e) (cie_begin e) ≡ None → IsSoundState (cie_end e)
 unfolding cie_end cie_setting
@@ -167,4 +165,4 @@ unfolding instruction_fault row_at own_begin own_setting
 entry_sound e a good =
     let parts = neither (first_fault (cie_setting e) (cie_items e) (cie_begin e)) (first_fault (own_setting e) (own_items e) (own_begin e)) good in
     let names = end_sound e parts.0 in
-    (replay_sound (own_setting e) (own_items e) (own_begin e) a parts.1 names.row (record { row = names.row; held = names.held })).row
+    (replay_sound (own_setting e) (own_items e) (own_begin e) a parts.1 names.row (record { row = names.row; stack = names.stack })).row

@@ -1,23 +1,23 @@
 -- What holds of every step: the location never falls, and a step that moves leaves the row.
 use Rattle.std.proofs.Common.{◌≡◌, ℕ, ◌+◌, ◌*◌, ◌^◌, ◌<◌, ◌≤◌, ◌&&◌, Bool, true, false, None, is_some, nat_lt, nat_le, Ok, Err, refl, arith}
+use Rattle.std.proofs.lemmas.Bool.{and_parts, leb-true}
 use Rattle.sym_edges.specs.declared.reason.Reason.{Reason}
 use Rattle.sym_edges.specs.declared.reason.Reason.TheVariants as reason
 use Rattle.frame_rows.specs.declared.instruction.Instruction.{Instruction}
-use Rattle.frame_rows.specs.declared.instruction.Instruction.TheVariants.{SetLoc, AdvanceLoc, DefCfa, DefCfaSf, DefCfaRegister, DefCfaOffset, DefCfaOffsetSf, DefCfaExpression, Undefined, SameValue, Offset, OffsetExtendedSf, ValOffset, ValOffsetSf, Register, Expression, ValExpression, Restore, RememberState, RestoreState, Nop}
+use Rattle.frame_rows.specs.declared.instruction.Instruction.TheVariants.{SetLoc, AdvanceLoc, DefCfa, DefCfaSf, DefCfaRegister, DefCfaOffset, DefCfaOffsetSf, Undefined, SameValue, Offset, OffsetExtendedSf, ValOffset, ValOffsetSf, Register, Restore, RememberState, RestoreState, Nop}
 use Rattle.frame_rows.specs.declared.machine.Setting.{Setting}
 use Rattle.frame_rows.specs.Instructions.{Item}
 use Rattle.frame_rows.specs.Machine.{Machine}
 use Rattle.sym_edges.specs.Results.{unless}
 use Rattle.frame_rows.specs.Steps.{stepped, step_fault, move_fault}
 use Rattle.frame_rows.specs.Rows.{item_stepped, item_fault, next_location}
-use Rattle.frame_rows.proofs.TestLemmas.{and_true, true_le}
 
 pub unless_none : (well : Bool) (why : Reason) → unless well why ≡ None → well ≡ true
 unless_none true why is = refl
 unless_none false why is = cc
 
 rises : (s : Setting) (before after : ℕ) → move_fault s before after ≡ None → before ≤ after
-rises s before after good = true_le before after (and_true (and_true {a = is_some s.initial} (unless_none (is_some s.initial && (nat_le before after && nat_lt after (2 ^ 64))) reason.Range good)).1).0
+rises s before after good = leb-true before after (and_parts _ _ (and_parts (is_some s.initial) _ (unless_none (is_some s.initial && (nat_le before after && nat_lt after (2 ^ 64))) reason.Range good)).1).0
 
 step_location : (s : Setting) (i : Instruction) (m : Machine) → (stepped s i m).address ≡ next_location s (Ok i) m.address
 unfolding stepped
@@ -28,7 +28,6 @@ step_location s (DefCfaSf register factored) m = refl
 step_location s (DefCfaRegister register) m = refl
 step_location s (DefCfaOffset offset) m = refl
 step_location s (DefCfaOffsetSf factored) m = refl
-step_location s (DefCfaExpression start len) m = refl
 step_location s (Undefined column) m = refl
 step_location s (SameValue column) m = refl
 step_location s (Offset column factored) m = refl
@@ -36,8 +35,6 @@ step_location s (OffsetExtendedSf column factored) m = refl
 step_location s (ValOffset column factored) m = refl
 step_location s (ValOffsetSf column factored) m = refl
 step_location s (Register column register) m = refl
-step_location s (Expression column start len) m = refl
-step_location s (ValExpression column start len) m = refl
 step_location s (Restore column) m = refl
 step_location s RememberState m = refl
 step_location s RestoreState m = refl
@@ -52,7 +49,6 @@ step_grows s (DefCfaSf register factored) m good = omega arith
 step_grows s (DefCfaRegister register) m good = omega arith
 step_grows s (DefCfaOffset offset) m good = omega arith
 step_grows s (DefCfaOffsetSf factored) m good = omega arith
-step_grows s (DefCfaExpression start len) m good = omega arith
 step_grows s (Undefined column) m good = omega arith
 step_grows s (SameValue column) m good = omega arith
 step_grows s (Offset column factored) m good = omega arith
@@ -60,8 +56,6 @@ step_grows s (OffsetExtendedSf column factored) m good = omega arith
 step_grows s (ValOffset column factored) m good = omega arith
 step_grows s (ValOffsetSf column factored) m good = omega arith
 step_grows s (Register column register) m good = omega arith
-step_grows s (Expression column start len) m good = omega arith
-step_grows s (ValExpression column start len) m good = omega arith
 step_grows s (Restore column) m good = omega arith
 step_grows s RememberState m good = omega arith
 step_grows s RestoreState m good = omega arith
@@ -76,7 +70,6 @@ step_keeps s (DefCfaSf register factored) m moves = absurd (omega arith)
 step_keeps s (DefCfaRegister register) m moves = absurd (omega arith)
 step_keeps s (DefCfaOffset offset) m moves = absurd (omega arith)
 step_keeps s (DefCfaOffsetSf factored) m moves = absurd (omega arith)
-step_keeps s (DefCfaExpression start len) m moves = refl
 step_keeps s (Undefined column) m moves = absurd (omega arith)
 step_keeps s (SameValue column) m moves = absurd (omega arith)
 step_keeps s (Offset column factored) m moves = absurd (omega arith)
@@ -84,8 +77,6 @@ step_keeps s (OffsetExtendedSf column factored) m moves = absurd (omega arith)
 step_keeps s (ValOffset column factored) m moves = absurd (omega arith)
 step_keeps s (ValOffsetSf column factored) m moves = absurd (omega arith)
 step_keeps s (Register column register) m moves = absurd (omega arith)
-step_keeps s (Expression column start len) m moves = refl
-step_keeps s (ValExpression column start len) m moves = refl
 step_keeps s (Restore column) m moves = absurd (omega arith)
 step_keeps s RememberState m moves = refl
 step_keeps s RestoreState m moves = absurd (omega arith)

@@ -1,18 +1,11 @@
 -- The call frame instructions in a run of bytes (DWARF 5, sections 6.4.2 and 7.24).
-use Rattle.std.specs.Prelude.{ℕ, ℤ, pos, zero, suc, ◌/◌, ◌%◌, ◌==◌, ◌||◌, Bool, if◌then◌else◌, List, [], ◌∷◌, length, Option, Some, None, Result, Ok, Err}
+use Rattle.std.specs.Prelude.{ℕ, zero, suc, ◌/◌, ◌%◌, ◌==◌, if◌then◌else◌, List, [], ◌∷◌, length, Result, Ok, Err}
 use Rattle.sym_edges.specs.declared.reason.Reason.{Reason}
 use Rattle.sym_edges.specs.declared.reason.Reason.TheVariants as reason
 use Rattle.leb_cursor.specs.declared.fault.CursorFault.{CursorFault}
 use Rattle.sym_edges.specs.Results.{◌>>=◌}
 use Rattle.leb_cursor.specs.Ahead.{Ahead}
-use Rattle.leb_cursor.specs.Readings.{fixed_at, uleb_at}
-use Rattle.code_table.specs.declared.kind.Shape.{Shape}
-use Rattle.code_table.specs.declared.kind.Operand.{Operand}
-use Rattle.code_table.specs.declared.kind.Operand.TheVariants.{Num, Signed}
-use Rattle.code_table.specs.declared.kind.Operands.{Operands}
-use Rattle.code_table.specs.Layouts.{shape_at}
-use Rattle.code_table.specs.Rows.{shape_of}
-use Rattle.code_table.specs.FrameOps.{frame_rows}
+use Rattle.leb_cursor.specs.Readings.{fixed_at, uleb_at, sleb_at}
 use Rattle.frame_entries.specs.Pointers.{pointer_at}
 use Rattle.frame_entries.specs.Listing.{from_start}
 use Rattle.frame_entries.specs.FrameEntries.{address_at}
@@ -24,61 +17,52 @@ abbrev pub or_instruction : {A : Type 0} → Result A CursorFault → Result A R
 or_instruction (Ok x) = Ok x
 or_instruction (Err fault) = Err reason.Instruction
 
--- an operand as a number
-abbrev pub number_of : Operand → ℕ
-number_of (Num n) = n
-number_of _ = 0
+-- an instruction without operands, with one operand, and with two, one behind the other
+abbrev pub alone : Instruction → Ahead → Result (Instruction × Ahead) Reason
+alone instruction c = Ok (instruction, c)
 
--- an operand as a signed number
-abbrev pub signed_of : Operand → ℤ
-signed_of (Signed n) = n
-signed_of _ = pos 0
+abbrev pub one : {A : Type 0} → (Ahead → Result (A × Ahead) CursorFault) → (A → Instruction) → Ahead → Result (Instruction × Ahead) Reason
+one operand make c = or_instruction (operand c) >>= λ x. Ok (make x.0, x.1)
 
--- the opcodes that carry a DWARF expression: DW_CFA_def_cfa_expression, DW_CFA_expression, DW_CFA_val_expression
-unfoldable pub has_expression : ℕ → Bool
-has_expression opcode = opcode == 0x0f || (opcode == 0x10 || opcode == 0x16)
+abbrev pub two : {A B : Type 0} → (Ahead → Result (A × Ahead) CursorFault) → (Ahead → Result (B × Ahead) CursorFault) → (A → B → Instruction) → Ahead → Result (Instruction × Ahead) Reason
+two first second make c = or_instruction (first c) >>= λ x. or_instruction (second x.1) >>= λ y. Ok (make x.0 y.0, y.1)
 
--- the instruction of an opcode of the table, with its operands (DWARF 5, table 7.29)
-unfoldable pub instruction_of : ℕ → Operands → Instruction
-instruction_of opcode ops =
-    if opcode == 0x02 then AdvanceLoc (number_of ops.first) else
-    if opcode == 0x03 then AdvanceLoc (number_of ops.first) else
-    if opcode == 0x04 then AdvanceLoc (number_of ops.first) else
-    if opcode == 0x05 then Offset (number_of ops.first) (number_of ops.second) else
-    if opcode == 0x06 then Restore (number_of ops.first) else
-    if opcode == 0x07 then Undefined (number_of ops.first) else
-    if opcode == 0x08 then SameValue (number_of ops.first) else
-    if opcode == 0x09 then Register (number_of ops.first) (number_of ops.second) else
-    if opcode == 0x0a then RememberState else
-    if opcode == 0x0b then RestoreState else
-    if opcode == 0x0c then DefCfa (number_of ops.first) (number_of ops.second) else
-    if opcode == 0x0d then DefCfaRegister (number_of ops.first) else
-    if opcode == 0x0e then DefCfaOffset (number_of ops.first) else
-    if opcode == 0x11 then OffsetExtendedSf (number_of ops.first) (signed_of ops.second) else
-    if opcode == 0x12 then DefCfaSf (number_of ops.first) (signed_of ops.second) else
-    if opcode == 0x13 then DefCfaOffsetSf (signed_of ops.first) else
-    if opcode == 0x14 then ValOffset (number_of ops.first) (number_of ops.second) else
-    if opcode == 0x15 then ValOffsetSf (number_of ops.first) (signed_of ops.second) else Nop
-
--- the instruction of an opcode that has this layout of operands, where the table has it
-abbrev pub shaped_at : ℕ → Option Shape → Ahead → Result (Instruction × Ahead) Reason
-shaped_at opcode None c = Err reason.Instruction
-shaped_at opcode (Some shape) c = or_instruction (shape_at shape c) >>= λ ops. Ok (instruction_of opcode ops.0, ops.1)
-
--- behind an opcode without an operand in it; the operand of DW_CFA_set_loc is a pointer in the entry's encoding
+-- behind an opcode without an operand in it: its operands, and what it means (DWARF 5, table 7.29); the operand of
+-- DW_CFA_set_loc is a pointer in the entry's encoding, and an instruction with a DWARF expression is refused
 unfoldable pub extended_at : ℕ → ℕ → ℕ → Ahead → Result (Instruction × Ahead) Reason
 extended_at encoding base opcode c =
-    if has_expression opcode then Err reason.Expression else
-    if opcode == 0x01
-    then (or_instruction (pointer_at encoding (address_at base c.at) c) >>= λ address. Ok (SetLoc address.0, address.1))
-    else shaped_at opcode (shape_of opcode frame_rows) c
+    if opcode == 0x00 then alone Nop c else  -- DW_CFA_nop
+    if opcode == 0x01 then one (pointer_at encoding (address_at base c.at)) SetLoc c else  -- DW_CFA_set_loc
+    if opcode == 0x02 then one (fixed_at 1) AdvanceLoc c else  -- DW_CFA_advance_loc1
+    if opcode == 0x03 then one (fixed_at 2) AdvanceLoc c else  -- DW_CFA_advance_loc2
+    if opcode == 0x04 then one (fixed_at 4) AdvanceLoc c else  -- DW_CFA_advance_loc4
+    if opcode == 0x05 then two uleb_at uleb_at Offset c else  -- DW_CFA_offset_extended
+    if opcode == 0x06 then one uleb_at Restore c else  -- DW_CFA_restore_extended
+    if opcode == 0x07 then one uleb_at Undefined c else  -- DW_CFA_undefined
+    if opcode == 0x08 then one uleb_at SameValue c else  -- DW_CFA_same_value
+    if opcode == 0x09 then two uleb_at uleb_at Register c else  -- DW_CFA_register
+    if opcode == 0x0a then alone RememberState c else  -- DW_CFA_remember_state
+    if opcode == 0x0b then alone RestoreState c else  -- DW_CFA_restore_state
+    if opcode == 0x0c then two uleb_at uleb_at DefCfa c else  -- DW_CFA_def_cfa
+    if opcode == 0x0d then one uleb_at DefCfaRegister c else  -- DW_CFA_def_cfa_register
+    if opcode == 0x0e then one uleb_at DefCfaOffset c else  -- DW_CFA_def_cfa_offset
+    if opcode == 0x0f then Err reason.Expression else  -- DW_CFA_def_cfa_expression
+    if opcode == 0x10 then Err reason.Expression else  -- DW_CFA_expression
+    if opcode == 0x11 then two uleb_at sleb_at OffsetExtendedSf c else  -- DW_CFA_offset_extended_sf
+    if opcode == 0x12 then two uleb_at sleb_at DefCfaSf c else  -- DW_CFA_def_cfa_sf
+    if opcode == 0x13 then one sleb_at DefCfaOffsetSf c else  -- DW_CFA_def_cfa_offset_sf
+    if opcode == 0x14 then two uleb_at uleb_at ValOffset c else  -- DW_CFA_val_offset
+    if opcode == 0x15 then two uleb_at sleb_at ValOffsetSf c else  -- DW_CFA_val_offset_sf
+    if opcode == 0x16 then Err reason.Expression else  -- DW_CFA_val_expression
+    if opcode == 0x2e then one uleb_at (λ size. Nop) c else  -- DW_CFA_GNU_args_size
+    Err reason.Instruction
 
 -- behind an opcode: in three of them the low six bits are an operand
 unfoldable pub behind_opcode : ℕ → ℕ → ℕ → Ahead → Result (Instruction × Ahead) Reason
 behind_opcode encoding base opcode c =
-    if opcode / 64 == 1 then Ok (AdvanceLoc (opcode % 64), c) else
-    if opcode / 64 == 2 then (or_instruction (uleb_at c) >>= λ n. Ok (Offset (opcode % 64) n.0, n.1)) else
-    if opcode / 64 == 3 then Ok (Restore (opcode % 64), c) else
+    if opcode / 64 == 1 then alone (AdvanceLoc (opcode % 64)) c else  -- DW_CFA_advance_loc
+    if opcode / 64 == 2 then one uleb_at (Offset (opcode % 64)) c else  -- DW_CFA_offset
+    if opcode / 64 == 3 then alone (Restore (opcode % 64)) c else  -- DW_CFA_restore
     extended_at encoding base opcode c
 
 -- the next instruction, or the reason for which it cannot be read; `base` is the address of the first byte of the run
@@ -100,6 +84,15 @@ listed_in zero encoding base c = []
 listed_in (suc n) encoding base c =
     if length c.bytes == 0 then [] else onto_later (instruction_at encoding base c) (listed_in n encoding base)
 
--- the instructions of a run of bytes, each of one byte at least, up to the first that cannot be read
+-- the instructions ahead, up to the first that cannot be read: each has one byte at least, so there are no more than bytes
+unfoldable pub listed_at : ℕ → ℕ → Ahead → List Item
+listed_at encoding base c = listed_in (length c.bytes) encoding base c
+
+-- the instructions ahead by the first of them, where those behind it are known
+unfoldable pub listed_by : (ℕ → ℕ → Ahead → List Item) → ℕ → ℕ → Ahead → List Item
+listed_by later encoding base c =
+    if length c.bytes == 0 then [] else onto_later (instruction_at encoding base c) (later encoding base)
+
+-- the instructions of a run of bytes
 unfoldable pub instructions : ℕ → ℕ → List ℕ → List Item
-instructions encoding base bytes = listed_in (length bytes) encoding base (from_start bytes)
+instructions encoding base bytes = listed_at encoding base (from_start bytes)

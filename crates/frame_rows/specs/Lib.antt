@@ -1,4 +1,5 @@
 pub mod Instructions
+pub mod Operands
 pub mod Machine
 pub mod Steps
 pub mod Rows

@@ -48,29 +48,29 @@ replay s (i ∷ items) m a = if nat_le m.address a then replay s items (item_ste
 unfoldable pub empty_row : Row
 empty_row = record { cfa = None; rules = replicate 17 rule.Rest }
 
--- the instructions of the entry's CIE, from the start of the entry's range; no location instruction may stand there, so
+-- the initial instructions, those of the entry's CIE, from the start of the entry's address range; no location instruction may stand there, so
 -- the address of a pointer among them does not count
 unfoldable pub cie_setting : FdeFields → Setting
 cie_setting e = record { code_align = e.code_align; data_align = e.data_align; initial = None }
 
 unfoldable pub cie_items : FdeFields → List Item
-cie_items e = instructions e.encoding 0 e.first
+cie_items e = instructions e.encoding 0 e.initial_instructions
 
 unfoldable pub cie_begin : FdeFields → Machine
-cie_begin e = record { address = e.start; row = empty_row; held = [] }
+cie_begin e = record { address = e.start; row = empty_row; stack = [] }
 
 unfoldable pub cie_end : FdeFields → Machine
 cie_end e = all_stepped (cie_setting e) (cie_items e) (cie_begin e)
 
--- the entry's own instructions, behind those of the CIE: the row and the rows that are remembered go on
+-- the entry's own instructions, behind the initial ones: the row and the row stack go on
 unfoldable pub own_setting : FdeFields → Setting
 own_setting e = record { code_align = e.code_align; data_align = e.data_align; initial = Some (cie_end e).row }
 
 unfoldable pub own_items : FdeFields → List Item
-own_items e = instructions e.encoding e.own_address e.own
+own_items e = instructions e.encoding e.instructions_address e.instructions
 
 unfoldable pub own_begin : FdeFields → Machine
-own_begin e = record { address = e.start; row = (cie_end e).row; held = (cie_end e).held }
+own_begin e = record { address = e.start; row = (cie_end e).row; stack = (cie_end e).stack }
 
 -- the row at an address of the entry
 unfoldable pub row_at : FdeFields → ℕ → Row

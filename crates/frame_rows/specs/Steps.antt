@@ -12,7 +12,7 @@ use Rattle.frame_rows.specs.declared.row.CfaRule.{CfaRule}
 use Rattle.frame_rows.specs.declared.row.Row.{Row}
 use Rattle.frame_rows.specs.declared.machine.Setting.{Setting}
 use Rattle.frame_rows.specs.declared.instruction.Instruction.{Instruction}
-use Rattle.frame_rows.specs.declared.instruction.Instruction.TheVariants.{SetLoc, AdvanceLoc, DefCfa, DefCfaSf, DefCfaRegister, DefCfaOffset, DefCfaOffsetSf, DefCfaExpression, Undefined, SameValue, Offset, OffsetExtendedSf, ValOffset, ValOffsetSf, Register, Expression, ValExpression, Restore, RememberState, RestoreState, Nop}
+use Rattle.frame_rows.specs.declared.instruction.Instruction.TheVariants.{SetLoc, AdvanceLoc, DefCfa, DefCfaSf, DefCfaRegister, DefCfaOffset, DefCfaOffsetSf, Undefined, SameValue, Offset, OffsetExtendedSf, ValOffset, ValOffsetSf, Register, Restore, RememberState, RestoreState, Nop}
 use Rattle.frame_rows.specs.Machine.{Machine}
 
 -- the row has a CFA rule
@@ -42,26 +42,26 @@ put_offset offset row = record { cfa = cfa_offset offset row.cfa; rules = row.ru
 unfoldable pub put_rule : ℕ → Rule → Row → Row
 put_rule column new row = if nat_lt column 17 then record { cfa = row.cfa; rules = slice_set row.rules column new } else row
 
--- an offset that is a whole number, and products with the data alignment, modulo 2^64
+-- an offset that is not factored, and one that is: its product with the data alignment factor, modulo 2^64
 abbrev pub plain : ℕ → ℤ
 plain offset = cast_signed w64 offset
 
 abbrev pub scaled : Setting → ℤ → ℤ
 scaled s factored = int_wrapping_mul w64 factored s.data_align
 
--- the rule that a row's column had behind the CIE
+-- the rule that the initial instructions gave a column
 abbrev pub rule_behind : Option Row → ℕ → Rule
 rule_behind None column = rule.Rest
 rule_behind (Some initial) column = slice_index_or initial.rules column rule.Rest
 
 -- the state at another location, and the state with its row changed
 abbrev pub moved : ℕ → Machine → Machine
-moved address m = record { address = address; row = m.row; held = m.held }
+moved address m = record { address = address; row = m.row; stack = m.stack }
 
 abbrev pub on_row : (Row → Row) → Machine → Machine
-on_row change m = record { address = m.address; row = change m.row; held = m.held }
+on_row change m = record { address = m.address; row = change m.row; stack = m.stack }
 
--- the top of the remembered rows, and those under it
+-- the top of the row stack, and the rows under it
 abbrev pub top_or : Row → List Row → Row
 top_or row [] = row
 top_or row (top ∷ rows) = top
@@ -71,9 +71,9 @@ under [] = []
 under (top ∷ rows) = rows
 
 -- some row is remembered
-abbrev pub has_held : List Row → Bool
-has_held [] = false
-has_held (top ∷ rows) = true
+abbrev pub has_remembered : List Row → Bool
+has_remembered [] = false
+has_remembered (top ∷ rows) = true
 
 -- the state behind an instruction
 unfoldable pub stepped : Setting → Instruction → Machine → Machine
@@ -86,7 +86,6 @@ stepped s (DefCfaSf register factored) m = on_row (put_cfa register (scaled s fa
 stepped s (DefCfaRegister register) m = on_row (put_register register) m
 stepped s (DefCfaOffset offset) m = on_row (put_offset (plain offset)) m
 stepped s (DefCfaOffsetSf factored) m = on_row (put_offset (scaled s factored)) m
-stepped s (DefCfaExpression start len) m = m
 -- register rules (6.4.2.3)
 stepped s (Undefined column) m = on_row (put_rule column rule.Undefined) m
 stepped s (SameValue column) m = on_row (put_rule column rule.Same) m
@@ -95,12 +94,10 @@ stepped s (OffsetExtendedSf column factored) m = on_row (put_rule column (rule.O
 stepped s (ValOffset column factored) m = on_row (put_rule column (rule.ValOffset (scaled s (plain factored)))) m
 stepped s (ValOffsetSf column factored) m = on_row (put_rule column (rule.ValOffset (scaled s factored))) m
 stepped s (Register column register) m = on_row (put_rule column (rule.Register register)) m
-stepped s (Expression column start len) m = m
-stepped s (ValExpression column start len) m = m
 stepped s (Restore column) m = on_row (put_rule column (rule_behind s.initial column)) m
 -- row state (6.4.2.4)
-stepped s RememberState m = record { address = m.address; row = m.row; held = m.row ∷ m.held }
-stepped s RestoreState m = record { address = m.address; row = top_or m.row m.held; held = under m.held }
+stepped s RememberState m = record { address = m.address; row = m.row; stack = m.row ∷ m.stack }
+stepped s RestoreState m = record { address = m.address; row = top_or m.row m.stack; stack = under m.stack }
 -- padding (6.4.2.5)
 stepped s Nop m = m
 
@@ -124,7 +121,6 @@ step_fault s (DefCfaSf register factored) m = register_fault register
 step_fault s (DefCfaRegister register) m = option_or (register_fault register) (part_fault m)
 step_fault s (DefCfaOffset offset) m = part_fault m
 step_fault s (DefCfaOffsetSf factored) m = part_fault m
-step_fault s (DefCfaExpression start len) m = Some reason.Expression
 step_fault s (Undefined column) m = None
 step_fault s (SameValue column) m = unless (not (column == 16)) reason.Register
 step_fault s (Offset column factored) m = None
@@ -132,9 +128,7 @@ step_fault s (OffsetExtendedSf column factored) m = None
 step_fault s (ValOffset column factored) m = None
 step_fault s (ValOffsetSf column factored) m = None
 step_fault s (Register column register) m = unless (nat_lt 16 column || nat_lt register 16) reason.Register
-step_fault s (Expression column start len) m = Some reason.Expression
-step_fault s (ValExpression column start len) m = Some reason.Expression
 step_fault s (Restore column) m = unless (is_some s.initial) reason.State
 step_fault s RememberState m = None
-step_fault s RestoreState m = unless (has_held m.held) reason.State
+step_fault s RestoreState m = unless (has_remembered m.stack) reason.State
 step_fault s Nop m = None

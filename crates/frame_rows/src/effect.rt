@@ -57,9 +57,6 @@ impl Instruction {
             Instruction::Restore { column } => return machine.restore(setting, column),
             Instruction::RememberState => machine.remember()?,
             Instruction::RestoreState => return machine.restore_state(),
-            Instruction::DefCfaExpression { .. }
-            | Instruction::Expression { .. }
-            | Instruction::ValExpression { .. } => return Err(Stop::Fault(Reason::Expression)),
             Instruction::Nop => {}
         }
         Ok(())

@@ -1,78 +1,25 @@
 //! The call frame instructions (DWARF 5, 6.4.2).
 
-/// A call frame instruction. Those that differ only in how an operand is written are one. Columns and registers are DWARF
-/// numbers; a factored offset is multiplied by the data alignment of the CIE, and a delta by its code alignment.
+/// A call frame instruction. Those that differ only in how an operand is written are one, and those with a DWARF expression are
+/// refused when they are read. Columns and registers are DWARF numbers; a factored offset is multiplied by the data alignment
+/// factor of the CIE, and a delta by its code alignment factor.
 #[derive(Clone, Copy, PartialEq, Eq, Debug)]
 pub enum Instruction {
-    SetLoc {
-        address: u64,
-    },
-    AdvanceLoc {
-        delta: u64,
-    },
-    DefCfa {
-        register: u64,
-        offset: u64,
-    },
-    DefCfaSf {
-        register: u64,
-        factored: i64,
-    },
-    DefCfaRegister {
-        register: u64,
-    },
-    DefCfaOffset {
-        offset: u64,
-    },
-    DefCfaOffsetSf {
-        factored: i64,
-    },
-    /// The place and the length of the expression.
-    DefCfaExpression {
-        start: usize,
-        len: usize,
-    },
-    Undefined {
-        column: u64,
-    },
-    SameValue {
-        column: u64,
-    },
-    Offset {
-        column: u64,
-        factored: u64,
-    },
-    OffsetExtendedSf {
-        column: u64,
-        factored: i64,
-    },
-    ValOffset {
-        column: u64,
-        factored: u64,
-    },
-    ValOffsetSf {
-        column: u64,
-        factored: i64,
-    },
-    Register {
-        column: u64,
-        register: u64,
-    },
-    /// The place and the length of the expression.
-    Expression {
-        column: u64,
-        start: usize,
-        len: usize,
-    },
-    /// The place and the length of the expression.
-    ValExpression {
-        column: u64,
-        start: usize,
-        len: usize,
-    },
-    Restore {
-        column: u64,
-    },
+    SetLoc { address: u64 },
+    AdvanceLoc { delta: u64 },
+    DefCfa { register: u64, offset: u64 },
+    DefCfaSf { register: u64, factored: i64 },
+    DefCfaRegister { register: u64 },
+    DefCfaOffset { offset: u64 },
+    DefCfaOffsetSf { factored: i64 },
+    Undefined { column: u64 },
+    SameValue { column: u64 },
+    Offset { column: u64, factored: u64 },
+    OffsetExtendedSf { column: u64, factored: i64 },
+    ValOffset { column: u64, factored: u64 },
+    ValOffsetSf { column: u64, factored: i64 },
+    Register { column: u64, register: u64 },
+    Restore { column: u64 },
     RememberState,
     RestoreState,
     /// `DW_CFA_nop`, and `DW_CFA_GNU_args_size`, which says nothing of the row.

@@ -4,8 +4,8 @@
 //! [`rows`] carries out the call frame instructions of an entry's CIE and then its own, and gives the row at each
 //! address at which the location changes; between two of them the row stays. Its contract compares them with
 //! `specs/Rows.antt`, where the row at an address is what a replay from the first instruction leaves there.
-//! `specs/Instructions.antt` says how an instruction is read, and `specs/Steps.antt` what each does to the row and to the
-//! rows that are remembered, one equation for each instruction, in the standard's order. [`inspect`] looks at the
+//! `specs/Instructions.antt` says how an instruction is read, one line for each opcode, and `specs/Steps.antt` what each does
+//! to the row and to the row stack, one equation for each instruction, in the standard's order. [`inspect`] looks at the
 //! instructions alone, for any range.
 //!
 //! An entry is refused exactly with the reason of its first bad instruction, the CIE's before its own, or else with
@@ -27,6 +27,9 @@ mod running;
 #[cfg(test)]
 mod tests;
 mod walking;
+
+// For proofs above.
+pub mod laws;
 
 pub use crate::row::{CfaRule, Row, RowAt, RowList, Rule};
 pub use crate::running::inspect;

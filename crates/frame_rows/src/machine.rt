@@ -5,14 +5,15 @@ ghost use Rattle.frame_rows.specs.declared.row.Rule.TheVariants as rule;
 ghost use Rattle.sym_edges.specs.Outside.{MatchStop};
 ghost use Rattle.sym_edges.specs.Results.{unless};
 ghost use Rattle.std.specs.Option.{option_or};
-ghost use Rattle.frame_rows.specs.Steps.{scaled, moved, on_row, put_rule, put_cfa, put_register, put_offset, move_fault, register_fault, part_fault, rule_behind, has_held, top_or, under};
+ghost use Rattle.frame_rows.specs.Steps.{scaled, moved, on_row, put_rule, put_cfa, put_register, put_offset, move_fault, register_fault, part_fault, rule_behind, has_remembered, top_or, under};
 
 use crate::row::{COLUMNS, CfaRule, Row, Rule};
 use std::alloc::{AllocError, Global};
 use std::marker::Model;
 use sym_edges::{Reason, Stop};
 
-/// What instructions are carried out with: the alignments of the CIE, and behind it the row that it left.
+/// What instructions are carried out with: the code and the data alignment factor of the CIE, and behind it the row that its
+/// initial instructions left.
 #[derive(Clone, Copy)]
 pub struct Setting {
     pub code_align: u64,
@@ -29,12 +30,12 @@ impl Setting {
     }
 }
 
-/// The location, the row there, and the rows that are remembered.
+/// The location, the row there, and the row stack: the rows that are remembered.
 #[derive(Drop)]
 pub struct Machine {
     address: u64,
     row: Row,
-    held: Vec<Row>,
+    stack: Vec<Row>,
 }
 
 impl Model for Machine {
@@ -43,7 +44,7 @@ impl Model for Machine {
 
     ghost Value = { Machine };
 
-    ghost view = { λ m. record { address = m.address; row = m.row; held = reverse m.held.items } };
+    ghost view = { λ m. record { address = m.address; row = m.row; stack = reverse m.stack.items } };
 }
 
 /// A register of x86-64 by its number.
@@ -61,12 +62,12 @@ fn register_of(number: u64) -> Result<u8, Reason>
 impl Machine {
     /// The state at an address, with a row and nothing remembered. Takes no memory.
     pub fn new(alloc: Global, address: u64, row: &Row) -> Machine
-        ensures { result ≡ record { address = address; row = row.now; held = [] } }
+        ensures { result ≡ record { address = address; row = row.now; stack = [] } }
     {
         Machine {
             address,
             row: *row,
-            held: Vec::new(alloc),
+            stack: Vec::new(alloc),
         }
     }
 
@@ -80,12 +81,6 @@ impl Machine {
         ensures { result.now ≡ self.now.row }
     {
         &self.row
-    }
-
-    /// The same with another row.
-    #[cfg(test)]
-    pub fn set_row(&mut self, row: &Row) {
-        self.row = *row;
     }
 
     /// The same at another address.
@@ -255,20 +250,20 @@ impl Machine {
 
     /// Remembers the row.
     pub fn remember(&mut self) -> Result<(), AllocError>
-        ensures { OnOk result (self.new ≡ record { address = self.old.address; row = self.old.row; held = self.old.row ∷ self.old.held }) }
+        ensures { OnOk result (self.new ≡ record { address = self.old.address; row = self.old.row; stack = self.old.row ∷ self.old.stack }) }
     {
-        self.held.push(self.row)?;
+        self.stack.push(self.row)?;
         Ok(())
     }
 
     /// The row that was remembered last.
     pub fn restore_state(&mut self) -> Result<(), Stop<Reason>>
         ensures { MatchStop result
-            (λ _. (unless (has_held self.old.held) reason.State ≡ None) × (self.new ≡ record { address = self.old.address; row = top_or self.old.row self.old.held; held = under self.old.held }))
-            (λ why. unless (has_held self.old.held) reason.State ≡ Some why)
+            (λ _. (unless (has_remembered self.old.stack) reason.State ≡ None) × (self.new ≡ record { address = self.old.address; row = top_or self.old.row self.old.stack; stack = under self.old.stack }))
+            (λ why. unless (has_remembered self.old.stack) reason.State ≡ Some why)
             (Unit {0}) }
     {
-        match self.held.pop() {
+        match self.stack.pop() {
             Some(row) => {
                 self.row = row;
                 Ok(())

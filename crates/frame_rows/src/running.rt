@@ -81,7 +81,13 @@ pub fn begin(alloc: Global, fde: &Fde<'_>) -> Result<Begun, Stop<Reason>>
     };
     let row = empty_row();
     let mut machine = Machine::new(alloc, fde.start, &row);
-    match run(&mut machine, &cie, fde.encoding, 0, fde.first) {
+    match run(
+        &mut machine,
+        &cie,
+        fde.encoding,
+        0,
+        fde.initial_instructions,
+    ) {
         Ok(()) => {}
         Err(stop) => return Err(stop),
     }
@@ -112,8 +118,8 @@ pub fn inspect(alloc: Global, fde: &Fde<'_>) -> Result<Option<Reason>, OutOfMemo
         &mut machine,
         &setting,
         fde.encoding,
-        fde.own_address,
-        fde.own,
+        fde.instructions_address,
+        fde.instructions,
     ) {
         Ok(()) => Ok(None),
         Err(Stop::Fault(why)) => Ok(Some(why)),

@@ -1,5 +1,119 @@
-//! Examples: the rows of small entries, each instruction with its row before and after, and the reasons.
-mod effects;
-mod entries;
-mod reasons;
-mod replays;
+//! Examples with ample memory: each public call, and entries with many rows.
+use crate::row::{COLUMNS, CfaRule, Row, Rule};
+use crate::{inspect, rows};
+use frame_entries::Fde;
+use std::alloc::Global;
+use std::process::Abort;
+use std::test::Fail;
+use sym_edges::Reason;
+
+/// An entry of 1000 behind initial instructions as at a call: the CFA is rsp + 8, and the return address lies at the CFA - 8.
+#[tactic(auto, unfolding(frame_entries::specs::Pointers::is_encoding, frame_entries::specs::Pointers::is_format))]
+fn called(size: u64, instructions: &[u8]) -> Fde<'_> {
+    Fde {
+        start: 0x1000,
+        size,
+        code_align: 1,
+        data_align: -8,
+        encoding: 0x1b,
+        initial_instructions: b"\x0c\x07\x08\x90\x01\0\0",
+        instructions,
+        instructions_address: 0x2029,
+    }
+}
+
+/// The row with the CFA at rsp plus so much, and the return address as at a call.
+fn based(offset: i64) -> Row {
+    let mut row = Row {
+        cfa: Some(CfaRule {
+            register: 7,
+            offset,
+        }),
+        rules: [Rule::Rest; COLUMNS],
+    };
+    row.rules[16] = Rule::Offset(-8);
+    row
+}
+
+/// The entry has these rows, each with the offset of its CFA, and `inspect` gives this reason.
+fn expect(
+    rt: &impl Abort,
+    alloc: Global,
+    name: &str,
+    fde: &Fde<'_>,
+    why: Option<Reason>,
+    want: &[(u64, i64)],
+) -> Result<(), Fail> {
+    let mut found = Vec::new(alloc);
+    let mut plain = true;
+    if why.is_none() && fde.size > 0 && fde.size <= u64::MAX - fde.start {
+        let list = rows(alloc, fde)?;
+        for row in list.as_slice() {
+            if let Some(cfa) = row.row.cfa {
+                plain = plain && row.row == based(cfa.offset);
+                found.push((row.address, cfa.offset))?;
+            }
+        }
+    }
+    let inspected = inspect(alloc, fde)?;
+    assert_eq!(rt;
+        (inspected, plain, found.as_slice()),
+        (why, true, want),
+        "{name}"
+    );
+    Ok(())
+}
+
+/// How many rows are remembered at once.
+const NESTED: u64 = 100;
+
+/// How many rows the longest entry has behind its first.
+const MANY: u64 = 5000;
+
+#[test]
+fn entries_have_their_rows(rt: HostRuntime) -> Result<(), Fail> {
+    let alloc = rt.alloc();
+    let small = called(0x20, b"\x41\x0e\x10\x44\x0e\x08");
+    let want = [(0x1000, 8), (0x1001, 16), (0x1005, 8)];
+    expect(&rt, alloc, "three rows", &small, None, &want)?;
+    let bad = called(0x20, b"\x41\x0b");
+    expect(
+        &rt,
+        alloc,
+        "a bad instruction",
+        &bad,
+        Some(Reason::State),
+        &[],
+    )?;
+    // Each row is remembered, and then the CFA's offset rises by 8; afterwards each comes back.
+    let mut nested = Vec::new(alloc);
+    let mut nested_want = Vec::new(alloc);
+    nested_want.push((0x1000, 8))?;
+    for number in 1..NESTED + 1 {
+        nested.extend_from_slice(b"\x0a\x41\x0e")?;
+        nested.push((number % 16 * 8) as u8)?;
+        nested_want.push((0x1000 + number, (number % 16 * 8) as i64))?;
+    }
+    for number in 1..NESTED + 1 {
+        nested.extend_from_slice(b"\x41\x0b")?;
+        let under = NESTED - number;
+        let offset = if under == 0 {
+            8
+        } else {
+            (under % 16 * 8) as i64
+        };
+        nested_want.push((0x1000 + NESTED + number, offset))?;
+    }
+    let entry = called(0x1000, &nested);
+    expect(&rt, alloc, "nested rows", &entry, None, &nested_want)?;
+    let mut many = Vec::new(alloc);
+    let mut many_want = Vec::new(alloc);
+    many_want.push((0x1000, 8))?;
+    for number in 1..MANY + 1 {
+        many.extend_from_slice(b"\x41\x0e")?;
+        many.push((number % 128) as u8)?;
+        many_want.push((0x1000 + number, (number % 128) as i64))?;
+    }
+    let entry = called(0x10000, &many);
+    expect(&rt, alloc, "many rows", &entry, None, &many_want)
+}

@@ -124,8 +124,8 @@ pub fn rows(alloc: Global, fde: &Fde<'_>) -> Result<RowList, Stop<Reason>>
         &setting,
         end,
         fde.encoding,
-        fde.own_address,
-        fde.own,
+        fde.instructions_address,
+        fde.instructions,
     ) {
         Ok(rows) => rows,
         Err(stop) => return Err(stop),

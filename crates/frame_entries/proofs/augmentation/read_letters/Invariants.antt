@@ -1,9 +1,10 @@
 use Rattle.std.proofs.Common.{◌≡◌, true, drop}
 use Rattle.frame_entries.specs.Listing.{from_start}
-use Rattle.frame_entries.specs.Cies.{letters_at, IsSound}
+use Rattle.frame_entries.specs.Cies.{letters_at}
+use Rattle.frame_entries.specs.KnownEncodings.{LastIsRead}
 use Rattle.frame_entries.proofs.augmentation.read_letters.Given as goal
 
 abbrev pub invariant-letters : goal.invariant-letters
 invariant-letters l =
     (letters_at (drop l.letter-index l.letters) l.encodings l.cursor ≡ letters_at l.letters (record { pointer = 0; known = true }) (from_start l.augmentation))
-    × IsSound l.encodings
+    × LastIsRead l.encodings
