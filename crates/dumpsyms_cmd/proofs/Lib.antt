@@ -5,3 +5,4 @@ pub mod AnswerLemmas
 pub mod WriteLemmas
 pub mod RunLemmas
 pub mod FrameLemmas
+pub mod Computing

@@ -1,0 +1,11 @@
+mod ComputingElfSections
+mod Computing
+mod Elf
+mod Small
+mod WorkedHeaders
+mod WorkedFaults
+mod WorkedSymbols
+mod WorkedIds
+mod WorkedRanges
+mod WorkedFrames
+mod WorkedWords
