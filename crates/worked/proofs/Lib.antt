@@ -2,10 +2,10 @@ mod ComputingElfSections
 mod Computing
 mod Elf
 mod Small
+mod WorkedWords
+mod WorkedRanges
+mod WorkedSymbols
+mod WorkedFrames
 mod WorkedHeaders
 mod WorkedFaults
-mod WorkedSymbols
 mod WorkedIds
-mod WorkedRanges
-mod WorkedFrames
-mod WorkedWords

@@ -58,12 +58,12 @@ unfolding files
 code_of_type_0 = refl
 
 -- bytes may end where the file ends
-bytes_at_the_end : dump (changed (in_section 5 24 "d902000000000000" ∷ []) (small_and (progbits ".debug_str" [] ∷ [])))
+bytes_at_the_end : dump (changed (in_section 5 24 "e102000000000000" ∷ []) (small_and (progbits ".debug_str" [] ∷ [])))
     ≡ gives "PUBLIC 1000 0 main\n"
 unfolding files
 bytes_at_the_end = refl
 
-bytes_a_byte_past_the_end : dump (changed (in_section 5 24 "d902000000000000" ∷ in_section 5 32 "01" ∷ []) (small_and (progbits ".debug_str" [] ∷ [])))
+bytes_a_byte_past_the_end : dump (changed (in_section 5 24 "e102000000000000" ∷ in_section 5 32 "01" ∷ []) (small_and (progbits ".debug_str" [] ∷ [])))
     ≡ refused "refused elf section-bytes 5\n"
 unfolding files
 bytes_a_byte_past_the_end = refl

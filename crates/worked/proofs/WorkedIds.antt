@@ -2,6 +2,7 @@
 use Rattle.std.proofs.Common.{◌≡◌, ℕ, List, [], ◌∷◌, ◌++◌, replicate, refl}
 use Prim.Native.String.{String}
 use Rattle.std.specs.List.{range_with_len}
+use Rattle.elf_sections.specs.Identity.{folded}
 use Rattle.worked.proofs.Elf.{in_section, changed, plain, of_kind, code, loaded, null, file_of, id_note, hex}
 use Rattle.worked.proofs.Small.{Told, dump, text, texts, files}
 
@@ -170,50 +171,34 @@ aligned_by_eight : dump (changed (in_section 1 48 "08" ∷ []) (noted 7 (abi ++ 
 unfolding files noted with_notes by_text
 aligned_by_eight = refl
 
--- the first 4,096 bytes of the first section of code give the identity; here one byte is ff
-code_of_1_with_0 : by_text (replicate 0 0 ++ 255 ∷ replicate 0 0) ≡ texts "MODULE Linux x86_64 000000FF0000000000000000000000000 a.out\n"
+-- the first section of code gives the identity; here one byte is ff
+code_of_1_with_0 : by_text (255 ∷ []) ≡ texts "MODULE Linux x86_64 000000FF0000000000000000000000000 a.out\n"
 unfolding files noted with_notes by_text
 code_of_1_with_0 = refl
 
-code_of_15_with_0 : by_text (replicate 0 0 ++ 255 ∷ replicate 14 0)
+code_of_15_with_0 : by_text (255 ∷ replicate 14 0)
     ≡ texts "MODULE Linux x86_64 000000FF0000000000000000000000000 a.out\n"
 unfolding files noted with_notes by_text
 code_of_15_with_0 = refl
 
-code_of_16_with_15 : by_text (replicate 15 0 ++ 255 ∷ replicate 0 0)
+code_of_16_with_15 : by_text (replicate 15 0 ++ 255 ∷ [])
     ≡ texts "MODULE Linux x86_64 000000000000000000000000000000FF0 a.out\n"
 unfolding files noted with_notes by_text
 code_of_16_with_15 = refl
 
-code_of_17_with_16 : by_text (replicate 16 0 ++ 255 ∷ replicate 0 0)
+code_of_17_with_16 : by_text (replicate 16 0 ++ 255 ∷ [])
     ≡ texts "MODULE Linux x86_64 000000FF0000000000000000000000000 a.out\n"
 unfolding files noted with_notes by_text
 code_of_17_with_16 = refl
 
-code_of_4095_with_4080 : by_text (replicate 4080 0 ++ 255 ∷ replicate 14 0)
-    ≡ texts "MODULE Linux x86_64 000000FF0000000000000000000000000 a.out\n"
-unfolding files noted with_notes by_text
-code_of_4095_with_4080 = refl
+-- of so many bytes at most: 4,096 in the image, here 32
+the_last_byte_of_a_limit : folded 32 (replicate 31 0 ++ 255 ∷ replicate 8 0) ≡ replicate 15 0 ++ 255 ∷ []
+unfolding files
+the_last_byte_of_a_limit = refl
 
-code_of_4096_with_4095 : by_text (replicate 4095 0 ++ 255 ∷ replicate 0 0)
-    ≡ texts "MODULE Linux x86_64 000000000000000000000000000000FF0 a.out\n"
-unfolding files noted with_notes by_text
-code_of_4096_with_4095 = refl
-
-code_of_4097_with_4095 : by_text (replicate 4095 0 ++ 255 ∷ replicate 1 0)
-    ≡ texts "MODULE Linux x86_64 000000000000000000000000000000FF0 a.out\n"
-unfolding files noted with_notes by_text
-code_of_4097_with_4095 = refl
-
-code_of_4097_with_4096 : by_text (replicate 4096 0 ++ 255 ∷ replicate 0 0)
-    ≡ texts "MODULE Linux x86_64 000000000000000000000000000000000 a.out\n"
-unfolding files noted with_notes by_text
-code_of_4097_with_4096 = refl
-
-code_of_9000_with_4111 : by_text (replicate 4111 0 ++ 255 ∷ replicate 4888 0)
-    ≡ texts "MODULE Linux x86_64 000000000000000000000000000000000 a.out\n"
-unfolding files noted with_notes by_text
-code_of_9000_with_4111 = refl
+the_byte_behind_a_limit : folded 32 (replicate 32 0 ++ 255 ∷ replicate 8 0) ≡ replicate 16 0
+unfolding files
+the_byte_behind_a_limit = refl
 
 seventeen_bytes : by_text (hex "0102030405060708 090a0b0c0d0e0f10 ff")
     ≡ texts "MODULE Linux x86_64 040302FE06050807090A0B0C0D0E0F100 a.out\n"

@@ -56,9 +56,9 @@ without_a_type : dump (worked (symbol "f" 0x10 2 0x1000 ∷ []) []) ≡ gives ""
 unfolding files
 without_a_type = refl
 
-data : dump (worked (symbol "f" 0x11 2 0x1000 ∷ []) []) ≡ gives ""
+of_data : dump (worked (symbol "f" 0x11 2 0x1000 ∷ []) []) ≡ gives ""
 unfolding files
-data = refl
+of_data = refl
 
 of_a_section : dump (worked (symbol "f" 0x03 2 0x1000 ∷ []) []) ≡ gives ""
 unfolding files
@@ -167,11 +167,11 @@ inner_and_trailing_spaces : dump (worked (function "a  b " 0x1000 ∷ []) []) �
 unfolding files
 inner_and_trailing_spaces = refl
 
-a_control_byte_behind_spaces : dump (worked (function "  \u{9}a" 0x1000 ∷ []) []) ≡ gives "PUBLIC 1000 0 ?a\n"
+a_control_byte_behind_spaces : dump (worked (function "  \ta" 0x1000 ∷ []) []) ≡ gives "PUBLIC 1000 0 ?a\n"
 unfolding files
 a_control_byte_behind_spaces = refl
 
-a_space_behind_a_control_byte : dump (worked (function "\u{9} a" 0x1000 ∷ []) []) ≡ gives "PUBLIC 1000 0 ? a\n"
+a_space_behind_a_control_byte : dump (worked (function "\t a" 0x1000 ∷ []) []) ≡ gives "PUBLIC 1000 0 ? a\n"
 unfolding files
 a_space_behind_a_control_byte = refl
 
@@ -179,7 +179,7 @@ spaces_alone : dump (worked (function "   " 0x1000 ∷ []) []) ≡ gives "PUBLIC
 unfolding files
 spaces_alone = refl
 
-high_bytes : dump (worked (function "\u{80}\u{c3}\u{a9}\u{ff}" 0x1000 ∷ []) []) ≡ gives "PUBLIC 1000 0 \u{80}\u{c3}\u{a9}\u{ff}\n"
+high_bytes : dump (worked (function "\u{80}Ã©ÿ" 0x1000 ∷ []) []) ≡ gives "PUBLIC 1000 0 \u{80}Ã©ÿ\n"
 unfolding files
 high_bytes = refl
 

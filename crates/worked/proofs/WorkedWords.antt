@@ -130,7 +130,7 @@ spaces : named "d/ x y "
 unfolding files both named
 spaces = refl
 
-a_tab : named "d/a\u{9}b"
+a_tab : named "d/a\tb"
     ≡ texts "MODULE Linux x86_64 030201000504070608090A0B0C0D0E0F0 a?b\nINFO CODE_ID 000102030405060708090A0B0C0D0E0F10111213\n"
 unfolding files both named
 a_tab = refl
@@ -140,8 +140,8 @@ a_delete : named "d/\u{7f}"
 unfolding files both named
 a_delete = refl
 
-high_bytes : named "d/\u{c3}\u{a9}"
-    ≡ texts "MODULE Linux x86_64 030201000504070608090A0B0C0D0E0F0 \u{c3}\u{a9}\nINFO CODE_ID 000102030405060708090A0B0C0D0E0F10111213\n"
+high_bytes : named "d/Ã©"
+    ≡ texts "MODULE Linux x86_64 030201000504070608090A0B0C0D0E0F0 Ã©\nINFO CODE_ID 000102030405060708090A0B0C0D0E0F10111213\n"
 unfolding files both named
 high_bytes = refl
 
