@@ -34,8 +34,6 @@ const NO_READING: Edges<'static> = (1, ROOM, [&[2], &[], &[]]);
 
 const TWO_WRITES: Edges<'static> = (1, ROOM, [&[], &[3], &[]]);
 
-const ROOM_FOR_60: Edges<'static> = (50, 60, [&[], &[], &[]]);
-
 /// A status, and the bytes that out and err receive.
 type Told<'a> = (u8, &'a [u8], &'a [u8]);
 
@@ -172,9 +170,8 @@ fn commands_have_their_rows(rt: HostRuntime) -> Result<(), Fail> {
     let flagged = small_and(alloc, (".debug_info", [1, 0x800, 0, 0], b"\x01"))?;
     let info = small_and(alloc, (".debug_info", [1, 0, 0, 0], b"\0"))?;
     let no_row: &[&str] = &["lookup", "s", "0x10"];
-    let line = FRONT.split_at(60).0;
     let cut = file.split_at(64).0;
-    let rows: [Row<'_>; 20] = [
+    let rows: [Row<'_>; 19] = [
         ("no words", &[], &file, SMOOTH, USAGE),
         ("a word alone", &["dump"], &file, SMOOTH, USAGE),
         ("not built yet", no_row, &file, SMOOTH, USAGE),
@@ -183,7 +180,6 @@ fn commands_have_their_rows(rt: HostRuntime) -> Result<(), Fail> {
         ("no reading", DUMP, &file, NO_READING, UNREAD),
         ("main", DUMP, &file, SMOOTH, (0, &text, b"")),
         ("two writes", DUMP, &file, TWO_WRITES, (4, b"MO", b"")),
-        ("a full sink", DUMP, &file, ROOM_FOR_60, (4, line, b"")),
         ("b and a", DUMP, &two, SMOOTH, (0, &two_text, b"")),
         ("no build id", DUMP, &no_id, SMOOTH, (0, no_id_text, b"")),
         ("push rbp", DUMP, &frames, SMOOTH, (0, &frames_text, b"")),
@@ -244,6 +240,11 @@ fn each_call_that_fails_leaves_a_front(rt: HostRuntime) -> Result<(), Fail> {
         let edges: Edges<'_> = (1, ROOM, [&of_store, &[], &[]]);
         expect(&rt, alloc, "store", DUMP, &file, edges, told)?;
     }
+    for room in 0..text.len() {
+        let told = (4, text.split_at(room).0, b"".as_slice());
+        let edges = (50, room, [[].as_slice(), &[], &[]]);
+        expect(&rt, alloc, "room", DUMP, &file, edges, told)?;
+    }
     let bad_frames = framed_badly(alloc)?;
     expect_fronts(&rt, alloc, DUMP, &file, ONE_BYTE, (0, &text, b""))?;
     expect_fronts(&rt, alloc, DUMP, &bad_frames, ONE_BYTE, STATE)?;
@@ -264,6 +265,15 @@ fn with_sections(alloc: Global, more: usize, count: [u8; 2]) -> Result<Vec<u8>, 
     Ok(file)
 }
 
+/// The spaces and letters of a name, and how many letters are left of it: it is cut behind 65,536 bytes.
+const NAMES: [(usize, usize, usize); 5] = [
+    (0, 65_536, 65_536),
+    (0, 65_537, 65_536),
+    (3, 65_535, 65_535),
+    (3, 65_536, 65_536),
+    (3, 70_000, 65_536),
+];
+
 /// The length of code, the place of its byte ff, and the id of the module: the first 4,096 bytes count.
 const IDENTITIES: [(usize, usize, &[u8]); 5] = [
     (4095, 4080, b"000000FF0000000000000000000000000"),
@@ -283,19 +293,30 @@ fn large_files_are_dumped(rt: HostRuntime) -> Result<(), Fail> {
     programs.push((1, 0x400))?;
     let based = file_with(alloc, &programs, &ENTRIES, b"\0main\0", NULL)?;
     let based_text = joined(alloc, &[FRONT, b"PUBLIC c00 0 main\n"])?;
-    let letters = Vec::from_elem(alloc, b'a', 65_537)?;
-    let names = joined(alloc, &[b"\0   ", &letters, b"\0"])?;
-    let long = file_with(alloc, &[(1, 0)], &ENTRIES, &names, NULL)?;
-    let letters = letters.split_at(65_536).0;
-    let long_text = joined(alloc, &[FRONT, b"PUBLIC 1000 0 ", letters, b"\n"])?;
     let main = (0, text.as_slice(), b"".as_slice());
     for (label, file, told) in [
         ("65279 sections", &most, main),
         ("65280 sections", &too_many, SECTION_TABLE),
         ("65535 program headers", &based, (0, &based_text, b"")),
-        ("a name of 65537 letters", &long, (0, &long_text, b"")),
     ] {
         expect(&rt, alloc, label, DUMP, file, SMOOTH, told)?;
+    }
+    for (spaces, letters, left) in NAMES {
+        let spaces = Vec::from_elem(alloc, b' ', spaces)?;
+        let letters = Vec::from_elem(alloc, b'a', letters)?;
+        let names = joined(alloc, &[b"\0", &spaces, &letters, b"\0"])?;
+        let file = file_with(alloc, &[(1, 0)], &ENTRIES, &names, NULL)?;
+        let name = Vec::from_elem(alloc, b'a', left)?;
+        let text = joined(alloc, &[FRONT, b"PUBLIC 1000 0 ", &name, b"\n"])?;
+        expect(
+            &rt,
+            alloc,
+            "long name",
+            DUMP,
+            &file,
+            SMOOTH,
+            (0, &text, b""),
+        )?;
     }
     for (len, place, identity) in IDENTITIES {
         let bytes = changed(alloc, &Vec::from_elem(alloc, 0, len)?, place, 0xff)?;

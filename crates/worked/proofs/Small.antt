@@ -1,5 +1,5 @@
 -- The small file of the rows and its relatives, and what is answered on a file.
-use Rattle.std.proofs.Common.{ℕ, List, [], ◌∷◌, ◌++◌, codes, Option, None, Some, if◌then◌else◌}
+use Rattle.std.proofs.Common.{ℕ, ◌==◌, ◌&&◌, Bool, List, [], ◌∷◌, ◌++◌, codes, Option, None, Some, if◌then◌else◌}
 use Prim.Native.String.{String}
 use Rattle.std.specs.Prelude.{⊤}
 use Rattle.std.specs.Str.{bytes_eq}
@@ -50,6 +50,14 @@ ran words name file = told (verdict words (λ asked. if bytes_eq asked name then
 unfoldable pub dump : List ℕ → Told
 dump file = ran (codes "dump" ∷ codes "d/a.out" ∷ []) (codes "d/a.out") file
 
+-- the verdict is a refusal with this line alone
+abbrev pub is_refusal : String → Verdict → Bool
+is_refusal line v = v.status == 1 && bytes_eq v.out [] && bytes_eq v.err (codes line)
+
+-- a dump of the file is refused with this line
+unfoldable pub refuses : String → List ℕ → Bool
+refuses line file = is_refusal line (verdict (codes "dump" ∷ codes "d/a.out" ∷ []) (λ asked. Some file))
+
 -- the MODULE and INFO lines of the small file
 abbrev pub front : List ℕ
 front = codes "MODULE Linux x86_64 030201000504070608090A0B0C0D0E0F0 a.out\nINFO CODE_ID 000102030405060708090A0B0C0D0E0F10111213\n"
@@ -70,5 +78,5 @@ abbrev pub refused : String → Told
 refused line = (1, "", line)
 
 unfoldable pub files : ⊤
-unfolding verdict_computes files_are_built text file_with worked small small_and ran dump
+unfolding verdict_computes files_are_built text file_with worked small small_and ran dump refuses
 files = tt

@@ -1,14 +1,8 @@
 -- Worked rows: the faults of the file header, of the section table, of the names of sections and of the program headers.
-use Rattle.std.proofs.Common.{◌≡◌, ℕ, List, [], ◌∷◌, length, take, codes, Some, true, refl}
+use Rattle.std.proofs.Common.{◌≡◌, ℕ, List, [], ◌∷◌, length, take, codes, true, refl}
 use Rattle.worked.proofs.Elf.{in_file, in_section, changed}
-use Rattle.worked.proofs.Small.{dump, small, gives, refused, files}
+use Rattle.worked.proofs.Small.{dump, refuses, small, gives, refused, files}
 use Rattle.std.specs.List.{list_all, range_with_len}
-use Rattle.std.specs.Str.{bytes_eq}
-use Rattle.dumpsyms_cmd.specs.Verdict.{verdict}
-
--- what is written on standard error
-unfoldable err_of : List ℕ → List ℕ
-err_of file = (verdict (codes "dump" ∷ codes "d/a.out" ∷ []) (λ name. Some file)).err
 
 -- the magic number
 magic_0 : dump (changed (in_file 0 "7e" ∷ []) small) ≡ refused "refused elf not-elf\n"
@@ -157,13 +151,13 @@ unfolding files
 section_size_65 = refl
 
 -- the small file cut at any length
-cut_in_the_header : list_all (λ n. bytes_eq (err_of (take n small)) (codes "refused elf not-elf\n")) (range_with_len 0 64) ≡ true
-unfolding files err_of
+cut_in_the_header : list_all (λ n. refuses "refused elf not-elf\n" (take n small)) (range_with_len 0 64) ≡ true
+unfolding files
 cut_in_the_header = refl
 
-cut_behind_the_header : list_all (λ n. bytes_eq (err_of (take n small)) (codes "refused elf section-table\n")) (range_with_len 64 598)
+cut_behind_the_header : list_all (λ n. refuses "refused elf section-table\n" (take n small)) (range_with_len 64 598)
     ≡ true
-unfolding files err_of
+unfolding files
 cut_behind_the_header = refl
 
 not_cut : length small ≡ 662
