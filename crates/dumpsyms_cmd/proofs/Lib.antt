@@ -5,3 +5,4 @@ pub mod JudgedLemmas
 pub mod WriteLemmas
 pub mod RunLemmas
 pub mod FrameLemmas
+pub mod Computing

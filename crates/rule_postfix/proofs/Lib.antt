@@ -14,3 +14,8 @@ pub mod NestingLemmas
 pub mod KeptLemmas
 pub mod TestLemmas
 pub mod OmittedLemmas
+pub mod ComputingBelow
+pub mod Computing
+pub mod WorkedSections
+mod WorkedEntries
+mod WorkedChoices

@@ -1,0 +1,114 @@
+//! Small ELF files, put together field by field: the file header, the program headers, the bytes of the sections, and last
+//! the section headers.
+
+use std::alloc::{AllocError, Global};
+
+/// A section: its name, sh_type, sh_flags, sh_addr and sh_link, and its bytes.
+pub type Section<'a> = (&'a str, [u64; 4], &'a [u8]);
+
+pub const NULL: Section<'static> = ("", [0; 4], b"");
+
+/// The build id 00 01 .. 13.
+pub const ID: Section<'static> = (
+    ".note.gnu.build-id",
+    [7, 0, 0, 0],
+    b"\x04\0\0\0\x14\0\0\0\x03\0\0\0GNU\0\0\x01\x02\x03\x04\x05\x06\x07\x08\x09\x0a\x0b\x0c\x0d\x0e\x0f\x10\x11\x12\x13",
+);
+
+/// Code from 1000 to 1010.
+pub const CODE: Section<'static> = (
+    ".text",
+    [1, 6, 0x1000, 0],
+    b"\xf3\x0f\x1e\xfa\x31\xc0\xc3\x90\xc3\x90\x90\x90\x90\x90\x90\x90",
+);
+
+/// The usual first entry of a symbol table, and the function of the name at 1 at 1000.
+pub const ENTRIES: [u8; 48] =
+    *b"\0\0\0\0\0\0\0\0\0\0\0\0\0\0\0\0\0\0\0\0\0\0\0\0\x01\0\0\0\x12\0\x02\0\0\x10\0\0\0\0\0\0\x04\0\0\0\0\0\0\0";
+
+/// A file with a build id, code, symbols whose names stand behind them, and one section more.
+pub fn file_with(
+    alloc: Global,
+    programs: &[(u64, u64)],
+    entries: &[u8],
+    names: &[u8],
+    more: Section<'_>,
+) -> Result<Vec<u8>, AllocError> {
+    let symbols = (".symtab", [2, 0, 0, 4], entries);
+    let names = (".strtab", [3, 0, 0, 0], names);
+    file_of(alloc, programs, &[NULL, ID, CODE, symbols, names, more])
+}
+
+/// The file of the function `main` at 1000, with one section more.
+pub fn small_and(alloc: Global, more: Section<'_>) -> Result<Vec<u8>, AllocError> {
+    file_with(alloc, &[(1, 0)], &ENTRIES, b"\0main\0", more)
+}
+
+/// Numbers of a width, the lowest byte first.
+fn put(bytes: &mut Vec<u8>, width: usize, numbers: &[u64]) -> Result<(), AllocError> {
+    for number in numbers {
+        for byte in number.to_le_bytes().iter().take(width) {
+            bytes.push(*byte)?;
+        }
+    }
+    Ok(())
+}
+
+/// A section header, by the places of the name and of the bytes.
+fn put_header(
+    headers: &mut Vec<u8>,
+    section: Section<'_>,
+    name: u64,
+    place: u64,
+) -> Result<(), AllocError> {
+    let (_, [kind, flags, address, link], bytes) = section;
+    put(headers, 4, &[name, kind])?;
+    put(headers, 8, &[flags, address, place, bytes.len() as u64])?;
+    put(headers, 4, &[link, 0])?;
+    put(headers, 8, &[1, 0])
+}
+
+/// A shared object of program headers (p_type and p_vaddr) and of sections, behind which that of the names stands.
+pub fn file_of(
+    alloc: Global,
+    programs: &[(u64, u64)],
+    sections: &[Section<'_>],
+) -> Result<Vec<u8>, AllocError> {
+    let start = programs.len().saturating_mul(56).saturating_add(64);
+    let mut names = Vec::new(alloc);
+    let mut bytes = Vec::new(alloc);
+    let mut headers = Vec::new(alloc);
+    for section in sections {
+        let place = start.saturating_add(bytes.len()) as u64;
+        put_header(&mut headers, *section, names.len() as u64, place)?;
+        names.extend_from_slice(section.0.as_bytes())?;
+        names.push(0)?;
+        bytes.extend_from_slice(section.2)?;
+    }
+    let name = names.len() as u64;
+    names.extend_from_slice(b".shstrtab\0")?;
+    let place = start.saturating_add(bytes.len()) as u64;
+    put_header(
+        &mut headers,
+        (".shstrtab", [3, 0, 0, 0], &names),
+        name,
+        place,
+    )?;
+    bytes.extend_from_slice(&names)?;
+    let table = start.saturating_add(bytes.len()) as u64;
+    let last = sections.len() as u64;
+    let mut file = Vec::from_slice(alloc, b"\x7fELF\x02\x01\x01\0\0\0\0\0\0\0\0\0")?;
+    put(&mut file, 2, &[3, 62])?;
+    put(&mut file, 4, &[1])?;
+    put(&mut file, 8, &[0, 64, table])?;
+    put(&mut file, 4, &[0])?;
+    put(&mut file, 2, &[64, 56, programs.len() as u64, 64])?;
+    put(&mut file, 2, &[last.saturating_add(1), last])?;
+    for (kind, address) in programs {
+        put(&mut file, 4, &[*kind, 5])?;
+        put(&mut file, 8, &[0, *address, *address, 0, 0, 4096])?;
+    }
+    file.extend_from_slice(&bytes)?;
+    file.extend_from_slice(&headers)?;
+    Ok(file)
+}

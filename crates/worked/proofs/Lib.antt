@@ -1,0 +1,11 @@
+mod ComputingElfSections
+mod Computing
+mod Elf
+mod Small
+mod WorkedWords
+mod WorkedRanges
+mod WorkedSymbols
+mod WorkedFrames
+mod WorkedHeaders
+mod WorkedFaults
+mod WorkedIds

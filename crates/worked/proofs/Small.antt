@@ -1,0 +1,82 @@
+-- The small file of the rows and its relatives, and what is answered on a file.
+use Rattle.std.proofs.Common.{ℕ, ◌==◌, ◌&&◌, Bool, List, [], ◌∷◌, ◌++◌, codes, Option, None, Some, if◌then◌else◌}
+use Prim.Native.String.{String}
+use Rattle.std.specs.Prelude.{⊤}
+use Rattle.std.specs.Str.{bytes_eq}
+use Rattle.sym_edges.proofs.Shown.{shown}
+use Rattle.dumpsyms_cmd.specs.Verdict.{Verdict, verdict}
+use Rattle.worked.proofs.Computing.{verdict_computes}
+use Rattle.worked.proofs.Elf.{Section, Symbol, Program, null, plain, linked, code, function, loaded, file_of, entries, strings, id_note, hex, files_are_built}
+
+-- the note of the build id 00 01 .. 13
+abbrev pub id : Section
+id = plain ".note.gnu.build-id" 7 (id_note (hex "000102030405060708090a0b0c0d0e0f10111213"))
+
+-- sixteen bytes of code
+unfoldable pub text : List ℕ
+text = hex "f30f1efa 31c0c390 c3909090 90909090"
+
+-- section 0, sections, a symbol table and its names, and sections behind
+unfoldable pub file_with : List Program → List Section → ℕ → List Symbol → List Section → List ℕ
+file_with ps front link ss back = file_of ps (null ∷ front ++ linked ".symtab" 2 link (entries ss) ∷ plain ".strtab" 3 (strings ss) ∷ back)
+
+-- a file with a build id (section 1), code from 1000 to 1010 (2), symbols (3) and their names (4), and sections behind
+unfoldable pub worked : List Symbol → List Section → List ℕ
+worked ss back = file_with (loaded 0 ∷ []) (id ∷ code 0x1000 text ∷ []) 4 ss back
+
+abbrev pub main : Symbol
+main = function "main" 0x1000
+
+-- the small file: a build id and the function `main` at 1000
+unfoldable pub small : List ℕ
+small = worked (main ∷ []) []
+
+-- the small file with sections behind
+unfoldable pub small_and : List Section → List ℕ
+small_and back = worked (main ∷ []) back
+
+-- a status, and the texts on standard output and standard error
+abbrev pub Told : Type 0
+Told = ℕ × String × String
+
+abbrev pub told : Verdict → Told
+told v = (v.status, shown v.out, shown v.err)
+
+-- words over one file
+unfoldable pub ran : List (List ℕ) → List ℕ → List ℕ → Told
+ran words name file = told (verdict words (λ asked. if bytes_eq asked name then Some file else None))
+
+-- what `dump d/a.out` says of a file
+unfoldable pub dump : List ℕ → Told
+dump file = ran (codes "dump" ∷ codes "d/a.out" ∷ []) (codes "d/a.out") file
+
+-- the verdict is a refusal with this line alone
+abbrev pub is_refusal : String → Verdict → Bool
+is_refusal line v = v.status == 1 && bytes_eq v.out [] && bytes_eq v.err (codes line)
+
+-- a dump of the file is refused with this line
+unfoldable pub refuses : String → List ℕ → Bool
+refuses line file = is_refusal line (verdict (codes "dump" ∷ codes "d/a.out" ∷ []) (λ asked. Some file))
+
+-- the MODULE and INFO lines of the small file
+abbrev pub front : List ℕ
+front = codes "MODULE Linux x86_64 030201000504070608090A0B0C0D0E0F0 a.out\nINFO CODE_ID 000102030405060708090A0B0C0D0E0F10111213\n"
+
+-- status 0, a text and nothing on standard error
+abbrev pub texts : String → Told
+texts out = (0, out, "")
+
+-- status 0, the small file's front and these records, and these lines on standard error
+abbrev pub gives_and_omits : String → String → Told
+gives_and_omits out err = (0, shown (front ++ codes out), err)
+
+abbrev pub gives : String → Told
+gives out = gives_and_omits out ""
+
+-- status 1 and this line on standard error
+abbrev pub refused : String → Told
+refused line = (1, "", line)
+
+unfoldable pub files : ⊤
+unfolding verdict_computes files_are_built text file_with worked small small_and ran dump refuses
+files = tt

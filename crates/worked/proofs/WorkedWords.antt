@@ -1,0 +1,171 @@
+-- Worked rows: the words of the program, and the name of the module.
+use Rattle.std.proofs.Common.{◌≡◌, ℕ, List, [], ◌∷◌, codes, None, refl}
+use Prim.Native.String.{String}
+use Rattle.dumpsyms_cmd.specs.Verdict.{verdict}
+use Rattle.worked.proofs.Elf.{progbits}
+use Rattle.worked.proofs.Small.{Told, told, ran, small, worked, texts, files}
+
+-- words over no file and over the file `a`
+unfoldable both : List (List ℕ) → List Told
+both words = told (verdict words (λ asked. None)) ∷ ran words (codes "a") small ∷ []
+
+abbrev usage : List Told
+usage =
+    let line : Told = (2, "", "usage: dumpsyms dump ELF, check SYM, lookup SYM ADDR, frame SYM ADDR STATE, sample N\n") in line ∷ line ∷ []
+
+-- a dump of a file at a path
+unfoldable named : String → Told
+named path = ran (codes "dump" ∷ codes path ∷ []) (codes path) (worked [] (progbits "x" [] ∷ []))
+
+-- words that are no row give the usage line, with no file and with one
+no_words : both [] ≡ usage
+unfolding files both named
+no_words = refl
+
+an_empty_word : both (codes "" ∷ []) ≡ usage
+unfolding files both named
+an_empty_word = refl
+
+dump_alone : both (codes "dump" ∷ []) ≡ usage
+unfolding files both named
+dump_alone = refl
+
+a_name_alone : both (codes "a" ∷ []) ≡ usage
+unfolding files both named
+a_name_alone = refl
+
+a_capital_letter : both (codes "Dump" ∷ codes "a" ∷ []) ≡ usage
+unfolding files both named
+a_capital_letter = refl
+
+a_longer_word : both (codes "dumps" ∷ codes "a" ∷ []) ≡ usage
+unfolding files both named
+a_longer_word = refl
+
+a_shorter_word : both (codes "dum" ∷ codes "a" ∷ []) ≡ usage
+unfolding files both named
+a_shorter_word = refl
+
+an_empty_word_and_a_name : both (codes "" ∷ codes "a" ∷ []) ≡ usage
+unfolding files both named
+an_empty_word_and_a_name = refl
+
+the_name_first : both (codes "a" ∷ codes "dump" ∷ []) ≡ usage
+unfolding files both named
+the_name_first = refl
+
+three_words : both (codes "dump" ∷ codes "a" ∷ codes "b" ∷ []) ≡ usage
+unfolding files both named
+three_words = refl
+
+an_empty_third_word : both (codes "dump" ∷ codes "a" ∷ codes "" ∷ []) ≡ usage
+unfolding files both named
+an_empty_third_word = refl
+
+no_workers : both (codes "dump" ∷ codes "a" ∷ codes "--workers" ∷ codes "0" ∷ []) ≡ usage
+unfolding files both named
+no_workers = refl
+
+workers_with_a_zero_in_front : both (codes "dump" ∷ codes "a" ∷ codes "--workers" ∷ codes "08" ∷ []) ≡ usage
+unfolding files both named
+workers_with_a_zero_in_front = refl
+
+hexadecimal_with_its_mark : both (codes "lookup" ∷ codes "s" ∷ codes "0x10" ∷ []) ≡ usage
+unfolding files both named
+hexadecimal_with_its_mark = refl
+
+-- commands that are not built yet are no row
+check : both (codes "check" ∷ codes "a" ∷ []) ≡ usage
+unfolding files both named
+check = refl
+
+lookup : both (codes "lookup" ∷ codes "a" ∷ codes "10" ∷ []) ≡ usage
+unfolding files both named
+lookup = refl
+
+frame : both (codes "frame" ∷ codes "a" ∷ codes "10" ∷ codes "a" ∷ []) ≡ usage
+unfolding files both named
+frame = refl
+
+sample : both (codes "sample" ∷ codes "3" ∷ []) ≡ usage
+unfolding files both named
+sample = refl
+
+workers : both (codes "dump" ∷ codes "a" ∷ codes "--workers" ∷ codes "4" ∷ []) ≡ usage
+unfolding files both named
+workers = refl
+
+-- a file that is not there is no input
+no_files : told (verdict (codes "dump" ∷ codes "nofile" ∷ []) (λ asked. None)) ≡ (3, "", "cannot read input\n")
+unfolding files both named
+no_files = refl
+
+another_file : ran (codes "dump" ∷ codes "nofile" ∷ []) (codes "nofil") small ≡ (3, "", "cannot read input\n")
+unfolding files both named
+another_file = refl
+
+-- the module is named by what follows the last slash
+no_slash : named "a.out"
+    ≡ texts "MODULE Linux x86_64 030201000504070608090A0B0C0D0E0F0 a.out\nINFO CODE_ID 000102030405060708090A0B0C0D0E0F10111213\n"
+unfolding files both named
+no_slash = refl
+
+one_slash : named "d/a.out"
+    ≡ texts "MODULE Linux x86_64 030201000504070608090A0B0C0D0E0F0 a.out\nINFO CODE_ID 000102030405060708090A0B0C0D0E0F10111213\n"
+unfolding files both named
+one_slash = refl
+
+slashes : named "/usr/lib/a.out"
+    ≡ texts "MODULE Linux x86_64 030201000504070608090A0B0C0D0E0F0 a.out\nINFO CODE_ID 000102030405060708090A0B0C0D0E0F10111213\n"
+unfolding files both named
+slashes = refl
+
+two_slashes : named "d//x"
+    ≡ texts "MODULE Linux x86_64 030201000504070608090A0B0C0D0E0F0 x\nINFO CODE_ID 000102030405060708090A0B0C0D0E0F10111213\n"
+unfolding files both named
+two_slashes = refl
+
+spaces : named "d/ x y "
+    ≡ texts "MODULE Linux x86_64 030201000504070608090A0B0C0D0E0F0 x y \nINFO CODE_ID 000102030405060708090A0B0C0D0E0F10111213\n"
+unfolding files both named
+spaces = refl
+
+a_tab : named "d/a\tb"
+    ≡ texts "MODULE Linux x86_64 030201000504070608090A0B0C0D0E0F0 a?b\nINFO CODE_ID 000102030405060708090A0B0C0D0E0F10111213\n"
+unfolding files both named
+a_tab = refl
+
+a_delete : named "d/\u{7f}"
+    ≡ texts "MODULE Linux x86_64 030201000504070608090A0B0C0D0E0F0 ?\nINFO CODE_ID 000102030405060708090A0B0C0D0E0F10111213\n"
+unfolding files both named
+a_delete = refl
+
+high_bytes : named "d/Ã©"
+    ≡ texts "MODULE Linux x86_64 030201000504070608090A0B0C0D0E0F0 Ã©\nINFO CODE_ID 000102030405060708090A0B0C0D0E0F10111213\n"
+unfolding files both named
+high_bytes = refl
+
+a_line_end : named "d/\n x"
+    ≡ texts "MODULE Linux x86_64 030201000504070608090A0B0C0D0E0F0 ? x\nINFO CODE_ID 000102030405060708090A0B0C0D0E0F10111213\n"
+unfolding files both named
+a_line_end = refl
+
+nothing_behind_a_slash : named "d/"
+    ≡ texts "MODULE Linux x86_64 030201000504070608090A0B0C0D0E0F0 <name omitted>\nINFO CODE_ID 000102030405060708090A0B0C0D0E0F10111213\n"
+unfolding files both named
+nothing_behind_a_slash = refl
+
+a_slash_alone : named "/"
+    ≡ texts "MODULE Linux x86_64 030201000504070608090A0B0C0D0E0F0 <name omitted>\nINFO CODE_ID 000102030405060708090A0B0C0D0E0F10111213\n"
+unfolding files both named
+a_slash_alone = refl
+
+no_name : named ""
+    ≡ texts "MODULE Linux x86_64 030201000504070608090A0B0C0D0E0F0 <name omitted>\nINFO CODE_ID 000102030405060708090A0B0C0D0E0F10111213\n"
+unfolding files both named
+no_name = refl
+
+spaces_alone : named "d/  "
+    ≡ texts "MODULE Linux x86_64 030201000504070608090A0B0C0D0E0F0 <name omitted>\nINFO CODE_ID 000102030405060708090A0B0C0D0E0F10111213\n"
+unfolding files both named
+spaces_alone = refl
