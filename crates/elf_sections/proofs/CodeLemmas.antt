@@ -1,16 +1,17 @@
-use Rattle.std.proofs.Common.{◌≡◌, ℕ, ◌+◌, ◌^◌, ◌<◌, ◌≤◌, ◌&&◌, ◌||◌, cond, Bool, true, false, nat_le, nat_lt, List, [], ◌∷◌, Option, Some, None, refl, sym, ◌∙◌, ap, arith, subst}
+use Rattle.std.proofs.Common.{◌≡◌, ℕ, ◌+◌, ◌≤◌, ◌&&◌, ◌||◌, cond, Bool, true, false, nat_le, nat_lt, List, [], ◌∷◌, Option, Some, None, refl, sym, ◌∙◌, ap, subst}
 use Rattle.std.specs.List.{list_any, filter_map, cons_option}
-use Rattle.std.proofs.lemmas.Bool.Decides.{nat_tests}
+use Rattle.std.proofs.lemmas.Bool.{and_parts, leb-true}
 use Rattle.sym_edges.specs.Addresses.{Range}
-use Rattle.range_set.specs.Building.{AllFrom}
+use Rattle.range_set.specs.Starts.{AllFrom}
 use Rattle.range_set.specs.Members.{holds, holds_any}
 use Rattle.elf_sections.specs.declared.symbols.SymbolEntry.{SymbolEntry}
 use Rattle.elf_sections.specs.declared.symbols.Symbol.{Symbol}
 use Rattle.elf_sections.specs.declared.section.SectionHeader.{SectionHeader}
 use Rattle.elf_sections.specs.Sections.{has_flag}
-use Rattle.elf_sections.specs.declared.constants.TheConstants.{SHF_ALLOC, SHF_EXECINSTR}
+use Rattle.elf_sections.specs.ElfNumbers.{shf_alloc, shf_execinstr}
 use Rattle.elf_sections.specs.Programs.{is_code, code_range, is_in_code}
-use Rattle.elf_sections.specs.Symbols.{SymbolParts, is_function, is_nameless, function_of, has_nameless, functions, ReadsSymbols}
+use Rattle.elf_sections.specs.Symbols.{SymbolParts, is_function, is_nameless, function_of, has_nameless, functions}
+use Rattle.elf_sections.specs.Steps.{ReadsSymbols}
 
 -- a list of ranges holds what is in code by it
 pub in_code : (ranges : List Range) (a : ℕ) → is_in_code ranges a ≡ holds_any ranges a
@@ -62,17 +63,13 @@ alike_reading (Some list) set ranges strings found alike reads =
 pub same_reading : (read : Option (List Symbol)) (set ranges : List Range) (strings : List ℕ) (found : List SymbolEntry) → ((a : ℕ) → holds_any set a ≡ holds_any ranges a) → ReadsSymbols read set strings found → ReadsSymbols read ranges strings found
 same_reading read set ranges strings found same reads = alike_reading read set ranges strings found (record { same = same }) reads
 
-and_true : {a b : Bool} → (a && b) ≡ true → (a ≡ true) × (b ≡ true)
-and_true {a = true} is = (refl, is)
-and_true {a = false} is = cc
-
-true_le : (a b : ℕ) → nat_le a b ≡ true → a ≤ b
-true_le a b is = grind (arith, nat_tests)
-
 -- code starts at or above the base
 starts_above : (base : ℕ) (s : SectionHeader) → is_code base s ≡ true → base ≤ s.address
 unfolding is_code
-starts_above base s is = true_le base s.address (and_true (and_true {a = nat_lt 0 s.size} (and_true {a = has_flag SHF_ALLOC s && has_flag SHF_EXECINSTR s} is).1).1).0
+starts_above base s is =
+    let placed = and_parts (has_flag shf_alloc s && has_flag shf_execinstr s) _ is in
+    let above = and_parts (nat_lt 0 s.size) _ placed.1 in
+    leb-true base s.address (and_parts (nat_le base s.address) _ above.1).0
 
 onto_above : (base : ℕ) (b : Bool) (range : Range) (ranges : List Range) → (b ≡ true → base ≤ range.start) → AllFrom base ranges → AllFrom base (cons_option (cond b (Some range) None) ranges)
 onto_above base true range ranges here all = (here refl, all)

@@ -1,7 +1,13 @@
 pub mod TableLemmas
 pub mod ProgramLemmas
 pub mod NoteLemmas
+pub mod WalkedLemmas
 pub mod IdentityLemmas
-pub mod TextLemmas
+pub mod StringLemmas
 pub mod SymbolLemmas
 pub mod CodeLemmas
+pub mod Computing
+pub mod Elf
+mod WorkedImage
+mod WorkedFaults
+mod WorkedNotes

@@ -1,6 +1,7 @@
 use Rattle.std.proofs.Common.{◌≡◌, ℕ, zero, suc, ◌+◌, ◌<◌, ◌≤◌, true, false, List, [], ◌∷◌, ◌++◌, Option, Some, None, length, drop, get_or, find, if◌then◌else◌, refl, sym, ◌∙◌, ap, arith, add-one, length-drop}
 use Rattle.std.specs.Option.{option_map, option_or}
 use Rattle.std.specs.List.{flat_map}
+use Rattle.std.proofs.lemmas.List.{drop_all}
 use Rattle.std.proofs.lemmas.List.Folds.{find-append}
 use Rattle.std.proofs.Math.Seq.{drop-cons}
 use Rattle.elf_sections.specs.declared.section.SectionHeader.{SectionHeader}
@@ -35,12 +36,6 @@ map_or_none : (a b : Option NoteParts) → option_map (λ note. note.descriptor)
 map_or_none None b is = refl
 map_or_none (Some note) b is = cc
 
-drop_all : (all : List SectionHeader) (i : ℕ) → length all ≤ i → drop i all ≡ []
-drop_all [] zero past = refl
-drop_all [] (suc i) past = refl
-drop_all (s ∷ all) zero past = absurd (omega arith)
-drop_all (s ∷ all) (suc i) past = drop_all all i (omega arith)
-
 pub notes_begin : (bytes : List ℕ) (n : ℕ) → n ≡ length bytes → first_id (notes_in n bytes) ≡ first_id (notes bytes)
 unfolding notes
 notes_begin bytes n is = ap (λ k. first_id (notes_in k bytes)) is
@@ -70,7 +65,7 @@ id_later file all i d inside none =
 -- behind the last section there is none
 pub id_end : (file : List ℕ) (all : List SectionHeader) (i : ℕ) → length all ≤ i → None ≡ first_id (flat_map (notes_of file) (drop i all))
 unfolding first_id
-id_end file all i past = sym (ap (λ l. option_map (λ (note : NoteParts). note.descriptor) (find is_build_id (flat_map (notes_of file) l))) (drop_all all i past))
+id_end file all i past = sym (ap (λ l. option_map (λ (note : NoteParts). note.descriptor) (find is_build_id (flat_map (notes_of file) l))) (drop_all i all past))
 
 no_bytes : (bytes : List ℕ) → length bytes ≤ 0 → has_note bytes ≡ false
 unfolding has_note

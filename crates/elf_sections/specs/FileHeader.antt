@@ -1,4 +1,5 @@
-use Rattle.std.specs.Prelude.{ℕ, ◌+◌, ◌*◌, ◌==◌, ◌||◌, ◌&&◌, Bool, not, List, [], ◌∷◌, Option, Some, None, length, take, slice_index, nat_lt, nat_le, if◌then◌else◌}
+-- The file header (System V gABI, "ELF Header"), and the faults in it.
+use Rattle.std.specs.Prelude.{ℕ, ◌+◌, ◌*◌, ◌==◌, ◌||◌, ◌&&◌, Bool, not, List, [], ◌∷◌, Option, None, length, take, slice_index, nat_lt, nat_le}
 use Rattle.std.specs.Str.{bytes_eq}
 use Rattle.std.specs.Option.{option_or}
 use Rattle.sym_edges.specs.Results.{fault_if}
@@ -6,44 +7,58 @@ use Rattle.elf_sections.specs.Numbers.{u16_at, u64_at}
 use Rattle.elf_sections.specs.declared.header.FileHeader.{FileHeader}
 use Rattle.elf_sections.specs.declared.fault.ElfFault.{ElfFault}
 use Rattle.elf_sections.specs.declared.fault.ElfFault.TheVariants.{NotElf, Class, Order, Machine, Kind, SectionTable}
-use Rattle.elf_sections.specs.declared.constants.TheConstants.{EM_X86_64, ET_EXEC, ET_DYN, FILE_HEADER, SECTION_HEADER, SHN_LORESERVE}
+use Rattle.elf_sections.specs.ElfNumbers.{ei_class, elfclass64, ei_data, elfdata2lsb, em_x86_64, et_exec, et_dyn, file_header_size, section_header_size, shn_loreserve}
 
--- the fields of the file header (ELF64, Elf64_Ehdr)
+-- the fields of the file header (Elf64_Ehdr)
 unfoldable pub header_of : List ℕ → FileHeader
 header_of file = record {
+  -- e_phoff
   program_table = u64_at file 32;
+  -- e_shoff
   section_table = u64_at file 40;
+  -- e_phentsize
   program_size = u16_at file 54;
+  -- e_phnum
   program_count = u16_at file 56;
+  -- e_shentsize
   section_size = u16_at file 58;
+  -- e_shnum
   section_count = u16_at file 60;
+  -- e_shstrndx
   names_index = u16_at file 62;
 }
 
--- the four bytes that begin each ELF file
+-- e_type and e_machine
+unfoldable pub type_of : List ℕ → ℕ
+type_of file = u16_at file 16
+
+unfoldable pub machine_of : List ℕ → ℕ
+machine_of file = u16_at file 18
+
+-- the four bytes that begin each ELF file (EI_MAG0 to EI_MAG3)
 abbrev pub magic : List ℕ
 magic = 0x7f ∷ 0x45 ∷ 0x4c ∷ 0x46 ∷ []
 
 -- it has no file header
 unfoldable pub is_not_elf : List ℕ → Bool
-is_not_elf file = nat_lt (length file) FILE_HEADER || not (bytes_eq (take 4 file) magic)
+is_not_elf file = nat_lt (length file) file_header_size || not (bytes_eq (take 4 file) magic)
 
 -- it is neither an executable nor a shared object
 unfoldable pub is_other_kind : List ℕ → Bool
-is_other_kind file = not (u16_at file 16 == ET_EXEC || u16_at file 16 == ET_DYN)
+is_other_kind file = not (type_of file == et_exec || type_of file == et_dyn)
 
 -- a section header table of whole headers, not empty and not too long, lies in a file of that length
 unfoldable pub has_sections : FileHeader → ℕ → Bool
 has_sections header len =
-    (nat_lt 0 header.section_table && (nat_lt 0 header.section_count && nat_lt header.section_count SHN_LORESERVE))
-    && ((header.section_size == SECTION_HEADER) && nat_le (header.section_table + SECTION_HEADER * header.section_count) len)
+    (nat_lt 0 header.section_table && (nat_lt 0 header.section_count && nat_lt header.section_count shn_loreserve))
+    && ((header.section_size == section_header_size) && nat_le (header.section_table + section_header_size * header.section_count) len)
 
 -- the first fault of the header before its tables
 unfoldable pub ident_fault : List ℕ → Option ElfFault
 ident_fault file = fault_if (is_not_elf file) NotElf
-    (fault_if (not (slice_index file 4 == 2)) Class
-    (fault_if (not (slice_index file 5 == 1)) Order
-    (fault_if (not (u16_at file 18 == EM_X86_64)) Machine
+    (fault_if (not (slice_index file ei_class == elfclass64)) Class
+    (fault_if (not (slice_index file ei_data == elfdata2lsb)) Order
+    (fault_if (not (machine_of file == em_x86_64)) Machine
     (fault_if (is_other_kind file) Kind None))))
 
 -- the first fault of the file header

@@ -1,3 +1,4 @@
+-- The 16 bytes that name a build.
 use Rattle.std.specs.Prelude.{ℕ, ◌-◌, ◌%◌, ◌==◌, List, ◌++◌, length, take, map, fold, min, slice_index, replicate, bit_xor, if◌then◌else◌}
 use Rattle.std.specs.List.{range_with_len}
 

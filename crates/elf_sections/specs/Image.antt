@@ -1,4 +1,5 @@
-use Rattle.std.specs.Prelude.{◌≡◌, ℕ, ◌==◌, ◌&&◌, true, false, List, [], Option, Some, None, Result, Ok, Err, length, find, is_none, codes}
+-- The image of a file, and the first of its twelve faults.
+use Rattle.std.specs.Prelude.{ℕ, ◌==◌, ◌&&◌, List, [], Option, Some, None, Result, Ok, Err, length, find, is_none, codes}
 use Rattle.sym_edges.specs.Addresses.{Range}
 use Rattle.sym_edges.specs.declared.part.Part.{Part}
 use Rattle.sym_edges.specs.declared.part.Sect.{Sect}
@@ -49,12 +50,12 @@ name_of EhFrame = codes ".eh_frame"
 name_of Text = codes ".text"
 
 -- the bytes of `.text` from which a file without a build id takes its identity
-abbrev pub IDENTITY_BYTES : ℕ
-IDENTITY_BYTES = 4096
+abbrev pub identity_bytes : ℕ
+identity_bytes = 4096
 
 -- the identity: the front of the build id, or else of the code
 abbrev pub identity_of : List ℕ → Option (List ℕ) → List ℕ
-identity_of text None = folded IDENTITY_BYTES text
+identity_of text None = folded identity_bytes text
 identity_of text (Some id) = front16 id
 
 -- there is neither a build id nor code to take an identity from
@@ -130,8 +131,3 @@ section_of i Rnglists = i.rnglists
 section_of i DebugFrame = i.debug_frame
 section_of i EhFrame = i.eh_frame
 section_of i Text = i.text
-
--- what a reading of the identity answers: none exactly where there is none
-abbrev pub ReadsIdentity : Option (List ℕ) → List ℕ → Option (List ℕ) → Type 0
-ReadsIdentity None text id = (is_none id && (length text == 0)) ≡ true
-ReadsIdentity (Some identity) text id = ((is_none id && (length text == 0)) ≡ false) × (identity ≡ identity_of text id)

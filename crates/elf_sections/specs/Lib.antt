@@ -1,9 +1,12 @@
+pub mod ElfNumbers
 pub mod Numbers
+pub mod Strings
 pub mod FileHeader
 pub mod Sections
 pub mod Programs
 pub mod Notes
 pub mod Identity
-pub mod Texts
 pub mod Symbols
 pub mod Image
+pub mod Kept
+pub mod Steps

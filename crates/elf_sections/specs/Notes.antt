@@ -1,22 +1,18 @@
+-- Notes, and the build id among them (System V gABI, "Note Section"; LSB core, GNU notes).
 use Rattle.std.specs.Prelude.{ℕ, zero, suc, ◌+◌, ◌*◌, ◌/◌, ◌==◌, ◌&&◌, Bool, List, [], ◌∷◌, Option, length, take, drop, find, nat_lt, nat_le, codes, if◌then◌else◌}
 use Rattle.std.specs.List.{flat_map}
 use Rattle.std.specs.Option.{option_map}
 use Rattle.std.specs.Str.{bytes_eq}
 use Rattle.elf_sections.specs.Numbers.{u32_at}
 use Rattle.elf_sections.specs.Sections.{sections, bytes_of}
-use Rattle.elf_sections.specs.declared.constants.TheConstants.{SHT_NOTE, NT_GNU_BUILD_ID}
+use Rattle.elf_sections.specs.ElfNumbers.{sht_note, nt_gnu_build_id}
 use Rattle.elf_sections.specs.declared.section.SectionHeader.{SectionHeader}
-use Rattle.elf_sections.specs.declared.notes.Note.{Note}
 
--- a note (System V ABI, note section)
+-- a note (System V gABI, "Note Section"): its name, type and descriptor
 pub record NoteParts : Type 0 where
   pub name : List ℕ
   pub kind : ℕ
   pub descriptor : List ℕ
-
--- a note as it is read
-abbrev pub note_view : Note → NoteParts
-note_view n = record { name = n.name.now; kind = n.kind; descriptor = n.descriptor.now }
 
 -- a length, padded to a multiple of 4
 unfoldable pub padded : ℕ → ℕ
@@ -55,7 +51,7 @@ notes bytes = notes_in (length bytes) bytes
 -- a GNU build id of 1 to 64 bytes
 unfoldable pub is_build_id : NoteParts → Bool
 is_build_id note = bytes_eq note.name (codes "GNU\0")
-    && ((note.kind == NT_GNU_BUILD_ID) && (nat_lt 0 (length note.descriptor) && nat_le (length note.descriptor) 64))
+    && ((note.kind == nt_gnu_build_id) && (nat_lt 0 (length note.descriptor) && nat_le (length note.descriptor) 64))
 
 -- the first build id among notes
 unfoldable pub first_id : List NoteParts → Option (List ℕ)
@@ -63,7 +59,7 @@ first_id found = option_map (λ note. note.descriptor) (find is_build_id found)
 
 -- the notes of a section, where it is a section of notes
 unfoldable pub notes_of : List ℕ → SectionHeader → List NoteParts
-notes_of file s = if s.kind == SHT_NOTE then notes (bytes_of file s) else []
+notes_of file s = if s.kind == sht_note then notes (bytes_of file s) else []
 
 -- the first build id over the sections of notes, in their order
 unfoldable pub build_id : List ℕ → Option (List ℕ)

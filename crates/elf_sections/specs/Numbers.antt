@@ -1,12 +1,15 @@
-use Rattle.std.specs.Prelude.{ℕ, List, take, drop}
-use Rattle.std.specs.Int.{w16, w32, w64, from_le_bytes}
+-- Numbers at a place of a file, the lowest byte first (System V gABI, ELFDATA2LSB).
+use Rattle.std.specs.Prelude.{ℕ, List, drop}
+use Rattle.leb_cursor.specs.Readings.{fixed_sum}
 
--- little-endian numbers at a place (ELF64, data encoding ELFDATA2LSB)
+-- an Elf64_Half
 unfoldable pub u16_at : List ℕ → ℕ → ℕ
-u16_at bytes at = from_le_bytes w16 (take 2 (drop at bytes))
+u16_at bytes at = fixed_sum 2 (drop at bytes)
 
+-- an Elf64_Word
 unfoldable pub u32_at : List ℕ → ℕ → ℕ
-u32_at bytes at = from_le_bytes w32 (take 4 (drop at bytes))
+u32_at bytes at = fixed_sum 4 (drop at bytes)
 
+-- an Elf64_Addr, an Elf64_Off or an Elf64_Xword
 unfoldable pub u64_at : List ℕ → ℕ → ℕ
-u64_at bytes at = from_le_bytes w64 (take 8 (drop at bytes))
+u64_at bytes at = fixed_sum 8 (drop at bytes)

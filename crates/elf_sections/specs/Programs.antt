@@ -1,3 +1,4 @@
+-- Program headers, the base, and the addresses of code (System V gABI, "Program Header").
 use Rattle.std.specs.Prelude.{ℕ, ◌+◌, ◌*◌, ◌^◌, ◌==◌, ◌||◌, ◌&&◌, Bool, not, List, Option, Some, None, length, map, find, nat_lt, nat_le, if◌then◌else◌}
 use Rattle.std.specs.List.{list_any, range_with_len, filter_map}
 use Rattle.std.specs.Option.{option_map_or}
@@ -11,23 +12,29 @@ use Rattle.elf_sections.specs.declared.section.SectionHeader.{SectionHeader}
 use Rattle.elf_sections.specs.declared.program.ProgramHeader.{ProgramHeader}
 use Rattle.elf_sections.specs.declared.fault.ElfFault.{ElfFault}
 use Rattle.elf_sections.specs.declared.fault.ElfFault.TheVariants.{ProgramTable}
-use Rattle.elf_sections.specs.declared.constants.TheConstants.{PROGRAM_HEADER, PT_LOAD, SHF_ALLOC, SHF_EXECINSTR}
+use Rattle.elf_sections.specs.ElfNumbers.{program_header_size, pt_load, shf_alloc, shf_execinstr}
 
--- a program header at a place (ELF64, Elf64_Phdr)
+-- a program header at a place (Elf64_Phdr)
 unfoldable pub program_at : List ℕ → ℕ → ProgramHeader
-program_at file at = record { kind = u32_at file at; address = u64_at file (at + 16) }
+program_at file at = record {
+  -- p_type
+  kind = u32_at file at;
+  -- p_vaddr
+  address = u64_at file (at + 16);
+}
 
 -- a program header table of whole headers, which may be empty, lies in a file of that length
 unfoldable pub has_programs : FileHeader → ℕ → Bool
 has_programs header len = (header.program_count == 0)
-    || ((header.program_size == PROGRAM_HEADER) && nat_le (header.program_table + PROGRAM_HEADER * header.program_count) len)
+    || ((header.program_size == program_header_size) && nat_le (header.program_table + program_header_size * header.program_count) len)
 
+-- the program header table leaves the file, or its headers have another size
 unfoldable pub program_fault : List ℕ → Option ElfFault
 program_fault file = fault_if (not (has_programs (header_of file) (length file))) ProgramTable None
 
 -- `count` program headers of a table, from number `first` on
 unfoldable pub programs_from : List ℕ → ℕ → ℕ → ℕ → List ProgramHeader
-programs_from file table first count = map (λ k. program_at file (table + PROGRAM_HEADER * k)) (range_with_len first count)
+programs_from file table first count = map (λ k. program_at file (table + program_header_size * k)) (range_with_len first count)
 
 -- the list of all program headers
 unfoldable pub programs : List ℕ → List ProgramHeader
@@ -35,14 +42,15 @@ programs file = programs_from file (header_of file).program_table 0 (header_of f
 
 -- the address of the first loaded segment, or 0
 unfoldable pub loaded_address : List ProgramHeader → ℕ
-loaded_address all = option_map_or (λ p. p.address) (find (λ p. p.kind == PT_LOAD) all) 0
+loaded_address all = option_map_or (λ p. p.address) (find (λ p. p.kind == pt_load) all) 0
 
+-- the base of the file
 unfoldable pub base : List ℕ → ℕ
 base file = loaded_address (programs file)
 
 -- the section is loaded code, not empty, at or above the base, and its end is an address
 unfoldable pub is_code : ℕ → SectionHeader → Bool
-is_code low s = (has_flag SHF_ALLOC s && has_flag SHF_EXECINSTR s)
+is_code low s = (has_flag shf_alloc s && has_flag shf_execinstr s)
     && (nat_lt 0 s.size && (nat_le low s.address && nat_lt (s.address + s.size) (2 ^ 64)))
 
 -- the addresses of a section of code

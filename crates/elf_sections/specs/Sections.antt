@@ -1,30 +1,38 @@
-use Rattle.std.specs.Prelude.{◌≡◌, ℕ, ◌+◌, ◌*◌, ◌^◌, ◌<◌, ◌==◌, ◌||◌, ◌&&◌, Bool, not, List, [], ◌∷◌, ◌++◌, Option, Some, None, length, take, drop, map, position, nat_le, nat_eq, unwrap_or, is_none, slice_get, bit_and, codes, option_and_then, if◌then◌else◌}
+-- Section headers, their names and their bytes (System V gABI, "Sections"), and the faults in them.
+use Rattle.std.specs.Prelude.{ℕ, ◌+◌, ◌*◌, ◌==◌, ◌||◌, ◌&&◌, Bool, not, List, [], ◌∷◌, ◌++◌, Option, Some, None, length, take, drop, map, position, nat_le, nat_eq, unwrap_or, is_none, slice_get, bit_and, codes, option_and_then, if◌then◌else◌}
 use Rattle.std.specs.List.{list_any, range_with_len, starts_with}
 use Rattle.std.specs.Option.{option_map}
 use Rattle.elf_sections.specs.Numbers.{u32_at, u64_at}
 use Rattle.sym_edges.specs.Results.{fault_if}
+use Rattle.elf_sections.specs.Strings.{string_at}
 use Rattle.elf_sections.specs.FileHeader.{header_of}
 use Rattle.elf_sections.specs.declared.section.SectionHeader.{SectionHeader}
-use Rattle.elf_sections.specs.declared.header.FileHeader.{FileHeader}
 use Rattle.elf_sections.specs.declared.fault.ElfFault.{ElfFault}
 use Rattle.elf_sections.specs.declared.fault.ElfFault.TheVariants.{SectionNames, SectionBytes, Compressed}
-use Rattle.elf_sections.specs.declared.constants.TheConstants.{SECTION_HEADER, SHT_NULL, SHT_SYMTAB, SHT_STRTAB, SHT_NOTE, SHT_NOBITS, SHT_DYNSYM, SHF_COMPRESSED}
+use Rattle.elf_sections.specs.ElfNumbers.{section_header_size, sht_null, sht_symtab, sht_strtab, sht_note, sht_nobits, sht_dynsym, shf_compressed}
 
--- a section header at a place (ELF64, Elf64_Shdr)
+-- a section header at a place (Elf64_Shdr)
 unfoldable pub section_at : List ℕ → ℕ → SectionHeader
 section_at file at = record {
+  -- sh_name
   name = u32_at file at;
+  -- sh_type
   kind = u32_at file (at + 4);
+  -- sh_flags
   flags = u64_at file (at + 8);
+  -- sh_addr
   address = u64_at file (at + 16);
+  -- sh_offset
   offset = u64_at file (at + 24);
+  -- sh_size
   size = u64_at file (at + 32);
+  -- sh_link
   link = u32_at file (at + 40);
 }
 
 -- the first `count` section headers of a table
 unfoldable pub sections_from : List ℕ → ℕ → ℕ → List SectionHeader
-sections_from file table count = map (λ k. section_at file (table + SECTION_HEADER * k)) (range_with_len 0 count)
+sections_from file table count = map (λ k. section_at file (table + section_header_size * k)) (range_with_len 0 count)
 
 -- the list of all section headers
 unfoldable pub sections : List ℕ → List SectionHeader
@@ -32,7 +40,7 @@ sections file = sections_from file (header_of file).section_table (header_of fil
 
 -- a section whose type says that the file has no bytes for it
 unfoldable pub is_empty_kind : SectionHeader → Bool
-is_empty_kind s = s.kind == SHT_NULL || s.kind == SHT_NOBITS
+is_empty_kind s = s.kind == sht_null || s.kind == sht_nobits
 
 -- the bytes of a section, or none where they leave the file
 unfoldable pub content : List ℕ → SectionHeader → Option (List ℕ)
@@ -50,10 +58,6 @@ name_table file = option_and_then (content file) (slice_get (sections file) (hea
 unfoldable pub names : List ℕ → List ℕ
 names file = unwrap_or (name_table file) []
 
--- the text at a place is zero-ended inside the table
-unfoldable pub is_ended : List ℕ → ℕ → Bool
-is_ended table at = list_any (λ b. b == 0) (drop at table)
-
 -- the section has that name: at its place stand the name and a zero
 unfoldable pub is_named : List ℕ → List ℕ → SectionHeader → Bool
 is_named table name s = starts_with nat_eq (drop s.name table) (name ++ 0 ∷ [])
@@ -70,7 +74,7 @@ read_names = codes ".debug_info" ∷ codes ".debug_abbrev" ∷ codes ".debug_lin
 
 -- the section is read for its type
 unfoldable pub is_read_kind : SectionHeader → Bool
-is_read_kind s = s.kind == SHT_SYMTAB || (s.kind == SHT_DYNSYM || (s.kind == SHT_STRTAB || s.kind == SHT_NOTE))
+is_read_kind s = s.kind == sht_symtab || (s.kind == sht_dynsym || (s.kind == sht_strtab || s.kind == sht_note))
 
 -- the section is read, for its type or its name
 unfoldable pub is_read : List ℕ → SectionHeader → Bool
@@ -86,12 +90,12 @@ leaves_file file table s = is_read table s && is_none (content file s)
 
 -- a section that is compressed: read and flagged, or named so
 unfoldable pub is_compressed : List ℕ → SectionHeader → Bool
-is_compressed table s = (is_read table s && has_flag SHF_COMPRESSED s) || is_named_from table (codes ".zdebug_") s
+is_compressed table s = (is_read table s && has_flag shf_compressed s) || is_named_from table (codes ".zdebug_") s
 
 -- there is no table of names, or a section's name is not zero-ended inside it
 unfoldable pub names_fault : List ℕ → Option ElfFault
 names_fault file = fault_if
-    (is_none (name_table file) || list_any (λ s. not (is_ended (names file) s.name)) (sections file)) SectionNames None
+    (is_none (name_table file) || list_any (λ s. is_none (string_at (names file) s.name)) (sections file)) SectionNames None
 
 -- the lowest section that is read and leaves the file
 unfoldable pub bytes_fault : List ℕ → Option ElfFault
@@ -100,10 +104,3 @@ bytes_fault file = option_map SectionBytes (position (leaves_file file (names fi
 -- the lowest section that is compressed
 unfoldable pub compressed_fault : List ℕ → Option ElfFault
 compressed_fault file = option_map Compressed (position (is_compressed (names file)) (sections file))
-
--- what was read of a file whose header and names have no fault
-pub record AreTables (file : List ℕ) (header : FileHeader) (list : List SectionHeader) (table : List ℕ) : Type 0 where
-  pub header_is : header ≡ header_of file
-  pub list_is : list ≡ sections file
-  pub table_is : table ≡ names file
-  pub few : length list < 2 ^ 16

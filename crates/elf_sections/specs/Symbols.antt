@@ -1,49 +1,52 @@
-use Rattle.std.specs.Prelude.{◌≡◌, ℕ, ◌+◌, ◌*◌, ◌/◌, ◌%◌, ◌==◌, ◌||◌, ◌&&◌, Bool, true, false, not, List, [], ◌∷◌, Option, Some, None, length, map, find, is_none, slice_get, slice_index, option_and_then, if◌then◌else◌}
+-- The symbol table and the functions in it (System V gABI, "Symbol Table").
+use Rattle.std.specs.Prelude.{ℕ, ◌+◌, ◌*◌, ◌/◌, ◌%◌, ◌==◌, ◌||◌, ◌&&◌, Bool, not, List, [], ◌∷◌, Option, Some, None, length, map, find, is_none, slice_get, slice_index, option_and_then, if◌then◌else◌}
 use Rattle.std.specs.List.{list_any, range_with_len, filter_map}
 use Rattle.std.specs.Option.{option_or}
 use Rattle.sym_edges.specs.Addresses.{Range}
 use Rattle.elf_sections.specs.Numbers.{u16_at, u32_at, u64_at}
-use Rattle.elf_sections.specs.Texts.{text_at}
+use Rattle.elf_sections.specs.Strings.{string_at}
 use Rattle.sym_edges.specs.Results.{fault_if}
 use Rattle.elf_sections.specs.Sections.{sections, bytes_of}
 use Rattle.elf_sections.specs.Programs.{code, is_in_code}
 use Rattle.elf_sections.specs.declared.section.SectionHeader.{SectionHeader}
 use Rattle.elf_sections.specs.declared.symbols.SymbolEntry.{SymbolEntry}
 use Rattle.elf_sections.specs.declared.symbols.Symbol.{Symbol}
-use Rattle.elf_sections.specs.declared.symbols.Found.{Found}
-use Rattle.elf_sections.specs.declared.symbols.Found.TheVariants.{Nameless, Other, Function}
 use Rattle.elf_sections.specs.declared.fault.ElfFault.{ElfFault}
 use Rattle.elf_sections.specs.declared.fault.ElfFault.TheVariants.{SymbolTable}
-use Rattle.elf_sections.specs.declared.constants.TheConstants.{SHT_SYMTAB, SHT_DYNSYM, SHT_STRTAB, SYMBOL, STT_FUNC, STT_GNU_IFUNC}
+use Rattle.elf_sections.specs.ElfNumbers.{shn_undef, sht_symtab, sht_dynsym, sht_strtab, symbol_size, stt_func, stt_gnu_ifunc}
 
--- a symbol at a place (ELF64, Elf64_Sym)
+-- a symbol at a place (Elf64_Sym)
 unfoldable pub symbol_at : List ℕ → ℕ → SymbolEntry
 symbol_at table at = record {
+  -- st_name
   name = u32_at table at;
+  -- st_info
   info = slice_index table (at + 4);
+  -- st_shndx
   section = u16_at table (at + 6);
+  -- st_value
   value = u64_at table (at + 8);
 }
 
 -- the first `count` symbols of a table
 unfoldable pub entries_of : List ℕ → ℕ → List SymbolEntry
-entries_of table count = map (λ k. symbol_at table (SYMBOL * k)) (range_with_len 0 count)
+entries_of table count = map (λ k. symbol_at table (symbol_size * k)) (range_with_len 0 count)
 
 -- the symbols of a table; bytes after the last whole one are no symbol
 unfoldable pub entries : List ℕ → List SymbolEntry
-entries table = entries_of table (length table / SYMBOL)
+entries table = entries_of table (length table / symbol_size)
 
 -- a function in code: a function by its type, defined in some section, at an address in code
 unfoldable pub is_function : List Range → SymbolEntry → Bool
-is_function ranges e = (e.info % 16 == STT_FUNC || e.info % 16 == STT_GNU_IFUNC) && (not (e.section == 0) && is_in_code ranges e.value)
+is_function ranges e = (e.info % 16 == stt_func || e.info % 16 == stt_gnu_ifunc) && (not (e.section == shn_undef) && is_in_code ranges e.value)
 
 -- the first symbol table, else the first table of dynamic symbols
 unfoldable pub symbol_table : List SectionHeader → Option SectionHeader
-symbol_table all = option_or (find (λ s. s.kind == SHT_SYMTAB) all) (find (λ s. s.kind == SHT_DYNSYM) all)
+symbol_table all = option_or (find (λ s. s.kind == sht_symtab) all) (find (λ s. s.kind == sht_dynsym) all)
 
 -- the section of texts that a symbol table links to
 unfoldable pub linked : List SectionHeader → SectionHeader → Option SectionHeader
-linked all table = option_and_then (λ s. if s.kind == SHT_STRTAB then Some s else None) (slice_get all table.link)
+linked all table = option_and_then (λ s. if s.kind == sht_strtab then Some s else None) (slice_get all table.link)
 
 -- a function symbol: its address in the file, and its name
 pub record SymbolParts : Type 0 where
@@ -56,7 +59,7 @@ symbol_view s = record { address = s.address; name = s.name.now }
 
 -- a function whose name is not zero-ended
 unfoldable pub is_nameless : List Range → List ℕ → SymbolEntry → Bool
-is_nameless ranges strings e = is_function ranges e && is_none (text_at strings e.name)
+is_nameless ranges strings e = is_function ranges e && is_none (string_at strings e.name)
 
 -- a symbol of that name, where the name is not empty
 abbrev pub named_symbol : ℕ → Option (List ℕ) → Option SymbolParts
@@ -66,7 +69,7 @@ named_symbol address (Some (b ∷ text)) = Some (record { address = address; nam
 
 -- the function symbol of an entry, where it is one
 unfoldable pub function_of : List Range → List ℕ → SymbolEntry → Option SymbolParts
-function_of ranges strings e = if is_function ranges e then named_symbol e.value (text_at strings e.name) else None
+function_of ranges strings e = if is_function ranges e then named_symbol e.value (string_at strings e.name) else None
 
 -- some function's name is not zero-ended
 unfoldable pub has_nameless : List Range → List ℕ → List SymbolEntry → Bool
@@ -101,14 +104,3 @@ symbols_fault file = table_fault file (symbol_table (sections file))
 -- the function symbols of the file, in the order of their table
 unfoldable pub symbols : List ℕ → List SymbolParts
 symbols file = table_symbols file (symbol_table (sections file))
-
--- what a reading of symbols answers: none exactly where some function has no name
-abbrev pub ReadsSymbols : Option (List Symbol) → List Range → List ℕ → List SymbolEntry → Type 0
-ReadsSymbols None ranges strings found = has_nameless ranges strings found ≡ true
-ReadsSymbols (Some list) ranges strings found = (has_nameless ranges strings found ≡ false) × (map symbol_view list ≡ functions ranges strings found)
-
--- what an entry is found to be
-abbrev pub Classifies : Found → List Range → List ℕ → SymbolEntry → Type 0
-Classifies Nameless ranges strings e = is_nameless ranges strings e ≡ true
-Classifies Other ranges strings e = (is_nameless ranges strings e ≡ false) × (function_of ranges strings e ≡ None)
-Classifies (Function s) ranges strings e = (is_nameless ranges strings e ≡ false) × (function_of ranges strings e ≡ Some (symbol_view s))

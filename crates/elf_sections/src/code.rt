@@ -1,6 +1,6 @@
 ghost use Rattle.std.specs.Prelude.{◌≡◌, IfOk};
 ghost use Rattle.std.specs.List.{filter_map};
-ghost use Rattle.range_set.specs.Building.{AllFrom};
+ghost use Rattle.range_set.specs.Starts.{AllFrom};
 ghost use Rattle.elf_sections.specs.Programs.{code_range, is_code, is_in_code};
 
 use crate::constants::{SHF_ALLOC, SHF_EXECINSTR};

@@ -1,20 +1,30 @@
 ghost use Rattle.std.specs.Prelude.{◌≡◌, ◌≤◌, ◌+◌, ◌*◌, ℕ, nat_le, None, Some, length, MatchResult, IfOk, OnOk, IsTrue};
 ghost use Rattle.elf_sections.specs.FileHeader.{header_of, header_fault, ident_fault, has_sections};
-ghost use Rattle.elf_sections.specs.declared.constants.TheConstants.{FILE_HEADER, SECTION_HEADER};
+ghost use Rattle.elf_sections.specs.ElfNumbers.{file_header_size, section_header_size};
 
-use crate::constants::{EM_X86_64, ET_DYN, ET_EXEC, FILE_HEADER, SECTION_HEADER, SHN_LORESERVE};
+use crate::constants::{
+    EI_CLASS, EI_DATA, ELFCLASS64, ELFDATA2LSB, EM_X86_64, ET_DYN, ET_EXEC, FILE_HEADER,
+    SECTION_HEADER, SHN_LORESERVE,
+};
 use crate::fault::ElfFault;
 use crate::numbers::{read_u16, read_u64};
 
 /// The fields of the file header that are read.
 #[derive(Clone, Copy, Debug)]
 pub struct FileHeader {
+    /// `e_phoff`
     pub program_table: u64,
+    /// `e_shoff`
     pub section_table: u64,
+    /// `e_phentsize`
     pub program_size: u16,
+    /// `e_phnum`
     pub program_count: u16,
+    /// `e_shentsize`
     pub section_size: u16,
+    /// `e_shnum`
     pub section_count: u16,
+    /// `e_shstrndx`
     pub names_index: u16,
 }
 
@@ -24,8 +34,8 @@ pub fn read_header(file: &[u8]) -> Result<FileHeader, ElfFault>
     ensures read { MatchResult result
         (λ header. (header_fault file.now ≡ None) × (header ≡ header_of file.now))
         (λ fault. header_fault file.now ≡ Some fault) }
-    ensures fits { IfOk result (λ header. header.section_table + SECTION_HEADER * header.section_count ≤ length file.now) }
-    ensures long { OnOk result (FILE_HEADER ≤ length file.now) }
+    ensures fits { IfOk result (λ header. header.section_table + section_header_size * header.section_count ≤ length file.now) }
+    ensures long { OnOk result (file_header_size ≤ length file.now) }
 {
     if let Some(fault) = find_ident_fault(file) {
         return Err(fault);
@@ -38,18 +48,18 @@ pub fn read_header(file: &[u8]) -> Result<FileHeader, ElfFault>
     }
 }
 
-#[tactic(auto, unfolding(crate::specs::FileHeader::ident_fault, crate::specs::FileHeader::is_not_elf, crate::specs::FileHeader::is_other_kind))]
+#[tactic(auto, unfolding(crate::specs::FileHeader::ident_fault, crate::specs::FileHeader::is_not_elf, crate::specs::FileHeader::is_other_kind, crate::specs::FileHeader::type_of, crate::specs::FileHeader::machine_of))]
 fn find_ident_fault(file: &[u8]) -> Option<ElfFault>
     ensures first { result ≡ ident_fault file.now }
-    ensures long { result ≡ None → FILE_HEADER ≤ length file.now }
+    ensures long { result ≡ None → file_header_size ≤ length file.now }
 {
     if file.len() < FILE_HEADER || file.split_at(4).0 != b"\x7fELF".as_slice() {
         return Some(ElfFault::NotElf);
     }
-    if file[4] != 2 {
+    if file[EI_CLASS] != ELFCLASS64 {
         return Some(ElfFault::Class);
     }
-    if file[5] != 1 {
+    if file[EI_DATA] != ELFDATA2LSB {
         return Some(ElfFault::Order);
     }
     if read_u16(file, 18) != EM_X86_64 {
@@ -64,7 +74,7 @@ fn find_ident_fault(file: &[u8]) -> Option<ElfFault>
 
 #[tactic(auto, unfolding(crate::specs::FileHeader::header_of))]
 fn header_in(file: &[u8]) -> FileHeader
-    requires { FILE_HEADER ≤ length file.now }
+    requires { file_header_size ≤ length file.now }
     ensures { result ≡ header_of file.now }
 {
     FileHeader {
@@ -89,7 +99,7 @@ pub fn table_fits(start: u64, size: usize, count: u16, len: usize) -> bool
 #[tactic(auto, unfolding(crate::specs::FileHeader::has_sections))]
 fn section_table_fits(header: &FileHeader, len: usize) -> bool
     ensures exact { result ≡ has_sections header.now len }
-    ensures fits { IsTrue result → header.now.section_table + SECTION_HEADER * header.now.section_count ≤ len }
+    ensures fits { IsTrue result → header.now.section_table + section_header_size * header.now.section_count ≤ len }
 {
     (header.section_table > 0 && (header.section_count > 0 && header.section_count < SHN_LORESERVE))
         && (header.section_size as usize == SECTION_HEADER

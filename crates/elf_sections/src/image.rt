@@ -1,6 +1,6 @@
 ghost use Rattle.std.specs.Prelude.{◌≡◌, ◌≤◌, [], length, unwrap_or, map};
 ghost use Rattle.std.specs.Option.{option_copied};
-ghost use Rattle.range_set.specs.Building.{AllFrom};
+ghost use Rattle.range_set.specs.Starts.{AllFrom};
 ghost use Rattle.elf_sections.specs.Symbols.{symbol_view};
 ghost use Rattle.elf_sections.specs.Image.{part_view, section_of};
 
@@ -33,7 +33,7 @@ pub struct Image<'a> {
 impl<'a> Model for Image<'a> {
     ghost use Rattle.std.specs.Prelude.{◌≤◌, [], length, map, unwrap_or};
     ghost use Rattle.std.specs.Option.{option_copied};
-    ghost use Rattle.range_set.specs.Building.{AllFrom};
+    ghost use Rattle.range_set.specs.Starts.{AllFrom};
     ghost use Rattle.elf_sections.specs.Symbols.{symbol_view};
     ghost use Rattle.elf_sections.specs.Image.{ImageParts, part_view};
 

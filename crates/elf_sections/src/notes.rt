@@ -1,13 +1,17 @@
-ghost use Rattle.std.specs.Prelude.{◌≡◌, ◌+◌, ◌≤◌, ℕ, List, [], ◌∷◌, if◌then◌else◌, length, drop, find, filter, true, false, Some, None, IsTrue, IfSome, MatchOption};
+ghost use Rattle.std.specs.Prelude.{◌≡◌, ◌+◌, ◌≤◌, ℕ, List, [], ◌∷◌, if◌then◌else◌, length, drop, find, filter, true, false, Some, None, IsTrue, IfOk, OnOk, IfSome, MatchOption};
 ghost use Rattle.std.specs.List.{flat_map};
 ghost use Rattle.std.specs.Option.{option_copied, option_map};
 ghost use Rattle.elf_sections.specs.Numbers.{u32_at};
 ghost use Rattle.elf_sections.specs.Sections.{bytes_of};
-ghost use Rattle.elf_sections.specs.Notes.{note_view, notes, notes_in, has_note, note_at, after_note, padded, first_id, is_build_id, notes_of};
+ghost use Rattle.elf_sections.specs.Notes.{notes, notes_in, has_note, note_at, after_note, padded, first_id, is_build_id, notes_of};
+ghost use Rattle.elf_sections.specs.Steps.{note_view};
+ghost use Rattle.elf_sections.specs.Kept.{GaveNone};
 
 use crate::constants::{NT_GNU_BUILD_ID, SHT_NOTE};
 use crate::numbers::read_u32;
 use crate::section::{SectionHeader, read_content};
+use std::alloc::{AllocError, Global};
+use std::collections::BTreeSet;
 
 /// A note in front of some bytes, and what stands behind it.
 #[derive(Clone, Copy)]
@@ -110,15 +114,48 @@ fn id_in<'a>(file: &'a [u8], section: &SectionHeader) -> Option<&'a [u8]>
     }
 }
 
-/// The first build id over the sections of notes, in their order.
-pub fn find_build_id<'a>(file: &'a [u8], sections: &[SectionHeader]) -> Option<&'a [u8]>
-    ensures first { option_copied result ≡ first_id (flat_map (notes_of file.now) sections.now) }
-    ensures short { IfSome result (λ id. length id.now ≤ 64) }
+/// The build id of one section, as `id_in`. The bytes of a run that gave none before are not walked again.
+#[tactic(auto, using(crate::proofs::WalkedLemmas::no_notes, crate::proofs::WalkedLemmas::none_again, crate::proofs::WalkedLemmas::gave_none_more))]
+fn id_unless_walked<'a>(
+    file: &'a [u8],
+    section: &SectionHeader,
+    walked: &mut BTreeSet<(u64, u64)>,
+) -> Result<Option<&'a [u8]>, AllocError>
+    requires { GaveNone file.now walked.old }
+    ensures first { IfOk result (λ id. option_copied id ≡ first_id (notes_of file.now section.now)) }
+    ensures short { IfOk result (λ id. IfSome id (λ bytes. length bytes.now ≤ 64)) }
+    ensures walked { OnOk result (GaveNone file.now walked.new) }
 {
-    'sections: for section in sections {
-        if let Some(id) = id_in(file, section) {
-            return Some(id);
+    if section.kind != SHT_NOTE {
+        return Ok(None);
+    }
+    let run = (section.offset, section.size);
+    if walked.contains(&run) {
+        return Ok(None);
+    }
+    match id_in(file, section) {
+        Some(id) => Ok(Some(id)),
+        None => {
+            walked.insert(run)?;
+            Ok(None)
         }
     }
-    None
+}
+
+/// The first build id over the sections of notes, in their order.
+pub fn find_build_id<'a>(
+    alloc: Global,
+    file: &'a [u8],
+    sections: &[SectionHeader],
+) -> Result<Option<&'a [u8]>, AllocError>
+    ensures first { IfOk result (λ id. option_copied id ≡ first_id (flat_map (notes_of file.now) sections.now)) }
+    ensures short { IfOk result (λ id. IfSome id (λ bytes. length bytes.now ≤ 64)) }
+{
+    let mut walked = BTreeSet::new(alloc);
+    'sections: for section in sections {
+        if let Some(id) = id_unless_walked(file, section, &mut walked)? {
+            return Ok(Some(id));
+        }
+    }
+    Ok(None)
 }

@@ -2,7 +2,7 @@ ghost use Rattle.std.specs.Prelude.{◌≡◌, ◌+◌, ◌≤◌, length};
 ghost use Rattle.elf_sections.specs.Numbers.{u16_at, u32_at, u64_at};
 
 #[inline]
-#[tactic(auto, unfolding(crate::specs::Numbers::u16_at))]
+#[tactic(auto, unfolding(crate::specs::Numbers::u16_at, leb_cursor::specs::Readings::fixed_sum))]
 pub fn read_u16(bytes: &[u8], at: usize) -> u16
     requires { at + 2 ≤ length bytes.now }
     ensures { result ≡ u16_at bytes.now at }
@@ -12,7 +12,7 @@ pub fn read_u16(bytes: &[u8], at: usize) -> u16
 }
 
 #[inline]
-#[tactic(auto, unfolding(crate::specs::Numbers::u32_at))]
+#[tactic(auto, unfolding(crate::specs::Numbers::u32_at, leb_cursor::specs::Readings::fixed_sum))]
 pub fn read_u32(bytes: &[u8], at: usize) -> u32
     requires { at + 4 ≤ length bytes.now }
     ensures { result ≡ u32_at bytes.now at }
@@ -22,7 +22,7 @@ pub fn read_u32(bytes: &[u8], at: usize) -> u32
 }
 
 #[inline]
-#[tactic(auto, unfolding(crate::specs::Numbers::u64_at))]
+#[tactic(auto, unfolding(crate::specs::Numbers::u64_at, leb_cursor::specs::Readings::fixed_sum))]
 pub fn read_u64(bytes: &[u8], at: usize) -> u64
     requires { at + 8 ≤ length bytes.now }
     ensures { result ≡ u64_at bytes.now at }

@@ -2,7 +2,7 @@ ghost use Rattle.std.specs.Prelude.{◌≡◌, ◌+◌, ◌*◌, ◌<◌, ◌≤
 ghost use Rattle.std.specs.Option.{option_map_or};
 ghost use Rattle.elf_sections.specs.FileHeader.{header_of};
 ghost use Rattle.elf_sections.specs.Programs.{program_at, programs_from, loaded_address, program_fault, has_programs, base};
-ghost use Rattle.elf_sections.specs.declared.constants.TheConstants.{PROGRAM_HEADER, PT_LOAD};
+ghost use Rattle.elf_sections.specs.ElfNumbers.{program_header_size, pt_load};
 
 use crate::constants::{PROGRAM_HEADER, PT_LOAD};
 use crate::fault::ElfFault;
@@ -13,13 +13,15 @@ use crate::tables::Tables;
 /// The fields of a program header that are read.
 #[derive(Clone, Copy, Debug)]
 pub struct ProgramHeader {
+    /// `p_type`
     pub kind: u32,
+    /// `p_vaddr`
     pub address: u64,
 }
 
 #[tactic(auto, unfolding(crate::specs::Programs::program_at))]
 fn read_program(file: &[u8], at: usize) -> ProgramHeader
-    requires { at + PROGRAM_HEADER ≤ length file.now }
+    requires { at + program_header_size ≤ length file.now }
     ensures { result ≡ program_at file.now at }
 {
     ProgramHeader {
@@ -31,7 +33,7 @@ fn read_program(file: &[u8], at: usize) -> ProgramHeader
 /// The address of the first loaded segment of a program header table, or 0. A table that is not empty lies in the file.
 #[tactic(auto, using(crate::proofs::ProgramLemmas::address_found, crate::proofs::ProgramLemmas::address_passed, crate::proofs::ProgramLemmas::address_none))]
 fn find_loaded(file: &[u8], table: usize, count: usize) -> u64
-    requires { 0 < count → table + PROGRAM_HEADER * count ≤ length file.now }
+    requires { 0 < count → table + program_header_size * count ≤ length file.now }
     ensures { result ≡ loaded_address (programs_from file.now table 0 count) }
 {
     'headers: for k in 0..count {
@@ -47,7 +49,7 @@ fn find_loaded(file: &[u8], table: usize, count: usize) -> u64
 fn program_table_fits(header: &FileHeader, len: usize) -> bool
     ensures exact { result ≡ has_programs header.now len }
     ensures fits { IsTrue result → 0 < header.now.program_count
-        → header.now.program_table + PROGRAM_HEADER * header.now.program_count ≤ len }
+        → header.now.program_table + program_header_size * header.now.program_count ≤ len }
 {
     header.program_count == 0
         || (header.program_size as usize == PROGRAM_HEADER

@@ -4,7 +4,8 @@ ghost use Rattle.std.specs.Option.{option_copied};
 ghost use Rattle.sym_edges.specs.Outside.{MatchStop};
 ghost use Rattle.elf_sections.specs.Programs.{code};
 ghost use Rattle.elf_sections.specs.Symbols.{symbol_view, symbols, symbols_fault};
-ghost use Rattle.elf_sections.specs.Image.{part_view, part_named, name_of, image, ReadsIdentity};
+ghost use Rattle.elf_sections.specs.Image.{part_view, part_named, name_of, image};
+ghost use Rattle.elf_sections.specs.Steps.{ReadsIdentity};
 
 use crate::code::read_code;
 use crate::fault::ElfFault;
@@ -12,7 +13,7 @@ use crate::image::Image;
 use crate::notes::find_build_id;
 use crate::program::read_base;
 use crate::section::{SectionHeader, begins, read_content};
-use crate::strings::Texts;
+use crate::strings::StringTable;
 use crate::symbols::{Symbol, find_linked, find_symbol_table, read_functions};
 use crate::tables::{Tables, read_tables};
 use crate::text_identity::{fold_text, pad_id};
@@ -88,12 +89,12 @@ fn find_symbols<'a>(
     let Some(table) = find_symbol_table(sections) else {
         return Ok(Vec::new(alloc));
     };
-    let Some(strings) = find_linked(sections, table) else {
+    let Some(linked) = find_linked(sections, table) else {
         return Err(Stop::Fault(ElfFault::SymbolTable));
     };
-    let texts = Texts::new(alloc, read_content(file, strings).unwrap_or(&[]))?;
+    let strings = StringTable::new(alloc, read_content(file, linked).unwrap_or(&[]))?;
     let entries = read_content(file, table).unwrap_or(&[]);
-    match read_functions(alloc, spans, entries, &texts)? {
+    match read_functions(alloc, spans, entries, &strings)? {
         Some(symbols) => Ok(symbols),
         None => Err(Stop::Fault(ElfFault::SymbolTable)),
     }
@@ -130,7 +131,7 @@ pub fn read_image(alloc: Global, bytes: &[u8]) -> Result<Image<'_>, Stop<ElfFaul
     let code = read_code(alloc, base, tables.sections())?;
     let symbols = find_symbols(alloc, &tables, &code)?;
     let text = find_part(&tables, Sect::Text);
-    let build_id = find_build_id(bytes, tables.sections());
+    let build_id = find_build_id(alloc, bytes, tables.sections())?;
     let Some(identity) = find_identity(text.bytes, build_id) else {
         return Err(Stop::Fault(ElfFault::NoIdentity));
     };

@@ -2,7 +2,7 @@ ghost use Rattle.std.specs.Prelude.{◌≡◌, ◌+◌, ◌≤◌, length, drop,
 ghost use Rattle.std.specs.Option.{option_copied};
 ghost use Rattle.std.specs.List.{starts_with};
 ghost use Rattle.elf_sections.specs.Sections.{section_at, content, is_empty_kind, is_read_kind, is_read, leaves_file, is_compressed, has_flag};
-ghost use Rattle.elf_sections.specs.declared.constants.TheConstants.{SECTION_HEADER};
+ghost use Rattle.elf_sections.specs.ElfNumbers.{section_header_size};
 
 use crate::constants::{
     SECTION_HEADER, SHF_COMPRESSED, SHT_DYNSYM, SHT_NOBITS, SHT_NOTE, SHT_NULL, SHT_STRTAB,
@@ -13,18 +13,25 @@ use crate::numbers::{read_u32, read_u64};
 /// The fields of a section header that are read.
 #[derive(Clone, Copy, Debug)]
 pub struct SectionHeader {
+    /// `sh_name`
     pub name: u32,
+    /// `sh_type`
     pub kind: u32,
+    /// `sh_flags`
     pub flags: u64,
+    /// `sh_addr`
     pub address: u64,
+    /// `sh_offset`
     pub offset: u64,
+    /// `sh_size`
     pub size: u64,
+    /// `sh_link`
     pub link: u32,
 }
 
 #[tactic(auto, unfolding(crate::specs::Sections::section_at))]
 pub fn read_section(file: &[u8], at: usize) -> SectionHeader
-    requires { at + SECTION_HEADER ≤ length file.now }
+    requires { at + section_header_size ≤ length file.now }
     ensures { result ≡ section_at file.now at }
 {
     SectionHeader {

@@ -1,26 +1,27 @@
 ghost use Rattle.std.specs.Prelude.{◌≡◌, ◌≤◌, ◌<◌, ◌+◌, length, drop, IfOk};
 ghost use Rattle.std.specs.Option.{option_copied};
-ghost use Rattle.elf_sections.specs.Texts.{text_at, text_end, AreEnds};
+ghost use Rattle.elf_sections.specs.Strings.{string_at};
+ghost use Rattle.elf_sections.specs.Kept.{string_end, AreEnds};
 
 use memchr::memchr;
 use std::alloc::{AllocError, Global};
 use std::marker::Model;
 
-/// The bytes of a block of a table of texts.
+/// The bytes of a block of a string table.
 const BLOCK: usize = 4096;
 
-/// A table of zero-ended texts. The first zero at or behind the start of each block is known, so that no text is walked
-/// through for more than a block, however many texts end at one zero.
+/// A string table. The first zero at or behind the start of each block is known, so that no string is walked through for
+/// more than a block, however many strings end at one zero.
 #[derive(Drop)]
-pub struct Texts<'a> {
+pub struct StringTable<'a> {
     table: &'a [u8],
     block: usize,
     ends: Vec<usize>,
 }
 
-impl<'a> Model for Texts<'a> {
+impl<'a> Model for StringTable<'a> {
     ghost use Rattle.std.specs.Prelude.{List, ℕ};
-    ghost use Rattle.elf_sections.specs.Texts.{AreEnds};
+    ghost use Rattle.elf_sections.specs.Kept.{AreEnds};
 
     ghost Value = { List ℕ };
 
@@ -30,10 +31,10 @@ impl<'a> Model for Texts<'a> {
 }
 
 /// The place of the first zero from a place on, or the end of the table.
-#[tactic(auto, using(crate::proofs::TextLemmas::end_found, crate::proofs::TextLemmas::end_missing))]
+#[tactic(auto, using(crate::proofs::StringLemmas::end_found, crate::proofs::StringLemmas::end_missing))]
 fn find_end(table: &[u8], at: usize) -> usize
     requires { at ≤ length table.now }
-    ensures end { result ≡ text_end table.now at }
+    ensures end { result ≡ string_end table.now at }
     ensures order { at ≤ result }
     ensures inside { result ≤ length table.now }
 {
@@ -44,7 +45,7 @@ fn find_end(table: &[u8], at: usize) -> usize
 }
 
 /// The ends at the starts of all blocks.
-#[tactic(auto, using(crate::proofs::TextLemmas::end_again))]
+#[tactic(auto, using(crate::proofs::StringLemmas::end_again))]
 fn find_ends(alloc: Global, table: &[u8], block: usize) -> Result<Vec<usize>, AllocError>
     requires { 0 < block }
     ensures { IfOk result (λ ends. AreEnds table.now block ends.items) }
@@ -62,12 +63,12 @@ fn find_ends(alloc: Global, table: &[u8], block: usize) -> Result<Vec<usize>, Al
     Ok(ends)
 }
 
-impl<'a> Texts<'a> {
-    pub fn new(alloc: Global, table: &'a [u8]) -> Result<Texts<'a>, AllocError>
-        ensures { IfOk result (λ texts. texts ≡ table.now) }
+impl<'a> StringTable<'a> {
+    pub fn new(alloc: Global, table: &'a [u8]) -> Result<StringTable<'a>, AllocError>
+        ensures { IfOk result (λ strings. strings ≡ table.now) }
     {
         let block = BLOCK;
-        Ok(Texts {
+        Ok(StringTable {
             table,
             block,
             ends: find_ends(alloc, table, block)?,
@@ -75,10 +76,10 @@ impl<'a> Texts<'a> {
     }
 
     /// The place of the first zero from a place on, or the end of the table.
-    #[tactic(auto, using(crate::proofs::TextLemmas::end_in_block, crate::proofs::TextLemmas::end_behind_block, crate::proofs::TextLemmas::end_order))]
+    #[tactic(auto, using(crate::proofs::StringLemmas::end_in_block, crate::proofs::StringLemmas::end_behind_block, crate::proofs::StringLemmas::end_order))]
     fn end_of(&self, at: usize) -> usize
         requires { at < length self.now }
-        ensures end { result ≡ text_end self.now at }
+        ensures end { result ≡ string_end self.now at }
         ensures order { at ≤ result }
     {
         let block = at / self.block;
@@ -93,10 +94,10 @@ impl<'a> Texts<'a> {
         }
     }
 
-    /// The zero-ended text at a place, or none where no zero follows.
-    #[tactic(auto, using(crate::proofs::TextLemmas::text_found, crate::proofs::TextLemmas::text_missing, crate::proofs::TextLemmas::text_outside))]
-    pub fn text(&self, at: usize) -> Option<&'a [u8]>
-        ensures { option_copied result ≡ text_at self.now at }
+    /// The string at an index, or none where no zero byte follows.
+    #[tactic(auto, using(crate::proofs::StringLemmas::string_found, crate::proofs::StringLemmas::string_missing, crate::proofs::StringLemmas::string_outside))]
+    pub fn string(&self, at: usize) -> Option<&'a [u8]>
+        ensures { option_copied result ≡ string_at self.now at }
     {
         if at >= self.table.len() {
             return None;

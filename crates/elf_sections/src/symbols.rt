@@ -2,16 +2,19 @@ ghost use Rattle.std.specs.Prelude.{◌≡◌, ◌≤◌, IfOk, ◌+◌, ◌*◌
 ghost use Rattle.std.specs.List.{filter_map, list_any};
 ghost use Rattle.std.specs.Option.{option_copied, option_map};
 ghost use Rattle.sym_edges.specs.Outside.{MatchStop};
-ghost use Rattle.elf_sections.specs.Texts.{text_at};
+ghost use Rattle.elf_sections.specs.Strings.{string_at};
 ghost use Rattle.elf_sections.specs.Programs.{is_in_code};
-ghost use Rattle.elf_sections.specs.Symbols.{symbol_at, is_function, symbol_table, linked, entries_of, Classifies, ReadsSymbols};
-ghost use Rattle.elf_sections.specs.declared.constants.TheConstants.{SYMBOL};
+ghost use Rattle.elf_sections.specs.Symbols.{symbol_at, is_function, symbol_table, linked, entries_of};
+ghost use Rattle.elf_sections.specs.Steps.{Classifies, ReadsSymbols};
+ghost use Rattle.elf_sections.specs.ElfNumbers.{symbol_size};
 
 use crate::code::holds_code;
-use crate::constants::{SHT_DYNSYM, SHT_STRTAB, SHT_SYMTAB, STT_FUNC, STT_GNU_IFUNC, SYMBOL};
+use crate::constants::{
+    SHN_UNDEF, SHT_DYNSYM, SHT_STRTAB, SHT_SYMTAB, STT_FUNC, STT_GNU_IFUNC, SYMBOL,
+};
 use crate::numbers::{read_u16, read_u32, read_u64};
 use crate::section::SectionHeader;
-use crate::strings::Texts;
+use crate::strings::StringTable;
 use range_set::{RangeSet, of_ranges};
 use std::alloc::{AllocError, Global};
 use sym_edges::{OutOfMemory, Span};
@@ -26,15 +29,19 @@ pub struct Symbol<'a> {
 /// The fields of a symbol that are read.
 #[derive(Clone, Copy, Debug)]
 pub struct SymbolEntry {
+    /// `st_name`
     pub name: u32,
+    /// `st_info`
     pub info: u8,
+    /// `st_shndx`
     pub section: u16,
+    /// `st_value`
     pub value: u64,
 }
 
 #[tactic(auto, unfolding(crate::specs::Symbols::symbol_at))]
 fn read_symbol(table: &[u8], at: usize) -> SymbolEntry
-    requires { at + SYMBOL ≤ length table.now }
+    requires { at + symbol_size ≤ length table.now }
     ensures { result ≡ symbol_at table.now at }
 {
     SymbolEntry {
@@ -52,7 +59,7 @@ fn names_function(code: &RangeSet, entry: &SymbolEntry) -> bool
 {
     let kind = entry.info % 16;
     (kind == STT_FUNC || kind == STT_GNU_IFUNC)
-        && (entry.section != 0 && holds_code(code, entry.value))
+        && (entry.section != SHN_UNDEF && holds_code(code, entry.value))
 }
 
 fn first_of_kind(sections: &[SectionHeader], kind: u32) -> Option<&SectionHeader>
@@ -72,7 +79,7 @@ pub fn find_symbol_table(sections: &[SectionHeader]) -> Option<&SectionHeader>
     }
 }
 
-/// The section of texts that a symbol table links to.
+/// The string table that a symbol table links to.
 #[tactic(auto, unfolding(crate::specs::Symbols::linked))]
 pub fn find_linked<'s>(
     sections: &'s [SectionHeader],
@@ -100,13 +107,13 @@ enum Found<'a> {
 }
 
 #[tactic(auto, unfolding(crate::specs::Symbols::is_nameless, crate::specs::Symbols::function_of))]
-fn classify<'a>(code: &RangeSet, texts: &Texts<'a>, entry: &SymbolEntry) -> Found<'a>
-    ensures { Classifies result code.now texts.now entry.now }
+fn classify<'a>(code: &RangeSet, strings: &StringTable<'a>, entry: &SymbolEntry) -> Found<'a>
+    ensures { Classifies result code.now strings.now entry.now }
 {
     if !names_function(code, entry) {
         return Found::Other;
     }
-    match texts.text(entry.name as usize) {
+    match strings.string(entry.name as usize) {
         None => Found::Nameless,
         Some([]) => Found::Other,
         Some(name) => Found::Function(Symbol {
@@ -122,15 +129,15 @@ fn read_symbols<'a>(
     alloc: Global,
     code: &RangeSet,
     table: &[u8],
-    texts: &Texts<'a>,
+    strings: &StringTable<'a>,
 ) -> Result<Option<Vec<Symbol<'a>>>, AllocError>
-    ensures { IfOk result (λ found. ReadsSymbols (option_map (λ v. v.items) found) code.now texts.now (entries_of table.now (length table.now / SYMBOL))) }
+    ensures { IfOk result (λ found. ReadsSymbols (option_map (λ v. v.items) found) code.now strings.now (entries_of table.now (length table.now / symbol_size))) }
 {
     let count = table.len() / SYMBOL;
     let mut symbols = Vec::new(alloc);
     'entries: for k in 0..count {
         let entry = read_symbol(table, SYMBOL * k);
-        match classify(code, texts, &entry) {
+        match classify(code, strings, &entry) {
             Found::Nameless => return Ok(None),
             Found::Other => {}
             Found::Function(symbol) => symbols.push(symbol)?,
@@ -145,10 +152,10 @@ pub fn read_functions<'a>(
     alloc: Global,
     code: &[Span],
     table: &[u8],
-    texts: &Texts<'a>,
+    strings: &StringTable<'a>,
 ) -> Result<Option<Vec<Symbol<'a>>>, OutOfMemory>
-    ensures { IfOk result (λ found. ReadsSymbols (option_map (λ v. v.items) found) code.now texts.now (entries_of table.now (length table.now / SYMBOL))) }
+    ensures { IfOk result (λ found. ReadsSymbols (option_map (λ v. v.items) found) code.now strings.now (entries_of table.now (length table.now / symbol_size))) }
 {
     let addresses = of_ranges(alloc, code)?;
-    Ok(read_symbols(alloc, &addresses, table, texts)?)
+    Ok(read_symbols(alloc, &addresses, table, strings)?)
 }

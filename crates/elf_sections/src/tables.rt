@@ -1,10 +1,11 @@
-ghost use Rattle.std.specs.Prelude.{◌≡◌, ◌+◌, ◌*◌, ◌≤◌, ◌<◌, ◌^◌, not, ℕ, List, Some, None, IfOk, length, position, drop, option_and_then, slice_get, nat_lt, nat_eq, find, ◌==◌};
+ghost use Rattle.std.specs.Prelude.{◌≡◌, ◌+◌, ◌*◌, ◌≤◌, ◌<◌, ◌^◌, not, ℕ, List, Some, None, IfOk, length, position, drop, option_and_then, slice_get, nat_le, nat_eq, is_none, find, ◌==◌};
 ghost use Rattle.std.specs.List.{list_any, starts_with};
 ghost use Rattle.std.specs.Option.{option_copied, option_map, option_or};
 ghost use Rattle.sym_edges.specs.Outside.{MatchStop};
 ghost use Rattle.elf_sections.specs.FileHeader.{header_fault, header_of, has_sections};
-ghost use Rattle.elf_sections.specs.Sections.{sections_from, sections, content, is_ended, is_named, leaves_file, is_compressed, names, names_fault, bytes_fault, compressed_fault};
-ghost use Rattle.elf_sections.specs.declared.constants.TheConstants.{SECTION_HEADER};
+ghost use Rattle.elf_sections.specs.Strings.{string_at};
+ghost use Rattle.elf_sections.specs.Sections.{sections_from, sections, content, is_named, leaves_file, is_compressed, names, names_fault, bytes_fault, compressed_fault};
+ghost use Rattle.elf_sections.specs.ElfNumbers.{section_header_size};
 ghost use Rattle.elf_sections.specs.declared.fault.ElfFault.TheVariants.{SectionBytes, Compressed};
 
 use crate::constants::SECTION_HEADER;
@@ -29,7 +30,7 @@ pub struct Tables<'a> {
 
 impl<'a> Model for Tables<'a> {
     ghost use Rattle.std.specs.Prelude.{List, ℕ};
-    ghost use Rattle.elf_sections.specs.Sections.{AreTables};
+    ghost use Rattle.elf_sections.specs.Kept.{AreTables};
 
     ghost Value = { List ℕ };
 
@@ -121,7 +122,7 @@ pub fn read_sections(
     table: usize,
     count: usize,
 ) -> Result<Vec<SectionHeader>, AllocError>
-    requires { table + SECTION_HEADER * count ≤ length file.now }
+    requires { table + section_header_size * count ≤ length file.now }
     ensures { IfOk result (λ v. v.items ≡ sections_from file.now table count) }
 {
     let mut sections = Vec::with_capacity(alloc, count)?;
@@ -141,10 +142,10 @@ pub fn content_at<'a>(file: &'a [u8], sections: &[SectionHeader], index: usize) 
     }
 }
 
-/// Behind the last zero byte: a text that begins below is zero-ended, and no other.
-#[tactic(auto, using(crate::proofs::TableLemmas::ended_below, crate::proofs::TableLemmas::none_ended))]
-fn end_of_texts(table: &[u8]) -> usize
-    ensures { (at : ℕ) → is_ended table.now at ≡ nat_lt at result }
+/// Behind the last zero byte: what begins below is a string, and nothing else.
+#[tactic(auto, using(crate::proofs::StringLemmas::strings_below, crate::proofs::StringLemmas::no_string))]
+fn end_of_strings(table: &[u8]) -> usize
+    ensures { (at : ℕ) → is_none (string_at table.now at) ≡ nat_le result at }
 {
     match memrchr(0, table) {
         None => 0,
@@ -153,17 +154,17 @@ fn end_of_texts(table: &[u8]) -> usize
 }
 
 fn is_past(section: &SectionHeader, table: &[u8], end: usize) -> bool
-    requires { (at : ℕ) → is_ended table.now at ≡ nat_lt at end }
-    ensures { result ≡ not (is_ended table.now section.now.name) }
+    requires { (at : ℕ) → is_none (string_at table.now at) ≡ nat_le end at }
+    ensures { result ≡ is_none (string_at table.now section.now.name) }
 {
     end <= section.name as usize
 }
 
 /// Whether some section's name is not zero-ended inside the table.
 pub fn has_open_name(table: &[u8], sections: &[SectionHeader]) -> bool
-    ensures { result ≡ list_any (λ s. not (is_ended table.now s.name)) sections.now }
+    ensures { result ≡ list_any (λ s. is_none (string_at table.now s.name)) sections.now }
 {
-    let end = end_of_texts(table);
+    let end = end_of_strings(table);
     sections.iter().any(|section| is_past(section, table, end))
 }
 

@@ -7,3 +7,7 @@ pub mod TenthLemmas
 pub mod UlebLemmas
 pub mod SlebLemmas
 pub mod PassLemmas
+pub mod Hex
+pub mod Computing
+mod WorkedLeb
+mod WorkedReadings

@@ -1,5 +1,5 @@
 -- How far each reading goes.
-use Rattle.std.proofs.Common.{◌≡◌, ◌<◌, ◌≤◌, ◌+◌, ◌^◌, ℕ, Bool, true, false, nat_lt, nat_eq, cond, List, length, take, Option, None, Some, Result, Ok, Err, refl, arith}
+use Rattle.std.proofs.Common.{◌≡◌, ◌<◌, ◌≤◌, ◌+◌, ◌^◌, ℕ, Bool, true, false, nat_lt, nat_eq, cond, List, length, take, Option, None, Some, Result, Ok, Err, refl, ap, arith}
 use Rattle.std.specs.Option.{option_map}
 use Rattle.std.specs.List.{position}
 use Rattle.std.proofs.lemmas.Bool.{ltb-false}
@@ -8,6 +8,7 @@ use Rattle.std.proofs.lemmas.List.Quantifiers.{position-Some}
 use Rattle.sym_edges.specs.Results.{◌>>=◌}
 use Rattle.leb_cursor.specs.Ahead.{Ahead, passed}
 use Rattle.leb_cursor.specs.Passes.{Passes}
+use Rattle.leb_cursor.specs.Texts.{front_text}
 use Rattle.sym_edges.specs.Integers.{fits_i64}
 use Rattle.leb_cursor.specs.Readings.{fixed_at, leb_length, leb_sum, sleb_sum, uleb_at, uleb_by, sleb_at, sleb_by, text_at, text_by, take_at}
 
@@ -66,12 +67,20 @@ pub sleb_passes : (c : Ahead) → Passes 1 c (sleb_at c)
 unfolding sleb_at
 sleb_passes c = sleb_by_passes c (leb_length c.bytes) refl
 
-text_by_passes : (c : Ahead) (found : Option ℕ) → position (λ byte. nat_eq byte 0) c.bytes ≡ found → Passes 1 c (text_by c found)
+-- a text is followed by its zero byte
+text_there : (bytes : List ℕ) (found : Option ℕ) (text : List ℕ) → position (λ byte. nat_eq byte 0) bytes ≡ found → option_map (λ (n : ℕ). take n bytes) found ≡ Some text → length text + 1 ≤ length bytes
+text_there bytes None text found is = cc
+text_there bytes (Some n) text found is =
+    let at = position-Some (λ byte. nat_eq byte 0) bytes n 0 found in
+    let below : n < length bytes = at.0 in
+    let same : take n bytes ≡ text = cc in
+    omega (arith, length-take n bytes, ap (λ (t : List ℕ). length t) same)
+
+text_by_passes : (c : Ahead) (found : Option (List ℕ)) → front_text c.bytes ≡ found → Passes 1 c (text_by c found)
+unfolding front_text
 text_by_passes c None is = tt
-text_by_passes c (Some n) is =
-    let at = position-Some (λ byte. nat_eq byte 0) c.bytes n 0 is in
-    let below : n < length c.bytes = at.0 in
-    passed_by (n + 1) 1 c (omega arith) (omega arith)
+text_by_passes c (Some text) is =
+    passed_by (length text + 1) 1 c (text_there c.bytes _ text refl is) (omega arith)
 
 pub text_passes : (c : Ahead) → Passes 1 c (text_at c)
 unfolding text_at

@@ -1,4 +1,4 @@
--- What the groups of a LEB128's first nine bytes are, as the code adds them up.
+-- No public clause cites this: what the groups of a LEB128's first nine bytes are, as the code adds them up.
 use Rattle.std.specs.Prelude.{◌≡◌, ℕ, ◌≤◌, ◌<◌, ◌^◌, List, length, min, slice_index, Some}
 use Rattle.leb_cursor.specs.declared.leb.Groups.{Groups}
 use Rattle.leb_cursor.specs.declared.leb.Groups.TheVariants.{Ended, Going}

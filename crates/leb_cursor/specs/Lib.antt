@@ -1,4 +1,5 @@
 pub mod Ahead
+pub mod Texts
 pub mod Readings
 pub mod Passes
 pub mod Steps

@@ -1,12 +1,13 @@
 -- The readings of numbers, texts and runs of bytes (DWARF 5, section 7.6; all numbers little-endian).
 -- Each gives a value and what is ahead behind it, or the fault with the place where the reading began.
-use Rattle.std.specs.Prelude.{ℕ, ◌+◌, ◌-◌, ◌*◌, ◌%◌, ◌^◌, ◌==◌, nat_lt, Bool, if◌then◌else◌, List, length, take, map, sum, position, slice_index, Option, None, Some, Result, Ok, Err, ℤ, pos, negsuc, ◌-ℤ◌}
+use Rattle.std.specs.Prelude.{ℕ, ◌+◌, ◌-◌, ◌*◌, ◌%◌, ◌^◌, nat_lt, if◌then◌else◌, List, length, take, map, sum, position, slice_index, Option, None, Some, Result, Ok, Err, ℤ, pos, ◌-ℤ◌}
 use Rattle.std.specs.Option.{option_map}
 use Rattle.std.specs.List.{range_with_len}
 use Rattle.sym_edges.specs.Integers.{fits_i64}
 use Rattle.leb_cursor.specs.declared.fault.CursorFault.{CursorFault}
 use Rattle.leb_cursor.specs.declared.fault.CursorFault.TheVariants.{Ends, LebLong, NoZero}
 use Rattle.leb_cursor.specs.Ahead.{Ahead, passed}
+use Rattle.leb_cursor.specs.Texts.{front_text}
 
 -- a number of so many bytes, the lowest first: the sum of byte i times 256 to the i
 unfoldable pub fixed_sum : ℕ → List ℕ → ℕ
@@ -54,14 +55,13 @@ sleb_by c (Some count) =
 unfoldable pub sleb_at : Ahead → Result (ℤ × Ahead) CursorFault
 sleb_at c = sleb_by c (leb_length c.bytes)
 
--- a text whose zero byte is so far ahead
-abbrev pub text_by : Ahead → Option ℕ → Result (List ℕ × Ahead) CursorFault
+abbrev pub text_by : Ahead → Option (List ℕ) → Result (List ℕ × Ahead) CursorFault
 text_by c None = Err (NoZero c.at)
-text_by c (Some n) = Ok (take n c.bytes, passed (n + 1) c)
+text_by c (Some text) = Ok (text, passed (length text + 1) c)
 
 -- a text: the bytes before the next zero byte, which is passed too (DWARF 5, 7.5.5, DW_FORM_string)
 unfoldable pub text_at : Ahead → Result (List ℕ × Ahead) CursorFault
-text_at c = text_by c (position (λ byte. byte == 0) c.bytes)
+text_at c = text_by c (front_text c.bytes)
 
 -- the next n bytes, where they are there
 unfoldable pub take_at : ℕ → Ahead → Result (List ℕ × Ahead) CursorFault

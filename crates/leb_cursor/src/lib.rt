@@ -18,8 +18,6 @@ mod fault;
 mod fixed;
 pub mod laws;
 mod leb;
-#[cfg(test)]
-mod tests;
 
 pub use crate::cursor::Cursor;
 pub use crate::fault::CursorFault;

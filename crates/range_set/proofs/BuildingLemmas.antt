@@ -1,4 +1,5 @@
 use Rattle.std.proofs.Common.{◌≡◌, ℕ, ◌<◌, ◌≤◌, max, Bool, true, false, ◌||◌, ◌&&◌, nat_le, nat_lt, List, [], ◌∷◌, ◌++◌, Option, None, Some, arith, refl, ap, sym, ◌∙◌, subst, append-nil}
+use Rattle.std.proofs.Math.Bool.{or-false}
 use Rattle.std.specs.Option.{option_to_list}
 use Rattle.std.proofs.lemmas.Bool.Decides.{nat_tests}
 use Rattle.sym_edges.specs.Addresses.{Range}
@@ -74,15 +75,9 @@ widened_start done l s end low =
     let w : Range = record { start = l.start; end = end } in
     omega (arith, last_start_joined done (l ∷ []), last_start_joined done (w ∷ []))
 
--- a test that always fails adds nothing
-nothing_more : (p q : Bool) → (p || (q || false)) ≡ (p || q)
-nothing_more true q = refl
-nothing_more false true = refl
-nothing_more false false = refl
-
 -- a range that joins the others as it is
 pub added_members : (old : List Range) (s : Range) (a : ℕ) → holds_any (old ++ s ∷ []) a ≡ (holds_any old a || holds s a)
-added_members old s a = simp (holds_joined) (nothing_more (holds_any old a) (holds s a))
+added_members old s a = simp (holds_joined) (ap (λ b. holds_any old a || b) (or-false (holds s a)))
 
 -- and the greatest start is then that of the range
 pub added_start : (old : List Range) (s : Range) → last_start old ≤ s.start → last_start (old ++ s ∷ []) ≤ s.start

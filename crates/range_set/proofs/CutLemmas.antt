@@ -1,10 +1,11 @@
 use Rattle.std.proofs.Common.{◌≡◌, ℕ, ◌<◌, ◌≤◌, max, Bool, true, false, not, nat_le, nat_lt, ◌||◌, ◌&&◌, List, ◌∷◌, refl, sym, ap, ◌∙◌, arith, inl, inr}
+use Rattle.std.proofs.Math.Bool.{or_assoc}
 use Rattle.std.proofs.lemmas.Bool.Decides.{nat_tests, leb_tells}
 use Rattle.sym_edges.specs.Addresses.{Range}
 use Rattle.range_set.specs.Members.{holds, holds_any}
 use Rattle.range_set.specs.Canonical.{IsCanonical}
 use Rattle.range_set.specs.Building.{last_start}
-use Rattle.range_set.proofs.MemberLemmas.{or_assoc, above_none, above_all, above_not}
+use Rattle.range_set.proofs.MemberLemmas.{above_none, above_all, above_not}
 
 -- what is built and what is left of the span hold together what was held and what the cuts leave of the span
 pub record Cuts (old : List Range) (span : Range) (cuts built : List Range) (from : ℕ) (rest : List Range) : Type 0 where
@@ -47,7 +48,7 @@ cuts_drop old span cuts built after from cut rest m begins ends members order = 
         | inr high ↦ taken_high from span.end cut a (holds_any rest a) m.canonical.0 high.1
       ] in
       ap (λ b. b || (left && not (holds_any rest a))) (members a)
-      ∙ sym (or_assoc (holds_any built a) (nat_le from a && nat_lt a cut.start) (left && not (holds_any rest a)))
+      ∙ or_assoc (holds_any built a) (nat_le from a && nat_lt a cut.start) (left && not (holds_any rest a))
       ∙ ap (λ b. holds_any built a || b) step
       ∙ m.members a;
   beyond = λ a high. sym (ap (λ b. b || holds_any rest a) (above_not cut a (omega arith))) ∙ m.beyond a high;
@@ -97,7 +98,7 @@ minus_step left right built after x xs cuts rest m canonical beyond members orde
         | inr low ↦ (let none : holds_any xs a ≡ false = above_none x.end xs a m.first.1 m.first.2 (omega arith) in rw none (or_none (holds x a) (holds_any cuts a)))
       ] in
       ap (λ b. b || (holds_any xs a && not (holds_any rest a))) (members a)
-      ∙ sym (or_assoc (holds_any built a) (holds x a && not (holds_any cuts a)) (holds_any xs a && not (holds_any rest a)))
+      ∙ or_assoc (holds_any built a) (holds x a && not (holds_any cuts a)) (holds_any xs a && not (holds_any rest a))
       ∙ ap (λ b. holds_any built a || b) step
       ∙ m.members a;
   order = λ a h. (let above : x.end < a = above_all x.end xs a m.first.1 m.first.2 h in omega arith);

@@ -1,11 +1,15 @@
 use Rattle.std.proofs.Common.{◌≡◌, ℕ, ◌<◌, ◌≤◌, Bool, true, false, nat_le, ◌||◌, ◌&&◌, List, [], ◌∷◌, ◌++◌, length, refl, sym, ap, ◌∙◌, arith}
+use Rattle.std.proofs.Math.Bool.{or-false}
+use Rattle.std.proofs.lemmas.Bool.{or_right}
 use Rattle.std.specs.List.Sorted.{IsPermutation}
 use Rattle.std.proofs.lemmas.List.Sorted.{list_any-IsPermutation}
 use Rattle.std.proofs.lemmas.List.Folds.{list_any-append}
 use Rattle.std.proofs.lemmas.Bool.Decides.{nat_tests}
 use Rattle.sym_edges.specs.Addresses.{Range}
-use Rattle.range_set.specs.Building.{last_start, AllFrom, AreAscending, StartsBefore}
-use Rattle.range_set.specs.Enclosing.{encloses, AllReach, AreRising}
+use Rattle.range_set.specs.Starts.{AllFrom}
+use Rattle.range_set.specs.Building.{last_start, AreAscending, StartsBefore}
+use Rattle.range_set.specs.Enclosing.{encloses}
+use Rattle.range_set.specs.Building.{AllReach, AreRising}
 use Rattle.range_set.proofs.JoinLemmas.{from_lower, from_zero}
 
 -- one range encloses the addresses from a start up to an end
@@ -89,10 +93,6 @@ both_low x start end both = grind (arith, nat_tests)
 both_far : (x : Range) (start end : ℕ) → has_both start end x ≡ true → end ≤ x.end
 both_far x start end both = grind (arith, nat_tests)
 
-or_right : (p : Bool) → (p || true) ≡ true
-or_right true = refl
-or_right false = refl
-
 or_end : (p q r : Bool) → ((p || (q || false)) || r) ≡ (p || (q || r))
 or_end true q r = refl
 or_end false true r = refl
@@ -109,7 +109,7 @@ held_more kept later x start end is low above near =
     let at : last_start later ≡ x.start = ap last_start is ∙ last_more kept x low in
     let both : has_both start end x ≡ true = both_true x start end (omega arith) near in
     ap (λ l. encloses l start end) is ∙ more_encloses kept x start end
-    ∙ ap (λ b. encloses kept start end || (b || false)) both ∙ or_right (encloses kept start end)
+    ∙ ap (λ b. encloses kept start end || (b || false)) both ∙ or_right (encloses kept start end) true refl
 
 same_more : (all kept rest later : List Range) (x : Range) (start end : ℕ) → later ≡ kept ++ x ∷ [] → (encloses kept start end || encloses (x ∷ rest) start end) ≡ encloses all start end → (encloses later start end || encloses rest start end) ≡ encloses all start end
 same_more all kept rest later x start end is same =
@@ -150,12 +150,8 @@ keeps_same all kept rest x reach k some near =
           ∙ k.same start end;
     }
 
-or_last : (p : Bool) → (p || false) ≡ p
-or_last true = refl
-or_last false = refl
-
 -- where nothing is left, what is kept encloses what all do
 pub keeps_all : (all kept rest : List Range) (reach : ℕ) → Keeps all kept rest reach → length rest ≡ 0 → (start end : ℕ) → encloses kept start end ≡ encloses all start end
 unfolding encloses
-keeps_all all kept [] reach k none start end = sym (or_last (encloses kept start end)) ∙ k.same start end
+keeps_all all kept [] reach k none start end = sym (or-false (encloses kept start end)) ∙ k.same start end
 keeps_all all kept (x ∷ rest) reach k none start end = absurd (omega arith)

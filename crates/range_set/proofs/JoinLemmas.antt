@@ -1,12 +1,14 @@
 use Rattle.std.proofs.Common.{◌≡◌, ℕ, ◌<◌, ◌≤◌, suc, Bool, true, false, ◌||◌, List, [], ◌∷◌, length, refl, sym, ap, ◌∙◌, arith, Result, Ok, Err, IfOk}
+use Rattle.std.proofs.Math.Bool.{or_assoc, or-false}
 use Rattle.std.specs.List.{list_any, slice_index_or}
 use Rattle.std.specs.List.Sorted.{IsPermutation, IsNonDecreasingBy}
 use Rattle.std.proofs.lemmas.List.Sorted.{list_any-IsPermutation}
 use Rattle.sym_edges.specs.Addresses.{Range}
 use Rattle.range_set.specs.Members.{holds, holds_any}
 use Rattle.range_set.specs.Canonical.{IsCanonical, BeginsAbove}
-use Rattle.range_set.specs.Building.{last_start, AllFrom, AreAscending, StartsBefore}
-use Rattle.range_set.proofs.MemberLemmas.{or_assoc, none_held}
+use Rattle.range_set.specs.Starts.{AllFrom}
+use Rattle.range_set.specs.Building.{last_start, AreAscending, StartsBefore}
+use Rattle.range_set.proofs.MemberLemmas.{none_held}
 
 -- a list and its permutation hold the same
 holds_any_is : (xs : List Range) (a : ℕ) → holds_any xs a ≡ list_any (λ r. holds r a) xs
@@ -56,7 +58,7 @@ pub pushes_step : (old all built after : List Range) (x : Range) (xs : List Rang
 pushes_step old all built after x xs m members order = record {
   ascending = m.ascending.1;
   before = from_lower (last_start after) x.start xs m.ascending.0 order;
-  members = λ a. ap (λ b. b || holds_any xs a) (members a) ∙ sym (or_assoc (holds_any built a) (holds x a) (holds_any xs a)) ∙ m.members a;
+  members = λ a. ap (λ b. b || holds_any xs a) (members a) ∙ or_assoc (holds_any built a) (holds x a) (holds_any xs a) ∙ m.members a;
 }
 
 -- what is built and what is left of two lists hold together what the two lists hold
@@ -82,8 +84,8 @@ joins_first left right built after x y xs ys m low members order = record {
   early = (omega arith, from_lower (last_start after) y.start ys (ascending_canonical (y ∷ ys) m.second).0 (omega arith));
   members = λ a.
       ap (λ b. b || (holds_any xs a || holds_any (y ∷ ys) a)) (members a)
-      ∙ sym (or_assoc (holds_any built a) (holds x a) (holds_any xs a || holds_any (y ∷ ys) a))
-      ∙ ap (λ b. holds_any built a || b) (or_assoc (holds x a) (holds_any xs a) (holds_any (y ∷ ys) a))
+      ∙ or_assoc (holds_any built a) (holds x a) (holds_any xs a || holds_any (y ∷ ys) a)
+      ∙ ap (λ b. holds_any built a || b) (sym (or_assoc (holds x a) (holds_any xs a) (holds_any (y ∷ ys) a)))
       ∙ m.members a;
 }
 
@@ -96,7 +98,7 @@ joins_second left right built after x y xs ys m low members order = record {
   early = from_lower (last_start after) y.start ys (ascending_canonical (y ∷ ys) m.second).0 order;
   members = λ a.
       ap (λ b. b || (holds_any (x ∷ xs) a || holds_any ys a)) (members a)
-      ∙ sym (or_assoc (holds_any built a) (holds y a) (holds_any (x ∷ xs) a || holds_any ys a))
+      ∙ or_assoc (holds_any built a) (holds y a) (holds_any (x ∷ xs) a || holds_any ys a)
       ∙ ap (λ b. holds_any built a || b) (second_goes (holds_any (x ∷ xs) a) (holds y a) (holds_any ys a))
       ∙ m.members a;
 }
@@ -106,16 +108,10 @@ pub from_zero : (xs : List Range) → AllFrom 0 xs
 from_zero [] = tt
 from_zero (x ∷ xs) = (omega arith, from_zero xs)
 
--- a test that always fails adds nothing
-or_false : (p q : Bool) → (p || (q || false)) ≡ (p || q)
-or_false true q = refl
-or_false false true = refl
-or_false false false = refl
-
 -- of two lists one has ended
 pub joins_end : (left right built xs ys : List Range) → Joins left right built xs ys → length ys ≡ 0 → (a : ℕ) → (holds_any built a || holds_any xs a) ≡ (holds_any left a || holds_any right a)
 joins_end left right built xs ys m none a =
-    sym (or_false (holds_any built a) (holds_any xs a))
+    sym (ap (λ b. holds_any built a || b) (or-false (holds_any xs a)))
     ∙ ap (λ b. holds_any built a || (holds_any xs a || b)) (sym (none_held ys a none))
     ∙ m.members a
 

@@ -1,9 +1,10 @@
-use Rattle.std.proofs.Common.{◌≡◌, ℕ, ◌<◌, ◌≤◌, max, Bool, true, false, ◌||◌, ◌&&◌, List, ◌∷◌, refl, sym, ap, ◌∙◌, arith}
+use Rattle.std.proofs.Common.{◌≡◌, ℕ, ◌<◌, ◌≤◌, max, Bool, true, false, ◌||◌, ◌&&◌, List, ◌∷◌, refl, ap, ◌∙◌, arith}
+use Rattle.std.proofs.Math.Bool.{or_assoc}
 use Rattle.sym_edges.specs.Addresses.{Range}
 use Rattle.range_set.specs.Members.{holds, holds_any}
 use Rattle.range_set.specs.Canonical.{IsCanonical}
 use Rattle.range_set.specs.Building.{last_start}
-use Rattle.range_set.proofs.MemberLemmas.{or_assoc, within, above_none, above_all, first_at, rest_held}
+use Rattle.range_set.proofs.MemberLemmas.{within, above_none, above_all, first_at, rest_held}
 
 -- what is built and what is left hold together what both lists hold, and what is left does not begin before what is built
 pub record Meets (left right built xs ys : List Range) : Type 0 where
@@ -38,7 +39,7 @@ meets_first left right built after x y xs ys m ends members order = record {
       let none : holds x a ≡ true → holds_any xs a ≡ false = λ h. (let w = within x a h in above_none x.end xs a m.first.1 m.first.2 (omega (arith, w.1))) in
       let too : holds x a ≡ true → holds_any ys a ≡ false = λ h. (let w = within x a h in above_none y.end ys a m.second.1 m.second.2 (omega (arith, w.1))) in
       ap (λ b. b || (holds_any xs a && holds_any (y ∷ ys) a)) (members a)
-      ∙ sym (or_assoc (holds_any built a) (holds x a && holds y a) (holds_any xs a && holds_any (y ∷ ys) a))
+      ∙ or_assoc (holds_any built a) (holds x a && holds y a) (holds_any xs a && holds_any (y ∷ ys) a)
       ∙ ap (λ b. holds_any built a || b) (first_goes (holds x a) (holds y a) (holds_any xs a) (holds_any ys a) none too)
       ∙ m.members a;
   order = λ a h k.
@@ -56,7 +57,7 @@ meets_second left right built after x y xs ys m ends members order = record {
       let none : holds y a ≡ true → holds_any xs a ≡ false = λ h. (let w = within y a h in above_none x.end xs a m.first.1 m.first.2 (omega (arith, w.1))) in
       let too : holds y a ≡ true → holds_any ys a ≡ false = λ h. (let w = within y a h in above_none y.end ys a m.second.1 m.second.2 (omega (arith, w.1))) in
       ap (λ b. b || (holds_any (x ∷ xs) a && holds_any ys a)) (members a)
-      ∙ sym (or_assoc (holds_any built a) (holds x a && holds y a) (holds_any (x ∷ xs) a && holds_any ys a))
+      ∙ or_assoc (holds_any built a) (holds x a && holds y a) (holds_any (x ∷ xs) a && holds_any ys a)
       ∙ ap (λ b. holds_any built a || b) (second_goes (holds x a) (holds y a) (holds_any xs a) (holds_any ys a) none too)
       ∙ m.members a;
   order = λ a h k.

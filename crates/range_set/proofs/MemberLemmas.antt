@@ -1,23 +1,15 @@
-use Rattle.std.proofs.Common.{◌≡◌, ℕ, ◌<◌, ◌≤◌, Bool, true, false, ◌||◌, List, [], ◌∷◌, ◌++◌, length, arith, refl, ap, ◌∙◌, inl, inr}
+use Rattle.std.proofs.Common.{◌≡◌, ℕ, ◌<◌, ◌≤◌, true, false, ◌||◌, List, [], ◌∷◌, ◌++◌, length, arith, refl, sym, ap, ◌∙◌, inl, inr}
+use Rattle.std.proofs.Math.Bool.{or_assoc}
+use Rattle.std.proofs.lemmas.Bool.{or_right}
 use Rattle.std.proofs.lemmas.Bool.Decides.{nat_tests, leb_tells}
 use Rattle.sym_edges.specs.Addresses.{Range}
 use Rattle.range_set.specs.Members.{holds, holds_any}
 use Rattle.range_set.specs.Canonical.{IsCanonical, BeginsAbove}
 
--- a chain of tests, grouped anew
-pub or_assoc : (p q r : Bool) → (p || (q || r)) ≡ ((p || q) || r)
-or_assoc true q r = refl
-or_assoc false q r = refl
-
--- a test that always passes decides
-or_true : (p : Bool) → (p || true) ≡ true
-or_true true = refl
-or_true false = refl
-
 -- joined lists hold what one of them holds
 pub holds_joined : (xs ys : List Range) (a : ℕ) → holds_any (xs ++ ys) a ≡ (holds_any xs a || holds_any ys a)
 holds_joined [] ys a = refl
-holds_joined (x ∷ xs) ys a = ap (λ b. holds x a || b) (holds_joined xs ys a) ∙ or_assoc (holds x a) (holds_any xs a) (holds_any ys a)
+holds_joined (x ∷ xs) ys a = ap (λ b. holds x a || b) (holds_joined xs ys a) ∙ sym (or_assoc (holds x a) (holds_any xs a) (holds_any ys a))
 
 -- what a range holds lies within it
 pub within : (x : Range) (a : ℕ) → holds x a ≡ true → (x.start ≤ a) × (a < x.end)
@@ -68,7 +60,7 @@ first_held x xs a low high = ap (λ b. b || holds_any xs a) (holds_within x a lo
 
 -- and the others of a list are held
 pub rest_held : (x : Range) (xs : List Range) (a : ℕ) → holds_any xs a ≡ true → holds_any (x ∷ xs) a ≡ true
-rest_held x xs a held = ap (λ b. holds x a || b) held ∙ or_true (holds x a)
+rest_held x xs a held = or_right (holds x a) (holds_any xs a) held
 
 -- what a first range holds, its list holds
 pub first_holds : (x : Range) (xs : List Range) (a : ℕ) → holds x a ≡ true → holds_any (x ∷ xs) a ≡ true

@@ -4,8 +4,9 @@ use Rattle.std.specs.List.Sorted.{IsNonDecreasingBy, IsPartitionedBy, IsPartitio
 use Rattle.std.proofs.lemmas.List.Sorted.{IsPartitionedBy-leb}
 use Rattle.std.proofs.lemmas.Bool.Decides.{nat_tests}
 use Rattle.sym_edges.specs.Addresses.{Range}
-use Rattle.range_set.specs.Building.{AllFrom}
-use Rattle.range_set.specs.Enclosing.{encloses, AllReach, AreRising}
+use Rattle.range_set.specs.Starts.{AllFrom}
+use Rattle.range_set.specs.Enclosing.{encloses}
+use Rattle.range_set.specs.Building.{AllReach, AreRising}
 use Rattle.range_set.proofs.EnclosingLemmas.{has_both}
 
 from_at : (s : ℕ) (xs : List Range) → AllFrom s xs → (k : ℕ) (d : Range) → k < length xs → s ≤ (slice_index_or xs k d).start

@@ -1,17 +1,14 @@
--- What is kept while a set is made from ranges in the order of their starts.
+-- No public clause cites this: what is kept while a set is made from ranges in the order of their starts, and in an
+-- `Enclosing`.
 use Rattle.std.specs.Prelude.{◌≡◌, ℕ, ◌<◌, ◌≤◌, max, List, [], ◌∷◌, Option, None, Some}
 use Rattle.sym_edges.specs.Addresses.{Range}
 use Rattle.range_set.specs.Canonical.{IsCanonical}
+use Rattle.range_set.specs.Starts.{AllFrom}
 
 -- the greatest start, or 0 where there is no range
 abbrev pub last_start : List Range → ℕ
 last_start [] = 0
 last_start (range ∷ ranges) = max range.start (last_start ranges)
-
--- each range starts at or above the address
-abbrev pub AllFrom : ℕ → List Range → Type 0
-AllFrom a [] = Unit {0}
-AllFrom a (range ∷ ranges) = (a ≤ range.start) × AllFrom a ranges
 
 -- each range ends below the address
 abbrev pub EndsBelow : ℕ → List Range → Type 0
@@ -31,3 +28,13 @@ AreAscending (range ∷ ranges) = AllFrom range.start ranges × AreAscending ran
 -- the ranges of the first list start at or below those of the second
 abbrev pub StartsBefore : List Range → List Range → Type 0
 StartsBefore xs ys = AllFrom (last_start xs) ys
+
+-- each range ends at or above the address
+abbrev pub AllReach : ℕ → List Range → Type 0
+AllReach a [] = Unit {0}
+AllReach a (range ∷ ranges) = (a ≤ range.end) × AllReach a ranges
+
+-- no range starts below one before it, and none ends below one before it
+abbrev pub AreRising : List Range → Type 0
+AreRising [] = Unit {0}
+AreRising (range ∷ ranges) = AllFrom range.start ranges × AllReach range.end ranges × AreRising ranges

@@ -1,5 +1,6 @@
 pub mod Members
 pub mod Canonical
+pub mod Starts
 pub mod Building
 pub mod Kept
 pub mod Enclosing

@@ -1,7 +1,8 @@
 ghost use Rattle.std.specs.Prelude.{◌≡◌, ℕ, List, IfOk};
 ghost use Rattle.sym_edges.specs.Addresses.{Range};
 ghost use Rattle.range_set.specs.Building.{AreAscending};
-ghost use Rattle.range_set.specs.Enclosing.{encloses, AreRising};
+ghost use Rattle.range_set.specs.Enclosing.{encloses};
+ghost use Rattle.range_set.specs.Building.{AreRising};
 
 use crate::joining::sorted_copy;
 use std::alloc::{AllocError, Global};
@@ -18,7 +19,7 @@ pub struct Enclosing {
 impl Model for Enclosing {
     ghost use Rattle.std.specs.Prelude.{List};
     ghost use Rattle.sym_edges.specs.Addresses.{Range};
-    ghost use Rattle.range_set.specs.Enclosing.{AreRising};
+    ghost use Rattle.range_set.specs.Building.{AreRising};
 
     ghost Value = { List Range };
 

@@ -23,109 +23,179 @@ fn set_of(alloc: Global, pairs: &[(u64, u64)]) -> Result<RangeSet, Fail> {
     Ok(of_ranges(alloc, spans.as_slice())?)
 }
 
-#[test]
-fn touching_spans_in_any_order_are_one_span(rt: HostRuntime) -> Result<(), Fail> {
-    let set = set_of(rt.alloc(), &[(5, 9), (1, 3), (3, 5)])?;
-    assert_eq!(rt; set.spans(), spans_of(rt.alloc(), &[(1, 9)])?.as_slice());
-    Ok(())
+/// Compares what came out with what is wanted.
+fn expect(rt: &impl Abort, row: &str, got: &[u64], want: &[u64]) {
+    assert_eq!(rt; got, want, "{row}");
 }
 
-#[test]
-fn minus_a_span_in_the_middle_leaves_both_ends(rt: HostRuntime) -> Result<(), Fail> {
-    let set = set_of(rt.alloc(), &[(1, 9)])?;
-    let cut = set.minus(rt.alloc(), &set_of(rt.alloc(), &[(4, 6)])?)?;
-    assert_eq!(rt;
-        cut.spans(),
-        spans_of(rt.alloc(), &[(1, 4), (6, 9)])?.as_slice()
-    );
-    Ok(())
-}
-
-#[test]
-fn meet_keeps_what_lies_in_both(rt: HostRuntime) -> Result<(), Fail> {
-    let set = set_of(rt.alloc(), &[(1, 4), (6, 9)])?;
-    let met = set.meet(rt.alloc(), &set_of(rt.alloc(), &[(3, 7)])?)?;
-    assert_eq!(rt;
-        met.spans(),
-        spans_of(rt.alloc(), &[(3, 4), (6, 7)])?.as_slice()
-    );
-    Ok(())
-}
-
-#[test]
-fn join_with_the_gap_is_one_span_again(rt: HostRuntime) -> Result<(), Fail> {
-    let set = set_of(rt.alloc(), &[(1, 4), (6, 9)])?;
-    let joined = set.join(rt.alloc(), &set_of(rt.alloc(), &[(4, 6)])?)?;
-    assert_eq!(rt; joined.spans(), spans_of(rt.alloc(), &[(1, 9)])?.as_slice());
-    Ok(())
-}
-
-#[test]
-fn has_includes_each_start_and_no_end(rt: HostRuntime) -> Result<(), Fail> {
-    let set = set_of(rt.alloc(), &[(1, 4), (6, 9)])?;
-    let held = [
-        false, true, true, true, false, false, true, true, true, false,
-    ];
-    for (a, want) in held.iter().enumerate() {
-        assert_eq!(rt; set.has(a as u64), *want, "at {a}");
+/// The starts and ends of spans, in turn.
+fn ends_of(alloc: Global, spans: &[Span]) -> Result<Vec<u64>, AllocError> {
+    let mut ends = Vec::new(alloc);
+    for span in spans {
+        ends.push(span.start())?;
+        ends.push(span.end())?;
     }
+    Ok(ends)
+}
+
+/// Compares the spans of a set with their starts and ends.
+fn expect_set(
+    rt: &impl Abort,
+    alloc: Global,
+    row: &str,
+    got: &RangeSet,
+    want: &[u64],
+) -> Result<(), Fail> {
+    expect(rt, row, &ends_of(alloc, got.spans())?, want);
     Ok(())
 }
 
+/// The addresses below a limit that a set has.
+fn held_below(alloc: Global, set: &RangeSet, limit: u64) -> Result<Vec<u64>, AllocError> {
+    let mut held = Vec::new(alloc);
+    for a in 0..limit {
+        if set.has(a) {
+            held.push(a)?;
+        }
+    }
+    Ok(held)
+}
+
 #[test]
-fn a_set_reads_as_the_list_of_its_spans(rt: HostRuntime) -> Result<(), Fail> {
-    let set = set_of(rt.alloc(), &[(6, 9), (1, 4)])?;
-    let want = spans_of(rt.alloc(), &[(1, 4), (6, 9)])?;
-    assert_eq!(rt; set.len(), 2);
-    assert!(rt; !set.is_empty());
-    assert_eq!(rt; set.as_slice(), want.as_slice());
-    assert_eq!(rt; set.get(1).copied(), Some(Span::new(6, 9)));
-    assert_eq!(rt; set.get(2).copied(), None);
+fn small_sets(rt: HostRuntime) -> Result<(), Fail> {
+    let alloc = rt.alloc();
+    let whole = set_of(alloc, &[(5, 9), (1, 3), (3, 5)])?;
+    expect_set(&rt, alloc, "touching spans in any order", &whole, &[1, 9])?;
+    let gap = set_of(alloc, &[(4, 6)])?;
+    let ends = whole.minus(alloc, &gap)?;
+    expect_set(&rt, alloc, "minus the middle", &ends, &[1, 4, 6, 9])?;
+    let met = ends.meet(alloc, &set_of(alloc, &[(3, 7)])?)?;
+    expect_set(&rt, alloc, "what lies in both", &met, &[3, 4, 6, 7])?;
+    let joined = ends.join(alloc, &gap)?;
+    expect_set(&rt, alloc, "joined with the gap", &joined, &[1, 9])?;
+    let held = held_below(alloc, &ends, 12)?;
+    expect(&rt, "each start and no end", &held, &[1, 2, 3, 6, 7, 8]);
+    expect(
+        &rt,
+        "as a slice",
+        &ends_of(alloc, ends.as_slice())?,
+        &[1, 4, 6, 9],
+    );
+    expect(&rt, "the length", &[ends.len() as u64], &[2]);
+    let second = ends.get(1).copied().unwrap_or(Span::new(0, 1));
+    expect(
+        &rt,
+        "the second span",
+        &[second.start(), second.end()],
+        &[6, 9],
+    );
+    let neither = ends.is_empty() || ends.get(2).is_some();
+    expect(&rt, "neither empty nor of three", &[neither as u64], &[0]);
     Ok(())
 }
 
 #[test]
 fn spans_reach_up_to_the_last_address_but_one(rt: HostRuntime) -> Result<(), Fail> {
+    let alloc = rt.alloc();
     let top = u64::MAX;
-    let high = set_of(rt.alloc(), &[(top - 2, top), (0, 1)])?;
-    assert!(rt; high.has(top - 1) && high.has(0));
-    assert!(rt; !high.has(top) && !high.has(top - 3));
-    let whole = set_of(rt.alloc(), &[(0, top)])?;
-    let left = whole.minus(rt.alloc(), &high)?;
-    assert_eq!(rt;
-        left.spans(),
-        spans_of(rt.alloc(), &[(1, top - 2)])?.as_slice()
+    let high = set_of(alloc, &[(top - 2, top), (0, 1)])?;
+    let held = [high.has(top), high.has(top - 1), high.has(top - 3)];
+    expect(
+        &rt,
+        "below the top",
+        &[held[0] as u64, held[1] as u64, held[2] as u64],
+        &[0, 1, 0],
     );
-    let joined = left.join(rt.alloc(), &high)?;
-    assert_eq!(rt; joined.spans(), whole.spans());
-    let met = joined.meet(rt.alloc(), &high)?;
-    assert_eq!(rt; met.spans(), high.spans());
+    let whole = set_of(alloc, &[(0, top)])?;
+    let left = whole.minus(alloc, &high)?;
+    expect_set(&rt, alloc, "without both ends", &left, &[1, top - 2])?;
+    let joined = left.join(alloc, &high)?;
+    expect_set(&rt, alloc, "with them again", &joined, &[0, top])?;
+    let met = joined.meet(alloc, &high)?;
+    expect_set(&rt, alloc, "the ends alone", &met, &[0, 1, top - 2, top])?;
     Ok(())
 }
 
-/// It takes no memory itself either, so that it also passes where the first allocation fails.
+/// The sets take no memory here, so that this passes too where the first allocation fails.
 #[test]
 fn sets_of_no_span_and_of_one_take_no_memory(rt: HostRuntime) -> Result<(), Fail> {
-    let none = of_ranges(rt.alloc(), &[])?;
-    assert!(rt; none.is_empty() && RangeSet::empty().is_empty());
-    let one = of_ranges(rt.alloc(), &[Span::new(2, 7)])?;
+    let alloc = rt.alloc();
+    let none = of_ranges(alloc, &[])?;
+    let one = of_ranges(alloc, &[Span::new(2, 7)])?;
     let other = RangeSet::of_span(Span::new(7, 9));
-    let joined = one.join(rt.alloc(), &other)?;
-    assert_eq!(rt; joined.get(0).copied(), Some(Span::new(2, 9)));
-    let met = joined.meet(rt.alloc(), &one)?;
-    assert_eq!(rt; met.get(0).copied(), Some(Span::new(2, 7)));
-    let cut = joined.minus(rt.alloc(), &one)?;
-    assert_eq!(rt; cut.get(0).copied(), Some(Span::new(7, 9)));
-    assert_eq!(rt; cut.len(), 1);
-    assert!(rt; one.minus(rt.alloc(), &joined)?.is_empty());
-    assert!(rt; one.meet(rt.alloc(), &other)?.is_empty());
+    let joined = one.join(alloc, &other)?;
+    let met = joined.meet(alloc, &one)?;
+    let cut = joined.minus(alloc, &one)?;
+    for (row, set, start, end) in [
+        ("joined", &joined, 2, 9),
+        ("met", &met, 2, 7),
+        ("cut", &cut, 7, 9),
+    ] {
+        let span = set.get(0).copied().unwrap_or(Span::new(0, 1));
+        expect(
+            &rt,
+            row,
+            &[span.start(), span.end(), set.len() as u64],
+            &[start, end, 1],
+        );
+    }
+    for (row, count) in [
+        ("of no span", none.len()),
+        ("empty", RangeSet::empty().len()),
+        ("less than itself", one.minus(alloc, &joined)?.len()),
+        ("nothing in both", one.meet(alloc, &other)?.len()),
+    ] {
+        expect(&rt, row, &[count as u64], &[0]);
+    }
     Ok(())
 }
 
 #[test]
 fn a_set_takes_32_bytes_beside_the_spans_of_larger_ones(rt: HostRuntime) {
-    assert_eq!(rt; size_of::<RangeSet>(), 32);
-    assert_eq!(rt; size_of::<Span>(), 16);
+    let sizes = [size_of::<RangeSet>() as u64, size_of::<Span>() as u64];
+    expect(&rt, "a set and a span", &sizes, &[32, 16]);
+}
+
+/// A thousand spans from `from` to `to` behind each tenth address, the highest first or last.
+fn thousand(alloc: Global, from: u64, to: u64, rising: bool) -> Result<Vec<Span>, AllocError> {
+    let mut spans = Vec::new(alloc);
+    for k in 0..1000 {
+        let tenth = if rising { 10 * k } else { 9990 - 10 * k };
+        if from < to && to < 10 {
+            spans.push(Span::new(tenth + from, tenth + to))?;
+        }
+    }
+    Ok(spans)
+}
+
+/// Each call that takes memory, with a thousand spans.
+#[test]
+fn sets_of_a_thousand_spans(rt: HostRuntime) -> Result<(), Fail> {
+    let alloc = rt.alloc();
+    let low = of_ranges(alloc, thousand(alloc, 0, 4, false)?.as_slice())?;
+    let high = of_ranges(alloc, thousand(alloc, 2, 6, false)?.as_slice())?;
+    for (row, set, from, to) in [
+        ("of_ranges", &low, 0, 4),
+        ("meet", &low.meet(alloc, &high)?, 2, 4),
+        ("minus", &low.minus(alloc, &high)?, 0, 2),
+        ("join", &low.join(alloc, &high)?, 0, 6),
+    ] {
+        let want = ends_of(alloc, thousand(alloc, from, to, true)?.as_slice())?;
+        expect_set(&rt, alloc, row, set, &want)?;
+    }
+    let enclosing = Enclosing::of_spans(alloc, low.spans())?;
+    let mut enclosed = 0u64;
+    let mut beyond = 0u64;
+    for span in low.spans() {
+        if enclosing.encloses(span.start(), span.end()) {
+            enclosed = enclosed.saturating_add(1);
+        }
+        if span.end() < u64::MAX && enclosing.encloses(span.start(), span.end() + 1) {
+            beyond = beyond.saturating_add(1);
+        }
+    }
+    expect(&rt, "Enclosing", &[enclosed, beyond], &[1000, 0]);
+    Ok(())
 }
 
 /// The addresses of the random sets lie below this.
@@ -208,41 +278,74 @@ fn picked(
 }
 
 /// Compares the set of some spans with the list of their addresses.
-fn check_one(rt: &impl Abort, alloc: Global, spans: &[Span], turn: u64) -> Result<RangeSet, Fail> {
+fn check_one(rt: &impl Abort, alloc: Global, spans: &[Span]) -> Result<RangeSet, Fail> {
     let set = of_ranges(alloc, spans)?;
     let addresses = addresses_of(alloc, spans)?;
     let runs = runs_of(alloc, addresses.as_slice())?;
-    assert_eq!(rt; set.spans(), runs.as_slice(), "of_ranges in turn {turn}");
-    for a in 0..ADDRESSES {
-        assert_eq!(rt; set.has(a), addresses.contains(&a), "at {a} in turn {turn}");
-    }
+    expect_set(
+        rt,
+        alloc,
+        "of_ranges",
+        &set,
+        &ends_of(alloc, runs.as_slice())?,
+    )?;
+    expect(
+        rt,
+        "has",
+        &held_below(alloc, &set, ADDRESSES)?,
+        addresses.as_slice(),
+    );
     Ok(set)
+}
+
+/// Compares a set with the runs of a list of addresses.
+fn check_runs(
+    rt: &impl Abort,
+    alloc: Global,
+    row: &str,
+    set: &RangeSet,
+    addresses: &[u64],
+) -> Result<(), Fail> {
+    let runs = runs_of(alloc, addresses)?;
+    expect_set(rt, alloc, row, set, &ends_of(alloc, runs.as_slice())?)
 }
 
 #[test]
 fn random_sets_hold_what_lists_of_addresses_hold(rt: HostRuntime) -> Result<(), Fail> {
     let alloc = rt.alloc();
     let mut draws = Draws { state: 1 };
-    for turn in 0..200 {
+    for _ in 0..200 {
         let left = draws.spans(alloc)?;
         let right = draws.spans(alloc)?;
-        let one = check_one(&rt, alloc, left.as_slice(), turn)?;
-        let other = check_one(&rt, alloc, right.as_slice(), turn)?;
+        let one = check_one(&rt, alloc, left.as_slice())?;
+        let other = check_one(&rt, alloc, right.as_slice())?;
         let first = addresses_of(alloc, left.as_slice())?;
         let second = addresses_of(alloc, right.as_slice())?;
         let both = picked(alloc, first.as_slice(), second.as_slice(), true)?;
         let rest = picked(alloc, first.as_slice(), second.as_slice(), false)?;
         let mut either = picked(alloc, second.as_slice(), first.as_slice(), false)?;
         either.extend_from_slice(first.as_slice())?;
-        let met = one.meet(alloc, &other)?;
-        let cut = one.minus(alloc, &other)?;
-        let joined = one.join(alloc, &other)?;
-        let want = runs_of(alloc, both.as_slice())?;
-        assert_eq!(rt; met.spans(), want.as_slice(), "meet in turn {turn}");
-        let want = runs_of(alloc, rest.as_slice())?;
-        assert_eq!(rt; cut.spans(), want.as_slice(), "minus in turn {turn}");
-        let want = runs_of(alloc, either.as_slice())?;
-        assert_eq!(rt; joined.spans(), want.as_slice(), "join in turn {turn}");
+        check_runs(
+            &rt,
+            alloc,
+            "meet",
+            &one.meet(alloc, &other)?,
+            both.as_slice(),
+        )?;
+        check_runs(
+            &rt,
+            alloc,
+            "minus",
+            &one.minus(alloc, &other)?,
+            rest.as_slice(),
+        )?;
+        check_runs(
+            &rt,
+            alloc,
+            "join",
+            &one.join(alloc, &other)?,
+            either.as_slice(),
+        )?;
     }
     Ok(())
 }
@@ -287,10 +390,12 @@ fn a_range_is_enclosed_by_one_span_alone(rt: HostRuntime) -> Result<(), Fail> {
     for (pairs, start, end, want) in cases {
         let spans = spans_of(rt.alloc(), pairs)?;
         let enclosing = Enclosing::of_spans(rt.alloc(), spans.as_slice())?;
-        assert_eq!(rt;
-            enclosing.encloses(start, end),
-            want,
-            "{start:x} to {end:x}"
+        let found = enclosing.encloses(start, end);
+        expect(
+            &rt,
+            "a range, and whether it is enclosed",
+            &[start, end, found as u64],
+            &[start, end, want as u64],
         );
     }
     Ok(())

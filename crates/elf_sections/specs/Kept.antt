@@ -1,0 +1,37 @@
+-- No public clause cites this: what the code keeps of a file and of a string table while it reads.
+use Rattle.std.specs.Prelude.{◌≡◌, ℕ, ◌+◌, ◌*◌, ◌/◌, ◌^◌, ◌<◌, ◌==◌, true, List, None, length, drop, slice_index}
+use Rattle.std.specs.List.{position_or_len}
+use Rattle.std.specs.declared.cmp.Ordering.{Ordering}
+use Rattle.std.specs.Ordering.{ordering_then, nat_cmp}
+use Rattle.std.specs.BTreeSet.{BTreeSet, contains}
+use Rattle.elf_sections.specs.ElfNumbers.{sht_note}
+use Rattle.elf_sections.specs.Notes.{first_id, notes_of}
+use Rattle.elf_sections.specs.FileHeader.{header_of}
+use Rattle.elf_sections.specs.Sections.{sections, names}
+use Rattle.elf_sections.specs.declared.header.FileHeader.{FileHeader}
+use Rattle.elf_sections.specs.declared.section.SectionHeader.{SectionHeader}
+
+-- what was read of a file whose header and names have no fault
+pub record AreTables (file : List ℕ) (header : FileHeader) (list : List SectionHeader) (table : List ℕ) : Type 0 where
+  pub header_is : header ≡ header_of file
+  pub list_is : list ≡ sections file
+  pub table_is : table ≡ names file
+  pub few : length list < 2 ^ 16
+
+-- the order of runs: by their offsets, then by their sizes
+abbrev pub run_cmp : ℕ × ℕ → ℕ × ℕ → Ordering
+run_cmp x y = ordering_then (nat_cmp x.0 y.0) (nat_cmp x.1 y.1)
+
+-- no section of notes with the offset and the size of a run in the set has a build id
+abbrev pub GaveNone : List ℕ → BTreeSet (ℕ × ℕ) → Type 0
+GaveNone file runs = (s : SectionHeader) → s.kind ≡ sht_note → contains run_cmp runs (s.offset, s.size) ≡ true → first_id (notes_of file s) ≡ None
+
+-- the place of the first zero byte from a place on, or the table's end
+unfoldable pub string_end : List ℕ → ℕ → ℕ
+string_end table at = at + position_or_len (λ b. b == 0) (drop at table)
+
+-- the ends at the starts of all blocks that begin in the table
+pub record AreEnds (table : List ℕ) (block : ℕ) (ends : List ℕ) : Type 0 where
+  pub some : 0 < block
+  pub count : length ends ≡ length table / block + 1
+  pub each : (k : ℕ) → k < length ends → slice_index ends k ≡ string_end table (k * block)

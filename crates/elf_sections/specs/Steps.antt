@@ -1,0 +1,31 @@
+-- No public clause cites this: what the code's own parts answer, below the public calls.
+use Rattle.std.specs.Prelude.{◌≡◌, ℕ, ◌==◌, ◌&&◌, true, false, List, Option, Some, None, length, is_none, map}
+use Rattle.sym_edges.specs.Addresses.{Range}
+use Rattle.elf_sections.specs.Notes.{NoteParts}
+use Rattle.elf_sections.specs.Symbols.{symbol_view, is_nameless, function_of, has_nameless, functions}
+use Rattle.elf_sections.specs.Image.{identity_of}
+use Rattle.elf_sections.specs.declared.notes.Note.{Note}
+use Rattle.elf_sections.specs.declared.symbols.SymbolEntry.{SymbolEntry}
+use Rattle.elf_sections.specs.declared.symbols.Symbol.{Symbol}
+use Rattle.elf_sections.specs.declared.symbols.Found.{Found}
+use Rattle.elf_sections.specs.declared.symbols.Found.TheVariants.{Nameless, Other, Function}
+
+-- a note as it is read
+abbrev pub note_view : Note → NoteParts
+note_view n = record { name = n.name.now; kind = n.kind; descriptor = n.descriptor.now }
+
+-- what an entry is found to be
+abbrev pub Classifies : Found → List Range → List ℕ → SymbolEntry → Type 0
+Classifies Nameless ranges strings e = is_nameless ranges strings e ≡ true
+Classifies Other ranges strings e = (is_nameless ranges strings e ≡ false) × (function_of ranges strings e ≡ None)
+Classifies (Function s) ranges strings e = (is_nameless ranges strings e ≡ false) × (function_of ranges strings e ≡ Some (symbol_view s))
+
+-- what a reading of symbols answers: none exactly where some function has no name
+abbrev pub ReadsSymbols : Option (List Symbol) → List Range → List ℕ → List SymbolEntry → Type 0
+ReadsSymbols None ranges strings found = has_nameless ranges strings found ≡ true
+ReadsSymbols (Some list) ranges strings found = (has_nameless ranges strings found ≡ false) × (map symbol_view list ≡ functions ranges strings found)
+
+-- what a reading of the identity answers: none exactly where there is none
+abbrev pub ReadsIdentity : Option (List ℕ) → List ℕ → Option (List ℕ) → Type 0
+ReadsIdentity None text id = (is_none id && (length text == 0)) ≡ true
+ReadsIdentity (Some identity) text id = ((is_none id && (length text == 0)) ≡ false) × (identity ≡ identity_of text id)

@@ -1,0 +1,10 @@
+-- What a proof unfolds to compute the definitions of leb_cursor where the input is written out.
+use Rattle.std.specs.Prelude.{⊤}
+use Rattle.leb_cursor.specs.Ahead.{passed}
+use Rattle.leb_cursor.specs.Texts.{front_text}
+use Rattle.leb_cursor.specs.Readings.{fixed_sum, fixed_at, leb_length, leb_sum, leb_open, uleb_at, sleb_sum, sleb_at, text_at, take_at}
+use Rattle.leb_cursor.proofs.Hex.{bytes}
+
+unfoldable pub leb_cursor_computes : ⊤
+unfolding passed front_text fixed_sum fixed_at leb_length leb_sum leb_open uleb_at sleb_sum sleb_at text_at take_at bytes
+leb_cursor_computes = tt
