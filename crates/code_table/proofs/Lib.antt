@@ -1,4 +1,3 @@
 pub mod OperandLemmas
-pub mod Hex
 pub mod Computing
 mod WorkedLayouts

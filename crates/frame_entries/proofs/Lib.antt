@@ -4,7 +4,6 @@ pub mod FindLemmas
 pub mod EntryLemmas
 pub mod PlaceLemmas
 pub mod ReasonLemmas
-pub mod Hex
 pub mod Computing
 mod Sections
 mod WorkedListing
