@@ -9,8 +9,8 @@ use Rattle.std.specs.Option.{option_or}
 use Rattle.frame_rows.specs.Rows.{Ascending, last_at}
 use Rattle.sym_records.specs.declared.line.SymLine.{SymLine}
 use Rattle.sym_records.specs.declared.line.SymLine.TheVariants.{Init}
-use Rattle.sym_records.specs.declared.rules.RuleText.{RuleText}
-use Rattle.sym_records.specs.declared.rules.Target.{Target}
+use Rattle.sym_rules.specs.declared.rules.RuleText.{RuleText}
+use Rattle.sym_rules.specs.declared.rules.Target.{Target}
 use Rattle.rule_postfix.specs.Parts.{rests_anew, starts_anew, is_rest, column_part, rule_at, part_of}
 use Rattle.rule_postfix.specs.Rules.{rule_of, rules_of, rules_by, targets, if_changed, comes_to_rest, rests_below, row_rules, changed_rules}
 use Rattle.rule_postfix.specs.FrameLines.{is_cut, first_cut, change, line_at, frame_lines}

@@ -8,8 +8,8 @@ use Rattle.frame_rows.specs.declared.row.Rule.{Rule}
 use Rattle.frame_rows.specs.declared.row.Rule.TheVariants as rule
 use Rattle.frame_rows.specs.declared.row.CfaRule.{CfaRule}
 use Rattle.frame_rows.specs.declared.row.Row.{Row}
-use Rattle.sym_records.specs.declared.rules.Target.{Target}
-use Rattle.sym_records.specs.declared.rules.Target.TheVariants.{Cfa, Ra, Reg, Other}
+use Rattle.sym_rules.specs.declared.rules.Target.{Target}
+use Rattle.sym_rules.specs.declared.rules.Target.TheVariants.{Cfa, Ra, Reg, Other}
 use Rattle.rule_postfix.specs.declared.parts.Part.{Part}
 use Rattle.rule_postfix.specs.declared.parts.Part.TheVariants.{AtRest, Base, Column}
 

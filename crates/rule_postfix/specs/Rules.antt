@@ -4,11 +4,11 @@ use Rattle.std.specs.List.{list_any, range_with_len, filter_map}
 use Rattle.frame_rows.specs.declared.row.Rule.{Rule}
 use Rattle.frame_rows.specs.declared.row.Rule.TheVariants as rule
 use Rattle.frame_rows.specs.declared.row.Row.{Row}
-use Rattle.sym_records.specs.declared.rules.Target.{Target}
-use Rattle.sym_records.specs.declared.rules.Target.TheVariants.{Cfa, Ra, Reg, Other}
-use Rattle.sym_records.specs.declared.rules.Token.{Token}
-use Rattle.sym_records.specs.declared.rules.Token.TheVariants as token
-use Rattle.sym_records.specs.declared.rules.RuleText.{RuleText}
+use Rattle.sym_rules.specs.declared.rules.Target.{Target}
+use Rattle.sym_rules.specs.declared.rules.Target.TheVariants.{Cfa, Ra, Reg, Other}
+use Rattle.sym_rules.specs.declared.rules.Token.{Token}
+use Rattle.sym_rules.specs.declared.rules.Token.TheVariants as token
+use Rattle.sym_rules.specs.declared.rules.RuleText.{RuleText}
 use Rattle.rule_postfix.specs.declared.parts.Part.{Part}
 use Rattle.rule_postfix.specs.declared.parts.Part.TheVariants.{AtRest, Base, Column}
 use Rattle.sym_edges.specs.Abi.{is_kept, stack_pointer}

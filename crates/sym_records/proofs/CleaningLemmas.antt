@@ -5,9 +5,9 @@ use Rattle.std.proofs.lemmas.Bool.Decides.{nat_tests}
 use Rattle.std.proofs.lemmas.List.Recursion.{and_at}
 use Rattle.std.proofs.lemmas.List.Edits.{map_over_more}
 use Rattle.std.proofs.lemmas.List.{take-map, take_min}
-use Rattle.sym_records.proofs.BoolLemmas.{and_true, both, some_bytes, not_false, if_both}
-use Rattle.sym_records.proofs.EndLemmas.{Begins, begins_skip}
-use Rattle.sym_records.specs.Cuts.{is_space, is_within_line, skip}
+use Rattle.sym_rules.proofs.BoolLemmas.{and_true, both, some_bytes, not_false, if_both}
+use Rattle.sym_rules.proofs.EndLemmas.{Begins, begins_skip}
+use Rattle.sym_rules.specs.Cuts.{is_space, is_within_line, skip}
 use Rattle.sym_records.specs.Cleaning.{shown_byte, or_omitted, cleaned_upto}
 use Rattle.sym_records.specs.Validity.{is_name}
 

@@ -1,10 +1,10 @@
 -- Lists of records that are valid one behind another.
 use Rattle.std.proofs.Common.{◌≡◌, ℕ, ◌+◌, ◌&&◌, cond, true, false, List, [], ◌∷◌, ◌++◌, Some, None, refl, sym, ◌∙◌, ap}
 use Rattle.std.specs.List.{list_all}
-use Rattle.sym_records.proofs.BoolLemmas.{and_true, both, elim_bool}
+use Rattle.sym_rules.proofs.BoolLemmas.{and_true, both, elim_bool}
 use Rattle.sym_records.specs.Reading.{fits, leads, is_start}
 use Rattle.sym_records.specs.Validity.{fields_fit, first_bad_from, first_bad, place_behind, is_change}
-use Rattle.sym_records.specs.declared.rules.RuleText.{RuleText}
+use Rattle.sym_rules.specs.declared.rules.RuleText.{RuleText}
 use Rattle.sym_records.specs.declared.line.SymLine.{SymLine}
 use Rattle.sym_records.specs.declared.line.SymLine.TheVariants.{Module, Info, Public, Init, Change}
 use Rattle.sym_records.specs.declared.place.Place.{Place}

@@ -1,9 +1,3 @@
-pub mod BoolLemmas
-pub mod EndLemmas
-pub mod WordLemmas
-pub mod RuleLemmas
-pub mod RuleListLemmas
-pub mod RuleSoundLemmas
 pub mod DigitsLemmas
 pub mod TextLemmas
 pub mod LineLemmas
@@ -11,7 +5,6 @@ pub mod SoundLemmas
 pub mod ValidityLemmas
 pub mod ReadingLemmas
 pub mod FileLemmas
-pub mod BufferLemmas
 pub mod CutsLemmas
 pub mod CleaningLemmas
 pub mod LengthLemmas
@@ -19,5 +12,4 @@ pub mod RuleLengthLemmas
 pub mod SpellingLemmas
 pub mod JoiningLemmas
 pub mod MakingLemmas
-pub mod LastLemmas
 pub mod WorkedLines

@@ -5,19 +5,19 @@ use Rattle.std.specs.Str.{bytes_eq}
 use Rattle.std.specs.Str.Parse.{AllDigits}
 use Rattle.std.proofs.lemmas.Fmt.{digits_is_IsNumeral}
 use Rattle.std.proofs.lemmas.Slice.Eq.{bytes_eq-Decides}
-use Rattle.sym_records.proofs.BoolLemmas.{and_true, elim_bool}
-use Rattle.sym_records.proofs.EndLemmas.{ends_in_cr, trim_kept, end_behind}
+use Rattle.sym_rules.proofs.BoolLemmas.{and_true, elim_bool}
+use Rattle.sym_rules.proofs.EndLemmas.{ends_in_cr, trim_kept, end_behind}
 use Rattle.sym_records.proofs.TextLemmas.{name_parts, module_reads, info_reads, public_reads, below, line_kept, spaced_ends, before_field, skip_all, skip_one, hex_field, hex_is, wide}
-use Rattle.sym_records.proofs.WordLemmas.{parted}
-use Rattle.sym_records.proofs.RuleListLemmas.{rules_parts, rules_read, cr_none}
+use Rattle.sym_rules.proofs.WordLemmas.{parted}
+use Rattle.sym_rules.proofs.RuleListLemmas.{rules_parts, rules_read, cr_none}
 use Rattle.sym_edges.specs.Results.{◌>>=◌}
-use Rattle.sym_records.specs.Cuts.{is_space, is_cr, is_margin, before, from, skip, last_is}
-use Rattle.sym_records.specs.Rules.{rule_words}
-use Rattle.sym_records.specs.RuleValidity.{are_rules}
+use Rattle.sym_rules.specs.Cuts.{is_space, is_cr, is_margin, before, from, skip, last_is}
+use Rattle.sym_rules.specs.Rules.{rule_words}
+use Rattle.sym_rules.specs.RuleValidity.{are_rules}
 use Rattle.sym_records.specs.Canon.{hex, body}
 use Rattle.sym_records.specs.Text.{init_at, change_at, cfi_at, stack_at, keyed, line_at}
 use Rattle.sym_records.specs.Validity.{is_field, has_fields}
-use Rattle.sym_records.specs.declared.rules.RuleText.{RuleText}
+use Rattle.sym_rules.specs.declared.rules.RuleText.{RuleText}
 use Rattle.sym_records.specs.declared.line.SymLine.{SymLine}
 use Rattle.sym_records.specs.declared.line.SymLine.TheVariants.{Module, Info, Public, Init, Change}
 

@@ -3,12 +3,12 @@ use Rattle.std.proofs.Common.{◌≡◌, ℕ, ◌^◌, ◌≤◌, ◌&&◌, cond
 use Rattle.std.specs.List.{list_all}
 use Rattle.std.specs.Str.{bytes_eq}
 use Rattle.std.proofs.lemmas.Bool.Decides.{nat_tests}
-use Rattle.sym_records.proofs.BoolLemmas.{and_true, not_true}
-use Rattle.sym_records.proofs.EndLemmas.{trim_kept}
+use Rattle.sym_rules.proofs.BoolLemmas.{and_true, not_true}
+use Rattle.sym_rules.proofs.EndLemmas.{trim_kept}
 use Rattle.sym_records.proofs.TextLemmas.{NameParts, name_parts, spaced_ends}
 use Rattle.sym_records.proofs.ValidityLemmas.{valid_fits}
 use Rattle.sym_edges.specs.Results.{◌>>=◌}
-use Rattle.sym_records.specs.Cuts.{is_space, is_cr, is_within_line, before, skip, onto, split_lines}
+use Rattle.sym_rules.specs.Cuts.{is_space, is_cr, is_within_line, before, skip, onto, split_lines}
 use Rattle.sym_records.specs.Canon.{spaced, body, canon, canon_text}
 use Rattle.sym_records.specs.Text.{is_blank, key_of, line_at}
 use Rattle.sym_records.specs.Reading.{fits, leads, Seen, next_number, start, is_start, lacks_module, with_record, with_text, numbered, with_lines, some_records, reading_within, reading}
@@ -17,7 +17,7 @@ use Rattle.sym_records.specs.declared.line.SymLine.{SymLine}
 use Rattle.sym_records.specs.declared.line.SymLine.TheVariants.{Module, Info, Public, Init, Change}
 use Rattle.sym_records.specs.declared.place.Place.{Place}
 use Rattle.sym_records.specs.declared.place.Place.TheVariants.{Start, Inside, Frame}
-use Rattle.sym_records.specs.declared.text_fault.TextKind.TheVariants.{LongLine, NoModule, Misplaced}
+use Rattle.sym_rules.specs.declared.text_fault.TextKind.TheVariants.{LongLine, NoModule, Misplaced}
 
 -- bytes without LF, and an LF behind them, are the first line
 split_first : (xs ys : List ℕ) → list_all is_within_line xs ≡ true → split_lines (xs ++ 10 ∷ ys) ≡ xs ∷ split_lines ys

@@ -8,18 +8,18 @@ use Rattle.std.specs.Str.Parse.{AllDigits, digits_value_after}
 use Rattle.std.proofs.lemmas.Int.Digits.{digits_value-lt}
 use Rattle.std.proofs.lemmas.Bool.Decides.{nat_tests}
 use Rattle.std.proofs.Math.Nat.{pow-le-pow_right}
-use Rattle.sym_records.proofs.BoolLemmas.{both, not_false, elim_bool, chosen, bind_ok}
-use Rattle.sym_records.proofs.EndLemmas.{ends_in_cr, ends_at, trim_ends, skip_ends, from_ends, all_skip, all_from, all_trim, Begins, begins_skip}
-use Rattle.sym_records.proofs.RuleSoundLemmas.{rules_sound}
+use Rattle.sym_rules.proofs.BoolLemmas.{both, not_false, elim_bool, chosen, bind_ok}
+use Rattle.sym_rules.proofs.EndLemmas.{ends_in_cr, ends_at, trim_ends, skip_ends, from_ends, all_skip, all_from, all_trim, Begins, begins_skip}
+use Rattle.sym_rules.proofs.RuleSoundLemmas.{rules_sound}
 use Rattle.sym_edges.specs.Results.{◌>>=◌}
-use Rattle.sym_records.specs.Cuts.{is_space, is_cr, is_margin, is_within_line, before, from, skip, trim_end, last_is}
+use Rattle.sym_rules.specs.Cuts.{is_space, is_cr, is_margin, is_within_line, before, from, skip, trim_end, last_is}
 use Rattle.sym_records.specs.Text.{word_at, name_at, name_of, field_of, hex_digit, hex_onto, hex_value, hex_at, mark_at, module_at, info_at, public_at, fields_alone, init_at, change_at, next_word, behind_word, cfi_at, stack_at, keyed, key_of, record_at, line_at, trimmed, is_blank}
-use Rattle.sym_records.specs.RuleReading.{rules_at}
-use Rattle.sym_records.specs.RuleValidity.{are_rules}
+use Rattle.sym_rules.specs.RuleReading.{rules_at}
+use Rattle.sym_rules.specs.RuleValidity.{are_rules}
 use Rattle.sym_records.specs.declared.line.SymLine.{SymLine}
 use Rattle.sym_records.specs.declared.line.SymLine.TheVariants.{Module, Info, Public, Init, Change}
-use Rattle.sym_records.specs.declared.text_fault.TextKind.{TextKind}
-use Rattle.sym_records.specs.declared.text_fault.TextKind.TheVariants.{Unknown, Hex, Windows}
+use Rattle.sym_rules.specs.declared.text_fault.TextKind.{TextKind}
+use Rattle.sym_rules.specs.declared.text_fault.TextKind.TheVariants.{Unknown, Hex, Windows}
 
 abbrev pub no_space : ℕ → Bool
 no_space b = not (b == 32)

@@ -9,11 +9,11 @@ use Rattle.std.proofs.lemmas.Fmt.{digits_is_IsNumeral}
 use Rattle.std.proofs.lemmas.List.Concat.{flat_map-append}
 use Rattle.std.proofs.lemmas.Slice.Eq.{bytes_eq-Decides}
 use Rattle.std.proofs.lemmas.Bool.Decides.{nat_tests}
-use Rattle.sym_records.proofs.BoolLemmas.{and_true, both, not_false, not_true, elim_bool, no_bytes}
+use Rattle.sym_rules.proofs.BoolLemmas.{and_true, both, not_false, not_true, elim_bool, no_bytes}
 use Rattle.sym_records.proofs.DigitsLemmas.{length_hex}
-use Rattle.sym_records.proofs.EndLemmas.{ends_in_cr, ends_at, trim_kept, end_behind}
+use Rattle.sym_rules.proofs.EndLemmas.{ends_in_cr, ends_at, trim_kept, end_behind}
 use Rattle.sym_edges.specs.Results.{◌>>=◌}
-use Rattle.sym_records.specs.Cuts.{is_space, is_cr, is_margin, is_within_line, is_within_field, before, from, skip, trim_end}
+use Rattle.sym_rules.specs.Cuts.{is_space, is_cr, is_margin, is_within_line, is_within_field, before, from, skip, trim_end}
 use Rattle.sym_records.specs.Canon.{hex, fields, spaced}
 use Rattle.sym_records.specs.Text.{word_at, name_at, name_of, field_of, hex_digit, hex_onto, hex_value, hex_at, mark_at, module_at, info_at, public_at, keyed, key_of, record_at, line_at}
 use Rattle.sym_records.specs.Validity.{is_field, is_name}

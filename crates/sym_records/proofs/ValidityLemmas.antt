@@ -3,16 +3,16 @@ use Rattle.std.proofs.Common.{◌≡◌, ℕ, ◌+◌, ◌-◌, ◌^◌, ◌<◌
 use Rattle.std.specs.List.{list_all, flat_map}
 use Rattle.std.proofs.lemmas.List.Folds.{list_all-append}
 use Rattle.std.proofs.lemmas.Bool.Decides.{nat_tests}
-use Rattle.sym_records.proofs.BoolLemmas.{and_true, both, not_false, elim_bool, false_true}
+use Rattle.sym_rules.proofs.BoolLemmas.{and_true, both, not_false, elim_bool, false_true}
 use Rattle.sym_records.proofs.TextLemmas.{name_parts, hex_field}
 use Rattle.sym_records.proofs.LineLemmas.{line_reads}
-use Rattle.sym_records.proofs.WordLemmas.{is_word}
-use Rattle.sym_records.proofs.RuleListLemmas.{rules_parts}
+use Rattle.sym_rules.proofs.WordLemmas.{is_word}
+use Rattle.sym_rules.proofs.RuleListLemmas.{rules_parts}
 use Rattle.sym_records.proofs.SoundLemmas.{WordParts, RestParts, Shaped, no_space, line_sound}
-use Rattle.sym_records.specs.Cuts.{is_within_line, is_within_field}
-use Rattle.sym_records.specs.Rules.{rule_words}
-use Rattle.sym_records.specs.RuleValidity.{are_rules}
-use Rattle.sym_records.specs.declared.rules.RuleText.{RuleText}
+use Rattle.sym_rules.specs.Cuts.{is_within_line, is_within_field}
+use Rattle.sym_rules.specs.Rules.{rule_words}
+use Rattle.sym_rules.specs.RuleValidity.{are_rules}
+use Rattle.sym_rules.specs.declared.rules.RuleText.{RuleText}
 use Rattle.sym_records.specs.Canon.{hex, keyword, fields, spaced, body}
 use Rattle.sym_records.specs.Reading.{fits, leads}
 use Rattle.sym_records.specs.Validity.{IsValid, AreValidFrom, AreValid, IsFirstBadFrom, IsFirstBad, is_field, is_name, has_fields, fields_fit, first_bad_from, first_bad}

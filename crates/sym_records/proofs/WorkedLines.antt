@@ -1,13 +1,13 @@
 -- Worked lines: what the reading of a line says of them.
 use Rattle.std.proofs.Common.{◌≡◌, pos, negsuc, [], ◌∷◌, ◌++◌, codes, Some, Ok, Err, refl}
-use Rattle.sym_records.specs.Cuts.{before, from, skip, trim_end, last_is}
+use Rattle.sym_rules.specs.Cuts.{before, from, skip, trim_end, last_is}
 use Rattle.sym_edges.specs.Abi.{register_names}
-use Rattle.sym_records.specs.RuleReading.{words, groups, is_symbol, register_of, named_target, target_at, are_digits, integer_of, sign_of, named_token, token_at, each, rule_at, rules_at}
+use Rattle.sym_rules.specs.RuleReading.{words, groups, is_symbol, register_of, named_target, target_at, are_digits, integer_of, sign_of, named_token, token_at, each, rule_at, rules_at}
 use Rattle.sym_records.specs.Text.{word_at, hex_digit, hex_onto, hex_value, hex_at, init_at, change_at, cfi_at, stack_at, keyed, key_of, record_at, line_at}
-use Rattle.sym_records.specs.declared.rules.Target.TheVariants as target
-use Rattle.sym_records.specs.declared.rules.Token.TheVariants as token
+use Rattle.sym_rules.specs.declared.rules.Target.TheVariants as target
+use Rattle.sym_rules.specs.declared.rules.Token.TheVariants as token
 use Rattle.sym_records.specs.declared.line.SymLine.TheVariants.{Init, Change}
-use Rattle.sym_records.specs.declared.text_fault.TextKind.TheVariants.{Unknown, Fields, Hex, Rule, Windows}
+use Rattle.sym_rules.specs.declared.text_fault.TextKind.TheVariants.{Unknown, Fields, Hex, Rule, Windows}
 
 -- the rules at a function's first instruction
 at_entry : line_at (codes "STACK CFI INIT 1000 20 .cfa: $rsp 8 + .ra: .cfa -8 + ^") ≡ Ok (Some (Init 4096 32 (record { target = target.Cfa; tokens = token.Reg 7 ∷ token.Number (pos 8) ∷ token.Add ∷ [] } ∷ record { target = target.Ra; tokens = token.Cfa ∷ token.Number (negsuc 7) ∷ token.Add ∷ token.Fetch ∷ [] } ∷ [])))

@@ -1,11 +1,5 @@
-pub mod KeptTokens
-pub mod Cuts
-pub mod Rules
-pub mod RuleReading
-pub mod RuleValidity
 pub mod Canon
 pub mod Text
 pub mod Reading
 pub mod Validity
 pub mod Cleaning
-pub mod Buffer

@@ -2,15 +2,15 @@
 use Rattle.std.specs.Prelude.{ℕ, ◌+◌, ◌-◌, ◌^◌, ◌&&◌, Bool, true, false, not, min, nat_lt, if◌then◌else◌, List, [], ◌∷◌, ◌++◌, length, codes, Option, Some, None, Result, Ok, Err}
 use Rattle.std.specs.Str.{bytes_eq}
 use Rattle.sym_edges.specs.Results.{◌>>=◌}
-use Rattle.sym_records.specs.Cuts.{split_lines}
+use Rattle.sym_rules.specs.Cuts.{split_lines}
 use Rattle.sym_records.specs.Text.{is_blank, key_of, line_at}
 use Rattle.sym_records.specs.declared.line.SymLine.{SymLine}
 use Rattle.sym_records.specs.declared.line.SymLine.TheVariants.{Module, Info, Public, Init, Change}
 use Rattle.sym_records.specs.declared.place.Place.{Place}
 use Rattle.sym_records.specs.declared.place.Place.TheVariants.{Start, Inside, Frame}
-use Rattle.sym_records.specs.declared.text_fault.TextFault.{TextFault}
-use Rattle.sym_records.specs.declared.text_fault.TextKind.{TextKind}
-use Rattle.sym_records.specs.declared.text_fault.TextKind.TheVariants.{Empty, Misplaced, LongLine, NoModule}
+use Rattle.sym_rules.specs.declared.text_fault.TextFault.{TextFault}
+use Rattle.sym_rules.specs.declared.text_fault.TextKind.{TextKind}
+use Rattle.sym_rules.specs.declared.text_fault.TextKind.TheVariants.{Empty, Misplaced, LongLine, NoModule}
 
 -- whether a record may stand at a place: MODULE first and nowhere else, and a change of frame rules directly behind a frame record
 abbrev pub fits : Place → SymLine → Bool

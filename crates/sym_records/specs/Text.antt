@@ -6,12 +6,12 @@ use Rattle.std.specs.List.{list_all}
 use Rattle.std.specs.Char.{digit_value}
 use Rattle.std.specs.Str.{bytes_eq}
 use Rattle.sym_edges.specs.Results.{◌>>=◌}
-use Rattle.sym_records.specs.Cuts.{is_space, is_cr, is_margin, before, from, skip, trim_end}
-use Rattle.sym_records.specs.RuleReading.{rules_at}
+use Rattle.sym_rules.specs.Cuts.{is_space, is_cr, is_margin, before, from, skip, trim_end}
+use Rattle.sym_rules.specs.RuleReading.{rules_at}
 use Rattle.sym_records.specs.declared.line.SymLine.{SymLine}
 use Rattle.sym_records.specs.declared.line.SymLine.TheVariants.{Module, Info, Public, Init, Change}
-use Rattle.sym_records.specs.declared.text_fault.TextKind.{TextKind}
-use Rattle.sym_records.specs.declared.text_fault.TextKind.TheVariants.{Unknown, Fields, Hex, Windows}
+use Rattle.sym_rules.specs.declared.text_fault.TextKind.{TextKind}
+use Rattle.sym_rules.specs.declared.text_fault.TextKind.TheVariants.{Unknown, Fields, Hex, Windows}
 
 -- the field that bytes begin with, and what stands behind it
 abbrev pub field_of : List ℕ → Result (List ℕ × List ℕ) TextKind

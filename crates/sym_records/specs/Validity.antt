@@ -1,11 +1,11 @@
 -- Which records a text can spell, and in which lists they may stand (Breakpad's symbol_files.md).
 use Rattle.std.specs.Prelude.{◌≡◌, ℕ, ◌+◌, ◌-◌, ◌^◌, ◌==◌, ◌&&◌, ◌≤◌, Bool, true, false, not, nat_lt, nat_le, zero, suc, if◌then◌else◌, List, [], ◌∷◌, length, slice_index, Option, Some, None, Ok}
 use Rattle.std.specs.List.{list_all}
-use Rattle.sym_records.specs.Cuts.{is_within_line, is_within_field}
+use Rattle.sym_rules.specs.Cuts.{is_within_line, is_within_field}
 use Rattle.sym_records.specs.Canon.{body}
 use Rattle.sym_records.specs.Text.{line_at}
 use Rattle.sym_records.specs.Reading.{fits, leads}
-use Rattle.sym_records.specs.RuleValidity.{are_rules}
+use Rattle.sym_rules.specs.RuleValidity.{are_rules}
 use Rattle.sym_records.specs.declared.line.SymLine.{SymLine}
 use Rattle.sym_records.specs.declared.line.SymLine.TheVariants.{Module, Info, Public, Init, Change}
 use Rattle.sym_records.specs.declared.place.Place.{Place}

@@ -1,11 +1,11 @@
 ghost use Rattle.std.specs.Prelude.{◌≡◌, ◌≤◌, ◌==◌, map, length, true, IfOk, take};
-ghost use Rattle.sym_records.specs.Cuts.{is_space, skip};
+ghost use Rattle.sym_rules.specs.Cuts.{is_space, skip};
 ghost use Rattle.sym_records.specs.Cleaning.{shown_byte, cleaned, cleaned_upto};
 ghost use Rattle.sym_records.specs.Validity.{is_name};
 
-use crate::line::ByteText;
 use std::alloc::{AllocError, Global};
 use sym_edges::OutOfMemory;
+use sym_rules::ByteText;
 
 /// A name has at most so many bytes.
 const NAME_LIMIT: usize = 65_536;

@@ -1,20 +1,15 @@
 ghost use Rattle.std.specs.Prelude.{◌≡◌};
 ghost use Rattle.std.specs.List.{list_all};
-ghost use Rattle.sym_records.specs.Cuts.{is_within_line, is_within_field};
+ghost use Rattle.sym_rules.specs.Cuts.{is_within_line};
 ghost use Rattle.sym_records.specs.Validity.{is_field, is_name};
+
+use sym_rules::are_unparted;
 
 /// Whether the bytes have no end of a line among them.
 fn are_one_line(bytes: &[u8]) -> bool
     ensures { result ≡ list_all is_within_line bytes.now }
 {
     bytes.iter().all(|b| *b != b'\n')
-}
-
-/// Whether the bytes have no space and no end of a line among them.
-pub(crate) fn are_unparted(bytes: &[u8]) -> bool
-    ensures { result ≡ list_all is_within_field bytes.now }
-{
-    bytes.iter().all(|b| *b != b' ' && *b != b'\n')
 }
 
 /// Whether a record may carry the bytes as a field: they are not empty, and have no space and no LF.

@@ -3,10 +3,10 @@ ghost use Rattle.std.specs.Prelude.{◌≡◌, ◌↔◌, ℕ, ◌<◌, ◌≤�
 ghost use Rattle.std.specs.List.{list_all};
 ghost use Rattle.sym_records.specs.declared.line.SymLine.{SymLine};
 ghost use Rattle.sym_records.specs.declared.place.Place.{Place};
-ghost use Rattle.sym_records.specs.declared.rules.RuleText.{RuleText};
+ghost use Rattle.sym_rules.specs.declared.rules.RuleText.{RuleText};
 ghost use Rattle.sym_records.specs.Canon.{canon_text};
 ghost use Rattle.sym_records.specs.Reading.{reading, fits, leads};
-ghost use Rattle.sym_records.specs.RuleValidity.{is_plain_rule};
+ghost use Rattle.sym_rules.specs.RuleValidity.{is_plain_rule};
 ghost use Rattle.sym_records.specs.Validity.{fields_fit, first_bad, first_bad_from, place_behind, is_change, IsValid, AreValid};
 
 /// The canonical text of a valid list reads back as the list.

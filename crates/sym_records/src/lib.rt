@@ -8,25 +8,19 @@
 //! what is written reads back as the same records. `clean` makes of any bytes a name that a record may carry.
 #![tactic(auto)]
 
-// The records, and what may be wrong with a text of them.
+// The records, and where they may stand.
 mod line;
 mod place;
-mod rules;
-mod text_fault;
 
 // Which records and lists a text can spell.
 mod fields;
 mod file;
-mod rule_validity;
 mod validity;
 
 // How they are spelled.
 mod digits;
 mod rendering;
-mod rule_spelling;
-mod rule_words;
 mod spelling;
-mod waiting;
 mod writing;
 
 // The names that they carry.
@@ -39,11 +33,10 @@ pub use cleaning::clean;
 pub use digits::HexText;
 pub use fields::{is_field, is_name};
 pub use file::{NotValid, SymFile, file_of};
-pub use line::{ByteText, SymLine, SymLines};
+pub use line::{SymLine, SymLines};
 pub use place::Place;
 pub use rendering::render;
-pub use rules::{RuleText, Rules, Target, Token, Tokens};
-pub use text_fault::{TextFault, TextKind};
+pub use sym_rules::{ByteText, RuleText, Rules, Target, TextFault, TextKind, Token, Tokens};
 pub use validity::is_valid;
 pub use writing::write_file;
 

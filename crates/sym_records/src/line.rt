@@ -1,8 +1,5 @@
-use crate::rules::Rules;
 use sym_edges::ListOf;
-
-/// Bytes of a text, as a field or a name.
-pub type ByteText = ListOf<u8>;
+use sym_rules::{ByteText, Rules};
 
 /// A record of a symbol file (Breakpad's symbol_files.md).
 #[derive(Debug, Drop)]

@@ -1,88 +1,14 @@
 ghost use Rattle.std.specs.Prelude.{◌≡◌, ◌+◌, ◌≤◌, [], ◌∷◌, ◌++◌, IfOk, OnOk, OnErr};
 ghost use Rattle.std.specs.List.{flat_map};
 ghost use Rattle.sym_edges.specs.Outside.{append_told, AddsFront, Rose};
-ghost use Rattle.sym_records.specs.Buffer.{Passes};
+ghost use Rattle.sym_rules.specs.Buffer.{Passes};
 ghost use Rattle.sym_records.specs.Canon.{body, canon};
-ghost use Rattle.sym_records.specs.Rules.{spelled_rules};
+ghost use Rattle.sym_rules.specs.Rules.{spelled_rules};
 
 use crate::digits::HexText;
 use crate::line::SymLine;
-use crate::rule_spelling::put_rules;
-use crate::rules::RuleText;
-use crate::waiting::Waiting;
-use sym_edges::{Failed, Sink, write_all};
-
-/// Hands on what waits.
-pub(crate) fn hand_on<O: Sink, const N: usize>(
-    sink: &mut O,
-    waiting: &mut Waiting<N>,
-) -> Result<(), Failed>
-    ensures written { OnOk result (O.taken sink.new ≡ append_told (O.taken sink.old) waiting.old) }
-    ensures empty { OnOk result (waiting.new ≡ []) }
-    ensures front { OnErr result (AddsFront (O.taken sink.old) (O.taken sink.new) waiting.old) }
-    ensures faults { O.faults sink.old ≤ O.faults sink.new }
-    ensures cause { OnErr result (Rose (O.faults sink.old) (O.faults sink.new)) }
-{
-    match write_all(sink, waiting.as_slice()) {
-        Ok(()) => {
-            waiting.clear();
-            Ok(())
-        }
-        Err(Failed) => Err(Failed),
-    }
-}
-
-/// Puts bytes behind those that wait. Where they do not fit, what waits is handed on first, and a piece that does not
-/// fit into an empty buffer goes straight to the sink.
-#[tactic(auto, using(crate::proofs::BufferLemmas::passes_held, crate::proofs::BufferLemmas::passes_on, crate::proofs::BufferLemmas::passes_through, crate::proofs::BufferLemmas::front_longer, crate::proofs::BufferLemmas::front_through))]
-pub(crate) fn put<O: Sink, const N: usize>(
-    sink: &mut O,
-    waiting: &mut Waiting<N>,
-    bytes: &[u8],
-) -> Result<(), Failed>
-    ensures passed { OnOk result (Passes (O.taken sink.old) waiting.old bytes.now (O.taken sink.new) waiting.new) }
-    ensures front { OnErr result (AddsFront (O.taken sink.old) (O.taken sink.new) (waiting.old ++ bytes.now)) }
-    ensures faults { O.faults sink.old ≤ O.faults sink.new }
-    ensures cause { OnErr result (Rose (O.faults sink.old) (O.faults sink.new)) }
-{
-    if bytes.len() <= waiting.room() {
-        waiting.put(bytes);
-        return Ok(());
-    }
-    match hand_on(sink, waiting) {
-        Ok(()) => {}
-        Err(Failed) => return Err(Failed),
-    }
-    if bytes.len() <= waiting.room() {
-        waiting.put(bytes);
-        return Ok(());
-    }
-    match write_all(sink, bytes) {
-        Ok(()) => Ok(()),
-        Err(Failed) => Err(Failed),
-    }
-}
-
-/// Puts a field behind one space.
-pub(crate) fn put_field<O: Sink, const N: usize>(
-    sink: &mut O,
-    waiting: &mut Waiting<N>,
-    field: &[u8],
-) -> Result<(), Failed>
-    ensures passed { OnOk result (Passes (O.taken sink.old) waiting.old (32 ∷ field.now) (O.taken sink.new) waiting.new) }
-    ensures front { OnErr result (AddsFront (O.taken sink.old) (O.taken sink.new) (waiting.old ++ 32 ∷ field.now)) }
-    ensures faults { O.faults sink.old ≤ O.faults sink.new }
-    ensures cause { OnErr result (Rose (O.faults sink.old) (O.faults sink.new)) }
-{
-    match put(sink, waiting, b" ") {
-        Ok(()) => {}
-        Err(Failed) => return Err(Failed),
-    }
-    match put(sink, waiting, field) {
-        Ok(()) => Ok(()),
-        Err(Failed) => Err(Failed),
-    }
-}
+use sym_edges::{Failed, Sink};
+use sym_rules::{RuleText, Waiting, put, put_rules, put_word};
 
 /// Puts fields, with one space in front of each.
 fn put_fields<O: Sink, const N: usize>(
@@ -96,7 +22,7 @@ fn put_fields<O: Sink, const N: usize>(
     ensures cause { OnErr result (Rose (O.faults sink.old) (O.faults sink.new)) }
 {
     for field in fields {
-        match put_field(sink, waiting, field) {
+        match put_word(sink, waiting, field) {
             Ok(()) => {}
             Err(Failed) => return Err(Failed),
         }
@@ -105,7 +31,7 @@ fn put_fields<O: Sink, const N: usize>(
 }
 
 /// Puts keywords and fields, with one space in front of each field.
-#[tactic(auto, using(crate::proofs::BufferLemmas::passes_more, crate::proofs::BufferLemmas::front_more, crate::proofs::BufferLemmas::front_behind))]
+#[tactic(auto, using(sym_rules::proofs::BufferLemmas::passes_more, sym_rules::proofs::BufferLemmas::front_more, sym_rules::proofs::BufferLemmas::front_behind))]
 fn put_head<O: Sink, const N: usize>(
     sink: &mut O,
     waiting: &mut Waiting<N>,
@@ -128,7 +54,7 @@ fn put_head<O: Sink, const N: usize>(
 }
 
 /// Puts keywords, fields and frame rules, with one space in front of each field and each word.
-#[tactic(auto, using(crate::proofs::BufferLemmas::passes_more, crate::proofs::BufferLemmas::front_more, crate::proofs::BufferLemmas::front_behind))]
+#[tactic(auto, using(sym_rules::proofs::BufferLemmas::passes_more, sym_rules::proofs::BufferLemmas::front_more, sym_rules::proofs::BufferLemmas::front_behind))]
 fn put_frame<O: Sink, const N: usize>(
     sink: &mut O,
     waiting: &mut Waiting<N>,
@@ -244,7 +170,7 @@ fn put_body<O: Sink, const N: usize>(
 }
 
 /// Puts a record's canonical spelling.
-#[tactic(auto, unfolding(crate::specs::Canon::canon), using(crate::proofs::BufferLemmas::passes_more, crate::proofs::BufferLemmas::front_more, crate::proofs::BufferLemmas::front_behind))]
+#[tactic(auto, unfolding(crate::specs::Canon::canon), using(sym_rules::proofs::BufferLemmas::passes_more, sym_rules::proofs::BufferLemmas::front_more, sym_rules::proofs::BufferLemmas::front_behind))]
 pub(crate) fn put_record<O: Sink, const N: usize>(
     sink: &mut O,
     waiting: &mut Waiting<N>,

@@ -5,8 +5,7 @@ ghost use Rattle.sym_records.specs.Validity.{has_fields, fields_fit, IsValid};
 use crate::digits::HexText;
 use crate::fields::{is_field, is_name};
 use crate::line::SymLine;
-use crate::rule_validity::are_rules;
-use crate::rule_words::rules_length;
+use sym_rules::{are_rules, rules_length};
 
 /// A line has at most so many bytes without its LF.
 const LINE_LIMIT: usize = 1 << 20;

@@ -1,14 +1,14 @@
 ghost use Rattle.std.specs.Prelude.{◌≡◌, ◌≤◌, ◌++◌, Ok, OnOk, OnErr};
 ghost use Rattle.sym_edges.specs.Outside.{append_told, AddsFront, Rose};
 ghost use Rattle.sym_records.specs.Canon.{canon_text};
-ghost use Rattle.sym_records.specs.Buffer.{Passes};
+ghost use Rattle.sym_rules.specs.Buffer.{Passes};
 ghost use Rattle.sym_records.specs.Reading.{reading};
 
 use crate::file::SymFile;
 use crate::line::SymLine;
-use crate::spelling::{hand_on, put_record};
-use crate::waiting::Waiting;
+use crate::spelling::put_record;
 use sym_edges::{Failed, Sink};
+use sym_rules::{Waiting, hand_on};
 
 /// Puts the canonical spelling of records.
 fn put_records<O: Sink, const N: usize>(

@@ -1,6 +1,6 @@
 ghost use Rattle.std.specs.Prelude.{◌≡◌, ◌<◌, length, true, IfOk};
 ghost use Rattle.std.specs.List.{list_all};
-ghost use Rattle.sym_records.specs.RuleValidity.{is_plain_rule};
+ghost use Rattle.sym_rules.specs.RuleValidity.{is_plain_rule};
 ghost use Rattle.sym_records.specs.Validity.{fields_fit};
 
 use super::{info, is_rendered, long_text, module, public, text};

@@ -1,5 +1,5 @@
 use Rattle.std.proofs.Common.{◌∷◌, arith}
-use Rattle.sym_records.proofs.BufferLemmas.{passes_at, fails_at}
+use Rattle.sym_rules.proofs.BufferLemmas.{passes_at, fails_at}
 use Rattle.sym_records.proofs.spelling.put_fields.Goals as goal
 
 pub returns-in-Err-clause-front : goal.returns-in-Err-clause-front

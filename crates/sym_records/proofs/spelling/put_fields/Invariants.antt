@@ -1,6 +1,6 @@
 use Rattle.std.proofs.Common.{◌≤◌, ◌∷◌, take}
 use Rattle.std.specs.List.{flat_map}
-use Rattle.sym_records.specs.Buffer.{Passes}
+use Rattle.sym_rules.specs.Buffer.{Passes}
 use Rattle.sym_records.proofs.spelling.put_fields.Given as goal
 
 abbrev pub invariant-loop-field : goal.invariant-loop-field

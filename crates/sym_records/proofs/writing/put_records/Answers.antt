@@ -1,6 +1,6 @@
 use Rattle.std.proofs.Common.{arith}
 use Rattle.sym_records.specs.Canon.{canon, canon_text}
-use Rattle.sym_records.proofs.BufferLemmas.{passes_piece, fails_piece, passes_all}
+use Rattle.sym_rules.proofs.BufferLemmas.{passes_piece, fails_piece, passes_all}
 use Rattle.sym_records.proofs.writing.put_records.Goals as goal
 
 pub returns-in-Err-clause-front : goal.returns-in-Err-clause-front

@@ -1,6 +1,6 @@
 use Rattle.std.proofs.Common.{◌≤◌, take}
 use Rattle.std.specs.List.{flat_map}
-use Rattle.sym_records.specs.Buffer.{Passes}
+use Rattle.sym_rules.specs.Buffer.{Passes}
 use Rattle.sym_records.specs.Canon.{canon}
 use Rattle.sym_records.proofs.writing.put_records.Given as goal
 

@@ -1,6 +1,6 @@
 use Rattle.std.proofs.Common.{ap}
 use Rattle.sym_records.specs.Canon.{canon_text}
-use Rattle.sym_records.proofs.BufferLemmas.{fails_whole}
+use Rattle.sym_rules.proofs.BufferLemmas.{fails_whole}
 use Rattle.sym_records.proofs.writing.write_file.Goals as goal
 
 pub returns-in-Err-hand_on-clause-front : goal.returns-in-Err-hand_on-clause-front
