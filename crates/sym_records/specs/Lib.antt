@@ -1,5 +1,10 @@
+pub mod Fields
+pub mod FieldReading
+pub mod Records
 pub mod Canon
 pub mod Text
+pub mod Places
 pub mod Reading
 pub mod Validity
+pub mod Listed
 pub mod Cleaning

@@ -16,7 +16,7 @@ pub fn canonical_text_reads_back()
 {}
 
 /// The tests of a record and of a list are true exactly where it is valid.
-#[tactic(auto, using(crate::proofs::ValidityLemmas::fits_valid, crate::proofs::ValidityLemmas::valid_fits, crate::proofs::ValidityLemmas::none_valid, crate::proofs::ValidityLemmas::valid_none))]
+#[tactic(auto, using(crate::proofs::RecordSoundLemmas::fits_valid, crate::proofs::RecordSoundLemmas::valid_fits, crate::proofs::ValidityLemmas::none_valid, crate::proofs::ValidityLemmas::valid_none))]
 pub fn tests_say_validity()
     ensures record_passes { (s : SymLine) → fields_fit s ≡ true → IsValid s }
     ensures record_is_passed { (s : SymLine) → IsValid s → fields_fit s ≡ true }

@@ -8,4 +8,8 @@ pub mod BufferLemmas
 pub mod LengthLemmas
 pub mod SpellingLemmas
 pub mod PlainLemmas
+pub mod AddingLemmas
 pub mod LastLemmas
+pub mod Computing
+pub mod Shown
+pub mod WorkedRules

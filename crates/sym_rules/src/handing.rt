@@ -1,6 +1,6 @@
-ghost use Rattle.std.specs.Prelude.{◌≡◌, ◌≤◌, [], ◌∷◌, ◌++◌, OnOk, OnErr};
+ghost use Rattle.std.specs.Prelude.{◌≡◌, ◌≤◌, [], ◌∷◌, OnOk, OnErr};
 ghost use Rattle.sym_edges.specs.Outside.{append_told, AddsFront, Rose};
-ghost use Rattle.sym_rules.specs.Buffer.{Passes};
+ghost use Rattle.sym_rules.specs.Buffer.{Hands};
 
 use crate::waiting::Waiting;
 use sym_edges::{Failed, Sink, write_all};
@@ -27,16 +27,13 @@ pub fn hand_on<O: Sink, const N: usize>(
 
 /// Puts bytes behind those that wait. Where they do not fit, what waits is handed on first, and a piece that does not
 /// fit into an empty buffer goes straight to the sink.
-#[tactic(auto, using(crate::proofs::BufferLemmas::passes_held, crate::proofs::BufferLemmas::passes_on, crate::proofs::BufferLemmas::passes_through, crate::proofs::BufferLemmas::front_longer, crate::proofs::BufferLemmas::front_through))]
+#[tactic(auto, using(crate::proofs::BufferLemmas::hands_held, crate::proofs::BufferLemmas::hands_failed, crate::proofs::BufferLemmas::hands_next, crate::proofs::BufferLemmas::hands_through, crate::proofs::BufferLemmas::hands_through_failed))]
 pub fn put<O: Sink, const N: usize>(
     sink: &mut O,
     waiting: &mut Waiting<N>,
     bytes: &[u8],
 ) -> Result<(), Failed>
-    ensures passed { OnOk result (Passes (O.taken sink.old) waiting.old bytes.now (O.taken sink.new) waiting.new) }
-    ensures front { OnErr result (AddsFront (O.taken sink.old) (O.taken sink.new) (waiting.old ++ bytes.now)) }
-    ensures faults { O.faults sink.old ≤ O.faults sink.new }
-    ensures cause { OnErr result (Rose (O.faults sink.old) (O.faults sink.new)) }
+    ensures { Hands result (O.taken sink.old) (O.faults sink.old) waiting.old bytes.now (O.taken sink.new) (O.faults sink.new) waiting.new }
 {
     if bytes.len() <= waiting.room() {
         waiting.put(bytes);
@@ -62,17 +59,11 @@ pub fn put_word<O: Sink, const N: usize>(
     waiting: &mut Waiting<N>,
     word: &[u8],
 ) -> Result<(), Failed>
-    ensures passed { OnOk result (Passes (O.taken sink.old) waiting.old (32 ∷ word.now) (O.taken sink.new) waiting.new) }
-    ensures front { OnErr result (AddsFront (O.taken sink.old) (O.taken sink.new) (waiting.old ++ 32 ∷ word.now)) }
-    ensures faults { O.faults sink.old ≤ O.faults sink.new }
-    ensures cause { OnErr result (Rose (O.faults sink.old) (O.faults sink.new)) }
+    ensures { Hands result (O.taken sink.old) (O.faults sink.old) waiting.old (32 ∷ word.now) (O.taken sink.new) (O.faults sink.new) waiting.new }
 {
     match put(sink, waiting, b" ") {
         Ok(()) => {}
         Err(Failed) => return Err(Failed),
     }
-    match put(sink, waiting, word) {
-        Ok(()) => Ok(()),
-        Err(Failed) => Err(Failed),
-    }
+    put(sink, waiting, word)
 }

@@ -1,11 +1,43 @@
-ghost use Rattle.std.specs.Prelude.{◌≡◌, ◌==◌, [], ◌∷◌, length, slice_get};
+ghost use Rattle.std.specs.Prelude.{◌≡◌, ◌==◌, [], ◌∷◌, length, slice_get, IfOk};
 ghost use Rattle.std.specs.Option.{option_copied};
 
+use std::alloc::Global;
 use std::marker::Model;
-use sym_edges::ListOf;
+use sym_edges::{ListOf, OutOfMemory};
 
 /// Bytes of a text, as a field or a name.
 pub type ByteText = ListOf<u8>;
+
+/// A name that has no variant of its own, which contracts see as its bytes. It is kept behind one pointer, so that words
+/// stay small.
+#[derive(Debug, Drop)]
+pub struct RuleName {
+    text: Box<ByteText>,
+}
+
+impl Model for RuleName {
+    ghost use Rattle.std.specs.Prelude.{List, ℕ};
+
+    ghost Value = { List ℕ };
+
+    ghost view = { λ n. n.text.value };
+}
+
+impl RuleName {
+    pub fn of(alloc: Global, text: ByteText) -> Result<RuleName, OutOfMemory>
+        ensures { IfOk result (λ n. n ≡ text) }
+    {
+        Ok(RuleName {
+            text: Box::new(alloc, text)?,
+        })
+    }
+
+    pub fn as_slice(&self) -> &[u8]
+        ensures { result.now ≡ self.now }
+    {
+        self.text.as_slice()
+    }
+}
 
 /// What a frame rule gives the value of.
 #[derive(Debug, Drop)]
@@ -18,7 +50,7 @@ pub enum Target {
     /// number has a name.
     Reg(u8),
     /// Any other name.
-    Other(ByteText),
+    Other(RuleName),
 }
 
 /// A word of a frame rule's postfix expression.
@@ -32,7 +64,7 @@ pub enum Token {
     /// `.undef`: there is no value.
     Undef,
     /// Any other name.
-    Other(ByteText),
+    Other(RuleName),
     /// `+`
     Add,
     /// `-`

@@ -1,12 +1,9 @@
 use Rattle.std.proofs.Common.{[], ◌∷◌}
-use Rattle.sym_rules.proofs.BufferLemmas.{passes_more, front_more, front_behind}
+use Rattle.sym_rules.proofs.BufferLemmas.{hands_both, hands_off}
 use Rattle.sym_rules.proofs.handing.put_word.Goals as goal
 
-pub returns-in-Err-clause-front : goal.returns-in-Err-clause-front
-returns-in-Err-clause-front g c = front_more _ _ c.args.waiting.now (32 ∷ []) c.args.word.now c.in-Err.ensures.front
+pub returns-in-Err : goal.returns-in-Err
+returns-in-Err g c = hands_off _ _ _ _ _ _ c.args.waiting.now (32 ∷ []) _ c.args.word.now _ c.in-Err.ensures
 
-pub returns-in-Ok-put-clause-passed : goal.returns-in-Ok-put-clause-passed
-returns-in-Ok-put-clause-passed g c = passes_more _ _ _ _ (32 ∷ []) _ c.args.word.now _ c.in-Ok.ensures.passed c.in-Ok-put.ensures.passed
-
-pub returns-in-Err-put-clause-front : goal.returns-in-Err-put-clause-front
-returns-in-Err-put-clause-front g c = front_behind _ _ _ _ (32 ∷ []) _ c.args.word.now c.in-Ok.ensures.passed c.in-Err-put.ensures.front
+pub returns : goal.returns
+returns g c = hands_both _ _ _ _ _ _ _ _ c.args.waiting.now (32 ∷ []) _ c.args.word.now _ c.in-Ok.ensures c.put-2.ensures

@@ -1,17 +1,18 @@
 use Rattle.std.proofs.Common.{arith}
 use Rattle.sym_rules.specs.Rules.{spelled_token}
-use Rattle.sym_rules.proofs.BufferLemmas.{passes_piece, fails_piece, passes_all}
+use Rattle.sym_rules.proofs.BufferLemmas.{hands_none, hands_piece, hands_broken, hands_all}
 use Rattle.sym_rules.proofs.spelling.put_tokens.Goals as goal
 
-pub returns-in-Err-clause-front : goal.returns-in-Err-clause-front
-returns-in-Err-clause-front g c =
-    fails_piece spelled_token c.args.tokens.now c.loop-token.token-index c.token-item.result _ _ _ c.args.waiting.now c.loop-token.waiting (omega arith) c.token-item.is c.loop-token.invariant.passed c.in-Err.ensures.front
+pub loop-token-init : goal.loop-token-init
+loop-token-init g c = hands_none _ _ _
 
 pub loop-token-preserved : goal.loop-token-preserved
-loop-token-preserved g c = record {
-  passed = passes_piece spelled_token c.args.tokens.now c.loop-token.token-index c.token-item.result _ _ _ c.args.waiting.now c.loop-token.waiting _ (omega arith) c.token-item.is c.loop-token.invariant.passed c.in-Ok.ensures.passed;
-  faults = omega arith;
-}
+loop-token-preserved g c =
+    hands_piece spelled_token c.args.tokens.now c.loop-token.token-index c.token-item.result _ _ _ _ _ _ _ _ _ _ (omega arith) c.token-item.is c.loop-token.invariant c.in-Ok.ensures
 
-pub returns-clause-passed : goal.returns-clause-passed
-returns-clause-passed g c = passes_all spelled_token c.args.tokens.now c.loop-token.token-index _ _ c.args.waiting.now _ (omega arith) c.loop-token.invariant.passed
+pub returns-in-Err : goal.returns-in-Err
+returns-in-Err g c =
+    hands_broken spelled_token c.args.tokens.now c.loop-token.token-index c.token-item.result _ _ _ _ _ _ _ _ _ _ _ _ (omega arith) c.token-item.is c.loop-token.invariant c.in-Err.ensures
+
+pub returns : goal.returns
+returns g c = hands_all spelled_token c.args.tokens.now c.loop-token.token-index _ _ _ _ _ _ _ (omega arith) c.loop-token.invariant

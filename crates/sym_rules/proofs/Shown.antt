@@ -1,0 +1,31 @@
+-- Bytes as a quoted text, so that a wrong row is shown as text.
+use Rattle.std.proofs.Common.{ℕ, List}
+use Rattle.std.proofs.Common.{[] as nil, ◌∷◌ as ◌∷ᴸ◌}
+use Prim.Native.Nat.{Ordering, compare}
+use Prim.Native.Char.{Char, char, nul, IsLt, IsScalar}
+use Prim.Native.String.{String, [], ◌∷◌}
+
+-- which numbers are characters
+abbrev both : Ordering → Ordering → Type 0
+both Ordering.lt o = IsLt o
+both Ordering.eq _ = ⊥
+both Ordering.gt _ = ⊥
+
+abbrev scalar : Ordering → Ordering → Ordering → Type 0
+scalar Ordering.lt _ _ = Unit
+scalar Ordering.eq o p = both o p
+scalar Ordering.gt o p = both o p
+
+-- a number below 55296 is a character; others are shown as zero
+abbrev below : (n : ℕ) → (o p q : Ordering) → (scalar o p q → IsScalar n) → Char
+below n Ordering.lt p q ok = char n (ok tt)
+below n Ordering.eq p q ok = nul
+below n Ordering.gt p q ok = nul
+
+abbrev pub character : ℕ → Char
+character n = below n (compare n 55296) (compare 57343 n) (compare n 1114112) (λ x. x)
+
+-- the text of bytes
+unfoldable pub shown : List ℕ → String
+shown nil = []
+shown (n ∷ᴸ ns) = character n ∷ shown ns
