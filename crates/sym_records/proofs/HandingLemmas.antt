@@ -50,3 +50,14 @@ piece_at spelled xs i e x a b c f g h w v u within first second = hands_piece sp
 pub broken_at : {A F X : Type 0} (spelled : X → List ℕ) (xs : List X) (i : ℕ) (e : X) (d k : F) (a b c : Option (List ℕ)) (f g h : ℕ) (w v u t : List ℕ) → i < length xs
     → Handed a f w (flat_map spelled (take i xs)) b g v → Hands {A = A} {F = F} (Err d) b g v (spelled (get_or xs i e)) c h u → Hands {A = A} {F = F} (Err k) a f w (flat_map spelled xs) c h t
 broken_at spelled xs i e d k a b c f g h w v u t within first second = hands_broken spelled xs i (get_or xs i e) d k a b c f g h w v u t within (read_at xs i e (get_or xs i e) within) first second
+
+-- a piece that was handed on by its bytes
+pub same_piece : {A F X : Type 0} (spelled : X → List ℕ) (xs : List X) (i : ℕ) (d : X) (bytes : List ℕ) (x : A) (a b c : Option (List ℕ)) (f g h : ℕ) (w v u : List ℕ) → i < length xs → d ≡ get_or xs i d → bytes ≡ spelled d
+    → Handed a f w (flat_map spelled (take i xs)) b g v → Hands {A = A} {F = F} (Ok x) b g v bytes c h u → Handed a f w (flat_map spelled (take (i + 1) xs)) c h u
+same_piece {A = A} {F = F} spelled xs i d bytes x a b c f g h w v u within at is first second =
+    hands_piece spelled xs i d x a b c f g h w v u within at first (subst (λ (l : List ℕ). Hands {A = A} {F = F} (Ok x) b g v l c h u) is second)
+
+pub same_broken : {A F X : Type 0} (spelled : X → List ℕ) (xs : List X) (i : ℕ) (d : X) (bytes : List ℕ) (e k : F) (a b c : Option (List ℕ)) (f g h : ℕ) (w v u t : List ℕ) → i < length xs → d ≡ get_or xs i d → bytes ≡ spelled d
+    → Handed a f w (flat_map spelled (take i xs)) b g v → Hands {A = A} {F = F} (Err e) b g v bytes c h u → Hands {A = A} {F = F} (Err k) a f w (flat_map spelled xs) c h t
+same_broken {A = A} {F = F} spelled xs i d bytes e k a b c f g h w v u t within at is first second =
+    hands_broken spelled xs i d e k a b c f g h w v u t within at first (subst (λ (l : List ℕ). Hands {A = A} {F = F} (Err e) b g v l c h u) is second)

@@ -19,3 +19,4 @@ pub mod Computing
 pub mod WorkedLines
 pub mod WorkedLists
 pub mod WorkedTexts
+pub mod SpelledLemmas

@@ -8,3 +8,4 @@ pub mod Reading
 pub mod Validity
 pub mod Listed
 pub mod Cleaning
+pub mod Spelled

@@ -5,7 +5,7 @@
 //! that a text can spell: `file_of` makes it, or names the first record that no text can spell or that may not stand
 //! where it stands. `render` spells one record and `write_file` all of them, each with one space between its fields, and
 //! what is written reads back as the same records. The `add_` calls spell a record at the end of a text with no record made,
-//! and `clean` makes of any bytes a name that a record may carry.
+//! a `SymText` is such a text, which contracts see as its records, and `clean` makes of any bytes a name that a record may carry.
 #![tactic(auto)]
 
 // The records, and where they may stand.
@@ -27,8 +27,10 @@ mod validity;
 // How they are spelled.
 mod adding;
 mod digits;
+mod pieces;
 mod rendering;
 mod spelling;
+mod text;
 mod writing;
 
 // The names that they carry.
@@ -47,11 +49,13 @@ pub use fields::{is_field, is_name};
 pub use file::{NotValid, SymFile, file_of};
 pub use keyword::Keyword;
 pub use line::{Binary, BoxedBinary, Extent, Extents, SymLine, SymLines};
+pub use pieces::TextPieces;
 pub use place::Place;
 pub use rendering::render;
 pub use sym_rules::{
     ByteText, RuleName, RuleText, Rules, Target, TextFault, TextKind, Token, Tokens,
 };
+pub use text::SymText;
 pub use validity::is_valid;
 pub use writing::write_file;
 

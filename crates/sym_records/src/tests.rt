@@ -1,7 +1,11 @@
+ghost use Rattle.std.specs.Prelude.{IfOk};
+ghost use Rattle.sym_records.specs.Spelled.{text_bytes, IsSpelled};
+
 use crate::{
-    Binary, BoxedBinary, ByteText, Extent, Extents, RuleText, Rules, SymFile, SymLine, Target,
-    Token, Tokens, add_change, add_file, add_func, add_info, add_init, add_inline, add_line,
-    add_module, add_origin, add_public, clean, file_of, is_valid, render, write_file,
+    Binary, BoxedBinary, ByteText, Extent, Extents, RuleText, Rules, SymFile, SymLine, SymText,
+    Target, TextPieces, Token, Tokens, add_change, add_file, add_func, add_info, add_init,
+    add_inline, add_line, add_module, add_origin, add_public, clean, file_of, is_valid, render,
+    write_file,
 };
 use std::alloc::Global;
 use std::mem::size_of;
@@ -215,11 +219,45 @@ fn many_records_and_a_long_name_are_written(rt: HostRuntime) -> Result<(), Fail>
         sink.written().len(),
         30 + 200_012 + 12 * 200_000,
     );
+    let ends = sink.written().ends_with(b"1000 10 5 1\n");
+    expect_number(&rt, "the last line", ends as usize, 1);
+    Ok(())
+}
+
+/// As a caller makes a text: it is canonical by what is known of its records.
+fn made_text(alloc: Global) -> Result<TextPieces, OutOfMemory>
+    ensures { IfOk result (λ t. IsSpelled (text_bytes t)) }
+{
+    let mut text = TextPieces::new(alloc);
+    add_module(&mut text.last, b"Linux", b"x86_64", b"0F0", b"a.out")?;
+    text.turn(alloc)?;
+    Ok(text)
+}
+
+#[test]
+fn a_text_grows_in_pieces_and_is_written(rt: HostRuntime) -> Result<(), Fail> {
+    let alloc = rt.alloc();
+    let mut long = TextPieces::new(alloc);
+    for _ in 0..200_000 {
+        add_line(&mut long.last, 0x1000, 0x10, 5, 1)?;
+        long.turn(alloc)?;
+    }
+    let mut rest = 12 * 200_000 - long.last.len().min(2_000_000);
+    for piece in &long.full {
+        expect_number(&rt, "a full piece", piece.len(), 1_048_584);
+        rest = rest.saturating_sub(piece.len());
+    }
+    expect_number(&rt, "nothing is lost", rest, 0);
+    let text = SymText::of(made_text(alloc)?);
+    let fail = CallList::of(Vec::from_slice(alloc, &[0])?);
+    let mut sink = MemSink::new(alloc, 100, 7, fail)?;
+    let whole = text.write(&mut sink).is_ok();
+    expect_number(&rt, "all is written", whole as usize, 1);
     expect(
         &rt,
-        "the last line",
-        sink.written().split_at(2_600_030).1,
-        b"1000 10 5 1\n",
+        "the text",
+        sink.written(),
+        b"MODULE Linux x86_64 0F0 a.out\n",
     );
     Ok(())
 }
