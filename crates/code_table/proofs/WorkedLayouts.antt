@@ -11,7 +11,7 @@ use Rattle.code_table.specs.declared.kind.Operand.TheVariants.{Nothing as NoOper
 use Rattle.code_table.specs.Layouts.{kind_at, shape_at}
 use Rattle.code_table.specs.Rows.{shape_of}
 use Rattle.code_table.specs.FrameOps.{frame_opcodes}
-use Rattle.leb_cursor.proofs.Hex.{hex}
+use Rattle.sym_edges.proofs.Hex.{hex}
 use Rattle.code_table.proofs.Computing.{code_table_computes}
 
 -- the operand of a layout among bytes of which the first has place 1, and the place behind it

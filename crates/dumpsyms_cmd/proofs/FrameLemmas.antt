@@ -8,7 +8,7 @@ use Rattle.elf_sections.specs.Image.{ImageParts}
 use Rattle.elf_sections.specs.Symbols.{SymbolParts}
 use Rattle.sym_records.specs.Canon.{spaced}
 use Rattle.sym_records.specs.declared.line.SymLine.{SymLine}
-use Rattle.sym_records.specs.declared.line.SymLine.TheVariants.{Module, Info, Public, Init, Change}
+use Rattle.sym_records.specs.declared.line.SymLine.TheVariants.{Module, Info, Public}
 use Rattle.rule_postfix.specs.Written.{omitted, written, written_lines}
 use Rattle.rule_postfix.specs.Covering.{init_covers, inits_at, entries_at, AreDisjoint, AreNested}
 use Rattle.rule_postfix.specs.declared.omission.Omission.{Omission}
@@ -56,11 +56,10 @@ plain_head image name = plain_infos image.build_id (publics image.base image.sym
 
 -- plain records cover nothing
 line_plain : (x : ℕ) (s : SymLine) → is_plain s ≡ true → init_covers x s ≡ false
-line_plain x (Module os arch id name) plain = refl
+line_plain x (Module binary) plain = refl
 line_plain x (Info text) plain = refl
 line_plain x (Public many address params name) plain = refl
-line_plain x (Init address size rules) plain = cc
-line_plain x (Change address rules) plain = cc
+line_plain x s plain = cc
 
 covered_behind : (x : ℕ) (front rest : List SymLine) → list_all is_plain front ≡ true → count_by (init_covers x) (front ++ rest) ≡ count_by (init_covers x) rest
 covered_behind x [] rest plain = refl
@@ -75,11 +74,10 @@ covers_behind x front rest plain = covered_behind x front rest plain
 -- nested records are nested behind plain ones
 nested_behind : (front rest : List SymLine) → list_all is_plain front ≡ true → AreNested 0 0 rest → AreNested 0 0 (front ++ rest)
 nested_behind [] rest plain nested = nested
-nested_behind (Module os arch id name ∷ front) rest plain nested = nested_behind front rest plain nested
+nested_behind (Module binary ∷ front) rest plain nested = nested_behind front rest plain nested
 nested_behind (Info text ∷ front) rest plain nested = nested_behind front rest plain nested
 nested_behind (Public many address params name ∷ front) rest plain nested = nested_behind front rest plain nested
-nested_behind (Init address size rules ∷ front) rest plain nested = cc
-nested_behind (Change address rules ∷ front) rest plain nested = cc
+nested_behind (s ∷ front) rest plain nested = cc
 
 -- which addresses the records of written entries cover
 pub record CoversWritten (base : ℕ) (image : ImageParts) (found : FrameLists) : Type 0 where

@@ -1,7 +1,8 @@
 use Rattle.std.proofs.Common.{◌≡◌, ℕ, suc, ◌+◌, ◌*◌, ◌/◌, ◌%◌, ◌<◌, ◌≤◌, List, [], ◌∷◌, ◌++◌, true, length, get_or, codes, refl, sym, ◌∙◌, ap, arith, subst, length-append}
 use Rattle.std.specs.Str.Parse.{AllDigits}
 use Rattle.hex.specs.Hex.{encode_upper, encode_with}
-use Rattle.sym_records.specs.Validity.{is_field, is_name, fields_fit}
+use Rattle.sym_records.specs.Fields.{is_field, is_name}
+use Rattle.sym_records.specs.Validity.{fields_fit}
 use Rattle.sym_records.specs.declared.line.SymLine.TheVariants.{Module, Info}
 use Rattle.sym_records.proofs.MakingLemmas.{upper_digit, digits_field, module_fits, info_fits, code_id_name}
 
@@ -28,10 +29,10 @@ pub age_digit : (old new : List ℕ) → new ≡ old ++ 48 ∷ [] → AllDigits 
 age_digit old new is all = subst (AllDigits 16) (sym is) (all_append old (48 ∷ []) all (omega arith, tt))
 
 -- the record of the binary fits
-pub module_valid : (os arch id name : List ℕ) → os ≡ codes "Linux" → arch ≡ codes "x86_64" → length id ≡ 33 → AllDigits 16 id → is_name name ≡ true → length name ≤ 65536 → fields_fit (Module os arch id name) ≡ true
+pub module_valid : (os arch id name : List ℕ) → os ≡ codes "Linux" → arch ≡ codes "x86_64" → length id ≡ 33 → AllDigits 16 id → is_name name ≡ true → length name ≤ 65536 → fields_fit (Module (record { os = os; arch = arch; id = id; name = name })) ≡ true
 unfolding is_field
 module_valid os arch id name first second len digits named short =
-    module_fits os arch id name (ap is_field first) (ap is_field second) (digits_field id (omega arith) digits) named
+    module_fits (record { os = os; arch = arch; id = id; name = name }) (ap is_field first) (ap is_field second) (digits_field id (omega arith) digits) named
     (omega (arith, ap length first, ap length second))
 
 length_code : (ds : List ℕ) → length (codes "CODE_ID " ++ ds) ≡ 8 + length ds

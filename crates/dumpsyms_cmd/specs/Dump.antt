@@ -20,7 +20,7 @@ module_id identity = encode_upper (turned identity) ++ codes "0"
 
 -- the record of the binary
 unfoldable pub module_line : List ℕ → List ℕ → SymLine
-module_line identity name = Module (codes "Linux") (codes "x86_64") (module_id identity) name
+module_line identity name = Module (record { os = codes "Linux"; arch = codes "x86_64"; id = module_id identity; name = name })
 
 -- the record of a build id
 unfoldable pub info_line : List ℕ → SymLine

@@ -9,7 +9,7 @@ use Rattle.frame_entries.specs.FrameEntries.{frame_entries}
 use Rattle.frame_entries.specs.FdeFields.{FdeFields}
 use Rattle.sym_edges.specs.Results.{◌>>=◌}
 use Rattle.sym_records.specs.declared.line.SymLine.{SymLine}
-use Rattle.sym_records.specs.declared.line.SymLine.TheVariants.{Module, Info, Public, Init, Change}
+use Rattle.sym_records.specs.declared.line.SymLine.TheVariants.{Module, Info, Public}
 use Rattle.rule_postfix.specs.Written.{written, written_lines}
 use Rattle.rule_postfix.specs.Covering.{inits_at, entries_at, AreDisjoint, AreNested}
 use Rattle.dumpsyms_cmd.specs.declared.frames.FrameLists.{FrameLists}
@@ -27,11 +27,10 @@ written_of image found = written image.code found.first found.second
 
 -- a record that says nothing of functions, chains, lines or frames
 abbrev pub is_plain : SymLine → Bool
-is_plain (Module os arch id name) = true
+is_plain (Module binary) = true
 is_plain (Info text) = true
 is_plain (Public many address params name) = true
-is_plain (Init address size rules) = false
-is_plain (Change address rules) = false
+is_plain line = false
 
 -- what records say of frames: behind plain records stand those of the written entries, one entry behind another; no two of
 -- these have an address in common; as many INITs cover an address as written entries hold it, so one or none; and the changes of

@@ -10,7 +10,8 @@ use Rattle.elf_sections.specs.declared.fault.ElfFault.TheVariants.{NotElf, Class
 use Rattle.frame_entries.specs.declared.fault.FrameKind.{FrameKind}
 use Rattle.frame_entries.specs.declared.fault.FrameKind.TheVariants.{Length, Format64}
 use Rattle.sym_edges.specs.declared.located.Located.{Located}
-use Rattle.sym_records.specs.Canon.{hex, spaced}
+use Rattle.sym_records.specs.Canon.{spaced}
+use Rattle.sym_records.specs.Fields.{hex}
 use Rattle.rule_postfix.specs.declared.omission.Omission.{Omission}
 
 -- the word of an image fault

@@ -15,7 +15,7 @@ use elf_sections::Image;
 use std::alloc::Global;
 use sym_edges::OutOfMemory;
 use sym_records::laws::canonical_text_reads_back;
-use sym_records::{ByteText, SymFile, SymLine, SymLines, clean, file_of};
+use sym_records::{Binary, BoxedBinary, ByteText, SymFile, SymLine, SymLines, clean, file_of};
 
 /// Bytes in upper-case hexadecimal.
 #[tactic(auto, using(crate::proofs::RecordLemmas::text_length))]
@@ -62,7 +62,8 @@ fn make_module(alloc: Global, identity: [u8; 16], name: &[u8]) -> Result<SymLine
     let arch = ByteText::of(Vec::from_slice(alloc, b"x86_64")?);
     let id = ByteText::of(make_id(alloc, identity)?);
     let name = clean(alloc, name)?;
-    Ok(SymLine::Module { os, arch, id, name })
+    let binary = BoxedBinary::of(alloc, Binary { os, arch, id, name })?;
+    Ok(SymLine::Module { binary })
 }
 
 /// The record of a build id.

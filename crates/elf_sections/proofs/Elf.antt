@@ -3,7 +3,7 @@
 use Rattle.std.proofs.Common.{ℕ, zero, suc, ◌+◌, ◌*◌, ◌-◌, ◌/◌, ◌%◌, List, [], ◌∷◌, ◌++◌, length, codes}
 use Rattle.std.specs.Prelude.{⊤}
 use Rattle.std.specs.List.{flat_map}
-use Rattle.leb_cursor.proofs.Hex.{bytes}
+use Rattle.sym_edges.proofs.Hex.{bytes}
 
 -- a number as so many bytes, the lowest first
 unfoldable pub le : ℕ → ℕ → List ℕ

@@ -3,7 +3,7 @@ use Rattle.std.proofs.Common.{◌≡◌, ◌+◌, ◌-◌, ◌*◌, ℕ, List, [
 use Rattle.std.specs.Prelude.{slice_set}
 use Rattle.elf_sections.specs.declared.fault.ElfFault.TheVariants.{NotElf, Class, Order, Machine, Kind, SectionTable, SectionNames, SectionBytes, Compressed, ProgramTable, SymbolTable, NoIdentity}
 use Rattle.elf_sections.specs.Image.{image_fault}
-use Rattle.leb_cursor.proofs.Hex.{bytes}
+use Rattle.sym_edges.proofs.Hex.{bytes}
 use Rattle.elf_sections.proofs.Computing.{elf_sections_computes}
 use Rattle.elf_sections.proofs.Elf.{plain, code_at, function, file_of, strings, symbol_table, note, elf_builds}
 

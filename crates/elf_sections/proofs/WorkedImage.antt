@@ -5,7 +5,7 @@ use Rattle.elf_sections.specs.Symbols.{SymbolParts, symbols}
 use Rattle.elf_sections.specs.Programs.{base, code}
 use Rattle.elf_sections.specs.Image.{SectionPart, image, identity_of, part_named}
 use Rattle.elf_sections.proofs.Elf.{Symbol}
-use Rattle.leb_cursor.proofs.Hex.{bytes}
+use Rattle.sym_edges.proofs.Hex.{bytes}
 use Rattle.elf_sections.proofs.Computing.{elf_sections_computes}
 use Rattle.elf_sections.proofs.Elf.{Section, plain, code_at, function, file_of, strings, symbol_table, note, elf_builds}
 

@@ -3,7 +3,7 @@ use Rattle.std.proofs.Common.{◌≡◌, ℕ, List, [], ◌∷◌, ◌++◌, tak
 use Rattle.std.specs.Prelude.{replicate}
 use Rattle.elf_sections.specs.Notes.{notes, first_id, build_id}
 use Rattle.elf_sections.proofs.Elf.{le}
-use Rattle.leb_cursor.proofs.Hex.{bytes}
+use Rattle.sym_edges.proofs.Hex.{bytes}
 use Rattle.elf_sections.proofs.Computing.{elf_sections_computes}
 use Rattle.elf_sections.proofs.Elf.{Section, plain, file_of, note, elf_builds}
 

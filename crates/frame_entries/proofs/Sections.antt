@@ -11,7 +11,7 @@ use Rattle.frame_entries.specs.declared.fault.FrameKind.{FrameKind}
 use Rattle.frame_entries.specs.declared.description.Body.{Body}
 use Rattle.frame_entries.specs.declared.description.Body.TheVariants.{Good, Bad}
 use Rattle.frame_entries.specs.FrameEntries.{frame_entries}
-use Rattle.leb_cursor.proofs.Hex.{hex}
+use Rattle.sym_edges.proofs.Hex.{hex}
 use Rattle.frame_entries.proofs.Computing.{frame_entries_computes}
 
 -- what an entry gives: the start and the size of its address range, or the reason to leave it out

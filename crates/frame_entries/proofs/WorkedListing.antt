@@ -10,7 +10,7 @@ use Rattle.frame_entries.specs.declared.fault.FrameKind.{FrameKind}
 use Rattle.frame_entries.specs.declared.fault.FrameKind.TheVariants.{Length, Format64}
 use Rattle.frame_entries.specs.declared.description.Body.TheVariants.{Good}
 use Rattle.frame_entries.specs.FrameEntries.{frame_entries}
-use Rattle.leb_cursor.proofs.Hex.{hex}
+use Rattle.sym_edges.proofs.Hex.{hex}
 use Rattle.frame_entries.proofs.Sections.{Seen, entries, fault_place, small, sections}
 
 -- the same list, with no address

@@ -4,7 +4,7 @@ use Rattle.sym_edges.specs.Results.{◌>>=◌}
 use Rattle.leb_cursor.specs.declared.fault.CursorFault.{CursorFault}
 use Rattle.leb_cursor.specs.declared.fault.CursorFault.TheVariants.{Ends}
 use Rattle.frame_entries.specs.Pointers.{is_encoding, pointer_at}
-use Rattle.leb_cursor.proofs.Hex.{hex}
+use Rattle.sym_edges.proofs.Hex.{hex}
 use Rattle.frame_entries.proofs.Computing.{frame_entries_computes}
 
 -- the pointer that begins so many bytes behind f0 of ten bytes, and the place behind it

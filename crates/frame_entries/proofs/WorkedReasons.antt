@@ -3,7 +3,7 @@ use Rattle.std.proofs.Common.{◌≡◌, ◌++◌, take, Some, Ok, Err, refl}
 use Rattle.std.specs.Prelude.{slice_set}
 use Rattle.sym_edges.specs.declared.part.Sect.TheVariants.{EhFrame, DebugFrame}
 use Rattle.sym_edges.specs.declared.reason.Reason.TheVariants as reason
-use Rattle.leb_cursor.proofs.Hex.{hex}
+use Rattle.sym_edges.proofs.Hex.{hex}
 use Rattle.frame_entries.proofs.Sections.{entries, only, small, changed, under, sections}
 
 -- one changed byte of the small section gives each reason

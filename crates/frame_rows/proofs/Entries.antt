@@ -8,7 +8,7 @@ use Rattle.frame_rows.specs.declared.row.Rule.{Rule}
 use Rattle.frame_rows.specs.declared.row.Rule.TheVariants as rule
 use Rattle.frame_rows.specs.declared.row.Row.{Row}
 use Rattle.frame_rows.specs.Rows.{stops, row_at, rows_fault}
-use Rattle.leb_cursor.proofs.Hex.{hex}
+use Rattle.sym_edges.proofs.Hex.{hex}
 use Rattle.frame_rows.proofs.Computing.{frame_rows_computes}
 
 abbrev pub minus : ℕ → ℤ

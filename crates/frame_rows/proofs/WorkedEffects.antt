@@ -11,7 +11,7 @@ use Rattle.frame_rows.specs.declared.machine.Setting.{Setting}
 use Rattle.frame_rows.specs.Machine.{Machine}
 use Rattle.frame_rows.specs.Instructions.{instructions}
 use Rattle.frame_rows.specs.Rows.{all_stepped, first_fault}
-use Rattle.leb_cursor.proofs.Hex.{hex}
+use Rattle.sym_edges.proofs.Hex.{hex}
 use Rattle.frame_rows.proofs.Entries.{minus, row, entries}
 
 -- in front of each instruction: rax is the same, rbp lies at the CFA - 16, the return address at the CFA - 8

@@ -4,7 +4,7 @@ use Prim.Native.String.{String}
 use Rattle.sym_edges.specs.declared.reason.Reason.TheVariants as reason
 use Rattle.frame_rows.specs.declared.instruction.Instruction.TheVariants.{SetLoc, AdvanceLoc, DefCfa, DefCfaSf, DefCfaRegister, DefCfaOffset, DefCfaOffsetSf, Undefined, SameValue, Offset, OffsetExtendedSf, ValOffset, ValOffsetSf, Register, Restore, RememberState, RestoreState, Nop}
 use Rattle.frame_rows.specs.Instructions.{Item, instructions}
-use Rattle.leb_cursor.proofs.Hex.{hex}
+use Rattle.sym_edges.proofs.Hex.{hex}
 use Rattle.frame_rows.proofs.Computing.{frame_rows_computes}
 
 -- the instructions of a run of bytes at 2029, whose pointers are numbers of eight bytes

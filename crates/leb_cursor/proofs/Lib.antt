@@ -7,7 +7,6 @@ pub mod TenthLemmas
 pub mod UlebLemmas
 pub mod SlebLemmas
 pub mod PassLemmas
-pub mod Hex
 pub mod Computing
 mod WorkedLeb
 mod WorkedReadings

@@ -4,7 +4,7 @@ use Prim.Native.String.{String}
 use Rattle.leb_cursor.specs.declared.fault.CursorFault.TheVariants.{Ends, NoZero}
 use Rattle.leb_cursor.specs.Ahead.{Ahead}
 use Rattle.leb_cursor.specs.Readings.{fixed_at, text_at, take_at}
-use Rattle.leb_cursor.proofs.Hex.{bytes}
+use Rattle.sym_edges.proofs.Hex.{bytes}
 use Rattle.leb_cursor.proofs.Computing.{leb_cursor_computes}
 
 -- these bytes ahead, the first of them at a place

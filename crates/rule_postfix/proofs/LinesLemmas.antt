@@ -9,8 +9,8 @@ use Rattle.std.specs.Option.{option_or}
 use Rattle.frame_rows.specs.Rows.{Ascending, last_at}
 use Rattle.sym_records.specs.declared.line.SymLine.{SymLine}
 use Rattle.sym_records.specs.declared.line.SymLine.TheVariants.{Init}
-use Rattle.sym_records.specs.declared.rules.RuleText.{RuleText}
-use Rattle.sym_records.specs.declared.rules.Target.{Target}
+use Rattle.sym_rules.specs.declared.rules.RuleText.{RuleText}
+use Rattle.sym_rules.specs.declared.rules.Target.{Target}
 use Rattle.rule_postfix.specs.RowParts.{becomes_unspecified, is_unspecified, is_unruled, column_part, rule_at, part_of}
 use Rattle.rule_postfix.specs.RowRules.{rule_of, rules_of, rules_by, targets, if_changed, some_becomes_unspecified, some_unspecified_below, row_rules, changed_rules}
 use Rattle.rule_postfix.specs.FrameLines.{is_cut, first_cut, change, records_at, frame_lines}

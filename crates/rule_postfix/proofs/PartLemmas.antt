@@ -5,7 +5,7 @@ use Rattle.std.proofs.lemmas.Bool.{and_from}
 use Rattle.std.proofs.lemmas.Cmp.{int_eq_equiv}
 use Rattle.frame_rows.specs.declared.row.Rule.{Rule}
 use Rattle.frame_rows.specs.declared.row.Rule.TheVariants as rule
-use Rattle.sym_records.specs.declared.rules.Target.{Target}
+use Rattle.sym_rules.specs.declared.rules.Target.{Target}
 use Rattle.rule_postfix.specs.declared.parts.RowPart.{RowPart}
 use Rattle.rule_postfix.specs.declared.parts.RowPart.TheVariants.{Unruled, Base, Column}
 use Rattle.rule_postfix.specs.RowParts.{same_rule, same_part, column_part}

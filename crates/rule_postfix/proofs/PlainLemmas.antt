@@ -8,13 +8,13 @@ use Rattle.frame_rows.specs.declared.row.CfaRule.{CfaRule}
 use Rattle.frame_rows.specs.declared.row.Row.{Row}
 use Rattle.frame_rows.specs.Steps.{has_cfa}
 use Rattle.frame_rows.specs.Rows.{is_sound_rule, is_sound_cfa, IsSound}
-use Rattle.sym_records.specs.declared.rules.Target.{Target}
-use Rattle.sym_records.specs.declared.rules.Target.TheVariants.{Cfa, Ra, Reg, Other}
-use Rattle.sym_records.specs.declared.rules.Token.{Token}
-use Rattle.sym_records.specs.declared.rules.Token.TheVariants as token
-use Rattle.sym_records.specs.declared.rules.RuleText.{RuleText}
+use Rattle.sym_rules.specs.declared.rules.Target.{Target}
+use Rattle.sym_rules.specs.declared.rules.Target.TheVariants.{Cfa, Ra, Reg, Other}
+use Rattle.sym_rules.specs.declared.rules.Token.{Token}
+use Rattle.sym_rules.specs.declared.rules.Token.TheVariants as token
+use Rattle.sym_rules.specs.declared.rules.RuleText.{RuleText}
 use Rattle.sym_edges.specs.Integers.{fits_i64}
-use Rattle.sym_records.specs.RuleValidity.{is_plain_target, is_plain_token, is_plain_rule}
+use Rattle.sym_rules.specs.RuleValidity.{is_plain_target, is_plain_token, is_plain_rule}
 use Rattle.rule_postfix.specs.declared.parts.RowPart.{RowPart}
 use Rattle.rule_postfix.specs.declared.parts.RowPart.TheVariants.{Unruled, Base, Column}
 use Rattle.sym_edges.specs.Abi.{Default, KeepsValue, IsCfa, Unspecified, default_of, is_kept}

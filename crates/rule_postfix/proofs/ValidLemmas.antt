@@ -10,9 +10,9 @@ use Rattle.sym_records.specs.declared.line.SymLine.{SymLine}
 use Rattle.sym_records.specs.declared.line.SymLine.TheVariants.{Init, Change}
 use Rattle.sym_records.specs.declared.place.Place.{Place}
 use Rattle.sym_records.specs.declared.place.Place.TheVariants.{Inside, Frame}
-use Rattle.sym_records.specs.declared.rules.RuleText.{RuleText}
+use Rattle.sym_rules.specs.declared.rules.RuleText.{RuleText}
 use Rattle.sym_records.specs.Reading.{fits, leads}
-use Rattle.sym_records.specs.RuleValidity.{is_plain_rule}
+use Rattle.sym_rules.specs.RuleValidity.{is_plain_rule}
 use Rattle.sym_records.specs.Validity.{fields_fit, first_bad_from, place_behind}
 use Rattle.rule_postfix.specs.RowRules.{some_becomes_unspecified, row_rules, changed_rules}
 use Rattle.rule_postfix.specs.FrameLines.{is_cut, first_cut, change, records_at, frame_lines}

@@ -1,18 +1,15 @@
 -- Which addresses the INIT records cover, and which the entries that are written; and where the records of changes stand.
 use Rattle.std.specs.Prelude.{◌≡◌, ℕ, ◌+◌, ◌<◌, ◌&&◌, nat_lt, nat_le, Bool, false, List, [], ◌∷◌, map, count_by}
 use Rattle.sym_records.specs.declared.line.SymLine.{SymLine}
-use Rattle.sym_records.specs.declared.line.SymLine.TheVariants.{Module, Info, Public, Init, Change}
+use Rattle.sym_records.specs.declared.line.SymLine.TheVariants.{Init, Change}
 use Rattle.frame_entries.specs.FdeFields.{FdeFields}
 use Rattle.rule_postfix.specs.Overlaps.{any_meets}
 use Rattle.rule_postfix.specs.Written.{range_of}
 
 -- an INIT covers the addresses of its range
 abbrev pub init_covers : ℕ → SymLine → Bool
-init_covers x (Module os arch id name) = false
-init_covers x (Info text) = false
-init_covers x (Public many address params name) = false
 init_covers x (Init address size rules) = nat_le address x && nat_lt x (address + size)
-init_covers x (Change address rules) = false
+init_covers x line = false
 
 -- how many INITs cover an address
 unfoldable pub inits_at : List SymLine → ℕ → ℕ
@@ -35,8 +32,6 @@ AreDisjoint (e ∷ entries) = (any_meets (range_of e) (map range_of entries) ≡
 -- of the INIT; said of the records behind one at the address `last`, in a range that ends at `end`
 abbrev pub AreNested : ℕ → ℕ → List SymLine → Type 0
 AreNested last end [] = Unit {0}
-AreNested last end (Module os arch id name ∷ lines) = AreNested 0 0 lines
-AreNested last end (Info text ∷ lines) = AreNested 0 0 lines
-AreNested last end (Public many address params name ∷ lines) = AreNested 0 0 lines
 AreNested last end (Init address size rules ∷ lines) = (0 < size) × AreNested address (address + size) lines
 AreNested last end (Change address rules ∷ lines) = (last < address) × ((address < end) × AreNested address end lines)
+AreNested last end (line ∷ lines) = AreNested 0 0 lines

@@ -4,7 +4,7 @@ use Rattle.frame_rows.specs.declared.row.Row.{Row}
 use Rattle.frame_rows.specs.declared.row.RowAt.{RowAt}
 use Rattle.sym_records.specs.declared.line.SymLine.{SymLine}
 use Rattle.sym_records.specs.declared.line.SymLine.TheVariants.{Init}
-use Rattle.sym_records.specs.declared.rules.RuleText.{RuleText}
+use Rattle.sym_rules.specs.declared.rules.RuleText.{RuleText}
 use Rattle.rule_postfix.specs.RowRules.{row_rules, changed_rules, some_becomes_unspecified}
 use Rattle.rule_postfix.specs.FrameLines.{change}
 

@@ -1,5 +1,6 @@
 -- Bytes written in lower-case hexadecimal, for worked rows.
-use Rattle.std.proofs.Common.{ℕ, zero, suc, ◌+◌, ◌*◌, ◌-◌, ◌/◌, ◌%◌, ◌==◌, nat_lt, if◌then◌else◌, List, [], ◌∷◌}
+use Rattle.std.proofs.Common.{ℕ, zero, suc, ◌+◌, ◌*◌, ◌-◌, ◌/◌, ◌%◌, ◌==◌, nat_lt, if◌then◌else◌, List, [], ◌∷◌, codes}
+use Prim.Native.String.{String}
 
 abbrev pub nibble : ℕ → ℕ
 nibble c = if nat_lt c 58 then c - 48 else c - 87
@@ -9,6 +10,10 @@ unfoldable pub bytes : List ℕ → List ℕ
 bytes [] = []
 bytes (a ∷ []) = []
 bytes (a ∷ b ∷ text) = if a == 32 then bytes (b ∷ text) else (nibble a * 16 + nibble b) ∷ bytes text
+
+unfoldable pub hex : String → List ℕ
+unfolding bytes
+hex text = bytes (codes text)
 
 -- a number as so many bytes, the lowest first
 unfoldable pub little : ℕ → ℕ → List ℕ

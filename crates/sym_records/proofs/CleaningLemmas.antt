@@ -1,15 +1,16 @@
 use Rattle.std.proofs.Common.{◌≡◌, ◌≢◌, ℕ, ◌+◌, ◌-◌, ◌<◌, ◌≤◌, ◌==◌, cond, Bool, true, false, not, List, [], ◌∷◌, ◌++◌, length, map, take, drop, set, get_or, min, codes, refl, sym, ◌∙◌, ap, arith, zero, suc, nat_le, length-take}
 use Rattle.std.specs.List.{list_all}
 use Rattle.std.proofs.lemmas.Grind.{common_steps, get_or_default_zero}
+use Rattle.std.proofs.lemmas.Bool.{eqb-true}
 use Rattle.std.proofs.lemmas.Bool.Decides.{nat_tests}
 use Rattle.std.proofs.lemmas.List.Recursion.{and_at}
 use Rattle.std.proofs.lemmas.List.Edits.{map_over_more}
-use Rattle.std.proofs.lemmas.List.{take-map, take_min}
-use Rattle.sym_records.proofs.BoolLemmas.{and_true, both, some_bytes, not_false, if_both}
-use Rattle.sym_records.proofs.EndLemmas.{Begins, begins_skip}
-use Rattle.sym_records.specs.Cuts.{is_space, is_within_line, skip}
+use Rattle.std.proofs.lemmas.List.{take-map, take_min, take_all}
+use Rattle.sym_rules.proofs.BoolLemmas.{and_true, both, some_bytes, not_false, if_both}
+use Rattle.sym_rules.proofs.EndLemmas.{Begins, begins_skip}
+use Rattle.sym_rules.specs.Cuts.{is_space, is_within_line, skip}
 use Rattle.sym_records.specs.Cleaning.{shown_byte, or_omitted, cleaned_upto}
-use Rattle.sym_records.specs.Validity.{is_name}
+use Rattle.sym_records.specs.Fields.{is_name}
 
 longer : (f : ℕ → ℕ) (name bytes : List ℕ) (i : ℕ) → i < length bytes → name ≡ map f (take i bytes) ++ drop i bytes → i < length name
 longer f name bytes i within is = grind (arith, common_steps)
@@ -124,3 +125,21 @@ omitted_short (x ∷ xs) limit room short = short
 pub cleaned_short : (limit : ℕ) (bytes : List ℕ) → 14 ≤ limit → length (cleaned_upto limit bytes) ≤ limit
 unfolding cleaned_upto
 cleaned_short limit bytes room = omitted_short (take limit (skip is_space (map shown_byte bytes))) limit room (omega (arith, length-take limit (skip is_space (map shown_byte bytes))))
+
+-- bytes that are all shown as they are
+all_same_by : (f : ℕ → ℕ) (bytes : List ℕ) → list_all (λ b. f b == b) bytes ≡ true → map f bytes ≡ bytes
+all_same_by f [] all = refl
+all_same_by f (b ∷ bytes) all = let same : f b ≡ b = eqb-true (f b) b (and_true all).0 in ap (λ l. f b ∷ l) (all_same_by f bytes (and_true all).1) ∙ ap (λ c. c ∷ bytes) same
+
+pub all_same : (bytes old new : List ℕ) → list_all (λ b. shown_byte b == b) bytes ≡ true → new ≡ old ++ bytes → new ≡ old ++ map shown_byte bytes
+all_same bytes old new all is = is ∙ ap (λ l. old ++ l) (sym (all_same_by shown_byte bytes all))
+
+adds_one : (f : ℕ → ℕ) (bytes : List ℕ) (i b y : ℕ) (old text : List ℕ) → i < length bytes → b ≡ get_or bytes i 0 → y ≡ f b → text ≡ old ++ map f (take i bytes) → text ++ y ∷ [] ≡ old ++ map f (take (i + 1) bytes)
+adds_one f bytes i b y old text within at is so = grind (arith, common_steps)
+
+-- one more byte is shown
+pub adds_byte : (bytes : List ℕ) (i b y : ℕ) (old text new : List ℕ) → i < length bytes → b ≡ get_or bytes i 0 → y ≡ shown_byte b → text ≡ old ++ map shown_byte (take i bytes) → new ≡ text ++ y ∷ [] → new ≡ old ++ map shown_byte (take (i + 1) bytes)
+adds_byte bytes i b y old text new within at is so more = more ∙ adds_one shown_byte bytes i b y old text within at is so
+
+pub adds_bytes : (bytes : List ℕ) (i : ℕ) (old text : List ℕ) → length bytes ≤ i → text ≡ old ++ map shown_byte (take i bytes) → text ≡ old ++ map shown_byte bytes
+adds_bytes bytes i old text past is = is ∙ ap (λ l. old ++ map shown_byte l) (take_all i bytes past)

@@ -2,7 +2,7 @@ use Rattle.std.proofs.Common.{◌≡◌, ◌≢◌, ℕ, ◌+◌, ◌<◌, ◌�
 use Rattle.std.proofs.lemmas.Grind.{common_steps}
 use Rattle.std.proofs.lemmas.List.{at_drop_more}
 use Rattle.std.proofs.lemmas.Bool.Decides.{nat_tests}
-use Rattle.sym_records.specs.Cuts.{is_space, skip}
+use Rattle.sym_rules.specs.Cuts.{is_space, skip}
 
 skip_here : (x : ℕ) (xs : List ℕ) → x ≢ 32 → skip is_space (x ∷ xs) ≡ x ∷ xs
 unfolding skip

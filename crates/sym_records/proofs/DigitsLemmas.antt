@@ -4,8 +4,8 @@ use Rattle.std.proofs.lemmas.Grind.{common_steps, drop-set_at}
 use Rattle.std.proofs.lemmas.List.FromFn.{get_or-map-range_with_len}
 use Rattle.std.proofs.lemmas.Bool.Decides.{nat_tests}
 use Rattle.std.specs.Fmt.{digits_onto, digit_glyph, digits}
-use Rattle.sym_records.proofs.BoolLemmas.{elim_bool}
-use Rattle.sym_records.specs.Canon.{hex}
+use Rattle.sym_rules.proofs.BoolLemmas.{elim_bool}
+use Rattle.sym_records.specs.Fields.{hex}
 
 -- at most so many hexadecimal digits of a number, in front of others
 unfoldable pub hex_left : ℕ → ℕ → List ℕ → List ℕ

@@ -1,14 +1,16 @@
 -- Lists of records that are valid one behind another.
 use Rattle.std.proofs.Common.{◌≡◌, ℕ, ◌+◌, ◌&&◌, cond, true, false, List, [], ◌∷◌, ◌++◌, Some, None, refl, sym, ◌∙◌, ap}
 use Rattle.std.specs.List.{list_all}
-use Rattle.sym_records.proofs.BoolLemmas.{and_true, both, elim_bool}
+use Rattle.sym_rules.proofs.BoolLemmas.{and_true, both, elim_bool}
+use Rattle.sym_records.specs.Places.{Part, First, Own, Owner, Owned, Frames, Changes, part, may_stand, place_behind_part, is_change_part}
+use Rattle.sym_records.specs.Records.{keyword}
 use Rattle.sym_records.specs.Reading.{fits, leads, is_start}
 use Rattle.sym_records.specs.Validity.{fields_fit, first_bad_from, first_bad, place_behind, is_change}
-use Rattle.sym_records.specs.declared.rules.RuleText.{RuleText}
+use Rattle.sym_rules.specs.declared.rules.RuleText.{RuleText}
 use Rattle.sym_records.specs.declared.line.SymLine.{SymLine}
-use Rattle.sym_records.specs.declared.line.SymLine.TheVariants.{Module, Info, Public, Init, Change}
+use Rattle.sym_records.specs.declared.line.SymLine.TheVariants.{Init}
 use Rattle.sym_records.specs.declared.place.Place.{Place}
-use Rattle.sym_records.specs.declared.place.Place.TheVariants.{Start, Inside, Frame}
+use Rattle.sym_records.specs.declared.place.Place.TheVariants.{Start, Inside, Function, Frame}
 
 pub from_here : (i : ℕ) (place : Place) (s : SymLine) (lines : List SymLine) → fits place s ≡ true → fields_fit s ≡ true → first_bad_from (i + 1) (leads place s) lines ≡ None → first_bad_from i place (s ∷ lines) ≡ None
 unfolding first_bad_from
@@ -42,45 +44,63 @@ none_moved i j place (x ∷ lines) none =
     let head = head_fits i place x lines none in
     from_here j place x lines head.stands head.fit (none_moved (i + 1) (j + 1) (leads place x) lines head.later)
 
--- what may stand behind other records may stand behind frame records
-fits_frame : (s : SymLine) → fits Inside s ≡ true → fits Frame s ≡ true
-fits_frame (Module os arch id name) stands = stands
-fits_frame (Info text) stands = refl
-fits_frame (Public many address params name) stands = refl
-fits_frame (Init address size rules) stands = refl
-fits_frame (Change address rules) stands = refl
+-- what may stand behind records of their own may stand behind any record, and leads to the same place
+anywhere : (place : Place) (p : Part) → is_start place ≡ false → may_stand Inside p ≡ true → (may_stand place p ≡ true) × (place_behind_part Inside p ≡ place_behind_part place p)
+anywhere Start p on stands = cc
+anywhere Inside p on stands = (stands, refl)
+anywhere Function First on stands = cc
+anywhere Function Own on stands = (refl, refl)
+anywhere Function Owner on stands = (refl, refl)
+anywhere Function Owned on stands = cc
+anywhere Function Frames on stands = (refl, refl)
+anywhere Function Changes on stands = cc
+anywhere Frame First on stands = cc
+anywhere Frame Own on stands = (refl, refl)
+anywhere Frame Owner on stands = (refl, refl)
+anywhere Frame Owned on stands = cc
+anywhere Frame Frames on stands = (refl, refl)
+anywhere Frame Changes on stands = cc
 
-leads_same : (place : Place) (s : SymLine) → leads Inside s ≡ leads place s
-leads_same place (Module os arch id name) = refl
-leads_same place (Info text) = refl
-leads_same place (Public many address params name) = refl
-leads_same place (Init address size rules) = refl
-leads_same place (Change address rules) = refl
-
-leads_on : (place : Place) (s : SymLine) → is_start (leads place s) ≡ false
-leads_on place (Module os arch id name) = refl
-leads_on place (Info text) = refl
-leads_on place (Public many address params name) = refl
-leads_on place (Init address size rules) = refl
-leads_on place (Change address rules) = refl
-
-frame_none : (i : ℕ) (lines : List SymLine) → first_bad_from i Inside lines ≡ None → first_bad_from i Frame lines ≡ None
-frame_none i [] none = none_here i Frame
-frame_none i (x ∷ lines) none =
-    let head = head_fits i Inside x lines none in
-    from_here i Frame x lines (fits_frame x head.stands) head.fit (ap (λ p. first_bad_from (i + 1) p lines) (sym (leads_same Frame x)) ∙ head.later)
+-- a record that may stand leads away from the start
+leads_away : (place : Place) (p : Part) → may_stand place p ≡ true → is_start (place_behind_part place p) ≡ false
+leads_away Start First stands = refl
+leads_away Start Own stands = cc
+leads_away Start Owner stands = cc
+leads_away Start Owned stands = cc
+leads_away Start Frames stands = cc
+leads_away Start Changes stands = cc
+leads_away Inside First stands = cc
+leads_away Inside Own stands = refl
+leads_away Inside Owner stands = refl
+leads_away Inside Owned stands = cc
+leads_away Inside Frames stands = refl
+leads_away Inside Changes stands = cc
+leads_away Function First stands = cc
+leads_away Function Own stands = refl
+leads_away Function Owner stands = refl
+leads_away Function Owned stands = refl
+leads_away Function Frames stands = refl
+leads_away Function Changes stands = cc
+leads_away Frame First stands = cc
+leads_away Frame Own stands = refl
+leads_away Frame Owner stands = refl
+leads_away Frame Owned stands = cc
+leads_away Frame Frames stands = refl
+leads_away Frame Changes stands = refl
 
 on_none : (i : ℕ) (place : Place) (lines : List SymLine) → is_start place ≡ false → first_bad_from 0 Inside lines ≡ None → first_bad_from i place lines ≡ None
-on_none i Start lines on none = cc
-on_none i Inside lines on none = none_moved 0 i Inside lines none
-on_none i Frame lines on none = frame_none i lines (none_moved 0 i Inside lines none)
+on_none i place [] on none = none_here i place
+on_none i place (x ∷ lines) on none =
+    let head = head_fits 0 Inside x lines none in
+    let both = anywhere place (part (keyword x)) on head.stands in
+    from_here i place x lines both.0 head.fit (ap (λ p. first_bad_from (i + 1) p lines) (sym both.1) ∙ none_moved 1 (i + 1) (leads Inside x) lines head.later)
 
 -- records behind records that are not the first
 joined_on : (i : ℕ) (place : Place) (xs ys : List SymLine) → is_start place ≡ false → first_bad_from i place xs ≡ None → first_bad_from 0 Inside ys ≡ None → first_bad_from i place (xs ++ ys) ≡ None
 joined_on i place [] ys on first second = on_none i place ys on second
 joined_on i place (x ∷ xs) ys on first second =
     let head = head_fits i place x xs first in
-    from_here i place x (xs ++ ys) head.stands head.fit (joined_on (i + 1) (leads place x) xs ys (leads_on place x) head.later second)
+    from_here i place x (xs ++ ys) head.stands head.fit (joined_on (i + 1) (leads place x) xs ys (leads_away place (part (keyword x)) head.stands) head.later second)
 
 -- a valid list stays valid with more records behind it
 pub join_fits : (xs ys : List SymLine) → first_bad xs ≡ None → first_bad_from 0 Inside ys ≡ None → first_bad (xs ++ ys) ≡ None
@@ -88,7 +108,7 @@ unfolding first_bad
 join_fits [] ys first second = cc
 join_fits (x ∷ xs) ys first second =
     let head = head_fits 0 Start x xs first in
-    from_here 0 Start x (xs ++ ys) head.stands head.fit (joined_on 1 (leads Start x) xs ys (leads_on Start x) head.later second)
+    from_here 0 Start x (xs ++ ys) head.stands head.fit (joined_on 1 (leads Start x) xs ys (leads_away Start (part (keyword x)) head.stands) head.later second)
 
 -- and so do records that may stand behind others
 pub join_behind : (xs ys : List SymLine) → first_bad_from 0 Inside xs ≡ None → first_bad_from 0 Inside ys ≡ None → first_bad_from 0 Inside (xs ++ ys) ≡ None
@@ -115,14 +135,20 @@ unfolding place_behind
 behind_pushed place [] s = refl
 behind_pushed place (x ∷ lines) s = behind_pushed (leads place x) lines s
 
+change_stands : (p : Part) → is_change_part p ≡ true → (may_stand Frame p ≡ true) × (place_behind_part Frame p ≡ Frame)
+change_stands First is = cc
+change_stands Own is = cc
+change_stands Owner is = cc
+change_stands Owned is = cc
+change_stands Frames is = cc
+change_stands Changes is = (refl, refl)
+
 changes_fit : (i : ℕ) (changes : List SymLine) → list_all is_change changes ≡ true → list_all fields_fit changes ≡ true → first_bad_from i Frame changes ≡ None
 changes_fit i [] all fit = none_here i Frame
-changes_fit i (Module os arch id name ∷ changes) all fit = cc
-changes_fit i (Info text ∷ changes) all fit = cc
-changes_fit i (Public many address params name ∷ changes) all fit = cc
-changes_fit i (Init address size rules ∷ changes) all fit = cc
-changes_fit i (Change address rules ∷ changes) all fit =
-    from_here i Frame (Change address rules) changes refl (and_true fit).0 (changes_fit (i + 1) changes all (and_true fit).1)
+changes_fit i (x ∷ changes) all fit =
+    let stands = change_stands (part (keyword x)) (and_true {a = is_change x} all).0 in
+    from_here i Frame x changes stands.0 (and_true {a = fields_fit x} fit).0
+    (ap (λ p. first_bad_from (i + 1) p changes) stands.1 ∙ changes_fit (i + 1) changes (and_true {a = is_change x} all).1 (and_true {a = fields_fit x} fit).1)
 
 -- a STACK CFI INIT and changes behind it
 pub frame_fits : (address size : ℕ) (rules : List RuleText) (changes : List SymLine) → fields_fit (Init address size rules) ≡ true → list_all is_change changes ≡ true → list_all fields_fit changes ≡ true → first_bad_from 0 Inside (Init address size rules ∷ changes) ≡ None

@@ -1,61 +1,113 @@
 -- For who makes records: which fields fit. Which lists are valid stands in JoiningLemmas.
 pub use Rattle.sym_records.proofs.JoiningLemmas.{first_fits, push_fits, join_fits, join_behind, push_behind, behind_pushed, frame_fits}
-use Rattle.std.proofs.Common.{◌≡◌, ℕ, ◌+◌, ◌-◌, ◌^◌, ◌<◌, ◌≤◌, ◌==◌, cond, suc, Bool, true, false, pos, negsuc, List, [], ◌∷◌, ◌++◌, length, get_or, codes, nat_lt, nat_le, refl, ap, arith, subst, length-append, ◌*◌}
+use Rattle.std.proofs.Common.{◌≡◌, ℕ, ◌+◌, ◌-◌, ◌*◌, ◌^◌, ◌<◌, ◌≤◌, ◌==◌, cond, Bool, true, false, List, [], ◌∷◌, ◌++◌, length, get_or, codes, nat_lt, nat_le, refl, ap, arith, subst, length-append}
 use Rattle.std.specs.List.{list_all, flat_map}
 use Rattle.std.specs.Char.{digit_value}
+use Rattle.std.specs.Fmt.{decimal}
 use Rattle.std.specs.Str.Parse.{AllDigits}
+use Rattle.std.proofs.lemmas.Bool.{lt-ltb, le-leb, ltb-true}
 use Rattle.std.proofs.lemmas.Bool.Decides.{nat_tests}
+use Rattle.std.proofs.lemmas.Fmt.{length-decimal-le}
 use Rattle.std.proofs.lemmas.List.Recursion.{and_at}
-use Rattle.sym_records.proofs.BoolLemmas.{and_true, both, not_false, elim_bool}
-use Rattle.sym_records.proofs.EndLemmas.{last_none}
-use Rattle.sym_records.proofs.RuleLemmas.{decimal_parts, register_parts, is_below, is_up_to}
-use Rattle.sym_records.proofs.RuleLengthLemmas.{length_init, length_change, length_rule}
-use Rattle.sym_records.proofs.LengthLemmas.{length_module, length_info, length_public}
+use Rattle.sym_rules.proofs.BoolLemmas.{and_true, both, elim_bool}
+use Rattle.sym_rules.proofs.PlainLemmas.{rules_short, rules_are}
+use Rattle.sym_records.proofs.LengthLemmas.{length_module, length_info, length_file, length_origin, length_func, length_inline, length_line, length_public, length_init, length_change}
 use Rattle.sym_records.proofs.DigitsLemmas.{length_hex}
 use Rattle.sym_records.proofs.TextLemmas.{digits_within}
 use Rattle.sym_records.proofs.CleaningLemmas.{is_shown, named}
-use Rattle.sym_records.specs.Cuts.{last_is}
-use Rattle.sym_edges.specs.Abi.{register_name}
-use Rattle.sym_records.specs.Rules.{target_name, token_word, spelled_token, spelled_rule, spelled_rules}
-use Rattle.sym_records.specs.RuleValidity.{is_target, is_token, is_rule, ends_in_cr, end_in_cr, are_rules, is_plain_target, is_plain_token, is_plain_rule}
-use Rattle.sym_records.specs.declared.rules.Target.{Target}
-use Rattle.sym_records.specs.declared.rules.Target.TheVariants as target
-use Rattle.sym_records.specs.declared.rules.Token.{Token}
-use Rattle.sym_records.specs.declared.rules.Token.TheVariants as token
-use Rattle.sym_records.specs.declared.rules.RuleText.{RuleText}
+use Rattle.sym_rules.specs.Rules.{spelled_rules}
+use Rattle.sym_rules.specs.RuleValidity.{are_rules, is_plain_rule}
+use Rattle.sym_rules.specs.declared.rules.RuleText.{RuleText}
 use Rattle.sym_records.specs.Canon.{body}
-use Rattle.sym_records.specs.Validity.{is_field, is_name, fields_fit}
-use Rattle.sym_records.specs.declared.line.SymLine.TheVariants.{Module, Info, Public, Init, Change}
+use Rattle.sym_records.specs.Fields.{hex, is_field, is_name, mark, is_range, are_ranges, spelled_range}
+use Rattle.sym_records.specs.Validity.{has_fields, fields_fit}
+use Rattle.sym_records.specs.declared.line.Binary.{Binary}
+use Rattle.sym_records.specs.declared.line.Extent.{Extent}
+use Rattle.sym_records.specs.declared.line.SymLine.{SymLine}
+use Rattle.sym_records.specs.declared.line.SymLine.TheVariants.{Module, Info, File, Origin, Func, Inline, Line, Public, Init, Change}
 
-le_true : (a b : ℕ) → a ≤ b → nat_le a b ≡ true
-le_true a b is = grind (arith, nat_tests)
+-- a record fits whose fields fit and whose line is short
+fits_both : (s : SymLine) → has_fields s ≡ true → length (body s) ≤ 2 ^ 20 → fields_fit s ≡ true
+unfolding fields_fit
+fits_both s fits short = both fits (le-leb (length (body s)) (2 ^ 20) short)
 
-lt_true : (a b : ℕ) → a < b → nat_lt a b ≡ true
-lt_true a b is = grind (arith, nat_tests)
+small : (n : ℕ) → n < 2 ^ 64 → nat_lt n (2 ^ 64) ≡ true
+small n is = lt-ltb n (2 ^ 64) is
+
+little : (n : ℕ) → n < 2 ^ 32 → nat_lt n (2 ^ 32) ≡ true
+little n is = lt-ltb n (2 ^ 32) is
+
+-- a decimal number below 2^32 has at most 10 digits
+length_decimal : (n : ℕ) → n < 2 ^ 32 → length (decimal n) ≤ 10
+length_decimal n is = length-decimal-le 10 n (omega arith) (omega (arith, is)) (omega (arith, is))
+
+length_mark : (many : Bool) → length (mark many) ≤ 2
+length_mark true = omega arith
+length_mark false = omega arith
 
 -- MODULE of three fields and a name
-pub module_fits : (os arch id name : List ℕ) → is_field os ≡ true → is_field arch ≡ true → is_field id ≡ true → is_name name ≡ true → 10 + length os + length arch + length id + length name ≤ 2 ^ 20 → fields_fit (Module os arch id name) ≡ true
-unfolding fields_fit
-module_fits os arch id name first second third last short =
-    both (both (both (both first second) third) last) (le_true (length (body (Module os arch id name))) (2 ^ 20) (omega (arith, length_module os arch id name)))
+pub module_fits : (binary : Binary) → is_field binary.os ≡ true → is_field binary.arch ≡ true → is_field binary.id ≡ true → is_name binary.name ≡ true → 10 + length binary.os + length binary.arch + length binary.id + length binary.name ≤ 2 ^ 20 → fields_fit (Module binary) ≡ true
+module_fits binary first second third last short =
+    fits_both (Module binary) (both first (both second (both third last))) (omega (arith, length_module binary))
 
 -- INFO of a text that is a name
 pub info_fits : (text : List ℕ) → is_name text ≡ true → 5 + length text ≤ 2 ^ 20 → fields_fit (Info text) ≡ true
-unfolding fields_fit
-info_fits text last short = both last (le_true (length (body (Info text))) (2 ^ 20) (omega (arith, length_info text)))
+info_fits text last short = fits_both (Info text) last (omega (arith, length_info text))
+
+-- FILE and INLINE_ORIGIN of a number and a name: their other bytes are 25 at most
+pub file_fits : (number : ℕ) (name : List ℕ) → number < 2 ^ 32 → is_name name ≡ true → 25 + length name ≤ 2 ^ 20 → fields_fit (File number name) ≡ true
+file_fits number name first last short =
+    fits_both (File number name) (both (little number first) last) (omega (arith, length_file number name, length_decimal number first))
+
+pub origin_fits : (number : ℕ) (name : List ℕ) → number < 2 ^ 32 → is_name name ≡ true → 25 + length name ≤ 2 ^ 20 → fields_fit (Origin number name) ≡ true
+origin_fits number name first last short =
+    fits_both (Origin number name) (both (little number first) last) (omega (arith, length_origin number name, length_decimal number first))
+
+-- FUNC of three numbers and a name: its other bytes are 58 at most
+pub func_fits : (many : Bool) (address size params : ℕ) (name : List ℕ) → address < 2 ^ 64 → size < 2 ^ 64 → params < 2 ^ 64 → is_name name ≡ true → 58 + length name ≤ 2 ^ 20 → fields_fit (Func many address size params name) ≡ true
+func_fits many address size params name first second third last short =
+    fits_both (Func many address size params name) (both (small address first) (both (small size second) (both (small params third) last)))
+    (omega (arith, length_func many address size params name, length_mark many, length_hex address first, length_hex size second, length_hex params third))
+
+range_short : (r : Extent) → is_range r ≡ true → length (spelled_range r) ≤ 34
+unfolding spelled_range
+range_short r good =
+    let parts = and_true {a = nat_lt r.address (2 ^ 64)} {b = nat_lt r.size (2 ^ 64)} good in
+    omega (arith, length-append (32 ∷ hex r.address) (32 ∷ hex r.size), length_hex r.address (ltb-true r.address (2 ^ 64) parts.0), length_hex r.size (ltb-true r.size (2 ^ 64) parts.1))
+
+ranges_short : (ranges : List Extent) → list_all is_range ranges ≡ true → length (flat_map spelled_range ranges) ≤ 34 * length ranges
+ranges_short [] all = omega arith
+ranges_short (r ∷ ranges) all =
+    let parts = and_true {a = is_range r} {b = list_all is_range ranges} all in
+    omega (arith, length-append (spelled_range r) (flat_map spelled_range ranges), range_short r parts.0, ranges_short ranges parts.1)
+
+ranges_are : (ranges : List Extent) → list_all is_range ranges ≡ true → 0 < length ranges → are_ranges ranges ≡ true
+unfolding are_ranges
+ranges_are ranges all some = both (lt-ltb 0 (length ranges) some) all
+
+-- INLINE of four numbers and of one to 30,000 ranges
+pub inline_fits : (level call_line call_file origin : ℕ) (ranges : List Extent) → level < 2 ^ 32 → call_line < 2 ^ 32 → call_file < 2 ^ 32 → origin < 2 ^ 32 → list_all is_range ranges ≡ true → 0 < length ranges → length ranges ≤ 30000 → fields_fit (Inline level call_line call_file origin ranges) ≡ true
+inline_fits level call_line call_file origin ranges first second third fourth all some few =
+    fits_both (Inline level call_line call_file origin ranges)
+    (both (little level first) (both (little call_line second) (both (little call_file third) (both (little origin fourth) (ranges_are ranges all some)))))
+    (omega (arith, length_inline level call_line call_file origin ranges, length_decimal level first, length_decimal call_line second, length_decimal call_file third, length_decimal origin fourth, ranges_short ranges all))
+
+-- a line record of four numbers
+pub line_fits : (address size number file : ℕ) → address < 2 ^ 64 → size < 2 ^ 64 → number < 2 ^ 32 → file < 2 ^ 32 → fields_fit (Line address size number file) ≡ true
+line_fits address size number file first second third fourth =
+    fits_both (Line address size number file) (both (small address first) (both (small size second) (both (little number third) (little file fourth))))
+    (omega (arith, length_line address size number file, length_hex address first, length_hex size second, length_decimal number third, length_decimal file fourth))
 
 -- PUBLIC of two numbers and a name: its other bytes are 43 at most
 pub public_fits : (many : Bool) (address params : ℕ) (name : List ℕ) → address < 2 ^ 64 → params < 2 ^ 64 → is_name name ≡ true → 43 + length name ≤ 2 ^ 20 → fields_fit (Public many address params name) ≡ true
-unfolding fields_fit
 public_fits many address params name first second last short =
-    let keys : cond many 11 9 ≤ 11 = elim many as (λ m. cond m 11 9 ≤ 11) [ true ↦ omega arith | false ↦ omega arith ] in
-    both (both (both (lt_true address (2 ^ 64) first) (lt_true params (2 ^ 64) second)) last)
-    (le_true (length (body (Public many address params name))) (2 ^ 20) (omega (arith, length_public many address params name, length_hex address first, length_hex params second, keys)))
+    fits_both (Public many address params name) (both (small address first) (both (small params second) last))
+    (omega (arith, length_public many address params name, length_mark many, length_hex address first, length_hex params second))
 
 -- hexadecimal digits, in either case, are a field
 pub digits_field : (ds : List ℕ) → 0 < length ds → AllDigits 16 ds → is_field ds ≡ true
 unfolding is_field
-digits_field ds some all = both (lt_true 0 (length ds) some) (digits_within ds all)
+digits_field ds some all = both (lt-ltb 0 (length ds) some) (digits_within ds all)
 
 -- printable bytes with no space in front are a name
 pub shown_name : (x : ℕ) (xs : List ℕ) → (x == 32) ≡ false → list_all is_shown (x ∷ xs) ≡ true → is_name (x ∷ xs) ≡ true
@@ -87,96 +139,13 @@ pub upper_digit : (d : ℕ) → d < 16 → digit_value (get_or (codes "012345678
 unfolding is_digit
 upper_digit d below = digit_true (get_or (codes "0123456789ABCDEF") d 0) (and_at (list_all is_digit) is_digit refl (λ _ _. refl) (codes "0123456789ABCDEF") d 0 below refl)
 
-token_short : (t : Token) → is_plain_token t ≡ true → length (token_word t) ≤ 20
-token_short (token.Number (pos n)) is = let parts = decimal_parts n (let small = is_below n (2 ^ 63) is in omega arith) in let few = parts.few in omega arith
-token_short (token.Number (negsuc n)) is = let parts = decimal_parts (suc n) (let small = is_below n (2 ^ 63) is in omega arith) in let few = parts.few in omega arith
-token_short (token.Reg number) is = let short = is_up_to (length (register_name number)) 4 (register_parts number (is_below number 16 is)).short in omega arith
-token_short (token.Other name) is = cc
-token_short token.Cfa is = omega arith
-token_short token.Undef is = omega arith
-token_short token.Add is = omega arith
-token_short token.Sub is = omega arith
-token_short token.Mul is = omega arith
-token_short token.Div is = omega arith
-token_short token.Rem is = omega arith
-token_short token.Align is = omega arith
-token_short token.Fetch is = omega arith
-
-target_short : (t : Target) → is_plain_target t ≡ true → length (target_name t) ≤ 4
-target_short target.Cfa is = omega arith
-target_short target.Ra is = omega arith
-target_short (target.Reg number) is = is_up_to (length (register_name number)) 4 (register_parts number (is_below number 16 is)).short
-target_short (target.Other name) is = cc
-
-tokens_short : (ts : List Token) → list_all is_plain_token ts ≡ true → length (flat_map spelled_token ts) ≤ 21 * length ts
-tokens_short [] all = omega arith
-tokens_short (t ∷ ts) all = omega (arith, length-append (spelled_token t) (flat_map spelled_token ts), token_short t (and_true all).0, tokens_short ts (and_true all).1)
-
-rule_short : (r : RuleText) → is_plain_rule r ≡ true → length (spelled_rule r) ≤ 90
-unfolding is_plain_rule
-rule_short r is =
-    let few : length r.tokens ≤ 4 = is_up_to (length r.tokens) 4 (and_true (and_true is).0).1 in
-    omega (arith, length_rule r, target_short r.target (and_true (and_true (and_true is).0).0).0, tokens_short r.tokens (and_true is).1, few)
-
-rules_short : (rules : List RuleText) → list_all is_plain_rule rules ≡ true → length (spelled_rules rules) ≤ 90 * length rules
-unfolding spelled_rules
-rules_short [] all = omega arith
-rules_short (r ∷ rules) all = omega (arith, length-append (spelled_rule r) (flat_map spelled_rule rules), rule_short r (and_true all).0, rules_short rules (and_true all).1)
-
-plain_token : (t : Token) → is_plain_token t ≡ true → (is_token t ≡ true) × (ends_in_cr t ≡ false)
-plain_token (token.Number n) is = (is, refl)
-plain_token (token.Reg number) is = (is, refl)
-plain_token (token.Other name) is = cc
-plain_token token.Cfa is = (refl, refl)
-plain_token token.Undef is = (refl, refl)
-plain_token token.Add is = (refl, refl)
-plain_token token.Sub is = (refl, refl)
-plain_token token.Mul is = (refl, refl)
-plain_token token.Div is = (refl, refl)
-plain_token token.Rem is = (refl, refl)
-plain_token token.Align is = (refl, refl)
-plain_token token.Fetch is = (refl, refl)
-
-plain_target : (t : Target) → is_plain_target t ≡ true → is_target t ≡ true
-plain_target target.Cfa is = refl
-plain_target target.Ra is = refl
-plain_target (target.Reg number) is = is
-plain_target (target.Other name) is = cc
-
-plain_tokens : (ts : List Token) → list_all is_plain_token ts ≡ true → list_all is_token ts ≡ true
-plain_tokens [] all = refl
-plain_tokens (t ∷ ts) all = both (plain_token t (and_true all).0).0 (plain_tokens ts (and_true all).1)
-
-plain_rule : (r : RuleText) → is_plain_rule r ≡ true → is_rule r ≡ true
-unfolding is_plain_rule is_rule
-plain_rule r is = both (both (plain_target r.target (and_true (and_true (and_true is).0).0).0) (and_true (and_true (and_true is).0).0).1) (plain_tokens r.tokens (and_true is).1)
-
-plain_end : (r : RuleText) → is_plain_rule r ≡ true → last_is ends_in_cr r.tokens ≡ false
-unfolding is_plain_rule
-plain_end r is = last_none ends_in_cr is_plain_token (λ t plain. (plain_token t plain).1) r.tokens (and_true is).1
-
-plain_rules : (rules : List RuleText) → list_all is_plain_rule rules ≡ true → list_all is_rule rules ≡ true
-plain_rules [] all = refl
-plain_rules (r ∷ rules) all = both (plain_rule r (and_true all).0) (plain_rules rules (and_true all).1)
-
-some_rules : (rules : List RuleText) → 0 < length rules → nat_lt 0 (length rules) ≡ true
-some_rules rules some = lt_true 0 (length rules) some
-
-rules_are : (rules : List RuleText) → list_all is_plain_rule rules ≡ true → 0 < length rules → are_rules rules ≡ true
-unfolding are_rules end_in_cr
-rules_are rules all some =
-    both (both (some_rules rules some) (plain_rules rules all)) (not_false (last_none (λ rule. last_is ends_in_cr rule.tokens) is_plain_rule plain_end rules all))
-
 -- STACK CFI INIT with one to 18 rules that have no names of their own
 pub init_fits : (address size : ℕ) (rules : List RuleText) → address < 2 ^ 64 → size < 2 ^ 64 → list_all is_plain_rule rules ≡ true → 0 < length rules → length rules ≤ 18 → fields_fit (Init address size rules) ≡ true
-unfolding fields_fit
 init_fits address size rules first second all some few =
-    both (both (both (lt_true address (2 ^ 64) first) (lt_true size (2 ^ 64) second)) (rules_are rules all some))
-    (le_true (length (body (Init address size rules))) (2 ^ 20) (omega (arith, length_init address size rules, length_hex address first, length_hex size second, rules_short rules all)))
+    fits_both (Init address size rules) (both (small address first) (both (small size second) (rules_are rules all some)))
+    (omega (arith, length_init address size rules, length_hex address first, length_hex size second, rules_short rules all))
 
 -- and STACK CFI
 pub change_fits : (address : ℕ) (rules : List RuleText) → address < 2 ^ 64 → list_all is_plain_rule rules ≡ true → 0 < length rules → length rules ≤ 18 → fields_fit (Change address rules) ≡ true
-unfolding fields_fit
 change_fits address rules first all some few =
-    both (both (lt_true address (2 ^ 64) first) (rules_are rules all some))
-    (le_true (length (body (Change address rules))) (2 ^ 20) (omega (arith, length_change address rules, length_hex address first, rules_short rules all)))
+    fits_both (Change address rules) (both (small address first) (rules_are rules all some)) (omega (arith, length_change address rules, length_hex address first, rules_short rules all))

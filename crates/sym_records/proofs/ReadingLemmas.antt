@@ -1,23 +1,27 @@
 -- The canonical text of a valid list reads back as the list.
-use Rattle.std.proofs.Common.{◌≡◌, ℕ, ◌^◌, ◌≤◌, ◌&&◌, cond, Bool, true, false, not, List, [], ◌∷◌, ◌++◌, length, codes, Ok, Err, nat_lt, refl, sym, ◌∙◌, ap, arith, append_assoc, append-nil}
+use Rattle.std.proofs.Common.{◌≡◌, ℕ, ◌^◌, ◌≤◌, ◌&&◌, cond, Bool, true, false, not, List, [], ◌∷◌, ◌++◌, length, drop, codes, Ok, Err, nat_lt, refl, sym, ◌∙◌, ap, arith, append_assoc, append-nil}
 use Rattle.std.specs.List.{list_all}
 use Rattle.std.specs.Str.{bytes_eq}
-use Rattle.std.proofs.lemmas.Bool.Decides.{nat_tests}
-use Rattle.sym_records.proofs.BoolLemmas.{and_true, not_true}
-use Rattle.sym_records.proofs.EndLemmas.{trim_kept}
-use Rattle.sym_records.proofs.TextLemmas.{NameParts, name_parts, spaced_ends}
-use Rattle.sym_records.proofs.ValidityLemmas.{valid_fits}
+use Rattle.std.proofs.lemmas.Bool.{le-ltb}
+use Rattle.sym_rules.proofs.BoolLemmas.{and_true, not_true}
+use Rattle.sym_rules.proofs.EndLemmas.{trim_kept}
+use Rattle.sym_records.proofs.RecordLemmas.{line_parts}
+use Rattle.sym_records.proofs.RecordSoundLemmas.{valid_fits}
 use Rattle.sym_edges.specs.Results.{◌>>=◌}
-use Rattle.sym_records.specs.Cuts.{is_space, is_cr, is_within_line, before, skip, onto, split_lines}
-use Rattle.sym_records.specs.Canon.{spaced, body, canon, canon_text}
+use Rattle.sym_rules.specs.Cuts.{is_space, is_cr, is_within_line, before, skip, onto, split_lines}
+use Rattle.sym_records.specs.Canon.{body, canon, canon_text}
+use Rattle.sym_records.specs.Fields.{spelled}
+use Rattle.sym_records.specs.Records.{layout, headed, values}
 use Rattle.sym_records.specs.Text.{is_blank, key_of, line_at}
 use Rattle.sym_records.specs.Reading.{fits, leads, Seen, next_number, start, is_start, lacks_module, with_record, with_text, numbered, with_lines, some_records, reading_within, reading}
 use Rattle.sym_records.specs.Validity.{Stands, AreValidFrom, AreValid, has_fields, fields_fit}
 use Rattle.sym_records.specs.declared.line.SymLine.{SymLine}
-use Rattle.sym_records.specs.declared.line.SymLine.TheVariants.{Module, Info, Public, Init, Change}
+use Rattle.sym_records.specs.declared.line.Binary.{Binary}
+use Rattle.sym_records.specs.declared.line.SymLine.TheVariants as line
+use Rattle.sym_records.specs.declared.keyword.Keyword.TheVariants as key
 use Rattle.sym_records.specs.declared.place.Place.{Place}
-use Rattle.sym_records.specs.declared.place.Place.TheVariants.{Start, Inside, Frame}
-use Rattle.sym_records.specs.declared.text_fault.TextKind.TheVariants.{LongLine, NoModule, Misplaced}
+use Rattle.sym_records.specs.declared.place.Place.TheVariants.{Start, Inside, Function, Frame}
+use Rattle.sym_rules.specs.declared.text_fault.TextKind.TheVariants.{LongLine, NoModule, Misplaced}
 
 -- bytes without LF, and an LF behind them, are the first line
 split_first : (xs ys : List ℕ) → list_all is_within_line xs ≡ true → split_lines (xs ++ 10 ∷ ys) ≡ xs ∷ split_lines ys
@@ -45,10 +49,10 @@ unfolding all_added added
 records_added seen [] = sym (append-nil seen.records)
 records_added seen (s ∷ lines) = records_added (added seen s) lines ∙ append_assoc seen.records (s ∷ []) lines
 
-key_module : (os arch id name : List ℕ) → NameParts name → key_of (body (Module os arch id name)) ≡ codes "MODULE"
+key_module : (binary : Binary) → has_fields (line.Module binary) ≡ true → key_of (body (line.Module binary)) ≡ codes "MODULE"
 unfolding key_of body before skip
-key_module os arch id name parts =
-    ap (λ l. before 32 (skip is_space l)) (trim_kept is_cr (spaced (codes "MODULE") (os ∷ arch ∷ id ∷ name ∷ [])) (spaced_ends (codes "MODULE") (os ∷ arch ∷ id ∷ []) name parts))
+key_module binary fit =
+    ap (λ l. before 32 (skip is_space l)) (trim_kept is_cr (drop 1 (headed key.Module ++ spelled (layout key.Module) (values (line.Module binary)))) (line_parts key.Module (values (line.Module binary)) fit).ends)
 
 and_none : (b : Bool) → (b && false) ≡ false
 and_none true = refl
@@ -57,23 +61,26 @@ and_none false = refl
 -- a record that may stand first is a MODULE
 has_module : (place : Place) (s : SymLine) → has_fields s ≡ true → fits place s ≡ true → lacks_module place (body s) ≡ false
 unfolding lacks_module
-has_module Start (Module os arch id name) fit stands =
-    ap (λ k. is_start Start && not (is_blank (body (Module os arch id name))) && not (bytes_eq k (codes "MODULE"))) (key_module os arch id name (name_parts name (and_true fit).1))
-    ∙ and_none (is_start Start && not (is_blank (body (Module os arch id name))))
-has_module Start (Info text) fit stands = cc
-has_module Start (Public many address params name) fit stands = cc
-has_module Start (Init address size rules) fit stands = cc
-has_module Start (Change address rules) fit stands = cc
+has_module Start (line.Module binary) fit stands =
+    ap (λ k. is_start Start && not (is_blank (body (line.Module binary))) && not (bytes_eq k (codes "MODULE"))) (key_module binary fit)
+    ∙ and_none (is_start Start && not (is_blank (body (line.Module binary))))
+has_module Start (line.Info text) fit stands = cc
+has_module Start (line.File number name) fit stands = cc
+has_module Start (line.Origin number name) fit stands = cc
+has_module Start (line.Func many address size params name) fit stands = cc
+has_module Start (line.Inline level call_line call_file origin ranges) fit stands = cc
+has_module Start (line.Line address size number file) fit stands = cc
+has_module Start (line.Public many address params name) fit stands = cc
+has_module Start (line.Init address size rules) fit stands = cc
+has_module Start (line.Change address rules) fit stands = cc
 has_module Inside s fit stands = refl
+has_module Function s fit stands = refl
 has_module Frame s fit stands = refl
-
-lt_none : (limit n : ℕ) → n ≤ limit → nat_lt limit n ≡ false
-lt_none limit n short = grind (arith, nat_tests)
 
 text_added : (seen : Seen) (s : SymLine) → Stands seen.place s → with_text (2 ^ 20) seen (body s) ≡ Ok (added seen s)
 unfolding with_text added fields_fit
 text_added seen s stands =
-    ap (λ t. cond t (Err LongLine) (cond (lacks_module seen.place (body s)) (Err NoModule) (line_at (body s) >>= with_record seen))) (lt_none (2 ^ 20) (length (body s)) stands.0.short)
+    ap (λ t. cond t (Err LongLine) (cond (lacks_module seen.place (body s)) (Err NoModule) (line_at (body s) >>= with_record seen))) (le-ltb (2 ^ 20) (length (body s)) stands.0.short)
     ∙ ap (λ t. cond t (Err NoModule) (line_at (body s) >>= with_record seen)) (has_module seen.place s (and_true (valid_fits s stands.0)).0 stands.1)
     ∙ ap (λ r. r >>= with_record seen) stands.0.reads
     ∙ ap (λ t. cond t (Ok (added seen s)) (Err Misplaced)) stands.1
@@ -82,6 +89,7 @@ blank_place : (place : Place) → lacks_module place [] ≡ false
 unfolding lacks_module
 blank_place Start = refl
 blank_place Inside = refl
+blank_place Function = refl
 blank_place Frame = refl
 
 text_ended : (seen : Seen) → with_text (2 ^ 20) seen [] ≡ Ok (record seen { number = next_number seen.number })

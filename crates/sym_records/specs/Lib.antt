@@ -1,11 +1,11 @@
-pub mod KeptTokens
-pub mod Cuts
-pub mod Rules
-pub mod RuleReading
-pub mod RuleValidity
+pub mod Fields
+pub mod FieldReading
+pub mod Records
 pub mod Canon
 pub mod Text
+pub mod Places
 pub mod Reading
 pub mod Validity
+pub mod Listed
 pub mod Cleaning
-pub mod Buffer
+pub mod Spelled

@@ -2,41 +2,24 @@
 use Rattle.std.specs.Prelude.{ℕ, ◌+◌, ◌-◌, ◌^◌, ◌&&◌, Bool, true, false, not, min, nat_lt, if◌then◌else◌, List, [], ◌∷◌, ◌++◌, length, codes, Option, Some, None, Result, Ok, Err}
 use Rattle.std.specs.Str.{bytes_eq}
 use Rattle.sym_edges.specs.Results.{◌>>=◌}
-use Rattle.sym_records.specs.Cuts.{split_lines}
+use Rattle.sym_rules.specs.Cuts.{split_lines}
+use Rattle.sym_records.specs.Places.{part, may_stand, place_behind_part}
+use Rattle.sym_records.specs.Records.{keyword}
 use Rattle.sym_records.specs.Text.{is_blank, key_of, line_at}
 use Rattle.sym_records.specs.declared.line.SymLine.{SymLine}
-use Rattle.sym_records.specs.declared.line.SymLine.TheVariants.{Module, Info, Public, Init, Change}
 use Rattle.sym_records.specs.declared.place.Place.{Place}
-use Rattle.sym_records.specs.declared.place.Place.TheVariants.{Start, Inside, Frame}
-use Rattle.sym_records.specs.declared.text_fault.TextFault.{TextFault}
-use Rattle.sym_records.specs.declared.text_fault.TextKind.{TextKind}
-use Rattle.sym_records.specs.declared.text_fault.TextKind.TheVariants.{Empty, Misplaced, LongLine, NoModule}
+use Rattle.sym_records.specs.declared.place.Place.TheVariants.{Start, Inside, Function, Frame}
+use Rattle.sym_rules.specs.declared.text_fault.TextFault.{TextFault}
+use Rattle.sym_rules.specs.declared.text_fault.TextKind.{TextKind}
+use Rattle.sym_rules.specs.declared.text_fault.TextKind.TheVariants.{Empty, Misplaced, LongLine, NoModule}
 
--- whether a record may stand at a place: MODULE first and nowhere else, and a change of frame rules directly behind a frame record
+-- whether a record may stand at a place
 abbrev pub fits : Place → SymLine → Bool
-fits Start (Module os arch id name) = true
-fits Start (Info text) = false
-fits Start (Public many address params name) = false
-fits Start (Init address size rules) = false
-fits Start (Change address rules) = false
-fits Inside (Module os arch id name) = false
-fits Inside (Info text) = true
-fits Inside (Public many address params name) = true
-fits Inside (Init address size rules) = true
-fits Inside (Change address rules) = false
-fits Frame (Module os arch id name) = false
-fits Frame (Info text) = true
-fits Frame (Public many address params name) = true
-fits Frame (Init address size rules) = true
-fits Frame (Change address rules) = true
+fits place s = may_stand place (part (keyword s))
 
 -- the place behind a record
 abbrev pub leads : Place → SymLine → Place
-leads place (Module os arch id name) = Inside
-leads place (Info text) = Inside
-leads place (Public many address params name) = Inside
-leads place (Init address size rules) = Frame
-leads place (Change address rules) = Frame
+leads place s = place_behind_part place (part (keyword s))
 
 -- what the lines so far gave: their records, the place behind them, and how many lines there were
 pub record Seen : Type 0 where
@@ -55,6 +38,7 @@ start = record { records = []; place = Start; number = 0 }
 abbrev pub is_start : Place → Bool
 is_start Start = true
 is_start Inside = false
+is_start Function = false
 is_start Frame = false
 
 -- the first line that is not blank has another keyword than MODULE

@@ -1,13 +1,14 @@
 -- Which records a text can spell, and in which lists they may stand (Breakpad's symbol_files.md).
-use Rattle.std.specs.Prelude.{◌≡◌, ℕ, ◌+◌, ◌-◌, ◌^◌, ◌==◌, ◌&&◌, ◌≤◌, Bool, true, false, not, nat_lt, nat_le, zero, suc, if◌then◌else◌, List, [], ◌∷◌, length, slice_index, Option, Some, None, Ok}
+use Rattle.std.specs.Prelude.{◌≡◌, ℕ, ◌+◌, ◌^◌, ◌&&◌, ◌≤◌, Bool, true, nat_le, zero, suc, if◌then◌else◌, List, [], ◌∷◌, length, Option, Some, None, Ok}
 use Rattle.std.specs.List.{list_all}
-use Rattle.sym_records.specs.Cuts.{is_within_line, is_within_field}
+use Rattle.sym_rules.specs.Cuts.{is_within_line}
+use Rattle.sym_records.specs.Fields.{fit}
+use Rattle.sym_records.specs.Places.{part, is_change_part}
+use Rattle.sym_records.specs.Records.{layout, keyword, values}
 use Rattle.sym_records.specs.Canon.{body}
 use Rattle.sym_records.specs.Text.{line_at}
 use Rattle.sym_records.specs.Reading.{fits, leads}
-use Rattle.sym_records.specs.RuleValidity.{are_rules}
 use Rattle.sym_records.specs.declared.line.SymLine.{SymLine}
-use Rattle.sym_records.specs.declared.line.SymLine.TheVariants.{Module, Info, Public, Init, Change}
 use Rattle.sym_records.specs.declared.place.Place.{Place}
 use Rattle.sym_records.specs.declared.place.Place.TheVariants.{Start}
 
@@ -42,21 +43,9 @@ abbrev pub IsFirstBad : List SymLine → ℕ → Type 0
 IsFirstBad [] i = i ≡ 0
 IsFirstBad (s ∷ lines) i = IsFirstBadFrom Start (s ∷ lines) i
 
--- a field: not empty, without spaces and LFs
-unfoldable pub is_field : List ℕ → Bool
-is_field bytes = nat_lt 0 (length bytes) && list_all is_within_field bytes
-
--- a name: not empty, no space in front, no CR at the end, without LFs
-unfoldable pub is_name : List ℕ → Bool
-is_name bytes = nat_lt 0 (length bytes) && not (slice_index bytes 0 == 32) && not (slice_index bytes (length bytes - 1) == 13) && list_all is_within_line bytes
-
 -- each field of the record is one that its line can carry
 abbrev pub has_fields : SymLine → Bool
-has_fields (Module os arch id name) = is_field os && is_field arch && is_field id && is_name name
-has_fields (Info text) = is_name text
-has_fields (Public many address params name) = nat_lt address (2 ^ 64) && nat_lt params (2 ^ 64) && is_name name
-has_fields (Init address size rules) = nat_lt address (2 ^ 64) && nat_lt size (2 ^ 64) && are_rules rules
-has_fields (Change address rules) = nat_lt address (2 ^ 64) && are_rules rules
+has_fields s = fit (layout (keyword s)) (values s)
 
 -- the test of a record by its fields and its length: it is true exactly where the record is valid
 unfoldable pub fields_fit : SymLine → Bool
@@ -74,11 +63,7 @@ place_behind place (s ∷ lines) = place_behind (leads place s) lines
 
 -- a STACK CFI record
 abbrev pub is_change : SymLine → Bool
-is_change (Module os arch id name) = false
-is_change (Info text) = false
-is_change (Public many address params name) = false
-is_change (Init address size rules) = false
-is_change (Change address rules) = true
+is_change s = is_change_part (part (keyword s))
 
 -- the index of the first bad record, and 0 of the empty list
 unfoldable pub first_bad : List SymLine → Option ℕ

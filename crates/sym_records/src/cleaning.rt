@@ -1,11 +1,12 @@
-ghost use Rattle.std.specs.Prelude.{◌≡◌, ◌≤◌, ◌==◌, map, length, true, IfOk, take};
-ghost use Rattle.sym_records.specs.Cuts.{is_space, skip};
+ghost use Rattle.std.specs.Prelude.{◌≡◌, ◌≤◌, ◌==◌, ◌++◌, map, length, true, IfOk, OnOk, take};
+ghost use Rattle.std.specs.List.{list_all};
+ghost use Rattle.sym_rules.specs.Cuts.{is_space, skip};
 ghost use Rattle.sym_records.specs.Cleaning.{shown_byte, cleaned, cleaned_upto};
-ghost use Rattle.sym_records.specs.Validity.{is_name};
+ghost use Rattle.sym_records.specs.Fields.{is_name};
 
-use crate::line::ByteText;
 use std::alloc::{AllocError, Global};
 use sym_edges::OutOfMemory;
+use sym_rules::ByteText;
 
 /// A name has at most so many bytes.
 const NAME_LIMIT: usize = 65_536;
@@ -30,6 +31,13 @@ fn shown_byte(b: u8) -> u8
     if b < 0x20 || b == 0x7f { b'?' } else { b }
 }
 
+/// Whether there is no control byte.
+fn are_shown(bytes: &[u8]) -> bool
+    ensures { result ≡ list_all (λ b. shown_byte b == b) bytes.now }
+{
+    bytes.iter().all(|b| shown_byte(*b) == *b)
+}
+
 /// The bytes with `?` for each control byte.
 #[tactic(auto, using(crate::proofs::CleaningLemmas::shown_step))]
 fn shown(alloc: Global, bytes: &[u8]) -> Result<Vec<u8>, AllocError>
@@ -40,6 +48,35 @@ fn shown(alloc: Global, bytes: &[u8]) -> Result<Vec<u8>, AllocError>
         name[at] = shown_byte(name[at]);
     }
     Ok(name)
+}
+
+/// Adds the bytes with `?` for each control byte.
+#[tactic(auto, using(crate::proofs::CleaningLemmas::all_same, crate::proofs::CleaningLemmas::adds_byte, crate::proofs::CleaningLemmas::adds_bytes))]
+fn add_shown(text: &mut Vec<u8>, bytes: &[u8]) -> Result<(), OutOfMemory>
+    ensures { OnOk result (text.new.items ≡ text.old.items ++ map shown_byte bytes.now) }
+{
+    if are_shown(bytes) {
+        text.extend_from_slice(bytes)?;
+        return Ok(());
+    }
+    for b in bytes {
+        text.push(shown_byte(*b))?;
+    }
+    Ok(())
+}
+
+/// Adds the name that `clean` makes of the bytes. Takes no memory beside the text's.
+#[tactic(auto, using(crate::proofs::CleaningLemmas::cleaned_none, crate::proofs::CleaningLemmas::cleaned_some), unfolding(crate::specs::Cleaning::cleaned))]
+pub(crate) fn add_cleaned(text: &mut Vec<u8>, bytes: &[u8]) -> Result<(), OutOfMemory>
+    ensures { OnOk result (text.new.items ≡ text.old.items ++ cleaned bytes.now) }
+{
+    let rest = unspaced(bytes);
+    let front = rest.split_at(NAME_LIMIT.min(rest.len())).0;
+    if front.is_empty() {
+        text.extend_from_slice(b"<name omitted>")?;
+        return Ok(());
+    }
+    add_shown(text, front)
 }
 
 #[tactic(auto, using(crate::proofs::CleaningLemmas::cleaned_none, crate::proofs::CleaningLemmas::cleaned_some))]

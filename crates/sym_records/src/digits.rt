@@ -1,5 +1,5 @@
 ghost use Rattle.std.specs.Prelude.{◌≡◌, ◌<◌, ◌≤◌, length};
-ghost use Rattle.sym_records.specs.Canon.{hex};
+ghost use Rattle.sym_records.specs.Fields.{hex};
 
 use std::marker::Model;
 

@@ -1,7 +1,9 @@
 ghost use Rattle.std.specs.Prelude.{◌≡◌};
 ghost use Rattle.std.specs.List.{list_all};
-ghost use Rattle.sym_records.specs.Cuts.{is_within_line, is_within_field};
-ghost use Rattle.sym_records.specs.Validity.{is_field, is_name};
+ghost use Rattle.sym_rules.specs.Cuts.{is_within_line};
+ghost use Rattle.sym_records.specs.Fields.{is_field, is_name};
+
+use sym_rules::are_unparted;
 
 /// Whether the bytes have no end of a line among them.
 fn are_one_line(bytes: &[u8]) -> bool
@@ -10,15 +12,8 @@ fn are_one_line(bytes: &[u8]) -> bool
     bytes.iter().all(|b| *b != b'\n')
 }
 
-/// Whether the bytes have no space and no end of a line among them.
-pub(crate) fn are_unparted(bytes: &[u8]) -> bool
-    ensures { result ≡ list_all is_within_field bytes.now }
-{
-    bytes.iter().all(|b| *b != b' ' && *b != b'\n')
-}
-
 /// Whether a record may carry the bytes as a field: they are not empty, and have no space and no LF.
-#[tactic(auto, unfolding(crate::specs::Validity::is_field))]
+#[tactic(auto, unfolding(crate::specs::Fields::is_field))]
 pub fn is_field(bytes: &[u8]) -> bool
     ensures { result ≡ is_field bytes.now }
 {
@@ -27,7 +22,7 @@ pub fn is_field(bytes: &[u8]) -> bool
 
 /// Whether a record may carry the bytes as its name: they are not empty, begin with no space, end with no CR, and have
 /// no LF.
-#[tactic(auto, unfolding(crate::specs::Validity::is_name))]
+#[tactic(auto, unfolding(crate::specs::Fields::is_name))]
 pub fn is_name(bytes: &[u8]) -> bool
     ensures { result ≡ is_name bytes.now }
 {

@@ -33,27 +33,29 @@ pub struct NotValid {
     pub index: usize,
 }
 
-/// Whether the record may stand at the place: `MODULE` first and nowhere else, and a change of frame rules directly behind
-/// a frame record.
+/// Whether the record may stand at the place: `MODULE` first and nowhere else, lines and inlines in a function, and a change
+/// of frame rules directly behind a frame record.
 fn fits(place: Place, line: &SymLine) -> bool
     ensures { result ≡ fits place line.now }
 {
     match (place, line) {
         (Place::Start, SymLine::Module { .. }) => true,
-        (Place::Start, _) => false,
-        (Place::Inside | Place::Frame, SymLine::Module { .. }) => false,
-        (Place::Inside, SymLine::Change { .. }) => false,
-        (Place::Inside | Place::Frame, _) => true,
+        (Place::Start, _) | (_, SymLine::Module { .. }) => false,
+        (_, SymLine::Inline { .. } | SymLine::Line { .. }) => place == Place::Function,
+        (_, SymLine::Change { .. }) => place == Place::Frame,
+        _ => true,
     }
 }
 
 /// The place behind the record.
-fn leads(_place: Place, line: &SymLine) -> Place
-    ensures { result ≡ leads _place line.now }
+fn leads(place: Place, line: &SymLine) -> Place
+    ensures { result ≡ leads place line.now }
 {
     match line {
-        SymLine::Module { .. } | SymLine::Info { .. } | SymLine::Public { .. } => Place::Inside,
+        SymLine::Func { .. } => Place::Function,
+        SymLine::Inline { .. } | SymLine::Line { .. } => place,
         SymLine::Init { .. } | SymLine::Change { .. } => Place::Frame,
+        _ => Place::Inside,
     }
 }
 

@@ -1,32 +1,36 @@
 //! The records of a Breakpad symbol file, their canonical spelling, and the reading of a text of them.
 //!
-//! A symbol file is a text of lines, each a record (Breakpad's symbol_files.md). Here stand five of them: `MODULE`
-//! names the binary, `INFO` carries its code id, `PUBLIC` gives a symbol's address, and `STACK CFI INIT` and `STACK CFI` give
-//! frame rules, by which a caller's registers are found. A `SymFile` is a list of records
+//! A symbol file is a text of lines, each a record (Breakpad's symbol_files.md): a keyword and its fields. A table says which
+//! fields stand behind each keyword, and spelling, length, validity and reading go over them. A `SymFile` is a list of records
 //! that a text can spell: `file_of` makes it, or names the first record that no text can spell or that may not stand
 //! where it stands. `render` spells one record and `write_file` all of them, each with one space between its fields, and
-//! what is written reads back as the same records. `clean` makes of any bytes a name that a record may carry.
+//! what is written reads back as the same records. The `add_` calls spell a record at the end of a text with no record made,
+//! a `SymText` is such a text, which contracts see as its records, and `clean` makes of any bytes a name that a record may carry.
 #![tactic(auto)]
 
-// The records, and what may be wrong with a text of them.
+// The records, and where they may stand.
+mod keyword;
 mod line;
 mod place;
-mod rules;
-mod text_fault;
+
+// Their fields, as the code goes over them.
+mod field;
+mod listed;
+mod words;
 
 // Which records and lists a text can spell.
 mod fields;
 mod file;
-mod rule_validity;
+mod lengths;
 mod validity;
 
 // How they are spelled.
+mod adding;
 mod digits;
+mod pieces;
 mod rendering;
-mod rule_spelling;
-mod rule_words;
 mod spelling;
-mod waiting;
+mod text;
 mod writing;
 
 // The names that they carry.
@@ -35,15 +39,23 @@ mod cleaning;
 // What holds of all of it.
 pub mod laws;
 
+pub use adding::{
+    add_change, add_file, add_func, add_info, add_init, add_inline, add_line, add_module,
+    add_origin, add_public,
+};
 pub use cleaning::clean;
 pub use digits::HexText;
 pub use fields::{is_field, is_name};
 pub use file::{NotValid, SymFile, file_of};
-pub use line::{ByteText, SymLine, SymLines};
+pub use keyword::Keyword;
+pub use line::{Binary, BoxedBinary, Extent, Extents, SymLine, SymLines};
+pub use pieces::TextPieces;
 pub use place::Place;
 pub use rendering::render;
-pub use rules::{RuleText, Rules, Target, Token, Tokens};
-pub use text_fault::{TextFault, TextKind};
+pub use sym_rules::{
+    ByteText, RuleName, RuleText, Rules, Target, TextFault, TextKind, Token, Tokens,
+};
+pub use text::SymText;
 pub use validity::is_valid;
 pub use writing::write_file;
 

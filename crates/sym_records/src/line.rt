@@ -1,33 +1,114 @@
-use crate::rules::Rules;
-use sym_edges::ListOf;
+ghost use Rattle.std.specs.Prelude.{◌≡◌, IfOk};
 
-/// Bytes of a text, as a field or a name.
-pub type ByteText = ListOf<u8>;
+use std::alloc::Global;
+use std::marker::Model;
+use sym_edges::{ListOf, OutOfMemory};
+use sym_rules::{ByteText, Rules};
 
-/// A record of a symbol file (Breakpad's symbol_files.md).
+/// A run of addresses, relative to the binary's base.
+#[derive(Clone, Copy, Debug, PartialEq, Eq)]
+pub struct Extent {
+    pub address: u64,
+    pub size: u64,
+}
+
+/// Runs of addresses in order.
+pub type Extents = ListOf<Extent>;
+
+/// What `MODULE` says of the binary.
+#[derive(Debug, Drop)]
+pub struct Binary {
+    pub os: ByteText,
+    pub arch: ByteText,
+    pub id: ByteText,
+    pub name: ByteText,
+}
+
+/// The same behind one pointer, since a file has one and a record should stay small.
+#[derive(Debug, Drop)]
+pub struct BoxedBinary {
+    kept: Box<Binary>,
+}
+
+impl Model for BoxedBinary {
+    ghost use Rattle.sym_records.specs.declared.line.Binary.{Binary};
+
+    ghost Value = { Binary };
+
+    ghost view = { λ b. b.kept.value };
+}
+
+impl BoxedBinary {
+    pub fn of(alloc: Global, binary: Binary) -> Result<BoxedBinary, OutOfMemory>
+        ensures { IfOk result (λ b. b ≡ binary) }
+    {
+        Ok(BoxedBinary {
+            kept: Box::new(alloc, binary)?,
+        })
+    }
+
+    pub fn parts(&self) -> &Binary
+        ensures { result.now ≡ self.now }
+    {
+        &self.kept
+    }
+}
+
+/// A record of a symbol file (Breakpad's symbol_files.md). Addresses are relative to the binary's base.
 #[derive(Debug, Drop)]
 pub enum SymLine {
     /// `MODULE os arch id name`: the binary.
     Module {
-        os: ByteText,
-        arch: ByteText,
-        id: ByteText,
-        name: ByteText,
+        binary: BoxedBinary,
     },
     /// `INFO text`: what else is known of the binary, as `CODE_ID` and its build id.
     Info {
         text: ByteText,
     },
-    /// `PUBLIC [m] address params name`: a symbol's address, relative to the binary's base, and the size of its
-    /// parameters on the stack. `m` says that symbols of other names have the address too.
+    /// `FILE number name`: a source file, by the number that line records and `INLINE` name it with.
+    File {
+        number: u32,
+        name: ByteText,
+    },
+    /// `INLINE_ORIGIN number name`: a function that is inlined, by the number that `INLINE` names it with.
+    Origin {
+        number: u32,
+        name: ByteText,
+    },
+    /// `FUNC [m] address size params name`: a function, and the size of its parameters on the stack. `m` says that
+    /// symbols of other names have the address too.
+    Func {
+        many: bool,
+        address: u64,
+        size: u64,
+        params: u64,
+        name: ByteText,
+    },
+    /// `INLINE level call_line call_file origin ranges`: where a function is inlined into the last `FUNC`, and the
+    /// line and file of the call.
+    Inline {
+        level: u32,
+        call_line: u32,
+        call_file: u32,
+        origin: u32,
+        ranges: Extents,
+    },
+    /// `address size line file`: the line of some bytes of the last `FUNC`. It has no keyword.
+    Line {
+        address: u64,
+        size: u64,
+        line: u32,
+        file: u32,
+    },
+    /// `PUBLIC [m] address params name`: a symbol's address, and the size of its parameters on the stack. `m` says that
+    /// symbols of other names have the address too.
     Public {
         many: bool,
         address: u64,
         params: u64,
         name: ByteText,
     },
-    /// `STACK CFI INIT address size rules`: the frame rules from an address on, relative to the binary's base, for so
-    /// many bytes.
+    /// `STACK CFI INIT address size rules`: the frame rules from an address on, for so many bytes.
     Init {
         address: u64,
         size: u64,

@@ -3,8 +3,10 @@
 pub enum Place {
     /// No record.
     Start,
-    /// `MODULE` or another record that is none of frames.
+    /// `MODULE` or another record that is none of functions and frames.
     Inside,
+    /// `FUNC`, and perhaps its lines and inlines.
+    Function,
     /// `STACK CFI INIT` or `STACK CFI`.
     Frame,
 }

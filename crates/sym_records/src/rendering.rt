@@ -2,11 +2,11 @@ ghost use Rattle.std.specs.Prelude.{◌≡◌, ◌≤◌, ◌<◌, ◌++◌, len
 ghost use Rattle.sym_edges.specs.Outside.{append_told, Rose};
 ghost use Rattle.sym_records.specs.Canon.{canon};
 
-use crate::line::{ByteText, SymLine};
-use crate::spelling::{hand_on, put_record};
-use crate::waiting::Waiting;
+use crate::line::SymLine;
+use crate::spelling::put_record;
 use std::alloc::Global;
 use sym_edges::{Failed, OutOfMemory, Sink};
+use sym_rules::{ByteText, Waiting, hand_on};
 
 /// A sink that keeps what it takes. It fails where memory runs out.
 #[derive(Drop)]

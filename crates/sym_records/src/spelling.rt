@@ -1,102 +1,100 @@
-ghost use Rattle.std.specs.Prelude.{◌≡◌, ◌+◌, ◌≤◌, [], ◌∷◌, ◌++◌, IfOk, OnOk, OnErr};
+ghost use Rattle.std.specs.Prelude.{◌≡◌, ◌<◌, ◌∷◌, ◌++◌, length};
+ghost use Rattle.std.specs.Fmt.{decimal};
 ghost use Rattle.std.specs.List.{flat_map};
-ghost use Rattle.sym_edges.specs.Outside.{append_told, AddsFront, Rose};
-ghost use Rattle.sym_records.specs.Buffer.{Passes};
+ghost use Rattle.sym_rules.specs.Buffer.{Hands};
 ghost use Rattle.sym_records.specs.Canon.{body, canon};
-ghost use Rattle.sym_records.specs.Rules.{spelled_rules};
+ghost use Rattle.sym_records.specs.Fields.{hex, mark, spelled_range};
+ghost use Rattle.sym_records.specs.Listed.{said, spelled_field};
+ghost use Rattle.sym_records.specs.Records.{headed, keyword};
 
 use crate::digits::HexText;
-use crate::line::SymLine;
-use crate::rule_spelling::put_rules;
-use crate::rules::RuleText;
-use crate::waiting::Waiting;
-use sym_edges::{Failed, Sink, write_all};
+use crate::field::Field;
+use crate::line::{Extent, SymLine};
+use crate::listed::fields_of;
+use crate::words::{headed, keyword_of};
+use itoa::Buffer;
+use sym_edges::{Failed, Sink};
+use sym_rules::{Waiting, put, put_rules, put_word};
 
-/// Hands on what waits.
-pub(crate) fn hand_on<O: Sink, const N: usize>(
+/// Puts a hexadecimal number behind one space.
+fn put_hex<O: Sink, const N: usize>(
     sink: &mut O,
     waiting: &mut Waiting<N>,
+    number: u64,
 ) -> Result<(), Failed>
-    ensures written { OnOk result (O.taken sink.new ≡ append_told (O.taken sink.old) waiting.old) }
-    ensures empty { OnOk result (waiting.new ≡ []) }
-    ensures front { OnErr result (AddsFront (O.taken sink.old) (O.taken sink.new) waiting.old) }
-    ensures faults { O.faults sink.old ≤ O.faults sink.new }
-    ensures cause { OnErr result (Rose (O.faults sink.old) (O.faults sink.new)) }
+    ensures { Hands result (O.taken sink.old) (O.faults sink.old) waiting.old (32 ∷ hex number) (O.taken sink.new) (O.faults sink.new) waiting.new }
 {
-    match write_all(sink, waiting.as_slice()) {
-        Ok(()) => {
-            waiting.clear();
-            Ok(())
-        }
-        Err(Failed) => Err(Failed),
+    let digits = HexText::of(number);
+    put_word(sink, waiting, digits.as_slice())
+}
+
+/// Puts a decimal number behind one space.
+fn put_decimal<O: Sink, const N: usize>(
+    sink: &mut O,
+    waiting: &mut Waiting<N>,
+    number: u32,
+) -> Result<(), Failed>
+    ensures { Hands result (O.taken sink.old) (O.faults sink.old) waiting.old (32 ∷ decimal number) (O.taken sink.new) (O.faults sink.new) waiting.new }
+{
+    let mut buffer = Buffer::new();
+    put_word(sink, waiting, buffer.format(number).as_bytes())
+}
+
+/// Puts `m` behind one space, where it is to stand.
+fn put_mark<O: Sink, const N: usize>(
+    sink: &mut O,
+    waiting: &mut Waiting<N>,
+    many: bool,
+) -> Result<(), Failed>
+    ensures { Hands result (O.taken sink.old) (O.faults sink.old) waiting.old (mark many) (O.taken sink.new) (O.faults sink.new) waiting.new }
+{
+    if many {
+        put(sink, waiting, b" m")
+    } else {
+        put(sink, waiting, b"")
     }
 }
 
-/// Puts bytes behind those that wait. Where they do not fit, what waits is handed on first, and a piece that does not
-/// fit into an empty buffer goes straight to the sink.
-#[tactic(auto, using(crate::proofs::BufferLemmas::passes_held, crate::proofs::BufferLemmas::passes_on, crate::proofs::BufferLemmas::passes_through, crate::proofs::BufferLemmas::front_longer, crate::proofs::BufferLemmas::front_through))]
-pub(crate) fn put<O: Sink, const N: usize>(
+/// Puts a hexadecimal number, and `m` in front of it where it is to stand.
+fn put_marked<O: Sink, const N: usize>(
     sink: &mut O,
     waiting: &mut Waiting<N>,
-    bytes: &[u8],
+    many: bool,
+    number: u64,
 ) -> Result<(), Failed>
-    ensures passed { OnOk result (Passes (O.taken sink.old) waiting.old bytes.now (O.taken sink.new) waiting.new) }
-    ensures front { OnErr result (AddsFront (O.taken sink.old) (O.taken sink.new) (waiting.old ++ bytes.now)) }
-    ensures faults { O.faults sink.old ≤ O.faults sink.new }
-    ensures cause { OnErr result (Rose (O.faults sink.old) (O.faults sink.new)) }
+    ensures { Hands result (O.taken sink.old) (O.faults sink.old) waiting.old (mark many ++ 32 ∷ hex number) (O.taken sink.new) (O.faults sink.new) waiting.new }
 {
-    if bytes.len() <= waiting.room() {
-        waiting.put(bytes);
-        return Ok(());
-    }
-    match hand_on(sink, waiting) {
+    match put_mark(sink, waiting, many) {
         Ok(()) => {}
         Err(Failed) => return Err(Failed),
     }
-    if bytes.len() <= waiting.room() {
-        waiting.put(bytes);
-        return Ok(());
-    }
-    match write_all(sink, bytes) {
-        Ok(()) => Ok(()),
-        Err(Failed) => Err(Failed),
-    }
+    put_hex(sink, waiting, number)
 }
 
-/// Puts a field behind one space.
-pub(crate) fn put_field<O: Sink, const N: usize>(
+fn put_range<O: Sink, const N: usize>(
     sink: &mut O,
     waiting: &mut Waiting<N>,
-    field: &[u8],
+    range: Extent,
 ) -> Result<(), Failed>
-    ensures passed { OnOk result (Passes (O.taken sink.old) waiting.old (32 ∷ field.now) (O.taken sink.new) waiting.new) }
-    ensures front { OnErr result (AddsFront (O.taken sink.old) (O.taken sink.new) (waiting.old ++ 32 ∷ field.now)) }
-    ensures faults { O.faults sink.old ≤ O.faults sink.new }
-    ensures cause { OnErr result (Rose (O.faults sink.old) (O.faults sink.new)) }
+    ensures { Hands result (O.taken sink.old) (O.faults sink.old) waiting.old (spelled_range range) (O.taken sink.new) (O.faults sink.new) waiting.new }
 {
-    match put(sink, waiting, b" ") {
+    match put_hex(sink, waiting, range.address) {
         Ok(()) => {}
         Err(Failed) => return Err(Failed),
     }
-    match put(sink, waiting, field) {
-        Ok(()) => Ok(()),
-        Err(Failed) => Err(Failed),
-    }
+    put_hex(sink, waiting, range.size)
 }
 
-/// Puts fields, with one space in front of each.
-fn put_fields<O: Sink, const N: usize>(
+/// Puts ranges, with one space in front of each word.
+fn put_ranges<O: Sink, const N: usize>(
     sink: &mut O,
     waiting: &mut Waiting<N>,
-    fields: &[&[u8]],
+    ranges: &[Extent],
 ) -> Result<(), Failed>
-    ensures passed { OnOk result (Passes (O.taken sink.old) waiting.old (flat_map (λ f. 32 ∷ f.now) fields.now) (O.taken sink.new) waiting.new) }
-    ensures front { OnErr result (AddsFront (O.taken sink.old) (O.taken sink.new) (waiting.old ++ flat_map (λ f. 32 ∷ f.now) fields.now)) }
-    ensures faults { O.faults sink.old ≤ O.faults sink.new }
-    ensures cause { OnErr result (Rose (O.faults sink.old) (O.faults sink.new)) }
+    ensures { Hands result (O.taken sink.old) (O.faults sink.old) waiting.old (flat_map spelled_range ranges.now) (O.taken sink.new) (O.faults sink.new) waiting.new }
 {
-    for field in fields {
-        match put_field(sink, waiting, field) {
+    for range in ranges {
+        match put_range(sink, waiting, *range) {
             Ok(()) => {}
             Err(Failed) => return Err(Failed),
         }
@@ -104,163 +102,111 @@ fn put_fields<O: Sink, const N: usize>(
     Ok(())
 }
 
-/// Puts keywords and fields, with one space in front of each field.
-#[tactic(auto, using(crate::proofs::BufferLemmas::passes_more, crate::proofs::BufferLemmas::front_more, crate::proofs::BufferLemmas::front_behind))]
-fn put_head<O: Sink, const N: usize>(
+/// Puts a field behind one space.
+fn put_field<O: Sink, const N: usize>(
     sink: &mut O,
     waiting: &mut Waiting<N>,
-    keyword: &[u8],
-    fields: &[&[u8]],
+    field: Field<'_>,
 ) -> Result<(), Failed>
-    ensures passed { OnOk result (Passes (O.taken sink.old) waiting.old (keyword.now ++ flat_map (λ f. 32 ∷ f.now) fields.now) (O.taken sink.new) waiting.new) }
-    ensures front { OnErr result (AddsFront (O.taken sink.old) (O.taken sink.new) (waiting.old ++ (keyword.now ++ flat_map (λ f. 32 ∷ f.now) fields.now))) }
-    ensures faults { O.faults sink.old ≤ O.faults sink.new }
-    ensures cause { OnErr result (Rose (O.faults sink.old) (O.faults sink.new)) }
+    ensures { Hands result (O.taken sink.old) (O.faults sink.old) waiting.old (spelled_field (said field.entry)) (O.taken sink.new) (O.faults sink.new) waiting.new }
 {
-    match put(sink, waiting, keyword) {
-        Ok(()) => {}
-        Err(Failed) => return Err(Failed),
-    }
-    match put_fields(sink, waiting, fields) {
-        Ok(()) => Ok(()),
-        Err(Failed) => Err(Failed),
+    match field {
+        Field::Word(word) => put_word(sink, waiting, word),
+        Field::Name(name) => put_word(sink, waiting, name),
+        Field::Hex(number) => put_hex(sink, waiting, number),
+        Field::Marked(many, number) => put_marked(sink, waiting, many, number),
+        Field::Decimal(number) => put_decimal(sink, waiting, number),
+        Field::Ranges(ranges) => put_ranges(sink, waiting, ranges),
+        Field::Rules(rules) => put_rules(sink, waiting, rules),
     }
 }
 
-/// Puts keywords, fields and frame rules, with one space in front of each field and each word.
-#[tactic(auto, using(crate::proofs::BufferLemmas::passes_more, crate::proofs::BufferLemmas::front_more, crate::proofs::BufferLemmas::front_behind))]
-fn put_frame<O: Sink, const N: usize>(
+/// Puts fields, with one space in front of each.
+fn put_fields<O: Sink, const N: usize>(
     sink: &mut O,
     waiting: &mut Waiting<N>,
-    keyword: &[u8],
-    fields: &[&[u8]],
-    rules: &[RuleText],
+    fields: &[Field<'_>],
 ) -> Result<(), Failed>
-    ensures passed { OnOk result (Passes (O.taken sink.old) waiting.old ((keyword.now ++ flat_map (λ f. 32 ∷ f.now) fields.now) ++ spelled_rules rules.now) (O.taken sink.new) waiting.new) }
-    ensures front { OnErr result (AddsFront (O.taken sink.old) (O.taken sink.new) (waiting.old ++ ((keyword.now ++ flat_map (λ f. 32 ∷ f.now) fields.now) ++ spelled_rules rules.now))) }
-    ensures faults { O.faults sink.old ≤ O.faults sink.new }
-    ensures cause { OnErr result (Rose (O.faults sink.old) (O.faults sink.new)) }
+    ensures { Hands result (O.taken sink.old) (O.faults sink.old) waiting.old (flat_map (λ f. spelled_field (said f)) fields.now) (O.taken sink.new) (O.faults sink.new) waiting.new }
 {
-    match put_head(sink, waiting, keyword, fields) {
+    for field in fields {
+        match put_field(sink, waiting, *field) {
+            Ok(()) => {}
+            Err(Failed) => return Err(Failed),
+        }
+    }
+    Ok(())
+}
+
+/// Puts a record that has a keyword, without the end of its line.
+fn put_worded<O: Sink, const N: usize>(
+    sink: &mut O,
+    waiting: &mut Waiting<N>,
+    line: &SymLine,
+) -> Result<(), Failed>
+    requires { 0 < length (headed (keyword line.now)) }
+    ensures { Hands result (O.taken sink.old) (O.faults sink.old) waiting.old (body line.now) (O.taken sink.new) (O.faults sink.new) waiting.new }
+{
+    let list = fields_of(line);
+    let fields = list.as_slice();
+    let words = headed(keyword_of(line));
+    match put(sink, waiting, words.split_at(1).1) {
         Ok(()) => {}
         Err(Failed) => return Err(Failed),
     }
-    match put_rules(sink, waiting, rules) {
-        Ok(()) => Ok(()),
-        Err(Failed) => Err(Failed),
-    }
+    put_fields(sink, waiting, fields)
 }
 
-/// Puts `STACK CFI INIT` without the end of its line.
-#[tactic(auto, using(crate::proofs::SpellingLemmas::init_passes, crate::proofs::SpellingLemmas::init_front))]
-fn put_init<O: Sink, const N: usize>(
+/// Puts a line record without the end of its line.
+fn put_line<O: Sink, const N: usize>(
     sink: &mut O,
     waiting: &mut Waiting<N>,
     address: u64,
     size: u64,
-    rules: &[RuleText],
+    line: u32,
+    file: u32,
 ) -> Result<(), Failed>
-    ensures passed { OnOk result (Passes (O.taken sink.old) waiting.old (body (SymLine.Init address size rules.now)) (O.taken sink.new) waiting.new) }
-    ensures front { OnErr result (AddsFront (O.taken sink.old) (O.taken sink.new) (waiting.old ++ body (SymLine.Init address size rules.now))) }
-    ensures faults { O.faults sink.old ≤ O.faults sink.new }
-    ensures cause { OnErr result (Rose (O.faults sink.old) (O.faults sink.new)) }
+    ensures { Hands result (O.taken sink.old) (O.faults sink.old) waiting.old (body (SymLine.Line address size line file)) (O.taken sink.new) (O.faults sink.new) waiting.new }
 {
     let start = HexText::of(address);
-    let room = HexText::of(size);
-    let fields = [start.as_slice(), room.as_slice()];
-    put_frame(sink, waiting, b"STACK CFI INIT", &fields, rules)
-}
-
-/// Puts `STACK CFI` without the end of its line.
-#[tactic(auto, using(crate::proofs::SpellingLemmas::change_passes, crate::proofs::SpellingLemmas::change_front))]
-fn put_change<O: Sink, const N: usize>(
-    sink: &mut O,
-    waiting: &mut Waiting<N>,
-    address: u64,
-    rules: &[RuleText],
-) -> Result<(), Failed>
-    ensures passed { OnOk result (Passes (O.taken sink.old) waiting.old (body (SymLine.Change address rules.now)) (O.taken sink.new) waiting.new) }
-    ensures front { OnErr result (AddsFront (O.taken sink.old) (O.taken sink.new) (waiting.old ++ body (SymLine.Change address rules.now))) }
-    ensures faults { O.faults sink.old ≤ O.faults sink.new }
-    ensures cause { OnErr result (Rose (O.faults sink.old) (O.faults sink.new)) }
-{
-    let start = HexText::of(address);
-    let fields = [start.as_slice()];
-    put_frame(sink, waiting, b"STACK CFI", &fields, rules)
+    let rest = [Field::Hex(size), Field::Decimal(line), Field::Decimal(file)];
+    match put(sink, waiting, start.as_slice()) {
+        Ok(()) => {}
+        Err(Failed) => return Err(Failed),
+    }
+    put_fields(sink, waiting, &rest)
 }
 
 /// Puts a record without the end of its line.
-#[tactic(auto, unfolding(crate::specs::Canon::body))]
 fn put_body<O: Sink, const N: usize>(
     sink: &mut O,
     waiting: &mut Waiting<N>,
     line: &SymLine,
 ) -> Result<(), Failed>
-    ensures passed { OnOk result (Passes (O.taken sink.old) waiting.old (body line.now) (O.taken sink.new) waiting.new) }
-    ensures front { OnErr result (AddsFront (O.taken sink.old) (O.taken sink.new) (waiting.old ++ body line.now)) }
-    ensures faults { O.faults sink.old ≤ O.faults sink.new }
-    ensures cause { OnErr result (Rose (O.faults sink.old) (O.faults sink.new)) }
+    ensures { Hands result (O.taken sink.old) (O.faults sink.old) waiting.old (body line.now) (O.taken sink.new) (O.faults sink.new) waiting.new }
 {
     match line {
-        SymLine::Module { os, arch, id, name } => {
-            let fields = [
-                os.as_slice(),
-                arch.as_slice(),
-                id.as_slice(),
-                name.as_slice(),
-            ];
-            put_head(sink, waiting, b"MODULE", &fields)
-        }
-        SymLine::Info { text } => put_head(sink, waiting, b"INFO", &[text.as_slice()]),
-        SymLine::Public {
-            many,
-            address,
-            params,
-            name,
-        } => {
-            let address = HexText::of(*address);
-            let params = HexText::of(*params);
-            let fields = [
-                b"m".as_slice(),
-                address.as_slice(),
-                params.as_slice(),
-                name.as_slice(),
-            ];
-            if *many {
-                put_head(sink, waiting, b"PUBLIC", &fields)
-            } else {
-                put_head(sink, waiting, b"PUBLIC", &fields[1..])
-            }
-        }
-        SymLine::Init {
+        SymLine::Line {
             address,
             size,
-            rules,
-        } => put_init(sink, waiting, *address, *size, rules.as_slice()),
-        SymLine::Change { address, rules } => {
-            put_change(sink, waiting, *address, rules.as_slice())
-        }
+            line,
+            file,
+        } => put_line(sink, waiting, *address, *size, *line, *file),
+        _ => put_worded(sink, waiting, line),
     }
 }
 
 /// Puts a record's canonical spelling.
-#[tactic(auto, unfolding(crate::specs::Canon::canon), using(crate::proofs::BufferLemmas::passes_more, crate::proofs::BufferLemmas::front_more, crate::proofs::BufferLemmas::front_behind))]
 pub(crate) fn put_record<O: Sink, const N: usize>(
     sink: &mut O,
     waiting: &mut Waiting<N>,
     line: &SymLine,
 ) -> Result<(), Failed>
-    ensures passed { OnOk result (Passes (O.taken sink.old) waiting.old (canon line.now) (O.taken sink.new) waiting.new) }
-    ensures front { OnErr result (AddsFront (O.taken sink.old) (O.taken sink.new) (waiting.old ++ canon line.now)) }
-    ensures faults { O.faults sink.old ≤ O.faults sink.new }
-    ensures cause { OnErr result (Rose (O.faults sink.old) (O.faults sink.new)) }
+    ensures { Hands result (O.taken sink.old) (O.faults sink.old) waiting.old (canon line.now) (O.taken sink.new) (O.faults sink.new) waiting.new }
 {
     match put_body(sink, waiting, line) {
         Ok(()) => {}
         Err(Failed) => return Err(Failed),
     }
-    match put(sink, waiting, b"\n") {
-        Ok(()) => Ok(()),
-        Err(Failed) => Err(Failed),
-    }
+    put(sink, waiting, b"\n")
 }

@@ -1,334 +1,305 @@
-ghost use Rattle.std.specs.Prelude.{◌≡◌, ◌∷◌, [], IfOk, true, None};
-ghost use Rattle.sym_records.specs.Reading.{fits};
-ghost use Rattle.sym_records.specs.Validity.{fields_fit, first_bad};
+ghost use Rattle.std.specs.Prelude.{IfOk};
+ghost use Rattle.sym_records.specs.Spelled.{text_bytes, IsSpelled};
 
-mod frames;
-
-use crate::cleaning::clean_upto;
-use crate::{ByteText, Place, SymFile, SymLine, clean, file_of, is_valid, render, write_file};
-use std::alloc::{AllocError, Global};
+use crate::{
+    Binary, BoxedBinary, ByteText, Extent, Extents, RuleText, Rules, SymFile, SymLine, SymText,
+    Target, TextPieces, Token, Tokens, add_change, add_file, add_func, add_info, add_init,
+    add_inline, add_line, add_module, add_origin, add_public, clean, file_of, is_valid, render,
+    write_file,
+};
+use std::alloc::Global;
+use std::mem::size_of;
+use std::process::Abort;
 use std::test::Fail;
 use sym_edges::{CallList, MemSink, OutOfMemory};
 
-const ID: &[u8] = b"030201000504070608090A0B0C0D0E0F0";
+fn expect(rt: &impl Abort, row: &str, got: &[u8], want: &[u8]) {
+    assert_eq!(rt; got, want, "{row}");
+}
 
-fn text(alloc: Global, bytes: &[u8]) -> Result<ByteText, AllocError>
-    ensures { IfOk result (λ t. t ≡ bytes.now) }
-{
+fn expect_number(rt: &impl Abort, row: &str, got: usize, want: usize) {
+    assert_eq!(rt; got, want, "{row}");
+}
+
+fn text(alloc: Global, bytes: &[u8]) -> Result<ByteText, OutOfMemory> {
     Ok(ByteText::of(Vec::from_slice(alloc, bytes)?))
 }
 
-fn long_text(alloc: Global, length: usize) -> Result<ByteText, AllocError> {
+fn long_text(alloc: Global, length: usize) -> Result<ByteText, OutOfMemory> {
     Ok(ByteText::of(vec![in alloc; b'a'; length]?))
 }
 
-fn module(alloc: Global, os: &[u8]) -> Result<SymLine, AllocError> {
-    Ok(SymLine::Module {
-        os: text(alloc, os)?,
+fn one_rule(alloc: Global, offset: i64) -> Result<Vec<RuleText>, OutOfMemory> {
+    let mut rules = Vec::new(alloc);
+    rules.push(RuleText {
+        target: Target::Cfa,
+        tokens: Tokens::three(Token::Reg(7), Token::Number(offset), Token::Add),
+    })?;
+    Ok(rules)
+}
+
+fn two_ranges(alloc: Global) -> Result<Vec<Extent>, OutOfMemory> {
+    let mut ranges = Vec::new(alloc);
+    ranges.push(Extent {
+        address: 0x1004,
+        size: 8,
+    })?;
+    ranges.push(Extent {
+        address: 0x2000,
+        size: 16,
+    })?;
+    Ok(ranges)
+}
+
+fn module(alloc: Global) -> Result<SymLine, OutOfMemory> {
+    let parts = Binary {
+        os: text(alloc, b"Linux")?,
         arch: text(alloc, b"x86_64")?,
-        id: text(alloc, ID)?,
+        id: text(alloc, b"0F0")?,
         name: text(alloc, b"a.out")?,
+    };
+    Ok(SymLine::Module {
+        binary: BoxedBinary::of(alloc, parts)?,
     })
 }
 
-fn info(alloc: Global) -> Result<SymLine, AllocError> {
-    Ok(SymLine::Info {
-        text: text(alloc, b"CODE_ID 000102030405060708090A0B0C0D0E0F10111213")?,
-    })
-}
-
-fn public(alloc: Global, many: bool, address: u64, name: &[u8]) -> Result<SymLine, AllocError> {
-    Ok(SymLine::Public {
-        many,
-        address,
-        params: 0,
-        name: text(alloc, name)?,
-    })
-}
-
-/// The records of a binary with a build id and two symbols, and another record in the place of the last.
-fn with_last(alloc: Global, last: SymLine) -> Result<Vec<SymLine>, AllocError> {
+/// A record of each kind, each where it may stand.
+fn each_record(alloc: Global) -> Result<Vec<SymLine>, OutOfMemory> {
     let mut lines = Vec::new(alloc);
-    lines.push(module(alloc, b"Linux")?)?;
-    lines.push(info(alloc)?)?;
-    lines.push(public(alloc, false, 0x1000, b"main")?)?;
-    lines.push(last)?;
+    lines.push(module(alloc)?)?;
+    lines.push(SymLine::Info {
+        text: text(alloc, b"CODE_ID 00")?,
+    })?;
+    lines.push(SymLine::File {
+        number: u32::MAX,
+        name: text(alloc, b"/s/a.c")?,
+    })?;
+    lines.push(SymLine::Origin {
+        number: 0,
+        name: text(alloc, b"g")?,
+    })?;
+    lines.push(SymLine::Func {
+        many: true,
+        address: 0x1000,
+        size: 0x20,
+        params: 0,
+        name: text(alloc, b"_Z1fv")?,
+    })?;
+    lines.push(SymLine::Inline {
+        level: 0,
+        call_line: 4,
+        call_file: 0,
+        origin: 0,
+        ranges: Extents::of(two_ranges(alloc)?),
+    })?;
+    lines.push(SymLine::Line {
+        address: 0x1004,
+        size: 8,
+        line: 9,
+        file: 0,
+    })?;
+    lines.push(SymLine::Public {
+        many: false,
+        address: u64::MAX,
+        params: 0,
+        name: text(alloc, b"main ")?,
+    })?;
+    lines.push(SymLine::Init {
+        address: 0x1000,
+        size: 0x20,
+        rules: Rules::of(one_rule(alloc, 8)?),
+    })?;
+    lines.push(SymLine::Change {
+        address: 0x1001,
+        rules: Rules::of(one_rule(alloc, 16)?),
+    })?;
     Ok(lines)
 }
 
 const WHOLE: &[u8] =
-    b"MODULE Linux x86_64 030201000504070608090A0B0C0D0E0F0 a.out\nINFO CODE_ID 000102030405060708090A0B0C0D0E0F10111213\nPUBLIC 1000 0 main\nPUBLIC m 1008 0 b\n";
-
-/// Whether the record is rendered so.
-fn is_rendered(alloc: Global, line: SymLine, want: &[u8]) -> bool {
-    match render(alloc, &line) {
-        Ok(found) => found.as_slice() == want,
-        Err(_) => false,
-    }
-}
+    b"MODULE Linux x86_64 0F0 a.out\nINFO CODE_ID 00\nFILE 4294967295 /s/a.c\nINLINE_ORIGIN 0 g\nFUNC m 1000 20 0 _Z1fv\nINLINE 0 4 0 0 1004 8 2000 10\n1004 8 9 0\nPUBLIC ffffffffffffffff 0 main \nSTACK CFI INIT 1000 20 .cfa: $rsp 8 +\nSTACK CFI 1001 .cfa: $rsp 16 +\n";
 
 #[test]
-fn module_and_info_are_rendered_in_canonical_spelling(rt: HostRuntime) -> Result<(), Fail> {
-    let line = module(rt.alloc(), b"Linux")?;
-    assert!(rt;
-        is_rendered(
-            rt.alloc(),
-            line,
-            b"MODULE Linux x86_64 030201000504070608090A0B0C0D0E0F0 a.out\n"
-        )
-    );
-    let line = info(rt.alloc())?;
-    assert!(rt;
-        is_rendered(
-            rt.alloc(),
-            line,
-            b"INFO CODE_ID 000102030405060708090A0B0C0D0E0F10111213\n"
-        )
+fn records_are_rendered_and_added(rt: HostRuntime) -> Result<(), Fail> {
+    let alloc = rt.alloc();
+    let mut rendered = Vec::new(alloc);
+    for line in &each_record(alloc)? {
+        rendered.extend_from_slice(render(alloc, line)?.as_slice())?;
+    }
+    expect(&rt, "rendered", rendered.as_slice(), WHOLE);
+    let mut added = Vec::new(alloc);
+    add_module(&mut added, b"Linux", b"x86_64", b"0F0", b"a.out")?;
+    add_info(&mut added, b"CODE_ID 00")?;
+    add_file(&mut added, u32::MAX, b"  /s/a.c")?;
+    add_origin(&mut added, 0, b"g")?;
+    add_func(&mut added, true, 0x1000, 0x20, 0, b"_Z1fv")?;
+    add_inline(&mut added, 0, 4, 0, 0, two_ranges(alloc)?.as_slice())?;
+    add_line(&mut added, 0x1004, 8, 9, 0)?;
+    add_public(&mut added, false, u64::MAX, 0, b"main ")?;
+    add_init(&mut added, 0x1000, 0x20, one_rule(alloc, 8)?.as_slice())?;
+    add_change(&mut added, 0x1001, one_rule(alloc, 16)?.as_slice())?;
+    expect(&rt, "added", added.as_slice(), WHOLE);
+    let mut named = Vec::new(alloc);
+    add_func(&mut named, false, 0, 1, 0, b" a\tb\x7f")?;
+    add_public(&mut named, false, 0, 0, b"  ")?;
+    expect(
+        &rt,
+        "names are cleaned",
+        named.as_slice(),
+        b"FUNC 0 1 0 a?b?\nPUBLIC 0 0 <name omitted>\n",
     );
     Ok(())
 }
 
-#[test]
-fn public_is_rendered_in_canonical_spelling(rt: HostRuntime) -> Result<(), Fail> {
-    let cases: [(bool, u64, &[u8], &[u8]); 3] = [
-        (false, 0x1000, b"main", b"PUBLIC 1000 0 main\n"),
-        (true, 0x1008, b"b", b"PUBLIC m 1008 0 b\n"),
-        (
-            false,
-            u64::MAX,
-            b"a b ",
-            b"PUBLIC ffffffffffffffff 0 a b \n",
-        ),
-    ];
-    for (many, address, name, want) in cases {
-        let line = public(rt.alloc(), many, address, name)?;
-        assert!(rt; is_rendered(rt.alloc(), line, want));
-    }
-    Ok(())
-}
-
-/// Whether the write succeeded, and what the sink then held, of the whole text.
-fn is_written(
+/// What a sink held after `write_file`, and whether all was written.
+fn write(
     alloc: Global,
+    file: &SymFile,
     (room, step, fail): (usize, usize, u64),
-    whole: bool,
-    want: &[u8],
-) -> Result<bool, AllocError> {
-    let lines = with_last(alloc, public(alloc, true, 0x1008, b"b")?)?;
+) -> Result<(MemSink, bool), OutOfMemory> {
     let fail = CallList::of(Vec::from_slice(alloc, &[fail])?);
-    let Ok(file) = file_of(lines) else {
-        return Ok(false);
-    };
-    match MemSink::new(alloc, room, step.max(1), fail) {
-        Ok(mut sink) => {
-            let written = write_file(&file, &mut sink).is_ok();
-            Ok(written == whole && sink.written() == want)
-        }
-        Err(_) => Ok(false),
-    }
+    let mut sink = MemSink::new(alloc, room, step.max(1), fail)?;
+    let whole = write_file(file, &mut sink).is_ok();
+    Ok((sink, whole))
 }
+
+const WRITES: [(&str, (usize, usize, u64), bool, usize); 6] = [
+    ("in one piece", (500, 500, 0), true, 252),
+    ("byte by byte", (500, 1, 0), true, 252),
+    ("into just enough room", (252, 7, 0), true, 252),
+    ("into too little room", (251, 7, 0), false, 251),
+    ("the first call fails", (500, 50, 1), false, 0),
+    ("the third call fails", (500, 50, 3), false, 100),
+];
 
 #[test]
 fn a_file_is_written_as_far_as_the_sink_takes_it(rt: HostRuntime) -> Result<(), Fail> {
-    let cases: [(usize, usize, u64, bool, usize); 6] = [
-        (500, 500, 0, true, 151),
-        (500, 1, 0, true, 151),
-        (151, 7, 0, true, 151),
-        (150, 7, 0, false, 150),
-        (500, 50, 1, false, 0),
-        (500, 50, 3, false, 100),
-    ];
-    for (room, step, fail, whole, count) in cases {
-        let want = &WHOLE[..count.min(WHOLE.len())];
-        assert!(rt;
-            is_written(rt.alloc(), (room, step, fail), whole, want)?,
-            "{room} {step} {fail}"
-        );
-    }
-    Ok(())
-}
-
-#[test]
-fn a_long_name_goes_through_the_buffer_whole(rt: HostRuntime) -> Result<(), Fail> {
-    let long = SymLine::Public {
-        many: false,
-        address: 0,
-        params: 0,
-        name: long_text(rt.alloc(), 200_000)?,
-    };
-    let none = CallList::of(Vec::new(rt.alloc()));
-    let Ok(file) = file_of(with_last(rt.alloc(), long)?) else {
-        assert!(rt; false, "the records are valid");
+    let alloc = rt.alloc();
+    let Ok(file) = file_of(each_record(alloc)?) else {
+        expect_number(&rt, "the records are valid", 0, 1);
         return Ok(());
     };
-    match MemSink::new(rt.alloc(), 300_000, 300_000, none) {
-        Ok(mut sink) => {
-            assert!(rt; write_file(&file, &mut sink).is_ok());
-            assert_eq!(rt; sink.written().len(), 133 + 11 + 200_000 + 1);
-            assert!(rt; sink.written().ends_with(b"aaa\n"));
-        }
-        Err(_) => assert!(rt; false, "there is memory for the sink"),
+    for (row, sink, whole, count) in WRITES {
+        let (sink, done) = write(alloc, &file, sink)?;
+        expect(&rt, row, sink.written(), &WHOLE[..count.min(WHOLE.len())]);
+        expect_number(&rt, row, done as usize, whole as usize);
     }
+    expect_number(&rt, "the records come back", file.into_vec().len(), 10);
     Ok(())
 }
 
-/// The index that a list is refused with.
-fn refused(lines: Vec<SymLine>) -> Option<usize> {
-    match file_of(lines) {
-        Ok(_) => None,
-        Err(refusal) => Some(refusal.index),
-    }
-}
-
-fn alone(alloc: Global, line: SymLine) -> Result<Vec<SymLine>, AllocError> {
+#[test]
+fn many_records_and_a_long_name_are_written(rt: HostRuntime) -> Result<(), Fail> {
+    let alloc = rt.alloc();
     let mut lines = Vec::new(alloc);
-    lines.push(line)?;
-    Ok(lines)
-}
-
-#[test]
-fn a_bad_name_is_refused_at_its_record(rt: HostRuntime) -> Result<(), Fail> {
-    let cases: [(&[u8], Option<usize>); 7] = [
-        (b"a b ", None),
-        (b"\ra\r ", None),
-        (b"a\nb", Some(3)),
-        (b" a", Some(3)),
-        (b"", Some(3)),
-        (b"a\r", Some(3)),
-        (b" ", Some(3)),
-    ];
-    for (name, want) in cases {
-        let last = public(rt.alloc(), false, 0, name)?;
-        assert_eq!(rt; refused(with_last(rt.alloc(), last)?), want);
+    lines.push(module(alloc)?)?;
+    lines.push(SymLine::Func {
+        many: false,
+        address: 0,
+        size: 1,
+        params: 0,
+        name: long_text(alloc, 200_000)?,
+    })?;
+    for _ in 0..200_000 {
+        lines.push(SymLine::Line {
+            address: 0x1000,
+            size: 0x10,
+            line: 5,
+            file: 1,
+        })?;
     }
+    let Ok(file) = file_of(lines) else {
+        expect_number(&rt, "the records are valid", 0, 1);
+        return Ok(());
+    };
+    let (sink, _) = write(alloc, &file, (3_000_000, 3_000_000, 0))?;
+    expect_number(
+        &rt,
+        "all bytes",
+        sink.written().len(),
+        30 + 200_012 + 12 * 200_000,
+    );
+    let ends = sink.written().ends_with(b"1000 10 5 1\n");
+    expect_number(&rt, "the last line", ends as usize, 1);
     Ok(())
 }
 
+/// As a caller makes a text: it is canonical by what is known of its records.
+fn made_text(alloc: Global) -> Result<TextPieces, OutOfMemory>
+    ensures { IfOk result (λ t. IsSpelled (text_bytes t)) }
+{
+    let mut text = TextPieces::new(alloc);
+    add_module(&mut text.last, b"Linux", b"x86_64", b"0F0", b"a.out")?;
+    text.turn(alloc)?;
+    Ok(text)
+}
+
 #[test]
-fn module_stands_first_and_nowhere_else(rt: HostRuntime) -> Result<(), Fail> {
-    let line = module(rt.alloc(), b"Linux")?;
-    assert_eq!(rt; refused(with_last(rt.alloc(), line)?), Some(3));
-    let line = public(rt.alloc(), false, 0, b"a")?;
-    assert_eq!(rt; refused(alone(rt.alloc(), line)?), Some(0));
-    assert_eq!(rt; refused(Vec::new(rt.alloc())), Some(0));
-    let cases: [(&[u8], Option<usize>); 5] = [
-        (b"Linux", None),
-        (b"", Some(0)),
-        (b"a b", Some(0)),
-        (b"a\n", Some(0)),
-        (b" a", Some(0)),
-    ];
-    for (os, want) in cases {
-        let line = module(rt.alloc(), os)?;
-        assert_eq!(rt; refused(alone(rt.alloc(), line)?), want);
+fn a_text_grows_in_pieces_and_is_written(rt: HostRuntime) -> Result<(), Fail> {
+    let alloc = rt.alloc();
+    let mut long = TextPieces::new(alloc);
+    for _ in 0..200_000 {
+        add_line(&mut long.last, 0x1000, 0x10, 5, 1)?;
+        long.turn(alloc)?;
     }
+    let mut rest = 12 * 200_000 - long.last.len().min(2_000_000);
+    for piece in &long.full {
+        expect_number(&rt, "a full piece", piece.len(), 1_048_584);
+        rest = rest.saturating_sub(piece.len());
+    }
+    expect_number(&rt, "nothing is lost", rest, 0);
+    let text = SymText::of(made_text(alloc)?);
+    let fail = CallList::of(Vec::from_slice(alloc, &[0])?);
+    let mut sink = MemSink::new(alloc, 100, 7, fail)?;
+    let whole = text.write(&mut sink).is_ok();
+    expect_number(&rt, "all is written", whole as usize, 1);
+    expect(
+        &rt,
+        "the text",
+        sink.written(),
+        b"MODULE Linux x86_64 0F0 a.out\n",
+    );
     Ok(())
 }
 
 #[test]
 fn a_line_has_at_most_two_to_the_twentieth_bytes(rt: HostRuntime) -> Result<(), Fail> {
-    for (length, want) in [(1_048_565, true), (1_048_566, false)] {
+    let alloc = rt.alloc();
+    for (length, want) in [(1_048_565, 1), (1_048_566, 0)] {
         let line = SymLine::Public {
             many: false,
             address: 0,
             params: 0,
-            name: long_text(rt.alloc(), length)?,
+            name: long_text(alloc, length)?,
         };
-        assert_eq!(rt; is_valid(&line), want, "PUBLIC 0 0 and {length} bytes");
+        expect_number(&rt, "PUBLIC", is_valid(&line) as usize, want);
     }
-    Ok(())
-}
-
-#[test]
-fn names_are_cleaned(rt: HostRuntime) -> Result<(), Fail> {
-    let cases: [(&[u8], &[u8]); 6] = [
-        (b"main", b"main"),
-        (b"  a\tb\x7f\x1f~ ", b"a?b??~ "),
-        (b"\n a", b"? a"),
-        (b"   ", b"<name omitted>"),
-        (b"", b"<name omitted>"),
-        (b"\xc3\xa9", b"\xc3\xa9"),
-    ];
-    for (name, want) in cases {
-        match clean(rt.alloc(), name) {
-            Ok(found) => assert_eq!(rt; found.as_slice(), want),
-            Err(_) => assert!(rt; false, "there is memory for a name"),
-        }
-    }
-    Ok(())
-}
-
-#[test]
-fn a_cleaned_name_is_cut(rt: HostRuntime) -> Result<(), Fail> {
-    for (limit, want) in [
-        (3, b"abc".as_slice()),
-        (4, b"abcd"),
-        (5, b"abcd"),
-        (0, b"<name omitted>"),
-    ] {
-        match clean_upto(rt.alloc(), limit, b" abcd") {
-            Ok(found) => assert_eq!(rt; found.as_slice(), want),
-            Err(_) => assert!(rt; false, "there is memory for a name"),
-        }
-    }
-    for (length, want) in [(65_535, 65_535), (65_536, 65_536), (65_537, 65_536)] {
-        let name = long_text(rt.alloc(), length)?;
-        match clean(rt.alloc(), name.as_slice()) {
-            Ok(found) => assert_eq!(rt; found.len(), want),
-            Err(_) => assert!(rt; false, "there is memory for a name"),
-        }
-    }
-    Ok(())
-}
-
-/// As a caller makes a file: its records are valid by what it knows of them, so the refusal cannot come.
-fn made(alloc: Global, name: &[u8], addresses: &[u64]) -> Result<SymFile, OutOfMemory> {
-    let lines = made_lines(alloc, name, addresses)?;
-    match file_of(lines) {
-        Ok(file) => Ok(file),
-        Err(_) => unreachable!(),
-    }
-}
-
-/// A valid list.
-#[tactic(auto, using(crate::proofs::MakingLemmas::first_fits, crate::proofs::MakingLemmas::push_fits, crate::proofs::MakingLemmas::public_fits))]
-fn made_lines(alloc: Global, name: &[u8], addresses: &[u64]) -> Result<Vec<SymLine>, OutOfMemory>
-    ensures { IfOk result (λ v. first_bad v.items ≡ None) }
-{
-    let mut lines = Vec::new(alloc);
-    lines.push(made_module(alloc, name)?)?;
-    for address in addresses {
-        let name = clean(alloc, name)?;
-        lines.push(SymLine::Public {
-            many: false,
-            address: *address,
-            params: 0,
-            name,
+    for (count, last, want) in [(262_139, 16, 1), (262_139, 256, 0)] {
+        let mut ranges = vec![in alloc; Extent {
+            address: 0,
+            size: 0
+        }; count]?;
+        ranges.push(Extent {
+            address: 0x10,
+            size: last,
         })?;
+        let line = SymLine::Inline {
+            level: 0,
+            call_line: 0,
+            call_file: 0,
+            origin: 0,
+            ranges: Extents::of(ranges),
+        };
+        expect_number(&rt, "INLINE", is_valid(&line) as usize, want);
     }
-    Ok(lines)
-}
-
-fn made_module(alloc: Global, name: &[u8]) -> Result<SymLine, OutOfMemory>
-    ensures first { IfOk result (λ s. fits Place.Start s ≡ true) }
-    ensures fit { IfOk result (λ s. fields_fit s ≡ true) }
-{
-    let os = text(alloc, b"Linux")?;
-    let arch = text(alloc, b"x86_64")?;
-    let id = text(alloc, ID)?;
-    let name = clean(alloc, name)?;
-    Ok(SymLine::Module { os, arch, id, name })
+    for (length, want) in [(65_536, 65_536), (65_537, 65_536)] {
+        let name = clean(alloc, long_text(alloc, length)?.as_slice())?;
+        expect_number(&rt, "a cleaned name", name.len(), want);
+    }
+    Ok(())
 }
 
 #[test]
-fn made_records_are_a_file(rt: HostRuntime) -> Result<(), Fail> {
-    match made(rt.alloc(), b" a\tb", &[0x1000, 0]) {
-        Ok(file) => {
-            assert_eq!(rt; file.len(), 3);
-            assert!(rt; file.get(2).is_some() && file.get(3).is_none());
-            assert_eq!(rt; file.into_vec().len(), 3);
-        }
-        Err(_) => assert!(rt; false, "there is memory for a file"),
-    }
-    Ok(())
+fn records_are_small(rt: HostRuntime) {
+    expect_number(&rt, "SymLine", size_of::<SymLine>(), 56);
 }

@@ -1,14 +1,14 @@
-ghost use Rattle.std.specs.Prelude.{◌≡◌, ◌≤◌, ◌++◌, Ok, OnOk, OnErr};
+ghost use Rattle.std.specs.Prelude.{◌≡◌, ◌≤◌, Ok, OnOk, OnErr};
 ghost use Rattle.sym_edges.specs.Outside.{append_told, AddsFront, Rose};
 ghost use Rattle.sym_records.specs.Canon.{canon_text};
-ghost use Rattle.sym_records.specs.Buffer.{Passes};
+ghost use Rattle.sym_rules.specs.Buffer.{Hands};
 ghost use Rattle.sym_records.specs.Reading.{reading};
 
 use crate::file::SymFile;
 use crate::line::SymLine;
-use crate::spelling::{hand_on, put_record};
-use crate::waiting::Waiting;
+use crate::spelling::put_record;
 use sym_edges::{Failed, Sink};
+use sym_rules::{Waiting, hand_on};
 
 /// Puts the canonical spelling of records.
 fn put_records<O: Sink, const N: usize>(
@@ -16,10 +16,7 @@ fn put_records<O: Sink, const N: usize>(
     waiting: &mut Waiting<N>,
     lines: &[SymLine],
 ) -> Result<(), Failed>
-    ensures passed { OnOk result (Passes (O.taken sink.old) waiting.old (canon_text lines.now) (O.taken sink.new) waiting.new) }
-    ensures front { OnErr result (AddsFront (O.taken sink.old) (O.taken sink.new) (waiting.old ++ canon_text lines.now)) }
-    ensures faults { O.faults sink.old ≤ O.faults sink.new }
-    ensures cause { OnErr result (Rose (O.faults sink.old) (O.faults sink.new)) }
+    ensures { Hands result (O.taken sink.old) (O.faults sink.old) waiting.old (canon_text lines.now) (O.taken sink.new) (O.faults sink.new) waiting.new }
 {
     for line in lines {
         match put_record(sink, waiting, line) {

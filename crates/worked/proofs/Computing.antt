@@ -1,7 +1,7 @@
 -- What a row unfolds to compute the verdict of a file.
 use Rattle.std.specs.Prelude.{⊤}
 use Rattle.rule_postfix.proofs.Computing.{rule_postfix_computes}
-use Rattle.worked.proofs.ComputingElfSections.{elf_sections_computes}
+use Rattle.elf_sections.proofs.Computing.{elf_sections_computes}
 use Rattle.dumpsyms_cmd.proofs.Computing.{dumpsyms_cmd_computes}
 
 unfoldable pub verdict_computes : ⊤

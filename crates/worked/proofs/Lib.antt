@@ -1,4 +1,3 @@
-mod ComputingElfSections
 mod Computing
 mod Elf
 mod Small

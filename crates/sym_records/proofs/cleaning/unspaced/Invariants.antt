@@ -1,5 +1,5 @@
 use Rattle.std.proofs.Common.{◌≡◌, drop}
-use Rattle.sym_records.specs.Cuts.{is_space, skip}
+use Rattle.sym_rules.specs.Cuts.{is_space, skip}
 use Rattle.sym_records.proofs.cleaning.unspaced.Given as goal
 
 abbrev pub invariant-loop-at : goal.invariant-loop-at

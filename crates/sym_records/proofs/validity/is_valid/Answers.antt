@@ -1,4 +1,4 @@
-use Rattle.sym_records.proofs.ValidityLemmas.{valid_iff}
+use Rattle.sym_records.proofs.RecordSoundLemmas.{valid_iff}
 use Rattle.sym_records.proofs.validity.is_valid.Goals as goal
 
 pub returns-clause-valid : goal.returns-clause-valid

@@ -1,6 +1,6 @@
 use Rattle.std.proofs.Common.{◌≡◌, ◌<◌, length, ◌-◌, ◌^◌, drop}
 use Rattle.sym_records.proofs.DigitsLemmas.{hex_left}
-use Rattle.sym_records.specs.Canon.{hex}
+use Rattle.sym_records.specs.Fields.{hex}
 use Rattle.sym_records.proofs.digits.HexText.of.Given as goal
 
 abbrev pub invariant-loop-done : goal.invariant-loop-done

@@ -1,0 +1,107 @@
+-- What stands in a line behind its keyword (Breakpad's symbol_files.md): fields in the middle, and one that ends the line. One space stands in
+-- front of each.
+use Rattle.std.specs.Prelude.{ℕ, ◌-◌, ◌^◌, ◌==◌, ◌&&◌, Bool, true, false, not, nat_lt, List, [], ◌∷◌, ◌++◌, length, slice_index, codes}
+use Rattle.std.specs.List.{list_all, flat_map}
+use Rattle.std.specs.Fmt.{decimal, digits}
+use Rattle.sym_rules.specs.Cuts.{is_within_line, is_within_field}
+use Rattle.sym_rules.specs.Rules.{spelled_rules}
+use Rattle.sym_rules.specs.RuleValidity.{are_rules}
+use Rattle.sym_rules.specs.declared.rules.RuleText.{RuleText}
+use Rattle.sym_records.specs.declared.line.Extent.{Extent}
+
+-- a field in the middle: a word, a hexadecimal number, one that `m` may stand in front of, or a decimal number
+pub data Middle : Type 0 where
+  Word : Middle
+  Hex : Middle
+  Marked : Middle
+  Decimal : Middle
+
+-- the fields of a line: it ends with a name, frame rules, ranges, or a decimal number
+pub data Shape : Type 0 where
+  Name : Shape
+  Rules : Shape
+  Ranges : Shape
+  Last : Shape
+  Then : Middle → Shape → Shape
+
+-- what a field in the middle says
+abbrev pub Held : Middle → Type 0
+Held Word = List ℕ
+Held Hex = ℕ
+Held Marked = Bool × ℕ
+Held Decimal = ℕ
+
+-- what the fields say
+abbrev pub Values : Shape → Type 0
+Values Name = List ℕ
+Values Rules = List RuleText
+Values Ranges = List Extent
+Values Last = ℕ
+Values (Then m rest) = Held m × Values rest
+
+-- Spelling.
+
+-- a number in lower-case hexadecimal without leading zeros
+abbrev pub hex : ℕ → List ℕ
+hex n = digits 16 false n
+
+-- `m`, where symbols of other names have the address too
+abbrev pub mark : Bool → List ℕ
+mark true = codes " m"
+mark false = []
+
+-- a field in the middle
+abbrev pub spelled_middle : (m : Middle) → Held m → List ℕ
+spelled_middle Word w = 32 ∷ w
+spelled_middle Hex n = 32 ∷ hex n
+spelled_middle Marked x = mark x.0 ++ 32 ∷ hex x.1
+spelled_middle Decimal n = 32 ∷ decimal n
+
+-- a range: its address and its size
+abbrev pub range_words : Extent → List (List ℕ)
+range_words range = hex range.address ∷ hex range.size ∷ []
+
+-- with one space in front of each
+unfoldable pub spelled_range : Extent → List ℕ
+spelled_range range = (32 ∷ hex range.address) ++ 32 ∷ hex range.size
+
+-- the fields of a line
+abbrev pub spelled : (shape : Shape) → Values shape → List ℕ
+spelled Name name = 32 ∷ name
+spelled Rules rules = spelled_rules rules
+spelled Ranges ranges = flat_map spelled_range ranges
+spelled Last n = 32 ∷ decimal n
+spelled (Then m rest) v = spelled_middle m v.0 ++ spelled rest v.1
+
+-- What a line can carry.
+
+-- a field: not empty, without spaces and LFs
+unfoldable pub is_field : List ℕ → Bool
+is_field bytes = nat_lt 0 (length bytes) && list_all is_within_field bytes
+
+-- a name: not empty, no space in front, no CR at the end, without LFs
+unfoldable pub is_name : List ℕ → Bool
+is_name bytes = nat_lt 0 (length bytes) && not (slice_index bytes 0 == 32) && not (slice_index bytes (length bytes - 1) == 13) && list_all is_within_line bytes
+
+-- a number in hexadecimal is below 2^64, a decimal one below 2^32
+abbrev pub fits_middle : (m : Middle) → Held m → Bool
+fits_middle Word w = is_field w
+fits_middle Hex n = nat_lt n (2 ^ 64)
+fits_middle Marked x = nat_lt x.1 (2 ^ 64)
+fits_middle Decimal n = nat_lt n (2 ^ 32)
+
+-- a range of two such numbers
+abbrev pub is_range : Extent → Bool
+is_range range = nat_lt range.address (2 ^ 64) && nat_lt range.size (2 ^ 64)
+
+-- the ranges of a line: at least one
+unfoldable pub are_ranges : List Extent → Bool
+are_ranges ranges = nat_lt 0 (length ranges) && list_all is_range ranges
+
+-- the fields of a line
+abbrev pub fit : (shape : Shape) → Values shape → Bool
+fit Name name = is_name name
+fit Rules rules = are_rules rules
+fit Ranges ranges = are_ranges ranges
+fit Last n = nat_lt n (2 ^ 32)
+fit (Then m rest) v = fits_middle m v.0 && fit rest v.1

@@ -1,0 +1,82 @@
+-- No public clause cites this: the fields of a record as a list, as the code goes over them.
+use Rattle.std.specs.Prelude.{ℕ, ◌+◌, ◌^◌, ◌&&◌, Bool, true, false, cond, nat_lt, List, [], ◌∷◌, ◌++◌, length, drop, map, sum}
+use Rattle.std.specs.List.{list_all, flat_map}
+use Rattle.std.specs.Fmt.{decimal}
+use Rattle.sym_records.specs.Fields.{hex}
+use Rattle.sym_rules.specs.Rules.{spelled_rules}
+use Rattle.sym_rules.specs.RuleValidity.{are_rules}
+use Rattle.sym_records.specs.Fields.{is_field, is_name}
+use Rattle.sym_rules.specs.declared.rules.RuleText.{RuleText}
+use Rattle.sym_records.specs.declared.line.Extent.{Extent}
+use Rattle.sym_records.specs.declared.line.SymLine.{SymLine}
+use Rattle.sym_records.specs.declared.line.SymLine.TheVariants as line
+use Rattle.sym_records.specs.declared.field.Field.{Field}
+use Rattle.sym_records.specs.declared.field.Field.TheVariants as held
+use Rattle.sym_records.specs.Fields.{Middle, Word, Hex, Marked, Decimal, Shape, Name, Rules, Ranges, Last, Then, Held, Values, mark, spelled_range, are_ranges}
+
+-- what a field says
+pub data Said : Type 0 where
+  word : List ℕ → Said
+  name : List ℕ → Said
+  number : ℕ → Said
+  marked : Bool → ℕ → Said
+  count : ℕ → Said
+  ranges : List Extent → Said
+  rules : List RuleText → Said
+
+-- what a field of the code says
+abbrev pub said : Field → Said
+said (held.Word w) = word w.now
+said (held.Name n) = name n.now
+said (held.Hex n) = number n
+said (held.Marked many n) = marked many n
+said (held.Decimal n) = count n
+said (held.Ranges rs) = ranges rs.now
+said (held.Rules rs) = rules rs.now
+
+-- a record's fields
+abbrev pub fields : SymLine → List Said
+fields (line.Module binary) = word binary.os ∷ word binary.arch ∷ word binary.id ∷ name binary.name ∷ []
+fields (line.Info text) = name text ∷ []
+fields (line.File n path) = count n ∷ name path ∷ []
+fields (line.Origin n origin) = count n ∷ name origin ∷ []
+fields (line.Func many address size params n) = marked many address ∷ number size ∷ number params ∷ name n ∷ []
+fields (line.Inline level call_line call_file origin rs) = count level ∷ count call_line ∷ count call_file ∷ count origin ∷ ranges rs ∷ []
+fields (line.Line address size n file) = number address ∷ number size ∷ count n ∷ count file ∷ []
+fields (line.Public many address params n) = marked many address ∷ number params ∷ name n ∷ []
+fields (line.Init address size rs) = number address ∷ number size ∷ rules rs ∷ []
+fields (line.Change address rs) = number address ∷ rules rs ∷ []
+
+-- its spelling, with one space in front
+abbrev pub spelled_field : Said → List ℕ
+spelled_field (word w) = 32 ∷ w
+spelled_field (name n) = 32 ∷ n
+spelled_field (number n) = 32 ∷ hex n
+spelled_field (marked many n) = mark many ++ 32 ∷ hex n
+spelled_field (count n) = 32 ∷ decimal n
+spelled_field (ranges rs) = flat_map spelled_range rs
+spelled_field (rules rs) = spelled_rules rs
+
+-- whether a line can carry it
+abbrev pub fits_field : Said → Bool
+fits_field (word w) = is_field w
+fits_field (name n) = is_name n
+fits_field (number n) = nat_lt n (2 ^ 64)
+fits_field (marked many n) = nat_lt n (2 ^ 64)
+fits_field (count n) = nat_lt n (2 ^ 32)
+fits_field (ranges rs) = are_ranges rs
+fits_field (rules rs) = are_rules rs
+
+-- the fields of a shape
+abbrev pub middle_said : (m : Middle) → Held m → Said
+middle_said Word w = word w
+middle_said Hex n = number n
+middle_said Marked x = marked x.0 x.1
+middle_said Decimal n = count n
+
+abbrev pub listed : (shape : Shape) → Values shape → List Said
+listed Name n = name n ∷ []
+listed Rules rs = rules rs ∷ []
+listed Ranges rs = ranges rs ∷ []
+listed Last n = count n ∷ []
+listed (Then m rest) v = middle_said m v.0 ∷ listed rest v.1

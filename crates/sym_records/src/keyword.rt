@@ -1,0 +1,24 @@
+/// The kinds of records, by their keywords.
+#[derive(Clone, Copy, Debug, PartialEq, Eq)]
+pub enum Keyword {
+    /// `MODULE`
+    Module,
+    /// `INFO`
+    Info,
+    /// `FILE`
+    File,
+    /// `INLINE_ORIGIN`
+    Origin,
+    /// `FUNC`
+    Func,
+    /// `INLINE`
+    Inline,
+    /// A line record has none.
+    Line,
+    /// `PUBLIC`
+    Public,
+    /// `STACK CFI INIT`
+    Init,
+    /// `STACK CFI`
+    Change,
+}

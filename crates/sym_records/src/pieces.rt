@@ -1,0 +1,46 @@
+ghost use Rattle.std.specs.Prelude.{◌≡◌, [], OnOk};
+ghost use Rattle.sym_records.specs.Spelled.{text_bytes};
+
+use std::alloc::Global;
+use std::mem::replace;
+use sym_edges::OutOfMemory;
+use sym_rules::ByteText;
+
+/// A piece that has so many bytes gets no more lines.
+const PIECE: usize = 1 << 20;
+
+/// Room for the line that makes a piece full. A longer one makes its piece grow.
+const SPARE: usize = 1 << 17;
+
+/// A text in pieces: lines are added to the last, and `turn` is called between them. A text that grows long is never
+/// copied as a whole, and little of its room stays empty.
+#[derive(Debug, Drop)]
+pub struct TextPieces {
+    pub full: Vec<ByteText>,
+    pub last: Vec<u8>,
+}
+
+impl TextPieces {
+    pub fn new(alloc: Global) -> TextPieces
+        ensures { text_bytes result ≡ [] }
+    {
+        TextPieces {
+            full: Vec::new(alloc),
+            last: Vec::new(alloc),
+        }
+    }
+
+    /// Begins another piece where the last is full. The text stays the same.
+    #[tactic(auto, using(crate::proofs::SpelledLemmas::turned))]
+    pub fn turn(&mut self, alloc: Global) -> Result<(), OutOfMemory>
+        ensures { OnOk result (text_bytes self.new ≡ text_bytes self.old) }
+    {
+        if self.last.len() < PIECE {
+            return Ok(());
+        }
+        let next = Vec::with_capacity(alloc, PIECE + SPARE)?;
+        let full = replace(&mut self.last, next);
+        self.full.push(ByteText::of(full))?;
+        Ok(())
+    }
+}

@@ -1,0 +1,14 @@
+pub mod BoolLemmas
+pub mod EndLemmas
+pub mod WordLemmas
+pub mod RuleLemmas
+pub mod RuleListLemmas
+pub mod RuleSoundLemmas
+pub mod BufferLemmas
+pub mod LengthLemmas
+pub mod SpellingLemmas
+pub mod PlainLemmas
+pub mod AddingLemmas
+pub mod LastLemmas
+pub mod Computing
+pub mod WorkedRules

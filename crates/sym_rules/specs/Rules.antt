@@ -1,0 +1,52 @@
+-- The words of frame rules (Breakpad's symbol_files.md): the name of a target with `:` behind it, then the words of a postfix expression.
+use Rattle.std.specs.Prelude.{ℕ, List, [], ◌∷◌, ◌++◌, map, slice_index_or, codes}
+use Rattle.std.specs.List.{flat_map}
+use Rattle.std.specs.Fmt.{signed_decimal}
+use Rattle.sym_edges.specs.Abi.{register_name}
+use Rattle.sym_rules.specs.declared.rules.Target.{Target}
+use Rattle.sym_rules.specs.declared.rules.Target.TheVariants as target
+use Rattle.sym_rules.specs.declared.rules.Token.{Token}
+use Rattle.sym_rules.specs.declared.rules.Token.TheVariants as token
+use Rattle.sym_rules.specs.declared.rules.RuleText.{RuleText}
+
+-- the name of a target
+abbrev pub target_name : Target → List ℕ
+target_name target.Cfa = codes ".cfa"
+target_name target.Ra = codes ".ra"
+target_name (target.Reg number) = register_name number
+target_name (target.Other name) = name
+
+-- a word of an expression; an integer is decimal, with `-` where it is negative
+abbrev pub token_word : Token → List ℕ
+token_word (token.Number n) = signed_decimal n
+token_word (token.Reg number) = register_name number
+token_word token.Cfa = codes ".cfa"
+token_word token.Undef = codes ".undef"
+token_word (token.Other name) = name
+token_word token.Add = codes "+"
+token_word token.Sub = codes "-"
+token_word token.Mul = codes "*"
+token_word token.Div = codes "/"
+token_word token.Rem = codes "%"
+token_word token.Align = codes "@"
+token_word token.Fetch = codes "^"
+
+-- the word that begins a rule: its target's name with `:` behind it
+abbrev pub target_word : Target → List ℕ
+target_word target = target_name target ++ 58 ∷ []
+
+-- the words of a rule
+abbrev pub rule_words : RuleText → List (List ℕ)
+rule_words rule = target_word rule.target ∷ map token_word rule.tokens
+
+-- a token with one space in front
+abbrev pub spelled_token : Token → List ℕ
+spelled_token t = 32 ∷ token_word t
+
+-- a rule with one space in front of each word
+unfoldable pub spelled_rule : RuleText → List ℕ
+spelled_rule rule = (32 ∷ target_word rule.target) ++ flat_map spelled_token rule.tokens
+
+-- rules one behind another, with one space in front of each word
+unfoldable pub spelled_rules : List RuleText → List ℕ
+spelled_rules rules = flat_map spelled_rule rules

@@ -1,0 +1,103 @@
+ghost use Rattle.std.specs.Prelude.{◌≡◌, ◌^◌, ◌-◌, min, length};
+ghost use Rattle.std.specs.List.{flat_map};
+ghost use Rattle.sym_edges.specs.Abi.{register_name};
+ghost use Rattle.sym_rules.specs.Rules.{target_name, token_word, spelled_token, spelled_rule, spelled_rules};
+
+use crate::rules::{RuleText, Target, Token};
+use itoa::Buffer;
+
+/// The name of a register by its DWARF number; from 16 on there is none.
+#[tactic(auto, unfolding(sym_edges::specs::Abi::register_name, sym_edges::specs::Abi::register_names))]
+pub(crate) fn register_name(number: u8) -> &'static [u8]
+    ensures { result.now ≡ register_name number }
+{
+    match number {
+        0 => b"$rax",
+        1 => b"$rdx",
+        2 => b"$rcx",
+        3 => b"$rbx",
+        4 => b"$rsi",
+        5 => b"$rdi",
+        6 => b"$rbp",
+        7 => b"$rsp",
+        8 => b"$r8",
+        9 => b"$r9",
+        10 => b"$r10",
+        11 => b"$r11",
+        12 => b"$r12",
+        13 => b"$r13",
+        14 => b"$r14",
+        15 => b"$r15",
+        _ => b"",
+    }
+}
+
+pub(crate) fn target_name(target: &Target) -> &[u8]
+    ensures { result.now ≡ target_name target.now }
+{
+    match target {
+        Target::Cfa => b".cfa",
+        Target::Ra => b".ra",
+        Target::Reg(number) => register_name(*number),
+        Target::Other(name) => name.as_slice(),
+    }
+}
+
+/// The word of a token; the buffer is for an integer.
+pub(crate) fn token_word<'a>(token: &'a Token, buffer: &'a mut Buffer) -> &'a [u8]
+    ensures { result.now ≡ token_word token.now }
+{
+    match token {
+        Token::Number(n) => buffer.format(*n).as_bytes(),
+        Token::Reg(number) => register_name(*number),
+        Token::Cfa => b".cfa",
+        Token::Undef => b".undef",
+        Token::Other(name) => name.as_slice(),
+        Token::Add => b"+",
+        Token::Sub => b"-",
+        Token::Mul => b"*",
+        Token::Div => b"/",
+        Token::Rem => b"%",
+        Token::Align => b"@",
+        Token::Fetch => b"^",
+    }
+}
+
+/// How many bytes the token takes, with the space in front; the greatest `usize` stands for more.
+fn token_length(token: &Token) -> usize
+    ensures { result ≡ min (length (spelled_token token.now)) (2 ^ 64 - 1) }
+{
+    let mut buffer = Buffer::new();
+    token_word(token, &mut buffer).len().saturating_add(1)
+}
+
+#[tactic(auto, using(crate::proofs::LengthLemmas::pieces_length, crate::proofs::LengthLemmas::pieces_whole))]
+fn tokens_length(tokens: &[Token]) -> usize
+    ensures { result ≡ min (length (flat_map spelled_token tokens.now)) (2 ^ 64 - 1) }
+{
+    let mut total = 0usize;
+    for token in tokens {
+        total = total.saturating_add(token_length(token));
+    }
+    total
+}
+
+#[tactic(auto, using(crate::proofs::LengthLemmas::rule_length))]
+fn rule_length(rule: &RuleText) -> usize
+    ensures { result ≡ min (length (spelled_rule rule.now)) (2 ^ 64 - 1) }
+{
+    let name = target_name(&rule.target).len().saturating_add(2);
+    name.saturating_add(tokens_length(rule.tokens.as_slice()))
+}
+
+/// How many bytes the rules take, with a space in front of each word; the greatest `usize` stands for more.
+#[tactic(auto, unfolding(crate::specs::Rules::spelled_rules), using(crate::proofs::LengthLemmas::pieces_length, crate::proofs::LengthLemmas::pieces_whole))]
+pub fn rules_length(rules: &[RuleText]) -> usize
+    ensures { result ≡ min (length (spelled_rules rules.now)) (2 ^ 64 - 1) }
+{
+    let mut total = 0usize;
+    for rule in rules {
+        total = total.saturating_add(rule_length(rule));
+    }
+    total
+}
