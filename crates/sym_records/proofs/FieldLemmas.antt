@@ -1,5 +1,5 @@
 -- Fields are read from their spelling.
-use Rattle.std.proofs.Common.{◌≡◌, ℕ, ◌+◌, ◌^◌, ◌<◌, ◌≤◌, ◌==◌, ◌&&◌, ◌||◌, cond, Bool, true, false, List, [], ◌∷◌, ◌++◌, length, get_or, codes, Some, None, Ok, Err, ok_or, Result, nat_lt, nat_le, refl, sym, ◌∙◌, ap, arith, subst, append_assoc, append-nil}
+use Rattle.std.proofs.Common.{◌≡◌, ℕ, ◌^◌, ◌<◌, ◌≤◌, ◌==◌, ◌&&◌, ◌||◌, cond, Bool, true, false, List, [], ◌∷◌, ◌++◌, length, codes, Some, None, Ok, nat_lt, refl, sym, ◌∙◌, ap, arith, subst, append_assoc, append-nil}
 use Rattle.std.specs.List.{list_all, flat_map}
 use Rattle.std.specs.Fmt.{decimal}
 use Rattle.std.specs.Char.{digit_value}
@@ -7,6 +7,7 @@ use Rattle.std.specs.Str.{bytes_eq}
 use Rattle.std.specs.Str.Parse.{AllDigits, digits_value}
 use Rattle.std.proofs.lemmas.Fmt.{digits_is_IsNumeral}
 use Rattle.std.proofs.lemmas.Slice.Eq.{bytes_eq-Decides}
+use Rattle.std.proofs.lemmas.Bool.{lt-ltb, ltb-true, eqb-true}
 use Rattle.std.proofs.lemmas.Bool.Decides.{nat_tests}
 use Rattle.sym_rules.proofs.BoolLemmas.{and_true, both, not_true, elim_bool}
 use Rattle.sym_rules.proofs.EndLemmas.{ends_at, end_behind, last_none, last_later, trim_kept}
@@ -16,14 +17,13 @@ use Rattle.sym_rules.proofs.RuleLemmas.{decimal_parts, is_ten}
 use Rattle.sym_rules.proofs.RuleListLemmas.{rules_parts, rules_read, cr_none}
 use Rattle.sym_rules.proofs.LengthLemmas.{rules_spelled}
 use Rattle.sym_edges.specs.Results.{◌>>=◌}
-use Rattle.sym_records.specs.FieldReading.{word_at, name_at, field_of, hex_value, hex_at, mark_at, decimal_value, decimal_at, marked_at, middle_at, pairs_of, some_ranges, ranges_at, at_end, last_at, values_at, is_named, is_end, fields_at}
-use Rattle.sym_records.specs.Fields.{hex, is_field, is_name, Middle, Word, Hex, Marked, Decimal, Shape, Name, Rules, Ranges, Last, Then, Held, Values, mark, spelled_middle, range_words, spelled_range, spelled, fits_middle, is_range, are_ranges, fit}
-use Rattle.sym_rules.specs.Cuts.{is_space, is_cr, is_margin, is_within_line, is_within_field, before, from, skip, last_is}
-use Rattle.sym_rules.specs.RuleReading.{are_digits, words, rules_at}
+use Rattle.sym_records.specs.FieldReading.{word_at, field_of, hex_at, mark_at, decimal_value, decimal_at, marked_at, middle_at, pairs_of, some_ranges, ranges_at, at_end, last_at, values_at, is_named, is_end, fields_at}
+use Rattle.sym_records.specs.Fields.{hex, is_field, Middle, Word, Hex, Marked, Decimal, Shape, Name, Rules, Ranges, Last, Then, Held, Values, mark, spelled_middle, range_words, spelled_range, spelled, fits_middle, is_range, are_ranges, fit}
+use Rattle.sym_rules.specs.Cuts.{is_space, is_cr, is_margin, is_within_field, before, from, skip, last_is}
+use Rattle.sym_rules.specs.RuleReading.{words, rules_at}
 use Rattle.sym_rules.specs.RuleValidity.{are_rules}
-use Rattle.sym_rules.specs.Rules.{rule_words, spelled_rule, spelled_rules}
+use Rattle.sym_rules.specs.Rules.{spelled_rule, spelled_rules}
 use Rattle.sym_rules.specs.declared.rules.RuleText.{RuleText}
-use Rattle.sym_rules.specs.declared.text_fault.TextKind.TheVariants as fault
 use Rattle.sym_records.specs.declared.line.Extent.{Extent}
 
 -- a field ends here
@@ -107,14 +107,11 @@ marked_back many n rest small parted =
 below_32 : {n : ℕ} → nat_lt n (2 ^ 32) ≡ true → n ≤ 2 ^ 63
 below_32 is = grind (arith, nat_tests)
 
-lt_0 : (n : ℕ) → 0 < n → nat_lt 0 n ≡ true
-lt_0 n some = grind (arith, nat_tests)
-
 pub decimal_field : (n : ℕ) → nat_lt n (2 ^ 32) ≡ true → is_field (decimal n) ≡ true
 unfolding is_field
 decimal_field n small =
     let parts = decimal_parts n (below_32 small) in
-    both (lt_0 (length (decimal n)) parts.some) parts.within
+    both (lt-ltb 0 (length (decimal n)) parts.some) parts.within
 
 decimal_value_is : (n : ℕ) → nat_lt n (2 ^ 32) ≡ true → decimal_value (decimal n) ≡ Some n
 unfolding decimal_value
@@ -236,10 +233,7 @@ none_of true b first second = cc
 none_of false b first second = second
 
 digit_below : (d : ℕ) → nat_lt (digit_value d) 16 ≡ true → digit_value d < 16
-digit_below d is = grind (arith, nat_tests)
-
-eq_is : (a b : ℕ) → (a == b) ≡ true → a ≡ b
-eq_is a b is = grind (arith, nat_tests)
+digit_below d is = ltb-true (digit_value d) 16 is
 
 no_space : digit_value 32 < 16 → ⊥
 no_space h = omega (arith, h)
@@ -250,8 +244,8 @@ no_cr h = omega (arith, h)
 -- a hexadecimal digit is no margin
 pub digit_inner : (d : ℕ) → nat_lt (digit_value d) 16 ≡ true → is_margin d ≡ false
 digit_inner d is = none_of (d == 32) (d == 13)
-    (elim_bool (d == 32) (λ t. t ≡ false) (λ same. absurd (no_space (subst (λ (x : ℕ). digit_value x < 16) (eq_is d 32 same) (digit_below d is)))) (λ _. refl))
-    (elim_bool (d == 13) (λ t. t ≡ false) (λ same. absurd (no_cr (subst (λ (x : ℕ). digit_value x < 16) (eq_is d 13 same) (digit_below d is)))) (λ _. refl))
+    (elim_bool (d == 32) (λ t. t ≡ false) (λ same. absurd (no_space (subst (λ (x : ℕ). digit_value x < 16) (eqb-true d 32 same) (digit_below d is)))) (λ _. refl))
+    (elim_bool (d == 13) (λ t. t ≡ false) (λ same. absurd (no_cr (subst (λ (x : ℕ). digit_value x < 16) (eqb-true d 13 same) (digit_below d is)))) (λ _. refl))
 
 ten_inner : (d : ℕ) → is_ten d ≡ true → is_margin d ≡ false
 ten_inner d is = let low : 48 ≤ d = grind (arith, nat_tests) in grind (arith, nat_tests)

@@ -1,21 +1,21 @@
 -- What is read as fields of one line is what a line can carry.
-use Rattle.std.proofs.Common.{◌≡◌, ℕ, ◌+◌, ◌-◌, ◌*◌, ◌^◌, ◌<◌, ◌≤◌, ◌==◌, ◌&&◌, cond, Bool, true, false, not, List, [], ◌∷◌, ◌++◌, length, get_or, codes, Option, Some, None, ok_or, Result, Ok, Err, nat_lt, refl, sym, ◌∙◌, ap, arith, subst, ⊎_elim}
+use Rattle.std.proofs.Common.{◌≡◌, ℕ, ◌+◌, ◌-◌, ◌*◌, ◌^◌, ◌<◌, ◌≤◌, ◌==◌, ◌&&◌, cond, Bool, true, false, not, List, [], ◌∷◌, length, get_or, codes, Option, Some, None, ok_or, Result, Ok, nat_lt, refl, sym, ◌∙◌, ap, arith, subst, ⊎_elim}
 use Rattle.std.specs.List.{list_all}
 use Rattle.std.specs.Option.{option_and_then}
 use Rattle.std.specs.Char.{digit_value}
 use Rattle.std.specs.Str.{bytes_eq}
 use Rattle.std.specs.Str.Parse.{AllDigits, digits_value, digits_value_after}
 use Rattle.std.proofs.lemmas.Int.Digits.{digits_value-lt}
+use Rattle.std.proofs.lemmas.Bool.{lt-ltb}
 use Rattle.std.proofs.lemmas.Bool.Decides.{nat_tests}
 use Rattle.std.proofs.Math.Nat.{pow-le-pow_right}
 use Rattle.sym_rules.proofs.BoolLemmas.{and_true, both, not_false, elim_bool, chosen, bind_ok}
 use Rattle.sym_rules.proofs.EndLemmas.{ends_at, skip_ends, from_ends, all_skip, all_from, Begins, begins_skip}
 use Rattle.sym_rules.proofs.RuleSoundLemmas.{rules_sound}
-use Rattle.sym_edges.specs.Results.{◌>>=◌}
-use Rattle.sym_records.specs.FieldReading.{word_at, name_at, name_of, field_of, hex_digit, hex_onto, hex_value, hex_at, mark_at, decimal_value, decimal_at, marked_at, middle_at, hex_of, pairs_of, some_ranges, ranges_at, at_end, last_at, values_at, is_named, is_end}
+use Rattle.sym_records.specs.FieldReading.{word_at, name_at, name_of, field_of, hex_digit, hex_onto, hex_value, hex_at, mark_at, decimal_value, decimal_at, marked_at, middle_at, hex_of, pairs_of, some_ranges, ranges_at, at_end, last_at, values_at, is_end}
 use Rattle.sym_records.specs.Fields.{is_field, is_name, Middle, Word, Hex, Marked, Decimal, Shape, Name, Rules, Ranges, Last, Then, Held, Values, fits_middle, is_range, are_ranges, fit}
-use Rattle.sym_rules.specs.Cuts.{is_space, is_cr, is_margin, is_within_line, is_within_field, before, from, skip, last_is}
-use Rattle.sym_rules.specs.RuleReading.{are_digits, words, rules_at}
+use Rattle.sym_rules.specs.Cuts.{is_space, is_cr, is_within_line, is_within_field, before, from, skip, last_is}
+use Rattle.sym_rules.specs.RuleReading.{are_digits, words}
 use Rattle.sym_rules.specs.declared.text_fault.TextKind.{TextKind}
 use Rattle.sym_rules.specs.declared.text_fault.TextKind.TheVariants as fault
 use Rattle.sym_records.specs.declared.line.Extent.{Extent}
@@ -75,9 +75,6 @@ before_within (x ∷ xs) all =
     elim_bool (x == 32) (λ t. (x == 32) ≡ t → list_all is_within_field (cond t [] (x ∷ before 32 xs)) ≡ true)
     (λ _ _. refl) (λ _ other. both (both (not_false other) (and_true all).0) (before_within xs (and_true all).1)) refl
 
-lt_0 : (n : ℕ) → 0 < n → nat_lt 0 n ≡ true
-lt_0 n some = grind (arith, nat_tests)
-
 -- a field that was read, and what is left
 pub record Good (m : Middle) (bytes : List ℕ) (x : Held m × List ℕ) : Type 0 where
   pub fits : fits_middle m x.0 ≡ true
@@ -91,7 +88,7 @@ unfolding is_field
 word_good bytes x line is =
     let taken = word_taken bytes x is in
     record {
-      fits = both (lt_0 (length x.0) taken.some) (ap (list_all is_within_field) taken.word ∙ before_within (skip is_space bytes) (all_skip is_within_line is_space bytes line));
+      fits = both (lt-ltb 0 (length x.0) taken.some) (ap (list_all is_within_field) taken.word ∙ before_within (skip is_space bytes) (all_skip is_within_line is_space bytes line));
       rest = left_behind bytes x taken;
     }
 
@@ -175,7 +172,7 @@ unfolding is_name
 name_fits [] name begins line ends is = cc
 name_fits (b ∷ z) name begins line ends is =
     subst (λ (l : List ℕ). (nat_lt 0 (length l) && not (get_or l 0 0 == 32) && not (get_or l (length l - 1) 0 == 13) && list_all is_within_line l) ≡ true) (ok_is (b ∷ z) name is)
-    (both (both (both (lt_0 (length (b ∷ z)) (omega arith)) (not_false begins)) (not_false (sym (ends_at b z) ∙ ends))) line)
+    (both (both (both (lt-ltb 0 (length (b ∷ z)) (omega arith)) (not_false begins)) (not_false (sym (ends_at b z) ∙ ends))) line)
 
 name_good : (bytes name : List ℕ) → list_all is_within_line bytes ≡ true → last_is is_cr bytes ≡ false → name_at bytes ≡ Ok name → is_name name ≡ true
 unfolding name_at
@@ -201,7 +198,7 @@ some_good : (xs ranges : List Extent) → AllRanges xs → some_ranges xs ≡ Ok
 unfolding are_ranges
 some_good [] ranges all is = cc
 some_good (x ∷ xs) ranges all is =
-    subst (λ (l : List Extent). (nat_lt 0 (length l) && list_all is_range l) ≡ true) (ok_is (x ∷ xs) ranges is) (both (lt_0 (length (x ∷ xs)) (omega arith)) all)
+    subst (λ (l : List Extent). (nat_lt 0 (length l) && list_all is_range l) ≡ true) (ok_is (x ∷ xs) ranges is) (both (lt-ltb 0 (length (x ∷ xs)) (omega arith)) all)
 
 ranges_good : (bytes : List ℕ) (ranges : List Extent) → ranges_at bytes ≡ Ok ranges → are_ranges ranges ≡ true
 unfolding ranges_at

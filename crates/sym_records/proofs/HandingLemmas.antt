@@ -1,15 +1,12 @@
 -- Records, as they are handed on.
-use Rattle.std.proofs.Common.{◌≡◌, ℕ, ◌+◌, ◌<◌, Bool, zero, suc, arith, take, get_or, List, [], ◌∷◌, ◌++◌, Option, Result, Ok, Err, length, drop, map, refl, sym, ◌∙◌, ap, subst, append-nil}
+use Rattle.std.proofs.Common.{◌≡◌, ℕ, ◌+◌, ◌<◌, zero, suc, arith, take, get_or, List, [], ◌∷◌, ◌++◌, Option, Result, Ok, Err, length, refl, ◌∙◌, ap, subst, append-nil}
 use Rattle.std.specs.List.{flat_map}
 use Rattle.std.specs.Fmt.{decimal}
 use Rattle.sym_rules.proofs.BufferLemmas.{hands_both, hands_off, Handed, hands_piece, hands_broken}
 use Rattle.sym_rules.specs.Buffer.{Hands}
-use Rattle.sym_records.proofs.ListedLemmas.{worded_body}
 use Rattle.sym_records.specs.Canon.{body, canon}
-use Rattle.sym_records.specs.Fields.{hex, mark, spelled_range}
-use Rattle.sym_records.specs.Listed.{Said, said, fields, spelled_field}
-use Rattle.sym_records.specs.Records.{headed, keyword}
-use Rattle.sym_records.specs.declared.field.Field.{Field}
+use Rattle.sym_records.specs.Fields.{hex, spelled_range}
+use Rattle.sym_records.specs.Listed.{said, spelled_field}
 use Rattle.sym_records.specs.declared.field.Field.TheVariants as held
 use Rattle.sym_records.specs.declared.line.Extent.{Extent}
 use Rattle.sym_records.specs.declared.line.SymLine.{SymLine}

@@ -1,5 +1,5 @@
 -- How long the line of a record is.
-use Rattle.std.proofs.Common.{◌≡◌, ℕ, ◌+◌, ◌-◌, ◌^◌, ◌<◌, ◌≤◌, Bool, true, false, cond, min, List, [], ◌∷◌, ◌++◌, length, take, drop, get_or, map, nat_le, refl, sym, ◌∙◌, ap, arith, length-append}
+use Rattle.std.proofs.Common.{◌≡◌, ℕ, ◌+◌, ◌-◌, ◌^◌, ◌<◌, Bool, true, false, cond, min, List, [], ◌∷◌, ◌++◌, length, drop, map, nat_le, ◌∙◌, ap, arith, length-append}
 use Rattle.std.specs.List.{flat_map}
 use Rattle.std.proofs.lemmas.Bool.Decides.{nat_tests}
 use Rattle.sym_records.specs.Canon.{body}
@@ -7,7 +7,6 @@ use Rattle.sym_records.specs.Fields.{hex, mark, spelled_range}
 use Rattle.sym_records.specs.Listed.{Said, said, fields, spelled_field}
 use Rattle.sym_records.specs.Records.{headed, keyword}
 use Rattle.sym_records.proofs.ListedLemmas.{fields_spell, spelled_said}
-use Rattle.sym_records.proofs.FieldLemmas.{Opened}
 use Rattle.sym_records.specs.declared.field.Field.{Field}
 use Rattle.sym_records.specs.declared.line.Extent.{Extent}
 use Rattle.std.specs.Fmt.{decimal}

@@ -1,7 +1,7 @@
 -- Fields by shape and fields as a list are the same.
-use Rattle.std.proofs.Common.{◌≡◌, ℕ, ◌+◌, ◌^◌, ◌&&◌, Bool, true, false, List, [], ◌∷◌, ◌++◌, length, drop, nat_lt, map, sum, refl, sym, ◌∙◌, ap, arith, append-nil, append_assoc, ◌<◌}
+use Rattle.std.proofs.Common.{◌≡◌, ℕ, ◌&&◌, Bool, true, false, List, [], ◌∷◌, ◌++◌, length, drop, map, refl, sym, ◌∙◌, ap, arith, append-nil, ◌<◌}
 use Rattle.std.specs.List.{list_all, flat_map}
-use Rattle.sym_records.specs.Canon.{body, canon}
+use Rattle.sym_records.specs.Canon.{body}
 use Rattle.sym_records.specs.Fields.{Middle, Word, Hex, Marked, Decimal, Shape, Name, Rules, Ranges, Last, Then, Held, Values, spelled, spelled_middle, fit, fits_middle}
 use Rattle.sym_records.specs.Listed.{Said, fields, spelled_field, fits_field, middle_said, listed, said}
 use Rattle.sym_records.specs.Records.{layout, headed, keyword, values}

@@ -15,8 +15,7 @@ use Rattle.sym_records.proofs.LengthLemmas.{length_module, length_info, length_f
 use Rattle.sym_records.proofs.DigitsLemmas.{length_hex}
 use Rattle.sym_records.proofs.TextLemmas.{digits_within}
 use Rattle.sym_records.proofs.CleaningLemmas.{is_shown, named}
-use Rattle.sym_rules.specs.Rules.{spelled_rules}
-use Rattle.sym_rules.specs.RuleValidity.{are_rules, is_plain_rule}
+use Rattle.sym_rules.specs.RuleValidity.{is_plain_rule}
 use Rattle.sym_rules.specs.declared.rules.RuleText.{RuleText}
 use Rattle.sym_records.specs.Canon.{body}
 use Rattle.sym_records.specs.Fields.{hex, is_field, is_name, mark, is_range, are_ranges, spelled_range}

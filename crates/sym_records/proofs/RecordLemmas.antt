@@ -1,21 +1,20 @@
 -- A record whose fields fit is read from its canonical spelling.
-use Rattle.std.proofs.Common.{◌≡◌, ℕ, ◌^◌, ◌<◌, ◌==◌, ◌&&◌, ◌||◌, cond, Bool, true, false, List, [], ◌∷◌, ◌++◌, length, drop, codes, Option, Some, None, Ok, Err, Result, nat_lt, refl, sym, ◌∙◌, ap, arith, subst}
-use Rattle.std.specs.List.{list_all, flat_map}
-use Rattle.std.specs.Char.{digit_value}
+use Rattle.std.proofs.Common.{◌≡◌, ℕ, ◌^◌, ◌<◌, ◌==◌, ◌&&◌, ◌||◌, cond, Bool, true, false, List, [], ◌∷◌, ◌++◌, drop, codes, Some, None, Ok, Result, nat_lt, refl, sym, ◌∙◌, ap, subst}
+use Rattle.std.specs.List.{list_all}
 use Rattle.std.specs.Str.{bytes_eq}
-use Rattle.sym_rules.proofs.BoolLemmas.{and_true, not_true, elim_bool, eq_32}
-use Rattle.sym_rules.proofs.EndLemmas.{ends_in_cr, trim_kept, end_behind, last_later}
+use Rattle.sym_rules.proofs.BoolLemmas.{and_true, elim_bool, eq_32}
+use Rattle.sym_rules.proofs.EndLemmas.{ends_in_cr, trim_kept, last_later}
 use Rattle.sym_records.proofs.TextLemmas.{below, skip_field, hex_field}
 use Rattle.sym_edges.specs.Results.{◌>>=◌}
 use Rattle.sym_records.specs.Canon.{body}
-use Rattle.sym_records.specs.FieldReading.{word_at, hex_at, middle_at, values_at, is_end, fields_at}
-use Rattle.sym_records.specs.Fields.{hex, is_field, Shape, Name, Rules, Last, Then, Hex, Decimal, Values, spelled, fit, fits_middle}
+use Rattle.sym_records.specs.FieldReading.{word_at, hex_at, values_at, is_end, fields_at}
+use Rattle.sym_records.specs.Fields.{hex, is_field, Rules, Last, Then, Hex, Decimal, Values, spelled, fit}
 use Rattle.sym_records.specs.Records.{layout, headed, keyword, values, made}
-use Rattle.sym_records.specs.Text.{next_word, behind_word, is_blank, trimmed, is_hex_digit, cfi_key, stack_key, worded_key, keyed, key_at, record_of, record_at, line_at}
+use Rattle.sym_records.specs.Text.{behind_word, trimmed, is_hex_digit, cfi_key, stack_key, worded_key, keyed, key_at, record_of, record_at, line_at}
 use Rattle.sym_records.specs.Validity.{has_fields}
-use Rattle.sym_rules.specs.Cuts.{is_space, is_cr, is_margin, is_within_field, before, from, skip, trim_end, last_is}
+use Rattle.sym_rules.specs.Cuts.{is_space, is_cr, is_margin, before, from, skip, last_is}
 use Rattle.sym_rules.specs.declared.text_fault.TextKind.{TextKind}
-use Rattle.sym_records.proofs.FieldLemmas.{Opened, opened_parted, before_parted, from_parted, opened, behind, shape_ends, ends_cr, fields_back, values_back, hex_digits, hex_not, next_hex, digit_inner}
+use Rattle.sym_records.proofs.FieldLemmas.{Opened, opened_parted, before_parted, opened, behind, shape_ends, ends_cr, fields_back, values_back, hex_digits, hex_not, next_hex, digit_inner}
 use Rattle.sym_records.specs.declared.line.SymLine.{SymLine}
 use Rattle.sym_records.specs.declared.line.SymLine.TheVariants as line
 use Rattle.sym_records.specs.declared.keyword.Keyword.{Keyword}

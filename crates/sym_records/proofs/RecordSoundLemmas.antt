@@ -1,10 +1,10 @@
 -- A record is valid exactly where its fields fit and its line is short.
-use Rattle.std.proofs.Common.{◌≡◌, ℕ, ◌+◌, ◌^◌, ◌<◌, ◌≤◌, ◌==◌, ◌&&◌, ◌↔◌, cond, Bool, true, false, List, [], ◌∷◌, ◌++◌, length, drop, codes, Option, Some, None, Result, Ok, Err, nat_lt, nat_le, IsTrue, refl, sym, ◌∙◌, ap, arith, subst, ⊎_elim}
+use Rattle.std.proofs.Common.{◌≡◌, ℕ, ◌^◌, ◌↔◌, cond, Bool, true, false, List, [], ◌∷◌, ◌++◌, length, drop, codes, Option, Some, None, Result, Ok, Err, nat_lt, IsTrue, refl, sym, ◌∙◌, ap, subst, ⊎_elim}
 use Rattle.std.specs.List.{list_all, flat_map}
 use Rattle.std.specs.Fmt.{decimal}
 use Rattle.std.specs.Str.{bytes_eq}
 use Rattle.std.proofs.lemmas.List.Folds.{list_all-append}
-use Rattle.std.proofs.lemmas.Bool.Decides.{nat_tests}
+use Rattle.std.proofs.lemmas.Bool.{leb-true, le-leb}
 use Rattle.sym_rules.proofs.BoolLemmas.{and_true, both, chosen, bind_ok, false_true}
 use Rattle.sym_rules.proofs.EndLemmas.{from_ends, trim_ends, all_skip, all_from, all_trim}
 use Rattle.sym_records.proofs.TextLemmas.{name_parts, hex_field, below}
@@ -13,8 +13,8 @@ use Rattle.sym_rules.proofs.RuleListLemmas.{rules_parts}
 use Rattle.sym_rules.proofs.LengthLemmas.{rules_spelled}
 use Rattle.sym_edges.specs.Results.{◌>>=◌}
 use Rattle.sym_records.specs.Canon.{body}
-use Rattle.sym_records.specs.FieldReading.{values_at, is_end, fields_at}
-use Rattle.sym_records.specs.Fields.{hex, is_field, is_name, Middle, Word, Hex, Marked, Decimal, Shape, Name, Rules, Ranges, Last, Then, Held, Values, mark, spelled_middle, range_words, spelled_range, spelled, fits_middle, is_range, are_ranges, fit}
+use Rattle.sym_records.specs.FieldReading.{is_end, fields_at}
+use Rattle.sym_records.specs.Fields.{hex, is_field, Middle, Word, Hex, Marked, Decimal, Shape, Name, Rules, Ranges, Last, Then, Held, Values, mark, spelled_middle, spelled_range, spelled, fits_middle, is_range, are_ranges, fit}
 use Rattle.sym_records.specs.Records.{layout, headed, keyword, values, made}
 use Rattle.sym_records.specs.Text.{next_word, is_blank, trimmed, is_hex_digit, cfi_key, stack_key, worded_key, keyed, key_at, record_of, record_at, line_at}
 use Rattle.sym_records.specs.Validity.{IsValid, has_fields, fields_fit}
@@ -24,7 +24,7 @@ use Rattle.sym_rules.specs.Rules.{rule_words, spelled_rules}
 use Rattle.sym_rules.specs.declared.rules.RuleText.{RuleText}
 use Rattle.sym_rules.specs.declared.text_fault.TextKind.{TextKind}
 use Rattle.sym_rules.specs.declared.text_fault.TextKind.TheVariants as fault
-use Rattle.sym_records.proofs.FieldLemmas.{decimal_field, hex_word, ranges_spelled}
+use Rattle.sym_records.proofs.FieldLemmas.{decimal_field}
 use Rattle.sym_records.proofs.FieldSoundLemmas.{ok_is, Behind, behind_same, behind_word, behind_both, values_good}
 use Rattle.sym_records.proofs.RecordLemmas.{line_back}
 use Rattle.sym_records.specs.declared.line.Extent.{Extent}
@@ -205,21 +205,15 @@ unfolding body
 body_line s fits = dropped_line (headed (keyword s) ++ spelled (layout (keyword s)) (values s))
     (lines_both (headed (keyword s)) (spelled (layout (keyword s)) (values s)) (headed_line (keyword s)) (spelled_line (layout (keyword s)) (values s) fits))
 
-up_to : (a b : ℕ) → nat_le a b ≡ true → a ≤ b
-up_to a b is = grind (arith, nat_tests)
-
-le_true : (a b : ℕ) → a ≤ b → nat_le a b ≡ true
-le_true a b is = grind (arith, nat_tests)
-
 pub fits_valid : (s : SymLine) → fields_fit s ≡ true → IsValid s
 unfolding fields_fit
 fits_valid s fits =
     let parts = and_true {a = has_fields s} fits in
-    record { reads = line_back s parts.0; one_line = body_line s parts.0; short = up_to (length (body s)) (2 ^ 20) parts.1 }
+    record { reads = line_back s parts.0; one_line = body_line s parts.0; short = leb-true (length (body s)) (2 ^ 20) parts.1 }
 
 pub valid_fits : (s : SymLine) → IsValid s → fields_fit s ≡ true
 unfolding fields_fit
-valid_fits s valid = both (line_good (body s) s valid.one_line valid.reads) (le_true (length (body s)) (2 ^ 20) valid.short)
+valid_fits s valid = both (line_good (body s) s valid.one_line valid.reads) (le-leb (length (body s)) (2 ^ 20) valid.short)
 
 pub valid_iff : (s : SymLine) (b : Bool) → b ≡ fields_fit s → IsTrue b ↔ IsValid s
 valid_iff s true is = (λ _. fits_valid s (sym is), λ _. refl)

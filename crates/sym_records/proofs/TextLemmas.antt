@@ -1,5 +1,5 @@
 -- Words, names and numbers as they stand in a line.
-use Rattle.std.proofs.Common.{◌≡◌, ℕ, ◌+◌, ◌-◌, ◌*◌, ◌^◌, ◌<◌, ◌≤◌, ◌==◌, cond, true, false, List, [], ◌∷◌, ◌++◌, length, get_or, Some, None, Ok, nat_lt, refl, ◌∙◌, ap, arith, subst}
+use Rattle.std.proofs.Common.{◌≡◌, ℕ, ◌+◌, ◌-◌, ◌*◌, ◌^◌, ◌<◌, ◌==◌, cond, true, false, List, [], ◌∷◌, ◌++◌, length, get_or, Some, None, Ok, nat_lt, refl, ◌∙◌, ap, arith, subst}
 use Rattle.std.specs.List.{list_all}
 use Rattle.std.specs.Option.{option_and_then}
 use Rattle.std.specs.Char.{digit_value}
@@ -50,9 +50,6 @@ unfolding name_at
 name_is [] parts = absurd (omega (arith, parts.some))
 name_is (x ∷ name) parts = ap name_of (skip_one (x ∷ name) ∙ skip_field x name parts.begins)
 
-eq_is : (a b : ℕ) → (a == b) ≡ true → a ≡ b
-eq_is a b is = eqb-true a b is
-
 no_space : digit_value 32 < 16 → ⊥
 no_space h = omega (arith, h)
 
@@ -81,8 +78,8 @@ hex_value_is n small =
 
 digit_within : (d : ℕ) → digit_value d < 16 → is_within_field d ≡ true
 digit_within d below = both
-    (not_false (elim_bool (d == 32) (λ t. t ≡ false) (λ is. absurd (no_space (subst (λ (x : ℕ). digit_value x < 16) (eq_is d 32 is) below))) (λ _. refl)))
-    (not_false (elim_bool (d == 10) (λ t. t ≡ false) (λ is. absurd (no_end (subst (λ (x : ℕ). digit_value x < 16) (eq_is d 10 is) below))) (λ _. refl)))
+    (not_false (elim_bool (d == 32) (λ t. t ≡ false) (λ is. absurd (no_space (subst (λ (x : ℕ). digit_value x < 16) (eqb-true d 32 is) below))) (λ _. refl)))
+    (not_false (elim_bool (d == 10) (λ t. t ≡ false) (λ is. absurd (no_end (subst (λ (x : ℕ). digit_value x < 16) (eqb-true d 10 is) below))) (λ _. refl)))
 
 pub digits_within : (ds : List ℕ) → AllDigits 16 ds → list_all is_within_field ds ≡ true
 digits_within [] all = refl

@@ -1,5 +1,5 @@
 -- A list has no bad record exactly where it is valid.
-use Rattle.std.proofs.Common.{◌≡◌, ℕ, ◌+◌, ◌-◌, ◌≤◌, ◌&&◌, cond, zero, suc, true, false, List, [], ◌∷◌, Some, None, refl, ◌∙◌, ap, arith, subst}
+use Rattle.std.proofs.Common.{◌≡◌, ℕ, ◌+◌, ◌-◌, ◌≤◌, ◌&&◌, cond, zero, suc, List, [], ◌∷◌, Some, None, refl, ◌∙◌, ap, arith, subst}
 use Rattle.sym_rules.proofs.BoolLemmas.{and_true, both, elim_bool, false_true}
 use Rattle.sym_records.proofs.RecordSoundLemmas.{fits_valid, valid_fits}
 use Rattle.sym_records.specs.Reading.{fits, leads}

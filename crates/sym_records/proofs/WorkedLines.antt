@@ -1,5 +1,5 @@
 -- Worked lines (Breakpad's symbol_files.md): how records are spelled, and how lines are read.
-use Rattle.std.proofs.Common.{◌≡◌, pos, true, false, List, [], ◌∷◌, codes, Option, Some, None, Result, Ok, Err, refl}
+use Rattle.std.proofs.Common.{◌≡◌, pos, true, false, [], ◌∷◌, codes, Option, Some, None, Result, Ok, Err, refl}
 use Prim.Native.String.{String}
 use Rattle.sym_edges.proofs.Shown.{shown}
 use Rattle.sym_records.proofs.Computing.{sym_records_computes}

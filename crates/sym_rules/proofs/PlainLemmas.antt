@@ -1,13 +1,10 @@
 -- Frame rules without names of their own can be spelled, and are short.
-use Rattle.std.proofs.Common.{◌≡◌, ℕ, ◌+◌, ◌-◌, ◌^◌, ◌<◌, ◌≤◌, ◌==◌, cond, suc, Bool, true, false, pos, negsuc, List, [], ◌∷◌, ◌++◌, length, get_or, codes, nat_lt, nat_le, refl, ap, arith, subst, length-append, ◌*◌}
+use Rattle.std.proofs.Common.{◌≡◌, ◌^◌, ◌<◌, ◌≤◌, suc, true, false, pos, negsuc, List, [], ◌∷◌, length, nat_lt, refl, arith, length-append, ◌*◌}
 use Rattle.std.specs.List.{list_all, flat_map}
-use Rattle.std.specs.Char.{digit_value}
-use Rattle.std.specs.Str.Parse.{AllDigits}
-use Rattle.std.proofs.lemmas.Bool.Decides.{nat_tests}
-use Rattle.std.proofs.lemmas.List.Recursion.{and_at}
-use Rattle.sym_rules.proofs.BoolLemmas.{and_true, both, not_false, elim_bool}
+use Rattle.std.proofs.lemmas.Bool.{lt-ltb, ltb-true, leb-true}
+use Rattle.sym_rules.proofs.BoolLemmas.{and_true, both, not_false}
 use Rattle.sym_rules.proofs.EndLemmas.{last_none}
-use Rattle.sym_rules.proofs.RuleLemmas.{decimal_parts, register_parts, is_below, is_up_to}
+use Rattle.sym_rules.proofs.RuleLemmas.{decimal_parts, register_parts}
 use Rattle.sym_rules.proofs.LengthLemmas.{length_rule}
 use Rattle.sym_rules.specs.Cuts.{last_is}
 use Rattle.sym_edges.specs.Abi.{register_name}
@@ -19,16 +16,10 @@ use Rattle.sym_rules.specs.declared.rules.Token.{Token}
 use Rattle.sym_rules.specs.declared.rules.Token.TheVariants as token
 use Rattle.sym_rules.specs.declared.rules.RuleText.{RuleText}
 
-le_true : (a b : ℕ) → a ≤ b → nat_le a b ≡ true
-le_true a b is = grind (arith, nat_tests)
-
-lt_true : (a b : ℕ) → a < b → nat_lt a b ≡ true
-lt_true a b is = grind (arith, nat_tests)
-
 token_short : (t : Token) → is_plain_token t ≡ true → length (token_word t) ≤ 20
-token_short (token.Number (pos n)) is = let parts = decimal_parts n (let small = is_below n (2 ^ 63) is in omega arith) in let few = parts.few in omega arith
-token_short (token.Number (negsuc n)) is = let parts = decimal_parts (suc n) (let small = is_below n (2 ^ 63) is in omega arith) in let few = parts.few in omega arith
-token_short (token.Reg number) is = let short = is_up_to (length (register_name number)) 4 (register_parts number (is_below number 16 is)).short in omega arith
+token_short (token.Number (pos n)) is = let parts = decimal_parts n (let small = ltb-true n (2 ^ 63) is in omega arith) in let few = parts.few in omega arith
+token_short (token.Number (negsuc n)) is = let parts = decimal_parts (suc n) (let small = ltb-true n (2 ^ 63) is in omega arith) in let few = parts.few in omega arith
+token_short (token.Reg number) is = let short = leb-true (length (register_name number)) 4 (register_parts number (ltb-true number 16 is)).short in omega arith
 token_short (token.Other name) is = cc
 token_short token.Cfa is = omega arith
 token_short token.Undef is = omega arith
@@ -43,7 +34,7 @@ token_short token.Fetch is = omega arith
 target_short : (t : Target) → is_plain_target t ≡ true → length (target_name t) ≤ 4
 target_short target.Cfa is = omega arith
 target_short target.Ra is = omega arith
-target_short (target.Reg number) is = is_up_to (length (register_name number)) 4 (register_parts number (is_below number 16 is)).short
+target_short (target.Reg number) is = leb-true (length (register_name number)) 4 (register_parts number (ltb-true number 16 is)).short
 target_short (target.Other name) is = cc
 
 tokens_short : (ts : List Token) → list_all is_plain_token ts ≡ true → length (flat_map spelled_token ts) ≤ 21 * length ts
@@ -53,7 +44,7 @@ tokens_short (t ∷ ts) all = omega (arith, length-append (spelled_token t) (fla
 rule_short : (r : RuleText) → is_plain_rule r ≡ true → length (spelled_rule r) ≤ 90
 unfolding is_plain_rule
 rule_short r is =
-    let few : length r.tokens ≤ 4 = is_up_to (length r.tokens) 4 (and_true (and_true is).0).1 in
+    let few : length r.tokens ≤ 4 = leb-true (length r.tokens) 4 (and_true (and_true is).0).1 in
     omega (arith, length_rule r, target_short r.target (and_true (and_true (and_true is).0).0).0, tokens_short r.tokens (and_true is).1, few)
 
 pub rules_short : (rules : List RuleText) → list_all is_plain_rule rules ≡ true → length (spelled_rules rules) ≤ 90 * length rules
@@ -98,7 +89,7 @@ plain_rules [] all = refl
 plain_rules (r ∷ rules) all = both (plain_rule r (and_true all).0) (plain_rules rules (and_true all).1)
 
 some_rules : (rules : List RuleText) → 0 < length rules → nat_lt 0 (length rules) ≡ true
-some_rules rules some = lt_true 0 (length rules) some
+some_rules rules some = lt-ltb 0 (length rules) some
 
 pub rules_are : (rules : List RuleText) → list_all is_plain_rule rules ≡ true → 0 < length rules → are_rules rules ≡ true
 unfolding are_rules end_in_cr

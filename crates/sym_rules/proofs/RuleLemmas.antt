@@ -9,6 +9,7 @@ use Rattle.std.specs.Fmt.{decimal}
 use Rattle.std.proofs.Math.Seq.{take-append_seam}
 use Rattle.std.proofs.lemmas.Fmt.{decimal_is_IsNumeral, length-decimal-le}
 use Rattle.std.proofs.lemmas.Str.Parse.{digit_from_value}
+use Rattle.std.proofs.lemmas.Bool.{lt-ltb, le-leb, ltb-true}
 use Rattle.std.proofs.lemmas.Bool.Decides.{nat_tests}
 use borrow.Author.Count.{below_none, below_more}
 use Rattle.sym_rules.proofs.BoolLemmas.{and_true, both, not_false, not_true}
@@ -103,7 +104,7 @@ pub register_parts : (number : ℕ) → number < 16 → RegisterParts number
 register_parts = below_more RegisterParts 15 (below_more RegisterParts 14 (below_more RegisterParts 13 (below_more RegisterParts 12 (below_more RegisterParts 11 (below_more RegisterParts 10 (below_more RegisterParts 9 (below_more RegisterParts 8 (below_more RegisterParts 7 (below_more RegisterParts 6 (below_more RegisterParts 5 (below_more RegisterParts 4 (below_more RegisterParts 3 (below_more RegisterParts 2 (below_more RegisterParts 1 (below_more RegisterParts 0 (below_none RegisterParts) register_parts_0) register_parts_1) register_parts_2) register_parts_3) register_parts_4) register_parts_5) register_parts_6) register_parts_7) register_parts_8) register_parts_9) register_parts_10) register_parts_11) register_parts_12) register_parts_13) register_parts_14) register_parts_15
 
 below_16 : (n : ℕ) → nat_lt n 16 ≡ true → n < 16
-below_16 n is = grind (arith, nat_tests)
+below_16 n is = ltb-true n 16 is
 
 pub or_false : (a b : Bool) → (a || b) ≡ false → (a ≡ false) × (b ≡ false)
 or_false true b is = cc
@@ -255,18 +256,6 @@ pub record DecimalParts (n : ℕ) (ds : List ℕ) : Type 0 where
   pub first : (48 ≤ get_or ds 0 0) × (get_or ds 0 0 ≤ 57)
   pub value : digits_value 10 ds ≡ n
 
-le_is : (a b : ℕ) → a ≤ b → nat_le a b ≡ true
-le_is a b is = grind (arith, nat_tests)
-
-lt_is : (a b : ℕ) → a < b → nat_lt a b ≡ true
-lt_is a b is = grind (arith, nat_tests)
-
-pub is_below : (a b : ℕ) → nat_lt a b ≡ true → a < b
-is_below a b is = grind (arith, nat_tests)
-
-pub is_up_to : (a b : ℕ) → nat_le a b ≡ true → a ≤ b
-is_up_to a b is = grind (arith, nat_tests)
-
 first_ten : (ds : List ℕ) → 0 < length ds → AllDigits 10 ds → (48 ≤ get_or ds 0 0) × (get_or ds 0 0 ≤ 57)
 first_ten [] some all = absurd (omega arith)
 first_ten (d ∷ ds) some all = let range = digit_from_value d all.0 in (range.0, range.1)
@@ -281,7 +270,7 @@ decimal_parts n small =
       few = few;
       ten = digit_byte is_ten ten_is (decimal n) numeral.0.1;
       within = digit_byte is_within_field within_ten (decimal n) numeral.0.1;
-      digits = both (both (lt_is 0 (length (decimal n)) numeral.0.0) (le_is (length (decimal n)) 20 (omega arith))) (are_all_digits (decimal n) numeral.0.1);
+      digits = both (both (lt-ltb 0 (length (decimal n)) numeral.0.0) (le-leb (length (decimal n)) 20 (omega arith))) (are_all_digits (decimal n) numeral.0.1);
       first = first_ten (decimal n) numeral.0.0 numeral.0.1;
       value = numeral.1;
     }
@@ -346,7 +335,7 @@ minus_ends (d ∷ ds) some is = is
 
 number_parts : (z : ℤ) → fits_i64 z ≡ true → TokenParts (token.Number z)
 number_parts (pos n) fits =
-    let parts = decimal_parts n (let small = is_below n (2 ^ 63) fits in omega arith) in
+    let parts = decimal_parts n (let small = ltb-true n (2 ^ 63) fits in omega arith) in
     record {
       reads = integer_reads (decimal n) (pos n) (no_symbol (decimal n) (digit_ten (get_or (decimal n) 0 0) parts.first.0 parts.first.1)) (pos_is n (decimal n) parts fits);
       is = word_of (decimal n) parts.some parts.within;
@@ -355,7 +344,7 @@ number_parts (pos n) fits =
     }
 number_parts (negsuc n) fits =
     let ds : List ℕ = decimal (suc n) in
-    let parts = decimal_parts (suc n) (let small = is_below n (2 ^ 63) fits in omega arith) in
+    let parts = decimal_parts (suc n) (let small = ltb-true n (2 ^ 63) fits in omega arith) in
     record {
       reads = integer_reads (45 ∷ ds) (negsuc n) (no_symbol (45 ∷ ds) refl) (neg_is n ds parts fits);
       is = parts.within;

@@ -4,6 +4,7 @@ use Rattle.std.specs.List.{list_all, list_any, prefix_len}
 use Rattle.std.specs.Option.{option_or, option_map, option_map_or}
 use Rattle.std.specs.Str.{bytes_eq}
 use Rattle.std.specs.Str.Parse.{digits_value}
+use Rattle.std.proofs.lemmas.Bool.{lt-ltb}
 use Rattle.std.proofs.lemmas.Bool.Decides.{nat_tests}
 use Rattle.std.proofs.lemmas.List.Quantifiers.{position-Some}
 use Rattle.sym_rules.proofs.BoolLemmas.{and_true, both, not_false, elim_bool, chosen, bind_ok}
@@ -47,12 +48,9 @@ no_register_found name none =
     (λ _ less _. some_found (bytes_eq name) register_names (not_less n (length register_names) less (prefix_within (λ x. not (bytes_eq name x)) register_names)))
     refl none
 
-lt_is : (a b : ℕ) → a < b → nat_lt a b ≡ true
-lt_is a b is = grind (arith, nat_tests)
-
 register_below : (name : List ℕ) (number : ℕ) → register_of name ≡ Some number → nat_lt number 16 ≡ true
 unfolding register_of register_names
-register_below name number is = lt_is number 16 (position-Some (bytes_eq name) register_names number [] is).0
+register_below name number is = lt-ltb number 16 (position-Some (bytes_eq name) register_names number [] is).0
 
 other_is : (known : List (List ℕ)) (name : List ℕ) → list_all is_within_field name ≡ true → is_symbol name ≡ true → list_any (bytes_eq name) known ≡ false → is_other known name ≡ true
 unfolding is_other
@@ -198,7 +196,7 @@ some_members (w ∷ given) ws is = (omega arith, ok_same (w ∷ given) ws is)
 
 some_read : (ws : List (List ℕ)) (ts : List Token) → 0 < length ws → each token_at ws ≡ Ok ts → nat_lt 0 (length ts) ≡ true
 some_read [] ts some is = absurd (omega arith)
-some_read (w ∷ ws) ts some is = ap (λ l. nat_lt 0 (length l)) (each_cons token_at w ws ts is).is ∙ lt_is 0 _ (omega arith)
+some_read (w ∷ ws) ts some is = ap (λ l. nat_lt 0 (length l)) (each_cons token_at w ws ts is).is ∙ lt-ltb 0 _ (omega arith)
 
 token_end : (w : List ℕ) (t : Token) → token_at w ≡ Ok t → bad_end w ≡ false → ends_in_cr t ≡ false
 token_end w t is good = let parts = bad_not w good in (token_sound w t parts.1 is).ends parts.0
@@ -250,7 +248,7 @@ rule_end : (g : List (List ℕ)) (r : RuleText) → rule_at g ≡ Ok r → bad_g
 rule_end g r is good = let parts = group_not g good in (rule_sound g r is parts.1).ends parts.0
 
 some_rules : (g : List (List ℕ)) (gs : List (List (List ℕ))) (rules : List RuleText) → each rule_at (g ∷ gs) ≡ Ok rules → nat_lt 0 (length rules) ≡ true
-some_rules g gs rules is = ap (λ l. nat_lt 0 (length l)) (each_cons rule_at g gs rules is).is ∙ lt_is 0 _ (omega arith)
+some_rules g gs rules is = ap (λ l. nat_lt 0 (length l)) (each_cons rule_at g gs rules is).is ∙ lt-ltb 0 _ (omega arith)
 
 groups_read : (gs : List (List (List ℕ))) (g : List (List ℕ)) (rules : List RuleText) → each rule_at (g ∷ gs) ≡ Ok rules → list_all (list_all within) (g ∷ gs) ≡ true → last_is (last_is bad_end) (g ∷ gs) ≡ false → are_rules rules ≡ true
 unfolding are_rules end_in_cr

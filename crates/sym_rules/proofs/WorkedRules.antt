@@ -1,5 +1,5 @@
 -- Worked rules (Breakpad's symbol_files.md): how they are spelled, how they are read, and which a text can spell.
-use Rattle.std.proofs.Common.{◌≡◌, ℕ, pos, negsuc, true, false, List, [], ◌∷◌, codes, Ok, Err, refl}
+use Rattle.std.proofs.Common.{◌≡◌, pos, negsuc, true, false, List, [], ◌∷◌, codes, Ok, Err, refl}
 use Prim.Native.String.{String}
 use Rattle.sym_rules.proofs.Computing.{sym_rules_computes}
 use Rattle.sym_edges.proofs.Shown.{shown}

@@ -1,6 +1,6 @@
 -- The reading of frame rules (Breakpad's symbol_files.md). The rest of the line is split into words at spaces; a word that ends with `:` begins a
 -- rule. Whatever is wrong inside the rules is a fault of the kind `Rule`.
-use Rattle.std.specs.Prelude.{ℕ, ◌-◌, ◌==◌, ◌||◌, ◌&&◌, Bool, true, false, not, nat_lt, nat_le, if◌then◌else◌, ◌^◌, ℤ, pos, negsuc, neg_ℤ, List, [], ◌∷◌, length, take, drop, slice_index, codes, Option, Some, None, ok_or, Result, Ok, Err}
+use Rattle.std.specs.Prelude.{ℕ, ◌-◌, ◌==◌, ◌||◌, ◌&&◌, Bool, true, false, not, nat_lt, nat_le, if◌then◌else◌, ℤ, pos, neg_ℤ, List, [], ◌∷◌, length, take, drop, slice_index, codes, Option, Some, None, ok_or, Result, Ok, Err}
 use Rattle.std.specs.Option.{option_or, option_map, option_map_or}
 use Rattle.std.specs.List.{list_all, position}
 use Rattle.std.specs.Char.{digit_value}

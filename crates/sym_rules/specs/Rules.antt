@@ -1,5 +1,5 @@
 -- The words of frame rules (Breakpad's symbol_files.md): the name of a target with `:` behind it, then the words of a postfix expression.
-use Rattle.std.specs.Prelude.{ℕ, List, [], ◌∷◌, ◌++◌, map, slice_index_or, codes}
+use Rattle.std.specs.Prelude.{ℕ, List, [], ◌∷◌, ◌++◌, map, codes}
 use Rattle.std.specs.List.{flat_map}
 use Rattle.std.specs.Fmt.{signed_decimal}
 use Rattle.sym_edges.specs.Abi.{register_name}

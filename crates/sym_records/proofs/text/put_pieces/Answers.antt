@@ -1,4 +1,4 @@
-use Rattle.std.proofs.Common.{arith, subst, List, ℕ, ◌≡◌}
+use Rattle.std.proofs.Common.{arith}
 use Rattle.sym_rules.proofs.BufferLemmas.{hands_none, hands_all}
 use Rattle.sym_records.proofs.HandingLemmas.{same_piece, same_broken}
 use Rattle.sym_records.proofs.text.put_pieces.Goals as goal

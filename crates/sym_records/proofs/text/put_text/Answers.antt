@@ -1,4 +1,4 @@
-use Rattle.std.proofs.Common.{ap, ◌∙◌, ◌++◌, refl}
+use Rattle.std.proofs.Common.{ap, ◌∙◌, ◌++◌}
 use Rattle.std.specs.List.{flat_map}
 use Rattle.sym_records.proofs.HandingLemmas.{one_hands, one_off}
 use Rattle.sym_records.specs.Spelled.{text_bytes}

@@ -1,4 +1,4 @@
-use Rattle.std.proofs.Common.{ap, arith}
+use Rattle.std.proofs.Common.{ap}
 use Rattle.sym_records.specs.Canon.{canon_text}
 use Rattle.sym_rules.proofs.BufferLemmas.{hands_whole, hands_not_on, hands_front}
 use Rattle.sym_records.proofs.writing.write_file.Goals as goal
