@@ -150,6 +150,11 @@ rsp_the_same_value : says "41 0807 41 c7"
 unfolding sections
 rsp_the_same_value = refl
 
+rsp_the_same_value_then_not_known : says "41 0807 41 0707"
+    ≡ Ok "STACK CFI INIT 1000 20 .cfa: $rsp 8 + .ra: .cfa -8 + ^\nSTACK CFI 1001 $rsp: $rsp\nSTACK CFI 1002 $rsp: .cfa\n"
+unfolding sections
+rsp_the_same_value_then_not_known = refl
+
 rsp_not_known : says "41 0707 41 c7" ≡ Ok "STACK CFI INIT 1000 20 .cfa: $rsp 8 + .ra: .cfa -8 + ^\n"
 unfolding sections
 rsp_not_known = refl

@@ -14,7 +14,6 @@ use Rattle.frame_entries.specs.declared.fault.FrameKind.{FrameKind}
 use Rattle.frame_entries.specs.declared.description.Body.{Body}
 use Rattle.frame_entries.specs.declared.description.Body.TheVariants.{Good, Bad}
 use Rattle.frame_entries.specs.declared.description.Entry.{Entry}
-use Rattle.frame_entries.specs.FdeFields.{FdeFields}
 use Rattle.frame_entries.specs.Listing.{is_eh}
 use Rattle.frame_entries.specs.FrameEntries.{frame_entries}
 use Rattle.frame_rows.specs.Rows.{row_at, rows_fault}

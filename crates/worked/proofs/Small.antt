@@ -1,5 +1,5 @@
 -- The small file of the rows and its relatives, and what is answered on a file.
-use Rattle.std.proofs.Common.{ℕ, ◌==◌, ◌&&◌, Bool, List, [], ◌∷◌, ◌++◌, codes, Option, None, Some, if◌then◌else◌}
+use Rattle.std.proofs.Common.{ℕ, ◌+◌, ◌==◌, ◌&&◌, Bool, List, [], ◌∷◌, ◌++◌, length, codes, None, Some, if◌then◌else◌}
 use Prim.Native.String.{String}
 use Rattle.std.specs.Prelude.{⊤}
 use Rattle.std.specs.Str.{bytes_eq}
@@ -16,13 +16,14 @@ id = plain ".note.gnu.build-id" 7 (id_note (hex "000102030405060708090a0b0c0d0e0
 unfoldable pub text : List ℕ
 text = hex "f30f1efa 31c0c390 c3909090 90909090"
 
--- section 0, sections, a symbol table and its names, and sections behind
-unfoldable pub file_with : List Program → List Section → ℕ → List Symbol → List Section → List ℕ
-file_with ps front link ss back = file_of ps (null ∷ front ++ linked ".symtab" 2 link (entries ss) ∷ plain ".strtab" 3 (strings ss) ∷ back)
+-- section 0, sections, a symbol table that links to its names behind it, and sections behind
+unfoldable pub file_with : List Program → List Section → List Symbol → List Section → List ℕ
+file_with ps front ss back =
+    file_of ps (null ∷ front ++ linked ".symtab" 2 (length front + 2) (entries ss) ∷ plain ".strtab" 3 (strings ss) ∷ back)
 
 -- a file with a build id (section 1), code from 1000 to 1010 (2), symbols (3) and their names (4), and sections behind
 unfoldable pub worked : List Symbol → List Section → List ℕ
-worked ss back = file_with (loaded 0 ∷ []) (id ∷ code 0x1000 text ∷ []) 4 ss back
+worked ss back = file_with (loaded 0 ∷ []) (id ∷ code 0x1000 text ∷ []) ss back
 
 abbrev pub main : Symbol
 main = function "main" 0x1000

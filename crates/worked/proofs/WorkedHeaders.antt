@@ -1,5 +1,5 @@
 -- Worked rows: the faults of the file header, of the section table, of the names of sections and of the program headers.
-use Rattle.std.proofs.Common.{◌≡◌, ℕ, List, [], ◌∷◌, length, take, codes, true, refl}
+use Rattle.std.proofs.Common.{◌≡◌, [], ◌∷◌, length, take, codes, true, refl}
 use Rattle.worked.proofs.Elf.{in_file, in_section, changed}
 use Rattle.worked.proofs.Small.{dump, refuses, small, gives, refused, files}
 use Rattle.std.specs.List.{list_all, range_with_len}

@@ -5,7 +5,7 @@ use Rattle.worked.proofs.Small.{dump, id, main, text, file_with, worked, gives, 
 
 -- a file with a build id, one section, and the function `main` at an address
 unfoldable file_at : List Program → Section → ℕ → List ℕ
-file_at programs section address = file_with programs (id ∷ section ∷ []) 4 (function "main" address ∷ []) []
+file_at programs section address = file_with programs (id ∷ section ∷ []) (function "main" address ∷ []) []
 
 -- code is what is loaded and executed (sh_flags)
 code_alone : dump (file_at (loaded 0 ∷ []) (of_kind 1 6 (code 0x1000 text)) 0x1000) ≡ gives "PUBLIC 1000 0 main\n"

@@ -22,17 +22,20 @@ pub const CODE: Section<'static> = (
     b"\xf3\x0f\x1e\xfa\x31\xc0\xc3\x90\xc3\x90\x90\x90\x90\x90\x90\x90",
 );
 
+/// Code from 1000 to 1020.
+pub const LONG_CODE: Section<'static> = (".text", [1, 6, 0x1000, 0], &[0x90; 32]);
+
 /// The usual first entry of a symbol table, and the function of the name at 1 at 1000.
 pub const ENTRIES: [u8; 48] =
     *b"\0\0\0\0\0\0\0\0\0\0\0\0\0\0\0\0\0\0\0\0\0\0\0\0\x01\0\0\0\x12\0\x02\0\0\x10\0\0\0\0\0\0\x04\0\0\0\0\0\0\0";
 
 /// A file with a build id, code, symbols whose names stand behind them, and one section more.
-pub fn file_with(
+pub fn file_with<'a>(
     alloc: Global,
     programs: &[(u64, u64)],
-    entries: &[u8],
-    names: &[u8],
-    more: Section<'_>,
+    entries: &'a [u8],
+    names: &'a [u8],
+    more: Section<'a>,
 ) -> Result<Vec<u8>, AllocError> {
     let symbols = (".symtab", [2, 0, 0, 4], entries);
     let names = (".strtab", [3, 0, 0, 0], names);
