@@ -11,7 +11,7 @@ use Rattle.sym_edges.specs.declared.fault.Stop.{Stop}
 use Rattle.sym_edges.specs.declared.fault.Stop.TheVariants.{Fault, NoMemory}
 use Rattle.sym_edges.specs.Outside.{MatchStop}
 use Rattle.sym_edges.specs.Addresses.{Range}
-use Rattle.range_set.specs.Building.{AllFrom}
+use Rattle.range_set.specs.Starts.{AllFrom}
 use Rattle.range_set.specs.Enclosing.{encloses}
 use Rattle.frame_entries.specs.declared.description.Body.{Body}
 use Rattle.frame_entries.specs.declared.description.Body.TheVariants.{Good, Bad}

@@ -2,7 +2,7 @@
 use Rattle.std.proofs.Common.{◌≡◌, ℕ, ◌+◌, List, [], ◌∷◌, ◌++◌, map, Option, None, Some, refl, ap, sym, ◌∙◌, subst}
 use Rattle.sym_edges.specs.declared.reason.Reason.{Reason}
 use Rattle.sym_edges.specs.Addresses.{Range}
-use Rattle.range_set.specs.Building.{AllFrom}
+use Rattle.range_set.specs.Starts.{AllFrom}
 use Rattle.frame_entries.specs.declared.description.Body.{Body}
 use Rattle.frame_entries.specs.declared.description.Body.TheVariants.{Good, Bad}
 use Rattle.frame_entries.specs.declared.description.Entry.{Entry}

@@ -1,7 +1,7 @@
 -- For the tests: every range starts at or above 0.
 use Rattle.std.proofs.Common.{List, [], ◌∷◌, arith}
 use Rattle.sym_edges.specs.Addresses.{Range}
-use Rattle.range_set.specs.Building.{AllFrom}
+use Rattle.range_set.specs.Starts.{AllFrom}
 
 pub from_zero : (ranges : List Range) → AllFrom 0 ranges
 from_zero [] = tt
