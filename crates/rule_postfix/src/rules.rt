@@ -5,7 +5,9 @@ ghost use Rattle.frame_rows.specs.Rows.{empty_row};
 ghost use Rattle.rule_postfix.specs.RowParts.{column_part};
 ghost use Rattle.rule_postfix.specs.RowRules.{unruled_tokens, own_name, rule_spelled, spelled, rule_of, rules_of, registers, if_other, if_changed, row_rules, changed_rules, some_becomes_unspecified};
 
-use crate::parts::{RowPart, cfa_part, column_part, is_kept, becomes_unspecified, rule_at, same_part};
+use crate::parts::{
+    RowPart, becomes_unspecified, cfa_part, column_part, is_kept, rule_at, same_part,
+};
 use frame_rows::{Row, Rule};
 use std::alloc::Global;
 use sym_edges::{ListOf, OutOfMemory};

@@ -3,7 +3,7 @@ ghost use Rattle.std.specs.Prelude.{◌≡◌, ◌≤◌, [], ◌∷◌, ◌++�
 ghost use Rattle.rule_postfix.specs.FrameLines.{change};
 ghost use Rattle.rule_postfix.specs.Writing.{opened, closed, with_changes, with_row};
 
-use crate::rules::{changed_rules, some_becomes_unspecified, row_rules};
+use crate::rules::{changed_rules, row_rules, some_becomes_unspecified};
 use frame_rows::Row;
 use std::alloc::Global;
 use std::marker::Model;
