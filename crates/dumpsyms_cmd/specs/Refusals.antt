@@ -78,9 +78,13 @@ abbrev pub kind_word : FrameKind → List ℕ
 kind_word Length = codes "length"
 kind_word Format64 = codes "format64"
 
--- a section of frame entries has a fault: the section, and the place in hexadecimal
+-- a fault with a place: what is refused, the word of the kind, the section, and the place in hexadecimal
+abbrev pub located_line : List ℕ → List ℕ → Sect → ℕ → List ℕ
+located_line refused kind section at = line (spaced refused (kind ∷ section_word section ∷ hex at ∷ []))
+
+-- a section of frame entries has a fault
 abbrev pub frame_line : Located FrameKind → List ℕ
-frame_line fault = line (spaced (codes "refused frame") (kind_word fault.kind ∷ section_word fault.section ∷ hex fault.at ∷ []))
+frame_line fault = located_line (codes "refused frame") (kind_word fault.kind) fault.section fault.at
 
 -- the word of a reason
 abbrev pub reason_word : Reason → List ℕ

@@ -1,6 +1,6 @@
 ghost use Rattle.std.specs.Prelude.{◌≡◌, ◌++◌, map, IfOk, OnOk};
 ghost use Rattle.sym_records.specs.Canon.{spaced};
-ghost use Rattle.dumpsyms_cmd.specs.Refusals.{line, elf_line, fault_word, joined_word, section_word, kind_word, frame_line, reason_word};
+ghost use Rattle.dumpsyms_cmd.specs.Refusals.{line, elf_line, fault_word, joined_word, section_word, kind_word, frame_line, located_line, reason_word};
 
 use elf_sections::ElfFault;
 use frame_entries::{FrameFault, FrameKind};
@@ -120,17 +120,32 @@ pub fn reason_word(reason: Reason) -> &'static [u8]
     }
 }
 
+/// The line that names a fault by its kind, its section and its place.
+fn located_line(
+    alloc: Global,
+    refused: &'static [u8],
+    kind: &'static [u8],
+    section: Sect,
+    at: usize,
+) -> Result<ByteText, AllocError>
+    ensures { IfOk result (λ text. text ≡ located_line refused.now kind.now section at) }
+{
+    let at = HexText::of(at as u64);
+    let words = [kind, section_word(section), at.as_slice()];
+    let mut text = Vec::new(alloc);
+    add_line(&mut text, refused, &words)?;
+    Ok(ByteText::of(text))
+}
+
 /// The line that names a fault of a section of frame entries.
 pub fn frame_line(alloc: Global, fault: FrameFault) -> Result<ByteText, AllocError>
     ensures { IfOk result (λ text. text ≡ frame_line fault) }
 {
-    let at = HexText::of(fault.at as u64);
-    let words = [
+    located_line(
+        alloc,
+        b"refused frame",
         kind_word(fault.kind),
-        section_word(fault.section),
-        at.as_slice(),
-    ];
-    let mut text = Vec::new(alloc);
-    add_line(&mut text, b"refused frame", &words)?;
-    Ok(ByteText::of(text))
+        fault.section,
+        fault.at,
+    )
 }

@@ -18,7 +18,7 @@ use Rattle.frame_entries.specs.Listing.{from_start}
 use Rattle.frame_entries.specs.CieFields.{CieFields}
 use Rattle.frame_entries.specs.FdeFields.{FdeFields}
 use Rattle.frame_entries.specs.Cies.{or_cie, is_version, is_understood, is_augmented, numbers_at, augmentation_at, is_personality, personality_at, encoding_at, letter_at, letters_at, encodings_of, cie_fields, cie_behind, cie_of}
-use Rattle.frame_entries.specs.FrameEntries.{IsOfFields, reason_of, is_cie, cie_at, cies_of, cie_place, cie_from, cie_named, address_at, fde_of, body_read, body_under, body_by, entry_of}
+use Rattle.frame_entries.specs.FrameEntries.{IsOfFields, reason_in, is_cie, cie_at, cies_of, cie_place, cie_from, cie_named, address_at, fde_of, body_read, body_under, body_by, entry_of}
 
 -- refused for a reason that fields give, if at all
 abbrev pub OfFields : {A : Type 0} → Result A Reason → Type 0
@@ -141,19 +141,19 @@ unfolding cie_from
 named None raws = tt
 named (Some place) raws = found (λ cie. nat_eq cie.at place) raws
 
-read_reason : (fde : Result FdeFields CursorFault) → IfSome (reason_of (body_read fde)) IsOfFields
+read_reason : (fde : Result FdeFields CursorFault) → IfSome (reason_in (body_read fde)) IsOfFields
 read_reason (Ok fde) = tt
 read_reason (Err fault) = tt
 
-under_reason : (parts : Result CieFields Reason) (base : ℕ) (body : List ℕ) → OfFields parts → IfSome (reason_of (body_under parts base body)) IsOfFields
+under_reason : (parts : Result CieFields Reason) (base : ℕ) (body : List ℕ) → OfFields parts → IfSome (reason_in (body_under parts base body)) IsOfFields
 under_reason (Ok cie) base body early = read_reason (fde_of cie base body)
 under_reason (Err why) base body early = early
 
-by_reason : (cie : Option Cie) (base : ℕ) (body : List ℕ) → FoundOfFields cie → IfSome (reason_of (body_by cie base body)) IsOfFields
+by_reason : (cie : Option Cie) (base : ℕ) (body : List ℕ) → FoundOfFields cie → IfSome (reason_in (body_by cie base body)) IsOfFields
 by_reason None base body early = tt
 by_reason (Some cie) base body early = under_reason cie.parts base body early
 
-pub entry_reason : (which : Sect) (address : ℕ) (raws : List Raw) (raw : Raw) → IfSome (reason_of (entry_of which address (cies_of which raws) raw).body) IsOfFields
+pub entry_reason : (which : Sect) (address : ℕ) (raws : List Raw) (raw : Raw) → IfSome (reason_in (entry_of which address (cies_of which raws) raw).body) IsOfFields
 unfolding entry_of cie_named cies_of
 entry_reason which address raws raw =
     by_reason (option_and_then (cie_from (map cie_at (filter (is_cie which) raws))) (cie_place which raw)) (address_at address raw.body_at) raw.body

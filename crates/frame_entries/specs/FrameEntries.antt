@@ -85,9 +85,9 @@ body_by (Some cie) base body = body_under cie.parts base body
 body_by None base body = Bad reason.Cie
 
 -- the reason to leave an entry out, where there is one
-abbrev pub reason_of : Body → Option Reason
-reason_of (Good fde) = None
-reason_of (Bad why) = Some why
+abbrev pub reason_in : Body → Option Reason
+reason_in (Good fde) = None
+reason_in (Bad why) = Some why
 
 -- the reasons that the fields of a CIE and of an FDE give; the others come from instructions and ranges
 abbrev pub IsOfFields : Reason → Type 0

@@ -4,7 +4,7 @@ ghost use Rattle.sym_edges.specs.declared.part.Sect.{Sect};
 ghost use Rattle.leb_cursor.specs.Ahead.{Ahead};
 ghost use Rattle.frame_entries.specs.Raw.{Raw};
 ghost use Rattle.frame_entries.specs.Listing.{listed_at, listed_by};
-ghost use Rattle.frame_entries.specs.FrameEntries.{cies_of, entry_of, reason_of, IsOfFields};
+ghost use Rattle.frame_entries.specs.FrameEntries.{cies_of, entry_of, reason_in, IsOfFields};
 
 /// The entries ahead are none where no byte is left, else those from what stands next on.
 #[tactic(auto, using(crate::proofs::PlaceLemmas::listed_is))]
@@ -16,5 +16,5 @@ pub fn entries_follow()
 /// encoding, the return address column, or its own fields.
 #[tactic(auto, using(crate::proofs::ReasonLemmas::entry_reason))]
 pub fn reasons_are_of_fields()
-    ensures { (which : Sect) (address : ℕ) (raws : List Raw) (raw : Raw) → IfSome (reason_of (entry_of which address (cies_of which raws) raw).body) IsOfFields }
+    ensures { (which : Sect) (address : ℕ) (raws : List Raw) (raw : Raw) → IfSome (reason_in (entry_of which address (cies_of which raws) raw).body) IsOfFields }
 {}

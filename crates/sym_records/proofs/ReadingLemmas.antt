@@ -12,7 +12,7 @@ use Rattle.sym_rules.specs.Cuts.{is_space, is_cr, is_within_line, before, skip, 
 use Rattle.sym_records.specs.Canon.{body, canon, canon_text}
 use Rattle.sym_records.specs.Fields.{spelled}
 use Rattle.sym_records.specs.Records.{layout, headed, values}
-use Rattle.sym_records.specs.Text.{is_blank, key_of, line_at}
+use Rattle.sym_records.specs.Text.{is_blank, key_of, line_read}
 use Rattle.sym_records.specs.Reading.{fits, leads, Seen, next_number, start, is_start, lacks_module, with_record, with_text, numbered, with_lines, some_records, reading_within, reading}
 use Rattle.sym_records.specs.Validity.{Stands, AreValidFrom, AreValid, has_fields, fields_fit}
 use Rattle.sym_records.specs.declared.line.SymLine.{SymLine}
@@ -80,8 +80,8 @@ has_module Frame s fit stands = refl
 text_added : (seen : Seen) (s : SymLine) → Stands seen.place s → with_text (2 ^ 20) seen (body s) ≡ Ok (added seen s)
 unfolding with_text added fields_fit
 text_added seen s stands =
-    ap (λ t. cond t (Err LongLine) (cond (lacks_module seen.place (body s)) (Err NoModule) (line_at (body s) >>= with_record seen))) (le-ltb (2 ^ 20) (length (body s)) stands.0.short)
-    ∙ ap (λ t. cond t (Err NoModule) (line_at (body s) >>= with_record seen)) (has_module seen.place s (and_true (valid_fits s stands.0)).0 stands.1)
+    ap (λ t. cond t (Err LongLine) (cond (lacks_module seen.place (body s)) (Err NoModule) (line_read (body s) >>= with_record seen))) (le-ltb (2 ^ 20) (length (body s)) stands.0.short)
+    ∙ ap (λ t. cond t (Err NoModule) (line_read (body s) >>= with_record seen)) (has_module seen.place s (and_true (valid_fits s stands.0)).0 stands.1)
     ∙ ap (λ r. r >>= with_record seen) stands.0.reads
     ∙ ap (λ t. cond t (Ok (added seen s)) (Err Misplaced)) stands.1
 
@@ -93,8 +93,8 @@ blank_place Function = refl
 blank_place Frame = refl
 
 text_ended : (seen : Seen) → with_text (2 ^ 20) seen [] ≡ Ok (record seen { number = next_number seen.number })
-unfolding with_text line_at
-text_ended seen = ap (λ t. cond t (Err NoModule) (line_at [] >>= with_record seen)) (blank_place seen.place)
+unfolding with_text line_read
+text_ended seen = ap (λ t. cond t (Err NoModule) (line_read [] >>= with_record seen)) (blank_place seen.place)
 
 split_nothing : split_lines (canon_text []) ≡ [] ∷ []
 unfolding split_lines canon_text

@@ -10,7 +10,7 @@ use Rattle.sym_records.specs.Canon.{body}
 use Rattle.sym_records.specs.FieldReading.{word_at, hex_at, values_at, is_end, fields_at}
 use Rattle.sym_records.specs.Fields.{hex, is_field, Rules, Last, Then, Hex, Decimal, Values, spelled, fit}
 use Rattle.sym_records.specs.Records.{layout, headed, keyword, values, made}
-use Rattle.sym_records.specs.Text.{behind_word, trimmed, is_hex_digit, cfi_key, stack_key, worded_key, keyed, key_at, record_of, record_at, line_at}
+use Rattle.sym_records.specs.Text.{behind_word, trimmed, is_hex_digit, cfi_key, stack_key, worded_key, keyed, key_at, record_of, record_at, line_read}
 use Rattle.sym_records.specs.Validity.{has_fields}
 use Rattle.sym_rules.specs.Cuts.{is_space, is_cr, is_margin, before, from, skip, last_is}
 use Rattle.sym_rules.specs.declared.text_fault.TextKind.{TextKind}
@@ -50,8 +50,8 @@ pub record LineParts (s : SymLine) (line : List ℕ) : Type 0 where
 no_margin : (c : ℕ) → is_margin c ≡ false → (c == 32) ≡ false
 no_margin c is = elim_bool (c == 32) (λ t. (t || (c == 13)) ≡ false → t ≡ false) (λ _ h. h) (λ _ _. refl) is
 
-line_kept : (s : SymLine) (line : List ℕ) → LineParts s line → line_at line ≡ Ok (Some s)
-unfolding line_at record_at
+line_kept : (s : SymLine) (line : List ℕ) → LineParts s line → line_read line ≡ Ok (Some s)
+unfolding line_read record_at
 line_kept s [] parts = absurd parts.starts
 line_kept s (c ∷ rest) parts =
     ap (λ t. cond (t && list_all is_margin rest) (Ok None) ((key_at (trimmed (c ∷ rest)) >>= found_record) >>= λ x. Ok (Some x))) parts.starts
@@ -152,7 +152,7 @@ line_parts key.Init v fits = plain key.Init 83 (codes "TACK CFI INIT") v refl re
 line_parts key.Change v fits = change_line v fits
 
 -- a record whose fields fit is read from its line
-pub line_back : (s : SymLine) → has_fields s ≡ true → line_at (body s) ≡ Ok (Some s)
+pub line_back : (s : SymLine) → has_fields s ≡ true → line_read (body s) ≡ Ok (Some s)
 unfolding body
 line_back s fits =
     line_kept s (drop 1 (headed (keyword s) ++ spelled (layout (keyword s)) (values s)))

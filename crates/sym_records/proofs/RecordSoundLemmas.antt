@@ -16,7 +16,7 @@ use Rattle.sym_records.specs.Canon.{body}
 use Rattle.sym_records.specs.FieldReading.{is_end, fields_at}
 use Rattle.sym_records.specs.Fields.{hex, is_field, Middle, Word, Hex, Marked, Decimal, Shape, Name, Rules, Ranges, Last, Then, Held, Values, mark, spelled_middle, spelled_range, spelled, fits_middle, is_range, are_ranges, fit}
 use Rattle.sym_records.specs.Records.{layout, headed, keyword, values, made}
-use Rattle.sym_records.specs.Text.{next_word, is_blank, trimmed, is_hex_digit, cfi_key, stack_key, worded_key, keyed, key_at, record_of, record_at, line_at}
+use Rattle.sym_records.specs.Text.{next_word, is_blank, trimmed, is_hex_digit, cfi_key, stack_key, worded_key, keyed, key_at, record_of, record_at, line_read}
 use Rattle.sym_records.specs.Validity.{IsValid, has_fields, fields_fit}
 use Rattle.sym_rules.specs.Cuts.{is_space, is_cr, is_within_line, is_within_field, before, from, skip, trim_end}
 use Rattle.sym_rules.specs.RuleValidity.{are_rules}
@@ -116,8 +116,8 @@ none_some : {P : Type 0} (s : SymLine) → nothing_read ≡ some_read s → P
 none_some s is = cc
 
 -- what a line holds has fields that a line can carry
-pub line_good : (line : List ℕ) (s : SymLine) → list_all is_within_line line ≡ true → line_at line ≡ Ok (Some s) → has_fields s ≡ true
-unfolding line_at record_at
+pub line_good : (line : List ℕ) (s : SymLine) → list_all is_within_line line ≡ true → line_read line ≡ Ok (Some s) → has_fields s ≡ true
+unfolding line_read record_at
 line_good line s whole is =
     ⊎_elim (λ h. none_some s h.1) (λ h.
     let read = bind_ok (key_at (trimmed line) >>= found_of) _ (Some s) h.1 in
@@ -227,4 +227,4 @@ some_is s t is = cc
 
 -- two valid records with one spelling are one
 pub one_record : (s t : SymLine) → IsValid s → IsValid t → body s ≡ body t → s ≡ t
-one_record s t first second same = some_is s t (sym first.reads ∙ ap line_at same ∙ second.reads)
+one_record s t first second same = some_is s t (sym first.reads ∙ ap line_read same ∙ second.reads)

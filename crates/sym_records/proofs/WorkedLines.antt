@@ -4,7 +4,7 @@ use Prim.Native.String.{String}
 use Rattle.sym_edges.proofs.Shown.{shown}
 use Rattle.sym_records.proofs.Computing.{sym_records_computes}
 use Rattle.sym_records.specs.Canon.{canon}
-use Rattle.sym_records.specs.Text.{line_at}
+use Rattle.sym_records.specs.Text.{line_read}
 use Rattle.sym_records.specs.declared.line.SymLine.{SymLine}
 use Rattle.sym_records.specs.declared.line.SymLine.TheVariants as line
 use Rattle.sym_rules.specs.declared.rules.Target.TheVariants as target
@@ -18,7 +18,7 @@ spells s = shown (canon s)
 
 -- what a line holds
 abbrev reads : String → Result (Option SymLine) TextKind
-reads text = line_at (codes text)
+reads text = line_read (codes text)
 
 -- each record
 module_spelled : spells (line.Module (record { os = codes "Linux"; arch = codes "x86_64"; id = codes "030201000504070608090A0B0C0D0E0F0"; name = codes "a.out" })) ≡ "MODULE Linux x86_64 030201000504070608090A0B0C0D0E0F0 a.out\n"

@@ -5,7 +5,7 @@ use Rattle.sym_edges.specs.Results.{◌>>=◌}
 use Rattle.sym_rules.specs.Cuts.{split_lines}
 use Rattle.sym_records.specs.Places.{part, may_stand, place_behind_part}
 use Rattle.sym_records.specs.Records.{keyword}
-use Rattle.sym_records.specs.Text.{is_blank, key_of, line_at}
+use Rattle.sym_records.specs.Text.{is_blank, key_of, line_read}
 use Rattle.sym_records.specs.declared.line.SymLine.{SymLine}
 use Rattle.sym_records.specs.declared.place.Place.{Place}
 use Rattle.sym_records.specs.declared.place.Place.TheVariants.{Start, Inside, Function, Frame}
@@ -57,7 +57,7 @@ unfoldable pub with_text : ℕ → Seen → List ℕ → Result Seen TextKind
 with_text limit seen line =
     if nat_lt limit (length line) then Err LongLine
     else if lacks_module seen.place line then Err NoModule
-    else line_at line >>= with_record seen
+    else line_read line >>= with_record seen
 
 -- a fault is given the number of its line
 abbrev pub numbered : {A : Type 0} → ℕ → Result A TextKind → Result A TextFault

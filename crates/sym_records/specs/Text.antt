@@ -77,5 +77,5 @@ unfoldable pub record_at : List ℕ → Result SymLine TextKind
 record_at line = key_at (trimmed line) >>= λ found. record_of found.0 found.1
 
 -- what a line holds: a record, or nothing where it is blank
-unfoldable pub line_at : List ℕ → Result (Option SymLine) TextKind
-line_at line = if is_blank line then Ok None else record_at line >>= λ s. Ok (Some s)
+unfoldable pub line_read : List ℕ → Result (Option SymLine) TextKind
+line_read line = if is_blank line then Ok None else record_at line >>= λ s. Ok (Some s)

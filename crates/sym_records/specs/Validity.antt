@@ -6,7 +6,7 @@ use Rattle.sym_records.specs.Fields.{fit}
 use Rattle.sym_records.specs.Places.{part, is_change_part}
 use Rattle.sym_records.specs.Records.{layout, keyword, values}
 use Rattle.sym_records.specs.Canon.{body}
-use Rattle.sym_records.specs.Text.{line_at}
+use Rattle.sym_records.specs.Text.{line_read}
 use Rattle.sym_records.specs.Reading.{fits, leads}
 use Rattle.sym_records.specs.declared.line.SymLine.{SymLine}
 use Rattle.sym_records.specs.declared.place.Place.{Place}
@@ -14,7 +14,7 @@ use Rattle.sym_records.specs.declared.place.Place.TheVariants.{Start}
 
 -- a record is valid where its canonical spelling is one line of at most 2^20 bytes, and the reading of that line is the record
 pub record IsValid (s : SymLine) : Type 0 where
-  pub reads : line_at (body s) ≡ Ok (Some s)
+  pub reads : line_read (body s) ≡ Ok (Some s)
   pub one_line : list_all is_within_line (body s) ≡ true
   pub short : length (body s) ≤ 2 ^ 20
 
