@@ -2,7 +2,7 @@
 use Rattle.std.proofs.Common.{◌≡◌, ℕ, ◌+◌, ◌&&◌, cond, true, false, List, [], ◌∷◌, ◌++◌, Some, None, refl, sym, ◌∙◌, ap}
 use Rattle.std.specs.List.{list_all}
 use Rattle.sym_rules.proofs.BoolLemmas.{and_true, both, elim_bool}
-use Rattle.sym_records.specs.Places.{Part, First, Own, Owner, Owned, Frames, Changes, part, may_stand, place_behind_part, is_change_part}
+use Rattle.sym_records.specs.Places.{Role, First, Own, Owner, Owned, Frames, Changes, role, may_stand, place_behind_role, is_change_role}
 use Rattle.sym_records.specs.Records.{keyword}
 use Rattle.sym_records.specs.Reading.{fits, leads, is_start}
 use Rattle.sym_records.specs.Validity.{fields_fit, first_bad_from, first_bad, place_behind, is_change}
@@ -45,7 +45,7 @@ none_moved i j place (x ∷ lines) none =
     from_here j place x lines head.stands head.fit (none_moved (i + 1) (j + 1) (leads place x) lines head.later)
 
 -- what may stand behind records of their own may stand behind any record, and leads to the same place
-anywhere : (place : Place) (p : Part) → is_start place ≡ false → may_stand Inside p ≡ true → (may_stand place p ≡ true) × (place_behind_part Inside p ≡ place_behind_part place p)
+anywhere : (place : Place) (p : Role) → is_start place ≡ false → may_stand Inside p ≡ true → (may_stand place p ≡ true) × (place_behind_role Inside p ≡ place_behind_role place p)
 anywhere Start p on stands = cc
 anywhere Inside p on stands = (stands, refl)
 anywhere Function First on stands = cc
@@ -62,7 +62,7 @@ anywhere Frame Frames on stands = (refl, refl)
 anywhere Frame Changes on stands = cc
 
 -- a record that may stand leads away from the start
-leads_away : (place : Place) (p : Part) → may_stand place p ≡ true → is_start (place_behind_part place p) ≡ false
+leads_away : (place : Place) (p : Role) → may_stand place p ≡ true → is_start (place_behind_role place p) ≡ false
 leads_away Start First stands = refl
 leads_away Start Own stands = cc
 leads_away Start Owner stands = cc
@@ -92,7 +92,7 @@ on_none : (i : ℕ) (place : Place) (lines : List SymLine) → is_start place �
 on_none i place [] on none = none_here i place
 on_none i place (x ∷ lines) on none =
     let head = head_fits 0 Inside x lines none in
-    let both = anywhere place (part (keyword x)) on head.stands in
+    let both = anywhere place (role (keyword x)) on head.stands in
     from_here i place x lines both.0 head.fit (ap (λ p. first_bad_from (i + 1) p lines) (sym both.1) ∙ none_moved 1 (i + 1) (leads Inside x) lines head.later)
 
 -- records behind records that are not the first
@@ -100,7 +100,7 @@ joined_on : (i : ℕ) (place : Place) (xs ys : List SymLine) → is_start place 
 joined_on i place [] ys on first second = on_none i place ys on second
 joined_on i place (x ∷ xs) ys on first second =
     let head = head_fits i place x xs first in
-    from_here i place x (xs ++ ys) head.stands head.fit (joined_on (i + 1) (leads place x) xs ys (leads_away place (part (keyword x)) head.stands) head.later second)
+    from_here i place x (xs ++ ys) head.stands head.fit (joined_on (i + 1) (leads place x) xs ys (leads_away place (role (keyword x)) head.stands) head.later second)
 
 -- a valid list stays valid with more records behind it
 pub join_fits : (xs ys : List SymLine) → first_bad xs ≡ None → first_bad_from 0 Inside ys ≡ None → first_bad (xs ++ ys) ≡ None
@@ -108,7 +108,7 @@ unfolding first_bad
 join_fits [] ys first second = cc
 join_fits (x ∷ xs) ys first second =
     let head = head_fits 0 Start x xs first in
-    from_here 0 Start x (xs ++ ys) head.stands head.fit (joined_on 1 (leads Start x) xs ys (leads_away Start (part (keyword x)) head.stands) head.later second)
+    from_here 0 Start x (xs ++ ys) head.stands head.fit (joined_on 1 (leads Start x) xs ys (leads_away Start (role (keyword x)) head.stands) head.later second)
 
 -- and so do records that may stand behind others
 pub join_behind : (xs ys : List SymLine) → first_bad_from 0 Inside xs ≡ None → first_bad_from 0 Inside ys ≡ None → first_bad_from 0 Inside (xs ++ ys) ≡ None
@@ -135,7 +135,7 @@ unfolding place_behind
 behind_pushed place [] s = refl
 behind_pushed place (x ∷ lines) s = behind_pushed (leads place x) lines s
 
-change_stands : (p : Part) → is_change_part p ≡ true → (may_stand Frame p ≡ true) × (place_behind_part Frame p ≡ Frame)
+change_stands : (p : Role) → is_change_role p ≡ true → (may_stand Frame p ≡ true) × (place_behind_role Frame p ≡ Frame)
 change_stands First is = cc
 change_stands Own is = cc
 change_stands Owner is = cc
@@ -146,7 +146,7 @@ change_stands Changes is = (refl, refl)
 changes_fit : (i : ℕ) (changes : List SymLine) → list_all is_change changes ≡ true → list_all fields_fit changes ≡ true → first_bad_from i Frame changes ≡ None
 changes_fit i [] all fit = none_here i Frame
 changes_fit i (x ∷ changes) all fit =
-    let stands = change_stands (part (keyword x)) (and_true {a = is_change x} all).0 in
+    let stands = change_stands (role (keyword x)) (and_true {a = is_change x} all).0 in
     from_here i Frame x changes stands.0 (and_true {a = fields_fit x} fit).0
     (ap (λ p. first_bad_from (i + 1) p changes) stands.1 ∙ changes_fit (i + 1) changes (and_true {a = is_change x} all).1 (and_true {a = fields_fit x} fit).1)
 

@@ -3,7 +3,7 @@ use Rattle.std.specs.Prelude.{ℕ, ◌+◌, ◌-◌, ◌^◌, ◌&&◌, Bool, tr
 use Rattle.std.specs.Str.{bytes_eq}
 use Rattle.sym_edges.specs.Results.{◌>>=◌}
 use Rattle.sym_rules.specs.Cuts.{split_lines}
-use Rattle.sym_records.specs.Places.{part, may_stand, place_behind_part}
+use Rattle.sym_records.specs.Places.{role, may_stand, place_behind_role}
 use Rattle.sym_records.specs.Records.{keyword}
 use Rattle.sym_records.specs.Text.{is_blank, key_of, line_read}
 use Rattle.sym_records.specs.declared.line.SymLine.{SymLine}
@@ -15,11 +15,11 @@ use Rattle.sym_rules.specs.declared.text_fault.TextKind.TheVariants.{Empty, Misp
 
 -- whether a record may stand at a place
 abbrev pub fits : Place → SymLine → Bool
-fits place s = may_stand place (part (keyword s))
+fits place s = may_stand place (role (keyword s))
 
 -- the place behind a record
 abbrev pub leads : Place → SymLine → Place
-leads place s = place_behind_part place (part (keyword s))
+leads place s = place_behind_role place (role (keyword s))
 
 -- what the lines so far gave: their records, the place behind them, and how many lines there were
 pub record Seen : Type 0 where

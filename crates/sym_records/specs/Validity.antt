@@ -3,7 +3,7 @@ use Rattle.std.specs.Prelude.{◌≡◌, ℕ, ◌+◌, ◌^◌, ◌&&◌, ◌≤
 use Rattle.std.specs.List.{list_all}
 use Rattle.sym_rules.specs.Cuts.{is_within_line}
 use Rattle.sym_records.specs.Fields.{fit}
-use Rattle.sym_records.specs.Places.{part, is_change_part}
+use Rattle.sym_records.specs.Places.{role, is_change_role}
 use Rattle.sym_records.specs.Records.{layout, keyword, values}
 use Rattle.sym_records.specs.Canon.{body}
 use Rattle.sym_records.specs.Text.{line_read}
@@ -63,7 +63,7 @@ place_behind place (s ∷ lines) = place_behind (leads place s) lines
 
 -- a STACK CFI record
 abbrev pub is_change : SymLine → Bool
-is_change s = is_change_part (part (keyword s))
+is_change s = is_change_role (role (keyword s))
 
 -- the index of the first bad record, and 0 of the empty list
 unfoldable pub first_bad : List SymLine → Option ℕ
