@@ -4,7 +4,6 @@ use Rattle.std.specs.List.{list_any, range_with_len, filter_map}
 use Rattle.frame_rows.specs.declared.row.Rule.{Rule}
 use Rattle.frame_rows.specs.declared.row.Rule.TheVariants as rule
 use Rattle.frame_rows.specs.declared.row.Row.{Row}
-<<<<<<< HEAD:crates/rule_postfix/specs/RowRules.antt
 use Rattle.sym_rules.specs.declared.rules.Target.{Target}
 use Rattle.sym_rules.specs.declared.rules.Target.TheVariants.{Cfa, Ra, Reg, Other}
 use Rattle.sym_rules.specs.declared.rules.Token.{Token}
@@ -14,17 +13,6 @@ use Rattle.rule_postfix.specs.declared.parts.RowPart.{RowPart}
 use Rattle.rule_postfix.specs.declared.parts.RowPart.TheVariants.{Unruled, Base, Column}
 use Rattle.sym_edges.specs.Abi.{Default, KeepsValue, IsCfa, Unspecified, default_of}
 use Rattle.rule_postfix.specs.RowParts.{is_unruled, same_part, part_of, becomes_unspecified}
-=======
-use Rattle.sym_rules.specs.declared.rules.Target.{Target}
-use Rattle.sym_rules.specs.declared.rules.Target.TheVariants.{Cfa, Ra, Reg, Other}
-use Rattle.sym_rules.specs.declared.rules.Token.{Token}
-use Rattle.sym_rules.specs.declared.rules.Token.TheVariants as token
-use Rattle.sym_rules.specs.declared.rules.RuleText.{RuleText}
-use Rattle.rule_postfix.specs.declared.parts.Part.{Part}
-use Rattle.rule_postfix.specs.declared.parts.Part.TheVariants.{AtRest, Base, Column}
-use Rattle.sym_edges.specs.Abi.{is_kept, stack_pointer}
-use Rattle.rule_postfix.specs.Parts.{is_rest, same_part, part_of, rests_anew}
->>>>>>> records:crates/rule_postfix/specs/Rules.antt
 
 -- what says that a target is unruled again: a kept register has the value that it still has, and rsp is the CFA; of the others nothing
 -- can be said
