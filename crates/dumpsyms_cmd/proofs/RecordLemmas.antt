@@ -78,10 +78,10 @@ pub info_fits_behind : (line : SymLine) (bytes : List ℕ) (id : Option (List �
 info_fits_behind line bytes id some first fit behind = ap (λ o. first_bad (line ∷ info_lines o)) some ∙ one_more (line ∷ []) (info_line bytes) (first_fits line first fit) behind
 
 -- the records in front
-pub head_spelled : (front publics : List SymLine) (full last longer text new : List ℕ) → full ++ last ≡ [] → longer ≡ last ++ canon_text front → text ≡ full ++ longer → new ≡ text ++ canon_text publics → new ≡ canon_text (front ++ publics)
+pub head_spelled : (front made rest : List SymLine) (full last longer text new : List ℕ) → made ≡ rest → full ++ last ≡ [] → longer ≡ last ++ canon_text front → text ≡ full ++ longer → new ≡ text ++ canon_text made → new ≡ canon_text (front ++ rest)
 unfolding canon_text
-head_spelled front publics full last longer text new none begun same is =
-    is ∙ ap (λ t. t ++ canon_text publics) (same ∙ text_grown full last (canon_text front) longer begun ∙ ap (λ t. t ++ canon_text front) none) ∙ sym (flat_map-append canon front publics)
+head_spelled front made rest full last longer text new these none begun same is =
+    is ∙ ap (λ t. t ++ canon_text made) (same ∙ text_grown full last (canon_text front) longer begun ∙ ap (λ t. t ++ canon_text front) none) ∙ sym (flat_map-append canon front made) ∙ ap (λ l. canon_text (front ++ l)) these
 
 -- one text behind another
 pub joined : (front rest more whole : List (List ℕ)) (middle last : List ℕ) → more ≡ front ++ middle ∷ [] → whole ≡ more ++ rest → flat_map (λ piece. piece) whole ++ last ≡ (flat_map (λ piece. piece) front ++ middle) ++ (flat_map (λ piece. piece) rest ++ last)

@@ -67,6 +67,7 @@ fn has_other_name(
 }
 
 /// What the record of an address says, its name not cleaned yet.
+#[derive(Clone, Copy)]
 struct PublicParts<'a> {
     many: bool,
     address: u64,

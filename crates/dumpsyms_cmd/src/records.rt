@@ -105,7 +105,7 @@ fn put_identity(
 }
 
 /// Spells the records in front of those of frames, under the file's cleaned name.
-#[tactic(auto, using(crate::proofs::RecordLemmas::head_spelled, crate::proofs::RecordLemmas::head_valid), unfolding(crate::specs::Dump::head_lines))]
+#[tactic(auto, unfolding(crate::specs::Dump::head_lines))]
 fn spell_head(alloc: Global, image: &Image<'_>, name: &[u8]) -> Result<TextPieces, OutOfMemory>
     ensures text { IfOk result (λ text. text_bytes text ≡ canon_text (head_lines image.now name.now)) }
     ensures valid { IfOk result (λ _. first_bad (head_lines image.now name.now) ≡ None) }
