@@ -17,8 +17,14 @@ use Rattle.dumpsyms_cmd.specs.Publics.{publics, public_at}
 use Rattle.dumpsyms_cmd.specs.Refusals.{line, omitted_line, omitted_text}
 use Rattle.dumpsyms_cmd.specs.Frames.{frames, written_of, is_plain}
 use Rattle.dumpsyms_cmd.specs.Dump.{module_line, info_line, info_lines, head_lines, dump_lines, is_unbuilt}
-use Rattle.sym_records.specs.Canon.{canon_text}
+use Rattle.sym_records.specs.Canon.{canon, canon_text}
 use Rattle.sym_records.specs.Reading.{reading}
+use Rattle.sym_records.specs.Spelled.{records_in, IsSpelled}
+use Rattle.sym_records.specs.Validity.{first_bad, first_bad_from}
+use Rattle.sym_records.specs.declared.place.Place.TheVariants.{Inside}
+use Rattle.sym_records.proofs.JoiningLemmas.{join_fits}
+use Rattle.sym_records.proofs.SpelledLemmas.{spelled, spelled_records}
+use Rattle.std.proofs.lemmas.List.Concat.{flat_map-append}
 use Rattle.dumpsyms_cmd.specs.Judged.{DumpsParts}
 
 -- words by what they are, and words as they are
@@ -119,3 +125,19 @@ dumps_framed image name text found lines framed base code omissions built found_
       nested = subst (AreNested 0 0) all nested;
     })
     reads
+
+-- the text of a file: the records in front are spelled, and then those of frames
+whole_valid : (image : ImageParts) (name : List ℕ) (written : List SymLine) → first_bad (head_lines image name) ≡ None → first_bad_from 0 Inside written ≡ None → first_bad (head_lines image name ++ written) ≡ None
+whole_valid image name written head frames = join_fits (head_lines image name) written head frames
+
+whole_text : (image : ImageParts) (name front rest text : List ℕ) (written : List SymLine) → front ≡ canon_text (head_lines image name) → rest ≡ canon_text written → text ≡ front ++ rest → text ≡ canon_text (head_lines image name ++ written)
+unfolding canon_text
+whole_text image name front rest text written head frames is = is ∙ ap (λ t. t ++ rest) head ∙ ap (λ t. canon_text (head_lines image name) ++ t) frames ∙ sym (flat_map-append canon (head_lines image name) written)
+
+pub dump_spelled : (image : ImageParts) (name front rest text : List ℕ) (written : List SymLine) → front ≡ canon_text (head_lines image name) → first_bad (head_lines image name) ≡ None → rest ≡ canon_text written → first_bad_from 0 Inside written ≡ None → text ≡ front ++ rest → IsSpelled text
+dump_spelled image name front rest text written head valid frames good is =
+    spelled (head_lines image name ++ written) text (whole_valid image name written valid good) (whole_text image name front rest text written head frames is)
+
+pub dump_records : (image : ImageParts) (name front rest text : List ℕ) (written : List SymLine) → front ≡ canon_text (head_lines image name) → first_bad (head_lines image name) ≡ None → rest ≡ canon_text written → first_bad_from 0 Inside written ≡ None → text ≡ front ++ rest → records_in text ≡ head_lines image name ++ written
+dump_records image name front rest text written head valid frames good is =
+    spelled_records (head_lines image name ++ written) text (whole_valid image name written valid good) (whole_text image name front rest text written head frames is)
