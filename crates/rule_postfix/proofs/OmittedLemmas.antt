@@ -42,9 +42,9 @@ behind code (x ∷ entries) ws os =
     ∙ ap (λ xs. xs ++ (decided_behind code (with_decision x o d).written entries).omitted) (decision_omitted x o d)
     ∙ append_assoc os (omission_for x o) (decided_behind code (with_decision x o d).written entries).omitted
     ∙ ap (λ xs. os ++ xs) (
-        ap (λ xs. xs ++ (decided_behind code (with_decision x o d).written entries).omitted) (sym (decision_omitted x o none))
-        ∙ ap (λ vs. (with_decision x o none).omitted ++ (decided_behind code vs entries).omitted) (sym same)
-        ∙ sym (behind code entries (with_decision x o none).written (with_decision x o none).omitted))
+    ap (λ xs. xs ++ (decided_behind code (with_decision x o d).written entries).omitted) (sym (decision_omitted x o none))
+    ∙ ap (λ vs. (with_decision x o none).omitted ++ (decided_behind code vs entries).omitted) (sym same)
+    ∙ sym (behind code entries (with_decision x o none).written (with_decision x o none).omitted))
 
 -- the entry's decision, between what was left out before it and what is left out behind it
 pub omitted_there : (code : List Range) (xs ys : List Entry) (entry : Entry) → (decided_of code (xs ++ entry ∷ ys)).omitted
