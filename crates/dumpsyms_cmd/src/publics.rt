@@ -51,11 +51,7 @@ fn is_other_name(alloc: Global, first: &[u8], symbol: &Symbol<'_>) -> Result<boo
 }
 
 /// Whether some symbol's cleaned name differs from that of the first one.
-fn has_other_name(
-    alloc: Global,
-    first: &[u8],
-    others: &[Symbol<'_>],
-) -> Result<bool, OutOfMemory>
+fn has_other_name(alloc: Global, first: &[u8], others: &[Symbol<'_>]) -> Result<bool, OutOfMemory>
     ensures { IfOk result (λ found. found ≡ list_any (λ other. not (bytes_eq other (cleaned first.now))) (names_of (map symbol_view others.now))) }
 {
     'others: for symbol in others {

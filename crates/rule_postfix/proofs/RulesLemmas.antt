@@ -49,7 +49,7 @@ one_register_more before after n front rules more e f =
     f ∙ ap (λ xs. xs ++ option_to_list (rule_of (Reg n) (tokens (Reg n)))) e ∙ append_assoc front (rules_of tokens (registers n)) (option_to_list (rule_of (Reg n) (tokens (Reg n)))) ∙ ap (λ xs. front ++ xs) (sym (rules_more tokens n))
 
 -- a column that stays has no rule
-column_stays : (t : Target) (column : ℕ) (before after : Rule) (rules : List RuleText) → before ≡ after → rules ≡ rules ++ option_to_list (rule_of t (if_other t (column_part column before) (column_part column after)))
+pub column_stays : (t : Target) (column : ℕ) (before after : Rule) (rules : List RuleText) → before ≡ after → rules ≡ rules ++ option_to_list (rule_of t (if_other t (column_part column before) (column_part column after)))
 column_stays t column before after rules e = sym (ap (λ o. rules ++ option_to_list (rule_of t o)) (sym (same_rules t column before after e)) ∙ append-nil rules)
 
 pub register_stays : (before after : Row) (n : ℕ) (front rules : List RuleText) → rules ≡ front ++ rules_of (if_changed before after) (registers n) → rule_at before n ≡ rule_at after n → rules ≡ front ++ rules_of (if_changed before after) (registers (n + 1))

@@ -143,7 +143,13 @@ fn write(
     good_lists_are_joined();
     let end = fde.start + fde.size;
     progress.taken.put(fde.start, end)?;
-    spell_rows(&mut progress.text.last, &mut progress.rules, rows, end, base)?;
+    spell_rows(
+        &mut progress.text.last,
+        &mut progress.rules,
+        rows,
+        end,
+        base,
+    )?;
     progress.text.turn(alloc)
 }
 

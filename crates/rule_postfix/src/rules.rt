@@ -95,7 +95,9 @@ fn put_rule(
     Ok(())
 }
 
-/// Adds the rule of a column that two rows have different rules of.
+/// Adds the rule of a column, where two rows differ in it. Equal rules are tested first: most columns stay from one row to
+/// the next.
+#[tactic(auto, using(crate::proofs::RulesLemmas::column_stays))]
 fn put_column(
     rules: &mut Vec<RuleText>,
     target: Target,
@@ -105,6 +107,9 @@ fn put_column(
 ) -> Result<(), OutOfMemory>
     ensures { OnOk result (rules.new.items ≡ rules.old.items ++ option_to_list (rule_of target (if_other target (column_part column before) (column_part column after)))) }
 {
+    if before == after {
+        return Ok(());
+    }
     let tokens = spelled_if_other(
         &target,
         column_part(column, before),
@@ -113,8 +118,7 @@ fn put_column(
     put_rule(rules, target, tokens)
 }
 
-/// The rules of the registers in which two rows differ, by number. Equal rules are tested first: most columns stay from
-/// one row to the next.
+/// The rules of the registers in which two rows differ, by number. No target is made for a column that stays.
 #[tactic(auto, using(crate::proofs::RulesLemmas::no_register, crate::proofs::RulesLemmas::register_stays, crate::proofs::RulesLemmas::one_register_more))]
 fn put_registers(rules: &mut Vec<RuleText>, before: &Row, after: &Row) -> Result<(), OutOfMemory>
     ensures { OnOk result (rules.new.items ≡ rules.old.items ++ rules_of (if_changed before.now after.now) (registers 16)) }

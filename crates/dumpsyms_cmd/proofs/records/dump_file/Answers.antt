@@ -18,9 +18,9 @@ returns c =
     dumps_framed c.args.image.now c.args.name.now _ c.args.found.now c.of.result lines c.base.result c.code.result.now c.in_ok-framed.framed.omitted
     c.requires.built c.requires.found c.base.ensures c.code.ensures.ranges refl c.in_ok-framed.ensures.covers c.in_ok-framed.ensures.nested c.in_ok-framed.ensures.disjoint c.in_ok-framed.ensures.omitted
     (c.of.ensures ∙ dump_records c.args.image.now c.args.name.now (text_bytes c.in_ok-head.head) (text_bytes c.in_ok-framed.framed.text) (text_bytes c.in_ok-join_texts.field-0) lines
-      c.in_ok-head.ensures.text c.in_ok-head.ensures.valid c.in_ok-framed.ensures.text c.in_ok-framed.ensures.valid c.in_ok-join_texts.ensures)
+    c.in_ok-head.ensures.text c.in_ok-head.ensures.valid c.in_ok-framed.ensures.text c.in_ok-framed.ensures.valid c.in_ok-join_texts.ensures)
     (spelled_reads (text_bytes c.in_ok-join_texts.field-0) c.of.result
-      (dump_spelled c.args.image.now c.args.name.now (text_bytes c.in_ok-head.head) (text_bytes c.in_ok-framed.framed.text) (text_bytes c.in_ok-join_texts.field-0) lines
-      c.in_ok-head.ensures.text c.in_ok-head.ensures.valid c.in_ok-framed.ensures.text c.in_ok-framed.ensures.valid c.in_ok-join_texts.ensures)
-      (sym c.of.ensures))
+    (dump_spelled c.args.image.now c.args.name.now (text_bytes c.in_ok-head.head) (text_bytes c.in_ok-framed.framed.text) (text_bytes c.in_ok-join_texts.field-0) lines
+    c.in_ok-head.ensures.text c.in_ok-head.ensures.valid c.in_ok-framed.ensures.text c.in_ok-framed.ensures.valid c.in_ok-join_texts.ensures)
+    (sym c.of.ensures))
     refl
