@@ -1,0 +1,9 @@
+pub mod SteppingLemmas
+pub mod OverlayLemmas
+pub mod RunLemmas
+pub mod OneRuns
+pub mod MaximalLemmas
+pub mod PieceLemmas
+pub mod LayingLemmas
+pub mod FirstLemmas
+pub mod JoiningLemmas
