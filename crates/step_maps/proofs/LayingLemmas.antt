@@ -39,14 +39,6 @@ unfolding laid
 laid_split [] ys a = refl
 laid_split (x ∷ xs) ys a = ap (λ o. over (own_item x a) o) (laid_split xs ys a) ∙ over_assoc (own_item x a) (laid xs a) (laid ys a)
 
-pub stretches_front : (xs ys : List Stretch) → AreStretches (xs ++ ys) → AreStretches xs
-stretches_front [] ys all = tt
-stretches_front (x ∷ xs) ys all = (all.0, stretches_front xs ys all.1)
-
-pub stretches_back : (xs ys : List Stretch) → AreStretches (xs ++ ys) → AreStretches ys
-stretches_back [] ys all = all
-stretches_back (x ∷ xs) ys all = stretches_back xs ys all.1
-
 -- two halves make the whole
 pub halves_laid : (all xs ys : List Stretch) (upper lower both : Stepping (Option FirstItem)) → all ≡ xs ++ ys → ((a : ℕ) → a < 2 ^ 64 → value_at None upper a ≡ laid xs a) → ((a : ℕ) → a < 2 ^ 64 → value_at None lower a ≡ laid ys a) → ((a : ℕ) → value_at None both a ≡ over (value_at None upper a) (value_at None lower a)) → (a : ℕ) → a < 2 ^ 64 → value_at None both a ≡ laid all a
 halves_laid all xs ys upper lower both whole left right by a fits =

@@ -4,6 +4,8 @@ pub mod RunLemmas
 pub mod OneRuns
 pub mod MaximalLemmas
 pub mod PieceLemmas
+pub mod StretchLemmas
 pub mod LayingLemmas
 pub mod FirstLemmas
 pub mod JoiningLemmas
+pub mod CopyLemmas

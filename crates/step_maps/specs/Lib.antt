@@ -5,3 +5,4 @@ pub mod Covers
 pub mod Overlays
 pub mod Laying
 pub mod Joining
+pub mod Copying

@@ -1,5 +1,6 @@
 use Rattle.std.proofs.Common.{◌≡◌, ◌+◌, ◌<◌, ◌≤◌, ◌++◌, length, arith}
-use Rattle.step_maps.proofs.LayingLemmas.{halves_laid, stretches_front, stretches_back}
+use Rattle.step_maps.proofs.LayingLemmas.{halves_laid}
+use Rattle.step_maps.proofs.StretchLemmas.{stretches_front, stretches_back}
 use Rattle.step_maps.proofs.laying.+layered.Goals as goal
 
 pub layered-requires : goal.layered-requires
