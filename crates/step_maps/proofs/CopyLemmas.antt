@@ -1,6 +1,5 @@
-use Rattle.std.proofs.Common.{◌≡◌, ◌≢◌, ℕ, zero, suc, ◌+◌, ◌-◌, ◌<◌, ◌≤◌, Bool, true, false, cond, nat_le, List, [], ◌∷◌, length, get_or, Option, Some, None, refl, sym, ap, ◌∙◌, inl, inr, arith}
+use Rattle.std.proofs.Common.{◌≡◌, ◌≢◌, ℕ, zero, suc, ◌+◌, ◌-◌, ◌<◌, ◌≤◌, true, false, cond, nat_le, List, length, get_or, Option, Some, None, refl, sym, ap, ◌∙◌, inl, inr, arith}
 use Rattle.std.proofs.lemmas.Bool.{cases_lt, le-leb, lt-leb, leb-true, leb-false}
-use Rattle.std.proofs.lemmas.List.{get_or_default}
 use Rattle.step_maps.specs.Stepping.{Stepping, held_from, value_at, last_from, IsStepping}
 use Rattle.step_maps.specs.Copying.{BelowEnd, UpToEnd, is_past, StartsAt}
 use Rattle.step_maps.proofs.SteppingLemmas.{Point, held_at_index, held_below_first, rises_next}

@@ -1,5 +1,5 @@
-use Rattle.std.proofs.Common.{◌≡◌, ◌≢◌, ℕ, ◌+◌, ◌-◌, ◌^◌, ◌<◌, ◌≤◌, Bool, true, false, cond, ◌&&◌, ◌==◌, nat_le, nat_lt, if◌then◌else◌, map, ◌⊎◌, List, [], ◌∷◌, length, Option, None, Some, arith, refl, sym, ap, ◌∙◌, inl, inr}
-use Rattle.std.proofs.lemmas.Bool.{cases_lt, le-leb, lt-leb}
+use Rattle.std.proofs.Common.{◌≡◌, ◌≢◌, ℕ, ◌+◌, ◌-◌, ◌^◌, ◌<◌, ◌≤◌, Bool, true, false, cond, ◌&&◌, nat_le, nat_lt, if◌then◌else◌, map, ◌⊎◌, List, [], ◌∷◌, length, Option, None, Some, arith, refl, sym, ap, ◌∙◌, inl, inr}
+use Rattle.std.proofs.lemmas.Bool.{cases_lt, le-leb}
 use Rattle.std.proofs.lemmas.Bool.Decides.{nat_tests}
 use Rattle.std.specs.Option.{option_map}
 use Rattle.step_maps.specs.declared.stretch.Stretch.{Stretch}
@@ -7,11 +7,10 @@ use Rattle.step_maps.specs.declared.stretch.FirstItem.{FirstItem}
 use Rattle.step_maps.specs.declared.stretch.Cover.{Cover}
 use Rattle.step_maps.specs.Stepping.{Stepping, held_from, value_at, RisesFrom, last_from, IsStepping}
 use Rattle.step_maps.specs.StepRuns.{with_piece}
-use Rattle.step_maps.specs.Runs.{Run, has, value_in, Follows, AreRuns, IsRuns, between}
-use Rattle.step_maps.specs.Covers.{is_shared, index_at, first_item, cover_run, AreMarked, AreCovers}
+use Rattle.step_maps.specs.Runs.{Run, value_in, Follows, AreRuns, between}
+use Rattle.step_maps.specs.Covers.{index_at, first_item, cover_run, AreMarked, AreCovers}
 use Rattle.step_maps.specs.Laying.{laid}
 use Rattle.step_maps.specs.Joining.{is_same_index, with_cover, covers_from}
-use Rattle.step_maps.proofs.RunLemmas.{if_true, if_false, rest_above}
 use Rattle.step_maps.proofs.SteppingLemmas.{held_before}
 use Rattle.step_maps.proofs.OverlayLemmas.{rises_lower}
 use Rattle.step_maps.proofs.PieceLemmas.{start_low, between_low, between_none, between_same, between_later, piece_above, piece_within}
@@ -44,10 +43,10 @@ unfolding held_from
 index_held x y [] values a is = is
 index_held x y (s ∷ stops) [] a is = is
 index_held x y (s ∷ stops) (v ∷ values) a is = index_held (cond (nat_le s a) v x) (cond (nat_le s a) v y) stops values a (go (nat_le s a))
- where
-  go : (b : Bool) → index_of (cond b v x) ≡ index_of (cond b v y)
-  go true = refl
-  go false = is
+  where
+    go : (b : Bool) → index_of (cond b v x) ≡ index_of (cond b v y)
+    go true = refl
+    go false = is
 
 -- a cover up to the address before a stop is the run up to that stop
 abbrev runs_of : List Cover → List (Run ℕ)
@@ -84,9 +83,10 @@ covers_apart first None (t ∷ stops) (w ∷ values) rises fits = elim (bool_tel
 covers_apart first (Some i) (t ∷ stops) (w ∷ values) rises fits = elim (bool_tells (is_same_index (Some i) w)) [
   | inl on ↦ rw on (covers_apart first (Some i) stops values (rises_lower (t + 1) (first + 1) stops (omega (arith, rises.0)) rises.1) (omega (arith, fits, last_lower first t stops (omega (arith, rises.0)))))
   | inr off ↦ rw off (
-      omega (arith, rises.0),
-      follows_covers (cover_run (record { first = first; last = t - 1; index = i.index; shared = i.shared })) t w stops values (omega (arith, rises.0)) (λ touch same. index_other (Some i) w off same) rises.1,
-      covers_apart t w stops values rises.1 fits)
+    omega (arith, rises.0),
+    follows_covers (cover_run (record { first = first; last = t - 1; index = i.index; shared = i.shared })) t w stops values (omega (arith, rises.0)) (λ touch same. index_other (Some i) w off same) rises.1,
+    covers_apart t w stops values rises.1 fits,
+  )
 ]
 
 -- a cover in front is a piece in front
@@ -120,10 +120,10 @@ covers_values first now (t ∷ stops) (w ∷ values) a paired rises fits = elim 
       ap (λ runs. value_in runs a) (with_cover_run first t now (covers_from t w stops values) (omega (arith, rises.0)))
       ∙ parted first t now w stops values a (runs_of (covers_from t w stops values)) rises fits (covers_values t w stops values a (omega arith) rises.1 fits))
 ]
- where
-  either_index : (x y : Option FirstItem) (b : Bool) → is_same_index x y ≡ true → index_of x ≡ index_of (cond b y x)
-  either_index x y true on = index_alike x y on
-  either_index x y false on = refl
+  where
+    either_index : (x y : Option FirstItem) (b : Bool) → is_same_index x y ≡ true → index_of x ≡ index_of (cond b y x)
+    either_index x y true on = index_alike x y on
+    either_index x y false on = refl
 
 -- from a start on, and up to the address behind the last one of 64 bits
 abbrev pub Gives : (ℕ → Option FirstItem) → ℕ → Option FirstItem → List ℕ → List (Option FirstItem) → Type 0

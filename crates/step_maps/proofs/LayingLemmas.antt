@@ -1,4 +1,4 @@
-use Rattle.std.proofs.Common.{◌≡◌, ℕ, ◌+◌, ◌-◌, ◌^◌, ◌<◌, ◌≤◌, min, Bool, true, false, cond, not, ◌&&◌, ◌||◌, ◌==◌, nat_le, nat_lt, if◌then◌else◌, List, [], ◌∷◌, ◌++◌, Option, None, Some, arith, refl, sym, ap, ◌∙◌, inl, inr}
+use Rattle.std.proofs.Common.{◌≡◌, ℕ, ◌+◌, ◌-◌, ◌^◌, ◌<◌, ◌≤◌, Bool, true, false, cond, not, ◌&&◌, ◌||◌, ◌==◌, nat_le, nat_lt, if◌then◌else◌, List, [], ◌∷◌, ◌++◌, Option, None, Some, arith, refl, sym, ap, ◌∙◌, inl, inr}
 use Rattle.std.proofs.lemmas.Bool.{cases_lt, le-leb, lt-leb}
 use Rattle.std.proofs.lemmas.Bool.Decides.{nat_tests}
 use Rattle.step_maps.specs.declared.stretch.Stretch.{Stretch}
@@ -73,20 +73,20 @@ seen_behind old more s r a some fits behind none = elim (cases_lt a s.first) [
       let same : value_at None more a ≡ value_at None old a = behind a fits ∙ if_false (nat_lt s.last a) None (if nat_le s.first a then Some (alone s) else value_at None old a) up ∙ if_false (nat_le s.first a) (Some (alone s)) (value_at None old a) down in
       ap (λ o. over o r) same ∙ ap (λ o. over (value_at None old a) (over o r)) (sym (if_false (reaches s a) (Some (alone s)) None out))
   | inr high ↦ elim (cases_lt s.last a) [
-      | inl past ↦
-          let up : nat_lt s.last a ≡ true = grind (arith, nat_tests) in
-          let out : reaches s a ≡ false = grind (arith, nat_tests) in
-          let gone : value_at None more a ≡ None = behind a fits ∙ if_true (nat_lt s.last a) None (if nat_le s.first a then Some (alone s) else value_at None old a) up in
-          ap (λ o. over o r) gone
-          ∙ sym (ap (λ o. over o (over (own_item s a) r)) (none high) ∙ ap (λ o. over o r) (if_false (reaches s a) (Some (alone s)) None out))
-      | inr within ↦
-          let up : nat_lt s.last a ≡ false = grind (arith, nat_tests) in
-          let down : nat_le s.first a ≡ true = grind (arith, nat_tests) in
-          let here : reaches s a ≡ true = grind (arith, nat_tests) in
-          let is : value_at None more a ≡ Some (alone s) = behind a fits ∙ if_false (nat_lt s.last a) None (if nat_le s.first a then Some (alone s) else value_at None old a) up ∙ if_true (nat_le s.first a) (Some (alone s)) (value_at None old a) down in
-          ap (λ o. over o r) is
-          ∙ sym (ap (λ o. over o (over (own_item s a) r)) (none high) ∙ ap (λ o. over o r) (if_true (reaches s a) (Some (alone s)) None here))
-    ]
+    | inl past ↦
+        let up : nat_lt s.last a ≡ true = grind (arith, nat_tests) in
+        let out : reaches s a ≡ false = grind (arith, nat_tests) in
+        let gone : value_at None more a ≡ None = behind a fits ∙ if_true (nat_lt s.last a) None (if nat_le s.first a then Some (alone s) else value_at None old a) up in
+        ap (λ o. over o r) gone
+        ∙ sym (ap (λ o. over o (over (own_item s a) r)) (none high) ∙ ap (λ o. over o r) (if_false (reaches s a) (Some (alone s)) None out))
+    | inr within ↦
+        let up : nat_lt s.last a ≡ false = grind (arith, nat_tests) in
+        let down : nat_le s.first a ≡ true = grind (arith, nat_tests) in
+        let here : reaches s a ≡ true = grind (arith, nat_tests) in
+        let is : value_at None more a ≡ Some (alone s) = behind a fits ∙ if_false (nat_lt s.last a) None (if nat_le s.first a then Some (alone s) else value_at None old a) up ∙ if_true (nat_le s.first a) (Some (alone s)) (value_at None old a) down in
+        ap (λ o. over o r) is
+        ∙ sym (ap (λ o. over o (over (own_item s a) r)) (none high) ∙ ap (λ o. over o r) (if_true (reaches s a) (Some (alone s)) None here))
+  ]
 ]
 
 -- above the last address nothing is left

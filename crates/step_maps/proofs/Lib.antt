@@ -9,3 +9,6 @@ pub mod LayingLemmas
 pub mod FirstLemmas
 pub mod JoiningLemmas
 pub mod CopyLemmas
+pub mod Computing
+mod WorkedCovers
+mod WorkedSteps

@@ -1,7 +1,7 @@
-use Rattle.std.proofs.Common.{◌≡◌, ℕ, ◌<◌, ◌≤◌, Bool, true, false, List, [], ◌∷◌, Option, None, Some, arith, refl, sym, ap, ◌∙◌, inl, inr}
+use Rattle.std.proofs.Common.{◌≡◌, ℕ, ◌≤◌, List, [], ◌∷◌, Option, None, Some, arith, refl, sym, ap, ◌∙◌, inl, inr}
 use Rattle.std.proofs.lemmas.Bool.Decides.{leb_tells}
-use Rattle.step_maps.specs.Runs.{Run, value_in, AreRuns, Follows, IsRuns}
-use Rattle.step_maps.proofs.RunLemmas.{first_value, rest_above, rest_below, none_after, none_below, at_end}
+use Rattle.step_maps.specs.Runs.{Run, value_in, AreRuns, IsRuns}
+use Rattle.step_maps.proofs.RunLemmas.{first_value, rest_above, none_after, none_below, at_end}
 
 -- a list without values is no list with a first run
 none_alike : {V : Type 0} (x : Run V) (xs : List (Run V)) → AreRuns (x ∷ xs) → ((a : ℕ) → value_in (x ∷ xs) a ≡ None) → ⊥

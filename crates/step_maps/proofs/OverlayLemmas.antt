@@ -1,6 +1,6 @@
-use Rattle.std.proofs.Common.{◌≡◌, ℕ, zero, suc, ◌+◌, ◌-◌, ◌<◌, ◌≤◌, Bool, true, false, cond, nat_le, List, [], ◌∷◌, ◌++◌, length, get_or, drop, Option, Some, None, refl, sym, ap, ◌∙◌, subst, ◌⊎◌, inl, inr, arith}
+use Rattle.std.proofs.Common.{◌≡◌, ℕ, zero, suc, ◌+◌, ◌<◌, ◌≤◌, true, false, cond, nat_le, List, [], ◌∷◌, length, get_or, drop, Option, None, refl, sym, ap, ◌∙◌, subst, inl, inr, arith}
 use Rattle.std.proofs.lemmas.Bool.{cases_lt, le-leb, lt-leb}
-use Rattle.std.proofs.lemmas.List.{drop_more, drop_all, length-drop, get_or_read}
+use Rattle.std.proofs.lemmas.List.{drop_more, drop_all}
 use Rattle.step_maps.specs.Stepping.{Stepping, held_from, value_at, RisesFrom, last_from, IsStepping}
 use Rattle.step_maps.specs.Overlays.{over, IsNextFirst}
 use Rattle.step_maps.specs.declared.stretch.FirstItem.{FirstItem}

@@ -1,4 +1,4 @@
-use Rattle.std.proofs.Common.{◌≡◌, ℕ, ◌<◌, ◌≤◌, Bool, true, false, ◌||◌, if◌then◌else◌, List, [], ◌∷◌, ◌++◌, Option, None, Some, arith, refl, ap, ◌∙◌, inl, inr}
+use Rattle.std.proofs.Common.{◌≡◌, ℕ, ◌<◌, ◌≤◌, Bool, true, false, if◌then◌else◌, List, [], ◌∷◌, None, Some, arith, refl, ap, ◌∙◌, inl, inr}
 use Rattle.std.proofs.lemmas.Bool.Decides.{nat_tests, leb_tells}
 use Rattle.step_maps.specs.Runs.{Run, has, value_in, AreRuns, Follows}
 
@@ -50,6 +50,6 @@ at_end r (s ∷ runs) apart is =
           apart.1.1 touch (some_alike _ _ (cc))
       | inr high ↦ (let none : value_in (s ∷ runs) r.end ≡ None = none_below s runs r.end apart.2 high.1 in cc)
     ]
- where
-  some_alike : {V : Type 0} (x y : V) → Some x ≡ Some y → x ≡ y
-  some_alike x y is = cc
+  where
+    some_alike : {V : Type 0} (x y : V) → Some x ≡ Some y → x ≡ y
+    some_alike x y is = cc

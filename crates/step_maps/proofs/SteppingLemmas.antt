@@ -1,5 +1,5 @@
-use Rattle.std.proofs.Common.{◌≡◌, ◌≢◌, ℕ, zero, suc, ◌+◌, ◌-◌, ◌<◌, ◌≤◌, Bool, true, false, cond, nat_le, List, [], ◌∷◌, ◌++◌, length, get_or, set, refl, sym, ap, ◌∙◌, inl, inr, arith}
-use Rattle.std.proofs.lemmas.Bool.{cases_lt, le-leb, lt-leb}
+use Rattle.std.proofs.Common.{◌≡◌, ◌≢◌, ℕ, zero, suc, ◌+◌, ◌-◌, ◌<◌, ◌≤◌, Bool, true, false, cond, nat_le, List, [], ◌∷◌, ◌++◌, length, get_or, set, refl, sym, ap, ◌∙◌, arith}
+use Rattle.std.proofs.lemmas.Bool.{le-leb, lt-leb}
 use Rattle.std.proofs.lemmas.Bool.Decides.{nat_tests}
 use Rattle.std.specs.List.Sorted.{IsNonDecreasingBy, IsPartitionedBy, IsPartitionPoint}
 use Rattle.std.proofs.lemmas.List.Sorted.{IsPartitionedBy-leb}
@@ -106,8 +106,8 @@ point_none before stops values a i point none =
 pub point_some : {V : Type 0} (before v : V) (stops : List ℕ) (values : List V) (a i : ℕ) → IsStepping stops values → Point stops a i → i ≢ 0 → i ≤ length stops → v ≡ get_or values (i - 1) v → v ≡ held_from before stops values a
 point_some before v stops values a i stepping point some inside read =
     read ∙ sym (held_found before v 0 stops values (i - 1) a stepping.rising stepping.paired (omega arith)
-      (λ k e h. (let is : nat_le (get_or stops k e) a ≡ true = point.0 k e (omega arith) (omega arith) in grind (arith, nat_tests)))
-      (λ k e h g. (let is : nat_le (get_or stops k e) a ≡ false = point.1 k e (omega arith) g in grind (arith, nat_tests))))
+    (λ k e h. (let is : nat_le (get_or stops k e) a ≡ true = point.0 k e (omega arith) (omega arith) in grind (arith, nat_tests)))
+    (λ k e h g. (let is : nat_le (get_or stops k e) a ≡ false = point.1 k e (omega arith) g in grind (arith, nat_tests))))
 
 -- below the first stop
 pub held_below_first : {V : Type 0} (before : V) (stops : List ℕ) (values : List V) (a : ℕ) → IsStepping stops values → (0 < length stops → a < get_or stops 0 0) → held_from before stops values a ≡ before

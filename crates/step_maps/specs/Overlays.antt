@@ -1,5 +1,5 @@
 -- What is seen where the first items of some stretches lie over those of others.
-use Rattle.std.specs.Prelude.{ℕ, ◌+◌, ◌<◌, ◌≤◌, Bool, true, false, not, ◌||◌, ◌==◌, List, length, slice_index, Option, None, Some}
+use Rattle.std.specs.Prelude.{ℕ, ◌<◌, ◌≤◌, Bool, true, false, not, ◌||◌, ◌==◌, List, length, slice_index, Option, None, Some}
 use Rattle.step_maps.specs.declared.stretch.FirstItem.{FirstItem}
 
 -- the upper one where there is one; it is shared if either is, or if their classes differ

@@ -1,5 +1,5 @@
 -- The runs of a step map whose values may be none.
-use Rattle.std.specs.Prelude.{◌≡◌, ◌≢◌, ℕ, List, [], ◌∷◌, Option, None, Some}
+use Rattle.std.specs.Prelude.{◌≢◌, ℕ, List, [], ◌∷◌, Option, None, Some}
 use Rattle.step_maps.specs.Stepping.{Stepping}
 use Rattle.step_maps.specs.Runs.{Run}
 

@@ -12,7 +12,10 @@ use sym_edges::{ListOf, OutOfMemory};
 /// The first item of the list at each address, in n log n turns for n stretches however they overlap, and in n where
 /// they ascend.
 #[tactic(auto, using(crate::proofs::FirstLemmas::first_where_laid))]
-pub fn first_items(alloc: Global, items: &[Stretch]) -> Result<StepMap<Option<FirstItem>>, OutOfMemory>
+pub fn first_items(
+    alloc: Global,
+    items: &[Stretch],
+) -> Result<StepMap<Option<FirstItem>>, OutOfMemory>
     requires { AreStretches items.now }
     ensures { IfOk result (λ steps. (a : ℕ) → a < 2 ^ 64 → value_at None steps a ≡ first_item items.now a) }
 {

@@ -49,12 +49,22 @@ fn is_same_index(x: Option<FirstItem>, y: Option<FirstItem>) -> bool
 }
 
 #[inline]
-fn push_cover(covers: &mut Vec<Cover>, first: u64, last: u64, now: Option<FirstItem>) -> Result<(), AllocError>
+fn push_cover(
+    covers: &mut Vec<Cover>,
+    first: u64,
+    last: u64,
+    now: Option<FirstItem>,
+) -> Result<(), AllocError>
     ensures { OnOk result (covers.new.items ≡ covers.old.items ++ with_cover first last now []) }
 {
     let Some(item) = now else {
         return Ok(());
     };
-    covers.push(Cover { first, last, index: item.index, shared: item.shared })?;
+    covers.push(Cover {
+        first,
+        last,
+        index: item.index,
+        shared: item.shared,
+    })?;
     Ok(())
 }

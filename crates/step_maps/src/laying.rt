@@ -13,7 +13,10 @@ use sym_edges::OutOfMemory;
 const FEW: usize = 4;
 
 /// The first item at each address: as the stretches stand where they ascend, else of each half, one laid over the other.
-pub(crate) fn layered(alloc: Global, items: &[Stretch]) -> Result<StepMap<Option<FirstItem>>, OutOfMemory>
+pub(crate) fn layered(
+    alloc: Global,
+    items: &[Stretch],
+) -> Result<StepMap<Option<FirstItem>>, OutOfMemory>
     requires { AreStretches items.now }
     ensures { IfOk result (λ steps. (a : ℕ) → a < 2 ^ 64 → value_at None steps a ≡ laid items.now a) }
 {
@@ -79,7 +82,11 @@ fn lay_behind(steps: &mut StepMap<Option<FirstItem>>, item: Stretch) -> Result<(
     ensures at { OnOk result ((a : ℕ) → a < 2 ^ 64 → value_at None steps.new a ≡ (if nat_lt item.last a then None else if nat_le item.first a then Some (record { index = item.index; class = item.class; shared = false }) else value_at None steps.old a)) }
     ensures last { OnOk result (last_from 0 steps.new.stops ≤ item.last + 1) }
 {
-    let alone = FirstItem { index: item.index, class: item.class, shared: false };
+    let alone = FirstItem {
+        index: item.index,
+        class: item.class,
+        shared: false,
+    };
     steps.set(item.first, Some(alone))?;
     if item.last == u64::MAX {
         return Ok(());
@@ -106,7 +113,11 @@ fn own_item(item: Stretch, a: u64) -> Option<FirstItem>
     ensures { result ≡ own_item item a }
 {
     if item.first <= a && a <= item.last {
-        return Some(FirstItem { index: item.index, class: item.class, shared: false });
+        return Some(FirstItem {
+            index: item.index,
+            class: item.class,
+            shared: false,
+        });
     }
     None
 }

@@ -15,7 +15,13 @@ pub fn overlay(
 ) -> Result<StepMap<Option<FirstItem>>, OutOfMemory>
     ensures { IfOk result (λ both. (a : ℕ) → value_at None both a ≡ over (value_at None upper.now a) (value_at None lower.now a)) }
 {
-    merge(alloc, upper.stops(), upper.values(), lower.stops(), lower.values())
+    merge(
+        alloc,
+        upper.stops(),
+        upper.values(),
+        lower.stops(),
+        lower.values(),
+    )
 }
 
 /// The upper item where there is one, which then tells of the lower one whether its class differs.
@@ -30,7 +36,11 @@ pub(crate) fn over(top: Option<FirstItem>, below: Option<FirstItem>) -> Option<F
         return top;
     };
     let shared = upper.shared || (lower.shared || upper.class != lower.class);
-    Some(FirstItem { index: upper.index, class: upper.class, shared })
+    Some(FirstItem {
+        index: upper.index,
+        class: upper.class,
+        shared,
+    })
 }
 
 /// Whether the next stop is one of the first function.

@@ -27,7 +27,10 @@ impl<V: Copy + Drop> StepMap<V> {
     pub fn new(alloc: Global) -> StepMap<V>
         ensures { result ≡ record { stops = []; values = [] } }
     {
-        StepMap { stops: Vec::new(alloc), values: Vec::new(alloc) }
+        StepMap {
+            stops: Vec::new(alloc),
+            values: Vec::new(alloc),
+        }
     }
 
     /// No stop yet, and room for as many as a number.

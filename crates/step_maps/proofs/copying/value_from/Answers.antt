@@ -1,4 +1,4 @@
-use Rattle.std.proofs.Common.{nat_le, rules, refl}
+use Rattle.std.proofs.Common.{nat_le, rules}
 use Rattle.std.proofs.lemmas.List.Sorted.{IsPartitionPoint-from_clause}
 use Rattle.step_maps.proofs.SteppingLemmas.{Point, parted}
 use Rattle.step_maps.proofs.CopyLemmas.{starts_none, starts_some}

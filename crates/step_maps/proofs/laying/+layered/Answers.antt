@@ -1,4 +1,4 @@
-use Rattle.std.proofs.Common.{◌≡◌, ◌+◌, ◌<◌, ◌≤◌, ◌++◌, length, arith}
+use Rattle.std.proofs.Common.{arith}
 use Rattle.step_maps.proofs.LayingLemmas.{halves_laid}
 use Rattle.step_maps.proofs.StretchLemmas.{stretches_front, stretches_back}
 use Rattle.step_maps.proofs.laying.+layered.Goals as goal

@@ -1,4 +1,4 @@
-use Rattle.std.proofs.Common.{◌≡◌, ◌≢◌, nat_le, true, false, rules, arith}
+use Rattle.std.proofs.Common.{nat_le, rules, arith}
 use Rattle.std.proofs.lemmas.List.Sorted.{IsPartitionPoint-from_clause}
 use Rattle.step_maps.proofs.SteppingLemmas.{Point, parted, point_none, point_some}
 use Rattle.step_maps.proofs.steps.find_step.Goals as goal
