@@ -6,3 +6,4 @@ pub mod Overlays
 pub mod Laying
 pub mod Joining
 pub mod Copying
+pub mod Places

@@ -1,4 +1,4 @@
-ghost use Rattle.std.specs.Prelude.{◌≡◌, ℕ, ◌^◌, ◌<◌, ◌≤◌, nat_le, if◌then◌else◌, [], length, OnOk, IfOk};
+ghost use Rattle.std.specs.Prelude.{◌≡◌, ℕ, ◌^◌, ◌<◌, ◌≤◌, nat_le, if◌then◌else◌, [], length, OnOk, OnErr, IfOk};
 ghost use Rattle.step_maps.specs.Stepping.{IsStepping, RisesFrom, last_from, held_from, value_at};
 
 use std::alloc::Global;
@@ -48,6 +48,7 @@ impl<V: Copy + Drop> StepMap<V> {
         requires { last_from 0 self.old.stops ≤ from }
         ensures at { OnOk result ((before : V) (a : ℕ) → value_at before self.new a ≡ (if nat_le from a then value else value_at before self.old a)) }
         ensures last { OnOk result (last_from 0 self.new.stops ≡ from) }
+        ensures kept { OnErr result (self.new ≡ self.old) }
     {
         push_step(&mut self.stops, &mut self.values, from, value)
     }
@@ -89,6 +90,8 @@ fn push_step<V: Copy + Drop>(
     ensures stepping { IsStepping stops.new.items values.new.items }
     ensures at { OnOk result ((before : V) (a : ℕ) → held_from before stops.new.items values.new.items a ≡ (if nat_le from a then value else held_from before stops.old.items values.old.items a)) }
     ensures last { OnOk result (last_from 0 stops.new.items ≡ from) }
+    ensures kept_stops { OnErr result (stops.new.items ≡ stops.old.items) }
+    ensures kept_values { OnErr result (values.new.items ≡ values.old.items) }
 {
     let count = stops.len();
     if count > 0 && stops[count - 1] == from {
