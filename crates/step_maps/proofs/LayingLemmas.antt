@@ -1,4 +1,4 @@
-use Rattle.std.proofs.Common.{◌≡◌, ℕ, ◌+◌, ◌-◌, ◌^◌, ◌<◌, ◌≤◌, Bool, true, false, cond, not, ◌&&◌, ◌||◌, ◌==◌, nat_le, nat_lt, if◌then◌else◌, List, [], ◌∷◌, ◌++◌, Option, None, Some, arith, refl, sym, ap, ◌∙◌, inl, inr}
+use Rattle.std.proofs.Common.{◌≡◌, ℕ, ◌+◌, ◌^◌, ◌<◌, ◌≤◌, Bool, true, false, cond, not, ◌&&◌, ◌||◌, ◌==◌, nat_le, nat_lt, if◌then◌else◌, List, [], ◌∷◌, ◌++◌, Option, None, Some, arith, refl, sym, ap, ◌∙◌, inl, inr}
 use Rattle.std.proofs.lemmas.Bool.{cases_lt, le-leb, lt-leb}
 use Rattle.std.proofs.lemmas.Bool.Decides.{nat_tests}
 use Rattle.step_maps.specs.declared.stretch.Stretch.{Stretch}
@@ -54,14 +54,6 @@ alone s = record { index = s.index; class = s.class; shared = false }
 
 abbrev pub Behind : Stepping (Option FirstItem) → Stepping (Option FirstItem) → Stretch → Type 0
 Behind old more s = (a : ℕ) → a < 2 ^ 64 → value_at None more a ≡ (if nat_lt s.last a then None else if nat_le s.first a then Some (alone s) else value_at None old a)
-
--- what two steps, at the first address and behind the last, make of a map
-pub behind_two : (first last : ℕ) (x o : Option FirstItem) (a : ℕ) → cond (nat_le (last + 1) a) None (cond (nat_le first a) x o) ≡ (if nat_lt last a then None else if nat_le first a then x else o)
-behind_two first last x o a = (let same : nat_le (last + 1) a ≡ nat_lt last a = grind (arith, nat_tests) in ap (λ b. cond b None (cond (nat_le first a) x o)) same)
-
--- and one step, where the last address is that of 64 bits
-pub behind_one : (first last : ℕ) (x o : Option FirstItem) (a : ℕ) → last ≡ 2 ^ 64 - 1 → a < 2 ^ 64 → cond (nat_le first a) x o ≡ (if nat_lt last a then None else if nat_le first a then x else o)
-behind_one first last x o a end fits = (let out : nat_lt last a ≡ false = (let low : a ≤ last = omega (arith, end, fits) in grind (arith, nat_tests)) in sym (if_false (nat_lt last a) None (cond (nat_le first a) x o) out))
 
 -- what such a stretch adds is what it shows alone, where nothing was from its first address on
 seen_behind : (old more : Stepping (Option FirstItem)) (s : Stretch) (r : Option FirstItem) (a : ℕ) → s.first ≤ s.last → a < 2 ^ 64 → Behind old more s → (s.first ≤ a → value_at None old a ≡ None) → over (value_at None more a) r ≡ over (value_at None old a) (over (own_item s a) r)
@@ -166,11 +158,6 @@ sooner_right None y a below = below
 sooner_right (Some x) None a below = tt
 sooner_right (Some x) (Some y) a below = omega arith
 
-pub sooner_below : (x y : Option ℕ) (a : ℕ) → IsBelow a x → IsBelow a y → IsBelow a (sooner x y)
-sooner_below None y a left right = right
-sooner_below (Some x) None a left right = left
-sooner_below (Some x) (Some y) a left right = omega arith
-
 steady_sooner : (items : List Stretch) (at : ℕ) (x y : Option ℕ) → AreSteady items at y → AreSteady items at (sooner x y)
 steady_sooner [] at x y steady = tt
 steady_sooner (s ∷ items) at x y steady = (λ a le fits below. steady.0 a le fits (sooner_right x y a below), steady_sooner items at x y steady.1)
@@ -178,31 +165,11 @@ steady_sooner (s ∷ items) at x y steady = (λ a le fits below. steady.0 a le f
 pub steady_front : (items later : List Stretch) (s : Stretch) (at : ℕ) (x y next : Option ℕ) → items ≡ s ∷ later → next ≡ sooner x y → ((a : ℕ) → at ≤ a → a < 2 ^ 64 → IsBelow a x → reaches s a ≡ reaches s at) → AreSteady later at y → AreSteady items at next
 steady_front items later s at x y next whole is own steady = rw (whole, is) (λ a le fits below. own a le fits (sooner_left x y a below), steady_sooner later at x y steady)
 
-pub steady_none : (items : List Stretch) (at : ℕ) (next : Option ℕ) → items ≡ [] → AreSteady items at next
-steady_none items at next none = rw none tt
-
--- what a stretch does from an address on
-pub own_begins : (s : Stretch) (at a : ℕ) → at < s.first → at ≤ a → a < s.first → reaches s a ≡ reaches s at
-own_begins s at a before le below = grind (arith, nat_tests)
-
-pub own_past : (s : Stretch) (at a : ℕ) → s.last < at → at ≤ a → reaches s a ≡ reaches s at
-own_past s at a past le = grind (arith, nat_tests)
-
-pub own_within : (s : Stretch) (at a : ℕ) → s.first ≤ at → at ≤ s.last → at ≤ a → a ≤ s.last → reaches s a ≡ reaches s at
-own_within s at a low high le below = grind (arith, nat_tests)
-
 -- up to an address all is laid, and from there on what is seen at it
 pub record Lays (items : List Stretch) (steps : Stepping (Option FirstItem)) (at : ℕ) : Type 0 where
   pub done : (a : ℕ) → a < at → a < 2 ^ 64 → value_at None steps a ≡ laid items a
   pub now : (a : ℕ) → at ≤ a → value_at None steps a ≡ laid items at
   pub last : last_from 0 steps.stops ≡ at
-
-pub lays_begin : (items : List Stretch) (old steps : Stepping (Option FirstItem)) (at : ℕ) (v : Option FirstItem) → at ≡ 0 → v ≡ laid items at → ((before : Option FirstItem) (a : ℕ) → value_at before steps a ≡ cond (nat_le at a) v (value_at before old a)) → last_from 0 steps.stops ≡ at → Lays items steps at
-lays_begin items old steps at v zero is by last = record {
-  done = λ a low fits. absurd (omega (arith, zero, low));
-  now = λ a le. by None a ∙ ap (λ b. cond b v (value_at None old a)) (le-leb at a le) ∙ is;
-  last = last;
-}
 
 pub lays_more : (items : List Stretch) (old steps : Stepping (Option FirstItem)) (at next : ℕ) (v : Option FirstItem) → Lays items old at → AreSteady items at (Some next) → at < next → v ≡ laid items next → ((before : Option FirstItem) (a : ℕ) → value_at before steps a ≡ cond (nat_le next a) v (value_at before old a)) → last_from 0 steps.stops ≡ next → Lays items steps next
 lays_more items old steps at next v l steady above is by last = record {

@@ -27,7 +27,7 @@ pub fn copy_steps<V: Copy + Drop>(
 ) -> Result<(), OutOfMemory>
     requires last { last_from 0 copy.old.stops ≤ start }
     requires end { UpToEnd start end }
-    ensures before { OnOk result ((a : ℕ) → a < start → value_at before copy.new a ≡ value_at before copy.old a) }
+    ensures before { (a : ℕ) → a < start → value_at before copy.new a ≡ value_at before copy.old a }
     ensures at { OnOk result ((a : ℕ) → start ≤ a → BelowEnd a end → value_at before copy.new a ≡ value_at before from.now a) }
     ensures last { OnOk result (UpToEnd (last_from 0 copy.new.stops) end) }
 {
@@ -57,7 +57,7 @@ fn copy_slices<V: Copy + Drop>(
     requires stepping { IsStepping stops.now values.now }
     requires last { last_from 0 copy.old.stops ≤ start }
     requires end { UpToEnd start end }
-    ensures before { OnOk result ((a : ℕ) → a < start → value_at before copy.new a ≡ value_at before copy.old a) }
+    ensures before { (a : ℕ) → a < start → value_at before copy.new a ≡ value_at before copy.old a }
     ensures at { OnOk result ((a : ℕ) → start ≤ a → BelowEnd a end → value_at before copy.new a ≡ held_from before stops.now values.now a) }
     ensures last { OnOk result (UpToEnd (last_from 0 copy.new.stops) end) }
 {
