@@ -6,7 +6,8 @@ use Rattle.step_maps.specs.declared.stretch.FirstItem.{FirstItem}
 use Rattle.step_maps.specs.Stepping.{Stepping, held_from, value_at, last_from}
 use Rattle.step_maps.specs.Covers.{reaches, AreStretches}
 use Rattle.step_maps.specs.Overlays.{over}
-use Rattle.step_maps.specs.Laying.{own_item, laid, ascends, ascends_from, IsBelow, sooner, AreSteady}
+use Rattle.step_maps.specs.Copying.{BelowEnd}
+use Rattle.step_maps.specs.Laying.{own_item, laid, ascends, ascends_from, sooner, AreSteady}
 use Rattle.step_maps.proofs.RunLemmas.{if_true, if_false}
 
 or_true : (b : Bool) → (b || true) ≡ true
@@ -141,19 +142,19 @@ unfolding laid
 order_ends items rest steps last o none a fits = (let o2 : InOrder items steps last [] = rw none at o in sym (over_none (value_at None steps a)) ∙ o2.done a fits)
 
 -- from an address on, and up to the next stop, the same is seen
-steady_same : (items : List Stretch) (at : ℕ) (next : Option ℕ) (a : ℕ) → AreSteady items at next → at ≤ a → a < 2 ^ 64 → IsBelow a next → laid items a ≡ laid items at
+steady_same : (items : List Stretch) (at : ℕ) (next : Option ℕ) (a : ℕ) → AreSteady items at next → at ≤ a → a < 2 ^ 64 → BelowEnd a next → laid items a ≡ laid items at
 unfolding laid
 steady_same [] at next a steady le fits below = refl
 steady_same (s ∷ items) at next a steady le fits below =
     ap (λ b. over (if b then Some (alone s) else None) (laid items a)) (steady.0 a le fits below)
     ∙ ap (λ o. over (own_item s at) o) (steady_same items at next a steady.1 le fits below)
 
-sooner_left : (x y : Option ℕ) (a : ℕ) → IsBelow a (sooner x y) → IsBelow a x
+sooner_left : (x y : Option ℕ) (a : ℕ) → BelowEnd a (sooner x y) → BelowEnd a x
 sooner_left None y a below = tt
 sooner_left (Some x) None a below = below
 sooner_left (Some x) (Some y) a below = omega arith
 
-sooner_right : (x y : Option ℕ) (a : ℕ) → IsBelow a (sooner x y) → IsBelow a y
+sooner_right : (x y : Option ℕ) (a : ℕ) → BelowEnd a (sooner x y) → BelowEnd a y
 sooner_right None y a below = below
 sooner_right (Some x) None a below = tt
 sooner_right (Some x) (Some y) a below = omega arith
@@ -162,7 +163,7 @@ steady_sooner : (items : List Stretch) (at : ℕ) (x y : Option ℕ) → AreStea
 steady_sooner [] at x y steady = tt
 steady_sooner (s ∷ items) at x y steady = (λ a le fits below. steady.0 a le fits (sooner_right x y a below), steady_sooner items at x y steady.1)
 
-pub steady_front : (items later : List Stretch) (s : Stretch) (at : ℕ) (x y next : Option ℕ) → items ≡ s ∷ later → next ≡ sooner x y → ((a : ℕ) → at ≤ a → a < 2 ^ 64 → IsBelow a x → reaches s a ≡ reaches s at) → AreSteady later at y → AreSteady items at next
+pub steady_front : (items later : List Stretch) (s : Stretch) (at : ℕ) (x y next : Option ℕ) → items ≡ s ∷ later → next ≡ sooner x y → ((a : ℕ) → at ≤ a → a < 2 ^ 64 → BelowEnd a x → reaches s a ≡ reaches s at) → AreSteady later at y → AreSteady items at next
 steady_front items later s at x y next whole is own steady = rw (whole, is) (λ a le fits below. own a le fits (sooner_left x y a below), steady_sooner later at x y steady)
 
 -- up to an address all is laid, and from there on what is seen at it

@@ -4,6 +4,7 @@ use Rattle.step_maps.specs.declared.stretch.Stretch.{Stretch}
 use Rattle.step_maps.specs.declared.stretch.FirstItem.{FirstItem}
 use Rattle.step_maps.specs.Covers.{reaches}
 use Rattle.step_maps.specs.Overlays.{over}
+use Rattle.step_maps.specs.Copying.{BelowEnd}
 
 -- the stretch alone
 abbrev pub own_item : Stretch → ℕ → Option FirstItem
@@ -23,11 +24,6 @@ abbrev pub ascends : List Stretch → Bool
 ascends [] = true
 ascends (s ∷ items) = ascends_from s.last items
 
--- an address is below a stop, if there is one
-abbrev pub IsBelow : ℕ → Option ℕ → Type 0
-IsBelow a None = Unit {0}
-IsBelow a (Some stop) = a < stop
-
 -- the lower of two stops, if there are any
 abbrev pub sooner : Option ℕ → Option ℕ → Option ℕ
 sooner None y = y
@@ -37,4 +33,4 @@ sooner (Some x) (Some y) = Some (min x y)
 -- from an address on, and up to a stop, each stretch has all addresses or none
 abbrev pub AreSteady : List Stretch → ℕ → Option ℕ → Type 0
 AreSteady [] at next = Unit {0}
-AreSteady (s ∷ items) at next = ((a : ℕ) → at ≤ a → a < 2 ^ 64 → IsBelow a next → reaches s a ≡ reaches s at) × AreSteady items at next
+AreSteady (s ∷ items) at next = ((a : ℕ) → at ≤ a → a < 2 ^ 64 → BelowEnd a next → reaches s a ≡ reaches s at) × AreSteady items at next

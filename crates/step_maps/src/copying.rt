@@ -1,4 +1,4 @@
-ghost use Rattle.std.specs.Prelude.{◌≡◌, ℕ, ◌≤◌, ◌<◌, OnOk, nat_le, Bool, IsTrue, ◌↔◌, length, if◌then◌else◌};
+ghost use Rattle.std.specs.Prelude.{◌≡◌, ℕ, ◌≤◌, ◌<◌, OnOk, nat_le};
 ghost use Rattle.step_maps.specs.Stepping.{IsStepping, last_from, held_from, value_at};
 ghost use Rattle.step_maps.specs.Copying.{BelowEnd, UpToEnd};
 ghost use Rattle.step_maps.specs.Places.{is_past, StartsAt};
@@ -17,7 +17,8 @@ fn is_past(end: Option<u64>, stop: u64) -> bool
     }
 }
 
-/// From one address on, and up to an end, the values are those of another function.
+/// From one address on, and up to an end, the values are those of another function. Where memory is wanting, a front of them
+/// may have been copied.
 pub fn copy_steps<V: Copy + Drop>(
     copy: &mut StepMap<V>,
     from: &StepMap<V>,

@@ -1,7 +1,8 @@
 ghost use Rattle.std.specs.Prelude.{◌≡◌, ℕ, ◌+◌, ◌^◌, ◌<◌, ◌≤◌, true, false, nat_le, nat_lt, if◌then◌else◌, None, Some, IfOk, OnOk};
 ghost use Rattle.step_maps.specs.Stepping.{last_from, value_at};
 ghost use Rattle.step_maps.specs.Covers.{reaches, AreStretches};
-ghost use Rattle.step_maps.specs.Laying.{own_item, laid, ascends, IsBelow, AreSteady, sooner};
+ghost use Rattle.step_maps.specs.Copying.{BelowEnd};
+ghost use Rattle.step_maps.specs.Laying.{own_item, laid, ascends, AreSteady, sooner};
 
 use crate::overlaying::{over, overlay};
 use crate::steps::StepMap;
@@ -135,7 +136,7 @@ fn laid_at(items: &[Stretch], a: u64) -> Option<FirstItem>
 /// The first address above another at which a stretch begins or has ended.
 fn next_stop(items: &[Stretch], at: u64) -> Option<u64>
     ensures steady { AreSteady items.now at result }
-    ensures above { IsBelow at result }
+    ensures above { BelowEnd at result }
 {
     let Some((item, later)) = items.split_first() else {
         return None;
@@ -144,8 +145,8 @@ fn next_stop(items: &[Stretch], at: u64) -> Option<u64>
 }
 
 fn stop_of(item: Stretch, at: u64) -> Option<u64>
-    ensures steady { (a : ℕ) → at ≤ a → a < 2 ^ 64 → IsBelow a result → reaches item a ≡ reaches item at }
-    ensures above { IsBelow at result }
+    ensures steady { (a : ℕ) → at ≤ a → a < 2 ^ 64 → BelowEnd a result → reaches item a ≡ reaches item at }
+    ensures above { BelowEnd at result }
 {
     if at < item.first {
         return Some(item.first);
