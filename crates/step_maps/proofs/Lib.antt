@@ -1,0 +1,14 @@
+pub mod SteppingLemmas
+pub mod OverlayLemmas
+pub mod RunLemmas
+pub mod OneRuns
+pub mod MaximalLemmas
+pub mod PieceLemmas
+pub mod StretchLemmas
+pub mod LayingLemmas
+pub mod FirstLemmas
+pub mod JoiningLemmas
+pub mod CopyLemmas
+pub mod Computing
+mod WorkedCovers
+mod WorkedSteps

@@ -1,0 +1,36 @@
+-- No public clause cites this: stretches laid over one another, each over those behind it.
+use Rattle.std.specs.Prelude.{◌≡◌, ℕ, ◌^◌, ◌<◌, ◌≤◌, Bool, true, false, ◌&&◌, nat_lt, min, if◌then◌else◌, List, [], ◌∷◌, Option, None, Some}
+use Rattle.step_maps.specs.declared.stretch.Stretch.{Stretch}
+use Rattle.step_maps.specs.declared.stretch.FirstItem.{FirstItem}
+use Rattle.step_maps.specs.Covers.{reaches}
+use Rattle.step_maps.specs.Overlays.{over}
+use Rattle.step_maps.specs.Copying.{BelowEnd}
+
+-- the stretch alone
+abbrev pub own_item : Stretch → ℕ → Option FirstItem
+own_item s a = if reaches s a then Some (record { index = s.index; class = s.class; shared = false }) else None
+
+-- each stretch over those behind it
+unfoldable pub laid : List Stretch → ℕ → Option FirstItem
+laid [] a = None
+laid (s ∷ items) a = over (own_item s a) (laid items a)
+
+-- whether each stretch begins above the last address of the one before
+abbrev pub ascends_from : ℕ → List Stretch → Bool
+ascends_from last [] = true
+ascends_from last (s ∷ items) = nat_lt last s.first && ascends_from s.last items
+
+abbrev pub ascends : List Stretch → Bool
+ascends [] = true
+ascends (s ∷ items) = ascends_from s.last items
+
+-- the lower of two stops, if there are any
+abbrev pub sooner : Option ℕ → Option ℕ → Option ℕ
+sooner None y = y
+sooner (Some x) None = Some x
+sooner (Some x) (Some y) = Some (min x y)
+
+-- from an address on, and up to a stop, each stretch has all addresses or none
+abbrev pub AreSteady : List Stretch → ℕ → Option ℕ → Type 0
+AreSteady [] at next = Unit {0}
+AreSteady (s ∷ items) at next = ((a : ℕ) → at ≤ a → a < 2 ^ 64 → BelowEnd a next → reaches s a ≡ reaches s at) × AreSteady items at next
