@@ -1,5 +1,5 @@
 //! The records of all entries.
-ghost use Rattle.std.specs.Prelude.{◌≡◌, ℕ, List, ◌+◌, ◌^◌, ◌<◌, ◌≤◌, true, false, None, Some, MatchOption, IfOk, OnOk};
+ghost use Rattle.std.specs.Prelude.{◌≡◌, ℕ, List, ◌+◌, ◌^◌, ◌<◌, false, None, Some, MatchOption, IfOk, OnOk};
 ghost use Rattle.sym_edges.specs.Outside.{MatchStop};
 ghost use Rattle.sym_edges.specs.Addresses.{Range};
 ghost use Rattle.range_set.specs.Starts.{AllFrom};

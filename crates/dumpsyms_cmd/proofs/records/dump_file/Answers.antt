@@ -1,9 +1,8 @@
-use Rattle.std.proofs.Common.{List, ◌∙◌, refl, sym, ap}
+use Rattle.std.proofs.Common.{List, ◌∙◌, refl, sym}
 use Rattle.sym_records.specs.declared.line.SymLine.{SymLine}
 use Rattle.sym_records.specs.Spelled.{text_bytes}
 use Rattle.sym_records.proofs.SpelledLemmas.{spelled_reads}
 use Rattle.rule_postfix.specs.Written.{written, written_lines}
-use Rattle.dumpsyms_cmd.specs.Refusals.{omitted_text}
 use Rattle.dumpsyms_cmd.proofs.FrameLemmas.{dump_spelled, dump_records, dumps_framed}
 use Rattle.dumpsyms_cmd.proofs.records.dump_file.Goals as goal
 

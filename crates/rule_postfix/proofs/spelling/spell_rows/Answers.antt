@@ -1,4 +1,4 @@
-use Rattle.std.proofs.Common.{List, ◌≡◌, ◌++◌, ◌-◌, ◌∷◌, ◌∙◌, ap, subst}
+use Rattle.std.proofs.Common.{List, ◌++◌, ◌-◌, ◌∙◌, ap, subst}
 use Rattle.frame_rows.specs.Rows.{Ascending}
 use Rattle.frame_rows.specs.declared.row.RowAt.{RowAt}
 use Rattle.sym_records.specs.Canon.{canon}
