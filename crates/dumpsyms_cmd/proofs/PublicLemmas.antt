@@ -10,10 +10,12 @@ use Rattle.std.specs.List.Sorted.{ties, IsNonDecreasingBy}
 use Rattle.std.specs.declared.cmp.Ordering.TheVariants.{Less, Equal, Greater}
 use Rattle.elf_sections.specs.declared.symbols.Symbol.{Symbol}
 use Rattle.elf_sections.specs.Symbols.{SymbolParts, symbol_view}
+use Rattle.sym_records.specs.Canon.{canon, canon_text}
 use Rattle.sym_records.specs.Validity.{first_bad}
 use Rattle.sym_records.proofs.MakingLemmas.{push_fits}
+use Rattle.sym_records.proofs.SpelledLemmas.{text_grown}
 use Rattle.sym_records.specs.declared.line.SymLine.{SymLine}
-use Rattle.dumpsyms_cmd.specs.Publics.{with_number, ascending, has, IsRising, IsOrdered, FitsInside, starts_elsewhere, stands_at, addresses, names_of, public_named, public_at, publics}
+use Rattle.dumpsyms_cmd.specs.Publics.{with_number, ascending, has, IsRising, IsOrdered, FitsInside, MayFollow, starts_elsewhere, stands_at, addresses, names_of, public_named, public_at, publics}
 
 above_by : (t : Bool) (a b x : ℕ) (xs : List ℕ) → nat_lt a x ≡ t → (t && list_all (λ y. nat_lt a y) xs) ≡ true → b ≤ a → (list_all (λ y. nat_lt a y) xs ≡ true → has b xs ≡ false) → ((x == b) || has b xs) ≡ false
 above_by true a b x xs test all le later =
@@ -399,22 +401,44 @@ nothing_behind (s ∷ sorted) (suc n) past = nothing_behind sorted n (omega arit
 pub one_more : (lines : List SymLine) (line : SymLine) → first_bad lines ≡ None → FitsInside line → first_bad (lines ++ line ∷ []) ≡ None
 one_more lines line valid fit = push_fits lines line valid fit.0 fit.1
 
-pub all_done : (base : ℕ) (lines whole : List SymLine) (sorted : List Symbol) (n : ℕ) → length sorted ≤ n → lines ++ publics base (map symbol_view (drop n sorted)) ≡ whole → lines ≡ whole
-all_done base lines whole sorted n past is =
-    sym (append-nil lines) ∙ ap (λ l. lines ++ l) (sym (publics_none base)) ∙ ap (λ l. lines ++ publics base (map symbol_view l)) (sym (nothing_behind sorted n past)) ∙ is
+pub all_done : (base : ℕ) (text whole : List ℕ) (sorted : List Symbol) (n : ℕ) → length sorted ≤ n → text ++ canon_text (publics base (map symbol_view (drop n sorted))) ≡ whole → text ≡ whole
+unfolding canon_text
+all_done base text whole sorted n past is =
+    sym (append-nil text) ∙ ap (λ l. text ++ canon_text l) (sym (publics_none base)) ∙ ap (λ l. text ++ canon_text (publics base (map symbol_view l))) (sym (nothing_behind sorted n past)) ∙ is
+
+pub all_follow : (base : ℕ) (sorted : List Symbol) (n : ℕ) → length sorted ≤ n → (MayFollow (publics base (map symbol_view (drop n sorted))) → MayFollow (publics base (map symbol_view sorted))) → MayFollow (publics base (map symbol_view sorted))
+all_follow base sorted n past on =
+    let P : List SymLine → Type 0 = λ xs. MayFollow xs in
+    on (subst P (sym (ap (λ l. publics base (map symbol_view l)) (nothing_behind sorted n past) ∙ publics_none base))
+    (record { behind = λ front valid. ap first_bad (append-nil front) ∙ valid }))
 
 moved_on : (sorted : List Symbol) (at count : ℕ) → drop (at + count) sorted ≡ drop count (drop at sorted)
 moved_on sorted at count = grind (arith, common_steps)
 
+later_publics : (base : ℕ) (line : SymLine) (sorted rest : List Symbol) (at count : ℕ) → rest ≡ drop at sorted → publics base (map symbol_view rest) ≡ line ∷ publics base (map symbol_view (drop count rest)) → publics base (map symbol_view (drop at sorted)) ≡ line ∷ publics base (map symbol_view (drop (at + count) sorted))
+later_publics base line sorted rest at count part first =
+    ap (λ l. publics base (map symbol_view l)) (sym part) ∙ first ∙ ap (λ l. line ∷ publics base (map symbol_view l)) (sym (moved_on sorted at count ∙ ap (drop count) (sym part)))
+
 -- a record joins those before, and its group is done
-pub group_done : (base : ℕ) (old new whole : List SymLine) (line : SymLine) (sorted rest : List Symbol) (at count : ℕ) → new ≡ old ++ line ∷ [] → rest ≡ drop at sorted → publics base (map symbol_view rest) ≡ line ∷ publics base (map symbol_view (drop count rest)) → old ++ publics base (map symbol_view (drop at sorted)) ≡ whole → new ++ publics base (map symbol_view (drop (at + count) sorted)) ≡ whole
-group_done base old new whole line sorted rest at count pushed part first inv =
-    let later : map symbol_view (drop (at + count) sorted) ≡ map symbol_view (drop count rest) =
-    ap (map symbol_view) (moved_on sorted at count ∙ ap (drop count) (sym part)) in
-    ap (λ l. l ++ publics base (map symbol_view (drop (at + count) sorted))) pushed
-    ∙ append_assoc old (line ∷ []) (publics base (map symbol_view (drop (at + count) sorted)))
-    ∙ ap (λ l. old ++ (line ∷ publics base l)) later ∙ ap (λ l. old ++ l) (sym first)
-    ∙ ap (λ l. old ++ publics base (map symbol_view l)) part ∙ inv
+pub group_done : (base : ℕ) (full last longer new whole : List ℕ) (line : SymLine) (sorted rest : List Symbol) (at count : ℕ) → longer ≡ last ++ canon line → new ≡ full ++ longer → rest ≡ drop at sorted → publics base (map symbol_view rest) ≡ line ∷ publics base (map symbol_view (drop count rest)) →
+    (full ++ last) ++ canon_text (publics base (map symbol_view (drop at sorted))) ≡ whole → new ++ canon_text (publics base (map symbol_view (drop (at + count) sorted))) ≡ whole
+unfolding canon_text
+group_done base full last longer new whole line sorted rest at count added turned part first inv =
+    ap (λ l. l ++ canon_text (publics base (map symbol_view (drop (at + count) sorted)))) (turned ∙ text_grown full last (canon line) longer added)
+    ∙ append_assoc (full ++ last) (canon line) (canon_text (publics base (map symbol_view (drop (at + count) sorted))))
+    ∙ ap (λ l. (full ++ last) ++ canon_text l) (sym (later_publics base line sorted rest at count part first)) ∙ inv
+
+-- a record that fits may stand in front of records that may follow
+one_follows : (line : SymLine) (lines : List SymLine) → FitsInside line → MayFollow lines → MayFollow (line ∷ lines)
+one_follows line lines fit may = record {
+  behind = λ front valid. ap first_bad (sym (append_assoc front (line ∷ []) lines)) ∙ may.behind (front ++ line ∷ []) (one_more front line valid fit);
+}
+
+pub group_follows : (base : ℕ) (line : SymLine) (sorted rest : List Symbol) (at count : ℕ) → rest ≡ drop at sorted → publics base (map symbol_view rest) ≡ line ∷ publics base (map symbol_view (drop count rest)) → FitsInside line →
+    (MayFollow (publics base (map symbol_view (drop at sorted))) → MayFollow (publics base (map symbol_view sorted))) → MayFollow (publics base (map symbol_view (drop (at + count) sorted))) → MayFollow (publics base (map symbol_view sorted))
+group_follows base line sorted rest at count part first fit on may =
+    let P : List SymLine → Type 0 = λ xs. MayFollow xs in
+    on (subst P (sym (later_publics base line sorted rest at count part first)) (one_follows line (publics base (map symbol_view (drop (at + count) sorted))) fit may))
 
 pub order_done : (sorted rest : List Symbol) (at count : ℕ) → rest ≡ drop at sorted → IsOrdered (map symbol_view (drop count rest)) → IsOrdered (map symbol_view (drop (at + count) sorted))
 order_done sorted rest at count part up =

@@ -1,10 +1,20 @@
-use Rattle.std.proofs.Common.{◌≡◌, ℕ, suc, ◌+◌, ◌*◌, ◌/◌, ◌%◌, ◌<◌, ◌≤◌, List, [], ◌∷◌, ◌++◌, true, length, get_or, codes, refl, sym, ◌∙◌, ap, arith, subst, length-append}
+use Rattle.std.proofs.Common.{◌≡◌, ℕ, suc, ◌+◌, ◌*◌, ◌/◌, ◌%◌, ◌<◌, ◌≤◌, List, [], ◌∷◌, ◌++◌, true, length, get_or, codes, refl, sym, ◌∙◌, ap, arith, subst, length-append, append_assoc, append-nil, Option, None, Some}
 use Rattle.std.specs.Str.Parse.{AllDigits}
 use Rattle.hex.specs.Hex.{encode_upper, encode_with}
 use Rattle.sym_records.specs.Fields.{is_field, is_name}
-use Rattle.sym_records.specs.Validity.{fields_fit}
+use Rattle.std.specs.List.{flat_map}
+use Rattle.std.proofs.lemmas.List.Concat.{flat_map-append}
+use Rattle.sym_records.specs.Canon.{canon, canon_text}
+use Rattle.sym_records.specs.Reading.{fits}
+use Rattle.sym_records.specs.Validity.{fields_fit, first_bad}
+use Rattle.sym_records.specs.declared.place.Place.TheVariants.{Start}
+use Rattle.sym_records.specs.declared.line.SymLine.{SymLine}
 use Rattle.sym_records.specs.declared.line.SymLine.TheVariants.{Module, Info}
-use Rattle.sym_records.proofs.MakingLemmas.{upper_digit, digits_field, module_fits, info_fits, code_id_name}
+use Rattle.sym_records.proofs.MakingLemmas.{upper_digit, digits_field, module_fits, info_fits, code_id_name, first_fits}
+use Rattle.sym_records.proofs.SpelledLemmas.{text_grown}
+use Rattle.dumpsyms_cmd.specs.Dump.{module_line, info_line, info_lines}
+use Rattle.dumpsyms_cmd.specs.Publics.{FitsInside}
+use Rattle.dumpsyms_cmd.proofs.PublicLemmas.{one_more}
 
 -- the digits of bytes are digits
 pub upper_all : (bytes : List ℕ) → ((i : ℕ) → get_or bytes i 0 < 256) → AllDigits 16 (encode_upper bytes)
@@ -49,3 +59,34 @@ text_digits bytes text is fits = subst (AllDigits 16) (sym is) (upper_all bytes 
 
 pub text_length : (bytes text : List ℕ) → text ≡ encode_upper bytes → length text ≡ 2 * length bytes
 text_length bytes text is = ap length is ∙ upper_length bytes
+
+-- the records of the binary and of its build id
+pub module_alone : (identity : List ℕ) (name : List ℕ) (id : Option (List ℕ)) (old text : List ℕ) → id ≡ None → text ≡ old ++ canon (module_line identity name) → text ≡ old ++ canon_text (module_line identity name ∷ info_lines id)
+unfolding canon_text
+module_alone identity name id old text none is = is ∙ ap (λ t. old ++ t) (sym (append-nil (canon (module_line identity name)))) ∙ ap (λ o. old ++ canon_text (module_line identity name ∷ info_lines o)) (sym none)
+
+pub module_and_info : (identity : List ℕ) (name bytes : List ℕ) (id : Option (List ℕ)) (old first text : List ℕ) → id ≡ Some bytes → first ≡ old ++ canon (module_line identity name) → text ≡ first ++ canon (info_line bytes) → text ≡ old ++ canon_text (module_line identity name ∷ info_lines id)
+unfolding canon_text
+module_and_info identity name bytes id old first text some begun is =
+    is ∙ ap (λ t. t ++ canon (info_line bytes)) begun ∙ append_assoc old (canon (module_line identity name)) (canon (info_line bytes))
+    ∙ ap (λ t. old ++ (canon (module_line identity name) ++ t)) (sym (append-nil (canon (info_line bytes)))) ∙ ap (λ o. old ++ canon_text (module_line identity name ∷ info_lines o)) (sym some)
+
+pub module_fits_first : (line : SymLine) (id : Option (List ℕ)) → id ≡ None → fits Start line ≡ true → fields_fit line ≡ true → first_bad (line ∷ info_lines id) ≡ None
+module_fits_first line id none first fit = ap (λ o. first_bad (line ∷ info_lines o)) none ∙ first_fits line first fit
+
+pub info_fits_behind : (line : SymLine) (bytes : List ℕ) (id : Option (List ℕ)) → id ≡ Some bytes → fits Start line ≡ true → fields_fit line ≡ true → FitsInside (info_line bytes) → first_bad (line ∷ info_lines id) ≡ None
+info_fits_behind line bytes id some first fit behind = ap (λ o. first_bad (line ∷ info_lines o)) some ∙ one_more (line ∷ []) (info_line bytes) (first_fits line first fit) behind
+
+-- the records in front
+pub head_spelled : (front publics : List SymLine) (full last longer text new : List ℕ) → full ++ last ≡ [] → longer ≡ last ++ canon_text front → text ≡ full ++ longer → new ≡ text ++ canon_text publics → new ≡ canon_text (front ++ publics)
+unfolding canon_text
+head_spelled front publics full last longer text new none begun same is =
+    is ∙ ap (λ t. t ++ canon_text publics) (same ∙ text_grown full last (canon_text front) longer begun ∙ ap (λ t. t ++ canon_text front) none) ∙ sym (flat_map-append canon front publics)
+
+-- one text behind another
+pub joined : (front rest more whole : List (List ℕ)) (middle last : List ℕ) → more ≡ front ++ middle ∷ [] → whole ≡ more ++ rest → flat_map (λ piece. piece) whole ++ last ≡ (flat_map (λ piece. piece) front ++ middle) ++ (flat_map (λ piece. piece) rest ++ last)
+joined front rest more whole middle last pushed appended =
+    let pieces : List (List ℕ) → List ℕ = flat_map (λ piece. piece) in
+    ap (λ l. pieces l ++ last) (appended ∙ ap (λ l. l ++ rest) pushed)
+    ∙ ap (λ l. l ++ last) (flat_map-append (λ piece. piece) (front ++ middle ∷ []) rest ∙ ap (λ l. l ++ pieces rest) (flat_map-append (λ piece. piece) front (middle ∷ []) ∙ ap (λ l. pieces front ++ l) (append-nil middle)))
+    ∙ append_assoc (pieces front ++ middle) (pieces rest) last

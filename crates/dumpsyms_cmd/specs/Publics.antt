@@ -1,11 +1,11 @@
 -- The PUBLIC records of a file (Breakpad's symbol_files.md): one for each address of a function symbol.
-use Rattle.std.specs.Prelude.{◌≡◌, ℕ, ◌-◌, ◌==◌, Bool, true, false, not, List, [], ◌∷◌, map, filter, nat_lt, nat_le, if◌then◌else◌}
+use Rattle.std.specs.Prelude.{◌≡◌, ℕ, ◌-◌, ◌==◌, Bool, true, false, not, List, [], ◌∷◌, ◌++◌, None, map, filter, nat_lt, nat_le, if◌then◌else◌}
 use Rattle.std.specs.List.{list_any, list_all}
 use Rattle.std.specs.Str.{bytes_eq}
 use Rattle.elf_sections.specs.Symbols.{SymbolParts}
 use Rattle.sym_records.specs.Cleaning.{cleaned}
 use Rattle.sym_records.specs.Reading.{fits}
-use Rattle.sym_records.specs.Validity.{fields_fit}
+use Rattle.sym_records.specs.Validity.{fields_fit, first_bad}
 use Rattle.sym_records.specs.declared.place.Place.TheVariants.{Inside}
 use Rattle.sym_records.specs.declared.line.SymLine.{SymLine}
 use Rattle.sym_records.specs.declared.line.SymLine.TheVariants.{Public}
@@ -76,3 +76,7 @@ starts_elsewhere a (s ∷ symbols) = not (stands_at a s)
 -- a record that may stand behind the first one
 abbrev pub FitsInside : SymLine → Type 0
 FitsInside line = (fits Inside line ≡ true) × (fields_fit line ≡ true)
+
+-- records that may stand behind valid ones
+pub record MayFollow (lines : List SymLine) : Type 0 where
+  pub behind : (front : List SymLine) → first_bad front ≡ None → first_bad (front ++ lines) ≡ None

@@ -1,12 +1,12 @@
 //! What is found out before anything is written.
-use sym_records::{ByteText, SymFile};
+use sym_records::{ByteText, SymText};
 
 /// What standard output gets.
 #[derive(Debug, Drop)]
 pub enum Output {
     Nothing,
     /// The canonical text of these records.
-    Text(SymFile),
+    Text(SymText),
     Bytes(ByteText),
 }
 

@@ -12,11 +12,10 @@ ghost use Rattle.dumpsyms_cmd.specs.Observed.{Asks};
 
 use crate::frames::{FrameLists, list_omissions, read_frames};
 use crate::judgement::{Answer, Judgement, Message, Output};
-use crate::records::dump_file;
+use crate::records::{Dumped, dump_file};
 use crate::refusals::{TOO_LONG, UNBUILT, USAGE, fault_line, frame_line};
 use crate::words::{Command, name_of, parse_words};
 use elf_sections::{Image, read_image};
-use rule_postfix::{Frames, translate_all};
 use std::alloc::Global;
 use sym_edges::{OutOfMemory, ReadEnd, Sect, Stop, Store, read_all};
 
@@ -45,16 +44,9 @@ fn judge_frames(
     requires found { frames image.now ≡ Ok found.now }
     ensures { IfOk result (λ j. JudgesParts j name.now image.now) }
 {
-    let framed = translate_all(
-        alloc,
-        &found.first,
-        &found.second,
-        image.code(),
-        image.base(),
-    )?;
-    let Frames { lines, omitted } = framed;
+    let dumped = dump_file(alloc, image, name, found)?;
+    let Dumped { file, omitted } = dumped;
     let text = list_omissions(alloc, omitted.as_slice())?;
-    let file = dump_file(alloc, image, name, lines)?;
     Ok(Judgement {
         status: 0,
         out: Output::Text(file),

@@ -1,15 +1,18 @@
-ghost use Rattle.std.specs.Prelude.{◌≡◌, ℕ, List, ◌<◌, ◌≤◌, [], ◌∷◌, ◌++◌, not, length, map, filter, true, None, take, drop, IfOk, OnOk};
+ghost use Rattle.std.specs.Prelude.{◌≡◌, ℕ, List, ◌<◌, ◌≤◌, ◌∷◌, ◌++◌, not, length, map, filter, true, take, drop, IfOk, OnOk};
 ghost use Rattle.std.specs.List.{list_all, list_any};
 ghost use Rattle.std.specs.Str.{bytes_eq};
 ghost use Rattle.elf_sections.specs.Symbols.{symbol_view, SymbolParts};
+ghost use Rattle.sym_records.specs.Canon.{canon_text};
 ghost use Rattle.sym_records.specs.Cleaning.{cleaned};
-ghost use Rattle.sym_records.specs.Validity.{first_bad};
-ghost use Rattle.dumpsyms_cmd.specs.Publics.{publics, stands_at, starts_elsewhere, names_of, public_named, addresses, has, IsRising, IsOrdered, FitsInside};
+ghost use Rattle.sym_records.specs.Spelled.{text_bytes};
+ghost use Rattle.sym_records.specs.declared.line.SymLine.TheVariants as line;
+ghost use Rattle.dumpsyms_cmd.specs.Publics.{publics, stands_at, starts_elsewhere, names_of, public_named, addresses, has, IsRising, IsOrdered, FitsInside, MayFollow};
 
 use elf_sections::Symbol;
 use std::alloc::{AllocError, Global};
 use sym_edges::OutOfMemory;
-use sym_records::{ByteText, SymLine, clean};
+use sym_records::laws::cleaned_bytes_are_names;
+use sym_records::{TextPieces, add_public, clean};
 
 /// The symbols by address; those of one address in the order in which they came.
 fn sorted_symbols<'a>(alloc: Global, symbols: &[Symbol<'a>]) -> Result<Vec<Symbol<'a>>, AllocError>
@@ -35,73 +38,72 @@ fn group_len(symbols: &[Symbol<'_>], address: u64) -> usize
     symbols.len()
 }
 
-/// Whether a symbol's cleaned name differs from the first one, whose cleaned name is `name`.
-fn is_other_name(
-    alloc: Global,
-    first: &[u8],
-    name: &ByteText,
-    symbol: &Symbol<'_>,
-) -> Result<bool, OutOfMemory>
-    requires { name.now ≡ cleaned first.now }
-    ensures { IfOk result (λ found. found ≡ not (bytes_eq (cleaned (symbol_view symbol.now).name) name.now)) }
+/// Whether a symbol's cleaned name differs from that of the first one.
+fn is_other_name(alloc: Global, first: &[u8], symbol: &Symbol<'_>) -> Result<bool, OutOfMemory>
+    ensures { IfOk result (λ found. found ≡ not (bytes_eq (cleaned (symbol_view symbol.now).name) (cleaned first.now))) }
 {
     if symbol.name == first {
         return Ok(false);
     }
+    let name = clean(alloc, first)?;
     let other = clean(alloc, symbol.name)?;
     Ok(other.as_slice() != name.as_slice())
 }
 
-/// Whether some symbol's cleaned name differs from the first one.
+/// Whether some symbol's cleaned name differs from that of the first one.
 fn has_other_name(
     alloc: Global,
     first: &[u8],
-    name: &ByteText,
     others: &[Symbol<'_>],
 ) -> Result<bool, OutOfMemory>
-    requires { name.now ≡ cleaned first.now }
-    ensures { IfOk result (λ found. found ≡ list_any (λ other. not (bytes_eq other name.now)) (names_of (map symbol_view others.now))) }
+    ensures { IfOk result (λ found. found ≡ list_any (λ other. not (bytes_eq other (cleaned first.now))) (names_of (map symbol_view others.now))) }
 {
     'others: for symbol in others {
-        if is_other_name(alloc, first, name, symbol)? {
+        if is_other_name(alloc, first, symbol)? {
             return Ok(true);
         }
     }
     Ok(false)
 }
 
+/// What the record of an address says, its name not cleaned yet.
+struct PublicParts<'a> {
+    many: bool,
+    address: u64,
+    name: &'a [u8],
+}
+
 /// The record of the symbols of one address.
 #[tactic(auto, using(sym_records::proofs::MakingLemmas::public_fits))]
-fn public_line(
+fn public_line<'a>(
     alloc: Global,
     base: u64,
-    first: &Symbol<'_>,
+    first: &Symbol<'a>,
     others: &[Symbol<'_>],
-) -> Result<SymLine, OutOfMemory>
-    ensures fit { IfOk result FitsInside }
-    ensures line { IfOk result (λ line. line ≡ public_named base first.now.address (names_of (symbol_view first.now ∷ map symbol_view others.now))) }
+) -> Result<PublicParts<'a>, OutOfMemory>
+    ensures fit { IfOk result (λ p. FitsInside (line.Public p.many p.address 0 (cleaned p.name.now))) }
+    ensures line { IfOk result (λ p. line.Public p.many p.address 0 (cleaned p.name.now) ≡ public_named base first.now.address (names_of (symbol_view first.now ∷ map symbol_view others.now))) }
 {
-    let name = clean(alloc, first.name)?;
-    let many = has_other_name(alloc, first.name, &name, others)?;
-    Ok(SymLine::Public {
+    cleaned_bytes_are_names();
+    let many = has_other_name(alloc, first.name, others)?;
+    Ok(PublicParts {
         many,
         address: first.address.saturating_sub(base),
-        params: 0,
-        name,
+        name: first.name,
     })
 }
 
 /// The record of the first address of symbols that stand by address, and how many symbols have that address.
-fn first_record(
+fn first_record<'a>(
     alloc: Global,
     base: u64,
-    symbols: &[Symbol<'_>],
-) -> Result<(SymLine, usize), OutOfMemory>
+    symbols: &[Symbol<'a>],
+) -> Result<(PublicParts<'a>, usize), OutOfMemory>
     requires some { 0 < length symbols.now }
     requires ordered { IsOrdered (map symbol_view symbols.now) }
-    ensures lines { IfOk result (λ r. publics base (map symbol_view symbols.now) ≡ r.0 ∷ publics base (map symbol_view (drop r.1 symbols.now))) }
+    ensures lines { IfOk result (λ r. publics base (map symbol_view symbols.now) ≡ line.Public r.0.many r.0.address 0 (cleaned r.0.name.now) ∷ publics base (map symbol_view (drop r.1 symbols.now))) }
     ensures ordered { IfOk result (λ r. IsOrdered (map symbol_view (drop r.1 symbols.now))) }
-    ensures fit { IfOk result (λ r. FitsInside r.0) }
+    ensures fit { IfOk result (λ r. FitsInside (line.Public r.0.many r.0.address 0 (cleaned r.0.name.now))) }
     ensures moves { IfOk result (λ r. 0 < r.1) }
     ensures inside { IfOk result (λ r. r.1 ≤ length symbols.now) }
 {
@@ -112,42 +114,40 @@ fn first_record(
     Ok((line, count + 1))
 }
 
-/// Adds the records of symbols that stand by address.
-#[tactic(auto, using(crate::proofs::PublicLemmas::one_more))]
+/// Spells the records of symbols that stand by address.
 fn add_lines(
     alloc: Global,
     base: u64,
     sorted: &[Symbol<'_>],
-    lines: &mut Vec<SymLine>,
+    text: &mut TextPieces,
 ) -> Result<(), OutOfMemory>
-    requires ordered { IsOrdered (map symbol_view sorted.now) }
-    requires valid { first_bad lines.old.items ≡ None }
-    ensures lines { OnOk result (lines.new.items ≡ lines.old.items ++ publics base (map symbol_view sorted.now)) }
-    ensures valid { OnOk result (first_bad lines.new.items ≡ None) }
+    requires { IsOrdered (map symbol_view sorted.now) }
+    ensures text { OnOk result (text_bytes text.new ≡ text_bytes text.old ++ canon_text (publics base (map symbol_view sorted.now))) }
+    ensures valid { OnOk result (MayFollow (publics base (map symbol_view sorted.now))) }
 {
     let mut at = 0;
     'groups: while at < sorted.len() {
         let (line, count) = first_record(alloc, base, sorted.split_at(at).1)?;
-        lines.push(line)?;
+        add_public(&mut text.last, line.many, line.address, 0, line.name)?;
+        text.turn(alloc)?;
         at += count;
     }
     Ok(())
 }
 
-/// Adds the PUBLIC records of a file behind its other records: one for each address of a function symbol, by address.
+/// Spells the PUBLIC records of a file: one for each address of a function symbol, by address.
 #[tactic(auto, using(crate::proofs::PublicLemmas::publics_same, crate::proofs::PublicLemmas::rising_addresses, crate::proofs::PublicLemmas::has_addresses))]
 pub fn add_publics(
     alloc: Global,
     base: u64,
     symbols: &[Symbol<'_>],
-    lines: &mut Vec<SymLine>,
+    text: &mut TextPieces,
 ) -> Result<(), OutOfMemory>
-    requires { first_bad lines.old.items ≡ None }
-    ensures lines { OnOk result (lines.new.items ≡ lines.old.items ++ publics base (map symbol_view symbols.now)) }
-    ensures valid { OnOk result (first_bad lines.new.items ≡ None) }
+    ensures text { OnOk result (text_bytes text.new ≡ text_bytes text.old ++ canon_text (publics base (map symbol_view symbols.now))) }
+    ensures valid { OnOk result (MayFollow (publics base (map symbol_view symbols.now))) }
     ensures ascending { (all : List SymbolParts) → IsRising (addresses all) }
     ensures members { (all : List SymbolParts) (a : ℕ) → has a (addresses all) ≡ has a (map (λ s. s.address) all) }
 {
     let sorted = sorted_symbols(alloc, symbols)?;
-    add_lines(alloc, base, &sorted, lines)
+    add_lines(alloc, base, &sorted, text)
 }

@@ -1,21 +1,27 @@
-ghost use Rattle.std.specs.Prelude.{◌≡◌, ◌*◌, ◌≤◌, ◌++◌, [], true, None, Ok, length, map, unwrap_or, IfOk, OnOk};
+//! The records of a file, spelled.
+ghost use Rattle.std.specs.Prelude.{◌≡◌, ◌*◌, ◌≤◌, ◌++◌, ◌∷◌, true, false, None, Ok, length, IfOk, OnOk};
 ghost use Rattle.std.specs.Str.Parse.{AllDigits};
 ghost use Rattle.hex.specs.Hex.{encode_upper};
-ghost use Rattle.elf_sections.specs.Symbols.{symbol_view};
 ghost use Rattle.sym_records.specs.Cleaning.{cleaned};
-ghost use Rattle.sym_records.specs.Canon.{canon_text};
-ghost use Rattle.sym_records.specs.Reading.{fits, reading};
-ghost use Rattle.sym_records.specs.Validity.{first_bad, first_bad_from, fields_fit};
-ghost use Rattle.sym_records.specs.declared.place.Place.TheVariants.{Start, Inside};
-ghost use Rattle.dumpsyms_cmd.specs.Publics.{FitsInside, publics};
-ghost use Rattle.dumpsyms_cmd.specs.Dump.{turned, module_id, module_line, info_line, info_lines, head_lines};
+ghost use Rattle.sym_records.specs.Canon.{canon, canon_text};
+ghost use Rattle.sym_records.specs.Spelled.{text_bytes};
+ghost use Rattle.sym_records.specs.Reading.{fits};
+ghost use Rattle.sym_records.specs.Validity.{first_bad, fields_fit};
+ghost use Rattle.sym_records.specs.declared.place.Place.TheVariants.{Start};
+ghost use Rattle.dumpsyms_cmd.specs.Publics.{FitsInside};
+ghost use Rattle.dumpsyms_cmd.specs.Frames.{frames};
+ghost use Rattle.dumpsyms_cmd.specs.Refusals.{omitted_text};
+ghost use Rattle.dumpsyms_cmd.specs.Judged.{DumpsParts};
+ghost use Rattle.dumpsyms_cmd.specs.Dump.{turned, module_id, module_line, info_line, info_lines, head_lines, is_unbuilt};
 
+use crate::frames::FrameLists;
 use crate::publics::add_publics;
 use elf_sections::Image;
+use rule_postfix::{Frames, Omissions, translate_all};
 use std::alloc::Global;
 use sym_edges::OutOfMemory;
-use sym_records::laws::canonical_text_reads_back;
-use sym_records::{Binary, BoxedBinary, ByteText, SymFile, SymLine, SymLines, clean, file_of};
+use sym_records::laws::cleaned_bytes_are_names;
+use sym_records::{ByteText, SymText, TextPieces, add_info, add_module};
 
 /// Bytes in upper-case hexadecimal.
 #[tactic(auto, using(crate::proofs::RecordLemmas::text_length))]
@@ -51,68 +57,109 @@ fn make_id(alloc: Global, identity: [u8; 16]) -> Result<Vec<u8>, OutOfMemory>
     Ok(text)
 }
 
-/// The record of the binary.
+/// Spells the record of the binary, under its cleaned name.
 #[tactic(auto, using(crate::proofs::RecordLemmas::module_valid), unfolding(crate::specs::Dump::module_line))]
-fn make_module(alloc: Global, identity: [u8; 16], name: &[u8]) -> Result<SymLine, OutOfMemory>
-    ensures line { IfOk result (λ line. line ≡ module_line identity (cleaned name.now)) }
-    ensures first { IfOk result (λ line. fits Start line ≡ true) }
-    ensures fit { IfOk result (λ line. fields_fit line ≡ true) }
+fn put_module(
+    alloc: Global,
+    text: &mut Vec<u8>,
+    identity: [u8; 16],
+    name: &[u8],
+) -> Result<(), OutOfMemory>
+    ensures text { OnOk result (text.new.items ≡ text.old.items ++ canon (module_line identity (cleaned name.now))) }
+    ensures first { OnOk result (fits Start (module_line identity (cleaned name.now)) ≡ true) }
+    ensures fit { OnOk result (fields_fit (module_line identity (cleaned name.now)) ≡ true) }
 {
-    let os = ByteText::of(Vec::from_slice(alloc, b"Linux")?);
-    let arch = ByteText::of(Vec::from_slice(alloc, b"x86_64")?);
-    let id = ByteText::of(make_id(alloc, identity)?);
-    let name = clean(alloc, name)?;
-    let binary = BoxedBinary::of(alloc, Binary { os, arch, id, name })?;
-    Ok(SymLine::Module { binary })
+    cleaned_bytes_are_names();
+    let id = make_id(alloc, identity)?;
+    add_module(text, b"Linux", b"x86_64", &id, name)
 }
 
-/// The record of a build id.
+/// Spells the record of a build id.
 #[tactic(auto, using(crate::proofs::RecordLemmas::info_valid), unfolding(crate::specs::Dump::info_line))]
-fn make_info(alloc: Global, id: &[u8]) -> Result<SymLine, OutOfMemory>
+fn put_info(alloc: Global, text: &mut Vec<u8>, id: &[u8]) -> Result<(), OutOfMemory>
     requires { length id.now ≤ 64 }
-    ensures line { IfOk result (λ line. line ≡ info_line id.now) }
-    ensures fit { IfOk result FitsInside }
+    ensures text { OnOk result (text.new.items ≡ text.old.items ++ canon (info_line id.now)) }
+    ensures fit { OnOk result (FitsInside (info_line id.now)) }
 {
-    let mut text = Vec::from_slice(alloc, b"CODE_ID ")?;
-    text.extend_from_slice(&hex_text(alloc, id)?)?;
-    Ok(SymLine::Info {
-        text: ByteText::of(text),
-    })
+    let mut words = Vec::from_slice(alloc, b"CODE_ID ")?;
+    words.extend_from_slice(&hex_text(alloc, id)?)?;
+    add_info(text, &words)
 }
 
-/// The records in front of those of frames, under the file's cleaned name.
-#[tactic(auto, using(sym_records::proofs::MakingLemmas::first_fits, crate::proofs::PublicLemmas::one_more), unfolding(crate::specs::Dump::head_lines))]
-fn make_head(alloc: Global, image: &Image<'_>, name: &[u8]) -> Result<Vec<SymLine>, OutOfMemory>
-    ensures lines { IfOk result (λ lines. lines.items ≡ head_lines image.now name.now) }
-    ensures valid { IfOk result (λ lines. first_bad lines.items ≡ None) }
+/// Spells the records of the binary and of its build id.
+#[tactic(auto, using(crate::proofs::RecordLemmas::module_alone, crate::proofs::RecordLemmas::module_and_info, crate::proofs::RecordLemmas::module_fits_first, crate::proofs::RecordLemmas::info_fits_behind))]
+fn put_identity(
+    alloc: Global,
+    text: &mut Vec<u8>,
+    image: &Image<'_>,
+    name: &[u8],
+) -> Result<(), OutOfMemory>
+    ensures text { OnOk result (text.new.items ≡ text.old.items ++ canon_text (module_line image.now.identity (cleaned name.now) ∷ info_lines image.now.build_id)) }
+    ensures valid { OnOk result (first_bad (module_line image.now.identity (cleaned name.now) ∷ info_lines image.now.build_id) ≡ None) }
 {
-    let mut lines = Vec::new(alloc);
-    lines.push(make_module(alloc, image.identity(), name)?)?;
+    put_module(alloc, text, image.identity(), name)?;
     if let Some(id) = image.build_id() {
-        lines.push(make_info(alloc, id)?)?;
+        put_info(alloc, text, id)?;
     }
-    add_publics(alloc, image.base(), image.symbols(), &mut lines)?;
-    Ok(lines)
+    Ok(())
 }
 
-/// The records of a file without debug entries: those in front, and then the given records of frames.
-#[tactic(auto, using(sym_records::proofs::JoiningLemmas::join_fits))]
+/// Spells the records in front of those of frames, under the file's cleaned name.
+#[tactic(auto, using(crate::proofs::RecordLemmas::head_spelled, crate::proofs::RecordLemmas::head_valid), unfolding(crate::specs::Dump::head_lines))]
+fn spell_head(alloc: Global, image: &Image<'_>, name: &[u8]) -> Result<TextPieces, OutOfMemory>
+    ensures text { IfOk result (λ text. text_bytes text ≡ canon_text (head_lines image.now name.now)) }
+    ensures valid { IfOk result (λ _. first_bad (head_lines image.now name.now) ≡ None) }
+{
+    let mut text = TextPieces::new(alloc);
+    put_identity(alloc, &mut text.last, image, name)?;
+    add_publics(alloc, image.base(), image.symbols(), &mut text)?;
+    Ok(text)
+}
+
+/// One text behind another.
+#[tactic(auto, using(crate::proofs::RecordLemmas::joined))]
+fn join_texts(front: TextPieces, rest: TextPieces) -> Result<TextPieces, OutOfMemory>
+    ensures { IfOk result (λ text. text_bytes text ≡ text_bytes front ++ text_bytes rest) }
+{
+    let TextPieces { mut full, last } = front;
+    full.push(ByteText::of(last))?;
+    let TextPieces {
+        full: mut more,
+        last,
+    } = rest;
+    full.append(&mut more)?;
+    Ok(TextPieces { full, last })
+}
+
+/// The text of a file, and the frame entries that are left out.
+#[derive(Debug, Drop)]
+pub struct Dumped {
+    pub file: SymText,
+    pub omitted: Omissions,
+}
+
+/// The records of a file without debug entries, spelled: those in front, and then those of its frame entries.
 pub fn dump_file(
     alloc: Global,
     image: &Image<'_>,
     name: &[u8],
-    frames: SymLines,
-) -> Result<SymFile, OutOfMemory>
-    requires { first_bad_from 0 Inside frames ≡ None }
-    ensures lines { IfOk result (λ file. file ≡ head_lines image.now name.now ++ frames) }
-    ensures reads { IfOk result (λ file. reading (canon_text file) ≡ Ok file) }
+    found: &FrameLists<'_>,
+) -> Result<Dumped, OutOfMemory>
+    requires built { is_unbuilt image.now ≡ false }
+    requires found { frames image.now ≡ Ok found.now }
+    ensures { IfOk result (λ d. DumpsParts image.now name.now d.file (omitted_text d.omitted)) }
 {
-    canonical_text_reads_back();
-    let mut lines = make_head(alloc, image, name)?;
-    let mut frames = frames.into_vec();
-    lines.append(&mut frames)?;
-    match file_of(lines) {
-        Ok(file) => Ok(file),
-        Err(_) => unreachable!(),
-    }
+    let framed = translate_all(
+        alloc,
+        &found.first,
+        &found.second,
+        image.code(),
+        image.base(),
+    )?;
+    let Frames { text, omitted } = framed;
+    let head = spell_head(alloc, image, name)?;
+    Ok(Dumped {
+        file: SymText::of(join_texts(head, text)?),
+        omitted,
+    })
 }

@@ -10,7 +10,6 @@ use crate::judging::answer_words;
 use crate::refusals::UNREAD;
 use std::alloc::Global;
 use sym_edges::{Failed, Sink, Store, write_all};
-use sym_records::write_file;
 
 /// The status where a write failed.
 const UNWRITTEN: u8 = 4;
@@ -44,7 +43,7 @@ fn write_output<O: Sink>(output: &Output, out: &mut O) -> Result<(), Failed>
 {
     match output {
         Output::Nothing => Ok(()),
-        Output::Text(file) => write_file(file, out),
+        Output::Text(file) => file.write(out),
         Output::Bytes(text) => write_all(out, text.as_slice()),
     }
 }

@@ -19,7 +19,11 @@ use Rattle.frame_entries.specs.declared.description.Entry.{Entry}
 use Rattle.frame_entries.specs.FdeFields.{FdeFields}
 use Rattle.sym_edges.specs.Results.{unless}
 use Rattle.std.specs.Option.{option_or}
+use Rattle.frame_rows.specs.declared.row.RowAt.{RowAt}
+use Rattle.sym_records.specs.Canon.{canon_text}
+use Rattle.sym_records.specs.Spelled.{text_bytes}
 use Rattle.sym_records.specs.declared.line.SymLine.{SymLine}
+use Rattle.sym_records.proofs.SpelledLemmas.{text_grown}
 use Rattle.sym_records.specs.declared.place.Place.TheVariants.{Inside}
 use Rattle.sym_records.specs.Validity.{first_bad_from}
 use Rattle.rule_postfix.specs.declared.all.Progress.{Progress}
@@ -27,6 +31,7 @@ use Rattle.rule_postfix.specs.declared.omission.Omission.{Omission}
 use Rattle.rule_postfix.specs.Overlaps.{meet, any_meets}
 use Rattle.rule_postfix.specs.Written.{Decided, range_of, has_range, is_code, reason_among, reason_behind, rows_reason, body_reason, reason_of, left_out, with_written, with_fields, with_decision, with_entry, with_entries, decided_behind, decided_of, decided, written, omitted, entry_lines, written_lines}
 use Rattle.rule_postfix.specs.Deciding.{LiesAbove, IfRefused, Shows}
+use Rattle.rule_postfix.proofs.SpellingLemmas.{canon_append}
 
 -- one entry more
 lines_more : (base : ℕ) (ws : List FdeFields) (e : FdeFields) → written_lines base (ws ++ e ∷ []) ≡ written_lines base ws ++ entry_lines base e
@@ -43,12 +48,13 @@ meets_more range ws e =
     ap (list_any (meet range)) (map-append range_of ws (e ∷ [])) ∙ list_any-append (meet range) (map range_of ws) (range_of e ∷ [])
     ∙ ap (λ t. list_any (meet range) (map range_of ws) || t) (or_nothing (meet range (range_of e)))
 
-pub shows_more : (base : ℕ) (p q : Progress) (e : FdeFields) (d : Decided) (lines : List SymLine) → lines ≡ entry_lines base e → first_bad_from 0 Inside lines ≡ None → q.lines.items ≡ p.lines.items ++ lines → q.omitted.items ≡ p.omitted.items → ((range : Range) → any_meets range q.taken ≡ (any_meets range p.taken || meet range (range_of e))) →
+pub shows_more : (base : ℕ) (p q : Progress) (e : FdeFields) (d : Decided) (full last new : List ℕ) (lines : List SymLine) → lines ≡ entry_lines base e → first_bad_from 0 Inside (entry_lines base e) ≡ None → text_bytes p.text ≡ full ++ last → new ≡ last ++ canon_text lines → text_bytes q.text ≡ full ++ new → q.omitted.items ≡ p.omitted.items → ((range : Range) → any_meets range q.taken ≡ (any_meets range p.taken || meet range (range_of e))) →
     ((xs ys : List SymLine) → first_bad_from 0 Inside xs ≡ None → first_bad_from 0 Inside ys ≡ None → first_bad_from 0 Inside (xs ++ ys) ≡ None) → Shows base p d → Shows base q (with_written e d)
-shows_more base p q e d lines these fit more same taken joined so = record {
-  lines = more ∙ ap (λ xs. xs ++ lines) so.lines ∙ ap (λ xs. written_lines base d.written ++ xs) these ∙ sym (lines_more base d.written e);
+shows_more base p q e d full last new lines these fit was more now same taken joined so = record {
+  text = now ∙ text_grown full last (canon_text lines) new more ∙ ap (λ t. t ++ canon_text lines) (sym was ∙ so.text) ∙ ap (λ xs. canon_text (written_lines base d.written) ++ canon_text xs) these
+      ∙ sym (canon_append (written_lines base d.written) (entry_lines base e)) ∙ ap canon_text (sym (lines_more base d.written e));
+  valid = ap (first_bad_from 0 Inside) (lines_more base d.written e) ∙ joined (written_lines base d.written) (entry_lines base e) so.valid fit;
   omitted = same ∙ so.omitted;
-  valid = ap (first_bad_from 0 Inside) more ∙ joined p.lines.items lines so.valid fit;
   taken = λ range. taken range ∙ ap (λ t. t || meet range (range_of e)) (so.taken range) ∙ sym (meets_more range d.written e);
 }
 
@@ -56,9 +62,9 @@ shows_more base p q e d lines these fit more same taken joined so = record {
 abbrev pub none_decided : Decided
 none_decided = record { written = []; omitted = [] }
 
-pub shows_none : (base : ℕ) (p : Progress) → p.lines.items ≡ [] → p.omitted.items ≡ [] → p.taken ≡ [] → Shows base p none_decided
-unfolding written_lines first_bad_from
-shows_none base p lines omitted taken = record { lines = lines; omitted = omitted; valid = ap (first_bad_from 0 Inside) lines; taken = λ range. ap (any_meets range) taken }
+pub shows_none : (base : ℕ) (p : Progress) → text_bytes p.text ≡ [] → p.omitted.items ≡ [] → p.taken ≡ [] → Shows base p none_decided
+unfolding written_lines first_bad_from canon_text
+shows_none base p text omitted taken = record { text = text; omitted = omitted; valid = refl; taken = λ range. ap (any_meets range) taken }
 
 -- what is enclosed by code above a base lies above it
 pub enclosed_above : (base start end : ℕ) (code : List Range) → AllFrom base code → encloses code start end ≡ true → base ≤ start
@@ -129,11 +135,11 @@ unfolding with_entry reason_of
 good_by base code p entry e o d body is so =
     ap (λ b. with_decision entry (body_reason code d.written b) d) body ∙ ap (λ r. with_decision entry r d) (same_reason base code p e d so ∙ is) ∙ decision_good entry e o d body
 
-pub written_too : (base : ℕ) (code : List Range) (p q : Progress) (entry : Entry) (e : FdeFields) (lines : List SymLine) → entry.body ≡ Good e → reason_among code p.taken e ≡ None → lines ≡ entry_lines base e →
-    ((base : ℕ) (d : Decided) → lines ≡ entry_lines base e → Shows base p d → Shows base q (with_written e d)) → (d : Decided) → Shows base p d → Shows base q (with_entry code entry d)
-written_too base code p q entry e lines body is these more d so =
+pub written_too : (base : ℕ) (code : List Range) (p q : Progress) (entry : Entry) (e : FdeFields) → entry.body ≡ Good e → reason_among code p.taken e ≡ None →
+    ((d : Decided) → Shows base p d → Shows base q (with_written e d)) → (d : Decided) → Shows base p d → Shows base q (with_entry code entry d)
+written_too base code p q entry e body is more d so =
     let P : Decided → Type 0 = λ x. Shows base q x in
-    subst P (sym (good_by base code p entry e None d body is so)) (more base d these so)
+    subst P (sym (good_by base code p entry e None d body is so)) (more d so)
 
 left_too : (base : ℕ) (code : List Range) (p q : Progress) (entry : Entry) (e : FdeFields) (why : Reason) → entry.body ≡ Good e → reason_among code p.taken e ≡ Some why →
     ((base : ℕ) (d : Decided) → Shows base p d → Shows base q (left_out entry why d)) → (d : Decided) → Shows base p d → Shows base q (with_entry code entry d)
@@ -141,7 +147,7 @@ left_too base code p q entry e why body is more d so =
     let P : Decided → Type 0 = λ x. Shows base q x in
     subst P (sym (good_by base code p entry e (Some why) d body is so)) (more base d so)
 
-pub refused_too : (base : ℕ) (code : List Range) (p q : Progress) (entry : Entry) (e : FdeFields) (stop : Stop Reason) → entry.body ≡ Good e → MatchStop {A = List SymLine} (Err stop) (λ _. reason_among code p.taken e ≡ None) (λ why. reason_among code p.taken e ≡ Some why) (Unit {0}) →
+pub refused_too : (base : ℕ) (code : List Range) (p q : Progress) (entry : Entry) (e : FdeFields) (stop : Stop Reason) → entry.body ≡ Good e → MatchStop {A = List RowAt} (Err stop) (λ _. reason_among code p.taken e ≡ None) (λ why. reason_among code p.taken e ≡ Some why) (Unit {0}) →
     IfRefused stop (λ why. (base : ℕ) (d : Decided) → Shows base p d → Shows base q (left_out entry why d)) → (d : Decided) → Shows base p d → Shows base q (with_entry code entry d)
 refused_too base code p q entry e (Fault why) body is more = left_too base code p q entry e why body is more
 refused_too base code p q entry e NoMemory body is more = absurd more
@@ -193,7 +199,7 @@ same_entries kept code [] d same = refl
 same_entries kept code (x ∷ entries) d same =
     ap (λ o. with_entries kept entries (with_decision x o d)) (same_body kept code d.written x.body same) ∙ same_entries kept code entries (with_entry code x d) same
 
-pub shown_all : (base : ℕ) (kept code : List Range) (first second one two : List Entry) (p q r : Progress) → ((start end : ℕ) → encloses kept start end ≡ encloses code start end) → p.lines.items ≡ [] → p.omitted.items ≡ [] → p.taken ≡ [] → one ≡ first → two ≡ second →
+pub shown_all : (base : ℕ) (kept code : List Range) (first second one two : List Entry) (p q r : Progress) → ((start end : ℕ) → encloses kept start end ≡ encloses code start end) → text_bytes p.text ≡ [] → p.omitted.items ≡ [] → p.taken ≡ [] → one ≡ first → two ≡ second →
     ((d : Decided) → Shows base p d → Shows base q (with_entries kept one d)) → ((d : Decided) → Shows base q d → Shows base r (with_entries kept two d)) → Shows base r (decided code first second)
 unfolding decided decided_of decided_behind
 shown_all base kept code first second one two p q r at lines omitted taken one_is two_is on_one on_two =
@@ -202,13 +208,14 @@ shown_all base kept code first second one two p q r at lines omitted taken one_i
     subst P (ap (λ xs. with_entries kept xs (with_entries kept one none_decided)) two_is ∙ ap (λ xs. with_entries kept second (with_entries kept xs none_decided)) one_is ∙ same_entries kept code second (with_entries kept first none_decided) same ∙ ap (with_entries code second) (same_entries kept code first none_decided same) ∙ sym (entries_append code first second none_decided))
     (on_two (with_entries kept one none_decided) (on_one none_decided (shows_none base p lines omitted taken)))
 
-pub shown_lines : (base : ℕ) (code : List Range) (first second : List Entry) (r : Progress) (lines : List SymLine) → Shows base r (decided code first second) → lines ≡ r.lines.items → lines ≡ written_lines base (written code first second)
+pub shown_text : (base : ℕ) (code : List Range) (first second : List Entry) (r : Progress) → Shows base r (decided code first second) → text_bytes r.text ≡ canon_text (written_lines base (written code first second))
 unfolding written
-shown_lines base code first second r lines so these = these ∙ so.lines
+shown_text base code first second r so = so.text
 
 pub shown_omitted : (base : ℕ) (code : List Range) (first second : List Entry) (r : Progress) (left : List Omission) → Shows base r (decided code first second) → left ≡ r.omitted.items → left ≡ omitted code first second
 unfolding omitted
 shown_omitted base code first second r left so these = these ∙ so.omitted
 
-pub shown_valid : (base : ℕ) (code : List Range) (first second : List Entry) (r : Progress) (lines : List SymLine) → Shows base r (decided code first second) → lines ≡ r.lines.items → first_bad_from 0 Inside lines ≡ None
-shown_valid base code first second r lines so these = ap (first_bad_from 0 Inside) these ∙ so.valid
+pub shown_valid : (base : ℕ) (code : List Range) (first second : List Entry) (r : Progress) → Shows base r (decided code first second) → first_bad_from 0 Inside (written_lines base (written code first second)) ≡ None
+unfolding written
+shown_valid base code first second r so = so.valid

@@ -2,6 +2,7 @@ pub mod OptionLemmas
 pub mod PartLemmas
 pub mod RulesLemmas
 pub mod WriterLemmas
+pub mod SpellingLemmas
 pub mod LinesLemmas
 pub mod EntryLemmas
 pub mod OverlapLemmas

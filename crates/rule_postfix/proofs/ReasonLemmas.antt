@@ -5,7 +5,6 @@ use Rattle.sym_edges.specs.declared.fault.Stop.{Stop}
 use Rattle.sym_edges.specs.declared.fault.Stop.TheVariants.{Fault, NoMemory}
 use Rattle.sym_edges.specs.Outside.{MatchStop}
 use Rattle.frame_rows.specs.declared.row.RowAt.{RowAt}
-use Rattle.sym_records.specs.declared.line.SymLine.{SymLine}
 use Rattle.rule_postfix.specs.Deciding.{EndsAt}
 use Rattle.sym_edges.specs.declared.reason.Reason.{Reason}
 use Rattle.sym_edges.specs.declared.reason.Reason.TheVariants as reason
@@ -43,7 +42,7 @@ ranged code taken e why inside meets has rows place met =
 no_rows : (code taken : List Range) (e : FdeFields) (why : Reason) → has_range e ≡ true → rows_fault e ≡ Some why → reason_among code taken e ≡ Some why
 no_rows code taken e why has rows = ranged code taken e (Some why) (encloses code e.start (e.start + e.size)) (any_meets (range_of e) taken) has rows refl refl
 
-pub rows_refused : (code taken : List Range) (e : FdeFields) (end : ℕ) (stop : Stop Reason) → EndsAt e end → MatchStop {A = List RowAt} (Err stop) (λ _. rows_fault e ≡ None) (λ why. rows_fault e ≡ Some why) (Unit {0}) → MatchStop {A = List SymLine} (Err stop) (λ _. reason_among code taken e ≡ None) (λ why. reason_among code taken e ≡ Some why) (Unit {0})
+pub rows_refused : (code taken : List Range) (e : FdeFields) (end : ℕ) (stop : Stop Reason) → EndsAt e end → MatchStop {A = List RowAt} (Err stop) (λ _. rows_fault e ≡ None) (λ why. rows_fault e ≡ Some why) (Unit {0}) → MatchStop {A = List RowAt} (Err stop) (λ _. reason_among code taken e ≡ None) (λ why. reason_among code taken e ≡ Some why) (Unit {0})
 rows_refused code taken e end (Fault why) ends rows = no_rows code taken e why ends.ranged rows
 rows_refused code taken e end NoMemory ends rows = tt
 

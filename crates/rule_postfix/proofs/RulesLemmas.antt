@@ -49,8 +49,11 @@ one_register_more before after n front rules more e f =
     f ∙ ap (λ xs. xs ++ option_to_list (rule_of (Reg n) (tokens (Reg n)))) e ∙ append_assoc front (rules_of tokens (registers n)) (option_to_list (rule_of (Reg n) (tokens (Reg n)))) ∙ ap (λ xs. front ++ xs) (sym (rules_more tokens n))
 
 -- a column that stays has no rule
-pub column_stays : (t : Target) (column : ℕ) (before after : Rule) (rules : List RuleText) → before ≡ after → rules ≡ rules ++ option_to_list (rule_of t (if_other t (column_part column before) (column_part column after)))
+column_stays : (t : Target) (column : ℕ) (before after : Rule) (rules : List RuleText) → before ≡ after → rules ≡ rules ++ option_to_list (rule_of t (if_other t (column_part column before) (column_part column after)))
 column_stays t column before after rules e = sym (ap (λ o. rules ++ option_to_list (rule_of t o)) (sym (same_rules t column before after e)) ∙ append-nil rules)
+
+pub register_stays : (before after : Row) (n : ℕ) (front rules : List RuleText) → rules ≡ front ++ rules_of (if_changed before after) (registers n) → rule_at before n ≡ rule_at after n → rules ≡ front ++ rules_of (if_changed before after) (registers (n + 1))
+register_stays before after n front rules e stays = one_register_more before after n front rules rules e (column_stays (Reg n) n (rule_at before n) (rule_at after n) rules stays)
 
 -- the three parts of a record's rules
 rules_cons : (tokens : Target → Option (List Token)) (t : Target) (ts : List Target) → rules_of tokens (t ∷ ts) ≡ option_to_list (rule_of t (tokens t)) ++ rules_of tokens ts

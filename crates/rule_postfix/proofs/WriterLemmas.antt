@@ -81,16 +81,3 @@ writing_on base end i before rest d w new whole inside so made =
     let P : List RowAt → Type 0 = λ xs. Writing base end before xs w whole in
     let Q : Open → Type 0 = λ o. Writing base end next.row (drop (i + 1) rest) o whole in
     subst Q (sym made) (one_on base end before next (drop (i + 1) rest) w whole (subst P e so))
-
-pub writing_ends : (base end i : ℕ) (first : RowAt) (before : Row) (rest rows : List RowAt) (w begun : Open) (lines : List SymLine) → length rest ≤ i → rows ≡ first ∷ rest → begun ≡ opened base [] first.address first.row → Writing base end before (drop i rest) w (with_rows first.row rest begun) → lines ≡ closed w end → lines ≡ lines_of base end rows
-unfolding lines_of with_rows
-writing_ends base end i first before rest rows w begun lines past e begins so made =
-    let none : drop i rest ≡ [] = drop_all i rest past in
-    let same : w ≡ with_rows first.row rest begun = ap (λ xs. with_rows before xs w) (sym none) ∙ so.same in
-    made ∙ ap (λ o. closed o end) (same ∙ ap (λ o. with_rows first.row rest o) begins) ∙ ap (λ xs. lines_of base end xs) (sym e)
-
--- no rows, no records
-pub writing_none : (base end : ℕ) (rows : List RowAt) (lines : List SymLine) → length rows ≡ 0 → lines ≡ [] → lines ≡ lines_of base end rows
-unfolding lines_of
-writing_none base end [] lines none e = e
-writing_none base end (r ∷ rows) lines none e = absurd (omega (arith, none))

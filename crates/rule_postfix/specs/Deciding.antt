@@ -7,6 +7,8 @@ use Rattle.sym_edges.specs.Addresses.{Range}
 use Rattle.range_set.specs.Enclosing.{encloses}
 use Rattle.frame_entries.specs.FdeFields.{FdeFields}
 use Rattle.sym_records.specs.declared.place.Place.TheVariants.{Inside}
+use Rattle.sym_records.specs.Canon.{canon_text}
+use Rattle.sym_records.specs.Spelled.{text_bytes}
 use Rattle.sym_records.specs.Validity.{first_bad_from}
 use Rattle.rule_postfix.specs.declared.all.Progress.{Progress}
 use Rattle.rule_postfix.specs.Overlaps.{any_meets}
@@ -28,10 +30,10 @@ abbrev pub IfRefused : Stop Reason → (Reason → Type 0) → Type 0
 IfRefused (Fault why) P = P why
 IfRefused NoMemory P = ⊥
 
--- the records and omissions are those of what was decided, the records are valid behind any record, and the ranges that are taken are
--- met as those that are written
+-- the text is that of the records of what was decided, which are valid behind any record; the omissions are those of what was decided;
+-- and the ranges that are taken are met as those that are written
 pub record Shows (base : ℕ) (p : Progress) (d : Decided) : Type 0 where
-  pub lines : p.lines.items ≡ written_lines base d.written
+  pub text : text_bytes p.text ≡ canon_text (written_lines base d.written)
+  pub valid : first_bad_from 0 Inside (written_lines base d.written) ≡ None
   pub omitted : p.omitted.items ≡ d.omitted
-  pub valid : first_bad_from 0 Inside p.lines.items ≡ None
   pub taken : (range : Range) → any_meets range p.taken ≡ any_meets range (map range_of d.written)

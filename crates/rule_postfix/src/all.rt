@@ -1,37 +1,43 @@
 //! The records of all entries.
-ghost use Rattle.std.specs.Prelude.{◌≡◌, ℕ, List, [], ◌++◌, ◌∷◌, ◌+◌, ◌^◌, ◌<◌, ◌≤◌, true, false, None, Some, MatchOption, IfOk, OnOk};
+ghost use Rattle.std.specs.Prelude.{◌≡◌, ℕ, List, ◌+◌, ◌^◌, ◌<◌, ◌≤◌, true, false, None, Some, MatchOption, IfOk, OnOk};
 ghost use Rattle.sym_edges.specs.Outside.{MatchStop};
 ghost use Rattle.sym_edges.specs.Addresses.{Range};
 ghost use Rattle.range_set.specs.Starts.{AllFrom};
+ghost use Rattle.frame_rows.specs.Rows.{Ascending};
+ghost use Rattle.sym_records.specs.Canon.{canon_text};
+ghost use Rattle.sym_records.specs.Spelled.{text_bytes};
 ghost use Rattle.sym_records.specs.declared.place.Place.{Place};
 ghost use Rattle.sym_records.specs.Validity.{first_bad_from};
 ghost use Rattle.rule_postfix.specs.Overlaps.{any_meets};
-ghost use Rattle.rule_postfix.specs.Written.{Decided, has_range, range_of, reason_among, entry_lines, left_out, with_written, with_entry, with_entries, decided, written, omitted, written_lines};
+ghost use Rattle.rule_postfix.specs.Writing.{lines_of};
+ghost use Rattle.rule_postfix.specs.Written.{Decided, has_range, range_of, reason_among, entry_lines, left_out, with_written, with_entry, with_entries, written, omitted, written_lines};
 ghost use Rattle.rule_postfix.specs.Covering.{inits_at, entries_at, AreDisjoint, AreNested};
 ghost use Rattle.rule_postfix.specs.Deciding.{LiesAbove, EndsAt, IfRefused, Shows};
 
 use crate::omission::{Omission, Omissions};
+use crate::spelling::spell_rows;
 use crate::taken::Taken;
-use crate::translating::lines_of;
 use frame_entries::{Body, Entry, EntryList, Fde};
-use frame_rows::{inspect, rows};
+use frame_rows::{RowAt, RowList, inspect, rows};
 use range_set::Enclosing;
 use std::alloc::Global;
 use sym_edges::{ListOf, OutOfMemory, Reason, Span, Stop};
 use sym_records::laws::{good_lists_are_joined, plain_rules_fit};
-use sym_records::{SymLine, SymLines};
+use sym_records::{RuleText, TextPieces};
 
-/// The frame records of a file, and the entries that are left out.
+/// The text of the frame records of a file, and the entries that are left out.
 #[derive(Debug, Drop)]
 pub struct Frames {
-    pub lines: SymLines,
+    pub text: TextPieces,
     pub omitted: Omissions,
 }
 
-/// What was decided so far, and the ranges of the entries that are written.
+/// What was decided so far: the text of the records, the entries that are left out, and the ranges of those that are
+/// written. The rules of one record at a time are made in `rules`.
 #[derive(Drop)]
 struct Progress {
-    lines: Vec<SymLine>,
+    text: TextPieces,
+    rules: Vec<RuleText>,
     omitted: Vec<Omission>,
     taken: Taken,
 }
@@ -59,18 +65,19 @@ fn reason_without_range(alloc: Global, fde: &Fde<'_>) -> Result<Reason, OutOfMem
     }
 }
 
-/// The records of an entry, or the first reason to leave it out: its rows come first, and are spelled last.
+/// The rows of an entry, or the first reason to leave it out.
 #[tactic(auto, using(crate::proofs::ReasonLemmas::rows_refused, crate::proofs::ReasonLemmas::no_code, crate::proofs::ReasonLemmas::overlaps, crate::proofs::ReasonLemmas::no_reason, crate::proofs::EntryLemmas::rising_to, crate::proofs::EntryLemmas::lines_to))]
-fn lines_or_reason(
+fn rows_or_reason(
     alloc: Global,
     fde: &Fde<'_>,
     code: &Enclosing,
     taken: &Taken,
     base: u64,
-) -> Result<SymLines, Stop<Reason>>
+) -> Result<RowList, Stop<Reason>>
     requires { LiesAbove base code.now }
-    ensures lines { MatchStop result (λ lines. lines ≡ entry_lines base fde.now) (λ _. Unit {0}) (Unit {0}) }
-    ensures valid { MatchStop result (λ lines. first_bad_from 0 Place.Inside lines ≡ None) (λ _. Unit {0}) (Unit {0}) }
+    ensures rising { MatchStop result (λ rows. Ascending base (fde.now.start + fde.now.size) rows) (λ _. Unit {0}) (Unit {0}) }
+    ensures lines { MatchStop result (λ rows. lines_of base (fde.now.start + fde.now.size) rows ≡ entry_lines base fde.now) (λ _. Unit {0}) (Unit {0}) }
+    ensures valid { MatchStop result (λ _. first_bad_from 0 Place.Inside (entry_lines base fde.now) ≡ None) (λ _. Unit {0}) (Unit {0}) }
     ensures exact { MatchStop result (λ _. reason_among code.now taken.now fde.now ≡ None) (λ why. reason_among code.now taken.now fde.now ≡ Some why) (Unit {0}) }
 {
     plain_rules_fit();
@@ -88,7 +95,7 @@ fn lines_or_reason(
     if taken.meets(fde.start, end) {
         return Err(Stop::Fault(Reason::Overlap));
     }
-    Ok(lines_of(alloc, rows.as_slice(), end, base)?)
+    Ok(rows)
 }
 
 /// An entry is left out.
@@ -118,19 +125,26 @@ fn leave_out_where_refused(
 }
 
 /// An entry is written.
-#[tactic(auto, using(crate::proofs::DecidedLemmas::shows_more))]
-fn write(progress: &mut Progress, fde: &Fde<'_>, lines: SymLines) -> Result<(), OutOfMemory>
+fn write(
+    alloc: Global,
+    progress: &mut Progress,
+    fde: &Fde<'_>,
+    rows: &[RowAt],
+    base: u64,
+) -> Result<(), OutOfMemory>
     requires some { 0 < fde.now.size }
     requires fits { fde.now.start + fde.now.size < 2 ^ 64 }
-    requires valid { first_bad_from 0 Place.Inside lines ≡ None }
     requires apart { any_meets (range_of fde.now) progress.old.taken ≡ false }
-    ensures { OnOk result ((base : ℕ) (d : Decided) → lines ≡ entry_lines base fde.now → Shows base progress.old d → Shows base progress.new (with_written fde.now d)) }
+    requires rising { Ascending base (fde.now.start + fde.now.size) rows.now }
+    requires lines { lines_of base (fde.now.start + fde.now.size) rows.now ≡ entry_lines base fde.now }
+    requires valid { first_bad_from 0 Place.Inside (entry_lines base fde.now) ≡ None }
+    ensures { OnOk result ((d : Decided) → Shows base progress.old d → Shows base progress.new (with_written fde.now d)) }
 {
     good_lists_are_joined();
-    progress.taken.put(fde.start, fde.start + fde.size)?;
-    let mut lines = lines.into_vec();
-    progress.lines.append(&mut lines)?;
-    Ok(())
+    let end = fde.start + fde.size;
+    progress.taken.put(fde.start, end)?;
+    spell_rows(&mut progress.text.last, &mut progress.rules, rows, end, base)?;
+    progress.text.turn(alloc)
 }
 
 /// An entry is written or left out.
@@ -146,8 +160,8 @@ fn put_entry(
 {
     match &entry.body {
         Body::Bad(reason) => leave_out(progress, entry, *reason),
-        Body::Good(fde) => match lines_or_reason(alloc, fde, code, &progress.taken, base) {
-            Ok(lines) => write(progress, fde, lines),
+        Body::Good(fde) => match rows_or_reason(alloc, fde, code, &progress.taken, base) {
+            Ok(rows) => write(alloc, progress, fde, rows.as_slice(), base),
             Err(stop) => leave_out_where_refused(progress, entry, stop),
         },
     }
@@ -170,9 +184,9 @@ fn put_entries(
     Ok(())
 }
 
-/// The frame records of all entries, those of the first list before those of the second, with addresses counted from
-/// `base`; and the entries that are left out, each with its first reason.
-#[tactic(auto, using(crate::proofs::DecidedLemmas::lies_above, crate::proofs::DecidedLemmas::shows_none, crate::proofs::DecidedLemmas::shown_lines, crate::proofs::DecidedLemmas::shown_omitted))]
+/// The text of the frame records of all entries, those of the first list before those of the second, with addresses
+/// counted from `base`; and the entries that are left out, each with its first reason.
+#[tactic(auto, using(crate::proofs::DecidedLemmas::lies_above, crate::proofs::DecidedLemmas::shown_text, crate::proofs::DecidedLemmas::shown_omitted))]
 pub fn translate_all(
     alloc: Global,
     first: &EntryList<'_>,
@@ -181,28 +195,30 @@ pub fn translate_all(
     base: u64,
 ) -> Result<Frames, OutOfMemory>
     requires { AllFrom base code.now }
-    ensures lines { IfOk result (λ frames. frames.lines ≡ written_lines base (written code.now first.now second.now)) }
-    ensures valid { IfOk result (λ frames. first_bad_from 0 Place.Inside frames.lines ≡ None) }
-    ensures covers { IfOk result (λ frames. (x : ℕ) → inits_at frames.lines x ≡ entries_at (written code.now first.now second.now) (x + base)) }
-    ensures nested { IfOk result (λ frames. AreNested 0 0 frames.lines) }
+    ensures text { IfOk result (λ frames. text_bytes frames.text ≡ canon_text (written_lines base (written code.now first.now second.now))) }
+    ensures valid { IfOk result (λ _. first_bad_from 0 Place.Inside (written_lines base (written code.now first.now second.now)) ≡ None) }
+    ensures covers { IfOk result (λ _. (x : ℕ) → inits_at (written_lines base (written code.now first.now second.now)) x ≡ entries_at (written code.now first.now second.now) (x + base)) }
+    ensures nested { IfOk result (λ _. AreNested 0 0 (written_lines base (written code.now first.now second.now))) }
     ensures disjoint { IfOk result (λ _. AreDisjoint (written code.now first.now second.now)) }
     ensures omitted { IfOk result (λ frames. frames.omitted ≡ omitted code.now first.now second.now) }
 {
     let enclosing = Enclosing::of_spans(alloc, code)?;
     let mut progress = Progress {
-        lines: Vec::new(alloc),
+        text: TextPieces::new(alloc),
+        rules: Vec::new(alloc),
         omitted: Vec::new(alloc),
         taken: Taken::new(alloc),
     };
     put_entries(alloc, &mut progress, first.as_slice(), &enclosing, base)?;
     put_entries(alloc, &mut progress, second.as_slice(), &enclosing, base)?;
     let Progress {
-        lines,
+        text,
+        rules: _,
         omitted,
         taken: _,
     } = progress;
     Ok(Frames {
-        lines: ListOf::of(lines),
+        text,
         omitted: ListOf::of(omitted),
     })
 }

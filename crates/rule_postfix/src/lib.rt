@@ -12,7 +12,7 @@
 //! with its first reason. `specs/Written.antt` has that choice, and `specs/Covering.antt` what it comes to: each address of a
 //! written entry is covered by one INIT, and no other address by any.
 //!
-//! To read: `parts`, `rules`, `writer`, `translating`, then `omission`, `taken` and `all`.
+//! To read: `parts`, `rules`, `spelling`, `translating`, then `omission`, `taken` and `all`.
 #![tactic(auto)]
 
 mod all;
@@ -20,9 +20,9 @@ pub mod laws;
 mod omission;
 mod parts;
 mod rules;
+mod spelling;
 mod taken;
 mod translating;
-mod writer;
 
 pub use crate::all::{Frames, translate_all};
 pub use crate::omission::{Omission, Omissions};

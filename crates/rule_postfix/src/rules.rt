@@ -1,5 +1,5 @@
 //! The rules of a record: those that a row has, and those that differ between two rows.
-ghost use Rattle.std.specs.Prelude.{◌≡◌, ◌≤◌, ◌++◌, IfOk, OnOk};
+ghost use Rattle.std.specs.Prelude.{◌≡◌, ◌++◌, OnOk};
 ghost use Rattle.std.specs.Option.{option_to_list};
 ghost use Rattle.frame_rows.specs.Rows.{empty_row};
 ghost use Rattle.rule_postfix.specs.RowParts.{column_part};
@@ -9,9 +9,8 @@ use crate::parts::{
     RowPart, becomes_unspecified, cfa_part, column_part, is_kept, rule_at, same_part,
 };
 use frame_rows::{Row, Rule};
-use std::alloc::Global;
-use sym_edges::{ListOf, OutOfMemory};
-use sym_records::{RuleText, Rules, Target, Token, Tokens};
+use sym_edges::OutOfMemory;
+use sym_records::{RuleText, Target, Token, Tokens};
 
 #[tactic(auto, unfolding(sym_edges::specs::Abi::default_of))]
 fn unruled_tokens(target: &Target) -> Option<Tokens>
@@ -96,8 +95,7 @@ fn put_rule(
     Ok(())
 }
 
-/// Adds the rule of a column, where two rows differ in it. Equal rules are tested first: most columns stay from one row to the next.
-#[tactic(auto, using(crate::proofs::RulesLemmas::column_stays))]
+/// Adds the rule of a column that two rows have different rules of.
 fn put_column(
     rules: &mut Vec<RuleText>,
     target: Target,
@@ -107,9 +105,6 @@ fn put_column(
 ) -> Result<(), OutOfMemory>
     ensures { OnOk result (rules.new.items ≡ rules.old.items ++ option_to_list (rule_of target (if_other target (column_part column before) (column_part column after)))) }
 {
-    if before == after {
-        return Ok(());
-    }
     let tokens = spelled_if_other(
         &target,
         column_part(column, before),
@@ -118,56 +113,42 @@ fn put_column(
     put_rule(rules, target, tokens)
 }
 
-/// The rules of the registers in which two rows differ, by number.
-#[tactic(auto, using(crate::proofs::RulesLemmas::no_register, crate::proofs::RulesLemmas::one_register_more))]
+/// The rules of the registers in which two rows differ, by number. Equal rules are tested first: most columns stay from
+/// one row to the next.
+#[tactic(auto, using(crate::proofs::RulesLemmas::no_register, crate::proofs::RulesLemmas::register_stays, crate::proofs::RulesLemmas::one_register_more))]
 fn put_registers(rules: &mut Vec<RuleText>, before: &Row, after: &Row) -> Result<(), OutOfMemory>
     ensures { OnOk result (rules.new.items ≡ rules.old.items ++ rules_of (if_changed before.now after.now) (registers 16)) }
 {
     for number in 0..16u8 {
-        put_column(
-            rules,
-            Target::Reg(number),
-            number,
-            rule_at(before, number),
-            rule_at(after, number),
-        )?;
+        let was = rule_at(before, number);
+        let is = rule_at(after, number);
+        if was != is {
+            put_column(rules, Target::Reg(number), number, was, is)?;
+        }
     }
     Ok(())
 }
 
-/// How many rules two rows may differ in: the CFA's and those of the columns.
-fn count_changes(before: &Row, after: &Row) -> usize
-    ensures { result ≤ 18 }
-{
-    let mut count = 0;
-    for column in 0..17u8 {
-        if rule_at(before, column) != rule_at(after, column) {
-            count += 1;
-        }
-    }
-    if before.cfa != after.cfa {
-        count += 1;
-    }
-    count
-}
-
-/// The rules of the targets in which two rows differ. Room is taken for these alone.
+/// The rules of the targets in which two rows differ, in place of those that were there.
 #[tactic(auto, using(crate::proofs::RulesLemmas::all_rules))]
-pub fn changed_rules(alloc: Global, before: &Row, after: &Row) -> Result<Rules, OutOfMemory>
-    ensures { IfOk result (λ rules. rules ≡ changed_rules before.now after.now) }
+pub fn changed_rules(
+    rules: &mut Vec<RuleText>,
+    before: &Row,
+    after: &Row,
+) -> Result<(), OutOfMemory>
+    ensures { OnOk result (rules.new.items ≡ changed_rules before.now after.now) }
 {
-    let mut rules = Vec::with_capacity(alloc, count_changes(before, after))?;
+    rules.clear();
     let cfa = spelled_if_other(&Target::Cfa, cfa_part(before.cfa), cfa_part(after.cfa));
-    put_rule(&mut rules, Target::Cfa, cfa)?;
+    put_rule(rules, Target::Cfa, cfa)?;
     put_column(
-        &mut rules,
+        rules,
         Target::Ra,
         16,
         rule_at(before, 16),
         rule_at(after, 16),
     )?;
-    put_registers(&mut rules, before, after)?;
-    Ok(ListOf::of(rules))
+    put_registers(rules, before, after)
 }
 
 /// The row that says nothing: seventeen columns, those of the registers and that of the return address.
@@ -181,12 +162,12 @@ fn empty_row() -> Row
     }
 }
 
-/// The rules that a row has.
+/// The rules that a row has, in place of those that were there.
 #[tactic(auto, using(crate::proofs::RulesLemmas::from_empty))]
-pub fn row_rules(alloc: Global, row: &Row) -> Result<Rules, OutOfMemory>
-    ensures { IfOk result (λ rules. rules ≡ row_rules row.now) }
+pub fn row_rules(rules: &mut Vec<RuleText>, row: &Row) -> Result<(), OutOfMemory>
+    ensures { OnOk result (rules.new.items ≡ row_rules row.now) }
 {
-    changed_rules(alloc, &empty_row(), row)
+    changed_rules(rules, &empty_row(), row)
 }
 
 /// Whether some column becomes unspecified, of which no line can say so.

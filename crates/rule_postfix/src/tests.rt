@@ -6,7 +6,7 @@ use std::alloc::{AllocError, Global};
 use std::process::Abort;
 use std::test::Fail;
 use sym_edges::{OutOfMemory, Part, Reason, Sect, Span, Stop};
-use sym_records::{SymLines, render};
+use sym_records::TextPieces;
 
 /// A CIE of `.eh_frame` (code alignment 1, data alignment -8, the return address in column 16) with `def_cfa rsp 8`,
 /// `offset ra 1` and nops. The first FDE stands at 18 (hexadecimal).
@@ -31,13 +31,14 @@ fn expect(rt: &impl Abort, label: &str, got: (&[u8], &[Omission]), want: (&[u8],
     assert!(rt; is_wanted, "{label}");
 }
 
-/// The text of records.
-fn text_of(alloc: Global, lines: &SymLines) -> Result<Vec<u8>, OutOfMemory> {
-    let mut text = Vec::new(alloc);
-    for line in lines.as_slice() {
-        text.extend_from_slice(render(alloc, line)?.as_slice())?;
+/// The bytes of a text in pieces.
+fn bytes_of(alloc: Global, text: &TextPieces) -> Result<Vec<u8>, OutOfMemory> {
+    let mut bytes = Vec::new(alloc);
+    for piece in &text.full {
+        bytes.extend_from_slice(piece.as_slice())?;
     }
-    Ok(text)
+    bytes.extend_from_slice(&text.last)?;
+    Ok(bytes)
 }
 
 /// An FDE more behind those of a section of the CIE above.
@@ -64,7 +65,7 @@ fn translated(alloc: Global, bytes: &[u8]) -> Result<Vec<u8>, Fail> {
         if let Body::Good(fde) = &entry.body {
             let end = fde.start.saturating_add(fde.size);
             if end < u64::MAX && fde.start < end {
-                return Ok(text_of(alloc, &translate(alloc, fde, 0)?)?);
+                return Ok(translate(alloc, fde, 0)?.into_vec());
             }
         }
     }
@@ -111,7 +112,7 @@ fn expect_all(
     let second = eh_frame(alloc, b"")?;
     let code = [Span::new(0x1000, 0x1000 + 16 * COUNT)];
     let frames = translate_all(alloc, &first, &second, &code, 0)?;
-    let text = text_of(alloc, &frames.lines)?;
+    let text = bytes_of(alloc, &frames.text)?;
     expect(rt, label, (&text, frames.omitted.as_slice()), (want, left));
     Ok(())
 }

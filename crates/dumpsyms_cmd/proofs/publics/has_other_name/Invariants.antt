@@ -2,10 +2,11 @@ use Rattle.std.proofs.Common.{◌≡◌, not, map, drop}
 use Rattle.std.specs.List.{list_any}
 use Rattle.std.specs.Str.{bytes_eq}
 use Rattle.elf_sections.specs.Symbols.{symbol_view}
+use Rattle.sym_records.specs.Cleaning.{cleaned}
 use Rattle.dumpsyms_cmd.specs.Publics.{names_of}
 use Rattle.dumpsyms_cmd.proofs.publics.has_other_name.Given as goal
 
 abbrev pub invariant-others : goal.invariant-others
 invariant-others l =
-    list_any (λ other. not (bytes_eq other l.name)) (names_of (map symbol_view (drop l.symbol-index l.others)))
-    ≡ list_any (λ other. not (bytes_eq other l.name)) (names_of (map symbol_view l.others))
+    list_any (λ other. not (bytes_eq other (cleaned l.first))) (names_of (map symbol_view (drop l.symbol-index l.others)))
+    ≡ list_any (λ other. not (bytes_eq other (cleaned l.first))) (names_of (map symbol_view l.others))

@@ -18,7 +18,7 @@ returns-in-Bad c =
 
 pub returns-in-Ok : goal.returns-in-Ok
 returns-in-Ok c =
-    IfOk-weaker c.write.result _ _ (λ _ more. written_too c.args.base c.args.code.now c.args.progress.now c.write.new.progress c.args.entry.now c.in-Good.fde c.in-Ok.lines c.in-Good.is c.in-Ok.ensures.exact c.in-Ok.ensures.lines more)
+    IfOk-weaker c.write.result _ _ (λ _ more. written_too c.args.base c.args.code.now c.args.progress.now c.write.new.progress c.args.entry.now c.in-Good.fde c.in-Good.is c.in-Ok.ensures.exact more)
     c.write.ensures
 
 pub returns-in-Err : goal.returns-in-Err
