@@ -6,6 +6,8 @@ pub mod WalkLemmas
 pub mod SoundLemmas
 pub mod CfaLemmas
 pub mod EntryLemmas
+pub mod StackLemmas
+pub mod LeftLemmas
 pub mod FollowLemmas
 pub mod OperandLemmas
 pub mod Computing

@@ -11,6 +11,7 @@ use sym_edges::Reason;
 #[tactic(auto, unfolding(frame_entries::specs::Pointers::is_encoding, frame_entries::specs::Pointers::is_format))]
 fn called(size: u64, instructions: &[u8]) -> Fde<'_> {
     Fde {
+        cie: 0,
         start: 0x1000,
         size,
         code_align: 1,

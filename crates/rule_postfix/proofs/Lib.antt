@@ -8,6 +8,7 @@ pub mod EntryLemmas
 pub mod OverlapLemmas
 pub mod ReasonLemmas
 pub mod DecidedLemmas
+pub mod KeepingLemmas
 pub mod PlainLemmas
 pub mod ValidLemmas
 pub mod CoveringLemmas

@@ -5,5 +5,6 @@ pub mod Writing
 pub mod Overlaps
 pub mod Written
 pub mod Deciding
+pub mod Keeping
 pub mod Covering
 pub mod Decision

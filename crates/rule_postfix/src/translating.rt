@@ -31,6 +31,12 @@ pub fn translate(alloc: Global, fde: &Fde<'_>, base: u64) -> Result<ByteText, St
     let rows = rows(alloc, fde)?;
     let mut text = Vec::new(alloc);
     let mut rules = Vec::new(alloc);
-    spell_rows(&mut text, &mut rules, rows.as_slice(), fde.start + fde.size, base)?;
+    spell_rows(
+        &mut text,
+        &mut rules,
+        rows.as_slice(),
+        fde.start + fde.size,
+        base,
+    )?;
     Ok(ByteText::of(text))
 }

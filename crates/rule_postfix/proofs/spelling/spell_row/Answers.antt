@@ -9,9 +9,9 @@ spell_init-requires-clause-ends c = row_below c.args.base c.args.end c.init_end-
 pub returns-then-some_becomes_unspecified : goal.returns-then-some_becomes_unspecified
 returns-then-some_becomes_unspecified c =
     IfOk-weaker c.spell_init.result _ _ (λ _ is front o based was. init_spelled c.args.base c.args.end c.init_end-next_init.result c.args.before.now c.args.next.now c.args.behind.now front c.args.text.now.items c.spell_init.new.text.items o
-      (sym c.some_becomes_unspecified.ensures ∙ c.if-some_becomes_unspecified.true) c.init_end-next_init.ensures is based was) c.spell_init.ensures
+    (sym c.some_becomes_unspecified.ensures ∙ c.if-some_becomes_unspecified.true) c.init_end-next_init.ensures is based was) c.spell_init.ensures
 
 pub returns-else-some_becomes_unspecified : goal.returns-else-some_becomes_unspecified
 returns-else-some_becomes_unspecified c =
     IfOk-weaker c.spell_changes.result _ _ (λ _ is front o based was. changes_spelled c.args.base c.args.end c.args.before.now c.args.next.now c.args.behind.now front c.args.text.now.items c.spell_changes.new.text.items o
-      (sym c.some_becomes_unspecified.ensures ∙ c.if-some_becomes_unspecified.false) is based was) c.spell_changes.ensures
+    (sym c.some_becomes_unspecified.ensures ∙ c.if-some_becomes_unspecified.false) is based was) c.spell_changes.ensures
