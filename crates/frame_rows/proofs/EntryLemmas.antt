@@ -50,7 +50,7 @@ walked v e s m end rows cie view setting machine stop good is some =
       are = subst (λ (l : List RowAt). AreRows e l) (sym (own_rows v e s m end rows view setting machine stop is)) (are_rows e own some);
     }
 
-fine : (e : FdeFields) (rows : List RowAt) → Walked e rows → instruction_fault e ≡ None
+pub fine : (e : FdeFields) (rows : List RowAt) → Walked e rows → instruction_fault e ≡ None
 unfolding instruction_fault
 fine e rows w = ap (λ o. option_or o (first_fault (own_setting e) (own_items e) (own_begin e))) w.cie ∙ w.own
 

@@ -6,10 +6,10 @@ pub mod WalkLemmas
 pub mod SoundLemmas
 pub mod CfaLemmas
 pub mod EntryLemmas
-pub mod StackLemmas
 pub mod LeftLemmas
 pub mod FollowLemmas
 pub mod OperandLemmas
+pub mod SteppingLemmas
 pub mod Computing
 mod Entries
 mod WorkedInstructions

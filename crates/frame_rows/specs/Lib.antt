@@ -6,3 +6,4 @@ pub mod Rows
 pub mod Left
 pub mod CieLeft
 pub mod Walk
+pub mod Standing

@@ -28,6 +28,7 @@ mod machine;
 // All instructions of an entry.
 mod cie_state;
 mod running;
+mod stepper;
 #[cfg(test)]
 mod tests;
 mod walking;
@@ -38,4 +39,5 @@ pub mod laws;
 pub use crate::cie_state::CieState;
 pub use crate::row::{CfaRule, Row, RowAt, RowList, Rule};
 pub use crate::running::{inspect, inspect_behind};
+pub use crate::stepper::Stepper;
 pub use crate::walking::{rows, rows_behind};
