@@ -10,6 +10,8 @@ pub mod LeftLemmas
 pub mod FollowLemmas
 pub mod OperandLemmas
 pub mod SteppingLemmas
+pub mod LackLemmas
+pub mod StartLemmas
 pub mod Computing
 mod Entries
 mod WorkedInstructions

@@ -27,6 +27,7 @@ mod machine;
 
 // All instructions of an entry.
 mod cie_state;
+mod lacking;
 mod running;
 mod stepper;
 #[cfg(test)]

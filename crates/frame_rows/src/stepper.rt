@@ -13,6 +13,7 @@ ghost use Rattle.frame_rows.specs.Walk.{rows_from, rows_past, row_with};
 
 use crate::cie_state::{Begun, CieState};
 use crate::instruction::Instruction;
+use crate::lacking::lack_cfa_below;
 use crate::machine::{Machine, Setting};
 use crate::row::Row;
 use frame_entries::Fde;
@@ -86,7 +87,92 @@ fn settle(
     Ok(())
 }
 
+/// The first row of an entry whose instructions are good.
+fn start<'c, 'a>(
+    alloc: Global,
+    state: &'c CieState,
+    fde: &Fde<'a>,
+    end: u64,
+) -> Result<Stepper<'c, 'a>, Stop<Reason>>
+    requires behind { state.now ≡ cie_left fde.now }
+    requires good { instruction_fault fde.now ≡ None }
+    requires some { fde.now.start < end }
+    ensures fresh { MatchStop result (λ s. s.failed ≡ false) (λ _. ⊥) (Unit {0}) }
+    ensures rows { IfOk result (λ s. s.here ∷ s.later ≡ rows_from end (own_setting fde.now) (own_items fde.now) (own_begin fde.now)) }
+{
+    let begun = match state.begin(alloc, fde) {
+        Ok(begun) => begun,
+        Err(why) => return Err(Stop::Fault(why)),
+    };
+    let Begun {
+        mut machine,
+        setting,
+    } = begun;
+    let mut cursor = Cursor::new(fde.instructions, 0, fde.instructions.len());
+    match settle(
+        &mut machine,
+        &mut cursor,
+        &setting,
+        fde.encoding,
+        fde.instructions_address,
+    ) {
+        Ok(()) => Ok(Stepper {
+            machine,
+            setting,
+            cursor,
+            encoding: fde.encoding,
+            base: fde.instructions_address,
+            address: fde.start,
+            end,
+            failed: false,
+        }),
+        Err(stop) => Err(stop),
+    }
+}
+
 impl<'c, 'a> Stepper<'c, 'a> {
+    /// At the first row of an entry, or the reason for which it has no rows; the state behind its CIE is given. All
+    /// instructions are looked at before.
+    pub fn new(
+        alloc: Global,
+        state: &'c CieState,
+        fde: &Fde<'a>,
+    ) -> Result<Stepper<'c, 'a>, Stop<Reason>>
+        requires behind { state.now ≡ cie_left fde.now }
+        requires some { 0 < fde.now.size }
+        requires fits { fde.now.start + fde.now.size < 2 ^ 64 }
+        ensures fresh { MatchStop result (λ s. s.failed ≡ false) (λ _. Unit {0}) (Unit {0}) }
+        ensures rows { MatchStop result (λ s. AreRows fde.now (s.here ∷ s.later)) (λ _. Unit {0}) (Unit {0}) }
+        ensures cfa { MatchStop result (λ _. HasCfa fde.now) (λ _. Unit {0}) (Unit {0}) }
+        ensures sound { MatchStop result (λ _. (a : ℕ) → IsSound (row_at fde.now a)) (λ _. Unit {0}) (Unit {0}) }
+        ensures exact { MatchStop result (λ _. rows_fault fde.now ≡ None) (λ why. rows_fault fde.now ≡ Some why) (Unit {0}) }
+    {
+        let begun = match state.begin(alloc, fde) {
+            Ok(begun) => begun,
+            Err(why) => return Err(Stop::Fault(why)),
+        };
+        let Begun { machine, setting } = begun;
+        let end = fde.start + fde.size;
+        let lacking = match lack_cfa_below(
+            machine,
+            &setting,
+            end,
+            fde.encoding,
+            fde.instructions_address,
+            fde.instructions,
+        ) {
+            Ok(lacking) => lacking,
+            Err(stop) => return Err(stop),
+        };
+        if lacking {
+            return Err(Stop::Fault(Reason::Cfa));
+        }
+        match start(alloc, state, fde, end) {
+            Ok(stepper) => Ok(stepper),
+            Err(stop) => Err(stop),
+        }
+    }
+
     /// The first address at which the row stands.
     pub fn address(&self) -> u64
         ensures { result ≡ self.now.here.address }
