@@ -3,6 +3,7 @@ pub mod PartLemmas
 pub mod RulesLemmas
 pub mod WriterLemmas
 pub mod SpellingLemmas
+pub mod StepsLemmas
 pub mod LinesLemmas
 pub mod EntryLemmas
 pub mod OverlapLemmas

@@ -23,7 +23,7 @@ canon_one : (s : SymLine) → canon_text (s ∷ []) ≡ canon s
 unfolding canon_text
 canon_one s = append-nil (canon s)
 
-more : (front old new : List ℕ) (xs ys : List SymLine) → old ≡ front ++ canon_text xs → new ≡ old ++ canon_text ys → new ≡ front ++ canon_text (xs ++ ys)
+pub more : (front old new : List ℕ) (xs ys : List SymLine) → old ≡ front ++ canon_text xs → new ≡ old ++ canon_text ys → new ≡ front ++ canon_text (xs ++ ys)
 more front old new xs ys was is =
     is ∙ ap (λ t. t ++ canon_text ys) was ∙ append_assoc front (canon_text xs) (canon_text ys) ∙ ap (λ t. front ++ t) (sym (canon_append xs ys))
 

@@ -2,6 +2,7 @@ pub mod RowParts
 pub mod RowRules
 pub mod FrameLines
 pub mod Writing
+pub mod Spelling
 pub mod Overlaps
 pub mod Written
 pub mod Deciding

@@ -1,5 +1,5 @@
 //! The records of all entries.
-ghost use Rattle.std.specs.Prelude.{◌≡◌, ℕ, List, ◌+◌, ◌^◌, ◌<◌, ◌≤◌, true, false, None, Some, MatchOption, IfOk, OnOk};
+ghost use Rattle.std.specs.Prelude.{◌≡◌, ℕ, List, ◌∷◌, ◌+◌, ◌^◌, ◌<◌, ◌≤◌, true, false, None, Some, MatchOption, IfOk, OnOk};
 ghost use Rattle.sym_edges.specs.Outside.{MatchStop};
 ghost use Rattle.sym_edges.specs.Addresses.{Range};
 ghost use Rattle.range_set.specs.Starts.{AllFrom};
@@ -21,15 +21,15 @@ ghost use Rattle.rule_postfix.specs.Deciding.{LiesAbove, EndsAt, IfRefused, Show
 
 use crate::kept_state::KeptState;
 use crate::omission::{Omission, Omissions};
-use crate::spelling::spell_rows;
+use crate::open_init::{OpenInit, spell_steps};
 use crate::taken::Taken;
 use frame_entries::{Body, Entry, EntryList, Fde};
-use frame_rows::{CieState, RowAt, RowList, inspect_behind, rows_behind};
+use frame_rows::{CieState, Stepper, inspect_behind};
 use range_set::Enclosing;
 use std::alloc::Global;
 use sym_edges::{ListOf, OutOfMemory, Reason, Span, Stop};
 use sym_records::laws::{good_lists_are_joined, plain_rules_fit};
-use sym_records::{RuleText, TextPieces};
+use sym_records::TextPieces;
 
 /// The text of the frame records of a file, and the entries that are left out.
 #[derive(Debug, Drop)]
@@ -39,11 +39,11 @@ pub struct Frames {
 }
 
 /// What was decided so far: the text of the records, the entries that are left out, and the ranges of those that are
-/// written. The rules of one record at a time are made in `rules`.
+/// written. The INIT of one entry at a time is made in `open`.
 #[derive(Drop)]
 struct Progress {
     text: TextPieces,
-    rules: Vec<RuleText>,
+    open: OpenInit,
     omitted: Vec<Omission>,
     taken: Taken,
 }
@@ -76,20 +76,21 @@ fn reason_without_range(
     }
 }
 
-/// The rows of an entry, or the first reason to leave it out, where the state behind its CIE is given.
+/// A stepper over the rows of an entry, or the first reason to leave it out, where the state behind its CIE is given.
 #[tactic(auto, using(crate::proofs::ReasonLemmas::rows_refused, crate::proofs::ReasonLemmas::no_code, crate::proofs::ReasonLemmas::overlaps, crate::proofs::ReasonLemmas::no_reason, crate::proofs::EntryLemmas::rising_to, crate::proofs::EntryLemmas::lines_to))]
-fn rows_or_reason(
+fn steps_or_reason<'c, 'a>(
     alloc: Global,
-    state: &CieState,
-    fde: &Fde<'_>,
+    state: &'c CieState,
+    fde: &Fde<'a>,
     code: &Enclosing,
     taken: &Taken,
     base: u64,
-) -> Result<RowList, Stop<Reason>>
+) -> Result<Stepper<'c, 'a>, Stop<Reason>>
     requires behind { state.now ≡ cie_left fde.now }
     requires above { LiesAbove base code.now }
-    ensures rising { MatchStop result (λ rows. Ascending base (fde.now.start + fde.now.size) rows) (λ _. Unit {0}) (Unit {0}) }
-    ensures lines { MatchStop result (λ rows. lines_of base (fde.now.start + fde.now.size) rows ≡ entry_lines base fde.now) (λ _. Unit {0}) (Unit {0}) }
+    ensures fresh { MatchStop result (λ s. s.failed ≡ false) (λ _. Unit {0}) (Unit {0}) }
+    ensures rising { MatchStop result (λ s. Ascending base (fde.now.start + fde.now.size) (s.here ∷ s.later)) (λ _. Unit {0}) (Unit {0}) }
+    ensures lines { MatchStop result (λ s. lines_of base (fde.now.start + fde.now.size) (s.here ∷ s.later) ≡ entry_lines base fde.now) (λ _. Unit {0}) (Unit {0}) }
     ensures valid { MatchStop result (λ _. first_bad_from 0 Place.Inside (entry_lines base fde.now) ≡ None) (λ _. Unit {0}) (Unit {0}) }
     ensures exact { MatchStop result (λ _. reason_among code.now taken.now fde.now ≡ None) (λ why. reason_among code.now taken.now fde.now ≡ Some why) (Unit {0}) }
 {
@@ -98,8 +99,8 @@ fn rows_or_reason(
     let Some(end) = end_of(fde) else {
         return Err(Stop::Fault(reason_without_range(alloc, state, fde)?));
     };
-    let rows = match rows_behind(alloc, state, fde) {
-        Ok(rows) => rows,
+    let stepper = match Stepper::new(alloc, state, fde) {
+        Ok(stepper) => stepper,
         Err(stop) => return Err(stop),
     };
     if !code.encloses(fde.start, end) {
@@ -108,7 +109,7 @@ fn rows_or_reason(
     if taken.meets(fde.start, end) {
         return Err(Stop::Fault(Reason::Overlap));
     }
-    Ok(rows)
+    Ok(stepper)
 }
 
 /// An entry is left out.
@@ -142,27 +143,22 @@ fn write(
     alloc: Global,
     progress: &mut Progress,
     fde: &Fde<'_>,
-    rows: &[RowAt],
+    stepper: Stepper<'_, '_>,
     base: u64,
 ) -> Result<(), OutOfMemory>
     requires some { 0 < fde.now.size }
     requires fits { fde.now.start + fde.now.size < 2 ^ 64 }
     requires apart { any_meets (range_of fde.now) progress.old.taken ≡ false }
-    requires rising { Ascending base (fde.now.start + fde.now.size) rows.now }
-    requires lines { lines_of base (fde.now.start + fde.now.size) rows.now ≡ entry_lines base fde.now }
+    requires fresh { stepper.failed ≡ false }
+    requires rising { Ascending base (fde.now.start + fde.now.size) (stepper.here ∷ stepper.later) }
+    requires lines { lines_of base (fde.now.start + fde.now.size) (stepper.here ∷ stepper.later) ≡ entry_lines base fde.now }
     requires valid { first_bad_from 0 Place.Inside (entry_lines base fde.now) ≡ None }
     ensures { OnOk result ((d : Decided) → Shows base progress.old d → Shows base progress.new (with_written fde.now d)) }
 {
     good_lists_are_joined();
     let end = fde.start + fde.size;
     progress.taken.put(fde.start, end)?;
-    spell_rows(
-        &mut progress.text.last,
-        &mut progress.rules,
-        rows,
-        end,
-        base,
-    )?;
+    spell_steps(&mut progress.text.last, &mut progress.open, stepper, end, base)?;
     progress.text.turn(alloc)
 }
 
@@ -181,8 +177,8 @@ fn put_behind(
     requires above { LiesAbove base code.now }
     ensures { OnOk result ((d : Decided) → Shows base progress.old d → Shows base progress.new (with_entry code.now entry.now d)) }
 {
-    match rows_or_reason(alloc, state, fde, code, &progress.taken, base) {
-        Ok(rows) => write(alloc, progress, fde, rows.as_slice(), base),
+    match steps_or_reason(alloc, state, fde, code, &progress.taken, base) {
+        Ok(stepper) => write(alloc, progress, fde, stepper, base),
         Err(stop) => leave_out_where_refused(progress, entry, stop),
     }
 }
@@ -277,7 +273,7 @@ pub fn translate_all(
     let enclosing = Enclosing::of_spans(alloc, code)?;
     let mut progress = Progress {
         text: TextPieces::new(alloc),
-        rules: Vec::new(alloc),
+        open: OpenInit::new(alloc),
         omitted: Vec::new(alloc),
         taken: Taken::new(alloc),
     };
@@ -285,7 +281,7 @@ pub fn translate_all(
     put_entries(alloc, &mut progress, second.as_slice(), &enclosing, base)?;
     let Progress {
         text,
-        rules: _,
+        open: _,
         omitted,
         taken: _,
     } = progress;

@@ -21,6 +21,7 @@ mod all;
 mod kept_state;
 pub mod laws;
 mod omission;
+mod open_init;
 mod parts;
 mod rules;
 mod spelling;

@@ -44,7 +44,7 @@ fn spell_init(
 
 /// Spells a record of changes, where there are any.
 #[tactic(auto, using(crate::proofs::SpellingLemmas::no_change, crate::proofs::SpellingLemmas::some_change))]
-fn spell_changes(
+pub fn spell_changes(
     text: &mut Vec<u8>,
     rules: &mut Vec<RuleText>,
     address: u64,

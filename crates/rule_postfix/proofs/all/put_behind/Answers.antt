@@ -18,5 +18,5 @@ returns-in-Ok c =
 
 pub returns-in-Err : goal.returns-in-Err
 returns-in-Err c =
-    IfOk-weaker c.leave_out_where_refused.result _ _ (λ _ more. refused_too c.args.base c.args.code.now c.args.progress.now c.leave_out_where_refused.new.progress c.args.entry.now c.args.fde.now c.in-Err.stop c.requires.good c.in-Err.ensures.exact more)
+    IfOk-weaker c.leave_out_where_refused.result _ _ (λ _ more. refused_too _ c.args.base c.args.code.now c.args.progress.now c.leave_out_where_refused.new.progress c.args.entry.now c.args.fde.now c.in-Err.stop c.requires.good c.in-Err.ensures.exact more)
     c.leave_out_where_refused.ensures
