@@ -9,7 +9,8 @@
 //! instructions alone, for any range.
 //!
 //! The instructions of a CIE leave the same for each of its entries: a [`CieState`] is made once, and [`rows_behind`] and
-//! [`inspect_behind`] begin with it.
+//! [`inspect_behind`] begin with it, and so does a [`Stepper`], which goes over the rows one after the other and keeps only the
+//! one where it stands. Once memory ran out, it answers that from then on.
 //!
 //! An entry is refused exactly with the reason of its first bad instruction, the CIE's before its own, or else with
 //! `Cfa` where some address of the range has no CFA rule. Instructions with a DWARF expression are refused as

@@ -28,8 +28,8 @@ use frame_rows::{CieState, Stepper, inspect_behind};
 use range_set::Enclosing;
 use std::alloc::Global;
 use sym_edges::{ListOf, OutOfMemory, Reason, Span, Stop};
-use sym_records::laws::{good_lists_are_joined, plain_rules_fit};
 use sym_records::TextPieces;
+use sym_records::laws::{good_lists_are_joined, plain_rules_fit};
 
 /// The text of the frame records of a file, and the entries that are left out.
 #[derive(Debug, Drop)]
@@ -158,7 +158,13 @@ fn write(
     good_lists_are_joined();
     let end = fde.start + fde.size;
     progress.taken.put(fde.start, end)?;
-    spell_steps(&mut progress.text.last, &mut progress.open, stepper, end, base)?;
+    spell_steps(
+        &mut progress.text.last,
+        &mut progress.open,
+        stepper,
+        end,
+        base,
+    )?;
     progress.text.turn(alloc)
 }
 

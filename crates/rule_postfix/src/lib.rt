@@ -14,7 +14,7 @@
 //!
 //! The instructions of a CIE are carried out once for the entries that follow it: `kept_state` has the state that they leave.
 //!
-//! To read: `parts`, `rules`, `spelling`, `translating`, then `omission`, `taken`, `kept_state` and `all`.
+//! To read: `parts`, `rules`, `spelling`, `open_init`, `translating`, then `omission`, `taken`, `kept_state` and `all`.
 #![tactic(auto)]
 
 mod all;

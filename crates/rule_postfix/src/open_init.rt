@@ -117,14 +117,7 @@ pub fn spell_steps(
             close(text, open, end, base)?;
             return Ok(());
         }
-        put_row(
-            text,
-            open,
-            &before,
-            stepper.address(),
-            stepper.row(),
-            base,
-        )?;
+        put_row(text, open, &before, stepper.address(), stepper.row(), base)?;
         before = *stepper.row();
     }
 }
