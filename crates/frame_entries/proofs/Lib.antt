@@ -4,6 +4,7 @@ pub mod FindLemmas
 pub mod EntryLemmas
 pub mod PlaceLemmas
 pub mod ReasonLemmas
+pub mod SharedLemmas
 pub mod Computing
 mod Sections
 mod WorkedListing

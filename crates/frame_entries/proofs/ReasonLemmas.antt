@@ -145,13 +145,13 @@ read_reason : (fde : Result FdeFields CursorFault) → IfSome (reason_in (body_r
 read_reason (Ok fde) = tt
 read_reason (Err fault) = tt
 
-under_reason : (parts : Result CieFields Reason) (base : ℕ) (body : List ℕ) → OfFields parts → IfSome (reason_in (body_under parts base body)) IsOfFields
-under_reason (Ok cie) base body early = read_reason (fde_of cie base body)
-under_reason (Err why) base body early = early
+under_reason : (place : ℕ) (parts : Result CieFields Reason) (base : ℕ) (body : List ℕ) → OfFields parts → IfSome (reason_in (body_under place parts base body)) IsOfFields
+under_reason place (Ok cie) base body early = read_reason (fde_of place cie base body)
+under_reason place (Err why) base body early = early
 
 by_reason : (cie : Option Cie) (base : ℕ) (body : List ℕ) → FoundOfFields cie → IfSome (reason_in (body_by cie base body)) IsOfFields
 by_reason None base body early = tt
-by_reason (Some cie) base body early = under_reason cie.parts base body early
+by_reason (Some cie) base body early = under_reason cie.at cie.parts base body early
 
 pub entry_reason : (which : Sect) (address : ℕ) (raws : List Raw) (raw : Raw) → IfSome (reason_in (entry_of which address (cies_of which raws) raw).body) IsOfFields
 unfolding entry_of cie_named cies_of

@@ -22,6 +22,7 @@ a_whole_entry : frame_entries small 0x2000 EhFrame ≡ Ok (record {
   section = EhFrame;
   at = 0x18;
   body = Good (record {
+    cie = 0;
     start = 0x1000;
     size = 0x20;
     code_align = 1;

@@ -1,8 +1,9 @@
 use Rattle.std.specs.Prelude.{ℕ, ℤ, List}
 
--- a frame description entry (DWARF 5, 6.4.1): its address range, what its CIE says with the initial instructions, its own
--- instructions, and the address of these
+-- a frame description entry (DWARF 5, 6.4.1): the place of its CIE in the section, its address range, what its CIE says with the
+-- initial instructions, its own instructions, and the address of these
 pub record FdeFields : Type 0 where
+  pub cie : ℕ
   pub start : ℕ
   pub size : ℕ
   pub code_align : ℕ

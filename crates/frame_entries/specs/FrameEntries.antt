@@ -54,13 +54,15 @@ cie_named which cies raw = option_and_then (cie_from cies) (cie_place which raw)
 unfoldable pub address_at : ℕ → ℕ → ℕ
 address_at base place = (base + place) % 2 ^ 64
 
--- the fields of an FDE from its body and the address of that; its own instructions are the rest of the body
-unfoldable pub fde_of : CieFields → ℕ → List ℕ → Result FdeFields CursorFault
-fde_of cie base body =
+-- the fields of an FDE from the place of its CIE, what that says, its body and the address of that; its own instructions are the rest
+-- of the body
+unfoldable pub fde_of : ℕ → CieFields → ℕ → List ℕ → Result FdeFields CursorFault
+fde_of place cie base body =
     pointer_at cie.encoding base (from_start body) >>= λ start.
     number_at (format_of cie.encoding) start.1 >>= λ size.
     augmentation_at cie.augmented size.1 >>= λ augmentation.
     Ok (record {
+      cie = place;
       start = start.0;
       size = size.0;
       code_align = cie.code_align;
@@ -76,12 +78,12 @@ abbrev pub body_read : Result FdeFields CursorFault → Body
 body_read (Ok fde) = Good fde
 body_read (Err fault) = Bad reason.Entry
 
-abbrev pub body_under : Result CieFields Reason → ℕ → List ℕ → Body
-body_under (Ok cie) base body = body_read (fde_of cie base body)
-body_under (Err why) base body = Bad why
+abbrev pub body_under : ℕ → Result CieFields Reason → ℕ → List ℕ → Body
+body_under place (Ok cie) base body = body_read (fde_of place cie base body)
+body_under place (Err why) base body = Bad why
 
 abbrev pub body_by : Option Cie → ℕ → List ℕ → Body
-body_by (Some cie) base body = body_under cie.parts base body
+body_by (Some cie) base body = body_under cie.at cie.parts base body
 body_by None base body = Bad reason.Cie
 
 -- the reason to leave an entry out, where there is one

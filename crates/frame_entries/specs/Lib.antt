@@ -5,5 +5,6 @@ pub mod CieFields
 pub mod Cies
 pub mod FdeFields
 pub mod FrameEntries
+pub mod SharedCies
 pub mod Climbs
 pub mod KnownEncodings

@@ -10,11 +10,12 @@ use leb_cursor::CursorFault;
 use std::marker::Model;
 use sym_edges::{Reason, Sect};
 
-/// A frame description entry that can be used (DWARF 5, 6.4.1): its address range, what its CIE
-/// says with the initial instructions, its own instructions, and the address of these. Its encoding
-/// is one that [`read_pointer`] reads.
+/// A frame description entry that can be used (DWARF 5, 6.4.1): the place of its CIE in the section,
+/// its address range, what its CIE says with the initial instructions, its own instructions, and the
+/// address of these. Its encoding is one that [`read_pointer`] reads.
 #[derive(Debug, Drop)]
 pub struct Fde<'a> {
+    pub cie: usize,
     pub start: u64,
     pub size: u64,
     pub code_align: u64,
@@ -33,6 +34,7 @@ impl<'a> Model for Fde<'a> {
     ghost Value = { FdeFields };
 
     ghost view = { λ f. record {
+      cie = f.cie;
       start = f.start;
       size = f.size;
       code_align = f.code_align;
@@ -63,14 +65,20 @@ pub struct Entry<'a> {
 
 /// Reads an FDE from its body, which has the address `base`.
 #[tactic(auto, unfolding(crate::specs::FrameEntries::fde_of, crate::specs::FrameEntries::address_at))]
-fn read_fde<'a>(cie: &CieParts<'a>, base: u64, body: &'a [u8]) -> Result<Fde<'a>, CursorFault>
-    ensures { result ≡ fde_of cie.now base body.now }
+fn read_fde<'a>(
+    place: usize,
+    cie: &CieParts<'a>,
+    base: u64,
+    body: &'a [u8],
+) -> Result<Fde<'a>, CursorFault>
+    ensures { result ≡ fde_of place cie.now base body.now }
 {
     let mut cursor = cursor_over(body);
     let start = read_pointer(&mut cursor, cie.encoding, base)?;
     let size = read_number(&mut cursor, format_of(cie.encoding))?;
     let _augmentation = read_augmentation(&mut cursor, cie.augmented)?;
     Ok(Fde {
+        cie: place,
         start,
         size,
         code_align: cie.code_align,
@@ -82,13 +90,18 @@ fn read_fde<'a>(cie: &CieParts<'a>, base: u64, body: &'a [u8]) -> Result<Fde<'a>
     })
 }
 
-/// What an FDE under a CIE is.
-pub fn read_body<'a>(parts: &Result<CieParts<'a>, Reason>, base: u64, body: &'a [u8]) -> Body<'a>
-    ensures { result ≡ body_under parts.now base body.now }
+/// What an FDE under the CIE at a place is.
+pub fn read_body<'a>(
+    place: usize,
+    parts: &Result<CieParts<'a>, Reason>,
+    base: u64,
+    body: &'a [u8],
+) -> Body<'a>
+    ensures { result ≡ body_under place parts.now base body.now }
 {
     match parts {
         Err(reason) => Body::Bad(*reason),
-        Ok(cie) => match read_fde(cie, base, body) {
+        Ok(cie) => match read_fde(place, cie, base, body) {
             Ok(fde) => Body::Good(fde),
             Err(_) => Body::Bad(Reason::Entry),
         },

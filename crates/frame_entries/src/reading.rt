@@ -7,13 +7,11 @@ ghost use Rattle.frame_entries.specs.Climbs.{Climbs, places_of, Before};
 
 use crate::cie::{Cie, read_cie};
 use crate::description::{Body, Entry, read_body};
+use crate::entry_list::EntryList;
 use crate::fault::FrameFault;
 use crate::listing::{RawEntry, is_eh, read_listing};
 use std::alloc::{AllocError, Global};
-use sym_edges::{ListOf, Part, Reason, Sect, Stop};
-
-/// Entries in the order of their places.
-pub type EntryList<'a> = ListOf<Entry<'a>>;
+use sym_edges::{Part, Reason, Sect, Stop};
 
 #[inline]
 #[tactic(auto, unfolding(crate::specs::FrameEntries::is_cie))]
@@ -109,7 +107,7 @@ fn read_entry<'a>(which: Sect, address: u64, cies: &[Cie<'a>], raw: &RawEntry<'a
 {
     let base = address.wrapping_add(raw.body_at as u64);
     let body = match name_cie(which, cies, raw) {
-        Some(cie) => read_body(&cie.parts, base, raw.body),
+        Some(cie) => read_body(cie.at, &cie.parts, base, raw.body),
         None => Body::Bad(Reason::Cie),
     };
     Entry {
@@ -157,5 +155,5 @@ pub fn entries<'a>(
     let raws = read_listing(alloc, part.bytes, which)?;
     let cies = read_cies(alloc, raws.as_slice(), which)?;
     let entries = read_entries(alloc, which, part.address, cies.as_slice(), raws.as_slice())?;
-    Ok(ListOf::of(entries))
+    Ok(EntryList::of(entries))
 }

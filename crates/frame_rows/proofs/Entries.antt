@@ -28,6 +28,7 @@ row register offset rules = record { cfa = Some (record { register = register; o
 unfoldable pub factored : ℕ → ℕ → ℕ → String → String → FdeFields
 unfolding hex
 factored factor start size initial own = record {
+  cie = 0;
   start = start;
   size = size;
   code_align = factor;

@@ -50,7 +50,7 @@ walked v e s m end rows cie view setting machine stop good is some =
       are = subst (λ (l : List RowAt). AreRows e l) (sym (own_rows v e s m end rows view setting machine stop is)) (are_rows e own some);
     }
 
-fine : (e : FdeFields) (rows : List RowAt) → Walked e rows → instruction_fault e ≡ None
+pub fine : (e : FdeFields) (rows : List RowAt) → Walked e rows → instruction_fault e ≡ None
 unfolding instruction_fault
 fine e rows w = ap (λ o. option_or o (first_fault (own_setting e) (own_items e) (own_begin e))) w.cie ∙ w.own
 
@@ -73,7 +73,7 @@ pub rows_sound : (e : FdeFields) (rows : List RowAt) → Walked e rows → (a : 
 rows_sound e rows w a = entry_sound e a (fine e rows w)
 
 -- an instruction of the CIE, or of the entry, is bad
-cie_bad : (e : FdeFields) (why : Reason) → first_fault (cie_setting e) (cie_items e) (cie_begin e) ≡ Some why → rows_fault e ≡ Some why
+pub cie_bad : (e : FdeFields) (why : Reason) → first_fault (cie_setting e) (cie_items e) (cie_begin e) ≡ Some why → rows_fault e ≡ Some why
 unfolding rows_fault instruction_fault
 cie_bad e why bad = ap (λ o. option_or (option_or o (first_fault (own_setting e) (own_items e) (own_begin e))) (unless (not (lacks_cfa e)) reason.Cfa)) bad
 
@@ -81,10 +81,6 @@ own_bad : (e : FdeFields) (why : Reason) → first_fault (cie_setting e) (cie_it
 unfolding rows_fault instruction_fault
 own_bad e why cie bad =
     ap (λ o. option_or (option_or o (first_fault (own_setting e) (own_items e) (own_begin e))) (unless (not (lacks_cfa e)) reason.Cfa)) cie ∙ ap (λ o. option_or o (unless (not (lacks_cfa e)) reason.Cfa)) bad
-
-pub cie_stopped : (A B : Type 0) (stop : Stop Reason) (e : FdeFields) → MatchStop {A = A} {F = Reason} (Err stop) (λ _. first_fault (cie_setting e) (cie_items e) (cie_begin e) ≡ None) (λ why. first_fault (cie_setting e) (cie_items e) (cie_begin e) ≡ Some why) (Unit {0}) → MatchStop {A = B} {F = Reason} (Err stop) (λ _. rows_fault e ≡ None) (λ why. rows_fault e ≡ Some why) (Unit {0})
-cie_stopped A B (Fault why) e bad = cie_bad e why bad
-cie_stopped A B NoMemory e bad = tt
 
 pub own_stopped : (A B : Type 0) (stop : Stop Reason) (v e : FdeFields) (s : Setting) (m : Machine) → first_fault (cie_setting e) (cie_items e) (cie_begin e) ≡ None → v ≡ e → s ≡ own_setting e → m ≡ own_begin e → MatchStop {A = A} {F = Reason} (Err stop) (λ _. first_fault s (instructions v.encoding v.instructions_address v.instructions) m ≡ None) (λ why. first_fault s (instructions v.encoding v.instructions_address v.instructions) m ≡ Some why) (Unit {0}) → MatchStop {A = B} {F = Reason} (Err stop) (λ _. rows_fault e ≡ None) (λ why. rows_fault e ≡ Some why) (Unit {0})
 own_stopped A B (Fault why) v e s m cie view setting machine bad = own_bad e why cie (own_fault v e s m (Some why) view setting machine bad)

@@ -101,7 +101,7 @@ behind_passes encoding base opcode c =
     (either (nat_eq (opcode / 64) 3) _ _ c (omega arith, refl)
     (extended_passes encoding base opcode c)))
 
-instruction_passes : (encoding base : ℕ) (c : Ahead) → Passes 1 c (instruction_at encoding base c)
+pub instruction_passes : (encoding base : ℕ) (c : Ahead) → Passes 1 c (instruction_at encoding base c)
 unfolding instruction_at
 instruction_passes encoding base c =
     passes_then (or_instruction (fixed_at 1 c)) (λ opcode. behind_opcode encoding base opcode.0 opcode.1) 1 0 c

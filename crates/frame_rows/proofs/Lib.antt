@@ -6,8 +6,12 @@ pub mod WalkLemmas
 pub mod SoundLemmas
 pub mod CfaLemmas
 pub mod EntryLemmas
+pub mod LeftLemmas
 pub mod FollowLemmas
 pub mod OperandLemmas
+pub mod SteppingLemmas
+pub mod LackLemmas
+pub mod StartLemmas
 pub mod Computing
 mod Entries
 mod WorkedInstructions

@@ -126,7 +126,7 @@ says end s (i ∷ items) m a good below inside =
     ∙ ap Some (sym (ap (λ (k : Machine). k.row) (goes_on s i items m a below)))
 
 -- nothing stands from the end on
-past : (end : ℕ) (s : Setting) (items : List Item) (m : Machine) → first_fault s items m ≡ None → end ≤ m.address → rows_from end s items m ≡ []
+pub past : (end : ℕ) (s : Setting) (items : List Item) (m : Machine) → first_fault s items m ≡ None → end ≤ m.address → rows_from end s items m ≡ []
 past end s [] m good over = last_row end s m (λ rows. end ≤ m.address → rows ≡ []) (λ low over. absurd (omega arith)) (λ over. refl) over
 past end s (i ∷ items) m good over =
     let parts = parted s i items m good in

@@ -1,5 +1,6 @@
 -- No public clause cites this: the rows as one pass makes them.
 use Rattle.std.specs.Prelude.{ℕ, ◌&&◌, nat_lt, if◌then◌else◌, List, [], ◌∷◌, ◌++◌}
+use Rattle.frame_rows.specs.declared.row.Row.{Row}
 use Rattle.frame_rows.specs.declared.row.RowAt.{RowAt}
 use Rattle.frame_rows.specs.declared.machine.Setting.{Setting}
 use Rattle.frame_rows.specs.Instructions.{Item}
@@ -22,3 +23,11 @@ last_row end m = if nat_lt m.address end then row_here m ∷ [] else []
 unfoldable pub rows_from : ℕ → Setting → List Item → Machine → List RowAt
 rows_from end s [] m = last_row end m
 rows_from end s (i ∷ items) m = ended_row end m (item_stepped s i m).address ++ rows_from end s items (item_stepped s i m)
+
+-- a row at an address
+abbrev pub row_with : ℕ → Row → RowAt
+row_with address row = record { address = address; row = row }
+
+-- the rows from a state on, where it lies above an address
+unfoldable pub rows_past : ℕ → Setting → List Item → Machine → ℕ → List RowAt
+rows_past end s items m at = if nat_lt at m.address then rows_from end s items m else []

@@ -12,7 +12,7 @@ use sym_edges::{Reason, Stop};
 impl Instruction {
     /// Carries out the instruction, or says why it may not stand there.
     #[tactic(auto, unfolding(crate::specs::Steps::stepped, crate::specs::Steps::step_fault))]
-    pub fn step(self, machine: &mut Machine, setting: &Setting) -> Result<(), Stop<Reason>>
+    pub fn step(self, machine: &mut Machine<'_>, setting: &Setting) -> Result<(), Stop<Reason>>
         ensures { MatchStop result
             (λ _. (step_fault setting.now self machine.old ≡ None) × (machine.new ≡ stepped setting.now self machine.old))
             (λ why. step_fault setting.now self machine.old ≡ Some why)

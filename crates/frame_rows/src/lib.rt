@@ -8,6 +8,10 @@
 //! to the row and to the row stack, one equation for each instruction, in the standard's order. [`inspect`] looks at the
 //! instructions alone, for any range.
 //!
+//! The instructions of a CIE leave the same for each of its entries: a [`CieState`] is made once, and [`rows_behind`] and
+//! [`inspect_behind`] begin with it, and so does a [`Stepper`], which goes over the rows one after the other and keeps only the
+//! one where it stands. Once memory ran out, it answers that from then on.
+//!
 //! An entry is refused exactly with the reason of its first bad instruction, the CIE's before its own, or else with
 //! `Cfa` where some address of the range has no CFA rule. Instructions with a DWARF expression are refused as
 //! `Expression`.
@@ -23,7 +27,10 @@ mod effect;
 mod machine;
 
 // All instructions of an entry.
+mod cie_state;
+mod lacking;
 mod running;
+mod stepper;
 #[cfg(test)]
 mod tests;
 mod walking;
@@ -31,6 +38,8 @@ mod walking;
 // For proofs above.
 pub mod laws;
 
+pub use crate::cie_state::CieState;
 pub use crate::row::{CfaRule, Row, RowAt, RowList, Rule};
-pub use crate::running::inspect;
-pub use crate::walking::rows;
+pub use crate::running::{inspect, inspect_behind};
+pub use crate::stepper::Stepper;
+pub use crate::walking::{rows, rows_behind};

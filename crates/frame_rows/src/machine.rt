@@ -1,5 +1,5 @@
 //! The state that instructions change, and each change.
-ghost use Rattle.std.specs.Prelude.{◌≡◌, ◌+◌, ◌*◌, [], ◌∷◌, Some, None, not, nat_lt, ◌==◌, ◌||◌, is_some, MatchResult, OnOk};
+ghost use Rattle.std.specs.Prelude.{◌≡◌, ◌+◌, ◌*◌, [], ◌∷◌, Some, None, not, false, nat_lt, ◌==◌, ◌||◌, is_some, reverse, MatchOption, MatchResult, IfOk, OnOk};
 ghost use Rattle.sym_edges.specs.declared.reason.Reason.TheVariants as reason;
 ghost use Rattle.frame_rows.specs.declared.row.Rule.TheVariants as rule;
 ghost use Rattle.sym_edges.specs.Outside.{MatchStop};
@@ -30,21 +30,23 @@ impl Setting {
     }
 }
 
-/// The location, the row there, and the row stack: the rows that are remembered.
+/// The location, the row there, and the row stack: the rows that are remembered. Those at its bottom, which a CIE left, lie
+/// elsewhere.
 #[derive(Drop)]
-pub struct Machine {
+pub struct Machine<'c> {
     address: u64,
     row: Row,
     stack: Vec<Row>,
+    bottom: &'c [Row],
 }
 
-impl Model for Machine {
-    ghost use Rattle.std.specs.Prelude.{reverse};
+impl<'c> Model for Machine<'c> {
+    ghost use Rattle.std.specs.Prelude.{reverse, ◌++◌};
     ghost use Rattle.frame_rows.specs.Machine.{Machine};
 
     ghost Value = { Machine };
 
-    ghost view = { λ m. record { address = m.address; row = m.row; stack = reverse m.stack.items } };
+    ghost view = { λ m. record { address = m.address; row = m.row; stack = reverse m.stack.items ++ reverse m.bottom.now } };
 }
 
 /// A register of x86-64 by its number.
@@ -59,16 +61,27 @@ fn register_of(number: u64) -> Result<u8, Reason>
     }
 }
 
-impl Machine {
-    /// The state at an address, with a row and nothing remembered. Takes no memory.
-    pub fn new(alloc: Global, address: u64, row: &Row) -> Machine
-        ensures { result ≡ record { address = address; row = row.now; stack = [] } }
+impl<'c> Machine<'c> {
+    /// The state at an address, with a row and the rows that are remembered, the last one last. Takes no memory.
+    pub fn new(alloc: Global, address: u64, row: &Row, bottom: &'c [Row]) -> Machine<'c>
+        ensures { result ≡ record { address = address; row = row.now; stack = reverse bottom.now } }
     {
         Machine {
             address,
             row: *row,
             stack: Vec::new(alloc),
+            bottom,
         }
+    }
+
+    /// The rows that are remembered, the last one last.
+    pub fn into_stack(self, alloc: Global) -> Result<Vec<Row>, AllocError>
+        ensures { IfOk result (λ rows. reverse rows.items ≡ self.entry.stack) }
+    {
+        let Machine { stack, bottom, .. } = self;
+        let mut rows = Vec::from_slice(alloc, bottom)?;
+        rows.extend_from_slice(&stack)?;
+        Ok(rows)
     }
 
     pub fn address(&self) -> u64
@@ -256,6 +269,23 @@ impl Machine {
         Ok(())
     }
 
+    /// Takes the row that was remembered last away.
+    fn pop(&mut self) -> Option<Row>
+        ensures popped { MatchOption result (has_remembered self.old.stack ≡ false) (λ row. self.old.stack ≡ row ∷ self.new.stack) }
+        ensures kept { (self.new.address ≡ self.old.address) × (self.new.row ≡ self.old.row) }
+    {
+        if let Some(row) = self.stack.pop() {
+            return Some(row);
+        }
+        match self.bottom.split_last() {
+            Some((row, rest)) => {
+                self.bottom = rest;
+                Some(*row)
+            }
+            None => None,
+        }
+    }
+
     /// The row that was remembered last.
     pub fn restore_state(&mut self) -> Result<(), Stop<Reason>>
         ensures { MatchStop result
@@ -263,7 +293,7 @@ impl Machine {
             (λ why. unless (has_remembered self.old.stack) reason.State ≡ Some why)
             (Unit {0}) }
     {
-        match self.stack.pop() {
+        match self.pop() {
             Some(row) => {
                 self.row = row;
                 Ok(())

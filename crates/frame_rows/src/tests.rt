@@ -1,6 +1,6 @@
 //! Examples with ample memory: each public call, and entries with many rows.
 use crate::row::{COLUMNS, CfaRule, Row, Rule};
-use crate::{inspect, rows};
+use crate::{CieState, RowAt, Stepper, inspect, rows};
 use frame_entries::Fde;
 use std::alloc::Global;
 use std::process::Abort;
@@ -11,6 +11,7 @@ use sym_edges::Reason;
 #[tactic(auto, unfolding(frame_entries::specs::Pointers::is_encoding, frame_entries::specs::Pointers::is_format))]
 fn called(size: u64, instructions: &[u8]) -> Fde<'_> {
     Fde {
+        cie: 0,
         start: 0x1000,
         size,
         code_align: 1,
@@ -61,6 +62,77 @@ fn expect(
         (why, true, want),
         "{name}"
     );
+    Ok(())
+}
+
+/// The row at an address: the last that begins at or below it.
+fn row_at(rows: &[RowAt], address: u64) -> Option<Row> {
+    let mut found = None;
+    for row in rows {
+        if row.address <= address {
+            found = Some(row.row);
+        }
+    }
+    found
+}
+
+/// A stepper goes over the rows of an entry, and has the row at each address.
+fn expect_steps(rt: &impl Abort, alloc: Global, number: u8, fde: &Fde<'_>) -> Result<(), Fail> {
+    let mut found = Vec::new(alloc);
+    if fde.size == 0 || fde.size > u64::MAX - fde.start {
+        return Ok(());
+    }
+    let list = rows(alloc, fde)?;
+    let state = CieState::of(alloc, fde)?;
+    let mut stepper = Stepper::new(alloc, &state, fde)?;
+    for _ in 0..=fde.size {
+        found.push(RowAt {
+            address: stepper.address(),
+            row: *stepper.row(),
+        })?;
+        if !stepper.step()? {
+            break;
+        }
+    }
+    let mut same = true;
+    for address in fde.start..fde.start + fde.size {
+        same = same && row_at(list.as_slice(), address) == row_at(&found, address);
+    }
+    assert_eq!(rt;
+        (same, found.as_slice()),
+        (true, list.as_slice()),
+        "entry {number}"
+    );
+    Ok(())
+}
+
+/// How many entries are gone over.
+const ENTRIES: u8 = 20;
+
+#[test]
+fn a_stepper_has_the_row_at_each_address(rt: HostRuntime) -> Result<(), Fail> {
+    let alloc = rt.alloc();
+    for number in 0..ENTRIES {
+        // Moves by 1 to 4 addresses, an offset or a column that changes, a row that is remembered and comes back.
+        let own = [
+            0x41 + number % 4,
+            0x0e,
+            8 * (number % 5),
+            0x0a,
+            0x80 + number % 16,
+            number,
+            0x41 + number % 3,
+            0x0d,
+            number % 16,
+            0x42,
+            0x07,
+            number % 17,
+            0x0b,
+            0x41 + number % 2,
+            0xc0 + number % 16,
+        ];
+        expect_steps(&rt, alloc, number, &called(12, &own))?;
+    }
     Ok(())
 }
 

@@ -6,12 +6,13 @@ ghost use Rattle.frame_entries.specs.Pointers.{is_encoding};
 ghost use Rattle.frame_rows.specs.Instructions.{instructions};
 ghost use Rattle.frame_rows.specs.Steps.{stepped, step_fault, has_cfa};
 ghost use Rattle.frame_rows.specs.Rows.{first_fault, row_at, rows_fault, AreRows, HasCfa, IsSound};
+ghost use Rattle.frame_rows.specs.CieLeft.{cie_left};
 ghost use Rattle.frame_rows.specs.Walk.{ended_row, last_row, rows_from};
 
+use crate::cie_state::{Begun, CieState};
 use crate::instruction::Instruction;
 use crate::machine::{Machine, Setting};
 use crate::row::{RowAt, RowList};
-use crate::running::{Begun, begin};
 use frame_entries::Fde;
 use leb_cursor::Cursor;
 use std::alloc::{AllocError, Global};
@@ -21,7 +22,7 @@ use sym_edges::{Reason, Stop};
 #[tactic(auto, using(crate::proofs::WalkLemmas::row_ended, crate::proofs::WalkLemmas::row_lasts, crate::proofs::WalkLemmas::row_outside))]
 fn carry_out(
     rows: &mut Vec<RowAt>,
-    machine: &mut Machine,
+    machine: &mut Machine<'_>,
     setting: &Setting,
     end: u64,
     instruction: Instruction,
@@ -47,7 +48,7 @@ fn carry_out(
 }
 
 /// Adds the row at the location, where that is below the end.
-fn finish(rows: Vec<RowAt>, machine: &Machine, end: u64) -> Result<Vec<RowAt>, AllocError>
+fn finish(rows: Vec<RowAt>, machine: &Machine<'_>, end: u64) -> Result<Vec<RowAt>, AllocError>
     ensures { IfOk result (λ all. all.items ≡ rows.items ++ last_row end machine.now) }
 {
     let mut rows = rows;
@@ -63,7 +64,7 @@ fn finish(rows: Vec<RowAt>, machine: &Machine, end: u64) -> Result<Vec<RowAt>, A
 /// The rows of a run of instructions, from a state on and below an end; `base` is the address of the first byte.
 fn walk(
     alloc: Global,
-    mut machine: Machine,
+    mut machine: Machine<'_>,
     setting: &Setting,
     end: u64,
     encoding: u8,
@@ -72,10 +73,10 @@ fn walk(
 ) -> Result<Vec<RowAt>, Stop<Reason>>
     requires known { IsTrue (is_encoding encoding) }
     ensures fault { MatchStop result
-        (λ _. first_fault setting.now (instructions encoding base bytes.now) machine ≡ None)
-        (λ why. first_fault setting.now (instructions encoding base bytes.now) machine ≡ Some why)
+        (λ _. first_fault setting.now (instructions encoding base bytes.now) machine.entry ≡ None)
+        (λ why. first_fault setting.now (instructions encoding base bytes.now) machine.entry ≡ Some why)
         (Unit {0}) }
-    ensures rows { IfOk result (λ rows. rows.items ≡ rows_from end setting.now (instructions encoding base bytes.now) machine) }
+    ensures rows { IfOk result (λ rows. rows.items ≡ rows_from end setting.now (instructions encoding base bytes.now) machine.entry) }
 {
     let mut cursor = Cursor::new(bytes, 0, bytes.len());
     let mut rows = Vec::new(alloc);
@@ -103,8 +104,9 @@ fn lack_cfa(rows: &[RowAt]) -> bool
 }
 
 /// The rows of an entry by their addresses, or the reason of its first bad instruction, or else `Cfa` where some address of the
-/// range has no rule for the CFA.
-pub fn rows(alloc: Global, fde: &Fde<'_>) -> Result<RowList, Stop<Reason>>
+/// range has no rule for the CFA; the state behind its CIE is given.
+pub fn rows_behind(alloc: Global, state: &CieState, fde: &Fde<'_>) -> Result<RowList, Stop<Reason>>
+    requires behind { state.now ≡ cie_left fde.now }
     requires some { 0 < fde.now.size }
     requires fits { fde.now.start + fde.now.size < 2 ^ 64 }
     ensures rows { MatchStop result (λ rows. AreRows fde.now rows) (λ _. Unit {0}) (Unit {0}) }
@@ -112,9 +114,9 @@ pub fn rows(alloc: Global, fde: &Fde<'_>) -> Result<RowList, Stop<Reason>>
     ensures sound { MatchStop result (λ _. (a : ℕ) → IsSound (row_at fde.now a)) (λ _. Unit {0}) (Unit {0}) }
     ensures exact { MatchStop result (λ _. rows_fault fde.now ≡ None) (λ why. rows_fault fde.now ≡ Some why) (Unit {0}) }
 {
-    let begun = match begin(alloc, fde) {
+    let begun = match state.begin(alloc, fde) {
         Ok(begun) => begun,
-        Err(stop) => return Err(stop),
+        Err(why) => return Err(Stop::Fault(why)),
     };
     let Begun { machine, setting } = begun;
     let end = fde.start + fde.size;
@@ -134,4 +136,18 @@ pub fn rows(alloc: Global, fde: &Fde<'_>) -> Result<RowList, Stop<Reason>>
         return Err(Stop::Fault(Reason::Cfa));
     }
     Ok(RowList::of(rows))
+}
+
+/// The rows of an entry by their addresses, or the reason of its first bad instruction, or else `Cfa` where some address of the
+/// range has no rule for the CFA.
+pub fn rows(alloc: Global, fde: &Fde<'_>) -> Result<RowList, Stop<Reason>>
+    requires some { 0 < fde.now.size }
+    requires fits { fde.now.start + fde.now.size < 2 ^ 64 }
+    ensures rows { MatchStop result (λ rows. AreRows fde.now rows) (λ _. Unit {0}) (Unit {0}) }
+    ensures cfa { MatchStop result (λ _. HasCfa fde.now) (λ _. Unit {0}) (Unit {0}) }
+    ensures sound { MatchStop result (λ _. (a : ℕ) → IsSound (row_at fde.now a)) (λ _. Unit {0}) (Unit {0}) }
+    ensures exact { MatchStop result (λ _. rows_fault fde.now ≡ None) (λ why. rows_fault fde.now ≡ Some why) (Unit {0}) }
+{
+    let state = CieState::of(alloc, fde)?;
+    rows_behind(alloc, &state, fde)
 }

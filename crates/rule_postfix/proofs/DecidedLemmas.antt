@@ -19,7 +19,6 @@ use Rattle.frame_entries.specs.declared.description.Entry.{Entry}
 use Rattle.frame_entries.specs.FdeFields.{FdeFields}
 use Rattle.sym_edges.specs.Results.{unless}
 use Rattle.std.specs.Option.{option_or}
-use Rattle.frame_rows.specs.declared.row.RowAt.{RowAt}
 use Rattle.sym_records.specs.Canon.{canon_text}
 use Rattle.sym_records.specs.Spelled.{text_bytes}
 use Rattle.sym_records.specs.declared.line.SymLine.{SymLine}
@@ -147,10 +146,10 @@ left_too base code p q entry e why body is more d so =
     let P : Decided → Type 0 = λ x. Shows base q x in
     subst P (sym (good_by base code p entry e (Some why) d body is so)) (more base d so)
 
-pub refused_too : (base : ℕ) (code : List Range) (p q : Progress) (entry : Entry) (e : FdeFields) (stop : Stop Reason) → entry.body ≡ Good e → MatchStop {A = List RowAt} (Err stop) (λ _. reason_among code p.taken e ≡ None) (λ why. reason_among code p.taken e ≡ Some why) (Unit {0}) →
+pub refused_too : (A : Type 0) (base : ℕ) (code : List Range) (p q : Progress) (entry : Entry) (e : FdeFields) (stop : Stop Reason) → entry.body ≡ Good e → MatchStop {A = A} {F = Reason} (Err stop) (λ _. reason_among code p.taken e ≡ None) (λ why. reason_among code p.taken e ≡ Some why) (Unit {0}) →
     IfRefused stop (λ why. (base : ℕ) (d : Decided) → Shows base p d → Shows base q (left_out entry why d)) → (d : Decided) → Shows base p d → Shows base q (with_entry code entry d)
-refused_too base code p q entry e (Fault why) body is more = left_too base code p q entry e why body is more
-refused_too base code p q entry e NoMemory body is more = absurd more
+refused_too A base code p q entry e (Fault why) body is more = left_too base code p q entry e why body is more
+refused_too A base code p q entry e NoMemory body is more = absurd more
 
 pub bad_too : (base : ℕ) (code : List Range) (p q : Progress) (entry : Entry) (why : Reason) → entry.body ≡ Bad why →
     ((base : ℕ) (d : Decided) → Shows base p d → Shows base q (left_out entry why d)) → (d : Decided) → Shows base p d → Shows base q (with_entry code entry d)

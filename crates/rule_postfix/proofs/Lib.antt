@@ -3,11 +3,13 @@ pub mod PartLemmas
 pub mod RulesLemmas
 pub mod WriterLemmas
 pub mod SpellingLemmas
+pub mod StepsLemmas
 pub mod LinesLemmas
 pub mod EntryLemmas
 pub mod OverlapLemmas
 pub mod ReasonLemmas
 pub mod DecidedLemmas
+pub mod KeepingLemmas
 pub mod PlainLemmas
 pub mod ValidLemmas
 pub mod CoveringLemmas

@@ -4,7 +4,6 @@ use Rattle.std.proofs.lemmas.Bool.{and_right, and_from, le-ltb, lt-ltb}
 use Rattle.sym_edges.specs.declared.fault.Stop.{Stop}
 use Rattle.sym_edges.specs.declared.fault.Stop.TheVariants.{Fault, NoMemory}
 use Rattle.sym_edges.specs.Outside.{MatchStop}
-use Rattle.frame_rows.specs.declared.row.RowAt.{RowAt}
 use Rattle.rule_postfix.specs.Deciding.{EndsAt}
 use Rattle.sym_edges.specs.declared.reason.Reason.{Reason}
 use Rattle.sym_edges.specs.declared.reason.Reason.TheVariants as reason
@@ -42,9 +41,9 @@ ranged code taken e why inside meets has rows place met =
 no_rows : (code taken : List Range) (e : FdeFields) (why : Reason) → has_range e ≡ true → rows_fault e ≡ Some why → reason_among code taken e ≡ Some why
 no_rows code taken e why has rows = ranged code taken e (Some why) (encloses code e.start (e.start + e.size)) (any_meets (range_of e) taken) has rows refl refl
 
-pub rows_refused : (code taken : List Range) (e : FdeFields) (end : ℕ) (stop : Stop Reason) → EndsAt e end → MatchStop {A = List RowAt} (Err stop) (λ _. rows_fault e ≡ None) (λ why. rows_fault e ≡ Some why) (Unit {0}) → MatchStop {A = List RowAt} (Err stop) (λ _. reason_among code taken e ≡ None) (λ why. reason_among code taken e ≡ Some why) (Unit {0})
-rows_refused code taken e end (Fault why) ends rows = no_rows code taken e why ends.ranged rows
-rows_refused code taken e end NoMemory ends rows = tt
+pub rows_refused : (A B : Type 0) (code taken : List Range) (e : FdeFields) (end : ℕ) (stop : Stop Reason) → EndsAt e end → MatchStop {A = A} {F = Reason} (Err stop) (λ _. rows_fault e ≡ None) (λ why. rows_fault e ≡ Some why) (Unit {0}) → MatchStop {A = B} {F = Reason} (Err stop) (λ _. reason_among code taken e ≡ None) (λ why. reason_among code taken e ≡ Some why) (Unit {0})
+rows_refused A B code taken e end (Fault why) ends rows = no_rows code taken e why ends.ranged rows
+rows_refused A B code taken e end NoMemory ends rows = tt
 
 pub no_code : (code taken : List Range) (e : FdeFields) (end : ℕ) → EndsAt e end → rows_fault e ≡ None → encloses code e.start end ≡ false → reason_among code taken e ≡ Some reason.Outside
 no_code code taken e end ends rows place = ranged code taken e None false (any_meets (range_of e) taken) ends.ranged rows (ap (encloses code e.start) (sym ends.sum) ∙ place) refl

@@ -62,7 +62,7 @@ belows : (b end : ℕ) (before after : Row) (w : Open) → w.start < end → b <
 unfolding with_row
 belows b end before after w first second = below_by (some_becomes_unspecified before after) b end after (changed_rules before after) w first second
 
-one_on : (base end : ℕ) (before : Row) (next : RowAt) (rest : List RowAt) (w whole : Open) → Writing base end before (next ∷ rest) w whole → Writing base end next.row rest (with_row next.address before next.row w) whole
+pub one_on : (base end : ℕ) (before : Row) (next : RowAt) (rest : List RowAt) (w whole : Open) → Writing base end before (next ∷ rest) w whole → Writing base end next.row rest (with_row next.address before next.row w) whole
 unfolding with_rows
 one_on base end before next rest w whole so = record {
   same = so.same;

@@ -49,8 +49,3 @@ with_rows before (r ∷ rows) o = with_rows r.row rows (with_row r.address befor
 unfoldable pub lines_of : ℕ → ℕ → List RowAt → List SymLine
 lines_of base end [] = []
 lines_of base end (r ∷ rows) = closed (with_rows r.row rows (opened base [] r.address r.row)) end
-
--- the end of the INIT in which a row stands, with these rows behind it
-unfoldable pub init_end : ℕ → Row → List RowAt → ℕ
-init_end end before [] = end
-init_end end before (r ∷ rows) = if some_becomes_unspecified before r.row then r.address else init_end end r.row rows

@@ -1,9 +1,13 @@
 //! The records of all entries.
-ghost use Rattle.std.specs.Prelude.{◌≡◌, ℕ, List, ◌+◌, ◌^◌, ◌<◌, false, None, Some, MatchOption, IfOk, OnOk};
+ghost use Rattle.std.specs.Prelude.{◌≡◌, ℕ, List, ◌∷◌, ◌+◌, ◌^◌, ◌<◌, ◌≤◌, true, false, None, Some, MatchOption, IfOk, OnOk};
 ghost use Rattle.sym_edges.specs.Outside.{MatchStop};
 ghost use Rattle.sym_edges.specs.Addresses.{Range};
 ghost use Rattle.range_set.specs.Starts.{AllFrom};
+ghost use Rattle.frame_entries.specs.FdeFields.{FdeFields};
+ghost use Rattle.frame_entries.specs.SharedCies.{ShareCies};
+ghost use Rattle.frame_entries.specs.declared.description.Body.TheVariants.{Good};
 ghost use Rattle.frame_rows.specs.Rows.{Ascending};
+ghost use Rattle.frame_rows.specs.CieLeft.{cie_left};
 ghost use Rattle.sym_records.specs.Canon.{canon_text};
 ghost use Rattle.sym_records.specs.Spelled.{text_bytes};
 ghost use Rattle.sym_records.specs.declared.place.Place.{Place};
@@ -12,18 +16,20 @@ ghost use Rattle.rule_postfix.specs.Overlaps.{any_meets};
 ghost use Rattle.rule_postfix.specs.Writing.{lines_of};
 ghost use Rattle.rule_postfix.specs.Written.{Decided, has_range, range_of, reason_among, entry_lines, left_out, with_written, with_entry, with_entries, written, omitted, written_lines};
 ghost use Rattle.rule_postfix.specs.Covering.{inits_at, entries_at, AreDisjoint, AreNested};
+ghost use Rattle.rule_postfix.specs.Keeping.{KeptFor, StaysKept};
 ghost use Rattle.rule_postfix.specs.Deciding.{LiesAbove, EndsAt, IfRefused, Shows};
 
+use crate::kept_state::KeptState;
 use crate::omission::{Omission, Omissions};
-use crate::spelling::spell_rows;
+use crate::open_init::{OpenInit, spell_steps};
 use crate::taken::Taken;
 use frame_entries::{Body, Entry, EntryList, Fde};
-use frame_rows::{RowAt, RowList, inspect, rows};
+use frame_rows::{CieState, Stepper, inspect_behind};
 use range_set::Enclosing;
 use std::alloc::Global;
 use sym_edges::{ListOf, OutOfMemory, Reason, Span, Stop};
+use sym_records::TextPieces;
 use sym_records::laws::{good_lists_are_joined, plain_rules_fit};
-use sym_records::{RuleText, TextPieces};
 
 /// The text of the frame records of a file, and the entries that are left out.
 #[derive(Debug, Drop)]
@@ -33,11 +39,11 @@ pub struct Frames {
 }
 
 /// What was decided so far: the text of the records, the entries that are left out, and the ranges of those that are
-/// written. The rules of one record at a time are made in `rules`.
+/// written. The INIT of one entry at a time is made in `open`.
 #[derive(Drop)]
 struct Progress {
     text: TextPieces,
-    rules: Vec<RuleText>,
+    open: OpenInit,
     omitted: Vec<Omission>,
     taken: Taken,
 }
@@ -55,38 +61,46 @@ fn end_of(fde: &Fde<'_>) -> Option<u64>
 
 /// Why an entry without such a range is left out.
 #[tactic(auto, using(crate::proofs::ReasonLemmas::unranged_bad, crate::proofs::ReasonLemmas::unranged_good))]
-fn reason_without_range(alloc: Global, fde: &Fde<'_>) -> Result<Reason, OutOfMemory>
-    requires { has_range fde.now ≡ false }
+fn reason_without_range(
+    alloc: Global,
+    state: &CieState,
+    fde: &Fde<'_>,
+) -> Result<Reason, OutOfMemory>
+    requires behind { state.now ≡ cie_left fde.now }
+    requires unranged { has_range fde.now ≡ false }
     ensures { IfOk result (λ why. (code taken : List Range) → reason_among code taken fde.now ≡ Some why) }
 {
-    match inspect(alloc, fde)? {
+    match inspect_behind(alloc, state, fde)? {
         Some(why) => Ok(why),
         None => Ok(Reason::Outside),
     }
 }
 
-/// The rows of an entry, or the first reason to leave it out.
+/// A stepper over the rows of an entry, or the first reason to leave it out, where the state behind its CIE is given.
 #[tactic(auto, using(crate::proofs::ReasonLemmas::rows_refused, crate::proofs::ReasonLemmas::no_code, crate::proofs::ReasonLemmas::overlaps, crate::proofs::ReasonLemmas::no_reason, crate::proofs::EntryLemmas::rising_to, crate::proofs::EntryLemmas::lines_to))]
-fn rows_or_reason(
+fn steps_or_reason<'c, 'a>(
     alloc: Global,
-    fde: &Fde<'_>,
+    state: &'c CieState,
+    fde: &Fde<'a>,
     code: &Enclosing,
     taken: &Taken,
     base: u64,
-) -> Result<RowList, Stop<Reason>>
-    requires { LiesAbove base code.now }
-    ensures rising { MatchStop result (λ rows. Ascending base (fde.now.start + fde.now.size) rows) (λ _. Unit {0}) (Unit {0}) }
-    ensures lines { MatchStop result (λ rows. lines_of base (fde.now.start + fde.now.size) rows ≡ entry_lines base fde.now) (λ _. Unit {0}) (Unit {0}) }
+) -> Result<Stepper<'c, 'a>, Stop<Reason>>
+    requires behind { state.now ≡ cie_left fde.now }
+    requires above { LiesAbove base code.now }
+    ensures fresh { MatchStop result (λ s. s.failed ≡ false) (λ _. Unit {0}) (Unit {0}) }
+    ensures rising { MatchStop result (λ s. Ascending base (fde.now.start + fde.now.size) (s.here ∷ s.later)) (λ _. Unit {0}) (Unit {0}) }
+    ensures lines { MatchStop result (λ s. lines_of base (fde.now.start + fde.now.size) (s.here ∷ s.later) ≡ entry_lines base fde.now) (λ _. Unit {0}) (Unit {0}) }
     ensures valid { MatchStop result (λ _. first_bad_from 0 Place.Inside (entry_lines base fde.now) ≡ None) (λ _. Unit {0}) (Unit {0}) }
     ensures exact { MatchStop result (λ _. reason_among code.now taken.now fde.now ≡ None) (λ why. reason_among code.now taken.now fde.now ≡ Some why) (Unit {0}) }
 {
     plain_rules_fit();
     good_lists_are_joined();
     let Some(end) = end_of(fde) else {
-        return Err(Stop::Fault(reason_without_range(alloc, fde)?));
+        return Err(Stop::Fault(reason_without_range(alloc, state, fde)?));
     };
-    let rows = match rows(alloc, fde) {
-        Ok(rows) => rows,
+    let stepper = match Stepper::new(alloc, state, fde) {
+        Ok(stepper) => stepper,
         Err(stop) => return Err(stop),
     };
     if !code.encloses(fde.start, end) {
@@ -95,7 +109,7 @@ fn rows_or_reason(
     if taken.meets(fde.start, end) {
         return Err(Stop::Fault(Reason::Overlap));
     }
-    Ok(rows)
+    Ok(stepper)
 }
 
 /// An entry is left out.
@@ -129,51 +143,103 @@ fn write(
     alloc: Global,
     progress: &mut Progress,
     fde: &Fde<'_>,
-    rows: &[RowAt],
+    stepper: Stepper<'_, '_>,
     base: u64,
 ) -> Result<(), OutOfMemory>
     requires some { 0 < fde.now.size }
     requires fits { fde.now.start + fde.now.size < 2 ^ 64 }
     requires apart { any_meets (range_of fde.now) progress.old.taken ≡ false }
-    requires rising { Ascending base (fde.now.start + fde.now.size) rows.now }
-    requires lines { lines_of base (fde.now.start + fde.now.size) rows.now ≡ entry_lines base fde.now }
+    requires fresh { stepper.failed ≡ false }
+    requires rising { Ascending base (fde.now.start + fde.now.size) (stepper.here ∷ stepper.later) }
+    requires lines { lines_of base (fde.now.start + fde.now.size) (stepper.here ∷ stepper.later) ≡ entry_lines base fde.now }
     requires valid { first_bad_from 0 Place.Inside (entry_lines base fde.now) ≡ None }
     ensures { OnOk result ((d : Decided) → Shows base progress.old d → Shows base progress.new (with_written fde.now d)) }
 {
     good_lists_are_joined();
     let end = fde.start + fde.size;
     progress.taken.put(fde.start, end)?;
-    spell_rows(
+    spell_steps(
         &mut progress.text.last,
-        &mut progress.rules,
-        rows,
+        &mut progress.open,
+        stepper,
         end,
         base,
     )?;
     progress.text.turn(alloc)
 }
 
+/// An entry whose fields can be read is written or left out, where the state behind its CIE is given.
+fn put_behind(
+    alloc: Global,
+    progress: &mut Progress,
+    state: &CieState,
+    entry: &Entry<'_>,
+    fde: &Fde<'_>,
+    code: &Enclosing,
+    base: u64,
+) -> Result<(), OutOfMemory>
+    requires good { entry.now.body ≡ Good fde.now }
+    requires behind { state.now ≡ cie_left fde.now }
+    requires above { LiesAbove base code.now }
+    ensures { OnOk result ((d : Decided) → Shows base progress.old d → Shows base progress.new (with_entry code.now entry.now d)) }
+{
+    match steps_or_reason(alloc, state, fde, code, &progress.taken, base) {
+        Ok(stepper) => write(alloc, progress, fde, stepper, base),
+        Err(stop) => leave_out_where_refused(progress, entry, stop),
+    }
+}
+
+/// An entry whose fields can be read is written or left out. The state behind its CIE is kept for those that follow.
+fn put_good(
+    alloc: Global,
+    progress: &mut Progress,
+    kept: &mut Option<KeptState>,
+    entry: &Entry<'_>,
+    fde: &Fde<'_>,
+    code: &Enclosing,
+    base: u64,
+) -> Result<(), OutOfMemory>
+    requires good { entry.now.body ≡ Good fde.now }
+    requires known { KeptFor kept.old fde.now }
+    requires above { LiesAbove base code.now }
+    ensures shown { OnOk result ((d : Decided) → Shows base progress.old d → Shows base progress.new (with_entry code.now entry.now d)) }
+    ensures kept { OnOk result (StaysKept entry.now kept.old kept.new) }
+{
+    if let Some(known) = kept {
+        if known.place == fde.cie {
+            return put_behind(alloc, progress, &known.state, entry, fde, code, base);
+        }
+    }
+    let state = CieState::of(alloc, fde)?;
+    put_behind(alloc, progress, &state, entry, fde, code, base)?;
+    *kept = Some(KeptState {
+        place: fde.cie,
+        state,
+    });
+    Ok(())
+}
+
 /// An entry is written or left out.
 fn put_entry(
     alloc: Global,
     progress: &mut Progress,
+    kept: &mut Option<KeptState>,
     entry: &Entry<'_>,
     code: &Enclosing,
     base: u64,
 ) -> Result<(), OutOfMemory>
-    requires { LiesAbove base code.now }
-    ensures { OnOk result ((d : Decided) → Shows base progress.old d → Shows base progress.new (with_entry code.now entry.now d)) }
+    requires known { (e : FdeFields) → entry.now.body ≡ Good e → KeptFor kept.old e }
+    requires above { LiesAbove base code.now }
+    ensures shown { OnOk result ((d : Decided) → Shows base progress.old d → Shows base progress.new (with_entry code.now entry.now d)) }
+    ensures kept { OnOk result (StaysKept entry.now kept.old kept.new) }
 {
     match &entry.body {
         Body::Bad(reason) => leave_out(progress, entry, *reason),
-        Body::Good(fde) => match rows_or_reason(alloc, fde, code, &progress.taken, base) {
-            Ok(rows) => write(alloc, progress, fde, rows.as_slice(), base),
-            Err(stop) => leave_out_where_refused(progress, entry, stop),
-        },
+        Body::Good(fde) => put_good(alloc, progress, kept, entry, fde, code, base),
     }
 }
 
-/// Entries in order.
+/// Entries of one section in order.
 fn put_entries(
     alloc: Global,
     progress: &mut Progress,
@@ -181,11 +247,13 @@ fn put_entries(
     code: &Enclosing,
     base: u64,
 ) -> Result<(), OutOfMemory>
-    requires { LiesAbove base code.now }
+    requires shared { ShareCies entries.now }
+    requires above { LiesAbove base code.now }
     ensures { OnOk result ((d : Decided) → Shows base progress.old d → Shows base progress.new (with_entries code.now entries.now d)) }
 {
+    let mut kept = None;
     for entry in entries {
-        put_entry(alloc, progress, entry, code, base)?;
+        put_entry(alloc, progress, &mut kept, entry, code, base)?;
     }
     Ok(())
 }
@@ -211,7 +279,7 @@ pub fn translate_all(
     let enclosing = Enclosing::of_spans(alloc, code)?;
     let mut progress = Progress {
         text: TextPieces::new(alloc),
-        rules: Vec::new(alloc),
+        open: OpenInit::new(alloc),
         omitted: Vec::new(alloc),
         taken: Taken::new(alloc),
     };
@@ -219,7 +287,7 @@ pub fn translate_all(
     put_entries(alloc, &mut progress, second.as_slice(), &enclosing, base)?;
     let Progress {
         text,
-        rules: _,
+        open: _,
         omitted,
         taken: _,
     } = progress;

@@ -12,12 +12,16 @@
 //! with its first reason. `specs/Written.antt` has that choice, and `specs/Covering.antt` what it comes to: each address of a
 //! written entry is covered by one INIT, and no other address by any.
 //!
-//! To read: `parts`, `rules`, `spelling`, `translating`, then `omission`, `taken` and `all`.
+//! The instructions of a CIE are carried out once for the entries that follow it: `kept_state` has the state that they leave.
+//!
+//! To read: `parts`, `rules`, `spelling`, `open_init`, `translating`, then `omission`, `taken`, `kept_state` and `all`.
 #![tactic(auto)]
 
 mod all;
+mod kept_state;
 pub mod laws;
 mod omission;
+mod open_init;
 mod parts;
 mod rules;
 mod spelling;

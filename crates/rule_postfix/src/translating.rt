@@ -7,9 +7,9 @@ ghost use Rattle.sym_records.specs.Canon.{canon_text};
 ghost use Rattle.sym_records.specs.Validity.{first_bad_from};
 ghost use Rattle.rule_postfix.specs.FrameLines.{frame_lines};
 
-use crate::spelling::spell_rows;
+use crate::open_init::{OpenInit, spell_steps};
 use frame_entries::Fde;
-use frame_rows::rows;
+use frame_rows::{CieState, Stepper};
 use std::alloc::Global;
 use sym_edges::{Reason, Stop};
 use sym_records::ByteText;
@@ -28,15 +28,13 @@ pub fn translate(alloc: Global, fde: &Fde<'_>, base: u64) -> Result<ByteText, St
 {
     plain_rules_fit();
     good_lists_are_joined();
-    let rows = rows(alloc, fde)?;
+    let state = CieState::of(alloc, fde)?;
+    let stepper = match Stepper::new(alloc, &state, fde) {
+        Ok(stepper) => stepper,
+        Err(stop) => return Err(stop),
+    };
     let mut text = Vec::new(alloc);
-    let mut rules = Vec::new(alloc);
-    spell_rows(
-        &mut text,
-        &mut rules,
-        rows.as_slice(),
-        fde.start + fde.size,
-        base,
-    )?;
+    let mut open = OpenInit::new(alloc);
+    spell_steps(&mut text, &mut open, stepper, fde.start + fde.size, base)?;
     Ok(ByteText::of(text))
 }

@@ -1,9 +1,9 @@
 use Rattle.std.proofs.Common.{refl, ◌∙◌}
-use Rattle.frame_rows.proofs.EntryLemmas.{walked, rows_have, rows_good, rows_lack, rows_sound, cie_stopped, own_stopped}
-use Rattle.frame_rows.proofs.walking.rows.Goals as goal
+use Rattle.frame_rows.proofs.EntryLemmas.{walked, rows_have, rows_good, rows_lack, rows_sound, cie_bad, own_stopped}
+use Rattle.frame_rows.proofs.walking.rows_behind.Goals as goal
 
 pub returns-in-Err-clause-exact : goal.returns-in-Err-clause-exact
-returns-in-Err-clause-exact c = cie_stopped _ _ c.in-Err.stop c.args.fde.now c.in-Err.ensures.fault
+returns-in-Err-clause-exact c = cie_bad c.args.fde.now c.in-Err.why c.in-Err.ensures.fault
 
 pub returns-in-Err-walk-clause-exact : goal.returns-in-Err-walk-clause-exact
 returns-in-Err-walk-clause-exact c =

@@ -1,10 +1,10 @@
 use Rattle.rule_postfix.proofs.EntryLemmas.{entry_valid_to}
 use Rattle.rule_postfix.proofs.ReasonLemmas.{rows_refused}
-use Rattle.rule_postfix.proofs.all.rows_or_reason.Goals as goal
+use Rattle.rule_postfix.proofs.all.steps_or_reason.Goals as goal
 
 pub returns-in-Err-clause-exact : goal.returns-in-Err-clause-exact
 returns-in-Err-clause-exact c =
-    rows_refused c.args.code.now c.args.taken.now c.args.fde.now c.in-Some.end c.in-Err.stop c.in-Some.ensures c.in-Err.ensures.exact
+    rows_refused _ _ c.args.code.now c.args.taken.now c.args.fde.now c.in-Some.end c.in-Err.stop c.in-Some.ensures c.in-Err.ensures.exact
 
 pub returns-clause-valid : goal.returns-clause-valid
 returns-clause-valid c =

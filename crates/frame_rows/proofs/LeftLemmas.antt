@@ -1,0 +1,200 @@
+-- What a CIE leaves depends on the CIE alone: no location instruction may stand there, so the address does not count.
+use Rattle.std.proofs.Common.{◌≡◌, ℕ, ℤ, List, [], ◌∷◌, reverse, Option, Some, None, Result, Ok, Err, refl, sym, ◌∙◌, ap}
+use Rattle.std.specs.Option.{option_or}
+use Rattle.sym_edges.specs.declared.reason.Reason.{Reason}
+use Rattle.sym_edges.specs.Outside.{MatchStop}
+use Rattle.sym_edges.specs.declared.fault.Stop.{Stop}
+use Rattle.sym_edges.specs.declared.fault.Stop.TheVariants.{Fault, NoMemory}
+use Rattle.sym_edges.specs.declared.reason.Reason.TheVariants as reason
+use Rattle.frame_entries.specs.FdeFields.{FdeFields}
+use Rattle.frame_entries.specs.SharedCies.{HaveOneCie}
+use Rattle.frame_rows.specs.declared.row.Row.{Row}
+use Rattle.frame_rows.specs.declared.machine.Setting.{Setting}
+use Rattle.frame_rows.specs.declared.instruction.Instruction.{Instruction}
+use Rattle.frame_rows.specs.declared.instruction.Instruction.TheVariants.{SetLoc, AdvanceLoc, DefCfa, DefCfaSf, DefCfaRegister, DefCfaOffset, DefCfaOffsetSf, Undefined, SameValue, Offset, OffsetExtendedSf, ValOffset, ValOffsetSf, Register, Restore, RememberState, RestoreState, Nop}
+use Rattle.frame_rows.specs.Instructions.{Item, instructions}
+use Rattle.frame_rows.specs.Machine.{Machine}
+use Rattle.frame_rows.specs.Left.{Left}
+use Rattle.frame_rows.specs.Steps.{stepped, step_fault}
+use Rattle.frame_rows.specs.Rows.{item_stepped, item_fault, all_stepped, first_fault, empty_row, cie_setting, cie_items, cie_begin, cie_end, own_setting, own_begin}
+use Rattle.frame_rows.specs.CieLeft.{left_unless, cie_left}
+
+-- a state, and the state behind an instruction, whose location nothing asks for
+abbrev state : ℕ → Row → List Row → Machine
+state address row stack = record { address = address; row = row; stack = stack }
+
+abbrev in_cie : ℕ → ℤ → Setting
+in_cie code data_align = record { code_align = code; data_align = data_align; initial = None }
+
+abbrev row_behind : Setting → Item → Row → List Row → Row
+row_behind s i row stack = (item_stepped s i (state 0 row stack)).row
+
+abbrev stack_behind : Setting → Item → Row → List Row → List Row
+stack_behind s i row stack = (item_stepped s i (state 0 row stack)).stack
+
+step_apart : (s : Setting) (i : Item) (a : ℕ) (row : Row) (stack : List Row) → item_stepped s i (state a row stack) ≡ state (item_stepped s i (state a row stack)).address (row_behind s i row stack) (stack_behind s i row stack)
+unfolding stepped
+step_apart s (Err why) a row stack = refl
+step_apart s (Ok (SetLoc address)) a row stack = refl
+step_apart s (Ok (AdvanceLoc delta)) a row stack = refl
+step_apart s (Ok (DefCfa register offset)) a row stack = refl
+step_apart s (Ok (DefCfaSf register factored)) a row stack = refl
+step_apart s (Ok (DefCfaRegister register)) a row stack = refl
+step_apart s (Ok (DefCfaOffset offset)) a row stack = refl
+step_apart s (Ok (DefCfaOffsetSf factored)) a row stack = refl
+step_apart s (Ok (Undefined column)) a row stack = refl
+step_apart s (Ok (SameValue column)) a row stack = refl
+step_apart s (Ok (Offset column factored)) a row stack = refl
+step_apart s (Ok (OffsetExtendedSf column factored)) a row stack = refl
+step_apart s (Ok (ValOffset column factored)) a row stack = refl
+step_apart s (Ok (ValOffsetSf column factored)) a row stack = refl
+step_apart s (Ok (Register column register)) a row stack = refl
+step_apart s (Ok (Restore column)) a row stack = refl
+step_apart s (Ok RememberState) a row stack = refl
+step_apart s (Ok RestoreState) a row stack = refl
+step_apart s (Ok Nop) a row stack = refl
+
+fault_apart : (code : ℕ) (factor : ℤ) (i : Item) (a b : ℕ) (row : Row) (stack : List Row) → item_fault (in_cie code factor) i (state a row stack) ≡ item_fault (in_cie code factor) i (state b row stack)
+unfolding step_fault
+fault_apart code factor (Err why) a b row stack = refl
+fault_apart code factor (Ok (SetLoc address)) a b row stack = refl
+fault_apart code factor (Ok (AdvanceLoc delta)) a b row stack = refl
+fault_apart code factor (Ok (DefCfa register offset)) a b row stack = refl
+fault_apart code factor (Ok (DefCfaSf register factored)) a b row stack = refl
+fault_apart code factor (Ok (DefCfaRegister register)) a b row stack = refl
+fault_apart code factor (Ok (DefCfaOffset offset)) a b row stack = refl
+fault_apart code factor (Ok (DefCfaOffsetSf factored)) a b row stack = refl
+fault_apart code factor (Ok (Undefined column)) a b row stack = refl
+fault_apart code factor (Ok (SameValue column)) a b row stack = refl
+fault_apart code factor (Ok (Offset column factored)) a b row stack = refl
+fault_apart code factor (Ok (OffsetExtendedSf column factored)) a b row stack = refl
+fault_apart code factor (Ok (ValOffset column factored)) a b row stack = refl
+fault_apart code factor (Ok (ValOffsetSf column factored)) a b row stack = refl
+fault_apart code factor (Ok (Register column register)) a b row stack = refl
+fault_apart code factor (Ok (Restore column)) a b row stack = refl
+fault_apart code factor (Ok RememberState) a b row stack = refl
+fault_apart code factor (Ok RestoreState) a b row stack = refl
+fault_apart code factor (Ok Nop) a b row stack = refl
+
+-- all instructions, from two addresses
+faults_apart : (code : ℕ) (factor : ℤ) (items : List Item) (a b : ℕ) (row : Row) (stack : List Row) → first_fault (in_cie code factor) items (state a row stack) ≡ first_fault (in_cie code factor) items (state b row stack)
+unfolding first_fault
+faults_apart code factor [] a b row stack = refl
+faults_apart code factor (i ∷ items) a b row stack =
+    let s : Setting = in_cie code factor in
+    ap (λ o. option_or o (first_fault s items (item_stepped s i (state a row stack)))) (fault_apart code factor i a b row stack)
+    ∙ ap (λ o. option_or (item_fault s i (state b row stack)) o)
+    (ap (first_fault s items) (step_apart s i a row stack)
+    ∙ faults_apart code factor items (item_stepped s i (state a row stack)).address (item_stepped s i (state b row stack)).address (row_behind s i row stack) (stack_behind s i row stack)
+    ∙ sym (ap (first_fault s items) (step_apart s i b row stack)))
+
+rows_apart : (s : Setting) (items : List Item) (a b : ℕ) (row : Row) (stack : List Row) → (all_stepped s items (state a row stack)).row ≡ (all_stepped s items (state b row stack)).row
+unfolding all_stepped
+rows_apart s [] a b row stack = refl
+rows_apart s (i ∷ items) a b row stack =
+    ap (λ m. (all_stepped s items m).row) (step_apart s i a row stack)
+    ∙ rows_apart s items (item_stepped s i (state a row stack)).address (item_stepped s i (state b row stack)).address (row_behind s i row stack) (stack_behind s i row stack)
+    ∙ sym (ap (λ m. (all_stepped s items m).row) (step_apart s i b row stack))
+
+stacks_apart : (s : Setting) (items : List Item) (a b : ℕ) (row : Row) (stack : List Row) → (all_stepped s items (state a row stack)).stack ≡ (all_stepped s items (state b row stack)).stack
+unfolding all_stepped
+stacks_apart s [] a b row stack = refl
+stacks_apart s (i ∷ items) a b row stack =
+    ap (λ m. (all_stepped s items m).stack) (step_apart s i a row stack)
+    ∙ stacks_apart s items (item_stepped s i (state a row stack)).address (item_stepped s i (state b row stack)).address (row_behind s i row stack) (stack_behind s i row stack)
+    ∙ sym (ap (λ m. (all_stepped s items m).stack) (step_apart s i b row stack))
+
+-- what is left, by the fields of a CIE
+abbrev left_with : ℕ → ℤ → Option Reason → Row → List Row → Result Left Reason
+left_with code factor why row stack =
+    left_unless why (record { setting = record { code_align = code; data_align = factor; initial = Some row }; row = row; stack = stack })
+
+abbrev left_ok : Setting → Row → List Row → Result Left Reason
+left_ok s row stack = Ok (record { setting = s; row = row; stack = stack })
+
+abbrev left_from : ℕ → ℤ → List Item → ℕ → Result Left Reason
+left_from code factor items a =
+    left_with code factor (first_fault (in_cie code factor) items (state a empty_row [])) (all_stepped (in_cie code factor) items (state a empty_row [])).row (all_stepped (in_cie code factor) items (state a empty_row [])).stack
+
+left_apart : (code : ℕ) (factor : ℤ) (items : List Item) (a b : ℕ) → left_from code factor items a ≡ left_from code factor items b
+left_apart code factor items a b =
+    let s : Setting = in_cie code factor in
+    ap (λ o. left_with code factor o (all_stepped s items (state a empty_row [])).row (all_stepped s items (state a empty_row [])).stack) (faults_apart code factor items a b empty_row [])
+    ∙ ap (λ row. left_with code factor (first_fault s items (state b empty_row [])) row (all_stepped s items (state a empty_row [])).stack) (rows_apart s items a b empty_row [])
+    ∙ ap (λ stack. left_with code factor (first_fault s items (state b empty_row [])) (all_stepped s items (state b empty_row [])).row stack) (stacks_apart s items a b empty_row [])
+
+left_by_fields : (e : FdeFields) → cie_left e ≡ left_from e.code_align e.data_align (instructions e.encoding 0 e.initial_instructions) e.start
+unfolding cie_left cie_setting cie_items cie_begin cie_end own_setting
+left_by_fields e = refl
+
+-- entries of one CIE begin alike
+pub one_left : (e f : FdeFields) → HaveOneCie e f → cie_left e ≡ cie_left f
+one_left e f one =
+    left_by_fields e
+    ∙ left_apart e.code_align e.data_align (instructions e.encoding 0 e.initial_instructions) e.start f.start
+    ∙ ap (λ code. left_from code e.data_align (instructions e.encoding 0 e.initial_instructions) f.start) one.code_align
+    ∙ ap (λ factor. left_from f.code_align factor (instructions e.encoding 0 e.initial_instructions) f.start) one.data_align
+    ∙ ap (λ encoding. left_from f.code_align f.data_align (instructions encoding 0 e.initial_instructions) f.start) one.encoding
+    ∙ ap (λ bytes. left_from f.code_align f.data_align (instructions f.encoding 0 bytes) f.start) one.initial_instructions
+    ∙ sym (left_by_fields f)
+
+-- what is left is known by its reason
+pub record IsLeft (e : FdeFields) (left : Left) : Type 0 where
+  pub fault : first_fault (cie_setting e) (cie_items e) (cie_begin e) ≡ None
+  pub setting : left.setting ≡ own_setting e
+  pub row : left.row ≡ (cie_end e).row
+  pub stack : left.stack ≡ (cie_end e).stack
+
+abbrev ok_or : Left → Result Left Reason → Left
+ok_or d (Ok left) = left
+ok_or d (Err why) = d
+
+abbrev err_or : Reason → Result Left Reason → Reason
+err_or d (Ok left) = d
+err_or d (Err why) = why
+
+good_parts : (o : Option Reason) (x left : Left) → left_unless o x ≡ Ok left → (o ≡ None) × (x ≡ left)
+good_parts None x left is = (refl, ap (ok_or x) is)
+good_parts (Some why) x left is = cc
+
+bad_part : (o : Option Reason) (x : Left) (why : Reason) → left_unless o x ≡ Err why → o ≡ Some why
+bad_part None x why is = cc
+bad_part (Some w) x why is = ap Some (ap (err_or w) is)
+
+pub left_good : (e : FdeFields) (left : Left) → cie_left e ≡ Ok left → IsLeft e left
+unfolding cie_left
+left_good e left is =
+    let parts = good_parts (first_fault (cie_setting e) (cie_items e) (cie_begin e)) (record { setting = own_setting e; row = (cie_end e).row; stack = (cie_end e).stack }) left is in
+    record {
+      fault = parts.0;
+      setting = ap (λ (l : Left). l.setting) (sym parts.1);
+      row = ap (λ (l : Left). l.row) (sym parts.1);
+      stack = ap (λ (l : Left). l.stack) (sym parts.1);
+    }
+
+pub left_bad : (e : FdeFields) (why : Reason) → cie_left e ≡ Err why → first_fault (cie_setting e) (cie_items e) (cie_begin e) ≡ Some why
+unfolding cie_left
+left_bad e why is = bad_part (first_fault (cie_setting e) (cie_items e) (cie_begin e)) (record { setting = own_setting e; row = (cie_end e).row; stack = (cie_end e).stack }) why is
+
+-- an entry begins with what is left
+pub begun : (e : FdeFields) (left : Left) (m : Machine) (address : ℕ) (row : Row) (stack : List Row) → IsLeft e left → m ≡ state address row stack → address ≡ e.start → row ≡ left.row → stack ≡ left.stack → m ≡ own_begin e
+unfolding own_begin
+begun e left m address row stack is made at row_is stack_is =
+    made ∙ ap (λ a. state a row stack) at ∙ ap (λ r. state e.start r stack) (row_is ∙ is.row) ∙ ap (λ k. state e.start (cie_end e).row k) (stack_is ∙ is.stack)
+
+-- what is left behind a CIE that was carried out
+pub left_is : (e : FdeFields) (s : Setting) (m : Machine) (row : Row) (stack : List Row) → first_fault (cie_setting e) (cie_items e) (cie_begin e) ≡ None → m ≡ cie_end e → row ≡ m.row → stack ≡ m.stack → s ≡ record { code_align = e.code_align; data_align = e.data_align; initial = Some row } → cie_left e ≡ Ok (record { setting = s; row = row; stack = stack })
+unfolding cie_left own_setting
+left_is e s m row stack good is row_is stack_is setting_is =
+    let row_of : row ≡ (cie_end e).row = row_is ∙ ap (λ (k : Machine). k.row) is in
+    let stack_of : stack ≡ (cie_end e).stack = stack_is ∙ ap (λ (k : Machine). k.stack) is in
+    sym (ap (λ (l : Setting). left_ok l row stack) setting_is
+    ∙ ap (λ r. left_with e.code_align e.data_align None r stack) row_of
+    ∙ ap (λ k. left_with e.code_align e.data_align None (cie_end e).row k) stack_of
+    ∙ ap (λ o. left_with e.code_align e.data_align o (cie_end e).row (cie_end e).stack) (sym good))
+
+-- or was refused
+pub refused_left : (A B : Type 0) (stop : Stop Reason) (e : FdeFields) (P : B → Type 0) → MatchStop {A = A} {F = Reason} (Err stop) (λ _. first_fault (cie_setting e) (cie_items e) (cie_begin e) ≡ None) (λ why. first_fault (cie_setting e) (cie_items e) (cie_begin e) ≡ Some why) (Unit {0}) → MatchStop {A = B} {F = Reason} (Err stop) P (λ why. cie_left e ≡ Err why) (Unit {0})
+unfolding cie_left
+refused_left A B (Fault why) e P bad = ap (λ o. left_unless o (record { setting = own_setting e; row = (cie_end e).row; stack = (cie_end e).stack })) bad
+refused_left A B NoMemory e P bad = tt

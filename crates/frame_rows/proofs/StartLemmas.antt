@@ -1,0 +1,60 @@
+-- A stepper begins at the first row of an entry.
+use Rattle.std.proofs.Common.{◌≡◌, ℕ, ◌+◌, ◌<◌, List, ◌∷◌, length, take, Option, None, Some, Err, refl, sym, ◌∙◌, ap, arith, subst}
+use Rattle.std.proofs.lemmas.List.{take_all}
+use Rattle.std.specs.Option.{option_or}
+use Rattle.sym_edges.specs.declared.reason.Reason.{Reason}
+use Rattle.leb_cursor.specs.Ahead.{Ahead}
+use Rattle.frame_entries.specs.FdeFields.{FdeFields}
+use Rattle.frame_rows.specs.declared.row.RowAt.{RowAt}
+use Rattle.frame_rows.specs.declared.machine.Setting.{Setting}
+use Rattle.frame_rows.specs.Instructions.{Item, listed_at, instructions}
+use Rattle.frame_rows.specs.Machine.{Machine}
+use Rattle.frame_rows.specs.Rows.{first_fault, cie_setting, cie_items, cie_begin, own_setting, own_items, own_begin, instruction_fault, AreRows}
+use Rattle.frame_rows.specs.Walk.{rows_from, rows_past, row_with}
+use Rattle.frame_rows.proofs.TestLemmas.{neither}
+use Rattle.frame_rows.proofs.RowLemmas.{are_rows}
+use Rattle.frame_rows.proofs.EntryLemmas.{Walked}
+
+-- a cursor over the instructions of an entry
+all_ahead : (encoding base : ℕ) (bytes : List ℕ) (c : Ahead) → c ≡ record { bytes = take (length bytes) bytes; at = 0 } → listed_at encoding base c ≡ instructions encoding base bytes
+unfolding instructions
+all_ahead encoding base bytes c is = ap (listed_at encoding base) (is ∙ ap (λ b. (let a : Ahead = record { bytes = b; at = 0 } in a)) (take_all (length bytes) bytes (omega arith)))
+
+own_ahead : (v e : FdeFields) (c : Ahead) → v ≡ e → c ≡ record { bytes = take (length v.instructions) v.instructions; at = 0 } → listed_at v.encoding v.instructions_address c ≡ own_items e
+unfolding own_items
+own_ahead v e c view is =
+    all_ahead v.encoding v.instructions_address v.instructions c is
+    ∙ ap (λ (k : FdeFields). instructions k.encoding k.instructions_address k.instructions) view
+
+both_good : (e : FdeFields) → instruction_fault e ≡ None → (first_fault (cie_setting e) (cie_items e) (cie_begin e) ≡ None) × (first_fault (own_setting e) (own_items e) (own_begin e) ≡ None)
+unfolding instruction_fault
+both_good e good = neither (first_fault (cie_setting e) (cie_items e) (cie_begin e)) (first_fault (own_setting e) (own_items e) (own_begin e)) good
+
+-- none of an entry's instructions is bad
+pub cie_good : (e : FdeFields) (why : Reason) → instruction_fault e ≡ None → first_fault (cie_setting e) (cie_items e) (cie_begin e) ≡ Some why → ⊥
+cie_good e why good bad = let is : ◌≡◌ {A = Option Reason} (Some why) None = sym bad ∙ (both_good e good).0 in cc
+
+pub own_good : (v e : FdeFields) (s : Setting) (m : Machine) (c : Ahead) → v ≡ e → s ≡ own_setting e → m ≡ own_begin e → c ≡ record { bytes = take (length v.instructions) v.instructions; at = 0 } → instruction_fault e ≡ None → first_fault s (listed_at v.encoding v.instructions_address c) m ≡ None
+own_good v e s m c view setting machine over good =
+    ap (λ l. first_fault s l m) (own_ahead v e c view over)
+    ∙ ap (λ k. first_fault k (own_items e) m) setting ∙ ap (first_fault (own_setting e) (own_items e)) machine ∙ (both_good e good).1
+
+begins_at : (e : FdeFields) (m : Machine) → m ≡ own_begin e → m.address ≡ e.start
+unfolding own_begin
+begins_at e m is = ap (λ (k : Machine). k.address) is
+
+pub start_rows : (v e : FdeFields) (s : Setting) (m n : Machine) (c later : Ahead) (end : ℕ) → v ≡ e → s ≡ own_setting e → m ≡ own_begin e → c ≡ record { bytes = take (length v.instructions) v.instructions; at = 0 } → e.start < end →
+    ((end : ℕ) → m.address < end → rows_from end s (listed_at v.encoding v.instructions_address c) m ≡ row_with m.address n.row ∷ rows_past end s (listed_at v.encoding v.instructions_address later) n m.address) →
+    row_with v.start n.row ∷ rows_past end s (listed_at v.encoding v.instructions_address later) n v.start ≡ rows_from end (own_setting e) (own_items e) (own_begin e)
+start_rows v e s m n c later end view setting machine over some settled =
+    let at : v.start ≡ m.address = ap (λ (k : FdeFields). k.start) view ∙ sym (begins_at e m machine) in
+    ap (λ a. row_with a n.row ∷ rows_past end s (listed_at v.encoding v.instructions_address later) n a) at
+    ∙ sym (settled end (omega (arith, some, begins_at e m machine)))
+    ∙ ap (λ l. rows_from end s l m) (own_ahead v e c view over)
+    ∙ ap (λ k. rows_from end k (own_items e) m) setting ∙ ap (rows_from end (own_setting e) (own_items e)) machine
+
+-- and has its rows ahead
+pub start_are : (v e : FdeFields) (rows others : List RowAt) → Walked e others → v ≡ e → rows ≡ rows_from (v.start + v.size) (own_setting e) (own_items e) (own_begin e) → 0 < e.size → AreRows e rows
+start_are v e rows others w view is some =
+    let P : List RowAt → Type 0 = λ xs. AreRows e xs in
+    subst P (sym (is ∙ ap (λ (k : FdeFields). rows_from (k.start + k.size) (own_setting e) (own_items e) (own_begin e)) view)) (are_rows e w.own some)

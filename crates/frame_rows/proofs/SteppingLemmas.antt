@@ -1,0 +1,118 @@
+-- The rows from where a stepper stands.
+use Rattle.std.proofs.Common.{◌≡◌, ◌≢◌, ℕ, ◌+◌, ◌<◌, ◌≤◌, cond, true, false, List, [], ◌∷◌, ◌++◌, length, Option, None, Some, Result, Ok, Err, refl, sym, ◌∙◌, ap, arith, subst}
+use Rattle.std.proofs.lemmas.Bool.{eq-eqb, ne_eqb, le-ltb, lt-ltb}
+use Rattle.sym_edges.specs.declared.reason.Reason.{Reason}
+use Rattle.sym_edges.specs.declared.fault.Stop.{Stop}
+use Rattle.sym_edges.specs.declared.fault.Stop.TheVariants.{Fault, NoMemory}
+use Rattle.sym_edges.specs.Outside.{MatchStop}
+use Rattle.leb_cursor.specs.Ahead.{Ahead}
+use Rattle.leb_cursor.specs.Passes.{Passes}
+use Rattle.frame_rows.specs.declared.row.Row.{Row}
+use Rattle.frame_rows.specs.declared.row.RowAt.{RowAt}
+use Rattle.frame_rows.specs.declared.instruction.Instruction.{Instruction}
+use Rattle.frame_rows.specs.declared.machine.Setting.{Setting}
+use Rattle.frame_rows.specs.Instructions.{Item, instruction_at, onto_later, listed_at, listed_by}
+use Rattle.frame_rows.specs.Machine.{Machine}
+use Rattle.frame_rows.specs.Steps.{stepped, step_fault}
+use Rattle.frame_rows.specs.Rows.{first_fault}
+use Rattle.frame_rows.specs.Walk.{ended_row, last_row, rows_from, rows_past, row_with}
+use Rattle.frame_rows.proofs.StepLemmas.{step_keeps, step_grows}
+use Rattle.frame_rows.proofs.RowLemmas.{ended_yes, ended_no, from_more, past}
+use Rattle.frame_rows.proofs.ReadLemmas.{fault_none, fault_more, fault_here}
+use Rattle.frame_rows.proofs.FollowLemmas.{listed_is, instruction_passes}
+
+-- the instructions ahead by the first of them
+by_first : (encoding base : ℕ) (c : Ahead) → length c.bytes ≢ 0 → listed_at encoding base c ≡ onto_later (instruction_at encoding base c) (listed_at encoding base)
+unfolding listed_by
+by_first encoding base c some = listed_is encoding base c ∙ ap (λ t. cond t [] (onto_later (instruction_at encoding base c) (listed_at encoding base))) (ne_eqb (length c.bytes) 0 some)
+
+ahead_more : (encoding base : ℕ) (c later : Ahead) (i : Instruction) → length c.bytes ≢ 0 → Ok (i, later) ≡ instruction_at encoding base c → listed_at encoding base c ≡ Ok i ∷ listed_at encoding base later
+ahead_more encoding base c later i some read = by_first encoding base c some ∙ ap (λ r. onto_later r (listed_at encoding base)) (sym read)
+
+ahead_refused : (encoding base : ℕ) (c : Ahead) (why : Reason) → length c.bytes ≢ 0 → Err why ≡ instruction_at encoding base c → listed_at encoding base c ≡ Err why ∷ []
+ahead_refused encoding base c why some read = by_first encoding base c some ∙ ap (λ r. onto_later r (listed_at encoding base)) (sym read)
+
+ahead_none : (encoding base : ℕ) (c : Ahead) → length c.bytes ≡ 0 → listed_at encoding base c ≡ []
+unfolding listed_by
+ahead_none encoding base c none = listed_is encoding base c ∙ ap (λ t. cond t [] (onto_later (instruction_at encoding base c) (listed_at encoding base))) (eq-eqb (length c.bytes) 0 none)
+
+-- an instruction has a byte
+pub fewer_left : (encoding base : ℕ) (c later : Ahead) (i : Instruction) → Ok (i, later) ≡ instruction_at encoding base c → length later.bytes < length c.bytes
+fewer_left encoding base c later i read =
+    let given : Result (Instruction × Ahead) Reason = Ok (i, later) in
+    let goes : Passes 1 c given = subst (λ (r : Result (Instruction × Ahead) Reason). Passes 1 c r) (sym read) (instruction_passes encoding base c) in
+    omega (arith, goes.0)
+
+-- the rows past an address
+past_some : (end : ℕ) (s : Setting) (items : List Item) (m : Machine) (at : ℕ) → at < m.address → rows_past end s items m at ≡ rows_from end s items m
+unfolding rows_past
+past_some end s items m at up = ap (λ t. cond t (rows_from end s items m) []) (lt-ltb at m.address up)
+
+past_none : (end : ℕ) (s : Setting) (items : List Item) (m : Machine) (at : ℕ) → m.address ≤ at → rows_past end s items m at ≡ []
+unfolding rows_past
+past_none end s items m at stays = ap (λ t. cond t (rows_from end s items m) []) (le-ltb at m.address stays)
+
+-- no instruction is bad: not the next
+pub not_unread : (s : Setting) (encoding base : ℕ) (c : Ahead) (m : Machine) (why : Reason) → length c.bytes ≢ 0 → Err why ≡ instruction_at encoding base c → first_fault s (listed_at encoding base c) m ≡ None → ⊥
+not_unread s encoding base c m why some read good =
+    let bad : ◌≡◌ {A = Option Reason} (Some why) None = sym (ap (λ l. first_fault s l m) (ahead_refused encoding base c why some read) ∙ fault_here s (Err why) [] m why refl) ∙ good in
+    cc
+
+pub not_refused : (A B : Type 0) (stop : Stop Reason) (s : Setting) (encoding base : ℕ) (c later : Ahead) (i : Instruction) (m n : Machine) (P : B → Type 0) → length c.bytes ≢ 0 → Ok (i, later) ≡ instruction_at encoding base c → MatchStop {A = A} {F = Reason} (Err stop) (λ _. (step_fault s i m ≡ None) × (n ≡ stepped s i m)) (λ why. step_fault s i m ≡ Some why) (Unit {0}) → first_fault s (listed_at encoding base c) m ≡ None → MatchStop {A = B} {F = Reason} (Err stop) P (λ _. ⊥) (Unit {0})
+not_refused A B (Fault why) s encoding base c later i m n P some read bad good =
+    let is : ◌≡◌ {A = Option Reason} (Some why) None = sym (ap (λ l. first_fault s l m) (ahead_more encoding base c later i some read) ∙ fault_here s (Ok i) (listed_at encoding base later) m why bad) ∙ good in
+    cc
+not_refused A B NoMemory s encoding base c later i m n P some read bad good = tt
+
+-- nor any behind it
+pub still_good : (s : Setting) (encoding base : ℕ) (c later : Ahead) (i : Instruction) (m n : Machine) → length c.bytes ≢ 0 → Ok (i, later) ≡ instruction_at encoding base c → step_fault s i m ≡ None → n ≡ stepped s i m → first_fault s (listed_at encoding base c) m ≡ None → first_fault s (listed_at encoding base later) n ≡ None
+still_good s encoding base c later i m n some read fine is good =
+    ap (first_fault s (listed_at encoding base later)) is ∙ sym (fault_more s (Ok i) (listed_at encoding base later) m fine)
+    ∙ sym (ap (λ l. first_fault s l m) (ahead_more encoding base c later i some read)) ∙ good
+
+-- the rows by the next instruction
+rows_next : (end : ℕ) (s : Setting) (encoding base : ℕ) (c later : Ahead) (i : Instruction) (m n : Machine) → length c.bytes ≢ 0 → Ok (i, later) ≡ instruction_at encoding base c → n ≡ stepped s i m → rows_from end s (listed_at encoding base c) m ≡ ended_row end m n.address ++ rows_from end s (listed_at encoding base later) n
+rows_next end s encoding base c later i m n some read is =
+    ap (λ l. rows_from end s l m) (ahead_more encoding base c later i some read) ∙ from_more end s (Ok i) (listed_at encoding base later) m
+    ∙ ap (λ (k : Machine). ended_row end m k.address ++ rows_from end s (listed_at encoding base later) k) (sym is)
+
+pub rows_moved : (end : ℕ) (s : Setting) (encoding base at : ℕ) (c later : Ahead) (i : Instruction) (m n : Machine) (whole : List RowAt) → length c.bytes ≢ 0 → Ok (i, later) ≡ instruction_at encoding base c → n ≡ stepped s i m → m.address ≡ at → at < n.address → at < end → rows_from end s (listed_at encoding base c) m ≡ whole → whole ≡ row_with at n.row ∷ rows_past end s (listed_at encoding base later) n at
+rows_moved end s encoding base at c later i m n whole some read is here up low so =
+    let kept : m.row ≡ n.row = sym (ap (λ (k : Machine). k.row) is ∙ step_keeps s i m (omega (arith, here, ap (λ (k : Machine). k.address) is))) in
+    sym so ∙ rows_next end s encoding base c later i m n some read is
+    ∙ ap (λ l. l ++ rows_from end s (listed_at encoding base later) n) (ended_yes end m n.address (omega (arith, here)) (omega (arith, here)))
+    ∙ ap (λ row. row_with m.address row ∷ rows_from end s (listed_at encoding base later) n) kept
+    ∙ ap (λ a. row_with a n.row ∷ rows_from end s (listed_at encoding base later) n) here
+    ∙ ap (λ l. row_with at n.row ∷ l) (sym (past_some end s (listed_at encoding base later) n at up))
+
+pub rows_stay : (end : ℕ) (s : Setting) (encoding base : ℕ) (c later : Ahead) (i : Instruction) (m n : Machine) (whole : List RowAt) → length c.bytes ≢ 0 → Ok (i, later) ≡ instruction_at encoding base c → n ≡ stepped s i m → n.address ≤ m.address → rows_from end s (listed_at encoding base c) m ≡ whole → rows_from end s (listed_at encoding base later) n ≡ whole
+rows_stay end s encoding base c later i m n whole some read is stays so =
+    sym (rows_next end s encoding base c later i m n some read is
+    ∙ ap (λ l. l ++ rows_from end s (listed_at encoding base later) n) (ended_no end m n.address stays)) ∙ so
+
+-- the location stays where it does not rise
+pub stays_there : (s : Setting) (i : Instruction) (m n : Machine) (at : ℕ) → step_fault s i m ≡ None → n ≡ stepped s i m → m.address ≡ at → n.address ≤ at → n.address ≡ at
+stays_there s i m n at fine is here stays = omega (arith, step_grows s i m fine, ap (λ (k : Machine). k.address) is, here, stays)
+
+from_none : (end : ℕ) (s : Setting) (m : Machine) → rows_from end s [] m ≡ last_row end m
+unfolding rows_from
+from_none end s m = refl
+
+last_yes : (end : ℕ) (m : Machine) → m.address < end → last_row end m ≡ row_with m.address m.row ∷ []
+last_yes end m low = ap (λ t. cond t (row_with m.address m.row ∷ []) []) (lt-ltb m.address end low)
+
+pub rows_last : (end : ℕ) (s : Setting) (encoding base at : ℕ) (c : Ahead) (m : Machine) (whole : List RowAt) → length c.bytes ≡ 0 → m.address ≡ at → at < end → rows_from end s (listed_at encoding base c) m ≡ whole → whole ≡ row_with at m.row ∷ rows_past end s (listed_at encoding base c) m at
+rows_last end s encoding base at c m whole none here low so =
+    sym so ∙ ap (λ l. rows_from end s l m) (ahead_none encoding base c none) ∙ from_none end s m ∙ last_yes end m (omega (arith, here))
+    ∙ ap (λ a. row_with a m.row ∷ []) here
+    ∙ ap (λ l. row_with at m.row ∷ l) (sym (past_none end s (listed_at encoding base c) m at (omega (arith, here))))
+
+-- a step from where a stepper stands
+pub no_later : (end : ℕ) (s : Setting) (items : List Item) (m : Machine) (at : ℕ) → m.address ≤ at → rows_past end s items m at ≡ []
+no_later end s items m at stays = past_none end s items m at stays
+
+pub later_over : (end : ℕ) (s : Setting) (items : List Item) (m : Machine) (at : ℕ) → first_fault s items m ≡ None → at < m.address → end ≤ m.address → rows_past end s items m at ≡ []
+later_over end s items m at good up over = past_some end s items m at up ∙ past end s items m good over
+
+pub later_next : (end : ℕ) (s : Setting) (items : List Item) (m : Machine) (at : ℕ) (whole : List RowAt) → at < m.address → rows_from end s items m ≡ whole → rows_past end s items m at ≡ whole
+later_next end s items m at whole up so = past_some end s items m at up ∙ so

@@ -1,0 +1,148 @@
+//! The state behind the instructions of a CIE, which are carried out once for all of its entries.
+ghost use Rattle.std.specs.Prelude.{◌≡◌, Ok, Err, Some, None, reverse, MatchResult, IfOk};
+ghost use Rattle.sym_edges.specs.Outside.{MatchStop};
+ghost use Rattle.frame_rows.specs.Rows.{empty_row, first_fault, cie_setting, cie_items, cie_begin, cie_end, own_setting, own_begin};
+ghost use Rattle.frame_rows.specs.CieLeft.{cie_left};
+
+use crate::machine::{Machine, Setting};
+use crate::row::{COLUMNS, Row, Rule};
+use crate::running::run;
+use frame_entries::Fde;
+use std::alloc::Global;
+use std::marker::Model;
+use sym_edges::{OutOfMemory, Reason, Stop};
+
+/// What the instructions of a CIE leave: what those of its entries are carried out with, the row, and the row stack.
+#[derive(Drop)]
+struct Left {
+    setting: Setting,
+    row: Row,
+    stack: Vec<Row>,
+}
+
+impl Model for Left {
+    ghost use Rattle.std.specs.Prelude.{reverse};
+    ghost use Rattle.frame_rows.specs.Left.{Left};
+
+    ghost Value = { Left };
+
+    ghost view = { λ l. record { setting = l.setting; row = l.row; stack = reverse l.stack.items } };
+}
+
+/// The state behind the instructions of a CIE, or the reason of the first bad one. It is the same for each entry of the CIE.
+#[derive(Drop)]
+pub struct CieState {
+    left: Result<Left, Reason>,
+}
+
+impl Model for CieState {
+    ghost use Rattle.std.specs.Prelude.{Result};
+    ghost use Rattle.sym_edges.specs.declared.reason.Reason.{Reason};
+    ghost use Rattle.frame_rows.specs.Left.{Left};
+
+    ghost Value = { Result Left Reason };
+
+    ghost view = { λ s. s.left };
+}
+
+/// The row in front of all instructions.
+#[tactic(auto, unfolding(crate::specs::Rows::empty_row))]
+fn empty_row() -> Row
+    ensures { result ≡ empty_row }
+{
+    Row {
+        cfa: None,
+        rules: [Rule::Rest; COLUMNS],
+    }
+}
+
+/// What instructions of an entry are carried out with, behind a row that its CIE left.
+fn setting_of(fde: &Fde<'_>, initial: Option<Row>) -> Setting
+    ensures { result ≡ record { code_align = fde.now.code_align; data_align = fde.now.data_align; initial = initial } }
+{
+    Setting {
+        code_align: fde.code_align,
+        data_align: fde.data_align,
+        initial,
+    }
+}
+
+/// Carries out the instructions of the CIE of an entry.
+#[tactic(auto, unfolding(crate::specs::Rows::cie_setting, crate::specs::Rows::cie_items, crate::specs::Rows::cie_begin, crate::specs::Rows::cie_end))]
+fn run_cie<'c>(alloc: Global, fde: &Fde<'_>) -> Result<Machine<'c>, Stop<Reason>>
+    ensures fault { MatchStop result
+        (λ _. first_fault (cie_setting fde.now) (cie_items fde.now) (cie_begin fde.now) ≡ None)
+        (λ why. first_fault (cie_setting fde.now) (cie_items fde.now) (cie_begin fde.now) ≡ Some why)
+        (Unit {0}) }
+    ensures machine { IfOk result (λ machine. machine ≡ cie_end fde.now) }
+{
+    let setting = setting_of(fde, None);
+    let mut machine = Machine::new(alloc, fde.start, &empty_row(), &[]);
+    match run(
+        &mut machine,
+        &setting,
+        fde.encoding,
+        0,
+        fde.initial_instructions,
+    ) {
+        Ok(()) => Ok(machine),
+        Err(stop) => Err(stop),
+    }
+}
+
+/// What the instructions of the CIE of an entry leave.
+#[tactic(auto, using(crate::proofs::LeftLemmas::left_is))]
+fn leave(alloc: Global, fde: &Fde<'_>) -> Result<Left, Stop<Reason>>
+    ensures { MatchStop result (λ left. cie_left fde.now ≡ Ok left) (λ why. cie_left fde.now ≡ Err why) (Unit {0}) }
+{
+    let machine = match run_cie(alloc, fde) {
+        Ok(machine) => machine,
+        Err(stop) => return Err(stop),
+    };
+    let row = *machine.row();
+    let setting = setting_of(fde, Some(row));
+    let stack = machine.into_stack(alloc)?;
+    Ok(Left {
+        setting,
+        row,
+        stack,
+    })
+}
+
+/// What the instructions of an entry begin with.
+#[derive(Drop)]
+pub struct Begun<'c> {
+    pub machine: Machine<'c>,
+    pub setting: Setting,
+}
+
+impl CieState {
+    /// The state behind the instructions of the CIE of an entry.
+    pub fn of(alloc: Global, fde: &Fde<'_>) -> Result<CieState, OutOfMemory>
+        ensures { IfOk result (λ state. state ≡ cie_left fde.now) }
+    {
+        match leave(alloc, fde) {
+            Ok(left) => Ok(CieState { left: Ok(left) }),
+            Err(Stop::Fault(why)) => Ok(CieState { left: Err(why) }),
+            Err(Stop::NoMemory) => Err(OutOfMemory),
+        }
+    }
+
+    /// Begins an entry of the CIE. Takes no memory.
+    pub fn begin(&self, alloc: Global, fde: &Fde<'_>) -> Result<Begun<'_>, Reason>
+        requires { self.now ≡ cie_left fde.now }
+        ensures fault { MatchResult result
+            (λ _. first_fault (cie_setting fde.now) (cie_items fde.now) (cie_begin fde.now) ≡ None)
+            (λ why. first_fault (cie_setting fde.now) (cie_items fde.now) (cie_begin fde.now) ≡ Some why) }
+        ensures machine { IfOk result (λ begun. begun.machine ≡ own_begin fde.now) }
+        ensures setting { IfOk result (λ begun. begun.setting ≡ own_setting fde.now) }
+    {
+        match &self.left {
+            Ok(left) => Ok(Begun {
+                machine: Machine::new(alloc, fde.start, &left.row, &left.stack),
+                setting: left.setting,
+            }),
+            Err(why) => Err(*why),
+        }
+    }
+}

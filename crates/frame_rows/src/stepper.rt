@@ -1,0 +1,218 @@
+//! The rows of an entry, one after the other: only the row where a stepper stands is in memory, and the row stack.
+ghost use Rattle.std.specs.Prelude.{◌≡◌, ℕ, ◌+◌, ◌<◌, ◌^◌, ◌∷◌, ◌||◌, None, Some, Bool, true, false, not, IsTrue, IfOk, OnOk, Err};
+ghost use Rattle.std.specs.List.{list_any};
+ghost use Rattle.sym_edges.specs.Outside.{MatchStop};
+ghost use Rattle.sym_edges.specs.declared.fault.Stop.TheVariants as stop;
+ghost use Rattle.frame_entries.specs.Pointers.{is_encoding};
+ghost use Rattle.frame_rows.specs.Instructions.{instructions, listed_at};
+ghost use Rattle.frame_rows.specs.Steps.{has_cfa};
+ghost use Rattle.frame_rows.specs.Rows.{first_fault, own_setting, own_items, own_begin, instruction_fault, row_at, rows_fault, AreRows, HasCfa, IsSound};
+ghost use Rattle.frame_rows.specs.CieLeft.{cie_left};
+ghost use Rattle.frame_rows.specs.Standing.{IsStep};
+ghost use Rattle.frame_rows.specs.Walk.{rows_from, rows_past, row_with};
+
+use crate::cie_state::{Begun, CieState};
+use crate::instruction::Instruction;
+use crate::lacking::lack_cfa_below;
+use crate::machine::{Machine, Setting};
+use crate::row::Row;
+use frame_entries::Fde;
+use leb_cursor::Cursor;
+use std::alloc::Global;
+use std::marker::Model;
+use sym_edges::{Reason, Stop};
+
+/// A place in the rows of an entry. The instructions up to the next location that differs are carried out, so the location
+/// lies above the address of the row, or no instruction is left.
+#[derive(Drop)]
+pub struct Stepper<'c, 'a> {
+    machine: Machine<'c>,
+    setting: Setting,
+    cursor: Cursor<'a>,
+    encoding: u8,
+    base: u64,
+    address: u64,
+    end: u64,
+    failed: bool,
+}
+
+impl<'c, 'a> Model for Stepper<'c, 'a> {
+    ghost use Rattle.std.specs.Prelude.{◌≡◌, None, false, IsTrue};
+    ghost use Rattle.frame_entries.specs.Pointers.{is_encoding};
+    ghost use Rattle.frame_rows.specs.Instructions.{listed_at};
+    ghost use Rattle.frame_rows.specs.Rows.{first_fault};
+    ghost use Rattle.frame_rows.specs.Standing.{Standing};
+    ghost use Rattle.frame_rows.specs.Walk.{rows_past, row_with};
+
+    ghost Value = { Standing };
+
+    ghost view = { λ s. record {
+      failed = s.failed;
+      here = row_with s.address s.machine.row;
+      later = rows_past s.end s.setting (listed_at s.encoding s.base s.cursor) s.machine s.address;
+    } };
+
+    ghost invariant = { λ s. IsTrue (is_encoding s.encoding) × (s.failed ≡ false → first_fault s.setting (listed_at s.encoding s.base s.cursor) s.machine ≡ None) };
+}
+
+/// Carries out the instructions up to the first that moves the location on; none of them is bad.
+fn settle(
+    machine: &mut Machine<'_>,
+    cursor: &mut Cursor<'_>,
+    setting: &Setting,
+    encoding: u8,
+    base: u64,
+) -> Result<(), Stop<Reason>>
+    requires known { IsTrue (is_encoding encoding) }
+    requires good { first_fault setting.now (listed_at encoding base cursor.old) machine.old ≡ None }
+    ensures good { MatchStop result (λ _. first_fault setting.now (listed_at encoding base cursor.new) machine.new ≡ None) (λ _. ⊥) (Unit {0}) }
+    ensures rows { OnOk result ((end : ℕ) → machine.old.address < end →
+        rows_from end setting.now (listed_at encoding base cursor.old) machine.old
+        ≡ row_with machine.old.address machine.new.row ∷ rows_past end setting.now (listed_at encoding base cursor.new) machine.new machine.old.address) }
+{
+    let address = machine.address();
+    'turns: while !cursor.is_at_end() {
+        let instruction = match Instruction::read(cursor, encoding, base) {
+            Ok(instruction) => instruction,
+            Err(why) => return Err(Stop::Fault(why)),
+        };
+        match instruction.step(machine, setting) {
+            Ok(()) => {}
+            Err(stop) => return Err(stop),
+        }
+        if address < machine.address() {
+            return Ok(());
+        }
+    }
+    Ok(())
+}
+
+/// The first row of an entry whose instructions are good.
+fn start<'c, 'a>(
+    alloc: Global,
+    state: &'c CieState,
+    fde: &Fde<'a>,
+    end: u64,
+) -> Result<Stepper<'c, 'a>, Stop<Reason>>
+    requires behind { state.now ≡ cie_left fde.now }
+    requires good { instruction_fault fde.now ≡ None }
+    requires some { fde.now.start < end }
+    ensures fresh { MatchStop result (λ s. s.failed ≡ false) (λ _. ⊥) (Unit {0}) }
+    ensures rows { IfOk result (λ s. s.here ∷ s.later ≡ rows_from end (own_setting fde.now) (own_items fde.now) (own_begin fde.now)) }
+{
+    let begun = match state.begin(alloc, fde) {
+        Ok(begun) => begun,
+        Err(why) => return Err(Stop::Fault(why)),
+    };
+    let Begun {
+        mut machine,
+        setting,
+    } = begun;
+    let mut cursor = Cursor::new(fde.instructions, 0, fde.instructions.len());
+    match settle(
+        &mut machine,
+        &mut cursor,
+        &setting,
+        fde.encoding,
+        fde.instructions_address,
+    ) {
+        Ok(()) => Ok(Stepper {
+            machine,
+            setting,
+            cursor,
+            encoding: fde.encoding,
+            base: fde.instructions_address,
+            address: fde.start,
+            end,
+            failed: false,
+        }),
+        Err(stop) => Err(stop),
+    }
+}
+
+impl<'c, 'a> Stepper<'c, 'a> {
+    /// At the first row of an entry, or the reason for which it has no rows; the state behind its CIE is given. All
+    /// instructions are looked at before.
+    pub fn new(
+        alloc: Global,
+        state: &'c CieState,
+        fde: &Fde<'a>,
+    ) -> Result<Stepper<'c, 'a>, Stop<Reason>>
+        requires behind { state.now ≡ cie_left fde.now }
+        requires some { 0 < fde.now.size }
+        requires fits { fde.now.start + fde.now.size < 2 ^ 64 }
+        ensures fresh { MatchStop result (λ s. s.failed ≡ false) (λ _. Unit {0}) (Unit {0}) }
+        ensures rows { MatchStop result (λ s. AreRows fde.now (s.here ∷ s.later)) (λ _. Unit {0}) (Unit {0}) }
+        ensures cfa { MatchStop result (λ _. HasCfa fde.now) (λ _. Unit {0}) (Unit {0}) }
+        ensures sound { MatchStop result (λ _. (a : ℕ) → IsSound (row_at fde.now a)) (λ _. Unit {0}) (Unit {0}) }
+        ensures exact { MatchStop result (λ _. rows_fault fde.now ≡ None) (λ why. rows_fault fde.now ≡ Some why) (Unit {0}) }
+    {
+        let begun = match state.begin(alloc, fde) {
+            Ok(begun) => begun,
+            Err(why) => return Err(Stop::Fault(why)),
+        };
+        let Begun { machine, setting } = begun;
+        let end = fde.start + fde.size;
+        let lacking = match lack_cfa_below(
+            machine,
+            &setting,
+            end,
+            fde.encoding,
+            fde.instructions_address,
+            fde.instructions,
+        ) {
+            Ok(lacking) => lacking,
+            Err(stop) => return Err(stop),
+        };
+        if lacking {
+            return Err(Stop::Fault(Reason::Cfa));
+        }
+        match start(alloc, state, fde, end) {
+            Ok(stepper) => Ok(stepper),
+            Err(stop) => Err(stop),
+        }
+    }
+
+    /// The first address at which the row stands.
+    pub fn address(&self) -> u64
+        ensures { result ≡ self.now.here.address }
+    {
+        self.address
+    }
+
+    /// The row from that address on, up to the next.
+    pub fn row(&self) -> &Row
+        ensures { result.now ≡ self.now.here.row }
+    {
+        self.machine.row()
+    }
+
+    /// Goes on to the next row: true; or stays, at the last row: false. Once memory ran out, each step answers that.
+    #[tactic(auto, using(crate::proofs::SteppingLemmas::no_later, crate::proofs::SteppingLemmas::later_over, crate::proofs::SteppingLemmas::later_next))]
+    pub fn step(&mut self) -> Result<bool, Stop<Reason>>
+        ensures steps { self.old.failed ≡ false → MatchStop result (λ more. IsStep more self.old self.new) (λ _. ⊥) (self.new.failed ≡ true) }
+        ensures failed { self.old.failed ≡ true → (result ≡ Err stop.NoMemory) × (self.new ≡ self.old) }
+    {
+        if self.failed {
+            return Err(Stop::NoMemory);
+        }
+        let next = self.machine.address();
+        if next <= self.address || self.end <= next {
+            return Ok(false);
+        }
+        self.address = next;
+        match settle(
+            &mut self.machine,
+            &mut self.cursor,
+            &self.setting,
+            self.encoding,
+            self.base,
+        ) {
+            Ok(()) => Ok(true),
+            Err(stop) => {
+                self.failed = true;
+                Err(stop)
+            }
+        }
+    }
+}

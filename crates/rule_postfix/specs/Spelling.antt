@@ -1,0 +1,13 @@
+-- No public clause cites this: the text of the records so far, and the INIT that is open.
+use Rattle.std.specs.Prelude.{◌≡◌, ℕ, List, ◌++◌}
+use Rattle.sym_records.specs.Canon.{canon_text}
+use Rattle.rule_postfix.specs.declared.open_init.OpenInit.{OpenInit}
+use Rattle.rule_postfix.specs.Writing.{Open}
+
+-- the text has the records so far behind what stood in front, and the INIT that is open has its start, its rules and its changes
+pub record IsSpelled (front : List ℕ) (base : ℕ) (text : List ℕ) (p : OpenInit) (o : Open) : Type 0 where
+  pub based : o.base ≡ base
+  pub start : p.start ≡ o.start
+  pub rules : p.init.items ≡ o.rules
+  pub changes : p.changes.items ≡ canon_text o.changes
+  pub lines : text ≡ front ++ canon_text o.lines
