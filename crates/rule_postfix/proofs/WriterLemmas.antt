@@ -1,13 +1,11 @@
 -- The pass over the rows of an entry.
 use Rattle.std.proofs.Common.{◌≡◌, ℕ, ◌+◌, ◌<◌, ◌≤◌, Bool, true, false, cond, List, [], ◌∷◌, drop, length, get_or, refl, ap, sym, subst, ◌∙◌, arith, drop-cons, add-one}
-use Rattle.std.proofs.lemmas.List.{drop_all}
 use Rattle.frame_rows.specs.declared.row.Row.{Row}
 use Rattle.frame_rows.specs.declared.row.RowAt.{RowAt}
 use Rattle.frame_rows.specs.Rows.{Ascending}
-use Rattle.sym_records.specs.declared.line.SymLine.{SymLine}
 use Rattle.sym_rules.specs.declared.rules.RuleText.{RuleText}
 use Rattle.rule_postfix.specs.RowRules.{some_becomes_unspecified, changed_rules}
-use Rattle.rule_postfix.specs.Writing.{Open, opened, closed, with_changes, with_row, with_rows, lines_of}
+use Rattle.rule_postfix.specs.Writing.{Open, opened, closed, with_changes, with_row, with_rows}
 
 -- a later first address
 pub lower : (low more end : ℕ) (rows : List RowAt) → low ≤ more → Ascending more end rows → Ascending low end rows
