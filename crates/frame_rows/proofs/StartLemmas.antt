@@ -1,13 +1,12 @@
 -- A stepper begins at the first row of an entry.
-use Rattle.std.proofs.Common.{◌≡◌, ℕ, ◌+◌, ◌<◌, List, ◌∷◌, length, take, Option, None, Some, Err, refl, sym, ◌∙◌, ap, arith, subst}
+use Rattle.std.proofs.Common.{◌≡◌, ℕ, ◌+◌, ◌<◌, List, ◌∷◌, length, take, Option, None, Some, sym, ◌∙◌, ap, arith, subst}
 use Rattle.std.proofs.lemmas.List.{take_all}
-use Rattle.std.specs.Option.{option_or}
 use Rattle.sym_edges.specs.declared.reason.Reason.{Reason}
 use Rattle.leb_cursor.specs.Ahead.{Ahead}
 use Rattle.frame_entries.specs.FdeFields.{FdeFields}
 use Rattle.frame_rows.specs.declared.row.RowAt.{RowAt}
 use Rattle.frame_rows.specs.declared.machine.Setting.{Setting}
-use Rattle.frame_rows.specs.Instructions.{Item, listed_at, instructions}
+use Rattle.frame_rows.specs.Instructions.{listed_at, instructions}
 use Rattle.frame_rows.specs.Machine.{Machine}
 use Rattle.frame_rows.specs.Rows.{first_fault, cie_setting, cie_items, cie_begin, own_setting, own_items, own_begin, instruction_fault, AreRows}
 use Rattle.frame_rows.specs.Walk.{rows_from, rows_past, row_with}

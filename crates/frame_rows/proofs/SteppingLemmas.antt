@@ -1,5 +1,5 @@
 -- The rows from where a stepper stands.
-use Rattle.std.proofs.Common.{◌≡◌, ◌≢◌, ℕ, ◌+◌, ◌<◌, ◌≤◌, cond, true, false, List, [], ◌∷◌, ◌++◌, length, Option, None, Some, Result, Ok, Err, refl, sym, ◌∙◌, ap, arith, subst}
+use Rattle.std.proofs.Common.{◌≡◌, ◌≢◌, ℕ, ◌<◌, ◌≤◌, cond, List, [], ◌∷◌, ◌++◌, length, Option, None, Some, Result, Ok, Err, refl, sym, ◌∙◌, ap, arith, subst}
 use Rattle.std.proofs.lemmas.Bool.{eq-eqb, ne_eqb, le-ltb, lt-ltb}
 use Rattle.sym_edges.specs.declared.reason.Reason.{Reason}
 use Rattle.sym_edges.specs.declared.fault.Stop.{Stop}
@@ -7,7 +7,6 @@ use Rattle.sym_edges.specs.declared.fault.Stop.TheVariants.{Fault, NoMemory}
 use Rattle.sym_edges.specs.Outside.{MatchStop}
 use Rattle.leb_cursor.specs.Ahead.{Ahead}
 use Rattle.leb_cursor.specs.Passes.{Passes}
-use Rattle.frame_rows.specs.declared.row.Row.{Row}
 use Rattle.frame_rows.specs.declared.row.RowAt.{RowAt}
 use Rattle.frame_rows.specs.declared.instruction.Instruction.{Instruction}
 use Rattle.frame_rows.specs.declared.machine.Setting.{Setting}
@@ -18,7 +17,7 @@ use Rattle.frame_rows.specs.Rows.{first_fault}
 use Rattle.frame_rows.specs.Walk.{ended_row, last_row, rows_from, rows_past, row_with}
 use Rattle.frame_rows.proofs.StepLemmas.{step_keeps, step_grows}
 use Rattle.frame_rows.proofs.RowLemmas.{ended_yes, ended_no, from_more, past}
-use Rattle.frame_rows.proofs.ReadLemmas.{fault_none, fault_more, fault_here}
+use Rattle.frame_rows.proofs.ReadLemmas.{fault_more, fault_here}
 use Rattle.frame_rows.proofs.FollowLemmas.{listed_is, instruction_passes}
 
 -- the instructions ahead by the first of them

@@ -1,5 +1,3 @@
-use Rattle.std.proofs.Common.{Err}
-use Rattle.sym_edges.specs.declared.fault.Stop.{Stop}
 use Rattle.frame_rows.proofs.LeftLemmas.{refused_left}
 use Rattle.frame_rows.proofs.cie_state.leave.Goals as goal
 

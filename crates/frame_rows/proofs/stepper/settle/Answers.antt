@@ -1,4 +1,4 @@
-use Rattle.std.proofs.Common.{length, ◌∙◌, arith}
+use Rattle.std.proofs.Common.{length, arith}
 use Rattle.frame_rows.proofs.ReadLemmas.{some_left, none_left}
 use Rattle.frame_rows.proofs.SteppingLemmas.{fewer_left, not_unread, not_refused, still_good, rows_moved, rows_stay, stays_there, rows_last}
 use Rattle.frame_rows.proofs.stepper.settle.Goals as goal

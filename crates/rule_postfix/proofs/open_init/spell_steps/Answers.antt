@@ -1,4 +1,4 @@
-use Rattle.std.proofs.Common.{refl, sym, ◌∙◌}
+use Rattle.std.proofs.Common.{◌∙◌}
 use Rattle.rule_postfix.proofs.StepsLemmas.{is_more, is_last, by_row, pass_begins, pass_on, pass_ends}
 use Rattle.rule_postfix.proofs.open_init.spell_steps.Goals as goal
 
