@@ -1,3 +1,4 @@
 pub mod Rows
 pub mod Layouts
 pub mod FrameOps
+pub mod Forms

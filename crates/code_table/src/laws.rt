@@ -1,11 +1,13 @@
 //! Laws, for proofs above. Each function does nothing: its contract is the law.
-ghost use Rattle.std.specs.Prelude.{◌≡◌};
+ghost use Rattle.std.specs.Prelude.{◌≡◌, false, true};
 ghost use Rattle.leb_cursor.specs.Ahead.{Ahead};
 ghost use Rattle.leb_cursor.specs.Passes.{Passes};
 ghost use Rattle.code_table.specs.declared.kind.Shape.{Shape};
+ghost use Rattle.code_table.specs.Forms.{form_layouts};
 ghost use Rattle.code_table.specs.FrameOps.{frame_opcodes};
 ghost use Rattle.code_table.specs.Layouts.{shape_at};
 
+use crate::forms::{FORMS, FORMS64};
 use crate::frame_ops::{
     DW_CFA_GNU_args_size, DW_CFA_advance_loc, DW_CFA_advance_loc1, DW_CFA_advance_loc2,
     DW_CFA_advance_loc4, DW_CFA_def_cfa, DW_CFA_def_cfa_expression, DW_CFA_def_cfa_offset,
@@ -58,4 +60,11 @@ pub fn frame_opcode_values()
 #[tactic(auto, unfolding(crate::specs::FrameOps::frame_opcodes))]
 pub fn frame_ops_are_the_standards()
     ensures { FRAME_OPS.rows ≡ frame_opcodes }
+{}
+
+/// The rows of `FORMS` and of `FORMS64` are those of the standard.
+#[tactic(auto, unfolding(crate::specs::Forms::forms, crate::specs::Forms::form_layouts))]
+pub fn forms_are_the_standards()
+    ensures narrow { FORMS.rows ≡ form_layouts false }
+    ensures wide { FORMS64.rows ≡ form_layouts true }
 {}

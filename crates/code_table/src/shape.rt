@@ -56,7 +56,7 @@ macro_rules! read_by_kind {
 /// Reads an operand. A refused call may leave the cursor behind a block's length.
 #[inline]
 #[tactic(auto, unfolding(crate::specs::Layouts::kind_at))]
-fn read_kind(cursor: &mut Cursor<'_>, kind: Kind) -> Result<Operand, CursorFault>
+pub fn read_kind(cursor: &mut Cursor<'_>, kind: Kind) -> Result<Operand, CursorFault>
     ensures { gave result cursor.new ≡ kind_at kind cursor.old }
 {
     read_by_kind!(cursor, kind;

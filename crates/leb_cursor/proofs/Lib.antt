@@ -10,3 +10,4 @@ pub mod PassLemmas
 pub mod Computing
 mod WorkedLeb
 mod WorkedReadings
+pub mod ListLemmas

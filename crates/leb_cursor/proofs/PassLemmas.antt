@@ -10,7 +10,7 @@ use Rattle.leb_cursor.specs.Ahead.{Ahead, passed}
 use Rattle.leb_cursor.specs.Passes.{Passes}
 use Rattle.leb_cursor.specs.Texts.{front_text}
 use Rattle.sym_edges.specs.Integers.{fits_i64}
-use Rattle.leb_cursor.specs.Readings.{fixed_at, leb_length, leb_sum, sleb_sum, uleb_at, uleb_by, sleb_at, sleb_by, text_at, text_by, take_at}
+use Rattle.leb_cursor.specs.Readings.{fixed_at, leb_length, leb_sum, sleb_sum, uleb_at, uleb_by, sleb_at, sleb_by, text_at, text_by, take_at, part_at}
 
 -- whatever value goes with it, passing n bytes that are there passes n bytes
 passed_by : (n least : ℕ) (c : Ahead) → n ≤ length c.bytes → least ≤ n → (length (passed n c).bytes + least ≤ length c.bytes) × ((passed n c).at + length (passed n c).bytes ≡ c.at + length c.bytes)
@@ -35,6 +35,10 @@ fixed_passes width c = refused_by (nat_lt (length c.bytes) width) _ _ width widt
 pub take_passes : (n : ℕ) (c : Ahead) → Passes n c (take_at n c)
 unfolding take_at
 take_passes n c = refused_by (nat_lt (length c.bytes) n) _ _ n n c (λ long. (ltb-false _ _ long, omega arith))
+
+pub part_passes : (n : ℕ) (c : Ahead) → Passes n c (part_at n c)
+unfolding part_at
+part_passes n c = refused_by (nat_lt (length c.bytes) n) _ _ n n c (λ long. (ltb-false _ _ long, omega arith))
 
 -- the bytes of a LEB128 are there, and it has one at least
 length_there : (bytes : List ℕ) (found : Option ℕ) (count : ℕ) → position (λ byte. nat_lt byte 128) (take 10 bytes) ≡ found → option_map (λ (k : ℕ). k + 1) found ≡ Some count → (count ≤ length bytes) × (1 ≤ count)

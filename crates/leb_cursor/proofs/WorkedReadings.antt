@@ -3,7 +3,7 @@ use Rattle.std.proofs.Common.{◌≡◌, ℕ, [], codes, Ok, Err, refl}
 use Prim.Native.String.{String}
 use Rattle.leb_cursor.specs.declared.fault.CursorFault.TheVariants.{Ends, NoZero}
 use Rattle.leb_cursor.specs.Ahead.{Ahead}
-use Rattle.leb_cursor.specs.Readings.{fixed_at, text_at, take_at}
+use Rattle.leb_cursor.specs.Readings.{fixed_at, text_at, take_at, part_at}
 use Rattle.sym_edges.proofs.Hex.{bytes}
 use Rattle.leb_cursor.proofs.Computing.{leb_cursor_computes}
 
@@ -86,3 +86,16 @@ run_cut = refl
 run_of_all : take_at 18446744073709551615 (ahead "626364" 1) ≡ Err (Ends 1)
 unfolding ahead leb_cursor_computes
 run_of_all = refl
+
+-- a part has the places of the whole
+a_part : part_at 2 (ahead "626364" 7) ≡ Ok (ahead "6263" 7, ahead "64" 9)
+unfolding ahead leb_cursor_computes
+a_part = refl
+
+no_part : part_at 0 (ahead "" 7) ≡ Ok (ahead "" 7, ahead "" 7)
+unfolding ahead leb_cursor_computes
+no_part = refl
+
+part_cut : part_at 4 (ahead "626364" 7) ≡ Err (Ends 7)
+unfolding ahead leb_cursor_computes
+part_cut = refl

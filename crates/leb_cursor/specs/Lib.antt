@@ -2,5 +2,6 @@ pub mod Ahead
 pub mod Texts
 pub mod Readings
 pub mod Passes
+pub mod Lists
 pub mod Steps
 pub mod Groups

@@ -66,3 +66,8 @@ text_at c = text_by c (front_text c.bytes)
 -- the next n bytes, where they are there
 unfoldable pub take_at : ℕ → Ahead → Result (List ℕ × Ahead) CursorFault
 take_at n c = if nat_lt (length c.bytes) n then Err (Ends c.at) else Ok (take n c.bytes, passed n c)
+
+-- the next n bytes as a run of their own, at the places that they have
+unfoldable pub part_at : ℕ → Ahead → Result (Ahead × Ahead) CursorFault
+part_at n c =
+    if nat_lt (length c.bytes) n then Err (Ends c.at) else Ok (record { bytes = take n c.bytes; at = c.at }, passed n c)

@@ -1,7 +1,7 @@
 //! The cursor, and its calls.
 ghost use Rattle.std.specs.Prelude.{◌≡◌, ◌≤◌, ◌==◌, length, take, drop, OnErr};
 ghost use Rattle.leb_cursor.specs.Ahead.{Ahead, gave, gave_as};
-ghost use Rattle.leb_cursor.specs.Readings.{fixed_at, uleb_at, sleb_at, text_at, take_at};
+ghost use Rattle.leb_cursor.specs.Readings.{fixed_at, uleb_at, sleb_at, text_at, take_at, part_at};
 
 use crate::fault::CursorFault;
 use crate::fixed::{front_u16, front_u24, front_u32, front_u64};
@@ -225,5 +225,24 @@ impl<'a> Cursor<'a> {
         let count = n as usize;
         self.place += count;
         Ok(&rest[..count])
+    }
+
+    /// A cursor over the next `n` bytes, with the places that they have here; this one passes them.
+    #[inline]
+    #[tactic(auto, using(crate::proofs::AheadLemmas::part_moved), unfolding(crate::specs::Readings::part_at))]
+    pub fn part(&mut self, n: u64) -> Result<Cursor<'a>, CursorFault>
+        ensures read { gave result self.new ≡ part_at n self.old }
+        ensures kept { OnErr result (self.new ≡ self.old) }
+    {
+        let rest = self.rest();
+        if (rest.len() as u64) < n {
+            return Err(CursorFault::Ends { at: self.place });
+        }
+        let start = self.place;
+        self.place += n as usize;
+        Ok(Cursor {
+            bytes: &self.bytes[..self.place],
+            place: start,
+        })
     }
 }

@@ -2,7 +2,7 @@
 ghost use Rattle.std.specs.Prelude.{◌≡◌, ℕ, List};
 ghost use Rattle.std.specs.Int.{w8, w16, w32, w64, from_le_bytes};
 ghost use Rattle.leb_cursor.specs.Ahead.{Ahead};
-ghost use Rattle.leb_cursor.specs.Readings.{fixed_sum, fixed_at, uleb_at, sleb_at, text_at, take_at};
+ghost use Rattle.leb_cursor.specs.Readings.{fixed_sum, fixed_at, uleb_at, sleb_at, text_at, take_at, part_at};
 ghost use Rattle.leb_cursor.specs.Passes.{Passes};
 
 /// A number of one, two, four or eight bytes is the one that std's `from_le_bytes` reads.
@@ -16,11 +16,12 @@ pub fn fixed_is_word()
 
 /// Each reading passes the bytes that it reads, and none behind the end: a LEB128 and a text at
 /// least one. So a list that is read up to the end has no more members than bytes.
-#[tactic(auto, using(crate::proofs::PassLemmas::fixed_passes, crate::proofs::PassLemmas::uleb_passes, crate::proofs::PassLemmas::sleb_passes, crate::proofs::PassLemmas::text_passes, crate::proofs::PassLemmas::take_passes))]
+#[tactic(auto, using(crate::proofs::PassLemmas::fixed_passes, crate::proofs::PassLemmas::uleb_passes, crate::proofs::PassLemmas::sleb_passes, crate::proofs::PassLemmas::text_passes, crate::proofs::PassLemmas::take_passes, crate::proofs::PassLemmas::part_passes))]
 pub fn readings_pass()
     ensures fixed { (width : ℕ) (c : Ahead) → Passes width c (fixed_at width c) }
     ensures uleb { (c : Ahead) → Passes 1 c (uleb_at c) }
     ensures sleb { (c : Ahead) → Passes 1 c (sleb_at c) }
     ensures text { (c : Ahead) → Passes 1 c (text_at c) }
     ensures take { (n : ℕ) (c : Ahead) → Passes n c (take_at n c) }
+    ensures part { (n : ℕ) (c : Ahead) → Passes n c (part_at n c) }
 {}

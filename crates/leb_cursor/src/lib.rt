@@ -1,6 +1,6 @@
 //! A cursor over a run of bytes, which reads what DWARF's sections are made of: numbers of fixed
 //! width with the lowest byte first, LEB128 numbers (DWARF 5, 7.6), texts up to a zero byte, and
-//! runs of so many bytes.
+//! runs of so many bytes, also as a cursor of their own.
 //!
 //! A contract sees a cursor as what is ahead of it: the bytes that are left, and the place of the
 //! first of them. Each call promises one equation: its answer and what is left afterwards are what

@@ -1,0 +1,41 @@
+-- Readings at a place of a section.
+use Rattle.std.proofs.Common.{◌≡◌, ◌<◌, ◌≤◌, ◌+◌, ◌*◌, ◌^◌, ℕ, Bool, true, false, List, [], length, take, drop, None, Some, refl, sym, ap, ◌∙◌, arith}
+use Rattle.std.proofs.Math.Seq.{take-length}
+use Rattle.std.proofs.Math.ListN.{drop_of_length-le}
+use Rattle.std.proofs.lemmas.List.{take_all}
+use Rattle.leb_cursor.specs.Ahead.{Ahead}
+use Rattle.leb_cursor.specs.Texts.{front_text}
+use Rattle.leb_cursor.specs.Readings.{fixed_at, text_at}
+use Rattle.abbrev_units.specs.Texts.{ahead_from, read_or_none, place_width, text_in, number_in}
+
+-- a cursor up to the end of the section
+pub whole_ahead : (bytes : List ℕ) (place : ℕ) → (let ahead : Ahead = record { bytes = drop place (take (length bytes) bytes); at = place } in ahead) ≡ ahead_from place bytes
+whole_ahead bytes place = ap (λ (all : List ℕ). record { bytes = drop place all; at = place }) (take-length bytes)
+
+-- behind the end nothing is left
+beyond : (bytes : List ℕ) (place : ℕ) → length bytes < place → ahead_from place bytes ≡ record { bytes = []; at = place }
+beyond bytes place far = ap (λ (rest : List ℕ). record { bytes = rest; at = place }) (drop_of_length-le bytes (omega arith))
+
+pub text_beyond : (bytes : List ℕ) (place : ℕ) → length bytes < place → text_in bytes place ≡ None
+unfolding text_in text_at front_text
+text_beyond bytes place far = ap (λ (c : Ahead). read_or_none (text_at c)) (beyond bytes place far)
+
+none_there : (wide : Bool) (place : ℕ) → read_or_none (fixed_at (place_width wide) (record { bytes = []; at = place })) ≡ None
+unfolding fixed_at
+none_there true place = refl
+none_there false place = refl
+
+pub number_beyond : (bytes : List ℕ) (place : ℕ) (wide : Bool) → length bytes < place → number_in (place_width wide) bytes place ≡ None
+unfolding number_in
+number_beyond bytes place wide far =
+    ap (λ (c : Ahead). read_or_none (fixed_at (place_width wide) c)) (beyond bytes place far) ∙ none_there wide place
+
+take_none : (len : ℕ) (rest : List ℕ) → rest ≡ [] → take len rest ≡ []
+take_none len rest none = take_all len rest (omega (arith, ap length none)) ∙ none
+
+-- a run of bytes as far as they are there
+pub run_beyond : (bytes : List ℕ) (start len : ℕ) → length bytes < start → take len (drop start bytes) ≡ []
+run_beyond bytes start len far = take_none len (drop start bytes) (drop_of_length-le bytes (omega arith))
+
+pub run_cut : (bytes : List ℕ) (start len : ℕ) → length (drop start bytes) < len → take len (drop start bytes) ≡ drop start bytes
+run_cut bytes start len far = take_all len (drop start bytes) (omega arith)

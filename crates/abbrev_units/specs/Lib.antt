@@ -1,0 +1,4 @@
+pub mod DebugSections
+pub mod Faults
+pub mod FormValue
+pub mod Texts

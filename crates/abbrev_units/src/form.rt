@@ -1,0 +1,77 @@
+//! Reading values by their form.
+ghost use Rattle.std.specs.Prelude.{◌≡◌, OnErr, pos};
+ghost use Rattle.leb_cursor.specs.Ahead.{gave};
+ghost use Rattle.code_table.specs.Forms.{forms, form_row};
+ghost use Rattle.abbrev_units.specs.FormValue.{value_by, direct_at, indirect_at, form_at};
+
+use crate::fault::FormFault;
+use crate::value::{Value, value_of};
+use code_table::{DW_FORM_implicit_const, DW_FORM_indirect, FormRow, find_form, read_kind};
+use leb_cursor::Cursor;
+
+/// Reads a value by the row of its form. A refused call may leave the cursor behind a block's length.
+#[inline]
+pub fn read_known(
+    cursor: &mut Cursor<'_>,
+    row: Option<FormRow>,
+    implicit: i64,
+) -> Result<Value, FormFault>
+    ensures { gave result cursor.new ≡ value_by row implicit cursor.old }
+{
+    match row {
+        Some(row) => {
+            let operand = read_kind(cursor, row.layout)?;
+            Ok(value_of(row.class, implicit, operand))
+        }
+        None => Err(FormFault::Unknown { at: cursor.at() }),
+    }
+}
+
+/// Reads a value whose form is not indirect.
+#[inline]
+#[tactic(auto, unfolding(crate::specs::FormValue::direct_at))]
+fn read_direct(
+    cursor: &mut Cursor<'_>,
+    form: u64,
+    implicit: i64,
+    wide: bool,
+) -> Result<Value, FormFault>
+    ensures { gave result cursor.new ≡ direct_at form implicit wide cursor.old }
+{
+    read_known(cursor, find_form(form, wide), implicit)
+}
+
+/// Reads a form and the value behind it.
+#[tactic(auto, unfolding(crate::specs::FormValue::indirect_at))]
+pub fn read_indirect(cursor: &mut Cursor<'_>, wide: bool) -> Result<Value, FormFault>
+    ensures { gave result cursor.new ≡ indirect_at wide cursor.old }
+{
+    let form = cursor.uleb()?;
+    if form == DW_FORM_indirect || form == DW_FORM_implicit_const {
+        return Err(FormFault::Unknown { at: cursor.at() });
+    }
+    read_direct(cursor, form, 0, wide)
+}
+
+/// Reads the value of a form (DWARF 5, 7.5.5 and 7.5.6), in a unit of the 64-bit format where `wide`.
+/// `implicit` is the constant that stands in the abbreviation. Takes no memory.
+#[inline]
+#[tactic(auto, unfolding(crate::specs::FormValue::form_at))]
+pub fn read_form(
+    cursor: &mut Cursor<'_>,
+    form: u64,
+    implicit: i64,
+    wide: bool,
+) -> Result<Value, FormFault>
+    ensures read { gave result cursor.new ≡ form_at form implicit wide cursor.old }
+    ensures kept { OnErr result (cursor.new ≡ cursor.old) }
+{
+    let mut probe = cursor.fork();
+    let value = if form == DW_FORM_indirect {
+        read_indirect(&mut probe, wide)?
+    } else {
+        read_direct(&mut probe, form, implicit, wide)?
+    };
+    *cursor = probe;
+    Ok(value)
+}

@@ -1,0 +1,145 @@
+//! The texts of values.
+ghost use Rattle.std.specs.Prelude.{◌≡◌, ◌≤◌, ◌+◌, ◌*◌, ◌^◌, length, take, drop, MatchOption, option_and_then};
+ghost use Rattle.std.specs.Option.{option_copied};
+ghost use Rattle.leb_cursor.specs.Ahead.{gave};
+ghost use Rattle.leb_cursor.specs.Readings.{fixed_at};
+ghost use Rattle.abbrev_units.specs.Texts.{ahead_from, place_width, text_in, number_in, text_place, text_of};
+
+use crate::sections::Sections;
+use crate::value::Value;
+use leb_cursor::{Cursor, CursorFault};
+
+/// A cursor at a place of a section.
+#[inline]
+#[tactic(auto, using(crate::proofs::TextLemmas::whole_ahead))]
+fn cursor_from(bytes: &[u8], place: usize) -> Cursor<'_>
+    requires { place ≤ length bytes.now }
+    ensures { result ≡ ahead_from place bytes.now }
+{
+    Cursor::new(bytes, place, bytes.len())
+}
+
+/// The zero-ended text at a place of a section.
+#[inline]
+#[tactic(auto, using(crate::proofs::TextLemmas::text_beyond), unfolding(crate::specs::Texts::text_in))]
+pub fn text_in(bytes: &[u8], place: u64) -> Option<&[u8]>
+    ensures { option_copied result ≡ text_in bytes.now place }
+{
+    if place > bytes.len() as u64 {
+        return None;
+    }
+    let mut cursor = cursor_from(bytes, place as usize);
+    match cursor.text() {
+        Ok(text) => Some(text),
+        Err(_) => None,
+    }
+}
+
+/// Reads a place in a section: of four bytes, or of eight in the 64-bit format (DWARF 5, 7.4).
+#[inline]
+pub fn read_place(cursor: &mut Cursor<'_>, wide: bool) -> Result<u64, CursorFault>
+    ensures { gave result cursor.new ≡ fixed_at (place_width wide) cursor.old }
+{
+    if wide {
+        return Ok(cursor.u64()?);
+    }
+    Ok(u64::from(cursor.u32()?))
+}
+
+/// The place in a section that stands at a place of another.
+#[inline]
+#[tactic(auto, using(crate::proofs::TextLemmas::number_beyond), unfolding(crate::specs::Texts::number_in))]
+pub fn place_in(bytes: &[u8], place: u64, wide: bool) -> Option<u64>
+    ensures { result ≡ number_in (place_width wide) bytes.now place }
+{
+    if place > bytes.len() as u64 {
+        return None;
+    }
+    let mut cursor = cursor_from(bytes, place as usize);
+    match read_place(&mut cursor, wide) {
+        Ok(number) => Some(number),
+        Err(_) => None,
+    }
+}
+
+/// So many places of a width behind a base, where that is below 2^64.
+#[inline]
+fn indexed(base: u64, width: u64, index: u64) -> Option<u64>
+    ensures { MatchOption result (2 ^ 64 ≤ base + width * index) (λ place. place ≡ base + width * index) }
+{
+    match index.checked_mul(width) {
+        Some(offset) => base.checked_add(offset),
+        None => None,
+    }
+}
+
+/// The place that stands as number `index` from a base on.
+#[inline]
+#[tactic(auto, using(crate::proofs::TextLemmas::number_beyond))]
+pub fn place_by_index(bytes: &[u8], wide: bool, base: u64, index: u64) -> Option<u64>
+    ensures { result ≡ number_in (place_width wide) bytes.now (base + place_width wide * index) }
+{
+    let width = if wide { 8 } else { 4 };
+    match indexed(base, width, index) {
+        Some(place) => place_in(bytes, place, wide),
+        None => None,
+    }
+}
+
+/// The text that a number of `.debug_str_offsets` leads to.
+#[inline]
+fn indexed_text<'a>(
+    sections: &Sections<'a>,
+    wide: bool,
+    base: Option<u64>,
+    index: u64,
+) -> Option<&'a [u8]>
+    ensures { option_copied result ≡ option_and_then (text_in sections.now.strs) (text_place sections.now.str_offsets wide base index) }
+{
+    let Some(base) = base else {
+        return None;
+    };
+    match place_by_index(sections.str_offsets, wide, base, index) {
+        Some(place) => text_in(sections.strs, place),
+        None => None,
+    }
+}
+
+/// So many bytes from a place on, as far as they are there.
+#[inline]
+#[tactic(auto, using(crate::proofs::TextLemmas::run_beyond, crate::proofs::TextLemmas::run_cut))]
+fn run_in(bytes: &[u8], start: usize, len: usize) -> &[u8]
+    ensures { result.now ≡ take len (drop start bytes.now) }
+{
+    if start > bytes.len() {
+        return &[];
+    }
+    let rest = bytes.split_at(start).1;
+    if len > rest.len() {
+        return rest;
+    }
+    rest.split_at(len).0
+}
+
+/// The text of a value of class string: `home` is the section in which the value stands, `wide` says
+/// whether its unit has the 64-bit format, and `base` is the unit's str_offsets_base. None where the
+/// value has another class, no zero byte ends the text, or the base is missing. Takes no memory.
+#[inline]
+#[tactic(auto, unfolding(crate::specs::Texts::text_of))]
+pub fn read_text<'a>(
+    sections: &Sections<'a>,
+    home: &'a [u8],
+    wide: bool,
+    base: Option<u64>,
+    value: Value,
+) -> Option<&'a [u8]>
+    ensures { option_copied result ≡ text_of sections.now home.now wide base value }
+{
+    match value {
+        Value::InlineText { start, len } => Some(run_in(home, start, len)),
+        Value::StrAt(place) => text_in(sections.strs, place),
+        Value::LineStrAt(place) => text_in(sections.line_str, place),
+        Value::StrIndex(index) => indexed_text(sections, wide, base, index),
+        _ => None,
+    }
+}

@@ -1,0 +1,85 @@
+//! The value of an attribute (DWARF 5, 7.5.5 and 7.5.6).
+ghost use Rattle.std.specs.Prelude.{◌≡◌};
+ghost use Rattle.abbrev_units.specs.FormValue.{value_of};
+
+use code_table::{FormClass, Operand};
+
+/// What a form's bytes say. Where a run of bytes is meant, it is so many bytes from a place on of the
+/// section in which the value stands.
+#[derive(Clone, Copy, PartialEq, Eq, Debug)]
+pub enum Value {
+    Addr(u64),
+
+    /// A block, or an expression.
+    Block {
+        start: usize,
+        len: usize,
+    },
+
+    /// A constant without a sign.
+    Num(u64),
+
+    /// A constant with a sign.
+    Signed(i64),
+    Flag(bool),
+
+    /// A text in place, without its zero byte.
+    InlineText {
+        start: usize,
+        len: usize,
+    },
+
+    /// A place in `.debug_str`.
+    StrAt(u64),
+
+    /// A place in `.debug_line_str`.
+    LineStrAt(u64),
+
+    /// The number of a text in `.debug_str_offsets`.
+    StrIndex(u64),
+
+    /// The number of an address in `.debug_addr`.
+    AddrIndex(u64),
+
+    /// A place counted from the start of the unit.
+    UnitRef(u64),
+
+    /// A place in `.debug_info`.
+    InfoRef(u64),
+
+    /// A place in the section that belongs to the attribute.
+    SecOffset(u64),
+
+    /// The number of a range list.
+    ListIndex(u64),
+
+    /// What is passed over.
+    Other,
+}
+
+/// The value of an operand by its class; `implicit` is the constant of the abbreviation.
+#[inline]
+#[tactic(auto, unfolding(crate::specs::FormValue::value_of))]
+pub fn value_of(class: FormClass, implicit: i64, operand: Operand) -> Value
+    ensures { result ≡ value_of class implicit operand }
+{
+    match (class, operand) {
+        (FormClass::Address, Operand::Num(n)) => Value::Addr(n),
+        (FormClass::AddressIndex, Operand::Num(n)) => Value::AddrIndex(n),
+        (FormClass::Block, Operand::Run { start, len }) => Value::Block { start, len },
+        (FormClass::Constant, Operand::Num(n)) => Value::Num(n),
+        (FormClass::Signed, Operand::Signed(n)) => Value::Signed(n),
+        (FormClass::Implicit, _) => Value::Signed(implicit),
+        (FormClass::Flag, Operand::Num(n)) => Value::Flag(n != 0),
+        (FormClass::Present, _) => Value::Flag(true),
+        (FormClass::InlineText, Operand::Run { start, len }) => Value::InlineText { start, len },
+        (FormClass::TextPlace, Operand::Num(n)) => Value::StrAt(n),
+        (FormClass::LineTextPlace, Operand::Num(n)) => Value::LineStrAt(n),
+        (FormClass::TextIndex, Operand::Num(n)) => Value::StrIndex(n),
+        (FormClass::UnitReference, Operand::Num(n)) => Value::UnitRef(n),
+        (FormClass::InfoReference, Operand::Num(n)) => Value::InfoRef(n),
+        (FormClass::SectionPlace, Operand::Num(n)) => Value::SecOffset(n),
+        (FormClass::ListIndex, Operand::Num(n)) => Value::ListIndex(n),
+        _ => Value::Other,
+    }
+}
