@@ -1,1 +1,4 @@
 mod TextLemmas
+pub mod UnitLemmas
+pub mod AbbrevLemmas
+mod PlaceLemmas

@@ -1,7 +1,10 @@
 -- Faults with their section and place.
-use Rattle.std.specs.Prelude.{ℕ, Result, Ok, Err}
+use Rattle.std.specs.Prelude.{◌≡◌, ℕ, Result, Ok, Err}
+use Rattle.sym_edges.specs.declared.fault.Stop.{Stop}
+use Rattle.sym_edges.specs.declared.fault.Stop.TheVariants.{Fault, NoMemory}
 use Rattle.sym_edges.specs.declared.part.Sect.{Sect}
 use Rattle.sym_edges.specs.declared.located.Located.{Located}
+use Rattle.leb_cursor.specs.Ahead.{Ahead}
 use Rattle.leb_cursor.specs.declared.fault.CursorFault.{CursorFault}
 use Rattle.leb_cursor.specs.declared.fault.CursorFault.TheVariants as reading
 use Rattle.abbrev_units.specs.declared.fault.DwarfKind.{DwarfKind}
@@ -43,3 +46,20 @@ as_value (Err fault) = Err (form.Cursor fault)
 abbrev pub or_start : {A : Type 0} → DwarfKind → Result A CursorFault → Result A HeaderFault
 or_start kind (Ok x) = Ok x
 or_start kind (Err fault) = Err (header.Start kind)
+
+-- what a call that gives no value left ahead
+abbrev pub left_by : {U E : Type 0} → Result U E → Ahead → Result Ahead E
+left_by (Ok x) c = Ok c
+left_by (Err fault) c = Err fault
+
+-- an answer is what a definition gives: its value, or its fault; want of memory says nothing
+abbrev pub Gives : {A F : Type 0} → Result A (Stop F) → Result A F → Type 0
+Gives (Ok x) given = given ≡ Ok x
+Gives (Err (Fault fault)) given = given ≡ Err fault
+Gives (Err NoMemory) given = Unit {0}
+
+-- the same for an answer that is read, with what is left ahead
+abbrev pub GivesAt : {A F : Type 0} → Result A (Stop F) → Ahead → Result (A × Ahead) F → Type 0
+GivesAt (Ok x) c given = given ≡ Ok (x, c)
+GivesAt (Err (Fault fault)) c given = given ≡ Err fault
+GivesAt (Err NoMemory) c given = Unit {0}

@@ -2,3 +2,9 @@ pub mod DebugSections
 pub mod Faults
 pub mod FormValue
 pub mod Texts
+pub mod Contents
+pub mod InitialLength
+pub mod Units
+pub mod SpecFields
+pub mod Abbreviations
+pub mod Places

@@ -12,7 +12,7 @@ use leb_cursor::{Cursor, CursorFault};
 /// A cursor at a place of a section.
 #[inline]
 #[tactic(auto, using(crate::proofs::TextLemmas::whole_ahead))]
-fn cursor_from(bytes: &[u8], place: usize) -> Cursor<'_>
+pub fn cursor_from(bytes: &[u8], place: usize) -> Cursor<'_>
     requires { place ≤ length bytes.now }
     ensures { result ≡ ahead_from place bytes.now }
 {

@@ -11,10 +11,7 @@ pub enum Value {
     Addr(u64),
 
     /// A block, or an expression.
-    Block {
-        start: usize,
-        len: usize,
-    },
+    Block { start: usize, len: usize },
 
     /// A constant without a sign.
     Num(u64),
@@ -24,10 +21,7 @@ pub enum Value {
     Flag(bool),
 
     /// A text in place, without its zero byte.
-    InlineText {
-        start: usize,
-        len: usize,
-    },
+    InlineText { start: usize, len: usize },
 
     /// A place in `.debug_str`.
     StrAt(u64),

@@ -1,9 +1,19 @@
 -- Lists of what stands ahead: they follow their first reading, and how a loop makes them.
-use Rattle.std.proofs.Common.{◌≡◌, ◌<◌, ◌≤◌, ◌+◌, ℕ, zero, suc, List, [], ◌∷◌, ◌++◌, length, Option, None, Some, Result, Ok, Err, refl, sym, ap, subst, ◌∙◌, arith, append_assoc, append-nil}
+use Rattle.std.proofs.Common.{◌≡◌, ◌<◌, ◌≤◌, ◌+◌, ℕ, zero, suc, Bool, true, false, cond, List, [], ◌∷◌, ◌++◌, length, Option, None, Some, Result, Ok, Err, refl, sym, ap, subst, ◌∙◌, arith, append_assoc, append-nil}
 use Rattle.sym_edges.specs.Results.{◌>>=◌}
 use Rattle.leb_cursor.specs.Ahead.{Ahead}
 use Rattle.leb_cursor.specs.Passes.{Passes}
 use Rattle.leb_cursor.specs.Lists.{list_by, list_in, list_at, GoesOn}
+
+-- a reading that passes so many bytes passes fewer
+pub weaker : {A E : Type 0} (reading : Result (A × Ahead) E) (more least : ℕ) (c : Ahead) → least ≤ more → Passes more c reading → Passes least c reading
+weaker (Ok x) more least c fewer goes = (omega (arith, goes.0), goes.1)
+weaker (Err fault) more least c fewer goes = tt
+
+-- either of two readings
+pub either_passes : {A E : Type 0} (test : Bool) (given other : Result (A × Ahead) E) (least : ℕ) (c : Ahead) → Passes least c given → Passes least c other → Passes least c (cond test given other)
+either_passes true given other least c first second = first
+either_passes false given other least c first second = second
 
 -- what comes later counts only where a member was read, from where fewer bytes are left
 same_by : {A E : Type 0} (first : Result (Option A × Ahead) E) (c : Ahead) (one two : Ahead → Result (List A × Ahead) E) → GoesOn c first → ((d : Ahead) → length d.bytes + 1 ≤ length c.bytes → one d ≡ two d) → (first >>= λ x. list_by x.0 x.1 (one x.1)) ≡ (first >>= λ x. list_by x.0 x.1 (two x.1))

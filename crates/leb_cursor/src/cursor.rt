@@ -1,5 +1,5 @@
 //! The cursor, and its calls.
-ghost use Rattle.std.specs.Prelude.{◌≡◌, ◌≤◌, ◌==◌, length, take, drop, OnErr};
+ghost use Rattle.std.specs.Prelude.{◌≡◌, ◌≤◌, ◌+◌, ◌==◌, length, take, drop, OnErr};
 ghost use Rattle.leb_cursor.specs.Ahead.{Ahead, gave, gave_as};
 ghost use Rattle.leb_cursor.specs.Readings.{fixed_at, uleb_at, sleb_at, text_at, take_at, part_at};
 
@@ -56,6 +56,14 @@ impl<'a> Cursor<'a> {
         ensures { result.now ≡ self.now.bytes }
     {
         &self.bytes[self.place..]
+    }
+
+    /// The place behind the last byte.
+    #[inline]
+    pub fn end(&self) -> usize
+        ensures { result ≡ self.now.at + length self.now.bytes }
+    {
+        self.bytes.len()
     }
 
     /// Whether no byte is left.

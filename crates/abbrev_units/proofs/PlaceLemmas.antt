@@ -1,0 +1,130 @@
+-- The abbreviation of a code, by its number and by the map of places.
+use Rattle.std.proofs.Common.{◌≡◌, ◌⊎◌, inl, inr, ◌<◌, ◌≤◌, ◌+◌, ◌-◌, ℕ, zero, suc, Bool, true, false, ◌&&◌, nat_eq, nat_lt, nat_le, cond, List, [], ◌∷◌, length, drop, Option, None, Some, refl, sym, ap, subst, ◌∙◌, arith}
+use Rattle.std.specs.Option.{unwrap_or}
+use Rattle.std.specs.Prelude.{slice_get, get_or, find}
+use Rattle.std.specs.Ordering.{nat_cmp}
+use Rattle.std.specs.BTreeMap.{BTreeMap, get, is_at, Updates, IsEmpty}
+use Rattle.std.specs.Map.{lookup}
+use Rattle.std.proofs.lemmas.Bool.{cond-true, cond-false}
+use Rattle.std.proofs.lemmas.Bool.Decides.{nat_tests}
+use Rattle.std.proofs.lemmas.Option.{slice_get_past}
+use Rattle.std.proofs.Math.ListN.{drop_of_length-le}
+use Rattle.abbrev_units.specs.declared.abbrev.Abbrev.{Abbrev}
+use Rattle.abbrev_units.specs.Abbreviations.{abbrev_of}
+use Rattle.abbrev_units.specs.Places.{first_place, Follow, IsDense, HasPlaces}
+
+-- the abbreviation of a code stands at its first place
+find_by : (same : Bool) (code : ℕ) (a : Abbrev) (rest : List Abbrev) → abbrev_of code rest ≡ slice_get rest (first_place code rest) → cond same (Some a) (abbrev_of code rest) ≡ slice_get (a ∷ rest) (cond same 0 (suc (first_place code rest)))
+find_by true code a rest later = refl
+find_by false code a rest later = later
+
+find_is : (code : ℕ) (list : List Abbrev) → abbrev_of code list ≡ slice_get list (first_place code list)
+unfolding abbrev_of first_place
+find_is code [] = refl
+find_is code (a ∷ rest) = find_by (nat_eq a.code code) code a rest (find_is code rest)
+
+-- codes that follow a number one by one
+follow_at : (before n : ℕ) (list : List Abbrev) (k code : ℕ) → Follow before n list → k < n → code ≡ before + k + 1 → first_place code list ≡ k
+unfolding first_place
+follow_at before zero list k code front below is = absurd (omega arith)
+follow_at before (suc n) [] k code front below is = absurd front
+follow_at before (suc n) (a ∷ rest) zero code front below is =
+    let same : nat_eq a.code code ≡ true = grind (arith, nat_tests, front.0) in
+    cond-true _ _ _ same
+follow_at before (suc n) (a ∷ rest) (suc k) code front below is =
+    let other : nat_eq a.code code ≡ false = grind (arith, nat_tests, front.0) in
+    cond-false _ _ _ other ∙ ap suc (follow_at (before + 1) n rest k code front.1 (omega arith) (omega arith))
+
+follow_none : (before n : ℕ) (list : List Abbrev) (code : ℕ) → Follow before n list → length list ≤ n → (code ≤ before) ⊎ (before + length list < code) → first_place code list ≡ length list
+unfolding first_place
+follow_none before n [] code front all away = refl
+follow_none before zero (a ∷ rest) code front all away = absurd (omega arith)
+follow_none before (suc n) (a ∷ rest) code front all (inl below) =
+    let other : nat_eq a.code code ≡ false = grind (arith, nat_tests, front.0) in
+    cond-false _ _ _ other ∙ ap suc (follow_none (before + 1) n rest code front.1 (omega arith) (inl (omega arith)))
+follow_none before (suc n) (a ∷ rest) code front all (inr above) =
+    let other : nat_eq a.code code ≡ false = grind (arith, nat_tests, front.0) in
+    cond-false _ _ _ other ∙ ap suc (follow_none (before + 1) n rest code front.1 (omega arith) (inr (omega arith)))
+
+follow_more : (before n : ℕ) (list : List Abbrev) (d : Abbrev) → Follow before n list → n < length list → (get_or list n d).code ≡ before + n + 1 → Follow before (suc n) list
+follow_more before n [] d front there is = absurd (omega arith)
+follow_more before zero (a ∷ rest) d front there is = (omega (arith, is), tt)
+follow_more before (suc n) (a ∷ rest) d front there is = (front.0, follow_more (before + 1) n rest d front.1 (omega arith) (omega (arith, is)))
+
+pub dense_more : (n : ℕ) (list : List Abbrev) (x : Abbrev) → IsDense n list → n < length list → x ≡ get_or list n x → x.code ≡ n + 1 → IsDense (n + 1) list
+dense_more n list x front there is code =
+    let next : suc n ≡ n + 1 = omega arith in
+    let here : (get_or list n x).code ≡ 0 + n + 1 = ap (λ (a : Abbrev). a.code) (sym is) ∙ code ∙ omega arith in
+    subst (λ m. Follow 0 m list) next (follow_more 0 n list x front there here)
+
+-- a code is one of the first so many, or it is not
+front_both : (code dense : ℕ) (low high : Bool) → nat_lt 0 code ≡ low → nat_le code dense ≡ high → (low && high) ≡ true → (0 < code) × (code ≤ dense)
+front_both code dense true true low high is = (grind (arith, nat_tests, low), grind (arith, nat_tests, high))
+front_both code dense true false low high is = absurd (grind (arith, is))
+front_both code dense false high low below is = absurd (grind (arith, is))
+
+front_not : (code dense : ℕ) (low high : Bool) → nat_lt 0 code ≡ low → nat_le code dense ≡ high → (low && high) ≡ false → (code ≤ 0) ⊎ (0 + dense < code)
+front_not code dense true true low high is = absurd (grind (arith, is))
+front_not code dense true false low high is = inr (grind (arith, nat_tests, high))
+front_not code dense false high low below is = inl (grind (arith, nat_tests, low))
+
+pub found_front : (list : List Abbrev) (dense code : ℕ) → IsDense dense list → (nat_lt 0 code && nat_le code dense) ≡ true → slice_get list (code - 1) ≡ abbrev_of code list
+found_front list dense code front is =
+    let both = front_both code dense (nat_lt 0 code) (nat_le code dense) refl refl is in
+    sym (find_is code list ∙ ap (slice_get list) (follow_at 0 dense list (code - 1) code front (omega (arith, both.0, both.1)) (omega (arith, both.0))))
+
+pub found_nowhere : (list : List Abbrev) (dense code : ℕ) → IsDense dense list → dense ≡ length list → (nat_lt 0 code && nat_le code dense) ≡ false → None ≡ abbrev_of code list
+found_nowhere list dense code front all is =
+    let away = subst (λ n. (code ≤ 0) ⊎ (0 + n < code)) all (front_not code dense (nat_lt 0 code) (nat_le code dense) refl refl is) in
+    sym (find_is code list ∙ ap (slice_get list) (follow_none 0 dense list code front (omega arith) away) ∙ slice_get_past list (length list) (omega arith))
+
+-- by the map
+mapped : (list : List Abbrev) (dense : ℕ) (places : BTreeMap ℕ ℕ) (code : ℕ) → (dense ≡ length list) ⊎ HasPlaces places 0 list → (dense ≡ length list → ⊥) → unwrap_or (get nat_cmp places code) (length list) ≡ first_place code list
+mapped list dense places code (inl all) not = absurd (not all)
+mapped list dense places code (inr has) not =
+    let none : 0 + first_place code list ≡ first_place code list = omega arith in
+    has code ∙ none
+
+pub found_by_map : (list : List Abbrev) (dense : ℕ) (places : BTreeMap ℕ ℕ) (code place : ℕ) → (dense ≡ length list) ⊎ HasPlaces places 0 list → (dense ≡ length list → ⊥) → Some place ≡ get nat_cmp places code → slice_get list place ≡ abbrev_of code list
+found_by_map list dense places code place others not is =
+    sym (find_is code list ∙ ap (slice_get list) (sym (mapped list dense places code others not) ∙ ap (λ o. unwrap_or o (length list)) (sym is)))
+
+pub missed_by_map : (list : List Abbrev) (dense : ℕ) (places : BTreeMap ℕ ℕ) (code : ℕ) → (dense ≡ length list) ⊎ HasPlaces places 0 list → (dense ≡ length list → ⊥) → None ≡ get nat_cmp places code → None ≡ abbrev_of code list
+missed_by_map list dense places code others not is =
+    sym (find_is code list ∙ ap (slice_get list) (sym (mapped list dense places code others not) ∙ ap (λ o. unwrap_or o (length list)) (sym is)) ∙ slice_get_past list (length list) (omega arith))
+
+-- the map as it is made from the last abbreviation to the first
+pub places_none : (list : List Abbrev) (places : BTreeMap ℕ ℕ) → places.entries ≡ [] → HasPlaces places (length list) list
+unfolding first_place
+places_none list places empty code =
+    let out : unwrap_or (get nat_cmp places code) (length list) ≡ length list = ap (λ es. unwrap_or (lookup (is_at (nat_cmp code)) es) (length list)) empty in
+    let none : drop (length list) list ≡ [] = drop_of_length-le list (omega arith) in
+    let same : length list ≡ length list + first_place code [] = omega arith in
+    out ∙ same ∙ sym (ap (λ rest. length list + first_place code rest) none)
+
+rest_at : (list : List Abbrev) (i : ℕ) (x : Abbrev) → i < length list → x ≡ get_or list i x → drop i list ≡ x ∷ drop (suc i) list
+rest_at [] i x there is = absurd (omega arith)
+rest_at (a ∷ rest) zero x there is = ap (λ y. y ∷ rest) (sym is)
+rest_at (a ∷ rest) (suc i) x there is = rest_at rest i x (omega arith) is
+
+same_code : (a b : ℕ) (same : Bool) → is_at (nat_cmp a) b ≡ same → nat_eq a b ≡ same
+same_code a b same is = grind (arith, nat_tests, is)
+
+placed_by : (n i rest code : ℕ) (same : Bool) (found old : Option ℕ) → found ≡ cond same (Some i) old → unwrap_or old n ≡ suc i + rest → unwrap_or found n ≡ i + cond same 0 (suc rest)
+placed_by n i rest code true found old is later =
+    let first : i ≡ i + 0 = omega arith in
+    ap (λ o. unwrap_or o n) is ∙ first
+placed_by n i rest code false found old is later =
+    let next : suc i + rest ≡ i + suc rest = omega arith in
+    ap (λ o. unwrap_or o n) is ∙ later ∙ next
+
+pub places_more : (list : List Abbrev) (places more : BTreeMap ℕ ℕ) (i j : ℕ) (x : Abbrev) → HasPlaces places j list → j ≡ i + 1 → i < length list → x ≡ get_or list i x → Updates nat_cmp places more x.code (Some i) → HasPlaces more i list
+unfolding first_place
+places_more list places more i j x has next there is updated code =
+    let here : drop i list ≡ x ∷ drop (suc i) list = rest_at list i x there is in
+    let same : j ≡ suc i = omega (arith, next) in
+    let later : unwrap_or (get nat_cmp places code) (length list) ≡ suc i + first_place code (drop (suc i) list) = subst (λ k. unwrap_or (get nat_cmp places code) (length list) ≡ k + first_place code (drop k list)) same (has code) in
+    placed_by (length list) i (first_place code (drop (suc i) list)) code (nat_eq x.code code) (get nat_cmp more code) (get nat_cmp places code)
+    (updated.0 code ∙ ap (λ b. cond b (Some i) (get nat_cmp places code)) (sym (same_code x.code code (is_at (nat_cmp x.code) code) refl)))
+    later
+    ∙ sym (ap (λ rest. i + first_place code rest) here)

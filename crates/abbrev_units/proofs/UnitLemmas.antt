@@ -1,0 +1,102 @@
+-- How far a unit goes, and the list of units as a loop makes it.
+use Rattle.std.proofs.Common.{◌≡◌, ◌<◌, ◌≤◌, ◌+◌, ℕ, Bool, true, false, nat_eq, nat_lt, cond, List, [], ◌∷◌, ◌++◌, length, take, Option, None, Some, Result, Ok, Err, refl, sym, ap, ◌∙◌, arith}
+use Rattle.sym_edges.specs.Results.{◌>>=◌}
+use Rattle.sym_edges.specs.declared.part.Sect.{Sect}
+use Rattle.sym_edges.specs.declared.part.Sect.TheVariants.{Info}
+use Rattle.sym_edges.specs.declared.located.Located.{Located}
+use Rattle.leb_cursor.specs.declared.fault.CursorFault.{CursorFault}
+use Rattle.leb_cursor.specs.Ahead.{Ahead}
+use Rattle.leb_cursor.specs.Passes.{Passes}
+use Rattle.leb_cursor.specs.Readings.{fixed_at, part_at}
+use Rattle.leb_cursor.specs.Lists.{list_at, GoesOn}
+use Rattle.leb_cursor.proofs.PassLemmas.{fixed_passes, part_passes, passes_then}
+use Rattle.std.proofs.Math.Seq.{take-length}
+use Rattle.leb_cursor.proofs.ListLemmas.{weaker, either_passes, behind, none_behind, list_more, list_ends, list_refused, shorter_by}
+use Rattle.abbrev_units.specs.declared.fault.DwarfKind.{DwarfKind}
+use Rattle.abbrev_units.specs.declared.fault.DwarfKind.TheVariants as is
+use Rattle.abbrev_units.specs.declared.fault.HeaderFault.{HeaderFault}
+use Rattle.abbrev_units.specs.declared.fault.HeaderFault.TheVariants.{Start}
+use Rattle.abbrev_units.specs.declared.unit.Unit.{Unit}
+use Rattle.abbrev_units.specs.Contents.{Contents}
+use Rattle.abbrev_units.specs.Faults.{as_header, or_start}
+use Rattle.abbrev_units.specs.InitialLength.{length_by, length_at, contents_at}
+use Rattle.abbrev_units.specs.Units.{unit_in, header_at, unit_at, next_unit, units_in}
+
+-- readings that differ in their fault alone go as far
+start_passes : {A : Type 0} (kind : DwarfKind) (reading : Result (A × Ahead) CursorFault) (least : ℕ) (c : Ahead) → Passes least c reading → Passes least c (or_start kind reading)
+start_passes kind (Ok x) least c goes = goes
+start_passes kind (Err fault) least c goes = tt
+
+header_passes : {A : Type 0} (section : Sect) (start : ℕ) (reading : Result (A × Ahead) HeaderFault) (least : ℕ) (c : Ahead) → Passes least c reading → Passes least c (as_header section start reading)
+header_passes section start (Ok x) least c goes = goes
+header_passes section start (Err fault) least c goes = tt
+
+length_passes : (c : Ahead) → Passes 4 c (length_at c)
+unfolding length_at length_by
+length_passes c =
+    passes_then (or_start is.Ends (fixed_at 4 c)) (λ first. length_by first.0 first.1) 4 0 c (start_passes is.Ends (fixed_at 4 c) 4 c (fixed_passes 4 c))
+    (λ first. either_passes (nat_lt first.0 0xfffffff0) _ _ 0 first.1 (omega arith, refl)
+    (either_passes (nat_eq first.0 0xffffffff) _ (Err (Start is.Reserved)) 0 first.1
+    (weaker (or_start is.Ends (fixed_at 8 first.1) >>= λ count. Ok (record { count = count.0; wide = true }, count.1)) 8 0 first.1 (omega arith)
+    (passes_then (or_start is.Ends (fixed_at 8 first.1)) (λ count. Ok (record { count = count.0; wide = true }, count.1)) 8 0 first.1 (start_passes is.Ends (fixed_at 8 first.1) 8 first.1 (fixed_passes 8 first.1)) (λ count. (omega arith, refl))))
+    tt))
+
+pub contents_passes : (c : Ahead) → Passes 4 c (contents_at c)
+unfolding contents_at
+contents_passes c =
+    passes_then (length_at c) (λ length. or_start is.Ends (part_at length.0.count length.1) >>= λ part. Ok (record { wide = length.0.wide; ahead = part.0 }, part.1)) 4 0 c (length_passes c)
+    (λ length. weaker (or_start is.Ends (part_at length.0.count length.1) >>= λ part. Ok (record { wide = length.0.wide; ahead = part.0 }, part.1)) (length.0.count + 0) 0 length.1 (omega arith)
+    (passes_then (or_start is.Ends (part_at length.0.count length.1)) (λ part. Ok (record { wide = length.0.wide; ahead = part.0 }, part.1)) length.0.count 0 length.1
+    (start_passes is.Ends (part_at length.0.count length.1) length.0.count length.1 (part_passes length.0.count length.1)) (λ part. (omega arith, refl))))
+
+-- what is made of a reading that goes nowhere else
+made_passes : {A E : Type 0} (made : Result A E) (d : Ahead) → Passes 0 d (made >>= λ x. Ok (x, d))
+made_passes (Ok x) d = (omega arith, refl)
+made_passes (Err fault) d = tt
+
+unit_passes : (c : Ahead) → Passes 4 c (unit_at c)
+unfolding unit_at header_at
+unit_passes c =
+    header_passes Info c.at (contents_at c >>= λ contents. unit_in c.at contents.0 >>= λ unit. Ok (unit, contents.1)) 4 c
+    (passes_then (contents_at c) (λ contents. unit_in c.at contents.0 >>= λ unit. Ok (unit, contents.1)) 4 0 c (contents_passes c) (λ contents. made_passes (unit_in c.at contents.0) contents.1))
+
+-- a reading is a member, where the list has not ended
+member_goes : {A E : Type 0} (reading : Result (A × Ahead) E) (c : Ahead) → Passes 4 c reading → GoesOn c (reading >>= λ x. Ok (Some x.0, x.1))
+member_goes (Ok x) c passes = (omega (arith, passes.0), passes.1)
+member_goes (Err fault) c passes = tt
+
+next_by : (ended : Bool) (c : Ahead) → GoesOn c (cond ended (Ok (None, c)) (unit_at c >>= λ unit. Ok (Some unit.0, unit.1)))
+next_by true c = (omega arith, refl)
+next_by false c = member_goes (unit_at c) c (unit_passes c)
+
+pub next_goes : (c : Ahead) → GoesOn c (next_unit c)
+unfolding next_unit
+next_goes c = next_by (nat_eq (length c.bytes) 0) c
+
+-- the units that were read, and those still to come
+abbrev pub units_behind : List Unit → Ahead → Result (List Unit × Ahead) (Located DwarfKind)
+units_behind done c = behind done (list_at next_unit c)
+
+-- without the place behind them
+abbrev pub units_of : Result (List Unit × Ahead) (Located DwarfKind) → Result (List Unit) (Located DwarfKind)
+units_of reading = reading >>= λ units. Ok units.0
+
+-- the loop's steps
+pub units_begin : (info : List ℕ) (done : List Unit) (c : Ahead) → done ≡ [] → c ≡ record { bytes = take (length info) info; at = 0 } → units_of (units_behind done c) ≡ units_in info
+unfolding units_in
+units_begin info done c none start =
+    let same : c ≡ record { bytes = info; at = 0 } = start ∙ ap (λ (all : List ℕ). record { bytes = all; at = 0 }) (take-length info) in
+    ap units_of (none_behind done (list_at next_unit c) none ∙ ap (list_at next_unit) same)
+
+pub units_more : (done more : List Unit) (unit : Unit) (c d : Ahead) (want : Result (List Unit) (Located DwarfKind)) → units_of (units_behind done c) ≡ want → Ok (Some unit, d) ≡ next_unit c → more ≡ done ++ unit ∷ [] → units_of (units_behind more d) ≡ want
+units_more done more unit c d want so_far is added =
+    ap units_of (sym (list_more next_unit next_goes done more unit c d is added)) ∙ so_far
+
+pub units_end : (done : List Unit) (c d : Ahead) (want : Result (List Unit) (Located DwarfKind)) → units_of (units_behind done c) ≡ want → Ok (None, d) ≡ next_unit c → want ≡ Ok done
+units_end done c d want so_far is = sym so_far ∙ ap units_of (list_ends next_unit next_goes done c d is)
+
+pub units_refused : (done : List Unit) (c : Ahead) (fault : Located DwarfKind) (want : Result (List Unit) (Located DwarfKind)) → units_of (units_behind done c) ≡ want → Err fault ≡ next_unit c → want ≡ Err fault
+units_refused done c fault want so_far is = sym so_far ∙ ap units_of (list_refused next_unit next_goes done c fault is)
+
+pub units_shorter : (unit : Unit) (c d : Ahead) → Ok (Some unit, d) ≡ next_unit c → length d.bytes < length c.bytes
+units_shorter unit c d is = shorter_by (next_unit c) unit c d (next_goes c) is

@@ -1,0 +1,88 @@
+//! An attribute of an abbreviation.
+ghost use Rattle.std.specs.Prelude.{◌≡◌, OnErr};
+ghost use Rattle.leb_cursor.specs.Ahead.{gave};
+ghost use Rattle.abbrev_units.specs.FormValue.{form_at};
+
+use crate::fault::FormFault;
+use crate::form::{read_indirect, read_known};
+use crate::value::Value;
+use code_table::{DW_FORM_indirect, FormRow, find_form};
+use leb_cursor::Cursor;
+use std::marker::Model;
+use sym_edges::ListOf;
+
+/// An attribute and its form (DWARF 5, 7.5.3), in a unit of the 64-bit format where `wide`. The row of
+/// the form is looked up once.
+#[derive(Drop)]
+pub struct Spec {
+    attribute: u64,
+    form: u64,
+    implicit: i64,
+    wide: bool,
+    row: Option<FormRow>,
+}
+
+impl Model for Spec {
+    ghost use Rattle.std.specs.Prelude.{◌≡◌};
+    ghost use Rattle.code_table.specs.Forms.{forms, form_row};
+    ghost use Rattle.abbrev_units.specs.SpecFields.{SpecFields};
+
+    ghost Value = { SpecFields };
+
+    ghost view = { λ s. record { attribute = s.attribute; form = s.form; implicit = s.implicit; wide = s.wide } };
+
+    ghost invariant = { λ s. s.row ≡ form_row s.form (forms s.wide) };
+}
+
+/// The attributes of an abbreviation.
+pub type SpecList = ListOf<Spec>;
+
+impl Spec {
+    pub(crate) fn of(attribute: u64, form: u64, implicit: i64, wide: bool) -> Spec
+        ensures { result ≡ record { attribute = attribute; form = form; implicit = implicit; wide = wide } }
+    {
+        Spec {
+            attribute,
+            form,
+            implicit,
+            wide,
+            row: find_form(form, wide),
+        }
+    }
+
+    /// The attribute's name (DWARF 5, table 7.5).
+    #[inline]
+    pub fn attribute(&self) -> u64
+        ensures { result ≡ self.now.attribute }
+    {
+        self.attribute
+    }
+
+    /// The form of its values (DWARF 5, table 7.6).
+    #[inline]
+    pub fn form(&self) -> u64
+        ensures { result ≡ self.now.form }
+    {
+        self.form
+    }
+
+    /// The constant of the form `DW_FORM_implicit_const`, else 0.
+    #[inline]
+    pub fn implicit(&self) -> i64
+        ensures { result ≡ self.now.implicit }
+    {
+        self.implicit
+    }
+
+    /// Reads a value of the attribute. A refused call may leave the cursor inside the value.
+    #[inline]
+    #[tactic(auto, unfolding(crate::specs::FormValue::form_at, crate::specs::FormValue::direct_at))]
+    pub fn read(&self, cursor: &mut Cursor<'_>) -> Result<Value, FormFault>
+        ensures { gave result cursor.new ≡ form_at self.now.form self.now.implicit self.now.wide cursor.old }
+    {
+        if self.form == DW_FORM_indirect {
+            return read_indirect(cursor, self.wide);
+        }
+        read_known(cursor, self.row, self.implicit)
+    }
+}
