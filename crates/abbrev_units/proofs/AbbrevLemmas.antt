@@ -1,15 +1,14 @@
 -- How far abbreviations go, and their lists as loops make them.
-use Rattle.std.proofs.Common.{◌≡◌, ◌<◌, ◌≤◌, ◌+◌, ℕ, Bool, true, false, nat_eq, cond, pos, List, [], ◌∷◌, ◌++◌, length, Option, None, Some, Result, Ok, Err, refl, sym, ap, ◌∙◌, arith}
-use Rattle.sym_edges.specs.Results.{◌>>=◌}
+use Rattle.std.proofs.Common.{◌≡◌, ◌<◌, ℕ, Bool, nat_eq, pos, List, [], ◌∷◌, ◌++◌, length, Option, None, Some, Result, Ok, Err, refl, sym, ◌∙◌, arith}
 use Rattle.sym_edges.specs.declared.fault.Stop.{Stop}
 use Rattle.sym_edges.specs.declared.fault.Stop.TheVariants.{Fault, NoMemory}
 use Rattle.leb_cursor.specs.declared.fault.CursorFault.{CursorFault}
 use Rattle.leb_cursor.specs.Ahead.{Ahead}
 use Rattle.leb_cursor.specs.Passes.{Passes}
 use Rattle.leb_cursor.specs.Readings.{fixed_at, uleb_at, sleb_at}
-use Rattle.leb_cursor.specs.Lists.{list_at, GoesOn}
+use Rattle.leb_cursor.specs.Lists.{list_at, list_cases, GoesOn}
 use Rattle.leb_cursor.proofs.PassLemmas.{fixed_passes, uleb_passes, sleb_passes, passes_then}
-use Rattle.leb_cursor.proofs.ListLemmas.{weaker, either_passes, behind, none_behind, list_more, list_ends, list_refused, list_passes, goes_of, shorter_by}
+use Rattle.leb_cursor.proofs.ListLemmas.{weaker, either_passes, behind, none_behind, list_more, list_ends, list_refused, list_follows, list_passes, goes_of, shorter_by}
 use Rattle.abbrev_units.specs.Faults.{GivesAt}
 use Rattle.abbrev_units.specs.SpecFields.{SpecFields}
 use Rattle.abbrev_units.specs.declared.abbrev.Abbrev.{Abbrev}
@@ -85,3 +84,9 @@ abbrevs_stopped wide done c d e NoMemory want so_far is = tt
 
 pub abbrevs_shorter : (wide : Bool) (one : Abbrev) (c d : Ahead) → abbrev_at wide c ≡ Ok (Some one, d) → length d.bytes < length c.bytes
 abbrevs_shorter wide one c d is = shorter_by (abbrev_at wide c) one c d (abbrev_goes wide c) (sym is)
+
+pub specs_follow : (wide : Bool) (c : Ahead) → list_at (spec_at wide) c ≡ list_cases (spec_at wide) c
+specs_follow wide c = list_follows (spec_at wide) (spec_goes wide) c
+
+pub abbrevs_follow : (wide : Bool) (c : Ahead) → list_at (abbrev_at wide) c ≡ list_cases (abbrev_at wide) c
+abbrevs_follow wide c = list_follows (abbrev_at wide) (abbrev_goes wide) c

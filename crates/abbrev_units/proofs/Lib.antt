@@ -2,3 +2,10 @@ mod TextLemmas
 pub mod UnitLemmas
 pub mod AbbrevLemmas
 mod PlaceLemmas
+pub mod ValueLemmas
+pub mod FormLemmas
+pub mod Computing
+mod WorkedForms
+mod WorkedUnits
+mod WorkedAbbrevs
+mod WorkedTexts

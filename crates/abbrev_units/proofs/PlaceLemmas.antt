@@ -1,14 +1,15 @@
 -- The abbreviation of a code, by its number and by the map of places.
 use Rattle.std.proofs.Common.{◌≡◌, ◌⊎◌, inl, inr, ◌<◌, ◌≤◌, ◌+◌, ◌-◌, ℕ, zero, suc, Bool, true, false, ◌&&◌, nat_eq, nat_lt, nat_le, cond, List, [], ◌∷◌, length, drop, Option, None, Some, refl, sym, ap, subst, ◌∙◌, arith}
 use Rattle.std.specs.Option.{unwrap_or}
-use Rattle.std.specs.Prelude.{slice_get, get_or, find}
+use Rattle.std.specs.Prelude.{slice_get, get_or}
 use Rattle.std.specs.Ordering.{nat_cmp}
-use Rattle.std.specs.BTreeMap.{BTreeMap, get, is_at, Updates, IsEmpty}
+use Rattle.std.specs.BTreeMap.{BTreeMap, get, is_at, Updates}
 use Rattle.std.specs.Map.{lookup}
 use Rattle.std.proofs.lemmas.Bool.{cond-true, cond-false}
 use Rattle.std.proofs.lemmas.Bool.Decides.{nat_tests}
 use Rattle.std.proofs.lemmas.Option.{slice_get_past}
 use Rattle.std.proofs.Math.ListN.{drop_of_length-le}
+use Rattle.std.proofs.lemmas.List.{drop_more}
 use Rattle.abbrev_units.specs.declared.abbrev.Abbrev.{Abbrev}
 use Rattle.abbrev_units.specs.Abbreviations.{abbrev_of}
 use Rattle.abbrev_units.specs.Places.{first_place, Follow, IsDense, HasPlaces}
@@ -102,29 +103,23 @@ places_none list places empty code =
     let same : length list ≡ length list + first_place code [] = omega arith in
     out ∙ same ∙ sym (ap (λ rest. length list + first_place code rest) none)
 
-rest_at : (list : List Abbrev) (i : ℕ) (x : Abbrev) → i < length list → x ≡ get_or list i x → drop i list ≡ x ∷ drop (suc i) list
-rest_at [] i x there is = absurd (omega arith)
-rest_at (a ∷ rest) zero x there is = ap (λ y. y ∷ rest) (sym is)
-rest_at (a ∷ rest) (suc i) x there is = rest_at rest i x (omega arith) is
-
 same_code : (a b : ℕ) (same : Bool) → is_at (nat_cmp a) b ≡ same → nat_eq a b ≡ same
 same_code a b same is = grind (arith, nat_tests, is)
 
-placed_by : (n i rest code : ℕ) (same : Bool) (found old : Option ℕ) → found ≡ cond same (Some i) old → unwrap_or old n ≡ suc i + rest → unwrap_or found n ≡ i + cond same 0 (suc rest)
+placed_by : (n i rest code : ℕ) (same : Bool) (found old : Option ℕ) → found ≡ cond same (Some i) old → unwrap_or old n ≡ (i + 1) + rest → unwrap_or found n ≡ i + cond same 0 (suc rest)
 placed_by n i rest code true found old is later =
     let first : i ≡ i + 0 = omega arith in
     ap (λ o. unwrap_or o n) is ∙ first
 placed_by n i rest code false found old is later =
-    let next : suc i + rest ≡ i + suc rest = omega arith in
+    let next : (i + 1) + rest ≡ i + suc rest = omega arith in
     ap (λ o. unwrap_or o n) is ∙ later ∙ next
 
 pub places_more : (list : List Abbrev) (places more : BTreeMap ℕ ℕ) (i j : ℕ) (x : Abbrev) → HasPlaces places j list → j ≡ i + 1 → i < length list → x ≡ get_or list i x → Updates nat_cmp places more x.code (Some i) → HasPlaces more i list
 unfolding first_place
 places_more list places more i j x has next there is updated code =
-    let here : drop i list ≡ x ∷ drop (suc i) list = rest_at list i x there is in
-    let same : j ≡ suc i = omega (arith, next) in
-    let later : unwrap_or (get nat_cmp places code) (length list) ≡ suc i + first_place code (drop (suc i) list) = subst (λ k. unwrap_or (get nat_cmp places code) (length list) ≡ k + first_place code (drop k list)) same (has code) in
-    placed_by (length list) i (first_place code (drop (suc i) list)) code (nat_eq x.code code) (get nat_cmp more code) (get nat_cmp places code)
+    let here : drop i list ≡ x ∷ drop (i + 1) list = drop_more list i x there ∙ ap (λ y. y ∷ drop (i + 1) list) (sym is) in
+    let later : unwrap_or (get nat_cmp places code) (length list) ≡ (i + 1) + first_place code (drop (i + 1) list) = subst (λ k. unwrap_or (get nat_cmp places code) (length list) ≡ k + first_place code (drop k list)) next (has code) in
+    placed_by (length list) i (first_place code (drop (i + 1) list)) code (nat_eq x.code code) (get nat_cmp more code) (get nat_cmp places code)
     (updated.0 code ∙ ap (λ b. cond b (Some i) (get nat_cmp places code)) (sym (same_code x.code code (is_at (nat_cmp x.code) code) refl)))
     later
     ∙ sym (ap (λ rest. i + first_place code rest) here)

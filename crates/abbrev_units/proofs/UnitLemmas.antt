@@ -1,5 +1,5 @@
 -- How far a unit goes, and the list of units as a loop makes it.
-use Rattle.std.proofs.Common.{◌≡◌, ◌<◌, ◌≤◌, ◌+◌, ℕ, Bool, true, false, nat_eq, nat_lt, cond, List, [], ◌∷◌, ◌++◌, length, take, Option, None, Some, Result, Ok, Err, refl, sym, ap, ◌∙◌, arith}
+use Rattle.std.proofs.Common.{◌≡◌, ◌<◌, ◌+◌, ℕ, Bool, true, false, nat_eq, nat_lt, cond, List, [], ◌∷◌, ◌++◌, length, take, None, Some, Result, Ok, Err, refl, sym, ap, ◌∙◌, arith}
 use Rattle.sym_edges.specs.Results.{◌>>=◌}
 use Rattle.sym_edges.specs.declared.part.Sect.{Sect}
 use Rattle.sym_edges.specs.declared.part.Sect.TheVariants.{Info}
@@ -8,16 +8,15 @@ use Rattle.leb_cursor.specs.declared.fault.CursorFault.{CursorFault}
 use Rattle.leb_cursor.specs.Ahead.{Ahead}
 use Rattle.leb_cursor.specs.Passes.{Passes}
 use Rattle.leb_cursor.specs.Readings.{fixed_at, part_at}
-use Rattle.leb_cursor.specs.Lists.{list_at, GoesOn}
+use Rattle.leb_cursor.specs.Lists.{list_at, list_cases, GoesOn}
 use Rattle.leb_cursor.proofs.PassLemmas.{fixed_passes, part_passes, passes_then}
 use Rattle.std.proofs.Math.Seq.{take-length}
-use Rattle.leb_cursor.proofs.ListLemmas.{weaker, either_passes, behind, none_behind, list_more, list_ends, list_refused, shorter_by}
+use Rattle.leb_cursor.proofs.ListLemmas.{weaker, either_passes, behind, none_behind, list_more, list_ends, list_refused, list_follows, shorter_by}
 use Rattle.abbrev_units.specs.declared.fault.DwarfKind.{DwarfKind}
 use Rattle.abbrev_units.specs.declared.fault.DwarfKind.TheVariants as is
 use Rattle.abbrev_units.specs.declared.fault.HeaderFault.{HeaderFault}
 use Rattle.abbrev_units.specs.declared.fault.HeaderFault.TheVariants.{Start}
 use Rattle.abbrev_units.specs.declared.unit.Unit.{Unit}
-use Rattle.abbrev_units.specs.Contents.{Contents}
 use Rattle.abbrev_units.specs.Faults.{as_header, or_start}
 use Rattle.abbrev_units.specs.InitialLength.{length_by, length_at, contents_at}
 use Rattle.abbrev_units.specs.Units.{unit_in, header_at, unit_at, next_unit, units_in}
@@ -100,3 +99,6 @@ units_refused done c fault want so_far is = sym so_far ∙ ap units_of (list_ref
 
 pub units_shorter : (unit : Unit) (c d : Ahead) → Ok (Some unit, d) ≡ next_unit c → length d.bytes < length c.bytes
 units_shorter unit c d is = shorter_by (next_unit c) unit c d (next_goes c) is
+
+pub units_follow : (c : Ahead) → list_at next_unit c ≡ list_cases next_unit c
+units_follow c = list_follows next_unit next_goes c

@@ -1,5 +1,5 @@
 -- Abbreviations (DWARF 5, 7.5.3): lists of attributes and their forms, by code.
-use Rattle.std.specs.Prelude.{ℕ, ◌==◌, ◌&&◌, not, nat_lt, Bool, if◌then◌else◌, ℤ, pos, List, length, drop, find, Option, None, Some, Result, Ok, Err}
+use Rattle.std.specs.Prelude.{ℕ, ◌==◌, ◌&&◌, not, nat_lt, Bool, if◌then◌else◌, ℤ, pos, List, length, find, Option, None, Some, Result, Ok, Err}
 use Rattle.sym_edges.specs.Results.{◌>>=◌}
 use Rattle.sym_edges.specs.declared.located.Located.{Located}
 use Rattle.sym_edges.specs.declared.part.Sect.TheVariants as section

@@ -1,5 +1,5 @@
 -- The value of an attribute by its form (DWARF 5, 7.5.3, 7.5.5 and 7.5.6).
-use Rattle.std.specs.Prelude.{ℕ, ◌==◌, ◌||◌, not, Bool, true, false, if◌then◌else◌, ℤ, pos, Option, None, Some, Result, Ok, Err}
+use Rattle.std.specs.Prelude.{ℕ, ◌==◌, ◌||◌, not, Bool, true, if◌then◌else◌, ℤ, pos, Option, None, Some, Result, Ok, Err}
 use Rattle.sym_edges.specs.Results.{◌>>=◌}
 use Rattle.leb_cursor.specs.Ahead.{Ahead}
 use Rattle.leb_cursor.specs.Readings.{uleb_at}

@@ -8,3 +8,4 @@ pub mod Units
 pub mod SpecFields
 pub mod Abbreviations
 pub mod Places
+pub mod Values

@@ -5,9 +5,12 @@ mod abbrev;
 mod abbrevs;
 mod fault;
 mod form;
+pub mod laws;
 mod length;
 mod sections;
 mod spec;
+#[cfg(test)]
+mod tests;
 mod text;
 mod unit;
 mod value;
@@ -18,7 +21,7 @@ pub use crate::fault::{DwarfFault, DwarfKind, FormFault, HeaderFault, header_fau
 pub use crate::form::read_form;
 pub use crate::length::{Contents, read_contents};
 pub use crate::sections::Sections;
-pub use crate::spec::{Spec, SpecList};
+pub use crate::spec::{Spec, SpecList, skip_values};
 pub use crate::text::{place_by_index, read_place, read_text, text_in};
 pub use crate::unit::{Unit, UnitList, UnitPart, units};
 pub use crate::value::Value;

@@ -2,7 +2,7 @@
 use std::marker::Model;
 
 /// The bytes of `.debug_info` and of the sections to which it leads. A missing section has none.
-#[derive(Debug)]
+#[derive(Debug, Drop)]
 pub struct Sections<'a> {
     pub info: &'a [u8],
     pub abbrevs: &'a [u8],

@@ -1,7 +1,9 @@
 //! An attribute of an abbreviation.
 ghost use Rattle.std.specs.Prelude.{◌≡◌, OnErr};
 ghost use Rattle.leb_cursor.specs.Ahead.{gave};
+ghost use Rattle.abbrev_units.specs.Faults.{left_by};
 ghost use Rattle.abbrev_units.specs.FormValue.{form_at};
+ghost use Rattle.abbrev_units.specs.Values.{value_at, only_ahead, behind_values};
 
 use crate::fault::FormFault;
 use crate::form::{read_indirect, read_known};
@@ -85,4 +87,27 @@ impl Spec {
         }
         read_known(cursor, self.row, self.implicit)
     }
+
+    /// Passes a value of the attribute. A refused call may leave the cursor inside the value.
+    #[inline]
+    pub fn skip(&self, cursor: &mut Cursor<'_>) -> Result<(), FormFault>
+        ensures { left_by result cursor.new ≡ only_ahead (value_at self.now cursor.old) }
+    {
+        let _value = self.read(cursor)?;
+        Ok(())
+    }
+}
+
+/// Passes the values of attributes, one behind the other. A refused call may leave the cursor among them.
+#[tactic(auto, using(crate::proofs::ValueLemmas::skips_more, crate::proofs::ValueLemmas::skips_end, crate::proofs::ValueLemmas::skips_refused))]
+pub fn skip_values(cursor: &mut Cursor<'_>, specs: &[Spec]) -> Result<(), FormFault>
+    ensures { left_by result cursor.new ≡ behind_values specs.now cursor.old }
+{
+    'specs: for spec in specs {
+        match spec.skip(cursor) {
+            Ok(()) => {}
+            Err(fault) => return Err(fault),
+        }
+    }
+    Ok(())
 }

@@ -38,7 +38,7 @@ fixed_any width c = passes_any (fixed_at width c) width c (fixed_passes width c)
 uleb_any : (c : Ahead) → Passes 0 c (uleb_at c)
 uleb_any c = passes_any (uleb_at c) 1 c (uleb_passes c)
 
-kind_passes : (kind : Kind) (c : Ahead) → Passes 0 c (kind_at kind c)
+pub kind_passes : (kind : Kind) (c : Ahead) → Passes 0 c (kind_at kind c)
 unfolding kind_at
 kind_passes Nothing c = (omega arith, refl)
 kind_passes U8 c = number_passes (fixed_at 1 c) c (fixed_any 1 c)

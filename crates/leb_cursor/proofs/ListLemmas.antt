@@ -3,7 +3,7 @@ use Rattle.std.proofs.Common.{◌≡◌, ◌<◌, ◌≤◌, ◌+◌, ℕ, zero,
 use Rattle.sym_edges.specs.Results.{◌>>=◌}
 use Rattle.leb_cursor.specs.Ahead.{Ahead}
 use Rattle.leb_cursor.specs.Passes.{Passes}
-use Rattle.leb_cursor.specs.Lists.{list_by, list_in, list_at, GoesOn}
+use Rattle.leb_cursor.specs.Lists.{list_by, list_in, list_at, list_cases, GoesOn}
 
 -- a reading that passes so many bytes passes fewer
 pub weaker : {A E : Type 0} (reading : Result (A × Ahead) E) (more least : ℕ) (c : Ahead) → least ≤ more → Passes more c reading → Passes least c reading
@@ -30,7 +30,7 @@ enough read goes (suc m) (suc n) c first second =
     same_by (read c) c (list_in read m) (list_in read n) (goes c) (λ d shorter. enough read goes m n d (omega arith) (omega arith))
 
 -- a list by its first reading
-pub list_follows : {A E : Type 0} (read : Ahead → Result (Option A × Ahead) E) → ((c : Ahead) → GoesOn c (read c)) → (c : Ahead) → list_at read c ≡ (read c >>= λ first. list_by first.0 first.1 (list_at read first.1))
+pub list_follows : {A E : Type 0} (read : Ahead → Result (Option A × Ahead) E) → ((c : Ahead) → GoesOn c (read c)) → (c : Ahead) → list_at read c ≡ list_cases read c
 unfolding list_at list_in
 list_follows read goes c =
     same_by (read c) c (list_in read (length c.bytes)) (list_at read) (goes c) (λ d shorter. enough read goes (length c.bytes) (suc (length d.bytes)) d (omega arith) (omega arith))

@@ -18,6 +18,10 @@ list_in read (suc n) c = read c >>= λ first. list_by first.0 first.1 (list_in r
 unfoldable pub list_at : {A E : Type 0} → (Ahead → Result (Option A × Ahead) E) → Ahead → Result (List A × Ahead) E
 list_at read c = list_in read (suc (length c.bytes)) c
 
+-- the same list by its first reading
+abbrev pub list_cases : {A E : Type 0} → (Ahead → Result (Option A × Ahead) E) → Ahead → Result (List A × Ahead) E
+list_cases read c = read c >>= λ first. list_by first.0 first.1 (list_at read first.1)
+
 -- a reading goes on: over one byte at least where it gives a member, and never behind the end
 abbrev pub GoesOn : {A E : Type 0} → Ahead → Result (Option A × Ahead) E → Type 0
 GoesOn c (Ok (None, later)) =

@@ -1,5 +1,4 @@
 use Rattle.std.proofs.Common.{Ok, Option, sym, ap, ◌∙◌}
-use Rattle.leb_cursor.specs.Ahead.{Ahead}
 use Rattle.leb_cursor.specs.Lists.{list_at}
 use Rattle.abbrev_units.specs.SpecFields.{SpecFields}
 use Rattle.abbrev_units.specs.Abbreviations.{spec_at}

@@ -1,0 +1,28 @@
+//! Laws of the definitions, for proofs above. Each function does nothing: its contract is the law.
+ghost use Rattle.std.specs.Prelude.{◌≡◌, ℕ, ℤ, Bool, List};
+ghost use Rattle.leb_cursor.specs.Ahead.{Ahead};
+ghost use Rattle.leb_cursor.specs.Passes.{Passes};
+ghost use Rattle.leb_cursor.specs.Lists.{list_at, list_cases};
+ghost use Rattle.abbrev_units.specs.SpecFields.{SpecFields};
+ghost use Rattle.abbrev_units.specs.InitialLength.{contents_at};
+ghost use Rattle.abbrev_units.specs.FormValue.{form_at};
+ghost use Rattle.abbrev_units.specs.Values.{values_at};
+ghost use Rattle.abbrev_units.specs.Units.{next_unit};
+ghost use Rattle.abbrev_units.specs.Abbreviations.{spec_at, abbrev_at};
+
+/// The units ahead are what stands first and the units behind it, and so are attributes and
+/// abbreviations: no count of readings is part of what they are.
+#[tactic(auto, using(crate::proofs::UnitLemmas::units_follow, crate::proofs::AbbrevLemmas::specs_follow, crate::proofs::AbbrevLemmas::abbrevs_follow))]
+pub fn lists_follow()
+    ensures units { (c : Ahead) → list_at next_unit c ≡ list_cases next_unit c }
+    ensures attributes { (wide : Bool) (c : Ahead) → list_at (spec_at wide) c ≡ list_cases (spec_at wide) c }
+    ensures abbreviations { (wide : Bool) (c : Ahead) → list_at (abbrev_at wide) c ≡ list_cases (abbrev_at wide) c }
+{}
+
+/// Readings never go behind the end of the bytes.
+#[tactic(auto, using(crate::proofs::UnitLemmas::contents_passes, crate::proofs::FormLemmas::form_passes, crate::proofs::FormLemmas::values_pass))]
+pub fn values_pass()
+    ensures contents { (c : Ahead) → Passes 4 c (contents_at c) }
+    ensures value { (form : ℕ) (implicit : ℤ) (wide : Bool) (c : Ahead) → Passes 0 c (form_at form implicit wide c) }
+    ensures values { (specs : List SpecFields) (c : Ahead) → Passes 0 c (values_at specs c) }
+{}
