@@ -6,8 +6,9 @@ use Rattle.sym_edges.specs.Results.{◌>>=◌}
 use Rattle.leb_cursor.specs.Ahead.{Ahead}
 use Rattle.abbrev_units.specs.declared.fault.FormFault.{FormFault}
 use Rattle.abbrev_units.specs.declared.value.Value.{Value}
+use Rattle.abbrev_units.specs.declared.value.Given.{Given}
 use Rattle.abbrev_units.specs.SpecFields.{SpecFields}
-use Rattle.abbrev_units.specs.Values.{Given, value_at, values_at, only_ahead, behind_values}
+use Rattle.abbrev_units.specs.Values.{value_at, values_at, only_ahead, behind_values}
 
 -- the first value, and then the others
 made_ahead : (spec : SpecFields) (value : Value) (later : Result (List Given × Ahead) FormFault) → only_ahead (later >>= λ l. Ok (record { attribute = spec.attribute; value = value } ∷ l.0, l.1)) ≡ only_ahead later

@@ -4,13 +4,9 @@ use Rattle.sym_edges.specs.Results.{◌>>=◌}
 use Rattle.leb_cursor.specs.Ahead.{Ahead}
 use Rattle.abbrev_units.specs.declared.fault.FormFault.{FormFault}
 use Rattle.abbrev_units.specs.declared.value.Value.{Value}
+use Rattle.abbrev_units.specs.declared.value.Given.{Given}
 use Rattle.abbrev_units.specs.SpecFields.{SpecFields}
 use Rattle.abbrev_units.specs.FormValue.{form_at}
-
--- an attribute of an entry with its value
-pub record Given : Type 0 where
-  pub attribute : ℕ
-  pub value : Value
 
 -- the value of an attribute
 abbrev pub value_at : SpecFields → Ahead → Result (Value × Ahead) FormFault

@@ -24,4 +24,4 @@ pub use crate::sections::Sections;
 pub use crate::spec::{Spec, SpecList, skip_values};
 pub use crate::text::{place_by_index, read_place, read_text, text_in};
 pub use crate::unit::{Unit, UnitList, UnitPart, units};
-pub use crate::value::Value;
+pub use crate::value::{Given, Value};

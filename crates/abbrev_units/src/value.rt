@@ -51,6 +51,13 @@ pub enum Value {
     Other,
 }
 
+/// An attribute of an entry (DWARF 5, table 7.5) with its value.
+#[derive(Clone, Copy)]
+pub struct Given {
+    pub attribute: u64,
+    pub value: Value,
+}
+
 /// The value of an operand by its class; `implicit` is the constant of the abbreviation.
 #[inline]
 #[tactic(auto, unfolding(crate::specs::FormValue::value_of))]

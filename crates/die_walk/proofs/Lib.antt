@@ -1,0 +1,4 @@
+mod ReadLemmas
+mod StepLemmas
+mod TreeLemmas
+mod WalkLemmas

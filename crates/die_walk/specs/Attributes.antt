@@ -1,0 +1,78 @@
+-- The attributes of entries by their classes (DWARF 5, 7.5.4 and table 7.5).
+use Rattle.std.specs.Prelude.{ℕ, ◌+◌, ◌%◌, ◌^◌, ◌==◌, nat_lt, Bool, true, false, if◌then◌else◌, List, find, Option, None, Some, option_and_then}
+use Rattle.std.specs.Option.{option_map}
+use Rattle.std.specs.Int.{w64, cast_unsigned}
+use Rattle.abbrev_units.specs.declared.unit.Unit.{Unit}
+use Rattle.abbrev_units.specs.declared.value.Value.{Value}
+use Rattle.abbrev_units.specs.declared.value.Value.TheVariants as value
+use Rattle.abbrev_units.specs.DebugSections.{DebugSections}
+use Rattle.abbrev_units.specs.Texts.{text_of}
+use Rattle.abbrev_units.specs.declared.value.Given.{Given}
+
+-- the value of an attribute: the first that is given
+unfoldable pub first_of : ℕ → List Given → Option Value
+first_of attribute values = option_map (λ given. given.value) (find (λ given. given.attribute == attribute) values)
+
+-- values of the class that an attribute has: of another class it is absent
+abbrev pub as_low : Value → Option Value
+as_low (value.Addr n) = Some (value.Addr n)
+as_low (value.AddrIndex n) = Some (value.AddrIndex n)
+as_low _ = None
+
+abbrev pub as_high : Value → Option Value
+as_high (value.Addr n) = Some (value.Addr n)
+as_high (value.AddrIndex n) = Some (value.AddrIndex n)
+as_high (value.Num n) = Some (value.Num n)
+as_high (value.Signed n) = Some (value.Signed n)
+as_high _ = None
+
+abbrev pub as_ranges : Value → Option Value
+as_ranges (value.SecOffset n) = Some (value.SecOffset n)
+as_ranges (value.Num n) = Some (value.Num n)
+as_ranges (value.ListIndex n) = Some (value.ListIndex n)
+as_ranges _ = None
+
+-- a place in a section
+abbrev pub as_place : Value → Option ℕ
+as_place (value.SecOffset n) = Some n
+as_place (value.Num n) = Some n
+as_place _ = None
+
+-- a place in `.debug_info`: one that is counted from the unit's start is absent where the sum leaves u64
+abbrev pub as_reference : Unit → Value → Option ℕ
+as_reference unit (value.UnitRef n) = if nat_lt (unit.start + n) (2 ^ 64) then Some (unit.start + n) else None
+as_reference unit (value.InfoRef n) = Some n
+as_reference unit _ = None
+
+abbrev pub as_flag : Value → Option Bool
+as_flag (value.Flag said) = Some said
+as_flag _ = None
+
+-- a number, modulo 2^64
+abbrev pub as_number : Value → Option ℕ
+as_number (value.Num n) = Some n
+as_number (value.Signed n) = Some (cast_unsigned w64 n)
+as_number _ = None
+
+-- an attribute by its class
+abbrev pub picked : {A : Type 0} → (Value → Option A) → ℕ → List Given → Option A
+picked class attribute values = option_and_then class (first_of attribute values)
+
+-- yes only where it is said
+abbrev pub is_yes : Option Bool → Bool
+is_yes (Some true) = true
+is_yes _ = false
+
+-- a line number, modulo 2^32; 0 where none is given
+abbrev pub line_of : Option ℕ → ℕ
+line_of None = 0
+line_of (Some n) = n % 2 ^ 32
+
+-- one or else the other
+abbrev pub or_else : {A : Type 0} → Option A → Option A → Option A
+or_else (Some x) other = Some x
+or_else None other = other
+
+-- the text of an attribute of class string; `base` is the unit's str_offsets_base
+unfoldable pub text_in_entry : DebugSections → Unit → Option ℕ → ℕ → List Given → Option (List ℕ)
+text_in_entry sections unit base attribute values = picked (text_of sections sections.info unit.wide base) attribute values

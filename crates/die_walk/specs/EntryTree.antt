@@ -1,0 +1,59 @@
+-- The tree of a unit's entries (DWARF 5, 2.3), and the entries that are kept.
+use Rattle.std.specs.Prelude.{ℕ, ◌+◌, ◌-◌, ◌==◌, ◌||◌, Bool, true, if◌then◌else◌, List, [], ◌∷◌, ◌++◌, Option, None, Some}
+use Rattle.abbrev_units.specs.declared.value.Given.{Given}
+use Rattle.die_walk.specs.Marks.{Mark}
+use Rattle.die_walk.specs.Marks.Mark.{Close, Entry}
+
+-- an entry with its depth in the tree
+pub record Item : Type 0 where
+  pub at : ℕ
+  pub depth : ℕ
+  pub tag : ℕ
+  pub values : List Given
+
+-- the entries, where those that come first have a depth: the children of an entry are one deeper, up to the end of their list; at the
+-- outermost level such an end changes nothing
+unfoldable pub items_from : ℕ → List Mark → List Item
+items_from depth [] = []
+items_from depth (Close ∷ marks) = items_from (depth - 1) marks
+items_from depth (Entry at tag children values ∷ marks) =
+    record { at = at; depth = depth; tag = tag; values = values } ∷ items_from (if children then depth + 1 else depth) marks
+
+-- the tags that are kept (DWARF 5, table 7.3): DW_TAG_class_type, DW_TAG_structure_type, DW_TAG_union_type, DW_TAG_inlined_subroutine,
+-- DW_TAG_subprogram, DW_TAG_namespace
+unfoldable pub is_kept_tag : ℕ → Bool
+is_kept_tag tag = tag == 0x02 || (tag == 0x13 || (tag == 0x17 || (tag == 0x1d || (tag == 0x2e || tag == 0x39))))
+
+-- an entry is kept by its tag; the first of a unit, its root, always is. `earlier` are the entries before it, the last one first
+abbrev pub is_kept : Item → List Item → Bool
+is_kept item [] = true
+is_kept item (before ∷ earlier) = is_kept_tag item.tag
+
+-- how many of the earlier entries are kept
+unfoldable pub kept_count : List Item → ℕ
+kept_count [] = 0
+kept_count (item ∷ earlier) = (if is_kept item earlier then 1 else 0) + kept_count earlier
+
+-- the number of the nearest kept ancestor of an entry of a depth: its parent is the last entry before it that is one less deep
+unfoldable pub ancestor : ℕ → List Item → Option ℕ
+ancestor depth [] = None
+ancestor depth (item ∷ earlier) =
+    if item.depth + 1 == depth
+    then (if is_kept item earlier then Some (kept_count earlier) else ancestor item.depth earlier)
+    else ancestor depth earlier
+
+-- a kept entry with the number of its nearest kept ancestor
+pub record Kept : Type 0 where
+  pub item : Item
+  pub parent : Option ℕ
+
+-- the kept ones among entries
+unfoldable pub kept_from : List Item → List Item → List Kept
+kept_from earlier [] = []
+kept_from earlier (item ∷ items) =
+    (if is_kept item earlier then record { item = item; parent = ancestor item.depth earlier } ∷ [] else []) ++ kept_from (item ∷ earlier) items
+
+-- a unit without entries has a root of tag 0 without values, where its entries would begin
+abbrev pub rooted : ℕ → List Item → List Item
+rooted body [] = record { at = body; depth = 0; tag = 0; values = [] } ∷ []
+rooted body (item ∷ items) = item ∷ items

@@ -1,0 +1,6 @@
+pub mod Marks
+pub mod EntryTree
+pub mod Attributes
+pub mod EntryTable
+pub mod Packing
+pub mod Steps

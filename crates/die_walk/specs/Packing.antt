@@ -1,0 +1,26 @@
+-- No public clause cites this: how a kept entry holds its attributes.
+use Rattle.std.specs.Prelude.{ℕ, Bool, true, false, Option, None, Some}
+use Rattle.std.specs.Int.{w64, cast_signed}
+use Rattle.abbrev_units.specs.declared.value.Value.{Value}
+use Rattle.abbrev_units.specs.declared.value.Value.TheVariants as value
+use Rattle.die_walk.specs.declared.packed.Class.{Class}
+use Rattle.die_walk.specs.declared.packed.Class.TheVariants as class
+use Rattle.die_walk.specs.declared.packed.Packed.{Packed}
+
+-- a number of a class, as a value
+abbrev pub value_in : Class → ℕ → Option Value
+value_in class.Missing n = None
+value_in class.Addr n = Some (value.Addr n)
+value_in class.AddrIndex n = Some (value.AddrIndex n)
+value_in class.Num n = Some (value.Num n)
+value_in class.Signed n = Some (value.Signed (cast_signed w64 n))
+value_in class.SecOffset n = Some (value.SecOffset n)
+value_in class.ListIndex n = Some (value.ListIndex n)
+
+unfoldable pub unpacked : Packed → Option Value
+unpacked packed = value_in packed.class packed.number
+
+-- what is there only where a bit says so
+abbrev pub where_said : {A : Type 0} → Bool → A → Option A
+where_said true x = Some x
+where_said false x = None

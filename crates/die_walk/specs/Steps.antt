@@ -1,0 +1,130 @@
+-- No public clause cites this: the table as it grows, one step for each thing that stands in the unit.
+use Rattle.std.specs.Prelude.{◌≡◌, ℕ, ◌+◌, ◌-◌, ◌≤◌, ◌==◌, ◌||◌, ◌^◌, Bool, if◌then◌else◌, List, [], ◌∷◌, ◌++◌, length, take, get_or, Option, None, Some, Result, Ok, Err}
+use Rattle.std.specs.Option.{option_map}
+use Rattle.sym_edges.specs.Results.{◌>>=◌}
+use Rattle.sym_edges.specs.declared.fault.Stop.{Stop}
+use Rattle.sym_edges.specs.declared.fault.Stop.TheVariants.{Fault, NoMemory}
+use Rattle.sym_edges.specs.declared.located.Located.{Located}
+use Rattle.leb_cursor.specs.Ahead.{Ahead}
+use Rattle.abbrev_units.specs.declared.abbrev.Abbrev.{Abbrev}
+use Rattle.abbrev_units.specs.declared.fault.DwarfKind.{DwarfKind}
+use Rattle.abbrev_units.specs.declared.unit.Unit.{Unit}
+use Rattle.abbrev_units.specs.declared.value.Given.{Given}
+use Rattle.abbrev_units.specs.DebugSections.{DebugSections}
+use Rattle.die_walk.specs.Marks.{Mark, read_values_at, next_mark, marks_at}
+use Rattle.die_walk.specs.Marks.Mark.{Close, Entry}
+use Rattle.die_walk.specs.EntryTree.{Item, Kept, is_kept_tag}
+use Rattle.die_walk.specs.EntryTable.{DieFields, RootFields, EntryTable, base_of, die_of, root_of}
+
+-- a kept entry and a root, whose depth nothing asks for
+abbrev pub kept_at : ℕ → Option ℕ → ℕ → List Given → Kept
+kept_at at parent tag values = record { item = record { at = at; depth = 0; tag = tag; values = values }; parent = parent }
+
+abbrev pub root_at : ℕ → List Given → Item
+root_at at values = record { at = at; depth = 0; tag = 0; values = values }
+
+-- the kept entries so far, what the root said, and for each open list of children the number of the nearest kept entry around it
+pub record Walked : Type 0 where
+  pub dies : List DieFields
+  pub root : RootFields
+  pub open_levels : List (Option ℕ)
+
+-- the innermost of them
+abbrev pub innermost : List (Option ℕ) → Option ℕ
+innermost levels = get_or levels (length levels - 1) None
+
+-- whether an entry is kept
+abbrev pub keeps : Walked → ℕ → Bool
+keeps w tag = length w.dies == 0 || is_kept_tag tag
+
+-- the first entry is the root, and its base counts for itself
+abbrev pub begun : DebugSections → Unit → Walked → ℕ → ℕ → List Given → Walked
+begun sections unit w at tag values = record {
+  dies = die_of sections unit (base_of values) (kept_at at (innermost w.open_levels) tag values) ∷ [];
+  root = root_of sections unit (root_at at values);
+  open_levels = w.open_levels;
+}
+
+abbrev pub added : DebugSections → Unit → Walked → ℕ → ℕ → List Given → Walked
+added sections unit w at tag values = record w {
+  dies = w.dies ++ die_of sections unit w.root.str_offsets_base (kept_at at (innermost w.open_levels) tag values) ∷ [];
+}
+
+-- an entry without its children
+unfoldable pub entered : DebugSections → Unit → Walked → ℕ → ℕ → List Given → Walked
+entered sections unit w at tag values =
+    if length w.dies == 0 then begun sections unit w at tag values else
+    if is_kept_tag tag then added sections unit w at tag values else w
+
+-- what the list of an entry's children adds
+abbrev pub opened : Walked → Bool → Option ℕ → Walked
+opened w children own = if children then record w { open_levels = w.open_levels ++ own ∷ [] } else w
+
+abbrev pub own_number : Walked → ℕ → Option ℕ
+own_number w tag = if keeps w tag then Some (length w.dies) else innermost w.open_levels
+
+unfoldable pub moved : DebugSections → Unit → Walked → Mark → Walked
+moved sections unit w Close = record w { open_levels = take (length w.open_levels - 1) w.open_levels }
+moved sections unit w (Entry at tag children values) = opened (entered sections unit w at tag values) children (own_number w tag)
+
+unfoldable pub all_moved : DebugSections → Unit → Walked → List Mark → Walked
+all_moved sections unit w [] = w
+all_moved sections unit w (mark ∷ marks) = all_moved sections unit (moved sections unit w mark) marks
+
+-- a unit without entries has a root that is made
+unfoldable pub rounded : DebugSections → Unit → Walked → Walked
+rounded sections unit w = if length w.dies == 0 then begun sections unit w unit.body 0 [] else w
+
+abbrev pub table_in : Walked → EntryTable
+table_in w = record { root = w.root; dies = w.dies }
+
+-- the table from a state, and from what is ahead
+unfoldable pub walked_from : DebugSections → Unit → List Abbrev → Walked → Ahead → Result EntryTable (Located DwarfKind)
+walked_from sections unit abbrevs w c =
+    marks_at abbrevs c >>= λ marks. Ok (table_in (rounded sections unit (all_moved sections unit w marks)))
+
+-- one step
+unfoldable pub step_at : DebugSections → Unit → List Abbrev → Walked → Ahead → Result (Option Walked × Ahead) (Located DwarfKind)
+step_at sections unit abbrevs w c = next_mark abbrevs c >>= λ next. Ok (option_map (moved sections unit w) next.0, next.1)
+
+-- an entry by its abbreviation, without its children and with them
+abbrev pub entering : DebugSections → Unit → Walked → ℕ → ℕ → List Given × Ahead → Result (Walked × Ahead) (Located DwarfKind)
+entering sections unit w at tag values = Ok (entered sections unit w at tag values.0, values.1)
+
+unfoldable pub entered_at : DebugSections → Unit → Walked → ℕ → Abbrev → Ahead → Result (Walked × Ahead) (Located DwarfKind)
+entered_at sections unit w at found c = read_values_at found.specs c >>= entering sections unit w at found.tag
+
+abbrev pub moving : DebugSections → Unit → Walked → ℕ → Abbrev → List Given × Ahead → Result (Walked × Ahead) (Located DwarfKind)
+moving sections unit w at found values = Ok (moved sections unit w (Entry at found.tag found.children values.0), values.1)
+
+unfoldable pub moved_at : DebugSections → Unit → Walked → ℕ → Abbrev → Ahead → Result (Walked × Ahead) (Located DwarfKind)
+moved_at sections unit w at found c = read_values_at found.specs c >>= moving sections unit w at found
+
+-- what a reading of values answers
+abbrev pub Reads : {U : Type 0} → Result U (Stop (Located DwarfKind)) → List Given → Ahead → Result (List Given × Ahead) (Located DwarfKind) → Type 0
+Reads (Ok x) values c given = given ≡ Ok (values, c)
+Reads (Err (Fault fault)) values c given = given ≡ Err fault
+Reads (Err NoMemory) values c given = Prim.Unit {0}
+
+-- what a step answers: whether there was one
+abbrev pub Steps : Result Bool (Stop (Located DwarfKind)) → Walked → Ahead → Result (Option Walked × Ahead) (Located DwarfKind) → Type 0
+Steps (Ok went) w c given = given ≡ Ok (if went then Some w else None, c)
+Steps (Err (Fault fault)) w c given = given ≡ Err fault
+Steps (Err NoMemory) w c given = Prim.Unit {0}
+
+-- what a part of a step answers
+abbrev pub Moves : {U : Type 0} → Result U (Stop (Located DwarfKind)) → Walked → Ahead → Result (Walked × Ahead) (Located DwarfKind) → Type 0
+Moves (Ok x) w c given = given ≡ Ok (w, c)
+Moves (Err (Fault fault)) w c given = given ≡ Err fault
+Moves (Err NoMemory) w c given = Prim.Unit {0}
+
+-- there are no more kept entries than places passed, and all places are small
+pub record IsShort (count : ℕ) (c : Ahead) : Type 0 where
+  pub few : count ≤ c.at
+  pub small : c.at + length c.bytes ≤ 2 ^ 29
+
+-- the whole walk gives the table of its state
+abbrev pub TableOf : {U : Type 0} → Result U (Stop (Located DwarfKind)) → Walked → Result EntryTable (Located DwarfKind) → Type 0
+TableOf (Ok x) w given = given ≡ Ok (table_in w)
+TableOf (Err (Fault fault)) w given = given ≡ Err fault
+TableOf (Err NoMemory) w given = Prim.Unit {0}

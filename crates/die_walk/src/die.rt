@@ -1,0 +1,355 @@
+//! Kept entries, and the root.
+ghost use Rattle.std.specs.Prelude.{◌≡◌, List, ℕ, option_and_then};
+ghost use Rattle.std.specs.Option.{option_copied};
+ghost use Rattle.die_walk.specs.EntryTree.{Kept};
+ghost use Rattle.die_walk.specs.EntryTable.{die_of, linkage_of, base_of, root_of};
+ghost use Rattle.die_walk.specs.Steps.{kept_at, root_at};
+ghost use Rattle.die_walk.specs.Packing.{where_said};
+
+use crate::attributes::{
+    DW_AT_MIPS_linkage_name, DW_AT_abstract_origin, DW_AT_addr_base, DW_AT_call_file,
+    DW_AT_call_line, DW_AT_comp_dir, DW_AT_declaration, DW_AT_high_pc, DW_AT_linkage_name,
+    DW_AT_low_pc, DW_AT_name, DW_AT_ranges, DW_AT_rnglists_base, DW_AT_specification,
+    DW_AT_stmt_list, DW_AT_str_offsets_base, first_of, line_of, number_of, place_of, reference_of,
+    says_yes, text_of,
+};
+use crate::packed::{Class, Packed, pack_high, pack_low, pack_ranges, unpack};
+use abbrev_units::{Given, Sections, Unit, Value};
+use std::marker::Model;
+
+/// A kept entry with the attributes that matter here (DWARF 5, 7.5.4): absent where they are not given,
+/// have another class, or lead to no text. Each call says one of them.
+#[derive(Debug, Drop)]
+pub struct Die<'a> {
+    at: u32,
+    parent: u32,
+    tag: u64,
+    low: u64,
+    high: u64,
+    ranges: u64,
+    origin: u64,
+    spec: u64,
+    call_file: u64,
+    name: &'a [u8],
+    linkage: &'a [u8],
+    call_line: u32,
+    low_class: Class,
+    high_class: Class,
+    ranges_class: Class,
+    declaration: bool,
+    has_parent: bool,
+    has_origin: bool,
+    has_spec: bool,
+    has_call_file: bool,
+    has_name: bool,
+    has_linkage: bool,
+}
+
+impl<'a> Model for Die<'a> {
+    ghost use Rattle.die_walk.specs.EntryTable.{DieFields};
+    ghost use Rattle.die_walk.specs.Packing.{value_in, where_said};
+
+    ghost Value = { DieFields };
+
+    ghost view = { λ d. record {
+      at = d.at;
+      tag = d.tag;
+      parent = where_said d.has_parent d.parent;
+      declaration = d.declaration;
+      low = value_in d.low_class d.low;
+      high = value_in d.high_class d.high;
+      ranges = value_in d.ranges_class d.ranges;
+      origin = where_said d.has_origin d.origin;
+      spec = where_said d.has_spec d.spec;
+      name = where_said d.has_name d.name.now;
+      linkage = where_said d.has_linkage d.linkage.now;
+      call_file = where_said d.has_call_file d.call_file;
+      call_line = d.call_line;
+    } };
+}
+
+#[inline]
+fn number_where(there: bool, number: u64) -> Option<u64>
+    ensures { result ≡ where_said there number }
+{
+    if there { Some(number) } else { None }
+}
+
+#[inline]
+fn text_where(there: bool, text: &[u8]) -> Option<&[u8]>
+    ensures { option_copied result ≡ where_said there text.now }
+{
+    if there { Some(text) } else { None }
+}
+
+impl<'a> Die<'a> {
+    /// The place of the entry in `.debug_info`.
+    #[inline]
+    pub fn at(&self) -> u32
+        ensures { result ≡ self.now.at }
+    {
+        self.at
+    }
+
+    /// DWARF 5, table 7.3.
+    #[inline]
+    pub fn tag(&self) -> u64
+        ensures { result ≡ self.now.tag }
+    {
+        self.tag
+    }
+
+    /// The number of the nearest ancestor that is kept.
+    #[inline]
+    pub fn parent(&self) -> Option<u32>
+        ensures { result ≡ self.now.parent }
+    {
+        if self.has_parent {
+            Some(self.parent)
+        } else {
+            None
+        }
+    }
+
+    #[inline]
+    pub fn declaration(&self) -> bool
+        ensures { result ≡ self.now.declaration }
+    {
+        self.declaration
+    }
+
+    /// An address, or the number of one.
+    #[inline]
+    #[tactic(auto, unfolding(crate::specs::Packing::unpacked))]
+    pub fn low(&self) -> Option<Value>
+        ensures { result ≡ self.now.low }
+    {
+        unpack(Packed {
+            class: self.low_class,
+            number: self.low,
+        })
+    }
+
+    /// An address, the number of one, or a length.
+    #[inline]
+    #[tactic(auto, unfolding(crate::specs::Packing::unpacked))]
+    pub fn high(&self) -> Option<Value>
+        ensures { result ≡ self.now.high }
+    {
+        unpack(Packed {
+            class: self.high_class,
+            number: self.high,
+        })
+    }
+
+    /// The place or the number of a range list.
+    #[inline]
+    #[tactic(auto, unfolding(crate::specs::Packing::unpacked))]
+    pub fn ranges(&self) -> Option<Value>
+        ensures { result ≡ self.now.ranges }
+    {
+        unpack(Packed {
+            class: self.ranges_class,
+            number: self.ranges,
+        })
+    }
+
+    /// The place in `.debug_info` of the abstract entry.
+    #[inline]
+    pub fn origin(&self) -> Option<u64>
+        ensures { result ≡ self.now.origin }
+    {
+        number_where(self.has_origin, self.origin)
+    }
+
+    /// The place in `.debug_info` of the declaration.
+    #[inline]
+    pub fn spec(&self) -> Option<u64>
+        ensures { result ≡ self.now.spec }
+    {
+        number_where(self.has_spec, self.spec)
+    }
+
+    #[inline]
+    pub fn name(&self) -> Option<&'a [u8]>
+        ensures { option_copied result ≡ self.now.name }
+    {
+        text_where(self.has_name, self.name)
+    }
+
+    #[inline]
+    pub fn linkage(&self) -> Option<&'a [u8]>
+        ensures { option_copied result ≡ self.now.linkage }
+    {
+        text_where(self.has_linkage, self.linkage)
+    }
+
+    #[inline]
+    pub fn call_file(&self) -> Option<u64>
+        ensures { result ≡ self.now.call_file }
+    {
+        number_where(self.has_call_file, self.call_file)
+    }
+
+    #[inline]
+    pub fn call_line(&self) -> u32
+        ensures { result ≡ self.now.call_line }
+    {
+        self.call_line
+    }
+}
+
+/// What the root of a unit says of the whole unit: the place of the root, the address at which lists
+/// begin to count, the place of the line table, the folder of the compilation, and the bases in
+/// `.debug_str_offsets`, `.debug_addr` and `.debug_rnglists`.
+#[derive(Debug, Drop)]
+pub struct Root<'a> {
+    pub at: u64,
+    pub low: Option<Value>,
+    pub stmt_list: Option<u64>,
+    pub comp_dir: Option<&'a [u8]>,
+    pub str_offsets_base: Option<u64>,
+    pub addr_base: Option<u64>,
+    pub rnglists_base: Option<u64>,
+}
+
+impl<'a> Model for Root<'a> {
+    ghost use Rattle.std.specs.Option.{option_copied};
+    ghost use Rattle.die_walk.specs.EntryTable.{RootFields};
+
+    ghost Value = { RootFields };
+
+    ghost view = { λ r. record {
+      at = r.at;
+      low = r.low;
+      stmt_list = r.stmt_list;
+      comp_dir = option_copied r.comp_dir;
+      str_offsets_base = r.str_offsets_base;
+      addr_base = r.addr_base;
+      rnglists_base = r.rnglists_base;
+    } };
+}
+
+/// The linkage name of an entry, also by the name that it had before the standard had one.
+fn linkage_of<'a>(
+    sections: &Sections<'a>,
+    unit: &Unit,
+    base: Option<u64>,
+    values: &[Given],
+) -> Option<&'a [u8]>
+    ensures { option_copied result ≡ linkage_of sections.now unit.now base values.now }
+{
+    match text_of(sections, unit, base, values, DW_AT_linkage_name) {
+        Some(name) => Some(name),
+        None => text_of(sections, unit, base, values, DW_AT_MIPS_linkage_name),
+    }
+}
+
+/// The bytes of a text, or none, and whether it is there.
+#[inline]
+fn bytes_of(text: Option<&[u8]>) -> (bool, &[u8])
+    ensures { where_said result.0 result.1.now ≡ option_copied text.entry }
+{
+    match text {
+        Some(bytes) => (true, bytes),
+        None => (false, &[]),
+    }
+}
+
+/// A number, or 0, and whether it is there.
+#[inline]
+fn parts_of(number: Option<u64>) -> (bool, u64)
+    ensures { where_said result.0 result.1 ≡ number }
+{
+    match number {
+        Some(n) => (true, n),
+        None => (false, 0),
+    }
+}
+
+/// The same for the number of an entry.
+#[inline]
+fn parent_parts(parent: Option<u32>) -> (bool, u32)
+    ensures { where_said result.0 result.1 ≡ parent }
+{
+    match parent {
+        Some(n) => (true, n),
+        None => (false, 0),
+    }
+}
+
+/// A kept entry from its place, its parent, its tag and its values; `base` is the unit's
+/// str_offsets_base.
+#[tactic(auto, unfolding(crate::specs::EntryTable::die_of, crate::specs::Packing::unpacked))]
+pub fn make_die<'a>(
+    sections: &Sections<'a>,
+    unit: &Unit,
+    base: Option<u64>,
+    at: u32,
+    parent: Option<u32>,
+    tag: u64,
+    values: &[Given],
+) -> Die<'a>
+    ensures { result ≡ die_of sections.now unit.now base (kept_at at parent tag values.now) }
+{
+    let (has_parent, parent) = parent_parts(parent);
+    let low = pack_low(first_of(values, DW_AT_low_pc));
+    let high = pack_high(first_of(values, DW_AT_high_pc));
+    let ranges = pack_ranges(first_of(values, DW_AT_ranges));
+    let origin = reference_of(unit, first_of(values, DW_AT_abstract_origin));
+    let (has_origin, origin) = parts_of(origin);
+    let (has_spec, spec) = parts_of(reference_of(unit, first_of(values, DW_AT_specification)));
+    let (has_call_file, call_file) = parts_of(number_of(first_of(values, DW_AT_call_file)));
+    let (has_name, name) = bytes_of(text_of(sections, unit, base, values, DW_AT_name));
+    let (has_linkage, linkage) = bytes_of(linkage_of(sections, unit, base, values));
+    Die {
+        at,
+        parent,
+        tag,
+        low: low.number,
+        high: high.number,
+        ranges: ranges.number,
+        origin,
+        spec,
+        call_file,
+        name,
+        linkage,
+        call_line: line_of(number_of(first_of(values, DW_AT_call_line))),
+        low_class: low.class,
+        high_class: high.class,
+        ranges_class: ranges.class,
+        declaration: says_yes(first_of(values, DW_AT_declaration)),
+        has_parent,
+        has_origin,
+        has_spec,
+        has_call_file,
+        has_name,
+        has_linkage,
+    }
+}
+
+/// The base in `.debug_str_offsets` that the root's values give.
+pub fn base_of(values: &[Given]) -> Option<u64>
+    ensures { result ≡ base_of values.now }
+{
+    place_of(first_of(values, DW_AT_str_offsets_base))
+}
+
+/// What the root says of the unit.
+#[tactic(auto, unfolding(crate::specs::EntryTable::root_of))]
+pub fn make_root<'a>(sections: &Sections<'a>, unit: &Unit, at: u32, values: &[Given]) -> Root<'a>
+    ensures { result ≡ root_of sections.now unit.now (root_at at values.now) }
+{
+    let base = base_of(values);
+    let low = unpack(pack_low(first_of(values, DW_AT_low_pc)));
+    let comp_dir = text_of(sections, unit, base, values, DW_AT_comp_dir);
+    Root {
+        at: u64::from(at),
+        low,
+        stmt_list: place_of(first_of(values, DW_AT_stmt_list)),
+        comp_dir,
+        str_offsets_base: base,
+        addr_base: place_of(first_of(values, DW_AT_addr_base)),
+        rnglists_base: place_of(first_of(values, DW_AT_rnglists_base)),
+    }
+}

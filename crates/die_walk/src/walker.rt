@@ -1,0 +1,290 @@
+//! The walk over the entries of a unit.
+ghost use Rattle.std.specs.Prelude.{◌≡◌, ◌<◌, ◌^◌, true, false, [], length, OnOk, IfOk};
+ghost use Rattle.die_walk.specs.EntryTree.{is_kept_tag};
+ghost use Rattle.die_walk.specs.EntryTable.{RootFields};
+ghost use Rattle.die_walk.specs.Marks.{Mark, value_fault, read_values_at};
+ghost use Rattle.die_walk.specs.Marks.Mark.{Close};
+ghost use Rattle.die_walk.specs.Steps.{innermost, keeps, opened, own_number, entered, moved, rounded, entered_at, moved_at, step_at, Reads, Steps, Moves, IsShort, table_in};
+
+use crate::die::{Die, Root, base_of, make_die, make_root};
+use crate::table::DieTable;
+use abbrev_units::{
+    Abbrev, Abbrevs, DwarfFault, DwarfKind, FormFault, Given, Sections, Spec, Unit, in_section,
+    skip_values,
+};
+use leb_cursor::Cursor;
+use std::alloc::Global;
+use std::marker::Model;
+use sym_edges::{Located, OutOfMemory, Sect, Stop};
+
+/// The kept entries so far, what the root said, and for each open list of children the number of the
+/// nearest kept entry around it.
+#[derive(Drop)]
+pub struct Walker<'a> {
+    pub dies: Vec<Die<'a>>,
+    pub root: Root<'a>,
+    pub open_levels: Vec<Option<u32>>,
+}
+
+impl<'a> Model for Walker<'a> {
+    ghost use Rattle.die_walk.specs.Steps.{Walked};
+
+    ghost Value = { Walked };
+
+    ghost view = { λ w. record { dies = w.dies.items; root = w.root; open_levels = w.open_levels.items } };
+}
+
+/// The fault of a value.
+#[tactic(auto, unfolding(crate::specs::Marks::value_fault))]
+fn value_fault(fault: FormFault) -> DwarfFault
+    ensures { result ≡ value_fault fault }
+{
+    match fault {
+        FormFault::Cursor(fault) => in_section(Sect::Info, fault),
+        FormFault::Unknown { at } => Located {
+            kind: DwarfKind::UnknownForm,
+            section: Sect::Info,
+            at,
+        },
+    }
+}
+
+#[inline]
+fn innermost(levels: &[Option<u32>]) -> Option<u32>
+    ensures { result ≡ innermost levels.now }
+{
+    if levels.is_empty() {
+        return None;
+    }
+    levels[levels.len() - 1]
+}
+
+#[inline]
+#[tactic(auto, unfolding(crate::specs::EntryTree::is_kept_tag))]
+fn is_kept_tag(tag: u64) -> bool
+    ensures { result ≡ is_kept_tag tag }
+{
+    matches!(tag, 0x02 | 0x13 | 0x17 | 0x1d | 0x2e | 0x39)
+}
+
+/// Reads the values of an entry.
+#[tactic(auto, using(crate::proofs::ReadLemmas::values_begin, crate::proofs::ReadLemmas::values_more, crate::proofs::ReadLemmas::values_end, crate::proofs::ReadLemmas::values_refused))]
+fn read_values(
+    cursor: &mut Cursor<'_>,
+    specs: &[Spec],
+    values: &mut Vec<Given>,
+) -> Result<(), Stop<DwarfFault>>
+    ensures { Reads result values.new.items cursor.new (read_values_at specs.now cursor.old) }
+{
+    values.clear();
+    'specs: for spec in specs {
+        match spec.read(cursor) {
+            Ok(value) => values.push(Given {
+                attribute: spec.attribute(),
+                value,
+            })?,
+            Err(fault) => return Err(Stop::Fault(value_fault(fault))),
+        }
+    }
+    Ok(())
+}
+
+impl<'a> Walker<'a> {
+    /// A walk that has nothing yet.
+    pub fn new(alloc: Global) -> Walker<'a>
+        ensures dies { result.dies ≡ [] }
+        ensures levels { result.open_levels ≡ [] }
+    {
+        Walker {
+            dies: Vec::new(alloc),
+            root: Root {
+                at: 0,
+                low: None,
+                stmt_list: None,
+                comp_dir: None,
+                str_offsets_base: None,
+                addr_base: None,
+                rnglists_base: None,
+            },
+            open_levels: Vec::new(alloc),
+        }
+    }
+
+    /// Makes a root where the unit has no entry.
+    #[tactic(auto, using(crate::proofs::StepLemmas::first_alone), unfolding(crate::specs::Steps::rounded))]
+    pub fn round(&mut self, sections: &Sections<'a>, unit: &Unit) -> Result<(), OutOfMemory>
+        requires { unit.now.body < 2 ^ 32 }
+        ensures { OnOk result (self.new ≡ rounded sections.now unit.now self.old) }
+    {
+        if !self.dies.is_empty() {
+            return Ok(());
+        }
+        let at = unit.body as u32;
+        let parent = innermost(self.open_levels.as_slice());
+        let die = make_die(sections, unit, base_of(&[]), at, parent, 0, &[]);
+        self.dies.push(die)?;
+        self.root = make_root(sections, unit, at, &[]);
+        Ok(())
+    }
+
+    /// The table that the walk made.
+    pub fn into_table(self) -> DieTable<'a>
+        ensures { result ≡ table_in self.entry }
+    {
+        let Walker { dies, root, .. } = self;
+        DieTable::of(root, dies)
+    }
+
+    /// Whether an entry is kept: by its tag, or since it is the first.
+    #[inline]
+    fn keeps(&self, tag: u64) -> bool
+        ensures { result ≡ keeps self.now tag }
+    {
+        self.dies.is_empty() || is_kept_tag(tag)
+    }
+
+    /// Adds a kept entry.
+    #[tactic(auto, using(crate::proofs::StepLemmas::first_alone), unfolding(crate::specs::Steps::entered))]
+    fn add(
+        &mut self,
+        sections: &Sections<'a>,
+        unit: &Unit,
+        at: u32,
+        tag: u64,
+        values: &[Given],
+    ) -> Result<(), OutOfMemory>
+        requires { keeps self.old tag ≡ true }
+        ensures { OnOk result (self.new ≡ entered sections.now unit.now self.old at tag values.now) }
+    {
+        let parent = innermost(self.open_levels.as_slice());
+        if self.dies.is_empty() {
+            let die = make_die(sections, unit, base_of(values), at, parent, tag, values);
+            self.dies.push(die)?;
+            self.root = make_root(sections, unit, at, values);
+            return Ok(());
+        }
+        let base = self.root.str_offsets_base;
+        let die = make_die(sections, unit, base, at, parent, tag, values);
+        self.dies.push(die)?;
+        Ok(())
+    }
+
+    /// Closes a list of children.
+    #[tactic(auto, unfolding(crate::specs::Steps::moved))]
+    fn leave(&mut self, sections: &Sections<'a>, unit: &Unit)
+        ensures { self.new ≡ moved sections.now unit.now self.old Close }
+    {
+        let _level = self.open_levels.pop();
+    }
+
+    /// Takes an entry in, without its children.
+    #[tactic(auto, using(crate::proofs::StepLemmas::passed_over, crate::proofs::StepLemmas::passed_refused, crate::proofs::StepLemmas::taken, crate::proofs::StepLemmas::taken_refused))]
+    fn take_entry(
+        &mut self,
+        sections: &Sections<'a>,
+        unit: &Unit,
+        cursor: &mut Cursor<'a>,
+        values: &mut Vec<Given>,
+        at: u32,
+        found: &Abbrev,
+    ) -> Result<(), Stop<DwarfFault>>
+        ensures { Moves result self.new cursor.new (entered_at sections.now unit.now self.old at found.now cursor.old) }
+    {
+        let specs = found.specs.as_slice();
+        if !self.keeps(found.tag) {
+            return match skip_values(cursor, specs) {
+                Ok(()) => Ok(()),
+                Err(fault) => Err(Stop::Fault(value_fault(fault))),
+            };
+        }
+        match read_values(cursor, specs, values) {
+            Ok(()) => {}
+            Err(stop) => return Err(stop),
+        }
+        self.add(sections, unit, at, found.tag, values.as_slice())?;
+        Ok(())
+    }
+
+    /// The number of the nearest kept entry around an entry's children.
+    fn own_number(&self, tag: u64) -> Option<u32>
+        requires { length self.now.dies < 2 ^ 32 }
+        ensures { result ≡ own_number self.now tag }
+    {
+        if self.keeps(tag) {
+            return Some(self.dies.len() as u32);
+        }
+        innermost(self.open_levels.as_slice())
+    }
+
+    /// Opens a list of children.
+    fn open(&mut self, own: Option<u32>) -> Result<(), OutOfMemory>
+        ensures { OnOk result (self.new ≡ opened self.old true own) }
+    {
+        self.open_levels.push(own)?;
+        Ok(())
+    }
+
+    /// Takes an entry in, and opens the list of its children.
+    #[tactic(auto, using(crate::proofs::StepLemmas::moved_plain, crate::proofs::StepLemmas::moved_opened, crate::proofs::StepLemmas::moved_refused))]
+    fn enter(
+        &mut self,
+        sections: &Sections<'a>,
+        unit: &Unit,
+        cursor: &mut Cursor<'a>,
+        values: &mut Vec<Given>,
+        at: u32,
+        found: &Abbrev,
+    ) -> Result<(), Stop<DwarfFault>>
+        requires { length self.old.dies < 2 ^ 32 }
+        ensures { Moves result self.new cursor.new (moved_at sections.now unit.now self.old at found.now cursor.old) }
+    {
+        let own = self.own_number(found.tag);
+        match self.take_entry(sections, unit, cursor, values, at, found) {
+            Ok(()) => {}
+            Err(stop) => return Err(stop),
+        }
+        if found.children {
+            self.open(own)?;
+        }
+        Ok(())
+    }
+
+    /// Takes in what stands next; false where the unit has ended.
+    #[tactic(auto, using(crate::proofs::WalkLemmas::step_end, crate::proofs::WalkLemmas::step_cut, crate::proofs::WalkLemmas::step_close, crate::proofs::WalkLemmas::step_unknown, crate::proofs::WalkLemmas::step_entry, crate::proofs::WalkLemmas::step_stopped))]
+    pub fn step(
+        &mut self,
+        sections: &Sections<'a>,
+        unit: &Unit,
+        abbrevs: &Abbrevs,
+        cursor: &mut Cursor<'a>,
+        values: &mut Vec<Given>,
+    ) -> Result<bool, Stop<DwarfFault>>
+        requires { IsShort (length self.old.dies) cursor.old }
+        ensures step { Steps result self.new cursor.new (step_at sections.now unit.now abbrevs.now self.old cursor.old) }
+        ensures still { IfOk result (λ went. went ≡ false → self.new ≡ self.old) }
+    {
+        if cursor.is_at_end() {
+            return Ok(false);
+        }
+        let at = cursor.at();
+        let code = match cursor.uleb() {
+            Ok(code) => code,
+            Err(fault) => return Err(Stop::Fault(in_section(Sect::Info, fault))),
+        };
+        if code == 0 {
+            self.leave(sections, unit);
+            return Ok(true);
+        }
+        let Some(found) = abbrevs.find(code) else {
+            return Err(Stop::Fault(Located {
+                kind: DwarfKind::NoAbbrev,
+                section: Sect::Info,
+                at,
+            }));
+        };
+        match self.enter(sections, unit, cursor, values, at as u32, found) {
+            Ok(()) => Ok(true),
+            Err(stop) => Err(stop),
+        }
+    }
+}
