@@ -1,10 +1,26 @@
-//! The entries of a unit.
+//! The entries of a unit of `.debug_info` (DWARF 5, 2.2, 2.3 and 7.5): its root, and those that functions,
+//! their names and their inlined copies are made of.
+//!
+//! [`walk`] goes over the entries of a unit once. Kept are the root and each entry with the tag of a class,
+//! a structure, a union, an inlined subroutine, a subprogram or a namespace, in their order; the parent of
+//! a kept entry is its nearest ancestor that is kept. Of each the attributes that matter here are there, the
+//! first where one stands twice, and absent where its value has another class than the standard gives it, or
+//! leads to no text. Texts are slices of the file. What the root says of the whole unit is a [`Root`].
+//!
+//! The contract compares the answer with a definition in two steps. `specs/Marks.antt` says what stands in
+//! the unit, one behind the other: entries with their values, and the zeros that end lists of children; all
+//! faults and places are in this step. `specs/EntryTree.antt` says which tree that is: the parent of an
+//! entry is the last one before it that is one less deep. `specs/Attributes.antt` and
+//! `specs/EntryTable.antt` say what the attributes are. The code keeps a stack of the kept entries around it;
+//! entries that are not kept take no memory, and no recursion follows the tree.
 #![tactic(auto)]
 
 mod attributes;
 mod die;
 mod packed;
 mod table;
+#[cfg(test)]
+mod tests;
 mod walker;
 
 pub use crate::die::{Die, Root};

@@ -1,0 +1,242 @@
+-- Worked rows: the attributes of entries by their classes (DWARF 5, 7.5.4 and table 7.5).
+use Rattle.std.proofs.Common.{◌≡◌, ℕ, true, false, pos, negsuc, List, [], ◌∷◌, Some, None, codes, refl}
+use Rattle.sym_edges.proofs.Hex.{hex}
+use Rattle.abbrev_units.specs.declared.unit.Unit.{Unit}
+use Rattle.abbrev_units.specs.declared.unit.UnitPart.TheVariants as part
+use Rattle.abbrev_units.specs.declared.value.Value.{Value}
+use Rattle.abbrev_units.specs.declared.value.Value.TheVariants as value
+use Rattle.abbrev_units.specs.declared.value.Given.{Given}
+use Rattle.abbrev_units.specs.DebugSections.{DebugSections}
+use Rattle.die_walk.specs.EntryTable.{DieFields, RootFields, die_of, root_of}
+use Rattle.die_walk.proofs.Computing.{die_walk_computes}
+
+unfoldable sections : DebugSections
+unfolding hex
+sections = record {
+  info = codes "defghijk";
+  abbrevs = [];
+  line = [];
+  line_str = [];
+  strs = hex "6162 00 6364 00";
+  str_offsets = hex "05000000 00000000 03000000";
+  addr = [];
+  ranges = [];
+  rnglists = [];
+}
+
+unfoldable unit : Unit
+unit = record { start = 0x20; body = 0x2b; end = 0x40; version = 4; abbrev_at = 0; part = part.Read; wide = false }
+
+abbrev given : ℕ → Value → Given
+given attribute value = record { attribute = attribute; value = value }
+
+-- an entry with these values, in a unit whose texts are numbered from 4 on, and a root
+unfoldable die : List Given → DieFields
+die values = die_of sections unit (Some 4) (record { item = record { at = 0x2b; depth = 0; tag = 0x2e; values = values }; parent = None })
+
+unfoldable root : List Given → RootFields
+root values = root_of sections unit (record { at = 0x2b; depth = 0; tag = 0x11; values = values })
+
+-- each attribute in each of its classes, in another, and twice: the first counts
+low : (die (given 0x11 (value.Addr 0x1000) ∷ [])).low ≡ Some (value.Addr 0x1000)
+unfolding die_walk_computes die unit sections
+low = refl
+
+low_by_number : (die (given 0x11 (value.AddrIndex 3) ∷ [])).low ≡ Some (value.AddrIndex 3)
+unfolding die_walk_computes die unit sections
+low_by_number = refl
+
+low_of_another_class : (die (given 0x11 (value.Num 3) ∷ [])).low ≡ None
+unfolding die_walk_computes die unit sections
+low_of_another_class = refl
+
+low_twice : (die (given 0x11 (value.Num 3) ∷ given 0x11 (value.Addr 4) ∷ [])).low ≡ None
+unfolding die_walk_computes die unit sections
+low_twice = refl
+
+no_low : (die (given 0x12 (value.Addr 4) ∷ [])).low ≡ None
+unfolding die_walk_computes die unit sections
+no_low = refl
+
+high_addr : (die (given 0x12 (value.Addr 0x1000) ∷ [])).high ≡ Some (value.Addr 0x1000)
+unfolding die_walk_computes die unit sections
+high_addr = refl
+
+high_addrindex : (die (given 0x12 (value.AddrIndex 3) ∷ [])).high ≡ Some (value.AddrIndex 3)
+unfolding die_walk_computes die unit sections
+high_addrindex = refl
+
+high_num : (die (given 0x12 (value.Num 16) ∷ [])).high ≡ Some (value.Num 16)
+unfolding die_walk_computes die unit sections
+high_num = refl
+
+high_signed : (die (given 0x12 (value.Signed (negsuc 3)) ∷ [])).high ≡ Some (value.Signed (negsuc 3))
+unfolding die_walk_computes die unit sections
+high_signed = refl
+
+high_of_another_class : (die (given 0x12 (value.SecOffset 3) ∷ [])).high ≡ None
+unfolding die_walk_computes die unit sections
+high_of_another_class = refl
+
+ranges_secoffset : (die (given 0x55 (value.SecOffset 3) ∷ [])).ranges ≡ Some (value.SecOffset 3)
+unfolding die_walk_computes die unit sections
+ranges_secoffset = refl
+
+ranges_num : (die (given 0x55 (value.Num 3) ∷ [])).ranges ≡ Some (value.Num 3)
+unfolding die_walk_computes die unit sections
+ranges_num = refl
+
+ranges_listindex : (die (given 0x55 (value.ListIndex 3) ∷ [])).ranges ≡ Some (value.ListIndex 3)
+unfolding die_walk_computes die unit sections
+ranges_listindex = refl
+
+ranges_of_another_class : (die (given 0x55 (value.Signed (pos 3)) ∷ [])).ranges ≡ None
+unfolding die_walk_computes die unit sections
+ranges_of_another_class = refl
+
+-- references count from the start of the unit, which is 20, or from that of the section
+origin : (die (given 0x31 (value.UnitRef 0xb) ∷ [])).origin ≡ Some 0x2b
+unfolding die_walk_computes die unit sections
+origin = refl
+
+origin_in_the_section : (die (given 0x31 (value.InfoRef 0xb) ∷ [])).origin ≡ Some 0xb
+unfolding die_walk_computes die unit sections
+origin_in_the_section = refl
+
+origin_beyond_u64 : (die (given 0x31 (value.UnitRef 0xffffffffffffffe0) ∷ [])).origin ≡ None
+unfolding die_walk_computes die unit sections
+origin_beyond_u64 = refl
+
+the_last_place : (die (given 0x31 (value.UnitRef 0xffffffffffffffdf) ∷ [])).origin ≡ Some 0xffffffffffffffff
+unfolding die_walk_computes die unit sections
+the_last_place = refl
+
+origin_of_another_class : (die (given 0x31 (value.Num 3) ∷ given 0x31 (value.UnitRef 3) ∷ [])).origin ≡ None
+unfolding die_walk_computes die unit sections
+origin_of_another_class = refl
+
+specification : (die (given 0x47 (value.UnitRef 1) ∷ given 0x31 (value.UnitRef 2) ∷ [])).spec ≡ Some 0x21
+unfolding die_walk_computes die unit sections
+specification = refl
+
+specification_of_another_class : (die (given 0x47 (value.SecOffset 1) ∷ [])).spec ≡ None
+unfolding die_walk_computes die unit sections
+specification_of_another_class = refl
+
+declared : (die (given 0x3c (value.Flag true) ∷ [])).declaration ≡ true
+unfolding die_walk_computes die unit sections
+declared = refl
+
+declared_not : (die (given 0x3c (value.Flag false) ∷ [])).declaration ≡ false
+unfolding die_walk_computes die unit sections
+declared_not = refl
+
+declared_by_no_flag : (die (given 0x3c (value.Num 1) ∷ [])).declaration ≡ false
+unfolding die_walk_computes die unit sections
+declared_by_no_flag = refl
+
+declared_nowhere : (die ([])).declaration ≡ false
+unfolding die_walk_computes die unit sections
+declared_nowhere = refl
+
+name : (die (given 0x03 (value.StrAt 0) ∷ [])).name ≡ Some (codes "ab")
+unfolding die_walk_computes die unit sections
+name = refl
+
+name_in_place : (die (given 0x03 (value.InlineText 2 3) ∷ [])).name ≡ Some (codes "fgh")
+unfolding die_walk_computes die unit sections
+name_in_place = refl
+
+name_of_another_class : (die (given 0x03 (value.Num 0) ∷ given 0x03 (value.StrAt 0) ∷ [])).name ≡ None
+unfolding die_walk_computes die unit sections
+name_of_another_class = refl
+
+name_by_number : (die (given 0x03 (value.StrIndex 1) ∷ [])).name ≡ Some (codes "cd")
+unfolding die_walk_computes die unit sections
+name_by_number = refl
+
+-- a linkage name, or else the older one
+linkage : (die (given 0x6e (value.StrAt 0) ∷ [])).linkage ≡ Some (codes "ab")
+unfolding die_walk_computes die unit sections
+linkage = refl
+
+linkage_by_the_older_name : (die (given 0x2007 (value.StrAt 3) ∷ [])).linkage ≡ Some (codes "cd")
+unfolding die_walk_computes die unit sections
+linkage_by_the_older_name = refl
+
+linkage_by_both : (die (given 0x2007 (value.StrAt 3) ∷ given 0x6e (value.StrAt 0) ∷ [])).linkage ≡ Some (codes "ab")
+unfolding die_walk_computes die unit sections
+linkage_by_both = refl
+
+linkage_of_another_class : (die (given 0x6e (value.Num 0) ∷ given 0x2007 (value.StrAt 3) ∷ [])).linkage ≡ Some (codes "cd")
+unfolding die_walk_computes die unit sections
+linkage_of_another_class = refl
+
+linkage_that_is_not_found : (die (given 0x6e (value.StrAt 99) ∷ given 0x2007 (value.StrAt 3) ∷ [])).linkage ≡ Some (codes "cd")
+unfolding die_walk_computes die unit sections
+linkage_that_is_not_found = refl
+
+linkage_that_is_empty : (die (given 0x6e (value.StrAt 2) ∷ given 0x2007 (value.StrAt 3) ∷ [])).linkage ≡ Some []
+unfolding die_walk_computes die unit sections
+linkage_that_is_empty = refl
+
+call_file : (die (given 0x58 (value.Num 7) ∷ [])).call_file ≡ Some 7
+unfolding die_walk_computes die unit sections
+call_file = refl
+
+call_file_below_0 : (die (given 0x58 (value.Signed (negsuc 0)) ∷ [])).call_file ≡ Some 0xffffffffffffffff
+unfolding die_walk_computes die unit sections
+call_file_below_0 = refl
+
+call_file_of_another_class : (die (given 0x58 (value.SecOffset 7) ∷ [])).call_file ≡ None
+unfolding die_walk_computes die unit sections
+call_file_of_another_class = refl
+
+call_line : (die (given 0x59 (value.Num 0x100000007) ∷ [])).call_line ≡ 7
+unfolding die_walk_computes die unit sections
+call_line = refl
+
+call_line_below_0 : (die (given 0x59 (value.Signed (negsuc 0)) ∷ [])).call_line ≡ 0xffffffff
+unfolding die_walk_computes die unit sections
+call_line_below_0 = refl
+
+no_call_line : (die ([])).call_line ≡ 0
+unfolding die_walk_computes die unit sections
+no_call_line = refl
+
+-- what the root says
+root_low : (root (given 0x11 (value.Addr 0x1000) ∷ [])).low ≡ Some (value.Addr 0x1000)
+unfolding die_walk_computes root unit sections
+root_low = refl
+
+line_table : (root (given 0x10 (value.SecOffset 5) ∷ [])).stmt_list ≡ Some 5
+unfolding die_walk_computes root unit sections
+line_table = refl
+
+line_table_by_a_number : (root (given 0x10 (value.Num 5) ∷ [])).stmt_list ≡ Some 5
+unfolding die_walk_computes root unit sections
+line_table_by_a_number = refl
+
+line_table_of_another_class : (root (given 0x10 (value.Signed (pos 5)) ∷ [])).stmt_list ≡ None
+unfolding die_walk_computes root unit sections
+line_table_of_another_class = refl
+
+folder : (root (given 0x1b (value.StrAt 0) ∷ [])).comp_dir ≡ Some (codes "ab")
+unfolding die_walk_computes root unit sections
+folder = refl
+
+folder_by_number : (root (given 0x1b (value.StrIndex 1) ∷ given 0x72 (value.SecOffset 4) ∷ [])).comp_dir ≡ Some (codes "cd")
+unfolding die_walk_computes root unit sections
+folder_by_number = refl
+
+bases : (root (given 0x72 (value.SecOffset 4) ∷ given 0x73 (value.SecOffset 8) ∷ given 0x74 (value.SecOffset 12) ∷ [])).addr_base ≡ Some 8
+unfolding die_walk_computes root unit sections
+bases = refl
+
+base_of_lists : (root (given 0x72 (value.SecOffset 4) ∷ given 0x73 (value.SecOffset 8) ∷ given 0x74 (value.Num 12) ∷ [])).rnglists_base ≡ Some 12
+unfolding die_walk_computes root unit sections
+base_of_lists = refl
+
+base_of_texts : (root (given 0x72 (value.SecOffset 4) ∷ given 0x72 (value.SecOffset 8) ∷ [])).str_offsets_base ≡ Some 4
+unfolding die_walk_computes root unit sections
+base_of_texts = refl
