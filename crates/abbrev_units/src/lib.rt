@@ -1,4 +1,16 @@
-//! Units, abbreviations and values of debugging information (DWARF 5, 7.4 and 7.5).
+//! Units, abbreviations and values of debugging information (DWARF 5, 7.4 and 7.5, and their counterparts in
+//! DWARF 4), in the 32-bit and in the 64-bit format.
+//!
+//! [`units`] gives the units of `.debug_info`: where each begins and ends, where its entries begin, its
+//! version, and where its abbreviations stand; or the first fault of their headers. [`read_abbrevs`] gives the
+//! abbreviations of a unit, and [`Abbrevs::find`] the first of a code. [`read_form`] reads the value of a form,
+//! [`Spec::read`] that of an attribute, whose form was looked up once, and [`skip_values`] passes the values
+//! that nobody asks for. [`read_text`] gives the text of a value, as a slice of the file.
+//!
+//! Each contract is an equation with a definition: `specs/Units.antt` has the headers field by field,
+//! `specs/Abbreviations.antt` the lists of attributes, `specs/FormValue.antt` the value of a form over the
+//! table of `code_table`, `specs/Texts.antt` the texts. A [`DwarfFault`] says what is wrong, in which section
+//! and where. Only lists take memory.
 #![tactic(auto)]
 
 mod abbrev;
