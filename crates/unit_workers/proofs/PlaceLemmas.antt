@@ -1,13 +1,13 @@
 -- Results in the places of their numbers.
-use Rattle.std.proofs.Common.{◌≡◌, ℕ, ◌+◌, ◌<◌, ◌≤◌, ◌≢◌, ◌⊎◌, List, [], ◌∷◌, ◌++◌, length, get_or, set, replicate, Option, None, Some, IfSome, arith, refl, sym, ap, ◌∙◌, subst, inl, inr, ⊎_elim, length-set, get_or-set_same, get_or-set_other}
-use Rattle.std.specs.Prelude.{IsSomeAnd, slice_index_or}
+use Rattle.std.proofs.Common.{◌≡◌, ℕ, ◌+◌, ◌<◌, ◌≢◌, ◌⊎◌, List, [], ◌∷◌, ◌++◌, length, get_or, set, replicate, Option, None, Some, IfSome, arith, refl, sym, ap, ◌∙◌, subst, inl, inr, ⊎_elim, length-set, get_or-set_same, get_or-set_other}
+use Rattle.std.specs.Prelude.{IsSomeAnd}
 use Rattle.std.specs.List.{All}
 use Rattle.std.proofs.lemmas.Bool.Decides.{nat_tests}
 use Rattle.std.proofs.lemmas.List.{get_or-replicate, length-replicate}
 use Rattle.std.proofs.lemmas.List.Elements.{All-head, All-tail}
 use mathlib.Core.Logic.{dite}
 use native.Mathlib.Decide.{ℕ_discrete, dec_lt}
-use Rattle.unit_workers.specs.Numbers.{times, one_if_same, once_below, HasEachBelow}
+use Rattle.unit_workers.specs.Numbers.{times, one_if_same, HasEachBelow}
 use Rattle.unit_workers.specs.Held.{Roll, Held, held}
 use Rattle.unit_workers.specs.Working.{numbers, placed, IsResult, IsWorked, IsGathered, AreTaken}
 use Rattle.unit_workers.proofs.NumberLemmas.{times-append, once_if_below}

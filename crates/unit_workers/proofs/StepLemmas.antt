@@ -1,16 +1,15 @@
 -- Each step on the word keeps the rule.
-use Rattle.std.proofs.Common.{◌≡◌, ℕ, zero, suc, ◌+◌, ◌-◌, ◌%◌, ◌^◌, ◌<◌, ◌≤◌, ◌≢◌, min, List, [], ◌∷◌, ◌++◌, map, length, get_or, set, refl, sym, ap, ◌∙◌, subst, inl, inr, ⊎_elim, arith, mod-eq_of_lt, get_or-set_same}
+use Rattle.std.proofs.Common.{◌≡◌, ℕ, zero, suc, ◌+◌, ◌-◌, ◌%◌, ◌^◌, ◌<◌, ◌≤◌, ◌≢◌, min, List, [], ◌∷◌, ◌++◌, length, set, refl, sym, ap, ◌∙◌, subst, ⊎_elim, arith, mod-eq_of_lt}
 use Rattle.std.specs.Prelude.{slice_index}
-use Rattle.std.specs.List.{All}
 use Rattle.std.proofs.lemmas.Bool.Decides.{nat_tests}
 use mathlib.Core.Logic.{dite}
 use mathlib.Core.Option.{some, some-injective, some-ne-none}
 use native.Mathlib.Decide.{dec_lt}
 use lib.ListN.{get_elem?}
-use Rattle.atomic_table.specs.Table.{State, Me, keeps, opening, Allows, Splits, Joins, stepped}
+use Rattle.atomic_table.specs.Table.{State, Me, keeps, opening, Allows, Splits, Joins}
 use Rattle.atomic_table.proofs.Lists.{at_set, at_snoc, set_else}
 use Rattle.unit_workers.specs.Numbers.{total, times, once_below, HasEachBelow}
-use Rattle.unit_workers.specs.Drawing.{view, lot_of, IsView, Drawing}
+use Rattle.unit_workers.specs.Drawing.{IsView, Drawing}
 use Rattle.unit_workers.specs.Steps.{first_view, with_number, with_less, Draws, giving, given, both, spent}
 use Rattle.unit_workers.specs.declared.lot.Lot.{Lot}
 use Rattle.unit_workers.specs.declared.view.View.{View}
@@ -19,6 +18,9 @@ use Rattle.unit_workers.proofs.NumberLemmas.{times-append, times_push, once_belo
 
 abbrev St : Type 0
 St = State ℕ View
+
+pub same_lot : (a b : Lot) → a.count ≡ b.count → a.workers ≡ b.workers → a ≡ b
+same_lot a b count workers i = record { count = count i; workers = workers i }
 
 word_set : (ws : List ℕ) (y : ℕ) → length ws ≡ 1 → (length (set ws 0 y) ≡ 1) × (slice_index (set ws 0 y) 0 ≡ y)
 word_set [] y e = absurd (omega arith)

@@ -1,11 +1,10 @@
 -- Rows of the definitions, computed.
-use Rattle.std.proofs.Common.{◌≡◌, ℕ, ◌+◌, List, [], ◌∷◌, map, replicate, Option, None, Some, refl}
+use Rattle.std.proofs.Common.{◌≡◌, ℕ, [], ◌∷◌, map, replicate, None, Some, refl}
 use Rattle.std.specs.List.{range_with_len}
 use Rattle.unit_workers.specs.Numbers.{times, once_below}
 use Rattle.unit_workers.specs.Drawing.{view, lot_of}
 use Rattle.unit_workers.specs.Steps.{first_view, with_number, with_less, giving, given, both}
 use Rattle.unit_workers.specs.Working.{numbers, placed}
-use Rattle.unit_workers.specs.declared.view.View.{View}
 
 -- a number in a list twice, once, not at all
 seven_times : map (λ x. times x (7 ∷ 1 ∷ 7 ∷ [])) (1 ∷ 7 ∷ 3 ∷ []) ≡ 1 ∷ 2 ∷ 0 ∷ []

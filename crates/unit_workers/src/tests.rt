@@ -1,4 +1,4 @@
-ghost use Rattle.std.specs.Prelude.{◌≡◌, ◌*◌, ◌%◌, ◌^◌, ◌≤◌, None, IsSome};
+ghost use Rattle.std.specs.Prelude.{◌≡◌, ◌*◌, ◌%◌, ◌^◌, ◌≤◌, min, length, drop, None, IsSome};
 
 use crate::{Gate, NoGate, UnitJob, open_tickets, run_all};
 use std::alloc::Global;
@@ -13,6 +13,7 @@ use sym_edges::OutOfMemory;
 const TURNS: u64 = 200_000_000;
 
 /// The square of a number. Each worker keeps a list of the numbers that it read. One number may find no memory.
+#[derive(Drop)]
 struct Squares {
     short: Option<usize>,
 }
@@ -37,7 +38,30 @@ impl UnitJob for Squares {
     }
 }
 
+/// What stands in some bytes from a number on. The results are borrowed.
+#[derive(Drop)]
+struct Rests<'a> {
+    bytes: &'a [u8],
+}
+
+impl<'a> UnitJob for Rests<'a> {
+    type Out = &'a [u8];
+
+    type Scratch = ();
+
+    ghost gives = { λ job k out. out.now ≡ drop (min k (length job.bytes.now)) job.bytes.now };
+
+    fn scratch(&self, _alloc: Global) -> Result<(), OutOfMemory> {
+        Ok(())
+    }
+
+    fn run(&self, _alloc: Global, k: usize, _scratch: &mut ()) -> Result<&'a [u8], OutOfMemory> {
+        Ok(self.bytes.split_at(k.min(self.bytes.len())).1)
+    }
+}
+
 /// Counts how often each unit was reached.
+#[derive(Drop)]
 struct Recording<'a> {
     reached: &'a [AtomicU64],
 }
@@ -51,6 +75,7 @@ impl<'a> Gate for Recording<'a> {
 }
 
 /// Holds one unit until so many others were reached. `late` is 1 if the turns ran out.
+#[derive(Drop)]
 struct Holding {
     held: usize,
     others: u64,
@@ -122,6 +147,24 @@ fn results_stand_in_order(rt: HostRuntime) -> Result<(), Fail> {
     expect_squares(&rt, alloc, "one worker", 1000, 1)?;
     expect_squares(&rt, alloc, "four workers", 20_000, 4)?;
     expect_squares(&rt, alloc, "64 workers", 1000, 64)?;
+    Ok(())
+}
+
+#[test]
+fn results_may_be_borrowed(rt: HostRuntime) -> Result<(), Fail> {
+    let alloc = rt.alloc();
+    let job = Rests { bytes: b"abc" };
+    let outs = run_all(&rt, alloc, &job, &NoGate, 5, 3)?;
+    let mut lengths = Vec::new(alloc);
+    for out in outs.iter() {
+        lengths.push(out.len() as u64)?;
+    }
+    expect(
+        &rt,
+        "rests of three bytes",
+        lengths.as_slice(),
+        &[3, 2, 1, 0, 0],
+    );
     Ok(())
 }
 

@@ -7,6 +7,7 @@ use crate::lot::Lot;
 use crate::rule::{Both, Draw, OneRight, Seat, Word};
 use std::alloc::Global;
 use std::marker::Model;
+use std::mem::size_of;
 use sym_edges::OutOfMemory;
 
 /// The numbers below a count, one for each unit, of which each is drawn once. Threads share it by reference.
@@ -32,6 +33,8 @@ impl Model for Tickets {
 pub struct Hand {
     seat: Seat,
 }
+
+const _: () = prove!(size_of::<Hand>() == 0);
 
 impl Model for Hand {
     ghost use Rattle.std.specs.Prelude.{◌≡◌, []};

@@ -1,10 +1,9 @@
-use Rattle.std.proofs.Common.{◌≡◌, length, IfOk, Result, arith, rules, sym, ap, ◌∙◌}
-use Rattle.std.specs.List.{All}
+use Rattle.std.proofs.Common.{IfOk, Result, arith, ap}
 use Rattle.std.proofs.lemmas.List.Elements.{All-pop}
 use Rattle.sym_edges.specs.declared.fault.OutOfMemory.{OutOfMemory}
 use Rattle.unit_workers.specs.declared.working.Worked.{Worked}
 use Rattle.unit_workers.specs.Held.{Held}
-use Rattle.unit_workers.specs.Working.{IsResult, IsWorked}
+use Rattle.unit_workers.specs.Working.{IsWorked}
 use Rattle.unit_workers.proofs.PlaceLemmas.{gathers_first, gathers_more}
 use Rattle.unit_workers.proofs.gathering.gather.Goals as goal
 

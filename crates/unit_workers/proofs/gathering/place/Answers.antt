@@ -1,5 +1,4 @@
-use Rattle.std.proofs.Common.{◌≡◌, length, Some, arith, rules, sym, ap, ◌∙◌}
-use Rattle.std.specs.List.{All}
+use Rattle.std.proofs.Common.{length, sym, ap, ◌∙◌}
 use Rattle.std.proofs.lemmas.List.Elements.{All-pop}
 use Rattle.unit_workers.specs.Working.{IsResult, placed}
 use Rattle.unit_workers.proofs.PlaceLemmas.{placed_push}

@@ -1,6 +1,5 @@
-use Rattle.std.proofs.Common.{◌≡◌, arith, rules, sym, ap, ◌∙◌}
+use Rattle.std.proofs.Common.{ap}
 use Rattle.unit_workers.specs.Held.{Held}
-use Rattle.unit_workers.specs.Working.{IsWorked}
 use Rattle.unit_workers.proofs.WorkLemmas.{works_more, fewer_ahead}
 use Rattle.unit_workers.proofs.working.work.Goals as goal
 

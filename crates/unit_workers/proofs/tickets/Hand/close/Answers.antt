@@ -1,4 +1,4 @@
-use Rattle.std.proofs.Common.{◌≡◌, arith, rules, sym, ap, ◌∙◌}
+use Rattle.std.proofs.Common.{sym, ap, ◌∙◌}
 use Rattle.unit_workers.specs.Numbers.{times, once_below}
 use Rattle.unit_workers.specs.Held.{Roll, Held}
 use Rattle.unit_workers.proofs.StepLemmas.{closes}

@@ -1,4 +1,4 @@
-use Rattle.std.proofs.Common.{◌≡◌, arith, rules, sym, ap, ◌∙◌}
+use Rattle.std.proofs.Common.{arith, sym, ap, ◌∙◌}
 use Rattle.unit_workers.specs.Held.{Roll, Held}
 use Rattle.unit_workers.proofs.StepLemmas.{draws}
 use Rattle.unit_workers.proofs.tickets.Hand.draw.Goals as goal

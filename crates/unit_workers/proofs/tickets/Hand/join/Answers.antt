@@ -1,6 +1,6 @@
-use Rattle.std.proofs.Common.{◌≡◌, arith, rules, sym, ap, ◌∙◌}
+use Rattle.std.proofs.Common.{arith, sym, ap, ◌∙◌}
 use Rattle.unit_workers.specs.Held.{Roll, Held}
-use Rattle.unit_workers.proofs.StepLemmas.{joins}
+use Rattle.unit_workers.proofs.StepLemmas.{joins, same_lot}
 use Rattle.unit_workers.proofs.tickets.Hand.join.Goals as goal
 
 pub join_seat-requires : goal.join_seat-requires
@@ -10,5 +10,4 @@ join_seat-requires c =
     let tickets = c.tickets.view_is in
     let of = ap (λ (h : Held). h.roll) mine ∙ c.requires.of.0 ∙ sym tickets in
     let other_of = ap (λ (h : Held). h.roll) theirs ∙ c.requires.of.1 ∙ sym tickets in
-    let lot : _ = λ i. record { count = ap (λ (r : Roll). r.count) of i; workers = ap (λ (r : Roll). r.workers) of i } in
-    (ap (λ (r : Roll). r.id) of, ap (λ (r : Roll). r.id) other_of, c.other.invariant, omega (arith, c.tickets.invariant.0), joins _ _ _ _ _ lot)
+    (ap (λ (r : Roll). r.id) of, ap (λ (r : Roll). r.id) other_of, c.other.invariant, omega (arith, c.tickets.invariant.0), joins _ _ _ _ _ (same_lot _ _ (ap (λ (r : Roll). r.count) of) (ap (λ (r : Roll). r.workers) of)))
