@@ -1,9 +1,12 @@
 -- What a worker has after one more draw.
-use Rattle.std.proofs.Common.{◌≡◌, ℕ, ◌-◌, ◌<◌, List, [], ◌∷◌, ◌++◌, arith, refl, sym, ap, ◌∙◌}
+use Rattle.std.proofs.Common.{◌≡◌, ℕ, ◌-◌, ◌<◌, List, [], ◌∷◌, ◌++◌, Option, Some, Result, Ok, IfSome, IfOk, arith, refl, sym, ap, ◌∙◌}
+use Rattle.std.specs.Prelude.{option_to_list}
 use Rattle.std.specs.List.{All}
-use Rattle.std.proofs.lemmas.List.Elements.{All-push}
+use Rattle.std.proofs.lemmas.List.Elements.{All-push, All-pop}
+use Rattle.sym_edges.specs.declared.fault.OutOfMemory.{OutOfMemory}
+use Rattle.unit_workers.specs.declared.working.Worked.{Worked}
 use Rattle.unit_workers.specs.Held.{Roll, Held, held}
-use Rattle.unit_workers.specs.Working.{numbers, IsResult, IsWorked}
+use Rattle.unit_workers.specs.Working.{numbers, IsResult, IsWorked, AreWorked}
 use Rattle.unit_workers.proofs.NumberLemmas.{ceiling, ceiling_push, ceiling_le}
 
 pub numbers_push : {A : Type 0} (found : List (ℕ × A)) (k : ℕ) (out : A) → numbers (found ++ (k, out) ∷ []) ≡ numbers found ++ k ∷ []
@@ -31,3 +34,11 @@ module _ {A : Type 0} (gives : ℕ → A → Type 0) (roll : Roll) where
     holds = is ∙ ap (λ (h : Held). held roll h.drawn (h.rights - 1) h.share) w.holds;
     each = w.each;
   }
+
+  -- the last of some workers, and the others
+  pub popped : (works left : List (Result (Worked A) OutOfMemory)) (last : Option (Result (Worked A) OutOfMemory)) (worked : Worked A) → AreWorked gives roll works → works ≡ left ++ option_to_list last → last ≡ Some (Ok worked)
+      → IsWorked gives roll 0 worked.hand worked.found.items × AreWorked gives roll left
+  popped works left last worked each is here =
+      let parts = All-pop (λ (work : Result (Worked A) OutOfMemory). IfOk work (λ w. IsWorked gives roll 0 w.hand w.found.items)) works left last is each in
+      let one : IfSome (Some (Ok worked)) (λ (work : Result (Worked A) OutOfMemory). IfOk work (λ w. IsWorked gives roll 0 w.hand w.found.items)) = rw here at parts.1 in
+      (one, parts.0)

@@ -1,6 +1,8 @@
 -- Results beside their numbers, and results in the places of their numbers.
-use Rattle.std.specs.Prelude.{◌≡◌, ℕ, ◌<◌, ◌≤◌, List, [], ◌∷◌, length, Option, Some, IfSome, IsSomeAnd, slice_index_or, slice_set}
+use Rattle.std.specs.Prelude.{◌≡◌, ℕ, ◌<◌, ◌≤◌, List, [], ◌∷◌, length, Option, Some, Result, IfSome, IfOk, IsSomeAnd, slice_index_or, slice_set}
 use Rattle.std.specs.List.{All}
+use Rattle.sym_edges.specs.declared.fault.OutOfMemory.{OutOfMemory}
+use Rattle.unit_workers.specs.declared.working.Worked.{Worked}
 use Rattle.unit_workers.specs.Numbers.{times}
 use Rattle.unit_workers.specs.Held.{Roll, Held, held}
 
@@ -25,6 +27,10 @@ IsResult gives count r = (r.0 < count) × gives r.0 r.1
 pub record IsWorked {A : Type 0} (gives : ℕ → A → Type 0) (roll : Roll) (rights : ℕ) (hand : Held) (found : List (ℕ × A)) : Type 0 where
   pub holds : hand ≡ held roll (numbers found) rights 1
   pub each : All (IsResult gives roll.count) found
+
+-- each worker that found memory is done
+abbrev pub AreWorked : {A : Type 0} → (ℕ → A → Type 0) → Roll → List (Result (Worked A) OutOfMemory) → Type 0
+AreWorked gives roll works = All (λ work. IfOk work (λ w. IsWorked gives roll 0 w.hand w.found.items)) works
 
 -- the places after each result was put into that of its number, from the last result to the first
 abbrev pub placed : {A : Type 0} → List (Option A) → List (ℕ × A) → List (Option A)

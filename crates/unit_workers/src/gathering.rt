@@ -1,6 +1,6 @@
 ghost use Rattle.std.specs.Prelude.{◌≡◌, ◌<◌, length, replicate, None, IfOk, vec_len};
 ghost use Rattle.std.specs.List.{All};
-ghost use Rattle.unit_workers.specs.Working.{AreInOrder, AreTaken, IsGathered, IsResult, IsWorked, placed};
+ghost use Rattle.unit_workers.specs.Working.{AreInOrder, AreTaken, AreWorked, IsGathered, IsResult, placed};
 
 use crate::job::UnitJob;
 use crate::tickets::{Hand, Tickets};
@@ -38,7 +38,7 @@ pub fn gather<J: UnitJob>(
 ) -> Result<Hand, OutOfMemory>
     requires empty { slots.old ≡ replicate tickets.now.count None }
     requires some { 0 < vec_len works }
-    requires each { All (λ work. IfOk work (λ w. IsWorked (J.gives job.now) tickets.now 0 w.hand w.found.items)) works.items }
+    requires each { AreWorked (J.gives job.now) tickets.now works.items }
     ensures share { IfOk result (λ hand. hand.share ≡ vec_len works) }
     ensures gathered { IfOk result (λ hand. IsGathered (J.gives job.now) tickets.now hand slots.new) }
 {

@@ -8,7 +8,7 @@ pub trait UnitJob {
     /// What a unit gives.
     type Out: Drop;
     /// What a worker keeps from one unit to the next, so that memory is taken once: stacks and lists that each unit fills again.
-    /// It may hold anything when a unit is begun. A job without such memory has `()`.
+    /// It may hold anything when a unit is begun, and stays with its worker. A job without such memory has `()`.
     type Scratch: Drop;
 
     /// The results that stand for a number.

@@ -1,6 +1,6 @@
 ghost use Rattle.std.specs.Prelude.{◌≡◌, length, IfOk, vec_len};
 ghost use Rattle.std.specs.List.{All};
-ghost use Rattle.unit_workers.specs.Working.{one_hand, IsWorked};
+ghost use Rattle.unit_workers.specs.Working.{one_hand, IsWorked, AreWorked};
 
 use crate::job::{Gate, UnitJob};
 use crate::tickets::{Hand, Tickets};
@@ -52,7 +52,7 @@ where
     J::Scratch: Send,
     requires { All (λ h. h ≡ one_hand tickets.now) hands.items }
     ensures count { IfOk result (λ works. vec_len works ≡ vec_len hands) }
-    ensures each { IfOk result (λ works. All (λ work. IfOk work (λ w. IsWorked (J.gives job.now) tickets.now 0 w.hand w.found.items)) works.items) }
+    ensures each { IfOk result (λ works. AreWorked (J.gives job.now) tickets.now works.items) }
 {
     Ok(map_vec(
         rt,
