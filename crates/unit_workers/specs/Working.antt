@@ -47,6 +47,6 @@ pub record IsGathered {A : Type 0} (gives : ℕ → A → Type 0) (roll : Roll) 
   -- the place of each number that was drawn is taken
   pub taken : (k : ℕ) (default : Option A) → k < length slots → 0 < times k hand.drawn → IsSomeAnd (slice_index_or slots k default) (gives k)
 
--- each place has a result that stands in the relation for it
+-- each place from a number on has a result that stands in the relation for it
 abbrev pub AreTaken : {A : Type 0} → (ℕ → A → Type 0) → ℕ → List (Option A) → Type 0
 AreTaken {A} gives from slots = (k : ℕ) (default : Option A) → from ≤ k → k < length slots → IsSomeAnd (slice_index_or slots k default) (gives k)

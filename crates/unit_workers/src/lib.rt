@@ -4,7 +4,7 @@
 //! [`run_all`] runs a job at each number below a count, by some workers, and answers the list of results: it has as many
 //! members as the count says, and member k stands in the job's relation for k. Who drew which number is not in it.
 //!
-//! The workers share one word, and the only step on it is an addition of 1, which draws the number of the next unit. No lock
+//! The workers share one word, and their only step on it is an addition of 1, which draws the number of the next unit. No lock
 //! is taken and no call waits. [`open_tickets`] makes the word with a first [`Hand`], which may draw; `split` makes further
 //! hands, one for each worker, and `join` takes them in again. A hand that stands for all workers and has no right left has
 //! drawn each number below the count exactly once: that is the clause of `close`.
