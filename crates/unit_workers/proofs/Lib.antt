@@ -1,0 +1,6 @@
+pub mod SumLemmas
+pub mod NumberLemmas
+pub mod StepLemmas
+pub mod WorkLemmas
+pub mod PlaceLemmas
+mod WorkedRows

@@ -1,0 +1,5 @@
+pub mod Numbers
+pub mod Held
+pub mod Drawing
+pub mod Steps
+pub mod Working

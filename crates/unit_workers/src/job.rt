@@ -1,0 +1,41 @@
+ghost use Rattle.std.specs.Prelude.{ℕ, IfOk};
+
+use std::alloc::Global;
+use sym_edges::OutOfMemory;
+
+/// The reading of units by their numbers.
+pub trait UnitJob {
+    /// What a unit gives.
+    type Out: Drop;
+    /// What a worker keeps from one unit to the next, so that memory is taken once: stacks and lists that each unit fills again.
+    /// It may hold anything when a unit is begun, and stays with its worker. A job without such memory has `()`.
+    type Scratch: Drop;
+
+    /// The results that stand for a number.
+    ghost gives: { Self → ℕ → Self.Out → Type 0 };
+
+    /// Made once for each worker.
+    fn scratch(&self, alloc: Global) -> Result<Self::Scratch, OutOfMemory>;
+
+    /// The result of unit `k`.
+    fn run(
+        &self,
+        alloc: Global,
+        k: usize,
+        scratch: &mut Self::Scratch,
+    ) -> Result<Self::Out, OutOfMemory>
+        ensures { IfOk result (λ out. gives self.now k out) };
+}
+
+/// Is told of each unit by the worker that drew it, before the unit is read.
+pub trait Gate {
+    fn at(&self, k: usize);
+}
+
+/// Does nothing.
+#[derive(Clone, Copy)]
+pub struct NoGate;
+
+impl Gate for NoGate {
+    fn at(&self, _k: usize) {}
+}

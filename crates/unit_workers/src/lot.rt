@@ -1,0 +1,6 @@
+/// With what tickets are made: how many units there are, and how many workers may draw.
+#[derive(Drop)]
+pub struct Lot {
+    pub count: u64,
+    pub workers: u64,
+}

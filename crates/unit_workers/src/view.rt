@@ -1,0 +1,21 @@
+ghost use Rattle.std.specs.Prelude.{ℕ, List};
+ghost use Rattle.std.specs.Borrow.{ftrue};
+ghost use Rattle.unit_workers.specs.declared.lot.Lot.{Lot};
+
+use std::marker::Model;
+
+/// What a seat at the word knows. No value of it is made.
+pub struct View {
+    /// What the word was made with.
+    pub ghost lot: { Lot },
+    /// The numbers that were drawn, in order.
+    pub ghost drawn: { List ℕ },
+    /// How many draws may still be made that find no number.
+    pub ghost rights: { ℕ },
+    /// For how many workers the seat stands.
+    pub ghost share: { ℕ },
+}
+
+impl Model for View {
+    ghost also_owns = { λ _. ftrue };
+}
