@@ -1,5 +1,5 @@
 -- Bytes of a header, one by one and as a run.
-use Rattle.std.proofs.Common.{◌≡◌, ◌≤◌, ◌<◌, ℕ, zero, suc, ◌+◌, ◌*◌, ◌^◌, nat_lt, cond, true, false, List, [], ◌∷◌, length, take, drop, Result, Ok, Err, refl, sym, ◌∙◌, ap, inl, inr, arith}
+use Rattle.std.proofs.Common.{◌≡◌, ◌≤◌, ◌<◌, ℕ, zero, suc, ◌+◌, cond, List, [], ◌∷◌, length, take, drop, Result, Ok, Err, refl, sym, ◌∙◌, ap, inl, inr, arith}
 use Rattle.std.proofs.lemmas.Bool.{cases_lt, lt-ltb, le-ltb}
 use Rattle.std.proofs.lemmas.List.{length-take-le}
 use Rattle.sym_edges.specs.Results.{◌>>=◌}
@@ -7,7 +7,6 @@ use Rattle.leb_cursor.specs.declared.fault.CursorFault.{CursorFault}
 use Rattle.leb_cursor.specs.declared.fault.CursorFault.TheVariants.{Ends}
 use Rattle.leb_cursor.specs.Ahead.{Ahead, passed}
 use Rattle.leb_cursor.specs.Readings.{fixed_sum, fixed_at, take_at}
-use Rattle.abbrev_units.specs.declared.fault.HeaderFault.{HeaderFault}
 use Rattle.abbrev_units.specs.declared.fault.HeaderFault.TheVariants as header
 use Rattle.abbrev_units.specs.Faults.{as_field}
 use Rattle.line_program.specs.Headers.{byte_at}

@@ -1,5 +1,5 @@
 -- Each opcode has a byte at the least, so the list of opcodes has no more members than bytes.
-use Rattle.std.proofs.Common.{◌≡◌, ◌≢◌, ◌≤◌, ◌<◌, ℕ, zero, suc, ◌+◌, ◌-◌, ◌==◌, Bool, cond, true, false, List, [], ◌∷◌, length, get_or, Option, Some, None, Result, Ok, Err, refl, sym, ◌∙◌, ap, subst, arith}
+use Rattle.std.proofs.Common.{◌≡◌, ◌≢◌, ◌≤◌, ◌<◌, ℕ, zero, suc, ◌+◌, ◌-◌, ◌==◌, Bool, cond, true, false, List, length, get_or, Option, Some, None, Result, Ok, Err, refl, sym, ap, subst, arith}
 use Rattle.std.proofs.lemmas.Bool.Decides.{nat_tests}
 use Rattle.sym_edges.specs.Results.{◌>>=◌}
 use Rattle.leb_cursor.specs.declared.fault.CursorFault.{CursorFault}
@@ -13,7 +13,7 @@ use Rattle.line_program.specs.declared.opcode.Opcode.{Opcode}
 use Rattle.line_program.specs.declared.opcode.Opcode.TheVariants.{Special, Copy, AdvancePc, AdvanceLine, SetFile, SetColumn, NegateStmt, SetBasicBlock, ConstAddPc, FixedAdvancePc, SetPrologueEnd, SetEpilogueBegin, SetIsa, UnknownStandard}
 use Rattle.line_program.specs.Faults.{Fault, in_line}
 use Rattle.line_program.specs.ProgramFields.{ProgramFields}
-use Rattle.line_program.proofs.GoingLemmas.{line_passes, less_passes, Goes, either, stays, behind}
+use Rattle.line_program.proofs.GoingLemmas.{line_passes, Goes, either, stays, behind}
 use Rattle.line_program.specs.Opcodes.{one, pass_ulebs, extended_in, extended_at, standard_at, behind_opcode, opcode_at, next_at, opcodes_at}
 
 one_passes : {A : Type 0} (operand : Ahead → Result (A × Ahead) CursorFault) (make : A → Opcode) (least : ℕ) (c : Ahead) → Passes least c (operand c) → Goes c (one operand make c)

@@ -1,11 +1,11 @@
 -- Rows painted from an address on.
 use Rattle.std.proofs.Common.{◌≡◌, ◌≢◌, ℕ, zero, suc, ◌+◌, ◌-◌, ◌<◌, ◌≤◌, nat_le, nat_lt, Bool, cond, true, false, List, [], ◌∷◌, ◌++◌, length, get_or, take, drop, Option, Some, None, refl, sym, ◌∙◌, ap, subst, inl, inr, arith}
 use Rattle.std.specs.List.{slice_get}
-use Rattle.std.specs.List.Sorted.{IsNonDecreasingBy, IsPartitionedBy, IsPartitionPoint}
-use Rattle.std.proofs.lemmas.Bool.{cases_lt, le-leb, lt-leb, lt-ltb, le-ltb, leb-true, leb-false, ltb-true, ltb-false}
+use Rattle.std.specs.List.Sorted.{IsPartitionedBy, IsPartitionPoint}
+use Rattle.std.proofs.lemmas.Bool.{cases_lt, le-leb, lt-leb, leb-true, leb-false, ltb-true, ltb-false}
 use Rattle.std.proofs.lemmas.List.{take-append-drop, get_or-drop, get_or-take, length-drop, length-take-le}
 use Rattle.std.proofs.lemmas.List.Sorted.{IsNonDecreasingBy-take, IsNonDecreasingBy-drop, IsPartitionedBy-leb, IsPartitionedBy-ltb}
-use Rattle.step_maps.specs.Stepping.{Stepping, held_from, value_at, last_from, RisesFrom, IsStepping}
+use Rattle.step_maps.specs.Stepping.{Stepping, held_from, value_at, last_from, IsStepping}
 use Rattle.step_maps.proofs.SteppingLemmas.{held_at_index, held_below_first, rises_next}
 use Rattle.line_program.specs.declared.row.Row.{Row}
 use Rattle.line_program.specs.declared.path_line.PathLine.{PathLine}

@@ -1,5 +1,5 @@
 -- A program, one opcode after another.
-use Rattle.std.proofs.Common.{◌≡◌, ◌≢◌, ℕ, ◌==◌, true, false, List, [], ◌∷◌, length, Option, Some, None, Result, Ok, Err, refl, sym, ◌∙◌, ap, arith}
+use Rattle.std.proofs.Common.{◌≡◌, ◌≢◌, ℕ, ◌==◌, true, false, List, [], length, Some, Result, Ok, Err, refl, sym, ◌∙◌, ap, arith}
 use Rattle.std.proofs.lemmas.Bool.Decides.{nat_tests}
 use Rattle.sym_edges.specs.Results.{◌>>=◌}
 use Rattle.leb_cursor.specs.Ahead.{Ahead}
@@ -8,7 +8,7 @@ use Rattle.line_program.specs.declared.opcode.Opcode.{Opcode}
 use Rattle.line_program.specs.Faults.{Fault}
 use Rattle.line_program.specs.ProgramFields.{ProgramFields}
 use Rattle.line_program.specs.Opcodes.{opcode_at, next_at, opcodes_at}
-use Rattle.line_program.specs.LineRows.{State, first_state, carried, all_carried, run_from, line_rows}
+use Rattle.line_program.specs.LineRows.{State, carried, all_carried, run_from}
 use Rattle.line_program.proofs.OpcodeLemmas.{opcodes_are, next_ended, next_is}
 
 some_left : (n : ℕ) → false ≡ (n == 0) → n ≢ 0

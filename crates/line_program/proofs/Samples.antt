@@ -1,11 +1,10 @@
 -- Line tables for worked rows, field by field.
-use Rattle.std.proofs.Common.{ℕ, nat_lt, ◌==◌, Bool, cond, List, [], ◌∷◌, ◌++◌, length, map, codes, Option, Some, None, Result, Ok, Err}
+use Rattle.std.proofs.Common.{ℕ, nat_lt, ◌==◌, cond, List, [], ◌∷◌, ◌++◌, length, map, codes, Option, Result, Ok}
 use Rattle.std.specs.Prelude.{⊤}
 use Prim.Native.String.{String}
 use Rattle.std.specs.Option.{option_map}
 use Rattle.sym_edges.proofs.Hex.{hex, little}
 use Rattle.sym_edges.proofs.Shown.{shown}
-use Rattle.sym_edges.specs.Addresses.{Range}
 use Rattle.sym_edges.specs.Results.{◌>>=◌}
 use Rattle.range_set.specs.Enclosing.{encloses}
 use Rattle.abbrev_units.specs.DebugSections.{DebugSections}

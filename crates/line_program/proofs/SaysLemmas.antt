@@ -1,5 +1,5 @@
 -- What a table says by numbers is what the line table says by paths.
-use Rattle.std.proofs.Common.{◌≡◌, ◌≢◌, ◌<◌, ◌≤◌, ◌^◌, ℕ, zero, suc, ◌+◌, ◌-◌, ◌==◌, ◌&&◌, nat_lt, nat_le, Bool, true, false, cond, List, [], ◌∷◌, length, map, get_or, Option, Some, None, Result, Ok, Err, refl, sym, ◌∙◌, ap, subst, arith}
+use Rattle.std.proofs.Common.{◌≡◌, ◌≢◌, ◌<◌, ◌^◌, ℕ, zero, suc, ◌-◌, ◌==◌, ◌&&◌, nat_lt, nat_le, Bool, true, false, cond, List, [], ◌∷◌, length, get_or, Option, Some, None, Result, Ok, refl, sym, ◌∙◌, ap, subst, arith}
 use Rattle.std.specs.List.{slice_get}
 use Rattle.std.specs.Option.{option_map, option_and_then}
 use Rattle.std.proofs.lemmas.List.{length-map}
@@ -12,7 +12,7 @@ use Rattle.line_program.specs.declared.row.Row.{Row}
 use Rattle.line_program.specs.Faults.{Fault}
 use Rattle.line_program.specs.LineRows.{Sequence}
 use Rattle.line_program.specs.LineAt.{Lines, least_address, covers_from, covers, row_at, row_in, path_of, line_of, line_at}
-use Rattle.line_program.specs.LineMaps.{LineMap, no_line, shown, named_line, numbered_file, distinct_paths, AreDistinct, SaysLines, EncloseAlike}
+use Rattle.line_program.specs.LineMaps.{LineMap, no_line, shown, named_line, distinct_paths, AreDistinct, SaysLines, EncloseAlike}
 use Rattle.line_program.specs.LineTables.{Says}
 use Rattle.line_program.specs.Numbered.{number_of, numbered_line_by, numbered_line_of, numbered_at}
 use Rattle.line_program.specs.Numbering.{picked, AreNumbered, AllBelow, IsLineMap}

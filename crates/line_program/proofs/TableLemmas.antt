@@ -1,14 +1,12 @@
 -- The lines of a table, from the sequences that count.
-use Rattle.std.proofs.Common.{◌≡◌, ◌≢◌, ℕ, ◌<◌, ◌≤◌, ◌^◌, nat_le, nat_lt, ◌==◌, ◌+◌, ◌-◌, Bool, true, false, cond, List, [], ◌∷◌, ◌++◌, length, get_or, take, drop, map, Option, Some, None, refl, sym, ◌∙◌, ap, subst, ◌⊎◌, inl, inr, append_assoc, append-nil, arith}
+use Rattle.std.proofs.Common.{◌≡◌, ℕ, ◌<◌, ◌≤◌, ◌^◌, nat_le, ◌+◌, Bool, true, false, cond, List, [], ◌∷◌, ◌++◌, length, get_or, drop, Option, Some, None, refl, sym, ◌∙◌, ap, ◌⊎◌, inl, inr, append_assoc, append-nil, arith}
 use Rattle.std.specs.List.{slice_get}
 use Rattle.std.specs.Option.{option_map}
 use Rattle.std.proofs.lemmas.Bool.{le-leb, lt-leb}
 use Rattle.std.proofs.lemmas.List.{length_push, drop_more, drop_all}
-use Rattle.range_set.specs.Enclosing.{encloses}
-use Rattle.sym_edges.specs.Addresses.{Range}
 use Rattle.step_maps.specs.declared.stretch.Stretch.{Stretch}
 use Rattle.step_maps.specs.declared.stretch.FirstItem.{FirstItem}
-use Rattle.step_maps.specs.Covers.{reaches, first_at, first_item, is_shared, AreStretches}
+use Rattle.step_maps.specs.Covers.{first_at, first_item, is_shared}
 use Rattle.step_maps.specs.Stepping.{Stepping, held_from, value_at}
 use Rattle.line_program.specs.declared.path_line.PathLine.{PathLine}
 use Rattle.line_program.specs.declared.row.Row.{Row}

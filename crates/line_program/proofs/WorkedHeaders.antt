@@ -1,8 +1,7 @@
 -- Worked rows: the header of a line table, field by field, with each "must" (DWARF 5, 6.2.4).
-use Rattle.std.proofs.Common.{◌≡◌, List, [], ◌∷◌, ◌++◌, map, take, Option, Some, None, Result, Ok, Err, refl}
-use Prim.Native.String.{String}
+use Rattle.std.proofs.Common.{◌≡◌, [], ◌∷◌, ◌++◌, map, take, Ok, Err, refl}
 use Rattle.abbrev_units.specs.declared.fault.DwarfKind.TheVariants as is
-use Rattle.line_program.specs.Faults.{Fault, fault_at}
+use Rattle.line_program.specs.Faults.{fault_at}
 use Rattle.line_program.proofs.Computing.{line_program_computes}
 use Rattle.sym_edges.proofs.Hex.{hex}
 use Rattle.sym_edges.specs.declared.part.Sect.TheVariants.{Info}

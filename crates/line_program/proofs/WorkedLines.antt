@@ -1,8 +1,5 @@
 -- Worked rows: the lines of addresses (DWARF 5, 6.2.2).
-use Rattle.std.proofs.Common.{◌≡◌, List, [], ◌∷◌, Option, Some, None, Result, Ok, Err, refl}
-use Prim.Native.String.{String}
-use Rattle.abbrev_units.specs.declared.fault.DwarfKind.TheVariants as is
-use Rattle.line_program.specs.Faults.{Fault, fault_at}
+use Rattle.std.proofs.Common.{◌≡◌, [], ◌∷◌, Some, None, Ok, refl}
 use Rattle.line_program.proofs.Computing.{line_program_computes}
 use Rattle.line_program.proofs.Samples.{table, wide_table, lines, tables_compute}
 

@@ -1,13 +1,11 @@
 -- Worked rows: each opcode with the registers behind it (DWARF 5, 6.2.5).
-use Rattle.std.proofs.Common.{◌≡◌, ℕ, ◌-◌, ℤ, pos, negsuc, List, [], ◌∷◌, take, codes, Result, Ok, Err, refl}
-use Rattle.std.specs.Prelude.{⊤}
+use Rattle.std.proofs.Common.{◌≡◌, ℕ, ◌-◌, ℤ, pos, negsuc, [], ◌∷◌, take, codes, Result, Ok, Err, refl}
 use Prim.Native.String.{String}
 use Rattle.sym_edges.proofs.Hex.{hex}
 use Rattle.abbrev_units.specs.declared.fault.DwarfKind.TheVariants as is
 use Rattle.line_program.specs.declared.row.Row.{Row}
 use Rattle.line_program.specs.Faults.{Fault, fault_at}
-use Rattle.line_program.specs.FileFields.{FileFields}
-use Rattle.line_program.specs.LineRows.{Registers, Sequence, State, first_state, run_from}
+use Rattle.line_program.specs.LineRows.{Registers, State, run_from}
 use Rattle.line_program.specs.ProgramFields.{ProgramFields}
 use Rattle.line_program.proofs.Computing.{line_program_computes}
 

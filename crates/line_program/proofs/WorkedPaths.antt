@@ -1,8 +1,7 @@
 -- Worked rows: the paths of files, by the tables of each version (DWARF 5, 6.2.4; DWARF 4, 6.2.4).
-use Rattle.std.proofs.Common.{◌≡◌, List, [], ◌∷◌, Option, Some, None, Result, Ok, Err, refl}
-use Prim.Native.String.{String}
+use Rattle.std.proofs.Common.{◌≡◌, [], ◌∷◌, Ok, Err, refl}
 use Rattle.abbrev_units.specs.declared.fault.DwarfKind.TheVariants as is
-use Rattle.line_program.specs.Faults.{Fault, fault_at}
+use Rattle.line_program.specs.Faults.{fault_at}
 use Rattle.line_program.proofs.Computing.{line_program_computes}
 use Rattle.line_program.proofs.Samples.{table, wide_table, paths, tables_compute}
 

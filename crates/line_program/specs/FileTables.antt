@@ -1,5 +1,5 @@
 -- The tables of directories and files in the header of a line table (DWARF 5, 6.2.4 and 6.2.4.1; DWARF 4, 6.2.4).
-use Rattle.std.specs.Prelude.{ℕ, pos, ◌==◌, nat_lt, Bool, true, false, if◌then◌else◌, List, [], ◌∷◌, find, length, Option, Some, None, option_and_then, unwrap_or, Result, Ok, Err}
+use Rattle.std.specs.Prelude.{ℕ, pos, ◌==◌, nat_lt, Bool, true, false, if◌then◌else◌, List, [], ◌∷◌, find, length, Option, Some, None, unwrap_or, Result, Ok, Err}
 use Rattle.std.specs.Option.{option_map}
 use Rattle.sym_edges.specs.Results.{◌>>=◌}
 use Rattle.leb_cursor.specs.Ahead.{Ahead}

@@ -41,3 +41,6 @@ mod tables;
 
 pub use crate::lines::read_lines;
 pub use crate::table::LineTable;
+
+#[cfg(test)]
+mod tests;

@@ -1,4 +1,4 @@
-use Rattle.std.proofs.Common.{nat_le, rules, subst, sym, refl, arith}
+use Rattle.std.proofs.Common.{nat_le, rules, subst, sym, refl}
 use Rattle.std.proofs.lemmas.List.Sorted.{IsPartitionPoint-from_clause}
 use Rattle.line_program.specs.LineMaps.{no_line}
 use Rattle.line_program.specs.Brush.{Parts}
