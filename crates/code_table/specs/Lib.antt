@@ -1,4 +1,5 @@
 pub mod Rows
 pub mod Layouts
 pub mod FrameOps
+pub mod LineOps
 pub mod Forms

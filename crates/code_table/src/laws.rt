@@ -5,6 +5,7 @@ ghost use Rattle.leb_cursor.specs.Passes.{Passes};
 ghost use Rattle.code_table.specs.declared.kind.Shape.{Shape};
 ghost use Rattle.code_table.specs.Forms.{form_layouts};
 ghost use Rattle.code_table.specs.FrameOps.{frame_opcodes};
+ghost use Rattle.code_table.specs.LineOps.{line_opcodes};
 ghost use Rattle.code_table.specs.Layouts.{shape_at};
 
 use crate::forms::{FORMS, FORMS64};
@@ -16,6 +17,11 @@ use crate::frame_ops::{
     DW_CFA_remember_state, DW_CFA_restore, DW_CFA_restore_extended, DW_CFA_restore_state,
     DW_CFA_same_value, DW_CFA_set_loc, DW_CFA_undefined, DW_CFA_val_expression, DW_CFA_val_offset,
     DW_CFA_val_offset_sf, FRAME_OPS,
+};
+use crate::line_ops::{
+    DW_LNS_advance_line, DW_LNS_advance_pc, DW_LNS_const_add_pc, DW_LNS_copy,
+    DW_LNS_fixed_advance_pc, DW_LNS_negate_stmt, DW_LNS_set_basic_block, DW_LNS_set_column,
+    DW_LNS_set_epilogue_begin, DW_LNS_set_file, DW_LNS_set_isa, DW_LNS_set_prologue_end, LINE_OPS,
 };
 
 /// The operands of a shape lie among the bytes that are ahead.
@@ -60,6 +66,28 @@ pub fn frame_opcode_values()
 #[tactic(auto, unfolding(crate::specs::FrameOps::frame_opcodes))]
 pub fn frame_ops_are_the_standards()
     ensures { FRAME_OPS.rows ≡ frame_opcodes }
+{}
+
+/// The standard opcodes of line number programs (DWARF 5, table 7.25).
+pub fn line_opcode_values()
+    ensures copy { DW_LNS_copy ≡ 0x01 }
+    ensures advance_pc { DW_LNS_advance_pc ≡ 0x02 }
+    ensures advance_line { DW_LNS_advance_line ≡ 0x03 }
+    ensures set_file { DW_LNS_set_file ≡ 0x04 }
+    ensures set_column { DW_LNS_set_column ≡ 0x05 }
+    ensures negate_stmt { DW_LNS_negate_stmt ≡ 0x06 }
+    ensures set_basic_block { DW_LNS_set_basic_block ≡ 0x07 }
+    ensures const_add_pc { DW_LNS_const_add_pc ≡ 0x08 }
+    ensures fixed_advance_pc { DW_LNS_fixed_advance_pc ≡ 0x09 }
+    ensures set_prologue_end { DW_LNS_set_prologue_end ≡ 0x0a }
+    ensures set_epilogue_begin { DW_LNS_set_epilogue_begin ≡ 0x0b }
+    ensures set_isa { DW_LNS_set_isa ≡ 0x0c }
+{}
+
+/// The rows of `LINE_OPS` are those of the standard.
+#[tactic(auto, unfolding(crate::specs::LineOps::line_opcodes))]
+pub fn line_ops_are_the_standards()
+    ensures { LINE_OPS.rows ≡ line_opcodes }
 {}
 
 /// The rows of `FORMS` and of `FORMS64` are those of the standard.

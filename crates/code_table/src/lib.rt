@@ -16,6 +16,7 @@ mod forms;
 mod frame_ops;
 mod kind;
 pub mod laws;
+mod line_ops;
 mod shape;
 mod table;
 
@@ -41,5 +42,10 @@ pub use crate::frame_ops::{
     DW_CFA_val_offset_sf, FRAME_OPS, frame_shape,
 };
 pub use crate::kind::{Kind, Operand, Operands, Shape};
+pub use crate::line_ops::{
+    DW_LNS_advance_line, DW_LNS_advance_pc, DW_LNS_const_add_pc, DW_LNS_copy,
+    DW_LNS_fixed_advance_pc, DW_LNS_negate_stmt, DW_LNS_set_basic_block, DW_LNS_set_column,
+    DW_LNS_set_epilogue_begin, DW_LNS_set_file, DW_LNS_set_isa, DW_LNS_set_prologue_end, LINE_OPS,
+};
 pub use crate::shape::{read_kind, read_shape};
 pub use crate::table::Table;

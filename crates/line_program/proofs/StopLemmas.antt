@@ -1,0 +1,63 @@
+-- The line at a stop is the value beside it.
+use Rattle.std.proofs.Common.{◌≡◌, ◌≢◌, ◌<◌, ◌≤◌, ◌^◌, ℕ, zero, suc, ◌+◌, ◌==◌, Bool, true, false, cond, List, [], ◌∷◌, length, get_or, Some, None, refl, sym, ◌∙◌, ap, subst, arith}
+use Rattle.std.specs.Option.{IfSome}
+use Rattle.std.proofs.lemmas.Bool.Decides.{nat_tests}
+use Rattle.step_maps.specs.Stepping.{Stepping, value_at, RisesFrom, last_from, IsStepping}
+use Rattle.step_maps.proofs.PieceLemmas.{start_low}
+use Rattle.step_maps.proofs.SteppingLemmas.{held_at_index}
+use Rattle.line_program.specs.declared.path_line.PathLine.{PathLine}
+use Rattle.std.proofs.lemmas.List.{length-map}
+use Rattle.line_program.specs.LineMaps.{LineMap, no_line, shown, numbered_line}
+use Rattle.line_program.specs.Numbering.{picked, IsLineMap}
+
+-- a stop is below the next one
+rises : (low : ℕ) (stops : List ℕ) (i j : ℕ) → RisesFrom low stops → j ≡ i + 1 → j < length stops → get_or stops i 0 < get_or stops j 0
+rises low [] i j up next inside = absurd (omega arith)
+rises low (s ∷ stops) i zero up next inside = absurd (omega arith)
+rises low (s ∷ []) i (suc j) up next inside = absurd (omega arith)
+rises low (s ∷ t ∷ stops) zero (suc zero) up next inside = omega (arith, up.1.0)
+rises low (s ∷ t ∷ stops) zero (suc (suc j)) up next inside = absurd (omega arith)
+rises low (s ∷ t ∷ stops) (suc i) (suc j) up next inside = rises (s + 1) (t ∷ stops) i j up.1 (omega arith) (omega arith)
+
+up_to_last : (from low : ℕ) (stops : List ℕ) (i : ℕ) → RisesFrom from stops → i < length stops → get_or stops i 0 ≤ last_from low stops
+up_to_last from low [] i up inside = absurd (omega arith)
+up_to_last from low (s ∷ stops) zero up inside = start_low s stops up.1
+up_to_last from low (s ∷ stops) (suc i) up inside = up_to_last (s + 1) s stops i up.1 (omega arith)
+
+pub stop_fits : (lines : Stepping PathLine) (i : ℕ) → IsStepping lines.stops lines.values → i < length lines.stops → get_or lines.stops i 0 < 2 ^ 64
+stop_fits lines i stepping inside = omega (arith, stepping.fits, up_to_last 0 0 lines.stops i stepping.rising inside)
+
+pub values_there : (lines : Stepping PathLine) (values : List PathLine) (i : ℕ) → IsStepping lines.stops lines.values → values ≡ lines.values → i < length lines.stops → i < length values
+values_there lines values i stepping is inside = omega (arith, stepping.paired, ap (λ (l : List PathLine). length l) is)
+
+pub stop_line : (lines : Stepping PathLine) (values : List PathLine) (i : ℕ) (d : PathLine) → IsStepping lines.stops lines.values → values ≡ lines.values → i < length lines.stops → get_or values i d ≡ value_at no_line lines (get_or lines.stops i 0)
+stop_line lines values i d stepping is inside =
+    ap (λ l. get_or l i d) is
+    ∙ sym (held_at_index no_line d lines.stops lines.values i (get_or lines.stops i 0) stepping inside (omega arith) (λ more. rises 0 lines.stops i (i + 1) stepping.rising refl more))
+
+named_by : (t : Bool) (v : PathLine) (bound : ℕ) → (v.line == 0) ≡ t → (v.line ≢ 0 → v.path < bound) → IfSome {T = ℕ × ℕ} (cond t None (Some (v.path, v.line))) (λ line. line.0 < bound)
+named_by true v bound is below = tt
+named_by false v bound is below = below (grind (arith, nat_tests))
+
+pub stop_named : (v : PathLine) (bound : ℕ) → (v.line ≢ 0 → v.path < bound) → IfSome (shown v) (λ line. line.0 < bound)
+stop_named v bound below = named_by (v.line == 0) v bound refl below
+
+-- what stands beside a stop of a table
+pub value_there : (lines : Stepping PathLine) (texts : List (List ℕ)) (firsts : List ℕ) (first : ℕ) (files : List ℕ) (table : LineMap) (values : List PathLine) (i : ℕ) → (let view : LineMap = record { lines = lines; paths = picked texts firsts; first = first; files = files } in view) ≡ table → IsStepping lines.stops lines.values → values ≡ lines.values → i < length table.lines.stops → i < length values
+value_there lines texts firsts first files table values i view stepping is inside =
+    values_there lines values i stepping is (subst (λ (t : LineMap). i < length t.lines.stops) (sym view) inside)
+
+pub line_there : (lines : Stepping PathLine) (texts : List (List ℕ)) (firsts : List ℕ) (first : ℕ) (files : List ℕ) (table : LineMap) (values : List PathLine) (i : ℕ) (d : PathLine) → (let view : LineMap = record { lines = lines; paths = picked texts firsts; first = first; files = files } in view) ≡ table → IsStepping lines.stops lines.values → values ≡ lines.values → i < length table.lines.stops → shown (get_or values i d) ≡ numbered_line table (get_or table.lines.stops i 0)
+line_there lines texts firsts first files table values i d view stepping is inside =
+    ap shown (stop_line lines values i d stepping is (subst (λ (t : LineMap). i < length t.lines.stops) (sym view) inside))
+    ∙ ap (λ (t : LineMap). numbered_line t (get_or t.lines.stops i 0)) view
+
+pub named_there : (lines : Stepping PathLine) (texts : List (List ℕ)) (firsts : List ℕ) (first : ℕ) (files : List ℕ) (table : LineMap) (values : List PathLine) (i : ℕ) (d : PathLine) → (let view : LineMap = record { lines = lines; paths = picked texts firsts; first = first; files = files } in view) ≡ table → IsLineMap lines texts firsts files → IsStepping lines.stops lines.values → values ≡ lines.values → i < length table.lines.stops → IfSome (shown (get_or values i d)) (λ line. line.0 < length table.paths)
+named_there lines texts firsts first files table values i d view map stepping is inside =
+    let here : i < length lines.stops = subst (λ (t : LineMap). i < length t.lines.stops) (sym view) inside in
+    let at : get_or values i d ≡ value_at no_line lines (get_or lines.stops i 0) = stop_line lines values i d stepping is here in
+    let many : length (picked texts firsts) ≡ length firsts = length-map firsts (λ k. get_or texts k []) in
+    subst (λ (t : LineMap). IfSome (shown (get_or values i d)) (λ line. line.0 < length t.paths)) view
+    (stop_named (get_or values i d) (length (picked texts firsts))
+    (subst (λ (v : PathLine). v.line ≢ 0 → v.path < length (picked texts firsts)) (sym at)
+    (λ some. (let less : (value_at no_line lines (get_or lines.stops i 0)).path < length firsts = map.lines_named (get_or lines.stops i 0) (stop_fits lines i stepping here) some in omega arith))))

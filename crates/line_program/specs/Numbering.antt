@@ -1,0 +1,28 @@
+-- Paths by their numbers, as the code keeps them; no public clause cites this.
+use Rattle.std.specs.Prelude.{◌≡◌, ◌≢◌, ℕ, ◌<◌, ◌^◌, List, [], ◌∷◌, map, length, slice_index, slice_index_or, Some}
+use Rattle.std.specs.List.{slice_get}
+use Rattle.step_maps.specs.Stepping.{Stepping, value_at}
+use Rattle.line_program.specs.declared.path_line.PathLine.{PathLine}
+use Rattle.line_program.specs.LineMaps.{no_line, AreDistinct}
+
+-- the texts at these places
+abbrev pub picked : List (List ℕ) → List ℕ → List (List ℕ)
+picked texts places = map (λ k. slice_index_or texts k []) places
+
+-- each number is that of the path beside it
+abbrev pub AreNumbered : List (List ℕ) → List ℕ → List (List ℕ) → Type 0
+AreNumbered paths [] [] = Unit {0}
+AreNumbered paths [] (file ∷ files) = ⊥
+AreNumbered paths (n ∷ numbers) [] = ⊥
+AreNumbered paths (n ∷ numbers) (file ∷ files) = (slice_get paths n ≡ Some file) × AreNumbered paths numbers files
+
+-- each number is below a bound
+abbrev pub AllBelow : ℕ → List ℕ → Type 0
+AllBelow bound numbers = (k : ℕ) → k < length numbers → slice_index numbers k < bound
+
+-- the texts are there, the lines and the files name paths, and no two paths are equal
+pub record IsLineMap (lines : Stepping PathLine) (texts : List (List ℕ)) (firsts files : List ℕ) : Type 0 where
+  pub texts_there : AllBelow (length texts) firsts
+  pub files_named : AllBelow (length firsts) files
+  pub lines_named : (a : ℕ) → a < 2 ^ 64 → (value_at no_line lines a).line ≢ 0 → (value_at no_line lines a).path < length firsts
+  pub apart : AreDistinct (picked texts firsts)

@@ -1,0 +1,46 @@
+//! Line tables: which file and line the code at an address comes from (DWARF 5, 6.2; DWARF 4, 6.2).
+//!
+//! [`read_lines`] reads the table at an offset of `.debug_line`, of versions 2 to 5 and in both formats: its header, its
+//! tables of directories and files, and its program, whose opcodes are carried out over the registers and give sequences
+//! of rows. Or it gives the first fault with its place. A [`LineTable`] then answers for each address: the first sequence
+//! whose range is code and has the address counts, in it the rows at or below the address, of these the greatest address, and of
+//! these the last ([`LineTable::line_at`]). Lines change at [`LineTable::stops`] alone; whoever goes over the addresses of a
+//! function walks these with [`LineTable::line_from`]. Each file has a path ([`LineTable::file`], [`LineTable::path`]),
+//! joined with its directory and cleaned, and each path has one number.
+//!
+//! The definitions stand in `specs/`, in the standard's order: `Headers`, `FileTables`, `Paths`; `Opcodes` (how they are read) and
+//! `LineRows` (what they do); `LineAt` (the line of an address, by a search of all rows); `LineTables` (all of it). Contracts
+//! see a table as `specs/LineMaps.antt` says: a step map of lines, and paths by numbers. The code sorts a sequence's
+//! rows only where they are not in order, lays the sequences over one another by halves, and paints their rows once.
+//!
+//! To read: `program`, `opcode`, `reading`, `machine` and `running`; then `header`, `entries`, `tables` and `paths`; then `sorting`,
+//! `counting`, `painting`, `numbering` and `table`; last `lines`.
+#![tactic(auto)]
+
+mod counting;
+mod entries;
+mod entry_format;
+mod fault;
+mod file_entry;
+mod header;
+pub mod laws;
+mod lines;
+mod machine;
+mod numbering;
+mod opcode;
+mod painting;
+mod path_line;
+mod paths;
+mod program;
+mod reading;
+mod row;
+mod running;
+mod sorting;
+mod table;
+mod tables;
+
+pub use crate::lines::read_lines;
+pub use crate::table::LineTable;
+
+#[cfg(test)]
+mod tests;

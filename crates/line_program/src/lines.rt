@@ -1,0 +1,148 @@
+//! A line table of `.debug_line`, whole (DWARF 5, 6.2).
+ghost use Rattle.std.specs.Prelude.{◌≡◌, List, IfOk, Err};
+ghost use Rattle.sym_edges.specs.Addresses.{Range};
+ghost use Rattle.sym_edges.specs.Outside.{MatchStop};
+ghost use Rattle.range_set.specs.Enclosing.{encloses};
+ghost use Rattle.line_program.specs.LineMaps.{EncloseAlike, SaysLines};
+ghost use Rattle.line_program.specs.LineTables.{lines_of, lines_at, unit_lines, Says};
+
+use crate::fault::{LineFault, Reading};
+use crate::header::{Header, read_table};
+use crate::machine::{LineSequence, Machine};
+use crate::paths::Directories;
+use crate::running::run_program;
+use crate::table::LineTable;
+use crate::tables::{Tables, read_tables};
+use abbrev_units::{DwarfFault, DwarfKind, Sections};
+use leb_cursor::Cursor;
+use range_set::Enclosing;
+use std::alloc::Global;
+use std::marker::Model;
+use sym_edges::{Located, OutOfMemory, Sect, Stop};
+use sym_records::ByteText;
+
+/// What a line table says: its sequences, the number of its first file, and the files' paths.
+#[derive(Drop)]
+struct Lines {
+    sequences: Vec<LineSequence>,
+    first: u32,
+    files: Vec<ByteText>,
+}
+
+impl Model for Lines {
+    ghost use Rattle.line_program.specs.LineAt.{Lines};
+
+    ghost Value = { Lines };
+
+    ghost view = { λ l. record { sequences = l.sequences.items; first = l.first; files = l.files.items } };
+}
+
+/// The paths of the files in the header's tables, and of those that the program defined behind them.
+#[tactic(auto, unfolding(crate::specs::LineTables::lines_of))]
+fn name_files<'a>(
+    alloc: Global,
+    comp_dir: &[u8],
+    version: u16,
+    tables: Tables<'a>,
+    machine: Machine<'a>,
+) -> Result<Lines, OutOfMemory>
+    ensures { IfOk result (λ lines. lines ≡ lines_of comp_dir.now version tables.entry machine.entry) }
+{
+    let Tables {
+        directories,
+        mut files,
+    } = tables;
+    let (sequences, mut defined) = machine.into_parts();
+    files.append(&mut defined)?;
+    let directories = Directories::of(alloc, version, comp_dir, directories.as_slice())?;
+    let files = directories.paths_of(alloc, files.as_slice())?;
+    Ok(Lines {
+        sequences,
+        first: if version == 5 { 0 } else { 1 },
+        files,
+    })
+}
+
+/// Reads the table that stands ahead.
+#[tactic(auto, unfolding(crate::specs::LineTables::lines_at))]
+fn read_ahead<'a>(
+    alloc: Global,
+    sections: &Sections<'a>,
+    comp_dir: &[u8],
+    cursor: Cursor<'a>,
+) -> Reading<Lines>
+    ensures { IfOk result (λ read. read ≡ lines_at sections.now comp_dir.now cursor.entry) }
+{
+    let start = cursor.at();
+    let header = match read_table(cursor) {
+        Ok(header) => header,
+        Err(fault) => return Ok(Err(LineFault::of_header(start, fault))),
+    };
+    let tables = match read_tables(alloc, sections, start, &header)? {
+        Ok(tables) => tables,
+        Err(fault) => return Ok(Err(fault)),
+    };
+    let Header {
+        program,
+        wide: _,
+        tables: _,
+        opcodes,
+    } = header;
+    let machine = match run_program(alloc, &program, opcodes)? {
+        Ok(machine) => machine,
+        Err(fault) => return Ok(Err(fault)),
+    };
+    let lines = name_files(alloc, comp_dir, program.version, tables, machine)?;
+    Ok(Ok(lines))
+}
+
+/// The table of what was read.
+fn table_of(alloc: Global, code: &Enclosing, lines: Lines) -> Result<LineTable, OutOfMemory>
+    ensures { IfOk result (λ table. SaysLines (encloses code.now) lines table) }
+{
+    let Lines {
+        sequences,
+        first,
+        files,
+    } = lines;
+    LineTable::of(alloc, code, sequences, first, files)
+}
+
+/// Reads the line table at an offset in `.debug_line`: the offset of a unit whose root stands at `place` of `.debug_info`.
+/// `comp_dir` is the unit's compilation directory, empty where it has none. Whether a sequence is code is asked of
+/// `code`, which may be made once for an image.
+///
+/// Versions 2 to 5 are read, in both formats. Faults are in `.debug_line`, but for `OffsetOutside`, which is in `.debug_info` at
+/// `place`. At the table's start: `Ends` where the length leaves the section, `Reserved`, `LineVersion`, and `LineHeader` where a field
+/// of the header cannot be, the program begins behind the table, or a count is above the bytes that are left. At their
+/// own places: `Ends`, `LebLong`, `NoZero`, `UnknownForm` and `LineOpcode`.
+#[tactic(auto, using(crate::proofs::LinesLemmas::offset_outside, crate::proofs::LinesLemmas::offset_inside))]
+pub fn read_lines(
+    alloc: Global,
+    sections: &Sections<'_>,
+    offset: u64,
+    place: usize,
+    comp_dir: &[u8],
+    code: &Enclosing,
+) -> Result<LineTable, Stop<DwarfFault>>
+    ensures { MatchStop result
+        (λ table. (spans : List Range) → EncloseAlike code.now spans → Says (encloses spans) (unit_lines sections.now offset place comp_dir.now) table)
+        (λ fault. unit_lines sections.now offset place comp_dir.now ≡ Err fault)
+        (Unit {0}) }
+{
+    if offset > sections.line.len() as u64 {
+        return Err(Stop::Fault(Located {
+            kind: DwarfKind::OffsetOutside,
+            section: Sect::Info,
+            at: place,
+        }));
+    }
+    let cursor = Cursor::new(sections.line, offset as usize, sections.line.len());
+    match read_ahead(alloc, sections, comp_dir, cursor)? {
+        Ok(lines) => {
+            let table = table_of(alloc, code, lines)?;
+            Ok(table)
+        }
+        Err(fault) => Err(Stop::Fault(fault.into_fault())),
+    }
+}

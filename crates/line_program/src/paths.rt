@@ -1,0 +1,176 @@
+//! The paths of a table's files (DWARF 5, 6.2.4).
+ghost use Rattle.std.specs.Prelude.{◌≡◌, ◌==◌, ◌-◌, map, length, slice_get, slice_index, IfOk, OnOk};
+ghost use Rattle.line_program.specs.Paths.{joined, root_of, directories_of, path_under, file_path, is_rooted, ends_in_slash};
+
+use crate::file_entry::FileEntry;
+use std::alloc::Global;
+use std::marker::Model;
+use sym_edges::OutOfMemory;
+use sym_records::{ByteText, clean};
+
+/// The directories of a table, by their numbers: the first one, and those that stand in it.
+#[derive(Drop)]
+pub struct Directories<'t, 'a> {
+    some: bool,
+    root: Vec<u8>,
+    entries: &'t [FileEntry<'a>],
+}
+
+impl<'t, 'a> Model for Directories<'t, 'a> {
+    ghost use Rattle.std.specs.Prelude.{List, ℕ};
+    ghost use Rattle.line_program.specs.Directories.{directories_in};
+
+    ghost Value = { List (List ℕ) };
+
+    ghost view = { λ d. directories_in d.some d.root.items d.entries.now };
+}
+
+fn is_rooted(path: &[u8]) -> bool
+    ensures { result ≡ is_rooted path.now }
+{
+    match path.first() {
+        Some(byte) => *byte == b'/',
+        None => false,
+    }
+}
+
+fn ends_in_slash(directory: &[u8]) -> bool
+    ensures { result ≡ ends_in_slash directory.now }
+{
+    match directory.last() {
+        Some(byte) => *byte == b'/',
+        None => false,
+    }
+}
+
+/// Writes a text over another.
+fn put_text(text: &mut Vec<u8>, bytes: &[u8]) -> Result<(), OutOfMemory>
+    ensures { OnOk result (text.new.items ≡ bytes.now) }
+{
+    text.clear();
+    text.extend_from_slice(bytes)?;
+    Ok(())
+}
+
+/// Writes a path in a directory over a text.
+#[tactic(auto, unfolding(crate::specs::Paths::joined))]
+fn put_joined(text: &mut Vec<u8>, directory: &[u8], path: &[u8]) -> Result<(), OutOfMemory>
+    ensures { OnOk result (text.new.items ≡ joined directory.now path.now) }
+{
+    if directory.is_empty() || is_rooted(path) {
+        put_text(text, path)?;
+        return Ok(());
+    }
+    put_text(text, directory)?;
+    if path.is_empty() {
+        return Ok(());
+    }
+    if ends_in_slash(directory) {
+        text.extend_from_slice(path)?;
+        return Ok(());
+    }
+    text.push(b'/')?;
+    text.extend_from_slice(path)?;
+    Ok(())
+}
+
+/// The first directory of version 5.
+#[tactic(auto, unfolding(crate::specs::Paths::root_of))]
+fn root_of(alloc: Global, comp_dir: &[u8], path: &[u8]) -> Result<Vec<u8>, OutOfMemory>
+    ensures { IfOk result (λ root. root.items ≡ root_of comp_dir.now path.now) }
+{
+    let mut root = Vec::new(alloc);
+    if path == comp_dir {
+        put_text(&mut root, path)?;
+        return Ok(root);
+    }
+    put_joined(&mut root, comp_dir, path)?;
+    Ok(root)
+}
+
+impl<'t, 'a> Directories<'t, 'a> {
+    /// The directories that a table has in a unit with that compilation directory.
+    #[tactic(auto, unfolding(crate::specs::Paths::directories_of))]
+    pub fn of(
+        alloc: Global,
+        version: u16,
+        comp_dir: &[u8],
+        entries: &'t [FileEntry<'a>],
+    ) -> Result<Directories<'t, 'a>, OutOfMemory>
+        ensures { IfOk result (λ directories. directories ≡ directories_of version comp_dir.now entries.now) }
+    {
+        if version != 5 {
+            let root = Vec::from_slice(alloc, comp_dir)?;
+            return Ok(Directories {
+                some: true,
+                root,
+                entries,
+            });
+        }
+        match entries.split_first() {
+            Some((first, rest)) => {
+                let root = root_of(alloc, comp_dir, first.path)?;
+                Ok(Directories {
+                    some: true,
+                    root,
+                    entries: rest,
+                })
+            }
+            None => Ok(Directories {
+                some: false,
+                root: Vec::new(alloc),
+                entries,
+            }),
+        }
+    }
+
+    /// Writes the path of a file over a text; `directory` holds that of its directory meanwhile.
+    #[tactic(auto, using(crate::proofs::PathLemmas::none_there, crate::proofs::PathLemmas::root_there, crate::proofs::PathLemmas::entry_there, crate::proofs::PathLemmas::entry_missing))]
+    fn put_path(
+        &self,
+        directory: &mut Vec<u8>,
+        text: &mut Vec<u8>,
+        file: &FileEntry<'_>,
+    ) -> Result<(), OutOfMemory>
+        ensures { OnOk result (text.new.items ≡ path_under (slice_get self.now file.now.directory) file.now.path) }
+    {
+        if !self.some {
+            put_text(text, file.path)?;
+            return Ok(());
+        }
+        if file.directory == 0 {
+            put_joined(text, self.root.as_slice(), file.path)?;
+            return Ok(());
+        }
+        match self.entries.get((file.directory - 1) as usize) {
+            Some(entry) => {
+                put_joined(directory, self.root.as_slice(), entry.path)?;
+                put_joined(text, directory.as_slice(), file.path)?;
+                Ok(())
+            }
+            None => {
+                put_text(text, file.path)?;
+                Ok(())
+            }
+        }
+    }
+
+    /// The paths of files, cleaned.
+    #[tactic(auto, unfolding(crate::specs::Paths::file_path))]
+    pub fn paths_of(
+        &self,
+        alloc: Global,
+        files: &[FileEntry<'_>],
+    ) -> Result<Vec<ByteText>, OutOfMemory>
+        ensures { IfOk result (λ paths. paths.items ≡ map (file_path self.now) files.now) }
+    {
+        let mut paths = Vec::with_capacity(alloc, files.len())?;
+        let mut directory = Vec::new(alloc);
+        let mut text = Vec::new(alloc);
+        for file in files {
+            self.put_path(&mut directory, &mut text, file)?;
+            paths.push(clean(alloc, text.as_slice())?)?;
+        }
+        Ok(paths)
+    }
+}

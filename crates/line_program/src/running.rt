@@ -1,0 +1,30 @@
+//! A whole program.
+ghost use Rattle.std.specs.Prelude.{◌≡◌, IfOk};
+ghost use Rattle.line_program.specs.LineRows.{line_rows};
+
+use crate::fault::Reading;
+use crate::machine::Machine;
+use crate::opcode::Opcode;
+use crate::program::Program;
+use leb_cursor::Cursor;
+use std::alloc::Global;
+
+/// The rows of a program.
+#[tactic(auto, using(crate::proofs::RunLemmas::run_more, crate::proofs::RunLemmas::run_ended, crate::proofs::RunLemmas::run_cut, crate::proofs::OpcodeLemmas::opcode_shorter))]
+pub fn run_program<'a>(
+    alloc: Global,
+    program: &Program<'_>,
+    mut cursor: Cursor<'a>,
+) -> Reading<Machine<'a>>
+    ensures { IfOk result (λ run. run ≡ line_rows program.now cursor.entry) }
+{
+    let mut machine = Machine::new(alloc);
+    'opcodes: while !cursor.is_at_end() {
+        let opcode = match Opcode::read(&mut cursor, program) {
+            Ok(opcode) => opcode,
+            Err(fault) => return Ok(Err(fault)),
+        };
+        machine.carry_out(alloc, program, opcode)?;
+    }
+    Ok(Ok(machine))
+}

@@ -1,0 +1,188 @@
+//! The line table of a unit, by address.
+ghost use Rattle.std.specs.Prelude.{◌≡◌, ℕ, ◌^◌, ◌<◌, [], length, slice_index, Some, IfOk, IfSome};
+ghost use Rattle.std.specs.List.{slice_get};
+ghost use Rattle.range_set.specs.Enclosing.{encloses};
+ghost use Rattle.step_maps.specs.Stepping.{RisesFrom, value_at};
+ghost use Rattle.line_program.specs.LineMaps.{no_line, shown, numbered_line, numbered_file, AreDistinct, SaysLines};
+ghost use Rattle.line_program.specs.Numbered.{numbered_at};
+
+use crate::counting::{count_sequences, stretches_of};
+use crate::machine::LineSequence;
+use crate::numbering::{Numbering, number_paths};
+use crate::painting::paint_all;
+use crate::path_line::{NO_LINE, PathLine, number_of};
+use crate::sorting::CountedSequence;
+use range_set::Enclosing;
+use std::alloc::Global;
+use std::marker::Model;
+use step_maps::{StepMap, first_items};
+use sym_edges::OutOfMemory;
+use sym_records::ByteText;
+
+/// Lines by address, and the files' paths by their numbers.
+#[derive(Drop)]
+pub struct LineTable {
+    lines: StepMap<PathLine>,
+    texts: Vec<ByteText>,
+    firsts: Vec<u32>,
+    first: u32,
+    files: Vec<u32>,
+}
+
+impl Model for LineTable {
+    ghost use Rattle.line_program.specs.LineMaps.{LineMap};
+    ghost use Rattle.line_program.specs.Numbering.{picked, IsLineMap};
+
+    ghost Value = { LineMap };
+
+    ghost view = { λ t. record {
+      lines = t.lines;
+      paths = picked t.texts.items t.firsts.items;
+      first = t.first;
+      files = t.files.items;
+    } };
+
+    ghost invariant = { λ t. IsLineMap t.lines t.texts.items t.firsts.items t.files.items };
+}
+
+/// Path number and line, where there is a line.
+#[inline]
+fn shown(at: PathLine) -> Option<(u32, u32)>
+    ensures { result ≡ shown at }
+{
+    if at.line == 0 {
+        return None;
+    }
+    Some((at.path, at.line))
+}
+
+/// How many rows there are at the most.
+fn row_count(kept: &[CountedSequence]) -> usize {
+    let mut count: usize = 0;
+    for sequence in kept {
+        count = count.saturating_add(sequence.rows.len());
+    }
+    count
+}
+
+/// The lines of these sequences; files are numbered from `first`, and each has the number of its path.
+fn paint_lines(
+    alloc: Global,
+    code: &Enclosing,
+    sequences: Vec<LineSequence>,
+    first: u32,
+    numbers: &[u32],
+) -> Result<StepMap<PathLine>, OutOfMemory>
+    ensures { IfOk result (λ lines. (a : ℕ) → a < 2 ^ 64 → value_at no_line lines a ≡ numbered_at (encloses code.now) sequences.items first numbers.now a) }
+{
+    let kept = count_sequences(alloc, code, sequences)?;
+    if kept.len() as u64 >= 1 << 32 {
+        return Err(OutOfMemory);
+    }
+    let counted = kept.as_slice();
+    let stretches = stretches_of(alloc, counted)?;
+    let covers = first_items(alloc, stretches.as_slice())?;
+    let lines = paint_all(
+        alloc,
+        row_count(counted),
+        counted,
+        covers.stops(),
+        covers.values(),
+        first,
+        numbers,
+    )?;
+    Ok(lines)
+}
+
+impl LineTable {
+    /// A table without lines and without files, for a unit that has none. Takes no memory.
+    pub fn empty(alloc: Global) -> LineTable
+        ensures { result ≡ record { lines = record { stops = []; values = [] }; paths = []; first = 0; files = [] } }
+    {
+        LineTable {
+            lines: StepMap::new(alloc),
+            texts: Vec::new(alloc),
+            firsts: Vec::new(alloc),
+            first: 0,
+            files: Vec::new(alloc),
+        }
+    }
+
+    /// The table of these sequences, and of files with these paths, which are numbered from `first`.
+    pub(crate) fn of(
+        alloc: Global,
+        code: &Enclosing,
+        sequences: Vec<LineSequence>,
+        first: u32,
+        texts: Vec<ByteText>,
+    ) -> Result<LineTable, OutOfMemory>
+        ensures { IfOk result (λ table. SaysLines (encloses code.now) (record { sequences = sequences.items; first = first; files = texts.items }) table) }
+    {
+        if texts.len() as u64 >= 1 << 32 {
+            return Err(OutOfMemory);
+        }
+        let Numbering { firsts, files } = number_paths(alloc, texts.as_slice())?;
+        let lines = paint_lines(alloc, code, sequences, first, files.as_slice())?;
+        Ok(LineTable {
+            lines,
+            texts,
+            firsts,
+            first,
+            files,
+        })
+    }
+
+    /// Path number and line of an address, by a search of halves; none where no sequence that is code has the address,
+    /// its row has no line, or the table has not its file. Takes no memory.
+    pub fn line_at(&self, a: u64) -> Option<(u32, u32)>
+        ensures line { result ≡ numbered_line self.now a }
+        ensures known { a < 2 ^ 64 → IfSome result (λ line. line.0 < length self.now.paths) }
+    {
+        shown(self.lines.at(NO_LINE, a))
+    }
+
+    /// The addresses at which the line may change, rising. Takes no memory.
+    pub fn stops(&self) -> &[u64]
+        ensures same { result.now ≡ self.now.lines.stops }
+        ensures rising { RisesFrom 0 self.now.lines.stops }
+    {
+        self.lines.stops()
+    }
+
+    /// Path number and line at a stop, which hold up to the next one. Takes no memory.
+    pub fn line_from(&self, stop: usize) -> Option<(u32, u32)>
+        requires { stop < length self.now.lines.stops }
+        ensures line { result ≡ numbered_line self.now (slice_index self.now.lines.stops stop) }
+        ensures known { IfSome result (λ line. line.0 < length self.now.paths) }
+    {
+        let _stops = self.lines.stops();
+        let values = self.lines.values();
+        shown(values[stop])
+    }
+
+    /// The path of a number, cleaned: two numbers have two paths. The table has the numbers that `line_at`, `line_from` and
+    /// `file` give. Takes no memory.
+    pub fn path(&self, number: u32) -> &[u8]
+        requires { number < length self.now.paths }
+        ensures path { Some result.now ≡ slice_get self.now.paths number }
+        ensures distinct { AreDistinct self.now.paths }
+    {
+        let place = self.firsts[number as usize];
+        self.texts[place as usize].as_slice()
+    }
+
+    /// The number of the path of a file, where the table has that file: files are numbered from 1 in versions 2 to 4, and
+    /// from 0 in version 5. Takes no memory.
+    pub fn file(&self, index: u64) -> Option<u32>
+        ensures number { result ≡ numbered_file self.now index }
+        ensures known { IfSome result (λ number. number < length self.now.paths) }
+    {
+        if index < u64::from(self.first) {
+            return None;
+        }
+        match self.files.get((index - u64::from(self.first)) as usize) {
+            Some(number) => Some(*number),
+            None => None,
+        }
+    }
+}

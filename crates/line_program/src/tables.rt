@@ -1,0 +1,196 @@
+//! The tables of directories and files.
+ghost use Rattle.std.specs.Prelude.{◌≡◌, IfOk};
+ghost use Rattle.leb_cursor.specs.Ahead.{gave_as};
+ghost use Rattle.leb_cursor.specs.Lists.{list_at};
+ghost use Rattle.line_program.specs.FileTables.{old_entry_at, old_tables_at, pair_at, pairs_at, entry_at, counted_at, entries_at, new_tables_at, tables_at};
+ghost use Rattle.line_program.specs.Lists.{several_at};
+
+use crate::entries::{read_entry, read_old_entry, read_pair};
+use crate::entry_format::EntryFormat;
+use crate::fault::{LineFault, Reading};
+use crate::file_entry::FileEntry;
+use crate::header::Header;
+use abbrev_units::{DwarfKind, Sections};
+use leb_cursor::Cursor;
+use std::alloc::Global;
+use std::marker::Model;
+
+/// Both tables.
+#[derive(Drop)]
+pub struct Tables<'a> {
+    pub directories: Vec<FileEntry<'a>>,
+    pub files: Vec<FileEntry<'a>>,
+}
+
+impl<'a> Model for Tables<'a> {
+    ghost use Rattle.line_program.specs.FileTables.{Tables};
+
+    ghost Value = { Tables };
+
+    ghost view = { λ t. record { directories = t.directories.items; files = t.files.items } };
+}
+
+/// Reads a list of versions 2 to 4, up to the empty text that ends it.
+#[tactic(auto, using(crate::proofs::EntryLemmas::list_begins, crate::proofs::EntryLemmas::list_one, crate::proofs::EntryLemmas::list_done, crate::proofs::EntryLemmas::list_cut, crate::proofs::EntryLemmas::list_shorter))]
+fn read_old_entries<'a>(
+    alloc: Global,
+    cursor: &mut Cursor<'a>,
+    of_files: bool,
+) -> Reading<Vec<FileEntry<'a>>>
+    ensures { IfOk result (λ read. gave_as (λ entries. entries.items) read cursor.new ≡ list_at (old_entry_at of_files) cursor.old) }
+{
+    let mut entries = Vec::new(alloc);
+    'entries: loop {
+        match read_old_entry(cursor, of_files) {
+            Ok(Some(entry)) => entries.push(entry)?,
+            Ok(None) => return Ok(Ok(entries)),
+            Err(fault) => return Ok(Err(fault)),
+        }
+    }
+}
+
+/// Reads so many pairs of a format.
+#[tactic(auto, using(crate::proofs::EntryLemmas::pairs_begin, crate::proofs::EntryLemmas::pairs_one, crate::proofs::EntryLemmas::pairs_done, crate::proofs::EntryLemmas::pairs_cut))]
+fn read_some_pairs(alloc: Global, cursor: &mut Cursor<'_>, count: u8) -> Reading<Vec<EntryFormat>>
+    ensures { IfOk result (λ read. gave_as (λ pairs. pairs.items) read cursor.new ≡ several_at pair_at count cursor.old) }
+{
+    let mut pairs = Vec::with_capacity(alloc, usize::from(count))?;
+    'pairs: for turn in 0..count {
+        match read_pair(cursor) {
+            Ok(pair) => pairs.push(pair)?,
+            Err(fault) => return Ok(Err(fault)),
+        }
+    }
+    Ok(Ok(pairs))
+}
+
+/// Reads the pairs of a format, behind their count.
+#[tactic(auto, unfolding(crate::specs::FileTables::pairs_at))]
+fn read_pairs(alloc: Global, cursor: &mut Cursor<'_>) -> Reading<Vec<EntryFormat>>
+    ensures { IfOk result (λ read. gave_as (λ pairs. pairs.items) read cursor.new ≡ pairs_at cursor.old) }
+{
+    match cursor.u8() {
+        Ok(count) => read_some_pairs(alloc, cursor, count),
+        Err(fault) => Ok(Err(fault.into())),
+    }
+}
+
+/// Reads so many entries of version 5.
+#[tactic(auto, using(crate::proofs::EntryLemmas::entries_begin, crate::proofs::EntryLemmas::entries_one, crate::proofs::EntryLemmas::entries_done, crate::proofs::EntryLemmas::entries_cut))]
+fn read_some_entries<'a>(
+    alloc: Global,
+    cursor: &mut Cursor<'a>,
+    sections: &Sections<'a>,
+    pairs: &[EntryFormat],
+    wide: bool,
+    count: usize,
+) -> Reading<Vec<FileEntry<'a>>>
+    ensures { IfOk result (λ read. gave_as (λ entries. entries.items) read cursor.new ≡ several_at (entry_at sections.now pairs.now wide) count cursor.old) }
+{
+    let mut entries = Vec::new(alloc);
+    'entries: for turn in 0..count {
+        match read_entry(cursor, sections, pairs, wide) {
+            Ok(entry) => entries.push(entry)?,
+            Err(fault) => return Ok(Err(fault)),
+        }
+    }
+    Ok(Ok(entries))
+}
+
+/// Reads so many entries of version 5, of which there are no more than bytes.
+#[tactic(auto, unfolding(crate::specs::FileTables::counted_at))]
+fn read_counted<'a>(
+    alloc: Global,
+    cursor: &mut Cursor<'a>,
+    sections: &Sections<'a>,
+    start: usize,
+    pairs: &[EntryFormat],
+    wide: bool,
+    count: u64,
+) -> Reading<Vec<FileEntry<'a>>>
+    ensures { IfOk result (λ read. gave_as (λ entries. entries.items) read cursor.new ≡ counted_at sections.now start pairs.now wide count cursor.old) }
+{
+    let left = (cursor.end() - cursor.at()) as u64;
+    if left < count {
+        return Ok(Err(LineFault::at(DwarfKind::LineHeader, start)));
+    }
+    read_some_entries(alloc, cursor, sections, pairs, wide, count as usize)
+}
+
+/// Reads a table of version 5.
+#[tactic(auto, unfolding(crate::specs::FileTables::entries_at))]
+fn read_entries<'a>(
+    alloc: Global,
+    cursor: &mut Cursor<'a>,
+    sections: &Sections<'a>,
+    start: usize,
+    wide: bool,
+) -> Reading<Vec<FileEntry<'a>>>
+    ensures { IfOk result (λ read. gave_as (λ entries. entries.items) read cursor.new ≡ entries_at sections.now start wide cursor.old) }
+{
+    let pairs = match read_pairs(alloc, cursor)? {
+        Ok(pairs) => pairs,
+        Err(fault) => return Ok(Err(fault)),
+    };
+    match cursor.uleb() {
+        Ok(count) => {
+            let pairs = pairs.as_slice();
+            read_counted(alloc, cursor, sections, start, pairs, wide, count)
+        }
+        Err(fault) => Ok(Err(fault.into())),
+    }
+}
+
+/// Reads the tables of versions 2 to 4.
+#[tactic(auto, unfolding(crate::specs::FileTables::old_tables_at))]
+fn read_old_tables<'a>(alloc: Global, mut cursor: Cursor<'a>) -> Reading<Tables<'a>>
+    ensures { IfOk result (λ read. read ≡ old_tables_at cursor.entry) }
+{
+    let directories = match read_old_entries(alloc, &mut cursor, false)? {
+        Ok(directories) => directories,
+        Err(fault) => return Ok(Err(fault)),
+    };
+    match read_old_entries(alloc, &mut cursor, true)? {
+        Ok(files) => Ok(Ok(Tables { directories, files })),
+        Err(fault) => Ok(Err(fault)),
+    }
+}
+
+/// Reads the tables of version 5.
+#[tactic(auto, unfolding(crate::specs::FileTables::new_tables_at))]
+fn read_new_tables<'a>(
+    alloc: Global,
+    mut cursor: Cursor<'a>,
+    sections: &Sections<'a>,
+    start: usize,
+    wide: bool,
+) -> Reading<Tables<'a>>
+    ensures { IfOk result (λ read. read ≡ new_tables_at sections.now start wide cursor.entry) }
+{
+    let directories = match read_entries(alloc, &mut cursor, sections, start, wide)? {
+        Ok(directories) => directories,
+        Err(fault) => return Ok(Err(fault)),
+    };
+    match read_entries(alloc, &mut cursor, sections, start, wide)? {
+        Ok(files) => Ok(Ok(Tables { directories, files })),
+        Err(fault) => Ok(Err(fault)),
+    }
+}
+
+/// Reads the tables of the header of a table that starts at `start`.
+#[tactic(auto, unfolding(crate::specs::FileTables::tables_at))]
+pub fn read_tables<'a>(
+    alloc: Global,
+    sections: &Sections<'a>,
+    start: usize,
+    header: &Header<'a>,
+) -> Reading<Tables<'a>>
+    ensures { IfOk result (λ read. read ≡ tables_at sections.now start header.now) }
+{
+    let cursor = header.tables.fork();
+    if header.program.version == 5 {
+        read_new_tables(alloc, cursor, sections, start, header.wide)
+    } else {
+        read_old_tables(alloc, cursor)
+    }
+}
