@@ -4,6 +4,7 @@ pub mod AbbrevLemmas
 mod PlaceLemmas
 pub mod ValueLemmas
 pub mod FormLemmas
+mod PlanLemmas
 pub mod Computing
 mod WorkedForms
 mod WorkedUnits

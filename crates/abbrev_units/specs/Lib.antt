@@ -9,3 +9,4 @@ pub mod SpecFields
 pub mod Abbreviations
 pub mod Places
 pub mod Values
+pub mod Plans

@@ -1,5 +1,5 @@
 -- The values of an entry (DWARF 5, 7.5.2): one for each attribute of its abbreviation, one behind the other.
-use Rattle.std.specs.Prelude.{ℕ, List, [], ◌∷◌, Result, Ok, Err}
+use Rattle.std.specs.Prelude.{List, [], ◌∷◌, Result, Ok, Err}
 use Rattle.sym_edges.specs.Results.{◌>>=◌}
 use Rattle.leb_cursor.specs.Ahead.{Ahead}
 use Rattle.abbrev_units.specs.declared.fault.FormFault.{FormFault}

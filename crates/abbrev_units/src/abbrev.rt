@@ -52,7 +52,7 @@ fn read_specs(
     alloc: Global,
     cursor: &mut Cursor<'_>,
     wide: bool,
-) -> Result<SpecList, Stop<CursorFault>>
+) -> Result<ListOf<Spec>, Stop<CursorFault>>
     ensures { GivesAt result cursor.new (list_at (spec_at wide) cursor.old) }
 {
     let mut specs = Vec::new(alloc);
@@ -84,9 +84,10 @@ fn read_behind(
         Err(fault) => return Err(Stop::Fault(fault)),
     };
     let specs = match read_specs(alloc, cursor, wide) {
-        Ok(specs) => specs,
+        Ok(specs) => specs.into_vec(),
         Err(stop) => return Err(stop),
     };
+    let specs = SpecList::of(alloc, specs)?;
     Ok(Some(Abbrev {
         code,
         tag,

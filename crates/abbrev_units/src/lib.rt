@@ -4,8 +4,8 @@
 //! [`units`] gives the units of `.debug_info`: where each begins and ends, where its entries begin, its
 //! version, and where its abbreviations stand; or the first fault of their headers. [`read_abbrevs`] gives the
 //! abbreviations of a unit, and [`Abbrevs::find`] the first of a code. [`read_form`] reads the value of a form,
-//! [`Spec::read`] that of an attribute, whose form was looked up once, and [`skip_values`] passes the values
-//! that nobody asks for. [`read_text`] gives the text of a value, as a slice of the file.
+//! [`Spec::read`] that of an attribute, whose form was looked up once, and [`SpecList::skip`] passes the
+//! values that nobody asks for. [`read_text`] gives the text of a value, as a slice of the file.
 //!
 //! Each contract is an equation with a definition: `specs/Units.antt` has the headers field by field,
 //! `specs/Abbreviations.antt` the lists of attributes, `specs/FormValue.antt` the value of a form over the
@@ -19,6 +19,7 @@ mod fault;
 mod form;
 pub mod laws;
 mod length;
+mod plan;
 mod sections;
 mod spec;
 #[cfg(test)]
@@ -33,7 +34,7 @@ pub use crate::fault::{DwarfFault, DwarfKind, FormFault, HeaderFault, header_fau
 pub use crate::form::read_form;
 pub use crate::length::{Contents, read_contents};
 pub use crate::sections::Sections;
-pub use crate::spec::{Spec, SpecList, skip_values};
+pub use crate::spec::{Spec, SpecList};
 pub use crate::text::{place_by_index, read_place, read_text, text_in};
 pub use crate::unit::{Unit, UnitList, UnitPart, units};
 pub use crate::value::{Given, Value};

@@ -1,17 +1,20 @@
 //! An attribute of an abbreviation.
-ghost use Rattle.std.specs.Prelude.{◌≡◌, OnErr};
+ghost use Rattle.std.specs.Prelude.{◌≡◌, IfSome, IfOk};
 ghost use Rattle.leb_cursor.specs.Ahead.{gave};
 ghost use Rattle.abbrev_units.specs.Faults.{left_by};
 ghost use Rattle.abbrev_units.specs.FormValue.{form_at};
 ghost use Rattle.abbrev_units.specs.Values.{value_at, only_ahead, behind_values};
+ghost use Rattle.abbrev_units.specs.Plans.{HasLayout};
 
 use crate::fault::FormFault;
 use crate::form::{read_indirect, read_known};
+use crate::plan::{Step, make_plan, pass_steps};
 use crate::value::Value;
-use code_table::{DW_FORM_indirect, FormRow, find_form};
+use code_table::{DW_FORM_indirect, FormRow, Kind, find_form};
 use leb_cursor::Cursor;
+use std::alloc::Global;
 use std::marker::Model;
-use sym_edges::ListOf;
+use sym_edges::OutOfMemory;
 
 /// An attribute and its form (DWARF 5, 7.5.3), in a unit of the 64-bit format where `wide`. The row of
 /// the form is looked up once.
@@ -35,9 +38,6 @@ impl Model for Spec {
 
     ghost invariant = { λ s. s.row ≡ form_row s.form (forms s.wide) };
 }
-
-/// The attributes of an abbreviation.
-pub type SpecList = ListOf<Spec>;
 
 impl Spec {
     pub(crate) fn of(attribute: u64, form: u64, implicit: i64, wide: bool) -> Spec
@@ -88,6 +88,20 @@ impl Spec {
         read_known(cursor, self.row, self.implicit)
     }
 
+    /// The layout of the values, where it is the same for each and known.
+    #[tactic(auto, using(crate::proofs::PlanLemmas::direct_layout))]
+    pub(crate) fn layout(&self) -> Option<Kind>
+        ensures { IfSome result (λ kind. HasLayout self.now kind) }
+    {
+        if self.form == DW_FORM_indirect {
+            return None;
+        }
+        match self.row {
+            Some(row) => Some(row.layout),
+            None => None,
+        }
+    }
+
     /// Passes a value of the attribute. A refused call may leave the cursor inside the value.
     #[inline]
     pub fn skip(&self, cursor: &mut Cursor<'_>) -> Result<(), FormFault>
@@ -98,9 +112,59 @@ impl Spec {
     }
 }
 
+/// The attributes of an abbreviation, with a short way over their values.
+#[derive(Drop)]
+pub struct SpecList {
+    items: Vec<Spec>,
+    steps: Option<Vec<Step>>,
+}
+
+impl Model for SpecList {
+    ghost use Rattle.std.specs.Prelude.{List, IfSome};
+    ghost use Rattle.abbrev_units.specs.SpecFields.{SpecFields};
+    ghost use Rattle.abbrev_units.specs.Plans.{IsPlan};
+
+    ghost Value = { List SpecFields };
+
+    ghost view = { λ l. l.items.items };
+
+    ghost invariant = { λ l. IfSome l.steps (λ steps. IsPlan steps.items l.items.items) };
+}
+
+impl SpecList {
+    pub(crate) fn of(alloc: Global, items: Vec<Spec>) -> Result<SpecList, OutOfMemory>
+        ensures { IfOk result (λ list. list ≡ items.items) }
+    {
+        let steps = make_plan(alloc, items.as_slice())?;
+        Ok(SpecList { items, steps })
+    }
+
+    pub fn as_slice(&self) -> &[Spec]
+        ensures { result.now ≡ self.now }
+    {
+        self.items.as_slice()
+    }
+
+    /// Passes the values of the attributes, one behind the other. A refused call may leave the cursor among
+    /// them.
+    #[tactic(auto, using(crate::proofs::PlanLemmas::short_way))]
+    pub fn skip(&self, cursor: &mut Cursor<'_>) -> Result<(), FormFault>
+        ensures { left_by result cursor.new ≡ behind_values self.now cursor.old }
+    {
+        if let Some(steps) = &self.steps {
+            let mut probe = cursor.fork();
+            if pass_steps(&mut probe, steps.as_slice()) {
+                *cursor = probe;
+                return Ok(());
+            }
+        }
+        skip_values(cursor, self.items.as_slice())
+    }
+}
+
 /// Passes the values of attributes, one behind the other. A refused call may leave the cursor among them.
 #[tactic(auto, using(crate::proofs::ValueLemmas::skips_more, crate::proofs::ValueLemmas::skips_end, crate::proofs::ValueLemmas::skips_refused))]
-pub fn skip_values(cursor: &mut Cursor<'_>, specs: &[Spec]) -> Result<(), FormFault>
+fn skip_values(cursor: &mut Cursor<'_>, specs: &[Spec]) -> Result<(), FormFault>
     ensures { left_by result cursor.new ≡ behind_values specs.now cursor.old }
 {
     'specs: for spec in specs {

@@ -10,7 +10,6 @@ use crate::die::{Die, Root, base_of, make_die, make_root};
 use crate::table::DieTable;
 use abbrev_units::{
     Abbrev, Abbrevs, DwarfFault, DwarfKind, FormFault, Given, Sections, Spec, Unit, in_section,
-    skip_values,
 };
 use leb_cursor::Cursor;
 use std::alloc::Global;
@@ -190,13 +189,13 @@ impl<'a> Walker<'a> {
     ) -> Result<(), Stop<DwarfFault>>
         ensures { Moves result self.new cursor.new (entered_at sections.now unit.now self.old at found.now cursor.old) }
     {
-        let specs = found.specs.as_slice();
         if !self.keeps(found.tag) {
-            return match skip_values(cursor, specs) {
+            return match found.specs.skip(cursor) {
                 Ok(()) => Ok(()),
                 Err(fault) => Err(Stop::Fault(value_fault(fault))),
             };
         }
+        let specs = found.specs.as_slice();
         match read_values(cursor, specs, values) {
             Ok(()) => {}
             Err(stop) => return Err(stop),

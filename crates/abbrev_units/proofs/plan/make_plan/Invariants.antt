@@ -1,0 +1,7 @@
+use Rattle.std.proofs.Common.{take}
+use Rattle.abbrev_units.specs.Plans.{IsPlan}
+use Rattle.abbrev_units.proofs.PlanLemmas.{ended}
+use Rattle.abbrev_units.proofs.plan.make_plan.Given as goal
+
+abbrev pub invariant-specs : goal.invariant-specs
+invariant-specs l = IsPlan (ended l.steps.items l.bytes) (take l.spec-index l.specs)

@@ -1,0 +1,31 @@
+-- No public clause cites this: a short way over the values of an entry.
+use Rattle.std.specs.Prelude.{◌≡◌, ℕ, List, [], ◌∷◌, Result, Ok}
+use Rattle.sym_edges.specs.Results.{◌>>=◌}
+use Rattle.leb_cursor.specs.declared.fault.CursorFault.{CursorFault}
+use Rattle.leb_cursor.specs.Ahead.{Ahead}
+use Rattle.leb_cursor.specs.Readings.{take_at}
+use Rattle.code_table.specs.declared.kind.Kind.{Kind}
+use Rattle.code_table.specs.Layouts.{kind_at}
+use Rattle.abbrev_units.specs.declared.plan.Step.{Step}
+use Rattle.abbrev_units.specs.SpecFields.{SpecFields}
+use Rattle.abbrev_units.specs.Values.{value_at, only_ahead, behind_values}
+
+-- a step passes so many bytes, and then one operand
+abbrev pub step_at : Step → Ahead → Result Ahead CursorFault
+step_at step c = only_ahead (take_at step.bytes c) >>= λ d. only_ahead (kind_at step.kind d)
+
+unfoldable pub steps_at : List Step → Ahead → Result Ahead CursorFault
+steps_at [] c = Ok c
+steps_at (step ∷ steps) c = step_at step c >>= λ d. steps_at steps d
+
+-- where the steps succeed, they pass the values of the attributes
+abbrev pub IsPlan : List Step → List SpecFields → Type 0
+IsPlan steps specs = (c d : Ahead) → steps_at steps c ≡ Ok d → behind_values specs c ≡ Ok d
+
+-- where an operand of this layout is there, so is the value of the attribute
+abbrev pub HasLayout : SpecFields → Kind → Type 0
+HasLayout spec kind = (c d : Ahead) → only_ahead (kind_at kind c) ≡ Ok d → only_ahead (value_at spec c) ≡ Ok d
+
+-- where so many bytes are there, so is an operand of this layout
+abbrev pub HasSize : Kind → ℕ → Type 0
+HasSize kind size = (c d : Ahead) → only_ahead (take_at size c) ≡ Ok d → only_ahead (kind_at kind c) ≡ Ok d
