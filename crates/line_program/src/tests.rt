@@ -16,8 +16,13 @@ use sym_edges::{Span, Stop};
 const HEADER: &[u8] =
     b"\x04\0\x1b\0\0\0\x01\x01\x01\xfd\x0c\x0d\0\x01\x01\x01\x01\0\0\0\x01\0\0\x01\0a.c\0\0\0\0\0";
 
-/// A table of version 4 with many files begins so, behind the length; the length of the header is still to come.
+/// The fields of version 4 behind the header's length, and the end of the directories.
 const FIELDS: &[u8] = b"\x01\x01\x01\xfd\x0c\x0d\0\x01\x01\x01\x01\0\0\0\x01\0\0\x01\0";
+
+/// The fields of version 5 behind the header's length, the directory `/s`, the format of files (a path in the table, and a byte for the
+/// directory), and their count, 3000.
+const NEW_FIELDS: &[u8] =
+    b"\x01\x01\x01\xfd\x0c\x0d\0\x01\x01\x01\x01\0\0\0\x01\0\0\x01\x01\x01\x08\x01/s\0\x02\x01\x08\x02\x0b\xb8\x17";
 
 const COUNT: u64 = 3000;
 
@@ -132,30 +137,48 @@ fn many_rows_of_one_sequence(rt: HostRuntime) -> Result<(), Fail> {
     Ok(())
 }
 
-/// A table of files `AA.c` and so on, each twice.
-fn many_files(alloc: Global) -> Result<Vec<u8>, Fail> {
+/// Files `AA.c` and so on, each twice; these bytes stand behind each name.
+fn names(alloc: Global, behind: &[u8]) -> Result<Vec<u8>, Fail> {
     let mut names = Vec::new(alloc);
     for k in 0..COUNT {
         let half = k / 2 % 1600;
         let name = [b'A' + (half / 40) as u8, b'A' + (half % 40) as u8];
         names.extend_from_slice(&name)?;
-        names.extend_from_slice(b".c\0\0\0\0")?;
+        names.extend_from_slice(b".c\0")?;
+        names.extend_from_slice(behind)?;
     }
-    names.push(0)?;
-    let length = FIELDS.len().saturating_add(names.len());
+    Ok(names)
+}
+
+/// A table of these fields, entries and opcodes; `start` is the version and what stands between it and the header's length.
+fn whole_table(
+    alloc: Global,
+    start: &[u8],
+    fields: &[u8],
+    entries: &[u8],
+    program: &[u8],
+) -> Result<Vec<u8>, Fail> {
     let mut bytes = Vec::new(alloc);
-    push_length(&mut bytes, length.saturating_add(6))?;
-    bytes.extend_from_slice(b"\x04\0")?;
+    let length = fields.len().saturating_add(entries.len());
+    let behind = length.saturating_add(program.len());
+    push_length(
+        &mut bytes,
+        behind.saturating_add(start.len()).saturating_add(4),
+    )?;
+    bytes.extend_from_slice(start)?;
     push_length(&mut bytes, length)?;
-    bytes.extend_from_slice(FIELDS)?;
-    bytes.extend_from_slice(names.as_slice())?;
+    bytes.extend_from_slice(fields)?;
+    bytes.extend_from_slice(entries)?;
+    bytes.extend_from_slice(program)?;
     Ok(bytes)
 }
 
 #[test]
 fn many_files_of_fewer_paths(rt: HostRuntime) -> Result<(), Fail> {
     let alloc = rt.alloc();
-    let bytes = many_files(alloc)?;
+    let mut entries = names(alloc, b"\0\0\0")?;
+    entries.push(0)?;
+    let bytes = whole_table(alloc, b"\x04\0", FIELDS, entries.as_slice(), b"")?;
     let table = read(alloc, bytes.as_slice())?;
     let mut got = Vec::new(alloc);
     for index in [0, 1, 2, 3, 4, COUNT, COUNT + 1] {
@@ -171,6 +194,48 @@ fn many_files_of_fewer_paths(rt: HostRuntime) -> Result<(), Fail> {
         Some(number) => assert_eq!(rt; table.path(number), b"/s/AB.c".as_slice()),
         None => {}
     }
+    Ok(())
+}
+
+/// One sequence whose rows fall by four addresses, each a line further.
+fn falling_rows(alloc: Global) -> Result<Vec<u8>, Fail> {
+    let mut program = Vec::new(alloc);
+    for k in 0..COUNT {
+        program.extend_from_slice(b"\0\x09\x02")?;
+        program.extend_from_slice(&(0x1000 + 4 * (COUNT - k)).to_le_bytes())?;
+        program.extend_from_slice(b"\x03\x01\x01")?;
+    }
+    program.extend_from_slice(b"\0\x09\x02")?;
+    program.extend_from_slice(&(0x1008 + 4 * COUNT).to_le_bytes())?;
+    program.extend_from_slice(b"\0\x01\x01")?;
+    Ok(program)
+}
+
+#[test]
+fn many_files_and_falling_rows_of_version_5(rt: HostRuntime) -> Result<(), Fail> {
+    let alloc = rt.alloc();
+    let bytes = whole_table(
+        alloc,
+        b"\x05\0\x08\0",
+        NEW_FIELDS,
+        names(alloc, b"\0")?.as_slice(),
+        falling_rows(alloc)?.as_slice(),
+    )?;
+    let table = read(alloc, bytes.as_slice())?;
+    let mut got = Vec::new(alloc);
+    for index in [0, 1, 2, COUNT - 1, COUNT] {
+        got.push(table.file(index).map_or(9999, u64::from))?;
+    }
+    expect(&rt, "numbers", &got, &[0, 0, 1, COUNT / 2 - 1, 9999]);
+    let top = 0x1000 + 4 * COUNT;
+    let addresses = [0x1003, 0x1004, 0x1007, 0x1008, top, top + 7, top + 8];
+    let got = lines(alloc, &table, &addresses)?;
+    expect(
+        &rt,
+        "lines",
+        &got,
+        &[0, COUNT + 1, COUNT + 1, COUNT, 2, 2, 0],
+    );
     Ok(())
 }
 
