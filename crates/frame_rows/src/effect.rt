@@ -13,7 +13,7 @@ use sym_edges::{Reason, Stop};
 
 impl Instruction {
     /// The columns that the instruction may change.
-    #[inline]
+    #[inline(always)]
     pub fn touched(&self) -> Columns
         ensures { result ≡ touched self.now }
     {
@@ -32,6 +32,7 @@ impl Instruction {
     }
 
     /// Carries out the instruction, or says why it may not stand there.
+    #[inline(always)]
     #[tactic(auto, unfolding(crate::specs::Steps::stepped, crate::specs::Steps::step_fault))]
     pub fn step(self, machine: &mut Machine<'_>, setting: &Setting) -> Result<(), Stop<Reason>>
         ensures { MatchStop result

@@ -2,11 +2,11 @@
 ghost use Rattle.std.specs.Prelude.{◌≡◌, ◌≤◌, ◌∷◌, ◌++◌, length, drop, IfSome};
 ghost use Rattle.std.specs.List.{flat_map};
 ghost use Rattle.std.specs.Fmt.{signed_decimal};
+ghost use Rattle.sym_edges.specs.Abi.{register_name};
 ghost use Rattle.sym_rules.specs.Rules.{target_word, spelled_token, spelled_rule, spelled_rules};
 
-use crate::backward::{write_byte, write_bytes, write_signed};
+use crate::backward::{write_byte, write_bytes, write_register, write_signed};
 use crate::rules::{RuleText, Target, Token};
-use crate::words::{register_name, target_name};
 
 /// A word behind one space.
 #[inline]
@@ -34,13 +34,26 @@ fn fit_number(number: i64, line: &mut [u8], end: usize) -> Option<usize>
     Some(write_byte(b' ', line, start))
 }
 
+/// A register's name behind one space.
+#[inline]
+fn fit_register(number: u8, line: &mut [u8], end: usize) -> Option<usize>
+    requires { end ≤ length line.old }
+    ensures { IfSome result (λ start. (start ≤ end) × (drop start line.new ≡ (32 ∷ register_name number) ++ drop end line.old)) }
+{
+    if end < 5 {
+        return None;
+    }
+    let start = write_register(number, line, end);
+    Some(write_byte(b' ', line, start))
+}
+
 fn fit_token(token: &Token, line: &mut [u8], end: usize) -> Option<usize>
     requires { end ≤ length line.old }
     ensures { IfSome result (λ start. (start ≤ end) × (drop start line.new ≡ spelled_token token.now ++ drop end line.old)) }
 {
     match token {
         Token::Number(n) => fit_number(*n, line, end),
-        Token::Reg(number) => fit_word(register_name(*number), line, end),
+        Token::Reg(number) => fit_register(*number, line, end),
         Token::Cfa => fit_word(b".cfa", line, end),
         Token::Undef => fit_word(b".undef", line, end),
         Token::Other(name) => fit_word(name.as_slice(), line, end),
@@ -80,7 +93,12 @@ fn fit_target(target: &Target, line: &mut [u8], end: usize) -> Option<usize>
         return None;
     }
     let at = write_byte(b':', line, end);
-    fit_word(target_name(target), line, at)
+    match target {
+        Target::Cfa => fit_word(b".cfa", line, at),
+        Target::Ra => fit_word(b".ra", line, at),
+        Target::Reg(number) => fit_register(*number, line, at),
+        Target::Other(name) => fit_word(name.as_slice(), line, at),
+    }
 }
 
 #[tactic(auto, using(crate::proofs::FittingLemmas::rule_fitted))]

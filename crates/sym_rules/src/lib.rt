@@ -25,6 +25,7 @@ pub use adding::{add_rules, add_word};
 pub use backward::{
     write_byte, write_bytes, write_decimal, write_hex, write_last, write_register, write_signed,
 };
+pub use fitting::fit_rules;
 pub use handing::{hand_on, put, put_word};
 pub use rules::{ByteText, RuleName, RuleText, Rules, Target, Token, Tokens};
 pub use spelling::put_rules;

@@ -1,7 +1,8 @@
-use Rattle.std.proofs.Common.{arith, replicate, ℕ}
-use Rattle.std.proofs.lemmas.List.{length-replicate}
-use Rattle.sym_records.proofs.AddingLemmas.{adds_change, tail_added, on_ok}
+use Rattle.std.proofs.Common.{arith}
+use Rattle.sym_records.proofs.AddingLemmas.{short_change, tail_added}
 use Rattle.sym_records.proofs.adding.add_change.Goals as goal
 
-pub returns : goal.returns
-returns c = on_ok c.end.result (λ last. adds_change c.args.address c.args.rules.now _ (replicate 64 0) _ _ _ _ 64 (omega (arith, length-replicate {A = ℕ} 64 0)) c.write_change-at.ensures.written (tail_added _ c.write_change-at.new.line _ 64 c.write_change-at.result (omega arith) c.in_ok-begin.ensures) c.in_ok-add_rules.ensures last) c.end.ensures
+pub returns-then-at-ge26 : goal.returns-then-at-ge26
+returns-then-at-ge26 c =
+    short_change c.args.address c.args.rules.now _ _ _ _ _ c.write_last-end.ensures.written c.in-Some.ensures.1 c.write_change-front.ensures.written
+    (tail_added _ c.write_change-front.new.line _ 160 c.write_change-front.result (omega arith) c.in_ok-extend_from_slice.ensures.items)
