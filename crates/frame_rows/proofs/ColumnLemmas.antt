@@ -1,5 +1,5 @@
 -- The columns that instructions leave as they are.
-use Rattle.std.proofs.Common.{◌≡◌, ◌≢◌, ℕ, ◌+◌, ◌<◌, ◌≤◌, min, max, cond, List, length, get_or, set, refl, ap, sym, ◌∙◌, arith, subst, inl, inr, get_or-set_other}
+use Rattle.std.proofs.Common.{◌≡◌, ◌≢◌, ℕ, ◌+◌, min, max, get_or, set, refl, ap, sym, ◌∙◌, arith, subst, inl, inr, get_or-set_other}
 use Rattle.std.proofs.lemmas.Bool.{cases_lt, lt-ltb, le-ltb}
 use Rattle.frame_rows.specs.declared.row.Rule.{Rule}
 use Rattle.frame_rows.specs.declared.row.Rule.TheVariants as rule
@@ -10,7 +10,7 @@ use Rattle.frame_rows.specs.declared.instruction.Instruction.{Instruction}
 use Rattle.frame_rows.specs.declared.instruction.Instruction.TheVariants.{SetLoc, AdvanceLoc, DefCfa, DefCfaSf, DefCfaRegister, DefCfaOffset, DefCfaOffsetSf, Undefined, SameValue, Offset, OffsetExtendedSf, ValOffset, ValOffsetSf, Register, Restore, RememberState, RestoreState, Nop}
 use Rattle.frame_rows.specs.Machine.{Machine}
 use Rattle.frame_rows.specs.Steps.{stepped, put_rule, put_cfa, put_register, put_offset, scaled, plain, rule_behind}
-use Rattle.frame_rows.specs.Columns.{StayOutside, no_columns, all_columns, one_column, touched}
+use Rattle.frame_rows.specs.Columns.{StayOutside, no_columns, one_column, touched}
 
 -- rows with the same rules
 alike : (columns : Columns) (before after : Row) → before.rules ≡ after.rules → StayOutside columns before after

@@ -1,7 +1,6 @@
 -- A stepper begins at the first row of an entry.
-use Rattle.std.proofs.Common.{◌≡◌, ℕ, ◌+◌, ◌<◌, List, ◌∷◌, length, take, Option, None, Some, sym, ◌∙◌, ap, arith, subst}
+use Rattle.std.proofs.Common.{◌≡◌, ℕ, ◌+◌, ◌<◌, List, ◌∷◌, length, take, None, sym, ◌∙◌, ap, arith, subst}
 use Rattle.std.proofs.lemmas.List.{take_all}
-use Rattle.sym_edges.specs.declared.reason.Reason.{Reason}
 use Rattle.leb_cursor.specs.Ahead.{Ahead}
 use Rattle.frame_entries.specs.FdeFields.{FdeFields}
 use Rattle.frame_rows.specs.declared.row.RowAt.{RowAt}

@@ -4,7 +4,7 @@ use Rattle.std.specs.List.{flat_map}
 use Rattle.std.proofs.lemmas.List.{drop_all}
 use Rattle.std.proofs.lemmas.List.Concat.{flat_map-append}
 use Rattle.sym_rules.specs.declared.rules.RuleText.{RuleText}
-use Rattle.sym_rules.specs.Rules.{target_word, spelled_token, spelled_rule, spelled_rules}
+use Rattle.sym_rules.specs.Rules.{spelled_rule, spelled_rules}
 use Rattle.sym_records.specs.Canon.{canon, canon_text, change_front}
 use Rattle.sym_records.proofs.AddingLemmas.{change_line}
 use Rattle.sym_records.specs.declared.line.SymLine.{SymLine}

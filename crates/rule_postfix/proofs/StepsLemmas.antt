@@ -1,12 +1,11 @@
 -- What is spelled as a stepper moves.
-use Rattle.std.proofs.Common.{◌≡◌, Option, Some, None, Result, Ok, Err, OnOk, ℕ, ◌-◌, ◌≤◌, Bool, true, false, cond, List, [], ◌∷◌, ◌++◌, refl, ap, sym, subst, ◌∙◌, arith, append_assoc, append-nil}
+use Rattle.std.proofs.Common.{◌≡◌, Option, Some, None, Result, Ok, Err, OnOk, ℕ, ◌-◌, ◌≤◌, true, false, cond, List, [], ◌∷◌, ◌++◌, refl, ap, sym, subst, ◌∙◌, arith, append_assoc, append-nil}
 use Rattle.frame_rows.specs.declared.row.Row.{Row}
 use Rattle.frame_rows.specs.declared.row.RowAt.{RowAt}
 use Rattle.frame_rows.specs.Rows.{Ascending}
 use Rattle.frame_rows.specs.Standing.{Standing, IsStep}
 use Rattle.frame_rows.specs.Columns.{StayOutside, IsNext}
 use Rattle.frame_rows.specs.declared.columns.Columns.{Columns}
-use Rattle.sym_rules.specs.declared.rules.RuleText.{RuleText}
 use Rattle.sym_rules.specs.Rules.{spelled_rules}
 use Rattle.sym_records.specs.Canon.{canon, canon_text, init_front}
 use Rattle.sym_records.proofs.AddingLemmas.{init_line}

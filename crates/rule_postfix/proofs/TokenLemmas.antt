@@ -5,10 +5,9 @@ use Rattle.std.specs.Fmt.{signed_decimal}
 use Rattle.sym_edges.specs.Abi.{register_name}
 use Rattle.sym_rules.specs.Rules.{target_word, spelled_token, spelled_rule, spelled_rules}
 use Rattle.sym_rules.specs.declared.rules.Target.{Target}
-use Rattle.sym_rules.specs.declared.rules.Target.TheVariants.{Cfa, Ra, Reg, Other}
+use Rattle.sym_rules.specs.declared.rules.Target.TheVariants.{Cfa, Reg}
 use Rattle.sym_rules.specs.declared.rules.Token.{Token}
 use Rattle.sym_rules.specs.declared.rules.Token.TheVariants as token
-use Rattle.sym_rules.specs.declared.rules.RuleText.{RuleText}
 use Rattle.rule_postfix.specs.Backward.{rule_text}
 
 -- the CFA plus an offset, and the word there

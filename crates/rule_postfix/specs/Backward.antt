@@ -1,5 +1,5 @@
 -- No public clause cites this: the rules of a record, one behind another, as they are written from the last to the first.
-use Rattle.std.specs.Prelude.{◌≡◌, ℕ, ◌-◌, ◌≤◌, Bool, List, ◌++◌, map, Option}
+use Rattle.std.specs.Prelude.{ℕ, ◌-◌, Bool, List, map, Option}
 use Rattle.std.specs.List.{list_any, range_with_len}
 use Rattle.std.specs.Option.{option_to_list}
 use Rattle.frame_rows.specs.declared.row.Row.{Row}

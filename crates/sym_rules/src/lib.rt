@@ -2,7 +2,8 @@
 //!
 //! A rule says how a register of the caller is found: it has a target, whose name ends with `:`, and the words of a
 //! postfix expression (Breakpad's symbol_files.md). `are_rules` tests whether a line can carry rules, `rules_length` says
-//! how long they are, `add_rules` spells them at the end of a text, and `put_rules` through a buffer in front of a sink.
+//! how long they are, `add_rules` spells them at the end of a text, and `put_rules` through a buffer in front of a sink. The `write_`
+//! calls write numbers and names into a line from its end to its front, and `fit_rules` does so with rules, where they have room.
 #![tactic(auto)]
 
 // The rules, and what may be wrong with a text that has them.

@@ -11,5 +11,5 @@ pub returns-in_ok-close-in-None : goal.returns-in_ok-close-in-None
 returns-in_ok-close-in-None c =
     on_both c.begin.result
     (λ start body front o so.
-        cut_spelled front c.args.text.now.items c.close.new.text.items c.args.base c.args.address c.args.before.now c.args.after.now c.args.open.now c.begin.new.open o c.in-None.ensures.kept c.in_ok-close-in-None.ensures start body so)
+    cut_spelled front c.args.text.now.items c.close.new.text.items c.args.base c.args.address c.args.before.now c.args.after.now c.args.open.now c.begin.new.open o c.in-None.ensures.kept c.in_ok-close-in-None.ensures start body so)
     c.begin.ensures.start c.begin.ensures.body

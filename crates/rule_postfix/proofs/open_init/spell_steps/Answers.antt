@@ -1,5 +1,5 @@
 use Rattle.std.proofs.Common.{◌∙◌}
-use Rattle.rule_postfix.proofs.StepsLemmas.{is_more, is_last, by_row, pass_alike, pass_begins, pass_on, pass_ends}
+use Rattle.rule_postfix.proofs.StepsLemmas.{is_more, is_last, by_row, pass_begins, pass_on, pass_ends}
 use Rattle.rule_postfix.proofs.open_init.spell_steps.Goals as goal
 
 pub rows-init : goal.rows-init

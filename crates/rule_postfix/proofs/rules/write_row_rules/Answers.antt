@@ -1,4 +1,4 @@
-use Rattle.std.proofs.Common.{◌≡◌, false, true, sym, ◌∙◌}
+use Rattle.std.proofs.Common.{◌≡◌, false}
 use Rattle.rule_postfix.specs.RowRules.{some_becomes_unspecified}
 use Rattle.rule_postfix.proofs.RulesLemmas.{none_from_empty}
 use Rattle.rule_postfix.proofs.rules.write_row_rules.Goals as goal
