@@ -9,6 +9,7 @@ pub mod EntryLemmas
 pub mod LeftLemmas
 pub mod FollowLemmas
 pub mod OperandLemmas
+pub mod ColumnLemmas
 pub mod SteppingLemmas
 pub mod LackLemmas
 pub mod StartLemmas

@@ -1,7 +1,6 @@
 -- A stepper begins at the first row of an entry.
-use Rattle.std.proofs.Common.{◌≡◌, ℕ, ◌+◌, ◌<◌, List, ◌∷◌, length, take, Option, None, Some, sym, ◌∙◌, ap, arith, subst}
+use Rattle.std.proofs.Common.{◌≡◌, ℕ, ◌+◌, ◌<◌, List, ◌∷◌, length, take, None, sym, ◌∙◌, ap, arith, subst}
 use Rattle.std.proofs.lemmas.List.{take_all}
-use Rattle.sym_edges.specs.declared.reason.Reason.{Reason}
 use Rattle.leb_cursor.specs.Ahead.{Ahead}
 use Rattle.frame_entries.specs.FdeFields.{FdeFields}
 use Rattle.frame_rows.specs.declared.row.RowAt.{RowAt}
@@ -12,7 +11,6 @@ use Rattle.frame_rows.specs.Rows.{first_fault, cie_setting, cie_items, cie_begin
 use Rattle.frame_rows.specs.Walk.{rows_from, rows_past, row_with}
 use Rattle.frame_rows.proofs.TestLemmas.{neither}
 use Rattle.frame_rows.proofs.RowLemmas.{are_rows}
-use Rattle.frame_rows.proofs.EntryLemmas.{Walked}
 
 -- a cursor over the instructions of an entry
 all_ahead : (encoding base : ℕ) (bytes : List ℕ) (c : Ahead) → c ≡ record { bytes = take (length bytes) bytes; at = 0 } → listed_at encoding base c ≡ instructions encoding base bytes
@@ -30,9 +28,6 @@ unfolding instruction_fault
 both_good e good = neither (first_fault (cie_setting e) (cie_items e) (cie_begin e)) (first_fault (own_setting e) (own_items e) (own_begin e)) good
 
 -- none of an entry's instructions is bad
-pub cie_good : (e : FdeFields) (why : Reason) → instruction_fault e ≡ None → first_fault (cie_setting e) (cie_items e) (cie_begin e) ≡ Some why → ⊥
-cie_good e why good bad = let is : ◌≡◌ {A = Option Reason} (Some why) None = sym bad ∙ (both_good e good).0 in cc
-
 pub own_good : (v e : FdeFields) (s : Setting) (m : Machine) (c : Ahead) → v ≡ e → s ≡ own_setting e → m ≡ own_begin e → c ≡ record { bytes = take (length v.instructions) v.instructions; at = 0 } → instruction_fault e ≡ None → first_fault s (listed_at v.encoding v.instructions_address c) m ≡ None
 own_good v e s m c view setting machine over good =
     ap (λ l. first_fault s l m) (own_ahead v e c view over)
@@ -53,7 +48,7 @@ start_rows v e s m n c later end view setting machine over some settled =
     ∙ ap (λ k. rows_from end k (own_items e) m) setting ∙ ap (rows_from end (own_setting e) (own_items e)) machine
 
 -- and has its rows ahead
-pub start_are : (v e : FdeFields) (rows others : List RowAt) → Walked e others → v ≡ e → rows ≡ rows_from (v.start + v.size) (own_setting e) (own_items e) (own_begin e) → 0 < e.size → AreRows e rows
-start_are v e rows others w view is some =
+pub start_are : (v e : FdeFields) (rows : List RowAt) → instruction_fault e ≡ None → v ≡ e → rows ≡ rows_from (v.start + v.size) (own_setting e) (own_items e) (own_begin e) → 0 < e.size → AreRows e rows
+start_are v e rows good view is some =
     let P : List RowAt → Type 0 = λ xs. AreRows e xs in
-    subst P (sym (is ∙ ap (λ (k : FdeFields). rows_from (k.start + k.size) (own_setting e) (own_items e) (own_begin e)) view)) (are_rows e w.own some)
+    subst P (sym (is ∙ ap (λ (k : FdeFields). rows_from (k.start + k.size) (own_setting e) (own_items e) (own_begin e)) view)) (are_rows e (both_good e good).1 some)

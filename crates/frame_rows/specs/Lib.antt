@@ -7,3 +7,4 @@ pub mod Left
 pub mod CieLeft
 pub mod Walk
 pub mod Standing
+pub mod Columns

@@ -145,4 +145,30 @@ impl CieState {
             Err(why) => Err(*why),
         }
     }
+
+    /// Begins an entry of the CIE, the only one. Takes no memory.
+    pub fn into_begun<'c>(self, fde: &Fde<'_>) -> Result<Begun<'c>, Reason>
+        requires { self ≡ cie_left fde.now }
+        ensures fault { MatchResult result
+            (λ _. first_fault (cie_setting fde.now) (cie_items fde.now) (cie_begin fde.now) ≡ None)
+            (λ why. first_fault (cie_setting fde.now) (cie_items fde.now) (cie_begin fde.now) ≡ Some why) }
+        ensures machine { IfOk result (λ begun. begun.machine ≡ own_begin fde.now) }
+        ensures setting { IfOk result (λ begun. begun.setting ≡ own_setting fde.now) }
+    {
+        let CieState { left } = self;
+        match left {
+            Ok(left) => {
+                let Left {
+                    setting,
+                    row,
+                    stack,
+                } = left;
+                Ok(Begun {
+                    machine: Machine::with_stack(fde.start, row, stack),
+                    setting,
+                })
+            }
+            Err(why) => Err(why),
+        }
+    }
 }

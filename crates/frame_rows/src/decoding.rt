@@ -31,6 +31,7 @@ macro_rules! read {
 }
 
 /// Reads the operand of `DW_CFA_set_loc`.
+#[inline(never)]
 #[tactic(auto, unfolding(frame_entries::specs::FrameEntries::address_at))]
 fn read_set_loc(cursor: &mut Cursor<'_>, encoding: u8, base: u64) -> Result<Instruction, Reason>
     requires known { IsTrue (is_encoding encoding) }
@@ -54,6 +55,7 @@ fn read_args_size(cursor: &mut Cursor<'_>) -> Result<Instruction, Reason>
 }
 
 /// Reads the operands of an opcode that has none in itself.
+#[inline(always)]
 #[tactic(auto, unfolding(crate::specs::Instructions::extended_at))]
 fn read_extended(
     cursor: &mut Cursor<'_>,
@@ -95,7 +97,7 @@ fn read_extended(
 }
 
 /// Reads what stands behind an opcode.
-#[inline]
+#[inline(always)]
 #[tactic(auto, unfolding(crate::specs::Instructions::behind_opcode))]
 fn read_behind(
     cursor: &mut Cursor<'_>,
@@ -124,7 +126,7 @@ fn read_behind(
 
 impl Instruction {
     /// Reads the next instruction. `base` is the address of the cursor's first byte, and `encoding` that of pointers.
-    #[inline]
+    #[inline(always)]
     #[tactic(auto, unfolding(crate::specs::Instructions::instruction_at))]
     pub fn read(cursor: &mut Cursor<'_>, encoding: u8, base: u64) -> Result<Instruction, Reason>
         requires known { IsTrue (is_encoding encoding) }

@@ -2,15 +2,37 @@
 ghost use Rattle.std.specs.Prelude.{◌≡◌, Some, None};
 ghost use Rattle.sym_edges.specs.Outside.{MatchStop};
 ghost use Rattle.sym_edges.specs.Results.{unless};
+ghost use Rattle.frame_rows.specs.Columns.{touched};
 ghost use Rattle.frame_rows.specs.Steps.{stepped, step_fault, on_row, put_rule};
 
+use crate::columns::Columns;
 use crate::instruction::Instruction;
 use crate::machine::{Machine, Setting};
 use crate::row::Rule;
 use sym_edges::{Reason, Stop};
 
 impl Instruction {
+    /// The columns that the instruction may change.
+    #[inline(always)]
+    pub fn touched(&self) -> Columns
+        ensures { result ≡ touched self.now }
+    {
+        match self {
+            Instruction::Undefined { column } => Columns::one(*column),
+            Instruction::SameValue { column } => Columns::one(*column),
+            Instruction::Offset { column, .. } => Columns::one(*column),
+            Instruction::OffsetExtendedSf { column, .. } => Columns::one(*column),
+            Instruction::ValOffset { column, .. } => Columns::one(*column),
+            Instruction::ValOffsetSf { column, .. } => Columns::one(*column),
+            Instruction::Register { column, .. } => Columns::one(*column),
+            Instruction::Restore { column } => Columns::one(*column),
+            Instruction::RestoreState => Columns::all(),
+            _ => Columns::none(),
+        }
+    }
+
     /// Carries out the instruction, or says why it may not stand there.
+    #[inline(always)]
     #[tactic(auto, unfolding(crate::specs::Steps::stepped, crate::specs::Steps::step_fault))]
     pub fn step(self, machine: &mut Machine<'_>, setting: &Setting) -> Result<(), Stop<Reason>>
         ensures { MatchStop result

@@ -8,9 +8,11 @@
 //! to the row and to the row stack, one equation for each instruction, in the standard's order. [`inspect`] looks at the
 //! instructions alone, for any range.
 //!
-//! The instructions of a CIE leave the same for each of its entries: a [`CieState`] is made once, and [`rows_behind`] and
-//! [`inspect_behind`] begin with it, and so does a [`Stepper`], which goes over the rows one after the other and keeps only the
-//! one where it stands. Once memory ran out, it answers that from then on.
+//! A [`Stepper`] goes over the rows one after the other and keeps only the one where it stands; `next` says beside which columns
+//! two rows differ in none. Once memory ran out, it answers that from then on.
+//!
+//! The instructions of a CIE leave the same for each of its entries: a [`CieState`] is made once, and [`rows_behind`],
+//! [`inspect_behind`] and `Stepper::behind` begin with it.
 //!
 //! An entry is refused exactly with the reason of its first bad instruction, the CIE's before its own, or else with
 //! `Cfa` where some address of the range has no CFA rule. Instructions with a DWARF expression are refused as
@@ -18,6 +20,7 @@
 #![tactic(auto)]
 
 // The rows, and the instructions that make them.
+mod columns;
 mod instruction;
 mod row;
 
@@ -39,6 +42,7 @@ mod walking;
 pub mod laws;
 
 pub use crate::cie_state::CieState;
+pub use crate::columns::Columns;
 pub use crate::row::{CfaRule, Row, RowAt, RowList, Rule};
 pub use crate::running::{inspect, inspect_behind};
 pub use crate::stepper::Stepper;

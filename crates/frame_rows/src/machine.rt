@@ -74,6 +74,18 @@ impl<'c> Machine<'c> {
         }
     }
 
+    /// The same with remembered rows of its own.
+    pub fn with_stack(address: u64, row: Row, stack: Vec<Row>) -> Machine<'c>
+        ensures { result ≡ record { address = address; row = row; stack = reverse stack.items } }
+    {
+        Machine {
+            address,
+            row,
+            stack,
+            bottom: &[],
+        }
+    }
+
     /// The rows that are remembered, the last one last.
     pub fn into_stack(self, alloc: Global) -> Result<Vec<Row>, AllocError>
         ensures { IfOk result (λ rows. reverse rows.items ≡ self.entry.stack) }

@@ -8,10 +8,12 @@ ghost use Rattle.frame_rows.specs.Instructions.{instructions, listed_at};
 ghost use Rattle.frame_rows.specs.Steps.{has_cfa};
 ghost use Rattle.frame_rows.specs.Rows.{first_fault, own_setting, own_items, own_begin, instruction_fault, row_at, rows_fault, AreRows, HasCfa, IsSound};
 ghost use Rattle.frame_rows.specs.CieLeft.{cie_left};
+ghost use Rattle.frame_rows.specs.Columns.{StayOutside, IsNext};
 ghost use Rattle.frame_rows.specs.Standing.{IsStep};
 ghost use Rattle.frame_rows.specs.Walk.{rows_from, rows_past, row_with};
 
 use crate::cie_state::{Begun, CieState};
+use crate::columns::Columns;
 use crate::instruction::Instruction;
 use crate::lacking::lack_cfa_below;
 use crate::machine::{Machine, Setting};
@@ -62,48 +64,77 @@ fn settle(
     setting: &Setting,
     encoding: u8,
     base: u64,
-) -> Result<(), Stop<Reason>>
+) -> Result<Columns, Stop<Reason>>
     requires known { IsTrue (is_encoding encoding) }
     requires good { first_fault setting.now (listed_at encoding base cursor.old) machine.old ≡ None }
     ensures good { MatchStop result (λ _. first_fault setting.now (listed_at encoding base cursor.new) machine.new ≡ None) (λ _. ⊥) (Unit {0}) }
+    ensures stays { IfOk result (λ columns. StayOutside columns machine.old.row machine.new.row) }
     ensures rows { OnOk result ((end : ℕ) → machine.old.address < end →
         rows_from end setting.now (listed_at encoding base cursor.old) machine.old
         ≡ row_with machine.old.address machine.new.row ∷ rows_past end setting.now (listed_at encoding base cursor.new) machine.new machine.old.address) }
 {
     let address = machine.address();
+    let mut columns = Columns::none();
     'turns: while !cursor.is_at_end() {
         let instruction = match Instruction::read(cursor, encoding, base) {
             Ok(instruction) => instruction,
             Err(why) => return Err(Stop::Fault(why)),
         };
+        columns = columns.join(instruction.touched());
         match instruction.step(machine, setting) {
             Ok(()) => {}
             Err(stop) => return Err(stop),
         }
         if address < machine.address() {
-            return Ok(());
+            return Ok(columns);
         }
     }
-    Ok(())
+    Ok(columns)
 }
 
-/// The first row of an entry whose instructions are good.
-fn start<'c, 'a>(
-    alloc: Global,
-    state: &'c CieState,
-    fde: &Fde<'a>,
-    end: u64,
-) -> Result<Stepper<'c, 'a>, Stop<Reason>>
+/// Whether an entry has rows, or the reason for which it has none; the state behind its CIE is given. All instructions are
+/// looked at.
+fn look(alloc: Global, state: &CieState, fde: &Fde<'_>) -> Result<(), Stop<Reason>>
     requires behind { state.now ≡ cie_left fde.now }
-    requires good { instruction_fault fde.now ≡ None }
-    requires some { fde.now.start < end }
-    ensures fresh { MatchStop result (λ s. s.failed ≡ false) (λ _. ⊥) (Unit {0}) }
-    ensures rows { IfOk result (λ s. s.here ∷ s.later ≡ rows_from end (own_setting fde.now) (own_items fde.now) (own_begin fde.now)) }
+    requires some { 0 < fde.now.size }
+    requires fits { fde.now.start + fde.now.size < 2 ^ 64 }
+    ensures good { MatchStop result (λ _. instruction_fault fde.now ≡ None) (λ _. Unit {0}) (Unit {0}) }
+    ensures cfa { MatchStop result (λ _. HasCfa fde.now) (λ _. Unit {0}) (Unit {0}) }
+    ensures sound { MatchStop result (λ _. (a : ℕ) → IsSound (row_at fde.now a)) (λ _. Unit {0}) (Unit {0}) }
+    ensures exact { MatchStop result (λ _. rows_fault fde.now ≡ None) (λ why. rows_fault fde.now ≡ Some why) (Unit {0}) }
 {
     let begun = match state.begin(alloc, fde) {
         Ok(begun) => begun,
         Err(why) => return Err(Stop::Fault(why)),
     };
+    let Begun { machine, setting } = begun;
+    let end = fde.start + fde.size;
+    let lacking = match lack_cfa_below(
+        machine,
+        &setting,
+        end,
+        fde.encoding,
+        fde.instructions_address,
+        fde.instructions,
+    ) {
+        Ok(lacking) => lacking,
+        Err(stop) => return Err(stop),
+    };
+    if lacking {
+        return Err(Stop::Fault(Reason::Cfa));
+    }
+    Ok(())
+}
+
+/// The first row of an entry whose instructions are good.
+fn start<'c, 'a>(begun: Begun<'c>, fde: &Fde<'a>, end: u64) -> Result<Stepper<'c, 'a>, Stop<Reason>>
+    requires machine { begun.machine ≡ own_begin fde.now }
+    requires setting { begun.setting ≡ own_setting fde.now }
+    requires good { instruction_fault fde.now ≡ None }
+    requires some { fde.now.start < end }
+    ensures fresh { MatchStop result (λ s. s.failed ≡ false) (λ _. ⊥) (Unit {0}) }
+    ensures rows { IfOk result (λ s. s.here ∷ s.later ≡ rows_from end (own_setting fde.now) (own_items fde.now) (own_begin fde.now)) }
+{
     let Begun {
         mut machine,
         setting,
@@ -116,7 +147,7 @@ fn start<'c, 'a>(
         fde.encoding,
         fde.instructions_address,
     ) {
-        Ok(()) => Ok(Stepper {
+        Ok(_) => Ok(Stepper {
             machine,
             setting,
             cursor,
@@ -131,9 +162,35 @@ fn start<'c, 'a>(
 }
 
 impl<'c, 'a> Stepper<'c, 'a> {
-    /// At the first row of an entry, or the reason for which it has no rows; the state behind its CIE is given. All
-    /// instructions are looked at before.
-    pub fn new(
+    /// At the first row of an entry, or the reason for which it has no rows. All instructions are looked at before.
+    #[tactic(auto, using(crate::proofs::EntryLemmas::cie_bad))]
+    pub fn new(alloc: Global, fde: &Fde<'a>) -> Result<Stepper<'c, 'a>, Stop<Reason>>
+        requires some { 0 < fde.now.size }
+        requires fits { fde.now.start + fde.now.size < 2 ^ 64 }
+        ensures fresh { MatchStop result (λ s. s.failed ≡ false) (λ _. Unit {0}) (Unit {0}) }
+        ensures rows { MatchStop result (λ s. AreRows fde.now (s.here ∷ s.later)) (λ _. Unit {0}) (Unit {0}) }
+        ensures cfa { MatchStop result (λ _. HasCfa fde.now) (λ _. Unit {0}) (Unit {0}) }
+        ensures sound { MatchStop result (λ _. (a : ℕ) → IsSound (row_at fde.now a)) (λ _. Unit {0}) (Unit {0}) }
+        ensures exact { MatchStop result (λ _. rows_fault fde.now ≡ None) (λ why. rows_fault fde.now ≡ Some why) (Unit {0}) }
+    {
+        let state = CieState::of(alloc, fde)?;
+        match look(alloc, &state, fde) {
+            Ok(()) => {}
+            Err(stop) => return Err(stop),
+        }
+        let begun = match state.into_begun(fde) {
+            Ok(begun) => begun,
+            Err(why) => return Err(Stop::Fault(why)),
+        };
+        match start(begun, fde, fde.start + fde.size) {
+            Ok(stepper) => Ok(stepper),
+            Err(stop) => Err(stop),
+        }
+    }
+
+    /// The same where the state behind the CIE of the entry is given.
+    #[tactic(auto, using(crate::proofs::EntryLemmas::cie_bad))]
+    pub fn behind(
         alloc: Global,
         state: &'c CieState,
         fde: &Fde<'a>,
@@ -147,27 +204,15 @@ impl<'c, 'a> Stepper<'c, 'a> {
         ensures sound { MatchStop result (λ _. (a : ℕ) → IsSound (row_at fde.now a)) (λ _. Unit {0}) (Unit {0}) }
         ensures exact { MatchStop result (λ _. rows_fault fde.now ≡ None) (λ why. rows_fault fde.now ≡ Some why) (Unit {0}) }
     {
+        match look(alloc, state, fde) {
+            Ok(()) => {}
+            Err(stop) => return Err(stop),
+        }
         let begun = match state.begin(alloc, fde) {
             Ok(begun) => begun,
             Err(why) => return Err(Stop::Fault(why)),
         };
-        let Begun { machine, setting } = begun;
-        let end = fde.start + fde.size;
-        let lacking = match lack_cfa_below(
-            machine,
-            &setting,
-            end,
-            fde.encoding,
-            fde.instructions_address,
-            fde.instructions,
-        ) {
-            Ok(lacking) => lacking,
-            Err(stop) => return Err(stop),
-        };
-        if lacking {
-            return Err(Stop::Fault(Reason::Cfa));
-        }
-        match start(alloc, state, fde, end) {
+        match start(begun, fde, fde.start + fde.size) {
             Ok(stepper) => Ok(stepper),
             Err(stop) => Err(stop),
         }
@@ -187,10 +232,11 @@ impl<'c, 'a> Stepper<'c, 'a> {
         self.machine.row()
     }
 
-    /// Goes on to the next row: true; or stays, at the last row: false. Once memory ran out, each step answers that.
+    /// Goes on to the next row, and says outside of which columns it is as the one before; or stays, at the last row: nothing.
+    /// Once memory ran out, each step answers that.
     #[tactic(auto, using(crate::proofs::SteppingLemmas::no_later, crate::proofs::SteppingLemmas::later_over, crate::proofs::SteppingLemmas::later_next))]
-    pub fn step(&mut self) -> Result<bool, Stop<Reason>>
-        ensures steps { self.old.failed ≡ false → MatchStop result (λ more. IsStep more self.old self.new) (λ _. ⊥) (self.new.failed ≡ true) }
+    pub fn next(&mut self) -> Result<Option<Columns>, Stop<Reason>>
+        ensures steps { self.old.failed ≡ false → MatchStop result (λ next. IsNext next self.old self.new) (λ _. ⊥) (self.new.failed ≡ true) }
         ensures failed { self.old.failed ≡ true → (result ≡ Err stop.NoMemory) × (self.new ≡ self.old) }
     {
         if self.failed {
@@ -198,7 +244,7 @@ impl<'c, 'a> Stepper<'c, 'a> {
         }
         let next = self.machine.address();
         if next <= self.address || self.end <= next {
-            return Ok(false);
+            return Ok(None);
         }
         self.address = next;
         match settle(
@@ -208,11 +254,23 @@ impl<'c, 'a> Stepper<'c, 'a> {
             self.encoding,
             self.base,
         ) {
-            Ok(()) => Ok(true),
+            Ok(columns) => Ok(Some(columns)),
             Err(stop) => {
                 self.failed = true;
                 Err(stop)
             }
+        }
+    }
+
+    /// Goes on to the next row: true; or stays, at the last row: false. Once memory ran out, each step answers that.
+    pub fn step(&mut self) -> Result<bool, Stop<Reason>>
+        ensures steps { self.old.failed ≡ false → MatchStop result (λ more. IsStep more self.old self.new) (λ _. ⊥) (self.new.failed ≡ true) }
+        ensures failed { self.old.failed ≡ true → (result ≡ Err stop.NoMemory) × (self.new ≡ self.old) }
+    {
+        match self.next() {
+            Ok(Some(_)) => Ok(true),
+            Ok(None) => Ok(false),
+            Err(stop) => Err(stop),
         }
     }
 }

@@ -1,6 +1,6 @@
 //! Examples with ample memory: each public call, and entries with many rows.
 use crate::row::{COLUMNS, CfaRule, Row, Rule};
-use crate::{CieState, RowAt, Stepper, inspect, rows};
+use crate::{RowAt, Stepper, inspect, rows};
 use frame_entries::Fde;
 use std::alloc::Global;
 use std::process::Abort;
@@ -83,8 +83,7 @@ fn expect_steps(rt: &impl Abort, alloc: Global, number: u8, fde: &Fde<'_>) -> Re
         return Ok(());
     }
     let list = rows(alloc, fde)?;
-    let state = CieState::of(alloc, fde)?;
-    let mut stepper = Stepper::new(alloc, &state, fde)?;
+    let mut stepper = Stepper::new(alloc, fde)?;
     for _ in 0..=fde.size {
         found.push(RowAt {
             address: stepper.address(),

@@ -1,5 +1,6 @@
 pub mod OptionLemmas
 pub mod PartLemmas
+pub mod TokenLemmas
 pub mod RulesLemmas
 pub mod WriterLemmas
 pub mod SpellingLemmas

@@ -1,5 +1,6 @@
 pub mod RowParts
 pub mod RowRules
+pub mod Backward
 pub mod FrameLines
 pub mod Writing
 pub mod Spelling

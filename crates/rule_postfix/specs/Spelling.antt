@@ -1,5 +1,6 @@
 -- No public clause cites this: the text of the records so far, and the INIT that is open.
-use Rattle.std.specs.Prelude.{◌≡◌, ℕ, List, ◌++◌}
+use Rattle.std.specs.Prelude.{◌≡◌, ℕ, List, [], ◌∷◌, ◌++◌}
+use Rattle.sym_rules.specs.Rules.{spelled_rules}
 use Rattle.sym_records.specs.Canon.{canon_text}
 use Rattle.rule_postfix.specs.declared.open_init.OpenInit.{OpenInit}
 use Rattle.rule_postfix.specs.Writing.{Open}
@@ -8,6 +9,5 @@ use Rattle.rule_postfix.specs.Writing.{Open}
 pub record IsSpelled (front : List ℕ) (base : ℕ) (text : List ℕ) (p : OpenInit) (o : Open) : Type 0 where
   pub based : o.base ≡ base
   pub start : p.start ≡ o.start
-  pub rules : p.init.items ≡ o.rules
-  pub changes : p.changes.items ≡ canon_text o.changes
+  pub body : p.body.items ≡ (spelled_rules o.rules ++ 10 ∷ []) ++ canon_text o.changes
   pub lines : text ≡ front ++ canon_text o.lines

@@ -99,7 +99,7 @@ fn steps_or_reason<'c, 'a>(
     let Some(end) = end_of(fde) else {
         return Err(Stop::Fault(reason_without_range(alloc, state, fde)?));
     };
-    let stepper = match Stepper::new(alloc, state, fde) {
+    let stepper = match Stepper::behind(alloc, state, fde) {
         Ok(stepper) => stepper,
         Err(stop) => return Err(stop),
     };

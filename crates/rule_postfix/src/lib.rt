@@ -14,10 +14,11 @@
 //!
 //! The instructions of a CIE are carried out once for the entries that follow it: `kept_state` has the state that they leave.
 //!
-//! To read: `parts`, `rules`, `spelling`, `open_init`, `translating`, then `omission`, `taken`, `kept_state` and `all`.
+//! To read: `parts`, `column_target`, `rules`, `spelling`, `open_init`, `translating`, then `omission`, `taken`, `kept_state` and `all`.
 #![tactic(auto)]
 
 mod all;
+mod column_target;
 mod kept_state;
 pub mod laws;
 mod omission;

@@ -1,158 +1,306 @@
-//! The rules of a record: those that a row has, and those that differ between two rows.
-ghost use Rattle.std.specs.Prelude.{◌≡◌, ◌++◌, OnOk};
-ghost use Rattle.std.specs.Option.{option_to_list};
+//! The rules of a record: those that a row has, and those that differ between two rows. They are written from the last to the
+//! first into the line of the record, in front of what stands there from `end` on.
+ghost use Rattle.std.specs.Prelude.{◌≡◌, ◌+◌, ◌≤◌, ◌∷◌, [], ◌++◌, true, false, None, Some, length, drop, codes, IfSome, MatchOption};
+ghost use Rattle.std.specs.List.{flat_map};
+ghost use Rattle.sym_rules.specs.Rules.{spelled_token, spelled_rules, target_word};
+ghost use Rattle.sym_rules.specs.declared.rules.Target.TheVariants.{Cfa};
+ghost use Rattle.sym_rules.specs.declared.rules.Token.TheVariants as token;
+ghost use Rattle.frame_rows.specs.Columns.{StayOutside};
 ghost use Rattle.frame_rows.specs.Rows.{empty_row};
-ghost use Rattle.rule_postfix.specs.RowParts.{column_part};
-ghost use Rattle.rule_postfix.specs.RowRules.{unruled_tokens, own_name, rule_spelled, spelled, rule_of, rules_of, registers, if_other, if_changed, row_rules, changed_rules, some_becomes_unspecified};
+ghost use Rattle.rule_postfix.specs.RowParts.{cfa_part, column_part};
+ghost use Rattle.rule_postfix.specs.RowRules.{own_name, unruled_tokens, rule_spelled, spelled, rules_of, registers, if_other, if_changed, row_rules, changed_rules, some_unspecified_below, some_becomes_unspecified};
+ghost use Rattle.rule_postfix.specs.Backward.{column_of, target_of, rule_text};
 
+use crate::column_target::ColumnTarget;
 use crate::parts::{
     RowPart, becomes_unspecified, cfa_part, column_part, is_kept, rule_at, same_part,
 };
-use frame_rows::{Row, Rule};
-use sym_edges::OutOfMemory;
-use sym_records::{RuleText, Target, Token, Tokens};
+use frame_rows::{CfaRule, Columns, Row, Rule};
+use sym_rules::{write_byte, write_bytes, write_last, write_register, write_signed};
 
-#[tactic(auto, unfolding(sym_edges::specs::Abi::default_of))]
-fn unruled_tokens(target: &Target) -> Option<Tokens>
-    ensures { result ≡ unruled_tokens target.now }
+/// A line that has all rules has at most so many bytes.
+pub const LINE: usize = 768;
+
+/// The CFA plus so much.
+#[inline]
+#[tactic(auto, using(crate::proofs::TokenLemmas::sum_written))]
+fn write_sum(offset: i64, line: &mut [u8], end: usize) -> usize
+    requires room { 29 ≤ end }
+    requires within { end ≤ length line.old }
+    ensures below { result ≤ end }
+    ensures short { end ≤ result + 29 }
+    ensures written { drop result line.new ≡ flat_map spelled_token (token.Cfa ∷ token.Number offset ∷ token.Add ∷ []) ++ drop end line.old }
+{
+    let at = write_bytes(b" +", line, end);
+    let at = write_signed(offset, line, at);
+    write_bytes(b" .cfa ", line, at)
+}
+
+/// The word at the CFA plus so much.
+#[inline]
+#[tactic(auto, using(crate::proofs::TokenLemmas::word_written))]
+fn write_word_at(offset: i64, line: &mut [u8], end: usize) -> usize
+    requires room { 31 ≤ end }
+    requires within { end ≤ length line.old }
+    ensures below { result ≤ end }
+    ensures short { end ≤ result + 31 }
+    ensures written { drop result line.new ≡ flat_map spelled_token (token.Cfa ∷ token.Number offset ∷ token.Add ∷ token.Fetch ∷ []) ++ drop end line.old }
+{
+    let at = write_bytes(b" + ^", line, end);
+    let at = write_signed(offset, line, at);
+    write_bytes(b" .cfa ", line, at)
+}
+
+/// The value of a register.
+#[inline]
+#[tactic(auto, using(crate::proofs::TokenLemmas::value_written))]
+fn write_value(number: u8, line: &mut [u8], end: usize) -> usize
+    requires room { 5 ≤ end }
+    requires within { end ≤ length line.old }
+    ensures below { result ≤ end }
+    ensures short { end ≤ result + 5 }
+    ensures written { drop result line.new ≡ flat_map spelled_token (token.Reg number ∷ []) ++ drop end line.old }
+{
+    let at = write_register(number, line, end);
+    write_byte(b' ', line, at)
+}
+
+/// A register plus so much.
+#[inline]
+#[tactic(auto, using(crate::proofs::TokenLemmas::base_written))]
+fn write_base(cfa: CfaRule, line: &mut [u8], end: usize) -> usize
+    requires room { 29 ≤ end }
+    requires within { end ≤ length line.old }
+    ensures below { result ≤ end }
+    ensures short { end ≤ result + 29 }
+    ensures written { drop result line.new ≡ flat_map spelled_token (token.Reg cfa.register ∷ token.Number cfa.offset ∷ token.Add ∷ []) ++ drop end line.old }
+{
+    let at = write_bytes(b" +", line, end);
+    let at = write_signed(cfa.offset, line, at);
+    let at = write_byte(b' ', line, at);
+    let at = write_register(cfa.register, line, at);
+    write_byte(b' ', line, at)
+}
+
+/// The name of a column behind one space, with `:` behind it.
+#[inline]
+#[tactic(auto, using(crate::proofs::TokenLemmas::register_written))]
+fn write_target(target: ColumnTarget, line: &mut [u8], end: usize) -> usize
+    requires room { 6 ≤ end }
+    requires within { end ≤ length line.old }
+    ensures below { result ≤ end }
+    ensures short { end ≤ result + 6 }
+    ensures written { drop result line.new ≡ (32 ∷ target_word (target_of target)) ++ drop end line.old }
 {
     match target {
-        Target::Reg(column) => {
-            if is_kept(*column) {
-                Some(Tokens::one(Token::Reg(*column)))
-            } else if *column == 7 {
-                Some(Tokens::one(Token::Cfa))
-            } else {
-                None
-            }
+        ColumnTarget::Ra => write_bytes(b" .ra:", line, end),
+        ColumnTarget::Reg(number) => {
+            let at = write_byte(b':', line, end);
+            let at = write_register(number, line, at);
+            write_byte(b' ', line, at)
         }
-        _ => None,
     }
 }
 
-fn own_name(target: &Target) -> Option<Tokens>
-    ensures { result ≡ own_name target.now }
+/// A column by its own name; the return address has none.
+#[tactic(auto, using(crate::proofs::TokenLemmas::rule_written, crate::proofs::TokenLemmas::no_rule))]
+fn write_own(target: ColumnTarget, line: &mut [u8], end: usize) -> usize
+    requires room { 40 ≤ end }
+    requires within { end ≤ length line.old }
+    ensures below { result ≤ end }
+    ensures short { end ≤ result + 40 }
+    ensures written { drop result line.new ≡ rule_text (target_of target) (own_name (target_of target)) ++ drop end line.old }
 {
     match target {
-        Target::Reg(column) => Some(Tokens::one(Token::Reg(*column))),
-        _ => None,
+        ColumnTarget::Ra => end,
+        ColumnTarget::Reg(number) => {
+            let at = write_value(number, line, end);
+            write_target(target, line, at)
+        }
     }
 }
 
-fn rule_spelled(target: &Target, given: Rule) -> Option<Tokens>
-    ensures { result ≡ rule_spelled target.now given }
+/// What says that a column is unruled again, where something does.
+#[tactic(auto, using(crate::proofs::TokenLemmas::rule_written, crate::proofs::TokenLemmas::no_rule), unfolding(sym_edges::specs::Abi::default_of))]
+fn write_unruled(target: ColumnTarget, line: &mut [u8], end: usize) -> usize
+    requires room { 40 ≤ end }
+    requires within { end ≤ length line.old }
+    ensures below { result ≤ end }
+    ensures short { end ≤ result + 40 }
+    ensures written { drop result line.new ≡ rule_text (target_of target) (unruled_tokens (target_of target)) ++ drop end line.old }
+{
+    match target {
+        ColumnTarget::Ra => end,
+        ColumnTarget::Reg(number) => {
+            if is_kept(number) {
+                let at = write_value(number, line, end);
+                return write_target(target, line, at);
+            }
+            if number == 7 {
+                let at = write_bytes(b" .cfa", line, end);
+                return write_target(target, line, at);
+            }
+            end
+        }
+    }
+}
+
+/// A rule of a column, where it has a spelling.
+#[tactic(auto, using(crate::proofs::TokenLemmas::rule_written, crate::proofs::TokenLemmas::no_rule))]
+fn write_rule(target: ColumnTarget, given: Rule, line: &mut [u8], end: usize) -> usize
+    requires room { 40 ≤ end }
+    requires within { end ≤ length line.old }
+    ensures below { result ≤ end }
+    ensures short { end ≤ result + 40 }
+    ensures written { drop result line.new ≡ rule_text (target_of target) (rule_spelled (target_of target) given) ++ drop end line.old }
 {
     match given {
-        Rule::Rest => None,
-        Rule::Undefined => None,
-        Rule::Same => own_name(target),
-        Rule::Offset(n) => Some(Tokens::four(
-            Token::Cfa,
-            Token::Number(n),
-            Token::Add,
-            Token::Fetch,
-        )),
-        Rule::ValOffset(n) => Some(Tokens::three(Token::Cfa, Token::Number(n), Token::Add)),
-        Rule::Register(register) => Some(Tokens::one(Token::Reg(register))),
+        Rule::Rest => end,
+        Rule::Undefined => end,
+        Rule::Same => write_own(target, line, end),
+        Rule::Offset(offset) => {
+            let at = write_word_at(offset, line, end);
+            write_target(target, line, at)
+        }
+        Rule::ValOffset(offset) => {
+            let at = write_sum(offset, line, end);
+            write_target(target, line, at)
+        }
+        Rule::Register(register) => {
+            let at = write_value(register, line, end);
+            write_target(target, line, at)
+        }
     }
 }
 
-#[tactic(auto, unfolding(crate::specs::RowRules::spelled))]
-fn spelled(target: &Target, part: RowPart) -> Option<Tokens>
-    ensures { result ≡ spelled target.now part }
+/// A part of a column, where it has a spelling.
+#[tactic(auto, using(crate::proofs::TokenLemmas::rule_written), unfolding(crate::specs::RowRules::spelled))]
+fn write_part(target: ColumnTarget, part: RowPart, line: &mut [u8], end: usize) -> usize
+    requires room { 40 ≤ end }
+    requires within { end ≤ length line.old }
+    ensures below { result ≤ end }
+    ensures short { end ≤ result + 40 }
+    ensures written { drop result line.new ≡ rule_text (target_of target) (spelled (target_of target) part) ++ drop end line.old }
 {
     match part {
-        RowPart::Unruled => unruled_tokens(target),
-        RowPart::Base(cfa) => Some(Tokens::three(
-            Token::Reg(cfa.register),
-            Token::Number(cfa.offset),
-            Token::Add,
-        )),
-        RowPart::Column(given) => rule_spelled(target, given),
+        RowPart::Unruled => write_unruled(target, line, end),
+        RowPart::Base(cfa) => {
+            let at = write_base(cfa, line, end);
+            write_target(target, line, at)
+        }
+        RowPart::Column(given) => write_rule(target, given, line, end),
     }
 }
 
-fn spelled_if_other(target: &Target, before: RowPart, after: RowPart) -> Option<Tokens>
-    ensures { result ≡ if_other target.now before after }
-{
-    if same_part(before, after) {
-        None
-    } else {
-        spelled(target, after)
-    }
-}
-
-fn put_rule(
-    rules: &mut Vec<RuleText>,
-    target: Target,
-    tokens: Option<Tokens>,
-) -> Result<(), OutOfMemory>
-    ensures { OnOk result (rules.new.items ≡ rules.old.items ++ option_to_list (rule_of target tokens)) }
-{
-    if let Some(tokens) = tokens {
-        rules.push(RuleText { target, tokens })?;
-    }
-    Ok(())
-}
-
-/// Adds the rule of a column, where two rows differ in it. Equal rules are tested first: most columns stay from one row to
-/// the next.
-#[tactic(auto, using(crate::proofs::RulesLemmas::column_stays))]
-fn put_column(
-    rules: &mut Vec<RuleText>,
-    target: Target,
-    column: u8,
+/// The rule of a column, where two rows differ in it.
+#[tactic(auto, using(crate::proofs::TokenLemmas::no_rule))]
+fn write_column(
+    target: ColumnTarget,
     before: Rule,
     after: Rule,
-) -> Result<(), OutOfMemory>
-    ensures { OnOk result (rules.new.items ≡ rules.old.items ++ option_to_list (rule_of target (if_other target (column_part column before) (column_part column after)))) }
+    line: &mut [u8],
+    end: usize,
+) -> usize
+    requires room { 40 ≤ end }
+    requires within { end ≤ length line.old }
+    ensures below { result ≤ end }
+    ensures short { end ≤ result + 40 }
+    ensures written { drop result line.new ≡ rule_text (target_of target) (if_other (target_of target) (column_part (column_of target) before) (column_part (column_of target) after)) ++ drop end line.old }
 {
-    if before == after {
-        return Ok(());
+    let column = target.column();
+    let part = column_part(column, after);
+    if same_part(column_part(column, before), part) {
+        return end;
     }
-    let tokens = spelled_if_other(
-        &target,
-        column_part(column, before),
-        column_part(column, after),
-    );
-    put_rule(rules, target, tokens)
+    write_part(target, part, line, end)
 }
 
-/// The rules of the registers in which two rows differ, by number. No target is made for a column that stays.
-#[tactic(auto, using(crate::proofs::RulesLemmas::no_register, crate::proofs::RulesLemmas::register_stays, crate::proofs::RulesLemmas::one_register_more))]
-fn put_registers(rules: &mut Vec<RuleText>, before: &Row, after: &Row) -> Result<(), OutOfMemory>
-    ensures { OnOk result (rules.new.items ≡ rules.old.items ++ rules_of (if_changed before.now after.now) (registers 16)) }
+/// The rule of the CFA, where two rows differ in it.
+#[tactic(auto, using(crate::proofs::TokenLemmas::cfa_written, crate::proofs::TokenLemmas::no_rule), unfolding(crate::specs::RowRules::spelled))]
+fn write_cfa(before: Option<CfaRule>, after: Option<CfaRule>, line: &mut [u8], end: usize) -> usize
+    requires room { 40 ≤ end }
+    requires within { end ≤ length line.old }
+    ensures below { result ≤ end }
+    ensures short { end ≤ result + 40 }
+    ensures written { drop result line.new ≡ rule_text Cfa (if_other Cfa (cfa_part before) (cfa_part after)) ++ drop end line.old }
 {
-    for number in 0..16u8 {
+    if same_part(cfa_part(before), cfa_part(after)) {
+        return end;
+    }
+    match after {
+        None => end,
+        Some(cfa) => {
+            let at = write_base(cfa, line, end);
+            write_bytes(b" .cfa:", line, at)
+        }
+    }
+}
+
+/// The rules of the registers in which two rows differ, by number; nothing where one of them becomes unspecified. The two
+/// differ in no column outside of those that are given. Most of these stay too, so that is asked first.
+#[tactic(auto, using(crate::proofs::RulesLemmas::no_register, crate::proofs::RulesLemmas::register_stays, crate::proofs::RulesLemmas::one_register_more, crate::proofs::RulesLemmas::none_lost, crate::proofs::RulesLemmas::stays_kept, crate::proofs::RulesLemmas::one_kept, crate::proofs::RulesLemmas::one_lost, crate::proofs::RulesLemmas::all_kept, crate::proofs::RulesLemmas::all_registers))]
+fn write_registers(
+    columns: Columns,
+    before: &Row,
+    after: &Row,
+    line: &mut [u8],
+    end: usize,
+) -> Option<usize>
+    requires alike { StayOutside columns before.now after.now }
+    requires room { 640 ≤ end }
+    requires within { end ≤ length line.old }
+    ensures kept { MatchOption result (some_becomes_unspecified before.now after.now ≡ true) (λ _. some_unspecified_below before.now after.now 16 ≡ false) }
+    ensures below { IfSome result (λ start. start ≤ end) }
+    ensures short { IfSome result (λ start. end ≤ start + 640) }
+    ensures written { IfSome result (λ start. drop start line.new ≡ spelled_rules (rules_of (if_changed before.now after.now) (registers 16)) ++ drop end line.old) }
+{
+    let mut at = end;
+    let mut number = columns.end.min(16);
+    'turns: while columns.first < number {
+        number -= 1;
         let was = rule_at(before, number);
         let is = rule_at(after, number);
         if was != is {
-            put_column(rules, Target::Reg(number), number, was, is)?;
+            if becomes_unspecified(before, after, number) {
+                return None;
+            }
+            at = write_column(ColumnTarget::Reg(number), was, is, line, at);
         }
     }
-    Ok(())
+    Some(at)
 }
 
-/// The rules of the targets in which two rows differ, in place of those that were there.
-#[tactic(auto, using(crate::proofs::RulesLemmas::all_rules))]
-pub fn changed_rules(
-    rules: &mut Vec<RuleText>,
+/// The rules of the targets in which two rows differ; nothing where a column becomes unspecified, of which no line can say so.
+/// The two differ in no column outside of those that are given.
+#[tactic(auto, using(crate::proofs::RulesLemmas::one_lost, crate::proofs::RulesLemmas::ra_kept, crate::proofs::RulesLemmas::ra_stays, crate::proofs::RulesLemmas::all_rules, crate::proofs::RulesLemmas::other_rules))]
+pub fn write_changes(
+    columns: Columns,
     before: &Row,
     after: &Row,
-) -> Result<(), OutOfMemory>
-    ensures { OnOk result (rules.new.items ≡ changed_rules before.now after.now) }
+    line: &mut [u8],
+    end: usize,
+) -> Option<usize>
+    requires alike { StayOutside columns before.now after.now }
+    requires room { 720 ≤ end }
+    requires within { end ≤ length line.old }
+    ensures kept { MatchOption result (some_becomes_unspecified before.now after.now ≡ true) (λ _. some_becomes_unspecified before.now after.now ≡ false) }
+    ensures below { IfSome result (λ start. start ≤ end) }
+    ensures short { IfSome result (λ start. end ≤ start + 720) }
+    ensures written { IfSome result (λ start. drop start line.new ≡ spelled_rules (changed_rules before.now after.now) ++ drop end line.old) }
 {
-    rules.clear();
-    let cfa = spelled_if_other(&Target::Cfa, cfa_part(before.cfa), cfa_part(after.cfa));
-    put_rule(rules, Target::Cfa, cfa)?;
-    put_column(
-        rules,
-        Target::Ra,
-        16,
-        rule_at(before, 16),
-        rule_at(after, 16),
-    )?;
-    put_registers(rules, before, after)
+    let Some(at) = write_registers(columns, before, after, line, end) else {
+        return None;
+    };
+    let was = rule_at(before, 16);
+    let is = rule_at(after, 16);
+    if was == is {
+        return Some(write_cfa(before.cfa, after.cfa, line, at));
+    }
+    if becomes_unspecified(before, after, 16) {
+        return None;
+    }
+    let at = write_column(ColumnTarget::Ra, was, is, line, at);
+    Some(write_cfa(before.cfa, after.cfa, line, at))
 }
 
 /// The row that says nothing: seventeen columns, those of the registers and that of the return address.
@@ -166,23 +314,16 @@ fn empty_row() -> Row
     }
 }
 
-/// The rules that a row has, in place of those that were there.
-#[tactic(auto, using(crate::proofs::RulesLemmas::from_empty))]
-pub fn row_rules(rules: &mut Vec<RuleText>, row: &Row) -> Result<(), OutOfMemory>
-    ensures { OnOk result (rules.new.items ≡ row_rules row.now) }
+/// The rules that a row has, and the end of their line: where they start.
+#[tactic(auto, using(crate::proofs::RulesLemmas::from_empty, crate::proofs::RulesLemmas::alike_outside))]
+pub fn write_row_rules(row: &Row, line: &mut [u8]) -> usize
+    requires { 768 ≤ length line.old }
+    ensures below { result ≤ length line.old }
+    ensures written { drop result line.new ≡ spelled_rules (row_rules row.now) ++ 10 ∷ [] }
 {
-    changed_rules(rules, &empty_row(), row)
-}
-
-/// Whether some column becomes unspecified, of which no line can say so.
-#[tactic(auto, using(crate::proofs::RulesLemmas::none_rests, crate::proofs::RulesLemmas::no_more_rests, crate::proofs::RulesLemmas::some_rests), unfolding(crate::specs::RowRules::some_becomes_unspecified))]
-pub fn some_becomes_unspecified(before: &Row, after: &Row) -> bool
-    ensures { result ≡ some_becomes_unspecified before.now after.now }
-{
-    for column in 0..17u8 {
-        if becomes_unspecified(before, after, column) {
-            return true;
-        }
-    }
-    false
+    let end = write_last(b'\n', line);
+    let Some(at) = write_changes(Columns::all(), &empty_row(), row, line, end) else {
+        unreachable!()
+    };
+    at
 }

@@ -9,7 +9,7 @@ ghost use Rattle.rule_postfix.specs.FrameLines.{frame_lines};
 
 use crate::open_init::{OpenInit, spell_steps};
 use frame_entries::Fde;
-use frame_rows::{CieState, Stepper};
+use frame_rows::Stepper;
 use std::alloc::Global;
 use sym_edges::{Reason, Stop};
 use sym_records::ByteText;
@@ -28,8 +28,7 @@ pub fn translate(alloc: Global, fde: &Fde<'_>, base: u64) -> Result<ByteText, St
 {
     plain_rules_fit();
     good_lists_are_joined();
-    let state = CieState::of(alloc, fde)?;
-    let stepper = match Stepper::new(alloc, &state, fde) {
+    let stepper = match Stepper::new(alloc, fde) {
         Ok(stepper) => stepper,
         Err(stop) => return Err(stop),
     };

@@ -1,85 +1,134 @@
 -- Records spelled at the end of a text.
-use Rattle.std.proofs.Common.{◌≡◌, ℕ, ◌∷◌, ◌++◌, Bool, List, [], codes, Result, Ok, Err, OnOk, refl, append_assoc}
+use Rattle.std.proofs.Common.{◌≡◌, ℕ, ◌≤◌, ◌∷◌, ◌++◌, Bool, List, [], length, drop, codes, Result, Ok, Err, OnOk, refl, ap, sym, ◌∙◌, append_assoc, append-nil, arith, take, ◌-◌, length-drop}
+use Rattle.std.proofs.lemmas.List.{drop_all, take_all}
 use Rattle.std.specs.List.{flat_map}
 use Rattle.std.specs.Fmt.{decimal}
 use Rattle.sym_rules.specs.Rules.{spelled_rules}
 use Rattle.sym_rules.specs.declared.rules.RuleText.{RuleText}
-use Rattle.sym_records.specs.Canon.{body, canon}
+use Rattle.sym_records.specs.Canon.{body, canon, init_front, change_front}
 use Rattle.sym_records.specs.Fields.{hex, mark, spelled_range}
 use Rattle.sym_records.specs.declared.line.Extent.{Extent}
 use Rattle.sym_records.specs.declared.line.SymLine.TheVariants as line
+
+-- pieces that were written one in front of another
+two_before : (a b old behind now : List ℕ) → behind ≡ b ++ old → now ≡ a ++ behind → now ≡ (a ++ b) ++ old
+two_before a b old behind now p q = q ∙ ap (λ l. a ++ l) p ∙ sym (append_assoc a b old)
+
+pub change_before : (address : ℕ) (old behind now : List ℕ) → behind ≡ (32 ∷ hex address) ++ old → now ≡ codes "STACK CFI" ++ behind → now ≡ change_front address ++ old
+unfolding change_front
+change_before address old behind now p q = two_before (codes "STACK CFI") (32 ∷ hex address) old behind now p q
+
+pub init_before : (address size : ℕ) (old behind middle now : List ℕ) → behind ≡ (32 ∷ hex size) ++ old → middle ≡ (32 ∷ hex address) ++ behind → now ≡ codes "STACK CFI INIT" ++ middle → now ≡ init_front address size ++ old
+unfolding init_front
+init_before address size old behind middle now p q r =
+    two_before (codes "STACK CFI INIT") ((32 ∷ hex address) ++ (32 ∷ hex size)) old middle now (two_before (32 ∷ hex address) (32 ∷ hex size) old behind middle p q) r
+
+-- what was written into a line of its own is added
+alone : (line before : List ℕ) (end : ℕ) → length before ≤ end → line ++ drop end before ≡ line
+alone line before end past = ap (λ l. line ++ l) (drop_all end before past) ∙ append-nil line
+
+pub adds_range : (range : Extent) (old new a b before : List ℕ) (end : ℕ) → length before ≤ end → a ≡ (32 ∷ hex range.size) ++ drop end before → b ≡ (32 ∷ hex range.address) ++ a → new ≡ old ++ b → new ≡ old ++ spelled_range range
+unfolding spelled_range
+adds_range range old new a b before end past p q r =
+    r ∙ ap (λ l. old ++ l) (two_before (32 ∷ hex range.address) (32 ∷ hex range.size) (drop end before) a b p q ∙ alone ((32 ∷ hex range.address) ++ (32 ∷ hex range.size)) before end past)
 
 -- what was added piece by piece is the line: its words, its fields and its end
 one : (o w a z : List ℕ) → ((o ++ w) ++ a) ++ z ≡ o ++ ((w ++ a) ++ z)
 one o w a z = simp append_assoc refl
 
-two : (o w a b z : List ℕ) → (((o ++ w) ++ a) ++ b) ++ z ≡ o ++ ((w ++ (a ++ b)) ++ z)
-two o w a b z = simp append_assoc refl
+four : (o w a b c s d z : List ℕ) → ((((((o ++ w) ++ a) ++ b) ++ c) ++ s) ++ d) ++ z ≡ o ++ ((w ++ (a ++ (b ++ (c ++ (s ++ d))))) ++ z)
+four o w a b c s d z = simp append_assoc refl
 
-three : (o w a b c z : List ℕ) → ((((o ++ w) ++ a) ++ b) ++ c) ++ z ≡ o ++ ((w ++ (a ++ (b ++ c))) ++ z)
-three o w a b c z = simp append_assoc refl
+named : (o w a s n z : List ℕ) → ((o ++ (w ++ (a ++ s))) ++ n) ++ z ≡ o ++ ((w ++ (a ++ (s ++ n))) ++ z)
+named o w a s n z = simp append_assoc refl
 
-four : (o w a b c d z : List ℕ) → (((((o ++ w) ++ a) ++ b) ++ c) ++ d) ++ z ≡ o ++ ((w ++ (a ++ (b ++ (c ++ d)))) ++ z)
-four o w a b c d z = simp append_assoc refl
+marked : (o w m a b s n z : List ℕ) → ((o ++ (w ++ (m ++ (a ++ (b ++ s))))) ++ n) ++ z ≡ o ++ ((w ++ ((m ++ a) ++ (b ++ (s ++ n)))) ++ z)
+marked o w m a b s n z = simp append_assoc refl
 
-five : (o w a b c d e z : List ℕ) → ((((((o ++ w) ++ a) ++ b) ++ c) ++ d) ++ e) ++ z ≡ o ++ ((w ++ (a ++ (b ++ (c ++ (d ++ e))))) ++ z)
-five o w a b c d e z = simp append_assoc refl
+marked_more : (o w m a b c s n z : List ℕ) → ((o ++ (w ++ (m ++ (a ++ (b ++ (c ++ s)))))) ++ n) ++ z ≡ o ++ ((w ++ ((m ++ a) ++ (b ++ (c ++ (s ++ n))))) ++ z)
+marked_more o w m a b c s n z = simp append_assoc refl
 
-marked_three : (o w m a b c z : List ℕ) → (((((o ++ w) ++ m) ++ a) ++ b) ++ c) ++ z ≡ o ++ ((w ++ ((m ++ a) ++ (b ++ c))) ++ z)
-marked_three o w m a b c z = simp append_assoc refl
+numbered : (o h a b c z : List ℕ) → o ++ (h ++ (a ++ (b ++ (c ++ z)))) ≡ o ++ ((h ++ (a ++ (b ++ c))) ++ z)
+numbered o h a b c z = simp append_assoc refl
 
-marked_four : (o w m a b c d z : List ℕ) → ((((((o ++ w) ++ m) ++ a) ++ b) ++ c) ++ d) ++ z ≡ o ++ ((w ++ ((m ++ a) ++ (b ++ (c ++ d)))) ++ z)
-marked_four o w m a b c d z = simp append_assoc refl
+ranged : (o w a b c d e z : List ℕ) → ((o ++ (w ++ (a ++ (b ++ (c ++ d))))) ++ e) ++ z ≡ o ++ ((w ++ (a ++ (b ++ (c ++ (d ++ e))))) ++ z)
+ranged o w a b c d e z = simp append_assoc refl
 
-pub adds_module : (os arch id name : List ℕ) (old a b c d e f : List ℕ) → a ≡ old ++ codes "MODULE" → b ≡ a ++ 32 ∷ os → c ≡ b ++ 32 ∷ arch → d ≡ c ++ 32 ∷ id → e ≡ d ++ 32 ∷ name → f ≡ e ++ 10 ∷ [] → f ≡ old ++ canon (line.Module (record { os = os; arch = arch; id = id; name = name }))
+pub adds_module : (os arch id name : List ℕ) (old a b c d e f : List ℕ) → a ≡ old ++ codes "MODULE" → b ≡ a ++ 32 ∷ os → c ≡ b ++ 32 ∷ arch → d ≡ c ++ 32 ∷ id → e ≡ d ++ 32 ∷ [] → f ≡ (e ++ name) ++ 10 ∷ [] → f ≡ old ++ canon (line.Module (record { os = os; arch = arch; id = id; name = name }))
 unfolding canon body
 adds_module os arch id name old a b c d e f p0 p1 p2 p3 p4 p5 =
-    rw (p5, p4, p3, p2, p1, p0) (four old (codes "MODULE") (32 ∷ os) (32 ∷ arch) (32 ∷ id) (32 ∷ name) (10 ∷ []))
+    rw (p5, p4, p3, p2, p1, p0) (four old (codes "MODULE") (32 ∷ os) (32 ∷ arch) (32 ∷ id) (32 ∷ []) name (10 ∷ []))
 
 pub adds_info : (text : List ℕ) (old a b c : List ℕ) → a ≡ old ++ codes "INFO" → b ≡ a ++ 32 ∷ text → c ≡ b ++ 10 ∷ [] → c ≡ old ++ canon (line.Info text)
 unfolding canon body
 adds_info text old a b c p0 p1 p2 =
     rw (p2, p1, p0) (one old (codes "INFO") (32 ∷ text) (10 ∷ []))
 
-pub adds_file : (number : ℕ) (name : List ℕ) (old a b c d : List ℕ) → a ≡ old ++ codes "FILE" → b ≡ a ++ 32 ∷ decimal number → c ≡ b ++ 32 ∷ name → d ≡ c ++ 10 ∷ [] → d ≡ old ++ canon (line.File number name)
+pub adds_file : (number : ℕ) (name : List ℕ) (old a b c d e : List ℕ) → a ≡ 32 ∷ [] → b ≡ (32 ∷ decimal number) ++ a → c ≡ codes "FILE" ++ b → d ≡ old ++ c → e ≡ (d ++ name) ++ 10 ∷ [] → e ≡ old ++ canon (line.File number name)
 unfolding canon body
-adds_file number name old a b c d p0 p1 p2 p3 =
-    rw (p3, p2, p1, p0) (two old (codes "FILE") (32 ∷ decimal number) (32 ∷ name) (10 ∷ []))
+adds_file number name old a b c d e p0 p1 p2 p3 p4 =
+    rw (p4, p3, p2, p1, p0) (named old (codes "FILE") (32 ∷ decimal number) (32 ∷ []) name (10 ∷ []))
 
-pub adds_origin : (number : ℕ) (name : List ℕ) (old a b c d : List ℕ) → a ≡ old ++ codes "INLINE_ORIGIN" → b ≡ a ++ 32 ∷ decimal number → c ≡ b ++ 32 ∷ name → d ≡ c ++ 10 ∷ [] → d ≡ old ++ canon (line.Origin number name)
+pub adds_origin : (number : ℕ) (name : List ℕ) (old a b c d e : List ℕ) → a ≡ 32 ∷ [] → b ≡ (32 ∷ decimal number) ++ a → c ≡ codes "INLINE_ORIGIN" ++ b → d ≡ old ++ c → e ≡ (d ++ name) ++ 10 ∷ [] → e ≡ old ++ canon (line.Origin number name)
 unfolding canon body
-adds_origin number name old a b c d p0 p1 p2 p3 =
-    rw (p3, p2, p1, p0) (two old (codes "INLINE_ORIGIN") (32 ∷ decimal number) (32 ∷ name) (10 ∷ []))
+adds_origin number name old a b c d e p0 p1 p2 p3 p4 =
+    rw (p4, p3, p2, p1, p0) (named old (codes "INLINE_ORIGIN") (32 ∷ decimal number) (32 ∷ []) name (10 ∷ []))
 
-pub adds_func : (many : Bool) (address size params : ℕ) (name : List ℕ) (old a b c d e f g : List ℕ) → a ≡ old ++ codes "FUNC" → b ≡ a ++ mark many → c ≡ b ++ 32 ∷ hex address → d ≡ c ++ 32 ∷ hex size → e ≡ d ++ 32 ∷ hex params → f ≡ e ++ 32 ∷ name → g ≡ f ++ 10 ∷ [] → g ≡ old ++ canon (line.Func many address size params name)
+pub adds_func : (many : Bool) (address size params : ℕ) (name : List ℕ) (old a b c d e f g h : List ℕ) → a ≡ 32 ∷ [] → b ≡ (32 ∷ hex params) ++ a → c ≡ (32 ∷ hex size) ++ b → d ≡ (32 ∷ hex address) ++ c → e ≡ mark many ++ d → f ≡ codes "FUNC" ++ e → g ≡ old ++ f → h ≡ (g ++ name) ++ 10 ∷ [] → h ≡ old ++ canon (line.Func many address size params name)
 unfolding canon body
-adds_func many address size params name old a b c d e f g p0 p1 p2 p3 p4 p5 p6 =
-    rw (p6, p5, p4, p3, p2, p1, p0) (marked_four old (codes "FUNC") (mark many) (32 ∷ hex address) (32 ∷ hex size) (32 ∷ hex params) (32 ∷ name) (10 ∷ []))
+adds_func many address size params name old a b c d e f g h p0 p1 p2 p3 p4 p5 p6 p7 =
+    rw (p7, p6, p5, p4, p3, p2, p1, p0) (marked_more old (codes "FUNC") (mark many) (32 ∷ hex address) (32 ∷ hex size) (32 ∷ hex params) (32 ∷ []) name (10 ∷ []))
 
-pub adds_inline : (level call_line call_file origin : ℕ) (ranges : List Extent) (old a b c d e f g : List ℕ) → a ≡ old ++ codes "INLINE" → b ≡ a ++ 32 ∷ decimal level → c ≡ b ++ 32 ∷ decimal call_line → d ≡ c ++ 32 ∷ decimal call_file → e ≡ d ++ 32 ∷ decimal origin → f ≡ e ++ flat_map spelled_range ranges → g ≡ f ++ 10 ∷ [] → g ≡ old ++ canon (line.Inline level call_line call_file origin ranges)
+pub adds_public : (many : Bool) (address params : ℕ) (name : List ℕ) (old a b c d e f g : List ℕ) → a ≡ 32 ∷ [] → b ≡ (32 ∷ hex params) ++ a → c ≡ (32 ∷ hex address) ++ b → d ≡ mark many ++ c → e ≡ codes "PUBLIC" ++ d → f ≡ old ++ e → g ≡ (f ++ name) ++ 10 ∷ [] → g ≡ old ++ canon (line.Public many address params name)
 unfolding canon body
-adds_inline level call_line call_file origin ranges old a b c d e f g p0 p1 p2 p3 p4 p5 p6 =
-    rw (p6, p5, p4, p3, p2, p1, p0) (five old (codes "INLINE") (32 ∷ decimal level) (32 ∷ decimal call_line) (32 ∷ decimal call_file) (32 ∷ decimal origin) (flat_map spelled_range ranges) (10 ∷ []))
+adds_public many address params name old a b c d e f g p0 p1 p2 p3 p4 p5 p6 =
+    rw (p6, p5, p4, p3, p2, p1, p0) (marked old (codes "PUBLIC") (mark many) (32 ∷ hex address) (32 ∷ hex params) (32 ∷ []) name (10 ∷ []))
 
-pub adds_line : (address size number file : ℕ) (start old a b c d e : List ℕ) → start ≡ hex address → a ≡ old ++ start → b ≡ a ++ 32 ∷ hex size → c ≡ b ++ 32 ∷ decimal number → d ≡ c ++ 32 ∷ decimal file → e ≡ d ++ 10 ∷ [] → e ≡ old ++ canon (line.Line address size number file)
+pub adds_inline : (level call_line call_file origin : ℕ) (ranges : List Extent) (old before a b c d e f g h : List ℕ) (end : ℕ) → length before ≤ end → a ≡ (32 ∷ decimal origin) ++ drop end before → b ≡ (32 ∷ decimal call_file) ++ a → c ≡ (32 ∷ decimal call_line) ++ b → d ≡ (32 ∷ decimal level) ++ c → e ≡ codes "INLINE" ++ d → f ≡ old ++ e → g ≡ f ++ flat_map spelled_range ranges → h ≡ g ++ 10 ∷ [] → h ≡ old ++ canon (line.Inline level call_line call_file origin ranges)
 unfolding canon body
-adds_line address size number file start old a b c d e p0 p1 p2 p3 p4 p5 =
-    rw (p5, p4, p3, p2, p1, p0) (three old (hex address) (32 ∷ hex size) (32 ∷ decimal number) (32 ∷ decimal file) (10 ∷ []))
+adds_inline level call_line call_file origin ranges old before a b c d e f g h end past p0 p1 p2 p3 p4 p5 p6 p7 =
+    let p : a ≡ 32 ∷ decimal origin = p0 ∙ alone (32 ∷ decimal origin) before end past in
+    rw (p7, p6, p5, p4, p3, p2, p1, p) (ranged old (codes "INLINE") (32 ∷ decimal level) (32 ∷ decimal call_line) (32 ∷ decimal call_file) (32 ∷ decimal origin) (flat_map spelled_range ranges) (10 ∷ []))
 
-pub adds_public : (many : Bool) (address params : ℕ) (name : List ℕ) (old a b c d e f : List ℕ) → a ≡ old ++ codes "PUBLIC" → b ≡ a ++ mark many → c ≡ b ++ 32 ∷ hex address → d ≡ c ++ 32 ∷ hex params → e ≡ d ++ 32 ∷ name → f ≡ e ++ 10 ∷ [] → f ≡ old ++ canon (line.Public many address params name)
+pub adds_line : (address size number file : ℕ) (old a b c d e f : List ℕ) → a ≡ 10 ∷ [] → b ≡ (32 ∷ decimal file) ++ a → c ≡ (32 ∷ decimal number) ++ b → d ≡ (32 ∷ hex size) ++ c → e ≡ hex address ++ d → f ≡ old ++ e → f ≡ old ++ canon (line.Line address size number file)
 unfolding canon body
-adds_public many address params name old a b c d e f p0 p1 p2 p3 p4 p5 =
-    rw (p5, p4, p3, p2, p1, p0) (marked_three old (codes "PUBLIC") (mark many) (32 ∷ hex address) (32 ∷ hex params) (32 ∷ name) (10 ∷ []))
+adds_line address size number file old a b c d e f p0 p1 p2 p3 p4 p5 =
+    rw (p5, p4, p3, p2, p1, p0) (numbered old (hex address) (32 ∷ hex size) (32 ∷ decimal number) (32 ∷ decimal file) (10 ∷ []))
 
-pub adds_init : (address size : ℕ) (rules : List RuleText) (old a b c d e : List ℕ) → a ≡ old ++ codes "STACK CFI INIT" → b ≡ a ++ 32 ∷ hex address → c ≡ b ++ 32 ∷ hex size → d ≡ c ++ spelled_rules rules → e ≡ d ++ 10 ∷ [] → e ≡ old ++ canon (line.Init address size rules)
-unfolding canon body
-adds_init address size rules old a b c d e p0 p1 p2 p3 p4 =
-    rw (p4, p3, p2, p1, p0) (three old (codes "STACK CFI INIT") (32 ∷ hex address) (32 ∷ hex size) (spelled_rules rules) (10 ∷ []))
+-- the line of a frame record: its front, its rules and its end
+pub init_line : (address size : ℕ) (rules : List RuleText) → init_front address size ++ (spelled_rules rules ++ 10 ∷ []) ≡ canon (line.Init address size rules)
+unfolding canon body init_front
+init_line address size rules = simp append_assoc refl
 
-pub adds_change : (address : ℕ) (rules : List RuleText) (old a b c d : List ℕ) → a ≡ old ++ codes "STACK CFI" → b ≡ a ++ 32 ∷ hex address → c ≡ b ++ spelled_rules rules → d ≡ c ++ 10 ∷ [] → d ≡ old ++ canon (line.Change address rules)
-unfolding canon body
-adds_change address rules old a b c d p0 p1 p2 p3 =
-    rw (p3, p2, p1, p0) (two old (codes "STACK CFI") (32 ∷ hex address) (spelled_rules rules) (10 ∷ []))
+pub change_line : (address : ℕ) (rules : List RuleText) → change_front address ++ (spelled_rules rules ++ 10 ∷ []) ≡ canon (line.Change address rules)
+unfolding canon body change_front
+change_line address rules = simp append_assoc refl
+
+ruled : (old before front rules a b c d : List ℕ) (end : ℕ) → length before ≤ end → a ≡ front ++ drop end before → b ≡ old ++ a → c ≡ b ++ rules → d ≡ c ++ 10 ∷ [] → d ≡ old ++ (front ++ (rules ++ 10 ∷ []))
+ruled old before front rules a b c d end past p0 p1 p2 p3 =
+    let p : a ≡ front = p0 ∙ alone front before end past in
+    rw (p3, p2, p1, p) (simp append_assoc refl)
+
+pub adds_init : (address size : ℕ) (rules : List RuleText) (old before a b c d : List ℕ) (end : ℕ) → length before ≤ end → a ≡ init_front address size ++ drop end before → b ≡ old ++ a → c ≡ b ++ spelled_rules rules → d ≡ c ++ 10 ∷ [] → d ≡ old ++ canon (line.Init address size rules)
+adds_init address size rules old before a b c d end past p0 p1 p2 p3 =
+    ruled old before (init_front address size) (spelled_rules rules) a b c d end past p0 p1 p2 p3 ∙ ap (λ l. old ++ l) (init_line address size rules)
+
+pub adds_change : (address : ℕ) (rules : List RuleText) (old before a b c d : List ℕ) (end : ℕ) → length before ≤ end → a ≡ change_front address ++ drop end before → b ≡ old ++ a → c ≡ b ++ spelled_rules rules → d ≡ c ++ 10 ∷ [] → d ≡ old ++ canon (line.Change address rules)
+adds_change address rules old before a b c d end past p0 p1 p2 p3 =
+    ruled old before (change_front address) (spelled_rules rules) a b c d end past p0 p1 p2 p3 ∙ ap (λ l. old ++ l) (change_line address rules)
+
+-- the same in a line of its own
+pub short_init : (address size : ℕ) (rules : List RuleText) (old a b c d : List ℕ) → a ≡ 10 ∷ [] → b ≡ spelled_rules rules ++ a → c ≡ init_front address size ++ b → d ≡ old ++ c → d ≡ old ++ canon (line.Init address size rules)
+short_init address size rules old a b c d p q r s =
+    s ∙ ap (λ l. old ++ l) (r ∙ ap (λ l. init_front address size ++ l) (q ∙ ap (λ l. spelled_rules rules ++ l) p) ∙ init_line address size rules)
+
+pub short_change : (address : ℕ) (rules : List RuleText) (old a b c d : List ℕ) → a ≡ 10 ∷ [] → b ≡ spelled_rules rules ++ a → c ≡ change_front address ++ b → d ≡ old ++ c → d ≡ old ++ canon (line.Change address rules)
+short_change address rules old a b c d p q r s =
+    s ∙ ap (λ l. old ++ l) (r ∙ ap (λ l. change_front address ++ l) (q ∙ ap (λ l. spelled_rules rules ++ l) p) ∙ change_line address rules)
+
+-- what stands in a line from a place on
+pub tail_added : (old line text : List ℕ) (size at : ℕ) → length line ≤ size → text ≡ old ++ take (size - at) (drop at line) → text ≡ old ++ drop at line
+tail_added old line text size at short is = is ∙ ap (λ l. old ++ l) (take_all (size - at) (drop at line) (omega (arith, length-drop at line)))
 
 -- a fact that follows where a call ended well
 pub on_ok : {A F : Type 0} {P Q : Type 0} (r : Result A F) → (P → Q) → OnOk r P → OnOk r Q

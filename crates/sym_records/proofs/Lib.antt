@@ -1,4 +1,3 @@
-pub mod DigitsLemmas
 pub mod TextLemmas
 pub mod FieldLemmas
 pub mod FieldSoundLemmas

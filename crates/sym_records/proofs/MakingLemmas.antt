@@ -12,7 +12,7 @@ use Rattle.std.proofs.lemmas.List.Recursion.{and_at}
 use Rattle.sym_rules.proofs.BoolLemmas.{and_true, both, elim_bool}
 use Rattle.sym_rules.proofs.PlainLemmas.{rules_short, rules_are}
 use Rattle.sym_records.proofs.LengthLemmas.{length_module, length_info, length_file, length_origin, length_func, length_inline, length_line, length_public, length_init, length_change}
-use Rattle.sym_records.proofs.DigitsLemmas.{length_hex}
+use Rattle.sym_rules.proofs.DigitsLemmas.{length_hex}
 use Rattle.sym_records.proofs.TextLemmas.{digits_within}
 use Rattle.sym_records.proofs.CleaningLemmas.{is_shown, named}
 use Rattle.sym_rules.specs.RuleValidity.{is_plain_rule}

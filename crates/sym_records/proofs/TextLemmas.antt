@@ -7,7 +7,7 @@ use Rattle.std.specs.Str.Parse.{AllDigits, digits_value_after}
 use Rattle.std.proofs.lemmas.Bool.{lt-ltb, le-ltb, ltb-true, eqb-true}
 use Rattle.std.proofs.lemmas.Fmt.{digits_is_IsNumeral}
 use Rattle.sym_rules.proofs.BoolLemmas.{and_true, both, not_false, not_true, elim_bool, no_bytes}
-use Rattle.sym_records.proofs.DigitsLemmas.{length_hex}
+use Rattle.sym_rules.proofs.DigitsLemmas.{length_hex}
 use Rattle.sym_records.specs.FieldReading.{name_at, name_of, hex_digit, hex_onto, hex_value}
 use Rattle.sym_records.specs.Fields.{hex, is_field, is_name}
 use Rattle.sym_rules.specs.Cuts.{is_space, is_within_line, is_within_field, skip}

@@ -1,8 +1,8 @@
 -- The canonical spelling of a record (Breakpad's symbol_files.md): a keyword and its fields, one space in front of each field, numbers in
 -- lower-case hexadecimal or in decimal, both without leading zeros, and LF at the end.
-use Rattle.std.specs.Prelude.{ℕ, List, [], ◌∷◌, ◌++◌, drop}
+use Rattle.std.specs.Prelude.{ℕ, List, [], ◌∷◌, ◌++◌, drop, codes}
 use Rattle.std.specs.List.{flat_map}
-use Rattle.sym_records.specs.Fields.{spelled}
+use Rattle.sym_records.specs.Fields.{spelled, hex}
 use Rattle.sym_records.specs.Records.{layout, headed, keyword, values}
 use Rattle.sym_records.specs.declared.line.SymLine.{SymLine}
 
@@ -21,3 +21,10 @@ canon s = body s ++ 10 ∷ []
 -- the canonical spelling of records one after another
 unfoldable pub canon_text : List SymLine → List ℕ
 canon_text lines = flat_map canon lines
+
+-- a frame record up to its rules: its words and its numbers
+unfoldable pub init_front : ℕ → ℕ → List ℕ
+init_front address size = codes "STACK CFI INIT" ++ ((32 ∷ hex address) ++ (32 ∷ hex size))
+
+unfoldable pub change_front : ℕ → List ℕ
+change_front address = codes "STACK CFI" ++ (32 ∷ hex address)

@@ -1,31 +1,78 @@
-ghost use Rattle.std.specs.Prelude.{◌≡◌, [], ◌∷◌, ◌++◌, OnOk};
+ghost use Rattle.std.specs.Prelude.{◌≡◌, ◌+◌, ◌≤◌, [], ◌∷◌, ◌++◌, length, drop, OnOk};
 ghost use Rattle.std.specs.Fmt.{decimal};
 ghost use Rattle.std.specs.List.{flat_map};
-ghost use Rattle.sym_records.specs.Canon.{canon};
+ghost use Rattle.sym_records.specs.Canon.{canon, init_front, change_front};
 ghost use Rattle.sym_records.specs.Cleaning.{cleaned};
 ghost use Rattle.sym_records.specs.Fields.{hex, mark, spelled_range};
 ghost use Rattle.sym_records.specs.declared.line.SymLine.TheVariants as line;
 
 use crate::cleaning::add_cleaned;
-use crate::digits::HexText;
 use crate::line::Extent;
-use itoa::Buffer;
 use sym_edges::OutOfMemory;
-use sym_rules::{RuleText, add_rules, add_word};
+use sym_rules::{
+    RuleText, add_rules, add_word, fit_rules, write_byte, write_bytes, write_decimal, write_hex,
+    write_last,
+};
 
-/// The most bytes that numbers take in a line of one name or of none, with their spaces and the line's end.
-const NUMBERS: usize = 96;
+/// Room for the numbers of a line, with their spaces and its words.
+const LINE: usize = 64;
 
-/// Adds the first words of a line, and makes room for so many bytes behind them.
+/// The same with the line's end, and a name that is left out.
+const ROOM: usize = 80;
+
+/// Writes a hexadecimal number behind one space.
+#[inline]
+fn write_hex_field(number: u64, line: &mut [u8], end: usize) -> usize
+    requires room { 17 ≤ end }
+    requires within { end ≤ length line.old }
+    ensures below { result ≤ end }
+    ensures short { end ≤ result + 17 }
+    ensures written { drop result line.new ≡ (32 ∷ hex number) ++ drop end line.old }
+{
+    let start = write_hex(number, line, end);
+    write_byte(b' ', line, start)
+}
+
+/// Writes a decimal number behind one space.
+#[inline]
+fn write_decimal_field(number: u32, line: &mut [u8], end: usize) -> usize
+    requires room { 11 ≤ end }
+    requires within { end ≤ length line.old }
+    ensures below { result ≤ end }
+    ensures short { end ≤ result + 11 }
+    ensures written { drop result line.new ≡ (32 ∷ decimal number) ++ drop end line.old }
+{
+    let start = write_decimal(number, line, end);
+    write_byte(b' ', line, start)
+}
+
+/// Writes `m` behind one space, where it is to stand.
+#[inline]
+fn write_mark(many: bool, line: &mut [u8], end: usize) -> usize
+    requires room { 2 ≤ end }
+    requires within { end ≤ length line.old }
+    ensures below { result ≤ end }
+    ensures short { end ≤ result + 2 }
+    ensures written { drop result line.new ≡ mark many ++ drop end line.old }
+{
+    if many {
+        return write_bytes(b" m", line, end);
+    }
+    end
+}
+
+/// Adds the first words of a line, and makes room for so many bytes behind them and for its end.
+#[inline]
 fn begin(text: &mut Vec<u8>, words: &[u8], room: usize) -> Result<(), OutOfMemory>
     ensures { OnOk result (text.new.items ≡ text.old.items ++ words.now) }
 {
-    text.reserve(room.saturating_add(NUMBERS))?;
+    text.reserve(room.saturating_add(ROOM))?;
     text.extend_from_slice(words)?;
     Ok(())
 }
 
 /// Adds the end of a line.
+#[inline]
 fn end(text: &mut Vec<u8>) -> Result<(), OutOfMemory>
     ensures { OnOk result (text.new.items ≡ text.old.items ++ 10 ∷ []) }
 {
@@ -33,46 +80,51 @@ fn end(text: &mut Vec<u8>) -> Result<(), OutOfMemory>
     Ok(())
 }
 
-/// Adds a hexadecimal number behind one space.
-fn add_hex(text: &mut Vec<u8>, number: u64) -> Result<(), OutOfMemory>
-    ensures { OnOk result (text.new.items ≡ text.old.items ++ 32 ∷ hex number) }
+/// Adds a name, cleaned, and the end of its line; the space in front of the name is there.
+fn end_with_name(text: &mut Vec<u8>, name: &[u8]) -> Result<(), OutOfMemory>
+    ensures { OnOk result (text.new.items ≡ text.old.items ++ cleaned name.now ++ 10 ∷ []) }
 {
-    let digits = HexText::of(number);
-    add_word(text, digits.as_slice())
+    add_cleaned(text, name)?;
+    end(text)
 }
 
-/// Adds a decimal number behind one space.
-fn add_decimal(text: &mut Vec<u8>, number: u32) -> Result<(), OutOfMemory>
-    ensures { OnOk result (text.new.items ≡ text.old.items ++ 32 ∷ decimal number) }
+/// Writes the words of `STACK CFI INIT` and its numbers, in front of its rules.
+#[tactic(auto, using(crate::proofs::AddingLemmas::init_before))]
+pub fn write_init(address: u64, size: u64, line: &mut [u8], end: usize) -> usize
+    requires room { 48 ≤ end }
+    requires within { end ≤ length line.old }
+    ensures below { result ≤ end }
+    ensures short { end ≤ result + 48 }
+    ensures written { drop result line.new ≡ init_front address size ++ drop end line.old }
 {
-    let mut buffer = Buffer::new();
-    add_word(text, buffer.format(number).as_bytes())
+    let at = write_hex_field(size, line, end);
+    let at = write_hex_field(address, line, at);
+    write_bytes(b"STACK CFI INIT", line, at)
 }
 
-/// Adds `m` behind one space, where it is to stand.
-fn add_mark(text: &mut Vec<u8>, many: bool) -> Result<(), OutOfMemory>
-    ensures { OnOk result (text.new.items ≡ text.old.items ++ mark many) }
+/// Writes the words of `STACK CFI` and its number, in front of its rules.
+#[tactic(auto, using(crate::proofs::AddingLemmas::change_before))]
+pub fn write_change(address: u64, line: &mut [u8], end: usize) -> usize
+    requires room { 26 ≤ end }
+    requires within { end ≤ length line.old }
+    ensures below { result ≤ end }
+    ensures short { end ≤ result + 26 }
+    ensures written { drop result line.new ≡ change_front address ++ drop end line.old }
 {
-    if many {
-        text.extend_from_slice(b" m")?;
-    }
-    Ok(())
+    let at = write_hex_field(address, line, end);
+    write_bytes(b"STACK CFI", line, at)
 }
 
-/// Adds a name behind one space, cleaned.
-fn add_name(text: &mut Vec<u8>, name: &[u8]) -> Result<(), OutOfMemory>
-    ensures { OnOk result (text.new.items ≡ text.old.items ++ 32 ∷ cleaned name.now) }
-{
-    text.push(b' ')?;
-    add_cleaned(text, name)
-}
-
-#[tactic(auto, using(sym_rules::proofs::AddingLemmas::adds_two), unfolding(crate::specs::Fields::spelled_range))]
+/// Adds a range.
+#[tactic(auto, using(crate::proofs::AddingLemmas::adds_range), unfolding(crate::specs::Fields::spelled_range))]
 fn add_range(text: &mut Vec<u8>, range: Extent) -> Result<(), OutOfMemory>
     ensures { OnOk result (text.new.items ≡ text.old.items ++ spelled_range range) }
 {
-    add_hex(text, range.address)?;
-    add_hex(text, range.size)
+    let mut line = [0; LINE];
+    let at = write_hex_field(range.size, &mut line, LINE);
+    let at = write_hex_field(range.address, &mut line, at);
+    text.extend_from_slice(&line[at..])?;
+    Ok(())
 }
 
 #[tactic(auto, using(sym_rules::proofs::AddingLemmas::adds_piece, sym_rules::proofs::AddingLemmas::adds_all))]
@@ -100,8 +152,8 @@ pub fn add_module(
     add_word(text, os)?;
     add_word(text, arch)?;
     add_word(text, id)?;
-    add_name(text, name)?;
-    end(text)
+    text.push(b' ')?;
+    end_with_name(text, name)
 }
 
 /// Adds `INFO` with these words as they are.
@@ -115,28 +167,30 @@ pub fn add_info(text: &mut Vec<u8>, words: &[u8]) -> Result<(), OutOfMemory>
 }
 
 /// Adds `FILE` with its name cleaned.
-#[tactic(auto, using(crate::proofs::AddingLemmas::adds_file))]
 pub fn add_file(text: &mut Vec<u8>, number: u32, name: &[u8]) -> Result<(), OutOfMemory>
     ensures { OnOk result (text.new.items ≡ text.old.items ++ canon (line.File number (cleaned name.now))) }
 {
-    begin(text, b"FILE", name.len())?;
-    add_decimal(text, number)?;
-    add_name(text, name)?;
-    end(text)
+    let mut line = [0; LINE];
+    let at = write_last(b' ', &mut line);
+    let at = write_decimal_field(number, &mut line, at);
+    let at = write_bytes(b"FILE", &mut line, at);
+    begin(text, &line[at..], name.len())?;
+    end_with_name(text, name)
 }
 
 /// Adds `INLINE_ORIGIN` with its name cleaned.
 pub fn add_origin(text: &mut Vec<u8>, number: u32, name: &[u8]) -> Result<(), OutOfMemory>
     ensures { OnOk result (text.new.items ≡ text.old.items ++ canon (line.Origin number (cleaned name.now))) }
 {
-    begin(text, b"INLINE_ORIGIN", name.len())?;
-    add_decimal(text, number)?;
-    add_name(text, name)?;
-    end(text)
+    let mut line = [0; LINE];
+    let at = write_last(b' ', &mut line);
+    let at = write_decimal_field(number, &mut line, at);
+    let at = write_bytes(b"INLINE_ORIGIN", &mut line, at);
+    begin(text, &line[at..], name.len())?;
+    end_with_name(text, name)
 }
 
 /// Adds `FUNC` with its name cleaned.
-#[tactic(auto, using(crate::proofs::AddingLemmas::adds_func))]
 pub fn add_func(
     text: &mut Vec<u8>,
     many: bool,
@@ -147,17 +201,18 @@ pub fn add_func(
 ) -> Result<(), OutOfMemory>
     ensures { OnOk result (text.new.items ≡ text.old.items ++ canon (line.Func many address size params (cleaned name.now))) }
 {
-    begin(text, b"FUNC", name.len())?;
-    add_mark(text, many)?;
-    add_hex(text, address)?;
-    add_hex(text, size)?;
-    add_hex(text, params)?;
-    add_name(text, name)?;
-    end(text)
+    let mut line = [0; LINE];
+    let at = write_last(b' ', &mut line);
+    let at = write_hex_field(params, &mut line, at);
+    let at = write_hex_field(size, &mut line, at);
+    let at = write_hex_field(address, &mut line, at);
+    let at = write_mark(many, &mut line, at);
+    let at = write_bytes(b"FUNC", &mut line, at);
+    begin(text, &line[at..], name.len())?;
+    end_with_name(text, name)
 }
 
 /// Adds `INLINE`.
-#[tactic(auto, using(crate::proofs::AddingLemmas::adds_inline))]
 pub fn add_inline(
     text: &mut Vec<u8>,
     level: u32,
@@ -168,17 +223,18 @@ pub fn add_inline(
 ) -> Result<(), OutOfMemory>
     ensures { OnOk result (text.new.items ≡ text.old.items ++ canon (line.Inline level call_line call_file origin ranges.now)) }
 {
-    begin(text, b"INLINE", 0)?;
-    add_decimal(text, level)?;
-    add_decimal(text, call_line)?;
-    add_decimal(text, call_file)?;
-    add_decimal(text, origin)?;
+    let mut line = [0; LINE];
+    let at = write_decimal_field(origin, &mut line, LINE);
+    let at = write_decimal_field(call_file, &mut line, at);
+    let at = write_decimal_field(call_line, &mut line, at);
+    let at = write_decimal_field(level, &mut line, at);
+    let at = write_bytes(b"INLINE", &mut line, at);
+    begin(text, &line[at..], 0)?;
     add_ranges(text, ranges)?;
     end(text)
 }
 
 /// Adds a line record.
-#[tactic(auto, using(crate::proofs::AddingLemmas::adds_line))]
 pub fn add_line(
     text: &mut Vec<u8>,
     address: u64,
@@ -188,16 +244,17 @@ pub fn add_line(
 ) -> Result<(), OutOfMemory>
     ensures { OnOk result (text.new.items ≡ text.old.items ++ canon (line.Line address size number file)) }
 {
-    let start = HexText::of(address);
-    begin(text, start.as_slice(), 0)?;
-    add_hex(text, size)?;
-    add_decimal(text, number)?;
-    add_decimal(text, file)?;
-    end(text)
+    let mut line = [0; LINE];
+    let at = write_last(b'\n', &mut line);
+    let at = write_decimal_field(file, &mut line, at);
+    let at = write_decimal_field(number, &mut line, at);
+    let at = write_hex_field(size, &mut line, at);
+    let at = write_hex(address, &mut line, at);
+    text.extend_from_slice(&line[at..])?;
+    Ok(())
 }
 
 /// Adds `PUBLIC` with its name cleaned.
-#[tactic(auto, using(crate::proofs::AddingLemmas::adds_public))]
 pub fn add_public(
     text: &mut Vec<u8>,
     many: bool,
@@ -207,16 +264,36 @@ pub fn add_public(
 ) -> Result<(), OutOfMemory>
     ensures { OnOk result (text.new.items ≡ text.old.items ++ canon (line.Public many address params (cleaned name.now))) }
 {
-    begin(text, b"PUBLIC", name.len())?;
-    add_mark(text, many)?;
-    add_hex(text, address)?;
-    add_hex(text, params)?;
-    add_name(text, name)?;
+    let mut line = [0; LINE];
+    let at = write_last(b' ', &mut line);
+    let at = write_hex_field(params, &mut line, at);
+    let at = write_hex_field(address, &mut line, at);
+    let at = write_mark(many, &mut line, at);
+    let at = write_bytes(b"PUBLIC", &mut line, at);
+    begin(text, &line[at..], name.len())?;
+    end_with_name(text, name)
+}
+
+/// Room for a line of a frame record whose rules are short.
+const RULED: usize = 160;
+
+/// Adds `STACK CFI INIT` with rules of any length.
+fn add_long_init(
+    text: &mut Vec<u8>,
+    address: u64,
+    size: u64,
+    rules: &[RuleText],
+) -> Result<(), OutOfMemory>
+    ensures { OnOk result (text.new.items ≡ text.old.items ++ canon (line.Init address size rules.now)) }
+{
+    let mut line = [0; LINE];
+    let at = write_init(address, size, &mut line, LINE);
+    begin(text, &line[at..], 0)?;
+    add_rules(text, rules)?;
     end(text)
 }
 
 /// Adds `STACK CFI INIT`.
-#[tactic(auto, using(crate::proofs::AddingLemmas::adds_init))]
 pub fn add_init(
     text: &mut Vec<u8>,
     address: u64,
@@ -225,20 +302,41 @@ pub fn add_init(
 ) -> Result<(), OutOfMemory>
     ensures { OnOk result (text.new.items ≡ text.old.items ++ canon (line.Init address size rules.now)) }
 {
-    begin(text, b"STACK CFI INIT", 0)?;
-    add_hex(text, address)?;
-    add_hex(text, size)?;
+    let mut line = [0; RULED];
+    let end = write_last(b'\n', &mut line);
+    if let Some(at) = fit_rules(rules, &mut line, end) {
+        if at >= 48 {
+            let front = write_init(address, size, &mut line, at);
+            text.extend_from_slice(&line[front..])?;
+            return Ok(());
+        }
+    }
+    add_long_init(text, address, size, rules)
+}
+
+/// Adds `STACK CFI` with rules of any length.
+fn add_long_change(text: &mut Vec<u8>, address: u64, rules: &[RuleText]) -> Result<(), OutOfMemory>
+    ensures { OnOk result (text.new.items ≡ text.old.items ++ canon (line.Change address rules.now)) }
+{
+    let mut line = [0; LINE];
+    let at = write_change(address, &mut line, LINE);
+    begin(text, &line[at..], 0)?;
     add_rules(text, rules)?;
     end(text)
 }
 
 /// Adds `STACK CFI`.
-#[tactic(auto, using(crate::proofs::AddingLemmas::adds_change))]
 pub fn add_change(text: &mut Vec<u8>, address: u64, rules: &[RuleText]) -> Result<(), OutOfMemory>
     ensures { OnOk result (text.new.items ≡ text.old.items ++ canon (line.Change address rules.now)) }
 {
-    begin(text, b"STACK CFI", 0)?;
-    add_hex(text, address)?;
-    add_rules(text, rules)?;
-    end(text)
+    let mut line = [0; RULED];
+    let end = write_last(b'\n', &mut line);
+    if let Some(at) = fit_rules(rules, &mut line, end) {
+        if at >= 26 {
+            let front = write_change(address, &mut line, at);
+            text.extend_from_slice(&line[front..])?;
+            return Ok(());
+        }
+    }
+    add_long_change(text, address, rules)
 }

@@ -2,8 +2,7 @@ ghost use Rattle.std.specs.Prelude.{◌≡◌, ◌<◌, ◌≤◌, length};
 ghost use Rattle.sym_records.specs.Fields.{hex};
 
 use std::marker::Model;
-
-const GLYPHS: &[u8; 16] = b"0123456789abcdef";
+use sym_rules::write_hex;
 
 /// A number in lower-case hexadecimal without leading zeros, which contracts see as its digits. Takes no memory.
 #[derive(Drop)]
@@ -23,20 +22,13 @@ impl Model for HexText {
 }
 
 impl HexText {
+    #[tactic(auto, using(sym_rules::proofs::BackwardLemmas::nothing_behind))]
     pub fn of(number: u64) -> HexText
         ensures { result ≡ hex number }
     {
         let mut digits = [0; 16];
-        let mut rest = number;
-        for done in 0..16 {
-            let start = 15 - done;
-            digits[start] = GLYPHS[(rest % 16) as usize];
-            rest /= 16;
-            if rest == 0 {
-                return HexText { digits, start };
-            }
-        }
-        unreachable!()
+        let start = write_hex(number, &mut digits, 16);
+        HexText { digits, start }
     }
 
     pub fn as_slice(&self) -> &[u8]

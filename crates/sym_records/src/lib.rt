@@ -4,7 +4,8 @@
 //! fields stand behind each keyword, and spelling, length, validity and reading go over them. A `SymFile` is a list of records
 //! that a text can spell: `file_of` makes it, or names the first record that no text can spell or that may not stand
 //! where it stands. `render` spells one record and `write_file` all of them, each with one space between its fields, and
-//! what is written reads back as the same records. The `add_` calls spell a record at the end of a text with no record made,
+//! what is written reads back as the same records. The `add_` calls spell a record at the end of a text with no record made
+//! (`write_init` and `write_change` write the front of a frame record into a line, for a caller that writes its rules),
 //! a `SymText` is such a text, which contracts see as its records, and `clean` makes of any bytes a name that a record may carry.
 #![tactic(auto)]
 
@@ -41,7 +42,7 @@ pub mod laws;
 
 pub use adding::{
     add_change, add_file, add_func, add_info, add_init, add_inline, add_line, add_module,
-    add_origin, add_public,
+    add_origin, add_public, write_change, write_init,
 };
 pub use cleaning::clean;
 pub use digits::HexText;

@@ -151,6 +151,30 @@ fn records_are_rendered_and_added(rt: HostRuntime) -> Result<(), Fail> {
     Ok(())
 }
 
+#[test]
+fn frame_records_with_many_rules_are_added(rt: HostRuntime) -> Result<(), Fail> {
+    let alloc = rt.alloc();
+    let mut rules = Vec::new(alloc);
+    let mut want = Vec::from_slice(alloc, b"STACK CFI INIT 1000 20")?;
+    for _ in 0..20 {
+        rules.push(RuleText {
+            target: Target::Cfa,
+            tokens: Tokens::three(Token::Reg(7), Token::Number(-8), Token::Add),
+        })?;
+        want.extend_from_slice(b" .cfa: $rsp -8 +")?;
+    }
+    want.extend_from_slice(b"\nSTACK CFI 1001")?;
+    for _ in 0..20 {
+        want.extend_from_slice(b" .cfa: $rsp -8 +")?;
+    }
+    want.push(b'\n')?;
+    let mut added = Vec::new(alloc);
+    add_init(&mut added, 0x1000, 0x20, &rules)?;
+    add_change(&mut added, 0x1001, &rules)?;
+    expect(&rt, "added", &added, &want);
+    Ok(())
+}
+
 /// What a sink held after `write_file`, and whether all was written.
 fn write(
     alloc: Global,

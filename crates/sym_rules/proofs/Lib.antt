@@ -11,4 +11,7 @@ pub mod PlainLemmas
 pub mod AddingLemmas
 pub mod LastLemmas
 pub mod Computing
+pub mod DigitsLemmas
+pub mod BackwardLemmas
+pub mod FittingLemmas
 pub mod WorkedRules

@@ -2,6 +2,7 @@ ghost use Rattle.std.specs.Prelude.{◌≡◌, [], ◌∷◌, ◌++◌, OnOk};
 ghost use Rattle.std.specs.List.{flat_map};
 ghost use Rattle.sym_rules.specs.Rules.{spelled_token, spelled_rule, spelled_rules};
 
+use crate::fitting::fit_rules;
 use crate::rules::{RuleText, Token};
 use crate::words::{target_name, token_word};
 use itoa::Buffer;
@@ -43,13 +44,29 @@ fn add_rule(text: &mut Vec<u8>, rule: &RuleText) -> Result<(), OutOfMemory>
     add_tokens(text, rule.tokens.as_slice())
 }
 
-/// Adds rules, with one space in front of each word.
+/// Adds rules of any length.
 #[tactic(auto, using(crate::proofs::AddingLemmas::adds_piece, crate::proofs::AddingLemmas::adds_all), unfolding(crate::specs::Rules::spelled_rules))]
-pub fn add_rules(text: &mut Vec<u8>, rules: &[RuleText]) -> Result<(), OutOfMemory>
+fn add_each_rule(text: &mut Vec<u8>, rules: &[RuleText]) -> Result<(), OutOfMemory>
     ensures { OnOk result (text.new.items ≡ text.old.items ++ spelled_rules rules.now) }
 {
     for rule in rules {
         add_rule(text, rule)?;
     }
     Ok(())
+}
+
+/// Rules of so many bytes are written apart and added at once.
+const SHORT: usize = 112;
+
+/// Adds rules, with one space in front of each word.
+#[tactic(auto, using(crate::proofs::FittingLemmas::rules_alone))]
+pub fn add_rules(text: &mut Vec<u8>, rules: &[RuleText]) -> Result<(), OutOfMemory>
+    ensures { OnOk result (text.new.items ≡ text.old.items ++ spelled_rules rules.now) }
+{
+    let mut line = [0; SHORT];
+    if let Some(start) = fit_rules(rules, &mut line, SHORT) {
+        text.extend_from_slice(&line[start..])?;
+        return Ok(());
+    }
+    add_each_rule(text, rules)
 }

@@ -1,6 +1,7 @@
 use Rattle.std.proofs.Common.{length, arith}
 use Rattle.frame_rows.proofs.ReadLemmas.{some_left, none_left}
 use Rattle.frame_rows.proofs.SteppingLemmas.{fewer_left, not_unread, not_refused, still_good, rows_moved, rows_stay, stays_there, rows_last}
+use Rattle.frame_rows.proofs.ColumnLemmas.{stay_on}
 use Rattle.frame_rows.proofs.stepper.settle.Goals as goal
 
 pub returns-in-Err-clause-good : goal.returns-in-Err-clause-good
@@ -23,6 +24,10 @@ returns-then-address-clause-rows c = λ end low.
     rows_moved end c.args.setting.now c.args.encoding c.args.base c.args.machine.now.address c.turns.cursor c.read.new.cursor c.in-Ok.instruction c.turns.machine c.step.new.machine _
     (some_left (length c.turns.cursor.bytes) c.turns-test.ensures) c.in-Ok.ensures c.in-Ok-step.ensures.1 c.turns.invariant.here (omega arith) low (c.turns.invariant.rows end)
 
+pub returns-then-address-clause-stays : goal.returns-then-address-clause-stays
+returns-then-address-clause-stays c =
+    stay_on c.args.machine.now.row c.turns.machine c.step.new.machine c.args.setting.now c.in-Ok.instruction c.turns.columns c.join-columns.result c.touched.result c.turns.invariant.stays c.touched.ensures c.in-Ok-step.ensures.1 c.join-columns.ensures
+
 pub turns-smaller : goal.turns-smaller
 turns-smaller c = fewer_left c.args.encoding c.args.base c.turns.cursor c.read.new.cursor c.in-Ok.instruction c.in-Ok.ensures
 
@@ -30,6 +35,7 @@ pub turns-preserved : goal.turns-preserved
 turns-preserved c =
     let some = some_left (length c.turns.cursor.bytes) c.turns-test.ensures in
     record {
+      stays = stay_on c.args.machine.now.row c.turns.machine c.step.new.machine c.args.setting.now c.in-Ok.instruction c.turns.columns c.join-columns.result c.touched.result c.turns.invariant.stays c.touched.ensures c.in-Ok-step.ensures.1 c.join-columns.ensures;
       good =
           still_good c.args.setting.now c.args.encoding c.args.base c.turns.cursor c.read.new.cursor c.in-Ok.instruction c.turns.machine c.step.new.machine
           some c.in-Ok.ensures c.in-Ok-step.ensures.0 c.in-Ok-step.ensures.1 c.turns.invariant.good;

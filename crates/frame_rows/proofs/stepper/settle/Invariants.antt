@@ -1,5 +1,6 @@
 use Rattle.std.proofs.Common.{◌≡◌, ℕ, length, None}
 use Rattle.frame_rows.specs.Instructions.{listed_at}
+use Rattle.frame_rows.specs.Columns.{StayOutside}
 use Rattle.frame_rows.specs.Rows.{first_fault}
 use Rattle.frame_rows.specs.Walk.{rows_from}
 use Rattle.frame_rows.proofs.stepper.settle.Given as goal
@@ -7,6 +8,7 @@ use Rattle.frame_rows.proofs.stepper.settle.Given as goal
 abbrev pub invariant-turns : goal.invariant-turns
 invariant-turns l = record {
   good : first_fault l.setting (listed_at l.encoding l.base l.cursor) l.machine ≡ None;
+  stays : StayOutside l.columns l.fn.machine.row l.machine.row;
   here : l.machine.address ≡ l.fn.machine.address;
   rows : (end : ℕ) → rows_from end l.setting (listed_at l.encoding l.base l.cursor) l.machine ≡ rows_from end l.setting (listed_at l.encoding l.base l.fn.cursor) l.fn.machine;
 }

@@ -5,9 +5,9 @@ use Rattle.rule_postfix.proofs.translating.translate.Goals as goal
 
 pub returns-clause-text : goal.returns-clause-text
 returns-clause-text c =
-    entry_text c.args.base (c.fde.inside.start + c.fde.inside.size) c.args.fde.now (c.in-Ok.stepper.here ∷ c.in-Ok.stepper.later) c.new-text.result.items c.of-2.result c.in-Ok.ensures.rows c.requires.some c.new-text.ensures.items
+    entry_text c.args.base (c.fde.inside.start + c.fde.inside.size) c.args.fde.now (c.in-Ok.stepper.here ∷ c.in-Ok.stepper.later) c.new-text.result.items c.of.result c.in-Ok.ensures.rows c.requires.some c.new-text.ensures.items
     (ap (λ (e : FdeFields). e.start + e.size) c.fde.view_is)
-    (c.of-2.ensures ∙ c.in_ok-spell_steps.ensures)
+    (c.of.ensures ∙ c.in_ok-spell_steps.ensures)
 
 pub returns-clause-valid : goal.returns-clause-valid
 returns-clause-valid c =

@@ -1,45 +1,5 @@
-use Rattle.std.proofs.Common.{refl}
-use Rattle.frame_rows.proofs.EntryLemmas.{walked, fine, rows_have, rows_good, rows_lack, rows_sound, cie_bad, own_stopped}
 use Rattle.frame_rows.proofs.StartLemmas.{start_are}
 use Rattle.frame_rows.proofs.stepper.Stepper.new.Goals as goal
 
-pub returns-in-Err-clause-exact : goal.returns-in-Err-clause-exact
-returns-in-Err-clause-exact c = cie_bad c.args.fde.now c.in-Err.why c.in-Err.ensures.fault
-
-pub returns-in-Err-lack_cfa_below-clause-exact : goal.returns-in-Err-lack_cfa_below-clause-exact
-returns-in-Err-lack_cfa_below-clause-exact c =
-    own_stopped _ _ c.in-Err-lack_cfa_below.stop _ c.args.fde.now _ _ c.in-Ok.ensures.fault c.fde.view_is c.in-Ok.ensures.setting c.in-Ok.ensures.machine c.in-Err-lack_cfa_below.ensures.fault
-
-pub returns-then-lacking-clause-exact : goal.returns-then-lacking-clause-exact
-returns-then-lacking-clause-exact c =
-    rows_lack c.args.fde.now _ c.in-Ok-lack_cfa_below.lacking
-    (walked _ c.args.fde.now c.in-Ok.begun.setting c.in-Ok.begun.machine _ _ c.in-Ok.ensures.fault c.fde.view_is c.in-Ok.ensures.setting c.in-Ok.ensures.machine refl c.in-Ok-lack_cfa_below.ensures.fault refl c.requires.some)
-    c.if-lacking.true c.in-Ok-lack_cfa_below.ensures.lack
-
-pub start-requires-clause-good : goal.start-requires-clause-good
-start-requires-clause-good c =
-    fine c.args.fde.now _
-    (walked _ c.args.fde.now c.in-Ok.begun.setting c.in-Ok.begun.machine _ _ c.in-Ok.ensures.fault c.fde.view_is c.in-Ok.ensures.setting c.in-Ok.ensures.machine refl c.in-Ok-lack_cfa_below.ensures.fault refl c.requires.some)
-
 pub returns-in-Ok-start-clause-rows : goal.returns-in-Ok-start-clause-rows
-returns-in-Ok-start-clause-rows c =
-    start_are _ c.args.fde.now _ _
-    (walked _ c.args.fde.now c.in-Ok.begun.setting c.in-Ok.begun.machine _ _ c.in-Ok.ensures.fault c.fde.view_is c.in-Ok.ensures.setting c.in-Ok.ensures.machine refl c.in-Ok-lack_cfa_below.ensures.fault refl c.requires.some)
-    c.fde.view_is c.in-Ok-start.ensures.rows c.requires.some
-
-pub returns-in-Ok-start-clause-cfa : goal.returns-in-Ok-start-clause-cfa
-returns-in-Ok-start-clause-cfa c =
-    rows_have c.args.fde.now _ c.in-Ok-lack_cfa_below.lacking
-    (walked _ c.args.fde.now c.in-Ok.begun.setting c.in-Ok.begun.machine _ _ c.in-Ok.ensures.fault c.fde.view_is c.in-Ok.ensures.setting c.in-Ok.ensures.machine refl c.in-Ok-lack_cfa_below.ensures.fault refl c.requires.some)
-    c.if-lacking.false c.in-Ok-lack_cfa_below.ensures.lack
-
-pub returns-in-Ok-start-clause-sound : goal.returns-in-Ok-start-clause-sound
-returns-in-Ok-start-clause-sound c =
-    rows_sound c.args.fde.now _
-    (walked _ c.args.fde.now c.in-Ok.begun.setting c.in-Ok.begun.machine _ _ c.in-Ok.ensures.fault c.fde.view_is c.in-Ok.ensures.setting c.in-Ok.ensures.machine refl c.in-Ok-lack_cfa_below.ensures.fault refl c.requires.some)
-
-pub returns-in-Ok-start-clause-exact : goal.returns-in-Ok-start-clause-exact
-returns-in-Ok-start-clause-exact c =
-    rows_good c.args.fde.now _ c.in-Ok-lack_cfa_below.lacking
-    (walked _ c.args.fde.now c.in-Ok.begun.setting c.in-Ok.begun.machine _ _ c.in-Ok.ensures.fault c.fde.view_is c.in-Ok.ensures.setting c.in-Ok.ensures.machine refl c.in-Ok-lack_cfa_below.ensures.fault refl c.requires.some)
-    c.if-lacking.false c.in-Ok-lack_cfa_below.ensures.lack
+returns-in-Ok-start-clause-rows c = start_are _ c.args.fde.now _ c.in-Ok.ensures.good c.fde.view_is c.in-Ok-start.ensures.rows c.requires.some

@@ -1,0 +1,53 @@
+//! Columns of a row, one behind another.
+ghost use Rattle.std.specs.Prelude.{◌≡◌, min, max};
+ghost use Rattle.frame_rows.specs.Columns.{no_columns, all_columns, one_column};
+
+use crate::row::COLUMNS;
+
+/// The columns from the first on and below the end; none where the end is not above the first.
+#[derive(Clone, Copy, PartialEq, Eq, Debug)]
+pub struct Columns {
+    pub first: u8,
+    pub end: u8,
+}
+
+impl Columns {
+    #[inline]
+    pub fn none() -> Columns
+        ensures { result ≡ no_columns }
+    {
+        Columns { first: 17, end: 0 }
+    }
+
+    #[inline]
+    pub fn all() -> Columns
+        ensures { result ≡ all_columns }
+    {
+        Columns { first: 0, end: 17 }
+    }
+
+    /// A column alone; none where there is no such column.
+    #[inline]
+    pub fn one(column: u64) -> Columns
+        ensures { result ≡ one_column column }
+    {
+        if column < COLUMNS as u64 {
+            return Columns {
+                first: column as u8,
+                end: column as u8 + 1,
+            };
+        }
+        Columns::none()
+    }
+
+    /// These, others, and those between them.
+    #[inline]
+    pub fn join(self, other: Columns) -> Columns
+        ensures { result ≡ record { first = min self.first other.first; end = max self.end other.end } }
+    {
+        Columns {
+            first: self.first.min(other.first),
+            end: self.end.max(other.end),
+        }
+    }
+}

@@ -1,0 +1,24 @@
+use Rattle.std.proofs.Common.{◌≡◌, ◌-◌, ◌∙◌, sym, arith, rules, drop}
+use Rattle.std.proofs.lemmas.Grind.{common_steps}
+use Rattle.rule_postfix.specs.RowParts.{rule_at}
+use Rattle.rule_postfix.proofs.RulesLemmas.{stays_kept, register_stays, all_kept, all_registers}
+use Rattle.rule_postfix.proofs.rules.write_registers.Goals as goal
+
+pub turns-preserved : goal.turns-preserved
+turns-preserved c =
+    let held : c.rule_at-was.result ≡ c.rule_at-is.result = first_of (grind arith, grind (arith, common_steps), search rules) in
+    let same : rule_at c.args.before.now (c.turns.number - 1) ≡ rule_at c.args.after.now (c.turns.number - 1) = sym c.rule_at-was.ensures ∙ held ∙ c.rule_at-is.ensures in
+    record {
+      small = omega arith;
+      low = c.turns.invariant.low;
+      near = omega arith;
+      kept = stays_kept c.args.before.now c.args.after.now c.turns.number (c.turns.number - 1) (omega arith) (omega arith) c.turns.invariant.kept same;
+      written = register_stays c.args.before.now c.args.after.now c.turns.number (c.turns.number - 1) (drop c.args.end c.args.line.now) (drop c.turns.at c.turns.line) (omega arith) (omega arith) c.turns.invariant.written same;
+    }
+
+pub returns-clause-kept : goal.returns-clause-kept
+returns-clause-kept c = all_kept c.args.columns c.args.before.now c.args.after.now c.turns.number c.requires.alike (omega arith) c.turns.invariant.small c.turns.invariant.kept
+
+pub returns-clause-written : goal.returns-clause-written
+returns-clause-written c =
+    all_registers c.args.columns c.args.before.now c.args.after.now c.turns.number (drop c.args.end c.args.line.now) (drop c.turns.at c.turns.line) c.requires.alike (omega arith) c.turns.invariant.small c.turns.invariant.written

@@ -1,0 +1,17 @@
+use Rattle.std.proofs.Common.{◌≡◌, ◌≤◌, ◌+◌, ◌*◌, ◌-◌, ◌++◌, false, drop}
+use Rattle.sym_rules.specs.Rules.{spelled_rules}
+use Rattle.rule_postfix.specs.RowRules.{rules_of, if_changed}
+use Rattle.rule_postfix.specs.Backward.{registers_from, some_unspecified_from}
+use Rattle.rule_postfix.proofs.rules.write_registers.Given as goal
+
+abbrev pub invariant-turns : goal.invariant-turns
+invariant-turns l = record {
+  small : l.number ≤ 16;
+  low : l.at ≤ l.end;
+  near : l.end ≤ l.at + 40 * (16 - l.number);
+  kept : some_unspecified_from l.before l.after l.number ≡ false;
+  written : drop l.at l.line ≡ spelled_rules (rules_of (if_changed l.before l.after) (registers_from l.number)) ++ drop l.end l.fn.line;
+}
+
+abbrev pub decreases-turns : goal.decreases-turns
+decreases-turns l = l.number

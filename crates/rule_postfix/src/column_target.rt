@@ -1,0 +1,25 @@
+//! The target of a column.
+ghost use Rattle.std.specs.Prelude.{◌≡◌};
+ghost use Rattle.rule_postfix.specs.Backward.{column_of};
+
+/// What the rule of a column gives the value of.
+#[derive(Clone, Copy)]
+pub enum ColumnTarget {
+    /// The return address.
+    Ra,
+    /// A register by its DWARF number.
+    Reg(u8),
+}
+
+impl ColumnTarget {
+    /// The number of the column.
+    #[inline]
+    pub fn column(self) -> u8
+        ensures { result ≡ column_of self }
+    {
+        match self {
+            ColumnTarget::Ra => 16,
+            ColumnTarget::Reg(number) => number,
+        }
+    }
+}
