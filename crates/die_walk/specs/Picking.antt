@@ -1,5 +1,5 @@
 -- No public clause cites this: the values of an entry as one pass picks them.
-use Rattle.std.specs.Prelude.{ℕ, ◌==◌, Bool, true, false, List, [], ◌∷◌, Option, None, Some, option_and_then, Result, Ok}
+use Rattle.std.specs.Prelude.{ℕ, ◌==◌, ◌||◌, Bool, true, false, List, [], ◌∷◌, Option, None, Some, option_and_then, Result, Ok}
 use Rattle.sym_edges.specs.Results.{◌>>=◌}
 use Rattle.leb_cursor.specs.Ahead.{Ahead}
 use Rattle.abbrev_units.specs.declared.fault.FormFault.{FormFault}
@@ -63,6 +63,10 @@ noted picks attribute value = record {
   addr_base = note_if (attribute == 0x73) picks.addr_base value;
   rnglists_base = note_if (attribute == 0x74) picks.rnglists_base value;
 }
+
+-- an attribute that matters
+abbrev pub is_picked : ℕ → Bool
+is_picked attribute = attribute == 0x11 || (attribute == 0x12 || (attribute == 0x55 || (attribute == 0x31 || (attribute == 0x47 || (attribute == 0x03 || (attribute == 0x6e || (attribute == 0x2007 || (attribute == 0x3c || (attribute == 0x58 || (attribute == 0x59 || (attribute == 0x10 || (attribute == 0x1b || (attribute == 0x72 || (attribute == 0x73 || (attribute == 0x74)))))))))))))))
 
 -- the values of attributes, noted one by one
 unfoldable pub picks_at : Picks → List SpecFields → Ahead → Result (Picks × Ahead) FormFault

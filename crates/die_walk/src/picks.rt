@@ -1,7 +1,7 @@
 //! The values of an entry that matter, picked in one pass.
 ghost use Rattle.std.specs.Prelude.{◌≡◌};
 ghost use Rattle.leb_cursor.specs.Ahead.{gave};
-ghost use Rattle.die_walk.specs.Picking.{no_picks, noted, picks_at};
+ghost use Rattle.die_walk.specs.Picking.{or_value, no_picks, noted, is_picked, picks_at};
 
 use crate::attributes::{
     DW_AT_MIPS_linkage_name, DW_AT_abstract_origin, DW_AT_addr_base, DW_AT_call_file,
@@ -56,39 +56,81 @@ pub fn no_picks() -> Picks
     }
 }
 
+/// Notes a value, where none is there.
+#[inline]
+fn note_first(place: &mut Option<Value>, value: Value)
+    ensures { place.new ≡ or_value place.old value }
+{
+    if place.is_none() {
+        *place = Some(value);
+    }
+}
+
+/// Whether an attribute matters.
+#[inline]
+fn is_picked(attribute: u64) -> bool
+    ensures { result ≡ is_picked attribute }
+{
+    matches!(
+        attribute,
+        DW_AT_low_pc
+            | DW_AT_high_pc
+            | DW_AT_ranges
+            | DW_AT_abstract_origin
+            | DW_AT_specification
+            | DW_AT_name
+            | DW_AT_linkage_name
+            | DW_AT_MIPS_linkage_name
+            | DW_AT_declaration
+            | DW_AT_call_file
+            | DW_AT_call_line
+            | DW_AT_stmt_list
+            | DW_AT_comp_dir
+            | DW_AT_str_offsets_base
+            | DW_AT_addr_base
+            | DW_AT_rnglists_base
+    )
+}
+
 /// Notes a value, where it is the first of its attribute.
 #[inline]
 fn note(picks: &mut Picks, attribute: u64, value: Value)
     ensures { picks.new ≡ noted picks.old attribute value }
 {
     match attribute {
-        DW_AT_low_pc => picks.low = picks.low.or(Some(value)),
-        DW_AT_high_pc => picks.high = picks.high.or(Some(value)),
-        DW_AT_ranges => picks.ranges = picks.ranges.or(Some(value)),
-        DW_AT_abstract_origin => picks.origin = picks.origin.or(Some(value)),
-        DW_AT_specification => picks.spec = picks.spec.or(Some(value)),
-        DW_AT_name => picks.name = picks.name.or(Some(value)),
-        DW_AT_linkage_name => picks.linkage = picks.linkage.or(Some(value)),
-        DW_AT_MIPS_linkage_name => picks.old_linkage = picks.old_linkage.or(Some(value)),
-        DW_AT_declaration => picks.declaration = picks.declaration.or(Some(value)),
-        DW_AT_call_file => picks.call_file = picks.call_file.or(Some(value)),
-        DW_AT_call_line => picks.call_line = picks.call_line.or(Some(value)),
-        DW_AT_stmt_list => picks.stmt_list = picks.stmt_list.or(Some(value)),
-        DW_AT_comp_dir => picks.comp_dir = picks.comp_dir.or(Some(value)),
-        DW_AT_str_offsets_base => picks.str_offsets_base = picks.str_offsets_base.or(Some(value)),
-        DW_AT_addr_base => picks.addr_base = picks.addr_base.or(Some(value)),
-        DW_AT_rnglists_base => picks.rnglists_base = picks.rnglists_base.or(Some(value)),
+        DW_AT_low_pc => note_first(&mut picks.low, value),
+        DW_AT_high_pc => note_first(&mut picks.high, value),
+        DW_AT_ranges => note_first(&mut picks.ranges, value),
+        DW_AT_abstract_origin => note_first(&mut picks.origin, value),
+        DW_AT_specification => note_first(&mut picks.spec, value),
+        DW_AT_name => note_first(&mut picks.name, value),
+        DW_AT_linkage_name => note_first(&mut picks.linkage, value),
+        DW_AT_MIPS_linkage_name => note_first(&mut picks.old_linkage, value),
+        DW_AT_declaration => note_first(&mut picks.declaration, value),
+        DW_AT_call_file => note_first(&mut picks.call_file, value),
+        DW_AT_call_line => note_first(&mut picks.call_line, value),
+        DW_AT_stmt_list => note_first(&mut picks.stmt_list, value),
+        DW_AT_comp_dir => note_first(&mut picks.comp_dir, value),
+        DW_AT_str_offsets_base => note_first(&mut picks.str_offsets_base, value),
+        DW_AT_addr_base => note_first(&mut picks.addr_base, value),
+        DW_AT_rnglists_base => note_first(&mut picks.rnglists_base, value),
         _ => {}
     }
 }
 
 /// Reads the values of an entry.
-#[tactic(auto, using(crate::proofs::PickLemmas::picks_more, crate::proofs::PickLemmas::picks_end, crate::proofs::PickLemmas::picks_refused))]
+#[tactic(auto, using(crate::proofs::PickLemmas::picks_more, crate::proofs::PickLemmas::picks_end, crate::proofs::PickLemmas::picks_passed, crate::proofs::PickLemmas::picks_unread, crate::proofs::PickLemmas::picks_refused))]
 pub fn read_picks(cursor: &mut Cursor<'_>, specs: &[Spec]) -> Result<Picks, FormFault>
     ensures { gave result cursor.new ≡ picks_at no_picks specs.now cursor.old }
 {
     let mut picks = no_picks();
     'specs: for spec in specs {
+        if !is_picked(spec.attribute()) {
+            match spec.skip(cursor) {
+                Ok(()) => continue,
+                Err(fault) => return Err(fault),
+            }
+        }
         match spec.read(cursor) {
             Ok(value) => note(&mut picks, spec.attribute(), value),
             Err(fault) => return Err(fault),
