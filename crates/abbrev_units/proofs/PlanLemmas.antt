@@ -1,6 +1,6 @@
 -- Plans pass what they stand for.
 use Rattle.std.proofs.lemmas.List.{take_all, take_more}
-use Rattle.std.proofs.Common.{◌≡◌, ◌<◌, ◌≤◌, ◌+◌, ℕ, ℤ, nat_eq, Bool, true, false, nat_lt, cond, List, [], ◌∷◌, ◌++◌, length, take, drop, get_or, Some, Result, Ok, Err, refl, sym, ap, ◌∙◌, arith, length-drop}
+use Rattle.std.proofs.Common.{◌≡◌, ◌<◌, ◌≤◌, ◌+◌, ℕ, ℤ, nat_eq, Bool, true, false, nat_lt, cond, List, [], ◌∷◌, ◌++◌, length, take, drop, get_or, Some, Result, Ok, Err, refl, sym, ap, ◌∙◌, arith, length-drop, Option, None, subst}
 use Rattle.std.proofs.lemmas.Bool.{cond-false, ltb-false, le-ltb}
 use Rattle.std.proofs.lemmas.List.{drop-drop, drop_more}
 use Rattle.std.proofs.Math.ListN.{drop_of_length-le}
@@ -22,7 +22,7 @@ use Rattle.abbrev_units.specs.declared.fault.FormFault.{FormFault}
 use Rattle.abbrev_units.specs.declared.plan.Step.{Step}
 use Rattle.abbrev_units.specs.SpecFields.{SpecFields}
 use Rattle.abbrev_units.specs.Values.{value_at, values_at, only_ahead, behind_values}
-use Rattle.abbrev_units.specs.Plans.{step_at, steps_at, IsPlan, HasLayout, HasSize}
+use Rattle.abbrev_units.specs.Plans.{step_at, steps_at, IsPlan, HasLayout, HasSize, SizeOf}
 use Rattle.abbrev_units.proofs.ValueLemmas.{behind_first}
 
 -- what is left ahead
@@ -30,18 +30,18 @@ abbrev ahead_or : {F : Type 0} → Ahead → Result Ahead F → Ahead
 ahead_or other (Ok c) = c
 ahead_or other (Err fault) = other
 
--- a reading that passes so many bytes, where they are there
-only_by : {A E F : Type 0} (short : Bool) (fault : E) (other : F) (value : A) (run : List ℕ) (n : ℕ) (c d : Ahead) → only_ahead (cond short (Err other) (Ok (run, passed n c))) ≡ Ok d → only_ahead (cond short (Err fault) (Ok (value, passed n c))) ≡ Ok d
-only_by true fault other value run n c d is = absurd (grind (arith, is))
-only_by false fault other value run n c d is = let same : passed n c ≡ d = cc in ap Ok same
+-- a reading of a number passes what a run of so many bytes passes, with the same fault
+only_by : (short : Bool) (fault : CursorFault) (value : ℕ) (run : List ℕ) (c : Ahead) → only_ahead (cond short (Err fault) (Ok (value, c))) ≡ only_ahead (cond short (Err fault) (Ok (run, c)))
+only_by true fault value run c = refl
+only_by false fault value run c = refl
 
 number_ahead : (reading : Result (ℕ × Ahead) CursorFault) → only_ahead (number_in reading) ≡ only_ahead reading
 number_ahead (Ok x) = refl
 number_ahead (Err fault) = refl
 
-fixed_sized : (n : ℕ) (c d : Ahead) → only_ahead (take_at n c) ≡ Ok d → only_ahead (number_in (fixed_at n c)) ≡ Ok d
+fixed_sized : (n : ℕ) (c : Ahead) → only_ahead (number_in (fixed_at n c)) ≡ only_ahead (take_at n c)
 unfolding take_at fixed_at
-fixed_sized n c d is = number_ahead (fixed_at n c) ∙ only_by (nat_lt (length c.bytes) n) (Ends c.at) (Ends c.at) _ (take n c.bytes) n c d is
+fixed_sized n c = number_ahead (fixed_at n c) ∙ only_by (nat_lt (length c.bytes) n) (Ends c.at) _ (take n c.bytes) (passed n c)
 
 run_by : (at : ℕ) (reading : Result (List ℕ × Ahead) CursorFault) → only_ahead (reading >>= λ run. Ok (Run at (length run.0), run.1)) ≡ only_ahead reading
 run_by at (Ok x) = refl
@@ -78,31 +78,31 @@ take_none c d is = (take_passed 0 c d is).1 ∙ passed_none c
 
 pub nothing_sized : HasSize kind.Nothing 0
 unfolding kind_at
-nothing_sized c d is = ap Ok (sym (take_none c d is))
+nothing_sized c = ap Ok (sym (passed_none c)) ∙ sym (take_fits 0 c (omega arith))
 
 pub u8_sized : HasSize kind.U8 1
 unfolding kind_at
-u8_sized c d is = fixed_sized 1 c d is
+u8_sized c = fixed_sized 1 c
 
 pub u16_sized : HasSize kind.U16 2
 unfolding kind_at
-u16_sized c d is = fixed_sized 2 c d is
+u16_sized c = fixed_sized 2 c
 
 pub u24_sized : HasSize kind.U24 3
 unfolding kind_at
-u24_sized c d is = fixed_sized 3 c d is
+u24_sized c = fixed_sized 3 c
 
 pub u32_sized : HasSize kind.U32 4
 unfolding kind_at
-u32_sized c d is = fixed_sized 4 c d is
+u32_sized c = fixed_sized 4 c
 
 pub u64_sized : HasSize kind.U64 8
 unfolding kind_at
-u64_sized c d is = fixed_sized 8 c d is
+u64_sized c = fixed_sized 8 c
 
 pub sixteen_sized : HasSize kind.Bytes16 16
 unfolding kind_at
-sixteen_sized c d is = run_ahead 16 c ∙ is
+sixteen_sized c = run_ahead 16 c
 
 -- steps one behind the other
 bind_assoc : (first : Result Ahead CursorFault) (next after : Ahead → Result Ahead CursorFault) → ((first >>= next) >>= after) ≡ (first >>= λ d. next d >>= after)
@@ -224,7 +224,7 @@ plan_sized steps specs x layout size bytes more plan laid sized sum c d is =
     let second : only_ahead (take_at size (passed bytes last.before)) ≡ Ok d = take_fits size (passed bytes last.before) long ∙ ap Ok (passed_two bytes size last.before ∙ ap (λ n. passed n last.before) (sym sum) ∙ sym there) in
     behind_more specs x c
     ∙ ap (λ r. r >>= λ e. only_ahead (value_at x e)) (front_is steps specs bytes c last.before (passed bytes last.before) plan last.front first)
-    ∙ laid (passed bytes last.before) d (sized (passed bytes last.before) d second)
+    ∙ laid (passed bytes last.before) d (sized (passed bytes last.before) ∙ second)
 
 -- an attribute of another size ends the run
 pub plan_read : (steps next : List Step) (specs : List SpecFields) (x : SpecFields) (layout : Kind) (bytes : ℕ) → IsPlan (ended steps bytes) specs → HasLayout x layout → next ≡ steps ++ record { bytes = bytes; kind = layout } ∷ [] → IsPlan (ended next 0) (specs ++ x ∷ [])
@@ -271,3 +271,19 @@ short_way steps specs c d plan goes = sym (plan c d goes)
 
 pub more_taken : (specs : List SpecFields) (i : ℕ) (x : SpecFields) → i < length specs → x ≡ get_or specs i x → take (i + 1) specs ≡ take i specs ++ x ∷ []
 more_taken specs i x there is = take_more specs i x there ∙ ap (λ (y : SpecFields). take i specs ++ y ∷ []) (sym is)
+
+-- the value of a form that is so many bytes
+sized_by : (row : FormRow) (implicit : ℤ) (reading : Result (Operand × Ahead) CursorFault) → only_ahead (as_value reading >>= λ x. Ok (value_of row.class implicit x.0, x.1)) ≡ as_value (only_ahead reading)
+sized_by row implicit (Ok x) = refl
+sized_by row implicit (Err fault) = refl
+
+sized_is : (spec : SpecFields) (row : Option FormRow) (size : ℕ) (c : Ahead) → row ≡ form_row spec.form (forms spec.wide) → SizeOf spec.form row (Some size) → only_ahead (value_at spec c) ≡ as_value (only_ahead (take_at size c))
+unfolding form_at direct_at
+sized_is spec None size c is sized = absurd sized
+sized_is spec (Some row) size c is sized =
+    ap only_ahead (cond-false _ _ _ sized.0 ∙ ap (λ r. value_by r spec.implicit c) (sym is))
+    ∙ sized_by row spec.implicit (kind_at row.layout c)
+    ∙ ap as_value (sized.1 c)
+
+pub sized_value : (spec : SpecFields) (row : Option FormRow) (known : Option ℕ) (size : ℕ) (c : Ahead) → row ≡ form_row spec.form (forms spec.wide) → SizeOf spec.form row known → known ≡ Some size → as_value (only_ahead (take_at size c)) ≡ only_ahead (value_at spec c)
+sized_value spec row known size c is sized same = sym (sized_is spec row size c is (subst (SizeOf spec.form row) same sized))

@@ -1,5 +1,6 @@
 -- No public clause cites this: a short way over the values of an entry.
-use Rattle.std.specs.Prelude.{◌≡◌, ℕ, List, [], ◌∷◌, Result, Ok}
+use Rattle.std.specs.Prelude.{◌≡◌, ℕ, ◌==◌, false, List, [], ◌∷◌, Option, None, Some, Result, Ok}
+use Rattle.code_table.specs.declared.forms.FormRow.{FormRow}
 use Rattle.sym_edges.specs.Results.{◌>>=◌}
 use Rattle.leb_cursor.specs.declared.fault.CursorFault.{CursorFault}
 use Rattle.leb_cursor.specs.Ahead.{Ahead}
@@ -26,6 +27,12 @@ IsPlan steps specs = (c d : Ahead) → steps_at steps c ≡ Ok d → behind_valu
 abbrev pub HasLayout : SpecFields → Kind → Type 0
 HasLayout spec kind = (c d : Ahead) → only_ahead (kind_at kind c) ≡ Ok d → only_ahead (value_at spec c) ≡ Ok d
 
--- where so many bytes are there, so is an operand of this layout
+-- an operand of this layout is so many bytes, with the same fault where they are not there
 abbrev pub HasSize : Kind → ℕ → Type 0
-HasSize kind size = (c d : Ahead) → only_ahead (take_at size c) ≡ Ok d → only_ahead (kind_at kind c) ≡ Ok d
+HasSize kind size = (c : Ahead) → only_ahead (kind_at kind c) ≡ only_ahead (take_at size c)
+
+-- the values of a form that is not indirect are so many bytes, by the layout of its row
+abbrev pub SizeOf : ℕ → Option FormRow → Option ℕ → Type 0
+SizeOf form row None = Prim.Unit {0}
+SizeOf form None (Some size) = ⊥
+SizeOf form (Some row) (Some size) = ((form == 0x16) ≡ false) × HasSize row.layout size

@@ -2,10 +2,10 @@
 ghost use Rattle.std.specs.Prelude.{◌≡◌, true, Ok, Some, IfSome, IfOk, MatchOption};
 ghost use Rattle.leb_cursor.specs.Ahead.{Ahead};
 ghost use Rattle.abbrev_units.specs.Faults.{left_by};
-ghost use Rattle.abbrev_units.specs.Plans.{step_at, steps_at, IsPlan, HasLayout, HasSize};
+ghost use Rattle.abbrev_units.specs.Plans.{step_at, steps_at, IsPlan, HasLayout, HasSize, SizeOf};
 
 use crate::spec::Spec;
-use code_table::{Kind, read_kind};
+use code_table::{DW_FORM_indirect, FormRow, Kind, read_kind};
 use leb_cursor::{Cursor, CursorFault};
 use std::alloc::Global;
 use sym_edges::OutOfMemory;
@@ -18,7 +18,7 @@ pub struct Step {
 }
 
 /// The bytes of an operand, where they are as many for each.
-fn size_of(kind: Kind) -> Option<u64>
+fn size_of(kind: Kind) -> Option<u8>
     ensures { IfSome result (λ size. HasSize kind size) }
 {
     match kind {
@@ -30,6 +30,19 @@ fn size_of(kind: Kind) -> Option<u64>
         Kind::U64 => Some(8),
         Kind::Bytes16 => Some(16),
         _ => None,
+    }
+}
+
+/// The bytes of the values of a form, where they are as many for each and are known.
+pub fn form_size(form: u64, row: Option<FormRow>) -> Option<u8>
+    ensures { SizeOf form row result }
+{
+    if form == DW_FORM_indirect {
+        return None;
+    }
+    match row {
+        Some(row) => size_of(row.layout),
+        None => None,
     }
 }
 
@@ -45,7 +58,7 @@ pub fn make_plan(alloc: Global, specs: &[Spec]) -> Result<Option<Vec<Step>>, Out
             return Ok(None);
         };
         if let Some(size) = size_of(kind) {
-            let Some(sum) = bytes.checked_add(size) else {
+            let Some(sum) = bytes.checked_add(u64::from(size)) else {
                 return Ok(None);
             };
             bytes = sum;

@@ -1,14 +1,15 @@
 //! An attribute of an abbreviation.
 ghost use Rattle.std.specs.Prelude.{◌≡◌, IfSome, IfOk};
 ghost use Rattle.leb_cursor.specs.Ahead.{gave};
-ghost use Rattle.abbrev_units.specs.Faults.{left_by};
+ghost use Rattle.leb_cursor.specs.Readings.{take_at};
+ghost use Rattle.abbrev_units.specs.Faults.{left_by, as_value};
 ghost use Rattle.abbrev_units.specs.FormValue.{form_at};
 ghost use Rattle.abbrev_units.specs.Values.{value_at, only_ahead, behind_values};
 ghost use Rattle.abbrev_units.specs.Plans.{HasLayout};
 
 use crate::fault::FormFault;
 use crate::form::{read_indirect, read_known};
-use crate::plan::{Step, make_plan, pass_steps};
+use crate::plan::{Step, form_size, make_plan, pass_steps};
 use crate::value::Value;
 use code_table::{DW_FORM_indirect, FormRow, Kind, find_form};
 use leb_cursor::Cursor;
@@ -25,30 +26,43 @@ pub struct Spec {
     implicit: i64,
     wide: bool,
     row: Option<FormRow>,
+    size: Option<u8>,
 }
 
 impl Model for Spec {
     ghost use Rattle.std.specs.Prelude.{◌≡◌};
     ghost use Rattle.code_table.specs.Forms.{forms, form_row};
     ghost use Rattle.abbrev_units.specs.SpecFields.{SpecFields};
+    ghost use Rattle.abbrev_units.specs.Plans.{SizeOf};
 
     ghost Value = { SpecFields };
 
     ghost view = { λ s. record { attribute = s.attribute; form = s.form; implicit = s.implicit; wide = s.wide } };
 
-    ghost invariant = { λ s. s.row ≡ form_row s.form (forms s.wide) };
+    ghost invariant = { λ s. (s.row ≡ form_row s.form (forms s.wide)) × SizeOf s.form s.row s.size };
+}
+
+/// Passes so many bytes.
+#[inline]
+fn pass_run(cursor: &mut Cursor<'_>, size: u8) -> Result<(), FormFault>
+    ensures { left_by result cursor.new ≡ as_value (only_ahead (take_at size cursor.old)) }
+{
+    let _run = cursor.take(u64::from(size))?;
+    Ok(())
 }
 
 impl Spec {
     pub(crate) fn of(attribute: u64, form: u64, implicit: i64, wide: bool) -> Spec
         ensures { result ≡ record { attribute = attribute; form = form; implicit = implicit; wide = wide } }
     {
+        let row = find_form(form, wide);
         Spec {
             attribute,
             form,
             implicit,
             wide,
-            row: find_form(form, wide),
+            row,
+            size: form_size(form, row),
         }
     }
 
@@ -104,9 +118,13 @@ impl Spec {
 
     /// Passes a value of the attribute. A refused call may leave the cursor inside the value.
     #[inline]
+    #[tactic(auto, using(crate::proofs::PlanLemmas::sized_value))]
     pub fn skip(&self, cursor: &mut Cursor<'_>) -> Result<(), FormFault>
         ensures { left_by result cursor.new ≡ only_ahead (value_at self.now cursor.old) }
     {
+        if let Some(size) = self.size {
+            return pass_run(cursor, size);
+        }
         let _value = self.read(cursor)?;
         Ok(())
     }

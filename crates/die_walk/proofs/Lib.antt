@@ -1,4 +1,4 @@
-mod ReadLemmas
+mod PickLemmas
 mod StepLemmas
 mod TreeLemmas
 mod WalkLemmas

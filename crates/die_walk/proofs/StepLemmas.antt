@@ -15,7 +15,12 @@ use Rattle.abbrev_units.specs.DebugSections.{DebugSections}
 use Rattle.abbrev_units.specs.Values.{values_at, behind_values, only_ahead}
 use Rattle.die_walk.specs.Marks.{value_fault, in_entry, read_values_at}
 use Rattle.die_walk.specs.EntryTree.{is_kept_tag}
-use Rattle.die_walk.specs.Steps.{Walked, keeps, entered, opened, own_number, moved, entering, entered_at, moving, moved_at, Reads, Moves}
+use Rattle.die_walk.specs.declared.picks.Picks.{Picks}
+use Rattle.die_walk.specs.Attributes.{first_of, text_in_entry}
+use Rattle.die_walk.specs.EntryTable.{die_of, root_of}
+use Rattle.die_walk.specs.Picking.{no_picks, picks_at, picks_of, die_by, root_by}
+use Rattle.die_walk.proofs.PickLemmas.{made_of, picks_are}
+use Rattle.die_walk.specs.Steps.{Walked, keeps, begun, begun_by, entered, entered_by, opened, own_number, moved, entering, entered_at, moving, moved_at, Moves}
 
 -- a member behind none
 pub first_alone : {X : Type 0} (xs : List X) (x : X) → length xs ≡ 0 → xs ++ x ∷ [] ≡ x ∷ []
@@ -48,15 +53,44 @@ pub passed_refused : (sections : DebugSections) (unit : Unit) (w : Walked) (at :
 unfolding entered_at read_values_at behind_values
 passed_refused sections unit w at found c fault is = refused_by sections unit w at found.tag (values_at found.specs c) fault is
 
-pub taken : (sections : DebugSections) (unit : Unit) (w v : Walked) (at : ℕ) (found : Abbrev) (values : List Given) (c d : Ahead) → read_values_at found.specs c ≡ Ok (values, d) → v ≡ entered sections unit w at found.tag values → entered_at sections unit w at found c ≡ Ok (v, d)
-unfolding entered_at
-taken sections unit w v at found values c d read is =
-    ap (λ r. r >>= entering sections unit w at found.tag) read ∙ ap (λ (x : Walked). Ok (x, d)) (sym is)
+abbrev pick_ahead : Ahead → Result (Picks × Ahead) FormFault → Ahead
+pick_ahead other (Ok x) = x.1
+pick_ahead other (Err fault) = other
 
-pub taken_refused : (sections : DebugSections) (unit : Unit) (w v : Walked) (at : ℕ) (found : Abbrev) (values : List Given) (stop : Stop (Located DwarfKind)) (c d e : Ahead) → Reads {U = Prim.Unit {0}} (Err stop) values d (read_values_at found.specs c) → Moves {U = Prim.Unit {0}} (Err stop) v e (entered_at sections unit w at found c)
-unfolding entered_at
-taken_refused sections unit w v at found values (Fault fault) c d e read = ap (λ r. r >>= entering sections unit w at found.tag) read
-taken_refused sections unit w v at found values NoMemory c d e read = tt
+abbrev pick_or : Picks → Result (Picks × Ahead) FormFault → Picks
+pick_or other (Ok x) = x.0
+pick_or other (Err fault) = other
+
+-- what is picked is what the list of values gives
+entered_same : (sections : DebugSections) (unit : Unit) (w : Walked) (at tag : ℕ) (values : List Given) → entered_by sections unit w at tag (picks_of values) ≡ entered sections unit w at tag values
+unfolding entered_by entered die_by root_by die_of root_of text_in_entry
+entered_same sections unit w at tag values = refl
+
+pub begun_none : (sections : DebugSections) (unit : Unit) (w : Walked) (at tag : ℕ) → begun_by sections unit w at tag no_picks ≡ begun sections unit w at tag []
+unfolding die_by root_by die_of root_of text_in_entry first_of
+begun_none sections unit w at tag = refl
+
+taken_by : (sections : DebugSections) (unit : Unit) (w v : Walked) (at : ℕ) (found : Abbrev) (picks : Picks) (reading : Result (List Given × Ahead) FormFault) (d : Ahead) → (reading >>= made_of []) ≡ Ok (picks, d) → v ≡ entered_by sections unit w at found.tag picks → (in_entry reading >>= entering sections unit w at found.tag) ≡ Ok (v, d)
+taken_by sections unit w v at found picks (Ok values) d is after =
+    let there : values.1 ≡ d = ap (pick_ahead d) is in
+    let same : picks_of values.0 ≡ picks = ap (pick_or picks) is in
+    ap (λ (y : Walked). Ok (y, values.1)) (sym (entered_same sections unit w at found.tag values.0) ∙ ap (entered_by sections unit w at found.tag) same ∙ sym after)
+    ∙ ap (λ (c : Ahead). Ok (v, c)) there
+taken_by sections unit w v at found picks (Err fault) d is after = absurd (grind (arith, is))
+
+pub taken : (sections : DebugSections) (unit : Unit) (w v : Walked) (at : ℕ) (found : Abbrev) (picks : Picks) (c d : Ahead) → Ok (picks, d) ≡ picks_at no_picks found.specs c → v ≡ entered_by sections unit w at found.tag picks → entered_at sections unit w at found c ≡ Ok (v, d)
+unfolding entered_at read_values_at first_of
+taken sections unit w v at found picks c d read is =
+    taken_by sections unit w v at found picks (values_at found.specs c) d (sym (picks_are found.specs [] c) ∙ sym read) is
+
+taken_refused_by : (sections : DebugSections) (unit : Unit) (w : Walked) (at : ℕ) (found : Abbrev) (reading : Result (List Given × Ahead) FormFault) (fault : FormFault) → (reading >>= made_of []) ≡ Err fault → (in_entry reading >>= entering sections unit w at found.tag) ≡ Err (value_fault fault)
+taken_refused_by sections unit w at found (Ok values) fault is = absurd (grind (arith, is))
+taken_refused_by sections unit w at found (Err other) fault is = let same : other ≡ fault = cc in ap (λ f. Err (value_fault f)) same
+
+pub taken_refused : (sections : DebugSections) (unit : Unit) (w : Walked) (at : ℕ) (found : Abbrev) (c : Ahead) (fault : FormFault) → Err fault ≡ picks_at no_picks found.specs c → entered_at sections unit w at found c ≡ Err (value_fault fault)
+unfolding entered_at read_values_at first_of
+taken_refused sections unit w at found c fault read =
+    taken_refused_by sections unit w at found (values_at found.specs c) fault (sym (picks_are found.specs [] c) ∙ sym read)
 
 -- the parts of an answer
 abbrev walked_or : Walked → Result (Walked × Ahead) (Located DwarfKind) → Walked

@@ -3,4 +3,5 @@ pub mod EntryTree
 pub mod Attributes
 pub mod EntryTable
 pub mod Packing
+pub mod Picking
 pub mod Steps

@@ -14,6 +14,8 @@ use Rattle.abbrev_units.specs.DebugSections.{DebugSections}
 use Rattle.die_walk.specs.Marks.{Mark, read_values_at, next_mark, marks_at}
 use Rattle.die_walk.specs.Marks.Mark.{Close, Entry}
 use Rattle.die_walk.specs.EntryTree.{Item, Kept, is_kept_tag}
+use Rattle.die_walk.specs.declared.picks.Picks.{Picks}
+use Rattle.die_walk.specs.Picking.{base_by, die_by, root_by}
 use Rattle.die_walk.specs.EntryTable.{DieFields, RootFields, EntryTable, base_of, die_of, root_of}
 
 -- a kept entry and a root, whose depth nothing asks for
@@ -55,6 +57,24 @@ unfoldable pub entered : DebugSections → Unit → Walked → ℕ → ℕ → L
 entered sections unit w at tag values =
     if length w.dies == 0 then begun sections unit w at tag values else
     if is_kept_tag tag then added sections unit w at tag values else w
+
+-- the same from what was picked
+abbrev pub begun_by : DebugSections → Unit → Walked → ℕ → ℕ → Picks → Walked
+begun_by sections unit w at tag picks = record {
+  dies = die_by sections unit (base_by picks) at (innermost w.open_levels) tag picks ∷ [];
+  root = root_by sections unit at picks;
+  open_levels = w.open_levels;
+}
+
+abbrev pub added_by : DebugSections → Unit → Walked → ℕ → ℕ → Picks → Walked
+added_by sections unit w at tag picks = record w {
+  dies = w.dies ++ die_by sections unit w.root.str_offsets_base at (innermost w.open_levels) tag picks ∷ [];
+}
+
+unfoldable pub entered_by : DebugSections → Unit → Walked → ℕ → ℕ → Picks → Walked
+entered_by sections unit w at tag picks =
+    if length w.dies == 0 then begun_by sections unit w at tag picks else
+    if is_kept_tag tag then added_by sections unit w at tag picks else w
 
 -- what the list of an entry's children adds
 abbrev pub opened : Walked → Bool → Option ℕ → Walked
@@ -99,12 +119,6 @@ moving sections unit w at found values = Ok (moved sections unit w (Entry at fou
 
 unfoldable pub moved_at : DebugSections → Unit → Walked → ℕ → Abbrev → Ahead → Result (Walked × Ahead) (Located DwarfKind)
 moved_at sections unit w at found c = read_values_at found.specs c >>= moving sections unit w at found
-
--- what a reading of values answers
-abbrev pub Reads : {U : Type 0} → Result U (Stop (Located DwarfKind)) → List Given → Ahead → Result (List Given × Ahead) (Located DwarfKind) → Type 0
-Reads (Ok x) values c given = given ≡ Ok (values, c)
-Reads (Err (Fault fault)) values c given = given ≡ Err fault
-Reads (Err NoMemory) values c given = Prim.Unit {0}
 
 -- what a step answers: whether there was one
 abbrev pub Steps : Result Bool (Stop (Located DwarfKind)) → Walked → Ahead → Result (Option Walked × Ahead) (Located DwarfKind) → Type 0

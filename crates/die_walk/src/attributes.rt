@@ -1,9 +1,10 @@
 //! Attributes of an entry by their classes (DWARF 5, 7.5.4 and table 7.5).
-ghost use Rattle.std.specs.Prelude.{◌≡◌, ◌==◌, find, option_and_then};
+ghost use Rattle.std.specs.Prelude.{◌≡◌, option_and_then};
 ghost use Rattle.std.specs.Option.{option_copied};
-ghost use Rattle.die_walk.specs.Attributes.{first_of, as_place, as_reference, as_flag, as_number, is_yes, line_of, text_in_entry};
+ghost use Rattle.abbrev_units.specs.Texts.{text_of};
+ghost use Rattle.die_walk.specs.Attributes.{as_place, as_reference, as_flag, as_number, is_yes, line_of};
 
-use abbrev_units::{Given, Sections, Unit, Value, read_text};
+use abbrev_units::{Sections, Unit, Value, read_text};
 
 pub const DW_AT_name: u64 = 0x03;
 
@@ -36,25 +37,6 @@ pub const DW_AT_addr_base: u64 = 0x73;
 pub const DW_AT_rnglists_base: u64 = 0x74;
 
 pub const DW_AT_MIPS_linkage_name: u64 = 0x2007;
-
-/// The first attribute of a name.
-#[inline]
-fn given_of(values: &[Given], attribute: u64) -> Option<&Given>
-    ensures { option_copied result ≡ find (λ given. given.attribute == attribute) values.now }
-{
-    values.iter().find(|given| given.attribute == attribute)
-}
-
-/// The value of an attribute: the first that is given.
-#[tactic(auto, unfolding(crate::specs::Attributes::first_of))]
-pub fn first_of(values: &[Given], attribute: u64) -> Option<Value>
-    ensures { result ≡ first_of attribute values.now }
-{
-    match given_of(values, attribute) {
-        Some(given) => Some(given.value),
-        None => None,
-    }
-}
 
 pub fn place_of(value: Option<Value>) -> Option<u64>
     ensures { result ≡ option_and_then as_place value }
@@ -103,18 +85,16 @@ pub fn line_of(number: Option<u64>) -> u32
     }
 }
 
-/// The text of an attribute; `base` is the unit's str_offsets_base.
-#[tactic(auto, unfolding(crate::specs::Attributes::text_in_entry))]
+/// The text of a value; `base` is the unit's str_offsets_base.
 pub fn text_of<'a>(
     sections: &Sections<'a>,
     unit: &Unit,
     base: Option<u64>,
-    values: &[Given],
-    attribute: u64,
+    value: Option<Value>,
 ) -> Option<&'a [u8]>
-    ensures { option_copied result ≡ text_in_entry sections.now unit.now base attribute values.now }
+    ensures { option_copied result ≡ option_and_then (text_of sections.now sections.now.info unit.now.wide base) value }
 {
-    match first_of(values, attribute) {
+    match value {
         Some(value) => read_text(sections, sections.info, unit.wide, base, value),
         None => None,
     }

@@ -1,20 +1,14 @@
 //! Kept entries, and the root.
-ghost use Rattle.std.specs.Prelude.{◌≡◌, List, ℕ, option_and_then};
+ghost use Rattle.std.specs.Prelude.{◌≡◌};
 ghost use Rattle.std.specs.Option.{option_copied};
-ghost use Rattle.die_walk.specs.EntryTree.{Kept};
-ghost use Rattle.die_walk.specs.EntryTable.{die_of, linkage_of, base_of, root_of};
-ghost use Rattle.die_walk.specs.Steps.{kept_at, root_at};
+ghost use Rattle.die_walk.specs.Attributes.{or_else};
 ghost use Rattle.die_walk.specs.Packing.{where_said};
+ghost use Rattle.die_walk.specs.Picking.{text_by, base_by, die_by, root_by};
 
-use crate::attributes::{
-    DW_AT_MIPS_linkage_name, DW_AT_abstract_origin, DW_AT_addr_base, DW_AT_call_file,
-    DW_AT_call_line, DW_AT_comp_dir, DW_AT_declaration, DW_AT_high_pc, DW_AT_linkage_name,
-    DW_AT_low_pc, DW_AT_name, DW_AT_ranges, DW_AT_rnglists_base, DW_AT_specification,
-    DW_AT_stmt_list, DW_AT_str_offsets_base, first_of, line_of, number_of, place_of, reference_of,
-    says_yes, text_of,
-};
+use crate::attributes::{line_of, number_of, place_of, reference_of, says_yes, text_of};
 use crate::packed::{Class, Packed, pack_high, pack_low, pack_ranges, unpack};
-use abbrev_units::{Given, Sections, Unit, Value};
+use crate::picks::Picks;
+use abbrev_units::{Sections, Unit, Value};
 use std::marker::Model;
 
 /// A kept entry with the attributes that matter here (DWARF 5, 7.5.4): absent where they are not given,
@@ -235,13 +229,13 @@ fn linkage_of<'a>(
     sections: &Sections<'a>,
     unit: &Unit,
     base: Option<u64>,
-    values: &[Given],
+    picks: &Picks,
 ) -> Option<&'a [u8]>
-    ensures { option_copied result ≡ linkage_of sections.now unit.now base values.now }
+    ensures { option_copied result ≡ or_else (text_by sections.now unit.now base picks.now.linkage) (text_by sections.now unit.now base picks.now.old_linkage) }
 {
-    match text_of(sections, unit, base, values, DW_AT_linkage_name) {
+    match text_of(sections, unit, base, picks.linkage) {
         Some(name) => Some(name),
-        None => text_of(sections, unit, base, values, DW_AT_MIPS_linkage_name),
+        None => text_of(sections, unit, base, picks.old_linkage),
     }
 }
 
@@ -280,7 +274,7 @@ fn parent_parts(parent: Option<u32>) -> (bool, u32)
 
 /// A kept entry from its place, its parent, its tag and its values; `base` is the unit's
 /// str_offsets_base.
-#[tactic(auto, unfolding(crate::specs::EntryTable::die_of, crate::specs::Packing::unpacked))]
+#[tactic(auto, unfolding(crate::specs::Picking::die_by, crate::specs::Packing::unpacked))]
 pub fn make_die<'a>(
     sections: &Sections<'a>,
     unit: &Unit,
@@ -288,20 +282,20 @@ pub fn make_die<'a>(
     at: u32,
     parent: Option<u32>,
     tag: u64,
-    values: &[Given],
+    picks: &Picks,
 ) -> Die<'a>
-    ensures { result ≡ die_of sections.now unit.now base (kept_at at parent tag values.now) }
+    ensures { result ≡ die_by sections.now unit.now base at parent tag picks.now }
 {
     let (has_parent, parent) = parent_parts(parent);
-    let low = pack_low(first_of(values, DW_AT_low_pc));
-    let high = pack_high(first_of(values, DW_AT_high_pc));
-    let ranges = pack_ranges(first_of(values, DW_AT_ranges));
-    let origin = reference_of(unit, first_of(values, DW_AT_abstract_origin));
+    let low = pack_low(picks.low);
+    let high = pack_high(picks.high);
+    let ranges = pack_ranges(picks.ranges);
+    let origin = reference_of(unit, picks.origin);
     let (has_origin, origin) = parts_of(origin);
-    let (has_spec, spec) = parts_of(reference_of(unit, first_of(values, DW_AT_specification)));
-    let (has_call_file, call_file) = parts_of(number_of(first_of(values, DW_AT_call_file)));
-    let (has_name, name) = bytes_of(text_of(sections, unit, base, values, DW_AT_name));
-    let (has_linkage, linkage) = bytes_of(linkage_of(sections, unit, base, values));
+    let (has_spec, spec) = parts_of(reference_of(unit, picks.spec));
+    let (has_call_file, call_file) = parts_of(number_of(picks.call_file));
+    let (has_name, name) = bytes_of(text_of(sections, unit, base, picks.name));
+    let (has_linkage, linkage) = bytes_of(linkage_of(sections, unit, base, picks));
     Die {
         at,
         parent,
@@ -314,11 +308,11 @@ pub fn make_die<'a>(
         call_file,
         name,
         linkage,
-        call_line: line_of(number_of(first_of(values, DW_AT_call_line))),
+        call_line: line_of(number_of(picks.call_line)),
         low_class: low.class,
         high_class: high.class,
         ranges_class: ranges.class,
-        declaration: says_yes(first_of(values, DW_AT_declaration)),
+        declaration: says_yes(picks.declaration),
         has_parent,
         has_origin,
         has_spec,
@@ -329,27 +323,25 @@ pub fn make_die<'a>(
 }
 
 /// The base in `.debug_str_offsets` that the root's values give.
-pub fn base_of(values: &[Given]) -> Option<u64>
-    ensures { result ≡ base_of values.now }
+pub fn base_of(picks: &Picks) -> Option<u64>
+    ensures { result ≡ base_by picks.now }
 {
-    place_of(first_of(values, DW_AT_str_offsets_base))
+    place_of(picks.str_offsets_base)
 }
 
 /// What the root says of the unit.
-#[tactic(auto, unfolding(crate::specs::EntryTable::root_of))]
-pub fn make_root<'a>(sections: &Sections<'a>, unit: &Unit, at: u32, values: &[Given]) -> Root<'a>
-    ensures { result ≡ root_of sections.now unit.now (root_at at values.now) }
+#[tactic(auto, unfolding(crate::specs::Picking::root_by))]
+pub fn make_root<'a>(sections: &Sections<'a>, unit: &Unit, at: u32, picks: &Picks) -> Root<'a>
+    ensures { result ≡ root_by sections.now unit.now at picks.now }
 {
-    let base = base_of(values);
-    let low = unpack(pack_low(first_of(values, DW_AT_low_pc)));
-    let comp_dir = text_of(sections, unit, base, values, DW_AT_comp_dir);
+    let base = base_of(picks);
     Root {
         at: u64::from(at),
-        low,
-        stmt_list: place_of(first_of(values, DW_AT_stmt_list)),
-        comp_dir,
+        low: unpack(pack_low(picks.low)),
+        stmt_list: place_of(picks.stmt_list),
+        comp_dir: text_of(sections, unit, base, picks.comp_dir),
         str_offsets_base: base,
-        addr_base: place_of(first_of(values, DW_AT_addr_base)),
-        rnglists_base: place_of(first_of(values, DW_AT_rnglists_base)),
+        addr_base: place_of(picks.addr_base),
+        rnglists_base: place_of(picks.rnglists_base),
     }
 }

@@ -18,6 +18,7 @@
 mod attributes;
 mod die;
 mod packed;
+mod picks;
 mod table;
 #[cfg(test)]
 mod tests;

@@ -6,7 +6,7 @@ ghost use Rattle.die_walk.specs.Steps.{TableOf};
 
 use crate::die::{Die, Root};
 use crate::walker::Walker;
-use abbrev_units::{Abbrevs, DwarfFault, Given, Sections, Unit};
+use abbrev_units::{Abbrevs, DwarfFault, Sections, Unit};
 use leb_cursor::Cursor;
 use std::alloc::Global;
 use std::marker::Model;
@@ -63,7 +63,6 @@ fn walk_all<'a>(
     unit: &Unit,
     abbrevs: &Abbrevs,
     walker: &mut Walker<'a>,
-    values: &mut Vec<Given>,
 ) -> Result<(), Stop<DwarfFault>>
     requires ordered { unit.now.body ≤ unit.now.end }
     requires inside { unit.now.end ≤ length sections.now.info }
@@ -74,7 +73,7 @@ fn walk_all<'a>(
 {
     let mut cursor = entries_of(sections, unit);
     'entries: loop {
-        match walker.step(sections, unit, abbrevs, &mut cursor, values) {
+        match walker.step(sections, unit, abbrevs, &mut cursor) {
             Ok(true) => {}
             Ok(false) => break,
             Err(stop) => return Err(stop),
@@ -100,8 +99,7 @@ pub fn walk<'a>(
     ensures { Gives result (entry_table sections.now unit.now abbrevs.now) }
 {
     let mut walker = Walker::new(alloc);
-    let mut values = Vec::new(alloc);
-    match walk_all(sections, unit, abbrevs, &mut walker, &mut values) {
+    match walk_all(sections, unit, abbrevs, &mut walker) {
         Ok(()) => Ok(walker.into_table()),
         Err(stop) => Err(stop),
     }

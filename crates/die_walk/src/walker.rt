@@ -1,16 +1,14 @@
 //! The walk over the entries of a unit.
 ghost use Rattle.std.specs.Prelude.{◌≡◌, ◌<◌, ◌^◌, true, false, [], length, OnOk, IfOk};
 ghost use Rattle.die_walk.specs.EntryTree.{is_kept_tag};
-ghost use Rattle.die_walk.specs.EntryTable.{RootFields};
-ghost use Rattle.die_walk.specs.Marks.{Mark, value_fault, read_values_at};
+ghost use Rattle.die_walk.specs.Marks.{value_fault};
 ghost use Rattle.die_walk.specs.Marks.Mark.{Close};
-ghost use Rattle.die_walk.specs.Steps.{innermost, keeps, opened, own_number, entered, moved, rounded, entered_at, moved_at, step_at, Reads, Steps, Moves, IsShort, table_in};
+ghost use Rattle.die_walk.specs.Steps.{innermost, keeps, opened, own_number, begun_by, entered_by, moved, rounded, entered_at, moved_at, step_at, Steps, Moves, IsShort, table_in};
 
 use crate::die::{Die, Root, base_of, make_die, make_root};
+use crate::picks::{Picks, no_picks, read_picks};
 use crate::table::DieTable;
-use abbrev_units::{
-    Abbrev, Abbrevs, DwarfFault, DwarfKind, FormFault, Given, Sections, Spec, Unit, in_section,
-};
+use abbrev_units::{Abbrev, Abbrevs, DwarfFault, DwarfKind, FormFault, Sections, Unit, in_section};
 use leb_cursor::Cursor;
 use std::alloc::Global;
 use std::marker::Model;
@@ -66,28 +64,6 @@ fn is_kept_tag(tag: u64) -> bool
     matches!(tag, 0x02 | 0x13 | 0x17 | 0x1d | 0x2e | 0x39)
 }
 
-/// Reads the values of an entry.
-#[tactic(auto, using(crate::proofs::ReadLemmas::values_begin, crate::proofs::ReadLemmas::values_more, crate::proofs::ReadLemmas::values_end, crate::proofs::ReadLemmas::values_refused))]
-fn read_values(
-    cursor: &mut Cursor<'_>,
-    specs: &[Spec],
-    values: &mut Vec<Given>,
-) -> Result<(), Stop<DwarfFault>>
-    ensures { Reads result values.new.items cursor.new (read_values_at specs.now cursor.old) }
-{
-    values.clear();
-    'specs: for spec in specs {
-        match spec.read(cursor) {
-            Ok(value) => values.push(Given {
-                attribute: spec.attribute(),
-                value,
-            })?,
-            Err(fault) => return Err(Stop::Fault(value_fault(fault))),
-        }
-    }
-    Ok(())
-}
-
 impl<'a> Walker<'a> {
     /// A walk that has nothing yet.
     pub fn new(alloc: Global) -> Walker<'a>
@@ -109,8 +85,28 @@ impl<'a> Walker<'a> {
         }
     }
 
+    /// Adds the first entry, which is the root.
+    #[tactic(auto, using(crate::proofs::StepLemmas::first_alone))]
+    fn begin(
+        &mut self,
+        sections: &Sections<'a>,
+        unit: &Unit,
+        at: u32,
+        tag: u64,
+        picks: &Picks,
+    ) -> Result<(), OutOfMemory>
+        requires { length self.old.dies ≡ 0 }
+        ensures { OnOk result (self.new ≡ begun_by sections.now unit.now self.old at tag picks.now) }
+    {
+        let parent = innermost(self.open_levels.as_slice());
+        let die = make_die(sections, unit, base_of(picks), at, parent, tag, picks);
+        self.dies.push(die)?;
+        self.root = make_root(sections, unit, at, picks);
+        Ok(())
+    }
+
     /// Makes a root where the unit has no entry.
-    #[tactic(auto, using(crate::proofs::StepLemmas::first_alone), unfolding(crate::specs::Steps::rounded))]
+    #[tactic(auto, using(crate::proofs::StepLemmas::first_alone, crate::proofs::StepLemmas::begun_none), unfolding(crate::specs::Steps::rounded))]
     pub fn round(&mut self, sections: &Sections<'a>, unit: &Unit) -> Result<(), OutOfMemory>
         requires { unit.now.body < 2 ^ 32 }
         ensures { OnOk result (self.new ≡ rounded sections.now unit.now self.old) }
@@ -118,12 +114,8 @@ impl<'a> Walker<'a> {
         if !self.dies.is_empty() {
             return Ok(());
         }
-        let at = unit.body as u32;
-        let parent = innermost(self.open_levels.as_slice());
-        let die = make_die(sections, unit, base_of(&[]), at, parent, 0, &[]);
-        self.dies.push(die)?;
-        self.root = make_root(sections, unit, at, &[]);
-        Ok(())
+        let picks = no_picks();
+        self.begin(sections, unit, unit.body as u32, 0, &picks)
     }
 
     /// The table that the walk made.
@@ -143,27 +135,24 @@ impl<'a> Walker<'a> {
     }
 
     /// Adds a kept entry.
-    #[tactic(auto, using(crate::proofs::StepLemmas::first_alone), unfolding(crate::specs::Steps::entered))]
+    #[tactic(auto, using(crate::proofs::StepLemmas::first_alone), unfolding(crate::specs::Steps::entered_by))]
     fn add(
         &mut self,
         sections: &Sections<'a>,
         unit: &Unit,
         at: u32,
         tag: u64,
-        values: &[Given],
+        picks: &Picks,
     ) -> Result<(), OutOfMemory>
         requires { keeps self.old tag ≡ true }
-        ensures { OnOk result (self.new ≡ entered sections.now unit.now self.old at tag values.now) }
+        ensures { OnOk result (self.new ≡ entered_by sections.now unit.now self.old at tag picks.now) }
     {
-        let parent = innermost(self.open_levels.as_slice());
         if self.dies.is_empty() {
-            let die = make_die(sections, unit, base_of(values), at, parent, tag, values);
-            self.dies.push(die)?;
-            self.root = make_root(sections, unit, at, values);
-            return Ok(());
+            return self.begin(sections, unit, at, tag, picks);
         }
+        let parent = innermost(self.open_levels.as_slice());
         let base = self.root.str_offsets_base;
-        let die = make_die(sections, unit, base, at, parent, tag, values);
+        let die = make_die(sections, unit, base, at, parent, tag, picks);
         self.dies.push(die)?;
         Ok(())
     }
@@ -183,7 +172,6 @@ impl<'a> Walker<'a> {
         sections: &Sections<'a>,
         unit: &Unit,
         cursor: &mut Cursor<'a>,
-        values: &mut Vec<Given>,
         at: u32,
         found: &Abbrev,
     ) -> Result<(), Stop<DwarfFault>>
@@ -195,12 +183,11 @@ impl<'a> Walker<'a> {
                 Err(fault) => Err(Stop::Fault(value_fault(fault))),
             };
         }
-        let specs = found.specs.as_slice();
-        match read_values(cursor, specs, values) {
-            Ok(()) => {}
-            Err(stop) => return Err(stop),
-        }
-        self.add(sections, unit, at, found.tag, values.as_slice())?;
+        let picks = match read_picks(cursor, found.specs.as_slice()) {
+            Ok(picks) => picks,
+            Err(fault) => return Err(Stop::Fault(value_fault(fault))),
+        };
+        self.add(sections, unit, at, found.tag, &picks)?;
         Ok(())
     }
 
@@ -230,7 +217,6 @@ impl<'a> Walker<'a> {
         sections: &Sections<'a>,
         unit: &Unit,
         cursor: &mut Cursor<'a>,
-        values: &mut Vec<Given>,
         at: u32,
         found: &Abbrev,
     ) -> Result<(), Stop<DwarfFault>>
@@ -238,7 +224,7 @@ impl<'a> Walker<'a> {
         ensures { Moves result self.new cursor.new (moved_at sections.now unit.now self.old at found.now cursor.old) }
     {
         let own = self.own_number(found.tag);
-        match self.take_entry(sections, unit, cursor, values, at, found) {
+        match self.take_entry(sections, unit, cursor, at, found) {
             Ok(()) => {}
             Err(stop) => return Err(stop),
         }
@@ -256,7 +242,6 @@ impl<'a> Walker<'a> {
         unit: &Unit,
         abbrevs: &Abbrevs,
         cursor: &mut Cursor<'a>,
-        values: &mut Vec<Given>,
     ) -> Result<bool, Stop<DwarfFault>>
         requires { IsShort (length self.old.dies) cursor.old }
         ensures step { Steps result self.new cursor.new (step_at sections.now unit.now abbrevs.now self.old cursor.old) }
@@ -281,7 +266,7 @@ impl<'a> Walker<'a> {
                 at,
             }));
         };
-        match self.enter(sections, unit, cursor, values, at as u32, found) {
+        match self.enter(sections, unit, cursor, at as u32, found) {
             Ok(()) => Ok(true),
             Err(stop) => Err(stop),
         }
