@@ -1,5 +1,5 @@
 -- Sets that are what an entry gives, and ranges as they are gathered.
-use Rattle.std.proofs.Common.{◌≡◌, ℕ, ◌<◌, ◌≤◌, min, max, ◌||◌, ◌&&◌, nat_le, nat_lt, List, [], ◌∷◌, ◌++◌, Option, None, Some, Result, Ok, Err, arith, refl, sym, ap, ◌∙◌, append-nil}
+use Rattle.std.proofs.Common.{◌≡◌, ℕ, ◌<◌, ◌≤◌, min, max, ◌||◌, ◌&&◌, nat_le, nat_lt, List, [], ◌∷◌, ◌++◌, Option, None, Result, Ok, arith, sym, ap, ◌∙◌, append-nil}
 use Rattle.std.proofs.Math.Bool.{or_assoc}
 use Rattle.std.proofs.lemmas.Bool.Decides.{nat_tests}
 use Rattle.sym_edges.specs.Addresses.{Range}
@@ -7,7 +7,11 @@ use Rattle.sym_edges.specs.declared.located.Located.{Located}
 use Rattle.abbrev_units.specs.declared.fault.DwarfKind.{DwarfKind}
 use Rattle.range_set.specs.Members.{holds, holds_any}
 use Rattle.range_set.proofs.BuildingLemmas.{added_members}
-use Rattle.range_lists.specs.EntryRanges.{in_pairs, in_ranges}
+use Rattle.abbrev_units.specs.declared.unit.Unit.{Unit}
+use Rattle.abbrev_units.specs.declared.value.Value.{Value}
+use Rattle.abbrev_units.specs.DebugSections.{DebugSections}
+use Rattle.die_walk.specs.EntryTable.{RootFields}
+use Rattle.range_lists.specs.EntryRanges.{list_place, list_of, in_pairs, in_ranges}
 
 -- no pair gives no address
 pub none_given : (code set : List Range) (given : Result (List Range) (Located DwarfKind)) (a : ℕ) → given ≡ Ok [] → set ≡ [] → in_ranges code given a ≡ Ok (holds_any set a)
@@ -34,3 +38,8 @@ added_joined done old l s both a is held =
 
 pub added_next : (done old : List Range) (l s : Range) (a : ℕ) → done ++ l ∷ [] ≡ old → holds_any ((done ++ l ∷ []) ++ s ∷ []) a ≡ (holds_any old a || holds s a)
 added_next done old l s a is = added_members (done ++ l ∷ []) s a ∙ ap (λ xs. holds_any xs a || holds s a) is
+
+-- an entry without DW_AT_ranges has no list
+pub not_listed : (sections : DebugSections) (unit : Unit) (root : RootFields) (at : ℕ) (ranges : Option Value) → ranges ≡ None → list_of sections unit root at ranges ≡ Ok None
+unfolding list_of list_place
+not_listed sections unit root at ranges none = ap (λ r. list_of sections unit root at r) none

@@ -1,5 +1,5 @@
 -- How far the items of range lists go.
-use Rattle.std.proofs.Common.{◌≡◌, ℕ, ◌+◌, Bool, nat_eq, nat_lt, cond, Option, None, Some, Result, Ok, Err, refl, arith}
+use Rattle.std.proofs.Common.{ℕ, ◌+◌, nat_eq, nat_lt, Option, None, Some, Result, Ok, Err, refl, arith}
 use Rattle.sym_edges.specs.Results.{◌>>=◌}
 use Rattle.sym_edges.specs.declared.part.Sect.{Sect}
 use Rattle.leb_cursor.specs.declared.fault.CursorFault.{CursorFault}
@@ -14,7 +14,7 @@ use Rattle.range_lists.specs.declared.item.RangeItem.TheVariants as item
 use Rattle.range_lists.specs.declared.item.ItemFault.{ItemFault}
 use Rattle.range_lists.specs.declared.item.ItemFault.TheVariants as fault
 use Rattle.range_lists.specs.AddressTable.{AddressTable}
-use Rattle.range_lists.specs.ListItems.{item_of_pair, pair_at, as_item, item_with, item_with_two, item_by, rnglist_item_at, item_at}
+use Rattle.range_lists.specs.ListItems.{pair_at, as_item, item_with, item_with_two, item_by, rnglist_item_at, item_at}
 use Rattle.range_lists.specs.ListPairs.{effect_of, list_section, in_list, effect_by, effect_at}
 
 -- readings that differ in their fault alone go as far

@@ -1,5 +1,5 @@
 -- Laws of the definitions.
-use Rattle.std.proofs.Common.{◌≡◌, ℕ, ◌&&◌, ◌||◌, nat_lt, Bool, List, [], ◌∷◌, Option, Result, Ok, Err, refl, ap, ◌∙◌}
+use Rattle.std.proofs.Common.{◌≡◌, ℕ, ◌&&◌, ◌||◌, nat_lt, List, [], ◌∷◌, Result, Ok, Err, refl, ap, ◌∙◌}
 use Rattle.sym_edges.specs.Addresses.{Range}
 use Rattle.sym_edges.specs.declared.located.Located.{Located}
 use Rattle.leb_cursor.specs.Ahead.{Ahead}

@@ -1,5 +1,5 @@
 -- The pairs of a list follow its first item, and which addresses they give.
-use Rattle.std.proofs.Common.{◌≡◌, ◌<◌, ℕ, Bool, true, false, ◌&&◌, ◌||◌, List, [], ◌∷◌, ◌++◌, length, Option, None, Some, Result, Ok, Err, refl, sym, ap, ◌∙◌}
+use Rattle.std.proofs.Common.{◌≡◌, ◌<◌, ℕ, Bool, false, ◌&&◌, ◌||◌, List, [], ◌∷◌, ◌++◌, length, Option, None, Some, Result, Ok, Err, refl, sym, ap, ◌∙◌}
 use Rattle.std.proofs.Math.Bool.{or_assoc, or-false}
 use Rattle.sym_edges.specs.Addresses.{Range}
 use Rattle.sym_edges.specs.Results.{◌>>=◌}

@@ -93,6 +93,11 @@ offset_pair : listed "04 10 20 00" ≡ Ok (pair 0x1010 0x1020 ∷ [])
 unfolding range_lists_computes listed addresses
 offset_pair = refl
 
+-- from the last address on, offsets lead around to the first ones
+offset_pair_that_wraps : list_pairs 5 addresses 0xffffffffffffffff (record { bytes = hex "04 10 20 00"; at = 0xc }) ≡ Ok (pair 0xf 0x1f ∷ [])
+unfolding range_lists_computes addresses
+offset_pair_that_wraps = refl
+
 offset_pair_one_short : listed "04 10" ≡ Err (ends 0xe)
 unfolding range_lists_computes listed addresses
 offset_pair_one_short = refl

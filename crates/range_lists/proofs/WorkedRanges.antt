@@ -92,6 +92,10 @@ a_length : pairs_5 (die (Some (value.Addr 0x1000)) (Some (value.Num 0x10)) None)
 unfolding range_lists_computes pairs_5 unit root die sections
 a_length = refl
 
+a_length_of_0 : pairs_5 (die (Some (value.Addr 0x1000)) (Some (value.Num 0)) None) ≡ Ok (pair 0x1000 0x1000 ∷ [])
+unfolding range_lists_computes pairs_5 unit root die sections
+a_length_of_0 = refl
+
 a_length_of_version_4 : pairs_4 (die (Some (value.Addr 0x1000)) (Some (value.Num 0x10)) None) ≡ Ok (pair 0x1000 0x1010 ∷ [])
 unfolding range_lists_computes pairs_4 unit root die sections
 a_length_of_version_4 = refl

@@ -120,3 +120,14 @@ IsRanges code (Err NoMemory) given = Prim.Unit {0}
 abbrev pub pairs_at : DebugSections → Unit → RootFields → ℕ → Option DieFields → Result (List Range) (Located DwarfKind)
 pairs_at sections unit root base None = Ok []
 pairs_at sections unit root base (Some die) = pairs_of sections unit root base die
+
+-- an answer that is no want of memory
+abbrev pub IsGiven : {A F : Type 0} → Result A (Stop F) → Type 0
+IsGiven (Ok x) = Prim.Unit {0}
+IsGiven (Err (Fault fault)) = Prim.Unit {0}
+IsGiven (Err NoMemory) = ⊥
+
+-- an entry without DW_AT_ranges, or none
+abbrev pub HasNoList : Option DieFields → Type 0
+HasNoList None = Prim.Unit {0}
+HasNoList (Some die) = die.ranges ≡ None

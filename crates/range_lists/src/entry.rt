@@ -1,6 +1,6 @@
 //! The addresses of entries.
-ghost use Rattle.std.specs.Prelude.{◌≡◌, slice_get};
-ghost use Rattle.range_lists.specs.EntryRanges.{addresses_for, unit_base, list_bytes, list_by_number, list_place, list_of, end_of, bounds_by, counts, pairs_of, pairs_at, IsRanges};
+ghost use Rattle.std.specs.Prelude.{◌≡◌, None, slice_get};
+ghost use Rattle.range_lists.specs.EntryRanges.{addresses_for, unit_base, list_bytes, list_by_number, list_place, list_of, end_of, bounds_by, counts, pairs_of, pairs_at, IsRanges, IsGiven, HasNoList};
 
 use crate::gathering::set_of_pair;
 use crate::list::ranges_of_list;
@@ -13,6 +13,7 @@ use std::alloc::Global;
 use sym_edges::{Sect, Stop};
 
 const DW_TAG_inlined_subroutine: u64 = 0x1d;
+
 const DW_TAG_subprogram: u64 = 0x2e;
 
 /// The addresses by their number, as the entry at `at` asks for them.
@@ -27,10 +28,10 @@ fn addresses_for<'a>(sections: &Sections<'a>, root: &Root<'_>, at: usize) -> Add
     }
 }
 
-/// The address from which the offsets of a unit's range lists count (DWARF 5, 3.1.1): the root's low
-/// address, or 0. Takes no memory. Faults of the root: `NoBase` where the address is given by its number
-/// and the unit has no addr_base, `OffsetOutside` where that leads behind the end of `.debug_addr`; `Ends`
-/// in `.debug_addr` where its bytes are not all there.
+/// The address from which the offsets of a unit's range lists count (DWARF 5, 3.1.1): the low address of
+/// its root, or 0. Takes no memory. Where the address is given by its number, faults are in `.debug_info` at
+/// the root: `NoBase` where the unit has no addr_base, `OffsetOutside` where the number leads behind the end
+/// of `.debug_addr`; or `Ends` in `.debug_addr`, where the bytes of the address are not all there.
 #[tactic(auto, unfolding(crate::specs::EntryRanges::unit_base))]
 pub fn unit_base(
     sections: &Sections<'_>,
@@ -137,7 +138,8 @@ fn ranges_of_bounds(
     high: Option<Value>,
     code: &Enclosing,
 ) -> Result<RangeSet, Stop<DwarfFault>>
-    ensures { IsRanges code.now result (bounds_by addresses.now low high) }
+    ensures ranges { IsRanges code.now result (bounds_by addresses.now low high) }
+    ensures given { IsGiven result }
 {
     let Some(low) = low else {
         return Ok(RangeSet::empty());
@@ -171,7 +173,7 @@ fn counts(die: &Die<'_>) -> bool
 }
 
 /// The addresses of an entry.
-#[tactic(auto, unfolding(crate::specs::EntryRanges::pairs_of))]
+#[tactic(auto, using(crate::proofs::GatherLemmas::not_listed), unfolding(crate::specs::EntryRanges::pairs_of))]
 fn ranges_of_die(
     alloc: Global,
     sections: &Sections<'_>,
@@ -181,7 +183,8 @@ fn ranges_of_die(
     die: &Die<'_>,
     code: &Enclosing,
 ) -> Result<RangeSet, Stop<DwarfFault>>
-    ensures { IsRanges code.now result (pairs_of sections.now unit.now root.now base die.now) }
+    ensures ranges { IsRanges code.now result (pairs_of sections.now unit.now root.now base die.now) }
+    ensures given { die.now.ranges ≡ None → IsGiven result }
 {
     if !counts(die) {
         return Ok(RangeSet::empty());
@@ -195,7 +198,13 @@ fn ranges_of_die(
     }
 }
 
-/// The addresses of the entry of a number.
+/// The addresses of an entry, by its number in the table (DWARF 5, 2.17); behind the last entry there are
+/// none. `base` is the unit's, as [`unit_base`] gives it. Faults of the entry are in `.debug_info`, at the
+/// entry: `NoBase` where an address or a list is given by its number and the unit has no base for it,
+/// `OffsetOutside` where a list's place or a number leads behind the end of its section. Faults of a list
+/// are in its section: `Ends` and `LebLong` at the field, `RangeKind` at the byte that tells the kind. Where
+/// the bytes of a number are not all there, `Ends` is at the place of the number, in `.debug_addr` or
+/// `.debug_rnglists`. An entry without a list takes no memory.
 pub fn ranges_of(
     alloc: Global,
     sections: &Sections<'_>,
@@ -205,7 +214,8 @@ pub fn ranges_of(
     base: u64,
     code: &Enclosing,
 ) -> Result<RangeSet, Stop<DwarfFault>>
-    ensures { IsRanges code.now result (pairs_at sections.now unit.now table.now.root base (slice_get table.now.dies entry)) }
+    ensures ranges { IsRanges code.now result (pairs_at sections.now unit.now table.now.root base (slice_get table.now.dies entry)) }
+    ensures given { HasNoList (slice_get table.now.dies entry) → IsGiven result }
 {
     match table.dies().get(entry as usize) {
         Some(die) => ranges_of_die(alloc, sections, unit, table.root(), base, die, code),

@@ -1,5 +1,6 @@
 //! The ranges of an entry, as its list is read.
 ghost use Rattle.std.specs.Prelude.{◌≡◌, ℕ, ◌||◌, ◌&&◌, [], ◌∷◌, IfOk, IfSome, OnOk};
+ghost use Rattle.std.specs.Option.{option_to_list};
 ghost use Rattle.range_set.specs.Members.{holds, holds_any};
 ghost use Rattle.range_lists.specs.ListPairs.{base_after, pair_of};
 ghost use Rattle.range_lists.specs.EntryRanges.{is_code, in_pairs};
@@ -44,15 +45,26 @@ fn joined(last: Span, span: Span) -> Option<Span>
     Some(Span::new(start, end))
 }
 
+/// A pair of addresses as a range, where it is code.
+#[inline]
+fn code_span(code: &Enclosing, start: u64, end: u64) -> Option<Span>
+    ensures { (a : ℕ) → holds_any (option_to_list result) a ≡ in_pairs code.now (record { start = start; end = end } ∷ []) a }
+{
+    if start < end && code.encloses(start, end) {
+        return Some(Span::new(start, end));
+    }
+    None
+}
+
 /// The set of a pair of addresses, where it is code. Takes no memory.
 #[inline]
 pub fn set_of_pair(code: &Enclosing, start: u64, end: u64) -> RangeSet
     ensures { (a : ℕ) → holds_any result a ≡ in_pairs code.now (record { start = start; end = end } ∷ []) a }
 {
-    if start < end && code.encloses(start, end) {
-        return RangeSet::of_span(Span::new(start, end));
+    match code_span(code, start, end) {
+        Some(span) => RangeSet::of_span(span),
+        None => RangeSet::empty(),
     }
-    RangeSet::empty()
 }
 
 impl Gathering {
@@ -88,20 +100,15 @@ impl Gathering {
     fn add(&mut self, code: &Enclosing, start: u64, end: u64) -> Result<(), OutOfMemory>
         ensures { OnOk result ((a : ℕ) → holds_any self.new a ≡ (holds_any self.old a || in_pairs code.now (record { start = start; end = end } ∷ []) a)) }
     {
-        if start < end && code.encloses(start, end) {
-            self.push(Span::new(start, end))?;
+        if let Some(span) = code_span(code, start, end) {
+            self.push(span)?;
         }
         Ok(())
     }
 
     /// Adds what an item gives, and answers the base behind it.
     #[inline]
-    pub fn take(
-        &mut self,
-        code: &Enclosing,
-        base: u64,
-        effect: Effect,
-    ) -> Result<u64, OutOfMemory>
+    pub fn take(&mut self, code: &Enclosing, base: u64, effect: Effect) -> Result<u64, OutOfMemory>
         ensures base { IfOk result (λ after. after ≡ base_after base effect) }
         ensures members { OnOk result ((a : ℕ) → holds_any self.new a ≡ (holds_any self.old a || in_pairs code.now (pair_of base effect) a)) }
     {

@@ -38,12 +38,19 @@ impl From<CursorFault> for ItemFault {
 }
 
 const DW_RLE_end_of_list: u8 = 0;
+
 const DW_RLE_base_addressx: u8 = 1;
+
 const DW_RLE_startx_endx: u8 = 2;
+
 const DW_RLE_startx_length: u8 = 3;
+
 const DW_RLE_offset_pair: u8 = 4;
+
 const DW_RLE_base_address: u8 = 5;
+
 const DW_RLE_start_end: u8 = 6;
+
 const DW_RLE_start_length: u8 = 7;
 
 /// The item of `.debug_ranges` that a pair is.

@@ -1,4 +1,4 @@
-use Rattle.std.proofs.Common.{◌≡◌, ◌++◌, [], ◌∷◌, Some}
+use Rattle.std.proofs.Common.{◌≡◌, ◌++◌, [], ◌∷◌}
 use Rattle.range_lists.proofs.GatherLemmas.{added_first, added_joined, added_next}
 use Rattle.range_lists.proofs.gathering.Gathering.push.Goals as goal
 
