@@ -7,8 +7,8 @@ ghost use Rattle.range_lists.specs.ListItems.{item_of_pair, pair_at, item_by, rn
 use leb_cursor::{Cursor, CursorFault};
 
 /// An item of a range list, named as DWARF 5, 7.25, names those of `.debug_rnglists`; what ends a list is
-/// none. A pair of `.debug_ranges` (DWARF 4, 2.17.3) is an `OffsetPair`, and one that selects the base a
-/// `BaseAddress`.
+/// none. A name with an `x` has numbers of addresses in the place of addresses. A pair of `.debug_ranges`
+/// (DWARF 4, 2.17.3) is an `OffsetPair`, and one that selects the base a `BaseAddress`.
 #[derive(Clone, Copy, PartialEq, Eq, Debug)]
 pub enum RangeItem {
     BaseAddressx { index: u64 },
