@@ -35,6 +35,6 @@ pub use crate::form::read_form;
 pub use crate::length::{Contents, read_contents};
 pub use crate::sections::Sections;
 pub use crate::spec::{Spec, SpecList};
-pub use crate::text::{place_by_index, read_place, read_text, text_in};
+pub use crate::text::{cursor_from, place_by_index, read_place, read_text, text_in};
 pub use crate::unit::{Unit, UnitList, UnitPart, units};
 pub use crate::value::{Given, Value};

@@ -1,0 +1,5 @@
+pub mod AddressTable
+pub mod Places
+pub mod ListItems
+pub mod ListPairs
+pub mod EntryRanges

@@ -1,0 +1,224 @@
+//! The addresses of entries.
+ghost use Rattle.std.specs.Prelude.{◌≡◌, None, slice_get};
+ghost use Rattle.range_lists.specs.EntryRanges.{addresses_for, unit_base, list_bytes, list_by_number, list_place, list_of, end_of, bounds_by, counts, pairs_of, pairs_at, IsRanges, IsGiven, HasNoList};
+
+use crate::gathering::set_of_pair;
+use crate::list::ranges_of_list;
+use crate::places::{Addresses, cursor_in, entry_fault, number_there, numbered_place};
+use abbrev_units::{DwarfFault, DwarfKind, Sections, Unit, Value};
+use die_walk::{Die, DieTable, Root};
+use leb_cursor::Cursor;
+use range_set::{Enclosing, RangeSet};
+use std::alloc::Global;
+use sym_edges::{Sect, Stop};
+
+const DW_TAG_inlined_subroutine: u64 = 0x1d;
+
+const DW_TAG_subprogram: u64 = 0x2e;
+
+/// The addresses by their number, as the entry at `at` asks for them.
+#[inline]
+fn addresses_for<'a>(sections: &Sections<'a>, root: &Root<'_>, at: usize) -> Addresses<'a>
+    ensures { result ≡ addresses_for sections.now root.now at }
+{
+    Addresses {
+        bytes: sections.addr,
+        base: root.addr_base,
+        at,
+    }
+}
+
+/// The address from which the offsets of a unit's range lists count (DWARF 5, 3.1.1): the low address of
+/// its root, or 0. Takes no memory. Where the address is given by its number, faults are in `.debug_info` at
+/// the root: `NoBase` where the unit has no addr_base, `OffsetOutside` where the number leads behind the end
+/// of `.debug_addr`; or `Ends` in `.debug_addr`, where the bytes of the address are not all there.
+#[tactic(auto, unfolding(crate::specs::EntryRanges::unit_base))]
+pub fn unit_base(
+    sections: &Sections<'_>,
+    _unit: &Unit,
+    table: &DieTable<'_>,
+) -> Result<u64, DwarfFault>
+    ensures { result ≡ unit_base sections.now table.now.root }
+{
+    let root = table.root();
+    let Some(low) = root.low else {
+        return Ok(0);
+    };
+    let address = addresses_for(sections, root, root.at as usize).of_value(low)?;
+    Ok(address.unwrap_or(0))
+}
+
+/// The bytes of the section that has the lists of a unit.
+#[inline]
+fn list_bytes<'a>(sections: &Sections<'a>, unit: &Unit) -> &'a [u8]
+    ensures { result.now ≡ list_bytes sections.now unit.now }
+{
+    if unit.version < 5 {
+        sections.ranges
+    } else {
+        sections.rnglists
+    }
+}
+
+/// The place of a list by its number, for the entry at `at`.
+fn list_by_number(
+    sections: &Sections<'_>,
+    unit: &Unit,
+    base: Option<u64>,
+    at: usize,
+    index: u64,
+) -> Result<u128, DwarfFault>
+    ensures { result ≡ list_by_number sections.now unit.now base at index }
+{
+    let Some(base) = base else {
+        return Err(entry_fault(DwarfKind::NoBase, at));
+    };
+    let place = numbered_place(base, unit.wide, index);
+    let offset = number_there(Sect::Rnglists, sections.rnglists, unit.wide, at, place)?;
+    Ok(u128::from(base) + u128::from(offset))
+}
+
+/// The place of the list of the entry at `at`, where it has one.
+#[tactic(auto, unfolding(crate::specs::EntryRanges::list_place))]
+fn list_place(
+    sections: &Sections<'_>,
+    unit: &Unit,
+    root: &Root<'_>,
+    at: usize,
+    ranges: Option<Value>,
+) -> Result<Option<u128>, DwarfFault>
+    ensures { result ≡ list_place sections.now unit.now root.now at ranges }
+{
+    match ranges {
+        Some(Value::SecOffset(place)) => Ok(Some(u128::from(place))),
+        Some(Value::Num(place)) => Ok(Some(u128::from(place))),
+        Some(Value::ListIndex(index)) => {
+            if unit.version < 5 {
+                return Ok(None);
+            }
+            Ok(Some(list_by_number(sections, unit, root.rnglists_base, at, index)?))
+        }
+        _ => Ok(None),
+    }
+}
+
+/// The list of the entry at `at`, where it has one.
+#[tactic(auto, unfolding(crate::specs::EntryRanges::list_of))]
+fn list_of<'a>(
+    sections: &Sections<'a>,
+    unit: &Unit,
+    root: &Root<'_>,
+    at: usize,
+    ranges: Option<Value>,
+) -> Result<Option<Cursor<'a>>, DwarfFault>
+    ensures { result ≡ list_of sections.now unit.now root.now at ranges }
+{
+    let Some(place) = list_place(sections, unit, root, at, ranges)? else {
+        return Ok(None);
+    };
+    Ok(Some(cursor_in(list_bytes(sections, unit), at, place)?))
+}
+
+/// The end of the range from a start on.
+#[tactic(auto, unfolding(crate::specs::EntryRanges::end_of))]
+fn end_of(addresses: &Addresses<'_>, start: u64, high: Value) -> Result<Option<u64>, DwarfFault>
+    ensures { result ≡ end_of addresses.now start high }
+{
+    match high {
+        Value::Num(length) => Ok(Some(start.wrapping_add(length))),
+        Value::Signed(length) => Ok(Some(start.wrapping_add(length.cast_unsigned()))),
+        _ => addresses.of_value(high),
+    }
+}
+
+/// The addresses from low_pc to high_pc, where both are there.
+fn ranges_of_bounds(
+    addresses: &Addresses<'_>,
+    low: Option<Value>,
+    high: Option<Value>,
+    code: &Enclosing,
+) -> Result<RangeSet, Stop<DwarfFault>>
+    ensures ranges { IsRanges code.now result (bounds_by addresses.now low high) }
+    ensures given { IsGiven result }
+{
+    let Some(low) = low else {
+        return Ok(RangeSet::empty());
+    };
+    let Some(high) = high else {
+        return Ok(RangeSet::empty());
+    };
+    let start = match addresses.of_value(low) {
+        Ok(Some(start)) => start,
+        Ok(None) => return Ok(RangeSet::empty()),
+        Err(fault) => return Err(Stop::Fault(fault)),
+    };
+    match end_of(addresses, start, high) {
+        Ok(Some(end)) => Ok(set_of_pair(code, start, end)),
+        Ok(None) => Ok(RangeSet::empty()),
+        Err(fault) => Err(Stop::Fault(fault)),
+    }
+}
+
+/// Whether an entry counts.
+#[inline]
+#[tactic(auto, unfolding(crate::specs::EntryRanges::counts))]
+fn counts(die: &Die<'_>) -> bool
+    ensures { result ≡ counts die.now }
+{
+    match die.tag() {
+        DW_TAG_subprogram => !die.declaration(),
+        DW_TAG_inlined_subroutine => true,
+        _ => false,
+    }
+}
+
+/// The addresses of an entry.
+#[tactic(auto, using(crate::proofs::GatherLemmas::not_listed), unfolding(crate::specs::EntryRanges::pairs_of))]
+fn ranges_of_die(
+    alloc: Global,
+    sections: &Sections<'_>,
+    unit: &Unit,
+    root: &Root<'_>,
+    base: u64,
+    die: &Die<'_>,
+    code: &Enclosing,
+) -> Result<RangeSet, Stop<DwarfFault>>
+    ensures ranges { IsRanges code.now result (pairs_of sections.now unit.now root.now base die.now) }
+    ensures given { die.now.ranges ≡ None → IsGiven result }
+{
+    if !counts(die) {
+        return Ok(RangeSet::empty());
+    }
+    let at = die.at() as usize;
+    let addresses = addresses_for(sections, root, at);
+    match list_of(sections, unit, root, at, die.ranges()) {
+        Ok(Some(list)) => ranges_of_list(alloc, unit.version, &addresses, base, list, code),
+        Ok(None) => ranges_of_bounds(&addresses, die.low(), die.high(), code),
+        Err(fault) => Err(Stop::Fault(fault)),
+    }
+}
+
+/// The addresses of an entry, by its number in the table (DWARF 5, 2.17); behind the last entry there are
+/// none. `base` is the unit's, as [`unit_base`] gives it. Faults of the entry are in `.debug_info`, at the
+/// entry: `NoBase` where an address or a list is given by its number and the unit has no base for it,
+/// `OffsetOutside` where a list's place or a number leads behind the end of its section. Faults of a list
+/// are in its section: `Ends` and `LebLong` at the field, `RangeKind` at the byte that tells the kind. Where
+/// the bytes of a number are not all there, `Ends` is at the place of the number, in `.debug_addr` or
+/// `.debug_rnglists`. An entry without a list takes no memory.
+pub fn ranges_of(
+    alloc: Global,
+    sections: &Sections<'_>,
+    unit: &Unit,
+    table: &DieTable<'_>,
+    entry: u32,
+    base: u64,
+    code: &Enclosing,
+) -> Result<RangeSet, Stop<DwarfFault>>
+    ensures ranges { IsRanges code.now result (pairs_at sections.now unit.now table.now.root base (slice_get table.now.dies entry)) }
+    ensures given { HasNoList (slice_get table.now.dies entry) → IsGiven result }
+{
+    match table.dies().get(entry as usize) {
+        Some(die) => ranges_of_die(alloc, sections, unit, table.root(), base, die, code),
+        None => Ok(RangeSet::empty()),
+    }
+}

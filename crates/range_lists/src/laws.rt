@@ -1,0 +1,25 @@
+//! Laws of the definitions, for proofs above. Each function does nothing: its contract is the law.
+ghost use Rattle.std.specs.Prelude.{◌≡◌, ℕ, List, Result};
+ghost use Rattle.sym_edges.specs.Addresses.{Range};
+ghost use Rattle.sym_edges.specs.declared.located.Located.{Located};
+ghost use Rattle.leb_cursor.specs.Ahead.{Ahead};
+ghost use Rattle.leb_cursor.specs.Lists.{list_at, list_cases};
+ghost use Rattle.abbrev_units.specs.declared.fault.DwarfKind.{DwarfKind};
+ghost use Rattle.range_set.specs.Enclosing.{encloses};
+ghost use Rattle.range_lists.specs.AddressTable.{AddressTable};
+ghost use Rattle.range_lists.specs.ListPairs.{effect_at};
+ghost use Rattle.range_lists.specs.EntryRanges.{in_ranges};
+
+/// A range list is what its first item does and the items behind it: no count of readings is part of
+/// what it is.
+#[tactic(auto, using(crate::proofs::LawLemmas::items_follow))]
+pub fn lists_follow()
+    ensures { (version : ℕ) (table : AddressTable) (c : Ahead) → list_at (effect_at version table) c ≡ list_cases (effect_at version table) c }
+{}
+
+/// Which addresses pairs give rests on nothing of the ranges of code but on what they enclose: an
+/// `Enclosing` that is made of them serves in their place.
+#[tactic(auto, using(crate::proofs::LawLemmas::same_ranges))]
+pub fn code_by_what_it_encloses()
+    ensures { (code other : List Range) → ((start end : ℕ) → encloses code start end ≡ encloses other start end) → (given : Result (List Range) (Located DwarfKind)) (a : ℕ) → in_ranges code given a ≡ in_ranges other given a }
+{}
