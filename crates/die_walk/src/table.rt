@@ -47,6 +47,9 @@ impl<'a> DieTable<'a> {
     }
 }
 
+/// A section of more bytes is not walked.
+const LIMIT: usize = 0x2000_0000;
+
 /// A cursor over the entries of a unit.
 fn entries_of<'a>(sections: &Sections<'a>, unit: &Unit) -> Cursor<'a>
     requires ordered { unit.now.body ≤ unit.now.end }
@@ -86,7 +89,8 @@ fn walk_all<'a>(
 /// The entries of a unit (DWARF 5, 7.5.2), or their first fault, which is in `.debug_info`: `Ends`,
 /// `LebLong` or `NoZero` at the code or the value, `UnknownForm` where a value of such a form would
 /// begin, `NoAbbrev` at the entry. Kept are the root and classes, structures, unions, inlined
-/// subroutines, subprograms and namespaces.
+/// subroutines, subprograms and namespaces. A section of more than 2^29 bytes, which no file that is
+/// dumped has, wants more memory than there is: places are kept in four bytes.
 pub fn walk<'a>(
     alloc: Global,
     sections: &Sections<'a>,
@@ -95,9 +99,11 @@ pub fn walk<'a>(
 ) -> Result<DieTable<'a>, Stop<DwarfFault>>
     requires ordered { unit.now.body ≤ unit.now.end }
     requires inside { unit.now.end ≤ length sections.now.info }
-    requires small { length sections.now.info ≤ 2 ^ 29 }
     ensures { Gives result (entry_table sections.now unit.now abbrevs.now) }
 {
+    if sections.info.len() > LIMIT {
+        return Err(Stop::NoMemory);
+    }
     let mut walker = Walker::new(alloc);
     match walk_all(sections, unit, abbrevs, &mut walker) {
         Ok(()) => Ok(walker.into_table()),
