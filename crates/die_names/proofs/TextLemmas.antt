@@ -1,0 +1,160 @@
+-- The bytes of a name.
+use Rattle.std.proofs.Common.{◌≡◌, ◌++◌, ◌||◌, ℕ, Bool, true, false, true≢false, List, [], ◌∷◌, codes, Option, None, Some, unwrap_or, option_and_then, refl, sym, ap, ◌∙◌}
+use Rattle.std.specs.List.{slice_get, list_any}
+use Rattle.std.specs.Option.{option_map, option_map_or}
+use Rattle.std.proofs.lemmas.Bool.{cond-true, cond-false}
+use Rattle.std.proofs.lemmas.Option.{none-some}
+use Rattle.die_walk.specs.EntryTable.{DieFields}
+use Rattle.die_names.specs.declared.naming.How.{How}
+use Rattle.die_names.specs.declared.naming.How.TheVariants.{Linkage, Joined, Omitted}
+use Rattle.die_names.specs.declared.naming.NameRef.{NameRef}
+use Rattle.die_names.specs.declared.unit_read.UnitRead.{UnitRead}
+use Rattle.die_names.specs.UnitEntries.{Placed, entry_in, entry_of}
+use Rattle.die_names.specs.Names.{around, is_scope, scope_front, front_at, fronts, front_in, front_of, dies_of}
+use Rattle.die_names.specs.NameRefs.{bytes_by, name_bytes, unless_front, slice_by, name_slice}
+use Rattle.die_names.specs.Gathering.{is_scope_at}
+
+abbrev omitted_text : List ℕ
+omitted_text = codes "<name omitted>"
+
+-- whether a list has members
+abbrev is_full : List ℕ → Bool
+is_full [] = false
+is_full (x ∷ xs) = true
+
+full_append : (xs ys : List ℕ) → is_full (xs ++ ys) ≡ (is_full ys || is_full xs)
+full_append [] [] = refl
+full_append [] (y ∷ ys) = refl
+full_append (x ∷ xs) [] = refl
+full_append (x ∷ xs) (y ∷ ys) = refl
+
+front_full_by : (die : DieFields) (scope : Bool) → is_scope die ≡ scope → is_full (scope_front die) ≡ scope
+unfolding scope_front
+front_full_by die true is = ap is_full (cond-true _ _ _ is) ∙ full_append (unwrap_or die.name (codes "(anonymous)")) (codes "::")
+front_full_by die false is = ap is_full (cond-false _ _ _ is)
+
+at_full : (die : Option DieFields) → is_full (option_map_or scope_front die []) ≡ option_map_or is_scope die false
+at_full None = refl
+at_full (Some die) = front_full_by die (is_scope die) refl
+
+fronts_full : (dies : List DieFields) (numbers : List ℕ) → is_full (fronts dies numbers) ≡ list_any (is_scope_at dies) numbers
+fronts_full dies [] = refl
+fronts_full dies (n ∷ numbers) =
+    full_append (fronts dies numbers) (front_at dies n)
+    ∙ ap (λ b. b || is_full (fronts dies numbers)) (at_full (slice_get dies n))
+    ∙ ap (λ b. is_scope_at dies n || b) (fronts_full dies numbers)
+
+unless_bare : (front : List ℕ) (name : Option (List ℕ)) → is_full front ≡ false → unless_front front name ≡ name
+unless_bare [] name bare = refl
+unless_bare (b ∷ front) name bare = absurd (true≢false bare)
+
+unless_full : (front : List ℕ) (name : Option (List ℕ)) → is_full front ≡ true → unless_front front name ≡ None
+unless_full [] name full = absurd (true≢false (sym full))
+unless_full (b ∷ front) name full = refl
+
+-- the entry that a name names
+abbrev pub placed : NameRef → DieFields → Placed
+placed name die = record { unit = name.unit; entry = name.entry; die = die }
+
+no_part : (units : List UnitRead) (name : NameRef) → None ≡ slice_get units name.unit → entry_of units name.unit name.entry ≡ None
+unfolding entry_of
+no_part units name is = ap (entry_in name.unit name.entry) (sym is)
+
+no_die : (units : List UnitRead) (name : NameRef) (part : UnitRead) → Some part ≡ slice_get units name.unit → None ≡ slice_get part.die.dies name.entry → entry_of units name.unit name.entry ≡ None
+unfolding entry_of
+no_die units name part is none = ap (entry_in name.unit name.entry) (sym is) ∙ ap (option_map (placed name)) (sym none)
+
+named : (units : List UnitRead) (name : NameRef) (part : UnitRead) (die : DieFields) → Some part ≡ slice_get units name.unit → Some die ≡ slice_get part.die.dies name.entry → entry_of units name.unit name.entry ≡ Some (placed name die)
+unfolding entry_of
+named units name part die is got = ap (entry_in name.unit name.entry) (sym is) ∙ ap (option_map (placed name)) (sym got)
+
+front_is : (units : List UnitRead) (name : NameRef) (part : UnitRead) (die : DieFields) → Some part ≡ slice_get units name.unit → front_of units (placed name die) ≡ front_in part.die.dies name.entry die.parent
+unfolding front_of
+front_is units name part die is = ap (λ u. front_in (dies_of u) name.entry die.parent) (sym is)
+
+-- where it stands as it is
+pub slice_no_part : (units : List UnitRead) (name : NameRef) → None ≡ slice_get units name.unit → None ≡ name_slice units name
+unfolding name_slice
+slice_no_part units name is = ap (option_and_then (slice_by units name.how)) (sym (no_part units name is))
+
+pub slice_no_die : (units : List UnitRead) (name : NameRef) (part : UnitRead) → Some part ≡ slice_get units name.unit → None ≡ slice_get part.die.dies name.entry → None ≡ name_slice units name
+unfolding name_slice
+slice_no_die units name part is none = ap (option_and_then (slice_by units name.how)) (sym (no_die units name part is none))
+
+slice_is : (units : List UnitRead) (name : NameRef) (part : UnitRead) (die : DieFields) (how : How) → name.how ≡ how → Some part ≡ slice_get units name.unit → Some die ≡ slice_get part.die.dies name.entry → name_slice units name ≡ slice_by units how (placed name die)
+unfolding name_slice
+slice_is units name part die how by is got =
+    ap (option_and_then (slice_by units name.how)) (named units name part die is got) ∙ ap (λ h. slice_by units h (placed name die)) by
+
+pub slice_linkage : (units : List UnitRead) (name : NameRef) (part : UnitRead) (die : DieFields) (text : Option (List ℕ)) → name.how ≡ Linkage → Some part ≡ slice_get units name.unit → Some die ≡ slice_get part.die.dies name.entry → text ≡ die.linkage → text ≡ name_slice units name
+slice_linkage units name part die text by is got same = same ∙ sym (slice_is units name part die Linkage by is got)
+
+pub slice_omitted : (units : List UnitRead) (name : NameRef) (part : UnitRead) (die : DieFields) → name.how ≡ Omitted → Some part ≡ slice_get units name.unit → Some die ≡ slice_get part.die.dies name.entry → None ≡ name_slice units name
+slice_omitted units name part die by is got = sym (slice_is units name part die Omitted by is got)
+
+pub slice_bare : (units : List UnitRead) (name : NameRef) (part : UnitRead) (die : DieFields) (text : Option (List ℕ)) → name.how ≡ Joined → Some part ≡ slice_get units name.unit → Some die ≡ slice_get part.die.dies name.entry
+    → list_any (is_scope_at part.die.dies) (around part.die.dies name.entry die.parent) ≡ false → text ≡ die.name → text ≡ name_slice units name
+slice_bare units name part die text by is got bare same =
+    same
+    ∙ sym (unless_bare (front_in part.die.dies name.entry die.parent) die.name (fronts_full part.die.dies (around part.die.dies name.entry die.parent) ∙ bare))
+    ∙ ap (λ f. unless_front f die.name) (sym (front_is units name part die is))
+    ∙ sym (slice_is units name part die Joined by is got)
+
+pub slice_scoped : (units : List UnitRead) (name : NameRef) (part : UnitRead) (die : DieFields) → name.how ≡ Joined → Some part ≡ slice_get units name.unit → Some die ≡ slice_get part.die.dies name.entry
+    → list_any (is_scope_at part.die.dies) (around part.die.dies name.entry die.parent) ≡ true → None ≡ name_slice units name
+slice_scoped units name part die by is got scoped =
+    sym (unless_full (front_in part.die.dies name.entry die.parent) die.name (fronts_full part.die.dies (around part.die.dies name.entry die.parent) ∙ scoped))
+    ∙ ap (λ f. unless_front f die.name) (sym (front_is units name part die is))
+    ∙ sym (slice_is units name part die Joined by is got)
+
+-- the bytes
+sliced_joined : (front : List ℕ) (name : Option (List ℕ)) (text : List ℕ) → unless_front front name ≡ Some text → option_map (λ n. front ++ n) name ≡ Some text
+sliced_joined [] None text is = is
+sliced_joined [] (Some name) text is = is
+sliced_joined (b ∷ front) name text is = absurd (none-some text is)
+
+sliced_by : (units : List UnitRead) (how : How) (p : Placed) (text : List ℕ) → slice_by units how p ≡ Some text → bytes_by units how p ≡ Some text
+sliced_by units Linkage p text is = is
+sliced_by units Joined p text is = sliced_joined (front_of units p) p.die.name text is
+sliced_by units Omitted p text is = is
+
+sliced_of : (units : List UnitRead) (how : How) (p : Option Placed) (text : List ℕ) → option_and_then (slice_by units how) p ≡ Some text → option_and_then (bytes_by units how) p ≡ Some text
+sliced_of units how None text is = is
+sliced_of units how (Some p) text is = sliced_by units how p text is
+
+pub text_sliced : (units : List UnitRead) (name : NameRef) (text : List ℕ) → Some text ≡ name_slice units name → text ≡ name_bytes units name
+unfolding name_slice name_bytes
+text_sliced units name text is = ap (λ o. unwrap_or o omitted_text) (sym (sliced_of units name.how (entry_of units name.unit name.entry) text (sym is)))
+
+text_is : (units : List UnitRead) (name : NameRef) (part : UnitRead) (die : DieFields) (how : How) → name.how ≡ how → Some part ≡ slice_get units name.unit → Some die ≡ slice_get part.die.dies name.entry → name_bytes units name ≡ unwrap_or (bytes_by units how (placed name die)) omitted_text
+unfolding name_bytes
+text_is units name part die how by is got =
+    ap (λ o. unwrap_or (option_and_then (bytes_by units name.how) o) omitted_text) (named units name part die is got)
+    ∙ ap (λ h. unwrap_or (bytes_by units h (placed name die)) omitted_text) by
+
+pub text_joined : (units : List UnitRead) (name : NameRef) (part : UnitRead) (die : DieFields) (text joined : List ℕ) → name.how ≡ Joined → Some part ≡ slice_get units name.unit → Some die ≡ slice_get part.die.dies name.entry
+    → Some text ≡ die.name → joined ≡ front_in part.die.dies name.entry die.parent ++ text → joined ≡ name_bytes units name
+text_joined units name part die text joined by is got has same =
+    same
+    ∙ ap (λ f. f ++ text) (sym (front_is units name part die is))
+    ∙ ap (λ o. unwrap_or (option_map (λ n. front_of units (placed name die) ++ n) o) omitted_text) has
+    ∙ sym (text_is units name part die Joined by is got)
+
+pub text_no_part : (units : List UnitRead) (name : NameRef) → None ≡ slice_get units name.unit → codes "<name omitted>" ≡ name_bytes units name
+unfolding name_bytes
+text_no_part units name is = ap (λ o. unwrap_or (option_and_then (bytes_by units name.how) o) omitted_text) (sym (no_part units name is))
+
+pub text_no_die : (units : List UnitRead) (name : NameRef) (part : UnitRead) → Some part ≡ slice_get units name.unit → None ≡ slice_get part.die.dies name.entry → codes "<name omitted>" ≡ name_bytes units name
+unfolding name_bytes
+text_no_die units name part is none = ap (λ o. unwrap_or (option_and_then (bytes_by units name.how) o) omitted_text) (sym (no_die units name part is none))
+
+pub text_no_name : (units : List UnitRead) (name : NameRef) (part : UnitRead) (die : DieFields) → name.how ≡ Joined → Some part ≡ slice_get units name.unit → Some die ≡ slice_get part.die.dies name.entry → None ≡ die.name → codes "<name omitted>" ≡ name_bytes units name
+text_no_name units name part die by is got none =
+    ap (λ o. unwrap_or (option_map (λ n. front_of units (placed name die) ++ n) o) omitted_text) none ∙ sym (text_is units name part die Joined by is got)
+
+pub text_no_linkage : (units : List UnitRead) (name : NameRef) (part : UnitRead) (die : DieFields) → name.how ≡ Linkage → Some part ≡ slice_get units name.unit → Some die ≡ slice_get part.die.dies name.entry → None ≡ name_slice units name → codes "<name omitted>" ≡ name_bytes units name
+text_no_linkage units name part die by is got none =
+    ap (λ o. unwrap_or o omitted_text) (none ∙ slice_is units name part die Linkage by is got) ∙ sym (text_is units name part die Linkage by is got)
+
+pub text_omitted : (units : List UnitRead) (name : NameRef) (part : UnitRead) (die : DieFields) → name.how ≡ Omitted → Some part ≡ slice_get units name.unit → Some die ≡ slice_get part.die.dies name.entry → codes "<name omitted>" ≡ name_bytes units name
+text_omitted units name part die by is got = sym (text_is units name part die Omitted by is got)

@@ -1,0 +1,127 @@
+-- Worked rows: the names of entries.
+use Rattle.std.proofs.Common.{◌≡◌, ℕ, false, List, [], ◌∷◌, map, Option, Some, None, codes, suc, zero, ◌+◌, refl}
+use Rattle.die_walk.specs.EntryTable.{DieFields}
+use Rattle.die_names.specs.declared.unit_read.UnitRead.{UnitRead}
+use Rattle.die_names.specs.Names.{entry_name}
+use Rattle.die_names.proofs.Computing.{die_names_computes}
+
+-- an entry by its place, tag and parent, what it is linked to, and its names
+unfoldable die : ℕ → ℕ → Option ℕ → Option ℕ → Option ℕ → Option (List ℕ) → Option (List ℕ) → DieFields
+die at tag parent origin spec name linkage = record {
+  at = at; tag = tag; parent = parent; declaration = false; low = None; high = None; ranges = None;
+  origin = origin; spec = spec; name = name; linkage = linkage; call_file = None; call_line = 0;
+}
+
+unfoldable unit : List DieFields → UnitRead
+unit dies = record {
+  die = record { root = record { at = 0; low = None; stmt_list = None; comp_dir = None; str_offsets_base = None; addr_base = None; rnglists_base = None }; dies = dies };
+  spans = map (λ (d : DieFields). []) dies;
+  lines = record { lines = record { stops = []; values = [] }; paths = []; first = 0; files = [] };
+}
+
+-- a unit's root, without a name
+unfoldable root : ℕ → DieFields
+root at = die at 0x11 None None None None None
+
+-- a method whose specification lies in a structure in a namespace
+unfoldable method : List UnitRead
+method = unit (
+    root 11
+    ∷ die 20 0x39 (Some 0) None None (Some (codes "n")) None
+    ∷ die 30 0x13 (Some 1) None None (Some (codes "S")) None
+    ∷ die 40 0x2e (Some 2) None None (Some (codes "f")) None
+    ∷ die 50 0x2e (Some 0) None (Some 40) None None
+    ∷ []) ∷ []
+
+of_a_method : entry_name method 0 4 ≡ codes "n::S::f"
+unfolding die_names_computes method root unit die
+of_a_method = refl
+
+-- two entries without names, of which each is the other's origin
+unfoldable ring : List UnitRead
+ring = unit (root 11 ∷ die 20 0x2e (Some 0) (Some 30) None None None ∷ die 30 0x2e (Some 0) (Some 20) None None None ∷ []) ∷ []
+
+of_a_ring : entry_name ring 0 1 ≡ codes "<name omitted>"
+unfolding die_names_computes ring root unit die
+of_a_ring = refl
+
+-- a chain of entries at 100, 101 and so on, each with the next as its origin; the last one has a name
+unfoldable links : ℕ → ℕ → List DieFields
+links at zero = die at 0x2e (Some 0) None None (Some (codes "last")) None ∷ []
+links at (suc more) = die at 0x2e (Some 0) (Some (at + 1)) None None None ∷ links (at + 1) more
+
+-- sixteen links are followed
+of_sixteen_links : entry_name (unit (root 11 ∷ links 100 16) ∷ []) 0 1 ≡ codes "last"
+unfolding die_names_computes links root unit die
+of_sixteen_links = refl
+
+-- seventeen are not
+of_seventeen_links : entry_name (unit (root 11 ∷ links 100 17) ∷ []) 0 1 ≡ codes "<name omitted>"
+unfolding die_names_computes links root unit die
+of_seventeen_links = refl
+
+-- entries that lead into another unit, to no entry, one byte beside one
+unfoldable leading : ℕ → List UnitRead
+leading place = unit (root 11 ∷ die 20 0x2e (Some 0) (Some place) None None None ∷ []) ∷ unit (root 111 ∷ die 120 0x39 (Some 0) None None (Some (codes "m")) None ∷ die 130 0x2e (Some 1) None None (Some (codes "g")) None ∷ []) ∷ []
+
+into_another_unit : entry_name (leading 130) 0 1 ≡ codes "m::g"
+unfolding die_names_computes leading root unit die
+into_another_unit = refl
+
+one_byte_beside : entry_name (leading 131) 0 1 ≡ codes "<name omitted>"
+unfolding die_names_computes leading root unit die
+one_byte_beside = refl
+
+behind_the_section : entry_name (leading 1000) 0 1 ≡ codes "<name omitted>"
+unfolding die_names_computes leading root unit die
+behind_the_section = refl
+
+-- an origin that leads to no entry ends the way: the specification does not count
+unfoldable both : ℕ → List UnitRead
+both origin = unit (root 11 ∷ die 20 0x2e (Some 0) (Some origin) (Some 40) None None ∷ die 30 0x2e (Some 0) None None (Some (codes "o")) None ∷ die 40 0x2e (Some 0) None None (Some (codes "s")) None ∷ []) ∷ []
+
+origin_before_specification : entry_name (both 30) 0 1 ≡ codes "o"
+unfolding die_names_computes both root unit die
+origin_before_specification = refl
+
+origin_without_an_entry : entry_name (both 31) 0 1 ≡ codes "<name omitted>"
+unfolding die_names_computes both root unit die
+origin_without_an_entry = refl
+
+-- a linkage name further on comes before a name; an empty one is one
+unfoldable linkage_behind : List ℕ → List UnitRead
+linkage_behind linkage = unit (root 11 ∷ die 20 0x2e (Some 0) (Some 30) None (Some (codes "near")) None ∷ die 30 0x2e (Some 0) None None (Some (codes "far")) (Some linkage) ∷ []) ∷ []
+
+linkage_first : entry_name (linkage_behind (codes "_Z3farv")) 0 1 ≡ codes "_Z3farv"
+unfolding die_names_computes linkage_behind root unit die
+linkage_first = refl
+
+empty_linkage : entry_name (linkage_behind []) 0 1 ≡ codes "<name omitted>"
+unfolding die_names_computes linkage_behind root unit die
+empty_linkage = refl
+
+-- scopes without a name and with an empty one; functions and other entries around are no part of a name
+unfoldable scoped : Option (List ℕ) → ℕ → List UnitRead
+scoped name tag = unit (root 11 ∷ die 20 0x02 (Some 0) None None (Some (codes "C")) None ∷ die 30 tag (Some 1) None None name None ∷ die 40 0x2e (Some 2) None None (Some (codes "f")) None ∷ []) ∷ []
+
+unnamed_scope : entry_name (scoped None 0x17) 0 3 ≡ codes "C::(anonymous)::f"
+unfolding die_names_computes scoped root unit die
+unnamed_scope = refl
+
+empty_scope : entry_name (scoped (Some []) 0x39) 0 3 ≡ codes "C::::f"
+unfolding die_names_computes scoped root unit die
+empty_scope = refl
+
+inside_a_function : entry_name (scoped (Some (codes "outer")) 0x2e) 0 3 ≡ codes "C::f"
+unfolding die_names_computes scoped root unit die
+inside_a_function = refl
+
+-- names are cleaned
+unclean : entry_name (scoped (Some (9 ∷ 32 ∷ [])) 0x13) 0 2 ≡ codes "C::? "
+unfolding die_names_computes scoped root unit die
+unclean = refl
+
+-- the entry that was asked for is none
+no_such_entry : entry_name method 0 9 ≡ codes "<name omitted>"
+unfolding die_names_computes method root unit die
+no_such_entry = refl

@@ -1,0 +1,7 @@
+pub mod UnitEntries
+pub mod Names
+pub mod NameRefs
+pub mod Owners
+pub mod Finding
+pub mod Following
+pub mod Gathering

@@ -1,0 +1,74 @@
+-- The names of entries (DWARF 5, 2.15 and 3.3.8).
+use Rattle.std.specs.Prelude.{ℕ, zero, suc, ◌==◌, ◌||◌, Bool, false, if◌then◌else◌, List, [], ◌∷◌, ◌++◌, codes, Option, None, Some, unwrap_or, option_and_then}
+use Rattle.std.specs.List.{slice_get}
+use Rattle.std.specs.Option.{option_map, option_map_or}
+use Rattle.sym_records.specs.Cleaning.{cleaned}
+use Rattle.die_walk.specs.Attributes.{or_else}
+use Rattle.die_walk.specs.EntryTable.{DieFields}
+use Rattle.die_names.specs.declared.unit_read.UnitRead.{UnitRead}
+use Rattle.die_names.specs.UnitEntries.{Placed, entry_at, entry_of}
+
+-- where an entry says that it belongs to: its abstract origin, or else its specification
+abbrev pub link_of : DieFields → Option ℕ
+link_of die = or_else die.origin die.spec
+
+abbrev pub linked_from : List UnitRead → DieFields → Option Placed
+linked_from units die = option_and_then (entry_at units) (link_of die)
+
+-- the way of an entry: itself and the entries that so many links reach
+unfoldable pub way : List UnitRead → ℕ → Option Placed → List Placed
+way units links None = []
+way units zero (Some p) = p ∷ []
+way units (suc links) (Some p) = p ∷ way units links (linked_from units p.die)
+
+-- the numbers of the entries around one with this parent, the innermost first; they stand before it, so among the first `number` of the unit
+unfoldable pub around : List DieFields → ℕ → Option ℕ → List ℕ
+around dies zero parent = []
+around dies (suc number) parent =
+    if option_map_or (λ p. p == number) parent false
+    then option_map_or (λ die. number ∷ around dies number die.parent) (slice_get dies number) []
+    else around dies number parent
+
+-- the tags of scopes: DW_TAG_class_type, DW_TAG_structure_type, DW_TAG_union_type, DW_TAG_namespace
+unfoldable pub is_scope : DieFields → Bool
+is_scope die = die.tag == 0x02 || (die.tag == 0x13 || (die.tag == 0x17 || die.tag == 0x39))
+
+-- what a scope puts in front of a name
+unfoldable pub scope_front : DieFields → List ℕ
+scope_front die = if is_scope die then unwrap_or die.name (codes "(anonymous)") ++ codes "::" else []
+
+abbrev pub front_at : List DieFields → ℕ → List ℕ
+front_at dies number = option_map_or scope_front (slice_get dies number) []
+
+-- the scopes of a name, the outermost first
+abbrev pub fronts : List DieFields → List ℕ → List ℕ
+fronts dies [] = []
+fronts dies (number ∷ outer) = fronts dies outer ++ front_at dies number
+
+-- the entries of a unit
+abbrev pub dies_of : Option UnitRead → List DieFields
+dies_of None = []
+dies_of (Some part) = part.die.dies
+
+abbrev pub front_in : List DieFields → ℕ → Option ℕ → List ℕ
+front_in dies entry parent = fronts dies (around dies entry parent)
+
+unfoldable pub front_of : List UnitRead → Placed → List ℕ
+front_of units p = front_in (dies_of (slice_get units p.unit)) p.entry p.die.parent
+
+-- the first linkage name on a way
+abbrev pub first_linkage : List Placed → Option (List ℕ)
+first_linkage [] = None
+first_linkage (p ∷ rest) = or_else p.die.linkage (first_linkage rest)
+
+-- the first name on a way, with the scopes of the entry that has it
+abbrev pub first_joined : List UnitRead → List Placed → Option (List ℕ)
+first_joined units [] = None
+first_joined units (p ∷ rest) = or_else (option_map (λ name. front_of units p ++ name) p.die.name) (first_joined units rest)
+
+abbrev pub name_on : List UnitRead → List Placed → List ℕ
+name_on units entries = unwrap_or (or_else (first_linkage entries) (first_joined units entries)) (codes "<name omitted>")
+
+-- the name of an entry, as a record may carry it
+unfoldable pub entry_name : List UnitRead → ℕ → ℕ → List ℕ
+entry_name units unit entry = cleaned (name_on units (way units 16 (entry_of units unit entry)))

@@ -1,0 +1,68 @@
+-- The function that owns an address, its inline chain and its line (DWARF 5, 3.3).
+use Rattle.std.specs.Prelude.{ℕ, zero, suc, ◌+◌, ◌==◌, ◌&&◌, ◌||◌, false, if◌then◌else◌, List, [], ◌∷◌, ◌++◌, Option, None, Some}
+use Rattle.std.specs.List.{find, slice_get}
+use Rattle.std.specs.Option.{option_map_or}
+use Rattle.sym_edges.specs.Addresses.{Range}
+use Rattle.range_set.specs.Members.{holds_any}
+use Rattle.die_walk.specs.EntryTable.{DieFields}
+use Rattle.line_program.specs.LineMaps.{named_line, numbered_line}
+use Rattle.die_names.specs.declared.unit_read.UnitRead.{UnitRead}
+use Rattle.die_names.specs.UnitEntries.{is_function, is_inlined}
+
+-- an entry with its numbers and its addresses
+pub record Covering : Type 0 where
+  pub unit : ℕ
+  pub entry : ℕ
+  pub die : DieFields
+  pub spans : List Range
+
+abbrev pub unit_covering : ℕ → ℕ → List DieFields → List (List Range) → List Covering
+unit_covering unit entry (die ∷ dies) (spans ∷ sets) = record { unit = unit; entry = entry; die = die; spans = spans } ∷ unit_covering unit (entry + 1) dies sets
+unit_covering unit entry _ _ = []
+
+abbrev pub covering_from : ℕ → List UnitRead → List Covering
+covering_from unit [] = []
+covering_from unit (part ∷ parts) = unit_covering unit 0 part.die.dies part.spans ++ covering_from (unit + 1) parts
+
+-- the first function, in the order of the section, whose addresses hold this one
+unfoldable pub owner : List UnitRead → ℕ → Option Covering
+owner units a = find (λ c. is_function c.die && holds_any c.spans a) (covering_from 0 units)
+
+-- the nearest function or inlined copy around an entry with this parent; it stands before it, so among the first `number` of the unit
+unfoldable pub inside_of : List DieFields → ℕ → Option ℕ → Option ℕ
+inside_of dies zero parent = None
+inside_of dies (suc number) parent =
+    if option_map_or (λ p. p == number) parent false
+    then option_map_or (λ die. if die.tag == 0x2e || is_inlined die then Some number else inside_of dies number die.parent) (slice_get dies number) None
+    else inside_of dies number parent
+
+-- the inlined copies at an address inside of an entry, level by level: at each level the first one that stands in the one before; it stands behind that one
+abbrev pub chain_from : List DieFields → ℕ → ℕ → List Covering → List Covering
+chain_from dies a entry [] = []
+chain_from dies a entry (c ∷ later) =
+    if is_inlined c.die && (holds_any c.spans a && option_map_or (λ e. e == entry) (inside_of dies c.entry c.die.parent) false)
+    then c ∷ chain_from dies a c.entry later
+    else chain_from dies a entry later
+
+abbrev pub chain_in : ℕ → Covering → Option UnitRead → List Covering
+chain_in a c None = []
+chain_in a c (Some part) = chain_from part.die.dies a c.entry (unit_covering c.unit 0 part.die.dies part.spans)
+
+abbrev pub chain_under : List UnitRead → ℕ → Option Covering → List Covering
+chain_under units a None = []
+chain_under units a (Some c) = chain_in a c (slice_get units c.unit)
+
+unfoldable pub chain : List UnitRead → ℕ → List Covering
+chain units a = chain_under units a (owner units a)
+
+-- path and line of an address, by the table of its owner's unit
+abbrev pub line_in : ℕ → Option UnitRead → Option (List ℕ × ℕ)
+line_in a None = None
+line_in a (Some part) = named_line part.lines.paths (numbered_line part.lines a)
+
+abbrev pub line_under : List UnitRead → ℕ → Option Covering → Option (List ℕ × ℕ)
+line_under units a None = None
+line_under units a (Some c) = line_in a (slice_get units c.unit)
+
+unfoldable pub line : List UnitRead → ℕ → Option (List ℕ × ℕ)
+line units a = line_under units a (owner units a)

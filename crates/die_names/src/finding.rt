@@ -1,0 +1,89 @@
+//! The entry that begins at a place.
+ghost use Rattle.std.specs.Prelude.{◌≡◌, ◌+◌, ◌<◌, ◌^◌, ℕ, map, length, IfSome};
+ghost use Rattle.std.specs.List.{find};
+ghost use Rattle.step_maps.specs.Stepping.{RisesFrom};
+ghost use Rattle.die_walk.specs.EntryTable.{DieFields};
+ghost use Rattle.die_names.specs.UnitEntries.{places, unit_entries, entries_from, entry_at};
+ghost use Rattle.die_names.specs.Finding.{is_at, found_in, found_from, found, moved, Before, IsInside};
+
+use crate::unit_read::UnitRead;
+use die_walk::Die;
+
+/// Where an entry stands.
+#[derive(Clone, Copy, Debug)]
+pub struct Standing {
+    pub unit: usize,
+    pub entry: usize,
+}
+
+/// How many entries begin before a place, by halves.
+fn count_before(dies: &[Die<'_>], place: u64) -> usize
+    requires { RisesFrom 0 (map (λ (d : DieFields). d.at) dies.now) }
+    ensures { Before place result dies.now }
+{
+    dies.partition_point(|die| u64::from(die.at()) < place)
+}
+
+/// The number of the entry of a unit that begins at a place.
+#[tactic(auto, using(crate::proofs::FindLemmas::die_found, crate::proofs::FindLemmas::die_other, crate::proofs::FindLemmas::die_none))]
+fn find_in_unit(dies: &[Die<'_>], place: u64) -> Option<usize>
+    requires { RisesFrom 0 (map (λ (d : DieFields). d.at) dies.now) }
+    ensures found { (unit : ℕ) → found_in unit dies.now result ≡ find (is_at place) (unit_entries unit 0 dies.now) }
+    ensures inside { IfSome result (λ entry. entry < length dies.now) }
+{
+    let count = count_before(dies, place);
+    if count == dies.len() {
+        return None;
+    }
+    let die = &dies[count];
+    if u64::from(die.at()) != place {
+        return None;
+    }
+    Some(count)
+}
+
+/// The same behind so many units.
+fn behind(count: usize, standing: Option<Standing>) -> Option<Standing>
+    requires { IfSome standing (λ s. count + s.unit < 2 ^ 63) }
+    ensures { result ≡ moved count standing }
+{
+    match standing {
+        Some(s) => Some(Standing { unit: count + s.unit, entry: s.entry }),
+        None => None,
+    }
+}
+
+/// The entry of some units that begins at a place, by halves.
+fn find_among(units: &[UnitRead<'_>], place: u64) -> Option<Standing>
+    requires { RisesFrom 0 (places units.now) }
+    ensures found { (first : ℕ) → found_from first units.now result ≡ find (is_at place) (entries_from first units.now) }
+    ensures inside { IfSome result (λ s. IsInside units.now s) }
+{
+    let half = units.len() / 2;
+    let (left, right) = units.split_at(half);
+    let Some((part, rest)) = right.split_first() else {
+        return None;
+    };
+    let dies = part.die.dies();
+    let Some(die) = dies.first() else {
+        return match find_among(left, place) {
+            Some(standing) => Some(standing),
+            None => behind(half + 1, find_among(rest, place)),
+        };
+    };
+    if place < u64::from(die.at()) {
+        return find_among(left, place);
+    }
+    match find_in_unit(dies, place) {
+        Some(entry) => Some(Standing { unit: half, entry }),
+        None => behind(half + 1, find_among(rest, place)),
+    }
+}
+
+/// The entry that begins at a place of `.debug_info`.
+pub(crate) fn find_entry(units: &[UnitRead<'_>], place: u64) -> Option<Standing>
+    requires { RisesFrom 0 (places units.now) }
+    ensures { found units.now result ≡ entry_at units.now place }
+{
+    find_among(units, place)
+}

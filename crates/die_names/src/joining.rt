@@ -1,0 +1,171 @@
+//! The text of a name.
+ghost use Rattle.std.specs.Prelude.{◌≡◌, ◌++◌, ◌≤◌, ◌<◌, length, IfOk, OnOk};
+ghost use Rattle.std.specs.Option.{option_copied};
+ghost use Rattle.sym_records.specs.Cleaning.{cleaned};
+ghost use Rattle.die_walk.specs.EntryTable.{DieFields};
+ghost use Rattle.std.specs.List.{slice_get, list_any};
+ghost use Rattle.die_names.specs.Names.{around, is_scope, scope_front, front_in};
+ghost use Rattle.die_names.specs.NameRefs.{name_bytes, name_slice};
+ghost use Rattle.die_names.specs.Gathering.{is_scope_at};
+
+use crate::naming::{How, NameRef};
+use crate::unit_read::{UnitRead, Units};
+use die_walk::Die;
+use std::alloc::Global;
+use sym_edges::OutOfMemory;
+use sym_records::clean;
+use sym_rules::ByteText;
+
+/// Whether an entry is a scope: a class, a structure, a union or a namespace.
+#[tactic(auto, unfolding(crate::specs::Names::is_scope))]
+fn is_scope(die: &Die<'_>) -> bool
+    ensures { result ≡ is_scope die.now }
+{
+    matches!(die.tag(), 0x02 | 0x13 | 0x17 | 0x39)
+}
+
+/// The entry of a number.
+fn entry_in<'u, 'a>(dies: &'u [Die<'a>], entry: usize) -> Option<&'u Die<'a>>
+    ensures { option_copied result ≡ slice_get dies.now entry }
+{
+    dies.get(entry)
+}
+
+/// What was read of the unit of a number.
+fn part_in<'u, 'a>(units: &'u Units<'a>, unit: usize) -> Option<&'u UnitRead<'a>>
+    ensures { option_copied result ≡ slice_get units.now unit }
+{
+    units.as_slice().get(unit)
+}
+
+/// Adds what an entry puts in front of a name.
+#[tactic(auto, unfolding(crate::specs::Names::scope_front))]
+fn add_front(text: &mut Vec<u8>, die: &Die<'_>) -> Result<(), OutOfMemory>
+    ensures { OnOk result (text.new.items ≡ text.old.items ++ scope_front die.now) }
+{
+    if !is_scope(die) {
+        return Ok(());
+    }
+    text.extend_from_slice(die.name().unwrap_or(b"(anonymous)"))?;
+    text.extend_from_slice(b"::")?;
+    Ok(())
+}
+
+/// The numbers of the entries around one, the innermost first.
+#[tactic(auto, using(crate::proofs::JoinLemmas::gathered_more, crate::proofs::JoinLemmas::gathered_none, crate::proofs::JoinLemmas::gathered_past, crate::proofs::JoinLemmas::gathered_lost))]
+fn numbers_around(alloc: Global, dies: &[Die<'_>], entry: usize, parent: Option<u32>) -> Result<Vec<u32>, OutOfMemory>
+    ensures { IfOk result (λ v. v.items ≡ around dies.now entry parent) }
+{
+    let mut numbers = Vec::new(alloc);
+    let mut limit = entry;
+    let mut next = parent;
+    'around: loop {
+        let Some(number) = next else {
+            return Ok(numbers);
+        };
+        if number as usize >= limit {
+            return Ok(numbers);
+        }
+        let Some(die) = entry_in(dies, number as usize) else {
+            return Ok(numbers);
+        };
+        numbers.push(number)?;
+        limit = number as usize;
+        next = die.parent();
+    }
+}
+
+/// Whether one of the entries around one is a scope.
+#[tactic(auto, using(crate::proofs::JoinLemmas::any_found, crate::proofs::JoinLemmas::any_more, crate::proofs::JoinLemmas::any_none, crate::proofs::JoinLemmas::any_past, crate::proofs::JoinLemmas::any_lost))]
+fn has_scope(dies: &[Die<'_>], entry: usize, parent: Option<u32>) -> bool
+    ensures { result ≡ list_any (is_scope_at dies.now) (around dies.now entry parent) }
+{
+    let mut limit = entry;
+    let mut next = parent;
+    'around: loop {
+        let Some(number) = next else {
+            return false;
+        };
+        if number as usize >= limit {
+            return false;
+        }
+        let Some(die) = entry_in(dies, number as usize) else {
+            return false;
+        };
+        if is_scope(die) {
+            return true;
+        }
+        limit = number as usize;
+        next = die.parent();
+    }
+}
+
+/// A name behind the names of its scopes.
+#[tactic(auto, using(crate::proofs::JoinLemmas::fronts_more))]
+fn join(alloc: Global, dies: &[Die<'_>], entry: usize, parent: Option<u32>, name: &[u8]) -> Result<Vec<u8>, OutOfMemory>
+    ensures { IfOk result (λ v. v.items ≡ front_in dies.now entry parent ++ name.now) }
+{
+    let mut numbers = numbers_around(alloc, dies, entry, parent)?;
+    let mut text = Vec::new(alloc);
+    'scopes: while let Some(number) = numbers.pop() {
+        if let Some(die) = entry_in(dies, number as usize) {
+            add_front(&mut text, die)?;
+        }
+    }
+    text.extend_from_slice(name)?;
+    Ok(text)
+}
+
+/// The bytes of a name where they stand in the file as they are, before they are cleaned: a linkage name, or a name
+/// that has no scopes. Takes no memory.
+#[tactic(auto, using(crate::proofs::TextLemmas::slice_no_part, crate::proofs::TextLemmas::slice_no_die, crate::proofs::TextLemmas::slice_linkage, crate::proofs::TextLemmas::slice_omitted, crate::proofs::TextLemmas::slice_bare, crate::proofs::TextLemmas::slice_scoped))]
+pub fn name_slice<'a>(units: &Units<'a>, name: NameRef) -> Option<&'a [u8]>
+    ensures { option_copied result ≡ name_slice units.now name }
+{
+    let Some(part) = part_in(units, name.unit as usize) else {
+        return None;
+    };
+    let dies = part.die.dies();
+    let Some(die) = entry_in(dies, name.entry as usize) else {
+        return None;
+    };
+    match name.how {
+        How::Linkage => die.linkage(),
+        How::Joined => {
+            if has_scope(dies, name.entry as usize, die.parent()) {
+                None
+            } else {
+                die.name()
+            }
+        }
+        How::Omitted => None,
+    }
+}
+
+/// The text of a name, as a record may carry it: `name_text` of what `name_of` gave is the name of the entry.
+#[tactic(auto, using(crate::proofs::TextLemmas::text_sliced, crate::proofs::TextLemmas::text_joined, crate::proofs::TextLemmas::text_no_part, crate::proofs::TextLemmas::text_no_die, crate::proofs::TextLemmas::text_no_name, crate::proofs::TextLemmas::text_no_linkage, crate::proofs::TextLemmas::text_omitted))]
+pub fn name_text(alloc: Global, units: &Units<'_>, name: NameRef) -> Result<ByteText, OutOfMemory>
+    ensures { IfOk result (λ t. t ≡ cleaned (name_bytes units.now name)) }
+{
+    if let Some(bytes) = name_slice(units, name) {
+        return clean(alloc, bytes);
+    }
+    let Some(part) = part_in(units, name.unit as usize) else {
+        return clean(alloc, b"<name omitted>");
+    };
+    let dies = part.die.dies();
+    let Some(die) = entry_in(dies, name.entry as usize) else {
+        return clean(alloc, b"<name omitted>");
+    };
+    match name.how {
+        How::Joined => match die.name() {
+            Some(text) => {
+                let joined = join(alloc, dies, name.entry as usize, die.parent(), text)?;
+                clean(alloc, joined.as_slice())
+            }
+            None => clean(alloc, b"<name omitted>"),
+        },
+        How::Linkage => clean(alloc, b"<name omitted>"),
+        How::Omitted => clean(alloc, b"<name omitted>"),
+    }
+}

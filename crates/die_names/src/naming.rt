@@ -1,0 +1,110 @@
+//! Which entry gives a name.
+ghost use Rattle.std.specs.Prelude.{◌≡◌, ◌<◌, ◌^◌, if◌then◌else◌};
+ghost use Rattle.std.specs.Option.{option_copied};
+ghost use Rattle.sym_records.specs.Cleaning.{cleaned};
+ghost use Rattle.die_names.specs.UnitEntries.{AreRead, entry_of};
+ghost use Rattle.die_names.specs.Names.{way, entry_name, linked_from};
+ghost use Rattle.die_names.specs.NameRefs.{name_ref, name_bytes};
+ghost use Rattle.die_names.specs.Finding.{found, die_in};
+ghost use Rattle.die_names.specs.Following.{followed, noted_at};
+
+use crate::finding::{Standing, find_entry};
+use crate::unit_read::{UnitRead, Units};
+use die_walk::Die;
+
+/// How an entry gives a name.
+#[derive(Clone, Copy, Debug, PartialEq, Eq)]
+pub enum How {
+    /// By its linkage name.
+    Linkage,
+    /// By its name, behind the names of its scopes.
+    Joined,
+    /// There is no name on the way.
+    Omitted,
+}
+
+/// The entry that gives a name.
+#[derive(Clone, Copy, Debug, PartialEq, Eq)]
+pub struct NameRef {
+    pub unit: u32,
+    pub entry: u32,
+    pub how: How,
+}
+
+/// So many links are followed.
+const LINKS: u32 = 16;
+
+/// The entry of these numbers.
+pub(crate) fn die_at<'u, 'a>(units: &'u [UnitRead<'a>], at: Standing) -> Option<&'u Die<'a>>
+    ensures { option_copied result ≡ die_in units.now at }
+{
+    let part = units.get(at.unit)?;
+    part.die.dies().get(at.entry)
+}
+
+/// The entry that an entry is linked to.
+fn follow_link(units: &[UnitRead<'_>], die: &Die<'_>) -> Option<Standing>
+    requires { AreRead units.now }
+    ensures { found units.now result ≡ linked_from units.now die.now }
+{
+    let place = match die.origin() {
+        Some(place) => place,
+        None => die.spec()?,
+    };
+    find_entry(units, place)
+}
+
+/// The name that the entry gives.
+fn refer(at: Standing, how: How) -> NameRef
+    requires unit { at.unit < 2 ^ 32 }
+    requires entry { at.entry < 2 ^ 32 }
+    ensures { result ≡ record { unit = at.unit; entry = at.entry; how = how } }
+{
+    NameRef { unit: at.unit as u32, entry: at.entry as u32, how }
+}
+
+/// The name if no linkage name comes: that of the first entry that has one.
+fn note(die: &Die<'_>, at: Standing, best: NameRef) -> NameRef
+    requires unit { at.unit < 2 ^ 32 }
+    requires entry { at.entry < 2 ^ 32 }
+    ensures { result ≡ noted_at best at die.now }
+{
+    match best.how {
+        How::Omitted if die.name().is_some() => refer(at, How::Joined),
+        _ => best,
+    }
+}
+
+/// The name from an entry on, where `best` is what it is if no linkage name comes.
+#[tactic(auto, using(crate::proofs::FollowLemmas::way_none, crate::proofs::FollowLemmas::way_lost, crate::proofs::FollowLemmas::linkage_is, crate::proofs::FollowLemmas::last_is, crate::proofs::FollowLemmas::next_is, crate::proofs::FollowLemmas::small_unit, crate::proofs::FollowLemmas::small_entry))]
+fn follow(units: &[UnitRead<'_>], here: Option<Standing>, links: u32, best: NameRef) -> NameRef
+    requires { AreRead units.now }
+    ensures { result ≡ followed best (way units.now links (found units.now here)) }
+{
+    let Some(at) = here else {
+        return best;
+    };
+    let Some(die) = die_at(units, at) else {
+        return best;
+    };
+    if die.linkage().is_some() {
+        return refer(at, How::Linkage);
+    }
+    let noted = note(die, at, best);
+    if links == 0 {
+        return noted;
+    }
+    follow(units, follow_link(units, die), links - 1, noted)
+}
+
+/// The entry that gives the name of an entry: the first one with a linkage name, else the first one with a name, among the entry and those that at most 16 links reach. A link goes by `DW_AT_abstract_origin`,
+/// or else by `DW_AT_specification`, to a kept entry of any unit. Takes no memory.
+#[tactic(auto, using(crate::proofs::NameLemmas::reference_is, crate::proofs::NameLemmas::name_from), unfolding(crate::specs::UnitEntries::entry_of))]
+pub fn name_of(units: &Units<'_>, unit: u32, entry: u32) -> NameRef
+    ensures reference { result ≡ name_ref units.now unit entry }
+    ensures name { cleaned (name_bytes units.now result) ≡ entry_name units.now unit entry }
+{
+    let asked = NameRef { unit, entry, how: How::Omitted };
+    let here = Standing { unit: unit as usize, entry: entry as usize };
+    follow(units.as_slice(), Some(here), LINKS, asked)
+}

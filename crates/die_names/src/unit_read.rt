@@ -1,0 +1,57 @@
+//! The units of a file, as they were read.
+ghost use Rattle.std.specs.Prelude.{◌≡◌};
+ghost use Rattle.die_names.specs.UnitEntries.{AreRead};
+
+use die_walk::DieTable;
+use line_program::LineTable;
+use range_set::RangeSet;
+use std::marker::Model;
+use sym_edges::ListOf;
+
+/// The addresses of a unit's entries, one set for each: empty for those that do not count.
+pub type SpanSets = ListOf<RangeSet>;
+
+/// What was read of a unit.
+#[derive(Drop)]
+pub struct UnitRead<'a> {
+    pub die: DieTable<'a>,
+    pub spans: SpanSets,
+    pub lines: LineTable,
+}
+
+/// The units of a file in the order of their places.
+#[derive(Drop)]
+pub struct Units<'a> {
+    parts: Vec<UnitRead<'a>>,
+}
+
+impl<'a> Model for Units<'a> {
+    ghost use Rattle.std.specs.Prelude.{List};
+    ghost use Rattle.die_names.specs.declared.unit_read.UnitRead.{UnitRead};
+    ghost use Rattle.die_names.specs.UnitEntries.{AreRead};
+
+    ghost Value = { List UnitRead };
+
+    ghost view = { λ u. u.parts.items };
+
+    ghost invariant = { λ u. AreRead u.parts.items };
+}
+
+impl<'a> Units<'a> {
+    /// Takes no memory. There are less than 2^32 parts, and less than 2^32 entries in all of them; each
+    /// entry has a set, which is empty where it does not count; and the places of the entries rise through
+    /// all parts.
+    pub fn of(parts: Vec<UnitRead<'a>>) -> Units<'a>
+        requires { AreRead parts.items }
+        ensures { result ≡ parts.entry.items }
+    {
+        Units { parts }
+    }
+
+    pub fn as_slice(&self) -> &[UnitRead<'a>]
+        ensures units { result.now ≡ self.now }
+        ensures read { AreRead self.now }
+    {
+        self.parts.as_slice()
+    }
+}
