@@ -160,6 +160,13 @@ impl LineTable {
         shown(values[stop])
     }
 
+    /// How many paths the table has: they are numbered from 0. Takes no memory.
+    pub fn path_count(&self) -> usize
+        ensures { result ≡ length self.now.paths }
+    {
+        self.firsts.len()
+    }
+
     /// The path of a number, cleaned: two numbers have two paths. The table has the numbers that `line_at`, `line_from` and
     /// `file` give. Takes no memory.
     pub fn path(&self, number: u32) -> &[u8]

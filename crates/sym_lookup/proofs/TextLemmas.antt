@@ -5,27 +5,8 @@ use Rattle.std.specs.List.{find, slice_get}
 use Rattle.std.specs.Option.{option_map}
 use Rattle.sym_records.specs.declared.line.SymLine.{SymLine}
 use Rattle.sym_records.specs.declared.line.SymLine.TheVariants.{Module, Info, File, Origin, Func, Inline, Line, Public, Init, Change}
+use Rattle.sym_lookup.specs.Plain.{IsPlain, ArePlain, IsNoFile, HaveNoFile}
 use Rattle.sym_lookup.specs.TextNames.{is_within, under, Found, text_func, is_file, file_name, text_path}
-
--- records that are no FUNC, and nothing that stands under one
-abbrev pub IsPlain : SymLine → Type 0
-IsPlain (Func many address size params name) = ⊥
-IsPlain (Inline level line file origin ranges) = ⊥
-IsPlain (Line address size line file) = ⊥
-IsPlain _ = Prim.Unit {0}
-
-abbrev pub ArePlain : List SymLine → Type 0
-ArePlain [] = Prim.Unit {0}
-ArePlain (s ∷ lines) = IsPlain s × ArePlain lines
-
--- records that are no FILE
-abbrev pub IsNoFile : SymLine → Type 0
-IsNoFile (File number name) = ⊥
-IsNoFile _ = Prim.Unit {0}
-
-abbrev pub HaveNoFile : List SymLine → Type 0
-HaveNoFile [] = Prim.Unit {0}
-HaveNoFile (s ∷ lines) = IsNoFile s × HaveNoFile lines
 
 -- plain records in front are passed over
 pub func_behind : (front rest : List SymLine) (x : ℕ) → ArePlain front → text_func (front ++ rest) x ≡ text_func rest x
@@ -40,10 +21,6 @@ func_behind (Line address size line file ∷ front) rest x plain = absurd plain.
 func_behind (Public many address params name ∷ front) rest x plain = func_behind front rest x plain.1
 func_behind (Init address size rules ∷ front) rest x plain = func_behind front rest x plain.1
 func_behind (Change address rules ∷ front) rest x plain = func_behind front rest x plain.1
-
--- among plain records no function is found
-plain_alone : (lines : List SymLine) (x : ℕ) → ArePlain lines → text_func (lines ++ []) x ≡ None
-plain_alone lines x plain = func_behind lines [] x plain
 
 -- nothing stands under a FUNC that plain records follow
 pub none_under : (behind : List SymLine) → ArePlain behind → under behind ≡ []

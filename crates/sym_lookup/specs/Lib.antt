@@ -1,1 +1,2 @@
 pub mod TextNames
+pub mod Plain

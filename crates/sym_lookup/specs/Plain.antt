@@ -1,0 +1,24 @@
+-- Records that a look-up of functions and lines passes over.
+use Rattle.std.specs.Prelude.{List, [], ◌∷◌}
+use Rattle.sym_records.specs.declared.line.SymLine.{SymLine}
+use Rattle.sym_records.specs.declared.line.SymLine.TheVariants.{File, Func, Inline, Line}
+
+-- records that are no FUNC, and nothing that stands under one
+abbrev pub IsPlain : SymLine → Type 0
+IsPlain (Func many address size params name) = ⊥
+IsPlain (Inline level line file origin ranges) = ⊥
+IsPlain (Line address size line file) = ⊥
+IsPlain _ = Prim.Unit {0}
+
+abbrev pub ArePlain : List SymLine → Type 0
+ArePlain [] = Prim.Unit {0}
+ArePlain (s ∷ lines) = IsPlain s × ArePlain lines
+
+-- records that are no FILE
+abbrev pub IsNoFile : SymLine → Type 0
+IsNoFile (File number name) = ⊥
+IsNoFile _ = Prim.Unit {0}
+
+abbrev pub HaveNoFile : List SymLine → Type 0
+HaveNoFile [] = Prim.Unit {0}
+HaveNoFile (s ∷ lines) = IsNoFile s × HaveNoFile lines
