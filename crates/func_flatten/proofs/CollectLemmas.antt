@@ -11,7 +11,7 @@ use Rattle.die_names.specs.UnitEntries.{is_function, places}
 use Rattle.die_names.specs.Owners.{Covering, unit_covering, covering_from}
 use Rattle.func_flatten.specs.declared.piece.Place.{Place}
 use Rattle.func_flatten.specs.Pieces.{place_of}
-use Rattle.func_flatten.specs.Collecting.{functions, span_stretches, function_stretches, own_class, AreFit, HaveSets, Collects}
+use Rattle.func_flatten.specs.Collecting.{functions_in, span_stretches, function_stretches, own_class, AreFit, HaveSets, Collects}
 
 pub fit_joined : (xs : List Stretch) (s : Stretch) → AreFit xs → s.first ≤ s.last → s.last + 1 < 2 ^ 64 → AreFit (xs ++ s ∷ [])
 fit_joined [] s fit order last = (order, last, tt)
@@ -44,12 +44,12 @@ passed_by true c old before is = absurd (cc)
 passed_by false c old before is = collects_none old before []
 
 -- the entry is a function, and its addresses and place were added
-pub entry_taken : (c : Covering) (old new : List Place) (before after : List Stretch) → is_function c.die ≡ true → IsCanonical c.spans → after ≡ before ++ span_stretches (length old) (length old) c.spans → new ≡ old ++ place_of c ∷ [] → Collects old new before after (functions (c ∷ [])) []
+pub entry_taken : (c : Covering) (old new : List Place) (before after : List Stretch) → is_function c.die ≡ true → IsCanonical c.spans → after ≡ before ++ span_stretches (length old) (length old) c.spans → new ≡ old ++ place_of c ∷ [] → Collects old new before after (functions_in (c ∷ [])) []
 entry_taken c old new before after is canonical stretched placed =
     taken_by (is_function c.die) c old new before after is
     (rw (stretched, placed) (collects_one old old before before (c ∷ []) [] c (collects_none old before (c ∷ [])) canonical))
 
-pub entry_passed : (c : Covering) (old : List Place) (before : List Stretch) → is_function c.die ≡ false → Collects old old before before (functions (c ∷ [])) []
+pub entry_passed : (c : Covering) (old : List Place) (before : List Stretch) → is_function c.die ≡ false → Collects old old before before (functions_in (c ∷ [])) []
 entry_passed c old before is = passed_by (is_function c.die) c old before is
 
 map_joined : (xs ys : List Covering) → map place_of (xs ++ ys) ≡ map place_of xs ++ map place_of ys
@@ -74,9 +74,9 @@ functions_by : (b : Bool) (c : Covering) (xs ys l : List Covering) → l ≡ xs 
 functions_by true c xs ys l is = ap (λ k. c ∷ k) is
 functions_by false c xs ys l is = is
 
-pub functions_joined : (xs ys : List Covering) → functions (xs ++ ys) ≡ functions xs ++ functions ys
+pub functions_joined : (xs ys : List Covering) → functions_in (xs ++ ys) ≡ functions_in xs ++ functions_in ys
 functions_joined [] ys = refl
-functions_joined (x ∷ xs) ys = functions_by (is_function x.die) x (functions xs) (functions ys) (functions (xs ++ ys)) (functions_joined xs ys)
+functions_joined (x ∷ xs) ys = functions_by (is_function x.die) x (functions_in xs) (functions_in ys) (functions_in (xs ++ ys)) (functions_joined xs ys)
 
 -- a unit's functions were collected
 pub collects_unit : (old new newer : List Place) (before after later : List Stretch) (all one left whole : List Covering) → whole ≡ one ++ left → Collects old new before after all whole → Collects new newer after later one [] → Collects old newer before later all left
@@ -118,31 +118,31 @@ drop_index (y ∷ xs) (suc k) x inside is = (let same : suc (k + 1) ≡ suc k + 
 
 -- an entry of a unit was added
 pub entry_added : (old new newer : List Place) (before after later : List Stretch) (all : List Covering) (unit entry : ℕ) (dies : List DieFields) (sets : List (List Range)) (die : DieFields) (set : List Range) → Some die ≡ slice_get dies entry → Some set ≡ slice_get sets entry
-    → Collects old new before after all (functions (unit_covering unit entry (drop entry dies) (drop entry sets))) → Collects new newer after later (functions (record { unit = unit; entry = entry; die = die; spans = set } ∷ [])) []
-    → Collects old newer before later all (functions (unit_covering unit (entry + 1) (drop (entry + 1) dies) (drop (entry + 1) sets)))
+    → Collects old new before after all (functions_in (unit_covering unit entry (drop entry dies) (drop entry sets))) → Collects new newer after later (functions_in (record { unit = unit; entry = entry; die = die; spans = set } ∷ [])) []
+    → Collects old newer before later all (functions_in (unit_covering unit (entry + 1) (drop (entry + 1) dies) (drop (entry + 1) sets)))
 entry_added old new newer before after later all unit entry dies sets die set one two k more =
     let c : Covering = record { unit = unit; entry = entry; die = die; spans = set } in
     let rest = unit_covering unit (entry + 1) (drop (entry + 1) dies) (drop (entry + 1) sets) in
-    collects_unit old new newer before after later all (functions (c ∷ [])) (functions rest) (functions (unit_covering unit entry (drop entry dies) (drop entry sets)))
-    (ap (λ l. functions (unit_covering unit entry l (drop entry sets))) (drop_get dies entry die one)
-    ∙ ap (λ l. functions (unit_covering unit entry (die ∷ drop (entry + 1) dies) l)) (drop_get sets entry set two)
+    collects_unit old new newer before after later all (functions_in (c ∷ [])) (functions_in rest) (functions_in (unit_covering unit entry (drop entry dies) (drop entry sets)))
+    (ap (λ l. functions_in (unit_covering unit entry l (drop entry sets))) (drop_get dies entry die one)
+    ∙ ap (λ l. functions_in (unit_covering unit entry (die ∷ drop (entry + 1) dies) l)) (drop_get sets entry set two)
     ∙ functions_joined (c ∷ []) rest) k more
 
 -- no entry is left that has a set
 pub entries_done : (old new : List Place) (before after : List Stretch) (all : List Covering) (unit entry : ℕ) (dies : List DieFields) (sets : List (List Range)) (die : DieFields) → Some die ≡ slice_get dies entry → None ≡ slice_get sets entry
-    → Collects old new before after all (functions (unit_covering unit entry (drop entry dies) (drop entry sets))) → Collects old new before after all []
+    → Collects old new before after all (functions_in (unit_covering unit entry (drop entry dies) (drop entry sets))) → Collects old new before after all []
 entries_done old new before after all unit entry dies sets die one none k =
     let P : List Covering → Type 0 = λ l. Collects old new before after all l in
-    subst P (ap (λ l. functions (unit_covering unit entry l (drop entry sets))) (drop_get dies entry die one)
-    ∙ ap (λ l. functions (unit_covering unit entry (die ∷ drop (entry + 1) dies) l)) (drop_none sets entry none)) k
+    subst P (ap (λ l. functions_in (unit_covering unit entry l (drop entry sets))) (drop_get dies entry die one)
+    ∙ ap (λ l. functions_in (unit_covering unit entry (die ∷ drop (entry + 1) dies) l)) (drop_none sets entry none)) k
 
 -- a unit was added
 pub unit_added : (new newer : List Place) (after later : List Stretch) (all : List Covering) (unit : ℕ) (units : List UnitRead) (part : UnitRead) → unit < length units → part ≡ get_or units unit part
-    → Collects [] new [] after all (functions (covering_from unit (drop unit units))) → Collects new newer after later (functions (unit_covering unit 0 part.die.dies part.spans)) []
-    → Collects [] newer [] later all (functions (covering_from (unit + 1) (drop (unit + 1) units)))
+    → Collects [] new [] after all (functions_in (covering_from unit (drop unit units))) → Collects new newer after later (functions_in (unit_covering unit 0 part.die.dies part.spans)) []
+    → Collects [] newer [] later all (functions_in (covering_from (unit + 1) (drop (unit + 1) units)))
 unit_added new newer after later all unit units part inside is k more =
-    collects_unit [] new newer [] after later all (functions (unit_covering unit 0 part.die.dies part.spans)) (functions (covering_from (unit + 1) (drop (unit + 1) units))) (functions (covering_from unit (drop unit units)))
-    (ap (λ l. functions (covering_from unit l)) (drop_index units unit part inside is) ∙ functions_joined (unit_covering unit 0 part.die.dies part.spans) (covering_from (unit + 1) (drop (unit + 1) units))) k more
+    collects_unit [] new newer [] after later all (functions_in (unit_covering unit 0 part.die.dies part.spans)) (functions_in (covering_from (unit + 1) (drop (unit + 1) units))) (functions_in (covering_from unit (drop unit units)))
+    (ap (λ l. functions_in (covering_from unit l)) (drop_index units unit part inside is) ∙ functions_joined (unit_covering unit 0 part.die.dies part.spans) (covering_from (unit + 1) (drop (unit + 1) units))) k more
 
 length_dies : (dies : List DieFields) → length (map (λ die. die.at) dies) ≡ length dies
 length_dies [] = refl

@@ -1,1 +1,5 @@
 pub mod CollectLemmas
+pub mod MappedRuns
+pub mod FunctionLemmas
+pub mod PieceLemmas
+pub mod ClassLemmas

@@ -1,8 +1,9 @@
 -- No public clause cites this: the functions of the units, and the stretches of their addresses.
-use Rattle.std.specs.Prelude.{◌≡◌, ℕ, ◌+◌, ◌-◌, ◌<◌, ◌≤◌, ◌^◌, if◌then◌else◌, map, length, List, [], ◌∷◌, ◌++◌, unwrap_or}
+use Rattle.std.specs.Prelude.{◌≡◌, ℕ, ◌+◌, ◌-◌, ◌<◌, ◌≤◌, ◌^◌, Bool, Option, None, Some, if◌then◌else◌, map, length, List, [], ◌∷◌, ◌++◌, unwrap_or}
 use Rattle.std.specs.List.{slice_get, slice_index_or}
 use Rattle.sym_edges.specs.Addresses.{Range}
 use Rattle.range_set.specs.Canonical.{IsCanonical}
+use Rattle.range_set.specs.Members.{holds_any}
 use Rattle.step_maps.specs.declared.stretch.Stretch.{Stretch}
 use Rattle.step_maps.specs.declared.stretch.Cover.{Cover}
 use Rattle.die_names.specs.declared.unit_read.UnitRead.{UnitRead}
@@ -13,13 +14,13 @@ use Rattle.func_flatten.specs.declared.piece.Piece.{Piece}
 use Rattle.func_flatten.specs.Pieces.{place_of}
 
 -- the functions among some entries
-abbrev pub functions : List Covering → List Covering
-functions [] = []
-functions (c ∷ entries) = if is_function c.die then c ∷ functions entries else functions entries
+abbrev pub functions_in : List Covering → List Covering
+functions_in [] = []
+functions_in (c ∷ entries) = if is_function c.die then c ∷ functions_in entries else functions_in entries
 
 -- those of all units, in the order of the section
 abbrev pub all_functions : List UnitRead → List Covering
-all_functions units = functions (covering_from 0 units)
+all_functions units = functions_in (covering_from 0 units)
 
 -- the stretches of a set of addresses, with the number and the class of its function
 abbrev pub span_stretches : ℕ → ℕ → List Range → List Stretch
@@ -50,6 +51,20 @@ AreFit (s ∷ items) = (s.first ≤ s.last) × (s.last + 1 < 2 ^ 64) × AreFit i
 abbrev pub HaveSets : List Covering → Type 0
 HaveSets [] = Unit {0}
 HaveSets (c ∷ functions) = IsCanonical c.spans × HaveSets functions
+
+-- whether the function has the address
+abbrev pub has_address : ℕ → Covering → Bool
+has_address a c = holds_any c.spans a
+
+-- a function and its number
+pub record Numbered : Type 0 where
+  pub number : ℕ
+  pub function : Covering
+
+-- the first function that has the address
+abbrev pub first_function : ℕ → ℕ → List Covering → Option Numbered
+first_function a k [] = None
+first_function a k (c ∷ functions) = if has_address a c then Some (record { number = k; function = c }) else first_function a (k + 1) functions
 
 -- what was collected and what is left is all
 pub record Collects (old new : List Place) (before after : List Stretch) (all left : List Covering) : Type 0 where

@@ -4,7 +4,7 @@ ghost use Rattle.std.specs.List.{slice_get};
 ghost use Rattle.std.specs.Option.{option_copied};
 ghost use Rattle.die_names.specs.UnitEntries.{AreRead, is_function};
 ghost use Rattle.die_names.specs.Owners.{unit_covering};
-ghost use Rattle.func_flatten.specs.Collecting.{functions, all_functions, span_stretches, AreFit, Collects};
+ghost use Rattle.func_flatten.specs.Collecting.{functions_in, all_functions, span_stretches, AreFit, Collects};
 
 use crate::piece::Place;
 use die_names::UnitRead;
@@ -69,7 +69,7 @@ fn push_unit(
 ) -> Result<(), AllocError>
     requires count { vec_len places.old + length dies.now < 2 ^ 32 }
     requires fit { AreFit stretches.old.items }
-    ensures all { OnOk result (Collects places.old.items places.new.items stretches.old.items stretches.new.items (functions (unit_covering unit 0 dies.now sets.now)) []) }
+    ensures all { OnOk result (Collects places.old.items places.new.items stretches.old.items stretches.new.items (functions_in (unit_covering unit 0 dies.now sets.now)) []) }
     ensures fit { OnOk result (AreFit stretches.new.items) }
     ensures count { OnOk result (vec_len places.new ≤ vec_len places.old + length dies.now) }
 {
@@ -95,7 +95,7 @@ fn push_entry(
 ) -> Result<(), AllocError>
     requires count { vec_len places.old < 2 ^ 32 }
     requires fit { AreFit stretches.old.items }
-    ensures all { OnOk result (Collects places.old.items places.new.items stretches.old.items stretches.new.items (functions (record { unit = place.unit; entry = place.entry; die = die.now; spans = set.now } ∷ [])) []) }
+    ensures all { OnOk result (Collects places.old.items places.new.items stretches.old.items stretches.new.items (functions_in (record { unit = place.unit; entry = place.entry; die = die.now; spans = set.now } ∷ [])) []) }
     ensures fit { OnOk result (AreFit stretches.new.items) }
     ensures count { OnOk result (vec_len places.new ≤ vec_len places.old + 1) }
 {

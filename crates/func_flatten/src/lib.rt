@@ -2,7 +2,9 @@
 #![tactic(auto)]
 
 mod collecting;
+mod covering;
+mod owning;
 mod piece;
 
-pub use crate::collecting::{Collected, collect_all};
+pub use crate::owning::pieces;
 pub use crate::piece::{Piece, PieceList, Place};
