@@ -111,7 +111,7 @@ drop_none [] (suc k) is = refl
 drop_none (y ∷ xs) zero is = cc
 drop_none (y ∷ xs) (suc k) is = drop_none xs k is
 
-drop_index : {A : Type 0} (xs : List A) (k : ℕ) (x : A) → k < length xs → x ≡ get_or xs k x → drop k xs ≡ x ∷ drop (k + 1) xs
+pub drop_index : {A : Type 0} (xs : List A) (k : ℕ) (x : A) → k < length xs → x ≡ get_or xs k x → drop k xs ≡ x ∷ drop (k + 1) xs
 drop_index [] k x inside is = absurd (omega arith)
 drop_index (y ∷ xs) zero x inside is = ap (λ z. z ∷ xs) (sym is)
 drop_index (y ∷ xs) (suc k) x inside is = (let same : suc (k + 1) ≡ suc k + 1 = omega arith in drop_index xs k x (omega arith) is ∙ ap (λ n. x ∷ drop n (y ∷ xs)) same)

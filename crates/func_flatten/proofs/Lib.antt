@@ -3,3 +3,5 @@ pub mod MappedRuns
 pub mod FunctionLemmas
 pub mod PieceLemmas
 pub mod ClassLemmas
+pub mod GrowingRuns
+pub mod LineLemmas

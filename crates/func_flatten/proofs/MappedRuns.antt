@@ -33,7 +33,7 @@ follows_mapped : {V W : Type 0} (P : V → Type 0) (g : V → W) → ((u v : V) 
 follows_mapped P g one r [] here all follows = tt
 follows_mapped P g one r (s ∷ runs) here all follows = (follows.0, λ touch same. follows.1 touch (one r.value s.value here all.0 same))
 
-apart_mapped : {V W : Type 0} (P : V → Type 0) (g : V → W) → ((u v : V) → P u → P v → g u ≡ g v → u ≡ v) → (runs : List (Run V)) → AllValues P runs → AreRuns runs → AreRuns (map (map_run g) runs)
+pub apart_mapped : {V W : Type 0} (P : V → Type 0) (g : V → W) → ((u v : V) → P u → P v → g u ≡ g v → u ≡ v) → (runs : List (Run V)) → AllValues P runs → AreRuns runs → AreRuns (map (map_run g) runs)
 apart_mapped P g one [] all apart = tt
 apart_mapped P g one (r ∷ runs) all apart = (apart.0, follows_mapped P g one r runs all.0 all.1 apart.1, apart_mapped P g one runs all.1 apart.2)
 
