@@ -1,0 +1,156 @@
+-- What is collected of the functions.
+use Rattle.std.proofs.Common.{◌≡◌, ℕ, zero, suc, ◌+◌, ◌-◌, ◌<◌, ◌≤◌, ◌^◌, Bool, true, false, if◌then◌else◌, map, length, List, [], ◌∷◌, ◌++◌, arith, refl, sym, ap, ◌∙◌, append_assoc, append-nil, length-append, subst, add-one, drop, Option, Some, None, get_or}
+use Rattle.std.specs.List.{slice_get}
+use Rattle.sym_edges.specs.Addresses.{Range}
+use Rattle.range_set.specs.Canonical.{IsCanonical}
+use Rattle.step_maps.specs.declared.stretch.Stretch.{Stretch}
+use Rattle.step_maps.specs.Covers.{AreStretches}
+use Rattle.die_walk.specs.EntryTable.{DieFields}
+use Rattle.die_names.specs.declared.unit_read.UnitRead.{UnitRead}
+use Rattle.die_names.specs.UnitEntries.{is_function, places}
+use Rattle.die_names.specs.Owners.{Covering, unit_covering, covering_from}
+use Rattle.func_flatten.specs.declared.piece.Place.{Place}
+use Rattle.func_flatten.specs.Pieces.{place_of}
+use Rattle.func_flatten.specs.Collecting.{functions_in, span_stretches, function_stretches, own_class, AreFit, HaveSets, Collects}
+
+pub fit_joined : (xs : List Stretch) (s : Stretch) → AreFit xs → s.first ≤ s.last → s.last + 1 < 2 ^ 64 → AreFit (xs ++ s ∷ [])
+fit_joined [] s fit order last = (order, last, tt)
+fit_joined (x ∷ xs) s fit order last = (fit.0, fit.1, fit_joined xs s fit.2 order last)
+
+pub fit_stretches : (xs : List Stretch) → AreFit xs → AreStretches xs
+fit_stretches [] fit = tt
+fit_stretches (x ∷ xs) fit = (fit.0, fit_stretches xs fit.2)
+
+pub collects_none : (old : List Place) (before : List Stretch) (all : List Covering) → Collects old old before before all all
+collects_none old before all = record { places = refl; stretches = refl; sets = λ is. is }
+
+-- one function was collected
+pub collects_one : (old new : List Place) (before after : List Stretch) (all left : List Covering) (c : Covering) → Collects old new before after all (c ∷ left) → IsCanonical c.spans → Collects old (new ++ place_of c ∷ []) before (after ++ span_stretches (length new) (length new) c.spans) all left
+collects_one old new before after all left c k canonical = record {
+  places = append_assoc new (place_of c ∷ []) (map place_of left) ∙ k.places;
+  stretches =
+      append_assoc after (span_stretches (length new) (length new) c.spans) (function_stretches own_class (length (new ++ place_of c ∷ [])) left)
+      ∙ ap (λ n. after ++ (span_stretches (length new) (length new) c.spans ++ function_stretches own_class n left)) (length-append new (place_of c ∷ []))
+      ∙ k.stretches;
+  sets = λ rest. k.sets (canonical, rest);
+}
+
+taken_by : (b : Bool) (c : Covering) (old new : List Place) (before after : List Stretch) → b ≡ true → Collects old new before after (c ∷ []) [] → Collects old new before after (if b then c ∷ [] else []) []
+taken_by true c old new before after is k = k
+taken_by false c old new before after is k = absurd (cc)
+
+passed_by : (b : Bool) (c : Covering) (old : List Place) (before : List Stretch) → b ≡ false → Collects old old before before (if b then c ∷ [] else []) []
+passed_by true c old before is = absurd (cc)
+passed_by false c old before is = collects_none old before []
+
+-- the entry is a function, and its addresses and place were added
+pub entry_taken : (c : Covering) (old new : List Place) (before after : List Stretch) → is_function c.die ≡ true → IsCanonical c.spans → after ≡ before ++ span_stretches (length old) (length old) c.spans → new ≡ old ++ place_of c ∷ [] → Collects old new before after (functions_in (c ∷ [])) []
+entry_taken c old new before after is canonical stretched placed =
+    taken_by (is_function c.die) c old new before after is
+    (rw (stretched, placed) (collects_one old old before before (c ∷ []) [] c (collects_none old before (c ∷ [])) canonical))
+
+pub entry_passed : (c : Covering) (old : List Place) (before : List Stretch) → is_function c.die ≡ false → Collects old old before before (functions_in (c ∷ [])) []
+entry_passed c old before is = passed_by (is_function c.die) c old before is
+
+map_joined : (xs ys : List Covering) → map place_of (xs ++ ys) ≡ map place_of xs ++ map place_of ys
+map_joined [] ys = refl
+map_joined (x ∷ xs) ys = ap (λ l. place_of x ∷ l) (map_joined xs ys)
+
+stretches_joined : (k : ℕ) (xs ys : List Covering) → function_stretches own_class k (xs ++ ys) ≡ function_stretches own_class k xs ++ function_stretches own_class (k + length xs) ys
+stretches_joined k [] ys = ap (λ n. function_stretches own_class n ys) (omega arith)
+stretches_joined k (x ∷ xs) ys =
+    ap (λ l. span_stretches k k x.spans ++ l) (stretches_joined (k + 1) xs ys ∙ ap (λ n. function_stretches own_class (k + 1) xs ++ function_stretches own_class n ys) (omega arith))
+    ∙ sym (append_assoc (span_stretches k k x.spans) (function_stretches own_class (k + 1) xs) (function_stretches own_class (k + length (x ∷ xs)) ys))
+
+sets_joined : (xs ys : List Covering) → HaveSets xs → HaveSets ys → HaveSets (xs ++ ys)
+sets_joined [] ys p q = q
+sets_joined (x ∷ xs) ys p q = (p.0, sets_joined xs ys p.1 q)
+
+length_map : (xs : List Covering) → length (map place_of xs) ≡ length xs
+length_map [] = refl
+length_map (x ∷ xs) = omega (arith, length_map xs)
+
+functions_by : (b : Bool) (c : Covering) (xs ys l : List Covering) → l ≡ xs ++ ys → (if b then c ∷ l else l) ≡ (if b then c ∷ xs else xs) ++ ys
+functions_by true c xs ys l is = ap (λ k. c ∷ k) is
+functions_by false c xs ys l is = is
+
+pub functions_joined : (xs ys : List Covering) → functions_in (xs ++ ys) ≡ functions_in xs ++ functions_in ys
+functions_joined [] ys = refl
+functions_joined (x ∷ xs) ys = functions_by (is_function x.die) x (functions_in xs) (functions_in ys) (functions_in (xs ++ ys)) (functions_joined xs ys)
+
+-- a unit's functions were collected
+pub collects_unit : (old new newer : List Place) (before after later : List Stretch) (all one left whole : List Covering) → whole ≡ one ++ left → Collects old new before after all whole → Collects new newer after later one [] → Collects old newer before later all left
+collects_unit old new newer before after later all one left whole is c d =
+    let joined : Collects old new before after all (one ++ left) = (let P : List Covering → Type 0 = λ l. Collects old new before after all l in subst P is c) in
+    let places : newer ≡ new ++ map place_of one = sym (append-nil newer) ∙ d.places in
+    let stretches : later ≡ after ++ function_stretches own_class (length new) one = sym (append-nil later) ∙ d.stretches in
+    let count : length newer ≡ length new + length one = ap length places ∙ length-append new (map place_of one) ∙ ap (λ n. length new + n) (length_map one) in
+    record {
+      places =
+          ap (λ l. l ++ map place_of left) places
+          ∙ append_assoc new (map place_of one) (map place_of left)
+          ∙ ap (λ l. new ++ l) (sym (map_joined one left))
+          ∙ joined.places;
+      stretches =
+          ap (λ l. l ++ function_stretches own_class (length newer) left) stretches
+          ∙ append_assoc after (function_stretches own_class (length new) one) (function_stretches own_class (length newer) left)
+          ∙ ap (λ k. after ++ (function_stretches own_class (length new) one ++ function_stretches own_class k left)) count
+          ∙ ap (λ l. after ++ l) (sym (stretches_joined (length new) one left))
+          ∙ joined.stretches;
+      sets = λ rest. joined.sets (sets_joined one left (d.sets tt) rest);
+    }
+
+pub drop_get : {A : Type 0} (xs : List A) (k : ℕ) (x : A) → Some x ≡ slice_get xs k → drop k xs ≡ x ∷ drop (k + 1) xs
+drop_get [] k x is = cc
+drop_get (y ∷ xs) zero x is = (let same : y ≡ x = cc in ap (λ z. z ∷ xs) same)
+drop_get (y ∷ xs) (suc k) x is = (let same : suc (k + 1) ≡ suc k + 1 = omega arith in drop_get xs k x is ∙ ap (λ n. x ∷ drop n (y ∷ xs)) same)
+
+drop_none : {A : Type 0} (xs : List A) (k : ℕ) → None ≡ slice_get xs k → drop k xs ≡ []
+drop_none [] zero is = refl
+drop_none [] (suc k) is = refl
+drop_none (y ∷ xs) zero is = cc
+drop_none (y ∷ xs) (suc k) is = drop_none xs k is
+
+pub drop_index : {A : Type 0} (xs : List A) (k : ℕ) (x : A) → k < length xs → x ≡ get_or xs k x → drop k xs ≡ x ∷ drop (k + 1) xs
+drop_index [] k x inside is = absurd (omega arith)
+drop_index (y ∷ xs) zero x inside is = ap (λ z. z ∷ xs) (sym is)
+drop_index (y ∷ xs) (suc k) x inside is = (let same : suc (k + 1) ≡ suc k + 1 = omega arith in drop_index xs k x (omega arith) is ∙ ap (λ n. x ∷ drop n (y ∷ xs)) same)
+
+-- an entry of a unit was added
+pub entry_added : (old new newer : List Place) (before after later : List Stretch) (all : List Covering) (unit entry : ℕ) (dies : List DieFields) (sets : List (List Range)) (die : DieFields) (set : List Range) → Some die ≡ slice_get dies entry → Some set ≡ slice_get sets entry
+    → Collects old new before after all (functions_in (unit_covering unit entry (drop entry dies) (drop entry sets))) → Collects new newer after later (functions_in (record { unit = unit; entry = entry; die = die; spans = set } ∷ [])) []
+    → Collects old newer before later all (functions_in (unit_covering unit (entry + 1) (drop (entry + 1) dies) (drop (entry + 1) sets)))
+entry_added old new newer before after later all unit entry dies sets die set one two k more =
+    let c : Covering = record { unit = unit; entry = entry; die = die; spans = set } in
+    let rest = unit_covering unit (entry + 1) (drop (entry + 1) dies) (drop (entry + 1) sets) in
+    collects_unit old new newer before after later all (functions_in (c ∷ [])) (functions_in rest) (functions_in (unit_covering unit entry (drop entry dies) (drop entry sets)))
+    (ap (λ l. functions_in (unit_covering unit entry l (drop entry sets))) (drop_get dies entry die one)
+    ∙ ap (λ l. functions_in (unit_covering unit entry (die ∷ drop (entry + 1) dies) l)) (drop_get sets entry set two)
+    ∙ functions_joined (c ∷ []) rest) k more
+
+-- no entry is left that has a set
+pub entries_done : (old new : List Place) (before after : List Stretch) (all : List Covering) (unit entry : ℕ) (dies : List DieFields) (sets : List (List Range)) (die : DieFields) → Some die ≡ slice_get dies entry → None ≡ slice_get sets entry
+    → Collects old new before after all (functions_in (unit_covering unit entry (drop entry dies) (drop entry sets))) → Collects old new before after all []
+entries_done old new before after all unit entry dies sets die one none k =
+    let P : List Covering → Type 0 = λ l. Collects old new before after all l in
+    subst P (ap (λ l. functions_in (unit_covering unit entry l (drop entry sets))) (drop_get dies entry die one)
+    ∙ ap (λ l. functions_in (unit_covering unit entry (die ∷ drop (entry + 1) dies) l)) (drop_none sets entry none)) k
+
+-- a unit was added
+pub unit_added : (new newer : List Place) (after later : List Stretch) (all : List Covering) (unit : ℕ) (units : List UnitRead) (part : UnitRead) → unit < length units → part ≡ get_or units unit part
+    → Collects [] new [] after all (functions_in (covering_from unit (drop unit units))) → Collects new newer after later (functions_in (unit_covering unit 0 part.die.dies part.spans)) []
+    → Collects [] newer [] later all (functions_in (covering_from (unit + 1) (drop (unit + 1) units)))
+unit_added new newer after later all unit units part inside is k more =
+    collects_unit [] new newer [] after later all (functions_in (unit_covering unit 0 part.die.dies part.spans)) (functions_in (covering_from (unit + 1) (drop (unit + 1) units))) (functions_in (covering_from unit (drop unit units)))
+    (ap (λ l. functions_in (covering_from unit l)) (drop_index units unit part inside is) ∙ functions_joined (unit_covering unit 0 part.die.dies part.spans) (covering_from (unit + 1) (drop (unit + 1) units))) k more
+
+length_dies : (dies : List DieFields) → length (map (λ die. die.at) dies) ≡ length dies
+length_dies [] = refl
+length_dies (d ∷ dies) = omega (arith, length_dies dies)
+
+-- the entries of a unit, and those of the units behind it
+pub entries_left : (unit : ℕ) (units : List UnitRead) (part : UnitRead) → unit < length units → part ≡ get_or units unit part → length (places (drop unit units)) ≡ length part.die.dies + length (places (drop (unit + 1) units))
+entries_left unit units part inside is =
+    ap (λ l. length (places l)) (drop_index units unit part inside is)
+    ∙ length-append (map (λ die. die.at) part.die.dies) (places (drop (unit + 1) units))
+    ∙ ap (λ n. n + length (places (drop (unit + 1) units))) (length_dies part.die.dies)

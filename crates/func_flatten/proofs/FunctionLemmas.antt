@@ -1,0 +1,213 @@
+-- The first stretch at an address is one of the first function there.
+use Rattle.std.proofs.Common.{◌≡◌, ℕ, zero, suc, ◌+◌, ◌-◌, ◌<◌, ◌≤◌, Bool, true, false, not, ◌&&◌, ◌||◌, ◌==◌, nat_le, nat_lt, if◌then◌else◌, map, length, List, [], ◌∷◌, ◌++◌, Option, None, Some, arith, refl, sym, ap, ◌∙◌, append_assoc, eq-eqb}
+use Rattle.std.proofs.lemmas.Bool.Decides.{nat_tests}
+use Rattle.std.proofs.lemmas.List.Folds.{find-append, list_any-append}
+use Rattle.std.proofs.lemmas.Slice.Eq.{bytes_eq-Decides}
+use Rattle.std.specs.List.{find, list_any, slice_get}
+use Rattle.std.specs.Option.{option_map, option_map_or, option_or}
+use Rattle.std.specs.Str.{bytes_eq}
+use Rattle.sym_edges.specs.Addresses.{Range}
+use Rattle.range_set.specs.Members.{holds, holds_any}
+use Rattle.range_set.specs.Canonical.{IsCanonical}
+use Rattle.step_maps.specs.declared.stretch.Stretch.{Stretch}
+use Rattle.step_maps.specs.Covers.{reaches, first_at, index_at, is_shared}
+use Rattle.die_names.specs.declared.unit_read.UnitRead.{UnitRead}
+use Rattle.die_names.specs.UnitEntries.{is_function}
+use Rattle.die_names.specs.Owners.{Covering, covering_from, owner}
+use Rattle.func_flatten.specs.declared.piece.Place.{Place}
+use Rattle.func_flatten.specs.Pieces.{owns, place_of, covering_name, has_other, is_many, owner_place}
+use Rattle.func_flatten.specs.Collecting.{functions_in, all_functions, span_stretches, function_stretches, own_class, HaveSets, has_address, Numbered, first_function}
+
+reaches_range : (r : Range) (a : ℕ) → r.start < r.end → (nat_le r.start a && nat_le a (r.end - 1)) ≡ holds r a
+reaches_range r a some = grind (arith, nat_tests)
+
+-- what is said of the first stretch
+abbrev told : {V : Type 0} → (Stretch → V) → List Stretch → ℕ → Option V
+told say items a = option_map say (find (λ s. reaches s a) items)
+
+told_joined : {V : Type 0} (say : Stretch → V) (xs ys : List Stretch) (a : ℕ) → told say (xs ++ ys) a ≡ option_or (told say xs a) (told say ys a)
+told_joined say xs ys a = ap (λ o. option_map say o) (find-append (λ s. reaches s a) xs ys) ∙ mapped_or (find (λ s. reaches s a) xs) (find (λ s. reaches s a) ys)
+  where
+    mapped_or : (p q : Option Stretch) → option_map say (option_or p q) ≡ option_or (option_map say p) (option_map say q)
+    mapped_or None q = refl
+    mapped_or (Some p) q = refl
+
+span_told : {V : Type 0} (say : Stretch → V) (v : V) (index class : ℕ) (spans : List Range) (a : ℕ) → ((first last : ℕ) → say (record { first = first; last = last; index = index; class = class }) ≡ v) → IsCanonical spans → told say (span_stretches index class spans) a ≡ (if holds_any spans a then Some v else None)
+span_told say v index class [] a says canonical = refl
+span_told {V} say v index class (r ∷ spans) a says canonical =
+    ap (λ b. option_map say (if b then Some (record { first = r.start; last = r.end - 1; index = index; class = class }) else find (λ s. reaches s a) (span_stretches index class spans))) (reaches_range r a canonical.0)
+    ∙ go (holds r a) (span_told say v index class spans a says canonical.2)
+  where
+    go : (b : Bool) → told say (span_stretches index class spans) a ≡ (if holds_any spans a then Some v else None) → option_map say (if b then Some (record { first = r.start; last = r.end - 1; index = index; class = class }) else find (λ s. reaches s a) (span_stretches index class spans)) ≡ (if b || holds_any spans a then Some v else None)
+    go true is = ap (λ w. Some w) (says r.start (r.end - 1))
+    go false is = is
+
+told_by : {V : Type 0} (b : Bool) (k : ℕ) (c : Covering) (v : ℕ → V) (rest : Option V) (o : Option Numbered) → rest ≡ option_map (λ m. v m.number) o → option_or (if b then Some (v k) else None) rest ≡ option_map (λ m. v m.number) (if b then Some (record { number = k; function = c }) else o)
+told_by true k c v rest o is = refl
+told_by false k c v rest o is = is
+
+-- it is what is said of the first function's number
+all_told : {V : Type 0} (say : Stretch → V) (v : ℕ → V) (class : ℕ → ℕ) → ((k first last : ℕ) → say (record { first = first; last = last; index = k; class = class k }) ≡ v k) → (k : ℕ) (functions : List Covering) (a : ℕ) → HaveSets functions
+    → told say (function_stretches class k functions) a ≡ option_map (λ m. v m.number) (first_function a k functions)
+all_told say v class says k [] a all = refl
+all_told say v class says k (c ∷ functions) a all =
+    told_joined say (span_stretches k (class k) c.spans) (function_stretches class (k + 1) functions) a
+    ∙ ap (λ o. option_or o (told say (function_stretches class (k + 1) functions) a)) (span_told say (v k) k (class k) c.spans a (says k) all.0)
+    ∙ told_by (holds_any c.spans a) k c v (told say (function_stretches class (k + 1) functions) a) (first_function a (k + 1) functions) (all_told say v class says (k + 1) functions a all.1)
+
+-- the index of the first stretch is the number of the first function
+pub index_is : (class : ℕ → ℕ) (functions : List Covering) (a : ℕ) → HaveSets functions → index_at (function_stretches class 0 functions) a ≡ option_map (λ m. m.number) (first_function a 0 functions)
+unfolding index_at first_at
+index_is class functions a all = all_told (λ s. s.index) (λ k. k) class (λ k first last. refl) 0 functions a all
+
+-- whether a function that has the address has another class
+abbrev any_class : (ℕ → ℕ) → ℕ → ℕ → ℕ → List Covering → Bool
+any_class class n k a [] = false
+any_class class n k a (c ∷ functions) = (has_address a c && not (class k == n)) || any_class class n (k + 1) a functions
+
+differ_spans : (n index class : ℕ) (spans : List Range) (a : ℕ) → IsCanonical spans → list_any (λ t. reaches t a && not (t.class == n)) (span_stretches index class spans) ≡ (holds_any spans a && not (class == n))
+differ_spans n index class [] a canonical = refl
+differ_spans n index class (r ∷ spans) a canonical =
+    ap (λ b. (b && not (class == n)) || list_any (λ t. reaches t a && not (t.class == n)) (span_stretches index class spans)) (reaches_range r a canonical.0)
+    ∙ ap (λ b. (holds r a && not (class == n)) || b) (differ_spans n index class spans a canonical.2)
+    ∙ both (holds r a) (holds_any spans a) (not (class == n))
+  where
+    both : (p q r : Bool) → ((p && r) || (q && r)) ≡ ((p || q) && r)
+    both true true true = refl
+    both true true false = refl
+    both true false true = refl
+    both true false false = refl
+    both false q r = refl
+
+differ_functions : (class : ℕ → ℕ) (n k : ℕ) (functions : List Covering) (a : ℕ) → HaveSets functions → list_any (λ t. reaches t a && not (t.class == n)) (function_stretches class k functions) ≡ any_class class n k a functions
+differ_functions class n k [] a all = refl
+differ_functions class n k (c ∷ functions) a all =
+    list_any-append (λ t. reaches t a && not (t.class == n)) (span_stretches k (class k) c.spans) (function_stretches class (k + 1) functions)
+    ∙ ap (λ b. b || list_any (λ t. reaches t a && not (t.class == n)) (function_stretches class (k + 1) functions)) (differ_spans n k (class k) c.spans a all.0)
+    ∙ ap (λ b. (has_address a c && not (class k == n)) || b) (differ_functions class n (k + 1) functions a all.1)
+
+abbrev any_for : (ℕ → ℕ) → ℕ → List Covering → Option Numbered → Bool
+any_for class a functions None = false
+any_for class a functions (Some m) = any_class class (class m.number) 0 a functions
+
+shared_by : (class : ℕ → ℕ) (functions : List Covering) (a : ℕ) → HaveSets functions → is_shared (function_stretches class 0 functions) a ≡ any_for class a functions (first_function a 0 functions)
+unfolding is_shared first_at
+shared_by class functions a all = go (find (λ s. reaches s a) (function_stretches class 0 functions)) (first_function a 0 functions) (all_told (λ s. s.class) class class (λ k first last. refl) 0 functions a all)
+  where
+    go : (p : Option Stretch) (q : Option Numbered) → option_map (λ s. s.class) p ≡ option_map (λ m. class m.number) q → option_map_or (λ s. list_any (λ t. reaches t a && not (t.class == s.class)) (function_stretches class 0 functions)) p false ≡ any_for class a functions q
+    go None None is = refl
+    go None (Some q) is = absurd (cc)
+    go (Some p) None is = absurd (cc)
+    go (Some p) (Some q) is =
+        (let same : p.class ≡ class q.number = cc in
+        differ_functions class p.class 0 functions a all ∙ ap (λ n. any_class class n 0 a functions) same)
+
+-- whether a function that has the address has another name
+abbrev pub any_name : (Covering → List ℕ) → List ℕ → ℕ → List Covering → Bool
+any_name name n a functions = list_any (λ d. has_address a d && not (bytes_eq (name d) n)) functions
+
+abbrev pub any_named : (Covering → List ℕ) → ℕ → List Covering → Option Numbered → Bool
+any_named name a functions None = false
+any_named name a functions (Some m) = any_name name (name m.function) a functions
+
+-- the functions among the entries
+-- the owner is the first function that has the address
+owner_by : (entries : List Covering) (a k : ℕ) → find (owns a) entries ≡ option_map (λ m. m.function) (first_function a k (functions_in entries))
+owner_by [] a k = refl
+owner_by (c ∷ entries) a k = go (is_function c.die) (λ n. owner_by entries a n)
+  where
+    go : (b : Bool) → ((n : ℕ) → find (owns a) entries ≡ option_map (λ m. m.function) (first_function a n (functions_in entries))) → (if b && holds_any c.spans a then Some c else find (owns a) entries) ≡ option_map (λ m. m.function) (first_function a k (if b then c ∷ functions_in entries else functions_in entries))
+    go true is = chosen (holds_any c.spans a) (is (k + 1))
+      where
+        chosen : (t : Bool) → find (owns a) entries ≡ option_map (λ m. m.function) (first_function a (k + 1) (functions_in entries)) → (if t then Some c else find (owns a) entries) ≡ option_map (λ m. m.function) (if t then Some (record { number = k; function = c }) else first_function a (k + 1) (functions_in entries))
+        chosen true later = refl
+        chosen false later = later
+    go false is = is k
+
+pub owner_is : (units : List UnitRead) (a : ℕ) → owner units a ≡ option_map (λ m. m.function) (first_function a 0 (all_functions units))
+unfolding owner
+owner_is units a = owner_by (covering_from 0 units) a 0
+
+other_by : (name : Covering → List ℕ) (n : List ℕ) (entries : List Covering) (a : ℕ) → list_any (λ d. owns a d && not (bytes_eq (name d) n)) entries ≡ any_name name n a (functions_in entries)
+other_by name n [] a = refl
+other_by name n (c ∷ entries) a =
+    go (is_function c.die) (holds_any c.spans a) (not (bytes_eq (name c) n)) (list_any (λ d. owns a d && not (bytes_eq (name d) n)) entries) (any_name name n a (functions_in entries)) (other_by name n entries a)
+    ∙ joined (is_function c.die)
+  where
+    go : (b t u rest later : Bool) → rest ≡ later → (((b && t) && u) || rest) ≡ (if b then ((t && u) || later) else later)
+    go true t u rest later is = ap (λ r. (t && u) || r) is
+    go false t u rest later is = is
+    joined : (b : Bool) → (if b then ((holds_any c.spans a && not (bytes_eq (name c) n)) || any_name name n a (functions_in entries)) else any_name name n a (functions_in entries)) ≡ any_name name n a (if b then c ∷ functions_in entries else functions_in entries)
+    joined true = refl
+    joined false = refl
+
+named_by : (units : List UnitRead) (a : ℕ) (o : Option Numbered) → has_other units a (option_map (λ m. m.function) o) ≡ any_named (covering_name units) a (all_functions units) o
+named_by units a None = refl
+named_by units a (Some m) = other_by (covering_name units) (covering_name units m.function) (covering_from 0 units) a
+
+pub many_is : (units : List UnitRead) (a : ℕ) → is_many units a ≡ any_named (covering_name units) a (all_functions units) (first_function a 0 (all_functions units))
+unfolding is_many
+many_is units a = ap (has_other units a) (owner_is units a) ∙ named_by units a (first_function a 0 (all_functions units))
+
+-- the number of the first function is its place in the list
+first_get : (a k : ℕ) (functions : List Covering) (m : Numbered) → first_function a k functions ≡ Some m → (i : ℕ) × (m.number ≡ k + i) × (slice_get functions i ≡ Some m.function)
+first_get a k [] m is = absurd (cc)
+first_get a k (c ∷ functions) m is = go (has_address a c) is (λ found. first_get a (k + 1) functions m found)
+  where
+    go : (b : Bool) → (if b then Some (record { number = k; function = c }) else first_function a (k + 1) functions) ≡ Some m → (first_function a (k + 1) functions ≡ Some m → (i : ℕ) × (m.number ≡ (k + 1) + i) × (slice_get functions i ≡ Some m.function)) → (i : ℕ) × (m.number ≡ k + i) × (slice_get (c ∷ functions) i ≡ Some m.function)
+    go true found later =
+        (let number : k ≡ m.number = cc in
+        let function : c ≡ m.function = cc in
+        (0, omega (arith, number), ap Some function))
+    go false found later = (let rest = later found in (suc rest.0, omega (arith, rest.1), rest.2))
+
+pub first_at_number : (a : ℕ) (functions : List Covering) (m : Numbered) → first_function a 0 functions ≡ Some m → slice_get functions m.number ≡ Some m.function
+first_at_number a functions m is = (let found = first_get a 0 functions m is in let same : m.number ≡ found.0 = omega (arith, found.1) in ap (slice_get functions) same ∙ found.2)
+
+-- the classes of all functions tell names apart
+abbrev pub TellNames : (ℕ → ℕ) → (Covering → List ℕ) → List Covering → Type 0
+TellNames class name functions = (i j : ℕ) (c d : Covering) → slice_get functions i ≡ Some c → slice_get functions j ≡ Some d → (class j == class i) ≡ bytes_eq (name d) (name c)
+
+same_any : (class : ℕ → ℕ) (name : Covering → List ℕ) (n : ℕ) (text : List ℕ) (k a : ℕ) (functions : List Covering) → ((j : ℕ) (d : Covering) → slice_get functions j ≡ Some d → (class (k + j) == n) ≡ bytes_eq (name d) text) → any_class class n k a functions ≡ any_name name text a functions
+same_any class name n text k a [] same = refl
+same_any class name n text k a (c ∷ functions) same =
+    let first : (class k == n) ≡ bytes_eq (name c) text = (let here : k + 0 ≡ k = omega arith in ap (λ i. class i == n) (sym here) ∙ same 0 c refl) in
+    ap (λ b. (has_address a c && not b) || any_class class n (k + 1) a functions) first
+    ∙ ap (λ b. (has_address a c && not (bytes_eq (name c) text)) || b)
+      (same_any class name n text (k + 1) a functions (λ j d at. (let next : (k + 1) + j ≡ k + suc j = omega arith in ap (λ i. class i == n) next ∙ same (suc j) d at)))
+
+-- so a stretch of another class is there just where a function of another name is
+pub shared_is : (class : ℕ → ℕ) (name : Covering → List ℕ) (functions : List Covering) (a : ℕ) → HaveSets functions → TellNames class name functions → is_shared (function_stretches class 0 functions) a ≡ any_named name a functions (first_function a 0 functions)
+shared_is class name functions a all tell = shared_by class functions a all ∙ go (first_function a 0 functions) refl
+  where
+    go : (o : Option Numbered) → first_function a 0 functions ≡ o → any_for class a functions o ≡ any_named name a functions o
+    go None is = refl
+    go (Some m) is =
+        same_any class name (class m.number) (name m.function) 0 a functions
+        (λ j d at. (let here : 0 + j ≡ j = omega arith in ap (λ i. class i == class m.number) here ∙ tell m.number j m.function d (first_at_number a functions m is) at))
+
+finer_by : (h b c rest later : Bool) → (b ≡ true → c ≡ true) → (rest ≡ false → later ≡ false) → ((h && not b) || rest) ≡ false → ((h && not c) || later) ≡ false
+finer_by true true c rest later fine on none = ap (λ t. not t || later) (fine refl) ∙ on none
+finer_by true false c rest later fine on none = absurd (cc)
+finer_by false b c rest later fine on none = on none
+
+finer_any : (name : Covering → List ℕ) (n : ℕ) (text : List ℕ) (k a : ℕ) (functions : List Covering) → ((j : ℕ) (d : Covering) → slice_get functions j ≡ Some d → k + j ≡ n → bytes_eq (name d) text ≡ true) → any_class own_class n k a functions ≡ false → any_name name text a functions ≡ false
+finer_any name n text k a [] fine none = refl
+finer_any name n text k a (c ∷ functions) fine none =
+    finer_by (has_address a c) (k == n) (bytes_eq (name c) text) (any_class own_class n (k + 1) a functions) (any_name name text a functions)
+    (λ is. fine 0 c refl (let same : k ≡ n = grind (arith, nat_tests) in omega arith))
+    (λ rest. finer_any name n text (k + 1) a functions (λ j d at is. fine (suc j) d at (omega arith)) rest) none
+
+-- where each function has a class of its own and none is shared, no other name is there
+pub unshared_is : (name : Covering → List ℕ) (functions : List Covering) (a : ℕ) → HaveSets functions → is_shared (function_stretches own_class 0 functions) a ≡ false → any_named name a functions (first_function a 0 functions) ≡ false
+unshared_is name functions a all none = go (first_function a 0 functions) refl (sym (shared_by own_class functions a all) ∙ none)
+  where
+    go : (o : Option Numbered) → first_function a 0 functions ≡ o → any_for own_class a functions o ≡ false → any_named name a functions o ≡ false
+    go None is none_here = refl
+    go (Some m) is none_here =
+        finer_any name m.number (name m.function) 0 a functions
+        (λ j d at same. (let there : slice_get functions m.number ≡ Some m.function = first_at_number a functions m is in
+          let number : j ≡ m.number = omega (arith, same) in
+          let here : slice_get functions m.number ≡ Some d = ap (slice_get functions) (sym number) ∙ at in
+          let alike : m.function ≡ d = cc in
+          (bytes_eq-Decides (name d) (name m.function)).1 (ap name (sym alike)))) none_here

@@ -1,0 +1,7 @@
+pub mod CollectLemmas
+pub mod MappedRuns
+pub mod FunctionLemmas
+pub mod PieceLemmas
+pub mod ClassLemmas
+pub mod GrowingRuns
+pub mod LineLemmas

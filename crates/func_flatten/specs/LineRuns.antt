@@ -1,0 +1,47 @@
+-- The runs of the line, by the line table of a unit (DWARF 5, 6.2).
+use Rattle.std.specs.Prelude.{◌≡◌, ℕ, List, [], Option, None, Some, unwrap_or, map}
+use Rattle.std.specs.List.{slice_get}
+use Rattle.step_maps.specs.Runs.{Run, IsRuns, between}
+use Rattle.line_program.specs.LineMaps.{numbered_line}
+use Rattle.die_names.specs.declared.unit_read.UnitRead.{UnitRead}
+use Rattle.die_names.specs.Owners.{line_in, line}
+use Rattle.func_flatten.specs.declared.line_run.LineRun.{LineRun}
+use Rattle.func_flatten.specs.declared.piece.Piece.{Piece}
+use Rattle.func_flatten.specs.declared.piece.Place.{Place}
+
+-- path number and line of an address, by a unit's table
+abbrev pub number_line_in : ℕ → Option UnitRead → Option (ℕ × ℕ)
+number_line_in a None = None
+number_line_in a (Some part) = numbered_line part.lines a
+
+unfoldable pub unit_number_line : List UnitRead → ℕ → ℕ → Option (ℕ × ℕ)
+unit_number_line units unit a = number_line_in a (slice_get units unit)
+
+-- path and line of an address, by a unit's table
+unfoldable pub unit_line : List UnitRead → ℕ → ℕ → Option (List ℕ × ℕ)
+unit_line units unit a = line_in a (slice_get units unit)
+
+abbrev pub paths_in : Option UnitRead → List (List ℕ)
+paths_in None = []
+paths_in (Some part) = part.lines.paths
+
+-- the paths of a unit's table, by their numbers
+unfoldable pub unit_paths : List UnitRead → ℕ → List (List ℕ)
+unit_paths units unit = paths_in (slice_get units unit)
+
+-- a run of a path's number and a line
+abbrev pub number_run : LineRun → Run (ℕ × ℕ)
+number_run r = record { start = r.start; end = r.end; value = (r.path, r.line) }
+
+-- a path and a line by the path's number
+abbrev pub path_line : List (List ℕ) → ℕ × ℕ → List ℕ × ℕ
+path_line paths at = (unwrap_or (slice_get paths at.0) [], at.1)
+
+-- a run of a path and a line
+abbrev pub path_run : List (List ℕ) → LineRun → Run (List ℕ × ℕ)
+path_run paths r = record { start = r.start; end = r.end; value = path_line paths (r.path, r.line) }
+
+-- the runs of the line in a piece, by the numbers of paths and by the paths
+pub record AreLineRuns (units : List UnitRead) (piece : Piece) (runs : List LineRun) : Type 0 where
+  pub numbers : IsRuns (between piece.start piece.end (unit_number_line units piece.unit)) (map number_run runs)
+  pub paths : IsRuns (between piece.start piece.end (unit_line units piece.unit)) (map (path_run (unit_paths units piece.unit)) runs)

@@ -1,0 +1,14 @@
+//! The functions of a file by address.
+#![tactic(auto)]
+
+mod collecting;
+mod covering;
+mod line_run;
+mod lines;
+mod owning;
+mod piece;
+
+pub use crate::line_run::{LineRun, LineRuns};
+pub use crate::lines::lines_of;
+pub use crate::owning::pieces;
+pub use crate::piece::{Piece, PieceList, Place};

@@ -1,0 +1,15 @@
+//! The types of line runs.
+use sym_edges::ListOf;
+
+/// The addresses from `start` up to, and without, `end`, which come from one line of one file: the path of that number in the line
+/// table of the unit. 24 bytes.
+#[derive(Clone, Copy, Debug, PartialEq, Eq)]
+pub struct LineRun {
+    pub start: u64,
+    pub end: u64,
+    pub path: u32,
+    pub line: u32,
+}
+
+/// Line runs in the order of their addresses.
+pub type LineRuns = ListOf<LineRun>;

@@ -1,0 +1,23 @@
+//! The types of pieces.
+use sym_edges::ListOf;
+
+/// The number of a unit, and the number of an entry there.
+#[derive(Clone, Copy, Debug, PartialEq, Eq)]
+pub struct Place {
+    pub unit: u32,
+    pub entry: u32,
+}
+
+/// The addresses from `start` up to, and without, `end`, which one function owns: the entry of that number in the unit of that
+/// number. `many` is said of `start` alone: a function of another name has that address too. 32 bytes.
+#[derive(Clone, Copy, Debug, PartialEq, Eq)]
+pub struct Piece {
+    pub unit: u32,
+    pub entry: u32,
+    pub start: u64,
+    pub end: u64,
+    pub many: bool,
+}
+
+/// Pieces in the order of their addresses.
+pub type PieceList = ListOf<Piece>;
