@@ -3,7 +3,7 @@ mod AmongLemmas
 mod FollowLemmas
 mod NameLemmas
 mod JoinLemmas
-mod TextLemmas
+pub mod TextLemmas
 pub mod Computing
 mod WorkedNames
 pub mod PlaceLemmas

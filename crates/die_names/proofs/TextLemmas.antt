@@ -158,3 +158,22 @@ text_no_linkage units name part die by is got none =
 
 pub text_omitted : (units : List UnitRead) (name : NameRef) (part : UnitRead) (die : DieFields) → name.how ≡ Omitted → Some part ≡ slice_get units name.unit → Some die ≡ slice_get part.die.dies name.entry → codes "<name omitted>" ≡ name_bytes units name
 text_omitted units name part die by is got = sym (text_is units name part die Omitted by is got)
+
+-- where a name stands in the file as it is, these are its bytes
+bare_by : (front : List ℕ) (name : Option (List ℕ)) (bytes : List ℕ) → unless_front front name ≡ Some bytes → option_map (λ n. front ++ n) name ≡ Some bytes
+bare_by [] (Some name) bytes is = is
+bare_by [] None bytes is = absurd (cc)
+bare_by (b ∷ front) name bytes is = absurd (cc)
+
+slice_of : (units : List UnitRead) (how : How) (p : Placed) (bytes : List ℕ) → slice_by units how p ≡ Some bytes → bytes_by units how p ≡ Some bytes
+slice_of units Linkage p bytes is = is
+slice_of units Joined p bytes is = bare_by (front_of units p) p.die.name bytes is
+slice_of units Omitted p bytes is = absurd (cc)
+
+sliced_in : (units : List UnitRead) (how : How) (at : Option Placed) (bytes : List ℕ) → option_and_then (slice_by units how) at ≡ Some bytes → option_and_then (bytes_by units how) at ≡ Some bytes
+sliced_in units how None bytes is = absurd (cc)
+sliced_in units how (Some p) bytes is = slice_of units how p bytes is
+
+pub slice_bytes : (units : List UnitRead) (name : NameRef) (bytes : List ℕ) → name_slice units name ≡ Some bytes → name_bytes units name ≡ bytes
+unfolding name_slice name_bytes
+slice_bytes units name bytes is = ap (λ o. unwrap_or o (codes "<name omitted>")) (sliced_in units name.how (entry_of units name.unit name.entry) bytes is)

@@ -1,0 +1,93 @@
+-- A cleaned name is not changed by cleaning.
+use Rattle.std.proofs.Common.{◌≡◌, ℕ, zero, suc, ◌≤◌, ◌<◌, ◌+◌, Bool, true, false, nat_lt, nat_eq, ◌||◌, cond, List, [], ◌∷◌, map, take, length, codes, refl, sym, ap, ◌∙◌, arith}
+use Rattle.std.proofs.lemmas.Bool.Decides.{nat_tests}
+use Rattle.std.proofs.lemmas.List.{length-take}
+use Rattle.std.proofs.lemmas.List.{take_all}
+use Rattle.sym_rules.specs.Cuts.{is_space, skip}
+use Rattle.sym_records.specs.Cleaning.{shown_byte, or_omitted, cleaned_upto, cleaned}
+
+-- a byte that is shown is shown as it is
+shown_by : (b : ℕ) (control : Bool) → (nat_lt b 32 || nat_eq b 127) ≡ control → shown_byte (cond control 63 b) ≡ cond control 63 b
+shown_by b true is = refl
+shown_by b false is = ap (λ c. cond c 63 b) is
+
+shown_again : (b : ℕ) → shown_byte (shown_byte b) ≡ shown_byte b
+shown_again b = shown_by b (nat_lt b 32 || nat_eq b 127) refl
+
+abbrev AreShown : List ℕ → Type 0
+AreShown [] = Prim.Unit {0}
+AreShown (b ∷ bytes) = (shown_byte b ≡ b) × AreShown bytes
+
+shown_map : (bytes : List ℕ) → AreShown (map shown_byte bytes)
+shown_map [] = tt
+shown_map (b ∷ bytes) = (shown_again b, shown_map bytes)
+
+shown_fixed : (bytes : List ℕ) → AreShown bytes → map shown_byte bytes ≡ bytes
+shown_fixed [] shown = refl
+shown_fixed (b ∷ bytes) shown = ap (λ c. c ∷ map shown_byte bytes) shown.0 ∙ ap (λ rest. b ∷ rest) (shown_fixed bytes shown.1)
+
+skip_by : (b : ℕ) (bytes : List ℕ) (space : Bool) → AreShown (b ∷ bytes) → AreShown (skip is_space bytes) → AreShown (cond space (skip is_space bytes) (b ∷ bytes))
+skip_by b bytes true shown later = later
+skip_by b bytes false shown later = shown
+
+shown_skip : (bytes : List ℕ) → AreShown bytes → AreShown (skip is_space bytes)
+unfolding skip
+shown_skip [] shown = tt
+shown_skip (b ∷ bytes) shown = skip_by b bytes (is_space b) shown (shown_skip bytes shown.1)
+
+shown_take : (n : ℕ) (bytes : List ℕ) → AreShown bytes → AreShown (take n bytes)
+shown_take zero bytes shown = tt
+shown_take (suc n) [] shown = tt
+shown_take (suc n) (b ∷ bytes) shown = (shown.0, shown_take n bytes shown.1)
+
+-- no space in front
+abbrev Begins : List ℕ → Type 0
+Begins [] = Prim.Unit {0}
+Begins (b ∷ bytes) = is_space b ≡ false
+
+begins_by : (b : ℕ) (bytes : List ℕ) (space : Bool) → is_space b ≡ space → Begins (skip is_space bytes) → Begins (cond space (skip is_space bytes) (b ∷ bytes))
+begins_by b bytes true is later = later
+begins_by b bytes false is later = is
+
+begins_skip : (bytes : List ℕ) → Begins (skip is_space bytes)
+unfolding skip
+begins_skip [] = tt
+begins_skip (b ∷ bytes) = begins_by b bytes (is_space b) refl (begins_skip bytes)
+
+begins_take : (n : ℕ) (bytes : List ℕ) → Begins bytes → Begins (take n bytes)
+begins_take zero bytes begins = tt
+begins_take (suc n) [] begins = tt
+begins_take (suc n) (b ∷ bytes) begins = begins
+
+nothing_skipped : (bytes : List ℕ) → Begins bytes → skip is_space bytes ≡ bytes
+unfolding skip
+nothing_skipped [] begins = refl
+nothing_skipped (b ∷ bytes) begins = ap (λ space. cond space (skip is_space bytes) (b ∷ bytes)) begins
+
+-- cleaned bytes
+front_fixed : (limit : ℕ) (bytes : List ℕ) → AreShown bytes → Begins bytes → length bytes ≤ limit → take limit (skip is_space (map shown_byte bytes)) ≡ bytes
+front_fixed limit bytes shown begins short =
+    ap (λ xs. take limit (skip is_space xs)) (shown_fixed bytes shown)
+    ∙ ap (take limit) (nothing_skipped bytes begins)
+    ∙ take_all limit bytes short
+
+omitted_again : (limit : ℕ) → 14 ≤ limit → cleaned_upto limit (codes "<name omitted>") ≡ codes "<name omitted>"
+unfolding cleaned_upto skip
+omitted_again limit room = ap or_omitted (take_all limit (codes "<name omitted>") (omega arith))
+
+again_by : (limit : ℕ) (front : List ℕ) → 14 ≤ limit → AreShown front → Begins front → length front ≤ limit → cleaned_upto limit (or_omitted front) ≡ or_omitted front
+unfolding cleaned_upto
+again_by limit [] room shown begins short = omitted_again limit room
+again_by limit (b ∷ front) room shown begins short = ap or_omitted (front_fixed limit (b ∷ front) shown begins short)
+
+upto_again : (limit : ℕ) (bytes : List ℕ) → 14 ≤ limit → cleaned_upto limit (cleaned_upto limit bytes) ≡ cleaned_upto limit bytes
+unfolding cleaned_upto
+upto_again limit bytes room =
+    again_by limit (take limit (skip is_space (map shown_byte bytes))) room
+    (shown_take limit (skip is_space (map shown_byte bytes)) (shown_skip (map shown_byte bytes) (shown_map bytes)))
+    (begins_take limit (skip is_space (map shown_byte bytes)) (begins_skip (map shown_byte bytes)))
+    (omega (arith, length-take limit (skip is_space (map shown_byte bytes))))
+
+pub cleaned_again : (bytes : List ℕ) → cleaned (cleaned bytes) ≡ cleaned bytes
+unfolding cleaned
+cleaned_again bytes = upto_again 65536 bytes (omega arith)

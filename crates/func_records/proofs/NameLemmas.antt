@@ -1,0 +1,255 @@
+-- In a text with the records of functions a look-up names the owner and the line of each address.
+use Rattle.std.proofs.Common.{◌≡◌, ℕ, zero, suc, ◌+◌, ◌-◌, ◌<◌, ◌≤◌, Bool, true, false, ◌&&◌, ◌||◌, ◌==◌, nat_le, nat_lt, if◌then◌else◌, cond, map, length, List, [], ◌∷◌, ◌++◌, Option, None, Some, unwrap_or, arith, refl, sym, ap, ◌∙◌, inl, inr, append_assoc, append-nil}
+use Rattle.std.proofs.lemmas.Bool.Decides.{nat_tests, leb_tells}
+use Rattle.std.proofs.lemmas.Slice.Eq.{bytes_eq-Decides}
+use Rattle.std.specs.List.{find, slice_get, list_any}
+use Rattle.std.specs.Str.{bytes_eq}
+use Rattle.std.specs.Option.{option_map, option_and_then}
+use Rattle.step_maps.specs.Runs.{Run, has, value_in, AreRuns, IsRuns, AreMaximal, between}
+use Rattle.step_maps.proofs.MaximalLemmas.{maximal}
+use Rattle.sym_records.specs.declared.line.SymLine.{SymLine}
+use Rattle.sym_records.specs.declared.line.SymLine.TheVariants.{File, Func, Line}
+use Rattle.sym_lookup.specs.TextNames.{is_within, is_func_at, is_line_at, under, Found, text_func, func_name, text_owner, line_under, text_line, is_file, file_name, text_path, path_and_line}
+use Rattle.sym_lookup.specs.Plain.{ArePlain, HaveNoFile}
+use Rattle.sym_lookup.proofs.TextLemmas.{func_behind, none_under, file_behind}
+use Rattle.line_program.specs.LineMaps.{numbered_line, named_line}
+use Rattle.die_names.specs.declared.unit_read.UnitRead.{UnitRead}
+use Rattle.die_names.specs.Names.{entry_name}
+use Rattle.die_names.specs.Owners.{Covering, owner, line, line_in, line_under as owner_line}
+use Rattle.func_flatten.specs.declared.piece.Place.{Place}
+use Rattle.func_flatten.specs.declared.piece.Piece.{Piece}
+use Rattle.func_flatten.specs.declared.line_run.LineRun.{LineRun}
+use Rattle.func_flatten.specs.Pieces.{piece_run, place_of, owner_place, ArePieces}
+use Rattle.func_flatten.specs.LineRuns.{path_line, path_run, unit_line, unit_paths, AreLineRuns}
+use Rattle.func_records.specs.FuncRecords.{Part, pieces_of, path_in, number_in, file_lines, func_record, line_record, part_lines, AreLined, BeginAbove, names_path, AreUsed, AreFuncRecords}
+use Rattle.func_records.specs.TextNames.{name_of, found_line, Names}
+
+-- records in front that are no FUNC
+no_func : (behind : List SymLine) (x : ℕ) → ArePlain behind → text_func behind x ≡ None
+no_func behind x plain = ap (λ l. text_func l x) (sym (append-nil behind)) ∙ func_behind behind [] x plain
+
+func_files : (k : ℕ) (paths : List (List ℕ)) (rest : List SymLine) (x : ℕ) → text_func (file_lines k paths ++ rest) x ≡ text_func rest x
+func_files k [] rest x = refl
+func_files k (path ∷ paths) rest x = func_files (k + 1) paths rest x
+
+func_lines : (base : ℕ) (paths : List (List ℕ)) (units : List UnitRead) (unit : ℕ) (runs : List LineRun) (rest : List SymLine) (x : ℕ) → text_func (map (line_record base paths units unit) runs ++ rest) x ≡ text_func rest x
+func_lines base paths units unit [] rest x = refl
+func_lines base paths units unit (r ∷ runs) rest x = func_lines base paths units unit runs rest x
+
+under_lines : (base : ℕ) (paths : List (List ℕ)) (units : List UnitRead) (unit : ℕ) (runs : List LineRun) (rest : List SymLine) → under rest ≡ [] → under (map (line_record base paths units unit) runs ++ rest) ≡ map (line_record base paths units unit) runs
+under_lines base paths units unit [] rest none = none
+under_lines base paths units unit (r ∷ runs) rest none = ap (λ k. line_record base paths units unit r ∷ k) (under_lines base paths units unit runs rest none)
+
+-- the FILE of a path's number has that path
+file_by : (k : ℕ) (path q : List ℕ) (paths : List (List ℕ)) (rest : List SymLine) (same : Bool) → bytes_eq q path ≡ same → ((same ≡ false) → option_map file_name (find (is_file (k + 1 + number_in paths path)) (file_lines (k + 1) paths ++ rest)) ≡ Some path) → option_map file_name (find (is_file (k + cond same 0 (number_in paths path + 1))) (file_lines k (q ∷ paths) ++ rest)) ≡ Some path
+file_by k path q paths rest true is later =
+    let here : (k == (k + 0)) ≡ true = grind (arith, nat_tests) in
+    ap (λ b. option_map file_name (if b then Some (File k q) else find (is_file (k + 0)) (file_lines (k + 1) paths ++ rest))) here
+    ∙ ap Some ((bytes_eq-Decides q path).0 is)
+file_by k path q paths rest false is later =
+    let past : (k == (k + (number_in paths path + 1))) ≡ false = grind (arith, nat_tests) in
+    ap (λ b. option_map file_name (if b then Some (File k q) else find (is_file (k + (number_in paths path + 1))) (file_lines (k + 1) paths ++ rest))) past
+    ∙ ap (λ n. option_map file_name (find (is_file n) (file_lines (k + 1) paths ++ rest))) (omega arith)
+    ∙ later refl
+
+had_by : (path q : List ℕ) (paths : List (List ℕ)) → bytes_eq q path ≡ false → list_any (bytes_eq path) (q ∷ paths) ≡ true → list_any (bytes_eq path) paths ≡ true
+had_by path q paths other had = go (bytes_eq path q) refl had
+ where
+  go : (b : Bool) → bytes_eq path q ≡ b → (b || list_any (bytes_eq path) paths) ≡ true → list_any (bytes_eq path) paths ≡ true
+  go true is all =
+      let alike : path ≡ q = (bytes_eq-Decides path q).0 is in
+      let again : bytes_eq q path ≡ true = (bytes_eq-Decides q path).1 (sym alike) in
+      cc
+  go false is all = all
+
+file_at : (k : ℕ) (path : List ℕ) (paths : List (List ℕ)) (rest : List SymLine) → list_any (bytes_eq path) paths ≡ true → option_map file_name (find (is_file (k + number_in paths path)) (file_lines k paths ++ rest)) ≡ Some path
+unfolding number_in
+file_at k path [] rest had = cc
+file_at k path (q ∷ paths) rest had =
+    file_by k path q paths rest (bytes_eq q path) refl (λ other. file_at (k + 1) path paths rest (had_by path q paths other had))
+
+path_found : (front : List SymLine) (paths : List (List ℕ)) (rest : List SymLine) (path : List ℕ) → HaveNoFile front → list_any (bytes_eq path) paths ≡ true → text_path (front ++ (file_lines 0 paths ++ rest)) (number_in paths path) ≡ Some path
+path_found front paths rest path none had =
+    ap (λ o. option_map file_name o) (file_behind front (file_lines 0 paths ++ rest) (number_in paths path) none)
+    ∙ ap (λ m. option_map file_name (find (is_file m) (file_lines 0 paths ++ rest))) (omega arith)
+    ∙ file_at 0 path paths rest had
+
+-- a record covers an address of the text just where its run has the address
+within_run : (base start end x : ℕ) → base ≤ start → start < end → is_within (start - base) (end - start) x ≡ (nat_le start (x + base) && nat_lt (x + base) end)
+within_run base start end x above some = grind (arith, nat_tests)
+
+-- runs of a function from an address on begin at or above it
+abbrev BeginFrom : List (List ℕ) → ℕ → List LineRun → Type 0
+BeginFrom table low [] = Unit {0}
+BeginFrom table low (r ∷ runs) = (low ≤ r.start) × BeginFrom table low runs
+
+between_low : (low high a : ℕ) (f : ℕ → Option (List ℕ × ℕ)) → a < low → between low high f a ≡ None
+between_low low high a f below =
+    let out : (nat_le low a && nat_lt a high) ≡ false = grind (arith, nat_tests) in
+    ap (λ b. if b then f a else None) out
+
+between_in : (low high a : ℕ) (f : ℕ → Option (List ℕ × ℕ)) → low ≤ a → a < high → between low high f a ≡ f a
+between_in low high a f above below =
+    let inside : (nat_le low a && nat_lt a high) ≡ true = grind (arith, nat_tests) in
+    ap (λ b. if b then f a else None) inside
+
+begin_all : (table : List (List ℕ)) (low high : ℕ) (f : ℕ → Option (List ℕ × ℕ)) (runs : List LineRun) → AreMaximal (between low high f) (map (path_run table) runs) → BeginFrom table low runs
+begin_all table low high f [] all = tt
+begin_all table low high f (r ∷ runs) all = (elim (leb_tells low r.start) [
+  | inl is ↦ is.1
+  | inr below ↦
+      (let value : between low high f r.start ≡ Some (path_line table (r.path, r.line)) = all.0.constant r.start (omega arith) all.0.some in
+      let none : between low high f r.start ≡ None = between_low low high r.start f below.1 in
+      cc)
+], begin_all table low high f runs all.1)
+
+-- a path as its number finds it, and the line
+abbrev numbered : List SymLine → List (List ℕ) → List ℕ × ℕ → Option (List ℕ) × ℕ
+numbered records paths m = (text_path records (number_in paths m.0), m.1)
+
+-- the line record that is found is the run's
+line_found : (base : ℕ) (paths : List (List ℕ)) (units : List UnitRead) (unit low x : ℕ) (records : List SymLine) (runs : List LineRun) → base ≤ low → BeginFrom (unit_paths units unit) low runs → AreRuns (map (path_run (unit_paths units unit)) runs) → option_map (path_and_line records) (find (is_line_at x) (map (line_record base paths units unit) runs)) ≡ option_map (numbered records paths) (value_in (map (path_run (unit_paths units unit)) runs) (x + base))
+line_found base paths units unit low x records [] above from apart = refl
+line_found base paths units unit low x records (r ∷ runs) above from apart =
+    ap (λ b. option_map (path_and_line records) (if b then Some (line_record base paths units unit r) else find (is_line_at x) (map (line_record base paths units unit) runs))) (within_run base r.start r.end x (omega (arith, from.0)) apart.0)
+    ∙ go (has (path_run (unit_paths units unit) r) (x + base)) (line_found base paths units unit low x records runs above from.1 apart.2)
+ where
+  go : (b : Bool) → option_map (path_and_line records) (find (is_line_at x) (map (line_record base paths units unit) runs)) ≡ option_map (numbered records paths) (value_in (map (path_run (unit_paths units unit)) runs) (x + base))
+      → option_map (path_and_line records) (if b then Some (line_record base paths units unit r) else find (is_line_at x) (map (line_record base paths units unit) runs)) ≡ option_map (numbered records paths) (if b then Some (path_line (unit_paths units unit) (r.path, r.line)) else value_in (map (path_run (unit_paths units unit)) runs) (x + base))
+  go true is = refl
+  go false is = is
+
+-- behind a part no line record stands
+none_after : (base : ℕ) (paths : List (List ℕ)) (units : List UnitRead) (parts : List Part) (behind : List SymLine) → ArePlain behind → under (part_lines base paths units parts ++ behind) ≡ []
+none_after base paths units [] behind plain = none_under behind plain
+none_after base paths units (p ∷ parts) behind plain = refl
+
+regroup : (base : ℕ) (paths : List (List ℕ)) (units : List UnitRead) (p : Part) (parts : List Part) (behind : List SymLine) → (map (line_record base paths units p.piece.unit) p.lines ++ part_lines base paths units parts) ++ behind ≡ map (line_record base paths units p.piece.unit) p.lines ++ (part_lines base paths units parts ++ behind)
+regroup base paths units p parts behind = append_assoc (map (line_record base paths units p.piece.unit) p.lines) (part_lines base paths units parts) behind
+
+-- the line of an address where a unit's function owns it, with the path that its number finds
+abbrev numbered_at : List SymLine → List (List ℕ) → List UnitRead → ℕ → Option Place → Option (Option (List ℕ) × ℕ)
+numbered_at records paths units a None = None
+numbered_at records paths units a (Some p) = option_map (numbered records paths) (unit_line units p.unit a)
+
+abbrev place_name : List UnitRead → Place → List ℕ
+place_name units p = entry_name units p.unit p.entry
+
+-- the FUNC that is found is the piece's, and under it stand its lines
+record Shows (base : ℕ) (paths : List (List ℕ)) (units : List UnitRead) (records : List SymLine) (x : ℕ) (found : Option Found) (place : Option Place) : Type 0 where
+  function : option_map (λ f. func_name f.func) found ≡ option_map (place_name units) place
+  line : option_map (path_and_line records) (option_and_then (line_under x) found) ≡ numbered_at records paths units (x + base) place
+
+part_shows : (base : ℕ) (paths : List (List ℕ)) (units : List UnitRead) (records : List SymLine) (x : ℕ) (p : Part) (parts : List Part) (behind : List SymLine) → ArePlain behind → base ≤ p.piece.start → AreLineRuns units p.piece p.lines → has (piece_run p.piece) (x + base) ≡ true
+    → Shows base paths units records x (Some (record { func = func_record base units p.piece; behind = (map (line_record base paths units p.piece.unit) p.lines ++ part_lines base paths units parts) ++ behind })) (Some (record { unit = p.piece.unit; entry = p.piece.entry }))
+part_shows base paths units records x p parts behind plain above runs here = record {
+  function = refl;
+  line =
+      let low : p.piece.start ≤ x + base = grind (arith, nat_tests) in
+      let high : x + base < p.piece.end = grind (arith, nat_tests) in
+      let lines : under ((map (line_record base paths units p.piece.unit) p.lines ++ part_lines base paths units parts) ++ behind) ≡ map (line_record base paths units p.piece.unit) p.lines
+      = ap (λ l. under l) (regroup base paths units p parts behind) ∙ under_lines base paths units p.piece.unit p.lines (part_lines base paths units parts ++ behind) (none_after base paths units parts behind plain) in
+      ap (λ l. option_map (path_and_line records) (find (is_line_at x) l)) lines
+      ∙ line_found base paths units p.piece.unit p.piece.start x records p.lines above (begin_all (unit_paths units p.piece.unit) p.piece.start p.piece.end (unit_line units p.piece.unit) p.lines (maximal _ (map (path_run (unit_paths units p.piece.unit)) p.lines) runs.paths)) runs.paths.apart
+      ∙ ap (λ o. option_map (numbered records paths) o) (runs.paths.values (x + base) ∙ between_in p.piece.start p.piece.end (x + base) (unit_line units p.piece.unit) low high);
+}
+
+none_shows : (base : ℕ) (paths : List (List ℕ)) (units : List UnitRead) (records : List SymLine) (x : ℕ) → Shows base paths units records x None None
+none_shows base paths units records x = record { function = refl; line = refl }
+
+abbrev part_runs : List Part → List (Run Place)
+part_runs parts = map piece_run (pieces_of parts)
+
+parts_show : (base : ℕ) (paths : List (List ℕ)) (units : List UnitRead) (records : List SymLine) (x : ℕ) (parts : List Part) (behind : List SymLine) → ArePlain behind → BeginAbove base (pieces_of parts) → AreLined units parts → AreRuns (part_runs parts) → Shows base paths units records x (text_func (part_lines base paths units parts ++ behind) x) (value_in (part_runs parts) (x + base))
+parts_show base paths units records x [] behind plain above are apart = rw (no_func behind x plain) (none_shows base paths units records x)
+parts_show base paths units records x (p ∷ parts) behind plain above are apart =
+    let later : text_func ((map (line_record base paths units p.piece.unit) p.lines ++ part_lines base paths units parts) ++ behind) x ≡ text_func (part_lines base paths units parts ++ behind) x
+    = ap (λ l. text_func l x) (regroup base paths units p parts behind) ∙ func_lines base paths units p.piece.unit p.lines (part_lines base paths units parts ++ behind) x in
+    rw (within_run base p.piece.start p.piece.end x above.0 apart.0)
+    (go (has (piece_run p.piece) (x + base)) refl (rw later (parts_show base paths units records x parts behind plain above.1 are.1 apart.2)))
+ where
+  go : (b : Bool) → has (piece_run p.piece) (x + base) ≡ b
+      → Shows base paths units records x (text_func ((map (line_record base paths units p.piece.unit) p.lines ++ part_lines base paths units parts) ++ behind) x) (value_in (part_runs parts) (x + base))
+      → Shows base paths units records x
+          (if b then Some (record { func = func_record base units p.piece; behind = (map (line_record base paths units p.piece.unit) p.lines ++ part_lines base paths units parts) ++ behind }) else text_func ((map (line_record base paths units p.piece.unit) p.lines ++ part_lines base paths units parts) ++ behind) x)
+          (if b then Some (record { unit = p.piece.unit; entry = p.piece.entry }) else value_in (part_runs parts) (x + base))
+  go true here is = part_shows base paths units records x p parts behind plain above.0 are.0 here
+  go false other is = is
+
+or_right : (b c : Bool) → c ≡ true → (b || c) ≡ true
+or_right true c is = refl
+or_right false c is = is
+
+or_left : (b c : Bool) → b ≡ true → (b || c) ≡ true
+or_left true c is = refl
+or_left false c is = absurd (cc)
+
+-- the path of a line that is found is named
+run_named : (units : List UnitRead) (unit a : ℕ) (m : List ℕ × ℕ) (runs : List LineRun) → value_in (map (path_run (unit_paths units unit)) runs) a ≡ Some m → list_any (λ (r : LineRun). bytes_eq m.0 (path_in units unit r.path)) runs ≡ true
+run_named units unit a m [] is = absurd (cc)
+run_named units unit a m (r ∷ runs) is = go (has (path_run (unit_paths units unit) r) a) is (λ later. run_named units unit a m runs later)
+ where
+  go : (b : Bool) → (if b then Some (path_line (unit_paths units unit) (r.path, r.line)) else value_in (map (path_run (unit_paths units unit)) runs) a) ≡ Some m
+      → (value_in (map (path_run (unit_paths units unit)) runs) a ≡ Some m → list_any (λ (r : LineRun). bytes_eq m.0 (path_in units unit r.path)) runs ≡ true)
+      → (bytes_eq m.0 (path_in units unit r.path) || list_any (λ (r : LineRun). bytes_eq m.0 (path_in units unit r.path)) runs) ≡ true
+  go true same later =
+      let path : path_in units unit r.path ≡ m.0 = cc in
+      or_left (bytes_eq m.0 (path_in units unit r.path)) (list_any (λ (s : LineRun). bytes_eq m.0 (path_in units unit s.path)) runs) ((bytes_eq-Decides m.0 (path_in units unit r.path)).1 (sym path))
+  go false same later = or_right (bytes_eq m.0 (path_in units unit r.path)) (list_any (λ (s : LineRun). bytes_eq m.0 (path_in units unit s.path)) runs) (later same)
+
+part_named : (units : List UnitRead) (a : ℕ) (place : Place) (m : List ℕ × ℕ) (parts : List Part) → AreLined units parts → value_in (part_runs parts) a ≡ Some place → unit_line units place.unit a ≡ Some m → list_any (names_path units m.0) parts ≡ true
+part_named units a place m [] are is line = absurd (cc)
+part_named units a place m (p ∷ parts) are is line =
+    go (has (piece_run p.piece) a) refl is (λ later. part_named units a place m parts are.1 later line)
+ where
+  here : has (piece_run p.piece) a ≡ true → place ≡ record { unit = p.piece.unit; entry = p.piece.entry } → names_path units m.0 p ≡ true
+  here inside same =
+      let low : p.piece.start ≤ a = grind (arith, nat_tests) in
+      let high : a < p.piece.end = grind (arith, nat_tests) in
+      let unit : place.unit ≡ p.piece.unit = ap (λ (q : Place). q.unit) same in
+      let there : unit_line units p.piece.unit a ≡ Some m = ap (λ u. unit_line units u a) (sym unit) ∙ line in
+      run_named units p.piece.unit a m p.lines (are.0.paths.values a ∙ between_in p.piece.start p.piece.end a (unit_line units p.piece.unit) low high ∙ there)
+  go : (b : Bool) → has (piece_run p.piece) a ≡ b → (if b then Some (record { unit = p.piece.unit; entry = p.piece.entry }) else value_in (part_runs parts) a) ≡ Some place
+      → (value_in (part_runs parts) a ≡ Some place → list_any (names_path units m.0) parts ≡ true)
+      → (names_path units m.0 p || list_any (names_path units m.0) parts) ≡ true
+  go true inside same later =
+      let owned : place ≡ record { unit = p.piece.unit; entry = p.piece.entry } = cc in
+      or_left (names_path units m.0 p) (list_any (names_path units m.0) parts) (here inside owned)
+  go false inside same later = or_right (names_path units m.0 p) (list_any (names_path units m.0) parts) (later same)
+
+-- the line of an address by its owner, and the line record that is found there
+found_by : (records : List SymLine) (paths : List (List ℕ)) (o : Option (List ℕ × ℕ)) → ((m : List ℕ × ℕ) → o ≡ Some m → text_path records (number_in paths m.0) ≡ Some m.0) → option_map (numbered records paths) o ≡ option_map found_line o
+found_by records paths None each = refl
+found_by records paths (Some m) each = ap (λ (q : Option (List ℕ)). Some (q, m.1)) (each m refl)
+
+line_by_owner : (records : List SymLine) (paths : List (List ℕ)) (units : List UnitRead) (a : ℕ) (o : Option Covering) → ((p : Place) → option_map place_of o ≡ Some p → (m : List ℕ × ℕ) → unit_line units p.unit a ≡ Some m → text_path records (number_in paths m.0) ≡ Some m.0) → numbered_at records paths units a (option_map place_of o) ≡ option_map found_line (owner_line units a o)
+unfolding unit_line
+line_by_owner records paths units a None each = refl
+line_by_owner records paths units a (Some c) each = found_by records paths (line_in a (slice_get units c.unit)) (each (place_of c) refl)
+
+name_by_owner : (units : List UnitRead) (o : Option Covering) → option_map (place_name units) (option_map place_of o) ≡ option_map (name_of units) o
+name_by_owner units None = refl
+name_by_owner units (Some c) = refl
+
+-- in a text with the records of functions, among others that are none, a look-up names the owner and the line of each address
+pub all_named : (base : ℕ) (units : List UnitRead) (pieces : List Piece) (front records behind : List SymLine) → ArePieces units pieces → BeginAbove base pieces → AreFuncRecords base units pieces records → ArePlain front → HaveNoFile front → ArePlain behind → (x : ℕ) → Names base units (front ++ (records ++ behind)) x
+unfolding text_owner text_line owner_place line
+all_named base units pieces front records behind pieced above are plain none after x =
+    let parts = are.parts in
+    let paths = are.paths in
+    let all : List SymLine = front ++ (file_lines 0 paths ++ (part_lines base paths units parts ++ behind)) in
+    let same : front ++ (records ++ behind) ≡ all = ap (λ (r : List SymLine). front ++ (r ++ behind)) are.whole ∙ ap (λ (r : List SymLine). front ++ r) (append_assoc (file_lines 0 paths) (part_lines base paths units parts) behind) in
+    let found : text_func all x ≡ text_func (part_lines base paths units parts ++ behind) x = func_behind front (file_lines 0 paths ++ (part_lines base paths units parts ++ behind)) x plain ∙ func_files 0 paths (part_lines base paths units parts ++ behind) x in
+    let runs : part_runs parts ≡ map piece_run pieces = ap (λ (ps : List Piece). map piece_run ps) are.pieces_are in
+    let apart : AreRuns (part_runs parts) = rw runs pieced.runs.apart in
+    let value : value_in (part_runs parts) (x + base) ≡ owner_place units (x + base) = ap (λ (rs : List (Run Place)). value_in rs (x + base)) runs ∙ pieced.runs.values (x + base) in
+    let high : BeginAbove base (pieces_of parts) = rw are.pieces_are above in
+    let shows = parts_show base paths units all x parts behind after high are.lines_are apart in
+    let path : (path : List ℕ) → list_any (names_path units path) parts ≡ true → text_path all (number_in paths path) ≡ Some path
+        = λ path named. path_found front paths (part_lines base paths units parts ++ behind) path none (are.used.same path ∙ named) in
+    rw same (record {
+      function = ap (λ f. option_map (λ g. func_name g.func) f) found ∙ shows.function ∙ ap (option_map (place_name units)) value ∙ name_by_owner units (owner units (x + base));
+      line = ap (λ f. option_map (path_and_line all) (option_and_then (line_under x) f)) found ∙ shows.line ∙ ap (numbered_at all paths units (x + base)) value
+          ∙ line_by_owner all paths units (x + base) (owner units (x + base)) (λ p is m lined.
+              path m.0 (part_named units (x + base) p m parts are.lines_are (value ∙ is) lined));
+    })

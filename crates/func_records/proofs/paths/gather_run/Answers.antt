@@ -1,0 +1,6 @@
+use Rattle.std.proofs.Common.{rules}
+use Rattle.func_records.proofs.PathLemmas.{row_marked, run_added, run_marked, path_lost}
+use Rattle.func_records.proofs.paths.gather_run.Goals as goal
+
+pub returns-clause-marked : goal.returns-clause-marked
+returns-clause-marked c = row_marked c.args.units.now c.args.unit c.args.run.path c.args.row.now _ c.args.used.now.items _ c.in-Some.path c.in-Some.ensures c.in_ok-push.ensures.items c.set.ensures c.requires.marked

@@ -1,0 +1,70 @@
+//! The numbers of paths among those in use.
+ghost use Rattle.std.specs.Prelude.{◌≡◌, ℕ, ◌<◌, ◌^◌, false, map, length, Any, slice_get, IfSome, IfNone, IfOk, true, vec_len};
+ghost use Rattle.std.specs.Str.{bytes_eq};
+ghost use Rattle.std.specs.List.Sorted.{IsStrictlySortedBy};
+ghost use Rattle.line_program.specs.LineMaps.{LineMap};
+ghost use Rattle.func_records.specs.Texts.{text_cmp};
+ghost use Rattle.func_records.specs.Gathering.{bytes_of};
+ghost use Rattle.func_records.specs.Spelling.{number_or_0, unit_numbers};
+
+use die_names::Units;
+use line_program::LineTable;
+use std::alloc::Global;
+use sym_edges::{ListOf, OutOfMemory};
+
+/// The place of a text among sorted texts, by halves.
+fn find_text(sorted: &[&[u8]], text: &[u8]) -> Option<usize>
+    requires { IsStrictlySortedBy text_cmp sorted.now }
+    ensures none { IfNone result (Any (λ t. bytes_eq text.now t.now ≡ true) sorted.now → ⊥) }
+    ensures found { IfSome result (λ n. slice_get (map (λ t. t.now) sorted.now) n ≡ Some text.now) }
+    ensures inside { IfSome result (λ n. n < length sorted.now) }
+{
+    match sorted.binary_search(&text) {
+        Ok(place) => Some(place),
+        Err(_) => None,
+    }
+}
+
+/// The number of a path that is in use, and 0 for others.
+fn number_of(sorted: &[&[u8]], path: &[u8]) -> u32
+    requires sorted { IsStrictlySortedBy text_cmp sorted.now }
+    requires few { length sorted.now < 2 ^ 32 }
+    ensures { result ≡ number_or_0 (bytes_of sorted.now) path.now }
+{
+    match find_text(sorted, path) {
+        Some(place) => place as u32,
+        None => 0,
+    }
+}
+
+/// The numbers of the paths of a unit.
+fn number_row(alloc: Global, table: &LineTable, sorted: &[&[u8]]) -> Result<ListOf<u32>, OutOfMemory>
+    requires sorted { IsStrictlySortedBy text_cmp sorted.now }
+    requires few { length sorted.now < 2 ^ 32 }
+    ensures { IfOk result (λ row. row ≡ map (number_or_0 (bytes_of sorted.now)) table.now.paths) }
+{
+    let count = table.path_count();
+    if count > u32::MAX as usize {
+        return Err(OutOfMemory);
+    }
+    let mut row = Vec::with_capacity(alloc, count)?;
+    'paths: for path in 0..count {
+        row.push(number_of(sorted, table.path(path as u32)))?;
+    }
+    Ok(ListOf::of(row))
+}
+
+/// The numbers of the paths of all units.
+pub fn number_rows(alloc: Global, units: &Units<'_>, sorted: &[&[u8]]) -> Result<Vec<ListOf<u32>>, OutOfMemory>
+    requires sorted { IsStrictlySortedBy text_cmp sorted.now }
+    requires few { length sorted.now < 2 ^ 32 }
+    ensures { IfOk result (λ rows. rows.items ≡ unit_numbers (bytes_of sorted.now) units.now) }
+{
+    let mut rows = Vec::new(alloc);
+    let parts = units.as_slice();
+    'units: for unit in 0..parts.len() {
+        let part = &parts[unit];
+        rows.push(number_row(alloc, &part.lines, sorted)?)?;
+    }
+    Ok(rows)
+}
