@@ -5,3 +5,4 @@ pub mod PieceLemmas
 pub mod ClassLemmas
 pub mod GrowingRuns
 pub mod LineLemmas
+pub mod PublicLemmas
