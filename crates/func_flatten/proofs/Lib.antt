@@ -6,3 +6,8 @@ pub mod ClassLemmas
 pub mod GrowingRuns
 pub mod LineLemmas
 pub mod PublicLemmas
+pub mod LawLemmas
+pub mod Computing
+mod WorkedPieces
+mod WorkedLines
+mod WorkedPublics

@@ -1,4 +1,4 @@
-use Rattle.std.proofs.Common.{◌≡◌, ℕ, zero, suc, ◌+◌, ◌<◌, ◌≤◌, ◌==◌, ◌||◌, ◌&&◌, Bool, true, false, not, cond, if◌then◌else◌, inl, inr, List, [], ◌∷◌, ◌++◌, length, take, drop, None, Some, map, filter, nat_lt, nat_le, get_or, refl, sym, ◌∙◌, ap, arith, eq-eqb, subst, append_assoc}
+use Rattle.std.proofs.Common.{◌≡◌, ℕ, zero, suc, ◌+◌, ◌<◌, ◌≤◌, ◌==◌, ◌||◌, ◌&&◌, Bool, true, false, not, cond, if◌then◌else◌, inl, inr, List, [], ◌∷◌, ◌++◌, length, take, drop, Some, map, filter, nat_lt, nat_le, get_or, refl, sym, ◌∙◌, ap, arith, eq-eqb, subst, append_assoc}
 use Rattle.std.proofs.lemmas.Grind.{common_steps}
 use Rattle.std.proofs.lemmas.Bool.Decides.{nat_tests, leb_tells}
 use Rattle.std.proofs.lemmas.List.{map-append, append-nil, take-append-drop, drop_all, get_or_default}
@@ -559,3 +559,12 @@ unfolding publics is_covered
 publics_are pieces spans set sorted held symbols made one two groups are is =
     is ∙ test_same (holds_any set) (λ a. list_any (is_inside a) pieces) (view sorted) (λ a. one a ∙ two a)
     ∙ publics_same (λ a. list_any (is_inside a) pieces) (view sorted) (view held) groups ∙ ap (publics_where (λ a. list_any (is_inside a) pieces)) are
+
+-- the addresses rise, and are those of the symbols
+pub rising_addresses : (symbols : List SymbolParts) → IsRising (addresses symbols)
+unfolding addresses
+rising_addresses symbols = rising_ascending (map (λ s. s.address) symbols)
+
+pub has_addresses : (symbols : List SymbolParts) (a : ℕ) → has a (addresses symbols) ≡ has a (map (λ s. s.address) symbols)
+unfolding addresses
+has_addresses symbols a = has_ascending a (map (λ s. s.address) symbols)

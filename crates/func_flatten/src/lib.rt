@@ -3,6 +3,7 @@
 
 mod collecting;
 mod covering;
+pub mod laws;
 mod line_run;
 mod lines;
 mod owning;

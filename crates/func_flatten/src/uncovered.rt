@@ -66,15 +66,28 @@ fn has_other_name(alloc: Global, first: &[u8], others: &[Symbol<'_>]) -> Result<
 }
 
 /// What is said of the address of some symbols.
-fn public_of<'a>(alloc: Global, first: &Symbol<'a>, others: &[Symbol<'_>]) -> Result<PublicAt<'a>, OutOfMemory>
+fn public_of<'a>(
+    alloc: Global,
+    first: &Symbol<'a>,
+    others: &[Symbol<'_>],
+) -> Result<PublicAt<'a>, OutOfMemory>
     ensures { IfOk result (λ p. public_view p ≡ public_named first.now.address (names_of (symbol_view first.now ∷ map symbol_view others.now))) }
 {
     let many = has_other_name(alloc, first.name, others)?;
-    Ok(PublicAt { address: first.address, name: first.name, many })
+    Ok(PublicAt {
+        address: first.address,
+        name: first.name,
+        many,
+    })
 }
 
 /// Adds what is said of a group of symbols of one address, unless that is covered.
-fn add_group<'a>(alloc: Global, publics: &mut Vec<PublicAt<'a>>, covered: bool, group: &[Symbol<'a>]) -> Result<(), OutOfMemory>
+fn add_group<'a>(
+    alloc: Global,
+    publics: &mut Vec<PublicAt<'a>>,
+    covered: bool,
+    group: &[Symbol<'a>],
+) -> Result<(), OutOfMemory>
     ensures { OnOk result (map public_view publics.new.items ≡ map public_view publics.old.items ++ group_public covered (map symbol_view group.now)) }
 {
     if covered {
@@ -106,7 +119,11 @@ fn pass_to(spans: &[Span], address: u64) -> (&[Span], bool)
 }
 
 /// What is said of symbols that stand by address, but for those that the spans cover.
-fn publics_beside<'a>(alloc: Global, sorted: &[Symbol<'a>], spans: &[Span]) -> Result<Vec<PublicAt<'a>>, OutOfMemory>
+fn publics_beside<'a>(
+    alloc: Global,
+    sorted: &[Symbol<'a>],
+    spans: &[Span],
+) -> Result<Vec<PublicAt<'a>>, OutOfMemory>
     requires ordered { IsOrdered (map symbol_view sorted.now) }
     requires canonical { IsCanonical spans.now }
     ensures { IfOk result (λ publics. map public_view publics.items ≡ publics_where (holds_any spans.now) (map symbol_view sorted.now)) }
@@ -151,7 +168,11 @@ fn spans_of(alloc: Global, pieces: &[Piece]) -> Result<Vec<Span>, AllocError>
 
 /// The function symbols that no piece covers: one for each of their addresses, by address, with the name of the first symbol there,
 /// marked where another has another cleaned name.
-pub fn publics<'a>(alloc: Global, image: &Image<'a>, pieces: &PieceList) -> Result<PublicList<'a>, OutOfMemory>
+pub fn publics<'a>(
+    alloc: Global,
+    image: &Image<'a>,
+    pieces: &PieceList,
+) -> Result<PublicList<'a>, OutOfMemory>
     ensures { IfOk result (λ list. map public_view list ≡ publics pieces.now image.now.symbols) }
 {
     let spans = spans_of(alloc, pieces.as_slice())?;

@@ -1,4 +1,4 @@
-use Rattle.std.proofs.Common.{◌≡◌, ◌≤◌, ◌∷◌, ℕ, nat_le, ◌∙◌, ap, arith}
+use Rattle.std.proofs.Common.{◌≡◌, ◌∷◌, nat_le, ◌∙◌, ap, arith}
 use Rattle.range_set.specs.Members.{holds_any}
 use Rattle.range_set.specs.Canonical.{IsCanonical}
 use Rattle.func_flatten.proofs.PublicLemmas.{found_span}

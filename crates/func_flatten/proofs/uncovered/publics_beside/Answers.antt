@@ -1,4 +1,4 @@
-use Rattle.std.proofs.Common.{◌≡◌, ◌+◌, arith, refl}
+use Rattle.std.proofs.Common.{arith, refl}
 use Rattle.range_set.specs.Members.{holds_any}
 use Rattle.func_flatten.proofs.PublicLemmas.{goes_begin, group_step, IsGroup, covers_here, goes_on, made_more, made_all}
 use Rattle.func_flatten.proofs.uncovered.publics_beside.Goals as goal
