@@ -11,3 +11,4 @@ pub mod Computing
 mod WorkedPieces
 mod WorkedLines
 mod WorkedPublics
+pub mod TestLemmas

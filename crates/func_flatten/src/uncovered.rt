@@ -18,7 +18,10 @@ use sym_edges::{ListOf, OutOfMemory, Span};
 use sym_records::clean;
 
 /// The symbols by address; those of one address in the order in which they came.
-fn sorted_symbols<'a>(alloc: Global, symbols: &[Symbol<'a>]) -> Result<Vec<Symbol<'a>>, AllocError>
+pub(crate) fn sorted_symbols<'a>(
+    alloc: Global,
+    symbols: &[Symbol<'a>],
+) -> Result<Vec<Symbol<'a>>, AllocError>
     ensures order { IfOk result (λ v. IsOrdered (map symbol_view v.items)) }
     ensures groups { IfOk result (λ v. (a : ℕ) → filter (stands_at a) (map symbol_view v.items) ≡ filter (stands_at a) (map symbol_view symbols.now)) }
 {
@@ -119,7 +122,7 @@ fn pass_to(spans: &[Span], address: u64) -> (&[Span], bool)
 }
 
 /// What is said of symbols that stand by address, but for those that the spans cover.
-fn publics_beside<'a>(
+pub(crate) fn publics_beside<'a>(
     alloc: Global,
     sorted: &[Symbol<'a>],
     spans: &[Span],
@@ -156,7 +159,7 @@ fn push_span(spans: &mut Vec<Span>, piece: &Piece) -> Result<(), AllocError>
 }
 
 /// The spans of the pieces.
-fn spans_of(alloc: Global, pieces: &[Piece]) -> Result<Vec<Span>, AllocError>
+pub(crate) fn spans_of(alloc: Global, pieces: &[Piece]) -> Result<Vec<Span>, AllocError>
     ensures { IfOk result (λ spans. (a : ℕ) → holds_any spans.items a ≡ list_any (is_inside a) pieces.now) }
 {
     let mut spans = Vec::with_capacity(alloc, pieces.len())?;
