@@ -1,5 +1,5 @@
 -- Classes of functions with equal names.
-use Rattle.std.proofs.Common.{◌≡◌, ℕ, zero, suc, ◌+◌, ◌<◌, ◌^◌, ◌==◌, Bool, true, false, not, ◌||◌, ◌&&◌, nat_le, nat_lt, if◌then◌else◌, ◌-◌, map, length, List, [], ◌∷◌, ◌++◌, Option, None, Some, unwrap_or, arith, refl, sym, ap, ◌∙◌, subst, eq-eqb}
+use Rattle.std.proofs.Common.{◌≡◌, ℕ, zero, suc, ◌+◌, ◌==◌, Bool, true, false, ◌||◌, ◌&&◌, nat_le, nat_lt, if◌then◌else◌, ◌-◌, map, List, [], ◌∷◌, ◌++◌, Option, None, Some, arith, refl, sym, ap, ◌∙◌, subst, eq-eqb}
 use Rattle.std.proofs.lemmas.Bool.Decides.{nat_tests}
 use Rattle.std.proofs.lemmas.Slice.Eq.{bytes_eq-Decides}
 use Rattle.std.specs.List.{slice_get, list_any}
@@ -15,10 +15,9 @@ use Rattle.die_names.specs.declared.unit_read.UnitRead.{UnitRead}
 use Rattle.die_names.specs.Owners.{Covering}
 use Rattle.func_flatten.specs.declared.piece.Place.{Place}
 use Rattle.func_flatten.specs.Pieces.{place_of, covering_name, is_many}
-use Rattle.func_flatten.specs.Collecting.{all_functions, function_stretches, span_stretches, own_class, class_in, classed, AreFit, HaveSets, first_function, Collects}
+use Rattle.func_flatten.specs.Collecting.{all_functions, function_stretches, span_stretches, own_class, class_in, classed, Collects}
 use Rattle.func_flatten.specs.Classes.{place_name, AreClasses, TellMany, AreNamedCovers}
-use Rattle.func_flatten.proofs.CollectLemmas.{fit_stretches}
-use Rattle.func_flatten.proofs.FunctionLemmas.{any_named, index_is, many_is, TellNames, shared_is, unshared_is}
+use Rattle.func_flatten.proofs.FunctionLemmas.{index_is, many_is, TellNames, shared_is, unshared_is}
 use Rattle.func_flatten.proofs.PieceLemmas.{places_are, stretches_are}
 
 -- the number beside a text
@@ -41,10 +40,10 @@ numbers_class paths numbers files are apart i j m n one two =
     let second : slice_get paths (class_in numbers j) ≡ Some n = beside paths numbers files j n are two in
     equal_by (class_in numbers j == class_in numbers i) (bytes_eq n m)
     (λ is. (let number : class_in numbers j ≡ class_in numbers i = grind (arith, nat_tests) in
-      let here : slice_get paths (class_in numbers i) ≡ Some n = ap (slice_get paths) (sym number) ∙ second in
-      let alike : n ≡ m = cc in (bytes_eq-Decides n m).1 alike))
+    let here : slice_get paths (class_in numbers i) ≡ Some n = ap (slice_get paths) (sym number) ∙ second in
+    let alike : n ≡ m = cc in (bytes_eq-Decides n m).1 alike))
     (λ is. (let alike : n ≡ m = (bytes_eq-Decides n m).0 is in
-      eq-eqb (class_in numbers j) (class_in numbers i) (apart (class_in numbers j) (class_in numbers i) n second (first ∙ ap Some (sym alike)))))
+    eq-eqb (class_in numbers j) (class_in numbers i) (apart (class_in numbers j) (class_in numbers i) n second (first ∙ ap Some (sym alike)))))
 
 name_get : (units : List UnitRead) (functions : List Covering) (k : ℕ) (c : Covering) → slice_get functions k ≡ Some c → slice_get (map (place_name units) (map place_of functions)) k ≡ Some (covering_name units c)
 name_get units [] k c is = absurd (cc)
@@ -96,7 +95,7 @@ covers_apart units places stretches covers c is none =
     record {
       runs = is.runs;
       marks = tell_none units stretches covers
-      (λ a no. many_is units a ∙ unshared_is (covering_name units) (all_functions units) a (c.sets tt) (ap (λ l. is_shared l a) (sym one) ∙ no)) none is.marks;
+          (λ a no. many_is units a ∙ unshared_is (covering_name units) (all_functions units) a (c.sets tt) (ap (λ l. is_shared l a) (sym one) ∙ no)) none is.marks;
     }
 
 moved_runs : (f g : ℕ → Option ℕ) (covers : List Cover) → ((a : ℕ) → f a ≡ g a) → IsRuns f (map cover_run covers) → IsRuns g (map cover_run covers)

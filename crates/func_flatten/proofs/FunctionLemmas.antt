@@ -1,5 +1,5 @@
 -- The first stretch at an address is one of the first function there.
-use Rattle.std.proofs.Common.{◌≡◌, ℕ, zero, suc, ◌+◌, ◌-◌, ◌<◌, ◌≤◌, Bool, true, false, not, ◌&&◌, ◌||◌, ◌==◌, nat_le, nat_lt, if◌then◌else◌, map, length, List, [], ◌∷◌, ◌++◌, Option, None, Some, arith, refl, sym, ap, ◌∙◌, append_assoc, eq-eqb}
+use Rattle.std.proofs.Common.{◌≡◌, ℕ, suc, ◌+◌, ◌-◌, ◌<◌, Bool, true, false, not, ◌&&◌, ◌||◌, ◌==◌, nat_le, if◌then◌else◌, List, [], ◌∷◌, ◌++◌, Option, None, Some, arith, refl, sym, ap, ◌∙◌}
 use Rattle.std.proofs.lemmas.Bool.Decides.{nat_tests}
 use Rattle.std.proofs.lemmas.List.Folds.{find-append, list_any-append}
 use Rattle.std.proofs.lemmas.Slice.Eq.{bytes_eq-Decides}
@@ -14,8 +14,7 @@ use Rattle.step_maps.specs.Covers.{reaches, first_at, index_at, is_shared}
 use Rattle.die_names.specs.declared.unit_read.UnitRead.{UnitRead}
 use Rattle.die_names.specs.UnitEntries.{is_function}
 use Rattle.die_names.specs.Owners.{Covering, covering_from, owner}
-use Rattle.func_flatten.specs.declared.piece.Place.{Place}
-use Rattle.func_flatten.specs.Pieces.{owns, place_of, covering_name, has_other, is_many, owner_place}
+use Rattle.func_flatten.specs.Pieces.{owns, covering_name, has_other, is_many}
 use Rattle.func_flatten.specs.Collecting.{functions_in, all_functions, span_stretches, function_stretches, own_class, HaveSets, has_address, Numbered, first_function}
 
 reaches_range : (r : Range) (a : ℕ) → r.start < r.end → (nat_le r.start a && nat_le a (r.end - 1)) ≡ holds r a
@@ -137,6 +136,7 @@ other_by name n (c ∷ entries) a =
     go : (b t u rest later : Bool) → rest ≡ later → (((b && t) && u) || rest) ≡ (if b then ((t && u) || later) else later)
     go true t u rest later is = ap (λ r. (t && u) || r) is
     go false t u rest later is = is
+
     joined : (b : Bool) → (if b then ((holds_any c.spans a && not (bytes_eq (name c) n)) || any_name name n a (functions_in entries)) else any_name name n a (functions_in entries)) ≡ any_name name n a (if b then c ∷ functions_in entries else functions_in entries)
     joined true = refl
     joined false = refl
@@ -174,7 +174,7 @@ same_any class name n text k a (c ∷ functions) same =
     let first : (class k == n) ≡ bytes_eq (name c) text = (let here : k + 0 ≡ k = omega arith in ap (λ i. class i == n) (sym here) ∙ same 0 c refl) in
     ap (λ b. (has_address a c && not b) || any_class class n (k + 1) a functions) first
     ∙ ap (λ b. (has_address a c && not (bytes_eq (name c) text)) || b)
-      (same_any class name n text (k + 1) a functions (λ j d at. (let next : (k + 1) + j ≡ k + suc j = omega arith in ap (λ i. class i == n) next ∙ same (suc j) d at)))
+    (same_any class name n text (k + 1) a functions (λ j d at. (let next : (k + 1) + j ≡ k + suc j = omega arith in ap (λ i. class i == n) next ∙ same (suc j) d at)))
 
 -- so a stretch of another class is there just where a function of another name is
 pub shared_is : (class : ℕ → ℕ) (name : Covering → List ℕ) (functions : List Covering) (a : ℕ) → HaveSets functions → TellNames class name functions → is_shared (function_stretches class 0 functions) a ≡ any_named name a functions (first_function a 0 functions)
@@ -207,7 +207,7 @@ unshared_is name functions a all none = go (first_function a 0 functions) refl (
     go (Some m) is none_here =
         finer_any name m.number (name m.function) 0 a functions
         (λ j d at same. (let there : slice_get functions m.number ≡ Some m.function = first_at_number a functions m is in
-          let number : j ≡ m.number = omega (arith, same) in
-          let here : slice_get functions m.number ≡ Some d = ap (slice_get functions) (sym number) ∙ at in
-          let alike : m.function ≡ d = cc in
-          (bytes_eq-Decides (name d) (name m.function)).1 (ap name (sym alike)))) none_here
+        let number : j ≡ m.number = omega (arith, same) in
+        let here : slice_get functions m.number ≡ Some d = ap (slice_get functions) (sym number) ∙ at in
+        let alike : m.function ≡ d = cc in
+        (bytes_eq-Decides (name d) (name m.function)).1 (ap name (sym alike)))) none_here

@@ -1,10 +1,10 @@
 -- Runs of a function that is constant between stops.
-use Rattle.std.proofs.Common.{◌≡◌, ◌≢◌, ℕ, ◌+◌, ◌<◌, ◌≤◌, Bool, true, false, ◌&&◌, ◌||◌, ◌==◌, ◌⊎◌, nat_le, nat_lt, if◌then◌else◌, List, [], ◌∷◌, Option, None, Some, arith, refl, sym, ap, ◌∙◌, inl, inr}
+use Rattle.std.proofs.Common.{◌≡◌, ◌≢◌, ℕ, ◌<◌, ◌≤◌, Bool, true, false, ◌&&◌, ◌||◌, ◌==◌, ◌⊎◌, nat_le, nat_lt, if◌then◌else◌, List, [], ◌∷◌, Option, None, Some, arith, refl, sym, ap, ◌∙◌, inl, inr}
 use Rattle.std.proofs.lemmas.Bool.Decides.{nat_tests, leb_tells}
 use Rattle.std.specs.Option.{option_or}
-use Rattle.step_maps.specs.Runs.{Run, has, value_in, AreRuns, Follows, IsRuns, between}
+use Rattle.step_maps.specs.Runs.{Run, has, value_in, AreRuns, Follows, between}
 use Rattle.func_flatten.specs.Growing.{goes_on, added, added_after, EndBy, Grown}
-use Rattle.step_maps.proofs.RunLemmas.{if_true, if_false, has_within, has_below, has_above}
+use Rattle.step_maps.proofs.RunLemmas.{if_true, if_false}
 
 -- a test of equality
 pub record Compares {V : Type 0} (same : V → V → Bool) : Type 0 where
@@ -51,18 +51,19 @@ added_values {V} same test x [] r a apart some = elim (bool_tells (goes_on same 
   | inr off ↦ rw off (apart_or (has x a) (has r a) x.value r.value)
 ]
   where
-  merged : (b c : Bool) (v w : V) → v ≡ w → (if b || c then Some v else None) ≡ option_or (if b then Some v else None) (if c then Some w else None)
-  merged true c v w is = refl
-  merged false true v w is = ap (λ u. Some u) is
-  merged false false v w is = refl
-  apart_or : (b c : Bool) (v w : V) → (if b then Some v else (if c then Some w else None)) ≡ option_or (if b then Some v else None) (if c then Some w else None)
-  apart_or true c v w = refl
-  apart_or false c v w = refl
+    merged : (b c : Bool) (v w : V) → v ≡ w → (if b || c then Some v else None) ≡ option_or (if b then Some v else None) (if c then Some w else None)
+    merged true c v w is = refl
+    merged false true v w is = ap (λ u. Some u) is
+    merged false false v w is = refl
+
+    apart_or : (b c : Bool) (v w : V) → (if b then Some v else (if c then Some w else None)) ≡ option_or (if b then Some v else None) (if c then Some w else None)
+    apart_or true c v w = refl
+    apart_or false c v w = refl
 added_values {V} same test x (y ∷ ys) r a apart some = go (has x a) (added_values same test y ys r a apart.2 some)
   where
-  go : (b : Bool) → value_in (added_after same y ys r) a ≡ option_or (value_in (y ∷ ys) a) (if has r a then Some r.value else None) → (if b then Some x.value else value_in (added_after same y ys r) a) ≡ option_or (if b then Some x.value else value_in (y ∷ ys) a) (if has r a then Some r.value else None)
-  go true is = refl
-  go false is = is
+    go : (b : Bool) → value_in (added_after same y ys r) a ≡ option_or (value_in (y ∷ ys) a) (if has r a then Some r.value else None) → (if b then Some x.value else value_in (added_after same y ys r) a) ≡ option_or (if b then Some x.value else value_in (y ∷ ys) a) (if has r a then Some r.value else None)
+    go true is = refl
+    go false is = is
 
 added_by : {V : Type 0} (same : V → V → Bool) (x : Run V) (xs : List (Run V)) (r : Run V) → EndBy r.start (x ∷ xs) → r.start < r.end → EndBy r.end (added_after same x xs r)
 added_by same x [] r by some = elim (bool_tells (goes_on same x r)) [ inl on ↦ rw on (omega arith, tt) | inr off ↦ rw off (omega (arith, by.0), (omega arith, tt)) ]
@@ -89,17 +90,17 @@ between_high low high f a above = (let is : (nat_le low a && nat_lt a high) ≡ 
 longer : {V : Type 0} (low from to : ℕ) (f : ℕ → Option V) (a : ℕ) → low ≤ from → from < to → ((b : ℕ) → from ≤ b → b < to → f b ≡ f from) → option_or (between low from f a) (if nat_le from a && nat_lt a to then f from else None) ≡ between low to f a
 longer low from to f a order some constant = elim (leb_tells from a) [
   | inl above ↦ elim (leb_tells to a) [
-      | inl past ↦
-          let out : (nat_le from a && nat_lt a to) ≡ false = (let h : to ≤ a = past.1 in grind (arith, nat_tests)) in
-          ap (λ o. option_or o (if nat_le from a && nat_lt a to then f from else None)) (between_high low from f a above.1)
-          ∙ if_false _ (f from) None out
-          ∙ sym (between_high low to f a past.1)
-      | inr inside ↦
-          let in_it : (nat_le from a && nat_lt a to) ≡ true = (let h : a < to = inside.1 in let k : from ≤ a = above.1 in grind (arith, nat_tests)) in
-          ap (λ o. option_or o (if nat_le from a && nat_lt a to then f from else None)) (between_high low from f a above.1)
-          ∙ if_true _ (f from) None in_it
-          ∙ sym (between_in low to f a (omega (arith, above.1)) inside.1 ∙ constant a above.1 inside.1)
-    ]
+    | inl past ↦
+        let out : (nat_le from a && nat_lt a to) ≡ false = (let h : to ≤ a = past.1 in grind (arith, nat_tests)) in
+        ap (λ o. option_or o (if nat_le from a && nat_lt a to then f from else None)) (between_high low from f a above.1)
+        ∙ if_false _ (f from) None out
+        ∙ sym (between_high low to f a past.1)
+    | inr inside ↦
+        let in_it : (nat_le from a && nat_lt a to) ≡ true = (let h : a < to = inside.1 in let k : from ≤ a = above.1 in grind (arith, nat_tests)) in
+        ap (λ o. option_or o (if nat_le from a && nat_lt a to then f from else None)) (between_high low from f a above.1)
+        ∙ if_true _ (f from) None in_it
+        ∙ sym (between_in low to f a (omega (arith, above.1)) inside.1 ∙ constant a above.1 inside.1)
+  ]
   | inr below ↦
       let out : (nat_le from a && nat_lt a to) ≡ false = (let h : a < from = below.1 in grind (arith, nat_tests)) in
       ap (λ o. option_or (between low from f a) o) (if_false _ (f from) None out)
@@ -113,8 +114,8 @@ longer low from to f a order some constant = elim (leb_tells from a) [
 pub grown_none : {V : Type 0} (low : ℕ) (f : ℕ → Option V) → Grown low low f []
 grown_none low f = record { runs = record { apart = tt; values = λ a. nothing a }; by = tt }
   where
-  nothing : (a : ℕ) → value_in [] a ≡ between low low f a
-  nothing a = elim (leb_tells low a) [ inl above ↦ sym (between_high low low f a above.1) | inr below ↦ sym (between_low low low f a below.1) ]
+    nothing : (a : ℕ) → value_in [] a ≡ between low low f a
+    nothing a = elim (leb_tells low a) [ inl above ↦ sym (between_high low low f a above.1) | inr below ↦ sym (between_low low low f a below.1) ]
 
 -- the runs up to the next stop, where there is a value, and where there is none
 pub grown_some : {V : Type 0} (same : V → V → Bool) → Compares same → (low from to : ℕ) (f : ℕ → Option V) (v : V) (runs : List (Run V)) → Grown low from f runs → low ≤ from → from < to → ((b : ℕ) → from ≤ b → b < to → f b ≡ f from) → f from ≡ Some v → Grown low to f (added same runs (record { start = from; end = to; value = v }))
@@ -154,6 +155,6 @@ grown_empty low from to f runs g order some constant is = record {
   by = by_later from to runs (omega arith) g.by;
 }
   where
-  neither : {V : Type 0} (b : Bool) → let none : Option V = None in (if b then none else none) ≡ none
-  neither true = refl
-  neither false = refl
+    neither : {V : Type 0} (b : Bool) → let none : Option V = None in (if b then none else none) ≡ none
+    neither true = refl
+    neither false = refl

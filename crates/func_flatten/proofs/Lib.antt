@@ -5,3 +5,10 @@ pub mod PieceLemmas
 pub mod ClassLemmas
 pub mod GrowingRuns
 pub mod LineLemmas
+pub mod PublicLemmas
+pub mod LawLemmas
+pub mod Computing
+mod WorkedPieces
+mod WorkedLines
+mod WorkedPublics
+pub mod TestLemmas

@@ -1,8 +1,8 @@
 -- The walk over the stops of a line table.
-use Rattle.std.proofs.Common.{◌≡◌, ◌≢◌, ℕ, zero, suc, ◌+◌, ◌<◌, ◌≤◌, Bool, true, false, ◌&&◌, ◌||◌, ◌==◌, nat_le, nat_lt, if◌then◌else◌, map, length, drop, subst, List, [], ◌∷◌, ◌++◌, Option, None, Some, IfSome, unwrap_or, arith, refl, sym, ap, ◌∙◌, inl, inr, append_assoc}
-use Rattle.std.proofs.lemmas.Bool.Decides.{nat_tests, leb_tells}
+use Rattle.std.proofs.Common.{◌≡◌, ℕ, zero, suc, ◌+◌, ◌<◌, ◌≤◌, Bool, true, false, ◌&&◌, ◌==◌, nat_le, nat_lt, if◌then◌else◌, map, length, drop, subst, List, [], ◌∷◌, ◌++◌, Option, None, Some, IfSome, unwrap_or, arith, refl, sym, ap, ◌∙◌, inl, inr, append_assoc}
+use Rattle.std.proofs.lemmas.Bool.Decides.{nat_tests}
 use Rattle.std.specs.List.{slice_get, slice_index_or}
-use Rattle.step_maps.specs.Runs.{Run, IsRuns, AreRuns, between, has, value_in}
+use Rattle.step_maps.specs.Runs.{IsRuns, AreRuns, between, has, value_in}
 use Rattle.step_maps.specs.Stepping.{RisesFrom}
 use Rattle.step_maps.proofs.SteppingLemmas.{Point}
 use Rattle.std.proofs.lemmas.List.{get_or_default}
@@ -15,7 +15,7 @@ use Rattle.func_flatten.proofs.MappedRuns.{map_run, mapped_value, AllValues, apa
 use Rattle.die_names.specs.declared.unit_read.UnitRead.{UnitRead}
 use Rattle.die_names.specs.Owners.{line_in}
 use Rattle.std.specs.Option.{option_map}
-use Rattle.func_flatten.specs.Growing.{added, added_after, EndBy, Grown, same_mark, continues, with_run_after, with_run, with_part, AreKnown, IsKnown, Walks}
+use Rattle.func_flatten.specs.Growing.{added, added_after, Grown, same_mark, continues, with_run_after, with_run, with_part, AreKnown, IsKnown, Walks}
 use Rattle.func_flatten.proofs.CollectLemmas.{drop_index}
 use Rattle.func_flatten.proofs.GrowingRuns.{Compares, grown_none, grown_some, grown_empty}
 
@@ -41,9 +41,9 @@ marks_compare = record {
       let both : (true && true) ≡ false = sym (ap (λ b. b && (u.1 == v.1)) one ∙ ap (λ b. true && b) two) ∙ is in
       cc);
 }
- where
-  pair_alike : (u v : ℕ × ℕ) → u.0 ≡ v.0 → u.1 ≡ v.1 → u ≡ v
-  pair_alike u v left right = (let f : ℕ → ℕ × ℕ = λ n. (n, u.1) in let g : ℕ → ℕ × ℕ = λ n. (v.0, n) in ap f left ∙ ap g right)
+  where
+    pair_alike : (u v : ℕ × ℕ) → u.0 ≡ v.0 → u.1 ≡ v.1 → u ≡ v
+    pair_alike u v left right = (let f : ℕ → ℕ × ℕ = λ n. (n, u.1) in let g : ℕ → ℕ × ℕ = λ n. (v.0, n) in ap f left ∙ ap g right)
 
 mapped_if : (b : Bool) (x y : List LineRun) → map number_run (if b then x else y) ≡ (if b then map number_run x else map number_run y)
 mapped_if true x y = refl

@@ -1,7 +1,7 @@
 -- Runs whose values are put through a function.
-use Rattle.std.proofs.Common.{◌≡◌, ◌≢◌, ℕ, ◌<◌, ◌≤◌, Bool, true, false, if◌then◌else◌, map, List, [], ◌∷◌, Option, None, Some, arith, refl, sym, ap, ◌∙◌}
+use Rattle.std.proofs.Common.{◌≡◌, ℕ, Bool, true, false, if◌then◌else◌, map, List, [], ◌∷◌, Option, Some, arith, refl, ap, ◌∙◌}
 use Rattle.std.specs.Option.{option_map}
-use Rattle.step_maps.specs.Runs.{Run, has, value_in, AreRuns, Follows, IsRuns, IsMaximal, AreMaximal}
+use Rattle.step_maps.specs.Runs.{Run, has, value_in, AreRuns, Follows, IsRuns, AreMaximal}
 use Rattle.step_maps.proofs.MaximalLemmas.{maximal}
 
 -- a run with another value

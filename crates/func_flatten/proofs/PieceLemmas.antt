@@ -1,23 +1,23 @@
 -- Covers of the stretches of all functions are the pieces.
-use Rattle.std.proofs.Common.{◌≡◌, ℕ, zero, suc, ◌+◌, ◌-◌, ◌*◌, ◌<◌, ◌≤◌, ◌^◌, Bool, true, false, ◌&&◌, ◌||◌, nat_le, nat_lt, if◌then◌else◌, map, length, List, [], ◌∷◌, ◌++◌, Option, None, Some, arith, refl, sym, ap, ◌∙◌, append_assoc, append-nil, length-append, subst, inl, inr, get_or}
+use Rattle.std.proofs.Common.{◌≡◌, ℕ, zero, suc, ◌+◌, ◌*◌, ◌<◌, ◌≤◌, Bool, true, false, ◌&&◌, nat_le, nat_lt, if◌then◌else◌, map, length, List, [], ◌∷◌, ◌++◌, Option, None, Some, arith, refl, sym, ap, ◌∙◌, append-nil, length-append, subst, inl, inr}
 use Rattle.std.proofs.lemmas.Bool.Decides.{nat_tests, leb_tells}
-use Rattle.std.specs.List.{find, list_any, slice_get, slice_index_or}
+use Rattle.std.specs.List.{find, slice_get, slice_index_or}
 use Rattle.std.specs.Option.{option_map}
 use Rattle.sym_edges.specs.Addresses.{Range}
 use Rattle.step_maps.specs.declared.stretch.Stretch.{Stretch}
 use Rattle.step_maps.specs.declared.stretch.Cover.{Cover}
-use Rattle.step_maps.specs.Runs.{Run, IsRuns, between, AreMaximal}
-use Rattle.step_maps.specs.Covers.{reaches, first_at, index_at, is_shared, cover_run, AreMarked as AreCoversMarked, AreCovers}
+use Rattle.step_maps.specs.Runs.{between, AreMaximal}
+use Rattle.step_maps.specs.Covers.{reaches, first_at, index_at, cover_run}
 use Rattle.step_maps.proofs.RunLemmas.{if_true, if_false}
 use Rattle.step_maps.proofs.MaximalLemmas.{maximal}
 use Rattle.die_walk.specs.EntryTable.{DieFields}
 use Rattle.die_names.specs.declared.unit_read.UnitRead.{UnitRead}
 use Rattle.die_names.specs.UnitEntries.{is_function, places, AreRead}
-use Rattle.die_names.specs.Owners.{Covering, unit_covering, covering_from, owner}
+use Rattle.die_names.specs.Owners.{Covering, unit_covering, covering_from}
 use Rattle.func_flatten.specs.declared.piece.Place.{Place}
 use Rattle.func_flatten.specs.declared.piece.Piece.{Piece}
-use Rattle.func_flatten.specs.Pieces.{place_of, covering_name, owner_place, is_many, piece_run, AreMarked, ArePieces}
-use Rattle.func_flatten.specs.Collecting.{functions_in, all_functions, function_stretches, span_stretches, own_class, class_in, AreFit, HaveSets, Numbered, first_function, Collects, piece_of, AreCut}
+use Rattle.func_flatten.specs.Pieces.{place_of, owner_place, piece_run, AreMarked, ArePieces}
+use Rattle.func_flatten.specs.Collecting.{functions_in, all_functions, function_stretches, own_class, AreFit, HaveSets, Numbered, first_function, Collects, piece_of, AreCut}
 use Rattle.func_flatten.specs.Classes.{TellMany, AreNamedCovers}
 use Rattle.func_flatten.proofs.MappedRuns.{map_run, AllValues, values_hold, runs_mapped}
 use Rattle.func_flatten.proofs.FunctionLemmas.{index_is, owner_is, first_at_number}
@@ -64,7 +64,7 @@ unit_rises unit entry (d ∷ dies) [] = omega arith
 unit_rises unit entry (d ∷ dies) (s ∷ sets) = (
   omega arith,
   rise_lower ((unit * 4294967296 + entry) + 1) (unit * 4294967296 + (entry + 1)) (unit * 4294967296 + (entry + length (d ∷ dies))) (unit_covering unit (entry + 1) dies sets) (omega arith)
-  (rise_higher (unit * 4294967296 + (entry + 1)) (unit * 4294967296 + ((entry + 1) + length dies)) (unit * 4294967296 + (entry + length (d ∷ dies))) (unit_covering unit (entry + 1) dies sets) (omega arith) (unit_rises unit (entry + 1) dies sets)),
+      (rise_higher (unit * 4294967296 + (entry + 1)) (unit * 4294967296 + ((entry + 1) + length dies)) (unit * 4294967296 + (entry + length (d ∷ dies))) (unit_covering unit (entry + 1) dies sets) (omega arith) (unit_rises unit (entry + 1) dies sets)),
 )
 
 length_places : (dies : List DieFields) → length (map (λ die. die.at) dies) ≡ length dies
@@ -77,7 +77,7 @@ all_rise unit (x ∷ units) few =
     let count : length (places (x ∷ units)) ≡ length x.die.dies + length (places units) = length-append (map (λ die. die.at) x.die.dies) (places units) ∙ ap (λ n. n + length (places units)) (length_places x.die.dies) in
     rise_joined (unit * 4294967296) ((unit + 1) * 4294967296) ((unit + length (x ∷ units)) * 4294967296) (unit_covering unit 0 x.die.dies x.spans) (covering_from (unit + 1) units)
     (rise_lower (unit * 4294967296) (unit * 4294967296 + 0) ((unit + 1) * 4294967296) (unit_covering unit 0 x.die.dies x.spans) (omega arith)
-      (rise_higher (unit * 4294967296 + 0) (unit * 4294967296 + (0 + length x.die.dies)) ((unit + 1) * 4294967296) (unit_covering unit 0 x.die.dies x.spans) (omega (arith, count, few)) (unit_rises unit 0 x.die.dies x.spans)))
+    (rise_higher (unit * 4294967296 + 0) (unit * 4294967296 + (0 + length x.die.dies)) ((unit + 1) * 4294967296) (unit_covering unit 0 x.die.dies x.spans) (omega (arith, count, few)) (unit_rises unit 0 x.die.dies x.spans)))
     (rise_higher ((unit + 1) * 4294967296) (((unit + 1) + length units) * 4294967296) ((unit + length (x ∷ units)) * 4294967296) (covering_from (unit + 1) units) (omega arith) (all_rise (unit + 1) units (omega (arith, count, few))))
 
 key_from : (low high : ℕ) (functions : List Covering) (j : ℕ) → Rise low high functions → j < length (map place_of functions) → low ≤ key (place_at (map place_of functions) j)
@@ -212,6 +212,6 @@ covers_cut units places stretches covers c fit is =
     let f = between 0 18446744073709551616 (index_at stretches) in
     cut_all (length places) stretches covers fit
     (values_hold (λ k. k < length places) f (map cover_run covers) is.runs
-      (λ a k found. (let there : index_at (function_stretches own_class 0 (all_functions units)) a ≡ Some k = ap (λ l. index_at l a) (sym one) ∙ sym (inside_all stretches a fit) ∙ found in
-        let less : k < length (all_functions units) = index_below (all_functions units) a k (c.sets tt) there in omega arith)))
+    (λ a k found. (let there : index_at (function_stretches own_class 0 (all_functions units)) a ≡ Some k = ap (λ l. index_at l a) (sym one) ∙ sym (inside_all stretches a fit) ∙ found in
+    let less : k < length (all_functions units) = index_below (all_functions units) a k (c.sets tt) there in omega arith)))
     (maximal f (map cover_run covers) is.runs)

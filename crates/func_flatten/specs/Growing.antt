@@ -1,5 +1,5 @@
 -- No public clause cites this: runs that are made from one stop to the next.
-use Rattle.std.specs.Prelude.{◌≡◌, ℕ, ◌+◌, ◌<◌, ◌≤◌, Bool, ◌&&◌, ◌==◌, if◌then◌else◌, map, length, List, [], ◌∷◌, Option, None, Some}
+use Rattle.std.specs.Prelude.{◌≡◌, ℕ, ◌+◌, ◌<◌, ◌≤◌, Bool, ◌&&◌, ◌==◌, if◌then◌else◌, map, List, [], ◌∷◌, Option, None, Some}
 use Rattle.step_maps.specs.Runs.{Run, IsRuns, between}
 use Rattle.step_maps.specs.Stepping.{RisesFrom}
 use Rattle.line_program.specs.LineMaps.{NoStopBetween}

@@ -1,13 +1,12 @@
 -- The runs of the line, by the line table of a unit (DWARF 5, 6.2).
-use Rattle.std.specs.Prelude.{◌≡◌, ℕ, List, [], Option, None, Some, unwrap_or, map}
+use Rattle.std.specs.Prelude.{ℕ, List, [], Option, None, Some, unwrap_or, map}
 use Rattle.std.specs.List.{slice_get}
 use Rattle.step_maps.specs.Runs.{Run, IsRuns, between}
 use Rattle.line_program.specs.LineMaps.{numbered_line}
 use Rattle.die_names.specs.declared.unit_read.UnitRead.{UnitRead}
-use Rattle.die_names.specs.Owners.{line_in, line}
+use Rattle.die_names.specs.Owners.{line_in}
 use Rattle.func_flatten.specs.declared.line_run.LineRun.{LineRun}
 use Rattle.func_flatten.specs.declared.piece.Piece.{Piece}
-use Rattle.func_flatten.specs.declared.piece.Place.{Place}
 
 -- path number and line of an address, by a unit's table
 abbrev pub number_line_in : ℕ → Option UnitRead → Option (ℕ × ℕ)

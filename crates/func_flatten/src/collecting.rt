@@ -32,7 +32,13 @@ pub fn collect_all(alloc: Global, units: &[UnitRead<'_>]) -> Result<Collected, A
     let mut stretches = Vec::new(alloc);
     'units: for unit in 0..units.len() {
         let part = &units[unit];
-        push_unit(&mut places, &mut stretches, unit as u32, part.die.dies(), part.spans.as_slice())?;
+        push_unit(
+            &mut places,
+            &mut stretches,
+            unit as u32,
+            part.die.dies(),
+            part.spans.as_slice(),
+        )?;
     }
     Ok(Collected { places, stretches })
 }
@@ -80,7 +86,16 @@ fn push_unit(
         let Some(set) = set_in(sets, entry) else {
             return Ok(());
         };
-        push_entry(places, stretches, Place { unit, entry: entry as u32 }, die, set)?;
+        push_entry(
+            places,
+            stretches,
+            Place {
+                unit,
+                entry: entry as u32,
+            },
+            die,
+            set,
+        )?;
     }
     Ok(())
 }
@@ -115,7 +130,12 @@ fn push_spans(stretches: &mut Vec<Stretch>, index: u32, spans: &[Span]) -> Resul
 {
     let mut rest = spans;
     'spans: while let Some((span, later)) = rest.split_first() {
-        stretches.push(Stretch { first: span.start(), last: span.end() - 1, index, class: index })?;
+        stretches.push(Stretch {
+            first: span.start(),
+            last: span.end() - 1,
+            index,
+            class: index,
+        })?;
         rest = later;
     }
     Ok(())

@@ -20,7 +20,11 @@ fn is_any_shared(covers: &[Cover]) -> bool
 }
 
 /// The names of the functions.
-fn names_of(alloc: Global, units: &Units<'_>, places: &[Place]) -> Result<Vec<ByteText>, OutOfMemory>
+fn names_of(
+    alloc: Global,
+    units: &Units<'_>,
+    places: &[Place],
+) -> Result<Vec<ByteText>, OutOfMemory>
     ensures { IfOk result (λ names. names.items ≡ map (place_name units.now) places.now) }
 {
     let mut names = Vec::with_capacity(alloc, places.len())?;
@@ -54,11 +58,20 @@ fn class_in(classes: &[u32], index: u32) -> u32
 fn classed(classes: &[u32], stretch: Stretch) -> Stretch
     ensures { result ≡ classed classes.now stretch }
 {
-    Stretch { first: stretch.first, last: stretch.last, index: stretch.index, class: class_in(classes, stretch.index) }
+    Stretch {
+        first: stretch.first,
+        last: stretch.last,
+        index: stretch.index,
+        class: class_in(classes, stretch.index),
+    }
 }
 
 /// The stretches with these classes.
-fn classify(alloc: Global, stretches: &[Stretch], classes: &[u32]) -> Result<Vec<Stretch>, AllocError>
+fn classify(
+    alloc: Global,
+    stretches: &[Stretch],
+    classes: &[u32],
+) -> Result<Vec<Stretch>, AllocError>
     ensures { IfOk result (λ made. made.items ≡ map (classed classes.now) stretches.now) }
 {
     let mut made = Vec::with_capacity(alloc, stretches.len())?;
@@ -69,7 +82,11 @@ fn classify(alloc: Global, stretches: &[Stretch], classes: &[u32]) -> Result<Vec
 }
 
 /// The covers of the functions' stretches. Names are needed only where some address of a beginning is that of two functions.
-pub fn named_covers(alloc: Global, units: &Units<'_>, all: &Collected) -> Result<CoverList, OutOfMemory>
+pub fn named_covers(
+    alloc: Global,
+    units: &Units<'_>,
+    all: &Collected,
+) -> Result<CoverList, OutOfMemory>
     requires all { Collects [] all.now.places.items [] all.now.stretches.items (all_functions units.now) [] }
     requires fit { AreFit all.now.stretches.items }
     requires few { vec_len all.now.places < 2 ^ 32 }

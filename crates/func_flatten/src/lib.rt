@@ -1,14 +1,35 @@
-//! The functions of a file by address.
+//! The functions of a file by address (DWARF 5, 3.3; Breakpad's symbol_files.md, FUNC, line and PUBLIC records).
+//!
+//! The owner of an address is the first function, in the order of `.debug_info`, whose addresses hold it. [`pieces`] gives for each
+//! maximal run of addresses with one owner a [`Piece`], by address, and marks those whose first address a function of another
+//! name has too. [`lines_of`] gives the lines in a piece, by the line table of its unit: for each maximal run of addresses with one path
+//! and one line a [`LineRun`]. [`publics`] gives one [`PublicAt`] for each address of a function symbol that no piece has. All addresses
+//! are those of the ELF file; the base is taken off where records are made of them.
+//!
+//! The definitions stand in `specs/`: `Pieces`, `LineRuns` and `Publics`, each of which asks one address at a time; the owner, its
+//! name and its line are those of `die_names`. The other modules there are for the code alone. The code takes all functions' ranges as
+//! stretches and sweeps them once (`step_maps::covers`); only where a run begins at an address that two functions have are names
+//! made, numbered and swept once more. Lines are walked stop by stop, and sorted symbols are merged with the pieces.
+//!
+//! To read: `piece`, `collecting`, `covering` and `owning`; then `line_run` and `lines`; then `public` and `uncovered`; last `laws`.
 #![tactic(auto)]
 
 mod collecting;
 mod covering;
+pub mod laws;
 mod line_run;
 mod lines;
 mod owning;
 mod piece;
+mod public;
+mod uncovered;
 
 pub use crate::line_run::{LineRun, LineRuns};
 pub use crate::lines::lines_of;
 pub use crate::owning::pieces;
 pub use crate::piece::{Piece, PieceList, Place};
+pub use crate::public::{PublicAt, PublicList};
+pub use crate::uncovered::publics;
+
+#[cfg(test)]
+mod tests;

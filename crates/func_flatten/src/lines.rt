@@ -48,7 +48,12 @@ fn tell_apart(table: &LineTable, runs: &[LineRun])
 }
 
 /// The runs of the line from `start` up to `end`.
-fn line_runs(alloc: Global, table: &LineTable, start: u64, end: u64) -> Result<Vec<LineRun>, OutOfMemory>
+fn line_runs(
+    alloc: Global,
+    table: &LineTable,
+    start: u64,
+    end: u64,
+) -> Result<Vec<LineRun>, OutOfMemory>
     requires { start < end }
     ensures runs { IfOk result (λ runs. IsRuns (between start end (numbered_line table.now)) (map number_run runs.items)) }
     ensures known { IfOk result (λ runs. AreKnown (length table.now.paths) runs.items) }
@@ -73,11 +78,24 @@ fn line_runs(alloc: Global, table: &LineTable, start: u64, end: u64) -> Result<V
 }
 
 /// Adds a run, where there is a line.
-fn push_part(runs: &mut Vec<LineRun>, now: Option<(u32, u32)>, start: u64, end: u64) -> Result<(), AllocError>
+fn push_part(
+    runs: &mut Vec<LineRun>,
+    now: Option<(u32, u32)>,
+    start: u64,
+    end: u64,
+) -> Result<(), AllocError>
     ensures { OnOk result (runs.new.items ≡ with_part now start end runs.old.items) }
 {
     if let Some((path, line)) = now {
-        push_run(runs, LineRun { start, end, path, line })?;
+        push_run(
+            runs,
+            LineRun {
+                start,
+                end,
+                path,
+                line,
+            },
+        )?;
     }
     Ok(())
 }
@@ -91,7 +109,12 @@ fn push_run(runs: &mut Vec<LineRun>, run: LineRun) -> Result<(), AllocError>
         return Ok(());
     };
     if continues(last, run) {
-        runs.push(LineRun { start: last.start, end: run.end, path: last.path, line: last.line })?;
+        runs.push(LineRun {
+            start: last.start,
+            end: run.end,
+            path: last.path,
+            line: last.line,
+        })?;
         return Ok(());
     }
     runs.push(last)?;

@@ -1,5 +1,4 @@
-use Rattle.std.proofs.Common.{◌≡◌, ◌+◌, length, drop, arith, ap}
-use Rattle.die_names.specs.UnitEntries.{places}
+use Rattle.std.proofs.Common.{length, arith, ap}
 use Rattle.func_flatten.proofs.CollectLemmas.{unit_added, entries_left}
 use Rattle.func_flatten.proofs.collecting.collect_all.Goals as goal
 

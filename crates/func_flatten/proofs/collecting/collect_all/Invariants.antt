@@ -1,4 +1,4 @@
-use Rattle.std.proofs.Common.{◌≡◌, ◌+◌, ◌≤◌, ◌++◌, [], length, drop, vec_len}
+use Rattle.std.proofs.Common.{◌+◌, ◌≤◌, [], length, drop, vec_len}
 use Rattle.die_names.specs.UnitEntries.{places}
 use Rattle.die_names.specs.Owners.{covering_from}
 use Rattle.func_flatten.specs.Collecting.{functions_in, all_functions, AreFit, Collects}

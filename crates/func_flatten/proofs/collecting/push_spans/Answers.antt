@@ -1,4 +1,4 @@
-use Rattle.std.proofs.Common.{◌≡◌, ◌+◌, ◌-◌, ◌<◌, ◌≤◌, ◌++◌, ◌∷◌, [], append_assoc, ◌∙◌, arith}
+use Rattle.std.proofs.Common.{◌≡◌, ◌-◌, ◌++◌, ◌∷◌, [], append_assoc, ◌∙◌, arith}
 use Rattle.func_flatten.specs.Collecting.{span_stretches}
 use Rattle.func_flatten.proofs.CollectLemmas.{fit_joined}
 use Rattle.func_flatten.proofs.collecting.push_spans.Goals as goal

@@ -1,4 +1,4 @@
-use Rattle.std.proofs.Common.{◌≡◌, ◌+◌, ◌≤◌, length, drop, vec_len}
+use Rattle.std.proofs.Common.{◌+◌, ◌≤◌, drop, vec_len}
 use Rattle.die_names.specs.Owners.{unit_covering}
 use Rattle.func_flatten.specs.Collecting.{functions_in, AreFit, Collects}
 use Rattle.func_flatten.proofs.collecting.push_unit.Given as goal

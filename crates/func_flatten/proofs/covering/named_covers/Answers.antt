@@ -1,8 +1,5 @@
-use Rattle.std.proofs.Common.{◌≡◌, ap, ◌∙◌, sym, map, subst}
-use Rattle.step_maps.specs.declared.stretch.Stretch.{Stretch}
-use Rattle.step_maps.specs.Covers.{AreStretches}
+use Rattle.std.proofs.Common.{ap, ◌∙◌, sym, map}
 use Rattle.func_flatten.specs.Collecting.{classed}
-use Rattle.func_flatten.specs.Classes.{place_name, AreClasses}
 use Rattle.func_flatten.proofs.CollectLemmas.{fit_stretches}
 use Rattle.func_flatten.proofs.ClassLemmas.{classed_stretches, covers_apart, covers_named}
 use Rattle.func_flatten.proofs.covering.named_covers.Goals as goal

@@ -1,4 +1,4 @@
-use Rattle.std.proofs.Common.{◌≡◌, ◌+◌, nat_le, slice_index_or, length, drop, ap, ◌∙◌, sym, rules, arith}
+use Rattle.std.proofs.Common.{nat_le, rules, arith}
 use Rattle.std.proofs.lemmas.List.{drop_all}
 use Rattle.std.proofs.lemmas.List.Sorted.{IsPartitionPoint-from_clause}
 use Rattle.step_maps.specs.Stepping.{RisesFrom}
@@ -26,7 +26,7 @@ pub stops-preserved : goal.stops-preserved
 stops-preserved c =
     rw c.in_ok-push_part-2.ensures
     (walks_on _ _ _ _ _ _ _ _ _ _ _ (drop_next c.stops-stops.result.now c.stops.place 0 (omega arith)) c.stops.invariant (omega arith)
-      (line_at_stop c.args.table.now _ _ _ c.stops-stops.ensures.same c.line_from-now.ensures.line) (known_by _ _ c.line_from-now.ensures.known))
+    (line_at_stop c.args.table.now _ _ _ c.stops-stops.ensures.same c.line_from-now.ensures.line) (known_by _ _ c.line_from-now.ensures.known))
 
 pub returns-clause-runs : goal.returns-clause-runs
 returns-clause-runs c = rw c.in_ok-push_part-3.ensures (walks_out _ _ _ _ _ _ _ _ c.stops.invariant (drop_all c.stops.place c.stops-stops.result.now (omega arith)))

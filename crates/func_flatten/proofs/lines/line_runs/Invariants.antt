@@ -1,4 +1,4 @@
-use Rattle.std.proofs.Common.{◌≡◌, ◌≤◌, length, drop}
+use Rattle.std.proofs.Common.{length, drop}
 use Rattle.line_program.specs.LineMaps.{numbered_line}
 use Rattle.func_flatten.specs.Growing.{Walks}
 use Rattle.func_flatten.proofs.lines.line_runs.Given as goal

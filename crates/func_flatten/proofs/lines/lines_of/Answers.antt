@@ -1,5 +1,4 @@
-use Rattle.std.proofs.Common.{◌≡◌, arith}
-use Rattle.func_flatten.proofs.LineLemmas.{lines_none, lines_empty, lines_some}
+use Rattle.func_flatten.proofs.LineLemmas.{lines_none, lines_some}
 use Rattle.func_flatten.proofs.lines.lines_of.Goals as goal
 
 pub returns-in_default : goal.returns-in_default

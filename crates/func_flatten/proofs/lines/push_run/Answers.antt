@@ -1,4 +1,3 @@
-use Rattle.std.proofs.Common.{◌≡◌}
 use Rattle.func_flatten.proofs.LineLemmas.{with_on, with_off}
 use Rattle.func_flatten.proofs.lines.push_run.Goals as goal
 

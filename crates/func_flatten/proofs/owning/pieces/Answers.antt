@@ -1,4 +1,3 @@
-use Rattle.std.proofs.Common.{◌≡◌}
 use Rattle.func_flatten.proofs.PieceLemmas.{pieces_are, covers_cut}
 use Rattle.func_flatten.proofs.owning.pieces.Goals as goal
 

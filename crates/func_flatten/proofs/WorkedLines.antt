@@ -1,0 +1,55 @@
+-- Worked rows: the lines in a piece. A sign for each address, in order: a digit for a line of the first path, a letter for one of the second, or a point.
+use Rattle.std.proofs.Common.{◌≡◌, ℕ, ◌+◌, ◌*◌, map, List, [], ◌∷◌, Option, Some, None, codes, refl}
+use Rattle.std.specs.List.{range_with_len}
+use Prim.Native.String.{String}
+use Rattle.sym_edges.proofs.Shown.{shown}
+use Rattle.step_maps.specs.Runs.{between}
+use Rattle.line_program.specs.declared.path_line.PathLine.{PathLine}
+use Rattle.die_names.specs.declared.unit_read.UnitRead.{UnitRead}
+use Rattle.func_flatten.specs.LineRuns.{unit_number_line, unit_line}
+use Rattle.func_flatten.proofs.Computing.{func_flatten_computes}
+
+abbrev at : ℕ → ℕ → PathLine
+at path line = record { path = path; line = line }
+
+-- the first path's line 1 from 2 on, its line 3 from 4 on, no line from 6 on, the second path's line 3 from 8 on, the same once more from 9 on, and none from 11 on
+unfoldable lines : List UnitRead
+lines = record {
+  die = record { root = record { at = 0; low = None; stmt_list = None; comp_dir = None; str_offsets_base = None; addr_base = None; rnglists_base = None }; dies = [] };
+  spans = [];
+  lines = record {
+    lines = record { stops = 2 ∷ 4 ∷ 6 ∷ 8 ∷ 9 ∷ 11 ∷ []; values = at 0 1 ∷ at 0 3 ∷ at 0 0 ∷ at 1 3 ∷ at 1 3 ∷ at 0 0 ∷ [] };
+    paths = codes "a.c" ∷ codes "b.c" ∷ [];
+    first = 1;
+    files = [];
+  };
+} ∷ []
+
+abbrev sign : Option (ℕ × ℕ) → ℕ
+sign None = 46
+sign (Some m) = 48 + m.1 + m.0 * 48
+
+unfoldable seen : ℕ → ℕ → ℕ → String
+seen unit start end = shown (map (λ a. sign (between start end (unit_number_line lines unit) a)) (range_with_len 0 13))
+
+whole : seen 0 0 13 ≡ "..1133..ccc.."
+unfolding seen lines func_flatten_computes
+whole = refl
+
+-- across the piece's ends
+within : seen 0 3 9 ≡ "...133..c...."
+unfolding seen lines func_flatten_computes
+within = refl
+
+-- a unit that is not there
+no_unit : seen 1 0 13 ≡ "............."
+unfolding seen lines func_flatten_computes
+no_unit = refl
+
+by_path : unit_line lines 0 9 ≡ Some (codes "b.c", 3)
+unfolding lines func_flatten_computes
+by_path = refl
+
+without_a_line : unit_line lines 0 7 ≡ None
+unfolding lines func_flatten_computes
+without_a_line = refl

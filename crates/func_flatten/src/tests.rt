@@ -1,0 +1,226 @@
+//! Examples with ample memory, many functions, and the sizes of what is held by the million.
+ghost use Rattle.std.specs.Prelude.{◌≡◌, ℕ, ◌<◌, ◌≤◌, ◌^◌, true, false, [], map, length, IfOk};
+ghost use Rattle.step_maps.specs.Stepping.{RisesFrom};
+ghost use Rattle.die_walk.specs.EntryTable.{DieFields};
+ghost use Rattle.die_names.specs.UnitEntries.{ArePaired, counts};
+
+use crate::uncovered::{publics_beside, sorted_symbols, spans_of};
+use crate::{LineRun, Piece, PublicAt, lines_of, pieces};
+use abbrev_units::{Sections, read_abbrevs, units};
+use die_names::{SpanSets, UnitRead, Units};
+use die_walk::{Die, walk};
+use elf_sections::Symbol;
+use line_program::LineTable;
+use range_set::{RangeSet, of_ranges};
+use std::alloc::{AllocError, Global};
+use std::mem::size_of;
+use std::process::Abort;
+use std::test::Fail;
+use sym_edges::{ListOf, Span};
+
+/// A root with children, and functions with a name.
+const ABBREVS: &[u8] = b"\x01\x11\x01\0\0\x02\x2e\0\x03\x08\0\0\0";
+
+/// How many functions a unit has.
+const COUNT: usize = 1000;
+
+/// How many addresses a function has.
+const SIZE: u64 = 8;
+
+fn expect(rt: &impl Abort, name: &str, got: &[u64], want: &[u64]) {
+    assert_eq!(rt; got, want, "{name}");
+}
+
+/// A unit of version 4 with functions of these two names in turn.
+fn unit_of(alloc: Global, names: [&[u8]; 2]) -> Result<Vec<u8>, Fail> {
+    let mut body = Vec::new(alloc);
+    body.push(1)?;
+    for k in 0..COUNT {
+        body.push(2)?;
+        body.extend_from_slice(names[k % 2])?;
+        body.push(0)?;
+    }
+    body.push(0)?;
+    let mut info = Vec::new(alloc);
+    let count = (body.len() % (1 << 29)) as u32 + 7;
+    info.extend_from_slice(&count.to_le_bytes())?;
+    info.extend_from_slice(b"\x04\0\0\0\0\0\x08")?;
+    info.extend_from_slice(&body)?;
+    Ok(info)
+}
+
+/// Whether the places of entries rise.
+fn do_rise(dies: &[Die<'_>], low: u64) -> bool
+    ensures { result ≡ true → RisesFrom low (map (λ (d : DieFields). d.at) dies.now) }
+{
+    let Some((die, later)) = dies.split_first() else {
+        return true;
+    };
+    let at = u64::from(die.at());
+    low <= at && do_rise(later, at + 1)
+}
+
+/// The addresses of an entry: so many from a start on, where it is a function.
+#[tactic(auto, unfolding(die_names::specs::UnitEntries::counts, die_names::specs::UnitEntries::is_function))]
+fn set_of(die: &Die<'_>, start: u64) -> RangeSet
+    requires { start < 2 ^ 63 }
+    ensures { counts die.now ≡ false → result ≡ [] }
+{
+    if die.tag() == 0x2e && !die.declaration() {
+        return RangeSet::of_span(Span::new(start, start + SIZE));
+    }
+    RangeSet::empty()
+}
+
+/// The sets of entries that begin so far apart.
+fn sets_of(alloc: Global, dies: &[Die<'_>], apart: u64) -> Result<Vec<RangeSet>, AllocError>
+    ensures { IfOk result (λ sets. ArePaired dies.now sets.items) }
+{
+    let mut sets = Vec::new(alloc);
+    'dies: for entry in 0..dies.len() {
+        let start = 0x1000 + apart % 0x1000 * (entry as u64 % 0x10000);
+        sets.push(set_of(&dies[entry], start))?;
+    }
+    Ok(sets)
+}
+
+#[tactic(auto, using(crate::proofs::TestLemmas::one_read))]
+fn units_of_one<'a>(alloc: Global, part: UnitRead<'a>) -> Result<Units<'a>, AllocError>
+    requires few { length part.die.dies < 2 ^ 32 }
+    requires paired { ArePaired part.die.dies part.spans }
+    requires rising { RisesFrom 0 (map (λ (d : DieFields). d.at) part.die.dies) }
+{
+    let mut parts = Vec::new(alloc);
+    parts.push(part)?;
+    Ok(Units::of(parts))
+}
+
+/// How many pieces there are, how many of them are marked, how many addresses they have, and how many runs of lines.
+fn found(alloc: Global, info: &[u8], apart: u64) -> Result<[u64; 4], Fail> {
+    let sections = Sections {
+        info,
+        abbrevs: ABBREVS,
+        line: &[],
+        line_str: &[],
+        strs: &[],
+        str_offsets: &[],
+        addr: &[],
+        ranges: &[],
+        rnglists: &[],
+    };
+    let list = units(alloc, info)?;
+    let Some(unit) = list.get(0) else {
+        return Ok([0; 4]);
+    };
+    let abbrevs = read_abbrevs(alloc, &sections, unit)?;
+    if unit.body > unit.end || unit.end > info.len() as u64 || info.len() > 1 << 29 {
+        return Ok([0; 4]);
+    }
+    let table = walk(alloc, &sections, unit, &abbrevs)?;
+    if table.dies().len() > COUNT + 1 || !do_rise(table.dies(), 0) {
+        return Ok([0; 4]);
+    }
+    let sets = sets_of(alloc, table.dies(), apart)?;
+    let part = UnitRead {
+        die: table,
+        spans: SpanSets::of(sets),
+        lines: LineTable::empty(alloc),
+    };
+    let read = units_of_one(alloc, part)?;
+    let pieces = pieces(alloc, &read)?;
+    let mut seen = [pieces.len() as u64, 0, 0, 0];
+    for piece in pieces.as_slice() {
+        seen[1] = seen[1].saturating_add(piece.many as u64);
+        seen[2] = seen[2].saturating_add(piece.end.saturating_sub(piece.start));
+        seen[3] = seen[3].saturating_add(lines_of(alloc, &read, piece)?.len() as u64);
+    }
+    Ok(seen)
+}
+
+#[test]
+fn a_thousand_functions(rt: HostRuntime) -> Result<(), Fail> {
+    let alloc = rt.alloc();
+    let info = unit_of(alloc, [b"a", b"b"])?;
+    expect(
+        &rt,
+        "that do not touch",
+        &found(alloc, &info, 16)?,
+        &[1000, 0, 8000, 0],
+    );
+    expect(
+        &rt,
+        "that touch",
+        &found(alloc, &info, 8)?,
+        &[1000, 0, 8000, 0],
+    );
+    expect(
+        &rt,
+        "that overlap by half",
+        &found(alloc, &info, 4)?,
+        &[1000, 0, 4004, 0],
+    );
+    expect(
+        &rt,
+        "at the same addresses",
+        &found(alloc, &info, 0)?,
+        &[1, 1, 8, 0],
+    );
+    let alike = unit_of(alloc, [b"?", b"\t"])?;
+    expect(
+        &rt,
+        "of one cleaned name",
+        &found(alloc, &alike, 0)?,
+        &[1, 0, 8, 0],
+    );
+    Ok(())
+}
+
+#[test]
+fn a_thousand_symbols(rt: HostRuntime) -> Result<(), Fail> {
+    let alloc = rt.alloc();
+    let mut symbols = Vec::new(alloc);
+    for k in 0..1000u64 {
+        symbols.push(Symbol {
+            address: 0x2000 - k,
+            name: b"x",
+        })?;
+        symbols.push(Symbol {
+            address: 0x2000 - k,
+            name: b"y",
+        })?;
+    }
+    let piece = Piece {
+        unit: 0,
+        entry: 1,
+        start: 0x1fff,
+        end: 0x2000,
+        many: false,
+    };
+    let spans = spans_of(alloc, &[piece])?;
+    let covered = of_ranges(alloc, spans.as_slice())?;
+    let sorted = sorted_symbols(alloc, symbols.as_slice())?;
+    let list = publics_beside(alloc, sorted.as_slice(), covered.spans())?;
+    let last = match list.last() {
+        Some(public) => public.address,
+        None => 0,
+    };
+    let many = list.iter().filter(|public| public.many).count() as u64;
+    expect(
+        &rt,
+        "publics",
+        &[list.len() as u64, last, many],
+        &[999, 0x2000, 999],
+    );
+    Ok(())
+}
+
+#[test]
+fn what_is_held_by_the_million_is_small(rt: HostRuntime) -> Result<(), Fail> {
+    let sizes = [
+        size_of::<Piece>() as u64,
+        size_of::<LineRun>() as u64,
+        size_of::<PublicAt<'_>>() as u64,
+    ];
+    expect(&rt, "sizes", &sizes, &[32, 24, 32]);
+    Ok(())
+}
