@@ -94,7 +94,7 @@ fault_judged j name bytes text fault few is line refuses =
     (within name bytes few ∙ ap (λ i. image_verdict i name) is ∙ ap refused (sym line))
 
 -- the verdict of a file that was dumped
-dumped_verdict : (elf : List ℕ) (files : Files) (lines : List SymLine) (text : List ℕ) → DumpsFile elf files lines text → command_verdict (Some (dump elf)) files ≡ record { status = 0; out = canon_text lines; err = text }
+dumped_verdict : (elf : List ℕ) (files : Files) (lines : List SymLine) (text : List ℕ) → DumpsFile elf files lines text → file_verdict elf (files elf) ≡ record { status = 0; out = canon_text lines; err = text }
 dumped_verdict elf files lines text dumps =
     ap (file_verdict elf) dumps.there ∙ within (module_name elf) dumps.file dumps.few
     ∙ ap (λ i. image_verdict i (module_name elf)) dumps.dumps.image_is
@@ -106,19 +106,19 @@ promised_low Nothing status err P Q says = let is = says.0 in omega arith
 promised_low (Text lines) status err P Q says = let is = says.0 in omega arith
 promised_low (Bytes text) status err P Q says = absurd says
 
-promised_told : (o : Output) (status : ℕ) (err elf : List ℕ) (files : Option Files) → RefusesOrGives o status err (λ e. Tells files (λ f. command_verdict (Some (dump elf)) f ≡ refused e)) (λ lines e. (reading (canon_text lines) ≡ Ok lines) × Tells files (λ f. DumpsFile elf f lines e)) →
-    Tells files (λ f. command_verdict (Some (dump elf)) f ≡ record { status = status; out = out_bytes o; err = err })
+promised_told : (o : Output) (status : ℕ) (err elf : List ℕ) (files : Option Files) → RefusesOrGives o status err (λ e. Tells files (λ f. file_verdict elf (f elf) ≡ refused e)) (λ lines e. (reading (canon_text lines) ≡ Ok lines) × Tells files (λ f. DumpsFile elf f lines e)) →
+    Tells files (λ f. file_verdict elf (f elf) ≡ record { status = status; out = out_bytes o; err = err })
 promised_told Nothing status err elf files says =
-    told (λ f. command_verdict (Some (dump elf)) f ≡ refused err) (λ f. command_verdict (Some (dump elf)) f ≡ record { status = status; out = out_bytes Nothing; err = err }) files
+    told (λ f. file_verdict elf (f elf) ≡ refused err) (λ f. file_verdict elf (f elf) ≡ record { status = status; out = out_bytes Nothing; err = err }) files
     (λ f same. same ∙ ap (λ (n : ℕ). (let v : Verdict = record { status = n; out = out_bytes Nothing; err = err } in v)) (sym says.0)) says.1
 promised_told (Text lines) status err elf files says =
-    told (λ f. DumpsFile elf f lines err) (λ f. command_verdict (Some (dump elf)) f ≡ record { status = status; out = out_bytes (Text lines); err = err }) files
+    told (λ f. DumpsFile elf f lines err) (λ f. file_verdict elf (f elf) ≡ record { status = status; out = out_bytes (Text lines); err = err }) files
     (λ f dumps. dumped_verdict elf f lines err dumps ∙ ap (λ (n : ℕ). (let v : Verdict = record { status = n; out = out_bytes (Text lines); err = err } in v)) (sym says.0)) says.1.1
 promised_told (Bytes text) status err elf files says = absurd says
 
-dump_judged : (j : Judgement) (elf : List ℕ) (files : Option Files) → DumpPromises elf files j → IsJudged j (Some (dump elf)) files
-dump_judged j elf files kept =
-    let low : j.status < 2 = promised_low j.out j.status (err_bytes j.err) (λ e. Tells files (λ f. command_verdict (Some (dump elf)) f ≡ refused e)) (λ lines e. (reading (canon_text lines) ≡ Ok lines) × Tells files (λ f. DumpsFile elf f lines e)) kept in
+dump_judged : (j : Judgement) (elf : List ℕ) (workers : ℕ) (files : Option Files) → DumpPromises elf files j → IsJudged j (Some (dump elf workers)) files
+dump_judged j elf workers files kept =
+    let low : j.status < 2 = promised_low j.out j.status (err_bytes j.err) (λ e. Tells files (λ f. file_verdict elf (f elf) ≡ refused e)) (λ lines e. (reading (canon_text lines) ≡ Ok lines) × Tells files (λ f. DumpsFile elf f lines e)) kept in
     record {
       low = omega arith;
       row = λ some. low;
@@ -127,7 +127,7 @@ dump_judged j elf files kept =
     }
 
 -- a judgement on the bytes of the file is one on the command
-refusal_told : (files : Option Files) (elf bytes err : List ℕ) → HoldsFile files elf (λ whole. IsWhole whole bytes LIMIT) → dump_verdict LIMIT (module_name elf) bytes ≡ refused err → Tells files (λ f. command_verdict (Some (dump elf)) f ≡ refused err)
+refusal_told : (files : Option Files) (elf bytes err : List ℕ) → HoldsFile files elf (λ whole. IsWhole whole bytes LIMIT) → dump_verdict LIMIT (module_name elf) bytes ≡ refused err → Tells files (λ f. file_verdict elf (f elf) ≡ refused err)
 refusal_told None elf bytes err holds same = tt
 refusal_told (Some files) elf bytes err holds same = ap (file_verdict elf) holds.1 ∙ ap (dump_verdict LIMIT (module_name elf)) holds.2.0 ∙ same
 
@@ -135,24 +135,24 @@ dumping_told : (files : Option Files) (elf bytes : List ℕ) (lines : List SymLi
 dumping_told None elf bytes lines err holds dumps = tt
 dumping_told (Some files) elf bytes lines err holds dumps = record { file = bytes; there = holds.1 ∙ ap Some holds.2.0; few = holds.2.1; dumps = dumps }
 
-bytes_judged : (j : Judgement) (files : Option Files) (elf bytes : List ℕ) → HoldsFile files elf (λ whole. IsWhole whole bytes LIMIT) → JudgesBytes j (module_name elf) bytes → IsJudged j (Some (dump elf)) files
-bytes_judged j files elf bytes holds says =
-    dump_judged j elf files (
+bytes_judged : (j : Judgement) (files : Option Files) (elf : List ℕ) (workers : ℕ) (bytes : List ℕ) → HoldsFile files elf (λ whole. IsWhole whole bytes LIMIT) → JudgesBytes j (module_name elf) bytes → IsJudged j (Some (dump elf workers)) files
+bytes_judged j files elf workers bytes holds says =
+    dump_judged j elf workers files (
     judging j.out j.status (err_bytes j.err)
-    (λ err. dump_verdict LIMIT (module_name elf) bytes ≡ refused err) (λ e. Tells files (λ f. command_verdict (Some (dump elf)) f ≡ refused e))
+    (λ err. dump_verdict LIMIT (module_name elf) bytes ≡ refused err) (λ e. Tells files (λ f. file_verdict elf (f elf) ≡ refused e))
     (DumpsImage bytes (module_name elf)) (λ lines e. (reading (canon_text lines) ≡ Ok lines) × Tells files (λ f. DumpsFile elf f lines e))
     (λ err same. refusal_told files elf bytes err holds same)
     (λ lines err dumps. (dumps.dumps.reads, dumping_told files elf bytes lines err holds dumps))
     says)
 
-pub bytes_command : (j : Judgement) (files : Option Files) (elf bytes name held : List ℕ) → HoldsFile files elf (λ whole. IsWhole whole bytes LIMIT) → name ≡ module_name elf → held ≡ bytes → JudgesBytes j name held → IsJudged j (Some (dump elf)) files
-bytes_command j files elf bytes name held holds named same says =
+pub bytes_command : (j : Judgement) (files : Option Files) (elf : List ℕ) (workers : ℕ) (bytes name held : List ℕ) → HoldsFile files elf (λ whole. IsWhole whole bytes LIMIT) → name ≡ module_name elf → held ≡ bytes → JudgesBytes j name held → IsJudged j (Some (dump elf workers)) files
+bytes_command j files elf workers bytes name held holds named same says =
     let P : List ℕ → Type 0 = λ n. JudgesBytes j n held in
     let Q : List ℕ → Type 0 = λ b. JudgesBytes j (module_name elf) b in
-    bytes_judged j files elf bytes holds (subst Q same (subst P named says))
+    bytes_judged j files elf workers bytes holds (subst Q same (subst P named says))
 
 -- a file that is longer is refused for it
-longer : (files : Option Files) (elf text : List ℕ) → HoldsFile files elf (λ whole. IsLonger whole LIMIT) → text ≡ too_long_line → Tells files (λ f. command_verdict (Some (dump elf)) f ≡ refused text)
+longer : (files : Option Files) (elf text : List ℕ) → HoldsFile files elf (λ whole. IsLonger whole LIMIT) → text ≡ too_long_line → Tells files (λ f. file_verdict elf (f elf) ≡ refused text)
 unfolding dump_verdict
 longer None elf text holds is = tt
 longer (Some files) elf text holds is =
@@ -162,23 +162,23 @@ longer (Some files) elf text holds is =
 pub too_long_judged : (j : Judgement) (text : List ℕ) → text ≡ too_long_line → Refuses j text → AnswersStop (Judged j) (Fault TooLong)
 too_long_judged j text is refuses = refusing j text (λ err. err ≡ too_long_line) (λ lines err. ⊥) refuses is
 
-pub stop_command : (answer : Answer) (end : Stop ReadEnd) (files : Option Files) (elf : List ℕ) (left left_after : Option (List ℕ)) (before after : ℕ) → ReadAll (Err end) files elf LIMIT left left_after before after → AnswersStop answer end → AnswersCommand answer (Some (dump elf)) files before after
-stop_command (Judged j) (Fault CantOpen) files elf left left_after before after read says = absurd says
-stop_command (Judged j) (Fault CantRead) files elf left left_after before after read says = absurd says
-stop_command (Judged j) (Fault TooLong) files elf left left_after before after read says =
-    dump_judged j elf files (
+pub stop_command : (answer : Answer) (end : Stop ReadEnd) (files : Option Files) (elf : List ℕ) (workers : ℕ) (left left_after : Option (List ℕ)) (before after : ℕ) → ReadAll (Err end) files elf LIMIT left left_after before after → AnswersStop answer end → AnswersCommand answer (Some (dump elf workers)) files before after
+stop_command (Judged j) (Fault CantOpen) files elf workers left left_after before after read says = absurd says
+stop_command (Judged j) (Fault CantRead) files elf workers left left_after before after read says = absurd says
+stop_command (Judged j) (Fault TooLong) files elf workers left left_after before after read says =
+    dump_judged j elf workers files (
     judging j.out j.status (err_bytes j.err)
-    (λ err. err ≡ too_long_line) (λ e. Tells files (λ f. command_verdict (Some (dump elf)) f ≡ refused e))
+    (λ err. err ≡ too_long_line) (λ e. Tells files (λ f. file_verdict elf (f elf) ≡ refused e))
     (λ lines err. ⊥) (λ lines e. (reading (canon_text lines) ≡ Ok lines) × Tells files (λ f. DumpsFile elf f lines e))
     (λ err is. longer files elf err read is)
     (λ lines err no. absurd no)
     says)
-stop_command (Judged j) stop.NoMemory files elf left left_after before after read says = absurd says
-stop_command Unread (Fault CantOpen) files elf left left_after before after read says = (refl, read.0)
-stop_command Unread (Fault CantRead) files elf left left_after before after read says = (refl, read.0)
-stop_command Unread (Fault TooLong) files elf left left_after before after read says = absurd says
-stop_command Unread stop.NoMemory files elf left left_after before after read says = absurd says
-stop_command NoMemory end files elf left left_after before after read says = refl
+stop_command (Judged j) stop.NoMemory files elf workers left left_after before after read says = absurd says
+stop_command Unread (Fault CantOpen) files elf workers left left_after before after read says = (refl, read.0)
+stop_command Unread (Fault CantRead) files elf workers left left_after before after read says = (refl, read.0)
+stop_command Unread (Fault TooLong) files elf workers left left_after before after read says = absurd says
+stop_command Unread stop.NoMemory files elf workers left left_after before after read says = absurd says
+stop_command NoMemory end files elf workers left left_after before after read says = refl
 
 -- the usage line
 none_some : (o : Option Asked) → o ≡ None → IsSome o → ⊥
@@ -199,11 +199,11 @@ usage_judged j files before after is =
     }
 
 -- the names asked for by a reading of the row's one file
-pub asks_one : (read : Result (List ℕ) (Stop ReadEnd)) (elf : List ℕ) (files : Option Files) (before after : List (List ℕ)) → AsksOnce read before elf after → Asks (files_of (Some (dump elf)) files) before after
-asks_one (Ok bytes) elf files before after asked = (1, omega arith, asked)
-asks_one (Err (Fault end)) elf files before after asked = (1, omega arith, asked)
-asks_one (Err stop.NoMemory) elf files before after (inl asked) = (1, omega arith, asked)
-asks_one (Err stop.NoMemory) elf files before after (inr same) = (0, omega arith, same ∙ sym (append-nil before))
+pub asks_one : (read : Result (List ℕ) (Stop ReadEnd)) (elf : List ℕ) (workers : ℕ) (files : Option Files) (before after : List (List ℕ)) → AsksOnce read before elf after → Asks (files_of (Some (dump elf workers)) files) before after
+asks_one (Ok bytes) elf workers files before after asked = (1, omega arith, asked)
+asks_one (Err (Fault end)) elf workers files before after asked = (1, omega arith, asked)
+asks_one (Err stop.NoMemory) elf workers files before after (inl asked) = (1, omega arith, asked)
+asks_one (Err stop.NoMemory) elf workers files before after (inr same) = (0, omega arith, same ∙ sym (append-nil before))
 
 pub asks_none : (files : Option Files) (before after : List (List ℕ)) → after ≡ before → Asks (files_of None files) before after
 asks_none files before after same = (0, omega arith, same ∙ sym (append-nil before))

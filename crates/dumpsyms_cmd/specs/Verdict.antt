@@ -62,10 +62,10 @@ abbrev pub file_verdict : List ℕ → Option (List ℕ) → Verdict
 file_verdict elf None = unread
 file_verdict elf (Some file) = dump_verdict LIMIT (module_name elf) file
 
--- the verdict of a command
+-- the verdict of a command: the number of workers does not matter
 abbrev pub command_verdict : Option Asked → Files → Verdict
 command_verdict None files = usage
-command_verdict (Some (dump elf)) files = file_verdict elf (files elf)
+command_verdict (Some (dump elf workers)) files = file_verdict elf (files elf)
 
 -- the verdict of words and files
 abbrev pub verdict : List (List ℕ) → Files → Verdict

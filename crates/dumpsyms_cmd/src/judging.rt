@@ -17,7 +17,9 @@ use crate::refusals::{TOO_LONG, UNBUILT, USAGE, fault_line, frame_line};
 use crate::words::{Command, name_of, parse_words};
 use elf_sections::{Image, read_image};
 use std::alloc::Global;
+use std::thread::Threads;
 use sym_edges::{OutOfMemory, ReadEnd, Sect, Stop, Store, read_all};
+use unit_workers::Gate;
 
 /// The greatest length of an ELF file, in bytes.
 const ELF_LIMIT: usize = 536_870_912;
@@ -56,7 +58,15 @@ fn judge_frames(
 
 /// A dump of an image.
 #[tactic(auto, using(crate::proofs::JudgedLemmas::unbuilt_judged, crate::proofs::JudgedLemmas::frames_judged), unfolding(crate::specs::Dump::is_unbuilt))]
-fn judge_image(alloc: Global, image: &Image<'_>, name: &[u8]) -> Result<Judgement, OutOfMemory>
+fn judge_image<R: Threads + Sync, G: Gate + Sync>(
+    rt: &R,
+    alloc: Global,
+    image: &Image<'_>,
+    name: &[u8],
+    gate: &G,
+    workers: usize,
+) -> Result<Judgement, OutOfMemory>
+    requires workers { (1 ≤ workers) × (workers ≤ 64) }
     ensures { IfOk result (λ j. JudgesParts j name.now image.now) }
 {
     let info = image.section(Sect::Info);
@@ -72,12 +82,20 @@ fn judge_image(alloc: Global, image: &Image<'_>, name: &[u8]) -> Result<Judgemen
 
 /// A dump of a file's bytes.
 #[tactic(auto, using(crate::proofs::JudgedLemmas::parts_judged, crate::proofs::JudgedLemmas::fault_judged))]
-fn judge_bytes(alloc: Global, bytes: &[u8], name: &[u8]) -> Result<Judgement, OutOfMemory>
-    requires { length bytes.now ≤ LIMIT }
+fn judge_bytes<R: Threads + Sync, G: Gate + Sync>(
+    rt: &R,
+    alloc: Global,
+    bytes: &[u8],
+    name: &[u8],
+    gate: &G,
+    workers: usize,
+) -> Result<Judgement, OutOfMemory>
+    requires few { length bytes.now ≤ LIMIT }
+    requires workers { (1 ≤ workers) × (workers ≤ 64) }
     ensures { IfOk result (λ j. JudgesBytes j name.now bytes.now) }
 {
     match read_image(alloc, bytes) {
-        Ok(image) => judge_image(alloc, &image, name),
+        Ok(image) => judge_image(rt, alloc, &image, name, gate, workers),
         Err(Stop::Fault(fault)) => Ok(refuse(Message::Made(fault_line(alloc, fault)?))),
         Err(Stop::NoMemory) => Err(OutOfMemory),
     }
@@ -95,16 +113,31 @@ fn answer_stop(stop: Stop<ReadEnd>) -> Answer
     }
 }
 
-/// The answer to `dump ELF`.
+/// The answer to `dump ELF`, by some workers.
 #[tactic(auto, using(crate::proofs::JudgedLemmas::stop_command, crate::proofs::JudgedLemmas::asks_one))]
-fn answer_dump<S: Store>(alloc: Global, elf: &str, store: &mut S) -> Answer
-    ensures asked { Asks (files_of (Some (dump elf.now)) (S.files store.old)) (S.asked store.old) (S.asked store.new) }
+fn answer_dump<R: Threads + Sync, S: Store, G: Gate + Sync>(
+    rt: &R,
+    alloc: Global,
+    elf: &str,
+    workers: usize,
+    store: &mut S,
+    gate: &G,
+) -> Answer
+    requires workers { (1 ≤ workers) × (workers ≤ 64) }
+    ensures asked { Asks (files_of (Some (dump elf.now workers)) (S.files store.old)) (S.asked store.old) (S.asked store.new) }
     ensures files { S.files store.new ≡ S.files store.old }
     ensures faults { S.faults store.old ≤ S.faults store.new }
-    ensures answered { AnswersCommand result (Some (dump elf.now)) (S.files store.old) (S.faults store.old) (S.faults store.new) }
+    ensures answered { AnswersCommand result (Some (dump elf.now workers)) (S.files store.old) (S.faults store.old) (S.faults store.new) }
 {
     match read_all(alloc, store, elf, ELF_LIMIT) {
-        Ok(bytes) => match judge_bytes(alloc, bytes.as_slice(), name_of(elf.as_bytes())) {
+        Ok(bytes) => match judge_bytes(
+            rt,
+            alloc,
+            bytes.as_slice(),
+            name_of(elf.as_bytes()),
+            gate,
+            workers,
+        ) {
             Ok(judgement) => Answer::Judged(judgement),
             Err(OutOfMemory) => Answer::NoMemory,
         },
@@ -126,7 +159,13 @@ fn answer_usage() -> Answer
 
 /// The answer to the words, over the files of the store. All memory that the program needs is taken here.
 #[tactic(auto, using(crate::proofs::JudgedLemmas::asks_none))]
-pub fn answer_words<S: Store>(alloc: Global, words: &[String], store: &mut S) -> Answer
+pub fn answer_words<R: Threads + Sync, S: Store, G: Gate + Sync>(
+    rt: &R,
+    alloc: Global,
+    words: &[String],
+    store: &mut S,
+    gate: &G,
+) -> Answer
     ensures asked { Asks (files_of (command_of (map string_bytes words.now)) (S.files store.old)) (S.asked store.old) (S.asked store.new) }
     ensures files { S.files store.new ≡ S.files store.old }
     ensures faults { S.faults store.old ≤ S.faults store.new }
@@ -134,6 +173,6 @@ pub fn answer_words<S: Store>(alloc: Global, words: &[String], store: &mut S) ->
 {
     match parse_words(words) {
         None => answer_usage(),
-        Some(Command::Dump { elf }) => answer_dump(alloc, elf, store),
+        Some(Command::Dump { elf, workers }) => answer_dump(rt, alloc, elf, workers, store, gate),
     }
 }

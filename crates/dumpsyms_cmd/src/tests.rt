@@ -8,7 +8,9 @@ use crate::run;
 use std::alloc::{AllocError, Global};
 use std::process::Abort;
 use std::test::Fail;
+use std::thread::Threads;
 use sym_edges::{ByteRun, CallList, FileList, MemSink, MemStore, NameText, NamedFile};
+use unit_workers::NoGate;
 
 const FRONT: &[u8] = b"MODULE Linux x86_64 030201000504070608090A0B0C0D0E0F0 a.out\n\
     INFO CODE_ID 000102030405060708090A0B0C0D0E0F10111213\n";
@@ -25,6 +27,24 @@ const NOT_ELF: &[u8] = b"refused elf not-elf\n";
 const DUMP: &[&str] = &["dump", "d/a.out"];
 
 const OTHER: &[&str] = &["dump", "other"];
+
+/// Words that are no row.
+const NO_ROWS: [&[&str]; 6] = [
+    &[],
+    &["dump"],
+    &["lookup", "s", "0x10"],
+    &["dump", "d/a.out", "--workers", "0"],
+    &["dump", "d/a.out", "--workers", "08"],
+    &["dump", "d/a.out", "--workers", "65"],
+];
+
+/// A dump by 1, 2, 8 and 64 workers.
+const BY_WORKERS: [&[&str]; 4] = [
+    &["dump", "d/a.out", "--workers", "1"],
+    &["dump", "d/a.out", "--workers", "2"],
+    &["dump", "d/a.out", "--workers", "8"],
+    &["dump", "d/a.out", "--workers", "64"],
+];
 
 const CLASS: &[u8] = b"refused elf class\n";
 
@@ -62,7 +82,7 @@ fn calls(alloc: Global, numbers: &[u64]) -> Result<CallList, AllocError> {
 
 /// Words over the file `d/a.out` give this status and these texts.
 fn expect(
-    rt: &impl Abort,
+    rt: &(impl Abort + Threads + Sync),
     alloc: Global,
     label: &str,
     words: &[&str],
@@ -85,7 +105,15 @@ fn expect(
     let mut store = MemStore::new(alloc, FileList::of(files), step, calls(alloc, edges.store)?);
     let mut to_out = MemSink::new(alloc, edges.room, step, calls(alloc, edges.out)?)?;
     let mut to_err = MemSink::new(alloc, 1000, step, calls(alloc, edges.err)?)?;
-    let answer = run(alloc, &strings, &mut store, &mut to_out, &mut to_err);
+    let answer = run(
+        rt,
+        alloc,
+        &strings,
+        &mut store,
+        &mut to_out,
+        &mut to_err,
+        &NoGate,
+    );
     let is_wanted = answer == status && to_out.written() == out && to_err.written() == err;
     assert!(rt; is_wanted, "{label}");
     Ok(())
@@ -93,7 +121,7 @@ fn expect(
 
 /// The same of `dump d/a.out`, in large calls and in calls of one byte.
 fn expect_dump(
-    rt: &impl Abort,
+    rt: &(impl Abort + Threads + Sync),
     alloc: Global,
     label: &str,
     file: &[u8],
@@ -163,13 +191,15 @@ fn framed_badly(alloc: Global) -> Result<Vec<u8>, AllocError> {
 fn commands_have_their_rows(rt: HostRuntime) -> Result<(), Fail> {
     let alloc = rt.alloc();
     let file = small_and(alloc, NULL)?;
-    let words: [&[&str]; 3] = [&[], &["dump"], &["lookup", "s", "0x10"]];
-    for words in words {
+    for words in NO_ROWS {
         expect(&rt, alloc, "usage", words, &file, SMOOTH, 2, b"", USAGE)?;
     }
     expect(&rt, alloc, "other", OTHER, &file, SMOOTH, 3, b"", UNREAD)?;
     let text = joined(alloc, &[FRONT, MAIN])?;
     expect_dump(&rt, alloc, "main", &file, 0, &text, b"")?;
+    for words in BY_WORKERS {
+        expect(&rt, alloc, "workers", words, &file, SMOOTH, 0, &text, b"")?;
+    }
     let two = two_at_one_address(alloc)?;
     let text = joined(alloc, &[FRONT, MAIN, b"PUBLIC m 1008 0 b\n"])?;
     expect_dump(&rt, alloc, "b and a", &two, 0, &text, b"")?;
@@ -199,7 +229,7 @@ fn commands_have_their_rows(rt: HostRuntime) -> Result<(), Fail> {
 /// Each write of one byte that fails in turn, those to out before those to err: the status is 4, and the sinks hold what was
 /// written before.
 fn expect_fronts(
-    rt: &impl Abort,
+    rt: &(impl Abort + Threads + Sync),
     alloc: Global,
     words: &[&str],
     file: &[u8],
