@@ -1,0 +1,5 @@
+pub mod Each
+pub mod ImageSections
+pub mod UnitSays
+pub mod UnitsRead
+pub mod DebugSays
