@@ -1,28 +1,29 @@
 -- Judgements, from the parts of an image up to the words.
-use Rattle.std.proofs.Common.{◌≡◌, inl, inr, ℕ, ◌≤◌, ◌<◌, true, false, List, [], Option, Some, None, IsSome, Ok, Err, Result, length, nat_lt, refl, sym, ◌∙◌, ap, arith, append-nil, subst}
+use Rattle.std.proofs.Common.{◌≡◌, inl, inr, ℕ, ◌≤◌, ◌<◌, true, false, List, [], Option, Some, None, IsSome, Ok, Err, Result, length, nat_lt, cond, refl, sym, ◌∙◌, ap, arith, append-nil, subst}
 use Rattle.std.proofs.lemmas.Bool.Decides.{nat_tests}
-use Rattle.sym_edges.specs.Outside.{Files, Tells, Rose}
+use Rattle.sym_edges.specs.Outside.{Files, Tells, Rose, MatchStop}
 use Rattle.sym_edges.specs.WholeFile.{AsksOnce, HoldsFile, IsWhole, IsLonger, ReadAll}
 use Rattle.sym_edges.specs.declared.fault.Stop.{Stop}
 use Rattle.sym_edges.specs.declared.fault.Stop.TheVariants.{Fault}
 use Rattle.sym_edges.specs.declared.fault.Stop.TheVariants as stop
 use Rattle.sym_edges.specs.declared.reading.ReadEnd.{ReadEnd}
 use Rattle.sym_edges.specs.declared.reading.ReadEnd.TheVariants.{CantOpen, CantRead, TooLong}
-use Rattle.sym_edges.specs.declared.located.Located.{Located}
 use Rattle.elf_sections.specs.Image.{ImageParts, image}
 use Rattle.elf_sections.specs.declared.fault.ElfFault.{ElfFault}
-use Rattle.frame_entries.specs.declared.fault.FrameKind.{FrameKind}
+use Rattle.debug_read.specs.DebugSays.{debug_says, IsDebugRead}
+use Rattle.debug_read.specs.declared.fault.DebugFault.{DebugFault}
+use Rattle.debug_read.specs.declared.found.DebugRead.{DebugRead}
 use Rattle.sym_records.specs.Canon.{canon_text}
 use Rattle.sym_records.specs.Reading.{reading}
 use Rattle.sym_records.specs.declared.line.SymLine.{SymLine}
 use Rattle.rule_postfix.specs.Written.{omitted}
 use Rattle.dumpsyms_cmd.specs.Dump.{is_unbuilt}
-use Rattle.dumpsyms_cmd.specs.Frames.{frames}
 use Rattle.dumpsyms_cmd.specs.Words.{Asked, dump, files_of, module_name}
-use Rattle.dumpsyms_cmd.specs.Refusals.{elf_line, frame_line, omitted_text, too_long_line, unbuilt_line, usage_line}
-use Rattle.dumpsyms_cmd.specs.Verdict.{Verdict, refused, usage, dump_verdict, command_verdict, frames_verdict, parts_verdict, image_verdict, file_verdict, LIMIT}
+use Rattle.dumpsyms_cmd.specs.Refusals.{elf_line, debug_line, omitted_text, too_long_line, unbuilt_line, usage_line}
+use Rattle.dumpsyms_cmd.specs.Verdict.{Verdict, refused, usage, dump_verdict, command_verdict, found_verdict, debug_verdict, parts_verdict, image_verdict, file_verdict, LIMIT}
 use Rattle.dumpsyms_cmd.specs.Observed.{Asks}
 use Rattle.dumpsyms_cmd.specs.Judged.{out_bytes, err_bytes, judgement_verdict, Refuses, RefusesOrGives, Judges, DumpsParts, JudgesParts, DumpsImage, JudgesBytes, DumpsFile, DumpPromises, IsUsage, IsJudged, AnswersCommand, AnswersStop}
+use Rattle.dumpsyms_cmd.proofs.FrameLemmas.{kept}
 use Rattle.dumpsyms_cmd.specs.declared.judgement.Output.{Output}
 use Rattle.dumpsyms_cmd.specs.declared.judgement.Output.TheVariants.{Nothing, Text, Bytes}
 use Rattle.dumpsyms_cmd.specs.declared.judgement.Judgement.{Judgement}
@@ -55,27 +56,36 @@ within : (name bytes : List ℕ) → length bytes ≤ LIMIT → dump_verdict LIM
 unfolding dump_verdict
 within name bytes few = let no : nat_lt LIMIT (length bytes) ≡ false = grind (arith, nat_tests) in rw no refl
 
--- debug entries are refused before anything is said of frames
-pub unbuilt_judged : (j : Judgement) (parts : ImageParts) (name text : List ℕ) → is_unbuilt parts ≡ true → text ≡ unbuilt_line → Refuses j text → JudgesParts j name parts
+-- debug entries are refused where there is no fault
+pub unbuilt_judged : (j : Judgement) (parts : ImageParts) (name text : List ℕ) (read : DebugRead) → IsDebugRead parts read → is_unbuilt parts ≡ true → text ≡ unbuilt_line → Refuses j text → JudgesParts j name parts
 unfolding parts_verdict
-unbuilt_judged j parts name text is line refuses =
-    refusing j text (λ err. parts_verdict parts name ≡ refused err) (DumpsParts parts name) refuses (rw is (ap refused (sym line)))
-
--- a section of frame entries is refused with its first fault
-pub frames_judged : (j : Judgement) (parts : ImageParts) (name text : List ℕ) (fault : Located FrameKind) → is_unbuilt parts ≡ false → frames parts ≡ Err fault → text ≡ frame_line fault → Refuses j text → JudgesParts j name parts
-unfolding parts_verdict
-frames_judged j parts name text fault built is line refuses =
+unbuilt_judged j parts name text read says is line refuses =
+    let k = kept parts read says in
     refusing j text (λ err. parts_verdict parts name ≡ refused err) (DumpsParts parts name) refuses
-    (rw built (ap (λ f. frames_verdict f parts name) is ∙ ap refused (sym line)))
+    (ap (λ f. debug_verdict f parts name) k.says_is ∙ ap (λ t. cond t (refused unbuilt_line) (found_verdict parts name k.says)) is ∙ ap refused (sym line))
 
--- the verdict of an image whose frame entries can be read
-frames_told : (parts : ImageParts) (name : List ℕ) (lines : List SymLine) (text : List ℕ) → DumpsParts parts name lines text → parts_verdict parts name ≡ record { status = 0; out = canon_text lines; err = text }
+-- a fault behind the image is refused with its line
+debug_judged : (j : Judgement) (parts : ImageParts) (name text : List ℕ) (fault : DebugFault) → debug_says parts ≡ Err fault → text ≡ debug_line fault → Refuses j text → JudgesParts j name parts
 unfolding parts_verdict
-frames_told parts name lines text dumps =
-    rw dumps.built
-    (ap (λ f. frames_verdict f parts name) dumps.found_is
+debug_judged j parts name text fault is line refuses =
+    refusing j text (λ err. parts_verdict parts name ≡ refused err) (DumpsParts parts name) refuses
+    (ap (λ f. debug_verdict f parts name) is ∙ ap refused (sym line))
+
+-- the same of a reading that ended with it
+pub stop_judged : {A : Type 0} (j : Judgement) (parts : ImageParts) (name text : List ℕ) (P : A → Type 0) (read : Result A (Stop DebugFault)) (end : Stop DebugFault) (fault : DebugFault) → MatchStop read P (λ f. debug_says parts ≡ Err f) (Unit {0}) → read ≡ Err end → end ≡ Fault fault → text ≡ debug_line fault → Refuses j text → JudgesParts j name parts
+stop_judged {A = A} j parts name text P read end fault says is ends line refuses =
+    let R : Result A (Stop DebugFault) → Type 0 = λ r. MatchStop r P (λ f. debug_says parts ≡ Err f) (Unit {0}) in
+    let S : Stop DebugFault → Type 0 = λ e. MatchStop {A = A} (Err e) P (λ f. debug_says parts ≡ Err f) (Unit {0}) in
+    debug_judged j parts name text fault (subst S ends (subst R is says)) line refuses
+
+-- the verdict of an image without faults and debug entries
+found_told : (parts : ImageParts) (name : List ℕ) (lines : List SymLine) (text : List ℕ) → DumpsParts parts name lines text → parts_verdict parts name ≡ record { status = 0; out = canon_text lines; err = text }
+unfolding parts_verdict
+found_told parts name lines text dumps =
+    ap (λ f. debug_verdict f parts name) dumps.found_is
+    ∙ ap (λ t. cond t (refused unbuilt_line) (found_verdict parts name dumps.found)) dumps.built
     ∙ ap (λ (l : List SymLine). (let v : Verdict = record { status = 0; out = canon_text l; err = omitted_text (omitted parts.code dumps.found.first dumps.found.second) } in v)) (sym dumps.lines_are)
-    ∙ ap (λ (t : List ℕ). (let v : Verdict = record { status = 0; out = canon_text lines; err = t } in v)) (sym dumps.text_is))
+    ∙ ap (λ (t : List ℕ). (let v : Verdict = record { status = 0; out = canon_text lines; err = t } in v)) (sym dumps.text_is)
 
 -- a judgement on the parts of an image is one on the bytes
 pub parts_judged : (j : Judgement) (name bytes : List ℕ) (parts : ImageParts) → length bytes ≤ LIMIT → image bytes ≡ Ok parts → JudgesParts j name parts → JudgesBytes j name bytes
@@ -98,7 +108,7 @@ dumped_verdict : (elf : List ℕ) (files : Files) (lines : List SymLine) (text :
 dumped_verdict elf files lines text dumps =
     ap (file_verdict elf) dumps.there ∙ within (module_name elf) dumps.file dumps.few
     ∙ ap (λ i. image_verdict i (module_name elf)) dumps.dumps.image_is
-    ∙ frames_told dumps.dumps.parts (module_name elf) lines text dumps.dumps.dumps
+    ∙ found_told dumps.dumps.parts (module_name elf) lines text dumps.dumps.dumps
 
 -- what the promise of a dump says of its status, and that it is the verdict
 promised_low : (o : Output) (status : ℕ) (err : List ℕ) (P : List ℕ → Type 0) (Q : List SymLine → List ℕ → Type 0) → RefusesOrGives o status err P Q → status < 2

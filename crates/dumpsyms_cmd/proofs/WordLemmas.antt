@@ -87,8 +87,8 @@ unfolding number_upto
 number_passes most n word low is more =
     let value : n ≡ digits_value 10 word = is ∙ ap (digits_value 10) (no_plus word low) in
     chosen (is_number word && nat_le (digits_value 10 word) most) (digits_value 10 word) (λ t.
-        let le = (and_true {a = is_number word} t).1 in
-        let few : digits_value 10 word ≤ most = grind (arith, nat_tests) in omega arith)
+    let le = (and_true {a = is_number word} t).1 in
+    let few : digits_value 10 word ≤ most = grind (arith, nat_tests) in omega arith)
 
 pub number_fails : (most : ℕ) (word : List ℕ) → most < 2 ^ 64 → 49 ≤ get_or word 0 0 → (IsNumeral 10 (without_leading_plus word) × (digits_value 10 (without_leading_plus word) < 2 ^ 64) → ⊥) → None ≡ number_upto most word
 unfolding number_upto
@@ -96,10 +96,10 @@ number_fails most word wide low bad =
     let Q : List ℕ → Type 0 = λ w. IsNumeral 10 w × (digits_value 10 w < 2 ^ 64) → ⊥ in
     let never = subst Q (no_plus word low) bad in
     chosen (is_number word && nat_le (digits_value 10 word) most) (digits_value 10 word) (λ t.
-        let parts = and_true {a = is_number word} t in
-        let le = parts.1 in
-        let few : digits_value 10 word ≤ most = grind (arith, nat_tests) in
-        never (number_digits word parts.0, omega arith))
+    let parts = and_true {a = is_number word} t in
+    let le = parts.1 in
+    let few : digits_value 10 word ≤ most = grind (arith, nat_tests) in
+    never (number_digits word parts.0, omega arith))
 
 -- a number begins with 1 to 9
 first_range : (word : List ℕ) → is_number word ≡ true → (49 ≤ get_or word 0 0) × (get_or word 0 0 ≤ 57)
@@ -137,10 +137,10 @@ number_workers : (elf word : List ℕ) → HasWorkers (option_map (dump elf) (nu
 unfolding number_upto
 number_workers elf word =
     workers_by (is_number word && nat_le (digits_value 10 word) 64) elf (digits_value 10 word) (λ t.
-        let parts = and_true {a = is_number word} t in
-        let le = parts.1 in
-        let few : digits_value 10 word ≤ 64 = grind (arith, nat_tests) in
-        (positive word parts.0, few))
+    let parts = and_true {a = is_number word} t in
+    let le = parts.1 in
+    let few : digits_value 10 word ≤ 64 = grind (arith, nat_tests) in
+    (positive word parts.0, few))
 
 two_workers : (word elf : List ℕ) → HasWorkers (two_words word elf)
 two_workers word elf = if_both HasWorkers (bytes_eq word (codes "dump")) (Some (dump elf 4)) None (omega arith, omega arith) tt

@@ -13,8 +13,8 @@ use Rattle.sym_records.specs.declared.line.SymLine.{SymLine}
 use Rattle.rule_postfix.specs.Written.{omitted}
 use Rattle.dumpsyms_cmd.specs.Words.{Asked, dump, module_name}
 use Rattle.dumpsyms_cmd.specs.Dump.{dump_lines, is_unbuilt}
-use Rattle.dumpsyms_cmd.specs.declared.frames.FrameLists.{FrameLists}
-use Rattle.dumpsyms_cmd.specs.Frames.{frames, SaysFrames}
+use Rattle.debug_read.specs.DebugSays.{DebugSays, debug_says}
+use Rattle.dumpsyms_cmd.specs.Frames.{SaysFrames}
 use Rattle.dumpsyms_cmd.specs.Refusals.{omitted_text, too_long_line, usage_line}
 use Rattle.dumpsyms_cmd.specs.Verdict.{Verdict, refused, unread, parts_verdict, dump_verdict, file_verdict, command_verdict, LIMIT}
 use Rattle.dumpsyms_cmd.specs.declared.judgement.Output.{Output}
@@ -73,9 +73,9 @@ Judges j P Q = RefusesOrGives j.out j.status (err_bytes j.err) P Q
 
 -- the records of an image without debug entries, and the text on the frame entries that are left out
 pub record DumpsParts (parts : ImageParts) (name : List ℕ) (lines : List SymLine) (text : List ℕ) : Type 0 where
-  pub found : FrameLists
+  pub found : DebugSays
   pub built : is_unbuilt parts ≡ false
-  pub found_is : frames parts ≡ Ok found
+  pub found_is : debug_says parts ≡ Ok found
   pub lines_are : lines ≡ dump_lines parts name found
   pub text_is : text ≡ omitted_text (omitted parts.code found.first found.second)
   pub reads : reading (canon_text lines) ≡ Ok lines

@@ -12,6 +12,8 @@ use Rattle.abbrev_units.specs.declared.fault.DwarfKind.TheVariants as dwarf
 use Rattle.frame_entries.specs.declared.fault.FrameKind.{FrameKind}
 use Rattle.frame_entries.specs.declared.fault.FrameKind.TheVariants.{Length, Format64}
 use Rattle.sym_edges.specs.declared.located.Located.{Located}
+use Rattle.debug_read.specs.declared.fault.DebugFault.{DebugFault}
+use Rattle.debug_read.specs.declared.fault.DebugFault.TheVariants.{Dwarf, Frame}
 use Rattle.sym_records.specs.Canon.{spaced}
 use Rattle.sym_records.specs.Fields.{hex}
 use Rattle.rule_postfix.specs.declared.omission.Omission.{Omission}
@@ -108,6 +110,11 @@ dwarf_line fault = located_line (codes "refused dwarf") (dwarf_word fault.kind) 
 -- a section of frame entries has a fault
 abbrev pub frame_line : Located FrameKind → List ℕ
 frame_line fault = located_line (codes "refused frame") (kind_word fault.kind) fault.section fault.at
+
+-- the file has a fault behind its image
+abbrev pub debug_line : DebugFault → List ℕ
+debug_line (Dwarf fault) = dwarf_line fault
+debug_line (Frame fault) = frame_line fault
 
 -- the word of a reason
 abbrev pub reason_word : Reason → List ℕ

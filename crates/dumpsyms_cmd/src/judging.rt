@@ -4,17 +4,18 @@ ghost use Rattle.sym_edges.specs.Outside.{Files};
 ghost use Rattle.std.specs.String.{string_bytes};
 ghost use Rattle.elf_sections.specs.Image.{image};
 ghost use Rattle.dumpsyms_cmd.specs.Words.{command_of, files_of, dump};
-ghost use Rattle.dumpsyms_cmd.specs.Frames.{frames};
+ghost use Rattle.debug_read.specs.DebugSays.{IsDebugRead};
 ghost use Rattle.dumpsyms_cmd.specs.Dump.{is_unbuilt};
 ghost use Rattle.dumpsyms_cmd.specs.Verdict.{LIMIT};
 ghost use Rattle.dumpsyms_cmd.specs.Judged.{err_bytes, Refuses, JudgesParts, JudgesBytes, AnswersStop, AnswersCommand};
 ghost use Rattle.dumpsyms_cmd.specs.Observed.{Asks};
 
-use crate::frames::{FrameLists, list_omissions, read_frames};
 use crate::judgement::{Answer, Judgement, Message, Output};
+use crate::omissions::list_omissions;
 use crate::records::{Dumped, dump_file};
-use crate::refusals::{TOO_LONG, UNBUILT, USAGE, fault_line, frame_line};
+use crate::refusals::{TOO_LONG, UNBUILT, USAGE, debug_line, fault_line};
 use crate::words::{Command, name_of, parse_words};
+use debug_read::{DebugRead, read_debug};
 use elf_sections::{Image, read_image};
 use std::alloc::Global;
 use std::thread::Threads;
@@ -35,18 +36,18 @@ fn refuse(line: Message) -> Judgement
     }
 }
 
-/// A dump of an image with these frame entries.
+/// A dump of an image without debug entries.
 fn judge_frames(
     alloc: Global,
     image: &Image<'_>,
-    found: &FrameLists<'_>,
+    debug: &DebugRead<'_>,
     name: &[u8],
 ) -> Result<Judgement, OutOfMemory>
     requires built { is_unbuilt image.now ≡ false }
-    requires found { frames image.now ≡ Ok found.now }
+    requires found { IsDebugRead image.now debug.now }
     ensures { IfOk result (λ j. JudgesParts j name.now image.now) }
 {
-    let dumped = dump_file(alloc, image, name, found)?;
+    let dumped = dump_file(alloc, image, name, debug)?;
     let Dumped { file, omitted } = dumped;
     let text = list_omissions(alloc, omitted.as_slice())?;
     Ok(Judgement {
@@ -56,8 +57,25 @@ fn judge_frames(
     })
 }
 
+/// A dump of an image without faults behind it.
+#[tactic(auto, using(crate::proofs::JudgedLemmas::unbuilt_judged), unfolding(crate::specs::Dump::is_unbuilt))]
+fn judge_found(
+    alloc: Global,
+    image: &Image<'_>,
+    debug: &DebugRead<'_>,
+    name: &[u8],
+) -> Result<Judgement, OutOfMemory>
+    requires found { IsDebugRead image.now debug.now }
+    ensures { IfOk result (λ j. JudgesParts j name.now image.now) }
+{
+    let info = image.section(Sect::Info);
+    if !info.bytes.is_empty() {
+        return Ok(refuse(Message::Fixed(UNBUILT)));
+    }
+    judge_frames(alloc, image, debug, name)
+}
+
 /// A dump of an image.
-#[tactic(auto, using(crate::proofs::JudgedLemmas::unbuilt_judged, crate::proofs::JudgedLemmas::frames_judged), unfolding(crate::specs::Dump::is_unbuilt))]
 fn judge_image<R: Threads + Sync, G: Gate + Sync>(
     rt: &R,
     alloc: Global,
@@ -69,13 +87,9 @@ fn judge_image<R: Threads + Sync, G: Gate + Sync>(
     requires workers { (1 ≤ workers) × (workers ≤ 64) }
     ensures { IfOk result (λ j. JudgesParts j name.now image.now) }
 {
-    let info = image.section(Sect::Info);
-    if !info.bytes.is_empty() {
-        return Ok(refuse(Message::Fixed(UNBUILT)));
-    }
-    match read_frames(alloc, image) {
-        Ok(found) => judge_frames(alloc, image, &found, name),
-        Err(Stop::Fault(fault)) => Ok(refuse(Message::Made(frame_line(alloc, fault)?))),
+    match read_debug(rt, alloc, image, gate, workers) {
+        Ok(debug) => judge_found(alloc, image, &debug, name),
+        Err(Stop::Fault(fault)) => Ok(refuse(Message::Made(debug_line(alloc, fault)?))),
         Err(Stop::NoMemory) => Err(OutOfMemory),
     }
 }

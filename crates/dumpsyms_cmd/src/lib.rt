@@ -5,9 +5,9 @@
 //! written reads back as the records of the file.
 #![tactic(auto)]
 
-mod frames;
 mod judgement;
 mod judging;
+mod omissions;
 mod publics;
 mod records;
 mod refusals;

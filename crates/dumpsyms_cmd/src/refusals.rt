@@ -1,8 +1,9 @@
 ghost use Rattle.std.specs.Prelude.{◌≡◌, ◌++◌, map, IfOk, OnOk};
 ghost use Rattle.sym_records.specs.Canon.{spaced};
-ghost use Rattle.dumpsyms_cmd.specs.Refusals.{line, elf_line, fault_word, joined_word, section_word, dwarf_word, kind_word, dwarf_line, frame_line, located_line, reason_word};
+ghost use Rattle.dumpsyms_cmd.specs.Refusals.{line, elf_line, fault_word, joined_word, section_word, dwarf_word, kind_word, dwarf_line, frame_line, debug_line, located_line, reason_word};
 
 use abbrev_units::{DwarfFault, DwarfKind};
+use debug_read::DebugFault;
 use elf_sections::ElfFault;
 use frame_entries::{FrameFault, FrameKind};
 use itoa::Buffer;
@@ -160,7 +161,7 @@ fn located_line(
 }
 
 /// The line that names a fault of debugging information.
-pub fn dwarf_line(alloc: Global, fault: DwarfFault) -> Result<ByteText, AllocError>
+fn dwarf_line(alloc: Global, fault: DwarfFault) -> Result<ByteText, AllocError>
     ensures { IfOk result (λ text. text ≡ dwarf_line fault) }
 {
     located_line(
@@ -173,7 +174,7 @@ pub fn dwarf_line(alloc: Global, fault: DwarfFault) -> Result<ByteText, AllocErr
 }
 
 /// The line that names a fault of a section of frame entries.
-pub fn frame_line(alloc: Global, fault: FrameFault) -> Result<ByteText, AllocError>
+fn frame_line(alloc: Global, fault: FrameFault) -> Result<ByteText, AllocError>
     ensures { IfOk result (λ text. text ≡ frame_line fault) }
 {
     located_line(
@@ -183,4 +184,14 @@ pub fn frame_line(alloc: Global, fault: FrameFault) -> Result<ByteText, AllocErr
         fault.section,
         fault.at,
     )
+}
+
+/// The line that names a fault behind the image.
+pub fn debug_line(alloc: Global, fault: DebugFault) -> Result<ByteText, AllocError>
+    ensures { IfOk result (λ text. text ≡ debug_line fault) }
+{
+    match fault {
+        DebugFault::Dwarf(fault) => dwarf_line(alloc, fault),
+        DebugFault::Frame(fault) => frame_line(alloc, fault),
+    }
 }
