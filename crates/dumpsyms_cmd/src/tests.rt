@@ -3,7 +3,10 @@
 
 mod files;
 
-use self::files::{ENTRIES, ID, LONG_CODE, NULL, file_of, file_with, small_and};
+use self::files::{
+    CUT_UNIT, EIGHT_OR_FOUR, ENTRIES, ID, LONG_CODE, NULL, UNIT, VERSION_3, file_of, file_with,
+    small_and,
+};
 use crate::run;
 use std::alloc::{AllocError, Global};
 use std::process::Abort;
@@ -14,6 +17,8 @@ use unit_workers::NoGate;
 
 const FRONT: &[u8] = b"MODULE Linux x86_64 030201000504070608090A0B0C0D0E0F0 a.out\n\
     INFO CODE_ID 000102030405060708090A0B0C0D0E0F10111213\n";
+
+const NO_BYTES: &[u8] = b"";
 
 const MAIN: &[u8] = b"PUBLIC 1000 0 main\n";
 
@@ -55,6 +60,12 @@ const FLAG: &[u8] = b"refused elf compressed 5\n";
 const UNBUILT: &[u8] = b"refused unbuilt\n";
 
 const LENGTH: &[u8] = b"refused frame length eh_frame 0\n";
+
+const ENDS_AT_0: &[u8] = b"refused dwarf ends debug_info 0\n";
+
+const ENDS_AT_C: &[u8] = b"refused dwarf ends debug_info c\n";
+
+const ENDS_AT_3C: &[u8] = b"refused dwarf ends debug_info 3c\n";
 
 const OMITTED: &[u8] = b"omitted eh_frame 18 state\n";
 
@@ -223,7 +234,48 @@ fn commands_have_their_rows(rt: HostRuntime) -> Result<(), Fail> {
     let flagged = small_and(alloc, (".debug_info", [1, 0x800, 0, 0], b"\x01"))?;
     expect_dump(&rt, alloc, "flag", &flagged, 1, b"", FLAG)?;
     let info = small_and(alloc, (".debug_info", [1, 0, 0, 0], b"\0"))?;
-    expect_dump(&rt, alloc, "debug entries", &info, 1, b"", UNBUILT)
+    expect_dump(&rt, alloc, "cut unit", &info, 1, b"", ENDS_AT_0)
+}
+
+/// A file with debug entries: a build id, code, these units, the abbreviations, and `.eh_frame`.
+fn debugged<'a>(alloc: Global, units: &'a [u8], frames: &'a [u8]) -> Result<Vec<u8>, AllocError> {
+    let info = (".debug_info", [1, 0, 0, 0], units);
+    let abbreviations = (".debug_abbrev", [1, 0, 0, 0], EIGHT_OR_FOUR);
+    let eh_frame = (".eh_frame", [1, 2, 0x2000, 0], frames);
+    let sections = [NULL, ID, LONG_CODE, info, abbreviations, eh_frame];
+    file_of(alloc, &[(1, 0)], &sections)
+}
+
+#[test]
+fn the_first_fault_of_debug_entries_is_named(rt: HostRuntime) -> Result<(), Fail> {
+    let alloc = rt.alloc();
+    let four = joined(alloc, &[CUT_UNIT, UNIT, UNIT, CUT_UNIT])?;
+    let file = debugged(alloc, &four, NO_BYTES)?;
+    expect_dump(&rt, alloc, "four units", &file, 1, b"", ENDS_AT_C)?;
+    for words in BY_WORKERS {
+        expect(
+            &rt,
+            alloc,
+            "by workers",
+            words,
+            &file,
+            SMOOTH,
+            1,
+            b"",
+            ENDS_AT_C,
+        )?;
+    }
+    let last = joined(alloc, &[UNIT, UNIT, UNIT, CUT_UNIT])?;
+    let file = debugged(alloc, &last, NO_BYTES)?;
+    expect_dump(&rt, alloc, "last unit", &file, 1, b"", ENDS_AT_3C)?;
+    let file = debugged(alloc, CUT_UNIT, b"\x14\0\0")?;
+    expect_dump(&rt, alloc, "unit and frames", &file, 1, b"", ENDS_AT_C)?;
+    let file = debugged(alloc, UNIT, b"\x14\0\0")?;
+    expect_dump(&rt, alloc, "frames", &file, 1, b"", LENGTH)?;
+    let file = debugged(alloc, UNIT, PUSH_RBP)?;
+    expect_dump(&rt, alloc, "no fault", &file, 1, b"", UNBUILT)?;
+    let file = debugged(alloc, VERSION_3, NO_BYTES)?;
+    expect_dump(&rt, alloc, "version 3", &file, 1, b"", UNBUILT)
 }
 
 /// Each write of one byte that fails in turn, those to out before those to err: the status is 4, and the sinks hold what was
