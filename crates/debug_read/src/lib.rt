@@ -3,7 +3,11 @@
 
 mod fault;
 mod found;
+mod job;
+mod lines;
+mod ranges;
 mod reading;
+mod unit;
 
 pub use crate::fault::DebugFault;
 pub use crate::found::DebugRead;

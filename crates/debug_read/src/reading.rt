@@ -22,7 +22,7 @@ pub fn read_debug<'a, R: Threads + Sync, G: Gate + Sync>(
     ensures { MatchStop result
         (λ read. IsDebugRead image.now read)
         (λ fault. debug_says image.now ≡ Err fault)
-        (Unit {0}) }
+        (Prim.Unit {0}) }
 {
     Err(Stop::NoMemory)
 }
