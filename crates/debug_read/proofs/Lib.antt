@@ -1,3 +1,6 @@
 pub mod EachLemmas
 pub mod SetLemmas
 pub mod LineLemmas
+pub mod UnitLemmas
+pub mod PickLemmas
+pub mod JobLemmas

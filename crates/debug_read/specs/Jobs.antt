@@ -1,6 +1,6 @@
 -- The reading of units by their numbers.
 use Rattle.std.specs.Prelude.{◌≡◌, ℕ, ◌≤◌, ◌^◌, List, length, Option, None, Some, Result, Ok, Err}
-use Rattle.std.specs.List.{AllByRecursion, slice_get}
+use Rattle.std.specs.List.{AllByRecursion}
 use Rattle.sym_edges.specs.Addresses.{Range}
 use Rattle.sym_edges.specs.declared.located.Located.{Located}
 use Rattle.abbrev_units.specs.declared.fault.DwarfKind.{DwarfKind}
@@ -27,12 +27,12 @@ pub record IsReading (reading : Reading) : Type 0 where
   pub inside : AllByRecursion (IsInside (length reading.sections.info)) reading.units
   pub small : length reading.sections.info ≤ 2 ^ 29
 
--- a unit's result is what it says, or its first fault
-abbrev pub UnitGives : Reading → Unit → Result UnitRead (Located DwarfKind) → Type 0
-UnitGives reading unit (Ok part) = (spans : List Range) → EncloseAlike reading.code spans → Says (IsUnitRead spans) (unit_says reading.sections unit) part
-UnitGives reading unit (Err fault) = unit_says reading.sections unit ≡ Err fault
+-- a unit's result is what is kept of it, or its first fault
+abbrev pub IsFound : List Range → DebugSections → Unit → Result UnitRead (Located DwarfKind) → Type 0
+IsFound code sections unit (Ok part) = Says (IsUnitRead code) (unit_says sections unit) part
+IsFound code sections unit (Err fault) = unit_says sections unit ≡ Err fault
 
--- there is no result behind the last unit
+-- the result that stands for a unit; there is none behind the last
 abbrev pub ReadingGives : Reading → Option Unit → Result UnitRead (Located DwarfKind) → Type 0
-ReadingGives reading None out = ⊥
-ReadingGives reading (Some unit) out = UnitGives reading unit out
+ReadingGives reading None found = ⊥
+ReadingGives reading (Some unit) found = (spans : List Range) → EncloseAlike reading.code spans → IsFound spans reading.sections unit found

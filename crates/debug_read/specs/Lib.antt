@@ -4,3 +4,4 @@ pub mod UnitSays
 pub mod UnitsRead
 pub mod DebugSays
 pub mod Jobs
+pub mod Stops

@@ -12,6 +12,7 @@ use sym_edges::{OutOfMemory, Stop};
 use unit_workers::UnitJob;
 
 /// The units that are to be read.
+#[derive(Drop)]
 pub struct Reading<'s, 'a> {
     sections: &'s Sections<'a>,
     units: &'s [Unit],
@@ -29,11 +30,7 @@ impl<'s, 'a> Model for Reading<'s, 'a> {
 }
 
 impl<'s, 'a> Reading<'s, 'a> {
-    pub fn of(
-        sections: &'s Sections<'a>,
-        units: &'s [Unit],
-        code: &'s Enclosing,
-    ) -> Reading<'s, 'a>
+    pub fn of(sections: &'s Sections<'a>, units: &'s [Unit], code: &'s Enclosing) -> Reading<'s, 'a>
         requires { IsReading (record { sections = sections.now; units = units.now; code = code.now }) }
         ensures { result ≡ record { sections = sections.now; units = units.now; code = code.now } }
     {

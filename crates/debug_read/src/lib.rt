@@ -4,10 +4,14 @@
 mod fault;
 mod found;
 mod job;
+mod joining;
 mod lines;
+mod picking;
 mod ranges;
 mod reading;
+mod sections;
 mod unit;
+mod units;
 
 pub use crate::fault::DebugFault;
 pub use crate::found::DebugRead;

@@ -58,14 +58,25 @@ fn read_table(
         (λ fault. unit_lines sections.now offset root.now.at (unwrap_or root.now.comp_dir []) ≡ Err fault)
         (Prim.Unit {0}) }
 {
-    read_lines(alloc, sections, offset, root.at as usize, comp_dir_of(root), code)
+    read_lines(
+        alloc,
+        sections,
+        offset,
+        root.at as usize,
+        comp_dir_of(root),
+        code,
+    )
 }
 
 /// A line table where it is asked for, else the empty one.
 fn keep(alloc: Global, asked: bool, lines: LineTable) -> LineTable
     ensures { result ≡ if asked then lines else no_lines }
 {
-    if asked { lines } else { LineTable::empty(alloc) }
+    if asked {
+        lines
+    } else {
+        LineTable::empty(alloc)
+    }
 }
 
 /// Reads the line table of a unit, also where nothing of it is kept: its faults count.

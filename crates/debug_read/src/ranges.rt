@@ -30,7 +30,10 @@ fn read_set(
         (Prim.Unit {0}) }
 {
     match ranges_of(alloc, sections, unit, table, entry, base, code) {
-        Ok(set) => Ok(set),
+        Ok(set) => {
+            let _spans = set.spans();
+            Ok(set)
+        }
         Err(stop) => Err(stop),
     }
 }

@@ -13,6 +13,7 @@ use crate::ranges::read_sets;
 use abbrev_units::{DwarfFault, Sections, Unit, read_abbrevs};
 use die_names::UnitRead;
 use die_walk::walk;
+use range_lists::laws::code_by_what_it_encloses;
 use range_lists::unit_base;
 use range_set::Enclosing;
 use std::alloc::Global;
@@ -33,6 +34,7 @@ pub fn read_unit<'a>(
         (λ fault. unit_says sections.now unit.now ≡ Err fault)
         (Prim.Unit {0}) }
 {
+    code_by_what_it_encloses();
     let abbrevs = match read_abbrevs(alloc, sections, unit) {
         Ok(abbrevs) => abbrevs,
         Err(stop) => return Err(stop),
