@@ -4,3 +4,5 @@ pub mod LineLemmas
 pub mod UnitLemmas
 pub mod PickLemmas
 pub mod JobLemmas
+pub mod Computing
+mod WorkedFaults

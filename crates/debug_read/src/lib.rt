@@ -10,6 +10,8 @@ mod picking;
 mod ranges;
 mod reading;
 mod sections;
+#[cfg(test)]
+mod tests;
 mod unit;
 mod units;
 
