@@ -30,7 +30,7 @@ header_passes : {A : Type 0} (section : Sect) (start : ℕ) (reading : Result (A
 header_passes section start (Ok x) least c goes = goes
 header_passes section start (Err fault) least c goes = tt
 
-length_passes : (c : Ahead) → Passes 4 c (length_at c)
+pub length_passes : (c : Ahead) → Passes 4 c (length_at c)
 unfolding length_at length_by
 length_passes c =
     passes_then (or_start is.Ends (fixed_at 4 c)) (λ first. length_by first.0 first.1) 4 0 c (start_passes is.Ends (fixed_at 4 c) 4 c (fixed_passes 4 c))

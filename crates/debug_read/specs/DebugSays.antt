@@ -1,5 +1,5 @@
 -- What the debugging information of a file says, or its first fault.
-use Rattle.std.specs.Prelude.{◌≡◌, List, [], ◌∷◌, Result, Ok, Err}
+use Rattle.std.specs.Prelude.{◌≡◌, List, Result, Ok, Err}
 use Rattle.sym_edges.specs.Addresses.{Range}
 use Rattle.sym_edges.specs.Results.{◌>>=◌}
 use Rattle.sym_edges.specs.declared.located.Located.{Located}
@@ -7,12 +7,11 @@ use Rattle.sym_edges.specs.declared.part.Sect.TheVariants.{EhFrame, DebugFrame}
 use Rattle.elf_sections.specs.Image.{ImageParts}
 use Rattle.abbrev_units.specs.declared.fault.DwarfKind.{DwarfKind}
 use Rattle.abbrev_units.specs.declared.unit.Unit.{Unit}
-use Rattle.abbrev_units.specs.declared.unit.UnitPart.{UnitPart}
-use Rattle.abbrev_units.specs.declared.unit.UnitPart.TheVariants.{Read, Passed, Skipped}
 use Rattle.abbrev_units.specs.Units.{units_in}
 use Rattle.frame_entries.specs.declared.description.Entry.{Entry}
 use Rattle.frame_entries.specs.declared.fault.FrameKind.{FrameKind}
 use Rattle.frame_entries.specs.FrameEntries.{frame_entries}
+use Rattle.die_names.specs.UnitPlaces.{read_units}
 use Rattle.debug_read.specs.declared.fault.DebugFault.{DebugFault}
 use Rattle.debug_read.specs.declared.fault.DebugFault.TheVariants.{Dwarf, Frame}
 use Rattle.debug_read.specs.declared.found.DebugRead.{DebugRead}
@@ -20,17 +19,6 @@ use Rattle.debug_read.specs.Each.{each_of, Match, Says}
 use Rattle.debug_read.specs.ImageSections.{sections_of}
 use Rattle.debug_read.specs.UnitSays.{UnitSays, unit_says}
 use Rattle.debug_read.specs.UnitsRead.{IsUnitRead}
-
--- a unit, where it is read, in front of others
-abbrev pub with_read : Unit → UnitPart → List Unit → List Unit
-with_read unit Read units = unit ∷ units
-with_read unit Passed units = units
-with_read unit Skipped units = units
-
--- the units that are read
-unfoldable pub read_units : List Unit → List Unit
-read_units [] = []
-read_units (unit ∷ units) = with_read unit unit.part (read_units units)
 
 -- the headers of all units, what the units that are read say, and the entries of `.eh_frame` and of `.debug_frame`
 pub record DebugSays : Type 0 where

@@ -1,5 +1,5 @@
 -- Lists, member by member.
-use Rattle.std.specs.Prelude.{ℕ, List, [], ◌∷◌, Result, Ok, Err}
+use Rattle.std.specs.Prelude.{List, [], ◌∷◌, Result, Ok, Err}
 use Rattle.sym_edges.specs.Results.{◌>>=◌}
 
 -- what each member gives, or the first fault

@@ -3,3 +3,5 @@ pub mod ImageSections
 pub mod UnitSays
 pub mod UnitsRead
 pub mod DebugSays
+pub mod Jobs
+pub mod Stops

@@ -1,5 +1,5 @@
 -- What a unit of `.debug_info` says: its entries, their addresses, and its line table; or its first fault.
-use Rattle.std.specs.Prelude.{ℕ, List, [], Option, None, Some, unwrap_or, Result, Ok, Err}
+use Rattle.std.specs.Prelude.{ℕ, List, [], Option, None, Some, unwrap_or, Result, Ok}
 use Rattle.sym_edges.specs.Addresses.{Range}
 use Rattle.sym_edges.specs.Results.{◌>>=◌}
 use Rattle.sym_edges.specs.declared.located.Located.{Located}

@@ -2,6 +2,7 @@
 use Rattle.std.specs.Prelude.{◌≡◌, ℕ, Bool, true, false, List, [], Option, None, Some}
 use Rattle.std.specs.List.{list_any}
 use Rattle.sym_edges.specs.Addresses.{Range}
+use Rattle.range_set.specs.Canonical.{IsCanonical}
 use Rattle.range_set.specs.Enclosing.{encloses}
 use Rattle.range_set.specs.Members.{holds_any}
 use Rattle.die_walk.specs.EntryTable.{DieFields}
@@ -14,8 +15,9 @@ use Rattle.debug_read.specs.Each.{Match}
 use Rattle.debug_read.specs.UnitSays.{UnitSays}
 
 -- a set has exactly the addresses that pairs give: those in a pair that is code
-abbrev pub IsSet : List Range → List Range → List Range → Type 0
-IsSet code pairs set = (a : ℕ) → holds_any set a ≡ in_pairs code pairs a
+pub record IsSet (code pairs set : List Range) : Type 0 where
+  pub canonical : IsCanonical set
+  pub each : (a : ℕ) → holds_any set a ≡ in_pairs code pairs a
 
 -- some entry is a function
 unfoldable pub has_function : List DieFields → Bool

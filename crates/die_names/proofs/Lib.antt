@@ -6,3 +6,7 @@ mod JoinLemmas
 mod TextLemmas
 pub mod Computing
 mod WorkedNames
+pub mod PlaceLemmas
+pub mod UnitLemmas
+pub mod ReadLemmas
+mod WorkedUnits

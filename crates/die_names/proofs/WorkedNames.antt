@@ -121,6 +121,14 @@ unclean : entry_name (scoped (Some (9 ∷ 32 ∷ [])) 0x13) 0 2 ≡ codes "C::? 
 unfolding die_names_computes scoped root unit die
 unclean = refl
 
+control_bytes : entry_name (scoped (Some (31 ∷ 65 ∷ 127 ∷ [])) 0x13) 0 2 ≡ codes "C::?A?"
+unfolding die_names_computes scoped root unit die
+control_bytes = refl
+
+leading_spaces : entry_name (linkage_behind (codes "  f g")) 0 1 ≡ codes "f g"
+unfolding die_names_computes linkage_behind root unit die
+leading_spaces = refl
+
 -- the entry that was asked for is none
 no_such_entry : entry_name method 0 9 ≡ codes "<name omitted>"
 unfolding die_names_computes method root unit die

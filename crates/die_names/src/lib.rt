@@ -1,4 +1,16 @@
 //! The units of a file together, and the names of their entries (DWARF 5, 2.15 and 3.3.8).
+//!
+//! [`Units`] are what was read of each unit, in the order of their places: its entries, the addresses of each, its line table.
+//! The way of an entry is itself and the entries that at most 16 links lead to, by DW_AT_abstract_origin or else by
+//! DW_AT_specification, into any unit. Its name is the first linkage name on the way, or else the first name, behind the names
+//! of the classes, structures, unions and namespaces around the entry that has it, joined by `::`; or else `<name omitted>`.
+//! [`name_of`] says which entry gives the name, and how; [`name_text`] makes the text, cleaned; [`name_slice`] gives the bytes
+//! of the file where the name stands there as it is. A link is looked up by halves, among the units and then in one.
+//!
+//! Here also stands which function owns an address, which inlined copies are on its chain, and which line it has
+//! (`specs/Owners.antt`), for the crates above.
+//!
+//! To read: `specs/UnitEntries.antt`, `Names.antt` and `Owners.antt`; then `unit_read`, `finding`, `naming` and `joining`.
 #![tactic(auto)]
 
 mod finding;

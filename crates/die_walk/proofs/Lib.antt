@@ -1,7 +1,7 @@
 mod PickLemmas
 mod StepLemmas
 mod TreeLemmas
-mod WalkLemmas
+pub mod WalkLemmas
 pub mod Computing
 mod WorkedEntries
 mod WorkedAttributes

@@ -1,0 +1,179 @@
+-- Entries stand in their units in rising order, and units one behind the other.
+use Rattle.std.proofs.Common.{◌≡◌, ◌<◌, ◌≤◌, ◌+◌, ◌-◌, ◌^◌, ℕ, zero, suc, Bool, true, false, nat_eq, nat_lt, cond, List, [], ◌∷◌, ◌++◌, map, length, take, drop, Option, None, Some, Result, Ok, Err, refl, sym, ap, subst, ◌∙◌, arith, length-drop, length-take-le, length-append}
+use Rattle.std.proofs.lemmas.Bool.{ltb-false}
+use Rattle.sym_edges.specs.Results.{◌>>=◌}
+use Rattle.sym_edges.specs.declared.located.Located.{Located}
+use Rattle.sym_edges.specs.declared.part.Sect.{Sect}
+use Rattle.sym_edges.specs.declared.part.Sect.TheVariants.{Info}
+use Rattle.leb_cursor.specs.declared.fault.CursorFault.{CursorFault}
+use Rattle.leb_cursor.specs.Ahead.{Ahead, passed}
+use Rattle.leb_cursor.specs.Passes.{Passes}
+use Rattle.leb_cursor.specs.Readings.{fixed_at, take_at, part_at, uleb_at}
+use Rattle.leb_cursor.specs.Lists.{list_by, list_in, list_at, GoesOn}
+use Rattle.leb_cursor.proofs.PassLemmas.{fixed_passes, take_passes}
+use Rattle.abbrev_units.specs.declared.abbrev.Abbrev.{Abbrev}
+use Rattle.abbrev_units.specs.declared.fault.DwarfKind.{DwarfKind}
+use Rattle.abbrev_units.specs.declared.value.Given.{Given}
+use Rattle.abbrev_units.specs.declared.unit.Unit.{Unit}
+use Rattle.abbrev_units.specs.DebugSections.{DebugSections}
+use Rattle.abbrev_units.specs.Abbreviations.{abbrev_of}
+use Rattle.abbrev_units.specs.Faults.{read_in}
+use Rattle.die_walk.specs.Marks.{Mark, read_values_at, entry_by, mark_by, mark_at, next_mark, marks_at}
+use Rattle.die_walk.specs.Marks.Mark.{Close, Entry}
+use Rattle.die_walk.specs.EntryTree.{Item, Kept, items_from, is_kept, kept_from, ancestor, rooted}
+use Rattle.die_walk.specs.EntryTable.{DieFields, EntryTable, base_of, die_of, root_of, table_by, table_of, entries_ahead, entry_table}
+use Rattle.die_walk.proofs.WalkLemmas.{next_goes}
+use Rattle.step_maps.specs.Stepping.{RisesFrom}
+use Rattle.die_names.specs.UnitPlaces.{RisesTo}
+
+-- what stands in a unit from a place on, entries in rising order
+abbrev MarksRise : ℕ → ℕ → List Mark → Type 0
+MarksRise low high [] = Prim.Unit {0}
+MarksRise low high (Close ∷ marks) = MarksRise low high marks
+MarksRise low high (Entry at tag children values ∷ marks) = (low ≤ at) × (at ≤ high) × MarksRise (at + 1) high marks
+
+marks_lower : (low other high : ℕ) (marks : List Mark) → low ≤ other → MarksRise other high marks → MarksRise low high marks
+marks_lower low other high [] below rise = tt
+marks_lower low other high (Close ∷ marks) below rise = marks_lower low other high marks below rise
+marks_lower low other high (Entry at tag children values ∷ marks) below rise =
+    let first : other ≤ at = rise.0 in
+    (omega arith, rise.1, rise.2)
+
+-- a mark of an entry has the entry's place
+abbrev IsMarkAt : ℕ → Mark → Type 0
+IsMarkAt place Close = Prim.Unit {0}
+IsMarkAt place (Entry at tag children values) = at ≡ place
+
+abbrev MarkedAt : {E : Type 0} → ℕ → Result (Mark × Ahead) E → Type 0
+MarkedAt place (Ok x) = IsMarkAt place x.0
+MarkedAt place (Err fault) = Prim.Unit {0}
+
+abbrev MemberAt : {E : Type 0} → ℕ → Result (Option Mark × Ahead) E → Type 0
+MemberAt place (Ok (None, d)) = Prim.Unit {0}
+MemberAt place (Ok (Some mark, d)) = IsMarkAt place mark
+MemberAt place (Err fault) = Prim.Unit {0}
+
+abbrev as_entry : ℕ → Abbrev → List Given × Ahead → Result (Mark × Ahead) (Located DwarfKind)
+as_entry at found values = Ok (Entry at found.tag found.children values.0, values.1)
+
+given_place : (at : ℕ) (found : Abbrev) (reading : Result (List Given × Ahead) (Located DwarfKind)) → MarkedAt at (reading >>= as_entry at found)
+given_place at found (Ok values) = refl
+given_place at found (Err fault) = tt
+
+entry_place : (found : Option Abbrev) (at : ℕ) (c : Ahead) → MarkedAt at (entry_by found at c)
+entry_place None at c = tt
+entry_place (Some found) at c = given_place at found (read_values_at found.specs c)
+
+coded_place : (abbrevs : List Abbrev) (at code : ℕ) (c : Ahead) (ends : Bool) → MarkedAt at (cond ends (Ok (Close, c)) (entry_by (abbrev_of code abbrevs) at c))
+coded_place abbrevs at code c true = tt
+coded_place abbrevs at code c false = entry_place (abbrev_of code abbrevs) at c
+
+read_place : (abbrevs : List Abbrev) (at : ℕ) (reading : Result (ℕ × Ahead) (Located DwarfKind)) → MarkedAt at (reading >>= λ code. mark_by abbrevs at code.0 code.1)
+unfolding mark_by
+read_place abbrevs at (Ok code) = coded_place abbrevs at code.0 code.1 (nat_eq code.0 0)
+read_place abbrevs at (Err fault) = tt
+
+member_place : (at : ℕ) (reading : Result (Mark × Ahead) (Located DwarfKind)) → MarkedAt at reading → MemberAt at (reading >>= λ mark. Ok (Some mark.0, mark.1))
+member_place at (Ok x) marked = marked
+member_place at (Err fault) marked = tt
+
+ended_place : (abbrevs : List Abbrev) (c : Ahead) (ended : Bool) → MemberAt c.at (cond ended (Ok (None, c)) (mark_at abbrevs c >>= λ mark. Ok (Some mark.0, mark.1)))
+unfolding mark_at
+ended_place abbrevs c true = tt
+ended_place abbrevs c false = member_place c.at (mark_at abbrevs c) (read_place abbrevs c.at (read_in Info (uleb_at c)))
+
+next_place : (abbrevs : List Abbrev) (c : Ahead) → MemberAt c.at (next_mark abbrevs c)
+unfolding next_mark
+next_place abbrevs c = ended_place abbrevs c (nat_eq (length c.bytes) 0)
+
+-- all that stands ahead
+abbrev end_of : Ahead → ℕ
+end_of c = c.at + length c.bytes
+
+abbrev ListRises : {E : Type 0} → ℕ → ℕ → Result (List Mark × Ahead) E → Type 0
+ListRises low high (Ok x) = MarksRise low high x.0
+ListRises low high (Err fault) = Prim.Unit {0}
+
+first_rises : {E : Type 0} (mark : Mark) (c d : Ahead) (later : Result (List Mark × Ahead) E) → IsMarkAt c.at mark → length d.bytes + 1 ≤ length c.bytes → end_of d ≡ end_of c → ListRises d.at (end_of d) later → ListRises c.at (end_of c) (later >>= λ rest. Ok (mark ∷ rest.0, rest.1))
+first_rises Close c d (Ok rest) place shorter same rises =
+    marks_lower c.at d.at (end_of c) rest.0 (omega (arith, shorter, same)) (subst (λ high. MarksRise d.at high rest.0) same rises)
+first_rises (Entry at tag children values) c d (Ok rest) place shorter same rises =
+    let here : at ≡ c.at = place in
+    (omega (arith, here), omega (arith, here), marks_lower (at + 1) d.at (end_of c) rest.0 (omega (arith, shorter, same, here)) (subst (λ high. MarksRise d.at high rest.0) same rises))
+first_rises mark c d (Err fault) place shorter same rises = tt
+
+list_rises : {E : Type 0} (first : Result (Option Mark × Ahead) E) (later : Ahead → Result (List Mark × Ahead) E) (c : Ahead) → GoesOn c first → MemberAt c.at first → ((d : Ahead) → ListRises d.at (end_of d) (later d)) → ListRises c.at (end_of c) (first >>= λ x. list_by x.0 x.1 (later x.1))
+list_rises (Ok (None, d)) later c goes place rises = tt
+list_rises (Ok (Some mark, d)) later c goes place rises = first_rises mark c d (later d) place goes.0 goes.1 (rises d)
+list_rises (Err fault) later c goes place rises = tt
+
+marks_rise_in : (abbrevs : List Abbrev) (n : ℕ) (c : Ahead) → ListRises c.at (end_of c) (list_in (next_mark abbrevs) n c)
+unfolding list_in
+marks_rise_in abbrevs zero c = tt
+marks_rise_in abbrevs (suc n) c =
+    list_rises (next_mark abbrevs c) (list_in (next_mark abbrevs) n) c (next_goes abbrevs c) (next_place abbrevs c) (λ d. marks_rise_in abbrevs n d)
+
+-- the entries among them
+abbrev ItemsRise : ℕ → ℕ → List Item → Type 0
+ItemsRise low high [] = Prim.Unit {0}
+ItemsRise low high (item ∷ items) = (low ≤ item.at) × (item.at ≤ high) × ItemsRise (item.at + 1) high items
+
+items_rise : (depth low high : ℕ) (marks : List Mark) → MarksRise low high marks → ItemsRise low high (items_from depth marks)
+unfolding items_from
+items_rise depth low high [] rise = tt
+items_rise depth low high (Close ∷ marks) rise = items_rise (depth - 1) low high marks rise
+items_rise depth low high (Entry at tag children values ∷ marks) rise =
+    (rise.0, rise.1, items_rise (cond children (depth + 1) depth) (at + 1) high marks rise.2)
+
+rooted_rise : (body high : ℕ) (items : List Item) → body ≤ high → ItemsRise body high items → ItemsRise body high (rooted body items)
+rooted_rise body high [] inside rise = (omega arith, inside, tt)
+rooted_rise body high (item ∷ items) inside rise = rise
+
+-- the kept ones among these
+pub rises_lower : (low other high : ℕ) (xs : List ℕ) → low ≤ other → RisesTo other high xs → RisesTo low high xs
+rises_lower low other high [] below rise = tt
+rises_lower low other high (x ∷ xs) below rise =
+    let first : other ≤ x = rise.0 in
+    (omega arith, rise.1, rise.2)
+
+abbrev kept_places : DebugSections → Unit → Option ℕ → List Kept → List ℕ
+kept_places sections unit base kepts = map (λ (d : DieFields). d.at) (map (die_of sections unit base) kepts)
+
+one_rises : (sections : DebugSections) (unit : Unit) (base : Option ℕ) (kept : Kept) (later : List Kept) (low high : ℕ) (keeps : Bool) → low ≤ kept.item.at → kept.item.at ≤ high → RisesTo (kept.item.at + 1) high (kept_places sections unit base later) → RisesTo low high (kept_places sections unit base (cond keeps (kept ∷ []) [] ++ later))
+unfolding die_of
+one_rises sections unit base kept later low high true above below rise = (above, below, rise)
+one_rises sections unit base kept later low high false above below rise =
+    rises_lower low (kept.item.at + 1) high (kept_places sections unit base later) (omega (arith, above)) rise
+
+kept_rise : (sections : DebugSections) (unit : Unit) (base : Option ℕ) (earlier items : List Item) (low high : ℕ) → ItemsRise low high items → RisesTo low high (kept_places sections unit base (kept_from earlier items))
+unfolding kept_from
+kept_rise sections unit base earlier [] low high rise = tt
+kept_rise sections unit base earlier (item ∷ items) low high rise =
+    one_rises sections unit base (record { item = item; parent = ancestor item.depth earlier }) (kept_from (item ∷ earlier) items) low high (is_kept item earlier) rise.0 rise.1
+    (kept_rise sections unit base (item ∷ earlier) items (item.at + 1) high rise.2)
+
+abbrev table_places : EntryTable → List ℕ
+table_places table = map (λ (d : DieFields). d.at) table.dies
+
+by_rises : (sections : DebugSections) (unit : Unit) (items : List Item) (low high : ℕ) → ItemsRise low high items → RisesTo low high (table_places (table_by sections unit items))
+by_rises sections unit [] low high rise = tt
+by_rises sections unit (first ∷ items) low high rise = kept_rise sections unit (base_of first.values) [] (first ∷ items) low high rise
+
+-- the kept entries of a unit rise from its body on, up to its end
+table_rises : (sections : DebugSections) (unit : Unit) (reading : Result (List Mark × Ahead) (Located DwarfKind)) (table : EntryTable) (high : ℕ) → unit.body ≤ high → ListRises unit.body high reading → ((reading >>= λ marks. Ok marks.0) >>= λ marks. Ok (table_of sections unit marks)) ≡ Ok table → RisesTo unit.body high (table_places table)
+unfolding table_of
+table_rises sections unit (Ok marks) table high inside rise is =
+    let same : table_by sections unit (rooted unit.body (items_from 0 marks.0)) ≡ table = cc in
+    subst (λ (t : EntryTable). RisesTo unit.body high (table_places t)) same
+    (by_rises sections unit (rooted unit.body (items_from 0 marks.0)) unit.body high
+    (rooted_rise unit.body high (items_from 0 marks.0) inside (items_rise 0 unit.body high marks.0 rise)))
+table_rises sections unit (Err fault) table high inside rise is = absurd (grind (arith, is))
+
+pub places_rise : (sections : DebugSections) (unit : Unit) (abbrevs : List Abbrev) (table : EntryTable) → unit.body ≤ unit.end → unit.end ≤ length sections.info → entry_table sections unit abbrevs ≡ Ok table → RisesTo unit.body unit.end (table_places table)
+unfolding entry_table marks_at list_at
+places_rise sections unit abbrevs table ordered inside is =
+    let c : Ahead = entries_ahead sections unit in
+    let all : length c.bytes ≡ unit.end - unit.body = length-drop unit.body (take unit.end sections.info) ∙ ap (λ n. n - unit.body) (length-take-le unit.end sections.info inside) in
+    let last : end_of c ≡ unit.end = omega (arith, all, ordered) in
+    table_rises sections unit (list_at (next_mark abbrevs) c) table unit.end ordered
+    (subst (λ high. ListRises unit.body high (list_at (next_mark abbrevs) c)) last (marks_rise_in abbrevs (suc (length c.bytes)) c)) is

@@ -1,0 +1,84 @@
+-- Worked rows: the names of entries, from the bytes of `.debug_info` and `.debug_abbrev`.
+use Rattle.std.proofs.Common.{◌≡◌, ℕ, List, [], ◌∷◌, map, codes, Result, Ok, Err, refl}
+use Prim.Native.String.{String}
+use Rattle.sym_edges.proofs.Hex.{hex}
+use Rattle.sym_edges.specs.Results.{◌>>=◌}
+use Rattle.sym_edges.specs.declared.located.Located.{Located}
+use Rattle.abbrev_units.specs.declared.fault.DwarfKind.{DwarfKind}
+use Rattle.abbrev_units.specs.declared.unit.Unit.{Unit}
+use Rattle.abbrev_units.specs.DebugSections.{DebugSections}
+use Rattle.abbrev_units.specs.Abbreviations.{abbrevs_of}
+use Rattle.abbrev_units.specs.Units.{units_in}
+use Rattle.die_walk.specs.EntryTable.{DieFields, EntryTable, entry_table}
+use Rattle.die_walk.proofs.Computing.{die_walk_computes}
+use Rattle.die_names.specs.declared.unit_read.UnitRead.{UnitRead}
+use Rattle.die_names.specs.Names.{entry_name}
+use Rattle.die_names.specs.UnitPlaces.{read_units}
+use Rattle.die_names.proofs.Computing.{die_names_computes}
+
+-- 1: a unit with children. 2: a subprogram by name. 3: one by DW_AT_abstract_origin, DW_FORM_ref_addr. 4: a variable by name.
+-- 5: a lexical block with children. 6: an enumeration with children, by name. 7: a class with children, by name. 8: a subprogram with
+-- DW_AT_MIPS_linkage_name. 9: one with DW_AT_MIPS_linkage_name and then DW_AT_linkage_name
+unfoldable sections : String → DebugSections
+unfolding hex
+sections info = record {
+  info = hex info;
+  abbrevs = hex "01 11 01 00 00 02 2e 00 03 08 00 00 03 2e 00 31 10 00 00 04 34 00 03 08 00 00 05 0b 01 00 00 06 04 01 03 08 00 00 07 02 01 03 08 00 00 08 2e 00 8740 08 00 00 09 2e 00 8740 08 6e 08 00 00 00";
+  line = [];
+  line_str = [];
+  strs = [];
+  str_offsets = [];
+  addr = [];
+  ranges = [];
+  rnglists = [];
+}
+
+unfoldable part : EntryTable → UnitRead
+part table = record {
+  die = table;
+  spans = map (λ (d : DieFields). []) table.dies;
+  lines = record { lines = record { stops = []; values = [] }; paths = []; first = 0; files = [] };
+}
+
+unfoldable parts : DebugSections → List Unit → Result (List UnitRead) (Located DwarfKind)
+parts s [] = Ok []
+parts s (unit ∷ units) =
+    abbrevs_of s unit >>= λ abbrevs. entry_table s unit abbrevs >>= λ table. parts s units >>= λ later. Ok (part table ∷ later)
+
+-- the name of an entry of a unit, by their numbers among those that are read and kept
+unfoldable name_in : String → ℕ → ℕ → Result (List ℕ) (Located DwarfKind)
+name_in info unit entry =
+    units_in (sections info).info >>= λ units. parts (sections info) (read_units units) >>= λ read. Ok (entry_name read unit entry)
+
+-- a subprogram `f` in a unit of version 4, to which one of the next unit is linked
+into_a_read_unit : name_in "0a000000 0400 00000000 08 02 6600 0c000000 0400 00000000 08 03 0b000000" 1 0 ≡ Ok (codes "f")
+unfolding die_walk_computes die_names_computes name_in parts part sections
+into_a_read_unit = refl
+
+-- the same in a unit of version 3, which is skipped
+into_a_skipped_unit : name_in "0a000000 0300 00000000 08 02 6600 0c000000 0400 00000000 08 03 0b000000" 0 0 ≡ Ok (codes "<name omitted>")
+unfolding die_walk_computes die_names_computes name_in parts part sections
+into_a_skipped_unit = refl
+
+-- the same in a type unit of version 5, which is passed
+into_a_passed_unit : name_in "17000000 0500 02 08 00000000 0102030405060708 18000000 02 6600 0c000000 0400 00000000 08 03 18000000" 0 0 ≡ Ok (codes "<name omitted>")
+unfolding die_walk_computes die_names_computes name_in parts part sections
+into_a_passed_unit = refl
+
+-- a variable is not kept
+to_a_variable : name_in "11000000 0400 00000000 08 01 04 7600 03 0c000000 00" 0 1 ≡ Ok (codes "<name omitted>")
+unfolding die_walk_computes die_names_computes name_in parts part sections
+to_a_variable = refl
+
+-- lexical blocks and enumerations around a function are no part of its name
+blocks_around : name_in "16000000 0400 00000000 08 01 07 4300 05 06 6500 02 6600 00 00 00 00" 0 2 ≡ Ok (codes "C::f")
+unfolding die_walk_computes die_names_computes name_in parts part sections
+blocks_around = refl
+
+mips_alone : name_in "0a000000 0400 00000000 08 08 6d00" 0 0 ≡ Ok (codes "m")
+unfolding die_walk_computes die_names_computes name_in parts part sections
+mips_alone = refl
+
+mips_beside : name_in "0c000000 0400 00000000 08 09 6d00 6c00" 0 0 ≡ Ok (codes "l")
+unfolding die_walk_computes die_names_computes name_in parts part sections
+mips_beside = refl

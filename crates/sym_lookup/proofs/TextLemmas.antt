@@ -1,0 +1,74 @@
+-- Look-ups in lists of records that stand one behind the other.
+use Rattle.std.proofs.Common.{◌≡◌, ℕ, zero, suc, ◌+◌, ◌-◌, ◌<◌, ◌≤◌, Bool, true, false, ◌&&◌, ◌==◌, nat_le, nat_lt, if◌then◌else◌, map, length, List, [], ◌∷◌, ◌++◌, Option, None, Some, arith, refl, sym, ap, ◌∙◌}
+use Rattle.std.proofs.lemmas.Bool.Decides.{nat_tests}
+use Rattle.std.specs.List.{find, slice_get}
+use Rattle.std.specs.Option.{option_map}
+use Rattle.sym_records.specs.declared.line.SymLine.{SymLine}
+use Rattle.sym_records.specs.declared.line.SymLine.TheVariants.{Module, Info, File, Origin, Func, Inline, Line, Public, Init, Change}
+use Rattle.sym_lookup.specs.TextNames.{is_within, under, Found, text_func, is_file, file_name, text_path}
+
+-- records that are no FUNC, and nothing that stands under one
+abbrev pub IsPlain : SymLine → Type 0
+IsPlain (Func many address size params name) = ⊥
+IsPlain (Inline level line file origin ranges) = ⊥
+IsPlain (Line address size line file) = ⊥
+IsPlain _ = Prim.Unit {0}
+
+abbrev pub ArePlain : List SymLine → Type 0
+ArePlain [] = Prim.Unit {0}
+ArePlain (s ∷ lines) = IsPlain s × ArePlain lines
+
+-- records that are no FILE
+abbrev pub IsNoFile : SymLine → Type 0
+IsNoFile (File number name) = ⊥
+IsNoFile _ = Prim.Unit {0}
+
+abbrev pub HaveNoFile : List SymLine → Type 0
+HaveNoFile [] = Prim.Unit {0}
+HaveNoFile (s ∷ lines) = IsNoFile s × HaveNoFile lines
+
+-- plain records in front are passed over
+pub func_behind : (front rest : List SymLine) (x : ℕ) → ArePlain front → text_func (front ++ rest) x ≡ text_func rest x
+func_behind [] rest x plain = refl
+func_behind (Module binary ∷ front) rest x plain = func_behind front rest x plain.1
+func_behind (Info text ∷ front) rest x plain = func_behind front rest x plain.1
+func_behind (File number name ∷ front) rest x plain = func_behind front rest x plain.1
+func_behind (Origin number name ∷ front) rest x plain = func_behind front rest x plain.1
+func_behind (Func many address size params name ∷ front) rest x plain = absurd plain.0
+func_behind (Inline level line file origin ranges ∷ front) rest x plain = absurd plain.0
+func_behind (Line address size line file ∷ front) rest x plain = absurd plain.0
+func_behind (Public many address params name ∷ front) rest x plain = func_behind front rest x plain.1
+func_behind (Init address size rules ∷ front) rest x plain = func_behind front rest x plain.1
+func_behind (Change address rules ∷ front) rest x plain = func_behind front rest x plain.1
+
+-- among plain records no function is found
+plain_alone : (lines : List SymLine) (x : ℕ) → ArePlain lines → text_func (lines ++ []) x ≡ None
+plain_alone lines x plain = func_behind lines [] x plain
+
+-- nothing stands under a FUNC that plain records follow
+pub none_under : (behind : List SymLine) → ArePlain behind → under behind ≡ []
+none_under [] plain = refl
+none_under (Module binary ∷ behind) plain = refl
+none_under (Info text ∷ behind) plain = refl
+none_under (File number name ∷ behind) plain = refl
+none_under (Origin number name ∷ behind) plain = refl
+none_under (Func many address size params name ∷ behind) plain = absurd plain.0
+none_under (Inline level line file origin ranges ∷ behind) plain = absurd plain.0
+none_under (Line address size line file ∷ behind) plain = absurd plain.0
+none_under (Public many address params name ∷ behind) plain = refl
+none_under (Init address size rules ∷ behind) plain = refl
+none_under (Change address rules ∷ behind) plain = refl
+
+-- other records in front of a FILE are passed over
+pub file_behind : (front rest : List SymLine) (n : ℕ) → HaveNoFile front → find (is_file n) (front ++ rest) ≡ find (is_file n) rest
+file_behind [] rest n none = refl
+file_behind (Module binary ∷ front) rest n none = file_behind front rest n none.1
+file_behind (Info text ∷ front) rest n none = file_behind front rest n none.1
+file_behind (File number name ∷ front) rest n none = absurd none.0
+file_behind (Origin number name ∷ front) rest n none = file_behind front rest n none.1
+file_behind (Func many address size params name ∷ front) rest n none = file_behind front rest n none.1
+file_behind (Inline level line file origin ranges ∷ front) rest n none = file_behind front rest n none.1
+file_behind (Line address size line file ∷ front) rest n none = file_behind front rest n none.1
+file_behind (Public many address params name ∷ front) rest n none = file_behind front rest n none.1
+file_behind (Init address size rules ∷ front) rest n none = file_behind front rest n none.1
+file_behind (Change address rules ∷ front) rest n none = file_behind front rest n none.1

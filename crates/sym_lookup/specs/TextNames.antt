@@ -1,0 +1,70 @@
+-- What a look-up in a symbol file names (Breakpad's symbol_files.md): the function and the line of an address.
+use Rattle.std.specs.Prelude.{ℕ, ◌+◌, Bool, false, ◌&&◌, ◌==◌, nat_le, nat_lt, if◌then◌else◌, List, [], ◌∷◌, Option, None, Some}
+use Rattle.std.specs.List.{find}
+use Rattle.std.specs.Option.{option_map, option_and_then}
+use Rattle.sym_records.specs.declared.line.SymLine.{SymLine}
+use Rattle.sym_records.specs.declared.line.SymLine.TheVariants.{File, Func, Inline, Line}
+
+-- whether the address is one of `size` addresses from a first one on
+abbrev pub is_within : ℕ → ℕ → ℕ → Bool
+is_within address size x = nat_le address x && nat_lt x (address + size)
+
+-- whether it is a FUNC that covers the address
+abbrev pub is_func_at : ℕ → SymLine → Bool
+is_func_at x (Func many address size params name) = is_within address size x
+is_func_at x _ = false
+
+-- whether it is a line record that covers the address
+abbrev pub is_line_at : ℕ → SymLine → Bool
+is_line_at x (Line address size line file) = is_within address size x
+is_line_at x _ = false
+
+-- the records directly under a FUNC: the INLINE and line records at the front of what stands behind it
+abbrev pub under : List SymLine → List SymLine
+under [] = []
+under (Inline level line file origin ranges ∷ lines) = Inline level line file origin ranges ∷ under lines
+under (Line address size line file ∷ lines) = Line address size line file ∷ under lines
+under (_ ∷ lines) = []
+
+-- a FUNC, and what stands behind it
+pub record Found : Type 0 where
+  pub func : SymLine
+  pub behind : List SymLine
+
+-- the first FUNC that covers the address
+abbrev pub text_func : List SymLine → ℕ → Option Found
+text_func [] x = None
+text_func (s ∷ lines) x = if is_func_at x s then Some (record { func = s; behind = lines }) else text_func lines x
+
+abbrev pub func_name : SymLine → List ℕ
+func_name (Func many address size params name) = name
+func_name _ = []
+
+-- the name of the first FUNC that covers the address
+unfoldable pub text_owner : List SymLine → ℕ → Option (List ℕ)
+text_owner lines x = option_map (λ f. func_name f.func) (text_func lines x)
+
+abbrev pub is_file : ℕ → SymLine → Bool
+is_file n (File number name) = number == n
+is_file n _ = false
+
+abbrev pub file_name : SymLine → List ℕ
+file_name (File number name) = name
+file_name _ = []
+
+-- the name of the first FILE of that number
+abbrev pub text_path : List SymLine → ℕ → Option (List ℕ)
+text_path lines n = option_map file_name (find (is_file n) lines)
+
+-- what a line record says: the path of its file, where that FILE is there, and the line
+abbrev pub path_and_line : List SymLine → SymLine → Option (List ℕ) × ℕ
+path_and_line lines (Line address size line file) = (text_path lines file, line)
+path_and_line lines _ = (None, 0)
+
+-- the first line record under a FUNC that covers the address
+abbrev pub line_under : ℕ → Found → Option SymLine
+line_under x f = find (is_line_at x) (under f.behind)
+
+-- path and line of the first line record that covers the address, under the first FUNC that does
+unfoldable pub text_line : List SymLine → ℕ → Option (Option (List ℕ) × ℕ)
+text_line lines x = option_map (path_and_line lines) (option_and_then (line_under x) (text_func lines x))
