@@ -7,6 +7,7 @@ use std::process::ExitCode;
 use std::rt::Env;
 use std::{env, io};
 use sym_edges::{FileStore, StreamSink};
+use unit_workers::NoGate;
 
 /// The status where memory ran out.
 const NO_MEMORY: u8 = 5;
@@ -34,6 +35,14 @@ fn main(rt: HostRuntime) -> ExitCode {
     let mut store = FileStore::new(rt.alloc(), &rt);
     let mut out = StreamSink::new(rt.stdout());
     let mut err = StreamSink::new(rt.stderr());
-    let status = run(rt.alloc(), &words, &mut store, &mut out, &mut err);
+    let status = run(
+        &rt,
+        rt.alloc(),
+        &words,
+        &mut store,
+        &mut out,
+        &mut err,
+        &NoGate,
+    );
     ExitCode::from(status)
 }

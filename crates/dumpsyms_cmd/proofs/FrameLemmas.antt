@@ -1,5 +1,5 @@
 -- The lines on standard error, and what the records of a file say of its frame entries.
-use Rattle.std.proofs.Common.{◌≡◌, ℕ, ◌+◌, ◌≤◌, cond, true, false, List, [], ◌∷◌, ◌++◌, map, length, take, Option, Some, None, Ok, refl, sym, ◌∙◌, ap, append_assoc, subst, count_by}
+use Rattle.std.proofs.Common.{◌≡◌, ℕ, ◌+◌, ◌≤◌, cond, true, false, List, [], ◌∷◌, ◌++◌, map, length, take, Option, Some, None, Result, Ok, Err, refl, sym, ◌∙◌, ap, append_assoc, subst, count_by}
 use Rattle.std.specs.List.{flat_map, fold, list_all}
 use Rattle.std.proofs.lemmas.Bool.{and_parts}
 use Rattle.std.proofs.lemmas.List.{take_all}
@@ -12,10 +12,13 @@ use Rattle.sym_records.specs.declared.line.SymLine.TheVariants.{Module, Info, Pu
 use Rattle.rule_postfix.specs.Written.{omitted, written, written_lines}
 use Rattle.rule_postfix.specs.Covering.{init_covers, inits_at, entries_at, AreDisjoint, AreNested}
 use Rattle.rule_postfix.specs.declared.omission.Omission.{Omission}
-use Rattle.dumpsyms_cmd.specs.declared.frames.FrameLists.{FrameLists}
+use Rattle.debug_read.specs.DebugSays.{DebugSays, debug_says, IsKept, IsDebugRead}
+use Rattle.debug_read.specs.Each.{Says}
+use Rattle.debug_read.specs.declared.fault.DebugFault.{DebugFault}
+use Rattle.debug_read.specs.declared.found.DebugRead.{DebugRead}
 use Rattle.dumpsyms_cmd.specs.Publics.{publics, public_at}
 use Rattle.dumpsyms_cmd.specs.Refusals.{line, omitted_line, omitted_text}
-use Rattle.dumpsyms_cmd.specs.Frames.{frames, written_of, is_plain}
+use Rattle.dumpsyms_cmd.specs.Frames.{written_of, is_plain}
 use Rattle.dumpsyms_cmd.specs.Dump.{module_line, info_line, info_lines, head_lines, dump_lines, is_unbuilt}
 use Rattle.sym_records.specs.Canon.{canon, canon_text}
 use Rattle.sym_records.specs.Reading.{reading}
@@ -86,13 +89,13 @@ nested_behind (Public many address params name ∷ front) rest plain nested = ne
 nested_behind (s ∷ front) rest plain nested = cc
 
 -- which addresses the records of written entries cover
-pub record CoversWritten (base : ℕ) (image : ImageParts) (found : FrameLists) : Type 0 where
+pub record CoversWritten (base : ℕ) (image : ImageParts) (found : DebugSays) : Type 0 where
   pub disjoint : AreDisjoint (written_of image found)
   pub at : (x : ℕ) → inits_at (written_lines base (written_of image found)) x ≡ entries_at (written_of image found) (x + base)
   pub nested : AreNested 0 0 (written_lines base (written_of image found))
 
 -- the records of a file say which written entry covers an address
-pub frames_dumped : (image : ImageParts) (name text : List ℕ) (found : FrameLists) (lines : List SymLine) → is_unbuilt image ≡ false → frames image ≡ Ok found → lines ≡ head_lines image name ++ written_lines image.base (written_of image found) → text ≡ omitted_text (omitted image.code found.first found.second) → CoversWritten image.base image found → reading (canon_text lines) ≡ Ok lines → DumpsParts image name lines text
+pub frames_dumped : (image : ImageParts) (name text : List ℕ) (found : DebugSays) (lines : List SymLine) → is_unbuilt image ≡ false → debug_says image ≡ Ok found → lines ≡ head_lines image name ++ written_lines image.base (written_of image found) → text ≡ omitted_text (omitted image.code found.first found.second) → CoversWritten image.base image found → reading (canon_text lines) ≡ Ok lines → DumpsParts image name lines text
 unfolding dump_lines
 frames_dumped image name text found lines built found_is are listed cover reads = record {
   found = found;
@@ -112,7 +115,7 @@ frames_dumped image name text found lines built found_is are listed cover reads 
 }
 
 -- the same, by what each call gave
-pub dumps_framed : (image : ImageParts) (name text : List ℕ) (found : FrameLists) (lines framed : List SymLine) (base : ℕ) (code : List Range) (omissions : List Omission) → is_unbuilt image ≡ false → frames image ≡ Ok found → base ≡ image.base → code ≡ image.code → framed ≡ written_lines base (written code found.first found.second) → ((x : ℕ) → inits_at framed x ≡ entries_at (written code found.first found.second) (x + base)) → AreNested 0 0 framed → AreDisjoint (written code found.first found.second) → omissions ≡ omitted code found.first found.second → lines ≡ head_lines image name ++ framed → reading (canon_text lines) ≡ Ok lines → text ≡ omitted_text omissions → DumpsParts image name lines text
+pub dumps_framed : (image : ImageParts) (name text : List ℕ) (found : DebugSays) (lines framed : List SymLine) (base : ℕ) (code : List Range) (omissions : List Omission) → is_unbuilt image ≡ false → debug_says image ≡ Ok found → base ≡ image.base → code ≡ image.code → framed ≡ written_lines base (written code found.first found.second) → ((x : ℕ) → inits_at framed x ≡ entries_at (written code found.first found.second) (x + base)) → AreNested 0 0 framed → AreDisjoint (written code found.first found.second) → omissions ≡ omitted code found.first found.second → lines ≡ head_lines image name ++ framed → reading (canon_text lines) ≡ Ok lines → text ≡ omitted_text omissions → DumpsParts image name lines text
 dumps_framed image name text found lines framed base code omissions built found_is low ranges framed_is cover nested apart left are reads listed =
     let all : framed ≡ written_lines image.base (written_of image found) =
     framed_is ∙ ap (λ b. written_lines b (written code found.first found.second)) low ∙ ap (λ k. written_lines image.base (written k found.first found.second)) ranges in
@@ -125,6 +128,30 @@ dumps_framed image name text found lines framed base code omissions built found_
       nested = subst (AreNested 0 0) all nested;
     })
     reads
+
+-- what a file says that was read
+pub record Kept (image : ImageParts) (read : DebugRead) : Type 0 where
+  pub says : DebugSays
+  pub says_is : debug_says image ≡ Ok says
+  pub first : read.first ≡ says.first
+  pub second : read.second ≡ says.second
+
+kept_by : (image : ImageParts) (read : DebugRead) (says : Result DebugSays DebugFault) → debug_says image ≡ says → Says (IsKept image.code) says read → Kept image read
+kept_by image read (Ok says) is kept = record { says = says; says_is = is; first = kept.first; second = kept.second }
+kept_by image read (Err fault) is kept = absurd kept
+
+pub kept : (image : ImageParts) (read : DebugRead) → IsDebugRead image read → Kept image read
+kept image read is = kept_by image read (debug_says image) refl is
+
+-- the records of a file by what was read of it
+pub dumps_read : (image : ImageParts) (name text : List ℕ) (read : DebugRead) (lines framed : List SymLine) (base : ℕ) (code : List Range) (omissions : List Omission) → is_unbuilt image ≡ false → IsDebugRead image read → base ≡ image.base → code ≡ image.code → framed ≡ written_lines base (written code read.first read.second) → ((x : ℕ) → inits_at framed x ≡ entries_at (written code read.first read.second) (x + base)) → AreNested 0 0 framed → AreDisjoint (written code read.first read.second) → omissions ≡ omitted code read.first read.second → lines ≡ head_lines image name ++ framed → reading (canon_text lines) ≡ Ok lines → text ≡ omitted_text omissions → DumpsParts image name lines text
+dumps_read image name text read lines framed base code omissions built is low ranges framed_is cover nested apart left are reads listed =
+    let k = kept image read is in
+    let same : written code read.first read.second ≡ written code k.says.first k.says.second =
+    ap (λ first. written code first read.second) k.first ∙ ap (written code k.says.first) k.second in
+    dumps_framed image name text k.says lines framed base code omissions built k.says_is low ranges
+    (framed_is ∙ ap (written_lines base) same) (λ x. cover x ∙ ap (λ l. entries_at l (x + base)) same) nested (subst AreDisjoint same apart)
+    (left ∙ ap (λ first. omitted code first read.second) k.first ∙ ap (omitted code k.says.first) k.second) are reads listed
 
 -- the text of a file: the records in front are spelled, and then those of frames
 whole_valid : (image : ImageParts) (name : List ℕ) (written : List SymLine) → first_bad (head_lines image name) ≡ None → first_bad_from 0 Inside written ≡ None → first_bad (head_lines image name ++ written) ≡ None

@@ -1,28 +1,29 @@
 -- Judgements, from the parts of an image up to the words.
-use Rattle.std.proofs.Common.{◌≡◌, inl, inr, ℕ, ◌≤◌, ◌<◌, true, false, List, [], Option, Some, None, IsSome, Ok, Err, Result, length, nat_lt, refl, sym, ◌∙◌, ap, arith, append-nil, subst}
+use Rattle.std.proofs.Common.{◌≡◌, inl, inr, ℕ, ◌≤◌, ◌<◌, true, false, List, [], Option, Some, None, IsSome, Ok, Err, Result, length, nat_lt, cond, refl, sym, ◌∙◌, ap, arith, append-nil, subst}
 use Rattle.std.proofs.lemmas.Bool.Decides.{nat_tests}
-use Rattle.sym_edges.specs.Outside.{Files, Tells, Rose}
+use Rattle.sym_edges.specs.Outside.{Files, Tells, Rose, MatchStop}
 use Rattle.sym_edges.specs.WholeFile.{AsksOnce, HoldsFile, IsWhole, IsLonger, ReadAll}
 use Rattle.sym_edges.specs.declared.fault.Stop.{Stop}
 use Rattle.sym_edges.specs.declared.fault.Stop.TheVariants.{Fault}
 use Rattle.sym_edges.specs.declared.fault.Stop.TheVariants as stop
 use Rattle.sym_edges.specs.declared.reading.ReadEnd.{ReadEnd}
 use Rattle.sym_edges.specs.declared.reading.ReadEnd.TheVariants.{CantOpen, CantRead, TooLong}
-use Rattle.sym_edges.specs.declared.located.Located.{Located}
 use Rattle.elf_sections.specs.Image.{ImageParts, image}
 use Rattle.elf_sections.specs.declared.fault.ElfFault.{ElfFault}
-use Rattle.frame_entries.specs.declared.fault.FrameKind.{FrameKind}
+use Rattle.debug_read.specs.DebugSays.{debug_says, IsDebugRead}
+use Rattle.debug_read.specs.declared.fault.DebugFault.{DebugFault}
+use Rattle.debug_read.specs.declared.found.DebugRead.{DebugRead}
 use Rattle.sym_records.specs.Canon.{canon_text}
 use Rattle.sym_records.specs.Reading.{reading}
 use Rattle.sym_records.specs.declared.line.SymLine.{SymLine}
 use Rattle.rule_postfix.specs.Written.{omitted}
 use Rattle.dumpsyms_cmd.specs.Dump.{is_unbuilt}
-use Rattle.dumpsyms_cmd.specs.Frames.{frames}
 use Rattle.dumpsyms_cmd.specs.Words.{Asked, dump, files_of, module_name}
-use Rattle.dumpsyms_cmd.specs.Refusals.{elf_line, frame_line, omitted_text, too_long_line, unbuilt_line, usage_line}
-use Rattle.dumpsyms_cmd.specs.Verdict.{Verdict, refused, usage, dump_verdict, command_verdict, frames_verdict, parts_verdict, image_verdict, file_verdict, LIMIT}
+use Rattle.dumpsyms_cmd.specs.Refusals.{elf_line, debug_line, omitted_text, too_long_line, unbuilt_line, usage_line}
+use Rattle.dumpsyms_cmd.specs.Verdict.{Verdict, refused, usage, dump_verdict, command_verdict, found_verdict, debug_verdict, parts_verdict, image_verdict, file_verdict, LIMIT}
 use Rattle.dumpsyms_cmd.specs.Observed.{Asks}
 use Rattle.dumpsyms_cmd.specs.Judged.{out_bytes, err_bytes, judgement_verdict, Refuses, RefusesOrGives, Judges, DumpsParts, JudgesParts, DumpsImage, JudgesBytes, DumpsFile, DumpPromises, IsUsage, IsJudged, AnswersCommand, AnswersStop}
+use Rattle.dumpsyms_cmd.proofs.FrameLemmas.{kept}
 use Rattle.dumpsyms_cmd.specs.declared.judgement.Output.{Output}
 use Rattle.dumpsyms_cmd.specs.declared.judgement.Output.TheVariants.{Nothing, Text, Bytes}
 use Rattle.dumpsyms_cmd.specs.declared.judgement.Judgement.{Judgement}
@@ -55,27 +56,36 @@ within : (name bytes : List ℕ) → length bytes ≤ LIMIT → dump_verdict LIM
 unfolding dump_verdict
 within name bytes few = let no : nat_lt LIMIT (length bytes) ≡ false = grind (arith, nat_tests) in rw no refl
 
--- debug entries are refused before anything is said of frames
-pub unbuilt_judged : (j : Judgement) (parts : ImageParts) (name text : List ℕ) → is_unbuilt parts ≡ true → text ≡ unbuilt_line → Refuses j text → JudgesParts j name parts
+-- debug entries are refused where there is no fault
+pub unbuilt_judged : (j : Judgement) (parts : ImageParts) (name text : List ℕ) (read : DebugRead) → IsDebugRead parts read → is_unbuilt parts ≡ true → text ≡ unbuilt_line → Refuses j text → JudgesParts j name parts
 unfolding parts_verdict
-unbuilt_judged j parts name text is line refuses =
-    refusing j text (λ err. parts_verdict parts name ≡ refused err) (DumpsParts parts name) refuses (rw is (ap refused (sym line)))
-
--- a section of frame entries is refused with its first fault
-pub frames_judged : (j : Judgement) (parts : ImageParts) (name text : List ℕ) (fault : Located FrameKind) → is_unbuilt parts ≡ false → frames parts ≡ Err fault → text ≡ frame_line fault → Refuses j text → JudgesParts j name parts
-unfolding parts_verdict
-frames_judged j parts name text fault built is line refuses =
+unbuilt_judged j parts name text read says is line refuses =
+    let k = kept parts read says in
     refusing j text (λ err. parts_verdict parts name ≡ refused err) (DumpsParts parts name) refuses
-    (rw built (ap (λ f. frames_verdict f parts name) is ∙ ap refused (sym line)))
+    (ap (λ f. debug_verdict f parts name) k.says_is ∙ ap (λ t. cond t (refused unbuilt_line) (found_verdict parts name k.says)) is ∙ ap refused (sym line))
 
--- the verdict of an image whose frame entries can be read
-frames_told : (parts : ImageParts) (name : List ℕ) (lines : List SymLine) (text : List ℕ) → DumpsParts parts name lines text → parts_verdict parts name ≡ record { status = 0; out = canon_text lines; err = text }
+-- a fault behind the image is refused with its line
+debug_judged : (j : Judgement) (parts : ImageParts) (name text : List ℕ) (fault : DebugFault) → debug_says parts ≡ Err fault → text ≡ debug_line fault → Refuses j text → JudgesParts j name parts
 unfolding parts_verdict
-frames_told parts name lines text dumps =
-    rw dumps.built
-    (ap (λ f. frames_verdict f parts name) dumps.found_is
+debug_judged j parts name text fault is line refuses =
+    refusing j text (λ err. parts_verdict parts name ≡ refused err) (DumpsParts parts name) refuses
+    (ap (λ f. debug_verdict f parts name) is ∙ ap refused (sym line))
+
+-- the same of a reading that ended with it
+pub stop_judged : {A : Type 0} (j : Judgement) (parts : ImageParts) (name text : List ℕ) (P : A → Type 0) (read : Result A (Stop DebugFault)) (end : Stop DebugFault) (fault : DebugFault) → MatchStop read P (λ f. debug_says parts ≡ Err f) (Unit {0}) → read ≡ Err end → end ≡ Fault fault → text ≡ debug_line fault → Refuses j text → JudgesParts j name parts
+stop_judged {A = A} j parts name text P read end fault says is ends line refuses =
+    let R : Result A (Stop DebugFault) → Type 0 = λ r. MatchStop r P (λ f. debug_says parts ≡ Err f) (Unit {0}) in
+    let S : Stop DebugFault → Type 0 = λ e. MatchStop {A = A} (Err e) P (λ f. debug_says parts ≡ Err f) (Unit {0}) in
+    debug_judged j parts name text fault (subst S ends (subst R is says)) line refuses
+
+-- the verdict of an image without faults and debug entries
+found_told : (parts : ImageParts) (name : List ℕ) (lines : List SymLine) (text : List ℕ) → DumpsParts parts name lines text → parts_verdict parts name ≡ record { status = 0; out = canon_text lines; err = text }
+unfolding parts_verdict
+found_told parts name lines text dumps =
+    ap (λ f. debug_verdict f parts name) dumps.found_is
+    ∙ ap (λ t. cond t (refused unbuilt_line) (found_verdict parts name dumps.found)) dumps.built
     ∙ ap (λ (l : List SymLine). (let v : Verdict = record { status = 0; out = canon_text l; err = omitted_text (omitted parts.code dumps.found.first dumps.found.second) } in v)) (sym dumps.lines_are)
-    ∙ ap (λ (t : List ℕ). (let v : Verdict = record { status = 0; out = canon_text lines; err = t } in v)) (sym dumps.text_is))
+    ∙ ap (λ (t : List ℕ). (let v : Verdict = record { status = 0; out = canon_text lines; err = t } in v)) (sym dumps.text_is)
 
 -- a judgement on the parts of an image is one on the bytes
 pub parts_judged : (j : Judgement) (name bytes : List ℕ) (parts : ImageParts) → length bytes ≤ LIMIT → image bytes ≡ Ok parts → JudgesParts j name parts → JudgesBytes j name bytes
@@ -94,11 +104,11 @@ fault_judged j name bytes text fault few is line refuses =
     (within name bytes few ∙ ap (λ i. image_verdict i name) is ∙ ap refused (sym line))
 
 -- the verdict of a file that was dumped
-dumped_verdict : (elf : List ℕ) (files : Files) (lines : List SymLine) (text : List ℕ) → DumpsFile elf files lines text → command_verdict (Some (dump elf)) files ≡ record { status = 0; out = canon_text lines; err = text }
+dumped_verdict : (elf : List ℕ) (files : Files) (lines : List SymLine) (text : List ℕ) → DumpsFile elf files lines text → file_verdict elf (files elf) ≡ record { status = 0; out = canon_text lines; err = text }
 dumped_verdict elf files lines text dumps =
     ap (file_verdict elf) dumps.there ∙ within (module_name elf) dumps.file dumps.few
     ∙ ap (λ i. image_verdict i (module_name elf)) dumps.dumps.image_is
-    ∙ frames_told dumps.dumps.parts (module_name elf) lines text dumps.dumps.dumps
+    ∙ found_told dumps.dumps.parts (module_name elf) lines text dumps.dumps.dumps
 
 -- what the promise of a dump says of its status, and that it is the verdict
 promised_low : (o : Output) (status : ℕ) (err : List ℕ) (P : List ℕ → Type 0) (Q : List SymLine → List ℕ → Type 0) → RefusesOrGives o status err P Q → status < 2
@@ -106,19 +116,19 @@ promised_low Nothing status err P Q says = let is = says.0 in omega arith
 promised_low (Text lines) status err P Q says = let is = says.0 in omega arith
 promised_low (Bytes text) status err P Q says = absurd says
 
-promised_told : (o : Output) (status : ℕ) (err elf : List ℕ) (files : Option Files) → RefusesOrGives o status err (λ e. Tells files (λ f. command_verdict (Some (dump elf)) f ≡ refused e)) (λ lines e. (reading (canon_text lines) ≡ Ok lines) × Tells files (λ f. DumpsFile elf f lines e)) →
-    Tells files (λ f. command_verdict (Some (dump elf)) f ≡ record { status = status; out = out_bytes o; err = err })
+promised_told : (o : Output) (status : ℕ) (err elf : List ℕ) (files : Option Files) → RefusesOrGives o status err (λ e. Tells files (λ f. file_verdict elf (f elf) ≡ refused e)) (λ lines e. (reading (canon_text lines) ≡ Ok lines) × Tells files (λ f. DumpsFile elf f lines e)) →
+    Tells files (λ f. file_verdict elf (f elf) ≡ record { status = status; out = out_bytes o; err = err })
 promised_told Nothing status err elf files says =
-    told (λ f. command_verdict (Some (dump elf)) f ≡ refused err) (λ f. command_verdict (Some (dump elf)) f ≡ record { status = status; out = out_bytes Nothing; err = err }) files
+    told (λ f. file_verdict elf (f elf) ≡ refused err) (λ f. file_verdict elf (f elf) ≡ record { status = status; out = out_bytes Nothing; err = err }) files
     (λ f same. same ∙ ap (λ (n : ℕ). (let v : Verdict = record { status = n; out = out_bytes Nothing; err = err } in v)) (sym says.0)) says.1
 promised_told (Text lines) status err elf files says =
-    told (λ f. DumpsFile elf f lines err) (λ f. command_verdict (Some (dump elf)) f ≡ record { status = status; out = out_bytes (Text lines); err = err }) files
+    told (λ f. DumpsFile elf f lines err) (λ f. file_verdict elf (f elf) ≡ record { status = status; out = out_bytes (Text lines); err = err }) files
     (λ f dumps. dumped_verdict elf f lines err dumps ∙ ap (λ (n : ℕ). (let v : Verdict = record { status = n; out = out_bytes (Text lines); err = err } in v)) (sym says.0)) says.1.1
 promised_told (Bytes text) status err elf files says = absurd says
 
-dump_judged : (j : Judgement) (elf : List ℕ) (files : Option Files) → DumpPromises elf files j → IsJudged j (Some (dump elf)) files
-dump_judged j elf files kept =
-    let low : j.status < 2 = promised_low j.out j.status (err_bytes j.err) (λ e. Tells files (λ f. command_verdict (Some (dump elf)) f ≡ refused e)) (λ lines e. (reading (canon_text lines) ≡ Ok lines) × Tells files (λ f. DumpsFile elf f lines e)) kept in
+dump_judged : (j : Judgement) (elf : List ℕ) (workers : ℕ) (files : Option Files) → DumpPromises elf files j → IsJudged j (Some (dump elf workers)) files
+dump_judged j elf workers files kept =
+    let low : j.status < 2 = promised_low j.out j.status (err_bytes j.err) (λ e. Tells files (λ f. file_verdict elf (f elf) ≡ refused e)) (λ lines e. (reading (canon_text lines) ≡ Ok lines) × Tells files (λ f. DumpsFile elf f lines e)) kept in
     record {
       low = omega arith;
       row = λ some. low;
@@ -127,7 +137,7 @@ dump_judged j elf files kept =
     }
 
 -- a judgement on the bytes of the file is one on the command
-refusal_told : (files : Option Files) (elf bytes err : List ℕ) → HoldsFile files elf (λ whole. IsWhole whole bytes LIMIT) → dump_verdict LIMIT (module_name elf) bytes ≡ refused err → Tells files (λ f. command_verdict (Some (dump elf)) f ≡ refused err)
+refusal_told : (files : Option Files) (elf bytes err : List ℕ) → HoldsFile files elf (λ whole. IsWhole whole bytes LIMIT) → dump_verdict LIMIT (module_name elf) bytes ≡ refused err → Tells files (λ f. file_verdict elf (f elf) ≡ refused err)
 refusal_told None elf bytes err holds same = tt
 refusal_told (Some files) elf bytes err holds same = ap (file_verdict elf) holds.1 ∙ ap (dump_verdict LIMIT (module_name elf)) holds.2.0 ∙ same
 
@@ -135,24 +145,24 @@ dumping_told : (files : Option Files) (elf bytes : List ℕ) (lines : List SymLi
 dumping_told None elf bytes lines err holds dumps = tt
 dumping_told (Some files) elf bytes lines err holds dumps = record { file = bytes; there = holds.1 ∙ ap Some holds.2.0; few = holds.2.1; dumps = dumps }
 
-bytes_judged : (j : Judgement) (files : Option Files) (elf bytes : List ℕ) → HoldsFile files elf (λ whole. IsWhole whole bytes LIMIT) → JudgesBytes j (module_name elf) bytes → IsJudged j (Some (dump elf)) files
-bytes_judged j files elf bytes holds says =
-    dump_judged j elf files (
+bytes_judged : (j : Judgement) (files : Option Files) (elf : List ℕ) (workers : ℕ) (bytes : List ℕ) → HoldsFile files elf (λ whole. IsWhole whole bytes LIMIT) → JudgesBytes j (module_name elf) bytes → IsJudged j (Some (dump elf workers)) files
+bytes_judged j files elf workers bytes holds says =
+    dump_judged j elf workers files (
     judging j.out j.status (err_bytes j.err)
-    (λ err. dump_verdict LIMIT (module_name elf) bytes ≡ refused err) (λ e. Tells files (λ f. command_verdict (Some (dump elf)) f ≡ refused e))
+    (λ err. dump_verdict LIMIT (module_name elf) bytes ≡ refused err) (λ e. Tells files (λ f. file_verdict elf (f elf) ≡ refused e))
     (DumpsImage bytes (module_name elf)) (λ lines e. (reading (canon_text lines) ≡ Ok lines) × Tells files (λ f. DumpsFile elf f lines e))
     (λ err same. refusal_told files elf bytes err holds same)
     (λ lines err dumps. (dumps.dumps.reads, dumping_told files elf bytes lines err holds dumps))
     says)
 
-pub bytes_command : (j : Judgement) (files : Option Files) (elf bytes name held : List ℕ) → HoldsFile files elf (λ whole. IsWhole whole bytes LIMIT) → name ≡ module_name elf → held ≡ bytes → JudgesBytes j name held → IsJudged j (Some (dump elf)) files
-bytes_command j files elf bytes name held holds named same says =
+pub bytes_command : (j : Judgement) (files : Option Files) (elf : List ℕ) (workers : ℕ) (bytes name held : List ℕ) → HoldsFile files elf (λ whole. IsWhole whole bytes LIMIT) → name ≡ module_name elf → held ≡ bytes → JudgesBytes j name held → IsJudged j (Some (dump elf workers)) files
+bytes_command j files elf workers bytes name held holds named same says =
     let P : List ℕ → Type 0 = λ n. JudgesBytes j n held in
     let Q : List ℕ → Type 0 = λ b. JudgesBytes j (module_name elf) b in
-    bytes_judged j files elf bytes holds (subst Q same (subst P named says))
+    bytes_judged j files elf workers bytes holds (subst Q same (subst P named says))
 
 -- a file that is longer is refused for it
-longer : (files : Option Files) (elf text : List ℕ) → HoldsFile files elf (λ whole. IsLonger whole LIMIT) → text ≡ too_long_line → Tells files (λ f. command_verdict (Some (dump elf)) f ≡ refused text)
+longer : (files : Option Files) (elf text : List ℕ) → HoldsFile files elf (λ whole. IsLonger whole LIMIT) → text ≡ too_long_line → Tells files (λ f. file_verdict elf (f elf) ≡ refused text)
 unfolding dump_verdict
 longer None elf text holds is = tt
 longer (Some files) elf text holds is =
@@ -162,23 +172,23 @@ longer (Some files) elf text holds is =
 pub too_long_judged : (j : Judgement) (text : List ℕ) → text ≡ too_long_line → Refuses j text → AnswersStop (Judged j) (Fault TooLong)
 too_long_judged j text is refuses = refusing j text (λ err. err ≡ too_long_line) (λ lines err. ⊥) refuses is
 
-pub stop_command : (answer : Answer) (end : Stop ReadEnd) (files : Option Files) (elf : List ℕ) (left left_after : Option (List ℕ)) (before after : ℕ) → ReadAll (Err end) files elf LIMIT left left_after before after → AnswersStop answer end → AnswersCommand answer (Some (dump elf)) files before after
-stop_command (Judged j) (Fault CantOpen) files elf left left_after before after read says = absurd says
-stop_command (Judged j) (Fault CantRead) files elf left left_after before after read says = absurd says
-stop_command (Judged j) (Fault TooLong) files elf left left_after before after read says =
-    dump_judged j elf files (
+pub stop_command : (answer : Answer) (end : Stop ReadEnd) (files : Option Files) (elf : List ℕ) (workers : ℕ) (left left_after : Option (List ℕ)) (before after : ℕ) → ReadAll (Err end) files elf LIMIT left left_after before after → AnswersStop answer end → AnswersCommand answer (Some (dump elf workers)) files before after
+stop_command (Judged j) (Fault CantOpen) files elf workers left left_after before after read says = absurd says
+stop_command (Judged j) (Fault CantRead) files elf workers left left_after before after read says = absurd says
+stop_command (Judged j) (Fault TooLong) files elf workers left left_after before after read says =
+    dump_judged j elf workers files (
     judging j.out j.status (err_bytes j.err)
-    (λ err. err ≡ too_long_line) (λ e. Tells files (λ f. command_verdict (Some (dump elf)) f ≡ refused e))
+    (λ err. err ≡ too_long_line) (λ e. Tells files (λ f. file_verdict elf (f elf) ≡ refused e))
     (λ lines err. ⊥) (λ lines e. (reading (canon_text lines) ≡ Ok lines) × Tells files (λ f. DumpsFile elf f lines e))
     (λ err is. longer files elf err read is)
     (λ lines err no. absurd no)
     says)
-stop_command (Judged j) stop.NoMemory files elf left left_after before after read says = absurd says
-stop_command Unread (Fault CantOpen) files elf left left_after before after read says = (refl, read.0)
-stop_command Unread (Fault CantRead) files elf left left_after before after read says = (refl, read.0)
-stop_command Unread (Fault TooLong) files elf left left_after before after read says = absurd says
-stop_command Unread stop.NoMemory files elf left left_after before after read says = absurd says
-stop_command NoMemory end files elf left left_after before after read says = refl
+stop_command (Judged j) stop.NoMemory files elf workers left left_after before after read says = absurd says
+stop_command Unread (Fault CantOpen) files elf workers left left_after before after read says = (refl, read.0)
+stop_command Unread (Fault CantRead) files elf workers left left_after before after read says = (refl, read.0)
+stop_command Unread (Fault TooLong) files elf workers left left_after before after read says = absurd says
+stop_command Unread stop.NoMemory files elf workers left left_after before after read says = absurd says
+stop_command NoMemory end files elf workers left left_after before after read says = refl
 
 -- the usage line
 none_some : (o : Option Asked) → o ≡ None → IsSome o → ⊥
@@ -199,11 +209,11 @@ usage_judged j files before after is =
     }
 
 -- the names asked for by a reading of the row's one file
-pub asks_one : (read : Result (List ℕ) (Stop ReadEnd)) (elf : List ℕ) (files : Option Files) (before after : List (List ℕ)) → AsksOnce read before elf after → Asks (files_of (Some (dump elf)) files) before after
-asks_one (Ok bytes) elf files before after asked = (1, omega arith, asked)
-asks_one (Err (Fault end)) elf files before after asked = (1, omega arith, asked)
-asks_one (Err stop.NoMemory) elf files before after (inl asked) = (1, omega arith, asked)
-asks_one (Err stop.NoMemory) elf files before after (inr same) = (0, omega arith, same ∙ sym (append-nil before))
+pub asks_one : (read : Result (List ℕ) (Stop ReadEnd)) (elf : List ℕ) (workers : ℕ) (files : Option Files) (before after : List (List ℕ)) → AsksOnce read before elf after → Asks (files_of (Some (dump elf workers)) files) before after
+asks_one (Ok bytes) elf workers files before after asked = (1, omega arith, asked)
+asks_one (Err (Fault end)) elf workers files before after asked = (1, omega arith, asked)
+asks_one (Err stop.NoMemory) elf workers files before after (inl asked) = (1, omega arith, asked)
+asks_one (Err stop.NoMemory) elf workers files before after (inr same) = (0, omega arith, same ∙ sym (append-nil before))
 
 pub asks_none : (files : Option Files) (before after : List (List ℕ)) → after ≡ before → Asks (files_of None files) before after
 asks_none files before after same = (0, omega arith, same ∙ sym (append-nil before))

@@ -1,8 +1,18 @@
-use Rattle.std.proofs.Common.{◌≡◌, ℕ, ◌+◌, ◌-◌, ◌==◌, Bool, true, false, not, List, Some, None, length, drop, get_or, refl, ◌∙◌, ap, arith}
+use Rattle.std.proofs.Common.{◌≡◌, ℕ, ◌+◌, ◌-◌, ◌*◌, ◌^◌, ◌<◌, ◌≤◌, ◌==◌, ◌&&◌, Bool, true, false, not, cond, nat_le, List, [], ◌∷◌, Option, Some, None, codes, length, drop, get_or, refl, sym, ◌∙◌, ap, arith, subst}
+use Rattle.std.proofs.lemmas.Bool.Decides.{nat_tests}
+use Rattle.std.specs.Char.{digit_value}
+use Rattle.std.specs.List.{list_all}
+use Rattle.std.specs.Option.{option_map}
+use Rattle.std.specs.Str.{bytes_eq}
+use Rattle.std.specs.Str.Parse.{AllDigits, IsNumeral, digits_value, digits_value_after, without_leading_plus}
+use Rattle.sym_rules.specs.RuleReading.{is_digit}
+use Rattle.std.proofs.lemmas.Str.{digit_value_digit}
+use Rattle.std.proofs.lemmas.Str.Parse.{digit_from_value}
+use Rattle.sym_rules.proofs.BoolLemmas.{both, and_true, if_both}
 use Rattle.std.proofs.lemmas.List.Sums.{suffix_len_is}
 use Rattle.memchr.specs.Find.{IsLastByte, is_byte}
 use Rattle.std.specs.List.{suffix_len}
-use Rattle.dumpsyms_cmd.specs.Words.{is_slash, module_name}
+use Rattle.dumpsyms_cmd.specs.Words.{Asked, dump, is_number, number_upto, two_words, four_words, command_of, HasWorkers, is_slash, module_name}
 
 passes_not : (t : Bool) → ((t ≡ true) → ⊥) → not t ≡ true
 passes_not t never = elim t as (λ v. ((v ≡ true) → ⊥) → not v ≡ true) [ true ↦ λ h. absurd (h refl) | false ↦ λ h. refl ] never
@@ -25,3 +35,122 @@ no_slash path none =
     (λ k low below. passes_not (get_or path k 0 == 47) (none k low below)) (λ some. absurd (omega arith)) in
     let cut : length path - suffix_len (λ x. not (is_slash x)) path ≡ 0 = omega (arith, tail) in
     ap (λ n. drop n path) cut
+
+-- digits, as they are tested and as std says it
+value_is : (d : ℕ) → digit_value d < 10 → is_digit d ≡ true
+value_is d below = grind (arith, nat_tests)
+
+is_value : (d : ℕ) → is_digit d ≡ true → digit_value d < 10
+is_value d is = grind (arith, nat_tests)
+
+all_are : (ds : List ℕ) → AllDigits 10 ds → list_all is_digit ds ≡ true
+all_are [] all = refl
+all_are (d ∷ ds) all = both (value_is d all.0) (all_are ds all.1)
+
+are_all : (ds : List ℕ) → list_all is_digit ds ≡ true → AllDigits 10 ds
+are_all [] all = tt
+are_all (d ∷ ds) all = let parts = and_true {a = is_digit d} all in (is_value d parts.0, are_all ds parts.1)
+
+-- a word whose first byte is no plus
+no_plus : (word : List ℕ) → 49 ≤ get_or word 0 0 → without_leading_plus word ≡ word
+no_plus word low =
+    let no : (get_or word 0 0 == 43) ≡ false = grind (arith, nat_tests) in
+    ap (λ t. drop (cond t 1 0) word) no
+
+-- a word of digits, the first of them above 0, is a number
+is_number_by : (word : List ℕ) → 49 ≤ get_or word 0 0 → AllDigits 10 word → is_number word ≡ true
+is_number_by [] low all = absurd (omega arith)
+is_number_by (d ∷ ds) low all =
+    let no : (d == 48) ≡ false = grind (arith, nat_tests) in
+    both (ap not no) (all_are (d ∷ ds) all)
+
+number_digits : (word : List ℕ) → is_number word ≡ true → IsNumeral 10 word
+number_digits [] is = cc
+number_digits (d ∷ ds) is = (omega arith, are_all (d ∷ ds) (and_true {a = not (d == 48)} is).1)
+
+chosen : (t : Bool) (n : ℕ) → (t ≡ true → ⊥) → None ≡ cond t (Some n) None
+chosen true n never = absurd (never refl)
+chosen false n never = refl
+
+-- a number that is read, at most `most` or not
+pub number_fits : (most n : ℕ) (word : List ℕ) → 49 ≤ get_or word 0 0 → IsNumeral 10 (without_leading_plus word) × (digits_value 10 (without_leading_plus word) < 2 ^ 64) → n ≡ digits_value 10 (without_leading_plus word) → n ≤ most → Some n ≡ number_upto most word
+unfolding number_upto
+number_fits most n word low numeral is few =
+    let same = no_plus word low in
+    let P : List ℕ → Type 0 = λ w. AllDigits 10 w in
+    let value : n ≡ digits_value 10 word = is ∙ ap (digits_value 10) same in
+    let le : nat_le (digits_value 10 word) most ≡ true = grind (arith, nat_tests) in
+    ap Some value ∙ sym (ap (λ t. cond t (Some (digits_value 10 word)) None) (both (is_number_by word low (subst P same numeral.0.1)) le))
+
+pub number_passes : (most n : ℕ) (word : List ℕ) → 49 ≤ get_or word 0 0 → n ≡ digits_value 10 (without_leading_plus word) → most < n → None ≡ number_upto most word
+unfolding number_upto
+number_passes most n word low is more =
+    let value : n ≡ digits_value 10 word = is ∙ ap (digits_value 10) (no_plus word low) in
+    chosen (is_number word && nat_le (digits_value 10 word) most) (digits_value 10 word) (λ t.
+    let le = (and_true {a = is_number word} t).1 in
+    let few : digits_value 10 word ≤ most = grind (arith, nat_tests) in omega arith)
+
+pub number_fails : (most : ℕ) (word : List ℕ) → most < 2 ^ 64 → 49 ≤ get_or word 0 0 → (IsNumeral 10 (without_leading_plus word) × (digits_value 10 (without_leading_plus word) < 2 ^ 64) → ⊥) → None ≡ number_upto most word
+unfolding number_upto
+number_fails most word wide low bad =
+    let Q : List ℕ → Type 0 = λ w. IsNumeral 10 w × (digits_value 10 w < 2 ^ 64) → ⊥ in
+    let never = subst Q (no_plus word low) bad in
+    chosen (is_number word && nat_le (digits_value 10 word) most) (digits_value 10 word) (λ t.
+    let parts = and_true {a = is_number word} t in
+    let le = parts.1 in
+    let few : digits_value 10 word ≤ most = grind (arith, nat_tests) in
+    never (number_digits word parts.0, omega arith))
+
+-- a number begins with 1 to 9
+first_range : (word : List ℕ) → is_number word ≡ true → (49 ≤ get_or word 0 0) × (get_or word 0 0 ≤ 57)
+first_range [] is = cc
+first_range (d ∷ ds) is =
+    let parts = and_true {a = not (d == 48)} is in
+    let range = digit_from_value d (is_value d (and_true {a = is_digit d} parts.1).0) in
+    let other = parts.0 in
+    let low : 48 ≤ d = range.0 in
+    let above : 49 ≤ d = grind (arith, nat_tests) in
+    (above, range.1)
+
+pub number_other : (most : ℕ) (word : List ℕ) → ((49 ≤ get_or word 0 0) × (get_or word 0 0 ≤ 57) → ⊥) → None ≡ number_upto most word
+unfolding number_upto
+number_other most word other =
+    chosen (is_number word && nat_le (digits_value 10 word) most) (digits_value 10 word) (λ t. other (first_range word (and_true {a = is_number word} t).0))
+
+-- digits that follow a number make it no smaller
+after_le : (n : ℕ) (ds : List ℕ) → n ≤ digits_value_after 10 n ds
+after_le n [] = omega arith
+after_le n (d ∷ ds) = omega (arith, after_le (n * 10 + digit_value d) ds)
+
+positive : (word : List ℕ) → is_number word ≡ true → 1 ≤ digits_value 10 word
+positive [] is = cc
+positive (d ∷ ds) is =
+    let range = first_range (d ∷ ds) is in
+    omega (arith, range.0, range.1, digit_value_digit d (omega arith, range.1), after_le (0 * 10 + digit_value d) ds)
+
+-- a row has from one to 64 workers
+workers_by : (t : Bool) (elf : List ℕ) (n : ℕ) → (t ≡ true → (1 ≤ n) × (n ≤ 64)) → HasWorkers (option_map (dump elf) (cond t (Some n) None))
+workers_by true elf n has = has refl
+workers_by false elf n has = tt
+
+number_workers : (elf word : List ℕ) → HasWorkers (option_map (dump elf) (number_upto 64 word))
+unfolding number_upto
+number_workers elf word =
+    workers_by (is_number word && nat_le (digits_value 10 word) 64) elf (digits_value 10 word) (λ t.
+    let parts = and_true {a = is_number word} t in
+    let le = parts.1 in
+    let few : digits_value 10 word ≤ 64 = grind (arith, nat_tests) in
+    (positive word parts.0, few))
+
+two_workers : (word elf : List ℕ) → HasWorkers (two_words word elf)
+two_workers word elf = if_both HasWorkers (bytes_eq word (codes "dump")) (Some (dump elf 4)) None (omega arith, omega arith) tt
+
+four_workers : (word elf option number : List ℕ) → HasWorkers (four_words word elf option number)
+four_workers word elf option number =
+    if_both HasWorkers (bytes_eq word (codes "dump") && bytes_eq option (codes "--workers")) (option_map (dump elf) (number_upto 64 number)) None (number_workers elf number) tt
+
+pub two_few : (view : Option Asked) (word elf : List ℕ) → view ≡ two_words word elf → HasWorkers view
+two_few view word elf is = subst HasWorkers (sym is) (two_workers word elf)
+
+pub four_few : (view : Option Asked) (word elf option number : List ℕ) → view ≡ four_words word elf option number → HasWorkers view
+four_few view word elf option number is = subst HasWorkers (sym is) (four_workers word elf option number)

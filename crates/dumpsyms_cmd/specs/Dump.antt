@@ -6,7 +6,7 @@ use Rattle.sym_records.specs.Cleaning.{cleaned}
 use Rattle.sym_records.specs.declared.line.SymLine.{SymLine}
 use Rattle.sym_records.specs.declared.line.SymLine.TheVariants.{Module, Info}
 use Rattle.rule_postfix.specs.Written.{written_lines}
-use Rattle.dumpsyms_cmd.specs.declared.frames.FrameLists.{FrameLists}
+use Rattle.debug_read.specs.DebugSays.{DebugSays}
 use Rattle.dumpsyms_cmd.specs.Publics.{publics}
 use Rattle.dumpsyms_cmd.specs.Frames.{written_of}
 
@@ -36,7 +36,7 @@ unfoldable pub head_lines : ImageParts → List ℕ → List SymLine
 head_lines image name = (module_line image.identity (cleaned name) ∷ info_lines image.build_id) ++ publics image.base image.symbols
 
 -- the records of a file without debug entries
-unfoldable pub dump_lines : ImageParts → List ℕ → FrameLists → List SymLine
+unfoldable pub dump_lines : ImageParts → List ℕ → DebugSays → List SymLine
 dump_lines image name found = head_lines image name ++ written_lines image.base (written_of image found)
 
 -- the file has debug entries, which are not dumped yet

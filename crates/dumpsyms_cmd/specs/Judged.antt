@@ -13,10 +13,10 @@ use Rattle.sym_records.specs.declared.line.SymLine.{SymLine}
 use Rattle.rule_postfix.specs.Written.{omitted}
 use Rattle.dumpsyms_cmd.specs.Words.{Asked, dump, module_name}
 use Rattle.dumpsyms_cmd.specs.Dump.{dump_lines, is_unbuilt}
-use Rattle.dumpsyms_cmd.specs.declared.frames.FrameLists.{FrameLists}
-use Rattle.dumpsyms_cmd.specs.Frames.{frames, SaysFrames}
+use Rattle.debug_read.specs.DebugSays.{DebugSays, debug_says}
+use Rattle.dumpsyms_cmd.specs.Frames.{SaysFrames}
 use Rattle.dumpsyms_cmd.specs.Refusals.{omitted_text, too_long_line, usage_line}
-use Rattle.dumpsyms_cmd.specs.Verdict.{Verdict, refused, unread, parts_verdict, dump_verdict, command_verdict, LIMIT}
+use Rattle.dumpsyms_cmd.specs.Verdict.{Verdict, refused, unread, parts_verdict, dump_verdict, file_verdict, command_verdict, LIMIT}
 use Rattle.dumpsyms_cmd.specs.declared.judgement.Output.{Output}
 use Rattle.dumpsyms_cmd.specs.declared.judgement.Output.TheVariants.{Nothing, Text, Bytes}
 use Rattle.dumpsyms_cmd.specs.declared.judgement.Message.{Message}
@@ -73,9 +73,9 @@ Judges j P Q = RefusesOrGives j.out j.status (err_bytes j.err) P Q
 
 -- the records of an image without debug entries, and the text on the frame entries that are left out
 pub record DumpsParts (parts : ImageParts) (name : List ℕ) (lines : List SymLine) (text : List ℕ) : Type 0 where
-  pub found : FrameLists
+  pub found : DebugSays
   pub built : is_unbuilt parts ≡ false
-  pub found_is : frames parts ≡ Ok found
+  pub found_is : debug_says parts ≡ Ok found
   pub lines_are : lines ≡ dump_lines parts name found
   pub text_is : text ≡ omitted_text (omitted parts.code found.first found.second)
   pub reads : reading (canon_text lines) ≡ Ok lines
@@ -105,7 +105,7 @@ pub record DumpsFile (elf : List ℕ) (files : Files) (lines : List SymLine) (te
 -- as them, which are the file's where the store tells its files
 abbrev pub DumpPromises : List ℕ → Option Files → Judgement → Type 0
 DumpPromises elf files j = Judges j
-    (λ err. Tells files (λ f. command_verdict (Some (dump elf)) f ≡ refused err))
+    (λ err. Tells files (λ f. file_verdict elf (f elf) ≡ refused err))
     (λ lines err. (reading (canon_text lines) ≡ Ok lines) × Tells files (λ f. DumpsFile elf f lines err))
 
 -- words that are no row are answered with the usage line
@@ -117,7 +117,7 @@ pub record IsUsage (j : Judgement) : Type 0 where
 -- what each command promises of its judgement
 abbrev pub CommandPromises : Option Asked → Option Files → Judgement → Type 0
 CommandPromises None files j = IsUsage j
-CommandPromises (Some (dump elf)) files j = DumpPromises elf files j
+CommandPromises (Some (dump elf workers)) files j = DumpPromises elf files j
 
 -- what is known of a judgement: it has status 0, 1 or 2, the last for words that are no row alone; it is the verdict where the store
 -- tells its files; and it keeps the command's promises

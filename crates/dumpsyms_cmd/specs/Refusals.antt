@@ -7,9 +7,13 @@ use Rattle.sym_edges.specs.declared.reason.Reason.{Reason}
 use Rattle.sym_edges.specs.declared.reason.Reason.TheVariants as reason
 use Rattle.elf_sections.specs.declared.fault.ElfFault.{ElfFault}
 use Rattle.elf_sections.specs.declared.fault.ElfFault.TheVariants.{NotElf, Class, Order, Machine, Kind, SectionTable, SectionNames, SectionBytes, Compressed, ProgramTable, SymbolTable, NoIdentity}
+use Rattle.abbrev_units.specs.declared.fault.DwarfKind.{DwarfKind}
+use Rattle.abbrev_units.specs.declared.fault.DwarfKind.TheVariants as dwarf
 use Rattle.frame_entries.specs.declared.fault.FrameKind.{FrameKind}
 use Rattle.frame_entries.specs.declared.fault.FrameKind.TheVariants.{Length, Format64}
 use Rattle.sym_edges.specs.declared.located.Located.{Located}
+use Rattle.debug_read.specs.declared.fault.DebugFault.{DebugFault}
+use Rattle.debug_read.specs.declared.fault.DebugFault.TheVariants.{Dwarf, Frame}
 use Rattle.sym_records.specs.Canon.{spaced}
 use Rattle.sym_records.specs.Fields.{hex}
 use Rattle.rule_postfix.specs.declared.omission.Omission.{Omission}
@@ -73,6 +77,23 @@ section_word sect.DebugFrame = codes "debug_frame"
 section_word sect.EhFrame = codes "eh_frame"
 section_word sect.Text = codes "text"
 
+-- the word of a fault of debugging information
+abbrev pub dwarf_word : DwarfKind → List ℕ
+dwarf_word dwarf.Ends = codes "ends"
+dwarf_word dwarf.LebLong = codes "leb-long"
+dwarf_word dwarf.NoZero = codes "no-zero"
+dwarf_word dwarf.Reserved = codes "reserved"
+dwarf_word dwarf.AddressSize = codes "address-size"
+dwarf_word dwarf.UnitType = codes "unit-type"
+dwarf_word dwarf.UnknownForm = codes "unknown-form"
+dwarf_word dwarf.NoAbbrev = codes "no-abbrev"
+dwarf_word dwarf.OffsetOutside = codes "offset-outside"
+dwarf_word dwarf.NoBase = codes "no-base"
+dwarf_word dwarf.RangeKind = codes "range-kind"
+dwarf_word dwarf.LineVersion = codes "line-version"
+dwarf_word dwarf.LineHeader = codes "line-header"
+dwarf_word dwarf.LineOpcode = codes "line-opcode"
+
 -- the word of a fault of a section of frame entries
 abbrev pub kind_word : FrameKind → List ℕ
 kind_word Length = codes "length"
@@ -82,9 +103,18 @@ kind_word Format64 = codes "format64"
 abbrev pub located_line : List ℕ → List ℕ → Sect → ℕ → List ℕ
 located_line refused kind section at = line (spaced refused (kind ∷ section_word section ∷ hex at ∷ []))
 
+-- debugging information has a fault
+abbrev pub dwarf_line : Located DwarfKind → List ℕ
+dwarf_line fault = located_line (codes "refused dwarf") (dwarf_word fault.kind) fault.section fault.at
+
 -- a section of frame entries has a fault
 abbrev pub frame_line : Located FrameKind → List ℕ
 frame_line fault = located_line (codes "refused frame") (kind_word fault.kind) fault.section fault.at
+
+-- the file has a fault behind its image
+abbrev pub debug_line : DebugFault → List ℕ
+debug_line (Dwarf fault) = dwarf_line fault
+debug_line (Frame fault) = frame_line fault
 
 -- the word of a reason
 abbrev pub reason_word : Reason → List ℕ

@@ -3,14 +3,12 @@ use Rattle.std.specs.Prelude.{ℕ, ◌^◌, length, nat_lt, List, [], Option, So
 use Rattle.sym_edges.specs.Outside.{Files}
 use Rattle.elf_sections.specs.Image.{ImageParts, image}
 use Rattle.elf_sections.specs.declared.fault.ElfFault.{ElfFault}
-use Rattle.sym_edges.specs.declared.located.Located.{Located}
-use Rattle.frame_entries.specs.declared.fault.FrameKind.{FrameKind}
+use Rattle.debug_read.specs.declared.fault.DebugFault.{DebugFault}
+use Rattle.debug_read.specs.DebugSays.{DebugSays, debug_says}
 use Rattle.sym_records.specs.Canon.{canon_text}
 use Rattle.rule_postfix.specs.Written.{omitted}
-use Rattle.dumpsyms_cmd.specs.declared.frames.FrameLists.{FrameLists}
-use Rattle.dumpsyms_cmd.specs.Frames.{frames}
 use Rattle.dumpsyms_cmd.specs.Words.{Asked, dump, command_of, module_name}
-use Rattle.dumpsyms_cmd.specs.Refusals.{elf_line, frame_line, omitted_text, too_long_line, unbuilt_line, unread_line, usage_line}
+use Rattle.dumpsyms_cmd.specs.Refusals.{elf_line, debug_line, omitted_text, too_long_line, unbuilt_line, unread_line, usage_line}
 use Rattle.dumpsyms_cmd.specs.Dump.{dump_lines, is_unbuilt}
 
 -- a status, and the texts on standard output and standard error
@@ -35,18 +33,22 @@ unread = record { status = 3; out = []; err = unread_line }
 abbrev pub LIMIT : ℕ
 LIMIT = 2 ^ 29
 
--- the verdict of a dump, by the frame entries: out has the records, and err the entries that are left out
-abbrev pub frames_verdict : Result FrameLists (Located FrameKind) → ImageParts → List ℕ → Verdict
-frames_verdict (Err fault) parts name = refused (frame_line fault)
-frames_verdict (Ok found) parts name = record {
+-- the verdict of a dump of a file without faults: out has the records, and err the frame entries that are left out
+abbrev pub found_verdict : ImageParts → List ℕ → DebugSays → Verdict
+found_verdict parts name found = record {
   status = 0;
   out = canon_text (dump_lines parts name found);
   err = omitted_text (omitted parts.code found.first found.second);
 }
 
--- by the parts of the image: debug entries come before frame entries
+-- by what stands behind the image: the first fault, and where there is none, debug entries
+abbrev pub debug_verdict : Result DebugSays DebugFault → ImageParts → List ℕ → Verdict
+debug_verdict (Err fault) parts name = refused (debug_line fault)
+debug_verdict (Ok found) parts name = if is_unbuilt parts then refused unbuilt_line else found_verdict parts name found
+
+-- by the parts of the image
 unfoldable pub parts_verdict : ImageParts → List ℕ → Verdict
-parts_verdict parts name = if is_unbuilt parts then refused unbuilt_line else frames_verdict (frames parts) parts name
+parts_verdict parts name = debug_verdict (debug_says parts) parts name
 
 -- by the image
 abbrev pub image_verdict : Result ImageParts ElfFault → List ℕ → Verdict
@@ -62,10 +64,10 @@ abbrev pub file_verdict : List ℕ → Option (List ℕ) → Verdict
 file_verdict elf None = unread
 file_verdict elf (Some file) = dump_verdict LIMIT (module_name elf) file
 
--- the verdict of a command
+-- the verdict of a command: the number of workers does not matter
 abbrev pub command_verdict : Option Asked → Files → Verdict
 command_verdict None files = usage
-command_verdict (Some (dump elf)) files = file_verdict elf (files elf)
+command_verdict (Some (dump elf workers)) files = file_verdict elf (files elf)
 
 -- the verdict of words and files
 abbrev pub verdict : List (List ℕ) → Files → Verdict

@@ -4,20 +4,23 @@ ghost use Rattle.sym_edges.specs.Outside.{Files};
 ghost use Rattle.std.specs.String.{string_bytes};
 ghost use Rattle.elf_sections.specs.Image.{image};
 ghost use Rattle.dumpsyms_cmd.specs.Words.{command_of, files_of, dump};
-ghost use Rattle.dumpsyms_cmd.specs.Frames.{frames};
+ghost use Rattle.debug_read.specs.DebugSays.{IsDebugRead};
 ghost use Rattle.dumpsyms_cmd.specs.Dump.{is_unbuilt};
 ghost use Rattle.dumpsyms_cmd.specs.Verdict.{LIMIT};
 ghost use Rattle.dumpsyms_cmd.specs.Judged.{err_bytes, Refuses, JudgesParts, JudgesBytes, AnswersStop, AnswersCommand};
 ghost use Rattle.dumpsyms_cmd.specs.Observed.{Asks};
 
-use crate::frames::{FrameLists, list_omissions, read_frames};
 use crate::judgement::{Answer, Judgement, Message, Output};
+use crate::omissions::list_omissions;
 use crate::records::{Dumped, dump_file};
-use crate::refusals::{TOO_LONG, UNBUILT, USAGE, fault_line, frame_line};
+use crate::refusals::{TOO_LONG, UNBUILT, USAGE, debug_line, fault_line};
 use crate::words::{Command, name_of, parse_words};
+use debug_read::{DebugRead, read_debug};
 use elf_sections::{Image, read_image};
 use std::alloc::Global;
+use std::thread::Threads;
 use sym_edges::{OutOfMemory, ReadEnd, Sect, Stop, Store, read_all};
+use unit_workers::Gate;
 
 /// The greatest length of an ELF file, in bytes.
 const ELF_LIMIT: usize = 536_870_912;
@@ -33,18 +36,18 @@ fn refuse(line: Message) -> Judgement
     }
 }
 
-/// A dump of an image with these frame entries.
+/// A dump of an image without debug entries.
 fn judge_frames(
     alloc: Global,
     image: &Image<'_>,
-    found: &FrameLists<'_>,
+    debug: &DebugRead<'_>,
     name: &[u8],
 ) -> Result<Judgement, OutOfMemory>
     requires built { is_unbuilt image.now ≡ false }
-    requires found { frames image.now ≡ Ok found.now }
+    requires found { IsDebugRead image.now debug.now }
     ensures { IfOk result (λ j. JudgesParts j name.now image.now) }
 {
-    let dumped = dump_file(alloc, image, name, found)?;
+    let dumped = dump_file(alloc, image, name, debug)?;
     let Dumped { file, omitted } = dumped;
     let text = list_omissions(alloc, omitted.as_slice())?;
     Ok(Judgement {
@@ -54,30 +57,59 @@ fn judge_frames(
     })
 }
 
-/// A dump of an image.
-#[tactic(auto, using(crate::proofs::JudgedLemmas::unbuilt_judged, crate::proofs::JudgedLemmas::frames_judged), unfolding(crate::specs::Dump::is_unbuilt))]
-fn judge_image(alloc: Global, image: &Image<'_>, name: &[u8]) -> Result<Judgement, OutOfMemory>
+/// A dump of an image without faults behind it.
+#[tactic(auto, using(crate::proofs::JudgedLemmas::unbuilt_judged), unfolding(crate::specs::Dump::is_unbuilt))]
+fn judge_found(
+    alloc: Global,
+    image: &Image<'_>,
+    debug: &DebugRead<'_>,
+    name: &[u8],
+) -> Result<Judgement, OutOfMemory>
+    requires found { IsDebugRead image.now debug.now }
     ensures { IfOk result (λ j. JudgesParts j name.now image.now) }
 {
     let info = image.section(Sect::Info);
     if !info.bytes.is_empty() {
         return Ok(refuse(Message::Fixed(UNBUILT)));
     }
-    match read_frames(alloc, image) {
-        Ok(found) => judge_frames(alloc, image, &found, name),
-        Err(Stop::Fault(fault)) => Ok(refuse(Message::Made(frame_line(alloc, fault)?))),
+    judge_frames(alloc, image, debug, name)
+}
+
+/// A dump of an image.
+fn judge_image<R: Threads + Sync, G: Gate + Sync>(
+    rt: &R,
+    alloc: Global,
+    image: &Image<'_>,
+    name: &[u8],
+    gate: &G,
+    workers: usize,
+) -> Result<Judgement, OutOfMemory>
+    requires workers { (1 ≤ workers) × (workers ≤ 64) }
+    ensures { IfOk result (λ j. JudgesParts j name.now image.now) }
+{
+    match read_debug(rt, alloc, image, gate, workers) {
+        Ok(debug) => judge_found(alloc, image, &debug, name),
+        Err(Stop::Fault(fault)) => Ok(refuse(Message::Made(debug_line(alloc, fault)?))),
         Err(Stop::NoMemory) => Err(OutOfMemory),
     }
 }
 
 /// A dump of a file's bytes.
 #[tactic(auto, using(crate::proofs::JudgedLemmas::parts_judged, crate::proofs::JudgedLemmas::fault_judged))]
-fn judge_bytes(alloc: Global, bytes: &[u8], name: &[u8]) -> Result<Judgement, OutOfMemory>
-    requires { length bytes.now ≤ LIMIT }
+fn judge_bytes<R: Threads + Sync, G: Gate + Sync>(
+    rt: &R,
+    alloc: Global,
+    bytes: &[u8],
+    name: &[u8],
+    gate: &G,
+    workers: usize,
+) -> Result<Judgement, OutOfMemory>
+    requires few { length bytes.now ≤ LIMIT }
+    requires workers { (1 ≤ workers) × (workers ≤ 64) }
     ensures { IfOk result (λ j. JudgesBytes j name.now bytes.now) }
 {
     match read_image(alloc, bytes) {
-        Ok(image) => judge_image(alloc, &image, name),
+        Ok(image) => judge_image(rt, alloc, &image, name, gate, workers),
         Err(Stop::Fault(fault)) => Ok(refuse(Message::Made(fault_line(alloc, fault)?))),
         Err(Stop::NoMemory) => Err(OutOfMemory),
     }
@@ -95,16 +127,31 @@ fn answer_stop(stop: Stop<ReadEnd>) -> Answer
     }
 }
 
-/// The answer to `dump ELF`.
+/// The answer to `dump ELF`, by some workers.
 #[tactic(auto, using(crate::proofs::JudgedLemmas::stop_command, crate::proofs::JudgedLemmas::asks_one))]
-fn answer_dump<S: Store>(alloc: Global, elf: &str, store: &mut S) -> Answer
-    ensures asked { Asks (files_of (Some (dump elf.now)) (S.files store.old)) (S.asked store.old) (S.asked store.new) }
+fn answer_dump<R: Threads + Sync, S: Store, G: Gate + Sync>(
+    rt: &R,
+    alloc: Global,
+    elf: &str,
+    workers: usize,
+    store: &mut S,
+    gate: &G,
+) -> Answer
+    requires workers { (1 ≤ workers) × (workers ≤ 64) }
+    ensures asked { Asks (files_of (Some (dump elf.now workers)) (S.files store.old)) (S.asked store.old) (S.asked store.new) }
     ensures files { S.files store.new ≡ S.files store.old }
     ensures faults { S.faults store.old ≤ S.faults store.new }
-    ensures answered { AnswersCommand result (Some (dump elf.now)) (S.files store.old) (S.faults store.old) (S.faults store.new) }
+    ensures answered { AnswersCommand result (Some (dump elf.now workers)) (S.files store.old) (S.faults store.old) (S.faults store.new) }
 {
     match read_all(alloc, store, elf, ELF_LIMIT) {
-        Ok(bytes) => match judge_bytes(alloc, bytes.as_slice(), name_of(elf.as_bytes())) {
+        Ok(bytes) => match judge_bytes(
+            rt,
+            alloc,
+            bytes.as_slice(),
+            name_of(elf.as_bytes()),
+            gate,
+            workers,
+        ) {
             Ok(judgement) => Answer::Judged(judgement),
             Err(OutOfMemory) => Answer::NoMemory,
         },
@@ -126,7 +173,13 @@ fn answer_usage() -> Answer
 
 /// The answer to the words, over the files of the store. All memory that the program needs is taken here.
 #[tactic(auto, using(crate::proofs::JudgedLemmas::asks_none))]
-pub fn answer_words<S: Store>(alloc: Global, words: &[String], store: &mut S) -> Answer
+pub fn answer_words<R: Threads + Sync, S: Store, G: Gate + Sync>(
+    rt: &R,
+    alloc: Global,
+    words: &[String],
+    store: &mut S,
+    gate: &G,
+) -> Answer
     ensures asked { Asks (files_of (command_of (map string_bytes words.now)) (S.files store.old)) (S.asked store.old) (S.asked store.new) }
     ensures files { S.files store.new ≡ S.files store.old }
     ensures faults { S.faults store.old ≤ S.faults store.new }
@@ -134,6 +187,6 @@ pub fn answer_words<S: Store>(alloc: Global, words: &[String], store: &mut S) ->
 {
     match parse_words(words) {
         None => answer_usage(),
-        Some(Command::Dump { elf }) => answer_dump(alloc, elf, store),
+        Some(Command::Dump { elf, workers }) => answer_dump(rt, alloc, elf, workers, store, gate),
     }
 }

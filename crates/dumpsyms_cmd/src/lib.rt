@@ -1,13 +1,14 @@
 //! The program: words and files in, a status and two texts out.
 //!
-//! `run` reads the file that `dump ELF` names, makes the records of its symbol file (Breakpad's symbol_files.md) and writes
-//! them. Its contract says which status comes when, what each text holds, which names are asked for, and that what was
-//! written reads back as the records of the file.
+//! `run` reads the file that `dump ELF` names and its debugging information, by as many workers as the words say, makes the
+//! records of its symbol file (Breakpad's symbol_files.md) and writes them, or names the first fault. Its contract says which
+//! status comes, what each text holds, which names are asked for, and that what was written reads back as the records of the
+//! file.
 #![tactic(auto)]
 
-mod frames;
 mod judgement;
 mod judging;
+mod omissions;
 mod publics;
 mod records;
 mod refusals;

@@ -9,13 +9,13 @@ ghost use Rattle.sym_records.specs.Reading.{fits};
 ghost use Rattle.sym_records.specs.Validity.{first_bad, fields_fit};
 ghost use Rattle.sym_records.specs.declared.place.Place.TheVariants.{Start};
 ghost use Rattle.dumpsyms_cmd.specs.Publics.{FitsInside};
-ghost use Rattle.dumpsyms_cmd.specs.Frames.{frames};
+ghost use Rattle.debug_read.specs.DebugSays.{IsDebugRead};
 ghost use Rattle.dumpsyms_cmd.specs.Refusals.{omitted_text};
 ghost use Rattle.dumpsyms_cmd.specs.Judged.{DumpsParts};
 ghost use Rattle.dumpsyms_cmd.specs.Dump.{turned, module_id, module_line, info_line, info_lines, head_lines, is_unbuilt};
 
-use crate::frames::FrameLists;
 use crate::publics::add_publics;
+use debug_read::DebugRead;
 use elf_sections::Image;
 use rule_postfix::{Frames, Omissions, translate_all};
 use std::alloc::Global;
@@ -143,16 +143,16 @@ pub fn dump_file(
     alloc: Global,
     image: &Image<'_>,
     name: &[u8],
-    found: &FrameLists<'_>,
+    debug: &DebugRead<'_>,
 ) -> Result<Dumped, OutOfMemory>
     requires built { is_unbuilt image.now ≡ false }
-    requires found { frames image.now ≡ Ok found.now }
+    requires found { IsDebugRead image.now debug.now }
     ensures { IfOk result (λ d. DumpsParts image.now name.now d.file (omitted_text d.omitted)) }
 {
     let framed = translate_all(
         alloc,
-        &found.first,
-        &found.second,
+        &debug.first,
+        &debug.second,
         image.code(),
         image.base(),
     )?;

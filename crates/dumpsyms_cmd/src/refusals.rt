@@ -1,7 +1,9 @@
 ghost use Rattle.std.specs.Prelude.{◌≡◌, ◌++◌, map, IfOk, OnOk};
 ghost use Rattle.sym_records.specs.Canon.{spaced};
-ghost use Rattle.dumpsyms_cmd.specs.Refusals.{line, elf_line, fault_word, joined_word, section_word, kind_word, frame_line, located_line, reason_word};
+ghost use Rattle.dumpsyms_cmd.specs.Refusals.{line, elf_line, fault_word, joined_word, section_word, dwarf_word, kind_word, dwarf_line, frame_line, debug_line, located_line, reason_word};
 
+use abbrev_units::{DwarfFault, DwarfKind};
+use debug_read::DebugFault;
 use elf_sections::ElfFault;
 use frame_entries::{FrameFault, FrameKind};
 use itoa::Buffer;
@@ -90,6 +92,27 @@ pub fn section_word(section: Sect) -> &'static [u8]
     }
 }
 
+fn dwarf_word(kind: DwarfKind) -> &'static [u8]
+    ensures { result.now ≡ dwarf_word kind }
+{
+    match kind {
+        DwarfKind::Ends => b"ends",
+        DwarfKind::LebLong => b"leb-long",
+        DwarfKind::NoZero => b"no-zero",
+        DwarfKind::Reserved => b"reserved",
+        DwarfKind::AddressSize => b"address-size",
+        DwarfKind::UnitType => b"unit-type",
+        DwarfKind::UnknownForm => b"unknown-form",
+        DwarfKind::NoAbbrev => b"no-abbrev",
+        DwarfKind::OffsetOutside => b"offset-outside",
+        DwarfKind::NoBase => b"no-base",
+        DwarfKind::RangeKind => b"range-kind",
+        DwarfKind::LineVersion => b"line-version",
+        DwarfKind::LineHeader => b"line-header",
+        DwarfKind::LineOpcode => b"line-opcode",
+    }
+}
+
 fn kind_word(kind: FrameKind) -> &'static [u8]
     ensures { result.now ≡ kind_word kind }
 {
@@ -137,8 +160,21 @@ fn located_line(
     Ok(ByteText::of(text))
 }
 
+/// The line that names a fault of debugging information.
+fn dwarf_line(alloc: Global, fault: DwarfFault) -> Result<ByteText, AllocError>
+    ensures { IfOk result (λ text. text ≡ dwarf_line fault) }
+{
+    located_line(
+        alloc,
+        b"refused dwarf",
+        dwarf_word(fault.kind),
+        fault.section,
+        fault.at,
+    )
+}
+
 /// The line that names a fault of a section of frame entries.
-pub fn frame_line(alloc: Global, fault: FrameFault) -> Result<ByteText, AllocError>
+fn frame_line(alloc: Global, fault: FrameFault) -> Result<ByteText, AllocError>
     ensures { IfOk result (λ text. text ≡ frame_line fault) }
 {
     located_line(
@@ -148,4 +184,14 @@ pub fn frame_line(alloc: Global, fault: FrameFault) -> Result<ByteText, AllocErr
         fault.section,
         fault.at,
     )
+}
+
+/// The line that names a fault behind the image.
+pub fn debug_line(alloc: Global, fault: DebugFault) -> Result<ByteText, AllocError>
+    ensures { IfOk result (λ text. text ≡ debug_line fault) }
+{
+    match fault {
+        DebugFault::Dwarf(fault) => dwarf_line(alloc, fault),
+        DebugFault::Frame(fault) => frame_line(alloc, fault),
+    }
 }

@@ -9,7 +9,9 @@ use crate::judgement::{Answer, Judgement, Message, Output};
 use crate::judging::answer_words;
 use crate::refusals::UNREAD;
 use std::alloc::Global;
+use std::thread::Threads;
 use sym_edges::{Failed, Sink, Store, write_all};
+use unit_workers::Gate;
 
 /// The status where a write failed.
 const UNWRITTEN: u8 = 4;
@@ -79,14 +81,17 @@ fn write_answer<O: Sink, E: Sink>(answer: &Answer, out: &mut O, err: &mut E) -> 
 ///
 /// 0: the file was dumped. 1: it was refused. 2: the words are no row. 3: a file could not be read. 4: a text could not be
 /// written. 5: memory ran out. Out is written before err, and nothing before all is known. What holds of each status,
-/// `specs/Program.antt` says.
+/// `specs/Program.antt` says; it does not depend on how many workers there are. `rt` starts their threads, and `gate` is told
+/// of each unit that they read.
 #[tactic(auto, using(crate::proofs::RunLemmas::promises))]
-pub fn run<S: Store, O: Sink, E: Sink>(
+pub fn run<R: Threads + Sync, S: Store, O: Sink, E: Sink, G: Gate + Sync>(
+    rt: &R,
     alloc: Global,
     words: &[String],
     store: &mut S,
     out: &mut O,
     err: &mut E,
+    gate: &G,
 ) -> u8
     ensures { Promises (record {
       words = map string_bytes words.now;
@@ -96,6 +101,6 @@ pub fn run<S: Store, O: Sink, E: Sink>(
       err = record { taken = E.taken err.old; taken_after = E.taken err.new; faults = E.faults err.old; faults_after = E.faults err.new };
     }) }
 {
-    let answer = answer_words(alloc, words, store);
+    let answer = answer_words(rt, alloc, words, store, gate);
     write_answer(&answer, out, err)
 }

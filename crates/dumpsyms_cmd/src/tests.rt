@@ -3,15 +3,22 @@
 
 mod files;
 
-use self::files::{ENTRIES, ID, LONG_CODE, NULL, file_of, file_with, small_and};
+use self::files::{
+    CUT_UNIT, EIGHT_OR_FOUR, ENTRIES, ID, LONG_CODE, NULL, UNIT, VERSION_3, file_of, file_with,
+    small_and,
+};
 use crate::run;
 use std::alloc::{AllocError, Global};
 use std::process::Abort;
 use std::test::Fail;
+use std::thread::Threads;
 use sym_edges::{ByteRun, CallList, FileList, MemSink, MemStore, NameText, NamedFile};
+use unit_workers::NoGate;
 
 const FRONT: &[u8] = b"MODULE Linux x86_64 030201000504070608090A0B0C0D0E0F0 a.out\n\
     INFO CODE_ID 000102030405060708090A0B0C0D0E0F10111213\n";
+
+const NO_BYTES: &[u8] = b"";
 
 const MAIN: &[u8] = b"PUBLIC 1000 0 main\n";
 
@@ -26,6 +33,24 @@ const DUMP: &[&str] = &["dump", "d/a.out"];
 
 const OTHER: &[&str] = &["dump", "other"];
 
+/// Words that are no row.
+const NO_ROWS: [&[&str]; 6] = [
+    &[],
+    &["dump"],
+    &["lookup", "s", "0x10"],
+    &["dump", "d/a.out", "--workers", "0"],
+    &["dump", "d/a.out", "--workers", "08"],
+    &["dump", "d/a.out", "--workers", "65"],
+];
+
+/// A dump by 1, 2, 8 and 64 workers.
+const BY_WORKERS: [&[&str]; 4] = [
+    &["dump", "d/a.out", "--workers", "1"],
+    &["dump", "d/a.out", "--workers", "2"],
+    &["dump", "d/a.out", "--workers", "8"],
+    &["dump", "d/a.out", "--workers", "64"],
+];
+
 const CLASS: &[u8] = b"refused elf class\n";
 
 const TABLE: &[u8] = b"refused elf section-table\n";
@@ -35,6 +60,12 @@ const FLAG: &[u8] = b"refused elf compressed 5\n";
 const UNBUILT: &[u8] = b"refused unbuilt\n";
 
 const LENGTH: &[u8] = b"refused frame length eh_frame 0\n";
+
+const ENDS_AT_0: &[u8] = b"refused dwarf ends debug_info 0\n";
+
+const ENDS_AT_C: &[u8] = b"refused dwarf ends debug_info c\n";
+
+const ENDS_AT_3C: &[u8] = b"refused dwarf ends debug_info 3c\n";
 
 const OMITTED: &[u8] = b"omitted eh_frame 18 state\n";
 
@@ -62,7 +93,7 @@ fn calls(alloc: Global, numbers: &[u64]) -> Result<CallList, AllocError> {
 
 /// Words over the file `d/a.out` give this status and these texts.
 fn expect(
-    rt: &impl Abort,
+    rt: &(impl Abort + Threads + Sync),
     alloc: Global,
     label: &str,
     words: &[&str],
@@ -85,7 +116,15 @@ fn expect(
     let mut store = MemStore::new(alloc, FileList::of(files), step, calls(alloc, edges.store)?);
     let mut to_out = MemSink::new(alloc, edges.room, step, calls(alloc, edges.out)?)?;
     let mut to_err = MemSink::new(alloc, 1000, step, calls(alloc, edges.err)?)?;
-    let answer = run(alloc, &strings, &mut store, &mut to_out, &mut to_err);
+    let answer = run(
+        rt,
+        alloc,
+        &strings,
+        &mut store,
+        &mut to_out,
+        &mut to_err,
+        &NoGate,
+    );
     let is_wanted = answer == status && to_out.written() == out && to_err.written() == err;
     assert!(rt; is_wanted, "{label}");
     Ok(())
@@ -93,7 +132,7 @@ fn expect(
 
 /// The same of `dump d/a.out`, in large calls and in calls of one byte.
 fn expect_dump(
-    rt: &impl Abort,
+    rt: &(impl Abort + Threads + Sync),
     alloc: Global,
     label: &str,
     file: &[u8],
@@ -163,13 +202,15 @@ fn framed_badly(alloc: Global) -> Result<Vec<u8>, AllocError> {
 fn commands_have_their_rows(rt: HostRuntime) -> Result<(), Fail> {
     let alloc = rt.alloc();
     let file = small_and(alloc, NULL)?;
-    let words: [&[&str]; 3] = [&[], &["dump"], &["lookup", "s", "0x10"]];
-    for words in words {
+    for words in NO_ROWS {
         expect(&rt, alloc, "usage", words, &file, SMOOTH, 2, b"", USAGE)?;
     }
     expect(&rt, alloc, "other", OTHER, &file, SMOOTH, 3, b"", UNREAD)?;
     let text = joined(alloc, &[FRONT, MAIN])?;
     expect_dump(&rt, alloc, "main", &file, 0, &text, b"")?;
+    for words in BY_WORKERS {
+        expect(&rt, alloc, "workers", words, &file, SMOOTH, 0, &text, b"")?;
+    }
     let two = two_at_one_address(alloc)?;
     let text = joined(alloc, &[FRONT, MAIN, b"PUBLIC m 1008 0 b\n"])?;
     expect_dump(&rt, alloc, "b and a", &two, 0, &text, b"")?;
@@ -193,13 +234,54 @@ fn commands_have_their_rows(rt: HostRuntime) -> Result<(), Fail> {
     let flagged = small_and(alloc, (".debug_info", [1, 0x800, 0, 0], b"\x01"))?;
     expect_dump(&rt, alloc, "flag", &flagged, 1, b"", FLAG)?;
     let info = small_and(alloc, (".debug_info", [1, 0, 0, 0], b"\0"))?;
-    expect_dump(&rt, alloc, "debug entries", &info, 1, b"", UNBUILT)
+    expect_dump(&rt, alloc, "cut unit", &info, 1, b"", ENDS_AT_0)
+}
+
+/// A file with debug entries: a build id, code, these units, the abbreviations, and `.eh_frame`.
+fn debugged<'a>(alloc: Global, units: &'a [u8], frames: &'a [u8]) -> Result<Vec<u8>, AllocError> {
+    let info = (".debug_info", [1, 0, 0, 0], units);
+    let abbreviations = (".debug_abbrev", [1, 0, 0, 0], EIGHT_OR_FOUR);
+    let eh_frame = (".eh_frame", [1, 2, 0x2000, 0], frames);
+    let sections = [NULL, ID, LONG_CODE, info, abbreviations, eh_frame];
+    file_of(alloc, &[(1, 0)], &sections)
+}
+
+#[test]
+fn the_first_fault_of_debug_entries_is_named(rt: HostRuntime) -> Result<(), Fail> {
+    let alloc = rt.alloc();
+    let four = joined(alloc, &[CUT_UNIT, UNIT, UNIT, CUT_UNIT])?;
+    let file = debugged(alloc, &four, NO_BYTES)?;
+    expect_dump(&rt, alloc, "four units", &file, 1, b"", ENDS_AT_C)?;
+    for words in BY_WORKERS {
+        expect(
+            &rt,
+            alloc,
+            "by workers",
+            words,
+            &file,
+            SMOOTH,
+            1,
+            b"",
+            ENDS_AT_C,
+        )?;
+    }
+    let last = joined(alloc, &[UNIT, UNIT, UNIT, CUT_UNIT])?;
+    let file = debugged(alloc, &last, NO_BYTES)?;
+    expect_dump(&rt, alloc, "last unit", &file, 1, b"", ENDS_AT_3C)?;
+    let file = debugged(alloc, CUT_UNIT, b"\x14\0\0")?;
+    expect_dump(&rt, alloc, "unit and frames", &file, 1, b"", ENDS_AT_C)?;
+    let file = debugged(alloc, UNIT, b"\x14\0\0")?;
+    expect_dump(&rt, alloc, "frames", &file, 1, b"", LENGTH)?;
+    let file = debugged(alloc, UNIT, PUSH_RBP)?;
+    expect_dump(&rt, alloc, "no fault", &file, 1, b"", UNBUILT)?;
+    let file = debugged(alloc, VERSION_3, NO_BYTES)?;
+    expect_dump(&rt, alloc, "version 3", &file, 1, b"", UNBUILT)
 }
 
 /// Each write of one byte that fails in turn, those to out before those to err: the status is 4, and the sinks hold what was
 /// written before.
 fn expect_fronts(
-    rt: &impl Abort,
+    rt: &(impl Abort + Threads + Sync),
     alloc: Global,
     words: &[&str],
     file: &[u8],

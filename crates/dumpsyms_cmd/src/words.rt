@@ -1,29 +1,87 @@
-ghost use Rattle.std.specs.Prelude.{◌≡◌, map};
+ghost use Rattle.std.specs.Prelude.{◌≡◌, ◌≤◌, ◌↔◌, ℕ, IsTrue, map, slice_index};
 ghost use Rattle.std.specs.String.{string_bytes};
 ghost use Rattle.std.specs.Option.{option_map};
-ghost use Rattle.dumpsyms_cmd.specs.Words.{command_view, command_of, module_name};
+ghost use Rattle.dumpsyms_cmd.specs.Words.{command_view, command_of, number_upto, two_words, four_words, module_name, HasWorkers};
 
 use memchr::memrchr;
 
-/// What the words ask for, one variant a row.
+/// The workers of a dump where the words name no number of them.
+const USUAL_WORKERS: usize = 4;
+
+/// The most workers that words may name.
+const MOST_WORKERS: usize = 64;
+
+/// What the words ask for, one variant a command.
 #[derive(Clone, Copy, Debug)]
 pub enum Command<'w> {
-    /// `dump ELF`
-    Dump { elf: &'w str },
+    /// `dump ELF` and `dump ELF --workers N`
+    Dump { elf: &'w str, workers: usize },
+}
+
+/// Whether a word begins with a digit from 1 to 9.
+fn begins_number(word: &[u8]) -> bool
+    ensures { IsTrue result ↔ ((49 ≤ slice_index word.now 0) × (slice_index word.now 0 ≤ 57)) }
+{
+    if word.is_empty() {
+        return false;
+    }
+    b'1' <= word[0] && word[0] <= b'9'
+}
+
+/// The number that a word writes, where it is at most `most`.
+#[tactic(auto, using(crate::proofs::WordLemmas::number_fits, crate::proofs::WordLemmas::number_passes, crate::proofs::WordLemmas::number_fails, crate::proofs::WordLemmas::number_other))]
+fn parse_number(word: &str, most: usize) -> Option<usize>
+    ensures { result ≡ number_upto most word.now }
+{
+    if !begins_number(word.as_bytes()) {
+        return None;
+    }
+    match word.parse::<usize>() {
+        Ok(number) => {
+            if number <= most {
+                return Some(number);
+            }
+            None
+        }
+        Err(_) => None,
+    }
+}
+
+/// The row `dump ELF`.
+fn parse_two<'w>(word: &str, elf: &'w str) -> Option<Command<'w>>
+    ensures { option_map command_view result ≡ two_words word.now elf.now }
+{
+    if word == "dump" {
+        return Some(Command::Dump {
+            elf,
+            workers: USUAL_WORKERS,
+        });
+    }
+    None
+}
+
+/// The row `dump ELF --workers N`.
+fn parse_four<'w>(word: &str, elf: &'w str, option: &str, number: &str) -> Option<Command<'w>>
+    ensures { option_map command_view result ≡ four_words word.now elf.now option.now number.now }
+{
+    if word != "dump" || option != "--workers" {
+        return None;
+    }
+    match parse_number(number, MOST_WORKERS) {
+        Some(workers) => Some(Command::Dump { elf, workers }),
+        None => None,
+    }
 }
 
 /// The command of words that are a row, and none of other words.
+#[tactic(auto, using(crate::proofs::WordLemmas::two_few, crate::proofs::WordLemmas::four_few))]
 pub fn parse_words(words: &[String]) -> Option<Command<'_>>
-    ensures { option_map command_view result ≡ command_of (map string_bytes words.now) }
+    ensures command { option_map command_view result ≡ command_of (map string_bytes words.now) }
+    ensures workers { HasWorkers (option_map command_view result) }
 {
     match words {
-        [word, elf] => {
-            if word.as_str() == "dump" {
-                Some(Command::Dump { elf: elf.as_str() })
-            } else {
-                None
-            }
-        }
+        [word, elf] => parse_two(word, elf),
+        [word, elf, option, number] => parse_four(word, elf, option, number),
         _ => None,
     }
 }

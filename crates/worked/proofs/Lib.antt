@@ -8,3 +8,4 @@ mod WorkedFrames
 mod WorkedHeaders
 mod WorkedFaults
 mod WorkedIds
+mod WorkedDebug

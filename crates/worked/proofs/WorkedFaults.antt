@@ -491,9 +491,9 @@ identity_before_frames : dump (file_of [] (null ∷ progbits ".eh_frame" (hex "0
 unfolding files
 identity_before_frames = refl
 
-unbuilt : dump (small_and (progbits ".debug_info" (0 ∷ []) ∷ [])) ≡ refused "refused unbuilt\n"
+a_cut_unit : dump (small_and (progbits ".debug_info" (0 ∷ []) ∷ [])) ≡ refused "refused dwarf ends debug_info 0\n"
 unfolding files
-unbuilt = refl
+a_cut_unit = refl
 
 the_first_of_debug_info_is_empty : dump (small_and (progbits ".debug_info" [] ∷ progbits ".debug_info" (0 ∷ []) ∷ []))
     ≡ gives "PUBLIC 1000 0 main\n"

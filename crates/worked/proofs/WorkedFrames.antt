@@ -203,6 +203,6 @@ debug_frame_behind : dump (framed (cut ∷ eh_frame push_rbp ∷ [])) ≡ refuse
 unfolding files own framed_at framed with_eh
 debug_frame_behind = refl
 
-debug_entries_before_frames : dump (framed (progbits ".debug_info" (0 ∷ []) ∷ wide ∷ [])) ≡ refused "refused unbuilt\n"
+debug_entries_before_frames : dump (framed (progbits ".debug_info" (0 ∷ []) ∷ wide ∷ [])) ≡ refused "refused dwarf ends debug_info 0\n"
 unfolding files own framed_at framed with_eh
 debug_entries_before_frames = refl

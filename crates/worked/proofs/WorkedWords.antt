@@ -1,5 +1,5 @@
 -- Worked rows: the words of the program, and the name of the module.
-use Rattle.std.proofs.Common.{◌≡◌, ℕ, List, [], ◌∷◌, codes, None, refl}
+use Rattle.std.proofs.Common.{◌≡◌, ℕ, List, [], ◌∷◌, ◌++◌, codes, None, refl}
 use Prim.Native.String.{String}
 use Rattle.dumpsyms_cmd.specs.Verdict.{verdict}
 use Rattle.worked.proofs.Elf.{progbits}
@@ -62,14 +62,6 @@ an_empty_third_word : both (codes "dump" ∷ codes "a" ∷ codes "" ∷ []) ≡ 
 unfolding files both named
 an_empty_third_word = refl
 
-no_workers : both (codes "dump" ∷ codes "a" ∷ codes "--workers" ∷ codes "0" ∷ []) ≡ usage
-unfolding files both named
-no_workers = refl
-
-workers_with_a_zero_in_front : both (codes "dump" ∷ codes "a" ∷ codes "--workers" ∷ codes "08" ∷ []) ≡ usage
-unfolding files both named
-workers_with_a_zero_in_front = refl
-
 hexadecimal_with_its_mark : both (codes "lookup" ∷ codes "s" ∷ codes "0x10" ∷ []) ≡ usage
 unfolding files both named
 hexadecimal_with_its_mark = refl
@@ -91,9 +83,124 @@ sample : both (codes "sample" ∷ codes "3" ∷ []) ≡ usage
 unfolding files both named
 sample = refl
 
-workers : both (codes "dump" ∷ codes "a" ∷ codes "--workers" ∷ codes "4" ∷ []) ≡ usage
+-- what a dump of `a` says with no file, and of the file `a`
+abbrev dumped : List Told
+dumped =
+    let none : Told = (3, "", "cannot read input\n") in
+    let text : Told = (0, "MODULE Linux x86_64 030201000504070608090A0B0C0D0E0F0 a\nINFO CODE_ID 000102030405060708090A0B0C0D0E0F10111213\nPUBLIC 1000 0 main\n", "") in
+    none ∷ text ∷ []
+
+-- a dump by a number of workers, as it is written
+abbrev by_workers : String → List (List ℕ)
+by_workers number = codes "dump" ∷ codes "a" ∷ codes "--workers" ∷ codes number ∷ []
+
+-- the number of workers changes nothing
+two_words : both (codes "dump" ∷ codes "a" ∷ []) ≡ dumped
 unfolding files both named
-workers = refl
+two_words = refl
+
+one_worker : both (by_workers "1") ≡ dumped
+unfolding files both named
+one_worker = refl
+
+two_workers : both (by_workers "2") ≡ dumped
+unfolding files both named
+two_workers = refl
+
+nine_workers : both (by_workers "9") ≡ dumped
+unfolding files both named
+nine_workers = refl
+
+ten_workers : both (by_workers "10") ≡ dumped
+unfolding files both named
+ten_workers = refl
+
+the_most_workers : both (by_workers "64") ≡ dumped
+unfolding files both named
+the_most_workers = refl
+
+-- a number of workers is decimal digits, without a sign or a zero in front, from 1 to 64
+no_workers : both (by_workers "0") ≡ usage
+unfolding files both named
+no_workers = refl
+
+one_worker_too_many : both (by_workers "65") ≡ usage
+unfolding files both named
+one_worker_too_many = refl
+
+a_hundred_workers : both (by_workers "100") ≡ usage
+unfolding files both named
+a_hundred_workers = refl
+
+a_number_beyond_64_bits : both (by_workers "18446744073709551620") ≡ usage
+unfolding files both named
+a_number_beyond_64_bits = refl
+
+a_zero_in_front : both (by_workers "08") ≡ usage
+unfolding files both named
+a_zero_in_front = refl
+
+a_plus : both (by_workers "+4") ≡ usage
+unfolding files both named
+a_plus = refl
+
+a_minus : both (by_workers "-4") ≡ usage
+unfolding files both named
+a_minus = refl
+
+a_space_in_front : both (by_workers " 4") ≡ usage
+unfolding files both named
+a_space_in_front = refl
+
+a_space_behind : both (by_workers "4 ") ≡ usage
+unfolding files both named
+a_space_behind = refl
+
+a_letter_behind : both (by_workers "4a") ≡ usage
+unfolding files both named
+a_letter_behind = refl
+
+a_slash_behind : both (by_workers "4/") ≡ usage
+unfolding files both named
+a_slash_behind = refl
+
+a_colon_behind : both (by_workers "4:") ≡ usage
+unfolding files both named
+a_colon_behind = refl
+
+hexadecimal : both (by_workers "a") ≡ usage
+unfolding files both named
+hexadecimal = refl
+
+an_empty_number : both (by_workers "") ≡ usage
+unfolding files both named
+an_empty_number = refl
+
+workers_without_a_number : both (codes "dump" ∷ codes "a" ∷ codes "--workers" ∷ []) ≡ usage
+unfolding files both named
+workers_without_a_number = refl
+
+a_fifth_word : both (by_workers "4" ++ codes "4" ∷ []) ≡ usage
+unfolding files both named
+a_fifth_word = refl
+
+another_option : both (codes "dump" ∷ codes "a" ∷ codes "--worker" ∷ codes "4" ∷ []) ≡ usage
+unfolding files both named
+another_option = refl
+
+the_option_first : both (codes "dump" ∷ codes "--workers" ∷ codes "4" ∷ codes "a" ∷ []) ≡ usage
+unfolding files both named
+the_option_first = refl
+
+another_command_with_workers : both (codes "dumps" ∷ codes "a" ∷ codes "--workers" ∷ codes "4" ∷ []) ≡ usage
+unfolding files both named
+another_command_with_workers = refl
+
+-- the word of the option may name the file
+a_file_named_like_the_option : ran (codes "dump" ∷ codes "--workers" ∷ []) (codes "--workers") (worked [] (progbits "x" [] ∷ []))
+    ≡ texts "MODULE Linux x86_64 030201000504070608090A0B0C0D0E0F0 --workers\nINFO CODE_ID 000102030405060708090A0B0C0D0E0F10111213\n"
+unfolding files both named
+a_file_named_like_the_option = refl
 
 -- a file that is not there is no input
 no_files : told (verdict (codes "dump" ∷ codes "nofile" ∷ []) (λ asked. None)) ≡ (3, "", "cannot read input\n")

@@ -29,6 +29,18 @@ pub const LONG_CODE: Section<'static> = (".text", [1, 6, 0x1000, 0], &[0x90; 32]
 pub const ENTRIES: [u8; 48] =
     *b"\0\0\0\0\0\0\0\0\0\0\0\0\0\0\0\0\0\0\0\0\0\0\0\0\x01\0\0\0\x12\0\x02\0\0\x10\0\0\0\0\0\0\x04\0\0\0\0\0\0\0";
 
+/// Abbreviations of a compile unit with a language: at 0 in eight bytes, at 8 in four.
+pub const EIGHT_OR_FOUR: &[u8] = b"\x01\x11\0\x13\x07\0\0\0\x01\x11\0\x13\x06\0\0\0";
+
+/// A unit of version 4 and 16 bytes: a header of 11 bytes, code 1 and four bytes.
+pub const UNIT: &[u8] = b"\x0c\0\0\0\x04\0\x08\0\0\0\x08\x01\0\0\0\0";
+
+/// The same, where the language has eight bytes.
+pub const CUT_UNIT: &[u8] = b"\x0c\0\0\0\x04\0\0\0\0\0\x08\x01\0\0\0\0";
+
+/// A unit of version 3, which is not read.
+pub const VERSION_3: &[u8] = b"\x07\0\0\0\x03\0\0\0\0\0\x08";
+
 /// A file with a build id, code, symbols whose names stand behind them, and one section more.
 pub fn file_with<'a>(
     alloc: Global,

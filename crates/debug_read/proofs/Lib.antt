@@ -1,0 +1,8 @@
+pub mod EachLemmas
+pub mod SetLemmas
+pub mod LineLemmas
+pub mod UnitLemmas
+pub mod PickLemmas
+pub mod JobLemmas
+pub mod Computing
+mod WorkedFaults

@@ -1,0 +1,85 @@
+-- The set of an entry.
+use Rattle.std.proofs.Common.{◌≡◌, ℕ, suc, ◌+◌, ◌<◌, Bool, true, false, List, [], ◌∷◌, ◌++◌, drop, length, Option, Result, Ok, Err, refl, sym, ap, subst, ◌∙◌, add-one, arith}
+use Rattle.std.proofs.lemmas.Bool.Decides.{nat_tests}
+use Rattle.std.specs.List.{slice_get}
+use Rattle.abbrev_units.specs.declared.unit.Unit.{Unit}
+use Rattle.abbrev_units.specs.DebugSections.{DebugSections}
+use Rattle.die_walk.specs.EntryTable.{DieFields, RootFields}
+use Rattle.range_set.specs.Canonical.{IsCanonical}
+use Rattle.sym_edges.specs.Addresses.{Range}
+use Rattle.sym_edges.specs.declared.located.Located.{Located}
+use Rattle.sym_edges.specs.declared.fault.Stop.{Stop}
+use Rattle.sym_edges.specs.declared.fault.Stop.TheVariants.{Fault, NoMemory}
+use Rattle.sym_edges.specs.Outside.{MatchStop}
+use Rattle.abbrev_units.specs.declared.fault.DwarfKind.{DwarfKind}
+use Rattle.range_set.specs.Members.{holds_any}
+use Rattle.range_lists.specs.EntryRanges.{in_pairs, in_ranges, IsRanges, pairs_of, pairs_at}
+use Rattle.debug_read.specs.Each.{each_of, Match, Says}
+use Rattle.debug_read.specs.UnitsRead.{IsSet}
+use Rattle.debug_read.proofs.EachLemmas.{Going, going_more, going_ends, going_stops}
+
+true_is_not_false : true ≡ false → ⊥
+true_is_not_false same = grind (arith, same)
+
+-- the tests of an address
+abbrev answer : Result Bool (Located DwarfKind) → Bool
+answer (Ok b) = b
+answer (Err fault) = false
+
+abbrev IsAnswer : Result Bool (Located DwarfKind) → Type 0
+IsAnswer (Ok b) = Prim.Unit {0}
+IsAnswer (Err fault) = ⊥
+
+pub set_found : (code : List Range) (given : Result (List Range) (Located DwarfKind)) (set : List Range) → IsRanges code (Ok set) given → IsCanonical set → Says (IsSet code) given set
+set_found code (Ok pairs) set is canonical = record { canonical = canonical; each = λ a. sym (ap answer (is a)) }
+set_found code (Err fault) set is canonical = absurd (subst IsAnswer (sym (is 0)) tt)
+
+pub set_refused : (code : List Range) (given : Result (List Range) (Located DwarfKind)) (stop : Stop (Located DwarfKind)) → IsRanges code (Err stop) given → MatchStop {A = List Range} (Err stop) (λ set. Says (IsSet code) given set) (λ fault. given ≡ Err fault) (Prim.Unit {0})
+set_refused code given (Fault fault) is = is
+set_refused code given NoMemory is = tt
+
+-- the sets of all entries
+abbrev pub Sets : DebugSections → Unit → RootFields → ℕ → List Range → List DieFields → ℕ → List (List Range) → Type 0
+Sets sections unit root base code dies i made =
+    Going (IsSet code) (each_of (pairs_of sections unit root base) dies) (each_of (pairs_of sections unit root base) (drop i dies)) made
+
+pub sets_more : (sections : DebugSections) (unit : Unit) (root : RootFields) (base : ℕ) (code : List Range) (dies : List DieFields) (i : ℕ) (made more : List (List Range)) (set : List Range) → i < length dies → Sets sections unit root base code dies i made → Says (IsSet code) (pairs_at sections unit root base (slice_get dies i)) set → more ≡ made ++ set ∷ [] → Sets sections unit root base code dies (i + 1) more
+sets_more sections unit root base code dies i made more set inside going one is =
+    let gives = pairs_of sections unit root base in
+    subst (λ (n : ℕ). Sets sections unit root base code dies n more) (sym (add-one i))
+    (subst (λ (m : List (List Range)). Sets sections unit root base code dies (suc i) m) (sym is)
+    (going_more (IsSet code) gives dies i (each_of gives dies) made set inside going
+    (λ die there. subst (λ (o : Option DieFields). Says (IsSet code) (pairs_at sections unit root base o) set) there one)))
+
+pub sets_all : (sections : DebugSections) (unit : Unit) (root : RootFields) (base : ℕ) (code : List Range) (dies : List DieFields) (i : ℕ) (made : List (List Range)) → i ≡ length dies → Sets sections unit root base code dies i made → Says (Match (IsSet code)) (each_of (pairs_of sections unit root base) dies) made
+sets_all sections unit root base code dies i made end going = going_ends (IsSet code) (pairs_of sections unit root base) dies i (each_of (pairs_of sections unit root base) dies) made end going
+
+pub sets_stopped : (sections : DebugSections) (unit : Unit) (root : RootFields) (base : ℕ) (code : List Range) (dies : List DieFields) (i : ℕ) (made : List (List Range)) (stop : Stop (Located DwarfKind)) → i < length dies → Sets sections unit root base code dies i made
+    → MatchStop {A = List Range} (Err stop) (λ set. Says (IsSet code) (pairs_at sections unit root base (slice_get dies i)) set) (λ fault. pairs_at sections unit root base (slice_get dies i) ≡ Err fault) (Prim.Unit {0})
+    → MatchStop {A = List (List Range)} (Err stop) (λ sets. Says (Match (IsSet code)) (each_of (pairs_of sections unit root base) dies) sets) (λ fault. each_of (pairs_of sections unit root base) dies ≡ Err fault) (Prim.Unit {0})
+sets_stopped sections unit root base code dies i made (Fault fault) inside going is =
+    let gives = pairs_of sections unit root base in
+    going_stops (IsSet code) gives dies i (each_of gives dies) made fault inside going
+    (λ die there. subst (λ (o : Option DieFields). pairs_at sections unit root base o ≡ Err fault) there is)
+sets_stopped sections unit root base code dies i made NoMemory inside going is = tt
+
+-- ranges of code are asked for nothing but what they enclose
+same_answer : (code other pairs : List Range) (a : ℕ) → in_ranges code (Ok pairs) a ≡ in_ranges other (Ok pairs) a → in_pairs code pairs a ≡ in_pairs other pairs a
+same_answer code other pairs a same = ap answer same
+
+pub sets_alike : (code other : List Range) → ((given : Result (List Range) (Located DwarfKind)) (a : ℕ) → in_ranges code given a ≡ in_ranges other given a) → (pairs sets : List (List Range)) → Match (IsSet code) pairs sets → Match (IsSet other) pairs sets
+sets_alike code other same [] [] all = tt
+sets_alike code other same [] (set ∷ sets) all = absurd all
+sets_alike code other same (p ∷ pairs) [] all = absurd all
+sets_alike code other same (p ∷ pairs) (set ∷ sets) all = (
+  record { canonical = all.0.canonical; each = λ a. all.0.each a ∙ same_answer code other p a (same (Ok p) a) },
+  sets_alike code other same pairs sets all.1,
+)
+
+-- a set without addresses is empty
+holds_first : (range : Range) (ranges : List Range) → range.start < range.end → holds_any (range ∷ ranges) range.start ≡ true
+holds_first range ranges some = grind (arith, nat_tests)
+
+pub no_address : (set : List Range) → IsCanonical set → ((a : ℕ) → holds_any set a ≡ false) → set ≡ []
+no_address [] canonical none = refl
+no_address (range ∷ ranges) canonical none = absurd (true_is_not_false (sym (holds_first range ranges canonical.0) ∙ none range.start))

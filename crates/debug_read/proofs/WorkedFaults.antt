@@ -1,0 +1,203 @@
+-- Worked rows: the first fault of a file, and what its units say, from the bytes of its sections.
+use Rattle.std.proofs.Common.{◌≡◌, ℕ, ◌+◌, Bool, true, false, List, [], ◌∷◌, ◌++◌, length, map, Option, None, Some, Result, Ok, Err, refl}
+use Rattle.std.specs.Prelude.{⊤}
+use Prim.Native.String.{String}
+use Rattle.std.specs.Option.{option_map}
+use Rattle.sym_edges.proofs.Hex.{hex, little}
+use Rattle.sym_edges.specs.Addresses.{Range}
+use Rattle.sym_edges.specs.Results.{◌>>=◌}
+use Rattle.sym_edges.specs.declared.part.Sect.{Sect}
+use Rattle.sym_edges.specs.declared.part.Sect.TheVariants as section
+use Rattle.sym_edges.specs.declared.located.Located.{Located}
+use Rattle.elf_sections.specs.Image.{ImageParts, SectionPart}
+use Rattle.abbrev_units.specs.declared.fault.DwarfKind.{DwarfKind}
+use Rattle.abbrev_units.specs.declared.fault.DwarfKind.TheVariants as is
+use Rattle.frame_entries.specs.declared.fault.FrameKind.{FrameKind}
+use Rattle.frame_entries.specs.declared.fault.FrameKind.TheVariants as frame
+use Rattle.line_program.specs.LineAt.{Lines}
+use Rattle.die_walk.specs.EntryTable.{DieFields}
+use Rattle.debug_read.specs.declared.fault.DebugFault.{DebugFault}
+use Rattle.debug_read.specs.declared.fault.DebugFault.TheVariants.{Dwarf, Frame}
+use Rattle.debug_read.specs.UnitSays.{UnitSays}
+use Rattle.debug_read.specs.UnitsRead.{has_function}
+use Rattle.debug_read.specs.DebugSays.{DebugSays, debug_says}
+use Rattle.debug_read.proofs.Computing.{debug_read_computes}
+
+abbrev at_0 : List ℕ → SectionPart
+at_0 bytes = record { bytes = bytes; address = 0 }
+
+-- at 0 one attribute of eight bytes, at 8 one of four. At 10, 1: a root with DW_AT_low_pc, DW_FORM_addrx, and DW_AT_stmt_list. 2: a subprogram
+-- with DW_AT_low_pc, DW_FORM_addrx, and a length. 3: a root with DW_AT_stmt_list. 4: a subprogram with an address and a length. 5: a root
+-- without attributes. 6: a declaration of a subprogram
+unfoldable abbrevs : List ℕ
+unfolding hex
+abbrevs = hex "01 11 00 3b 07 00 00 00 01 11 00 3b 06 00 00 00 01 11 00 11 1b 10 17 00 00 02 2e 00 11 1b 12 0f 00 00 03 11 00 10 17 00 00 04 2e 00 11 01 12 0f 00 00 05 11 00 00 00 06 2e 00 3c 19 00 00 00"
+
+-- an image of these sections whose code is from 1000 to 2000; the frame sections are at 0
+unfoldable image : List ℕ → String → String → String → ImageParts
+unfolding hex abbrevs
+image info line eh_frame debug_frame = record {
+  info = at_0 info;
+  abbrevs = at_0 abbrevs;
+  line = at_0 (hex line);
+  line_str = at_0 [];
+  str = at_0 [];
+  str_offsets = at_0 [];
+  addr = at_0 [];
+  ranges = at_0 [];
+  rnglists = at_0 [];
+  debug_frame = at_0 (hex debug_frame);
+  eh_frame = at_0 (hex eh_frame);
+  text = at_0 [];
+  base = 0;
+  code = record { start = 0x1000; end = 0x2000 } ∷ [];
+  build_id = None;
+  identity = [];
+  symbols = [];
+}
+
+-- a unit of version 4 whose abbreviations stand at a place, with one entry of four bytes
+unfoldable old : ℕ → List ℕ
+unfolding hex little
+old place = hex "0c000000 0400" ++ (little 4 place ++ hex "08 01 00000000")
+
+-- a unit of version 5 with these entries
+unfoldable unit : String → List ℕ
+unfolding hex little
+unit entries = little 4 (8 + length (hex entries)) ++ (hex "0500 01 08 10000000" ++ hex entries)
+
+-- the fault of a file, where it has one
+abbrev fault : Result DebugSays DebugFault → Option DebugFault
+fault (Ok says) = None
+fault (Err why) = Some why
+
+unfoldable fault_of : List ℕ → Option DebugFault
+unfolding image
+fault_of info = fault (debug_says (image info "" "" ""))
+
+abbrev in_info : DwarfKind → ℕ → Option DebugFault
+in_info kind at = Some (Dwarf (record { kind = kind; section = section.Info; at = at }))
+
+abbrev in_frames : Sect → Option DebugFault
+in_frames which = Some (Frame (record { kind = frame.Length; section = which; at = 0 }))
+
+unfoldable worked : ⊤
+unfolding debug_read_computes hex little abbrevs image old unit fault_of
+worked = tt
+
+-- a file without units
+no_units : debug_says (image [] "" "" "") ≡ Ok (record { headers = []; units = []; first = []; second = [] })
+unfolding worked
+no_units = refl
+
+-- of four units of 16 bytes the first and the last have a value of eight bytes, where four are left: the first counts
+four_units : fault_of (old 0 ++ (old 8 ++ (old 8 ++ old 0))) ≡ in_info is.Ends 0xc
+unfolding worked
+four_units = refl
+
+the_last_of_four : fault_of (old 8 ++ (old 8 ++ (old 8 ++ old 0))) ≡ in_info is.Ends 0x3c
+unfolding worked
+the_last_of_four = refl
+
+no_fault : fault_of (old 8 ++ (old 8 ++ (old 8 ++ old 8))) ≡ None
+unfolding worked
+no_fault = refl
+
+-- the parts of a unit, one after the other. Its abbreviations stand outside
+outside_abbreviations : fault_of (old 0x100) ≡ in_info is.OffsetOutside 0
+unfolding worked
+outside_abbreviations = refl
+
+-- the third entry has no abbreviation; the base of the unit's lists, the ranges of the second entry and the line table have faults too
+entries_first : fault_of (unit "01 00 ffffff00 02 00 10 07") ≡ in_info is.NoAbbrev 0x15
+unfolding worked
+entries_first = refl
+
+-- without the third entry the base counts: no base of addresses is there, for which the root asks
+unit_base_next : fault_of (unit "01 00 ffffff00 02 00 10") ≡ in_info is.NoBase 0xc
+unfolding worked
+unit_base_next = refl
+
+-- a root that does not ask for it: the ranges of the second entry count
+ranges_next : fault_of (unit "03 ffffff00 02 00 10") ≡ in_info is.NoBase 0x11
+unfolding worked
+ranges_next = refl
+
+-- entry by entry: the first one with a fault
+ranges_in_order : fault_of (unit "03 ffffff00 04 0010000000000000 10 02 00 10 02 00 10") ≡ in_info is.NoBase 0x1b
+unfolding worked
+ranges_in_order = refl
+
+-- the line table comes last, and its fault is the root's
+lines_last : fault_of (unit "03 ffffff00 04 0010000000000000 10") ≡ in_info is.OffsetOutside 0xc
+unfolding worked
+lines_last = refl
+
+-- the table of a unit without a function is read too: its length leaves the section
+lines_without_function : fault (debug_says (image (unit "03 00000000") "ff000000" "" "")) ≡ Some (Dwarf (record { kind = is.Ends; section = section.Line; at = 0 }))
+unfolding worked
+lines_without_function = refl
+
+-- two faults in two units, in both orders: the unit decides, whichever part of it has the fault
+lines_before_abbreviations : fault_of (unit "03 ffffff00" ++ old 0x100) ≡ in_info is.OffsetOutside 0xc
+unfolding worked
+lines_before_abbreviations = refl
+
+abbreviations_before_lines : fault_of (old 0x100 ++ unit "03 ffffff00") ≡ in_info is.OffsetOutside 0
+unfolding worked
+abbreviations_before_lines = refl
+
+-- all headers come before all units: the second one's addresses have four bytes
+unfoldable narrow : List ℕ
+unfolding hex
+narrow = hex "07000000 0400 00000000 04"
+
+headers_first : fault_of (old 0x100 ++ narrow) ≡ in_info is.AddressSize 0x10
+unfolding worked narrow
+headers_first = refl
+
+-- a unit that is skipped, of version 3, and one that is passed, a type unit, are not read, whatever stands in them
+unfoldable others : List ℕ
+unfolding hex
+others = hex "0c000000 0300 00010000 08 ff 00000000 08000000 0500 02 08 00010000"
+
+not_read : fault_of (others ++ old 0) ≡ in_info is.Ends 0x28
+unfolding worked others
+not_read = refl
+
+-- frame sections come behind all units, `.eh_frame` before `.debug_frame`
+unit_before_frames : fault (debug_says (image (old 0) "" "ff000000" "ff000000")) ≡ in_info is.Ends 0xc
+unfolding worked
+unit_before_frames = refl
+
+eh_frame_next : fault (debug_says (image (old 8) "" "ff000000" "ff000000")) ≡ in_frames section.EhFrame
+unfolding worked
+eh_frame_next = refl
+
+debug_frame_last : fault (debug_says (image (old 8) "" "" "ff000000")) ≡ in_frames section.DebugFrame
+unfolding worked
+debug_frame_last = refl
+
+-- of each unit that is read: the places of its entries, the pairs of each, whether it has a function and a line table
+pub record Seen : Type 0 where
+  pub places : List ℕ
+  pub pairs : List (List Range)
+  pub function : Bool
+  pub lines : Option ℕ
+
+unfoldable seen : UnitSays → Seen
+seen says = record {
+  places = map (λ (d : DieFields). d.at) says.table.dies;
+  pairs = says.pairs;
+  function = has_function says.table.dies;
+  lines = option_map (λ (l : Lines). l.first) says.lines;
+}
+
+unfoldable seen_in : List ℕ → String → Result (List Seen) DebugFault
+unfolding image seen
+seen_in info line = debug_says (image info line "" "") >>= λ says. Ok (map seen says.units)
+
+two_units : seen_in (others ++ (unit "03 00000000 04 0010000000000000 10 06" ++ unit "05 06")) "19000000 0200 13000000 01 01 fd 0c 0d 00 01 01 01 01 00 00 00 01 00 00 01 00 00"
+    ≡ Ok (record { places = 0x28 ∷ 0x2d ∷ 0x37 ∷ []; pairs = [] ∷ (record { start = 0x1000; end = 0x1010 } ∷ []) ∷ [] ∷ []; function = true; lines = Some 1 } ∷ record { places = 0x44 ∷ 0x45 ∷ []; pairs = [] ∷ [] ∷ []; function = false; lines = None } ∷ [])
+unfolding worked others seen seen_in
+two_units = refl

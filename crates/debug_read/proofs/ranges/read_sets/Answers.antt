@@ -1,0 +1,18 @@
+use Rattle.std.proofs.Common.{◌≡◌, ◌<◌, length, arith, ap}
+use Rattle.debug_read.proofs.SetLemmas.{sets_more, sets_all, sets_stopped}
+use Rattle.debug_read.proofs.ranges.read_sets.Goals as goal
+
+pub returns-in-Err : goal.returns-in-Err
+returns-in-Err c =
+    let inside : c.entries.entry < length c.args.table.now.dies = omega (arith, ap length c.dies-count.ensures, c.entries-test.true) in
+    sets_stopped c.args.sections.now c.args.unit.now c.args.table.now.root c.args.base c.args.code.now c.args.table.now.dies c.entries.entry c.entries.sets.items c.in-Err.stop inside c.entries.invariant c.in-Err.ensures
+
+pub entries-preserved : goal.entries-preserved
+entries-preserved c =
+    let inside : c.entries.entry < length c.args.table.now.dies = omega (arith, ap length c.dies-count.ensures, c.entries-test.true) in
+    sets_more c.args.sections.now c.args.unit.now c.args.table.now.root c.args.base c.args.code.now c.args.table.now.dies c.entries.entry c.entries.sets.items c.push.new.self.items c.in-Ok.set inside c.entries.invariant c.in-Ok.ensures c.in_ok-push-in-Ok.ensures.items
+
+pub returns : goal.returns
+returns c =
+    let end : c.entries.entry ≡ length c.args.table.now.dies = omega (arith, ap length c.dies-count.ensures, c.entries-test.false, c.entries.auto.entry-end) in
+    rw c.of.ensures (sets_all c.args.sections.now c.args.unit.now c.args.table.now.root c.args.base c.args.code.now c.args.table.now.dies c.entries.entry c.entries.sets.items end c.entries.invariant)

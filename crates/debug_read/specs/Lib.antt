@@ -1,0 +1,7 @@
+pub mod Each
+pub mod ImageSections
+pub mod UnitSays
+pub mod UnitsRead
+pub mod DebugSays
+pub mod Jobs
+pub mod Stops

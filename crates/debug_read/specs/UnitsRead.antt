@@ -1,0 +1,40 @@
+-- What is kept of a unit.
+use Rattle.std.specs.Prelude.{◌≡◌, ℕ, Bool, true, false, List, [], Option, None, Some}
+use Rattle.std.specs.List.{list_any}
+use Rattle.sym_edges.specs.Addresses.{Range}
+use Rattle.range_set.specs.Canonical.{IsCanonical}
+use Rattle.range_set.specs.Enclosing.{encloses}
+use Rattle.range_set.specs.Members.{holds_any}
+use Rattle.die_walk.specs.EntryTable.{DieFields}
+use Rattle.range_lists.specs.EntryRanges.{in_pairs}
+use Rattle.line_program.specs.LineAt.{Lines}
+use Rattle.line_program.specs.LineMaps.{LineMap, SaysLines}
+use Rattle.die_names.specs.declared.unit_read.UnitRead.{UnitRead}
+use Rattle.die_names.specs.UnitEntries.{is_function}
+use Rattle.debug_read.specs.Each.{Match}
+use Rattle.debug_read.specs.UnitSays.{UnitSays}
+
+-- a set has exactly the addresses that pairs give: those in a pair that is code
+pub record IsSet (code pairs set : List Range) : Type 0 where
+  pub canonical : IsCanonical set
+  pub each : (a : ℕ) → holds_any set a ≡ in_pairs code pairs a
+
+-- some entry is a function
+unfoldable pub has_function : List DieFields → Bool
+has_function dies = list_any is_function dies
+
+-- no line and no file
+abbrev pub no_lines : LineMap
+no_lines = record { lines = record { stops = []; values = [] }; paths = []; first = 0; files = [] }
+
+-- a unit's line table is kept where the unit has a function, since lines are asked of an owner's unit alone
+abbrev pub KeepsLines : List Range → Bool → Option Lines → LineMap → Type 0
+KeepsLines code true (Some lines) kept = SaysLines (encloses code) lines kept
+KeepsLines code true None kept = kept ≡ no_lines
+KeepsLines code false lines kept = kept ≡ no_lines
+
+-- what is kept of a unit that says this, where these addresses are code
+pub record IsUnitRead (code : List Range) (says : UnitSays) (part : UnitRead) : Type 0 where
+  pub die : part.die ≡ says.table
+  pub spans : Match (IsSet code) says.pairs part.spans
+  pub lines : KeepsLines code (has_function says.table.dies) says.lines part.lines

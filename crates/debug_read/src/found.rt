@@ -1,0 +1,14 @@
+//! What is read of a file's debugging information.
+use abbrev_units::UnitList;
+use die_names::Units;
+use frame_entries::EntryList;
+
+/// The headers of all units, the units that are read, in the order of their headers, and the frame entries of `.eh_frame` and of
+/// `.debug_frame`.
+#[derive(Drop)]
+pub struct DebugRead<'a> {
+    pub headers: UnitList,
+    pub units: Units<'a>,
+    pub first: EntryList<'a>,
+    pub second: EntryList<'a>,
+}

@@ -1,0 +1,162 @@
+-- Worked rows: files with debug entries, and their first fault behind the image (DWARF 5, sections 6.2.4, 7.5 and 7.25).
+use Rattle.std.proofs.Common.{◌≡◌, ℕ, ◌+◌, List, [], ◌∷◌, ◌++◌, length, codes, refl}
+use Prim.Native.String.{String}
+use Rattle.sym_edges.proofs.Hex.{little}
+use Rattle.worked.proofs.Elf.{Section, progbits, hex}
+use Rattle.worked.proofs.Small.{Told, ran, dump, refused, worked, files}
+
+-- a unit of version 4 (its header has 11 bytes) and one of version 5 (12), by the place of their abbreviations and their entries
+unfoldable unit_4 : ℕ → String → List ℕ
+unit_4 abbreviations entries = little 4 (7 + length (hex entries)) ++ hex "0400" ++ little 4 abbreviations ++ 8 ∷ hex entries
+
+unfoldable unit_5 : String → List ℕ
+unit_5 entries = little 4 (8 + length (hex entries)) ++ hex "0500 01 08 00000000" ++ hex entries
+
+-- the sections of units and of abbreviations
+abbrev info : List ℕ → Section
+info bytes = progbits ".debug_info" bytes
+
+abbrev abbreviations : String → Section
+abbreviations bytes = progbits ".debug_abbrev" (hex bytes)
+
+-- the file of these sections, behind a build id, code and an empty table of symbols
+unfoldable file : List Section → List ℕ
+file sections = worked [] sections
+
+-- what its dump says
+unfoldable says : List Section → Told
+says sections = dump (file sections)
+
+-- the same by a number of workers
+unfoldable says_by : String → List Section → Told
+says_by workers sections = ran (codes "dump" ∷ codes "a" ∷ codes "--workers" ∷ codes workers ∷ []) (codes "a") (file sections)
+
+-- code 1 is a compile unit with a language: at 0 in eight bytes, at 8 in four
+abbrev eight_or_four : Section
+eight_or_four = abbreviations "01 11 00 13 07 00 00 00   01 11 00 13 06 00 00 00"
+
+-- a unit of 16 bytes: the entry and four bytes, by the place of its abbreviations
+abbrev of_16 : ℕ → List ℕ
+of_16 place = unit_4 place "01 00000000"
+
+-- four units, whose first and last are cut in their entry
+abbrev four : Section
+four = info (of_16 0 ++ of_16 8 ++ of_16 8 ++ of_16 0)
+
+-- the sections of frames with a fault
+abbrev bad_frames : Section
+bad_frames = progbits ".eh_frame" (hex "140000")
+
+-- the first fault counts, whatever the workers
+the_first_of_four_units : says (four ∷ eight_or_four ∷ []) ≡ refused "refused dwarf ends debug_info c\n"
+unfolding files unit_4 unit_5 file says says_by
+the_first_of_four_units = refl
+
+the_same_by_one_worker : says_by "1" (four ∷ eight_or_four ∷ []) ≡ refused "refused dwarf ends debug_info c\n"
+unfolding files unit_4 unit_5 file says says_by
+the_same_by_one_worker = refl
+
+the_same_by_two_workers : says_by "2" (four ∷ eight_or_four ∷ []) ≡ refused "refused dwarf ends debug_info c\n"
+unfolding files unit_4 unit_5 file says says_by
+the_same_by_two_workers = refl
+
+the_same_by_eight_workers : says_by "8" (four ∷ eight_or_four ∷ []) ≡ refused "refused dwarf ends debug_info c\n"
+unfolding files unit_4 unit_5 file says says_by
+the_same_by_eight_workers = refl
+
+the_last_of_four_units : says (info (of_16 8 ++ of_16 8 ++ of_16 8 ++ of_16 0) ∷ eight_or_four ∷ []) ≡ refused "refused dwarf ends debug_info 3c\n"
+unfolding files unit_4 unit_5 file says says_by
+the_last_of_four_units = refl
+
+-- the headers of all units come before the units
+a_header_behind_a_cut_unit : says (info (of_16 0 ++ hex "00") ∷ eight_or_four ∷ []) ≡ refused "refused dwarf ends debug_info 10\n"
+unfolding files unit_4 unit_5 file says says_by
+a_header_behind_a_cut_unit = refl
+
+-- units come before frames
+a_unit_before_frames : says (four ∷ eight_or_four ∷ bad_frames ∷ []) ≡ refused "refused dwarf ends debug_info c\n"
+unfolding files unit_4 unit_5 file says says_by
+a_unit_before_frames = refl
+
+frames_behind_a_unit : says (info (of_16 8) ∷ eight_or_four ∷ bad_frames ∷ []) ≡ refused "refused frame length eh_frame 0\n"
+unfolding files unit_4 unit_5 file says says_by
+frames_behind_a_unit = refl
+
+-- where there is no fault, debug entries are not dumped yet
+a_unit_without_faults : says (info (of_16 8) ∷ eight_or_four ∷ []) ≡ refused "refused unbuilt\n"
+unfolding files unit_4 unit_5 file says says_by
+a_unit_without_faults = refl
+
+-- units that are not read: of version 3, and a type unit
+a_unit_of_version_3 : says (info (hex "07000000 0300 00000000 08") ∷ []) ≡ refused "refused unbuilt\n"
+unfolding files unit_4 unit_5 file says says_by
+a_unit_of_version_3 = refl
+
+a_type_unit : says (info (hex "18000000 0500 02 08 00000000 0000000000000000 00000000 00000000") ∷ []) ≡ refused "refused unbuilt\n"
+unfolding files unit_4 unit_5 file says says_by
+a_type_unit = refl
+
+-- the word of each kind of fault, and of the sections
+a_long_number : says (info (of_16 0) ∷ abbreviations "80808080808080808080 00" ∷ []) ≡ refused "refused dwarf leb-long debug_abbrev 0\n"
+unfolding files unit_4 unit_5 file says says_by
+a_long_number = refl
+
+a_text_without_an_end : says (info (unit_4 0 "01 61626364") ∷ abbreviations "01 11 00 03 08 00 00 00" ∷ []) ≡ refused "refused dwarf no-zero debug_info c\n"
+unfolding files unit_4 unit_5 file says says_by
+a_text_without_an_end = refl
+
+a_reserved_length : says (info (hex "f0ffffff") ∷ []) ≡ refused "refused dwarf reserved debug_info 0\n"
+unfolding files unit_4 unit_5 file says says_by
+a_reserved_length = refl
+
+addresses_of_four_bytes : says (info (hex "0c000000 0400 00000000 04 01 00000000") ∷ eight_or_four ∷ []) ≡ refused "refused dwarf address-size debug_info 0\n"
+unfolding files unit_4 unit_5 file says says_by
+addresses_of_four_bytes = refl
+
+an_unknown_type_of_unit : says (info (hex "0d000000 0500 07 08 00000000 01 00000000") ∷ eight_or_four ∷ []) ≡ refused "refused dwarf unit-type debug_info 0\n"
+unfolding files unit_4 unit_5 file says says_by
+an_unknown_type_of_unit = refl
+
+an_unknown_form : says (info (of_16 0) ∷ abbreviations "01 11 00 13 7f 00 00 00" ∷ []) ≡ refused "refused dwarf unknown-form debug_info c\n"
+unfolding files unit_4 unit_5 file says says_by
+an_unknown_form = refl
+
+a_code_without_abbreviation : says (info (unit_4 0 "02 00000000") ∷ eight_or_four ∷ []) ≡ refused "refused dwarf no-abbrev debug_info b\n"
+unfolding files unit_4 unit_5 file says says_by
+a_code_without_abbreviation = refl
+
+abbreviations_outside : says (info (of_16 17) ∷ eight_or_four ∷ []) ≡ refused "refused dwarf offset-outside debug_info 0\n"
+unfolding files unit_4 unit_5 file says says_by
+abbreviations_outside = refl
+
+abbreviations_that_are_missing : says (info (of_16 0) ∷ []) ≡ refused "refused dwarf ends debug_abbrev 0\n"
+unfolding files unit_4 unit_5 file says says_by
+abbreviations_that_are_missing = refl
+
+an_index_without_its_base : says (info (unit_5 "01 02 00 00") ∷ abbreviations "01 11 01 00 00   02 2e 00 55 23 00 00   00" ∷ []) ≡ refused "refused dwarf no-base debug_info d\n"
+unfolding files unit_4 unit_5 file says says_by
+an_index_without_its_base = refl
+
+an_unknown_item_of_a_list : says (info (unit_5 "01 02 00000000 00") ∷ abbreviations "01 11 01 00 00   02 2e 00 55 17 00 00   00" ∷ progbits ".debug_rnglists" (hex "ff") ∷ []) ≡ refused "refused dwarf range-kind debug_rnglists 0\n"
+unfolding files unit_4 unit_5 file says says_by
+an_unknown_item_of_a_list = refl
+
+an_older_list_that_ends : says (info (unit_4 0 "01 02 00000000 00") ∷ abbreviations "01 11 01 00 00   02 2e 00 55 17 00 00   00" ∷ progbits ".debug_ranges" (hex "ff") ∷ []) ≡ refused "refused dwarf ends debug_ranges 0\n"
+unfolding files unit_4 unit_5 file says says_by
+an_older_list_that_ends = refl
+
+an_address_that_ends : says (info (unit_5 "01 00000000 00") ∷ abbreviations "01 11 00 73 17 11 1b 00 00   00" ∷ progbits ".debug_addr" (hex "ff") ∷ []) ≡ refused "refused dwarf ends debug_addr 0\n"
+unfolding files unit_4 unit_5 file says says_by
+an_address_that_ends = refl
+
+an_unknown_version_of_a_line_table : says (info (unit_4 0 "01 00000000") ∷ abbreviations "01 11 00 10 17 00 00   00" ∷ progbits ".debug_line" (hex "02000000 0600") ∷ []) ≡ refused "refused dwarf line-version debug_line 0\n"
+unfolding files unit_4 unit_5 file says says_by
+an_unknown_version_of_a_line_table = refl
+
+a_line_table_of_other_addresses : says (info (unit_4 0 "01 00000000") ∷ abbreviations "01 11 00 10 17 00 00   00" ∷ progbits ".debug_line" (hex "03000000 0500 04") ∷ []) ≡ refused "refused dwarf line-header debug_line 0\n"
+unfolding files unit_4 unit_5 file says says_by
+a_line_table_of_other_addresses = refl
+
+an_opcode_of_no_bytes : says (info (unit_4 0 "01 00000000") ∷ abbreviations "01 11 00 10 17 00 00   00" ∷ progbits ".debug_line" (hex "1d000000 0400 14000000 010101fb0e0d 000101010100000001000001 00 00 010000") ∷ []) ≡ refused "refused dwarf line-opcode debug_line 1f\n"
+unfolding files unit_4 unit_5 file says says_by
+an_opcode_of_no_bytes = refl
