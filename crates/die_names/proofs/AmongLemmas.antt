@@ -198,8 +198,8 @@ pub inside_middle : (units left : List UnitRead) (part : UnitRead) (rest : List 
 inside_middle units left part rest half entry h within = record {
   unit = rw h.whole (rw length-append (omega (arith, h.long)));
   entry = subst (λ (us : List UnitRead). entry < die_count (slice_get us half)) (sym h.whole)
-    (subst (λ (n : ℕ). entry < die_count (slice_get (left ++ (part ∷ rest)) n)) (sym h.long)
-    (subst (λ u. entry < die_count u) (sym (middle_get left part rest)) within));
+      (subst (λ (n : ℕ). entry < die_count (slice_get (left ++ (part ∷ rest)) n)) (sym h.long)
+      (subst (λ u. entry < die_count u) (sym (middle_get left part rest)) within));
 }
 
 -- the second half
@@ -255,6 +255,7 @@ found_there first units s inside o is same x = inside_some (slice_get units s.un
     dies_some [] unit entry k x within = absurd (omega arith)
     dies_some (d ∷ dies) unit entry zero x within = refl
     dies_some (d ∷ dies) unit entry (suc k) x within = dies_some dies unit entry k x (omega arith)
+
     inside_some : (u : Option UnitRead) (unit entry : ℕ) (x : Option Placed) → entry < die_count u → option_or (entry_in unit entry u) x ≡ entry_in unit entry u
     inside_some None unit entry x within = absurd (omega arith)
     inside_some (Some part) unit entry x within = dies_some part.die.dies unit entry entry x within

@@ -28,7 +28,7 @@ around_step dies (suc limit) number d below is =
     let here : limit ≡ number = omega arith in
     cond-true _ _ _ (eq-eqb _ _ (sym here))
     ∙ subst (λ n. option_map_or (λ die. n ∷ around dies n die.parent) (slice_get dies n) [] ≡ number ∷ around dies number d.parent) (sym here)
-      (ap (λ o. option_map_or (λ die. number ∷ around dies number die.parent) o []) is))
+    (ap (λ o. option_map_or (λ die. number ∷ around dies number die.parent) o []) is))
     (cases_lt number limit)
 
 around_lost : (dies : List DieFields) (limit number : ℕ) → number < limit → slice_get dies number ≡ None → around dies limit (Some number) ≡ []
@@ -41,7 +41,7 @@ around_lost dies (suc limit) number below is =
     let here : limit ≡ number = omega arith in
     cond-true _ _ _ (eq-eqb _ _ (sym here))
     ∙ subst (λ n. option_map_or (λ die. n ∷ around dies n die.parent) (slice_get dies n) [] ≡ []) (sym here)
-      (ap (λ o. option_map_or (λ die. number ∷ around dies number die.parent) o []) is))
+    (ap (λ o. option_map_or (λ die. number ∷ around dies number die.parent) o []) is))
     (cases_lt number limit)
 
 pub gathered_lost : (dies : List DieFields) (done : List ℕ) (limit number : ℕ) (next : Option ℕ) (whole : List ℕ) → next ≡ Some number → number < limit → None ≡ slice_get dies number → done ++ around dies limit next ≡ whole → done ≡ whole

@@ -80,11 +80,12 @@ unit_there (x ∷ done) u units = unit_there done u units
 
 dies_there : (units : List UnitRead) (unit : ℕ) (part : UnitRead) (done dies : List DieFields) → slice_get units unit ≡ Some part → done ++ dies ≡ part.die.dies → AllOf (IsThere units) (unit_entries unit (length done) dies)
 dies_there units unit part done [] is whole = tt
-dies_there units unit part done (d ∷ dies) is whole =
-    (ap (entry_in unit (length done)) is
-    ∙ ap (λ ds. option_map {U = Placed} (λ die. record { unit = unit; entry = length done; die = die }) (slice_get ds (length done))) (sym whole)
-    ∙ ap (option_map {U = Placed} (λ die. record { unit = unit; entry = length done; die = die })) (die_there done d dies),
-    subst (λ n. AllOf (IsThere units) (unit_entries unit n dies)) (length-append done (d ∷ [])) (dies_there units unit part (done ++ (d ∷ [])) dies is (append_assoc done (d ∷ []) dies ∙ whole)))
+dies_there units unit part done (d ∷ dies) is whole = (
+  ap (entry_in unit (length done)) is
+      ∙ ap (λ ds. option_map {U = Placed} (λ die. record { unit = unit; entry = length done; die = die }) (slice_get ds (length done))) (sym whole)
+      ∙ ap (option_map {U = Placed} (λ die. record { unit = unit; entry = length done; die = die })) (die_there done d dies),
+  subst (λ n. AllOf (IsThere units) (unit_entries unit n dies)) (length-append done (d ∷ [])) (dies_there units unit part (done ++ (d ∷ [])) dies is (append_assoc done (d ∷ []) dies ∙ whole)),
+)
 
 all_there : (done units : List UnitRead) → AllOf (IsThere (done ++ units)) (entries_from (length done) units)
 all_there done [] = tt

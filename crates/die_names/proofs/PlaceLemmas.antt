@@ -1,16 +1,11 @@
 -- Entries stand in their units in rising order, and units one behind the other.
-use Rattle.std.proofs.Common.{◌≡◌, ◌<◌, ◌≤◌, ◌+◌, ◌-◌, ◌^◌, ℕ, zero, suc, Bool, true, false, nat_eq, nat_lt, cond, List, [], ◌∷◌, ◌++◌, map, length, take, drop, Option, None, Some, Result, Ok, Err, refl, sym, ap, subst, ◌∙◌, arith, length-drop, length-take-le, length-append}
-use Rattle.std.proofs.lemmas.Bool.{ltb-false}
+use Rattle.std.proofs.Common.{◌≡◌, ◌≤◌, ◌+◌, ◌-◌, ℕ, zero, suc, Bool, true, false, nat_eq, cond, List, [], ◌∷◌, ◌++◌, map, length, take, Option, None, Some, Result, Ok, Err, refl, ap, subst, ◌∙◌, arith, length-drop, length-take-le}
 use Rattle.sym_edges.specs.Results.{◌>>=◌}
 use Rattle.sym_edges.specs.declared.located.Located.{Located}
-use Rattle.sym_edges.specs.declared.part.Sect.{Sect}
 use Rattle.sym_edges.specs.declared.part.Sect.TheVariants.{Info}
-use Rattle.leb_cursor.specs.declared.fault.CursorFault.{CursorFault}
-use Rattle.leb_cursor.specs.Ahead.{Ahead, passed}
-use Rattle.leb_cursor.specs.Passes.{Passes}
-use Rattle.leb_cursor.specs.Readings.{fixed_at, take_at, part_at, uleb_at}
+use Rattle.leb_cursor.specs.Ahead.{Ahead}
+use Rattle.leb_cursor.specs.Readings.{uleb_at}
 use Rattle.leb_cursor.specs.Lists.{list_by, list_in, list_at, GoesOn}
-use Rattle.leb_cursor.proofs.PassLemmas.{fixed_passes, take_passes}
 use Rattle.abbrev_units.specs.declared.abbrev.Abbrev.{Abbrev}
 use Rattle.abbrev_units.specs.declared.fault.DwarfKind.{DwarfKind}
 use Rattle.abbrev_units.specs.declared.value.Given.{Given}
@@ -21,9 +16,8 @@ use Rattle.abbrev_units.specs.Faults.{read_in}
 use Rattle.die_walk.specs.Marks.{Mark, read_values_at, entry_by, mark_by, mark_at, next_mark, marks_at}
 use Rattle.die_walk.specs.Marks.Mark.{Close, Entry}
 use Rattle.die_walk.specs.EntryTree.{Item, Kept, items_from, is_kept, kept_from, ancestor, rooted}
-use Rattle.die_walk.specs.EntryTable.{DieFields, EntryTable, base_of, die_of, root_of, table_by, table_of, entries_ahead, entry_table}
+use Rattle.die_walk.specs.EntryTable.{DieFields, EntryTable, base_of, die_of, table_by, table_of, entries_ahead, entry_table}
 use Rattle.die_walk.proofs.WalkLemmas.{next_goes}
-use Rattle.step_maps.specs.Stepping.{RisesFrom}
 use Rattle.die_names.specs.UnitPlaces.{RisesTo}
 
 -- what stands in a unit from a place on, entries in rising order

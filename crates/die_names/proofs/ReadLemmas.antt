@@ -1,7 +1,5 @@
 -- The tables of a section's units are units that can be put together.
 use Rattle.std.proofs.Common.{◌≡◌, ◌<◌, ◌≤◌, ◌+◌, ◌^◌, ℕ, List, [], ◌∷◌, ◌++◌, map, length, Ok, arith}
-use Rattle.sym_edges.specs.declared.located.Located.{Located}
-use Rattle.abbrev_units.specs.declared.fault.DwarfKind.{DwarfKind}
 use Rattle.abbrev_units.specs.declared.unit.Unit.{Unit}
 use Rattle.abbrev_units.specs.declared.unit.UnitPart.{UnitPart}
 use Rattle.abbrev_units.specs.declared.unit.UnitPart.TheVariants.{Read, Passed, Skipped}
@@ -11,7 +9,7 @@ use Rattle.die_walk.specs.EntryTable.{DieFields}
 use Rattle.step_maps.specs.Stepping.{RisesFrom}
 use Rattle.die_names.specs.declared.unit_read.UnitRead.{UnitRead}
 use Rattle.die_names.specs.UnitEntries.{places, ArePairs, AreRead}
-use Rattle.die_names.specs.UnitPlaces.{RisesTo, BodyInside, Follow, with_read, read_units, IsTable, AreTables}
+use Rattle.die_names.specs.UnitPlaces.{RisesTo, BodyInside, Follow, with_read, read_units, AreTables}
 use Rattle.die_names.proofs.PlaceLemmas.{places_rise, rises_lower}
 use Rattle.die_names.proofs.UnitLemmas.{units_follow}
 

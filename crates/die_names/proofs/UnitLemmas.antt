@@ -1,5 +1,5 @@
 -- Units stand one behind the other, and their entries behind their headers.
-use Rattle.std.proofs.Common.{◌≡◌, ◌<◌, ◌≤◌, ◌+◌, ◌-◌, ◌^◌, ℕ, zero, suc, Bool, true, false, nat_eq, nat_lt, cond, List, [], ◌∷◌, length, take, drop, Option, None, Some, Result, Ok, Err, refl, sym, ap, subst, ◌∙◌, arith, length-take-le}
+use Rattle.std.proofs.Common.{◌≡◌, ◌<◌, ◌≤◌, ◌+◌, ℕ, zero, suc, Bool, true, false, nat_eq, nat_lt, cond, List, ◌∷◌, length, take, Option, None, Some, Result, Ok, Err, refl, sym, ap, subst, ◌∙◌, arith, length-take-le}
 use Rattle.std.proofs.lemmas.Bool.{ltb-false}
 use Rattle.sym_edges.specs.Results.{◌>>=◌}
 use Rattle.sym_edges.specs.declared.located.Located.{Located}
@@ -9,14 +9,13 @@ use Rattle.leb_cursor.specs.Ahead.{Ahead, passed}
 use Rattle.leb_cursor.specs.Passes.{Passes}
 use Rattle.leb_cursor.specs.Readings.{fixed_at, take_at, part_at}
 use Rattle.leb_cursor.specs.Lists.{list_by, list_in, list_at, GoesOn}
-use Rattle.leb_cursor.proofs.PassLemmas.{fixed_passes, take_passes, part_passes}
+use Rattle.leb_cursor.proofs.PassLemmas.{fixed_passes, take_passes}
 use Rattle.abbrev_units.specs.declared.fault.DwarfKind.{DwarfKind}
 use Rattle.abbrev_units.specs.declared.fault.DwarfKind.TheVariants as is
 use Rattle.abbrev_units.specs.declared.fault.HeaderFault.{HeaderFault}
 use Rattle.abbrev_units.specs.declared.fault.HeaderFault.TheVariants.{Start}
 use Rattle.abbrev_units.specs.declared.unit.Frame.{Frame}
 use Rattle.abbrev_units.specs.declared.unit.Unit.{Unit}
-use Rattle.abbrev_units.specs.declared.unit.UnitPart.{UnitPart}
 use Rattle.abbrev_units.specs.declared.unit.UnitPart.TheVariants as part
 use Rattle.abbrev_units.specs.declared.length.InitialLength.{InitialLength}
 use Rattle.abbrev_units.specs.Contents.{Contents}
@@ -24,7 +23,7 @@ use Rattle.abbrev_units.specs.Faults.{as_field, as_header, or_start}
 use Rattle.abbrev_units.specs.InitialLength.{length_at, contents_at}
 use Rattle.abbrev_units.specs.Texts.{place_width}
 use Rattle.abbrev_units.specs.Units.{other_unit, read_unit, address_size_at, abbrev_place_at, version_4_at, id_at, version_5_by, version_5_at, is_read_type, is_passed_type, unit_by, unit_in, header_at, unit_at, next_unit, units_in}
-use Rattle.abbrev_units.proofs.UnitLemmas.{length_passes, contents_passes, next_goes}
+use Rattle.abbrev_units.proofs.UnitLemmas.{length_passes, next_goes}
 use Rattle.die_names.specs.UnitPlaces.{BodyInside, Follow}
 
 abbrev end_of : Ahead → ℕ
@@ -223,9 +222,13 @@ ListFollows low high (Ok x) = Follow low high x.0
 ListFollows low high (Err fault) = Prim.Unit {0}
 
 first_follows : {E : Type 0} (unit : Unit) (c d : Ahead) (later : Result (List Unit × Ahead) E) → (unit.start ≡ c.at) × (unit.end ≡ d.at) × (c.at + 4 ≤ d.at) × BodyInside unit unit.part → end_of d ≡ end_of c → ListFollows d.at (end_of d) later → ListFollows c.at (end_of c) (later >>= λ rest. Ok (unit ∷ rest.0, rest.1))
-first_follows unit c d (Ok rest) stands same follows =
-    (omega (arith, stands.0), omega (arith, stands.0, stands.1, stands.2), omega (arith, stands.1, same), stands.3,
-    subst (λ low. Follow low (end_of c) rest.0) (sym stands.1) (subst (λ high. Follow d.at high rest.0) same follows))
+first_follows unit c d (Ok rest) stands same follows = (
+  omega (arith, stands.0),
+  omega (arith, stands.0, stands.1, stands.2),
+  omega (arith, stands.1, same),
+  stands.3,
+  subst (λ low. Follow low (end_of c) rest.0) (sym stands.1) (subst (λ high. Follow d.at high rest.0) same follows),
+)
 first_follows unit c d (Err fault) stands same follows = tt
 
 list_follows : {E : Type 0} (first : Result (Option Unit × Ahead) E) (later : Ahead → Result (List Unit × Ahead) E) (c : Ahead) → GoesOn c first → MemberStands c first → ((d : Ahead) → ListFollows d.at (end_of d) (later d)) → ListFollows c.at (end_of c) (first >>= λ x. list_by x.0 x.1 (later x.1))

@@ -8,8 +8,19 @@ use Rattle.die_names.proofs.Computing.{die_names_computes}
 -- an entry by its place, tag and parent, what it is linked to, and its names
 unfoldable die : ℕ → ℕ → Option ℕ → Option ℕ → Option ℕ → Option (List ℕ) → Option (List ℕ) → DieFields
 die at tag parent origin spec name linkage = record {
-  at = at; tag = tag; parent = parent; declaration = false; low = None; high = None; ranges = None;
-  origin = origin; spec = spec; name = name; linkage = linkage; call_file = None; call_line = 0;
+  at = at;
+  tag = tag;
+  parent = parent;
+  declaration = false;
+  low = None;
+  high = None;
+  ranges = None;
+  origin = origin;
+  spec = spec;
+  name = name;
+  linkage = linkage;
+  call_file = None;
+  call_line = 0;
 }
 
 unfoldable unit : List DieFields → UnitRead

@@ -1,8 +1,6 @@
 -- Where units and their entries stand in `.debug_info` (DWARF 5, 7.5.1): a unit behind the one before it, its entries behind its header.
-use Rattle.std.specs.Prelude.{◌≡◌, ℕ, ◌+◌, ◌≤◌, ◌<◌, List, [], ◌∷◌, ◌++◌, Result, Ok, Err}
-use Rattle.sym_edges.specs.declared.located.Located.{Located}
+use Rattle.std.specs.Prelude.{◌≡◌, ℕ, ◌+◌, ◌≤◌, ◌<◌, List, [], ◌∷◌, Ok}
 use Rattle.abbrev_units.specs.declared.abbrev.Abbrev.{Abbrev}
-use Rattle.abbrev_units.specs.declared.fault.DwarfKind.{DwarfKind}
 use Rattle.abbrev_units.specs.declared.unit.Unit.{Unit}
 use Rattle.abbrev_units.specs.declared.unit.UnitPart.{UnitPart}
 use Rattle.abbrev_units.specs.declared.unit.UnitPart.TheVariants.{Read, Passed, Skipped}

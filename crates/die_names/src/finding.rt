@@ -48,7 +48,10 @@ fn behind(count: usize, standing: Option<Standing>) -> Option<Standing>
     ensures { result ≡ moved count standing }
 {
     match standing {
-        Some(s) => Some(Standing { unit: count + s.unit, entry: s.entry }),
+        Some(s) => Some(Standing {
+            unit: count + s.unit,
+            entry: s.entry,
+        }),
         None => None,
     }
 }

@@ -53,7 +53,12 @@ fn add_front(text: &mut Vec<u8>, die: &Die<'_>) -> Result<(), OutOfMemory>
 
 /// The numbers of the entries around one, the innermost first.
 #[tactic(auto, using(crate::proofs::JoinLemmas::gathered_more, crate::proofs::JoinLemmas::gathered_none, crate::proofs::JoinLemmas::gathered_past, crate::proofs::JoinLemmas::gathered_lost))]
-fn numbers_around(alloc: Global, dies: &[Die<'_>], entry: usize, parent: Option<u32>) -> Result<Vec<u32>, OutOfMemory>
+fn numbers_around(
+    alloc: Global,
+    dies: &[Die<'_>],
+    entry: usize,
+    parent: Option<u32>,
+) -> Result<Vec<u32>, OutOfMemory>
     ensures { IfOk result (λ v. v.items ≡ around dies.now entry parent) }
 {
     let mut numbers = Vec::new(alloc);
@@ -102,7 +107,13 @@ fn has_scope(dies: &[Die<'_>], entry: usize, parent: Option<u32>) -> bool
 
 /// A name behind the names of its scopes.
 #[tactic(auto, using(crate::proofs::JoinLemmas::fronts_more))]
-fn join(alloc: Global, dies: &[Die<'_>], entry: usize, parent: Option<u32>, name: &[u8]) -> Result<Vec<u8>, OutOfMemory>
+fn join(
+    alloc: Global,
+    dies: &[Die<'_>],
+    entry: usize,
+    parent: Option<u32>,
+    name: &[u8],
+) -> Result<Vec<u8>, OutOfMemory>
     ensures { IfOk result (λ v. v.items ≡ front_in dies.now entry parent ++ name.now) }
 {
     let mut numbers = numbers_around(alloc, dies, entry, parent)?;

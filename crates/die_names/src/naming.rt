@@ -60,7 +60,11 @@ fn refer(at: Standing, how: How) -> NameRef
     requires entry { at.entry < 2 ^ 32 }
     ensures { result ≡ record { unit = at.unit; entry = at.entry; how = how } }
 {
-    NameRef { unit: at.unit as u32, entry: at.entry as u32, how }
+    NameRef {
+        unit: at.unit as u32,
+        entry: at.entry as u32,
+        how,
+    }
 }
 
 /// The name if no linkage name comes: that of the first entry that has one.
@@ -104,7 +108,14 @@ pub fn name_of(units: &Units<'_>, unit: u32, entry: u32) -> NameRef
     ensures reference { result ≡ name_ref units.now unit entry }
     ensures name { cleaned (name_bytes units.now result) ≡ entry_name units.now unit entry }
 {
-    let asked = NameRef { unit, entry, how: How::Omitted };
-    let here = Standing { unit: unit as usize, entry: entry as usize };
+    let asked = NameRef {
+        unit,
+        entry,
+        how: How::Omitted,
+    };
+    let here = Standing {
+        unit: unit as usize,
+        entry: entry as usize,
+    };
     follow(units.as_slice(), Some(here), LINKS, asked)
 }

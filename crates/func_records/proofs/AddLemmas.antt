@@ -1,14 +1,12 @@
 -- What the whole text has: FILE records of the paths in use, and the records of all pieces.
-use Rattle.std.proofs.Common.{◌≡◌, ℕ, zero, suc, ◌<◌, ◌+◌, ◌-◌, Bool, true, false, ◌||◌, cond, map, length, List, [], ◌∷◌, ◌++◌, Option, None, Some, unwrap_or, arith, refl, sym, ap, subst, ◌∙◌, Bor, Any, Contains, append_assoc}
+use Rattle.std.proofs.Common.{◌≡◌, ℕ, zero, suc, ◌<◌, ◌-◌, Bool, true, false, ◌||◌, cond, map, length, List, [], ◌∷◌, ◌++◌, Option, None, Some, unwrap_or, arith, refl, sym, ap, subst, ◌∙◌, Bor, append_assoc}
 use Rattle.std.specs.List.{slice_get, list_any, AllByRecursion}
 use Rattle.std.specs.List.Sorted.{IsStrictlySortedBy}
 use Rattle.std.specs.Ordering.{nat_cmp}
 use Rattle.std.specs.declared.cmp.Ordering.TheVariants.{Less}
 use Rattle.std.specs.Cmp.Lexicographic.{slice_cmp}
-use Rattle.std.specs.Option.{option_map}
 use Rattle.std.specs.Str.{bytes_eq}
 use Rattle.std.proofs.lemmas.Slice.Eq.{bytes_eq-Decides}
-use Rattle.std.proofs.lemmas.Option.{slice_get_within}
 use Rattle.std.proofs.lemmas.List.Folds.{Any-from_list_any, list_any-from_Any}
 use Rattle.step_maps.specs.Runs.{Run}
 use Rattle.step_maps.proofs.OneRuns.{one_runs}
@@ -16,17 +14,16 @@ use Rattle.sym_records.specs.Canon.{canon_text}
 use Rattle.sym_records.specs.Cleaning.{cleaned}
 use Rattle.sym_records.specs.Validity.{first_bad_from}
 use Rattle.sym_records.specs.declared.place.Place.TheVariants.{Inside}
-use Rattle.sym_records.specs.declared.line.SymLine.{SymLine}
 use Rattle.sym_records.specs.declared.line.SymLine.TheVariants.{Line}
 use Rattle.sym_records.proofs.JoiningLemmas.{join_behind}
 use Rattle.die_names.specs.declared.unit_read.UnitRead.{UnitRead}
 use Rattle.func_flatten.specs.declared.piece.Piece.{Piece}
 use Rattle.func_flatten.specs.declared.line_run.LineRun.{LineRun}
-use Rattle.func_flatten.specs.LineRuns.{paths_in, number_run, unit_number_line, unit_paths, AreLineRuns}
+use Rattle.func_flatten.specs.LineRuns.{paths_in, number_run, unit_paths, AreLineRuns}
 use Rattle.func_records.specs.Texts.{text_cmp, SameTexts}
-use Rattle.func_records.specs.FuncRecords.{Part, pieces_of, path_in, number_in, file_lines, func_record, line_record, part_lines, AreLined, names_path, AreUsed, AreFuncRecords}
+use Rattle.func_records.specs.FuncRecords.{Part, pieces_of, path_in, number_in, file_lines, func_record, line_record, part_lines, AreLined, names_path}
 use Rattle.func_records.specs.Gathering.{bytes_of, has_text, ArePathed, Gathered}
-use Rattle.func_records.specs.Spelling.{number_or_0, unit_numbers, line_by, row_of, part_by, parts_by, AreClean, AddsParts}
+use Rattle.func_records.specs.Spelling.{number_or_0, unit_numbers, line_by, row_of, parts_by, AreClean, AddsParts}
 use Rattle.func_records.specs.Adding.{HaveCleanPaths, AddsFunctions}
 use Rattle.func_records.proofs.PathLemmas.{all_pathed}
 use Rattle.func_records.proofs.SpellLemmas.{canon_join}
@@ -149,9 +146,9 @@ pub parts_same : (base : ℕ) (paths : List (List ℕ)) (units : List UnitRead) 
 parts_same base paths units [] lined used = refl
 parts_same base paths units (p ∷ parts) lined used =
     ap (λ ls. func_record base units p.piece ∷ (ls ++ parts_by base (unit_numbers paths units) units parts))
-        (lines_same base paths units p.piece.unit p.lines (all_pathed units p.piece p.lines lined.0) (λ path had. used path (or_left (names_path units path p) (list_any (names_path units path) parts) had)))
+    (lines_same base paths units p.piece.unit p.lines (all_pathed units p.piece p.lines lined.0) (λ path had. used path (or_left (names_path units path p) (list_any (names_path units path) parts) had)))
     ∙ ap (λ rest. func_record base units p.piece ∷ (map (line_record base paths units p.piece.unit) p.lines ++ rest))
-        (parts_same base paths units parts lined.1 (λ path had. used path (or_right (names_path units path p) (list_any (names_path units path) parts) had)))
+    (parts_same base paths units parts lined.1 (λ path had. used path (or_right (names_path units path p) (list_any (names_path units path) parts) had)))
 
 -- all together
 pub functions_added : (base : ℕ) (units : List UnitRead) (pieces : List Piece) (used sorted : List (Bor (List ℕ))) (rows : List (List ℕ)) (old mid new : List ℕ) → Gathered units pieces used → IsStrictlySortedBy text_cmp sorted → SameTexts used sorted → rows ≡ unit_numbers (bytes_of sorted) units → mid ≡ old ++ canon_text (file_lines 0 (bytes_of sorted)) → first_bad_from 0 Inside (file_lines 0 (bytes_of sorted)) ≡ None → AddsParts base rows units pieces mid new → AddsFunctions base units pieces old new
@@ -159,9 +156,9 @@ functions_added base units pieces used sorted rows old mid new gathered strict s
     let paths : List (List ℕ) = bytes_of sorted in
     let parts : gathered.parts ≡ adds.parts = one_parts units gathered.parts adds.parts (gathered.pieces_are ∙ sym adds.pieces_are) gathered.lines_are adds.lines_are in
     let named : (path : List ℕ) → list_any (bytes_eq path) paths ≡ list_any (names_path units path) adds.parts
-        = λ path. same_paths used sorted path same ∙ gathered.same path ∙ ap (list_any (names_path units path)) parts in
+    = λ path. same_paths used sorted path same ∙ gathered.same path ∙ ap (list_any (names_path units path)) parts in
     let spelled : parts_by base rows units adds.parts ≡ part_lines base paths units adds.parts
-        = ap (λ (r : List (List ℕ)). parts_by base r units adds.parts) numbered ∙ parts_same base paths units adds.parts adds.lines_are (λ path had. named path ∙ had) in
+    = ap (λ (r : List (List ℕ)). parts_by base r units adds.parts) numbered ∙ parts_same base paths units adds.parts adds.lines_are (λ path had. named path ∙ had) in
     record {
       records = file_lines 0 paths ++ part_lines base paths units adds.parts;
       are = record {
@@ -198,7 +195,7 @@ run_clean units unit [] path clean pathed had = absurd (cc)
 run_clean units unit (r ∷ runs) path clean pathed had =
     or_either (bytes_eq path (path_in units unit r.path)) (list_any (λ (s : LineRun). bytes_eq path (path_in units unit s.path)) runs) (cleaned path ≡ path) had
     (λ same. let alike : path ≡ path_in units unit r.path = (bytes_eq-Decides path (path_in units unit r.path)).0 same in
-        ap cleaned alike ∙ clean_in units unit r.path pathed.0 clean ∙ sym alike)
+    ap cleaned alike ∙ clean_in units unit r.path pathed.0 clean ∙ sym alike)
     (λ later. run_clean units unit runs path clean pathed.1 later)
 
 part_clean : (units : List UnitRead) (parts : List Part) (path : List ℕ) → HaveCleanPaths units → AreLined units parts → list_any (names_path units path) parts ≡ true → cleaned path ≡ path

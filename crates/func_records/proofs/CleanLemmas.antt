@@ -1,6 +1,5 @@
 -- A cleaned name is not changed by cleaning.
-use Rattle.std.proofs.Common.{◌≡◌, ℕ, zero, suc, ◌≤◌, ◌<◌, ◌+◌, Bool, true, false, nat_lt, nat_eq, ◌||◌, cond, List, [], ◌∷◌, map, take, length, codes, refl, sym, ap, ◌∙◌, arith}
-use Rattle.std.proofs.lemmas.Bool.Decides.{nat_tests}
+use Rattle.std.proofs.Common.{◌≡◌, ℕ, zero, suc, ◌≤◌, Bool, true, false, nat_lt, nat_eq, ◌||◌, cond, List, [], ◌∷◌, map, take, length, codes, refl, ap, ◌∙◌, arith}
 use Rattle.std.proofs.lemmas.List.{length-take}
 use Rattle.std.proofs.lemmas.List.{take_all}
 use Rattle.sym_rules.specs.Cuts.{is_space, skip}

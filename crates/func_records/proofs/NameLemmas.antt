@@ -1,18 +1,17 @@
 -- In a text with the records of functions a look-up names the owner and the line of each address.
-use Rattle.std.proofs.Common.{◌≡◌, ℕ, zero, suc, ◌+◌, ◌-◌, ◌<◌, ◌≤◌, Bool, true, false, ◌&&◌, ◌||◌, ◌==◌, nat_le, nat_lt, if◌then◌else◌, cond, map, length, List, [], ◌∷◌, ◌++◌, Option, None, Some, unwrap_or, arith, refl, sym, ap, ◌∙◌, inl, inr, append_assoc, append-nil}
+use Rattle.std.proofs.Common.{◌≡◌, ℕ, ◌+◌, ◌-◌, ◌<◌, ◌≤◌, Bool, true, false, ◌&&◌, ◌||◌, ◌==◌, nat_le, nat_lt, if◌then◌else◌, cond, map, List, [], ◌∷◌, ◌++◌, Option, None, Some, arith, refl, sym, ap, ◌∙◌, inl, inr, append_assoc, append-nil}
 use Rattle.std.proofs.lemmas.Bool.Decides.{nat_tests, leb_tells}
 use Rattle.std.proofs.lemmas.Slice.Eq.{bytes_eq-Decides}
 use Rattle.std.specs.List.{find, slice_get, list_any}
 use Rattle.std.specs.Str.{bytes_eq}
 use Rattle.std.specs.Option.{option_map, option_and_then}
-use Rattle.step_maps.specs.Runs.{Run, has, value_in, AreRuns, IsRuns, AreMaximal, between}
+use Rattle.step_maps.specs.Runs.{Run, has, value_in, AreRuns, AreMaximal, between}
 use Rattle.step_maps.proofs.MaximalLemmas.{maximal}
 use Rattle.sym_records.specs.declared.line.SymLine.{SymLine}
-use Rattle.sym_records.specs.declared.line.SymLine.TheVariants.{File, Func, Line}
-use Rattle.sym_lookup.specs.TextNames.{is_within, is_func_at, is_line_at, under, Found, text_func, func_name, text_owner, line_under, text_line, is_file, file_name, text_path, path_and_line}
+use Rattle.sym_records.specs.declared.line.SymLine.TheVariants.{File}
+use Rattle.sym_lookup.specs.TextNames.{is_within, is_line_at, under, Found, text_func, func_name, text_owner, line_under, text_line, is_file, file_name, text_path, path_and_line}
 use Rattle.sym_lookup.specs.Plain.{ArePlain, HaveNoFile}
 use Rattle.sym_lookup.proofs.TextLemmas.{func_behind, none_under, file_behind}
-use Rattle.line_program.specs.LineMaps.{numbered_line, named_line}
 use Rattle.die_names.specs.declared.unit_read.UnitRead.{UnitRead}
 use Rattle.die_names.specs.Names.{entry_name}
 use Rattle.die_names.specs.Owners.{Covering, owner, line, line_in, line_under as owner_line}
@@ -21,7 +20,7 @@ use Rattle.func_flatten.specs.declared.piece.Piece.{Piece}
 use Rattle.func_flatten.specs.declared.line_run.LineRun.{LineRun}
 use Rattle.func_flatten.specs.Pieces.{piece_run, place_of, owner_place, ArePieces}
 use Rattle.func_flatten.specs.LineRuns.{path_line, path_run, unit_line, unit_paths, AreLineRuns}
-use Rattle.func_records.specs.FuncRecords.{Part, pieces_of, path_in, number_in, file_lines, func_record, line_record, part_lines, AreLined, BeginAbove, names_path, AreUsed, AreFuncRecords}
+use Rattle.func_records.specs.FuncRecords.{Part, pieces_of, path_in, number_in, file_lines, func_record, line_record, part_lines, AreLined, BeginAbove, names_path, AreFuncRecords}
 use Rattle.func_records.specs.TextNames.{name_of, found_line, Names}
 
 -- records in front that are no FUNC
@@ -54,13 +53,13 @@ file_by k path q paths rest false is later =
 
 had_by : (path q : List ℕ) (paths : List (List ℕ)) → bytes_eq q path ≡ false → list_any (bytes_eq path) (q ∷ paths) ≡ true → list_any (bytes_eq path) paths ≡ true
 had_by path q paths other had = go (bytes_eq path q) refl had
- where
-  go : (b : Bool) → bytes_eq path q ≡ b → (b || list_any (bytes_eq path) paths) ≡ true → list_any (bytes_eq path) paths ≡ true
-  go true is all =
-      let alike : path ≡ q = (bytes_eq-Decides path q).0 is in
-      let again : bytes_eq q path ≡ true = (bytes_eq-Decides q path).1 (sym alike) in
-      cc
-  go false is all = all
+  where
+    go : (b : Bool) → bytes_eq path q ≡ b → (b || list_any (bytes_eq path) paths) ≡ true → list_any (bytes_eq path) paths ≡ true
+    go true is all =
+        let alike : path ≡ q = (bytes_eq-Decides path q).0 is in
+        let again : bytes_eq q path ≡ true = (bytes_eq-Decides q path).1 (sym alike) in
+        cc
+    go false is all = all
 
 file_at : (k : ℕ) (path : List ℕ) (paths : List (List ℕ)) (rest : List SymLine) → list_any (bytes_eq path) paths ≡ true → option_map file_name (find (is_file (k + number_in paths path)) (file_lines k paths ++ rest)) ≡ Some path
 unfolding number_in
@@ -95,13 +94,16 @@ between_in low high a f above below =
 
 begin_all : (table : List (List ℕ)) (low high : ℕ) (f : ℕ → Option (List ℕ × ℕ)) (runs : List LineRun) → AreMaximal (between low high f) (map (path_run table) runs) → BeginFrom table low runs
 begin_all table low high f [] all = tt
-begin_all table low high f (r ∷ runs) all = (elim (leb_tells low r.start) [
-  | inl is ↦ is.1
-  | inr below ↦
-      (let value : between low high f r.start ≡ Some (path_line table (r.path, r.line)) = all.0.constant r.start (omega arith) all.0.some in
-      let none : between low high f r.start ≡ None = between_low low high r.start f below.1 in
-      cc)
-], begin_all table low high f runs all.1)
+begin_all table low high f (r ∷ runs) all = (
+  elim (leb_tells low r.start) [
+    | inl is ↦ is.1
+    | inr below ↦
+        (let value : between low high f r.start ≡ Some (path_line table (r.path, r.line)) = all.0.constant r.start (omega arith) all.0.some in
+        let none : between low high f r.start ≡ None = between_low low high r.start f below.1 in
+        cc)
+  ],
+  begin_all table low high f runs all.1,
+)
 
 -- a path as its number finds it, and the line
 abbrev numbered : List SymLine → List (List ℕ) → List ℕ × ℕ → Option (List ℕ) × ℕ
@@ -113,11 +115,11 @@ line_found base paths units unit low x records [] above from apart = refl
 line_found base paths units unit low x records (r ∷ runs) above from apart =
     ap (λ b. option_map (path_and_line records) (if b then Some (line_record base paths units unit r) else find (is_line_at x) (map (line_record base paths units unit) runs))) (within_run base r.start r.end x (omega (arith, from.0)) apart.0)
     ∙ go (has (path_run (unit_paths units unit) r) (x + base)) (line_found base paths units unit low x records runs above from.1 apart.2)
- where
-  go : (b : Bool) → option_map (path_and_line records) (find (is_line_at x) (map (line_record base paths units unit) runs)) ≡ option_map (numbered records paths) (value_in (map (path_run (unit_paths units unit)) runs) (x + base))
-      → option_map (path_and_line records) (if b then Some (line_record base paths units unit r) else find (is_line_at x) (map (line_record base paths units unit) runs)) ≡ option_map (numbered records paths) (if b then Some (path_line (unit_paths units unit) (r.path, r.line)) else value_in (map (path_run (unit_paths units unit)) runs) (x + base))
-  go true is = refl
-  go false is = is
+  where
+    go : (b : Bool) → option_map (path_and_line records) (find (is_line_at x) (map (line_record base paths units unit) runs)) ≡ option_map (numbered records paths) (value_in (map (path_run (unit_paths units unit)) runs) (x + base))
+        → option_map (path_and_line records) (if b then Some (line_record base paths units unit r) else find (is_line_at x) (map (line_record base paths units unit) runs)) ≡ option_map (numbered records paths) (if b then Some (path_line (unit_paths units unit) (r.path, r.line)) else value_in (map (path_run (unit_paths units unit)) runs) (x + base))
+    go true is = refl
+    go false is = is
 
 -- behind a part no line record stands
 none_after : (base : ℕ) (paths : List (List ℕ)) (units : List UnitRead) (parts : List Part) (behind : List SymLine) → ArePlain behind → under (part_lines base paths units parts ++ behind) ≡ []
@@ -167,14 +169,14 @@ parts_show base paths units records x (p ∷ parts) behind plain above are apart
     = ap (λ l. text_func l x) (regroup base paths units p parts behind) ∙ func_lines base paths units p.piece.unit p.lines (part_lines base paths units parts ++ behind) x in
     rw (within_run base p.piece.start p.piece.end x above.0 apart.0)
     (go (has (piece_run p.piece) (x + base)) refl (rw later (parts_show base paths units records x parts behind plain above.1 are.1 apart.2)))
- where
-  go : (b : Bool) → has (piece_run p.piece) (x + base) ≡ b
-      → Shows base paths units records x (text_func ((map (line_record base paths units p.piece.unit) p.lines ++ part_lines base paths units parts) ++ behind) x) (value_in (part_runs parts) (x + base))
-      → Shows base paths units records x
-          (if b then Some (record { func = func_record base units p.piece; behind = (map (line_record base paths units p.piece.unit) p.lines ++ part_lines base paths units parts) ++ behind }) else text_func ((map (line_record base paths units p.piece.unit) p.lines ++ part_lines base paths units parts) ++ behind) x)
-          (if b then Some (record { unit = p.piece.unit; entry = p.piece.entry }) else value_in (part_runs parts) (x + base))
-  go true here is = part_shows base paths units records x p parts behind plain above.0 are.0 here
-  go false other is = is
+  where
+    go : (b : Bool) → has (piece_run p.piece) (x + base) ≡ b
+        → Shows base paths units records x (text_func ((map (line_record base paths units p.piece.unit) p.lines ++ part_lines base paths units parts) ++ behind) x) (value_in (part_runs parts) (x + base))
+        → Shows base paths units records x
+        (if b then Some (record { func = func_record base units p.piece; behind = (map (line_record base paths units p.piece.unit) p.lines ++ part_lines base paths units parts) ++ behind }) else text_func ((map (line_record base paths units p.piece.unit) p.lines ++ part_lines base paths units parts) ++ behind) x)
+        (if b then Some (record { unit = p.piece.unit; entry = p.piece.entry }) else value_in (part_runs parts) (x + base))
+    go true here is = part_shows base paths units records x p parts behind plain above.0 are.0 here
+    go false other is = is
 
 or_right : (b c : Bool) → c ≡ true → (b || c) ≡ true
 or_right true c is = refl
@@ -188,34 +190,35 @@ or_left false c is = absurd (cc)
 run_named : (units : List UnitRead) (unit a : ℕ) (m : List ℕ × ℕ) (runs : List LineRun) → value_in (map (path_run (unit_paths units unit)) runs) a ≡ Some m → list_any (λ (r : LineRun). bytes_eq m.0 (path_in units unit r.path)) runs ≡ true
 run_named units unit a m [] is = absurd (cc)
 run_named units unit a m (r ∷ runs) is = go (has (path_run (unit_paths units unit) r) a) is (λ later. run_named units unit a m runs later)
- where
-  go : (b : Bool) → (if b then Some (path_line (unit_paths units unit) (r.path, r.line)) else value_in (map (path_run (unit_paths units unit)) runs) a) ≡ Some m
-      → (value_in (map (path_run (unit_paths units unit)) runs) a ≡ Some m → list_any (λ (r : LineRun). bytes_eq m.0 (path_in units unit r.path)) runs ≡ true)
-      → (bytes_eq m.0 (path_in units unit r.path) || list_any (λ (r : LineRun). bytes_eq m.0 (path_in units unit r.path)) runs) ≡ true
-  go true same later =
-      let path : path_in units unit r.path ≡ m.0 = cc in
-      or_left (bytes_eq m.0 (path_in units unit r.path)) (list_any (λ (s : LineRun). bytes_eq m.0 (path_in units unit s.path)) runs) ((bytes_eq-Decides m.0 (path_in units unit r.path)).1 (sym path))
-  go false same later = or_right (bytes_eq m.0 (path_in units unit r.path)) (list_any (λ (s : LineRun). bytes_eq m.0 (path_in units unit s.path)) runs) (later same)
+  where
+    go : (b : Bool) → (if b then Some (path_line (unit_paths units unit) (r.path, r.line)) else value_in (map (path_run (unit_paths units unit)) runs) a) ≡ Some m
+        → (value_in (map (path_run (unit_paths units unit)) runs) a ≡ Some m → list_any (λ (r : LineRun). bytes_eq m.0 (path_in units unit r.path)) runs ≡ true)
+        → (bytes_eq m.0 (path_in units unit r.path) || list_any (λ (r : LineRun). bytes_eq m.0 (path_in units unit r.path)) runs) ≡ true
+    go true same later =
+        let path : path_in units unit r.path ≡ m.0 = cc in
+        or_left (bytes_eq m.0 (path_in units unit r.path)) (list_any (λ (s : LineRun). bytes_eq m.0 (path_in units unit s.path)) runs) ((bytes_eq-Decides m.0 (path_in units unit r.path)).1 (sym path))
+    go false same later = or_right (bytes_eq m.0 (path_in units unit r.path)) (list_any (λ (s : LineRun). bytes_eq m.0 (path_in units unit s.path)) runs) (later same)
 
 part_named : (units : List UnitRead) (a : ℕ) (place : Place) (m : List ℕ × ℕ) (parts : List Part) → AreLined units parts → value_in (part_runs parts) a ≡ Some place → unit_line units place.unit a ≡ Some m → list_any (names_path units m.0) parts ≡ true
 part_named units a place m [] are is line = absurd (cc)
 part_named units a place m (p ∷ parts) are is line =
     go (has (piece_run p.piece) a) refl is (λ later. part_named units a place m parts are.1 later line)
- where
-  here : has (piece_run p.piece) a ≡ true → place ≡ record { unit = p.piece.unit; entry = p.piece.entry } → names_path units m.0 p ≡ true
-  here inside same =
-      let low : p.piece.start ≤ a = grind (arith, nat_tests) in
-      let high : a < p.piece.end = grind (arith, nat_tests) in
-      let unit : place.unit ≡ p.piece.unit = ap (λ (q : Place). q.unit) same in
-      let there : unit_line units p.piece.unit a ≡ Some m = ap (λ u. unit_line units u a) (sym unit) ∙ line in
-      run_named units p.piece.unit a m p.lines (are.0.paths.values a ∙ between_in p.piece.start p.piece.end a (unit_line units p.piece.unit) low high ∙ there)
-  go : (b : Bool) → has (piece_run p.piece) a ≡ b → (if b then Some (record { unit = p.piece.unit; entry = p.piece.entry }) else value_in (part_runs parts) a) ≡ Some place
-      → (value_in (part_runs parts) a ≡ Some place → list_any (names_path units m.0) parts ≡ true)
-      → (names_path units m.0 p || list_any (names_path units m.0) parts) ≡ true
-  go true inside same later =
-      let owned : place ≡ record { unit = p.piece.unit; entry = p.piece.entry } = cc in
-      or_left (names_path units m.0 p) (list_any (names_path units m.0) parts) (here inside owned)
-  go false inside same later = or_right (names_path units m.0 p) (list_any (names_path units m.0) parts) (later same)
+  where
+    here : has (piece_run p.piece) a ≡ true → place ≡ record { unit = p.piece.unit; entry = p.piece.entry } → names_path units m.0 p ≡ true
+    here inside same =
+        let low : p.piece.start ≤ a = grind (arith, nat_tests) in
+        let high : a < p.piece.end = grind (arith, nat_tests) in
+        let unit : place.unit ≡ p.piece.unit = ap (λ (q : Place). q.unit) same in
+        let there : unit_line units p.piece.unit a ≡ Some m = ap (λ u. unit_line units u a) (sym unit) ∙ line in
+        run_named units p.piece.unit a m p.lines (are.0.paths.values a ∙ between_in p.piece.start p.piece.end a (unit_line units p.piece.unit) low high ∙ there)
+
+    go : (b : Bool) → has (piece_run p.piece) a ≡ b → (if b then Some (record { unit = p.piece.unit; entry = p.piece.entry }) else value_in (part_runs parts) a) ≡ Some place
+        → (value_in (part_runs parts) a ≡ Some place → list_any (names_path units m.0) parts ≡ true)
+        → (names_path units m.0 p || list_any (names_path units m.0) parts) ≡ true
+    go true inside same later =
+        let owned : place ≡ record { unit = p.piece.unit; entry = p.piece.entry } = cc in
+        or_left (names_path units m.0 p) (list_any (names_path units m.0) parts) (here inside owned)
+    go false inside same later = or_right (names_path units m.0 p) (list_any (names_path units m.0) parts) (later same)
 
 -- the line of an address by its owner, and the line record that is found there
 found_by : (records : List SymLine) (paths : List (List ℕ)) (o : Option (List ℕ × ℕ)) → ((m : List ℕ × ℕ) → o ≡ Some m → text_path records (number_in paths m.0) ≡ Some m.0) → option_map (numbered records paths) o ≡ option_map found_line o
@@ -246,10 +249,10 @@ all_named base units pieces front records behind pieced above are plain none aft
     let high : BeginAbove base (pieces_of parts) = rw are.pieces_are above in
     let shows = parts_show base paths units all x parts behind after high are.lines_are apart in
     let path : (path : List ℕ) → list_any (names_path units path) parts ≡ true → text_path all (number_in paths path) ≡ Some path
-        = λ path named. path_found front paths (part_lines base paths units parts ++ behind) path none (are.used.same path ∙ named) in
+    = λ path named. path_found front paths (part_lines base paths units parts ++ behind) path none (are.used.same path ∙ named) in
     rw same (record {
       function = ap (λ f. option_map (λ g. func_name g.func) f) found ∙ shows.function ∙ ap (option_map (place_name units)) value ∙ name_by_owner units (owner units (x + base));
       line = ap (λ f. option_map (path_and_line all) (option_and_then (line_under x) f)) found ∙ shows.line ∙ ap (numbered_at all paths units (x + base)) value
           ∙ line_by_owner all paths units (x + base) (owner units (x + base)) (λ p is m lined.
-              path m.0 (part_named units (x + base) p m parts are.lines_are (value ∙ is) lined));
+          path m.0 (part_named units (x + base) p m parts are.lines_are (value ∙ is) lined));
     })

@@ -1,5 +1,5 @@
 -- The number of a text among sorted texts.
-use Rattle.std.proofs.Common.{◌≡◌, ℕ, zero, suc, ◌+◌, ◌<◌, Bool, true, false, ◌||◌, cond, map, length, take, List, [], ◌∷◌, ◌++◌, Option, None, Some, arith, refl, sym, ap, subst, ◌∙◌, Bor, Any}
+use Rattle.std.proofs.Common.{◌≡◌, ℕ, zero, suc, ◌+◌, Bool, true, false, ◌||◌, cond, map, take, List, [], ◌∷◌, ◌++◌, Some, arith, refl, sym, ap, ◌∙◌, Bor, Any}
 use Rattle.std.specs.List.{slice_get, list_any, AllByRecursion}
 use Rattle.std.specs.List.Sorted.{IsStrictlySortedBy}
 use Rattle.std.specs.Str.{bytes_eq}
@@ -19,15 +19,15 @@ use Rattle.func_records.specs.Spelling.{number_or_0}
 other_there : (x : Bor (List ℕ)) (xs : List (Bor (List ℕ))) (n : ℕ) (path : List ℕ) → AllByRecursion (λ y. text_cmp x y ≡ Less) xs → slice_get (bytes_of xs) n ≡ Some path → bytes_eq x.now path ≡ false
 other_there x [] n path below is = absurd (cc)
 other_there x (y ∷ xs) zero path below is = go (bytes_eq x.now path) refl
- where
-  go : (b : Bool) → bytes_eq x.now path ≡ b → b ≡ false
-  go true same =
-      let first : y.now ≡ path = cc in
-      let alike : x.now ≡ y.now = (bytes_eq-Decides x.now path).0 same ∙ sym first in
-      let equal : text_cmp x y ≡ Equal = ap (λ t. slice_cmp nat_cmp t y.now) alike ∙ tied_itself nat_list_cmp_total y.now in
-      let less : text_cmp x y ≡ Less = below.0 in
-      cc
-  go false same = refl
+  where
+    go : (b : Bool) → bytes_eq x.now path ≡ b → b ≡ false
+    go true same =
+        let first : y.now ≡ path = cc in
+        let alike : x.now ≡ y.now = (bytes_eq-Decides x.now path).0 same ∙ sym first in
+        let equal : text_cmp x y ≡ Equal = ap (λ t. slice_cmp nat_cmp t y.now) alike ∙ tied_itself nat_list_cmp_total y.now in
+        let less : text_cmp x y ≡ Less = below.0 in
+        cc
+    go false same = refl
 other_there x (y ∷ xs) (suc n) path below is = other_there x xs n path below.1 is
 
 place_by : (x : List ℕ) (paths : List (List ℕ)) (path : List ℕ) (n : ℕ) → bytes_eq x path ≡ false → number_in paths path ≡ n → number_in (x ∷ paths) path ≡ suc n
@@ -49,10 +49,10 @@ there (p ∷ paths) zero path is =
     let same : bytes_eq path p ≡ true = (bytes_eq-Decides path p).1 (let first : path ≡ p = cc in first) in
     ap (λ b. b || list_any (bytes_eq path) paths) same
 there (p ∷ paths) (suc n) path is = or_true (bytes_eq path p) (there paths n path is)
- where
-  or_true : (b : Bool) {c : Bool} → c ≡ true → (b || c) ≡ true
-  or_true true is = refl
-  or_true false is = is
+  where
+    or_true : (b : Bool) {c : Bool} → c ≡ true → (b || c) ≡ true
+    or_true true is = refl
+    or_true false is = is
 
 pub number_found : (xs : List (Bor (List ℕ))) (n : ℕ) (path : List ℕ) → IsStrictlySortedBy text_cmp xs → slice_get (bytes_of xs) n ≡ Some path → n ≡ number_or_0 (bytes_of xs) path
 number_found xs n path sorted is =
@@ -64,10 +64,10 @@ not_there (x ∷ xs) path = ap (λ b. bytes_eq path x.now || b) (not_there xs pa
 
 pub number_none : (xs : List (Bor (List ℕ))) (path : List ℕ) → (Any (λ (t : Bor (List ℕ)). bytes_eq path t.now ≡ true) xs → ⊥) → 0 ≡ number_or_0 (bytes_of xs) path
 number_none xs path none = go (list_any (bytes_eq path) (bytes_of xs)) refl
- where
-  go : (b : Bool) → list_any (bytes_eq path) (bytes_of xs) ≡ b → 0 ≡ cond b (number_in (bytes_of xs) path) 0
-  go true is = absurd (none (Any-from_list_any (λ (t : Bor (List ℕ)). bytes_eq path t.now) xs (sym (not_there xs path) ∙ is)))
-  go false is = refl
+  where
+    go : (b : Bool) → list_any (bytes_eq path) (bytes_of xs) ≡ b → 0 ≡ cond b (number_in (bytes_of xs) path) 0
+    go true is = absurd (none (Any-from_list_any (λ (t : Bor (List ℕ)). bytes_eq path t.now) xs (sym (not_there xs path) ∙ is)))
+    go false is = refl
 
 -- the numbers of one path more
 take_more : {X : Type 0} (xs : List X) (n : ℕ) (x : X) → slice_get xs n ≡ Some x → take (n + 1) xs ≡ take n xs ++ x ∷ []

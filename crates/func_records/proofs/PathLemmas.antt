@@ -1,12 +1,12 @@
 -- The paths that line records name, as they are gathered.
-use Rattle.std.proofs.Common.{◌≡◌, ℕ, zero, suc, ◌+◌, ◌<◌, ◌≤◌, Bool, true, false, ◌||◌, ◌&&◌, nat_le, nat_lt, cond, length, map, List, [], ◌∷◌, ◌++◌, Option, None, Some, unwrap_or, arith, refl, sym, ap, subst, ◌∙◌, ◌⊎◌, inl, inr, slice_set, replicate, Bor, append-nil, append_assoc}
+use Rattle.std.proofs.Common.{◌≡◌, ℕ, zero, suc, ◌<◌, Bool, true, false, ◌||◌, ◌&&◌, nat_le, nat_lt, cond, length, map, List, [], ◌∷◌, ◌++◌, Option, None, Some, unwrap_or, arith, refl, sym, ap, subst, ◌∙◌, ◌⊎◌, inl, inr, slice_set, replicate, Bor, append-nil, append_assoc}
 use Rattle.std.specs.List.{slice_get, list_any}
 use Rattle.std.specs.Option.{option_copied, option_map}
 use Rattle.std.specs.Str.{bytes_eq}
-use Rattle.std.proofs.lemmas.Option.{slice_get_within, slice_get_past}
+use Rattle.std.proofs.lemmas.Option.{slice_get_within}
 use Rattle.std.proofs.lemmas.List.Folds.{list_any-append}
 use Rattle.std.proofs.lemmas.Slice.Eq.{bytes_eq-Decides}
-use Rattle.step_maps.specs.Runs.{Run, IsRuns, IsMaximal, AreMaximal, between}
+use Rattle.step_maps.specs.Runs.{AreMaximal, between}
 use Rattle.step_maps.proofs.MaximalLemmas.{maximal}
 use Rattle.line_program.specs.LineMaps.{named_line}
 use Rattle.die_names.specs.declared.unit_read.UnitRead.{UnitRead}
@@ -36,13 +36,13 @@ or_left false c is = absurd (cc)
 -- a text that is there already
 pub run_known : (used : List (Bor (List ℕ))) (q path : List ℕ) → has_text used q ≡ true → has_text used path ≡ (has_text used path || bytes_eq path q)
 run_known used q path there = go (bytes_eq path q) refl
- where
-  go : (b : Bool) → bytes_eq path q ≡ b → has_text used path ≡ (has_text used path || b)
-  go true same =
-      let alike : path ≡ q = (bytes_eq-Decides path q).0 same in
-      let here : has_text used path ≡ true = ap (has_text used) alike ∙ there in
-      here ∙ sym (or_left (has_text used path) true here)
-  go false same = sym (or_false (has_text used path))
+  where
+    go : (b : Bool) → bytes_eq path q ≡ b → has_text used path ≡ (has_text used path || b)
+    go true same =
+        let alike : path ≡ q = (bytes_eq-Decides path q).0 same in
+        let here : has_text used path ≡ true = ap (has_text used) alike ∙ there in
+        here ∙ sym (or_left (has_text used path) true here)
+    go false same = sym (or_false (has_text used path))
 
 -- a path by its number
 pub path_there : (units : List UnitRead) (unit k : ℕ) (path : Bor (List ℕ)) → option_copied (Some path) ≡ slice_get (unit_paths units unit) k → path_in units unit k ≡ path.now
@@ -50,11 +50,11 @@ path_there units unit k path is = ap (λ o. unwrap_or o []) (sym is)
 
 pub path_lost : (units : List UnitRead) (unit k : ℕ) → k < length (unit_paths units unit) → None ≡ slice_get (unit_paths units unit) k → ⊥
 path_lost units unit k below is = go (unit_paths units unit) k below (sym is)
- where
-  go : (xs : List (List ℕ)) (k : ℕ) → k < length xs → slice_get xs k ≡ None → ⊥
-  go [] k below is = omega arith
-  go (x ∷ xs) zero below is = cc
-  go (x ∷ xs) (suc k) below is = go xs k (omega arith) is
+  where
+    go : (xs : List (List ℕ)) (k : ℕ) → k < length xs → slice_get xs k ≡ None → ⊥
+    go [] k below is = omega arith
+    go (x ∷ xs) zero below is = cc
+    go (x ∷ xs) (suc k) below is = go xs k (omega arith) is
 
 -- one text more
 grown : (old new : List (Bor (List ℕ))) (t : Bor (List ℕ)) (q path : List ℕ) → q ≡ t.now → new ≡ old ++ t ∷ [] → has_text new path ≡ (has_text old path || bytes_eq path q)
@@ -95,10 +95,10 @@ row_marked units unit k row after old new t is added set says = λ j marked.
 -- the mark of a path says that it is there
 pub mark_says : (units : List UnitRead) (unit k : ℕ) (row : List Bool) (used : List (Bor (List ℕ))) → RowSays units unit row used → unwrap_or (slice_get row k) false ≡ true → has_text used (path_in units unit k) ≡ true
 mark_says units unit k row used says marked = says k (go (slice_get row k) marked)
- where
-  go : (o : Option Bool) → unwrap_or o false ≡ true → o ≡ Some true
-  go None is = absurd (cc)
-  go (Some b) is = ap Some is
+  where
+    go : (o : Option Bool) → unwrap_or o false ≡ true → o ≡ Some true
+    go None is = absurd (cc)
+    go (Some b) is = ap Some is
 
 pub run_marked : (units : List UnitRead) (unit k : ℕ) (row : List Bool) (used : List (Bor (List ℕ))) → RowSays units unit row used → unwrap_or (slice_get row k) false ≡ true → (path : List ℕ) → has_text used path ≡ (has_text used path || bytes_eq path (path_in units unit k))
 run_marked units unit k row used says marked path = run_known used (path_in units unit k) path (mark_says units unit k row used says marked)
@@ -115,15 +115,15 @@ rows_unmarked [] unit row none is = absurd (cc)
 rows_unmarked (r ∷ rows) zero row none is =
     let same : r ≡ row = cc in
     sym (ap any_mark same) ∙ or_none (any_mark r) (list_any any_mark rows) none
- where
-  or_none : (b c : Bool) → (b || c) ≡ false → b ≡ false
-  or_none true c is = is
-  or_none false c is = refl
+  where
+    or_none : (b c : Bool) → (b || c) ≡ false → b ≡ false
+    or_none true c is = is
+    or_none false c is = refl
 rows_unmarked (r ∷ rows) (suc unit) row none is = rows_unmarked rows unit row (or_rest (any_mark r) (list_any any_mark rows) none) is
- where
-  or_rest : (b c : Bool) → (b || c) ≡ false → c ≡ false
-  or_rest true c is = absurd (cc)
-  or_rest false c is = is
+  where
+    or_rest : (b c : Bool) → (b || c) ≡ false → c ≡ false
+    or_rest true c is = absurd (cc)
+    or_rest false c is = is
 
 pub rows_empty : (units : List UnitRead) (rows : List (List Bool)) → list_any any_mark rows ≡ false → RowsSay units rows []
 rows_empty units rows none unit row is k marked = absurd (none_marked row k (rows_unmarked rows unit row none is) marked)
@@ -177,25 +177,25 @@ gathered_all units pieces rest used none so =
 -- each run of a piece has a path of the table: where it begins there is a line with that path
 named_some : (paths : List (List ℕ)) (k line : ℕ) (m : List ℕ × ℕ) → named_line paths (Some (k, line)) ≡ Some m → k < length paths
 named_some paths k line m is = go (slice_get paths k) refl is
- where
-  go : (o : Option (List ℕ)) → slice_get paths k ≡ o → option_map (λ path. (path, line)) o ≡ Some m → k < length paths
-  go None there same = absurd (cc)
-  go (Some path) there same = slice_get_within paths k path there
+  where
+    go : (o : Option (List ℕ)) → slice_get paths k ≡ o → option_map (λ path. (path, line)) o ≡ Some m → k < length paths
+    go None there same = absurd (cc)
+    go (Some path) there same = slice_get_within paths k path there
 
 unit_some : (units : List UnitRead) (unit a k line : ℕ) (m : List ℕ × ℕ) → unit_number_line units unit a ≡ Some (k, line) → unit_line units unit a ≡ Some m → k < length (unit_paths units unit)
 unfolding unit_number_line unit_line unit_paths
 unit_some units unit a k line m number named = go (slice_get units unit) number named
- where
-  go : (u : Option UnitRead) → number_line_in a u ≡ Some (k, line) → line_in a u ≡ Some m → k < length (paths_in u)
-  go None number named = absurd (cc)
-  go (Some part) number named = named_some part.lines.paths k line m (sym (ap (named_line part.lines.paths) number) ∙ named)
+  where
+    go : (u : Option UnitRead) → number_line_in a u ≡ Some (k, line) → line_in a u ≡ Some m → k < length (paths_in u)
+    go None number named = absurd (cc)
+    go (Some part) number named = named_some part.lines.paths k line m (sym (ap (named_line part.lines.paths) number) ∙ named)
 
 between_some : {V : Type 0} (low high a : ℕ) (f : ℕ → Option V) (v : V) → between low high f a ≡ Some v → f a ≡ Some v
 between_some low high a f v is = go (nat_le low a && nat_lt a high) is
- where
-  go : (b : Bool) → cond b (f a) None ≡ Some v → f a ≡ Some v
-  go true same = same
-  go false same = absurd (cc)
+  where
+    go : (b : Bool) → cond b (f a) None ≡ Some v → f a ≡ Some v
+    go true same = same
+    go false same = absurd (cc)
 
 pathed_by : (units : List UnitRead) (piece : Piece) (runs : List LineRun) → AreMaximal (between piece.start piece.end (unit_number_line units piece.unit)) (map number_run runs) → AreMaximal (between piece.start piece.end (unit_line units piece.unit)) (map (path_run (unit_paths units piece.unit)) runs) → ArePathed units piece.unit runs
 pathed_by units piece [] numbers paths = tt

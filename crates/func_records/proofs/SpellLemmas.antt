@@ -1,21 +1,21 @@
 -- The records of functions and lines, as they are spelled.
-use Rattle.std.proofs.Common.{◌≡◌, ℕ, zero, suc, ◌+◌, ◌-◌, ◌<◌, ◌≤◌, ◌^◌, Bool, true, false, ◌||◌, ◌&&◌, cond, map, length, take, List, [], ◌∷◌, ◌++◌, Option, None, Some, unwrap_or, arith, refl, sym, ap, subst, ◌∙◌, Bor, append_assoc, append-nil}
-use Rattle.std.specs.List.{slice_get, list_any, list_all, flat_map}
-use Rattle.std.specs.Option.{option_copied, option_map, option_and_then}
+use Rattle.std.proofs.Common.{◌≡◌, ℕ, zero, suc, ◌+◌, ◌<◌, ◌≤◌, ◌^◌, true, map, length, take, List, [], ◌∷◌, ◌++◌, None, Some, arith, refl, sym, ap, subst, ◌∙◌, Bor, append_assoc, append-nil}
+use Rattle.std.specs.List.{slice_get, list_all}
+use Rattle.std.specs.Option.{option_copied}
 use Rattle.std.proofs.lemmas.Grind.{flat_map-append}
 use Rattle.std.proofs.lemmas.Option.{slice_get_within}
 use Rattle.std.proofs.lemmas.List.{length-take-le}
 use Rattle.sym_records.specs.Canon.{canon, canon_text}
 use Rattle.sym_records.specs.Cleaning.{cleaned}
 use Rattle.sym_records.specs.Fields.{is_name}
-use Rattle.sym_records.specs.Reading.{fits, leads}
+use Rattle.sym_records.specs.Reading.{fits}
 use Rattle.sym_records.specs.Validity.{fields_fit, first_bad_from}
 use Rattle.sym_records.specs.declared.place.Place.{Place}
 use Rattle.sym_records.specs.declared.place.Place.TheVariants.{Inside, Function}
 use Rattle.sym_records.specs.declared.line.SymLine.{SymLine}
-use Rattle.sym_records.specs.declared.line.SymLine.TheVariants.{File, Func, Line}
+use Rattle.sym_records.specs.declared.line.SymLine.TheVariants.{File}
 use Rattle.sym_records.proofs.JoiningLemmas.{from_here, join_behind}
-use Rattle.sym_rules.proofs.BoolLemmas.{and_true, both}
+use Rattle.sym_rules.proofs.BoolLemmas.{and_true}
 use Rattle.die_names.specs.declared.unit_read.UnitRead.{UnitRead}
 use Rattle.die_names.specs.Names.{entry_name}
 use Rattle.die_names.specs.NameRefs.{name_bytes, name_slice}

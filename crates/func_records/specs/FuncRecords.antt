@@ -1,5 +1,5 @@
 -- The records of functions and their lines (Breakpad's symbol_files.md): FILE, FUNC and line records.
-use Rattle.std.specs.Prelude.{◌≡◌, ℕ, ◌+◌, ◌-◌, ◌≤◌, ◌<◌, if◌then◌else◌, map, List, [], ◌∷◌, ◌++◌, length, Bool, Option, None, Some, unwrap_or}
+use Rattle.std.specs.Prelude.{◌≡◌, ℕ, ◌+◌, ◌-◌, ◌≤◌, if◌then◌else◌, map, List, [], ◌∷◌, ◌++◌, Bool, unwrap_or}
 use Rattle.std.specs.List.{slice_get, list_any}
 use Rattle.std.specs.Ordering.{nat_cmp}
 use Rattle.std.specs.List.Sorted.{IsStrictlySortedBy}

@@ -1,5 +1,5 @@
 -- No public clause cites this: the records of functions and lines, as they are spelled.
-use Rattle.std.specs.Prelude.{◌≡◌, ℕ, ◌+◌, ◌-◌, if◌then◌else◌, List, [], ◌∷◌, ◌++◌, map, None, Some, unwrap_or}
+use Rattle.std.specs.Prelude.{◌≡◌, ℕ, ◌-◌, if◌then◌else◌, List, [], ◌∷◌, ◌++◌, map, None, unwrap_or}
 use Rattle.std.specs.List.{slice_get, list_any}
 use Rattle.std.specs.Str.{bytes_eq}
 use Rattle.sym_records.specs.Canon.{canon_text}
@@ -11,7 +11,7 @@ use Rattle.sym_records.specs.declared.line.SymLine.TheVariants.{Line}
 use Rattle.die_names.specs.declared.unit_read.UnitRead.{UnitRead}
 use Rattle.func_flatten.specs.declared.piece.Piece.{Piece}
 use Rattle.func_flatten.specs.declared.line_run.LineRun.{LineRun}
-use Rattle.func_flatten.specs.LineRuns.{unit_paths, AreLineRuns}
+use Rattle.func_flatten.specs.LineRuns.{AreLineRuns}
 use Rattle.func_records.specs.FuncRecords.{Part, pieces_of, number_in, func_record, AreLined}
 
 -- the number of a path that is in use, and 0 for others

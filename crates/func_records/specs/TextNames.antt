@@ -1,5 +1,5 @@
 -- What a text with these records names at each address.
-use Rattle.std.specs.Prelude.{◌≡◌, ℕ, ◌+◌, List, ◌++◌, Option, Some}
+use Rattle.std.specs.Prelude.{◌≡◌, ℕ, ◌+◌, List, Option, Some}
 use Rattle.std.specs.Option.{option_map}
 use Rattle.sym_records.specs.declared.line.SymLine.{SymLine}
 use Rattle.sym_lookup.specs.TextNames.{text_owner, text_line}

@@ -38,7 +38,11 @@ fn number_of(sorted: &[&[u8]], path: &[u8]) -> u32
 }
 
 /// The numbers of the paths of a unit.
-fn number_row(alloc: Global, table: &LineTable, sorted: &[&[u8]]) -> Result<ListOf<u32>, OutOfMemory>
+fn number_row(
+    alloc: Global,
+    table: &LineTable,
+    sorted: &[&[u8]],
+) -> Result<ListOf<u32>, OutOfMemory>
     requires sorted { IsStrictlySortedBy text_cmp sorted.now }
     requires few { length sorted.now < 2 ^ 32 }
     ensures { IfOk result (λ row. row ≡ map (number_or_0 (bytes_of sorted.now)) table.now.paths) }
@@ -55,7 +59,11 @@ fn number_row(alloc: Global, table: &LineTable, sorted: &[&[u8]]) -> Result<List
 }
 
 /// The numbers of the paths of all units.
-pub fn number_rows(alloc: Global, units: &Units<'_>, sorted: &[&[u8]]) -> Result<Vec<ListOf<u32>>, OutOfMemory>
+pub fn number_rows(
+    alloc: Global,
+    units: &Units<'_>,
+    sorted: &[&[u8]],
+) -> Result<Vec<ListOf<u32>>, OutOfMemory>
     requires sorted { IsStrictlySortedBy text_cmp sorted.now }
     requires few { length sorted.now < 2 ^ 32 }
     ensures { IfOk result (λ rows. rows.items ≡ unit_numbers (bytes_of sorted.now) units.now) }

@@ -101,7 +101,12 @@ fn add_part(
 {
     add_owner(alloc, &mut text.last, base, units, piece)?;
     let runs = lines_of(alloc, units, piece)?;
-    add_runs(&mut text.last, base, row_in(rows, piece.unit as usize), runs.as_slice())?;
+    add_runs(
+        &mut text.last,
+        base,
+        row_in(rows, piece.unit as usize),
+        runs.as_slice(),
+    )?;
     text.turn(alloc)?;
     Ok(())
 }

@@ -1,12 +1,10 @@
 -- Look-ups in lists of records that stand one behind the other.
-use Rattle.std.proofs.Common.{◌≡◌, ℕ, zero, suc, ◌+◌, ◌-◌, ◌<◌, ◌≤◌, Bool, true, false, ◌&&◌, ◌==◌, nat_le, nat_lt, if◌then◌else◌, map, length, List, [], ◌∷◌, ◌++◌, Option, None, Some, arith, refl, sym, ap, ◌∙◌}
-use Rattle.std.proofs.lemmas.Bool.Decides.{nat_tests}
-use Rattle.std.specs.List.{find, slice_get}
-use Rattle.std.specs.Option.{option_map}
+use Rattle.std.proofs.Common.{◌≡◌, ℕ, List, [], ◌∷◌, ◌++◌, refl}
+use Rattle.std.specs.List.{find}
 use Rattle.sym_records.specs.declared.line.SymLine.{SymLine}
 use Rattle.sym_records.specs.declared.line.SymLine.TheVariants.{Module, Info, File, Origin, Func, Inline, Line, Public, Init, Change}
-use Rattle.sym_lookup.specs.Plain.{IsPlain, ArePlain, IsNoFile, HaveNoFile}
-use Rattle.sym_lookup.specs.TextNames.{is_within, under, Found, text_func, is_file, file_name, text_path}
+use Rattle.sym_lookup.specs.Plain.{ArePlain, HaveNoFile}
+use Rattle.sym_lookup.specs.TextNames.{under, text_func, is_file}
 
 -- plain records in front are passed over
 pub func_behind : (front rest : List SymLine) (x : ℕ) → ArePlain front → text_func (front ++ rest) x ≡ text_func rest x

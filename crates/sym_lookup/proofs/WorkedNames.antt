@@ -1,7 +1,7 @@
 -- Worked rows: the function and the line of an address in a text.
-use Rattle.std.proofs.Common.{◌≡◌, ℕ, List, [], ◌∷◌, Option, Some, None, codes, true, false, refl}
+use Rattle.std.proofs.Common.{◌≡◌, List, [], ◌∷◌, Some, None, codes, true, false, refl}
 use Rattle.sym_records.specs.declared.line.SymLine.{SymLine}
-use Rattle.sym_records.specs.declared.line.SymLine.TheVariants.{Info, File, Func, Inline, Line, Public}
+use Rattle.sym_records.specs.declared.line.SymLine.TheVariants.{File, Func, Inline, Line, Public}
 use Rattle.sym_lookup.specs.TextNames.{text_owner, text_line}
 
 -- two functions that overlap, the first with an INLINE and two line records

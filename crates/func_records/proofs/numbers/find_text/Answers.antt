@@ -1,4 +1,3 @@
-use Rattle.std.proofs.Common.{arith}
 use Rattle.func_records.proofs.TextLemmas.{found_text, none_there}
 use Rattle.func_records.proofs.numbers.find_text.Goals as goal
 

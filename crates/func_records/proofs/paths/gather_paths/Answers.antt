@@ -1,5 +1,5 @@
-use Rattle.std.proofs.Common.{◌≡◌, ◌∷◌,}
-use Rattle.func_records.proofs.PathLemmas.{gathered_more, gathered_none, gathered_all}
+use Rattle.std.proofs.Common.{◌≡◌, ◌∷◌}
+use Rattle.func_records.proofs.PathLemmas.{gathered_more}
 use Rattle.func_records.proofs.paths.gather_paths.Goals as goal
 
 pub pieces-preserved : goal.pieces-preserved

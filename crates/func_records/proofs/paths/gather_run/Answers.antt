@@ -1,5 +1,4 @@
-use Rattle.std.proofs.Common.{rules}
-use Rattle.func_records.proofs.PathLemmas.{row_marked, run_added, run_marked, path_lost}
+use Rattle.func_records.proofs.PathLemmas.{row_marked}
 use Rattle.func_records.proofs.paths.gather_run.Goals as goal
 
 pub returns-clause-marked : goal.returns-clause-marked

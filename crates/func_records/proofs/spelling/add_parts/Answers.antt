@@ -1,5 +1,5 @@
 use Rattle.sym_records.specs.Spelled.{text_bytes}
-use Rattle.func_records.proofs.SpellLemmas.{parts_none, parts_more, parts_all}
+use Rattle.func_records.proofs.SpellLemmas.{parts_none, parts_more}
 use Rattle.func_records.proofs.spelling.add_parts.Goals as goal
 
 pub pieces-init : goal.pieces-init
