@@ -232,9 +232,6 @@ runs_named paths f start end runs is known apart =
           ∙ named_between paths (nat_le start a && nat_lt a end) (f a);
     })
 
-line_in_some : (part : UnitRead) (a : ℕ) → line_in a (Some part) ≡ named_line part.lines.paths (numbered_line part.lines a)
-line_in_some part a = refl
-
 some_part : (units : List UnitRead) (piece : Piece) (runs : List LineRun) (part : UnitRead) (o : Option UnitRead) → Some part ≡ o → IsRuns (between piece.start piece.end (numbered_line part.lines)) (map number_run runs) → AreKnown (length part.lines.paths) runs → (0 < length runs → AreDistinct part.lines.paths)
     → IsRuns (between piece.start piece.end (λ a. number_line_in a o)) (map number_run runs) × IsRuns (between piece.start piece.end (λ a. line_in a o)) (map (path_run (paths_in o)) runs)
 some_part units piece runs part o is made known apart =

@@ -534,18 +534,6 @@ span_none spans start end none a = (let no : (nat_le start a && nat_lt a end) �
     or_false true = refl
     or_false false = refl
 
--- one more piece
-pub span_more : (spans more : List Range) (pieces : List Piece) (k : ℕ) (p : Piece) → Some p ≡ slice_get pieces k → ((a : ℕ) → holds_any more a ≡ (holds_any spans a || is_inside a p)) → ((a : ℕ) → (holds_any spans a || list_any (is_inside a) (drop k pieces)) ≡ list_any (is_inside a) pieces) → (a : ℕ) → (holds_any more a || list_any (is_inside a) (drop (k + 1) pieces)) ≡ list_any (is_inside a) pieces
-span_more spans more pieces k p is added same a =
-    ap (λ b. b || list_any (is_inside a) (drop (k + 1) pieces)) (added a)
-    ∙ three (holds_any spans a) (is_inside a p) (list_any (is_inside a) (drop (k + 1) pieces))
-    ∙ ap (λ l. holds_any spans a || list_any (is_inside a) l) (sym (drop_get pieces k p is))
-    ∙ same a
-  where
-    three : (p q r : Bool) → ((p || q) || r) ≡ (p || (q || r))
-    three true q r = refl
-    three false q r = refl
-
 map_test : (f g : ℕ → Bool) (xs : List ℕ) → ((a : ℕ) → f a ≡ g a) → filter (λ a. not (f a)) xs ≡ filter (λ a. not (g a)) xs
 map_test f g xs same = filter_same (λ a. not (f a)) (λ a. not (g a)) xs (λ a. ap not (same a))
 
