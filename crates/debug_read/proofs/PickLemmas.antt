@@ -1,5 +1,5 @@
 -- The units that are read.
-use Rattle.std.proofs.Common.{◌≡◌, ◌<◌, ◌≤◌, ◌+◌, ◌^◌, ℕ, List, [], ◌∷◌, ◌++◌, drop, length, Ok, refl, sym, ap, ◌∙◌, append_assoc, arith}
+use Rattle.std.proofs.Common.{◌≡◌, ◌<◌, ◌≤◌, ◌+◌, ◌^◌, ℕ, List, [], ◌∷◌, ◌++◌, drop, length, Ok, arith}
 use Rattle.std.specs.List.{AllByRecursion}
 use Rattle.abbrev_units.specs.declared.unit.Unit.{Unit}
 use Rattle.abbrev_units.specs.declared.unit.UnitPart.{UnitPart}
@@ -8,12 +8,6 @@ use Rattle.abbrev_units.specs.Units.{units_in}
 use Rattle.die_names.specs.UnitPlaces.{BodyInside, Follow, with_read, read_units}
 use Rattle.die_names.proofs.UnitLemmas.{units_follow}
 use Rattle.debug_read.specs.Jobs.{IsInside}
-
--- the unit that comes first, in front of those that come later
-with_later : (unit : Unit) (which : UnitPart) (later : List Unit) → with_read unit which later ≡ with_read unit which [] ++ later
-with_later unit Read later = refl
-with_later unit Passed later = refl
-with_later unit Skipped later = refl
 
 -- the units of a section are read where they stand, and are no more than its bytes
 inside_by : (unit : Unit) (which : UnitPart) (later : List Unit) (high : ℕ) → BodyInside unit which → unit.end ≤ high → AllByRecursion (IsInside high) later → AllByRecursion (IsInside high) (with_read unit which later)
@@ -45,9 +39,3 @@ units_few info units is small =
 -- the loop
 abbrev pub Picks : List Unit → ℕ → List Unit → Type 0
 Picks units i read = read ++ read_units (drop i units) ≡ read_units units
-
-pub picks_begin : (units read : List Unit) → read ≡ [] → Picks units 0 read
-picks_begin units read none = ap (λ l. l ++ read_units units) none
-
-picked_first : (unit : Unit) (units read : List Unit) → (read ++ with_read unit unit.part []) ++ read_units units ≡ read ++ with_read unit unit.part (read_units units)
-picked_first unit units read = append_assoc read (with_read unit unit.part []) (read_units units) ∙ ap (λ l. read ++ l) (sym (with_later unit unit.part (read_units units)))

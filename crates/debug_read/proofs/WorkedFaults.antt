@@ -8,11 +8,9 @@ use Rattle.sym_edges.specs.Addresses.{Range}
 use Rattle.sym_edges.specs.Results.{◌>>=◌}
 use Rattle.sym_edges.specs.declared.part.Sect.{Sect}
 use Rattle.sym_edges.specs.declared.part.Sect.TheVariants as section
-use Rattle.sym_edges.specs.declared.located.Located.{Located}
 use Rattle.elf_sections.specs.Image.{ImageParts, SectionPart}
 use Rattle.abbrev_units.specs.declared.fault.DwarfKind.{DwarfKind}
 use Rattle.abbrev_units.specs.declared.fault.DwarfKind.TheVariants as is
-use Rattle.frame_entries.specs.declared.fault.FrameKind.{FrameKind}
 use Rattle.frame_entries.specs.declared.fault.FrameKind.TheVariants as frame
 use Rattle.line_program.specs.LineAt.{Lines}
 use Rattle.die_walk.specs.EntryTable.{DieFields}

@@ -11,7 +11,7 @@ use std::marker::Model;
 use sym_edges::{OutOfMemory, Stop};
 use unit_workers::UnitJob;
 
-/// The units that are to be read.
+/// The units that are to be read, of these sections; ranges that `code` encloses are code.
 #[derive(Drop)]
 pub struct Reading<'s, 'a> {
     sections: &'s Sections<'a>,

@@ -1,4 +1,27 @@
-//! All debugging information of a file, read by any number of workers.
+//! All debugging information of a file, read by any number of workers: the units of `.debug_info` (DWARF 5, 7.5) with their
+//! entries, the addresses of these and their line tables, and the frame entries of `.eh_frame` and `.debug_frame` (DWARF 5,
+//! 6.4.1; LSB Core, ".eh_frame").
+//!
+//! [`read_debug`] answers a [`DebugRead`], or the first fault of the file behind its image. First is meant in this order,
+//! whatever worker finds a fault and when: the headers of all units; then each unit that is read, in the order of the section,
+//! with its abbreviations, its entries, the base of its range lists, the ranges entry by entry, its line table; then
+//! `.eh_frame`; then `.debug_frame`. Units of other versions than 4 and 5, type units and split units have a header and are not
+//! read.
+//!
+//! `specs/UnitSays.antt` has what a unit says, as a chain of the readings of the crates below, and `specs/DebugSays.antt` what a
+//! file says; each is a value or the first fault. What is kept of it is a relation: `specs/UnitsRead.antt` says that a unit's
+//! entries are its table, that each entry has exactly the addresses of its ranges that are code, and that the lines are those of
+//! the unit's line table. Neither the workers nor the order in which they drew the units stand in any of them.
+//!
+//! A unit's line table is kept only where the unit has a function that is not merely declared, since lines are asked of
+//! the units of functions alone; the table of another unit is read for its faults, and the empty one stands in its place.
+//!
+//! Each worker reads the units that it draws, one at a time, by a function of the file and the unit's number
+//! (`unit_workers`); what they found is then joined in the order of the units. All units are read, also behind one that is
+//! refused.
+//!
+//! To read: `specs/UnitSays.antt`, `UnitsRead.antt` and `DebugSays.antt`; then `unit` with `ranges` and `lines`, `job`, `units`
+//! with `picking` and `joining`, and `reading`.
 #![tactic(auto)]
 
 mod fault;

@@ -18,7 +18,6 @@ fn add_read(read: &mut Vec<Unit>, unit: &Unit) -> Result<(), OutOfMemory>
 }
 
 /// The units that are read, in their order.
-
 pub fn pick_read(alloc: Global, units: &[Unit]) -> Result<Vec<Unit>, OutOfMemory>
     ensures { IfOk result (λ read. read.items ≡ read_units units.now) }
 {

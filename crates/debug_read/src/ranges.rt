@@ -31,6 +31,7 @@ fn read_set(
 {
     match ranges_of(alloc, sections, unit, table, entry, base, code) {
         Ok(set) => {
+            // That the list is the one of its addresses is said by this call.
             let _spans = set.spans();
             Ok(set)
         }

@@ -15,9 +15,17 @@ use std::thread::Threads;
 use sym_edges::{Sect, Stop};
 use unit_workers::Gate;
 
-/// A section of more bytes is not read.
+/// A section of more bytes is not read: 2^29.
 const LIMIT: usize = 0x2000_0000;
 
+/// All debugging information of an image, by `workers` workers, 1 to 64: the headers of the units of `.debug_info`, the units
+/// that are read, in their order, and the entries of `.eh_frame` and of `.debug_frame`. `gate` is told of each unit before it
+/// is read, by its number among those that are read.
+///
+/// Where there is a fault, the answer is the first one, in this order: of the unit headers (DWARF 5, 7.5.1); of the units, one
+/// after the other, each with its abbreviations (7.5.3), its entries (7.5.2), the base of its range lists (3.1.1), the ranges
+/// entry by entry (2.17), its line table (6.2); of `.eh_frame`; of `.debug_frame` (6.4.1). The number of workers changes
+/// nothing. A `.debug_info` of more than 2^29 bytes, which no file that is dumped has, wants more memory than there is.
 #[tactic(auto, unfolding(crate::specs::DebugSays::debug_says))]
 pub fn read_debug<'a, R: Threads + Sync, G: Gate + Sync>(
     rt: &R,

@@ -41,7 +41,7 @@ fn find_all<'a, R: Threads + Sync, G: Gate + Sync>(
     Ok(found)
 }
 
-/// Reads all units that are read.
+/// The units that are read, or the fault of the first one that has one.
 pub fn read_all_units<'a, R: Threads + Sync, G: Gate + Sync>(
     rt: &R,
     alloc: Global,
