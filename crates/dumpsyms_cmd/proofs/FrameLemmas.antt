@@ -1,34 +1,30 @@
 -- The lines on standard error, and what the records of a file say of its frame entries.
-use Rattle.std.proofs.Common.{◌≡◌, ℕ, ◌+◌, ◌≤◌, cond, true, false, List, [], ◌∷◌, ◌++◌, map, length, take, Option, Some, None, Result, Ok, Err, refl, sym, ◌∙◌, ap, append_assoc, subst, count_by}
+use Rattle.std.proofs.Common.{◌≡◌, ℕ, ◌+◌, ◌≤◌, cond, ◌&&◌, true, false, List, [], ◌∷◌, ◌++◌, map, length, take, Option, Some, None, Result, Ok, Err, refl, sym, ◌∙◌, ap, append_assoc, subst, count_by}
 use Rattle.std.specs.List.{flat_map, fold, list_all}
 use Rattle.std.proofs.lemmas.Bool.{and_parts}
 use Rattle.std.proofs.lemmas.List.{take_all}
 use Rattle.sym_edges.specs.Addresses.{Range}
 use Rattle.elf_sections.specs.Image.{ImageParts}
-use Rattle.elf_sections.specs.Symbols.{SymbolParts}
+use Rattle.abbrev_units.specs.declared.unit.Unit.{Unit}
+use Rattle.die_names.specs.declared.unit_read.UnitRead.{UnitRead}
+use Rattle.func_flatten.specs.declared.piece.Piece.{Piece}
+use Rattle.func_flatten.specs.declared.line_run.LineRun.{LineRun}
+use Rattle.func_flatten.specs.Publics.{PublicParts, publics}
+use Rattle.func_records.specs.FuncRecords.{Part, file_lines, line_record, part_lines, AreFuncRecords}
 use Rattle.sym_records.specs.Canon.{spaced}
 use Rattle.sym_records.specs.declared.line.SymLine.{SymLine}
-use Rattle.sym_records.specs.declared.line.SymLine.TheVariants.{Module, Info, Public}
+use Rattle.sym_records.specs.declared.line.SymLine.TheVariants.{Module, Info, File, Origin, Func, Inline, Line, Public, Init, Change}
 use Rattle.rule_postfix.specs.Written.{omitted, written, written_lines}
 use Rattle.rule_postfix.specs.Covering.{init_covers, inits_at, entries_at, AreDisjoint, AreNested}
 use Rattle.rule_postfix.specs.declared.omission.Omission.{Omission}
 use Rattle.debug_read.specs.DebugSays.{DebugSays, debug_says, IsKept, IsDebugRead}
-use Rattle.debug_read.specs.Each.{Says}
+use Rattle.debug_read.specs.Each.{Match, Says}
+use Rattle.debug_read.specs.UnitsRead.{IsUnitRead}
 use Rattle.debug_read.specs.declared.fault.DebugFault.{DebugFault}
 use Rattle.debug_read.specs.declared.found.DebugRead.{DebugRead}
-use Rattle.dumpsyms_cmd.specs.Publics.{publics, public_at}
-use Rattle.dumpsyms_cmd.specs.Refusals.{line, omitted_line, omitted_text}
-use Rattle.dumpsyms_cmd.specs.Frames.{written_of, is_plain}
-use Rattle.dumpsyms_cmd.specs.Dump.{module_line, info_line, info_lines, head_lines, dump_lines, is_unbuilt}
-use Rattle.sym_records.specs.Canon.{canon, canon_text}
-use Rattle.sym_records.specs.Reading.{reading}
-use Rattle.sym_records.specs.Spelled.{records_in, IsSpelled}
-use Rattle.sym_records.specs.Validity.{first_bad, first_bad_from}
-use Rattle.sym_records.specs.declared.place.Place.TheVariants.{Inside}
-use Rattle.sym_records.proofs.JoiningLemmas.{join_fits}
-use Rattle.sym_records.proofs.SpelledLemmas.{spelled, spelled_records}
-use Rattle.std.proofs.lemmas.List.Concat.{flat_map-append}
-use Rattle.dumpsyms_cmd.specs.Judged.{DumpsParts}
+use Rattle.dumpsyms_cmd.specs.Refusals.{line, omitted_line, omitted_text, skipped_of, skipped_text}
+use Rattle.dumpsyms_cmd.specs.Frames.{written_of, is_frameless, SaysFrames}
+use Rattle.dumpsyms_cmd.specs.Dump.{module_line, info_line, info_lines, identity_lines, public_line, public_lines}
 
 -- words by what they are, and words as they are
 fields_are : {X : Type 0} (f : X → List ℕ) (words : List X) → flat_map (λ word. 32 ∷ f word) words ≡ flat_map (λ field. 32 ∷ field) (map f words)
@@ -44,49 +40,90 @@ words_end f before first text whole words i past is ended =
     ∙ append_assoc before (spaced first (map f words)) (10 ∷ [])
 
 -- behind the last line
-pub lines_end : (text : List ℕ) (omissions : List Omission) (i : ℕ) → length omissions ≤ i → text ≡ flat_map omitted_line (take i omissions) → text ≡ omitted_text omissions
+pub lines_end : (before text : List ℕ) (omissions : List Omission) (i : ℕ) → length omissions ≤ i → text ≡ before ++ flat_map omitted_line (take i omissions) → text ≡ before ++ omitted_text omissions
 unfolding omitted_text
-lines_end text omissions i past is = is ∙ ap (flat_map omitted_line) (take_all i omissions past)
+lines_end before text omissions i past is = is ∙ ap (λ l. before ++ flat_map omitted_line l) (take_all i omissions past)
 
-plain_publics : (base : ℕ) (symbols : List SymbolParts) (addresses : List ℕ) → list_all is_plain (map (public_at base symbols) addresses) ≡ true
-unfolding public_at
-plain_publics base symbols [] = refl
-plain_publics base symbols (a ∷ addresses) = plain_publics base symbols addresses
+pub skipped_end : (before text : List ℕ) (units : List Unit) (i : ℕ) → length units ≤ i → text ≡ before ++ flat_map skipped_of (take i units) → text ≡ before ++ skipped_text units
+unfolding skipped_text
+skipped_end before text units i past is = is ∙ ap (λ l. before ++ flat_map skipped_of l) (take_all i units past)
 
-plain_infos : (id : Option (List ℕ)) (rest : List SymLine) → list_all is_plain rest ≡ true → list_all is_plain (info_lines id ++ rest) ≡ true
+-- records in front of those of frames say nothing of these
+both_frameless : (xs ys : List SymLine) → list_all is_frameless xs ≡ true → list_all is_frameless ys ≡ true → list_all is_frameless (xs ++ ys) ≡ true
+both_frameless [] ys first second = second
+both_frameless (x ∷ xs) ys first second =
+    let parts = and_parts (is_frameless x) (list_all is_frameless xs) first in
+    ap (λ b. b && list_all is_frameless (xs ++ ys)) parts.0 ∙ both_frameless xs ys parts.1 second
+
+infos_frameless : (id : Option (List ℕ)) → list_all is_frameless (info_lines id) ≡ true
 unfolding info_line
-plain_infos None rest all = all
-plain_infos (Some id) rest all = all
+infos_frameless None = refl
+infos_frameless (Some id) = refl
 
--- the records in front of those of frames are plain
-pub plain_head : (image : ImageParts) (name : List ℕ) → list_all is_plain (head_lines image name) ≡ true
-unfolding head_lines module_line publics
-plain_head image name = plain_infos image.build_id (publics image.base image.symbols) (plain_publics image.base image.symbols _)
+identity_frameless : (image : ImageParts) (name : List ℕ) → list_all is_frameless (identity_lines image name) ≡ true
+unfolding module_line
+identity_frameless image name = infos_frameless image.build_id
 
--- plain records cover nothing
-line_plain : (x : ℕ) (s : SymLine) → is_plain s ≡ true → init_covers x s ≡ false
+files_frameless : (k : ℕ) (paths : List (List ℕ)) → list_all is_frameless (file_lines k paths) ≡ true
+files_frameless k [] = refl
+files_frameless k (path ∷ paths) = files_frameless (k + 1) paths
+
+runs_frameless : (base : ℕ) (paths : List (List ℕ)) (units : List UnitRead) (unit : ℕ) (runs : List LineRun) → list_all is_frameless (map (line_record base paths units unit) runs) ≡ true
+runs_frameless base paths units unit [] = refl
+runs_frameless base paths units unit (r ∷ runs) = runs_frameless base paths units unit runs
+
+parts_frameless : (base : ℕ) (paths : List (List ℕ)) (units : List UnitRead) (parts : List Part) → list_all is_frameless (part_lines base paths units parts) ≡ true
+parts_frameless base paths units [] = refl
+parts_frameless base paths units (p ∷ parts) = both_frameless (map (line_record base paths units p.piece.unit) p.lines) (part_lines base paths units parts) (runs_frameless base paths units p.piece.unit p.lines) (parts_frameless base paths units parts)
+
+functions_frameless : (base : ℕ) (units : List UnitRead) (pieces : List Piece) (records : List SymLine) → AreFuncRecords base units pieces records → list_all is_frameless records ≡ true
+functions_frameless base units pieces records are = rw are.whole (both_frameless (file_lines 0 are.paths) (part_lines base are.paths units are.parts) (files_frameless 0 are.paths) (parts_frameless base are.paths units are.parts))
+
+publics_frameless : (base : ℕ) (ps : List PublicParts) → list_all is_frameless (map (public_line base) ps) ≡ true
+publics_frameless base [] = refl
+publics_frameless base (p ∷ ps) = publics_frameless base ps
+
+pub head_frameless : (image : ImageParts) (name : List ℕ) (units : List UnitRead) (pieces : List Piece) (functions : List SymLine) → AreFuncRecords image.base units pieces functions → list_all is_frameless (identity_lines image name ++ (functions ++ public_lines image pieces)) ≡ true
+head_frameless image name units pieces functions are =
+    both_frameless (identity_lines image name) (functions ++ public_lines image pieces) (identity_frameless image name)
+    (both_frameless functions (public_lines image pieces) (functions_frameless image.base units pieces functions are) (publics_frameless image.base (publics pieces image.symbols)))
+
+-- such records cover nothing
+line_plain : (x : ℕ) (s : SymLine) → is_frameless s ≡ true → init_covers x s ≡ false
+line_plain x (Init address size rules) plain = cc
+line_plain x (Change address rules) plain = refl
 line_plain x (Module binary) plain = refl
 line_plain x (Info text) plain = refl
+line_plain x (File number name) plain = refl
+line_plain x (Origin number name) plain = refl
+line_plain x (Func many address size params name) plain = refl
+line_plain x (Inline level line file origin ranges) plain = refl
+line_plain x (Line address size line file) plain = refl
 line_plain x (Public many address params name) plain = refl
-line_plain x s plain = cc
 
-covered_behind : (x : ℕ) (front rest : List SymLine) → list_all is_plain front ≡ true → count_by (init_covers x) (front ++ rest) ≡ count_by (init_covers x) rest
+covered_behind : (x : ℕ) (front rest : List SymLine) → list_all is_frameless front ≡ true → count_by (init_covers x) (front ++ rest) ≡ count_by (init_covers x) rest
 covered_behind x [] rest plain = refl
 covered_behind x (s ∷ front) rest plain =
-    let parts = and_parts (is_plain s) (list_all is_plain front) plain in
+    let parts = and_parts (is_frameless s) (list_all is_frameless front) plain in
     ap (λ t. fold (λ count line. count + cond (init_covers x line) 1 0) (0 + cond t 1 0) (front ++ rest)) (line_plain x s parts.0) ∙ covered_behind x front rest parts.1
 
-covers_behind : (x : ℕ) (front rest : List SymLine) → list_all is_plain front ≡ true → inits_at (front ++ rest) x ≡ inits_at rest x
+covers_behind : (x : ℕ) (front rest : List SymLine) → list_all is_frameless front ≡ true → inits_at (front ++ rest) x ≡ inits_at rest x
 unfolding inits_at
 covers_behind x front rest plain = covered_behind x front rest plain
 
--- nested records are nested behind plain ones
-nested_behind : (front rest : List SymLine) → list_all is_plain front ≡ true → AreNested 0 0 rest → AreNested 0 0 (front ++ rest)
+-- nested records are nested behind such ones
+nested_behind : (front rest : List SymLine) → list_all is_frameless front ≡ true → AreNested 0 0 rest → AreNested 0 0 (front ++ rest)
 nested_behind [] rest plain nested = nested
 nested_behind (Module binary ∷ front) rest plain nested = nested_behind front rest plain nested
 nested_behind (Info text ∷ front) rest plain nested = nested_behind front rest plain nested
+nested_behind (File number name ∷ front) rest plain nested = nested_behind front rest plain nested
+nested_behind (Origin number name ∷ front) rest plain nested = nested_behind front rest plain nested
+nested_behind (Func many address size params name ∷ front) rest plain nested = nested_behind front rest plain nested
+nested_behind (Inline level line file origin ranges ∷ front) rest plain nested = nested_behind front rest plain nested
+nested_behind (Line address size line file ∷ front) rest plain nested = nested_behind front rest plain nested
 nested_behind (Public many address params name ∷ front) rest plain nested = nested_behind front rest plain nested
-nested_behind (s ∷ front) rest plain nested = cc
+nested_behind (Init address size rules ∷ front) rest plain nested = cc
+nested_behind (Change address rules ∷ front) rest plain nested = cc
 
 -- which addresses the records of written entries cover
 pub record CoversWritten (base : ℕ) (image : ImageParts) (found : DebugSays) : Type 0 where
@@ -95,76 +132,42 @@ pub record CoversWritten (base : ℕ) (image : ImageParts) (found : DebugSays) :
   pub nested : AreNested 0 0 (written_lines base (written_of image found))
 
 -- the records of a file say which written entry covers an address
-pub frames_dumped : (image : ImageParts) (name text : List ℕ) (found : DebugSays) (lines : List SymLine) → is_unbuilt image ≡ false → debug_says image ≡ Ok found → lines ≡ head_lines image name ++ written_lines image.base (written_of image found) → text ≡ omitted_text (omitted image.code found.first found.second) → CoversWritten image.base image found → reading (canon_text lines) ≡ Ok lines → DumpsParts image name lines text
-unfolding dump_lines
-frames_dumped image name text found lines built found_is are listed cover reads = record {
-  found = found;
-  built = built;
-  found_is = found_is;
-  lines_are = are;
-  text_is = listed;
-  reads = reads;
-  says = record {
-    front = head_lines image name;
-    plain = plain_head image name;
-    whole = are;
-    disjoint = cover.disjoint;
-    covered = λ x. ap (λ l. inits_at l x) are ∙ covers_behind x (head_lines image name) (written_lines image.base (written_of image found)) (plain_head image name) ∙ cover.at x;
-    nested = subst (AreNested 0 0) (sym are) (nested_behind (head_lines image name) (written_lines image.base (written_of image found)) (plain_head image name) cover.nested);
-  };
+frames_said : (image : ImageParts) (found : DebugSays) (front lines : List SymLine) → list_all is_frameless front ≡ true → lines ≡ front ++ written_lines image.base (written_of image found) → CoversWritten image.base image found → SaysFrames image found lines
+frames_said image found front lines plain are cover = record {
+  front = front;
+  frameless = plain;
+  whole = are;
+  disjoint = cover.disjoint;
+  covered = λ x. ap (λ l. inits_at l x) are ∙ covers_behind x front (written_lines image.base (written_of image found)) plain ∙ cover.at x;
+  nested = subst (AreNested 0 0) (sym are) (nested_behind front (written_lines image.base (written_of image found)) plain cover.nested);
 }
 
 -- the same, by what each call gave
-pub dumps_framed : (image : ImageParts) (name text : List ℕ) (found : DebugSays) (lines framed : List SymLine) (base : ℕ) (code : List Range) (omissions : List Omission) → is_unbuilt image ≡ false → debug_says image ≡ Ok found → base ≡ image.base → code ≡ image.code → framed ≡ written_lines base (written code found.first found.second) → ((x : ℕ) → inits_at framed x ≡ entries_at (written code found.first found.second) (x + base)) → AreNested 0 0 framed → AreDisjoint (written code found.first found.second) → omissions ≡ omitted code found.first found.second → lines ≡ head_lines image name ++ framed → reading (canon_text lines) ≡ Ok lines → text ≡ omitted_text omissions → DumpsParts image name lines text
-dumps_framed image name text found lines framed base code omissions built found_is low ranges framed_is cover nested apart left are reads listed =
+pub frames_framed : (image : ImageParts) (found : DebugSays) (front lines framed : List SymLine) (base : ℕ) (code : List Range) → list_all is_frameless front ≡ true → base ≡ image.base → code ≡ image.code → framed ≡ written_lines base (written code found.first found.second) → ((x : ℕ) → inits_at framed x ≡ entries_at (written code found.first found.second) (x + base)) → AreNested 0 0 framed → AreDisjoint (written code found.first found.second) → lines ≡ front ++ framed → SaysFrames image found lines
+frames_framed image found front lines framed base code plain low ranges framed_is cover nested apart are =
     let all : framed ≡ written_lines image.base (written_of image found) =
     framed_is ∙ ap (λ b. written_lines b (written code found.first found.second)) low ∙ ap (λ k. written_lines image.base (written k found.first found.second)) ranges in
-    frames_dumped image name text found lines built found_is
-    (are ∙ ap (λ l. head_lines image name ++ l) all)
-    (listed ∙ ap omitted_text (left ∙ ap (λ k. omitted k found.first found.second) ranges))
+    frames_said image found front lines plain
+    (are ∙ ap (λ l. front ++ l) all)
     (record {
       disjoint = subst (λ (k : List Range). AreDisjoint (written k found.first found.second)) ranges apart;
       at = λ x. ap (λ l. inits_at l x) (sym all) ∙ cover x ∙ ap (λ b. entries_at (written code found.first found.second) (x + b)) low ∙ ap (λ k. entries_at (written k found.first found.second) (x + image.base)) ranges;
       nested = subst (AreNested 0 0) all nested;
     })
-    reads
 
 -- what a file says that was read
 pub record Kept (image : ImageParts) (read : DebugRead) : Type 0 where
   pub says : DebugSays
   pub says_is : debug_says image ≡ Ok says
+  pub headers : read.headers ≡ says.headers
+  pub units : Match (IsUnitRead image.code) says.units read.units
   pub first : read.first ≡ says.first
   pub second : read.second ≡ says.second
 
 kept_by : (image : ImageParts) (read : DebugRead) (says : Result DebugSays DebugFault) → debug_says image ≡ says → Says (IsKept image.code) says read → Kept image read
-kept_by image read (Ok says) is kept = record { says = says; says_is = is; first = kept.first; second = kept.second }
+kept_by image read (Ok says) is kept = record { says = says; says_is = is; headers = kept.headers; units = kept.units; first = kept.first; second = kept.second }
 kept_by image read (Err fault) is kept = absurd kept
 
 pub kept : (image : ImageParts) (read : DebugRead) → IsDebugRead image read → Kept image read
 kept image read is = kept_by image read (debug_says image) refl is
 
--- the records of a file by what was read of it
-pub dumps_read : (image : ImageParts) (name text : List ℕ) (read : DebugRead) (lines framed : List SymLine) (base : ℕ) (code : List Range) (omissions : List Omission) → is_unbuilt image ≡ false → IsDebugRead image read → base ≡ image.base → code ≡ image.code → framed ≡ written_lines base (written code read.first read.second) → ((x : ℕ) → inits_at framed x ≡ entries_at (written code read.first read.second) (x + base)) → AreNested 0 0 framed → AreDisjoint (written code read.first read.second) → omissions ≡ omitted code read.first read.second → lines ≡ head_lines image name ++ framed → reading (canon_text lines) ≡ Ok lines → text ≡ omitted_text omissions → DumpsParts image name lines text
-dumps_read image name text read lines framed base code omissions built is low ranges framed_is cover nested apart left are reads listed =
-    let k = kept image read is in
-    let same : written code read.first read.second ≡ written code k.says.first k.says.second =
-    ap (λ first. written code first read.second) k.first ∙ ap (written code k.says.first) k.second in
-    dumps_framed image name text k.says lines framed base code omissions built k.says_is low ranges
-    (framed_is ∙ ap (written_lines base) same) (λ x. cover x ∙ ap (λ l. entries_at l (x + base)) same) nested (subst AreDisjoint same apart)
-    (left ∙ ap (λ first. omitted code first read.second) k.first ∙ ap (omitted code k.says.first) k.second) are reads listed
-
--- the text of a file: the records in front are spelled, and then those of frames
-whole_valid : (image : ImageParts) (name : List ℕ) (written : List SymLine) → first_bad (head_lines image name) ≡ None → first_bad_from 0 Inside written ≡ None → first_bad (head_lines image name ++ written) ≡ None
-whole_valid image name written head frames = join_fits (head_lines image name) written head frames
-
-whole_text : (image : ImageParts) (name front rest text : List ℕ) (written : List SymLine) → front ≡ canon_text (head_lines image name) → rest ≡ canon_text written → text ≡ front ++ rest → text ≡ canon_text (head_lines image name ++ written)
-unfolding canon_text
-whole_text image name front rest text written head frames is = is ∙ ap (λ t. t ++ rest) head ∙ ap (λ t. canon_text (head_lines image name) ++ t) frames ∙ sym (flat_map-append canon (head_lines image name) written)
-
-pub dump_spelled : (image : ImageParts) (name front rest text : List ℕ) (written : List SymLine) → front ≡ canon_text (head_lines image name) → first_bad (head_lines image name) ≡ None → rest ≡ canon_text written → first_bad_from 0 Inside written ≡ None → text ≡ front ++ rest → IsSpelled text
-dump_spelled image name front rest text written head valid frames good is =
-    spelled (head_lines image name ++ written) text (whole_valid image name written valid good) (whole_text image name front rest text written head frames is)
-
-pub dump_records : (image : ImageParts) (name front rest text : List ℕ) (written : List SymLine) → front ≡ canon_text (head_lines image name) → first_bad (head_lines image name) ≡ None → rest ≡ canon_text written → first_bad_from 0 Inside written ≡ None → text ≡ front ++ rest → records_in text ≡ head_lines image name ++ written
-dump_records image name front rest text written head valid frames good is =
-    spelled_records (head_lines image name ++ written) text (whole_valid image name written valid good) (whole_text image name front rest text written head frames is)

@@ -1,5 +1,5 @@
 -- Judgements, from the parts of an image up to the words.
-use Rattle.std.proofs.Common.{◌≡◌, inl, inr, ℕ, ◌≤◌, ◌<◌, true, false, List, [], Option, Some, None, IsSome, Ok, Err, Result, length, nat_lt, cond, refl, sym, ◌∙◌, ap, arith, append-nil, subst}
+use Rattle.std.proofs.Common.{◌≡◌, inl, inr, ℕ, ◌≤◌, ◌<◌, Bool, true, false, List, [], ◌++◌, Option, Some, None, IsSome, Ok, Err, Result, length, nat_lt, cond, refl, sym, ◌∙◌, ap, arith, append-nil, subst}
 use Rattle.std.proofs.lemmas.Bool.Decides.{nat_tests}
 use Rattle.sym_edges.specs.Outside.{Files, Tells, Rose, MatchStop}
 use Rattle.sym_edges.specs.WholeFile.{AsksOnce, HoldsFile, IsWhole, IsLonger, ReadAll}
@@ -10,17 +10,24 @@ use Rattle.sym_edges.specs.declared.reading.ReadEnd.{ReadEnd}
 use Rattle.sym_edges.specs.declared.reading.ReadEnd.TheVariants.{CantOpen, CantRead, TooLong}
 use Rattle.elf_sections.specs.Image.{ImageParts, image}
 use Rattle.elf_sections.specs.declared.fault.ElfFault.{ElfFault}
-use Rattle.debug_read.specs.DebugSays.{debug_says, IsDebugRead}
+use Rattle.sym_edges.specs.Addresses.{Range}
+use Rattle.std.specs.List.{list_any}
+use Rattle.abbrev_units.specs.declared.unit.Unit.{Unit}
+use Rattle.debug_read.specs.DebugSays.{DebugSays, debug_says, IsDebugRead}
+use Rattle.debug_read.specs.Each.{Match}
+use Rattle.debug_read.specs.UnitSays.{UnitSays}
+use Rattle.debug_read.specs.UnitsRead.{IsUnitRead}
 use Rattle.debug_read.specs.declared.fault.DebugFault.{DebugFault}
 use Rattle.debug_read.specs.declared.found.DebugRead.{DebugRead}
 use Rattle.sym_records.specs.Canon.{canon_text}
 use Rattle.sym_records.specs.Reading.{reading}
 use Rattle.sym_records.specs.declared.line.SymLine.{SymLine}
-use Rattle.rule_postfix.specs.Written.{omitted}
-use Rattle.dumpsyms_cmd.specs.Dump.{is_unbuilt}
+use Rattle.rule_postfix.specs.declared.omission.Omission.{Omission}
+use Rattle.dumpsyms_cmd.specs.Dump.{has_copy, is_unbuilt}
 use Rattle.dumpsyms_cmd.specs.Words.{Asked, dump, files_of, module_name}
-use Rattle.dumpsyms_cmd.specs.Refusals.{elf_line, debug_line, omitted_text, too_long_line, unbuilt_line, usage_line}
-use Rattle.dumpsyms_cmd.specs.Verdict.{Verdict, refused, usage, dump_verdict, command_verdict, found_verdict, debug_verdict, parts_verdict, image_verdict, file_verdict, LIMIT}
+use Rattle.dumpsyms_cmd.specs.Refusals.{elf_line, debug_line, skipped_text, omitted_text, too_long_line, unbuilt_line, usage_line}
+use Rattle.dumpsyms_cmd.specs.Verdict.{Verdict, refused, usage, IsFoundVerdict, IsDebugVerdict, IsPartsVerdict, IsImageVerdict, IsBytesVerdict, IsDumpVerdict, IsFileVerdict, IsVerdict, LIMIT}
+use Rattle.dumpsyms_cmd.specs.Spelled.{DumpsRead}
 use Rattle.dumpsyms_cmd.specs.Observed.{Asks}
 use Rattle.dumpsyms_cmd.specs.Judged.{out_bytes, err_bytes, judgement_verdict, Refuses, RefusesOrGives, Judges, DumpsParts, JudgesParts, DumpsImage, JudgesBytes, DumpsFile, DumpPromises, IsUsage, IsJudged, AnswersCommand, AnswersStop}
 use Rattle.dumpsyms_cmd.proofs.FrameLemmas.{kept}
@@ -52,63 +59,107 @@ judging (Text lines) status err P P' Q Q' f g says = (says.0, g lines err says.1
 judging (Bytes text) status err P P' Q Q' f g says = absurd says
 
 -- a file within the limit has the verdict of its image
-within : (name bytes : List ℕ) → length bytes ≤ LIMIT → dump_verdict LIMIT name bytes ≡ image_verdict (image bytes) name
-unfolding dump_verdict
-within name bytes few = let no : nat_lt LIMIT (length bytes) ≡ false = grind (arith, nat_tests) in rw no refl
+within : (name bytes : List ℕ) (v : Verdict) → length bytes ≤ LIMIT → IsImageVerdict (image bytes) name v → IsDumpVerdict LIMIT name bytes v
+within name bytes v few is =
+    let no : nat_lt LIMIT (length bytes) ≡ false = grind (arith, nat_tests) in
+    subst (λ (b : Bool). IsBytesVerdict b name bytes v) (sym no) is
 
--- debug entries are refused where there is no fault
-pub unbuilt_judged : (j : Judgement) (parts : ImageParts) (name text : List ℕ) (read : DebugRead) → IsDebugRead parts read → is_unbuilt parts ≡ true → text ≡ unbuilt_line → Refuses j text → JudgesParts j name parts
-unfolding parts_verdict
-unbuilt_judged j parts name text read says is line refuses =
+-- a refusal by a line that is the text
+line_refused : (P : Verdict → Type 0) (line text : List ℕ) → text ≡ line → P (refused line) → P (refused text)
+line_refused P line text same is = subst (λ (t : List ℕ). P (refused t)) (sym same) is
+
+-- inlined copies are refused where there is no fault
+unbuilt_by : (parts : ImageParts) (name : List ℕ) (says : DebugSays) → debug_says parts ≡ Ok says → is_unbuilt parts.code says ≡ true → IsPartsVerdict parts name (refused unbuilt_line)
+unbuilt_by parts name says found is =
+    subst (λ (r : Result DebugSays DebugFault). IsDebugVerdict r parts name (refused unbuilt_line)) (sym found)
+    (subst (λ (b : Bool). IsFoundVerdict b parts name says (refused unbuilt_line)) (sym is) refl)
+
+pub unbuilt_judged : (j : Judgement) (parts : ImageParts) (name text : List ℕ) (read : DebugRead) (copies : Bool) → IsDebugRead parts read → ((code : List Range) (says : List UnitSays) → Match (IsUnitRead code) says read.units → copies ≡ list_any (λ (u : UnitSays). has_copy code u.table.dies u.pairs) says) → copies ≡ true → text ≡ unbuilt_line → Refuses j text → JudgesParts j name parts
+unfolding is_unbuilt
+unbuilt_judged j parts name text read copies says tells is line refuses =
     let k = kept parts read says in
-    refusing j text (λ err. parts_verdict parts name ≡ refused err) (DumpsParts parts name) refuses
-    (ap (λ f. debug_verdict f parts name) k.says_is ∙ ap (λ t. cond t (refused unbuilt_line) (found_verdict parts name k.says)) is ∙ ap refused (sym line))
+    refusing j text (λ err. IsPartsVerdict parts name (refused err)) (DumpsParts parts name) refuses
+    (line_refused (IsPartsVerdict parts name) unbuilt_line text line (unbuilt_by parts name k.says k.says_is (sym (tells parts.code k.says.units k.units) ∙ is)))
 
 -- a fault behind the image is refused with its line
+fault_by : (parts : ImageParts) (name : List ℕ) (fault : DebugFault) → debug_says parts ≡ Err fault → IsPartsVerdict parts name (refused (debug_line fault))
+fault_by parts name fault is = subst (λ (r : Result DebugSays DebugFault). IsDebugVerdict r parts name (refused (debug_line fault))) (sym is) refl
+
 debug_judged : (j : Judgement) (parts : ImageParts) (name text : List ℕ) (fault : DebugFault) → debug_says parts ≡ Err fault → text ≡ debug_line fault → Refuses j text → JudgesParts j name parts
-unfolding parts_verdict
 debug_judged j parts name text fault is line refuses =
-    refusing j text (λ err. parts_verdict parts name ≡ refused err) (DumpsParts parts name) refuses
-    (ap (λ f. debug_verdict f parts name) is ∙ ap refused (sym line))
+    refusing j text (λ err. IsPartsVerdict parts name (refused err)) (DumpsParts parts name) refuses
+    (line_refused (IsPartsVerdict parts name) (debug_line fault) text line (fault_by parts name fault is))
 
 -- the same of a reading that ended with it
-pub stop_judged : {A : Type 0} (j : Judgement) (parts : ImageParts) (name text : List ℕ) (P : A → Type 0) (read : Result A (Stop DebugFault)) (end : Stop DebugFault) (fault : DebugFault) → MatchStop read P (λ f. debug_says parts ≡ Err f) (Unit {0}) → read ≡ Err end → end ≡ Fault fault → text ≡ debug_line fault → Refuses j text → JudgesParts j name parts
+pub stop_judged : {A : Type 0} (j : Judgement) (parts : ImageParts) (name text : List ℕ) (P : A → Type 0) (read : Result A (Stop DebugFault)) (end : Stop DebugFault) (fault : DebugFault) → MatchStop read P (λ f. debug_says parts ≡ Err f) (Prim.Unit {0}) → read ≡ Err end → end ≡ Fault fault → text ≡ debug_line fault → Refuses j text → JudgesParts j name parts
 stop_judged {A = A} j parts name text P read end fault says is ends line refuses =
-    let R : Result A (Stop DebugFault) → Type 0 = λ r. MatchStop r P (λ f. debug_says parts ≡ Err f) (Unit {0}) in
-    let S : Stop DebugFault → Type 0 = λ e. MatchStop {A = A} (Err e) P (λ f. debug_says parts ≡ Err f) (Unit {0}) in
+    let R : Result A (Stop DebugFault) → Type 0 = λ r. MatchStop r P (λ f. debug_says parts ≡ Err f) (Prim.Unit {0}) in
+    let S : Stop DebugFault → Type 0 = λ e. MatchStop {A = A} (Err e) P (λ f. debug_says parts ≡ Err f) (Prim.Unit {0}) in
     debug_judged j parts name text fault (subst S ends (subst R is says)) line refuses
 
--- the verdict of an image without faults and debug entries
-found_told : (parts : ImageParts) (name : List ℕ) (lines : List SymLine) (text : List ℕ) → DumpsParts parts name lines text → parts_verdict parts name ≡ record { status = 0; out = canon_text lines; err = text }
-unfolding parts_verdict
+-- the verdict of an image without faults and inlined copies
+abbrev given : ℕ → List ℕ → List ℕ → Verdict
+given status out err = record { status = status; out = out; err = err }
+
+found_told : (parts : ImageParts) (name : List ℕ) (lines : List SymLine) (text : List ℕ) → DumpsParts parts name lines text → IsPartsVerdict parts name (given 0 (canon_text lines) text)
 found_told parts name lines text dumps =
-    ap (λ f. debug_verdict f parts name) dumps.found_is
-    ∙ ap (λ t. cond t (refused unbuilt_line) (found_verdict parts name dumps.found)) dumps.built
-    ∙ ap (λ (l : List SymLine). (let v : Verdict = record { status = 0; out = canon_text l; err = omitted_text (omitted parts.code dumps.found.first dumps.found.second) } in v)) (sym dumps.lines_are)
-    ∙ ap (λ (t : List ℕ). (let v : Verdict = record { status = 0; out = canon_text lines; err = t } in v)) (sym dumps.text_is)
+    subst (λ (r : Result DebugSays DebugFault). IsDebugVerdict r parts name (given 0 (canon_text lines) text)) (sym dumps.found_is)
+    (subst (λ (b : Bool). IsFoundVerdict b parts name dumps.found (given 0 (canon_text lines) text)) (sym dumps.built)
+    (record { lines = lines; canon = dumps.canon; is = ap (given 0 (canon_text lines)) dumps.text_is }))
+
+-- the records of a file by what was read of it
+pub dumps_parts : (parts : ImageParts) (name text : List ℕ) (read : DebugRead) (lines : List SymLine) (left : List Omission) → IsDebugRead parts read → ((found : DebugSays) → debug_says parts ≡ Ok found → is_unbuilt parts.code found ≡ false) → DumpsRead parts name read lines left → text ≡ skipped_text read.headers ++ omitted_text left → DumpsParts parts name lines text
+dumps_parts parts name text read lines left says built dumps is =
+    let k = kept parts read says in
+    let same : k.says ≡ dumps.found = said (sym k.says_is ∙ dumps.found_is) in
+    record {
+      found = dumps.found;
+      found_is = dumps.found_is;
+      built = built dumps.found dumps.found_is;
+      canon = dumps.canon;
+      text_is = is ∙ ap (λ (us : List Unit). skipped_text us ++ omitted_text left) (k.headers ∙ ap (λ (f : DebugSays). f.headers) same) ∙ ap (λ (l : List Omission). skipped_text dumps.found.headers ++ omitted_text l) dumps.left_is;
+      reads = dumps.reads;
+      frames = dumps.frames;
+      names = dumps.names;
+    }
+ where
+  said : {x y : DebugSays} → ◌≡◌ {A = Result DebugSays DebugFault} (Ok x) (Ok y) → x ≡ y
+  said is = cc
+
+pub built_by : (parts : ImageParts) (read : DebugRead) (copies : Bool) → IsDebugRead parts read → ((code : List Range) (says : List UnitSays) → Match (IsUnitRead code) says read.units → copies ≡ list_any (λ (u : UnitSays). has_copy code u.table.dies u.pairs) says) → copies ≡ false → (found : DebugSays) → debug_says parts ≡ Ok found → is_unbuilt parts.code found ≡ false
+unfolding is_unbuilt
+built_by parts read copies says tells none found is =
+    let k = kept parts read says in
+    let same : k.says ≡ found = said (sym k.says_is ∙ is) in
+    ap (is_unbuilt parts.code) (sym same) ∙ sym (tells parts.code k.says.units k.units) ∙ none
+ where
+  said : {x y : DebugSays} → ◌≡◌ {A = Result DebugSays DebugFault} (Ok x) (Ok y) → x ≡ y
+  said is = cc
 
 -- a judgement on the parts of an image is one on the bytes
 pub parts_judged : (j : Judgement) (name bytes : List ℕ) (parts : ImageParts) → length bytes ≤ LIMIT → image bytes ≡ Ok parts → JudgesParts j name parts → JudgesBytes j name bytes
 parts_judged j name bytes parts few is says =
     judging j.out j.status (err_bytes j.err)
-    (λ err. parts_verdict parts name ≡ refused err) (λ err. dump_verdict LIMIT name bytes ≡ refused err)
+    (λ err. IsPartsVerdict parts name (refused err)) (λ err. IsDumpVerdict LIMIT name bytes (refused err))
     (DumpsParts parts name) (DumpsImage bytes name)
-    (λ err same. within name bytes few ∙ ap (λ i. image_verdict i name) is ∙ same)
+    (λ err same. within name bytes (refused err) few (subst (λ (i : Result ImageParts ElfFault). IsImageVerdict i name (refused err)) (sym is) same))
     (λ lines err dumps. record { parts = parts; image_is = is; dumps = dumps })
     says
 
 -- and so is the line of a fault
 pub fault_judged : (j : Judgement) (name bytes text : List ℕ) (fault : ElfFault) → length bytes ≤ LIMIT → image bytes ≡ Err fault → text ≡ elf_line fault → Refuses j text → JudgesBytes j name bytes
 fault_judged j name bytes text fault few is line refuses =
-    refusing j text (λ err. dump_verdict LIMIT name bytes ≡ refused err) (DumpsImage bytes name) refuses
-    (within name bytes few ∙ ap (λ i. image_verdict i name) is ∙ ap refused (sym line))
+    refusing j text (λ err. IsDumpVerdict LIMIT name bytes (refused err)) (DumpsImage bytes name) refuses
+    (within name bytes (refused text) few (subst (λ (i : Result ImageParts ElfFault). IsImageVerdict i name (refused text)) (sym is) (ap refused line)))
 
 -- the verdict of a file that was dumped
-dumped_verdict : (elf : List ℕ) (files : Files) (lines : List SymLine) (text : List ℕ) → DumpsFile elf files lines text → file_verdict elf (files elf) ≡ record { status = 0; out = canon_text lines; err = text }
+dumped_verdict : (elf : List ℕ) (files : Files) (lines : List SymLine) (text : List ℕ) → DumpsFile elf files lines text → IsFileVerdict elf (files elf) (given 0 (canon_text lines) text)
 dumped_verdict elf files lines text dumps =
-    ap (file_verdict elf) dumps.there ∙ within (module_name elf) dumps.file dumps.few
-    ∙ ap (λ i. image_verdict i (module_name elf)) dumps.dumps.image_is
-    ∙ found_told dumps.dumps.parts (module_name elf) lines text dumps.dumps.dumps
+    let v : Verdict = given 0 (canon_text lines) text in
+    subst (λ (f : Option (List ℕ)). IsFileVerdict elf f v) (sym dumps.there)
+    (within (module_name elf) dumps.file v dumps.few
+    (subst (λ (i : Result ImageParts ElfFault). IsImageVerdict i (module_name elf) v) (sym dumps.dumps.image_is)
+    (found_told dumps.dumps.parts (module_name elf) lines text dumps.dumps.dumps)))
 
 -- what the promise of a dump says of its status, and that it is the verdict
 promised_low : (o : Output) (status : ℕ) (err : List ℕ) (P : List ℕ → Type 0) (Q : List SymLine → List ℕ → Type 0) → RefusesOrGives o status err P Q → status < 2
@@ -116,19 +167,19 @@ promised_low Nothing status err P Q says = let is = says.0 in omega arith
 promised_low (Text lines) status err P Q says = let is = says.0 in omega arith
 promised_low (Bytes text) status err P Q says = absurd says
 
-promised_told : (o : Output) (status : ℕ) (err elf : List ℕ) (files : Option Files) → RefusesOrGives o status err (λ e. Tells files (λ f. file_verdict elf (f elf) ≡ refused e)) (λ lines e. (reading (canon_text lines) ≡ Ok lines) × Tells files (λ f. DumpsFile elf f lines e)) →
-    Tells files (λ f. file_verdict elf (f elf) ≡ record { status = status; out = out_bytes o; err = err })
+promised_told : (o : Output) (status : ℕ) (err elf : List ℕ) (files : Option Files) → RefusesOrGives o status err (λ e. Tells files (λ f. IsFileVerdict elf (f elf) (refused e))) (λ lines e. (reading (canon_text lines) ≡ Ok lines) × Tells files (λ f. DumpsFile elf f lines e)) →
+    Tells files (λ f. IsFileVerdict elf (f elf) (given status (out_bytes o) err))
 promised_told Nothing status err elf files says =
-    told (λ f. file_verdict elf (f elf) ≡ refused err) (λ f. file_verdict elf (f elf) ≡ record { status = status; out = out_bytes Nothing; err = err }) files
-    (λ f same. same ∙ ap (λ (n : ℕ). (let v : Verdict = record { status = n; out = out_bytes Nothing; err = err } in v)) (sym says.0)) says.1
+    told (λ f. IsFileVerdict elf (f elf) (refused err)) (λ f. IsFileVerdict elf (f elf) (given status (out_bytes Nothing) err)) files
+    (λ f same. subst (λ (n : ℕ). IsFileVerdict elf (f elf) (given n (out_bytes Nothing) err)) (sym says.0) same) says.1
 promised_told (Text lines) status err elf files says =
-    told (λ f. DumpsFile elf f lines err) (λ f. file_verdict elf (f elf) ≡ record { status = status; out = out_bytes (Text lines); err = err }) files
-    (λ f dumps. dumped_verdict elf f lines err dumps ∙ ap (λ (n : ℕ). (let v : Verdict = record { status = n; out = out_bytes (Text lines); err = err } in v)) (sym says.0)) says.1.1
+    told (λ f. DumpsFile elf f lines err) (λ f. IsFileVerdict elf (f elf) (given status (out_bytes (Text lines)) err)) files
+    (λ f dumps. subst (λ (n : ℕ). IsFileVerdict elf (f elf) (given n (out_bytes (Text lines)) err)) (sym says.0) (dumped_verdict elf f lines err dumps)) says.1.1
 promised_told (Bytes text) status err elf files says = absurd says
 
 dump_judged : (j : Judgement) (elf : List ℕ) (workers : ℕ) (files : Option Files) → DumpPromises elf files j → IsJudged j (Some (dump elf workers)) files
 dump_judged j elf workers files kept =
-    let low : j.status < 2 = promised_low j.out j.status (err_bytes j.err) (λ e. Tells files (λ f. file_verdict elf (f elf) ≡ refused e)) (λ lines e. (reading (canon_text lines) ≡ Ok lines) × Tells files (λ f. DumpsFile elf f lines e)) kept in
+    let low : j.status < 2 = promised_low j.out j.status (err_bytes j.err) (λ e. Tells files (λ f. IsFileVerdict elf (f elf) (refused e))) (λ lines e. (reading (canon_text lines) ≡ Ok lines) × Tells files (λ f. DumpsFile elf f lines e)) kept in
     record {
       low = omega arith;
       row = λ some. low;
@@ -137,9 +188,11 @@ dump_judged j elf workers files kept =
     }
 
 -- a judgement on the bytes of the file is one on the command
-refusal_told : (files : Option Files) (elf bytes err : List ℕ) → HoldsFile files elf (λ whole. IsWhole whole bytes LIMIT) → dump_verdict LIMIT (module_name elf) bytes ≡ refused err → Tells files (λ f. file_verdict elf (f elf) ≡ refused err)
+refusal_told : (files : Option Files) (elf bytes err : List ℕ) → HoldsFile files elf (λ whole. IsWhole whole bytes LIMIT) → IsDumpVerdict LIMIT (module_name elf) bytes (refused err) → Tells files (λ f. IsFileVerdict elf (f elf) (refused err))
 refusal_told None elf bytes err holds same = tt
-refusal_told (Some files) elf bytes err holds same = ap (file_verdict elf) holds.1 ∙ ap (dump_verdict LIMIT (module_name elf)) holds.2.0 ∙ same
+refusal_told (Some files) elf bytes err holds same =
+    subst (λ (f : Option (List ℕ)). IsFileVerdict elf f (refused err)) (sym holds.1)
+    (subst (λ (b : List ℕ). IsDumpVerdict LIMIT (module_name elf) b (refused err)) (sym holds.2.0) same)
 
 dumping_told : (files : Option Files) (elf bytes : List ℕ) (lines : List SymLine) (err : List ℕ) → HoldsFile files elf (λ whole. IsWhole whole bytes LIMIT) → DumpsImage bytes (module_name elf) lines err → Tells files (λ f. DumpsFile elf f lines err)
 dumping_told None elf bytes lines err holds dumps = tt
@@ -149,7 +202,7 @@ bytes_judged : (j : Judgement) (files : Option Files) (elf : List ℕ) (workers 
 bytes_judged j files elf workers bytes holds says =
     dump_judged j elf workers files (
     judging j.out j.status (err_bytes j.err)
-    (λ err. dump_verdict LIMIT (module_name elf) bytes ≡ refused err) (λ e. Tells files (λ f. file_verdict elf (f elf) ≡ refused e))
+    (λ err. IsDumpVerdict LIMIT (module_name elf) bytes (refused err)) (λ e. Tells files (λ f. IsFileVerdict elf (f elf) (refused e)))
     (DumpsImage bytes (module_name elf)) (λ lines e. (reading (canon_text lines) ≡ Ok lines) × Tells files (λ f. DumpsFile elf f lines e))
     (λ err same. refusal_told files elf bytes err holds same)
     (λ lines err dumps. (dumps.dumps.reads, dumping_told files elf bytes lines err holds dumps))
@@ -162,12 +215,12 @@ bytes_command j files elf workers bytes name held holds named same says =
     bytes_judged j files elf workers bytes holds (subst Q same (subst P named says))
 
 -- a file that is longer is refused for it
-longer : (files : Option Files) (elf text : List ℕ) → HoldsFile files elf (λ whole. IsLonger whole LIMIT) → text ≡ too_long_line → Tells files (λ f. file_verdict elf (f elf) ≡ refused text)
-unfolding dump_verdict
+longer : (files : Option Files) (elf text : List ℕ) → HoldsFile files elf (λ whole. IsLonger whole LIMIT) → text ≡ too_long_line → Tells files (λ f. IsFileVerdict elf (f elf) (refused text))
 longer None elf text holds is = tt
 longer (Some files) elf text holds is =
     let more : nat_lt LIMIT (length holds.0) ≡ true = (let lt = holds.2 in grind (arith, nat_tests)) in
-    ap (file_verdict elf) holds.1 ∙ rw more (ap refused (sym is))
+    subst (λ (f : Option (List ℕ)). IsFileVerdict elf f (refused text)) (sym holds.1)
+    (subst (λ (b : Bool). IsBytesVerdict b (module_name elf) holds.0 (refused text)) (sym more) (ap refused is))
 
 pub too_long_judged : (j : Judgement) (text : List ℕ) → text ≡ too_long_line → Refuses j text → AnswersStop (Judged j) (Fault TooLong)
 too_long_judged j text is refuses = refusing j text (λ err. err ≡ too_long_line) (λ lines err. ⊥) refuses is
@@ -178,7 +231,7 @@ stop_command (Judged j) (Fault CantRead) files elf workers left left_after befor
 stop_command (Judged j) (Fault TooLong) files elf workers left left_after before after read says =
     dump_judged j elf workers files (
     judging j.out j.status (err_bytes j.err)
-    (λ err. err ≡ too_long_line) (λ e. Tells files (λ f. file_verdict elf (f elf) ≡ refused e))
+    (λ err. err ≡ too_long_line) (λ e. Tells files (λ f. IsFileVerdict elf (f elf) (refused e)))
     (λ lines err. ⊥) (λ lines e. (reading (canon_text lines) ≡ Ok lines) × Tells files (λ f. DumpsFile elf f lines e))
     (λ err is. longer files elf err read is)
     (λ lines err no. absurd no)
@@ -201,10 +254,10 @@ usage_judged j files before after is =
     record {
       low = omega arith;
       row = λ some. absurd (none_some None refl some);
-      told = always (λ f. command_verdict None f ≡ judgement_verdict j) files (λ f.
-          ap (λ (n : ℕ). (let v : Verdict = record { status = n; out = []; err = usage_line } in v)) (sym is.status)
+      told = always (λ f. IsVerdict None f (judgement_verdict j)) files (λ f.
+          sym (ap (λ (n : ℕ). (let v : Verdict = record { status = n; out = []; err = usage_line } in v)) (sym is.status)
           ∙ ap (λ (o : Output). (let v : Verdict = record { status = j.status; out = out_bytes o; err = usage_line } in v)) (sym is.out)
-          ∙ ap (λ (e : List ℕ). (let v : Verdict = record { status = j.status; out = out_bytes j.out; err = e } in v)) (sym is.err));
+          ∙ ap (λ (e : List ℕ). (let v : Verdict = record { status = j.status; out = out_bytes j.out; err = e } in v)) (sym is.err)));
       kept = is;
     }
 

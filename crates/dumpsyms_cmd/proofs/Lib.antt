@@ -1,4 +1,4 @@
-pub mod PublicLemmas
+pub mod CopyLemmas
 pub mod WordLemmas
 pub mod RecordLemmas
 pub mod JudgedLemmas
@@ -6,3 +6,5 @@ pub mod WriteLemmas
 pub mod RunLemmas
 pub mod FrameLemmas
 pub mod Computing
+pub mod CleanLemmas
+pub mod CanonLemmas

@@ -11,10 +11,9 @@ use Rattle.sym_records.specs.declared.place.Place.TheVariants.{Start}
 use Rattle.sym_records.specs.declared.line.SymLine.{SymLine}
 use Rattle.sym_records.specs.declared.line.SymLine.TheVariants.{Module, Info}
 use Rattle.sym_records.proofs.MakingLemmas.{upper_digit, digits_field, module_fits, info_fits, code_id_name, first_fits}
-use Rattle.sym_records.proofs.SpelledLemmas.{text_grown}
 use Rattle.dumpsyms_cmd.specs.Dump.{module_line, info_line, info_lines}
-use Rattle.dumpsyms_cmd.specs.Publics.{FitsInside}
-use Rattle.dumpsyms_cmd.proofs.PublicLemmas.{one_more}
+use Rattle.dumpsyms_cmd.specs.Spelled.{FitsInside}
+use Rattle.sym_records.proofs.MakingLemmas.{push_fits}
 
 -- the digits of bytes are digits
 pub upper_all : (bytes : List ℕ) → ((i : ℕ) → get_or bytes i 0 < 256) → AllDigits 16 (encode_upper bytes)
@@ -75,13 +74,7 @@ pub module_fits_first : (line : SymLine) (id : Option (List ℕ)) → id ≡ Non
 module_fits_first line id none first fit = ap (λ o. first_bad (line ∷ info_lines o)) none ∙ first_fits line first fit
 
 pub info_fits_behind : (line : SymLine) (bytes : List ℕ) (id : Option (List ℕ)) → id ≡ Some bytes → fits Start line ≡ true → fields_fit line ≡ true → FitsInside (info_line bytes) → first_bad (line ∷ info_lines id) ≡ None
-info_fits_behind line bytes id some first fit behind = ap (λ o. first_bad (line ∷ info_lines o)) some ∙ one_more (line ∷ []) (info_line bytes) (first_fits line first fit) behind
-
--- the records in front
-pub head_spelled : (front made rest : List SymLine) (full last longer text new : List ℕ) → made ≡ rest → full ++ last ≡ [] → longer ≡ last ++ canon_text front → text ≡ full ++ longer → new ≡ text ++ canon_text made → new ≡ canon_text (front ++ rest)
-unfolding canon_text
-head_spelled front made rest full last longer text new these none begun same is =
-    is ∙ ap (λ t. t ++ canon_text made) (same ∙ text_grown full last (canon_text front) longer begun ∙ ap (λ t. t ++ canon_text front) none) ∙ sym (flat_map-append canon front made) ∙ ap (λ l. canon_text (front ++ l)) these
+info_fits_behind line bytes id some first fit behind = ap (λ o. first_bad (line ∷ info_lines o)) some ∙ push_fits (line ∷ []) (info_line bytes) (first_fits line first fit) behind.0 behind.1
 
 -- one text behind another
 pub joined : (front rest more whole : List (List ℕ)) (middle last : List ℕ) → more ≡ front ++ middle ∷ [] → whole ≡ more ++ rest → flat_map (λ piece. piece) whole ++ last ≡ (flat_map (λ piece. piece) front ++ middle) ++ (flat_map (λ piece. piece) rest ++ last)

@@ -3,11 +3,11 @@ use Rattle.std.proofs.Common.{◌≡◌, ◌⊎◌, inl, inr, ℕ, zero, suc, ta
 use Rattle.sym_edges.specs.Outside.{Files, Tells, Rose, AddsFront, append_told}
 use Rattle.dumpsyms_cmd.specs.Words.{Asked, files_of}
 use Rattle.dumpsyms_cmd.specs.Refusals.{usage_line, unread_line}
-use Rattle.dumpsyms_cmd.specs.Verdict.{Verdict, unread, command_verdict}
+use Rattle.dumpsyms_cmd.specs.Verdict.{Verdict, unread, IsVerdict}
 use Rattle.dumpsyms_cmd.specs.Observed.{Reading, Writing, Stood, StoreFailed, SinkFailed, StoreStood, SinkStood, Received, ReceivedFront, ReceivedNothing, ReceivedWhole, ReceivedFronts, Asks}
 use Rattle.dumpsyms_cmd.specs.Judged.{out_bytes, err_bytes, is_some_output, has_output, judgement_verdict, answer_verdict, IsUsage, IsJudged, AnswersCommand}
 use Rattle.dumpsyms_cmd.specs.Writes.{Writes}
-use Rattle.dumpsyms_cmd.specs.Program.{Run, command, WasJudged, Promises}
+use Rattle.dumpsyms_cmd.specs.Program.{Run, command, WasJudged, HoldFronts, HasStatus, Promises}
 use Rattle.dumpsyms_cmd.specs.declared.judgement.Output.{Output}
 use Rattle.dumpsyms_cmd.specs.declared.judgement.Output.TheVariants.{Nothing}
 use Rattle.dumpsyms_cmd.specs.declared.judgement.Judgement.{Judgement}
@@ -100,15 +100,15 @@ by_judgement j run judged asks writes =
       not_read = λ three. absurd (unlike run v has 3 writes three (λ is. omega arith) (λ is. omega arith));
       not_written = unwritten_run run v has writes (λ is. omega arith);
       fronts = λ four. inr (
-          told (λ f. command_verdict (command run) f ≡ v) (λ f. ReceivedFronts run.out run.err (command_verdict (command run) f)) run.store.files
-          (λ f same. (let P : Verdict → Type 0 = λ w. ReceivedFronts run.out run.err w in subst P (sym same) (fronts_run run v has writes (λ is. omega arith) four)))
+          told (λ f. IsVerdict (command run) f v) (HoldFronts run) run.store.files
+          (λ f same. record { verdict = v; is = same; fronts = fronts_run run v has writes (λ is. omega arith) four })
           judged.told);
       no_memory = λ five. absurd (unlike run v has 5 writes five (λ is. omega arith) (λ is. omega arith));
       range = small run v has writes (omega arith);
       asked = asks;
       complete = λ stood quiet calm.
-          told (λ f. command_verdict (command run) f ≡ v) (λ f. (run.status ≡ (command_verdict (command run) f).status) ⊎ (run.status ≡ 5)) run.store.files
-          (λ f same. inl (status_said run v has writes quiet calm ∙ ap (λ (w : Verdict). w.status) (sym same)))
+          told (λ f. IsVerdict (command run) f v) (λ f. HasStatus run f ⊎ (run.status ≡ 5)) run.store.files
+          (λ f same. inl (record { verdict = v; is = same; same = status_said run v has writes quiet calm }))
           judged.told;
     }
 
@@ -132,27 +132,12 @@ by_unread run some failed asks writes = record {
 }
 
 -- want of memory
-none_taken : (n : ℕ) → ◌≡◌ {A = List ℕ} (take n []) []
-none_taken zero = refl
-none_taken (suc n) = refl
-
--- a front of nothing is a front of any text
-empty_front : (sink : Writing) (text : List ℕ) → ReceivedFront sink [] → ReceivedFront sink text
-empty_front sink text front = record { count = 0; within = omega arith; added = front.added ∙ ap (append_told sink.taken) (none_taken front.count) }
-
-empty_fronts : (run : Run) (v : Verdict) → ReceivedFronts run.out run.err (record { status = 5; out = []; err = [] }) → ReceivedFronts run.out run.err v
-empty_fronts run v fronts = record {
-  out_text = empty_front run.out v.out fronts.out_text;
-  err_text = empty_front run.err v.err fronts.err_text;
-  order = inl (fronts.err_text.added ∙ ap (append_told run.err.taken) (none_taken fronts.err_text.count) ∙ nothing run.err.taken);
-}
-
 no_memory_run : (run : Run) → IsSome (command run) → Writes run.status (record { status = 5; out = []; err = [] }) false run.out run.err → run.status ≡ 5 → IsSome (command run) × ReceivedNothing run.out × ReceivedNothing run.err
 no_memory_run run some (inl whole) five = (some, whole.1.out_text ∙ nothing run.out.taken, whole.1.err_text ∙ nothing run.err.taken)
 no_memory_run run some (inr failed) five = absurd (let is = failed.0 in omega arith)
 
-pub by_no_memory : (run : Run) → IsSome (command run) → Asks (files_of (command run) run.store.files) run.store.asked run.store.asked_after → Writes run.status (record { status = 5; out = []; err = [] }) false run.out run.err → Promises run
-by_no_memory run some asks writes =
+pub by_no_memory : (run : Run) → IsSome (command run) → run.status ≡ 5 → Asks (files_of (command run) run.store.files) run.store.asked run.store.asked_after → Writes run.status (record { status = 5; out = []; err = [] }) false run.out run.err → Promises run
+by_no_memory run some five asks writes =
     let v : Verdict = record { status = 5; out = []; err = [] } in
     record {
       judged = λ low. absurd (unlike run v false run.status writes refl (λ is. omega arith) (λ is. omega arith));
@@ -160,16 +145,14 @@ by_no_memory run some asks writes =
       no_row = λ none. absurd (none_some (command run) none some);
       not_read = λ three. absurd (unlike run v false 3 writes three (λ is. omega arith) (λ is. omega arith));
       not_written = unwritten_run run v false writes (λ is. omega arith);
-      fronts = λ four. inr (always (λ f. ReceivedFronts run.out run.err (command_verdict (command run) f)) run.store.files
-          (λ f. empty_fronts run (command_verdict (command run) f) (fronts_run run v false writes (λ is. omega arith) four)));
+      fronts = λ four. absurd (omega (arith, four, five));
       no_memory = no_memory_run run some writes;
       range = small run v false writes (omega arith);
       asked = asks;
-      complete = λ stood quiet calm. always (λ f. (run.status ≡ (command_verdict (command run) f).status) ⊎ (run.status ≡ 5)) run.store.files
-          (λ f. inr (status_said run v false writes quiet calm));
+      complete = λ stood quiet calm. always (λ f. HasStatus run f ⊎ (run.status ≡ 5)) run.store.files (λ f. inr five);
     }
 
-pub promises : (answer : Answer) (run : Run) → AnswersCommand answer (command run) run.store.files run.store.faults run.store.faults_after → Asks (files_of (command run) run.store.files) run.store.asked run.store.asked_after → Writes run.status (answer_verdict answer) (has_output answer) run.out run.err → Promises run
-promises (Judged j) run says asks writes = by_judgement j run says asks writes
-promises Unread run says asks writes = by_unread run says.0 says.1 asks writes
-promises NoMemory run says asks writes = by_no_memory run says asks writes
+pub promises : (answer : Answer) (run : Run) → AnswersCommand answer (command run) run.store.files run.store.faults run.store.faults_after → Asks (files_of (command run) run.store.files) run.store.asked run.store.asked_after → Writes run.status (answer_verdict answer) (has_output answer) run.out run.err → (answer ≡ NoMemory → run.status ≡ 5) → Promises run
+promises (Judged j) run says asks writes quiet = by_judgement j run says asks writes
+promises Unread run says asks writes quiet = by_unread run says.0 says.1 asks writes
+promises NoMemory run says asks writes quiet = by_no_memory run says (quiet refl) asks writes

@@ -1,13 +1,25 @@
 -- The records of a dumped file (Breakpad's symbol_files.md).
-use Rattle.std.specs.Prelude.{ℕ, ◌==◌, Bool, not, List, [], ◌∷◌, ◌++◌, Option, Some, None, length, map, slice_index, codes}
+use Rattle.std.specs.Prelude.{◌≡◌, ℕ, ◌-◌, ◌&&◌, ◌||◌, Bool, false, List, [], ◌∷◌, ◌++◌, Option, Some, None, map, slice_index, codes}
+use Rattle.std.specs.List.{list_any}
 use Rattle.hex.specs.Hex.{encode_upper}
 use Rattle.elf_sections.specs.Image.{ImageParts}
 use Rattle.sym_records.specs.Cleaning.{cleaned}
 use Rattle.sym_records.specs.declared.line.SymLine.{SymLine}
-use Rattle.sym_records.specs.declared.line.SymLine.TheVariants.{Module, Info}
+use Rattle.sym_records.specs.declared.line.SymLine.TheVariants.{Module, Info, Public}
 use Rattle.rule_postfix.specs.Written.{written_lines}
+use Rattle.sym_edges.specs.Addresses.{Range}
+use Rattle.die_walk.specs.EntryTable.{DieFields}
+use Rattle.range_lists.specs.EntryRanges.{is_code}
+use Rattle.die_names.specs.declared.unit_read.UnitRead.{UnitRead}
+use Rattle.die_names.specs.UnitEntries.{is_inlined}
+use Rattle.func_flatten.specs.declared.piece.Piece.{Piece}
+use Rattle.func_flatten.specs.Pieces.{ArePieces}
+use Rattle.func_flatten.specs.Publics.{PublicParts, publics}
+use Rattle.func_records.specs.FuncRecords.{AreFuncRecords}
+use Rattle.debug_read.specs.Each.{Match}
+use Rattle.debug_read.specs.UnitSays.{UnitSays}
+use Rattle.debug_read.specs.UnitsRead.{IsUnitRead}
 use Rattle.debug_read.specs.DebugSays.{DebugSays}
-use Rattle.dumpsyms_cmd.specs.Publics.{publics}
 use Rattle.dumpsyms_cmd.specs.Frames.{written_of}
 
 -- the identity as a GUID is written: its first four bytes, the next two and the next two, each turned round
@@ -31,14 +43,38 @@ abbrev pub info_lines : Option (List ℕ) → List SymLine
 info_lines None = []
 info_lines (Some id) = info_line id ∷ []
 
--- the records in front of those of frames, under the cleaned part of the file's path after the last slash
-unfoldable pub head_lines : ImageParts → List ℕ → List SymLine
-head_lines image name = (module_line image.identity (cleaned name) ∷ info_lines image.build_id) ++ publics image.base image.symbols
+-- the records of the binary and of its build id, under the cleaned part of the file's path after the last slash
+abbrev pub identity_lines : ImageParts → List ℕ → List SymLine
+identity_lines image name = module_line image.identity (cleaned name) ∷ info_lines image.build_id
 
--- the records of a file without debug entries
-unfoldable pub dump_lines : ImageParts → List ℕ → DebugSays → List SymLine
-dump_lines image name found = head_lines image name ++ written_lines image.base (written_of image found)
+-- the record of an address of function symbols
+abbrev pub public_line : ℕ → PublicParts → SymLine
+public_line base p = Public p.many (p.address - base) 0 p.name
 
--- the file has debug entries, which are not dumped yet
-unfoldable pub is_unbuilt : ImageParts → Bool
-is_unbuilt image = not (length image.info.bytes == 0)
+-- the records of the function symbols that no piece of a function covers
+abbrev pub public_lines : ImageParts → List Piece → List SymLine
+public_lines image pieces = map (public_line image.base) (publics pieces image.symbols)
+
+-- the records of the frame entries that are written
+abbrev pub frame_lines : ImageParts → DebugSays → List SymLine
+frame_lines image found = written_lines image.base (written_of image found)
+
+-- the records of a file without fault: those of the binary; those of functions and their lines, by what was read of the units; those of
+-- symbols outside of functions; those of frames
+pub record CanonFile (image : ImageParts) (name : List ℕ) (found : DebugSays) (lines : List SymLine) : Type 0 where
+  pub units : List UnitRead
+  pub units_are : Match (IsUnitRead image.code) found.units units
+  pub pieces : List Piece
+  pub pieces_are : ArePieces units pieces
+  pub functions : List SymLine
+  pub functions_are : AreFuncRecords image.base units pieces functions
+  pub whole : lines ≡ identity_lines image name ++ (functions ++ (public_lines image pieces ++ frame_lines image found))
+
+-- some inlined copy among entries with these pairs has an address
+unfoldable pub has_copy : List Range → List DieFields → List (List Range) → Bool
+has_copy code (die ∷ dies) (pairs ∷ all) = (is_inlined die && list_any (is_code code) pairs) || has_copy code dies all
+has_copy code _ _ = false
+
+-- the file has inlined copies of functions, which are not dumped yet
+unfoldable pub is_unbuilt : List Range → DebugSays → Bool
+is_unbuilt code found = list_any (λ (u : UnitSays). has_copy code u.table.dies u.pairs) found.units

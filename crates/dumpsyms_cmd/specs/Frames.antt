@@ -5,7 +5,7 @@ use Rattle.elf_sections.specs.Image.{ImageParts}
 use Rattle.frame_entries.specs.FdeFields.{FdeFields}
 use Rattle.debug_read.specs.DebugSays.{DebugSays}
 use Rattle.sym_records.specs.declared.line.SymLine.{SymLine}
-use Rattle.sym_records.specs.declared.line.SymLine.TheVariants.{Module, Info, Public}
+use Rattle.sym_records.specs.declared.line.SymLine.TheVariants.{Init, Change}
 use Rattle.rule_postfix.specs.Written.{written, written_lines}
 use Rattle.rule_postfix.specs.Covering.{inits_at, entries_at, AreDisjoint, AreNested}
 
@@ -13,19 +13,18 @@ use Rattle.rule_postfix.specs.Covering.{inits_at, entries_at, AreDisjoint, AreNe
 abbrev pub written_of : ImageParts → DebugSays → List FdeFields
 written_of image found = written image.code found.first found.second
 
--- a record that says nothing of functions, chains, lines or frames
-abbrev pub is_plain : SymLine → Bool
-is_plain (Module binary) = true
-is_plain (Info text) = true
-is_plain (Public many address params name) = true
-is_plain line = false
+-- a record that says nothing of frames
+abbrev pub is_frameless : SymLine → Bool
+is_frameless (Init address size rules) = false
+is_frameless (Change address rules) = false
+is_frameless line = true
 
--- what records say of frames: behind plain records stand those of the written entries, one entry behind another; no two of
+-- what records say of frames: behind records that say nothing of them stand those of the written entries, one entry behind another; no two of
 -- these have an address in common; as many INITs cover an address as written entries hold it, so one or none; and the changes of
 -- an INIT stand inside it, at addresses that rise
 pub record SaysFrames (image : ImageParts) (found : DebugSays) (lines : List SymLine) : Type 0 where
   pub front : List SymLine
-  pub plain : list_all is_plain front ≡ true
+  pub frameless : list_all is_frameless front ≡ true
   pub whole : lines ≡ front ++ written_lines image.base (written_of image found)
   pub disjoint : AreDisjoint (written_of image found)
   pub covered : (x : ℕ) → inits_at lines x ≡ entries_at (written_of image found) (x + image.base)

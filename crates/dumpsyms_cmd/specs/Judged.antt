@@ -10,13 +10,13 @@ use Rattle.elf_sections.specs.Image.{ImageParts, image}
 use Rattle.sym_records.specs.Canon.{canon_text}
 use Rattle.sym_records.specs.Reading.{reading}
 use Rattle.sym_records.specs.declared.line.SymLine.{SymLine}
-use Rattle.rule_postfix.specs.Written.{omitted}
 use Rattle.dumpsyms_cmd.specs.Words.{Asked, dump, module_name}
-use Rattle.dumpsyms_cmd.specs.Dump.{dump_lines, is_unbuilt}
+use Rattle.dumpsyms_cmd.specs.Dump.{CanonFile, is_unbuilt}
 use Rattle.debug_read.specs.DebugSays.{DebugSays, debug_says}
+use Rattle.func_records.specs.TextNames.{Names}
 use Rattle.dumpsyms_cmd.specs.Frames.{SaysFrames}
-use Rattle.dumpsyms_cmd.specs.Refusals.{omitted_text, too_long_line, usage_line}
-use Rattle.dumpsyms_cmd.specs.Verdict.{Verdict, refused, unread, parts_verdict, dump_verdict, file_verdict, command_verdict, LIMIT}
+use Rattle.dumpsyms_cmd.specs.Refusals.{too_long_line, usage_line}
+use Rattle.dumpsyms_cmd.specs.Verdict.{Verdict, refused, unread, left_out, IsPartsVerdict, IsDumpVerdict, IsFileVerdict, IsVerdict, LIMIT}
 use Rattle.dumpsyms_cmd.specs.declared.judgement.Output.{Output}
 use Rattle.dumpsyms_cmd.specs.declared.judgement.Output.TheVariants.{Nothing, Text, Bytes}
 use Rattle.dumpsyms_cmd.specs.declared.judgement.Message.{Message}
@@ -71,19 +71,21 @@ RefusesOrGives (Bytes text) status err P Q = ⊥
 abbrev pub Judges : Judgement → (List ℕ → Type 0) → (List SymLine → List ℕ → Type 0) → Type 0
 Judges j P Q = RefusesOrGives j.out j.status (err_bytes j.err) P Q
 
--- the records of an image without debug entries, and the text on the frame entries that are left out
+-- the records of an image without inlined copies, and the text on what is left out; what the records say of frames; and what a look-up
+-- in them names: at each address the function that owns it in the file, and its line
 pub record DumpsParts (parts : ImageParts) (name : List ℕ) (lines : List SymLine) (text : List ℕ) : Type 0 where
   pub found : DebugSays
-  pub built : is_unbuilt parts ≡ false
   pub found_is : debug_says parts ≡ Ok found
-  pub lines_are : lines ≡ dump_lines parts name found
-  pub text_is : text ≡ omitted_text (omitted parts.code found.first found.second)
+  pub built : is_unbuilt parts.code found ≡ false
+  pub canon : CanonFile parts name found lines
+  pub text_is : text ≡ left_out parts found
   pub reads : reading (canon_text lines) ≡ Ok lines
-  pub says : SaysFrames parts found lines
+  pub frames : SaysFrames parts found lines
+  pub names : (x : ℕ) → Names parts.base canon.units lines x
 
 -- a judgement on the parts of an image
 abbrev pub JudgesParts : Judgement → List ℕ → ImageParts → Type 0
-JudgesParts j name parts = Judges j (λ err. parts_verdict parts name ≡ refused err) (DumpsParts parts name)
+JudgesParts j name parts = Judges j (λ err. IsPartsVerdict parts name (refused err)) (DumpsParts parts name)
 
 -- the same of the bytes of a file
 pub record DumpsImage (bytes name : List ℕ) (lines : List SymLine) (text : List ℕ) : Type 0 where
@@ -92,7 +94,7 @@ pub record DumpsImage (bytes name : List ℕ) (lines : List SymLine) (text : Lis
   pub dumps : DumpsParts parts name lines text
 
 abbrev pub JudgesBytes : Judgement → List ℕ → List ℕ → Type 0
-JudgesBytes j name bytes = Judges j (λ err. dump_verdict LIMIT name bytes ≡ refused err) (DumpsImage bytes name)
+JudgesBytes j name bytes = Judges j (λ err. IsDumpVerdict LIMIT name bytes (refused err)) (DumpsImage bytes name)
 
 -- the file is there, and its records and the text on what is left out are these
 pub record DumpsFile (elf : List ℕ) (files : Files) (lines : List SymLine) (text : List ℕ) : Type 0 where
@@ -105,7 +107,7 @@ pub record DumpsFile (elf : List ℕ) (files : Files) (lines : List SymLine) (te
 -- as them, which are the file's where the store tells its files
 abbrev pub DumpPromises : List ℕ → Option Files → Judgement → Type 0
 DumpPromises elf files j = Judges j
-    (λ err. Tells files (λ f. file_verdict elf (f elf) ≡ refused err))
+    (λ err. Tells files (λ f. IsFileVerdict elf (f elf) (refused err)))
     (λ lines err. (reading (canon_text lines) ≡ Ok lines) × Tells files (λ f. DumpsFile elf f lines err))
 
 -- words that are no row are answered with the usage line
@@ -124,7 +126,7 @@ CommandPromises (Some (dump elf workers)) files j = DumpPromises elf files j
 pub record IsJudged (j : Judgement) (command : Option Asked) (files : Option Files) : Type 0 where
   pub low : j.status < 3
   pub row : IsSome command → j.status < 2
-  pub told : Tells files (λ f. command_verdict command f ≡ judgement_verdict j)
+  pub told : Tells files (λ f. IsVerdict command f (judgement_verdict j))
   pub kept : CommandPromises command files j
 
 -- what an answer says of a command, the files and the store's count of faults

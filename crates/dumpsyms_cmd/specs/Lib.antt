@@ -1,8 +1,8 @@
-pub mod Publics
 pub mod Words
 pub mod Refusals
 pub mod Frames
 pub mod Dump
+pub mod Spelled
 pub mod Verdict
 pub mod Observed
 pub mod Judged

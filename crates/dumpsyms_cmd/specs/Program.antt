@@ -3,7 +3,7 @@ use Rattle.std.specs.Prelude.{◌≡◌, ◌⊎◌, ℕ, ◌<◌, ◌≤◌, Lis
 use Rattle.sym_edges.specs.Outside.{Files, Tells}
 use Rattle.dumpsyms_cmd.specs.Words.{Asked, command_of, files_of}
 use Rattle.dumpsyms_cmd.specs.Refusals.{usage_line, unread_line}
-use Rattle.dumpsyms_cmd.specs.Verdict.{Verdict, unread, command_verdict}
+use Rattle.dumpsyms_cmd.specs.Verdict.{Verdict, unread, IsVerdict}
 use Rattle.dumpsyms_cmd.specs.Observed.{Reading, Writing, StoreFailed, SinkFailed, StoreStood, SinkStood, Received, ReceivedNothing, ReceivedWhole, ReceivedFronts, AsksFor}
 use Rattle.dumpsyms_cmd.specs.Judged.{judgement_verdict, CommandPromises}
 use Rattle.dumpsyms_cmd.specs.declared.judgement.Judgement.{Judgement}
@@ -27,7 +27,19 @@ pub record WasJudged (run : Run) : Type 0 where
   pub status : run.status ≡ judgement.status
   pub received : ReceivedWhole run.out run.err (judgement_verdict judgement)
   pub promised : CommandPromises (command run) run.store.files judgement
-  pub verdict : Tells run.store.files (λ files. command_verdict (command run) files ≡ judgement_verdict judgement)
+  pub verdict : Tells run.store.files (λ files. IsVerdict (command run) files (judgement_verdict judgement))
+
+-- the sinks hold fronts of the texts of the verdict
+pub record HoldFronts (run : Run) (files : Files) : Type 0 where
+  pub verdict : Verdict
+  pub is : IsVerdict (command run) files verdict
+  pub fronts : ReceivedFronts run.out run.err verdict
+
+-- the status is that of the verdict
+pub record HasStatus (run : Run) (files : Files) : Type 0 where
+  pub verdict : Verdict
+  pub is : IsVerdict (command run) files verdict
+  pub same : run.status ≡ verdict.status
 
 -- the promises of a run
 pub record Promises (run : Run) : Type 0 where
@@ -43,7 +55,7 @@ pub record Promises (run : Run) : Type 0 where
   pub not_written : run.status ≡ 4 → SinkFailed run.out ⊎ SinkFailed run.err
   -- and then the sinks hold fronts of the verdict's texts, or of those of status 3 where the store failed
   pub fronts : run.status ≡ 4 → (StoreFailed run.store × ReceivedFronts run.out run.err unread)
-      ⊎ Tells run.store.files (λ files. ReceivedFronts run.out run.err (command_verdict (command run) files))
+      ⊎ Tells run.store.files (HoldFronts run)
   -- 5 comes for the words of a row alone, and the sinks received nothing
   pub no_memory : run.status ≡ 5 → IsSome (command run) × ReceivedNothing run.out × ReceivedNothing run.err
   -- no other status comes
@@ -52,4 +64,4 @@ pub record Promises (run : Run) : Type 0 where
   pub asked : AsksFor run.store (files_of (command run) run.store.files)
   -- where nothing failed, the status is the verdict's, or 5
   pub complete : StoreStood run.store → SinkStood run.out → SinkStood run.err
-      → Tells run.store.files (λ files. (run.status ≡ (command_verdict (command run) files).status) ⊎ (run.status ≡ 5))
+      → Tells run.store.files (λ files. HasStatus run files ⊎ (run.status ≡ 5))

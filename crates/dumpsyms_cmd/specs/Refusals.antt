@@ -9,6 +9,9 @@ use Rattle.elf_sections.specs.declared.fault.ElfFault.{ElfFault}
 use Rattle.elf_sections.specs.declared.fault.ElfFault.TheVariants.{NotElf, Class, Order, Machine, Kind, SectionTable, SectionNames, SectionBytes, Compressed, ProgramTable, SymbolTable, NoIdentity}
 use Rattle.abbrev_units.specs.declared.fault.DwarfKind.{DwarfKind}
 use Rattle.abbrev_units.specs.declared.fault.DwarfKind.TheVariants as dwarf
+use Rattle.abbrev_units.specs.declared.unit.Unit.{Unit}
+use Rattle.abbrev_units.specs.declared.unit.UnitPart.{UnitPart}
+use Rattle.abbrev_units.specs.declared.unit.UnitPart.TheVariants.{Read, Passed, Skipped}
 use Rattle.frame_entries.specs.declared.fault.FrameKind.{FrameKind}
 use Rattle.frame_entries.specs.declared.fault.FrameKind.TheVariants.{Length, Format64}
 use Rattle.sym_edges.specs.declared.located.Located.{Located}
@@ -139,3 +142,19 @@ omitted_line o = line (spaced (codes "omitted") (section_word o.section ∷ hex 
 -- the entries that are left out, in order
 unfoldable pub omitted_text : List Omission → List ℕ
 omitted_text omissions = flat_map omitted_line omissions
+
+-- a unit is skipped: its place in hexadecimal, and its version
+abbrev pub skipped_line : Unit → List ℕ
+skipped_line unit = line (spaced (codes "skipped debug_info") (hex unit.start ∷ codes "version" ∷ decimal unit.version ∷ []))
+
+abbrev pub skipped_by : Unit → UnitPart → List ℕ
+skipped_by unit Read = []
+skipped_by unit Passed = []
+skipped_by unit Skipped = skipped_line unit
+
+abbrev pub skipped_of : Unit → List ℕ
+skipped_of unit = skipped_by unit unit.part
+
+-- the units that are skipped, in order
+unfoldable pub skipped_text : List Unit → List ℕ
+skipped_text units = flat_map skipped_of units

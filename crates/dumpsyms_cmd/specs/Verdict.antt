@@ -1,5 +1,5 @@
 -- What the program answers: a status and two texts, by its words and the files.
-use Rattle.std.specs.Prelude.{ℕ, ◌^◌, length, nat_lt, List, [], Option, Some, None, Result, Ok, Err, if◌then◌else◌}
+use Rattle.std.specs.Prelude.{◌≡◌, ℕ, ◌^◌, length, nat_lt, Bool, true, false, List, [], ◌++◌, Option, Some, None, Result, Ok, Err}
 use Rattle.sym_edges.specs.Outside.{Files}
 use Rattle.elf_sections.specs.Image.{ImageParts, image}
 use Rattle.elf_sections.specs.declared.fault.ElfFault.{ElfFault}
@@ -7,9 +7,10 @@ use Rattle.debug_read.specs.declared.fault.DebugFault.{DebugFault}
 use Rattle.debug_read.specs.DebugSays.{DebugSays, debug_says}
 use Rattle.sym_records.specs.Canon.{canon_text}
 use Rattle.rule_postfix.specs.Written.{omitted}
-use Rattle.dumpsyms_cmd.specs.Words.{Asked, dump, command_of, module_name}
-use Rattle.dumpsyms_cmd.specs.Refusals.{elf_line, debug_line, omitted_text, too_long_line, unbuilt_line, unread_line, usage_line}
-use Rattle.dumpsyms_cmd.specs.Dump.{dump_lines, is_unbuilt}
+use Rattle.sym_records.specs.declared.line.SymLine.{SymLine}
+use Rattle.dumpsyms_cmd.specs.Words.{Asked, dump, module_name}
+use Rattle.dumpsyms_cmd.specs.Refusals.{elf_line, debug_line, omitted_text, skipped_text, too_long_line, unbuilt_line, unread_line, usage_line}
+use Rattle.dumpsyms_cmd.specs.Dump.{CanonFile, is_unbuilt}
 
 -- a status, and the texts on standard output and standard error
 pub record Verdict : Type 0 where
@@ -33,42 +34,49 @@ unread = record { status = 3; out = []; err = unread_line }
 abbrev pub LIMIT : ℕ
 LIMIT = 2 ^ 29
 
--- the verdict of a dump of a file without faults: out has the records, and err the frame entries that are left out
-abbrev pub found_verdict : ImageParts → List ℕ → DebugSays → Verdict
-found_verdict parts name found = record {
-  status = 0;
-  out = canon_text (dump_lines parts name found);
-  err = omitted_text (omitted parts.code found.first found.second);
-}
+-- what standard error gets of a file without fault: the units that are skipped, and then the frame entries that are left out
+abbrev pub left_out : ImageParts → DebugSays → List ℕ
+left_out parts found = skipped_text found.headers ++ omitted_text (omitted parts.code found.first found.second)
 
--- by what stands behind the image: the first fault, and where there is none, debug entries
-abbrev pub debug_verdict : Result DebugSays DebugFault → ImageParts → List ℕ → Verdict
-debug_verdict (Err fault) parts name = refused (debug_line fault)
-debug_verdict (Ok found) parts name = if is_unbuilt parts then refused unbuilt_line else found_verdict parts name found
+-- the verdict of a dump of a file without fault: out has the records, and err what is left out
+pub record GivesText (parts : ImageParts) (name : List ℕ) (found : DebugSays) (v : Verdict) : Type 0 where
+  pub lines : List SymLine
+  pub canon : CanonFile parts name found lines
+  pub is : v ≡ record { status = 0; out = canon_text lines; err = left_out parts found }
+
+-- by whether it has inlined copies
+abbrev pub IsFoundVerdict : Bool → ImageParts → List ℕ → DebugSays → Verdict → Type 0
+IsFoundVerdict true parts name found v = v ≡ refused unbuilt_line
+IsFoundVerdict false parts name found v = GivesText parts name found v
+
+-- by what stands behind the image: the first fault, and where there is none, inlined copies
+abbrev pub IsDebugVerdict : Result DebugSays DebugFault → ImageParts → List ℕ → Verdict → Type 0
+IsDebugVerdict (Err fault) parts name v = v ≡ refused (debug_line fault)
+IsDebugVerdict (Ok found) parts name v = IsFoundVerdict (is_unbuilt parts.code found) parts name found v
 
 -- by the parts of the image
-unfoldable pub parts_verdict : ImageParts → List ℕ → Verdict
-parts_verdict parts name = debug_verdict (debug_says parts) parts name
+abbrev pub IsPartsVerdict : ImageParts → List ℕ → Verdict → Type 0
+IsPartsVerdict parts name v = IsDebugVerdict (debug_says parts) parts name v
 
 -- by the image
-abbrev pub image_verdict : Result ImageParts ElfFault → List ℕ → Verdict
-image_verdict (Err fault) name = refused (elf_line fault)
-image_verdict (Ok parts) name = parts_verdict parts name
+abbrev pub IsImageVerdict : Result ImageParts ElfFault → List ℕ → Verdict → Type 0
+IsImageVerdict (Err fault) name v = v ≡ refused (elf_line fault)
+IsImageVerdict (Ok parts) name v = IsPartsVerdict parts name v
 
--- the verdict of a dump, by the bytes of the file
-unfoldable pub dump_verdict : ℕ → List ℕ → List ℕ → Verdict
-dump_verdict limit name file = if nat_lt limit (length file) then refused too_long_line else image_verdict (image file) name
+-- the verdict of a dump, by the bytes of the file and whether they pass the limit
+abbrev pub IsBytesVerdict : Bool → List ℕ → List ℕ → Verdict → Type 0
+IsBytesVerdict true name file v = v ≡ refused too_long_line
+IsBytesVerdict false name file v = IsImageVerdict (image file) name v
+
+abbrev pub IsDumpVerdict : ℕ → List ℕ → List ℕ → Verdict → Type 0
+IsDumpVerdict limit name file v = IsBytesVerdict (nat_lt limit (length file)) name file v
 
 -- the same, where the file is there
-abbrev pub file_verdict : List ℕ → Option (List ℕ) → Verdict
-file_verdict elf None = unread
-file_verdict elf (Some file) = dump_verdict LIMIT (module_name elf) file
+abbrev pub IsFileVerdict : List ℕ → Option (List ℕ) → Verdict → Type 0
+IsFileVerdict elf None v = v ≡ unread
+IsFileVerdict elf (Some file) v = IsDumpVerdict LIMIT (module_name elf) file v
 
 -- the verdict of a command: the number of workers does not matter
-abbrev pub command_verdict : Option Asked → Files → Verdict
-command_verdict None files = usage
-command_verdict (Some (dump elf workers)) files = file_verdict elf (files elf)
-
--- the verdict of words and files
-abbrev pub verdict : List (List ℕ) → Files → Verdict
-verdict words files = command_verdict (command_of words) files
+abbrev pub IsVerdict : Option Asked → Files → Verdict → Type 0
+IsVerdict None files v = v ≡ usage
+IsVerdict (Some (dump elf workers)) files v = IsFileVerdict elf (files elf) v

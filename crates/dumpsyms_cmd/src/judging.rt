@@ -4,14 +4,15 @@ ghost use Rattle.sym_edges.specs.Outside.{Files};
 ghost use Rattle.std.specs.String.{string_bytes};
 ghost use Rattle.elf_sections.specs.Image.{image};
 ghost use Rattle.dumpsyms_cmd.specs.Words.{command_of, files_of, dump};
-ghost use Rattle.debug_read.specs.DebugSays.{IsDebugRead};
+ghost use Rattle.debug_read.specs.DebugSays.{DebugSays, debug_says, IsDebugRead};
 ghost use Rattle.dumpsyms_cmd.specs.Dump.{is_unbuilt};
 ghost use Rattle.dumpsyms_cmd.specs.Verdict.{LIMIT};
 ghost use Rattle.dumpsyms_cmd.specs.Judged.{err_bytes, Refuses, JudgesParts, JudgesBytes, AnswersStop, AnswersCommand};
 ghost use Rattle.dumpsyms_cmd.specs.Observed.{Asks};
 
+use crate::copies::has_copies;
 use crate::judgement::{Answer, Judgement, Message, Output};
-use crate::omissions::list_omissions;
+use crate::omissions::list_left_out;
 use crate::records::{Dumped, dump_file};
 use crate::refusals::{TOO_LONG, UNBUILT, USAGE, debug_line, fault_line};
 use crate::words::{Command, name_of, parse_words};
@@ -19,7 +20,7 @@ use debug_read::{DebugRead, read_debug};
 use elf_sections::{Image, read_image};
 use std::alloc::Global;
 use std::thread::Threads;
-use sym_edges::{OutOfMemory, ReadEnd, Sect, Stop, Store, read_all};
+use sym_edges::{OutOfMemory, ReadEnd, Stop, Store, read_all};
 use unit_workers::Gate;
 
 /// The greatest length of an ELF file, in bytes.
@@ -36,20 +37,20 @@ fn refuse(line: Message) -> Judgement
     }
 }
 
-/// A dump of an image without debug entries.
-fn judge_frames(
+/// A dump of an image without inlined copies.
+fn judge_records(
     alloc: Global,
     image: &Image<'_>,
     debug: &DebugRead<'_>,
     name: &[u8],
 ) -> Result<Judgement, OutOfMemory>
-    requires built { is_unbuilt image.now ≡ false }
+    requires built { (found : DebugSays) → debug_says image.now ≡ Ok found → is_unbuilt image.now.code found ≡ false }
     requires found { IsDebugRead image.now debug.now }
     ensures { IfOk result (λ j. JudgesParts j name.now image.now) }
 {
     let dumped = dump_file(alloc, image, name, debug)?;
     let Dumped { file, omitted } = dumped;
-    let text = list_omissions(alloc, omitted.as_slice())?;
+    let text = list_left_out(alloc, debug.headers.as_slice(), omitted.as_slice())?;
     Ok(Judgement {
         status: 0,
         out: Output::Text(file),
@@ -58,7 +59,7 @@ fn judge_frames(
 }
 
 /// A dump of an image without faults behind it.
-#[tactic(auto, using(crate::proofs::JudgedLemmas::unbuilt_judged), unfolding(crate::specs::Dump::is_unbuilt))]
+#[tactic(auto, using(crate::proofs::JudgedLemmas::unbuilt_judged, crate::proofs::JudgedLemmas::built_by))]
 fn judge_found(
     alloc: Global,
     image: &Image<'_>,
@@ -68,11 +69,10 @@ fn judge_found(
     requires found { IsDebugRead image.now debug.now }
     ensures { IfOk result (λ j. JudgesParts j name.now image.now) }
 {
-    let info = image.section(Sect::Info);
-    if !info.bytes.is_empty() {
+    if has_copies(&debug.units) {
         return Ok(refuse(Message::Fixed(UNBUILT)));
     }
-    judge_frames(alloc, image, debug, name)
+    judge_records(alloc, image, debug, name)
 }
 
 /// A dump of an image.

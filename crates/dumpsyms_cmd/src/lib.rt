@@ -6,10 +6,10 @@
 //! file.
 #![tactic(auto)]
 
+mod copies;
 mod judgement;
 mod judging;
 mod omissions;
-mod publics;
 mod records;
 mod refusals;
 mod running;

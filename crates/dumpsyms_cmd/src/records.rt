@@ -1,27 +1,29 @@
 //! The records of a file, spelled.
-ghost use Rattle.std.specs.Prelude.{◌≡◌, ◌*◌, ◌≤◌, ◌++◌, ◌∷◌, true, false, None, Ok, length, IfOk, OnOk};
+ghost use Rattle.std.specs.Prelude.{◌≡◌, ◌*◌, ◌≤◌, ◌++◌, ◌∷◌, true, None, Ok, length, map, IfOk, OnOk};
 ghost use Rattle.std.specs.Str.Parse.{AllDigits};
 ghost use Rattle.hex.specs.Hex.{encode_upper};
 ghost use Rattle.sym_records.specs.Cleaning.{cleaned};
 ghost use Rattle.sym_records.specs.Canon.{canon, canon_text};
 ghost use Rattle.sym_records.specs.Spelled.{text_bytes};
 ghost use Rattle.sym_records.specs.Reading.{fits};
-ghost use Rattle.sym_records.specs.Validity.{first_bad, fields_fit};
-ghost use Rattle.sym_records.specs.declared.place.Place.TheVariants.{Start};
-ghost use Rattle.dumpsyms_cmd.specs.Publics.{FitsInside};
+ghost use Rattle.sym_records.specs.Validity.{first_bad, first_bad_from, fields_fit};
+ghost use Rattle.sym_records.specs.declared.place.Place.TheVariants.{Start, Inside};
+ghost use Rattle.func_flatten.specs.Publics.{public_view};
+ghost use Rattle.func_records.specs.Adding.{HaveCleanPaths};
 ghost use Rattle.debug_read.specs.DebugSays.{IsDebugRead};
-ghost use Rattle.dumpsyms_cmd.specs.Refusals.{omitted_text};
-ghost use Rattle.dumpsyms_cmd.specs.Judged.{DumpsParts};
-ghost use Rattle.dumpsyms_cmd.specs.Dump.{turned, module_id, module_line, info_line, info_lines, head_lines, is_unbuilt};
+ghost use Rattle.dumpsyms_cmd.specs.Dump.{turned, module_id, module_line, info_line, info_lines, public_line};
+ghost use Rattle.dumpsyms_cmd.specs.Spelled.{FitsInside, HasHead, DumpsRead};
 
-use crate::publics::add_publics;
 use debug_read::DebugRead;
+use die_names::Units;
 use elf_sections::Image;
+use func_flatten::{PieceList, PublicAt, pieces, publics};
+use func_records::add_functions;
 use rule_postfix::{Frames, Omissions, translate_all};
 use std::alloc::Global;
 use sym_edges::OutOfMemory;
 use sym_records::laws::cleaned_bytes_are_names;
-use sym_records::{ByteText, SymText, TextPieces, add_info, add_module};
+use sym_records::{ByteText, SymText, TextPieces, add_info, add_module, add_public};
 
 /// Bytes in upper-case hexadecimal.
 #[tactic(auto, using(crate::proofs::RecordLemmas::text_length))]
@@ -104,15 +106,50 @@ fn put_identity(
     Ok(())
 }
 
-/// Spells the records in front of those of frames, under the file's cleaned name.
-#[tactic(auto, unfolding(crate::specs::Dump::head_lines))]
-fn spell_head(alloc: Global, image: &Image<'_>, name: &[u8]) -> Result<TextPieces, OutOfMemory>
-    ensures text { IfOk result (λ text. text_bytes text ≡ canon_text (head_lines image.now name.now)) }
-    ensures valid { IfOk result (λ _. first_bad (head_lines image.now name.now) ≡ None) }
+/// Adds the record of an address of function symbols.
+#[tactic(auto, using(sym_records::proofs::MakingLemmas::public_fits))]
+fn add_public_at(text: &mut Vec<u8>, base: u64, at: &PublicAt<'_>) -> Result<(), OutOfMemory>
+    ensures text { OnOk result (text.new.items ≡ text.old.items ++ canon (public_line base (public_view at.now))) }
+    ensures fit { FitsInside (public_line base (public_view at.now)) }
 {
+    cleaned_bytes_are_names();
+    add_public(text, at.many, at.address.saturating_sub(base), 0, at.name)
+}
+
+/// Adds the records of function symbols that no piece of a function covers.
+fn add_publics(
+    alloc: Global,
+    base: u64,
+    found: &[PublicAt<'_>],
+    text: &mut TextPieces,
+) -> Result<(), OutOfMemory>
+    ensures text { OnOk result (text_bytes text.new ≡ text_bytes text.old ++ canon_text (map (public_line base) (map public_view found.now))) }
+    ensures fit { OnOk result (first_bad_from 0 Inside (map (public_line base) (map public_view found.now)) ≡ None) }
+{
+    'addresses: for k in 0..found.len() {
+        add_public_at(&mut text.last, base, &found[k])?;
+        text.turn(alloc)?;
+    }
+    Ok(())
+}
+
+/// Spells the records in front of those of frames, under the file's cleaned name.
+fn spell_head(
+    alloc: Global,
+    image: &Image<'_>,
+    name: &[u8],
+    units: &Units<'_>,
+    pieces: &PieceList,
+) -> Result<TextPieces, OutOfMemory>
+    requires { HaveCleanPaths units.now }
+    ensures { IfOk result (λ text. HasHead image.now name.now units.now pieces.now (text_bytes text)) }
+{
+    let base = image.base();
     let mut text = TextPieces::new(alloc);
     put_identity(alloc, &mut text.last, image, name)?;
-    add_publics(alloc, image.base(), image.symbols(), &mut text)?;
+    add_functions(alloc, base, units, pieces.as_slice(), &mut text)?;
+    let found = publics(alloc, image, pieces)?;
+    add_publics(alloc, base, found.as_slice(), &mut text)?;
     Ok(text)
 }
 
@@ -138,17 +175,18 @@ pub struct Dumped {
     pub omitted: Omissions,
 }
 
-/// The records of a file without debug entries, spelled: those in front, and then those of its frame entries.
+/// The records of a file without inlined copies, spelled: those in front, and then those of its frame entries.
 pub fn dump_file(
     alloc: Global,
     image: &Image<'_>,
     name: &[u8],
     debug: &DebugRead<'_>,
 ) -> Result<Dumped, OutOfMemory>
-    requires built { is_unbuilt image.now ≡ false }
     requires found { IsDebugRead image.now debug.now }
-    ensures { IfOk result (λ d. DumpsParts image.now name.now d.file (omitted_text d.omitted)) }
+    ensures { IfOk result (λ d. DumpsRead image.now name.now debug.now d.file d.omitted) }
 {
+    let pieces = pieces(alloc, &debug.units)?;
+    let head = spell_head(alloc, image, name, &debug.units, &pieces)?;
     let framed = translate_all(
         alloc,
         &debug.first,
@@ -157,7 +195,6 @@ pub fn dump_file(
         image.base(),
     )?;
     let Frames { text, omitted } = framed;
-    let head = spell_head(alloc, image, name)?;
     Ok(Dumped {
         file: SymText::of(join_texts(head, text)?),
         omitted,

@@ -2,6 +2,7 @@ ghost use Rattle.std.specs.Prelude.{◌≡◌, true, map, OnOk, OnErr};
 ghost use Rattle.std.specs.String.{string_bytes};
 ghost use Rattle.sym_edges.specs.Outside.{append_told, AddsFront, Rose};
 ghost use Rattle.dumpsyms_cmd.specs.Judged.{judgement_verdict, answer_verdict, out_bytes, err_bytes, is_some_output, has_output};
+ghost use Rattle.dumpsyms_cmd.specs.declared.judgement.Answer.TheVariants.{NoMemory};
 ghost use Rattle.dumpsyms_cmd.specs.Program.{Promises};
 ghost use Rattle.dumpsyms_cmd.specs.Writes.{Says, Writes};
 
@@ -66,7 +67,8 @@ fn write_judgement<O: Sink, E: Sink>(judgement: &Judgement, out: &mut O, err: &m
 /// Writes an answer, and answers the status. Takes no memory.
 #[tactic(auto, using(crate::proofs::WriteLemmas::line_said, crate::proofs::WriteLemmas::nothing_said))]
 fn write_answer<O: Sink, E: Sink>(answer: &Answer, out: &mut O, err: &mut E) -> u8
-    ensures { Writes result (answer_verdict answer.now) (has_output answer.now)
+    ensures quiet { answer.now ≡ NoMemory → result ≡ 5 }
+    ensures written { Writes result (answer_verdict answer.now) (has_output answer.now)
         (record { taken = O.taken out.old; taken_after = O.taken out.new; faults = O.faults out.old; faults_after = O.faults out.new })
         (record { taken = E.taken err.old; taken_after = E.taken err.new; faults = E.faults err.old; faults_after = E.faults err.new }) }
 {

@@ -5,8 +5,8 @@ use Rattle.dumpsyms_cmd.specs.declared.judgement.Answer.{Answer}
 use Rattle.dumpsyms_cmd.proofs.WriteLemmas.{line_said}
 use Rattle.dumpsyms_cmd.proofs.running.write_answer.Goals as goal
 
-pub returns-in-Unread : goal.returns-in-Unread
-returns-in-Unread g c =
+pub returns-in-Unread-clause-written : goal.returns-in-Unread-clause-written
+returns-in-Unread-clause-written g c =
     let P : Answer → Type 0 = λ a. Writes c.say.result (answer_verdict a) (has_output a)
     (record { taken = g.O.Sink.taken c.args.out.now; taken_after = g.O.Sink.taken c.args.out.now; faults = g.O.Sink.faults c.args.out.now; faults_after = g.O.Sink.faults c.args.out.now })
     (record { taken = g.E.Sink.taken c.args.err.now; taken_after = g.E.Sink.taken c.say.new.err; faults = g.E.Sink.faults c.args.err.now; faults_after = g.E.Sink.faults c.say.new.err }) in

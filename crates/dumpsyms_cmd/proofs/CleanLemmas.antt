@@ -1,0 +1,175 @@
+-- The paths of all line tables are cleaned.
+use Rattle.std.proofs.Common.{◌≡◌, ℕ, ◌<◌, Bool, true, false, cond, nat_lt, length, map, drop, List, [], ◌∷◌, ◌++◌, Option, None, Some, unwrap_or, Result, Ok, Err, refl, sym, ap, subst, ◌∙◌}
+use Rattle.std.specs.List.{list_any}
+use Rattle.std.specs.Str.{bytes_eq}
+use Rattle.sym_edges.specs.Addresses.{Range}
+use Rattle.sym_edges.specs.Results.{◌>>=◌}
+use Rattle.sym_edges.specs.declared.located.Located.{Located}
+use Rattle.sym_edges.specs.declared.part.Sect.TheVariants.{Line}
+use Rattle.leb_cursor.specs.Ahead.{Ahead}
+use Rattle.sym_records.specs.Cleaning.{cleaned}
+use Rattle.elf_sections.specs.Image.{ImageParts}
+use Rattle.abbrev_units.specs.declared.fault.DwarfKind.{DwarfKind}
+use Rattle.abbrev_units.specs.declared.unit.Unit.{Unit}
+use Rattle.abbrev_units.specs.DebugSections.{DebugSections}
+use Rattle.abbrev_units.specs.Abbreviations.{abbrevs_of}
+use Rattle.abbrev_units.specs.Faults.{as_header}
+use Rattle.die_walk.specs.EntryTable.{RootFields, EntryTable, entry_table}
+use Rattle.range_lists.specs.EntryRanges.{unit_base, pairs_of}
+use Rattle.line_program.specs.FileFields.{FileFields}
+use Rattle.line_program.specs.FileTables.{Tables, tables_at}
+use Rattle.line_program.specs.Headers.{table_at}
+use Rattle.line_program.specs.LineAt.{Lines}
+use Rattle.line_program.specs.LineMaps.{LineMap, with_path, paths_from, SaysLines}
+use Rattle.line_program.specs.LineRows.{State, line_rows}
+use Rattle.line_program.specs.LineTables.{lines_of, lines_at, unit_lines}
+use Rattle.line_program.specs.Paths.{directories_of, file_path, first_file}
+use Rattle.die_names.specs.declared.unit_read.UnitRead.{UnitRead}
+use Rattle.range_set.specs.Enclosing.{encloses}
+use Rattle.sym_edges.specs.declared.part.Sect.TheVariants.{EhFrame, DebugFrame}
+use Rattle.die_names.specs.UnitPlaces.{read_units}
+use Rattle.abbrev_units.specs.Units.{units_in}
+use Rattle.frame_entries.specs.declared.description.Entry.{Entry}
+use Rattle.frame_entries.specs.FrameEntries.{frame_entries}
+use Rattle.debug_read.specs.declared.fault.DebugFault.{DebugFault}
+use Rattle.debug_read.specs.DebugSays.{DebugSays, as_dwarf, as_frame, debug_says}
+use Rattle.debug_read.specs.Each.{each_of, Match}
+use Rattle.debug_read.specs.ImageSections.{sections_of}
+use Rattle.debug_read.specs.UnitSays.{UnitSays, lines_by, root_lines, unit_says}
+use Rattle.debug_read.specs.UnitsRead.{IsUnitRead, KeepsLines, has_function}
+use Rattle.func_records.specs.Spelling.{AreClean}
+use Rattle.func_records.specs.Adding.{HaveCleanPaths}
+use Rattle.func_records.proofs.CleanLemmas.{cleaned_again}
+
+-- what holds of what is read, where it is read
+abbrev pub Holds : {A F : Type 0} → (A → Type 0) → Result A F → Type 0
+Holds P (Ok x) = P x
+Holds P (Err fault) = Prim.Unit {0}
+
+then_holds : {A B F : Type 0} (P : B → Type 0) (first : Result A F) (next : A → Result B F) → ((x : A) → Holds P (next x)) → Holds P (first >>= next)
+then_holds P (Ok x) next each = each x
+then_holds P (Err fault) next each = tt
+
+made_holds : {A B F : Type 0} (P : A → Type 0) (Q : B → Type 0) (first : Result A F) (make : A → B) → Holds P first → ((x : A) → P x → Q (make x)) → Holds Q (first >>= λ x. Ok (make x))
+made_holds P Q (Ok x) make holds each = each x holds
+made_holds P Q (Err fault) make holds each = tt
+
+-- the paths of a line table
+files_clean : (directories : List (List ℕ)) (files : List FileFields) → AreClean (map (file_path directories) files)
+unfolding file_path
+files_clean directories [] = tt
+files_clean directories (file ∷ files) = (cleaned_again _, files_clean directories files)
+
+abbrev HasCleanFiles : Lines → Type 0
+HasCleanFiles lines = AreClean lines.files
+
+table_clean : (comp_dir : List ℕ) (version : ℕ) (tables : Tables) (state : State) → HasCleanFiles (lines_of comp_dir version tables state)
+unfolding lines_of
+table_clean comp_dir version tables state = files_clean (directories_of version comp_dir tables.directories) (tables.files ++ state.files)
+
+lines_clean : (sections : DebugSections) (comp_dir : List ℕ) (c : Ahead) → Holds HasCleanFiles (lines_at sections comp_dir c)
+unfolding lines_at
+lines_clean sections comp_dir c =
+    then_holds HasCleanFiles (as_header Line c.at (table_at c)) _ (λ header.
+    then_holds HasCleanFiles (tables_at sections c.at header) _ (λ tables.
+    then_holds HasCleanFiles (line_rows header.program header.opcodes) _ (λ state. table_clean comp_dir header.program.version tables state)))
+
+cut_clean : (outside : Bool) (fault : Located DwarfKind) (sections : DebugSections) (comp_dir : List ℕ) (c : Ahead) → Holds HasCleanFiles (cond outside (Err fault) (lines_at sections comp_dir c))
+cut_clean true fault sections comp_dir c = tt
+cut_clean false fault sections comp_dir c = lines_clean sections comp_dir c
+
+unit_clean : (sections : DebugSections) (offset place : ℕ) (comp_dir : List ℕ) → Holds HasCleanFiles (unit_lines sections offset place comp_dir)
+unfolding unit_lines
+unit_clean sections offset place comp_dir = cut_clean (nat_lt (length sections.line) offset) _ sections comp_dir (record { bytes = drop offset sections.line; at = offset })
+
+-- those of a unit, where it has a table
+abbrev MayHaveClean : Option Lines → Type 0
+MayHaveClean None = Prim.Unit {0}
+MayHaveClean (Some lines) = HasCleanFiles lines
+
+root_clean : (sections : DebugSections) (root : RootFields) (place : Option ℕ) → Holds MayHaveClean (lines_by sections root place)
+root_clean sections root None = tt
+root_clean sections root (Some offset) =
+    made_holds HasCleanFiles MayHaveClean (unit_lines sections offset root.at (unwrap_or root.comp_dir [])) (λ lines. Some lines) (unit_clean sections offset root.at (unwrap_or root.comp_dir [])) (λ lines clean. clean)
+
+abbrev SaysClean : UnitSays → Type 0
+SaysClean says = MayHaveClean says.lines
+
+says_clean : (sections : DebugSections) (unit : Unit) → Holds SaysClean (unit_says sections unit)
+unfolding unit_says root_lines
+says_clean sections unit =
+    then_holds SaysClean (abbrevs_of sections unit) _ (λ abbrevs.
+    then_holds SaysClean (entry_table sections unit abbrevs) _ (λ table.
+    then_holds SaysClean (unit_base sections table.root) _ (λ base.
+    then_holds SaysClean (each_of (pairs_of sections unit table.root base) table.dies) _ (λ pairs.
+    made_holds MayHaveClean SaysClean (lines_by sections table.root table.root.stmt_list) (λ lines. record { table = table; pairs = pairs; lines = lines }) (root_clean sections table.root table.root.stmt_list) (λ lines clean. clean)))))
+
+abbrev pub AllSayClean : List UnitSays → Type 0
+AllSayClean [] = Prim.Unit {0}
+AllSayClean (says ∷ all) = SaysClean says × AllSayClean all
+
+one_more : {F : Type 0} (says : UnitSays) (later : Result (List UnitSays) F) → SaysClean says → Holds AllSayClean later → Holds AllSayClean (later >>= λ rest. Ok (says ∷ rest))
+one_more says (Ok rest) clean all = (clean, all)
+one_more says (Err fault) clean all = tt
+
+first_more : {F : Type 0} (first : Result UnitSays F) (later : Result (List UnitSays) F) → Holds SaysClean first → Holds AllSayClean later → Holds AllSayClean (first >>= λ x. later >>= λ rest. Ok (x ∷ rest))
+first_more (Ok says) later clean all = one_more says later clean all
+first_more (Err fault) later clean all = tt
+
+pub units_clean : (sections : DebugSections) (units : List Unit) → Holds AllSayClean (each_of (unit_says sections) units)
+unfolding each_of
+units_clean sections [] = tt
+units_clean sections (unit ∷ units) = first_more (unit_says sections unit) (each_of (unit_says sections) units) (says_clean sections unit) (units_clean sections units)
+
+-- each path once
+with_clean : (paths : List (List ℕ)) (path : List ℕ) (there : Bool) → AreClean paths → cleaned path ≡ path → AreClean (cond there paths (paths ++ path ∷ []))
+with_clean paths path true clean is = clean
+with_clean paths path false clean is = push paths clean
+ where
+  push : (ps : List (List ℕ)) → AreClean ps → AreClean (ps ++ path ∷ [])
+  push [] all = (is, tt)
+  push (p ∷ ps) all = (all.0, push ps all.1)
+
+paths_clean : (paths files : List (List ℕ)) → AreClean paths → AreClean files → AreClean (paths_from paths files)
+unfolding paths_from
+paths_clean paths [] clean all = clean
+paths_clean paths (file ∷ files) clean all =
+    paths_clean (with_path paths file) files (with_clean paths file (list_any (λ other. bytes_eq file other) paths) clean all.0) all.1
+
+-- those that are kept
+kept_clean : (code : List Range) (asked : Bool) (lines : Option Lines) (kept : LineMap) → MayHaveClean lines → KeepsLines code asked lines kept → AreClean kept.paths
+kept_clean code true (Some lines) kept clean says = subst AreClean (sym says.paths) (paths_clean [] lines.files tt clean)
+kept_clean code true None kept clean says = subst (λ (m : LineMap). AreClean m.paths) (sym says) tt
+kept_clean code false lines kept clean says = subst (λ (m : LineMap). AreClean m.paths) (sym says) tt
+
+pub all_clean : (code : List Range) (says : List UnitSays) (parts : List UnitRead) → AllSayClean says → Match (IsUnitRead code) says parts → HaveCleanPaths parts
+all_clean code [] [] clean are = tt
+all_clean code [] (part ∷ parts) clean are = absurd are
+all_clean code (s ∷ says) [] clean are = absurd are
+all_clean code (s ∷ says) (part ∷ parts) clean are =
+    (kept_clean code (has_function s.table.dies) s.lines part.lines clean.0 are.0.lines, all_clean code says parts clean.1 are.1)
+
+-- those of a file
+units_part : (first : Result (List Unit) DebugFault) (gives : List Unit → Result (List UnitSays) DebugFault) (one : Result (List Entry) DebugFault) (two : Result (List Entry) DebugFault) (says : DebugSays) → ((us : List Unit) → Holds AllSayClean (gives us)) → (first >>= λ headers. gives headers >>= λ units. one >>= λ f. two >>= λ s. Ok (record { headers = headers; units = units; first = f; second = s })) ≡ Ok says → AllSayClean says.units
+units_part (Ok headers) gives one two says each is = found (gives headers) (each headers) is
+ where
+  found : (units : Result (List UnitSays) DebugFault) → Holds AllSayClean units → (units >>= λ us. one >>= λ f. two >>= λ s. Ok (record { headers = headers; units = us; first = f; second = s })) ≡ Ok says → AllSayClean says.units
+  found (Ok us) clean same = last one two same
+   where
+    last : (f : Result (List Entry) DebugFault) (s : Result (List Entry) DebugFault) → (f >>= λ a. s >>= λ b. Ok (record { headers = headers; units = us; first = a; second = b })) ≡ Ok says → AllSayClean says.units
+    last (Ok a) (Ok b) eq = subst AllSayClean (let e : us ≡ says.units = cc in e) clean
+    last (Ok a) (Err fault) eq = absurd (cc)
+    last (Err fault) s eq = absurd (cc)
+  found (Err fault) clean same = absurd (cc)
+units_part (Err fault) gives one two says each is = absurd (cc)
+
+dwarf_clean : (given : Result (List UnitSays) (Located DwarfKind)) → Holds AllSayClean given → Holds AllSayClean (as_dwarf given)
+dwarf_clean (Ok units) clean = clean
+dwarf_clean (Err fault) clean = tt
+
+pub said_clean : (image : ImageParts) (says : DebugSays) → debug_says image ≡ Ok says → AllSayClean says.units
+unfolding debug_says
+said_clean image says is =
+    units_part (as_dwarf (units_in image.info.bytes)) (λ headers. as_dwarf (each_of (unit_says (sections_of image)) (read_units headers)))
+    (as_frame (frame_entries image.eh_frame.bytes image.eh_frame.address EhFrame)) (as_frame (frame_entries image.debug_frame.bytes image.debug_frame.address DebugFrame))
+    says (λ headers. dwarf_clean (each_of (unit_says (sections_of image)) (read_units headers)) (units_clean (sections_of image) (read_units headers))) is
