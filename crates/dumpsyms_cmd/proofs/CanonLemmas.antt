@@ -62,26 +62,26 @@ code_above : (base start end : ℕ) (code : List Range) → AllFrom base code �
 unfolding encloses
 code_above base start end [] above is = absurd (cc)
 code_above base start end (range ∷ code) above is = go (nat_le range.start start) (nat_le end range.end) refl is (code_above base start end code above.1)
- where
-  go : (b c : Bool) → nat_le range.start start ≡ b → ((b && c) || list_any (λ (r : Range). nat_le r.start start && nat_le end r.end) code) ≡ true → (list_any (λ (r : Range). nat_le r.start start && nat_le end r.end) code ≡ true → base ≤ start) → base ≤ start
-  go true c low same later =
-      let first : base ≤ range.start = above.0 in
-      let below : range.start ≤ start = grind (arith, nat_tests, low) in
-      omega arith
-  go false c low same later = later same
+  where
+    go : (b c : Bool) → nat_le range.start start ≡ b → ((b && c) || list_any (λ (r : Range). nat_le r.start start && nat_le end r.end) code) ≡ true → (list_any (λ (r : Range). nat_le r.start start && nat_le end r.end) code ≡ true → base ≤ start) → base ≤ start
+    go true c low same later =
+        let first : base ≤ range.start = above.0 in
+        let below : range.start ≤ start = grind (arith, nat_tests, low) in
+        omega arith
+    go false c low same later = later same
 
 pairs_above : (base a : ℕ) (code pairs : List Range) → AllFrom base code → in_pairs code pairs a ≡ true → base ≤ a
 pairs_above base a code [] above is = absurd (cc)
 pairs_above base a code (pair ∷ pairs) above is = go (nat_lt pair.start pair.end) (encloses code pair.start pair.end) refl (holds pair a) refl is (pairs_above base a code pairs above)
- where
-  go : (b c : Bool) → encloses code pair.start pair.end ≡ c → (h : Bool) → holds pair a ≡ h → (((b && c) && h) || in_pairs code pairs a) ≡ true → (in_pairs code pairs a ≡ true → base ≤ a) → base ≤ a
-  go true true inside true held same later =
-      let low : base ≤ pair.start = code_above base pair.start pair.end code above inside in
-      let below : pair.start ≤ a = grind (arith, nat_tests, held) in
-      omega arith
-  go true true inside false held same later = later same
-  go true false inside h held same later = later same
-  go false c inside h held same later = later same
+  where
+    go : (b c : Bool) → encloses code pair.start pair.end ≡ c → (h : Bool) → holds pair a ≡ h → (((b && c) && h) || in_pairs code pairs a) ≡ true → (in_pairs code pairs a ≡ true → base ≤ a) → base ≤ a
+    go true true inside true held same later =
+        let low : base ≤ pair.start = code_above base pair.start pair.end code above inside in
+        let below : pair.start ≤ a = grind (arith, nat_tests, held) in
+        omega arith
+    go true true inside false held same later = later same
+    go true false inside h held same later = later same
+    go false c inside h held same later = later same
 
 -- the entries of a unit, and those of all units
 abbrev owns : ℕ → Covering → Bool
@@ -93,11 +93,11 @@ unit_above base a code unit entry (die ∷ dies) pairs [] rest above are is late
 unit_above base a code unit entry (die ∷ dies) [] (set ∷ sets) rest above are is later = absurd are
 unit_above base a code unit entry (die ∷ dies) (own ∷ pairs) (set ∷ sets) rest above are is later =
     go (is_function die) (holds_any set a) refl is (λ more. unit_above base a code unit (entry + 1) dies pairs sets rest above are.1 more later)
- where
-  go : (f h : Bool) → holds_any set a ≡ h → ((f && h) || list_any (owns a) (unit_covering unit (entry + 1) dies sets ++ rest)) ≡ true → (list_any (owns a) (unit_covering unit (entry + 1) dies sets ++ rest) ≡ true → base ≤ a) → base ≤ a
-  go true true held same more = pairs_above base a code own above (sym (are.0.each a) ∙ held)
-  go true false held same more = more same
-  go false h held same more = more same
+  where
+    go : (f h : Bool) → holds_any set a ≡ h → ((f && h) || list_any (owns a) (unit_covering unit (entry + 1) dies sets ++ rest)) ≡ true → (list_any (owns a) (unit_covering unit (entry + 1) dies sets ++ rest) ≡ true → base ≤ a) → base ≤ a
+    go true true held same more = pairs_above base a code own above (sym (are.0.each a) ∙ held)
+    go true false held same more = more same
+    go false h held same more = more same
 
 all_above : (base a : ℕ) (code : List Range) (unit : ℕ) (says : List UnitSays) (parts : List UnitRead) → AllFrom base code → Match (IsUnitRead code) says parts → list_any (owns a) (covering_from unit parts) ≡ true → base ≤ a
 all_above base a code unit says [] above are is = absurd (cc)
@@ -108,18 +108,18 @@ all_above base a code unit (s ∷ says) (part ∷ parts) above are is =
 found_any : (p : Covering → Bool) (all : List Covering) (c : Covering) → find p all ≡ Some c → list_any p all ≡ true
 found_any p [] c is = absurd (cc)
 found_any p (x ∷ all) c is = go (p x) is (found_any p all c)
- where
-  go : (b : Bool) → cond b (Some x) (find p all) ≡ Some c → (find p all ≡ Some c → list_any p all ≡ true) → (b || list_any p all) ≡ true
-  go true same later = refl
-  go false same later = later same
+  where
+    go : (b : Bool) → cond b (Some x) (find p all) ≡ Some c → (find p all ≡ Some c → list_any p all ≡ true) → (b || list_any p all) ≡ true
+    go true same later = refl
+    go false same later = later same
 
 owner_above : (base a : ℕ) (code : List Range) (says : List UnitSays) (parts : List UnitRead) (place : Place) → AllFrom base code → Match (IsUnitRead code) says parts → owner_place parts a ≡ Some place → base ≤ a
 unfolding owner_place owner
 owner_above base a code says parts place above are is = go (find (owns a) (covering_from 0 parts)) refl is
- where
-  go : (o : Option Covering) → find (owns a) (covering_from 0 parts) ≡ o → option_map place_of o ≡ Some place → base ≤ a
-  go None found same = absurd (cc)
-  go (Some c) found same = all_above base a code 0 says parts above are (found_any (owns a) (covering_from 0 parts) c found)
+  where
+    go : (o : Option Covering) → find (owns a) (covering_from 0 parts) ≡ o → option_map place_of o ≡ Some place → base ≤ a
+    go None found same = absurd (cc)
+    go (Some c) found same = all_above base a code 0 says parts above are (found_any (owns a) (covering_from 0 parts) c found)
 
 each_above : (base : ℕ) (code : List Range) (says : List UnitSays) (parts : List UnitRead) (pieces : List Piece) → AllFrom base code → Match (IsUnitRead code) says parts → AreMaximal (owner_place parts) (map piece_run pieces) → BeginAbove base pieces
 each_above base code says parts [] above are all = tt

@@ -125,10 +125,10 @@ units_clean sections (unit ∷ units) = first_more (unit_says sections unit) (ea
 with_clean : (paths : List (List ℕ)) (path : List ℕ) (there : Bool) → AreClean paths → cleaned path ≡ path → AreClean (cond there paths (paths ++ path ∷ []))
 with_clean paths path true clean is = clean
 with_clean paths path false clean is = push paths clean
- where
-  push : (ps : List (List ℕ)) → AreClean ps → AreClean (ps ++ path ∷ [])
-  push [] all = (is, tt)
-  push (p ∷ ps) all = (all.0, push ps all.1)
+  where
+    push : (ps : List (List ℕ)) → AreClean ps → AreClean (ps ++ path ∷ [])
+    push [] all = (is, tt)
+    push (p ∷ ps) all = (all.0, push ps all.1)
 
 paths_clean : (paths files : List (List ℕ)) → AreClean paths → AreClean files → AreClean (paths_from paths files)
 unfolding paths_from
@@ -152,15 +152,15 @@ all_clean code (s ∷ says) (part ∷ parts) clean are =
 -- those of a file
 units_part : (first : Result (List Unit) DebugFault) (gives : List Unit → Result (List UnitSays) DebugFault) (one : Result (List Entry) DebugFault) (two : Result (List Entry) DebugFault) (says : DebugSays) → ((us : List Unit) → Holds AllSayClean (gives us)) → (first >>= λ headers. gives headers >>= λ units. one >>= λ f. two >>= λ s. Ok (record { headers = headers; units = units; first = f; second = s })) ≡ Ok says → AllSayClean says.units
 units_part (Ok headers) gives one two says each is = found (gives headers) (each headers) is
- where
-  found : (units : Result (List UnitSays) DebugFault) → Holds AllSayClean units → (units >>= λ us. one >>= λ f. two >>= λ s. Ok (record { headers = headers; units = us; first = f; second = s })) ≡ Ok says → AllSayClean says.units
-  found (Ok us) clean same = last one two same
-   where
-    last : (f : Result (List Entry) DebugFault) (s : Result (List Entry) DebugFault) → (f >>= λ a. s >>= λ b. Ok (record { headers = headers; units = us; first = a; second = b })) ≡ Ok says → AllSayClean says.units
-    last (Ok a) (Ok b) eq = subst AllSayClean (let e : us ≡ says.units = cc in e) clean
-    last (Ok a) (Err fault) eq = absurd (cc)
-    last (Err fault) s eq = absurd (cc)
-  found (Err fault) clean same = absurd (cc)
+  where
+    found : (units : Result (List UnitSays) DebugFault) → Holds AllSayClean units → (units >>= λ us. one >>= λ f. two >>= λ s. Ok (record { headers = headers; units = us; first = f; second = s })) ≡ Ok says → AllSayClean says.units
+    found (Ok us) clean same = last one two same
+      where
+        last : (f : Result (List Entry) DebugFault) (s : Result (List Entry) DebugFault) → (f >>= λ a. s >>= λ b. Ok (record { headers = headers; units = us; first = a; second = b })) ≡ Ok says → AllSayClean says.units
+        last (Ok a) (Ok b) eq = subst AllSayClean (let e : us ≡ says.units = cc in e) clean
+        last (Ok a) (Err fault) eq = absurd (cc)
+        last (Err fault) s eq = absurd (cc)
+    found (Err fault) clean same = absurd (cc)
 units_part (Err fault) gives one two says each is = absurd (cc)
 
 dwarf_clean : (given : Result (List UnitSays) (Located DwarfKind)) → Holds AllSayClean given → Holds AllSayClean (as_dwarf given)

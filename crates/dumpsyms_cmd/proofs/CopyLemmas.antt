@@ -23,10 +23,10 @@ held_by code pair pairs true is none =
     let here : holds pair pair.start ≡ true = grind (arith, nat_tests) in
     let all : in_pairs code (pair ∷ pairs) pair.start ≡ true = ap (λ b. (b && holds pair pair.start) || in_pairs code pairs pair.start) is ∙ ap (λ b. b || in_pairs code pairs pair.start) here in
     cc
- where
-  first : (b c : Bool) → (b && c) ≡ true → b ≡ true
-  first true c is = refl
-  first false c is = absurd (cc)
+  where
+    first : (b c : Bool) → (b && c) ≡ true → b ≡ true
+    first true c is = refl
+    first false c is = absurd (cc)
 held_by code pair pairs false is none = refl
 
 rest_none : (b c : Bool) → (b || c) ≡ false → c ≡ false
@@ -44,10 +44,10 @@ none_code code (pair ∷ pairs) none =
 some_code : (code pairs : List Range) (a : ℕ) → in_pairs code pairs a ≡ true → list_any (is_code code) pairs ≡ true
 some_code code [] a is = is
 some_code code (pair ∷ pairs) a is = go (is_code code pair) (holds pair a) is (some_code code pairs a)
- where
-  go : (b h : Bool) → ((b && h) || in_pairs code pairs a) ≡ true → (in_pairs code pairs a ≡ true → list_any (is_code code) pairs ≡ true) → (b || list_any (is_code code) pairs) ≡ true
-  go true h same later = refl
-  go false h same later = later same
+  where
+    go : (b h : Bool) → ((b && h) || in_pairs code pairs a) ≡ true → (in_pairs code pairs a ≡ true → list_any (is_code code) pairs ≡ true) → (b || list_any (is_code code) pairs) ≡ true
+    go true h same later = refl
+    go false h same later = later same
 
 empty_code : (code pairs set : List Range) (count : ℕ) → length set ≡ count → IsSet code pairs set → list_any (is_code code) pairs ≡ not (nat_eq count 0)
 empty_code code pairs [] count is set =

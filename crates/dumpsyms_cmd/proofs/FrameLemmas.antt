@@ -170,4 +170,3 @@ kept_by image read (Err fault) is kept = absurd kept
 
 pub kept : (image : ImageParts) (read : DebugRead) → IsDebugRead image read → Kept image read
 kept image read is = kept_by image read (debug_says image) refl is
-

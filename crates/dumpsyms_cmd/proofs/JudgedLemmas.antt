@@ -122,9 +122,9 @@ dumps_parts parts name text read lines left says built dumps is =
       frames = dumps.frames;
       names = dumps.names;
     }
- where
-  said : {x y : DebugSays} → ◌≡◌ {A = Result DebugSays DebugFault} (Ok x) (Ok y) → x ≡ y
-  said is = cc
+  where
+    said : {x y : DebugSays} → ◌≡◌ {A = Result DebugSays DebugFault} (Ok x) (Ok y) → x ≡ y
+    said is = cc
 
 pub built_by : (parts : ImageParts) (read : DebugRead) (copies : Bool) → IsDebugRead parts read → ((code : List Range) (says : List UnitSays) → Match (IsUnitRead code) says read.units → copies ≡ list_any (λ (u : UnitSays). has_copy code u.table.dies u.pairs) says) → copies ≡ false → (found : DebugSays) → debug_says parts ≡ Ok found → is_unbuilt parts.code found ≡ false
 unfolding is_unbuilt
@@ -132,9 +132,9 @@ built_by parts read copies says tells none found is =
     let k = kept parts read says in
     let same : k.says ≡ found = said (sym k.says_is ∙ is) in
     ap (is_unbuilt parts.code) (sym same) ∙ sym (tells parts.code k.says.units k.units) ∙ none
- where
-  said : {x y : DebugSays} → ◌≡◌ {A = Result DebugSays DebugFault} (Ok x) (Ok y) → x ≡ y
-  said is = cc
+  where
+    said : {x y : DebugSays} → ◌≡◌ {A = Result DebugSays DebugFault} (Ok x) (Ok y) → x ≡ y
+    said is = cc
 
 -- a judgement on the parts of an image is one on the bytes
 pub parts_judged : (j : Judgement) (name bytes : List ℕ) (parts : ImageParts) → length bytes ≤ LIMIT → image bytes ≡ Ok parts → JudgesParts j name parts → JudgesBytes j name bytes

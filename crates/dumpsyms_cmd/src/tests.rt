@@ -4,8 +4,8 @@
 mod files;
 
 use self::files::{
-    CUT_UNIT, EIGHT_OR_FOUR, ENTRIES, ID, LONG_CODE, NULL, UNIT, VERSION_3, file_of, file_with,
-    small_and,
+    CUT_UNIT, EIGHT_OR_FOUR, ENTRIES, FUNCTIONS, ID, LONG_CODE, NULL, THREE_ROWS, TWO_FILES, UNIT,
+    VERSION_3, entry_of, file_of, file_with, line_table, small_and, unit_of,
 };
 use crate::run;
 use std::alloc::{AllocError, Global};
@@ -68,6 +68,8 @@ const ENDS_AT_C: &[u8] = b"refused dwarf ends debug_info c\n";
 const ENDS_AT_3C: &[u8] = b"refused dwarf ends debug_info 3c\n";
 
 const OMITTED: &[u8] = b"omitted eh_frame 18 state\n";
+
+const SKIPPED: &[u8] = b"skipped debug_info 0 version 3\n";
 
 /// How many bytes a call moves, the room of out, and the numbers of the calls of the store, of out and of err that fail.
 #[derive(Clone, Copy)]
@@ -273,9 +275,171 @@ fn the_first_fault_of_debug_entries_is_named(rt: HostRuntime) -> Result<(), Fail
     let file = debugged(alloc, UNIT, b"\x14\0\0")?;
     expect_dump(&rt, alloc, "frames", &file, 1, b"", LENGTH)?;
     let file = debugged(alloc, UNIT, PUSH_RBP)?;
-    expect_dump(&rt, alloc, "no fault", &file, 1, b"", UNBUILT)?;
+    let text = joined(alloc, &[FRONT, PUSH_RBP_LINES])?;
+    expect_dump(&rt, alloc, "no fault", &file, 0, &text, b"")?;
     let file = debugged(alloc, VERSION_3, NO_BYTES)?;
-    expect_dump(&rt, alloc, "version 3", &file, 1, b"", UNBUILT)
+    expect_dump(&rt, alloc, "version 3", &file, 0, FRONT, SKIPPED)?;
+    let frames = changed(alloc, PUSH_RBP, 42, 0x0b)?;
+    let file = debugged(alloc, VERSION_3, &frames)?;
+    let left_out = joined(alloc, &[SKIPPED, OMITTED])?;
+    expect_dump(&rt, alloc, "both left out", &file, 0, FRONT, &left_out)
+}
+
+/// Functions: of each its code, its name, its first address and its length; and the records behind those of the binary, where
+/// the lines are those of one file, 1000 line 3, 1004 line 9 and 100c line 4, up to 1020.
+const OWNERS: [(&str, &[(u8, &[u8], u64, u64)], &[u8]); 9] = [
+    (
+        "one",
+        &[(2, b"_Z1fv\0", 0x1000, 0x20)],
+        b"FILE 0 /s/a.c\nFUNC 1000 20 0 _Z1fv\n1000 4 3 0\n1004 8 9 0\n100c 14 4 0\n",
+    ),
+    (
+        "of one range",
+        &[(2, b"a\0", 0x1000, 0x10), (2, b"b\0", 0x1000, 0x10)],
+        b"FILE 0 /s/a.c\nFUNC m 1000 10 0 a\n1000 4 3 0\n1004 8 9 0\n100c 4 4 0\n",
+    ),
+    (
+        "of one name",
+        &[(2, b"a\0", 0x1000, 0x10), (2, b" a\0", 0x1000, 0x10)],
+        b"FILE 0 /s/a.c\nFUNC 1000 10 0 a\n1000 4 3 0\n1004 8 9 0\n100c 4 4 0\n",
+    ),
+    (
+        "overlapping",
+        &[(2, b"a\0", 0x1000, 0x10), (2, b"b\0", 0x1008, 0x10)],
+        b"FILE 0 /s/a.c\nFUNC 1000 10 0 a\n1000 4 3 0\n1004 8 9 0\n100c 4 4 0\nFUNC 1010 8 0 b\n1010 8 4 0\n",
+    ),
+    (
+        "inside",
+        &[(2, b"a\0", 0x1000, 0x10), (2, b"b\0", 0x1000, 0x8)],
+        b"FILE 0 /s/a.c\nFUNC m 1000 10 0 a\n1000 4 3 0\n1004 8 9 0\n100c 4 4 0\n",
+    ),
+    (
+        "the inner first",
+        &[(2, b"b\0", 0x1008, 0x4), (2, b"a\0", 0x1004, 0x10)],
+        b"FILE 0 /s/a.c\nFUNC 1004 4 0 a\n1004 4 9 0\nFUNC m 1008 4 0 b\n1008 4 9 0\nFUNC 100c 8 0 a\n100c 8 4 0\n",
+    ),
+    (
+        "without a name",
+        &[(5, b"", 0x1018, 0x8)],
+        b"FILE 0 /s/a.c\nFUNC 1018 8 0 <name omitted>\n1018 8 4 0\n",
+    ),
+    ("outside of code", &[(2, b"a\0", 0x1018, 0x10)], b""),
+    ("empty", &[(2, b"a\0", 0x1008, 0)], b""),
+];
+
+/// A file with debug entries: a build id, code, these units with their functions, and the line tables.
+fn with_functions(
+    alloc: Global,
+    units: &[u8],
+    lines: &[u8],
+    programs: &[(u64, u64)],
+) -> Result<Vec<u8>, AllocError> {
+    let info = (".debug_info", [1, 0, 0, 0], units);
+    let abbreviations = (".debug_abbrev", [1, 0, 0, 0], FUNCTIONS);
+    let table = (".debug_line", [1, 0, 0, 0], lines);
+    file_of(
+        alloc,
+        programs,
+        &[NULL, ID, LONG_CODE, info, abbreviations, table],
+    )
+}
+
+#[test]
+fn functions_and_lines_are_dumped(rt: HostRuntime) -> Result<(), Fail> {
+    let alloc = rt.alloc();
+    let table = line_table(alloc, b"a.c\0\0\0\0\0", THREE_ROWS)?;
+    for (label, functions, records) in OWNERS {
+        let mut entries = Vec::new(alloc);
+        for (code, name, first, length) in functions {
+            entries.extend_from_slice(&entry_of(alloc, *code, name, *first, *length)?)?;
+        }
+        let unit = unit_of(alloc, 0, &entries)?;
+        let file = with_functions(alloc, &unit, &table, &[(1, 0)])?;
+        let text = joined(alloc, &[FRONT, records])?;
+        expect_dump(&rt, alloc, label, &file, 0, &text, b"")?;
+    }
+    let f = entry_of(alloc, 4, b"f\0", 0x1000, 0x20)?;
+    let g = entry_of(alloc, 3, b"g\0", 0x1004, 8)?;
+    let entries = joined(alloc, &[&f, &g, b"\x01\x04\0"])?;
+    let file = with_functions(alloc, &unit_of(alloc, 0, &entries)?, &table, &[(1, 0)])?;
+    expect_dump(&rt, alloc, "an inlined copy", &file, 1, b"", UNBUILT)?;
+    let g = entry_of(alloc, 3, b"g\0", 0x2004, 8)?;
+    let entries = joined(alloc, &[&f, &g, b"\x01\x04\0"])?;
+    let file = with_functions(alloc, &unit_of(alloc, 0, &entries)?, &table, &[(1, 0x800)])?;
+    let records: &[u8] = b"FILE 0 /s/a.c\nFUNC 800 20 0 f\n800 4 3 0\n804 8 9 0\n80c 14 4 0\n";
+    let text = joined(alloc, &[FRONT, records])?;
+    expect_dump(&rt, alloc, "a copy outside of code", &file, 0, &text, b"")?;
+    let symbols = (".symtab", [2, 0, 0, 4], ENTRIES.as_slice());
+    let names = (".strtab", [3, 0, 0, 0], b"\0main\0".as_slice());
+    let abbreviations = (".debug_abbrev", [1, 0, 0, 0], FUNCTIONS);
+    for (first, records) in [
+        (0x1000, b"FUNC 1000 8 0 f\n".as_slice()),
+        (0xff8, b"PUBLIC 1000 0 main\n"),
+        (0x1001, b"FUNC 1001 8 0 f\nPUBLIC 1000 0 main\n"),
+    ] {
+        let unit = unit_of(alloc, 0, &entry_of(alloc, 2, b"f\0", first, 8)?)?;
+        let info = (".debug_info", [1, 0, 0, 0], unit.as_slice());
+        let lines = (
+            ".debug_line",
+            [1, 0, 0, 0],
+            b"\x15\0\0\0\x02\0\x0f\0\0\0\x01\x01\xfb\x0e\x0a\0\x01\x01\x01\x01\0\0\0\x01\0\0".as_slice(),
+        );
+        let sections = [
+            NULL,
+            ID,
+            LONG_CODE,
+            symbols,
+            names,
+            info,
+            abbreviations,
+            lines,
+        ];
+        let file = file_of(alloc, &[(1, 0)], &sections)?;
+        let text = joined(alloc, &[FRONT, records])?;
+        expect_dump(&rt, alloc, "a symbol", &file, 0, &text, b"")?;
+    }
+    let two = line_table(
+        alloc,
+        b"b.c\0\0\0\0a\x01.c\0\0\0\0a\x02.c\0\0\0\0\0",
+        TWO_FILES,
+    )?;
+    let f = entry_of(alloc, 2, b"f\0", 0x1000, 0xc)?;
+    let g = entry_of(alloc, 2, b"g\0", 0x100c, 0x14)?;
+    let units = joined(
+        alloc,
+        &[
+            &unit_of(alloc, 0, &f)?,
+            &unit_of(alloc, two.len() as u64, &g)?,
+        ],
+    )?;
+    let file = with_functions(alloc, &units, &joined(alloc, &[&two, &table])?, &[(1, 0)])?;
+    let records: &[u8] =
+        b"FILE 0 /s/a.c\nFILE 1 /s/a?.c\nFILE 2 /s/b.c\nFUNC 1000 c 0 f\n1000 8 1 2\n1008 4 2 1\nFUNC 100c 14 0 g\n100c 14 4 0\n";
+    let text = joined(alloc, &[FRONT, records])?;
+    expect_dump(&rt, alloc, "three paths", &file, 0, &text, b"")?;
+    for words in BY_WORKERS {
+        expect(
+            &rt,
+            alloc,
+            "by workers",
+            words,
+            &file,
+            SMOOTH,
+            0,
+            &text,
+            b"",
+        )?;
+    }
+    let file = with_functions(
+        alloc,
+        &joined(alloc, &[&unit_of(alloc, 0, &f)?, &unit_of(alloc, 0, &g)?])?,
+        &two,
+        &[(1, 0)],
+    )?;
+    let records: &[u8] =
+        b"FILE 0 /s/a?.c\nFILE 1 /s/b.c\nFUNC 1000 c 0 f\n1000 8 1 1\n1008 4 2 0\nFUNC 100c 14 0 g\n100c 4 2 0\n";
+    let text = joined(alloc, &[FRONT, records])?;
+    expect_dump(&rt, alloc, "one table of two units", &file, 0, &text, b"")
 }
 
 /// Each write of one byte that fails in turn, those to out before those to err: the status is 4, and the sinks hold what was

@@ -41,6 +41,67 @@ pub const CUT_UNIT: &[u8] = b"\x0c\0\0\0\x04\0\0\0\0\0\x08\x01\0\0\0\0";
 /// A unit of version 3, which is not read.
 pub const VERSION_3: &[u8] = b"\x07\0\0\0\x03\0\0\0\0\0\x08";
 
+/// Abbreviations: 1 a compile unit with a line table and a directory, 2 a function by name, 3 an inlined copy, 4 a function with
+/// children, 5 a function without a name.
+pub const FUNCTIONS: &[u8] =
+    b"\x01\x11\x01\x10\x17\x1b\x08\0\0\x02\x2e\0\x03\x08\x11\x01\x12\x06\0\0\
+    \x03\x1d\0\x03\x08\x11\x01\x12\x06\x58\x0b\x59\x0b\0\0\x04\x2e\x01\x03\x08\x11\x01\x12\x06\0\0\
+    \x05\x2e\0\x11\x01\x12\x06\0\0\0";
+
+/// The header of a line table of version 4 up to its files, without its lengths.
+pub const LINES: &[u8] = b"\x01\x01\x01\xfb\x0e\x0d\0\x01\x01\x01\x01\0\0\0\x01\0\0\x01\0";
+
+/// Lines of one file: 1000 line 3, 1004 line 9, 100c line 4, up to 1020.
+pub const THREE_ROWS: &[u8] =
+    b"\0\x09\x02\0\x10\0\0\0\0\0\0\x03\x02\x01\x02\x04\x03\x06\x01\x02\x08\x03\x7b\x01\x02\x14\0\x01\x01";
+
+/// Lines of two files: 1000 line 1 of the first, 1008 line 2 of the second, 1010 none, up to 1018.
+pub const TWO_FILES: &[u8] =
+    b"\0\x09\x02\0\x10\0\0\0\0\0\0\x01\x02\x08\x04\x02\x03\x01\x01\x02\x08\x03\x7e\x01\x02\x08\0\x01\x01";
+
+/// A line table of version 4 with these files and this program.
+pub fn line_table(alloc: Global, files: &[u8], program: &[u8]) -> Result<Vec<u8>, AllocError> {
+    let mut table = Vec::new(alloc);
+    let header = LINES.len().saturating_add(files.len());
+    let whole = header.saturating_add(program.len()).saturating_add(6);
+    put(&mut table, 4, &[whole as u64])?;
+    put(&mut table, 2, &[4])?;
+    put(&mut table, 4, &[header as u64])?;
+    table.extend_from_slice(LINES)?;
+    table.extend_from_slice(files)?;
+    table.extend_from_slice(program)?;
+    Ok(table)
+}
+
+/// A unit of version 4 with the line table at a place, the directory `/s`, and these entries.
+pub fn unit_of(alloc: Global, lines: u64, entries: &[u8]) -> Result<Vec<u8>, AllocError> {
+    let mut unit = Vec::new(alloc);
+    let length = entries.len().saturating_add(16);
+    put(&mut unit, 4, &[length as u64])?;
+    unit.extend_from_slice(b"\x04\0\0\0\0\0\x08\x01")?;
+    put(&mut unit, 4, &[lines])?;
+    unit.extend_from_slice(b"/s\0")?;
+    unit.extend_from_slice(entries)?;
+    unit.push(0)?;
+    Ok(unit)
+}
+
+/// An entry by its code, its name, its first address and its length.
+pub fn entry_of(
+    alloc: Global,
+    code: u8,
+    name: &[u8],
+    first: u64,
+    length: u64,
+) -> Result<Vec<u8>, AllocError> {
+    let mut entry = Vec::new(alloc);
+    entry.push(code)?;
+    entry.extend_from_slice(name)?;
+    put(&mut entry, 8, &[first])?;
+    put(&mut entry, 4, &[length])?;
+    Ok(entry)
+}
+
 /// A file with a build id, code, symbols whose names stand behind them, and one section more.
 pub fn file_with<'a>(
     alloc: Global,
