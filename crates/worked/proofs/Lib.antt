@@ -1,5 +1,6 @@
 mod Computing
 mod Elf
+mod Plain
 mod Small
 mod WorkedWords
 mod WorkedRanges

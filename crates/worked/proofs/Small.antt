@@ -1,11 +1,12 @@
 -- The small file of the rows and its relatives, and what is answered on a file.
-use Rattle.std.proofs.Common.{ℕ, ◌+◌, ◌==◌, ◌&&◌, Bool, List, [], ◌∷◌, ◌++◌, length, codes, None, Some, if◌then◌else◌}
+use Rattle.std.proofs.Common.{ℕ, ◌+◌, ◌==◌, ◌&&◌, Bool, List, [], ◌∷◌, ◌++◌, length, codes, Option, None, Some, false, if◌then◌else◌}
 use Prim.Native.String.{String}
 use Rattle.std.specs.Prelude.{⊤}
 use Rattle.std.specs.Str.{bytes_eq}
 use Rattle.sym_edges.proofs.Shown.{shown}
-use Rattle.dumpsyms_cmd.specs.Verdict.{Verdict, verdict}
+use Rattle.dumpsyms_cmd.specs.Verdict.{Verdict}
 use Rattle.worked.proofs.Computing.{verdict_computes}
+use Rattle.worked.proofs.Plain.{plain_verdict}
 use Rattle.worked.proofs.Elf.{Section, Symbol, Program, null, plain, linked, code, function, loaded, file_of, entries, strings, id_note, hex, files_are_built}
 
 -- the note of the build id 00 01 .. 13
@@ -36,28 +37,30 @@ small = worked (main ∷ []) []
 unfoldable pub small_and : List Section → List ℕ
 small_and back = worked (main ∷ []) back
 
--- a status, and the texts on standard output and standard error
+-- a status, and the texts on standard output and standard error; nothing where the verdict is not computed
 abbrev pub Told : Type 0
-Told = ℕ × String × String
+Told = Option (ℕ × String × String)
 
-abbrev pub told : Verdict → Told
-told v = (v.status, shown v.out, shown v.err)
+abbrev pub told : Option Verdict → Told
+told None = None
+told (Some v) = Some (v.status, shown v.out, shown v.err)
 
 -- words over one file
 unfoldable pub ran : List (List ℕ) → List ℕ → List ℕ → Told
-ran words name file = told (verdict words (λ asked. if bytes_eq asked name then Some file else None))
+ran words name file = told (plain_verdict words (λ asked. if bytes_eq asked name then Some file else None))
 
 -- what `dump d/a.out` says of a file
 unfoldable pub dump : List ℕ → Told
 dump file = ran (codes "dump" ∷ codes "d/a.out" ∷ []) (codes "d/a.out") file
 
 -- the verdict is a refusal with this line alone
-abbrev pub is_refusal : String → Verdict → Bool
-is_refusal line v = v.status == 1 && bytes_eq v.out [] && bytes_eq v.err (codes line)
+abbrev pub is_refusal : String → Option Verdict → Bool
+is_refusal line None = false
+is_refusal line (Some v) = v.status == 1 && bytes_eq v.out [] && bytes_eq v.err (codes line)
 
 -- a dump of the file is refused with this line
 unfoldable pub refuses : String → List ℕ → Bool
-refuses line file = is_refusal line (verdict (codes "dump" ∷ codes "d/a.out" ∷ []) (λ asked. Some file))
+refuses line file = is_refusal line (plain_verdict (codes "dump" ∷ codes "d/a.out" ∷ []) (λ asked. Some file))
 
 -- the MODULE and INFO lines of the small file
 abbrev pub front : List ℕ
@@ -65,18 +68,18 @@ front = codes "MODULE Linux x86_64 030201000504070608090A0B0C0D0E0F0 a.out\nINFO
 
 -- status 0, a text and nothing on standard error
 abbrev pub texts : String → Told
-texts out = (0, out, "")
+texts out = Some (0, out, "")
 
 -- status 0, the small file's front and these records, and these lines on standard error
 abbrev pub gives_and_omits : String → String → Told
-gives_and_omits out err = (0, shown (front ++ codes out), err)
+gives_and_omits out err = Some (0, shown (front ++ codes out), err)
 
 abbrev pub gives : String → Told
 gives out = gives_and_omits out ""
 
 -- status 1 and this line on standard error
 abbrev pub refused : String → Told
-refused line = (1, "", line)
+refused line = Some (1, "", line)
 
 unfoldable pub files : ⊤
 unfolding verdict_computes files_are_built text file_with worked small small_and ran dump refuses

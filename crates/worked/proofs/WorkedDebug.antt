@@ -3,7 +3,7 @@ use Rattle.std.proofs.Common.{◌≡◌, ℕ, ◌+◌, List, [], ◌∷◌, ◌+
 use Prim.Native.String.{String}
 use Rattle.sym_edges.proofs.Hex.{little}
 use Rattle.worked.proofs.Elf.{Section, progbits, hex}
-use Rattle.worked.proofs.Small.{Told, ran, dump, refused, worked, files}
+use Rattle.worked.proofs.Small.{Told, ran, dump, refused, gives, gives_and_omits, worked, files}
 
 -- a unit of version 4 (its header has 11 bytes) and one of version 5 (12), by the place of their abbreviations and their entries
 unfoldable unit_4 : ℕ → String → List ℕ
@@ -47,6 +47,17 @@ four = info (of_16 0 ++ of_16 8 ++ of_16 8 ++ of_16 0)
 abbrev bad_frames : Section
 bad_frames = progbits ".eh_frame" (hex "140000")
 
+-- a compile unit that holds an inlined copy of the code from 1000 to 1004
+abbrev entry_and_copy : Section
+entry_and_copy = abbreviations "01 11 01 00 00   02 1d 00 11 01 12 0b 00 00   00"
+
+abbrev copy : List ℕ
+copy = unit_5 "01 02 0010000000000000 04 00"
+
+-- a type unit of 28 bytes
+abbrev type_unit : List ℕ
+type_unit = hex "18000000 0500 02 08 00000000 0000000000000000 00000000 00000000"
+
 -- the first fault counts, whatever the workers
 the_first_of_four_units : says (four ∷ eight_or_four ∷ []) ≡ refused "refused dwarf ends debug_info c\n"
 unfolding files unit_4 unit_5 file says says_by
@@ -82,19 +93,28 @@ frames_behind_a_unit : says (info (of_16 8) ∷ eight_or_four ∷ bad_frames ∷
 unfolding files unit_4 unit_5 file says says_by
 frames_behind_a_unit = refl
 
--- where there is no fault, debug entries are not dumped yet
-a_unit_without_faults : says (info (of_16 8) ∷ eight_or_four ∷ []) ≡ refused "refused unbuilt\n"
+-- where there is no fault, an inlined copy with an address is not dumped yet
+an_inlined_copy : says (info copy ∷ entry_and_copy ∷ []) ≡ refused "refused unbuilt\n"
 unfolding files unit_4 unit_5 file says says_by
-a_unit_without_faults = refl
+an_inlined_copy = refl
 
--- units that are not read: of version 3, and a type unit
-a_unit_of_version_3 : says (info (hex "07000000 0300 00000000 08") ∷ []) ≡ refused "refused unbuilt\n"
+frames_before_an_inlined_copy : says (info copy ∷ entry_and_copy ∷ bad_frames ∷ []) ≡ refused "refused frame length eh_frame 0\n"
+unfolding files unit_4 unit_5 file says says_by
+frames_before_an_inlined_copy = refl
+
+-- units that are not read: one of another version is listed, by its place and its version; a type unit is passed over
+a_unit_of_version_3 : says (info (hex "07000000 0300 00000000 08") ∷ []) ≡ gives_and_omits "" "skipped debug_info 0 version 3\n"
 unfolding files unit_4 unit_5 file says says_by
 a_unit_of_version_3 = refl
 
-a_type_unit : says (info (hex "18000000 0500 02 08 00000000 0000000000000000 00000000 00000000") ∷ []) ≡ refused "refused unbuilt\n"
+a_type_unit : says (info type_unit ∷ []) ≡ gives ""
 unfolding files unit_4 unit_5 file says says_by
 a_type_unit = refl
+
+units_behind_a_type_unit : says (info (type_unit ++ hex "07000000 0200 00000000 08 02000000 0600") ∷ [])
+    ≡ gives_and_omits "" "skipped debug_info 1c version 2\nskipped debug_info 27 version 6\n"
+unfolding files unit_4 unit_5 file says says_by
+units_behind_a_type_unit = refl
 
 -- the word of each kind of fault, and of the sections
 a_long_number : says (info (of_16 0) ∷ abbreviations "80808080808080808080 00" ∷ []) ≡ refused "refused dwarf leb-long debug_abbrev 0\n"

@@ -206,3 +206,9 @@ debug_frame_behind = refl
 debug_entries_before_frames : dump (framed (progbits ".debug_info" (0 ∷ []) ∷ wide ∷ [])) ≡ refused "refused dwarf ends debug_info 0\n"
 unfolding files own framed_at framed with_eh
 debug_entries_before_frames = refl
+
+-- units that are skipped are listed before entries that are left out
+a_unit_before_an_entry : dump (framed (progbits ".debug_info" (hex "07000000 0300 00000000 08") ∷ eh_frame (slice_set push_rbp 8 0x02) ∷ []))
+    ≡ gives_and_omits "" "skipped debug_info 0 version 3\nomitted eh_frame 18 cie\n"
+unfolding files own framed_at framed with_eh
+a_unit_before_an_entry = refl

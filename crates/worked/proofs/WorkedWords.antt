@@ -1,17 +1,17 @@
 -- Worked rows: the words of the program, and the name of the module.
-use Rattle.std.proofs.Common.{◌≡◌, ℕ, List, [], ◌∷◌, ◌++◌, codes, None, refl}
+use Rattle.std.proofs.Common.{◌≡◌, ℕ, List, [], ◌∷◌, ◌++◌, codes, None, Some, refl}
 use Prim.Native.String.{String}
-use Rattle.dumpsyms_cmd.specs.Verdict.{verdict}
 use Rattle.worked.proofs.Elf.{progbits}
+use Rattle.worked.proofs.Plain.{plain_verdict}
 use Rattle.worked.proofs.Small.{Told, told, ran, small, worked, texts, files}
 
 -- words over no file and over the file `a`
 unfoldable both : List (List ℕ) → List Told
-both words = told (verdict words (λ asked. None)) ∷ ran words (codes "a") small ∷ []
+both words = told (plain_verdict words (λ asked. None)) ∷ ran words (codes "a") small ∷ []
 
 abbrev usage : List Told
 usage =
-    let line : Told = (2, "", "usage: dumpsyms dump ELF, check SYM, lookup SYM ADDR, frame SYM ADDR STATE, sample N\n") in line ∷ line ∷ []
+    let line : Told = Some (2, "", "usage: dumpsyms dump ELF, check SYM, lookup SYM ADDR, frame SYM ADDR STATE, sample N\n") in line ∷ line ∷ []
 
 -- a dump of a file at a path
 unfoldable named : String → Told
@@ -86,8 +86,8 @@ sample = refl
 -- what a dump of `a` says with no file, and of the file `a`
 abbrev dumped : List Told
 dumped =
-    let none : Told = (3, "", "cannot read input\n") in
-    let text : Told = (0, "MODULE Linux x86_64 030201000504070608090A0B0C0D0E0F0 a\nINFO CODE_ID 000102030405060708090A0B0C0D0E0F10111213\nPUBLIC 1000 0 main\n", "") in
+    let none : Told = Some (3, "", "cannot read input\n") in
+    let text : Told = Some (0, "MODULE Linux x86_64 030201000504070608090A0B0C0D0E0F0 a\nINFO CODE_ID 000102030405060708090A0B0C0D0E0F10111213\nPUBLIC 1000 0 main\n", "") in
     none ∷ text ∷ []
 
 -- a dump by a number of workers, as it is written
@@ -203,11 +203,11 @@ unfolding files both named
 a_file_named_like_the_option = refl
 
 -- a file that is not there is no input
-no_files : told (verdict (codes "dump" ∷ codes "nofile" ∷ []) (λ asked. None)) ≡ (3, "", "cannot read input\n")
+no_files : told (plain_verdict (codes "dump" ∷ codes "nofile" ∷ []) (λ asked. None)) ≡ Some (3, "", "cannot read input\n")
 unfolding files both named
 no_files = refl
 
-another_file : ran (codes "dump" ∷ codes "nofile" ∷ []) (codes "nofil") small ≡ (3, "", "cannot read input\n")
+another_file : ran (codes "dump" ∷ codes "nofile" ∷ []) (codes "nofil") small ≡ Some (3, "", "cannot read input\n")
 unfolding files both named
 another_file = refl
 

@@ -1,0 +1,116 @@
+-- The verdict of words and files, computed, where nothing of a unit is dumped: no unit of the file is read, or it is refused.
+use Rattle.std.specs.Prelude.{◌≡◌, ℕ, length, nat_lt, Bool, true, false, List, [], ◌∷◌, ◌++◌, Option, Some, None, Result, Ok, Err}
+use Rattle.std.proofs.Common.{refl, sym, subst}
+use Rattle.std.specs.List.Sorted.{IsStrictlySortedBy}
+use Rattle.sym_edges.specs.Outside.{Files}
+use Rattle.elf_sections.specs.Image.{ImageParts, image}
+use Rattle.elf_sections.specs.declared.fault.ElfFault.{ElfFault}
+use Rattle.debug_read.specs.declared.fault.DebugFault.{DebugFault}
+use Rattle.debug_read.specs.DebugSays.{DebugSays, debug_says}
+use Rattle.debug_read.specs.Each.{Match}
+use Rattle.debug_read.specs.UnitSays.{UnitSays}
+use Rattle.debug_read.specs.UnitsRead.{IsUnitRead}
+use Rattle.die_names.specs.Owners.{owner}
+use Rattle.func_flatten.specs.Pieces.{owner_place, ArePieces}
+use Rattle.func_records.specs.FuncRecords.{AreFuncRecords}
+use Rattle.sym_records.specs.Canon.{canon_text}
+use Rattle.sym_records.specs.declared.line.SymLine.{SymLine}
+use Rattle.dumpsyms_cmd.specs.Words.{Asked, dump, command_of, module_name}
+use Rattle.dumpsyms_cmd.specs.Refusals.{elf_line, debug_line, too_long_line, unbuilt_line}
+use Rattle.dumpsyms_cmd.specs.Dump.{identity_lines, public_lines, frame_lines, is_unbuilt, CanonFile}
+use Rattle.dumpsyms_cmd.specs.Verdict.{Verdict, refused, usage, unread, left_out, LIMIT, IsFoundVerdict, IsDebugVerdict, IsImageVerdict, IsBytesVerdict, IsFileVerdict, IsVerdict}
+
+-- the records of a file of which no unit is read
+abbrev pub plain_lines : ImageParts → List ℕ → DebugSays → List SymLine
+plain_lines parts name found = identity_lines parts name ++ (public_lines parts [] ++ frame_lines parts found)
+
+-- by whether the file has inlined copies, and by the units that are read: nothing is computed where one is
+abbrev pub found_verdict : Bool → List UnitSays → ImageParts → List ℕ → DebugSays → Option Verdict
+found_verdict true units parts name found = Some (refused unbuilt_line)
+found_verdict false [] parts name found = Some (record { status = 0; out = canon_text (plain_lines parts name found); err = left_out parts found })
+found_verdict false (unit ∷ units) parts name found = None
+
+abbrev pub debug_verdict : Result DebugSays DebugFault → ImageParts → List ℕ → Option Verdict
+debug_verdict (Err fault) parts name = Some (refused (debug_line fault))
+debug_verdict (Ok found) parts name = found_verdict (is_unbuilt parts.code found) found.units parts name found
+
+abbrev pub image_verdict : Result ImageParts ElfFault → List ℕ → Option Verdict
+image_verdict (Err fault) name = Some (refused (elf_line fault))
+image_verdict (Ok parts) name = debug_verdict (debug_says parts) parts name
+
+abbrev pub bytes_verdict : Bool → List ℕ → List ℕ → Option Verdict
+bytes_verdict true name file = Some (refused too_long_line)
+bytes_verdict false name file = image_verdict (image file) name
+
+abbrev pub file_verdict : List ℕ → Option (List ℕ) → Option Verdict
+file_verdict elf None = Some unread
+file_verdict elf (Some file) = bytes_verdict (nat_lt LIMIT (length file)) (module_name elf) file
+
+abbrev pub command_verdict : Option Asked → Files → Option Verdict
+command_verdict None files = Some usage
+command_verdict (Some (dump elf workers)) files = file_verdict elf (files elf)
+
+abbrev pub plain_verdict : List (List ℕ) → Files → Option Verdict
+plain_verdict words files = command_verdict (command_of words) files
+
+-- of no units nothing is owned, and there are no records
+no_pieces : ArePieces [] []
+unfolding owner owner_place
+no_pieces = record { runs = record { apart = tt; values = λ a. refl }; marks = tt }
+
+no_records : (base : ℕ) → AreFuncRecords base [] [] []
+unfolding IsStrictlySortedBy
+no_records base = record {
+  parts = [];
+  paths = [];
+  whole = refl;
+  pieces_are = refl;
+  lines_are = tt;
+  used = record { sorted = tt; same = λ path. refl };
+}
+
+plain_canon : (parts : ImageParts) (name : List ℕ) (found : DebugSays) → found.units ≡ [] → CanonFile parts name found (plain_lines parts name found)
+plain_canon parts name found none = record {
+  units = [];
+  units_are = subst (λ (us : List UnitSays). Match (IsUnitRead parts.code) us []) (sym none) tt;
+  pieces = [];
+  pieces_are = no_pieces;
+  functions = [];
+  functions_are = no_records parts.base;
+  whole = refl;
+}
+
+the_same : {A : Type 0} {x y : A} → ◌≡◌ {A = Option A} (Some x) (Some y) → y ≡ x
+the_same is = cc
+
+not_told : {A : Type 0} {x : A} → ◌≡◌ {A = Option A} None (Some x) → ⊥
+not_told is = cc
+
+found_is : (copies : Bool) (units : List UnitSays) (parts : ImageParts) (name : List ℕ) (found : DebugSays) (v : Verdict) → found.units ≡ units → found_verdict copies units parts name found ≡ Some v → IsFoundVerdict copies parts name found v
+found_is true units parts name found v same is = the_same is
+found_is false [] parts name found v none is = record { lines = plain_lines parts name found; canon = plain_canon parts name found none; is = the_same is }
+found_is false (unit ∷ units) parts name found v same is = absurd (not_told is)
+
+debug_is : (says : Result DebugSays DebugFault) (parts : ImageParts) (name : List ℕ) (v : Verdict) → debug_verdict says parts name ≡ Some v → IsDebugVerdict says parts name v
+debug_is (Err fault) parts name v is = the_same is
+debug_is (Ok found) parts name v is = found_is (is_unbuilt parts.code found) found.units parts name found v refl is
+
+image_is : (read : Result ImageParts ElfFault) (name : List ℕ) (v : Verdict) → image_verdict read name ≡ Some v → IsImageVerdict read name v
+image_is (Err fault) name v is = the_same is
+image_is (Ok parts) name v is = debug_is (debug_says parts) parts name v is
+
+bytes_is : (longer : Bool) (name file : List ℕ) (v : Verdict) → bytes_verdict longer name file ≡ Some v → IsBytesVerdict longer name file v
+bytes_is true name file v is = the_same is
+bytes_is false name file v is = image_is (image file) name v is
+
+file_is : (elf : List ℕ) (file : Option (List ℕ)) (v : Verdict) → file_verdict elf file ≡ Some v → IsFileVerdict elf file v
+file_is elf None v is = the_same is
+file_is elf (Some file) v is = bytes_is (nat_lt LIMIT (length file)) (module_name elf) file v is
+
+command_is : (command : Option Asked) (files : Files) (v : Verdict) → command_verdict command files ≡ Some v → IsVerdict command files v
+command_is None files v is = the_same is
+command_is (Some (dump elf workers)) files v is = file_is elf (files elf) v is
+
+-- a verdict that is computed is that of the words and files
+pub plain_is_verdict : (words : List (List ℕ)) (files : Files) (v : Verdict) → plain_verdict words files ≡ Some v → IsVerdict (command_of words) files v
+plain_is_verdict words files v is = command_is (command_of words) files v is
