@@ -328,115 +328,146 @@ const OWNERS: [(&str, &[(u8, &[u8], u64, u64)], &[u8]); 9] = [
 ];
 
 /// A file with debug entries: a build id, code, these units with their functions, and the line tables.
-fn with_functions(
+fn with_functions<'x>(
     alloc: Global,
-    units: &[u8],
-    lines: &[u8],
+    units: &'x [u8],
+    lines: &'x [u8],
     programs: &[(u64, u64)],
 ) -> Result<Vec<u8>, AllocError> {
     let info = (".debug_info", [1, 0, 0, 0], units);
     let abbreviations = (".debug_abbrev", [1, 0, 0, 0], FUNCTIONS);
     let table = (".debug_line", [1, 0, 0, 0], lines);
-    file_of(
-        alloc,
-        programs,
-        &[NULL, ID, LONG_CODE, info, abbreviations, table],
-    )
+    let sections = [NULL, ID, LONG_CODE, info, abbreviations, table];
+    file_of(alloc, programs, &sections)
+}
+
+/// The front of each text, then these records.
+fn behind_front(alloc: Global, records: &[u8]) -> Result<Vec<u8>, AllocError> {
+    joined(alloc, &[FRONT, records])
+}
+
+/// The line table of `a.c` with three lines.
+fn three_rows(alloc: Global) -> Result<Vec<u8>, AllocError> {
+    line_table(alloc, b"a.c\0\0\0\0\0", THREE_ROWS)
+}
+
+/// A file of one unit with these functions.
+fn of_functions(
+    alloc: Global,
+    functions: &[(u8, &[u8], u64, u64)],
+) -> Result<Vec<u8>, AllocError> {
+    let mut entries = Vec::new(alloc);
+    for (code, name, first, length) in functions {
+        let entry = entry_of(alloc, *code, name, *first, *length)?;
+        entries.extend_from_slice(&entry)?;
+    }
+    let unit = unit_of(alloc, 0, &entries)?;
+    let table = three_rows(alloc)?;
+    with_functions(alloc, &unit, &table, &[(1, 0)])
 }
 
 #[test]
-fn functions_and_lines_are_dumped(rt: HostRuntime) -> Result<(), Fail> {
+fn each_address_has_its_owner_and_its_line(rt: HostRuntime) -> Result<(), Fail> {
     let alloc = rt.alloc();
-    let table = line_table(alloc, b"a.c\0\0\0\0\0", THREE_ROWS)?;
     for (label, functions, records) in OWNERS {
-        let mut entries = Vec::new(alloc);
-        for (code, name, first, length) in functions {
-            entries.extend_from_slice(&entry_of(alloc, *code, name, *first, *length)?)?;
-        }
-        let unit = unit_of(alloc, 0, &entries)?;
-        let file = with_functions(alloc, &unit, &table, &[(1, 0)])?;
-        let text = joined(alloc, &[FRONT, records])?;
+        let file = of_functions(alloc, functions)?;
+        let text = behind_front(alloc, records)?;
         expect_dump(&rt, alloc, label, &file, 0, &text, b"")?;
     }
+    Ok(())
+}
+
+/// A file with the function `f` at 1000, in it an inlined copy of `g` at this address, of a program at this base.
+fn with_copy(alloc: Global, first: u64, base: u64) -> Result<Vec<u8>, AllocError> {
     let f = entry_of(alloc, 4, b"f\0", 0x1000, 0x20)?;
-    let g = entry_of(alloc, 3, b"g\0", 0x1004, 8)?;
+    let g = entry_of(alloc, 3, b"g\0", first, 8)?;
     let entries = joined(alloc, &[&f, &g, b"\x01\x04\0"])?;
-    let file = with_functions(alloc, &unit_of(alloc, 0, &entries)?, &table, &[(1, 0)])?;
-    expect_dump(&rt, alloc, "an inlined copy", &file, 1, b"", UNBUILT)?;
-    let g = entry_of(alloc, 3, b"g\0", 0x2004, 8)?;
-    let entries = joined(alloc, &[&f, &g, b"\x01\x04\0"])?;
-    let file = with_functions(alloc, &unit_of(alloc, 0, &entries)?, &table, &[(1, 0x800)])?;
-    let records: &[u8] = b"FILE 0 /s/a.c\nFUNC 800 20 0 f\n800 4 3 0\n804 8 9 0\n80c 14 4 0\n";
-    let text = joined(alloc, &[FRONT, records])?;
-    expect_dump(&rt, alloc, "a copy outside of code", &file, 0, &text, b"")?;
-    let symbols = (".symtab", [2, 0, 0, 4], ENTRIES.as_slice());
-    let names = (".strtab", [3, 0, 0, 0], b"\0main\0".as_slice());
-    let abbreviations = (".debug_abbrev", [1, 0, 0, 0], FUNCTIONS);
-    let no_lines = line_table(alloc, b"\0", b"")?;
-    for (first, records) in [
-        (0x1000, b"FUNC 1000 8 0 f\n".as_slice()),
-        (0xff8, b"PUBLIC 1000 0 main\n"),
-        (0x1001, b"FUNC 1001 8 0 f\nPUBLIC 1000 0 main\n"),
-    ] {
-        let unit = unit_of(alloc, 0, &entry_of(alloc, 2, b"f\0", first, 8)?)?;
-        let info = (".debug_info", [1, 0, 0, 0], unit.as_slice());
-        let lines = (".debug_line", [1, 0, 0, 0], no_lines.as_slice());
-        let sections = [
-            NULL,
-            ID,
-            LONG_CODE,
-            symbols,
-            names,
-            info,
-            abbreviations,
-            lines,
-        ];
-        let file = file_of(alloc, &[(1, 0)], &sections)?;
-        let text = joined(alloc, &[FRONT, records])?;
+    let unit = unit_of(alloc, 0, &entries)?;
+    let table = three_rows(alloc)?;
+    with_functions(alloc, &unit, &table, &[(1, base)])
+}
+
+#[test]
+fn an_inlined_copy_in_code_is_refused(rt: HostRuntime) -> Result<(), Fail> {
+    let alloc = rt.alloc();
+    let file = with_copy(alloc, 0x1004, 0)?;
+    expect_dump(&rt, alloc, "in code", &file, 1, b"", UNBUILT)?;
+    let file = with_copy(alloc, 0x2004, 0x800)?;
+    let records = b"FILE 0 /s/a.c\nFUNC 800 20 0 f\n800 4 3 0\n804 8 9 0\n80c 14 4 0\n";
+    let text = behind_front(alloc, records)?;
+    expect_dump(&rt, alloc, "outside of code", &file, 0, &text, b"")
+}
+
+/// A file with the function `f` of eight bytes at this address, and the symbols of `ENTRIES`.
+fn with_symbols(alloc: Global, first: u64) -> Result<Vec<u8>, AllocError> {
+    let f = entry_of(alloc, 2, b"f\0", first, 8)?;
+    let unit = unit_of(alloc, 0, &f)?;
+    let table = line_table(alloc, b"\0", b"")?;
+    let sections = [
+        NULL,
+        ID,
+        LONG_CODE,
+        (".symtab", [2, 0, 0, 4], &ENTRIES),
+        (".strtab", [3, 0, 0, 0], b"\0main\0"),
+        (".debug_info", [1, 0, 0, 0], unit.as_slice()),
+        (".debug_abbrev", [1, 0, 0, 0], FUNCTIONS),
+        (".debug_line", [1, 0, 0, 0], table.as_slice()),
+    ];
+    file_of(alloc, &[(1, 0)], &sections)
+}
+
+/// Of `f` at this address: the records behind the front.
+const SYMBOLS: [(u64, &[u8]); 3] = [
+    (0x1000, b"FUNC 1000 8 0 f\n"),
+    (0xff8, b"PUBLIC 1000 0 main\n"),
+    (0x1001, b"FUNC 1001 8 0 f\nPUBLIC 1000 0 main\n"),
+];
+
+#[test]
+fn a_symbol_where_a_function_begins_is_left_out(rt: HostRuntime) -> Result<(), Fail> {
+    let alloc = rt.alloc();
+    for (first, records) in SYMBOLS {
+        let file = with_symbols(alloc, first)?;
+        let text = behind_front(alloc, records)?;
         expect_dump(&rt, alloc, "a symbol", &file, 0, &text, b"")?;
     }
-    let two = line_table(
-        alloc,
-        b"b.c\0\0\0\0a\x01.c\0\0\0\0a\x02.c\0\0\0\0\0",
-        TWO_FILES,
-    )?;
+    Ok(())
+}
+
+/// A file of two units: `f` with the lines of two files, and `g` with those of the same table or of one behind it.
+fn of_two_units(alloc: Global, is_one_table: bool) -> Result<Vec<u8>, AllocError> {
+    let names = b"b.c\0\0\0\0a\x01.c\0\0\0\0a\x02.c\0\0\0\0\0";
+    let two = line_table(alloc, names, TWO_FILES)?;
+    let three = three_rows(alloc)?;
+    let second = if is_one_table { 0 } else { two.len() as u64 };
     let f = entry_of(alloc, 2, b"f\0", 0x1000, 0xc)?;
     let g = entry_of(alloc, 2, b"g\0", 0x100c, 0x14)?;
-    let units = joined(
-        alloc,
-        &[
-            &unit_of(alloc, 0, &f)?,
-            &unit_of(alloc, two.len() as u64, &g)?,
-        ],
-    )?;
-    let file = with_functions(alloc, &units, &joined(alloc, &[&two, &table])?, &[(1, 0)])?;
-    let records: &[u8] =
-        b"FILE 0 /s/a.c\nFILE 1 /s/a?.c\nFILE 2 /s/b.c\nFUNC 1000 c 0 f\n1000 8 1 2\n1008 4 2 1\nFUNC 100c 14 0 g\n100c 14 4 0\n";
-    let text = joined(alloc, &[FRONT, records])?;
-    expect_dump(&rt, alloc, "three paths", &file, 0, &text, b"")?;
+    let unit_of_f = unit_of(alloc, 0, &f)?;
+    let unit_of_g = unit_of(alloc, second, &g)?;
+    let units = joined(alloc, &[&unit_of_f, &unit_of_g])?;
+    let tables = joined(alloc, &[&two, &three])?;
+    with_functions(alloc, &units, &tables, &[(1, 0)])
+}
+
+/// The records of two units with a table each.
+const THREE_PATHS: &[u8] =
+    b"FILE 0 /s/a.c\nFILE 1 /s/a?.c\nFILE 2 /s/b.c\nFUNC 1000 c 0 f\n1000 8 1 2\n1008 4 2 1\nFUNC 100c 14 0 g\n100c 14 4 0\n";
+
+/// The records of two units with one table.
+const ONE_TABLE: &[u8] =
+    b"FILE 0 /s/a?.c\nFILE 1 /s/b.c\nFUNC 1000 c 0 f\n1000 8 1 1\n1008 4 2 0\nFUNC 100c 14 0 g\n100c 4 2 0\n";
+
+#[test]
+fn files_of_all_units_are_numbered(rt: HostRuntime) -> Result<(), Fail> {
+    let alloc = rt.alloc();
+    let file = of_two_units(alloc, false)?;
+    let text = behind_front(alloc, THREE_PATHS)?;
     for words in BY_WORKERS {
-        expect(
-            &rt,
-            alloc,
-            "by workers",
-            words,
-            &file,
-            SMOOTH,
-            0,
-            &text,
-            b"",
-        )?;
+        expect(&rt, alloc, "by workers", words, &file, SMOOTH, 0, &text, b"")?;
     }
-    let file = with_functions(
-        alloc,
-        &joined(alloc, &[&unit_of(alloc, 0, &f)?, &unit_of(alloc, 0, &g)?])?,
-        &two,
-        &[(1, 0)],
-    )?;
-    let records: &[u8] =
-        b"FILE 0 /s/a?.c\nFILE 1 /s/b.c\nFUNC 1000 c 0 f\n1000 8 1 1\n1008 4 2 0\nFUNC 100c 14 0 g\n100c 4 2 0\n";
-    let text = joined(alloc, &[FRONT, records])?;
-    expect_dump(&rt, alloc, "one table of two units", &file, 0, &text, b"")
+    let file = of_two_units(alloc, true)?;
+    let text = behind_front(alloc, ONE_TABLE)?;
+    expect_dump(&rt, alloc, "one table", &file, 0, &text, b"")
 }
 
 /// Each write of one byte that fails in turn, those to out before those to err: the status is 4, and the sinks hold what was
