@@ -352,10 +352,7 @@ fn three_rows(alloc: Global) -> Result<Vec<u8>, AllocError> {
 }
 
 /// A file of one unit with these functions.
-fn of_functions(
-    alloc: Global,
-    functions: &[(u8, &[u8], u64, u64)],
-) -> Result<Vec<u8>, AllocError> {
+fn of_functions(alloc: Global, functions: &[(u8, &[u8], u64, u64)]) -> Result<Vec<u8>, AllocError> {
     let mut entries = Vec::new(alloc);
     for (code, name, first, length) in functions {
         let entry = entry_of(alloc, *code, name, *first, *length)?;
@@ -463,7 +460,17 @@ fn files_of_all_units_are_numbered(rt: HostRuntime) -> Result<(), Fail> {
     let file = of_two_units(alloc, false)?;
     let text = behind_front(alloc, THREE_PATHS)?;
     for words in BY_WORKERS {
-        expect(&rt, alloc, "by workers", words, &file, SMOOTH, 0, &text, b"")?;
+        expect(
+            &rt,
+            alloc,
+            "by workers",
+            words,
+            &file,
+            SMOOTH,
+            0,
+            &text,
+            b"",
+        )?;
     }
     let file = of_two_units(alloc, true)?;
     let text = behind_front(alloc, ONE_TABLE)?;
