@@ -376,7 +376,11 @@ class Debug:
 # ---- what `nm -S` shows
 
 def is_named(symbol, name):
-    """Whether a symbol has that name: as it is, or with a suffix of the compiler, or as a part where it is a name of C++."""
+    """Whether a symbol has that name: as it is, or with a suffix of the compiler, or as a part where it is a name of C++.
+
+    A constructor or destructor may have the number 4 in its name, which stands for all its symbols.
+    """
+    symbol, name = (re.sub(rb"([CD])[0-9](?=[EI])", rb"\1", text) for text in (symbol, name))
     return symbol.partition(b".")[0] == name or (name in symbol and (symbol.startswith(b"_Z") or b"(" in symbol))
 
 
