@@ -21,7 +21,7 @@ import re
 import sys
 
 sys.dont_write_bytecode = True
-from expected_text import read_base, read_sections, readelf  # noqa: E402
+from read_elf import read_base, read_code, read_sections, readelf  # noqa: E402
 
 NAMES = [b"rax", b"rdx", b"rcx", b"rbx", b"rsi", b"rdi", b"rbp", b"rsp"] + [b"r%d" % k for k in range(8, 16)]
 RETURN = 16
@@ -170,12 +170,6 @@ def read_omitted(err):
     return omitted
 
 
-def code_spans(path):
-    base = read_base(path)
-    return [(s.address, s.address + s.size) for s in read_sections(path)
-            if b"A" in s.flags and b"X" in s.flags and s.size > 0 and s.address >= base and s.address + s.size < 1 << 64]
-
-
 class Written:
     """The ranges written so far, which do not meet."""
 
@@ -240,7 +234,7 @@ def choose_written(path, entries, omitted, allowed=frozenset(REASONS)):
         known = set(places)
         stray = next((place for place in omitted if place not in known), None)
         raise Differs("err omits %s %x, which readelf does not list" % stray if stray else "the omitted entries are not in order")
-    spans, written, chosen = code_spans(path), Written(), []
+    spans, written, chosen = read_code(read_sections(path), read_base(path)), Written(), []
     for entry in entries:
         reason = omitted.get((entry.section, entry.place))
         check_reason(entry, reason, list(reasons_shown(entry, spans, written)), path)

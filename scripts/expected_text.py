@@ -11,31 +11,19 @@ import re
 import subprocess
 import sys
 
+sys.dont_write_bytecode = True
+from read_elf import bytes_named, clean, read_base, read_code, read_sections, readelf  # noqa: E402
+from expected_debug import Debug  # noqa: E402
+
 READ_NAMES = {
     b".debug_info", b".debug_abbrev", b".debug_line", b".debug_line_str", b".debug_str", b".debug_str_offsets",
     b".debug_addr", b".debug_ranges", b".debug_rnglists", b".debug_frame", b".eh_frame", b".text",
 }
 READ_TYPES = {b"SYMTAB", b"DYNSYM", b"STRTAB", b"NOTE"}
-NO_BYTES = {b"NULL", b"NOBITS"}
 
 
 class Refused(Exception):
     """The err line of a file that is refused."""
-
-
-class Section:
-    def __init__(self, index, name, kind, address, offset, size, flags, link):
-        self.index, self.name, self.kind, self.flags, self.link = index, name, kind, flags, link
-        self.address, self.offset, self.size = address, offset, size
-
-    def bytes_of(self, data):
-        return b"" if self.kind in NO_BYTES else data[self.offset:self.offset + self.size]
-
-
-def readelf(options, path):
-    done = subprocess.run(["readelf", *options, "--", path], stdout=subprocess.PIPE, stderr=subprocess.DEVNULL,
-                          env={**os.environ, "LC_ALL": "C"})
-    return done.stdout
 
 
 def check_header(path, data):
@@ -64,37 +52,11 @@ def check_header(path, data):
         raise Refused("refused elf section-table")
 
 
-def read_sections(path):
-    line = re.compile(rb"^ *\[ *(\d+)\] (.*?) +(\S+) +([0-9a-f]{16}) ([0-9a-f]+) ([0-9a-f]+) [0-9a-f]+ (.*)$")
-    sections = []
-    for found in map(line.match, readelf(["-SW"], path).splitlines()):
-        if found:
-            last = found.group(7).split()
-            flags = last[0] if len(last) == 4 else b""
-            sections.append(Section(int(found.group(1)), found.group(2), found.group(3), int(found.group(4), 16),
-                                    int(found.group(5), 16), int(found.group(6), 16), flags, int(last[-3])))
-    return sections
-
-
 def check_sections(sections):
     for section in sections:
         is_read = section.name in READ_NAMES or section.kind in READ_TYPES
         if (is_read and b"C" in section.flags) or section.name.startswith(b".zdebug_"):
             raise Refused("refused elf compressed %d" % section.index)
-
-
-def first_named(sections, name):
-    return next((s for s in sections if s.name == name), None)
-
-
-def bytes_named(sections, name, data):
-    section = first_named(sections, name)
-    return section.bytes_of(data) if section else b""
-
-
-def read_base(path):
-    found = re.search(rb"^ *LOAD +0x[0-9a-f]+ 0x([0-9a-f]+)", readelf(["-lW"], path), re.M)
-    return int(found.group(1), 16) if found else 0
 
 
 def read_build_id(sections, data):
@@ -119,11 +81,6 @@ def fold(code):
     return bytes(identity)
 
 
-def clean(name):
-    kept = bytes(0x3F if byte < 0x20 or byte == 0x7F else byte for byte in name)
-    return kept.lstrip(b" ")[:65536] or b"<name omitted>"
-
-
 def name_of(number, table, sections, data):
     """The name of a symbol as it stands in the file: readelf adds versions, and spells control characters in its way."""
     strings = sections[table.link].bytes_of(data)
@@ -136,8 +93,7 @@ def read_functions(path, sections, base, data):
     tables = [s for s in sections if s.kind == b"SYMTAB"] or [s for s in sections if s.kind == b"DYNSYM"]
     if not tables:
         return []
-    spans = [(s.address, s.address + s.size) for s in sections
-             if b"A" in s.flags and b"X" in s.flags and s.size > 0 and s.address >= base]
+    spans = read_code(sections, base)
     line = re.compile(rb"^ *(\d+): ([0-9a-f]+) +\S+ (\S+) +\S+ +\S+ +(?:\[.*\] +)?(\S+) ")
     functions, here = [], False
     for text in readelf(["-sW"], path).splitlines():
@@ -169,16 +125,21 @@ def expected(path, data):
     build_id, code = read_build_id(sections, data), bytes_named(sections, b".text", data)
     if build_id is None and not code:
         raise Refused("refused elf no-identity")
-    if bytes_named(sections, b".debug_info", data):
-        raise Refused("refused unbuilt")
     identity = fold(code) if build_id is None else build_id[:16].ljust(16, b"\0")
     turned = identity[3::-1] + identity[5:3:-1] + identity[7:5:-1] + identity[8:]
     lines = [b"MODULE Linux x86_64 %s0 %s" % (turned.hex().upper().encode(), clean(path.rpartition(b"/")[2]))]
     if build_id is not None:
         lines.append(b"INFO CODE_ID " + build_id.hex().upper().encode())
     base = read_base(path)
-    lines.extend(public_lines(read_functions(path, sections, base, data), base))
-    return b"".join(line + b"\n" for line in lines)
+    functions, skipped = read_functions(path, sections, base, data), []
+    if bytes_named(sections, b".debug_info", data):
+        debug = Debug(path, sections, base, data)
+        if debug.has_copies():
+            raise Refused("refused unbuilt")
+        lines.extend(debug.records())
+        functions, skipped = [pair for pair in functions if not debug.covers(pair[0])], debug.skipped()
+    lines.extend(public_lines(functions, base))
+    return [b"".join(line + b"\n" for line in part) for part in (lines, skipped)]
 
 
 def main():
@@ -189,7 +150,9 @@ def main():
     try:
         with open(path, "rb") as file:
             data = file.read()
-        sys.stdout.buffer.write(expected(path, data))
+        text, skipped = expected(path, data)
+        sys.stdout.buffer.write(text)
+        sys.stderr.buffer.write(skipped)
     except OSError:
         print("cannot read input", file=sys.stderr)
         return 3
@@ -202,6 +165,6 @@ def main():
 if __name__ == "__main__":
     try:
         sys.exit(main())
-    except (ValueError, IndexError, subprocess.SubprocessError) as error:
-        print("expected_text.py: %s" % error, file=sys.stderr)
+    except (ValueError, LookupError, subprocess.SubprocessError) as error:
+        print("expected_text.py: %r" % error, file=sys.stderr)
         sys.exit(9)
