@@ -14,7 +14,7 @@ import subprocess
 import sys
 
 sys.dont_write_bytecode = True
-from read_elf import bytes_named, clean, read_base, read_code, read_sections, readelf  # noqa: E402
+from read_elf import LONGEST, bytes_named, clean, read_base, read_code, read_sections, readelf  # noqa: E402
 
 LINES = 1 << 32
 SCOPES = {b"class_type", b"structure_type", b"union_type", b"namespace"}
@@ -378,8 +378,11 @@ class Debug:
 def is_named(symbol, name):
     """Whether a symbol has that name: as it is, or with a suffix of the compiler, or as a part where it is a name of C++.
 
-    A constructor or destructor may have the number 4 in its name, which stands for all its symbols.
+    A constructor or destructor may have the number 4 in its name, which stands for all its symbols. Of a name that was cut the end is missing, so
+    any symbol will do.
     """
+    if len(name) == LONGEST:
+        return True
     symbol, name = (re.sub(rb"([CD])[0-9](?=[EI])", rb"\1", text) for text in (symbol, name))
     return symbol.partition(b".")[0] == name or (name in symbol and (symbol.startswith(b"_Z") or b"(" in symbol))
 
@@ -396,8 +399,8 @@ def check_symbols(path, text):
                  re.findall(rb"^FUNC (?:m )?(\w+) (\w+) 0 (.*)$", text, re.M)}
     publics = {int(address, 16) for address in re.findall(rb"^PUBLIC (?:m )?(\w+) 0 ", text, re.M)}
     for address, (size, name) in functions.items():
-        if not any(is_named(symbol, name.rpartition(b"::")[2]) for symbol in places.get((address, size), ())):
-            return "FUNC %x %x %s is no symbol" % (address, size, name.decode())
+        if not any(is_named(symbol, name if len(name) == LONGEST else name.rpartition(b"::")[2]) for symbol in places.get((address, size), ())):
+            return "FUNC %x %x %s is no symbol" % (address, size, name[:80].decode())
     for address, size in places:
         if functions.get(address, (None,))[0] != size and address not in publics:
             return "the symbol at %x of %x bytes has neither a FUNC nor a PUBLIC" % (address, size)

@@ -6,6 +6,9 @@ import subprocess
 
 NO_BYTES = {b"NULL", b"NOBITS"}
 
+# A name is cut after so many bytes.
+LONGEST = 65536
+
 
 class Section:
     def __init__(self, index, name, kind, address, offset, size, flags, link):
@@ -56,4 +59,4 @@ def read_code(sections, base):
 
 def clean(name):
     kept = bytes(0x3F if byte < 0x20 or byte == 0x7F else byte for byte in name)
-    return kept.lstrip(b" ")[:65536] or b"<name omitted>"
+    return kept.lstrip(b" ")[:LONGEST] or b"<name omitted>"
