@@ -23,13 +23,14 @@ use Rattle.sym_records.specs.Canon.{canon_text}
 use Rattle.sym_records.specs.Reading.{reading}
 use Rattle.sym_records.specs.declared.line.SymLine.{SymLine}
 use Rattle.rule_postfix.specs.declared.omission.Omission.{Omission}
-use Rattle.dumpsyms_cmd.specs.Dump.{has_copy, is_unbuilt}
+use Rattle.rule_postfix.specs.Written.{omitted}
+use Rattle.dumpsyms_cmd.specs.Dump.{has_copy, is_unbuilt, HasNoCopies}
 use Rattle.dumpsyms_cmd.specs.Words.{Asked, dump, files_of, module_name}
 use Rattle.dumpsyms_cmd.specs.Refusals.{elf_line, debug_line, skipped_text, omitted_text, too_long_line, unbuilt_line, usage_line}
 use Rattle.dumpsyms_cmd.specs.Verdict.{Verdict, refused, usage, IsFoundVerdict, IsDebugVerdict, IsPartsVerdict, IsImageVerdict, IsBytesVerdict, IsDumpVerdict, IsFileVerdict, IsVerdict, LIMIT}
 use Rattle.dumpsyms_cmd.specs.Spelled.{DumpsRead}
 use Rattle.dumpsyms_cmd.specs.Observed.{Asks}
-use Rattle.dumpsyms_cmd.specs.Judged.{out_bytes, err_bytes, judgement_verdict, Refuses, RefusesOrGives, Judges, DumpsParts, JudgesParts, DumpsImage, JudgesBytes, DumpsFile, DumpPromises, IsUsage, IsJudged, AnswersCommand, AnswersStop}
+use Rattle.dumpsyms_cmd.specs.Judged.{out_bytes, err_bytes, judgement_verdict, Refuses, RefusesOrGives, Judges, DumpsParts, Assembles, JudgesParts, DumpsImage, JudgesBytes, DumpsFile, DumpPromises, IsUsage, IsJudged, AnswersCommand, AnswersStop}
 use Rattle.dumpsyms_cmd.proofs.FrameLemmas.{kept}
 use Rattle.dumpsyms_cmd.specs.declared.judgement.Output.{Output}
 use Rattle.dumpsyms_cmd.specs.declared.judgement.Output.TheVariants.{Nothing, Text, Bytes}
@@ -108,7 +109,7 @@ found_told parts name lines text dumps =
     (record { lines = lines; canon = dumps.canon; is = ap (given 0 (canon_text lines)) dumps.text_is }))
 
 -- the records of a file by what was read of it
-pub dumps_parts : (parts : ImageParts) (name text : List ℕ) (read : DebugRead) (lines : List SymLine) (left : List Omission) → IsDebugRead parts read → ((found : DebugSays) → debug_says parts ≡ Ok found → is_unbuilt parts.code found ≡ false) → DumpsRead parts name read lines left → text ≡ skipped_text read.headers ++ omitted_text left → DumpsParts parts name lines text
+pub dumps_parts : (parts : ImageParts) (name text : List ℕ) (read : DebugRead) (lines : List SymLine) (left : List Omission) → IsDebugRead parts read → HasNoCopies parts → DumpsRead parts name read lines left → text ≡ skipped_text read.headers ++ omitted_text left → DumpsParts parts name lines text
 dumps_parts parts name text read lines left says built dumps is =
     let k = kept parts read says in
     let same : k.says ≡ dumps.found = said (sym k.says_is ∙ dumps.found_is) in
@@ -126,12 +127,23 @@ dumps_parts parts name text read lines left says built dumps is =
     said : {x y : DebugSays} → ◌≡◌ {A = Result DebugSays DebugFault} (Ok x) (Ok y) → x ≡ y
     said is = cc
 
-pub built_by : (parts : ImageParts) (read : DebugRead) (copies : Bool) → IsDebugRead parts read → ((code : List Range) (says : List UnitSays) → Match (IsUnitRead code) says read.units → copies ≡ list_any (λ (u : UnitSays). has_copy code u.table.dies u.pairs) says) → copies ≡ false → (found : DebugSays) → debug_says parts ≡ Ok found → is_unbuilt parts.code found ≡ false
+pub built_by : (parts : ImageParts) (read : DebugRead) (copies : Bool) → IsDebugRead parts read → ((code : List Range) (says : List UnitSays) → Match (IsUnitRead code) says read.units → copies ≡ list_any (λ (u : UnitSays). has_copy code u.table.dies u.pairs) says) → copies ≡ false → HasNoCopies parts
 unfolding is_unbuilt
 built_by parts read copies says tells none found is =
     let k = kept parts read says in
     let same : k.says ≡ found = said (sym k.says_is ∙ is) in
     ap (is_unbuilt parts.code) (sym same) ∙ sym (tells parts.code k.says.units k.units) ∙ none
+  where
+    said : {x y : DebugSays} → ◌≡◌ {A = Result DebugSays DebugFault} (Ok x) (Ok y) → x ≡ y
+    said is = cc
+
+-- the same with their number
+pub assembles : (parts : ImageParts) (name text : List ℕ) (read : DebugRead) (lines : List SymLine) (left : List Omission) (count : ℕ) → IsDebugRead parts read → HasNoCopies parts → DumpsRead parts name read lines left → text ≡ skipped_text read.headers ++ omitted_text left → count ≡ length left → Assembles parts name lines text count
+assembles parts name text read lines left count says built dumps is number =
+    record {
+      dumps = dumps_parts parts name text read lines left says built dumps is;
+      counted = λ found found_is. number ∙ ap length dumps.left_is ∙ ap (λ (f : DebugSays). length (omitted parts.code f.first f.second)) (said (sym dumps.found_is ∙ found_is));
+    }
   where
     said : {x y : DebugSays} → ◌≡◌ {A = Result DebugSays DebugFault} (Ok x) (Ok y) → x ≡ y
     said is = cc

@@ -1,5 +1,5 @@
 -- The records of a dumped file (Breakpad's symbol_files.md).
-use Rattle.std.specs.Prelude.{◌≡◌, ℕ, ◌-◌, ◌&&◌, ◌||◌, Bool, false, List, [], ◌∷◌, ◌++◌, Option, Some, None, map, slice_index, codes}
+use Rattle.std.specs.Prelude.{◌≡◌, ℕ, ◌-◌, ◌&&◌, ◌||◌, Bool, false, List, [], ◌∷◌, ◌++◌, Option, Some, None, Ok, map, slice_index, codes}
 use Rattle.std.specs.List.{list_any}
 use Rattle.hex.specs.Hex.{encode_upper}
 use Rattle.elf_sections.specs.Image.{ImageParts}
@@ -19,7 +19,7 @@ use Rattle.func_records.specs.FuncRecords.{AreFuncRecords}
 use Rattle.debug_read.specs.Each.{Match}
 use Rattle.debug_read.specs.UnitSays.{UnitSays}
 use Rattle.debug_read.specs.UnitsRead.{IsUnitRead}
-use Rattle.debug_read.specs.DebugSays.{DebugSays}
+use Rattle.debug_read.specs.DebugSays.{DebugSays, debug_says}
 use Rattle.dumpsyms_cmd.specs.Frames.{written_of}
 
 -- the identity as a GUID is written: its first four bytes, the next two and the next two, each turned round
@@ -78,3 +78,7 @@ has_copy code _ _ = false
 -- the file has inlined copies of functions, which are not dumped yet
 unfoldable pub is_unbuilt : List Range → DebugSays → Bool
 is_unbuilt code found = list_any (λ (u : UnitSays). has_copy code u.table.dies u.pairs) found.units
+
+-- an image whose debugging information has no such copy
+abbrev pub HasNoCopies : ImageParts → Type 0
+HasNoCopies parts = (found : DebugSays) → debug_says parts ≡ Ok found → is_unbuilt parts.code found ≡ false

@@ -14,6 +14,7 @@ use Rattle.dumpsyms_cmd.specs.Words.{Asked, dump, module_name}
 use Rattle.dumpsyms_cmd.specs.Dump.{CanonFile, is_unbuilt}
 use Rattle.debug_read.specs.DebugSays.{DebugSays, debug_says}
 use Rattle.func_records.specs.TextNames.{Names}
+use Rattle.rule_postfix.specs.Written.{omitted}
 use Rattle.dumpsyms_cmd.specs.Frames.{SaysFrames}
 use Rattle.dumpsyms_cmd.specs.Refusals.{too_long_line, usage_line}
 use Rattle.dumpsyms_cmd.specs.Verdict.{Verdict, refused, unread, left_out, IsPartsVerdict, IsDumpVerdict, IsFileVerdict, IsVerdict, LIMIT}
@@ -82,6 +83,11 @@ pub record DumpsParts (parts : ImageParts) (name : List ℕ) (lines : List SymLi
   pub reads : reading (canon_text lines) ≡ Ok lines
   pub frames : SaysFrames parts found lines
   pub names : (x : ℕ) → Names parts.base canon.units lines x
+
+-- the same, and how many frame entries are left out
+pub record Assembles (parts : ImageParts) (name : List ℕ) (lines : List SymLine) (text : List ℕ) (count : ℕ) : Type 0 where
+  pub dumps : DumpsParts parts name lines text
+  pub counted : (found : DebugSays) → debug_says parts ≡ Ok found → count ≡ length (omitted parts.code found.first found.second)
 
 -- a judgement on the parts of an image
 abbrev pub JudgesParts : Judgement → List ℕ → ImageParts → Type 0

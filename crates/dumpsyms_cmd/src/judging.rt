@@ -4,16 +4,15 @@ ghost use Rattle.sym_edges.specs.Outside.{Files};
 ghost use Rattle.std.specs.String.{string_bytes};
 ghost use Rattle.elf_sections.specs.Image.{image};
 ghost use Rattle.dumpsyms_cmd.specs.Words.{command_of, files_of, dump};
-ghost use Rattle.debug_read.specs.DebugSays.{DebugSays, debug_says, IsDebugRead};
-ghost use Rattle.dumpsyms_cmd.specs.Dump.{is_unbuilt};
+ghost use Rattle.debug_read.specs.DebugSays.{IsDebugRead};
+ghost use Rattle.dumpsyms_cmd.specs.Dump.{HasNoCopies};
 ghost use Rattle.dumpsyms_cmd.specs.Verdict.{LIMIT};
 ghost use Rattle.dumpsyms_cmd.specs.Judged.{err_bytes, Refuses, JudgesParts, JudgesBytes, AnswersStop, AnswersCommand};
 ghost use Rattle.dumpsyms_cmd.specs.Observed.{Asks};
 
+use crate::assembling::assemble;
 use crate::copies::has_copies;
 use crate::judgement::{Answer, Judgement, Message, Output};
-use crate::omissions::list_left_out;
-use crate::records::{Dumped, dump_file};
 use crate::refusals::{TOO_LONG, UNBUILT, USAGE, debug_line, fault_line};
 use crate::words::{Command, name_of, parse_words};
 use debug_read::{DebugRead, read_debug};
@@ -44,17 +43,15 @@ fn judge_records(
     debug: &DebugRead<'_>,
     name: &[u8],
 ) -> Result<Judgement, OutOfMemory>
-    requires built { (found : DebugSays) → debug_says image.now ≡ Ok found → is_unbuilt image.now.code found ≡ false }
+    requires built { HasNoCopies image.now }
     requires found { IsDebugRead image.now debug.now }
     ensures { IfOk result (λ j. JudgesParts j name.now image.now) }
 {
-    let dumped = dump_file(alloc, image, name, debug)?;
-    let Dumped { file, omitted } = dumped;
-    let text = list_left_out(alloc, debug.headers.as_slice(), omitted.as_slice())?;
+    let dumped = assemble(alloc, image, debug, name)?;
     Ok(Judgement {
         status: 0,
-        out: Output::Text(file),
-        err: Message::Made(text),
+        out: Output::Text(dumped.file),
+        err: Message::Made(dumped.err),
     })
 }
 

@@ -6,6 +6,7 @@
 //! file.
 #![tactic(auto)]
 
+mod assembling;
 mod copies;
 mod judgement;
 mod judging;
@@ -15,6 +16,8 @@ mod refusals;
 mod running;
 mod words;
 
+pub use assembling::{Dumped, assemble};
+pub use copies::has_copies;
 pub use running::run;
 
 #[cfg(test)]

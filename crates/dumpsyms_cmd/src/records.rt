@@ -170,7 +170,7 @@ fn join_texts(front: TextPieces, rest: TextPieces) -> Result<TextPieces, OutOfMe
 
 /// The text of a file, and the frame entries that are left out.
 #[derive(Debug, Drop)]
-pub struct Dumped {
+pub struct FileText {
     pub file: SymText,
     pub omitted: Omissions,
 }
@@ -181,7 +181,7 @@ pub fn dump_file(
     image: &Image<'_>,
     name: &[u8],
     debug: &DebugRead<'_>,
-) -> Result<Dumped, OutOfMemory>
+) -> Result<FileText, OutOfMemory>
     requires found { IsDebugRead image.now debug.now }
     ensures { IfOk result (λ d. DumpsRead image.now name.now debug.now d.file d.omitted) }
 {
@@ -195,7 +195,7 @@ pub fn dump_file(
         image.base(),
     )?;
     let Frames { text, omitted } = framed;
-    Ok(Dumped {
+    Ok(FileText {
         file: SymText::of(join_texts(head, text)?),
         omitted,
     })

@@ -1,18 +1,22 @@
 //! `run` over stores and sinks in memory: the commands' rows, each call that fails in turn, and large files. What each small
 //! file gives stands in the rows of the crate `worked`.
 
+ghost use Rattle.debug_read.specs.DebugSays.{IsDebugRead};
+
 mod files;
 
 use self::files::{
     CUT_UNIT, EIGHT_OR_FOUR, ENTRIES, FUNCTIONS, ID, LONG_CODE, NULL, THREE_ROWS, TWO_FILES, UNIT,
     VERSION_3, entry_of, file_of, file_with, line_table, small_and, unit_of,
 };
-use crate::run;
+use crate::{Dumped, assemble, has_copies, run};
+use debug_read::{DebugRead, read_debug};
+use elf_sections::{Image, read_image};
 use std::alloc::{AllocError, Global};
 use std::process::Abort;
 use std::test::Fail;
 use std::thread::Threads;
-use sym_edges::{ByteRun, CallList, FileList, MemSink, MemStore, NameText, NamedFile};
+use sym_edges::{ByteRun, CallList, FileList, MemSink, MemStore, NameText, NamedFile, OutOfMemory};
 use unit_workers::NoGate;
 
 const FRONT: &[u8] = b"MODULE Linux x86_64 030201000504070608090A0B0C0D0E0F0 a.out\n\
@@ -475,6 +479,83 @@ fn files_of_all_units_are_numbered(rt: HostRuntime) -> Result<(), Fail> {
     let file = of_two_units(alloc, true)?;
     let text = behind_front(alloc, ONE_TABLE)?;
     expect_dump(&rt, alloc, "one table", &file, 0, &text, b"")
+}
+
+/// The symbol file of what was read, where no inlined copy has an address.
+#[tactic(auto, using(crate::proofs::JudgedLemmas::built_by))]
+fn assembled(
+    alloc: Global,
+    image: &Image<'_>,
+    debug: &DebugRead<'_>,
+) -> Result<Option<Dumped>, OutOfMemory>
+    requires { IsDebugRead image.now debug.now }
+{
+    if has_copies(&debug.units) {
+        return Ok(None);
+    }
+    Ok(Some(assemble(alloc, image, debug, b"d e")?))
+}
+
+/// The same of a file: its text, the lines on what is left out, and the number of frame entries among these.
+fn assembled_of(
+    rt: &(impl Abort + Threads + Sync),
+    alloc: Global,
+    file: &[u8],
+) -> Result<Option<(Vec<u8>, Dumped)>, Fail> {
+    let Ok(image) = read_image(alloc, file) else {
+        return Ok(None);
+    };
+    match read_debug(rt, alloc, &image, &NoGate, 2) {
+        Ok(debug) => match assembled(alloc, &image, &debug)? {
+            Some(dumped) => {
+                let mut sink = MemSink::new(alloc, 1000, 1 << 20, calls(alloc, &[])?)?;
+                match dumped.file.write(&mut sink) {
+                    Ok(()) => Ok(Some((Vec::from_slice(alloc, sink.written())?, dumped))),
+                    Err(_) => Ok(None),
+                }
+            }
+            None => Ok(None),
+        },
+        Err(_) => Ok(None),
+    }
+}
+
+fn expect_assembled(
+    rt: &(impl Abort + Threads + Sync),
+    alloc: Global,
+    label: &str,
+    file: &[u8],
+    records: &[u8],
+    err: &[u8],
+    omitted: usize,
+) -> Result<(), Fail> {
+    let text = joined(alloc, &[NAMED_FRONT, records])?;
+    let is_wanted = match assembled_of(rt, alloc, file)? {
+        Some((out, dumped)) => {
+            out == text && dumped.err.as_slice() == err && dumped.omitted == omitted
+        }
+        None => false,
+    };
+    assert!(rt; is_wanted, "{label}");
+    Ok(())
+}
+
+const NAMED_FRONT: &[u8] = b"MODULE Linux x86_64 030201000504070608090A0B0C0D0E0F0 d e\n\
+    INFO CODE_ID 000102030405060708090A0B0C0D0E0F10111213\n";
+
+#[test]
+fn files_are_assembled(rt: HostRuntime) -> Result<(), Fail> {
+    let alloc = rt.alloc();
+    let file = framed(alloc, PUSH_RBP)?;
+    expect_assembled(&rt, alloc, "push rbp", &file, PUSH_RBP_LINES, b"", 0)?;
+    for (label, functions, records) in OWNERS {
+        let file = of_functions(alloc, functions)?;
+        expect_assembled(&rt, alloc, label, &file, records, b"", 0)?;
+    }
+    let frames = changed(alloc, PUSH_RBP, 42, 0x0b)?;
+    let file = debugged(alloc, VERSION_3, &frames)?;
+    let left_out = joined(alloc, &[SKIPPED, OMITTED])?;
+    expect_assembled(&rt, alloc, "both left out", &file, b"", &left_out, 1)
 }
 
 /// Each write of one byte that fails in turn, those to out before those to err: the status is 4, and the sinks hold what was
