@@ -1,0 +1,71 @@
+-- The inlined copies of functions on the chains of a piece's addresses (DWARF 5, 3.3.8; Breakpad's symbol_files.md, INLINE records).
+use Rattle.std.specs.Prelude.{◌≡◌, ℕ, ◌<◌, ◌≤◌, ◌==◌, ◌&&◌, ◌||◌, Bool, true, false, nat_lt, List, [], ◌∷◌, ◌++◌, map, filter, length, Option, None, Some}
+use Rattle.std.specs.List.{slice_get, list_all}
+use Rattle.std.specs.Option.{option_map_or}
+use Rattle.sym_edges.specs.Addresses.{Range}
+use Rattle.range_set.specs.Members.{holds_any}
+use Rattle.range_set.specs.Canonical.{IsCanonical}
+use Rattle.die_names.specs.declared.unit_read.UnitRead.{UnitRead}
+use Rattle.die_names.specs.Owners.{Covering, chain_from, unit_covering}
+use Rattle.func_flatten.specs.declared.piece.Piece.{Piece}
+use Rattle.func_flatten.specs.Pieces.{is_inside}
+
+-- the inlined copies at an address inside of an entry of a unit, level by level
+abbrev pub chain_by : ℕ → ℕ → ℕ → Option UnitRead → List Covering
+chain_by unit entry a None = []
+chain_by unit entry a (Some part) = chain_from part.die.dies a entry (unit_covering unit 0 part.die.dies part.spans)
+
+unfoldable pub entry_chain : List UnitRead → ℕ → ℕ → ℕ → List Covering
+entry_chain units unit entry a = chain_by unit entry a (slice_get units unit)
+
+-- an inlined copy: its level on the chain, the number of its entry, and addresses
+pub record InlineParts : Type 0 where
+  pub level : ℕ
+  pub entry : ℕ
+  pub spans : List Range
+
+-- at an address of the piece the entry stands on the chain at that level
+unfoldable pub is_on_chain : List UnitRead → Piece → ℕ → ℕ → ℕ → Bool
+is_on_chain units piece level entry a =
+    is_inside a piece && option_map_or (λ c. c.entry == entry) (slice_get (entry_chain units piece.unit piece.entry a) level) false
+
+-- whether it is of that entry, at that level
+abbrev pub is_of : ℕ → ℕ → InlineParts → Bool
+is_of level entry r = (r.level == level) && (r.entry == entry)
+
+-- the addresses of those of one entry at one level, in their order
+abbrev pub spans_of : ℕ → ℕ → List InlineParts → List (List Range)
+spans_of level entry runs = map (λ (r : InlineParts). r.spans) (filter (is_of level entry) runs)
+
+unfoldable pub joined : List (List Range) → List Range
+joined [] = []
+joined (spans ∷ parts) = spans ++ joined parts
+
+-- parts of 16,384 ranges, of which the last may have fewer
+abbrev pub AreParts : List (List Range) → Type 0
+AreParts [] = Unit {0}
+AreParts (spans ∷ []) = (0 < length spans) × (length spans ≤ 16384)
+AreParts (spans ∷ more ∷ parts) = (length spans ≡ 16384) × AreParts (more ∷ parts)
+
+-- those of one entry at one level have all addresses at which it stands there, in maximal ranges, in as few parts as there may be
+pub record IsCopy (units : List UnitRead) (piece : Piece) (runs : List InlineParts) (level entry : ℕ) : Type 0 where
+  pub parts : AreParts (spans_of level entry runs)
+  pub canonical : IsCanonical (joined (spans_of level entry runs))
+  pub members : (a : ℕ) → holds_any (joined (spans_of level entry runs)) a ≡ is_on_chain units piece level entry a
+
+abbrev pub first_address : List Range → ℕ
+first_address [] = 0
+first_address (range ∷ ranges) = range.start
+
+-- by level, and in one level by the first address
+abbrev pub is_before : InlineParts → InlineParts → Bool
+is_before r s = nat_lt r.level s.level || ((r.level == s.level) && nat_lt (first_address r.spans) (first_address s.spans))
+
+abbrev pub IsOrdered : List InlineParts → Type 0
+IsOrdered [] = Unit {0}
+IsOrdered (r ∷ runs) = (list_all (is_before r) runs ≡ true) × IsOrdered runs
+
+-- the inlined copies on the chains of a piece's addresses
+pub record AreInlineRuns (units : List UnitRead) (piece : Piece) (runs : List InlineParts) : Type 0 where
+  pub ordered : IsOrdered runs
+  pub copies : (level entry : ℕ) → IsCopy units piece runs level entry
