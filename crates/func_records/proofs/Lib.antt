@@ -1,5 +1,7 @@
 pub mod TextLemmas
 pub mod CleanLemmas
+pub mod ChainLemmas
+pub mod CallLemmas
 pub mod NameLemmas
 pub mod PathLemmas
 pub mod NumberLemmas

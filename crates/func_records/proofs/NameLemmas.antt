@@ -1,27 +1,29 @@
--- In a text with the records of functions a look-up names the owner and the line of each address.
+-- In a text with the records of functions a look-up names the owner, the inlined copies and the line of each address.
 use Rattle.std.proofs.Common.{◌≡◌, ℕ, ◌+◌, ◌-◌, ◌<◌, ◌≤◌, Bool, true, false, ◌&&◌, ◌||◌, ◌==◌, nat_le, nat_lt, if◌then◌else◌, cond, map, List, [], ◌∷◌, ◌++◌, Option, None, Some, arith, refl, sym, ap, ◌∙◌, inl, inr, append_assoc, append-nil}
 use Rattle.std.proofs.lemmas.Bool.Decides.{nat_tests, leb_tells}
 use Rattle.std.proofs.lemmas.Slice.Eq.{bytes_eq-Decides}
 use Rattle.std.specs.List.{find, slice_get, list_any}
 use Rattle.std.specs.Str.{bytes_eq}
-use Rattle.std.specs.Option.{option_map, option_and_then}
+use Rattle.std.specs.Option.{option_map, option_map_or, option_and_then}
 use Rattle.step_maps.specs.Runs.{Run, has, value_in, AreRuns, AreMaximal, between}
 use Rattle.step_maps.proofs.MaximalLemmas.{maximal}
 use Rattle.sym_records.specs.declared.line.SymLine.{SymLine}
-use Rattle.sym_records.specs.declared.line.SymLine.TheVariants.{File}
-use Rattle.sym_lookup.specs.TextNames.{is_within, is_line_at, under, Found, text_func, func_name, text_owner, line_under, text_line, is_file, file_name, text_path, path_and_line}
-use Rattle.sym_lookup.specs.Plain.{ArePlain, HaveNoFile}
-use Rattle.sym_lookup.proofs.TextLemmas.{func_behind, none_under, file_behind}
+use Rattle.sym_records.specs.declared.line.SymLine.TheVariants.{File, Origin}
+use Rattle.sym_lookup.specs.TextNames.{is_within, is_line_at, under, Found, text_func, func_name, text_owner, line_under, text_line, is_file, file_name, text_path, path_and_line, is_origin, origin_name, text_origin, Call, call_of, level_count, inlines_from, inlines_under, text_chain}
+use Rattle.sym_lookup.specs.Plain.{ArePlain, HaveNoFile, HaveNoOrigin}
+use Rattle.sym_lookup.proofs.TextLemmas.{func_behind, none_under, file_behind, origin_behind}
 use Rattle.die_names.specs.declared.unit_read.UnitRead.{UnitRead}
 use Rattle.die_names.specs.Names.{entry_name}
-use Rattle.die_names.specs.Owners.{Covering, owner, line, line_in, line_under as owner_line}
+use Rattle.die_names.specs.Owners.{Covering, owner, chain, chain_in, chain_under, line, line_in, line_under as owner_line}
 use Rattle.func_flatten.specs.declared.piece.Place.{Place}
 use Rattle.func_flatten.specs.declared.piece.Piece.{Piece}
 use Rattle.func_flatten.specs.declared.line_run.LineRun.{LineRun}
 use Rattle.func_flatten.specs.Pieces.{piece_run, place_of, owner_place, ArePieces}
 use Rattle.func_flatten.specs.LineRuns.{path_line, path_run, unit_line, unit_paths, AreLineRuns}
-use Rattle.func_records.specs.FuncRecords.{Part, pieces_of, path_in, number_in, file_lines, func_record, line_record, part_lines, AreLined, BeginAbove, names_path, AreFuncRecords}
-use Rattle.func_records.specs.TextNames.{name_of, found_line, Names}
+use Rattle.inline_chain.specs.InlineRuns.{InlineParts, chain_by, entry_chain}
+use Rattle.func_records.specs.FuncRecords.{Part, pieces_of, path_in, call_path, number_in, file_lines, origin_lines, func_record, line_record, inline_record, part_lines, AreLined, AreInlined, BeginAbove, names_path, names_origin, AreFuncRecords}
+use Rattle.func_records.specs.TextNames.{name_of, call_in, found_line, Names}
+use Rattle.func_records.proofs.CallLemmas.{below, line_past, part_calls, HasPaths, HasOrigins}
 
 -- records in front that are no FUNC
 no_func : (behind : List SymLine) (x : ℕ) → ArePlain behind → text_func behind x ≡ None
@@ -31,6 +33,14 @@ func_files : (k : ℕ) (paths : List (List ℕ)) (rest : List SymLine) (x : ℕ)
 func_files k [] rest x = refl
 func_files k (path ∷ paths) rest x = func_files (k + 1) paths rest x
 
+func_origins : (k : ℕ) (names : List (List ℕ)) (rest : List SymLine) (x : ℕ) → text_func (origin_lines k names ++ rest) x ≡ text_func rest x
+func_origins k [] rest x = refl
+func_origins k (name ∷ names) rest x = func_origins (k + 1) names rest x
+
+func_copies : (base : ℕ) (paths names : List (List ℕ)) (units : List UnitRead) (unit : ℕ) (copies : List InlineParts) (rest : List SymLine) (x : ℕ) → text_func (map (inline_record base paths names units unit) copies ++ rest) x ≡ text_func rest x
+func_copies base paths names units unit [] rest x = refl
+func_copies base paths names units unit (r ∷ copies) rest x = func_copies base paths names units unit copies rest x
+
 func_lines : (base : ℕ) (paths : List (List ℕ)) (units : List UnitRead) (unit : ℕ) (runs : List LineRun) (rest : List SymLine) (x : ℕ) → text_func (map (line_record base paths units unit) runs ++ rest) x ≡ text_func rest x
 func_lines base paths units unit [] rest x = refl
 func_lines base paths units unit (r ∷ runs) rest x = func_lines base paths units unit runs rest x
@@ -38,6 +48,10 @@ func_lines base paths units unit (r ∷ runs) rest x = func_lines base paths uni
 under_lines : (base : ℕ) (paths : List (List ℕ)) (units : List UnitRead) (unit : ℕ) (runs : List LineRun) (rest : List SymLine) → under rest ≡ [] → under (map (line_record base paths units unit) runs ++ rest) ≡ map (line_record base paths units unit) runs
 under_lines base paths units unit [] rest none = none
 under_lines base paths units unit (r ∷ runs) rest none = ap (λ k. line_record base paths units unit r ∷ k) (under_lines base paths units unit runs rest none)
+
+under_copies : (base : ℕ) (paths names : List (List ℕ)) (units : List UnitRead) (unit : ℕ) (copies : List InlineParts) (rest : List SymLine) → under (map (inline_record base paths names units unit) copies ++ rest) ≡ map (inline_record base paths names units unit) copies ++ under rest
+under_copies base paths names units unit [] rest = refl
+under_copies base paths names units unit (r ∷ copies) rest = ap (λ k. inline_record base paths names units unit r ∷ k) (under_copies base paths names units unit copies rest)
 
 -- the FILE of a path's number has that path
 file_by : (k : ℕ) (path q : List ℕ) (paths : List (List ℕ)) (rest : List SymLine) (same : Bool) → bytes_eq q path ≡ same → ((same ≡ false) → option_map file_name (find (is_file (k + 1 + number_in paths path)) (file_lines (k + 1) paths ++ rest)) ≡ Some path) → option_map file_name (find (is_file (k + cond same 0 (number_in paths path + 1))) (file_lines k (q ∷ paths) ++ rest)) ≡ Some path
@@ -72,6 +86,34 @@ path_found front paths rest path none had =
     ap (λ o. option_map file_name o) (file_behind front (file_lines 0 paths ++ rest) (number_in paths path) none)
     ∙ ap (λ m. option_map file_name (find (is_file m) (file_lines 0 paths ++ rest))) (omega arith)
     ∙ file_at 0 path paths rest had
+
+-- the INLINE_ORIGIN of a name's number has that name
+origin_by : (k : ℕ) (name q : List ℕ) (names : List (List ℕ)) (rest : List SymLine) (same : Bool) → bytes_eq q name ≡ same → ((same ≡ false) → option_map origin_name (find (is_origin (k + 1 + number_in names name)) (origin_lines (k + 1) names ++ rest)) ≡ Some name) → option_map origin_name (find (is_origin (k + cond same 0 (number_in names name + 1))) (origin_lines k (q ∷ names) ++ rest)) ≡ Some name
+origin_by k name q names rest true is later =
+    let here : (k == (k + 0)) ≡ true = grind (arith, nat_tests) in
+    ap (λ b. option_map origin_name (if b then Some (Origin k q) else find (is_origin (k + 0)) (origin_lines (k + 1) names ++ rest))) here
+    ∙ ap Some ((bytes_eq-Decides q name).0 is)
+origin_by k name q names rest false is later =
+    let past : (k == (k + (number_in names name + 1))) ≡ false = grind (arith, nat_tests) in
+    ap (λ b. option_map origin_name (if b then Some (Origin k q) else find (is_origin (k + (number_in names name + 1))) (origin_lines (k + 1) names ++ rest))) past
+    ∙ ap (λ n. option_map origin_name (find (is_origin n) (origin_lines (k + 1) names ++ rest))) (omega arith)
+    ∙ later refl
+
+origin_at : (k : ℕ) (name : List ℕ) (names : List (List ℕ)) (rest : List SymLine) → list_any (bytes_eq name) names ≡ true → option_map origin_name (find (is_origin (k + number_in names name)) (origin_lines k names ++ rest)) ≡ Some name
+unfolding number_in
+origin_at k name [] rest had = cc
+origin_at k name (q ∷ names) rest had =
+    origin_by k name q names rest (bytes_eq q name) refl (λ other. origin_at (k + 1) name names rest (had_by name q names other had))
+
+files_no_origin : (k n : ℕ) (paths : List (List ℕ)) (rest : List SymLine) → find (is_origin n) (file_lines k paths ++ rest) ≡ find (is_origin n) rest
+files_no_origin k n [] rest = refl
+files_no_origin k n (path ∷ paths) rest = files_no_origin (k + 1) n paths rest
+
+origin_found : (front : List SymLine) (paths names : List (List ℕ)) (rest : List SymLine) (name : List ℕ) → HaveNoOrigin front → list_any (bytes_eq name) names ≡ true → text_origin (front ++ (file_lines 0 paths ++ (origin_lines 0 names ++ rest))) (number_in names name) ≡ Some name
+origin_found front paths names rest name none had =
+    ap (λ o. option_map origin_name o) (origin_behind front (file_lines 0 paths ++ (origin_lines 0 names ++ rest)) (number_in names name) none ∙ files_no_origin 0 (number_in names name) paths (origin_lines 0 names ++ rest))
+    ∙ ap (λ m. option_map origin_name (find (is_origin m) (origin_lines 0 names ++ rest))) (omega arith)
+    ∙ origin_at 0 name names rest had
 
 -- a record covers an address of the text just where its run has the address
 within_run : (base start end x : ℕ) → base ≤ start → start < end → is_within (start - base) (end - start) x ≡ (nat_le start (x + base) && nat_lt (x + base) end)
@@ -122,61 +164,56 @@ line_found base paths units unit low x records (r ∷ runs) above from apart =
     go false is = is
 
 -- behind a part no line record stands
-none_after : (base : ℕ) (paths : List (List ℕ)) (units : List UnitRead) (parts : List Part) (behind : List SymLine) → ArePlain behind → under (part_lines base paths units parts ++ behind) ≡ []
-none_after base paths units [] behind plain = none_under behind plain
-none_after base paths units (p ∷ parts) behind plain = refl
+none_after : (base : ℕ) (paths names : List (List ℕ)) (units : List UnitRead) (parts : List Part) (behind : List SymLine) → ArePlain behind → under (part_lines base paths names units parts ++ behind) ≡ []
+none_after base paths names units [] behind plain = none_under behind plain
+none_after base paths names units (p ∷ parts) behind plain = refl
 
-regroup : (base : ℕ) (paths : List (List ℕ)) (units : List UnitRead) (p : Part) (parts : List Part) (behind : List SymLine) → (map (line_record base paths units p.piece.unit) p.lines ++ part_lines base paths units parts) ++ behind ≡ map (line_record base paths units p.piece.unit) p.lines ++ (part_lines base paths units parts ++ behind)
-regroup base paths units p parts behind = append_assoc (map (line_record base paths units p.piece.unit) p.lines) (part_lines base paths units parts) behind
+-- what stands behind the record of a part
+abbrev after : ℕ → List (List ℕ) → List (List ℕ) → List UnitRead → Part → List Part → List SymLine → List SymLine
+after base paths names units p parts behind = (map (inline_record base paths names units p.piece.unit) p.copies ++ (map (line_record base paths units p.piece.unit) p.lines ++ part_lines base paths names units parts)) ++ behind
+
+regroup : (base : ℕ) (paths names : List (List ℕ)) (units : List UnitRead) (p : Part) (parts : List Part) (behind : List SymLine) → after base paths names units p parts behind ≡ map (inline_record base paths names units p.piece.unit) p.copies ++ (map (line_record base paths units p.piece.unit) p.lines ++ (part_lines base paths names units parts ++ behind))
+regroup base paths names units p parts behind =
+    append_assoc (map (inline_record base paths names units p.piece.unit) p.copies) (map (line_record base paths units p.piece.unit) p.lines ++ part_lines base paths names units parts) behind
+    ∙ ap (λ l. map (inline_record base paths names units p.piece.unit) p.copies ++ l) (append_assoc (map (line_record base paths units p.piece.unit) p.lines) (part_lines base paths names units parts) behind)
+
+under_part : (base : ℕ) (paths names : List (List ℕ)) (units : List UnitRead) (p : Part) (parts : List Part) (behind : List SymLine) → ArePlain behind → under (after base paths names units p parts behind) ≡ below base paths names units p
+under_part base paths names units p parts behind plain =
+    ap (λ l. under l) (regroup base paths names units p parts behind)
+    ∙ under_copies base paths names units p.piece.unit p.copies (map (line_record base paths units p.piece.unit) p.lines ++ (part_lines base paths names units parts ++ behind))
+    ∙ ap (λ l. map (inline_record base paths names units p.piece.unit) p.copies ++ l) (under_lines base paths units p.piece.unit p.lines (part_lines base paths names units parts ++ behind) (none_after base paths names units parts behind plain))
+
+func_after : (base : ℕ) (paths names : List (List ℕ)) (units : List UnitRead) (p : Part) (parts : List Part) (behind : List SymLine) (x : ℕ) → text_func (after base paths names units p parts behind) x ≡ text_func (part_lines base paths names units parts ++ behind) x
+func_after base paths names units p parts behind x =
+    ap (λ l. text_func l x) (regroup base paths names units p parts behind)
+    ∙ func_copies base paths names units p.piece.unit p.copies (map (line_record base paths units p.piece.unit) p.lines ++ (part_lines base paths names units parts ++ behind)) x
+    ∙ func_lines base paths units p.piece.unit p.lines (part_lines base paths names units parts ++ behind) x
 
 -- the line of an address where a unit's function owns it, with the path that its number finds
 abbrev numbered_at : List SymLine → List (List ℕ) → List UnitRead → ℕ → Option Place → Option (Option (List ℕ) × ℕ)
 numbered_at records paths units a None = None
 numbered_at records paths units a (Some p) = option_map (numbered records paths) (unit_line units p.unit a)
 
+-- the calls at an address where a function owns it
+abbrev calls_at : List UnitRead → ℕ → Option Place → List Call
+calls_at units a None = []
+calls_at units a (Some p) = map (call_in units) (entry_chain units p.unit p.entry a)
+
 abbrev place_name : List UnitRead → Place → List ℕ
 place_name units p = entry_name units p.unit p.entry
 
--- the FUNC that is found is the piece's, and under it stand its lines
+-- the FUNC that is found is the piece's, and under it stand its inlined copies and its lines
 record Shows (base : ℕ) (paths : List (List ℕ)) (units : List UnitRead) (records : List SymLine) (x : ℕ) (found : Option Found) (place : Option Place) : Type 0 where
   function : option_map (λ f. func_name f.func) found ≡ option_map (place_name units) place
+  chain : map (call_of records) (option_map_or (inlines_under x) found []) ≡ calls_at units (x + base) place
   line : option_map (path_and_line records) (option_and_then (line_under x) found) ≡ numbered_at records paths units (x + base) place
 
-part_shows : (base : ℕ) (paths : List (List ℕ)) (units : List UnitRead) (records : List SymLine) (x : ℕ) (p : Part) (parts : List Part) (behind : List SymLine) → ArePlain behind → base ≤ p.piece.start → AreLineRuns units p.piece p.lines → has (piece_run p.piece) (x + base) ≡ true
-    → Shows base paths units records x (Some (record { func = func_record base units p.piece; behind = (map (line_record base paths units p.piece.unit) p.lines ++ part_lines base paths units parts) ++ behind })) (Some (record { unit = p.piece.unit; entry = p.piece.entry }))
-part_shows base paths units records x p parts behind plain above runs here = record {
-  function = refl;
-  line =
-      let low : p.piece.start ≤ x + base = grind (arith, nat_tests) in
-      let high : x + base < p.piece.end = grind (arith, nat_tests) in
-      let lines : under ((map (line_record base paths units p.piece.unit) p.lines ++ part_lines base paths units parts) ++ behind) ≡ map (line_record base paths units p.piece.unit) p.lines
-      = ap (λ l. under l) (regroup base paths units p parts behind) ∙ under_lines base paths units p.piece.unit p.lines (part_lines base paths units parts ++ behind) (none_after base paths units parts behind plain) in
-      ap (λ l. option_map (path_and_line records) (find (is_line_at x) l)) lines
-      ∙ line_found base paths units p.piece.unit p.piece.start x records p.lines above (begin_all (unit_paths units p.piece.unit) p.piece.start p.piece.end (unit_line units p.piece.unit) p.lines (maximal _ (map (path_run (unit_paths units p.piece.unit)) p.lines) runs.paths)) runs.paths.apart
-      ∙ ap (λ o. option_map (numbered records paths) o) (runs.paths.values (x + base) ∙ between_in p.piece.start p.piece.end (x + base) (unit_line units p.piece.unit) low high);
-}
+-- the numbers of paths and names in the records of parts lead to them
+abbrev FindPaths : List SymLine → List (List ℕ) → List UnitRead → List Part → Type 0
+FindPaths records paths units parts = (path : List ℕ) → list_any (names_path units path) parts ≡ true → text_path records (number_in paths path) ≡ Some path
 
-none_shows : (base : ℕ) (paths : List (List ℕ)) (units : List UnitRead) (records : List SymLine) (x : ℕ) → Shows base paths units records x None None
-none_shows base paths units records x = record { function = refl; line = refl }
-
-abbrev part_runs : List Part → List (Run Place)
-part_runs parts = map piece_run (pieces_of parts)
-
-parts_show : (base : ℕ) (paths : List (List ℕ)) (units : List UnitRead) (records : List SymLine) (x : ℕ) (parts : List Part) (behind : List SymLine) → ArePlain behind → BeginAbove base (pieces_of parts) → AreLined units parts → AreRuns (part_runs parts) → Shows base paths units records x (text_func (part_lines base paths units parts ++ behind) x) (value_in (part_runs parts) (x + base))
-parts_show base paths units records x [] behind plain above are apart = rw (no_func behind x plain) (none_shows base paths units records x)
-parts_show base paths units records x (p ∷ parts) behind plain above are apart =
-    let later : text_func ((map (line_record base paths units p.piece.unit) p.lines ++ part_lines base paths units parts) ++ behind) x ≡ text_func (part_lines base paths units parts ++ behind) x
-    = ap (λ l. text_func l x) (regroup base paths units p parts behind) ∙ func_lines base paths units p.piece.unit p.lines (part_lines base paths units parts ++ behind) x in
-    rw (within_run base p.piece.start p.piece.end x above.0 apart.0)
-    (go (has (piece_run p.piece) (x + base)) refl (rw later (parts_show base paths units records x parts behind plain above.1 are.1 apart.2)))
-  where
-    go : (b : Bool) → has (piece_run p.piece) (x + base) ≡ b
-        → Shows base paths units records x (text_func ((map (line_record base paths units p.piece.unit) p.lines ++ part_lines base paths units parts) ++ behind) x) (value_in (part_runs parts) (x + base))
-        → Shows base paths units records x
-        (if b then Some (record { func = func_record base units p.piece; behind = (map (line_record base paths units p.piece.unit) p.lines ++ part_lines base paths units parts) ++ behind }) else text_func ((map (line_record base paths units p.piece.unit) p.lines ++ part_lines base paths units parts) ++ behind) x)
-        (if b then Some (record { unit = p.piece.unit; entry = p.piece.entry }) else value_in (part_runs parts) (x + base))
-    go true here is = part_shows base paths units records x p parts behind plain above.0 are.0 here
-    go false other is = is
+abbrev FindNames : List SymLine → List (List ℕ) → List UnitRead → List Part → Type 0
+FindNames records names units parts = (name : List ℕ) → list_any (names_origin units name) parts ≡ true → text_origin records (number_in names name) ≡ Some name
 
 or_right : (b c : Bool) → c ≡ true → (b || c) ≡ true
 or_right true c is = refl
@@ -185,6 +222,53 @@ or_right false c is = is
 or_left : (b c : Bool) → b ≡ true → (b || c) ≡ true
 or_left true c is = refl
 or_left false c is = absurd (cc)
+
+paths_here : (records : List SymLine) (paths : List (List ℕ)) (units : List UnitRead) (p : Part) (parts : List Part) → FindPaths records paths units (p ∷ parts) → HasPaths records paths units p.piece.unit p.copies
+paths_here records paths units p parts each path had =
+    each path (or_left (names_path units path p) (list_any (names_path units path) parts) (or_right (list_any (λ (r : LineRun). bytes_eq path (path_in units p.piece.unit r.path)) p.lines) (list_any (λ (r : InlineParts). bytes_eq path (call_path units p.piece.unit r.entry)) p.copies) had))
+
+names_here : (records : List SymLine) (names : List (List ℕ)) (units : List UnitRead) (p : Part) (parts : List Part) → FindNames records names units (p ∷ parts) → HasOrigins records names units p.piece.unit p.copies
+names_here records names units p parts each name had = each name (or_left (names_origin units name p) (list_any (names_origin units name) parts) had)
+
+part_shows : (base : ℕ) (paths names : List (List ℕ)) (units : List UnitRead) (records : List SymLine) (x : ℕ) (p : Part) (parts : List Part) (behind : List SymLine) → ArePlain behind → base ≤ p.piece.start → AreLined units (p ∷ parts) → AreInlined units (p ∷ parts) → FindPaths records paths units (p ∷ parts) → FindNames records names units (p ∷ parts) → has (piece_run p.piece) (x + base) ≡ true
+    → Shows base paths units records x (Some (record { func = func_record base units p.piece; behind = after base paths names units p parts behind })) (Some (record { unit = p.piece.unit; entry = p.piece.entry }))
+part_shows base paths names units records x p parts behind plain above lined inlined pathed named here =
+    let low : p.piece.start ≤ x + base = grind (arith, nat_tests) in
+    let high : x + base < p.piece.end = grind (arith, nat_tests) in
+    let own = under_part base paths names units p parts behind plain in
+    record {
+      function = refl;
+      chain = ap (λ l. map (call_of records) (inlines_from x 0 (level_count l) l)) own
+          ∙ part_calls base paths names units records x p above inlined.0 here (paths_here records paths units p parts pathed) (names_here records names units p parts named);
+      line =
+          ap (λ l. option_map (path_and_line records) (find (is_line_at x) l)) own
+          ∙ ap (option_map (path_and_line records)) (line_past base paths names units p.piece.unit x p.copies (map (line_record base paths units p.piece.unit) p.lines))
+          ∙ line_found base paths units p.piece.unit p.piece.start x records p.lines above (begin_all (unit_paths units p.piece.unit) p.piece.start p.piece.end (unit_line units p.piece.unit) p.lines (maximal _ (map (path_run (unit_paths units p.piece.unit)) p.lines) lined.0.paths)) lined.0.paths.apart
+          ∙ ap (λ o. option_map (numbered records paths) o) (lined.0.paths.values (x + base) ∙ between_in p.piece.start p.piece.end (x + base) (unit_line units p.piece.unit) low high);
+    }
+
+none_shows : (base : ℕ) (paths : List (List ℕ)) (units : List UnitRead) (records : List SymLine) (x : ℕ) → Shows base paths units records x None None
+none_shows base paths units records x = record { function = refl; chain = refl; line = refl }
+
+abbrev part_runs : List Part → List (Run Place)
+part_runs parts = map piece_run (pieces_of parts)
+
+parts_show : (base : ℕ) (paths names : List (List ℕ)) (units : List UnitRead) (records : List SymLine) (x : ℕ) (parts : List Part) (behind : List SymLine) → ArePlain behind → BeginAbove base (pieces_of parts) → AreLined units parts → AreInlined units parts → FindPaths records paths units parts → FindNames records names units parts → AreRuns (part_runs parts) → Shows base paths units records x (text_func (part_lines base paths names units parts ++ behind) x) (value_in (part_runs parts) (x + base))
+parts_show base paths names units records x [] behind plain above lined inlined pathed named apart = rw (no_func behind x plain) (none_shows base paths units records x)
+parts_show base paths names units records x (p ∷ parts) behind plain above lined inlined pathed named apart =
+    let later = func_after base paths names units p parts behind x in
+    rw (within_run base p.piece.start p.piece.end x above.0 apart.0)
+    (go (has (piece_run p.piece) (x + base)) refl (rw later (parts_show base paths names units records x parts behind plain above.1 lined.1 inlined.1
+    (λ path had. pathed path (or_right (names_path units path p) (list_any (names_path units path) parts) had))
+    (λ name had. named name (or_right (names_origin units name p) (list_any (names_origin units name) parts) had)) apart.2)))
+  where
+    go : (b : Bool) → has (piece_run p.piece) (x + base) ≡ b
+        → Shows base paths units records x (text_func (after base paths names units p parts behind) x) (value_in (part_runs parts) (x + base))
+        → Shows base paths units records x
+        (if b then Some (record { func = func_record base units p.piece; behind = after base paths names units p parts behind }) else text_func (after base paths names units p parts behind) x)
+        (if b then Some (record { unit = p.piece.unit; entry = p.piece.entry }) else value_in (part_runs parts) (x + base))
+    go true here is = part_shows base paths names units records x p parts behind plain above.0 lined inlined pathed named here
+    go false other is = is
 
 -- the path of a line that is found is named
 run_named : (units : List UnitRead) (unit a : ℕ) (m : List ℕ × ℕ) (runs : List LineRun) → value_in (map (path_run (unit_paths units unit)) runs) a ≡ Some m → list_any (λ (r : LineRun). bytes_eq m.0 (path_in units unit r.path)) runs ≡ true
@@ -210,7 +294,8 @@ part_named units a place m (p ∷ parts) are is line =
         let high : a < p.piece.end = grind (arith, nat_tests) in
         let unit : place.unit ≡ p.piece.unit = ap (λ (q : Place). q.unit) same in
         let there : unit_line units p.piece.unit a ≡ Some m = ap (λ u. unit_line units u a) (sym unit) ∙ line in
-        run_named units p.piece.unit a m p.lines (are.0.paths.values a ∙ between_in p.piece.start p.piece.end a (unit_line units p.piece.unit) low high ∙ there)
+        or_left (list_any (λ (r : LineRun). bytes_eq m.0 (path_in units p.piece.unit r.path)) p.lines) (list_any (λ (r : InlineParts). bytes_eq m.0 (call_path units p.piece.unit r.entry)) p.copies)
+        (run_named units p.piece.unit a m p.lines (are.0.paths.values a ∙ between_in p.piece.start p.piece.end a (unit_line units p.piece.unit) low high ∙ there))
 
     go : (b : Bool) → has (piece_run p.piece) a ≡ b → (if b then Some (record { unit = p.piece.unit; entry = p.piece.entry }) else value_in (part_runs parts) a) ≡ Some place
         → (value_in (part_runs parts) a ≡ Some place → list_any (names_path units m.0) parts ≡ true)
@@ -234,24 +319,41 @@ name_by_owner : (units : List UnitRead) (o : Option Covering) → option_map (pl
 name_by_owner units None = refl
 name_by_owner units (Some c) = refl
 
--- in a text with the records of functions, among others that are none, a look-up names the owner and the line of each address
-pub all_named : (base : ℕ) (units : List UnitRead) (pieces : List Piece) (front records behind : List SymLine) → ArePieces units pieces → BeginAbove base pieces → AreFuncRecords base units pieces records → ArePlain front → HaveNoFile front → ArePlain behind → (x : ℕ) → Names base units (front ++ (records ++ behind)) x
-unfolding text_owner text_line owner_place line
-all_named base units pieces front records behind pieced above are plain none after x =
+-- the chain of an address by its owner
+chain_same : (c : Covering) (a : ℕ) (o : Option UnitRead) → chain_by c.unit c.entry a o ≡ chain_in a c o
+chain_same c a None = refl
+chain_same c a (Some part) = refl
+
+chain_by_owner : (units : List UnitRead) (a : ℕ) (o : Option Covering) → calls_at units a (option_map place_of o) ≡ map (call_in units) (chain_under units a o)
+unfolding entry_chain
+chain_by_owner units a None = refl
+chain_by_owner units a (Some c) = ap (map (call_in units)) (chain_same c a (slice_get units c.unit))
+
+-- in a text with the records of functions, among others that are none, a look-up names the owner, the inlined copies and the line of
+-- each address
+pub all_named : (base : ℕ) (units : List UnitRead) (pieces : List Piece) (front records behind : List SymLine) → ArePieces units pieces → BeginAbove base pieces → AreFuncRecords base units pieces records → ArePlain front → HaveNoFile front → HaveNoOrigin front → ArePlain behind → (x : ℕ) → Names base units (front ++ (records ++ behind)) x
+unfolding text_owner text_chain text_line owner_place chain line
+all_named base units pieces front records behind pieced above are plain no_file no_origin last x =
     let parts = are.parts in
     let paths = are.paths in
-    let all : List SymLine = front ++ (file_lines 0 paths ++ (part_lines base paths units parts ++ behind)) in
-    let same : front ++ (records ++ behind) ≡ all = ap (λ (r : List SymLine). front ++ (r ++ behind)) are.whole ∙ ap (λ (r : List SymLine). front ++ r) (append_assoc (file_lines 0 paths) (part_lines base paths units parts) behind) in
-    let found : text_func all x ≡ text_func (part_lines base paths units parts ++ behind) x = func_behind front (file_lines 0 paths ++ (part_lines base paths units parts ++ behind)) x plain ∙ func_files 0 paths (part_lines base paths units parts ++ behind) x in
+    let names = are.names in
+    let functions : List SymLine = part_lines base paths names units parts ++ behind in
+    let all : List SymLine = front ++ (file_lines 0 paths ++ (origin_lines 0 names ++ functions)) in
+    let same : front ++ (records ++ behind) ≡ all
+    = ap (λ (r : List SymLine). front ++ (r ++ behind)) are.whole
+    ∙ ap (λ (r : List SymLine). front ++ r) (append_assoc (file_lines 0 paths) (origin_lines 0 names ++ part_lines base paths names units parts) behind
+    ∙ ap (λ (r : List SymLine). file_lines 0 paths ++ r) (append_assoc (origin_lines 0 names) (part_lines base paths names units parts) behind)) in
+    let found : text_func all x ≡ text_func functions x = func_behind front (file_lines 0 paths ++ (origin_lines 0 names ++ functions)) x plain ∙ func_files 0 paths (origin_lines 0 names ++ functions) x ∙ func_origins 0 names functions x in
     let runs : part_runs parts ≡ map piece_run pieces = ap (λ (ps : List Piece). map piece_run ps) are.pieces_are in
     let apart : AreRuns (part_runs parts) = rw runs pieced.runs.apart in
     let value : value_in (part_runs parts) (x + base) ≡ owner_place units (x + base) = ap (λ (rs : List (Run Place)). value_in rs (x + base)) runs ∙ pieced.runs.values (x + base) in
     let high : BeginAbove base (pieces_of parts) = rw are.pieces_are above in
-    let shows = parts_show base paths units all x parts behind after high are.lines_are apart in
-    let path : (path : List ℕ) → list_any (names_path units path) parts ≡ true → text_path all (number_in paths path) ≡ Some path
-    = λ path named. path_found front paths (part_lines base paths units parts ++ behind) path none (are.used.same path ∙ named) in
+    let path : FindPaths all paths units parts = λ path named. path_found front paths (origin_lines 0 names ++ functions) path no_file (are.used.same path ∙ named) in
+    let name : FindNames all names units parts = λ name named. origin_found front paths names functions name no_origin (are.origins.same name ∙ named) in
+    let shows = parts_show base paths names units all x parts behind last high are.lines_are are.inlined path name apart in
     rw same (record {
       function = ap (λ f. option_map (λ g. func_name g.func) f) found ∙ shows.function ∙ ap (option_map (place_name units)) value ∙ name_by_owner units (owner units (x + base));
+      chain = ap (λ f. map (call_of all) (option_map_or (inlines_under x) f [])) found ∙ shows.chain ∙ ap (calls_at units (x + base)) value ∙ chain_by_owner units (x + base) (owner units (x + base));
       line = ap (λ f. option_map (path_and_line all) (option_and_then (line_under x) f)) found ∙ shows.line ∙ ap (numbered_at all paths units (x + base)) value
           ∙ line_by_owner all paths units (x + base) (owner units (x + base)) (λ p is m lined.
           path m.0 (part_named units (x + base) p m parts are.lines_are (value ∙ is) lined));

@@ -1,11 +1,12 @@
 -- What a text with these records names at each address.
-use Rattle.std.specs.Prelude.{◌≡◌, ℕ, ◌+◌, List, Option, Some}
+use Rattle.std.specs.Prelude.{◌≡◌, ℕ, ◌+◌, List, map, Option, Some}
 use Rattle.std.specs.Option.{option_map}
 use Rattle.sym_records.specs.declared.line.SymLine.{SymLine}
-use Rattle.sym_lookup.specs.TextNames.{text_owner, text_line}
+use Rattle.sym_lookup.specs.TextNames.{text_owner, text_line, Call, text_chain}
 use Rattle.die_names.specs.declared.unit_read.UnitRead.{UnitRead}
 use Rattle.die_names.specs.Names.{entry_name}
-use Rattle.die_names.specs.Owners.{Covering, owner, line}
+use Rattle.die_names.specs.Owners.{Covering, owner, chain, line}
+use Rattle.func_records.specs.FuncRecords.{path_of_call}
 
 abbrev pub name_of : List UnitRead → Covering → List ℕ
 name_of units c = entry_name units c.unit c.entry
@@ -14,8 +15,14 @@ name_of units c = entry_name units c.unit c.entry
 abbrev pub found_line : List ℕ × ℕ → Option (List ℕ) × ℕ
 found_line at = (Some at.0, at.1)
 
+-- what is said of the call of an inlined copy: the name of the function that was called, path and line of the call
+abbrev pub call_in : List UnitRead → Covering → Call
+call_in units c = record { name = Some (entry_name units c.unit c.entry); path = Some (path_of_call units c.unit c.die); line = c.die.call_line }
+
 -- at an address of the text the first FUNC that covers it has the name of the function that owns the address in the file, and none
--- covers it where none owns it; the line record has the path and the line of the address, and there is none where it has none
+-- covers it where none owns it; the INLINE records give the calls of the address's chain, by INLINE_ORIGIN and FILE records that are
+-- there; the line record has the path and the line of the address, and there is none where it has none
 pub record Names (base : ℕ) (units : List UnitRead) (lines : List SymLine) (x : ℕ) : Type 0 where
   pub function : text_owner lines x ≡ option_map (name_of units) (owner units (x + base))
+  pub chain : text_chain lines x ≡ map (call_in units) (chain units (x + base))
   pub line : text_line lines x ≡ option_map found_line (line units (x + base))

@@ -3,8 +3,8 @@ use Rattle.std.proofs.Common.{◌≡◌, ℕ, List, [], ◌∷◌, ◌++◌, ref
 use Rattle.std.specs.List.{find}
 use Rattle.sym_records.specs.declared.line.SymLine.{SymLine}
 use Rattle.sym_records.specs.declared.line.SymLine.TheVariants.{Module, Info, File, Origin, Func, Inline, Line, Public, Init, Change}
-use Rattle.sym_lookup.specs.Plain.{ArePlain, HaveNoFile}
-use Rattle.sym_lookup.specs.TextNames.{under, text_func, is_file}
+use Rattle.sym_lookup.specs.Plain.{ArePlain, HaveNoFile, HaveNoOrigin}
+use Rattle.sym_lookup.specs.TextNames.{under, text_func, is_file, is_origin}
 
 -- plain records in front are passed over
 pub func_behind : (front rest : List SymLine) (x : ℕ) → ArePlain front → text_func (front ++ rest) x ≡ text_func rest x
@@ -47,3 +47,17 @@ file_behind (Line address size line file ∷ front) rest n none = file_behind fr
 file_behind (Public many address params name ∷ front) rest n none = file_behind front rest n none.1
 file_behind (Init address size rules ∷ front) rest n none = file_behind front rest n none.1
 file_behind (Change address rules ∷ front) rest n none = file_behind front rest n none.1
+
+-- other records in front of an INLINE_ORIGIN are passed over
+pub origin_behind : (front rest : List SymLine) (n : ℕ) → HaveNoOrigin front → find (is_origin n) (front ++ rest) ≡ find (is_origin n) rest
+origin_behind [] rest n none = refl
+origin_behind (Module binary ∷ front) rest n none = origin_behind front rest n none.1
+origin_behind (Info text ∷ front) rest n none = origin_behind front rest n none.1
+origin_behind (File number name ∷ front) rest n none = origin_behind front rest n none.1
+origin_behind (Origin number name ∷ front) rest n none = absurd none.0
+origin_behind (Func many address size params name ∷ front) rest n none = origin_behind front rest n none.1
+origin_behind (Inline level line file origin ranges ∷ front) rest n none = origin_behind front rest n none.1
+origin_behind (Line address size line file ∷ front) rest n none = origin_behind front rest n none.1
+origin_behind (Public many address params name ∷ front) rest n none = origin_behind front rest n none.1
+origin_behind (Init address size rules ∷ front) rest n none = origin_behind front rest n none.1
+origin_behind (Change address rules ∷ front) rest n none = origin_behind front rest n none.1

@@ -1,8 +1,8 @@
--- Worked rows: the function and the line of an address in a text.
+-- Worked rows: the function, the inlined copies and the line of an address in a text.
 use Rattle.std.proofs.Common.{◌≡◌, List, [], ◌∷◌, Some, None, codes, true, false, refl}
 use Rattle.sym_records.specs.declared.line.SymLine.{SymLine}
-use Rattle.sym_records.specs.declared.line.SymLine.TheVariants.{File, Func, Inline, Line, Public}
-use Rattle.sym_lookup.specs.TextNames.{text_owner, text_line}
+use Rattle.sym_records.specs.declared.line.SymLine.TheVariants.{File, Origin, Func, Inline, Line, Public}
+use Rattle.sym_lookup.specs.TextNames.{text_owner, text_line, Call, text_chain}
 
 -- two functions that overlap, the first with an INLINE and two line records
 unfoldable text : List SymLine
@@ -49,3 +49,63 @@ line_of_the_second = refl
 own_line_of_the_second : text_line text 0x30 ≡ Some (Some (codes "a.c"), 7)
 unfolding text text_line
 own_line_of_the_second = refl
+
+-- a function with inlined copies at two levels: two of level 0 that overlap, and copies of level 1 inside and outside of them
+unfoldable inlined : List SymLine
+inlined =
+    File 0 (codes "a.c")
+    ∷ File 1 (codes "b.h")
+    ∷ Origin 0 (codes "in")
+    ∷ Origin 1 (codes "deep")
+    ∷ Func false 0x10 0x40 0 (codes "f")
+    ∷ Inline 0 5 0 0 (record { address = 0x14; size = 4 } ∷ record { address = 0x20; size = 8 } ∷ [])
+    ∷ Inline 0 6 2 7 (record { address = 0x24; size = 8 } ∷ [])
+    ∷ Inline 1 7 1 1 (record { address = 0x22; size = 4 } ∷ record { address = 0x30; size = 4 } ∷ [])
+    ∷ Line 0x10 0x40 3 0
+    ∷ Func false 0x50 0x10 0 (codes "g")
+    ∷ Inline 0 8 0 0 (record { address = 0x10; size = 0x50 } ∷ [])
+    ∷ []
+
+abbrev first_call : Call
+first_call = record { name = Some (codes "in"); path = Some (codes "a.c"); line = 5 }
+
+abbrev deep_call : Call
+deep_call = record { name = Some (codes "deep"); path = Some (codes "b.h"); line = 7 }
+
+-- the end of a range is not covered
+one_level : text_chain inlined 0x17 ≡ first_call ∷ []
+unfolding inlined text_chain
+one_level = refl
+
+behind_the_range : text_chain inlined 0x18 ≡ []
+unfolding inlined text_chain
+behind_the_range = refl
+
+-- the outermost call first
+two_levels : text_chain inlined 0x22 ≡ first_call ∷ deep_call ∷ []
+unfolding inlined text_chain
+two_levels = refl
+
+-- of two at one level that cover the address the first counts
+first_of_two : text_chain inlined 0x25 ≡ first_call ∷ deep_call ∷ []
+unfolding inlined text_chain
+first_of_two = refl
+
+-- an INLINE whose INLINE_ORIGIN and FILE are not there
+without_names : text_chain inlined 0x2b ≡ record { name = None; path = None; line = 6 } ∷ []
+unfolding inlined text_chain
+without_names = refl
+
+-- level 1 covers the address, and level 0 does not
+level_without_its_outer : text_chain inlined 0x30 ≡ []
+unfolding inlined text_chain
+level_without_its_outer = refl
+
+-- the INLINE records of the first FUNC alone are asked
+inlined_in_another : text_chain inlined 0x11 ≡ []
+unfolding inlined text_chain
+inlined_in_another = refl
+
+behind_all : text_chain inlined 0x60 ≡ []
+unfolding inlined text_chain
+behind_all = refl

@@ -1,7 +1,7 @@
--- Records that a look-up of functions and lines passes over.
+-- Records that a look-up of functions, inlined copies and lines passes over.
 use Rattle.std.specs.Prelude.{List, [], ◌∷◌}
 use Rattle.sym_records.specs.declared.line.SymLine.{SymLine}
-use Rattle.sym_records.specs.declared.line.SymLine.TheVariants.{File, Func, Inline, Line}
+use Rattle.sym_records.specs.declared.line.SymLine.TheVariants.{File, Origin, Func, Inline, Line}
 
 -- records that are no FUNC, and nothing that stands under one
 abbrev pub IsPlain : SymLine → Type 0
@@ -22,3 +22,12 @@ IsNoFile _ = Prim.Unit {0}
 abbrev pub HaveNoFile : List SymLine → Type 0
 HaveNoFile [] = Prim.Unit {0}
 HaveNoFile (s ∷ lines) = IsNoFile s × HaveNoFile lines
+
+-- records that are no INLINE_ORIGIN
+abbrev pub IsNoOrigin : SymLine → Type 0
+IsNoOrigin (Origin number name) = ⊥
+IsNoOrigin _ = Prim.Unit {0}
+
+abbrev pub HaveNoOrigin : List SymLine → Type 0
+HaveNoOrigin [] = Prim.Unit {0}
+HaveNoOrigin (s ∷ lines) = IsNoOrigin s × HaveNoOrigin lines

@@ -1,9 +1,10 @@
--- What a look-up in a symbol file names (Breakpad's symbol_files.md): the function and the line of an address.
-use Rattle.std.specs.Prelude.{ℕ, ◌+◌, Bool, false, ◌&&◌, ◌==◌, nat_le, nat_lt, if◌then◌else◌, List, [], ◌∷◌, Option, None, Some}
-use Rattle.std.specs.List.{find}
-use Rattle.std.specs.Option.{option_map, option_and_then}
+-- What a look-up in a symbol file names (Breakpad's symbol_files.md): the function, the inlined copies and the line of an address.
+use Rattle.std.specs.Prelude.{ℕ, zero, suc, ◌+◌, Bool, false, ◌&&◌, ◌==◌, nat_le, nat_lt, max, if◌then◌else◌, map, List, [], ◌∷◌, Option, None, Some}
+use Rattle.std.specs.List.{find, list_any}
+use Rattle.std.specs.Option.{option_map, option_map_or, option_and_then}
+use Rattle.sym_records.specs.declared.line.Extent.{Extent}
 use Rattle.sym_records.specs.declared.line.SymLine.{SymLine}
-use Rattle.sym_records.specs.declared.line.SymLine.TheVariants.{File, Func, Inline, Line}
+use Rattle.sym_records.specs.declared.line.SymLine.TheVariants.{File, Origin, Func, Inline, Line}
 
 -- whether the address is one of `size` addresses from a first one on
 abbrev pub is_within : ℕ → ℕ → ℕ → Bool
@@ -68,3 +69,50 @@ line_under x f = find (is_line_at x) (under f.behind)
 -- path and line of the first line record that covers the address, under the first FUNC that does
 unfoldable pub text_line : List SymLine → ℕ → Option (Option (List ℕ) × ℕ)
 text_line lines x = option_map (path_and_line lines) (option_and_then (line_under x) (text_func lines x))
+
+-- whether it is an INLINE of a level that covers the address by one of its ranges
+abbrev pub is_inline_at : ℕ → ℕ → SymLine → Bool
+is_inline_at level x (Inline own line file origin ranges) = (own == level) && list_any (λ (r : Extent). is_within r.address r.size x) ranges
+is_inline_at level x _ = false
+
+abbrev pub is_origin : ℕ → SymLine → Bool
+is_origin n (Origin number name) = number == n
+is_origin n _ = false
+
+abbrev pub origin_name : SymLine → List ℕ
+origin_name (Origin number name) = name
+origin_name _ = []
+
+-- the name of the first INLINE_ORIGIN of that number
+abbrev pub text_origin : List SymLine → ℕ → Option (List ℕ)
+text_origin lines n = option_map origin_name (find (is_origin n) lines)
+
+-- a call that was inlined: the name of the function, and path and line of the call
+pub record Call : Type 0 where
+  pub name : Option (List ℕ)
+  pub path : Option (List ℕ)
+  pub line : ℕ
+
+-- what an INLINE says: the name of its INLINE_ORIGIN and the path of its FILE, where these are there, and the line
+abbrev pub call_of : List SymLine → SymLine → Call
+call_of lines (Inline level line file origin ranges) = record { name = text_origin lines origin; path = text_path lines file; line = line }
+call_of lines _ = record { name = None; path = None; line = 0 }
+
+-- how many levels INLINE records have: one more than the highest
+abbrev pub level_count : List SymLine → ℕ
+level_count [] = 0
+level_count (Inline level line file origin ranges ∷ lines) = max (level + 1) (level_count lines)
+level_count (_ ∷ lines) = level_count lines
+
+-- at each of so many levels, from one on, the first of some INLINE records that covers the address; it ends at a level that has none
+abbrev pub inlines_from : ℕ → ℕ → ℕ → List SymLine → List SymLine
+inlines_from x level zero records = []
+inlines_from x level (suc levels) records = option_map_or (λ s. s ∷ inlines_from x (level + 1) levels records) (find (is_inline_at level x) records) []
+
+-- the INLINE records under a FUNC that cover the address, from level 0 on
+abbrev pub inlines_under : ℕ → Found → List SymLine
+inlines_under x f = inlines_from x 0 (level_count (under f.behind)) (under f.behind)
+
+-- the calls at the address, the outermost first: what the INLINE records say that cover it, under the first FUNC that does
+unfoldable pub text_chain : List SymLine → ℕ → List Call
+text_chain lines x = map (call_of lines) (option_map_or (inlines_under x) (text_func lines x) [])
