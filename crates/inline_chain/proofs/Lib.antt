@@ -9,3 +9,5 @@ pub mod PartLemmas
 pub mod GroupLemmas
 pub mod OrderLemmas
 pub mod RunLemmas
+pub mod Computing
+mod WorkedChains
