@@ -9,5 +9,6 @@ pub mod PartLemmas
 pub mod GroupLemmas
 pub mod OrderLemmas
 pub mod RunLemmas
+pub mod LawLemmas
 pub mod Computing
 mod WorkedChains

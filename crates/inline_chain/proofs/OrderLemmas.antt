@@ -16,23 +16,24 @@ use Rattle.inline_chain.specs.Levels.{AreOfLevel, Rising}
 abbrev key : InlineParts → ℕ
 key r = first_address r.spans
 
--- the first addresses rise, from a lowest one on
-abbrev KeysFrom : ℕ → List InlineParts → Type 0
-KeysFrom low [] = Prim.Unit {0}
-KeysFrom low (r ∷ runs) = (low ≤ key r) × KeysFrom (key r) runs
+-- numbers of the records rise, from a lowest one on
+abbrev pub RiseBy : (InlineParts → ℕ) → ℕ → List InlineParts → Type 0
+RiseBy n low [] = Prim.Unit {0}
+RiseBy n low (r ∷ runs) = (low ≤ n r) × RiseBy n (n r) runs
 
-abbrev of_key : ℕ → List InlineParts → List InlineParts
-of_key v runs = filter (λ r. key r == v) runs
+-- those of a number
+abbrev pub of_number : (InlineParts → ℕ) → ℕ → List InlineParts → List InlineParts
+of_number n v runs = filter (λ r. n r == v) runs
 
-keys_none : (low v : ℕ) (runs : List InlineParts) → KeysFrom low runs → v < low → of_key v runs ≡ []
-keys_none low v [] keys below = refl
-keys_none low v (r ∷ runs) keys below = cond-false _ _ _ (ne_eqb (key r) v (λ (e : key r ≡ v). absurd (omega (arith, keys.0)))) ∙ keys_none (key r) v runs keys.1 (omega (arith, keys.0))
+none_of : (n : InlineParts → ℕ) (low v : ℕ) (runs : List InlineParts) → RiseBy n low runs → v < low → of_number n v runs ≡ []
+none_of n low v [] rise below = refl
+none_of n low v (r ∷ runs) rise below = cond-false _ _ _ (ne_eqb (n r) v (λ (e : n r ≡ v). absurd (omega (arith, rise.0)))) ∙ none_of n (n r) v runs rise.1 (omega (arith, rise.0))
 
-first_kept : (r : InlineParts) (runs : List InlineParts) → of_key (key r) (r ∷ runs) ≡ r ∷ of_key (key r) runs
-first_kept r runs = cond-true _ _ _ (eq-eqb (key r) (key r) refl)
+first_kept : (n : InlineParts → ℕ) (r : InlineParts) (runs : List InlineParts) → of_number n (n r) (r ∷ runs) ≡ r ∷ of_number n (n r) runs
+first_kept n r runs = cond-true _ _ _ (eq-eqb (n r) (n r) refl)
 
-some_left : (r : InlineParts) (runs others : List InlineParts) → of_key (key r) (r ∷ runs) ≡ others → others ≡ [] → ⊥
-some_left r runs others is none = (let e : r ∷ of_key (key r) runs ≡ [] = sym (first_kept r runs) ∙ is ∙ none in cc)
+some_left : (n : InlineParts → ℕ) (r : InlineParts) (runs others : List InlineParts) → of_number n (n r) (r ∷ runs) ≡ others → others ≡ [] → ⊥
+some_left n r runs others is none = (let e : r ∷ of_number n (n r) runs ≡ [] = sym (first_kept n r runs) ∙ is ∙ none in cc)
 
 cons_first : (x y : InlineParts) (xs ys : List InlineParts) → x ∷ xs ≡ y ∷ ys → x ≡ y
 cons_first x y xs ys is = cc
@@ -40,29 +41,29 @@ cons_first x y xs ys is = cc
 cons_rest : (x y : InlineParts) (xs ys : List InlineParts) → x ∷ xs ≡ y ∷ ys → xs ≡ ys
 cons_rest x y xs ys is = cc
 
--- a list in this order is known by those of each first address
-one_order : (low high : ℕ) (xs ys : List InlineParts) → KeysFrom low xs → KeysFrom high ys → ((v : ℕ) → of_key v xs ≡ of_key v ys) → xs ≡ ys
-one_order low high [] [] p q same = refl
-one_order low high [] (y ∷ ys) p q same = absurd (some_left y ys [] (sym (same (key y))) refl)
-one_order low high (x ∷ xs) [] p q same = absurd (some_left x xs [] (same (key x)) refl)
-one_order low high (x ∷ xs) (y ∷ ys) p q same = elim (cases_lt (key x) (key y)) [
-  | inl less ↦ absurd (some_left x xs _ (same (key x)) (keys_none (key y) (key x) (y ∷ ys) (omega arith, q.1) less))
-  | inr from ↦ elim (cases_lt (key y) (key x)) [
-    | inl less ↦ absurd (some_left y ys _ (sym (same (key y))) (keys_none (key x) (key y) (x ∷ xs) (omega arith, p.1) less))
+-- a list in this order is known by those of each number
+pub one_order : (n : InlineParts → ℕ) (low high : ℕ) (xs ys : List InlineParts) → RiseBy n low xs → RiseBy n high ys → ((v : ℕ) → of_number n v xs ≡ of_number n v ys) → xs ≡ ys
+one_order n low high [] [] p q same = refl
+one_order n low high [] (y ∷ ys) p q same = absurd (some_left n y ys [] (sym (same (n y))) refl)
+one_order n low high (x ∷ xs) [] p q same = absurd (some_left n x xs [] (same (n x)) refl)
+one_order n low high (x ∷ xs) (y ∷ ys) p q same = elim (cases_lt (n x) (n y)) [
+  | inl less ↦ absurd (some_left n x xs _ (same (n x)) (none_of n (n y) (n x) (y ∷ ys) (omega arith, q.1) less))
+  | inr from ↦ elim (cases_lt (n y) (n x)) [
+    | inl less ↦ absurd (some_left n y ys _ (sym (same (n y))) (none_of n (n x) (n y) (x ∷ xs) (omega arith, p.1) less))
     | inr to ↦
-        let keys : key x ≡ key y = omega arith in
-        let fronts : x ∷ of_key (key x) xs ≡ y ∷ of_key (key y) ys = sym (first_kept x xs) ∙ same (key x) ∙ ap (λ v. of_key v (y ∷ ys)) keys ∙ first_kept y ys in
-        (λ i. (cons_first x y _ _ fronts) i ∷ (one_order (key x) (key y) xs ys p.1 q.1 (λ v. tail_same v keys fronts (same v))) i)
+        let numbers : n x ≡ n y = omega arith in
+        let fronts : x ∷ of_number n (n x) xs ≡ y ∷ of_number n (n y) ys = sym (first_kept n x xs) ∙ same (n x) ∙ ap (λ v. of_number n v (y ∷ ys)) numbers ∙ first_kept n y ys in
+        (λ i. (cons_first x y _ _ fronts) i ∷ (one_order n (n x) (n y) xs ys p.1 q.1 (λ v. tail_same v numbers fronts (same v))) i)
   ]
-]
+  ]
   where
-    tail_same : (v : ℕ) → key x ≡ key y → x ∷ of_key (key x) xs ≡ y ∷ of_key (key y) ys → of_key v (x ∷ xs) ≡ of_key v (y ∷ ys) → of_key v xs ≡ of_key v ys
-    tail_same v keys fronts both = elim (eqb_tells (key x) v) [
-      | inl is ↦ ap (λ n. of_key n xs) (sym is.1) ∙ cons_rest x y _ _ fronts ∙ ap (λ n. of_key n ys) (sym keys ∙ is.1)
-      | inr is ↦ sym (cond-false _ _ _ is.0) ∙ both ∙ cond-false _ _ _ (ne_eqb (key y) v (λ (e : key y ≡ v). is.1 (keys ∙ e)))
+    tail_same : (v : ℕ) → n x ≡ n y → x ∷ of_number n (n x) xs ≡ y ∷ of_number n (n y) ys → of_number n v (x ∷ xs) ≡ of_number n v (y ∷ ys) → of_number n v xs ≡ of_number n v ys
+    tail_same v numbers fronts both = elim (eqb_tells (n x) v) [
+      | inl is ↦ ap (λ m. of_number n m xs) (sym is.1) ∙ cons_rest x y _ _ fronts ∙ ap (λ m. of_number n m ys) (sym numbers ∙ is.1)
+      | inr is ↦ sym (cond-false _ _ _ is.0) ∙ both ∙ cond-false _ _ _ (ne_eqb (n y) v (λ (e : n y ≡ v). is.1 (numbers ∙ e)))
     ]
 
-filter_swap : (p q : InlineParts → Bool) (runs : List InlineParts) → filter p (filter q runs) ≡ filter q (filter p runs)
+pub filter_swap : (p q : InlineParts → Bool) (runs : List InlineParts) → filter p (filter q runs) ≡ filter q (filter p runs)
 filter_swap p q [] = refl
 filter_swap p q (r ∷ runs) = go (p r) (q r) refl refl (filter_swap p q runs)
   where
@@ -72,19 +73,19 @@ filter_swap p q (r ∷ runs) = go (p r) (q r) refl refl (filter_swap p q runs)
     go false true pr qr later = cond-false _ _ _ pr ∙ later
     go false false pr qr later = later
 
-keys_by : (low : ℕ) (runs : List InlineParts) → IsNonDecreasingBy key runs → (0 < length runs → (d : InlineParts) → low ≤ key (get_or runs 0 d)) → KeysFrom low runs
+keys_by : (low : ℕ) (runs : List InlineParts) → IsNonDecreasingBy key runs → (0 < length runs → (d : InlineParts) → low ≤ key (get_or runs 0 d)) → RiseBy key low runs
 keys_by low [] rises first = tt
 keys_by low (r ∷ runs) rises first =
     (first (omega arith) r, keys_by (key r) runs (λ i j d up h. rises (suc i) (suc j) d (omega arith) (omega arith)) (λ some d. rises 0 1 d (omega arith) (omega arith)))
 
-keys_of : (runs : List InlineParts) → IsNonDecreasingBy key runs → KeysFrom 0 runs
+keys_of : (runs : List InlineParts) → IsNonDecreasingBy key runs → RiseBy key 0 runs
 keys_of runs rises = keys_by 0 runs rises (λ some d. omega arith)
 
 tie_is : (v w : ℕ) → (not (is_lt (nat_cmp v w)) && not (is_lt (nat_cmp w v))) ≡ (w == v)
 tie_is v w = grind (arith, nat_tests)
 
 -- a stable sort keeps those of each first address in their order
-same_keys : (xs ys : List InlineParts) → IsStableByKey key nat_cmp xs ys → (v : ℕ) → of_key v ys ≡ of_key v xs
+same_keys : (xs ys : List InlineParts) → IsStableByKey key nat_cmp xs ys → (v : ℕ) → of_number key v ys ≡ of_number key v xs
 same_keys xs ys stable v =
     let tied : InlineParts = record { level = 0; entry = 0; spans = record { start = v; end = v } ∷ [] } in
     sym (filter_agree (ties (λ (r s : InlineParts). is_lt (nat_cmp (key r) (key s))) tied) (λ r. key r == v) (λ r. tie_is v (key r)) ys)
@@ -94,7 +95,7 @@ same_keys xs ys stable v =
 pub sorted_spans : (level : ℕ) (xs ys : List InlineParts) → Rising level xs → IsNonDecreasingBy key ys → IsStableByKey key nat_cmp xs ys → (x : ℕ) → spans_of level x ys ≡ spans_of level x xs
 sorted_spans level xs ys rising sorted stable x =
     ap (map (λ (r : InlineParts). r.spans))
-    (one_order 0 0 (filter (is_of level x) ys) (filter (is_of level x) xs) (keys_of _ (IsNonDecreasingBy-filter key (is_of level x) ys sorted)) (keys_of _ (rising x))
+    (one_order key 0 0 (filter (is_of level x) ys) (filter (is_of level x) xs) (keys_of _ (IsNonDecreasingBy-filter key (is_of level x) ys sorted)) (keys_of _ (rising x))
     (λ v. filter_swap (λ r. key r == v) (is_of level x) ys ∙ ap (filter (is_of level x)) (same_keys xs ys stable v) ∙ filter_swap (is_of level x) (λ r. key r == v) xs))
 
 all_level : (level : ℕ) (runs : List InlineParts) → AreOfLevel level runs → AllByRecursion (λ (r : InlineParts). r.level ≡ level) runs
@@ -108,7 +109,7 @@ level_all level (r ∷ runs) are = (are.0, level_all level runs are.1)
 pub sorted_level : (level : ℕ) (xs ys : List InlineParts) → IsPermutation xs ys → AreOfLevel level xs → AreOfLevel level ys
 sorted_level level xs ys moved are = level_all level ys (all_shuffled (λ (r : InlineParts). r.level ≡ level) xs ys moved (all_level level xs are))
 
-all_before : (low level : ℕ) (r : InlineParts) (runs : List InlineParts) → KeysFrom low runs → key r ≤ low → r.level ≡ level → AreOfLevel level runs → list_all (is_before r) runs ≡ true
+all_before : (low level : ℕ) (r : InlineParts) (runs : List InlineParts) → RiseBy key low runs → key r ≤ low → r.level ≡ level → AreOfLevel level runs → list_all (is_before r) runs ≡ true
 all_before low level r [] keys less is are = refl
 all_before low level r (s ∷ runs) keys less is are = go (is_before r s) (list_all (is_before r) runs) before (all_before (key s) level r runs keys.1 (omega (arith, keys.0)) is are.1)
   where
@@ -119,7 +120,7 @@ all_before low level r (s ∷ runs) keys less is are = go (is_before r s) (list_
     go true c one two = two
     go false c one two = absurd (cc)
 
-ordered_by : (low level : ℕ) (runs : List InlineParts) → KeysFrom low runs → AreOfLevel level runs → IsOrdered runs
+ordered_by : (low level : ℕ) (runs : List InlineParts) → RiseBy key low runs → AreOfLevel level runs → IsOrdered runs
 ordered_by low level [] keys are = tt
 ordered_by low level (r ∷ runs) keys are = (all_before (key r) level r runs keys.1 (omega arith) are.0 are.1, ordered_by (key r) level runs keys.1 are.1)
 
@@ -141,7 +142,7 @@ suffix r (s ∷ spans) more canonical =
     lower [] begins less = tt
     lower (m ∷ more) begins less = omega (arith, begins)
 
-parts_rise : (low : ℕ) (runs : List InlineParts) → AreParts (map (λ (r : InlineParts). r.spans) runs) → IsCanonical (joined (map (λ (r : InlineParts). r.spans) runs)) → BeginsFrom low (joined (map (λ (r : InlineParts). r.spans) runs)) → KeysFrom low runs
+parts_rise : (low : ℕ) (runs : List InlineParts) → AreParts (map (λ (r : InlineParts). r.spans) runs) → IsCanonical (joined (map (λ (r : InlineParts). r.spans) runs)) → BeginsFrom low (joined (map (λ (r : InlineParts). r.spans) runs)) → RiseBy key low runs
 unfolding joined
 parts_rise low [] parts canonical begins = tt
 parts_rise low (r ∷ []) parts canonical begins = go r.spans parts.0 begins
@@ -152,18 +153,18 @@ parts_rise low (r ∷ []) parts canonical begins = go r.spans parts.0 begins
 parts_rise low (r ∷ s ∷ runs) parts canonical begins = go r.spans (omega (arith, parts.0)) canonical begins (λ low. parts_rise low (s ∷ runs) parts.1)
   where
     go : (spans : List Range) → 0 < length spans → IsCanonical (spans ++ joined (map (λ (r : InlineParts). r.spans) (s ∷ runs))) → BeginsFrom low (spans ++ joined (map (λ (r : InlineParts). r.spans) (s ∷ runs)))
-        → ((low : ℕ) → IsCanonical (joined (map (λ (r : InlineParts). r.spans) (s ∷ runs))) → BeginsFrom low (joined (map (λ (r : InlineParts). r.spans) (s ∷ runs))) → KeysFrom low (s ∷ runs))
-        → (low ≤ first_address spans) × KeysFrom (first_address spans) (s ∷ runs)
+        → ((low : ℕ) → IsCanonical (joined (map (λ (r : InlineParts). r.spans) (s ∷ runs))) → BeginsFrom low (joined (map (λ (r : InlineParts). r.spans) (s ∷ runs))) → RiseBy key low (s ∷ runs))
+        → (low ≤ first_address spans) × RiseBy key (first_address spans) (s ∷ runs)
     go [] some canonical begins later = absurd (omega arith)
     go (t ∷ spans) some canonical begins later =
         (let behind : IsCanonical (joined (map (λ (r : InlineParts). r.spans) (s ∷ runs))) × BeginsFrom t.start (joined (map (λ (r : InlineParts). r.spans) (s ∷ runs))) = suffix t spans _ canonical in (begins, later t.start behind.0 behind.1))
 
-keys_non_decreasing : (low : ℕ) (runs : List InlineParts) → KeysFrom low runs → IsNonDecreasingBy key runs
+keys_non_decreasing : (low : ℕ) (runs : List InlineParts) → RiseBy key low runs → IsNonDecreasingBy key runs
 keys_non_decreasing low [] keys i j d up h = absurd (omega arith)
 keys_non_decreasing low (r ∷ runs) keys zero zero d up h = omega arith
 keys_non_decreasing low (r ∷ runs) keys zero (suc j) d up h = from_key (key r) runs keys.1 j d (omega arith)
   where
-    from_key : (low : ℕ) (runs : List InlineParts) → KeysFrom low runs → (k : ℕ) (d : InlineParts) → k < length runs → low ≤ key (get_or runs k d)
+    from_key : (low : ℕ) (runs : List InlineParts) → RiseBy key low runs → (k : ℕ) (d : InlineParts) → k < length runs → low ≤ key (get_or runs k d)
     from_key low [] keys k d h = absurd (omega arith)
     from_key low (r ∷ runs) keys zero d h = keys.0
     from_key low (r ∷ runs) keys (suc k) d h = (let up : key r ≤ key (get_or runs k d) = from_key (key r) runs keys.1 k d (omega arith) in omega (arith, keys.0))

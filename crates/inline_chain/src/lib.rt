@@ -18,6 +18,7 @@ mod grouping;
 mod inline_run;
 mod inlining;
 mod inside;
+pub mod laws;
 mod levels;
 mod trees;
 
