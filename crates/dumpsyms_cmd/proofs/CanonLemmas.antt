@@ -23,7 +23,7 @@ use Rattle.sym_records.specs.declared.line.SymLine.{SymLine}
 use Rattle.sym_records.specs.declared.line.SymLine.TheVariants.{Init}
 use Rattle.sym_records.proofs.JoiningLemmas.{from_here, join_fits, join_behind}
 use Rattle.sym_records.proofs.SpelledLemmas.{spelled, spelled_records}
-use Rattle.sym_lookup.specs.Plain.{IsPlain, ArePlain, HaveNoFile}
+use Rattle.sym_lookup.specs.Plain.{IsPlain, ArePlain, HaveNoFile, HaveNoOrigin}
 use Rattle.die_walk.specs.EntryTable.{DieFields}
 use Rattle.die_names.specs.declared.unit_read.UnitRead.{UnitRead}
 use Rattle.die_names.specs.UnitEntries.{is_function}
@@ -148,6 +148,15 @@ identity_no_file : (image : ImageParts) (name : List ℕ) → HaveNoFile (identi
 unfolding module_line
 identity_no_file image name = (tt, infos_no_file image.build_id)
 
+infos_no_origin : (id : Option (List ℕ)) → HaveNoOrigin (info_lines id)
+unfolding info_line
+infos_no_origin None = tt
+infos_no_origin (Some id) = (tt, tt)
+
+identity_no_origin : (image : ImageParts) (name : List ℕ) → HaveNoOrigin (identity_lines image name)
+unfolding module_line
+identity_no_origin image name = (tt, infos_no_origin image.build_id)
+
 publics_plain : (base : ℕ) (ps : List PublicParts) (rest : List SymLine) → ArePlain rest → ArePlain (map (public_line base) ps ++ rest)
 publics_plain base [] rest plain = plain
 publics_plain base (p ∷ ps) rest plain = (tt, publics_plain base ps rest plain)
@@ -186,7 +195,7 @@ pub file_named : (image : ImageParts) (name : List ℕ) (found : DebugSays) (uni
 file_named image name found units pieces functions lines above are pieced records whole x =
     subst (λ (l : List SymLine). Names image.base units l x) (sym whole)
     (all_named image.base units pieces (identity_lines image name) functions (public_lines image pieces ++ frame_lines image found) pieced
-    (pieces_above image.base image.code found.units units pieces above are pieced) records (identity_plain image name) (identity_no_file image name)
+    (pieces_above image.base image.code found.units units pieces above are pieced) records (identity_plain image name) (identity_no_file image name) (identity_no_origin image name)
     (publics_plain image.base (publics pieces image.symbols) (frame_lines image found) (frames_plain image found)) x)
 
 -- the records in front: of the binary, of functions, of symbols

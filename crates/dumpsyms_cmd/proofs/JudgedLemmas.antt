@@ -24,10 +24,9 @@ use Rattle.sym_records.specs.Reading.{reading}
 use Rattle.sym_records.specs.declared.line.SymLine.{SymLine}
 use Rattle.rule_postfix.specs.declared.omission.Omission.{Omission}
 use Rattle.rule_postfix.specs.Written.{omitted}
-use Rattle.dumpsyms_cmd.specs.Dump.{has_copy, is_unbuilt, HasNoCopies}
 use Rattle.dumpsyms_cmd.specs.Words.{Asked, dump, files_of, module_name}
-use Rattle.dumpsyms_cmd.specs.Refusals.{elf_line, debug_line, skipped_text, omitted_text, too_long_line, unbuilt_line, usage_line}
-use Rattle.dumpsyms_cmd.specs.Verdict.{Verdict, refused, usage, IsFoundVerdict, IsDebugVerdict, IsPartsVerdict, IsImageVerdict, IsBytesVerdict, IsDumpVerdict, IsFileVerdict, IsVerdict, LIMIT}
+use Rattle.dumpsyms_cmd.specs.Refusals.{elf_line, debug_line, skipped_text, omitted_text, too_long_line, usage_line}
+use Rattle.dumpsyms_cmd.specs.Verdict.{Verdict, refused, usage, IsDebugVerdict, IsPartsVerdict, IsImageVerdict, IsBytesVerdict, IsDumpVerdict, IsFileVerdict, IsVerdict, LIMIT}
 use Rattle.dumpsyms_cmd.specs.Spelled.{DumpsRead}
 use Rattle.dumpsyms_cmd.specs.Observed.{Asks}
 use Rattle.dumpsyms_cmd.specs.Judged.{out_bytes, err_bytes, judgement_verdict, Refuses, RefusesOrGives, Judges, DumpsParts, Assembles, JudgesParts, DumpsImage, JudgesBytes, DumpsFile, DumpPromises, IsUsage, IsJudged, AnswersCommand, AnswersStop}
@@ -69,19 +68,6 @@ within name bytes v few is =
 line_refused : (P : Verdict → Type 0) (line text : List ℕ) → text ≡ line → P (refused line) → P (refused text)
 line_refused P line text same is = subst (λ (t : List ℕ). P (refused t)) (sym same) is
 
--- inlined copies are refused where there is no fault
-unbuilt_by : (parts : ImageParts) (name : List ℕ) (says : DebugSays) → debug_says parts ≡ Ok says → is_unbuilt parts.code says ≡ true → IsPartsVerdict parts name (refused unbuilt_line)
-unbuilt_by parts name says found is =
-    subst (λ (r : Result DebugSays DebugFault). IsDebugVerdict r parts name (refused unbuilt_line)) (sym found)
-    (subst (λ (b : Bool). IsFoundVerdict b parts name says (refused unbuilt_line)) (sym is) refl)
-
-pub unbuilt_judged : (j : Judgement) (parts : ImageParts) (name text : List ℕ) (read : DebugRead) (copies : Bool) → IsDebugRead parts read → ((code : List Range) (says : List UnitSays) → Match (IsUnitRead code) says read.units → copies ≡ list_any (λ (u : UnitSays). has_copy code u.table.dies u.pairs) says) → copies ≡ true → text ≡ unbuilt_line → Refuses j text → JudgesParts j name parts
-unfolding is_unbuilt
-unbuilt_judged j parts name text read copies says tells is line refuses =
-    let k = kept parts read says in
-    refusing j text (λ err. IsPartsVerdict parts name (refused err)) (DumpsParts parts name) refuses
-    (line_refused (IsPartsVerdict parts name) unbuilt_line text line (unbuilt_by parts name k.says k.says_is (sym (tells parts.code k.says.units k.units) ∙ is)))
-
 -- a fault behind the image is refused with its line
 fault_by : (parts : ImageParts) (name : List ℕ) (fault : DebugFault) → debug_says parts ≡ Err fault → IsPartsVerdict parts name (refused (debug_line fault))
 fault_by parts name fault is = subst (λ (r : Result DebugSays DebugFault). IsDebugVerdict r parts name (refused (debug_line fault))) (sym is) refl
@@ -98,25 +84,23 @@ stop_judged {A = A} j parts name text P read end fault says is ends line refuses
     let S : Stop DebugFault → Type 0 = λ e. MatchStop {A = A} (Err e) P (λ f. debug_says parts ≡ Err f) (Prim.Unit {0}) in
     debug_judged j parts name text fault (subst S ends (subst R is says)) line refuses
 
--- the verdict of an image without faults and inlined copies
+-- the verdict of an image without faults
 abbrev given : ℕ → List ℕ → List ℕ → Verdict
 given status out err = record { status = status; out = out; err = err }
 
 found_told : (parts : ImageParts) (name : List ℕ) (lines : List SymLine) (text : List ℕ) → DumpsParts parts name lines text → IsPartsVerdict parts name (given 0 (canon_text lines) text)
 found_told parts name lines text dumps =
     subst (λ (r : Result DebugSays DebugFault). IsDebugVerdict r parts name (given 0 (canon_text lines) text)) (sym dumps.found_is)
-    (subst (λ (b : Bool). IsFoundVerdict b parts name dumps.found (given 0 (canon_text lines) text)) (sym dumps.built)
-    (record { lines = lines; canon = dumps.canon; is = ap (given 0 (canon_text lines)) dumps.text_is }))
+    (record { lines = lines; canon = dumps.canon; is = ap (given 0 (canon_text lines)) dumps.text_is })
 
 -- the records of a file by what was read of it
-pub dumps_parts : (parts : ImageParts) (name text : List ℕ) (read : DebugRead) (lines : List SymLine) (left : List Omission) → IsDebugRead parts read → HasNoCopies parts → DumpsRead parts name read lines left → text ≡ skipped_text read.headers ++ omitted_text left → DumpsParts parts name lines text
-dumps_parts parts name text read lines left says built dumps is =
+pub dumps_parts : (parts : ImageParts) (name text : List ℕ) (read : DebugRead) (lines : List SymLine) (left : List Omission) → IsDebugRead parts read → DumpsRead parts name read lines left → text ≡ skipped_text read.headers ++ omitted_text left → DumpsParts parts name lines text
+dumps_parts parts name text read lines left says dumps is =
     let k = kept parts read says in
     let same : k.says ≡ dumps.found = said (sym k.says_is ∙ dumps.found_is) in
     record {
       found = dumps.found;
       found_is = dumps.found_is;
-      built = built dumps.found dumps.found_is;
       canon = dumps.canon;
       text_is = is ∙ ap (λ (us : List Unit). skipped_text us ++ omitted_text left) (k.headers ∙ ap (λ (f : DebugSays). f.headers) same) ∙ ap (λ (l : List Omission). skipped_text dumps.found.headers ++ omitted_text l) dumps.left_is;
       reads = dumps.reads;
@@ -127,21 +111,11 @@ dumps_parts parts name text read lines left says built dumps is =
     said : {x y : DebugSays} → ◌≡◌ {A = Result DebugSays DebugFault} (Ok x) (Ok y) → x ≡ y
     said is = cc
 
-pub built_by : (parts : ImageParts) (read : DebugRead) (copies : Bool) → IsDebugRead parts read → ((code : List Range) (says : List UnitSays) → Match (IsUnitRead code) says read.units → copies ≡ list_any (λ (u : UnitSays). has_copy code u.table.dies u.pairs) says) → copies ≡ false → HasNoCopies parts
-unfolding is_unbuilt
-built_by parts read copies says tells none found is =
-    let k = kept parts read says in
-    let same : k.says ≡ found = said (sym k.says_is ∙ is) in
-    ap (is_unbuilt parts.code) (sym same) ∙ sym (tells parts.code k.says.units k.units) ∙ none
-  where
-    said : {x y : DebugSays} → ◌≡◌ {A = Result DebugSays DebugFault} (Ok x) (Ok y) → x ≡ y
-    said is = cc
-
 -- the same with their number
-pub assembles : (parts : ImageParts) (name text : List ℕ) (read : DebugRead) (lines : List SymLine) (left : List Omission) (count : ℕ) → IsDebugRead parts read → HasNoCopies parts → DumpsRead parts name read lines left → text ≡ skipped_text read.headers ++ omitted_text left → count ≡ length left → Assembles parts name lines text count
-assembles parts name text read lines left count says built dumps is number =
+pub assembles : (parts : ImageParts) (name text : List ℕ) (read : DebugRead) (lines : List SymLine) (left : List Omission) (count : ℕ) → IsDebugRead parts read → DumpsRead parts name read lines left → text ≡ skipped_text read.headers ++ omitted_text left → count ≡ length left → Assembles parts name lines text count
+assembles parts name text read lines left count says dumps is number =
     record {
-      dumps = dumps_parts parts name text read lines left says built dumps is;
+      dumps = dumps_parts parts name text read lines left says dumps is;
       counted = λ found found_is. number ∙ ap length dumps.left_is ∙ ap (λ (f : DebugSays). length (omitted parts.code f.first f.second)) (said (sym dumps.found_is ∙ found_is));
     }
   where

@@ -1,4 +1,3 @@
-pub mod CopyLemmas
 pub mod WordLemmas
 pub mod RecordLemmas
 pub mod JudgedLemmas

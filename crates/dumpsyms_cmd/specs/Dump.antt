@@ -1,25 +1,19 @@
 -- The records of a dumped file (Breakpad's symbol_files.md).
-use Rattle.std.specs.Prelude.{◌≡◌, ℕ, ◌-◌, ◌&&◌, ◌||◌, Bool, false, List, [], ◌∷◌, ◌++◌, Option, Some, None, Ok, map, slice_index, codes}
-use Rattle.std.specs.List.{list_any}
+use Rattle.std.specs.Prelude.{◌≡◌, ℕ, ◌-◌, List, [], ◌∷◌, ◌++◌, Option, Some, None, map, slice_index, codes}
 use Rattle.hex.specs.Hex.{encode_upper}
 use Rattle.elf_sections.specs.Image.{ImageParts}
 use Rattle.sym_records.specs.Cleaning.{cleaned}
 use Rattle.sym_records.specs.declared.line.SymLine.{SymLine}
 use Rattle.sym_records.specs.declared.line.SymLine.TheVariants.{Module, Info, Public}
 use Rattle.rule_postfix.specs.Written.{written_lines}
-use Rattle.sym_edges.specs.Addresses.{Range}
-use Rattle.die_walk.specs.EntryTable.{DieFields}
-use Rattle.range_lists.specs.EntryRanges.{is_code}
 use Rattle.die_names.specs.declared.unit_read.UnitRead.{UnitRead}
-use Rattle.die_names.specs.UnitEntries.{is_inlined}
 use Rattle.func_flatten.specs.declared.piece.Piece.{Piece}
 use Rattle.func_flatten.specs.Pieces.{ArePieces}
 use Rattle.func_flatten.specs.Publics.{PublicParts, publics}
 use Rattle.func_records.specs.FuncRecords.{AreFuncRecords}
 use Rattle.debug_read.specs.Each.{Match}
-use Rattle.debug_read.specs.UnitSays.{UnitSays}
 use Rattle.debug_read.specs.UnitsRead.{IsUnitRead}
-use Rattle.debug_read.specs.DebugSays.{DebugSays, debug_says}
+use Rattle.debug_read.specs.DebugSays.{DebugSays}
 use Rattle.dumpsyms_cmd.specs.Frames.{written_of}
 
 -- the identity as a GUID is written: its first four bytes, the next two and the next two, each turned round
@@ -59,7 +53,8 @@ public_lines image pieces = map (public_line image.base) (publics pieces image.s
 abbrev pub frame_lines : ImageParts → DebugSays → List SymLine
 frame_lines image found = written_lines image.base (written_of image found)
 
--- the records of a file without fault: those of the binary; those of functions and their lines, by what was read of the units; those of
+-- the records of a file without fault: those of the binary; those of functions, their inlined copies and their lines, by what was read of the
+-- units; those of
 -- symbols outside of functions; those of frames
 pub record CanonFile (image : ImageParts) (name : List ℕ) (found : DebugSays) (lines : List SymLine) : Type 0 where
   pub units : List UnitRead
@@ -69,16 +64,3 @@ pub record CanonFile (image : ImageParts) (name : List ℕ) (found : DebugSays) 
   pub functions : List SymLine
   pub functions_are : AreFuncRecords image.base units pieces functions
   pub whole : lines ≡ identity_lines image name ++ (functions ++ (public_lines image pieces ++ frame_lines image found))
-
--- some inlined copy among entries with these pairs has an address
-unfoldable pub has_copy : List Range → List DieFields → List (List Range) → Bool
-has_copy code (die ∷ dies) (pairs ∷ all) = (is_inlined die && list_any (is_code code) pairs) || has_copy code dies all
-has_copy code _ _ = false
-
--- the file has inlined copies of functions, which are not dumped yet
-unfoldable pub is_unbuilt : List Range → DebugSays → Bool
-is_unbuilt code found = list_any (λ (u : UnitSays). has_copy code u.table.dies u.pairs) found.units
-
--- an image whose debugging information has no such copy
-abbrev pub HasNoCopies : ImageParts → Type 0
-HasNoCopies parts = (found : DebugSays) → debug_says parts ≡ Ok found → is_unbuilt parts.code found ≡ false

@@ -11,7 +11,7 @@ use Rattle.sym_records.specs.Canon.{canon_text}
 use Rattle.sym_records.specs.Reading.{reading}
 use Rattle.sym_records.specs.declared.line.SymLine.{SymLine}
 use Rattle.dumpsyms_cmd.specs.Words.{Asked, dump, module_name}
-use Rattle.dumpsyms_cmd.specs.Dump.{CanonFile, is_unbuilt}
+use Rattle.dumpsyms_cmd.specs.Dump.{CanonFile}
 use Rattle.debug_read.specs.DebugSays.{DebugSays, debug_says}
 use Rattle.func_records.specs.TextNames.{Names}
 use Rattle.rule_postfix.specs.Written.{omitted}
@@ -72,12 +72,11 @@ RefusesOrGives (Bytes text) status err P Q = ⊥
 abbrev pub Judges : Judgement → (List ℕ → Type 0) → (List SymLine → List ℕ → Type 0) → Type 0
 Judges j P Q = RefusesOrGives j.out j.status (err_bytes j.err) P Q
 
--- the records of an image without inlined copies, and the text on what is left out; what the records say of frames; and what a look-up
--- in them names: at each address the function that owns it in the file, and its line
+-- the records of an image, and the text on what is left out; what the records say of frames; and what a look-up
+-- in them names: at each address the function that owns it in the file, its inline chain and its line
 pub record DumpsParts (parts : ImageParts) (name : List ℕ) (lines : List SymLine) (text : List ℕ) : Type 0 where
   pub found : DebugSays
   pub found_is : debug_says parts ≡ Ok found
-  pub built : is_unbuilt parts.code found ≡ false
   pub canon : CanonFile parts name found lines
   pub text_is : text ≡ left_out parts found
   pub reads : reading (canon_text lines) ≡ Ok lines

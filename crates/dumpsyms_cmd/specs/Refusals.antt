@@ -48,10 +48,6 @@ elf_line fault = line (codes "refused elf " ++ fault_word fault)
 abbrev pub too_long_line : List ℕ
 too_long_line = line (codes "refused input too-long")
 
--- the file has parts that are not dumped yet
-abbrev pub unbuilt_line : List ℕ
-unbuilt_line = line (codes "refused unbuilt")
-
 -- a file could not be read
 abbrev pub unread_line : List ℕ
 unread_line = line (codes "cannot read input")

@@ -9,8 +9,8 @@ use Rattle.sym_records.specs.Canon.{canon_text}
 use Rattle.rule_postfix.specs.Written.{omitted}
 use Rattle.sym_records.specs.declared.line.SymLine.{SymLine}
 use Rattle.dumpsyms_cmd.specs.Words.{Asked, dump, module_name}
-use Rattle.dumpsyms_cmd.specs.Refusals.{elf_line, debug_line, omitted_text, skipped_text, too_long_line, unbuilt_line, unread_line, usage_line}
-use Rattle.dumpsyms_cmd.specs.Dump.{CanonFile, is_unbuilt}
+use Rattle.dumpsyms_cmd.specs.Refusals.{elf_line, debug_line, omitted_text, skipped_text, too_long_line, unread_line, usage_line}
+use Rattle.dumpsyms_cmd.specs.Dump.{CanonFile}
 
 -- a status, and the texts on standard output and standard error
 pub record Verdict : Type 0 where
@@ -44,15 +44,10 @@ pub record GivesText (parts : ImageParts) (name : List ℕ) (found : DebugSays) 
   pub canon : CanonFile parts name found lines
   pub is : v ≡ record { status = 0; out = canon_text lines; err = left_out parts found }
 
--- by whether it has inlined copies
-abbrev pub IsFoundVerdict : Bool → ImageParts → List ℕ → DebugSays → Verdict → Type 0
-IsFoundVerdict true parts name found v = v ≡ refused unbuilt_line
-IsFoundVerdict false parts name found v = GivesText parts name found v
-
--- by what stands behind the image: the first fault, and where there is none, inlined copies
+-- by what stands behind the image: the first fault, or the records
 abbrev pub IsDebugVerdict : Result DebugSays DebugFault → ImageParts → List ℕ → Verdict → Type 0
 IsDebugVerdict (Err fault) parts name v = v ≡ refused (debug_line fault)
-IsDebugVerdict (Ok found) parts name v = IsFoundVerdict (is_unbuilt parts.code found) parts name found v
+IsDebugVerdict (Ok found) parts name v = GivesText parts name found v
 
 -- by the parts of the image
 abbrev pub IsPartsVerdict : ImageParts → List ℕ → Verdict → Type 0

@@ -1,7 +1,6 @@
 //! The symbol file of an image, with what is said of what it leaves out.
 ghost use Rattle.std.specs.Prelude.{IfOk};
 ghost use Rattle.debug_read.specs.DebugSays.{IsDebugRead};
-ghost use Rattle.dumpsyms_cmd.specs.Dump.{HasNoCopies};
 ghost use Rattle.dumpsyms_cmd.specs.Judged.{Assembles};
 
 use crate::omissions::list_left_out;
@@ -21,16 +20,14 @@ pub struct Dumped {
     pub omitted: usize,
 }
 
-/// Spells the symbol file of an image under a name, which is cleaned (Breakpad's symbol_files.md): MODULE, INFO, FILE, each FUNC
-/// with its line records, PUBLIC, and the records of frames. `debug` is what `read_debug` answered for the image. No inlined
-/// copy may have an address, which `has_copies` tells.
+/// Spells the symbol file of an image under a name, which is cleaned (Breakpad's symbol_files.md): MODULE, INFO, FILE, INLINE_ORIGIN,
+/// each FUNC with its INLINE and line records, PUBLIC, and the records of frames. `debug` is what `read_debug` answered for the image.
 pub fn assemble(
     alloc: Global,
     image: &Image<'_>,
     debug: &DebugRead<'_>,
     name: &[u8],
 ) -> Result<Dumped, OutOfMemory>
-    requires built { HasNoCopies image.now }
     requires found { IsDebugRead image.now debug.now }
     ensures { IfOk result (λ d. Assembles image.now name.now d.file d.err d.omitted) }
 {

@@ -5,15 +5,13 @@ ghost use Rattle.std.specs.String.{string_bytes};
 ghost use Rattle.elf_sections.specs.Image.{image};
 ghost use Rattle.dumpsyms_cmd.specs.Words.{command_of, files_of, dump};
 ghost use Rattle.debug_read.specs.DebugSays.{IsDebugRead};
-ghost use Rattle.dumpsyms_cmd.specs.Dump.{HasNoCopies};
 ghost use Rattle.dumpsyms_cmd.specs.Verdict.{LIMIT};
 ghost use Rattle.dumpsyms_cmd.specs.Judged.{err_bytes, Refuses, JudgesParts, JudgesBytes, AnswersStop, AnswersCommand};
 ghost use Rattle.dumpsyms_cmd.specs.Observed.{Asks};
 
 use crate::assembling::assemble;
-use crate::copies::has_copies;
 use crate::judgement::{Answer, Judgement, Message, Output};
-use crate::refusals::{TOO_LONG, UNBUILT, USAGE, debug_line, fault_line};
+use crate::refusals::{TOO_LONG, USAGE, debug_line, fault_line};
 use crate::words::{Command, name_of, parse_words};
 use debug_read::{DebugRead, read_debug};
 use elf_sections::{Image, read_image};
@@ -36,14 +34,13 @@ fn refuse(line: Message) -> Judgement
     }
 }
 
-/// A dump of an image without inlined copies.
+/// A dump of an image without faults behind it.
 fn judge_records(
     alloc: Global,
     image: &Image<'_>,
     debug: &DebugRead<'_>,
     name: &[u8],
 ) -> Result<Judgement, OutOfMemory>
-    requires built { HasNoCopies image.now }
     requires found { IsDebugRead image.now debug.now }
     ensures { IfOk result (λ j. JudgesParts j name.now image.now) }
 {
@@ -53,23 +50,6 @@ fn judge_records(
         out: Output::Text(dumped.file),
         err: Message::Made(dumped.err),
     })
-}
-
-/// A dump of an image without faults behind it.
-#[tactic(auto, using(crate::proofs::JudgedLemmas::unbuilt_judged, crate::proofs::JudgedLemmas::built_by))]
-fn judge_found(
-    alloc: Global,
-    image: &Image<'_>,
-    debug: &DebugRead<'_>,
-    name: &[u8],
-) -> Result<Judgement, OutOfMemory>
-    requires found { IsDebugRead image.now debug.now }
-    ensures { IfOk result (λ j. JudgesParts j name.now image.now) }
-{
-    if has_copies(&debug.units) {
-        return Ok(refuse(Message::Fixed(UNBUILT)));
-    }
-    judge_records(alloc, image, debug, name)
 }
 
 /// A dump of an image.
@@ -85,7 +65,7 @@ fn judge_image<R: Threads + Sync, G: Gate + Sync>(
     ensures { IfOk result (λ j. JudgesParts j name.now image.now) }
 {
     match read_debug(rt, alloc, image, gate, workers) {
-        Ok(debug) => judge_found(alloc, image, &debug, name),
+        Ok(debug) => judge_records(alloc, image, &debug, name),
         Err(Stop::Fault(fault)) => Ok(refuse(Message::Made(debug_line(alloc, fault)?))),
         Err(Stop::NoMemory) => Err(OutOfMemory),
     }

@@ -7,7 +7,6 @@
 #![tactic(auto)]
 
 mod assembling;
-mod copies;
 mod judgement;
 mod judging;
 mod omissions;
@@ -17,7 +16,6 @@ mod running;
 mod words;
 
 pub use assembling::{Dumped, assemble};
-pub use copies::has_copies;
 pub use running::run;
 
 #[cfg(test)]

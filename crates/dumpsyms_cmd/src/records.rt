@@ -175,7 +175,7 @@ pub struct FileText {
     pub omitted: Omissions,
 }
 
-/// The records of a file without inlined copies, spelled: those in front, and then those of its frame entries.
+/// The records of a file, spelled: those in front, and then those of its frame entries.
 pub fn dump_file(
     alloc: Global,
     image: &Image<'_>,

@@ -14,9 +14,6 @@ use sym_records::{ByteText, HexText};
 /// The file passes the limit.
 pub const TOO_LONG: &[u8] = b"refused input too-long\n";
 
-/// The file has parts that are not dumped yet.
-pub const UNBUILT: &[u8] = b"refused unbuilt\n";
-
 /// A file could not be read.
 pub const UNREAD: &[u8] = b"cannot read input\n";
 

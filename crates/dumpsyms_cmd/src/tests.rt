@@ -9,7 +9,7 @@ use self::files::{
     CUT_UNIT, EIGHT_OR_FOUR, ENTRIES, FUNCTIONS, ID, LONG_CODE, NULL, THREE_ROWS, TWO_FILES, UNIT,
     VERSION_3, entry_of, file_of, file_with, line_table, small_and, unit_of,
 };
-use crate::{Dumped, assemble, has_copies, run};
+use crate::{Dumped, assemble, run};
 use debug_read::{DebugRead, read_debug};
 use elf_sections::{Image, read_image};
 use std::alloc::{AllocError, Global};
@@ -60,8 +60,6 @@ const CLASS: &[u8] = b"refused elf class\n";
 const TABLE: &[u8] = b"refused elf section-table\n";
 
 const FLAG: &[u8] = b"refused elf compressed 5\n";
-
-const UNBUILT: &[u8] = b"refused unbuilt\n";
 
 const LENGTH: &[u8] = b"refused frame length eh_frame 0\n";
 
@@ -388,41 +386,20 @@ fn with_copy(alloc: Global, first: u64, base: u64) -> Result<Vec<u8>, AllocError
     with_functions(alloc, &unit, &table, &[(1, base)])
 }
 
+/// The records of `f` with the copy of `g`, whose call names neither a file nor a line.
+const WITH_COPY: &[u8] = b"FILE 0 /s/a.c\nFILE 1 <name omitted>\nINLINE_ORIGIN 0 g\nFUNC 1000 20 0 f\nINLINE 0 0 1 0 1004 8\n1000 4 3 0\n1004 8 9 0\n100c 14 4 0\n";
+
 #[test]
-fn an_inlined_copy_in_code_is_refused(rt: HostRuntime) -> Result<(), Fail> {
+fn an_inlined_copy_has_its_addresses_in_code(rt: HostRuntime) -> Result<(), Fail> {
     let alloc = rt.alloc();
     let file = with_copy(alloc, 0x1004, 0)?;
-    expect_dump(&rt, alloc, "in code", &file, 1, b"", UNBUILT)?;
+    let text = behind_front(alloc, WITH_COPY)?;
+    expect_dump(&rt, alloc, "in code", &file, 0, &text, b"")?;
     let file = with_copy(alloc, 0x2004, 0x800)?;
     let records = b"FILE 0 /s/a.c\nFUNC 800 20 0 f\n800 4 3 0\n804 8 9 0\n80c 14 4 0\n";
     let text = behind_front(alloc, records)?;
     expect_dump(&rt, alloc, "outside of code", &file, 0, &text, b"")
 }
-
-/// A file with the function `f` of eight bytes at this address, and the symbols of `ENTRIES`.
-fn with_symbols(alloc: Global, first: u64) -> Result<Vec<u8>, AllocError> {
-    let f = entry_of(alloc, 2, b"f\0", first, 8)?;
-    let unit = unit_of(alloc, 0, &f)?;
-    let table = line_table(alloc, b"\0", b"")?;
-    let sections = [
-        NULL,
-        ID,
-        LONG_CODE,
-        (".symtab", [2, 0, 0, 4], &ENTRIES),
-        (".strtab", [3, 0, 0, 0], b"\0main\0"),
-        (".debug_info", [1, 0, 0, 0], unit.as_slice()),
-        (".debug_abbrev", [1, 0, 0, 0], FUNCTIONS),
-        (".debug_line", [1, 0, 0, 0], table.as_slice()),
-    ];
-    file_of(alloc, &[(1, 0)], &sections)
-}
-
-/// Of `f` at this address: the records behind the front.
-const SYMBOLS: [(u64, &[u8]); 3] = [
-    (0x1000, b"FUNC 1000 8 0 f\n"),
-    (0xff8, b"PUBLIC 1000 0 main\n"),
-    (0x1001, b"FUNC 1001 8 0 f\nPUBLIC 1000 0 main\n"),
-];
 
 #[test]
 fn a_symbol_where_a_function_begins_is_left_out(rt: HostRuntime) -> Result<(), Fail> {
@@ -481,22 +458,7 @@ fn files_of_all_units_are_numbered(rt: HostRuntime) -> Result<(), Fail> {
     expect_dump(&rt, alloc, "one table", &file, 0, &text, b"")
 }
 
-/// The symbol file of what was read, where no inlined copy has an address.
-#[tactic(auto, using(crate::proofs::JudgedLemmas::built_by))]
-fn assembled(
-    alloc: Global,
-    image: &Image<'_>,
-    debug: &DebugRead<'_>,
-) -> Result<Option<Dumped>, OutOfMemory>
-    requires { IsDebugRead image.now debug.now }
-{
-    if has_copies(&debug.units) {
-        return Ok(None);
-    }
-    Ok(Some(assemble(alloc, image, debug, b"d e")?))
-}
-
-/// The same of a file: its text, the lines on what is left out, and the number of frame entries among these.
+/// The symbol file of a file: its text, the lines on what is left out, and the number of frame entries among these.
 fn assembled_of(
     rt: &(impl Abort + Threads + Sync),
     alloc: Global,
@@ -506,16 +468,14 @@ fn assembled_of(
         return Ok(None);
     };
     match read_debug(rt, alloc, &image, &NoGate, 2) {
-        Ok(debug) => match assembled(alloc, &image, &debug)? {
-            Some(dumped) => {
-                let mut sink = MemSink::new(alloc, 1000, 1 << 20, calls(alloc, &[])?)?;
-                match dumped.file.write(&mut sink) {
-                    Ok(()) => Ok(Some((Vec::from_slice(alloc, sink.written())?, dumped))),
-                    Err(_) => Ok(None),
-                }
+        Ok(debug) => {
+            let dumped = assemble(alloc, &image, &debug, b"d e")?;
+            let mut sink = MemSink::new(alloc, 1000, 1 << 20, calls(alloc, &[])?)?;
+            match dumped.file.write(&mut sink) {
+                Ok(()) => Ok(Some((Vec::from_slice(alloc, sink.written())?, dumped))),
+                Err(_) => Ok(None),
             }
-            None => Ok(None),
-        },
+        }
         Err(_) => Ok(None),
     }
 }

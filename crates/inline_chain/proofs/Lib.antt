@@ -1,0 +1,13 @@
+pub mod InsideLemmas
+pub mod ChainLemmas
+pub mod ChildLemmas
+pub mod CollectLemmas
+pub mod ClassLemmas
+pub mod TreeLemmas
+pub mod LevelLemmas
+pub mod PartLemmas
+pub mod GroupLemmas
+pub mod OrderLemmas
+pub mod RunLemmas
+pub mod Computing
+mod WorkedChains

@@ -1,5 +1,5 @@
 -- The inlined copies of functions on the chains of a piece's addresses (DWARF 5, 3.3.8; Breakpad's symbol_files.md, INLINE records).
-use Rattle.std.specs.Prelude.{◌≡◌, ℕ, ◌<◌, ◌≤◌, ◌==◌, ◌&&◌, ◌||◌, Bool, true, false, nat_lt, List, [], ◌∷◌, ◌++◌, map, filter, length, Option, None, Some}
+use Rattle.std.specs.Prelude.{◌≡◌, ℕ, ◌<◌, ◌≤◌, ◌==◌, ◌&&◌, ◌||◌, Bool, true, false, nat_lt, nat_le, List, [], ◌∷◌, ◌++◌, map, filter, length, Option, None, Some}
 use Rattle.std.specs.List.{slice_get, list_all}
 use Rattle.std.specs.Option.{option_map_or}
 use Rattle.sym_edges.specs.Addresses.{Range}
@@ -8,7 +8,7 @@ use Rattle.range_set.specs.Canonical.{IsCanonical}
 use Rattle.die_names.specs.declared.unit_read.UnitRead.{UnitRead}
 use Rattle.die_names.specs.Owners.{Covering, chain_from, unit_covering}
 use Rattle.func_flatten.specs.declared.piece.Piece.{Piece}
-use Rattle.func_flatten.specs.Pieces.{is_inside}
+use Rattle.func_flatten.specs.Publics.{is_inside}
 
 -- the inlined copies at an address inside of an entry of a unit, level by level
 abbrev pub chain_by : ℕ → ℕ → ℕ → Option UnitRead → List Covering
@@ -59,7 +59,7 @@ first_address (range ∷ ranges) = range.start
 
 -- by level, and in one level by the first address
 abbrev pub is_before : InlineParts → InlineParts → Bool
-is_before r s = nat_lt r.level s.level || ((r.level == s.level) && nat_lt (first_address r.spans) (first_address s.spans))
+is_before r s = nat_lt r.level s.level || ((r.level == s.level) && nat_le (first_address r.spans) (first_address s.spans))
 
 abbrev pub IsOrdered : List InlineParts → Type 0
 IsOrdered [] = Unit {0}

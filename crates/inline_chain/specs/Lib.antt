@@ -1,1 +1,3 @@
 pub mod InlineRuns
+pub mod Trees
+pub mod Levels

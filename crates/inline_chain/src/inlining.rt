@@ -1,39 +1,22 @@
 //! The inlined copies of a piece.
-ghost use Rattle.std.specs.Prelude.{◌≡◌, IfOk};
+ghost use Rattle.std.specs.Prelude.{◌≡◌, ◌∷◌, [], ◌<◌, ◌≤◌, IfOk};
 ghost use Rattle.inline_chain.specs.InlineRuns.{AreInlineRuns};
+ghost use Rattle.die_names.specs.declared.unit_read.UnitRead.{UnitRead};
+ghost use Rattle.func_flatten.specs.Collecting.{AreFit};
+ghost use Rattle.inline_chain.specs.Trees.{IsTree};
+ghost use Rattle.inline_chain.specs.Levels.{HaveRuns, AllRuns};
 
-use crate::inline_run::InlineRuns;
-use die_names::Units;
+use crate::grouping::push_level;
+use crate::inline_run::{InlineRun, InlineRuns};
+use crate::levels::level_under;
+use crate::trees::InlineTrees;
 use func_flatten::Piece;
 use std::alloc::Global;
-use std::marker::Model;
-use sym_edges::OutOfMemory;
+use step_maps::{CoverList, Stretch};
+use sym_edges::{ListOf, OutOfMemory};
 
-/// The units of a file, and which inlined copies stand directly in each of their entries, by address.
-#[derive(Drop)]
-pub struct InlineTrees<'u, 'a> {
-    units: &'u Units<'a>,
-}
-
-impl<'u, 'a> Model for InlineTrees<'u, 'a> {
-    ghost use Rattle.std.specs.Prelude.{List};
-    ghost use Rattle.die_names.specs.declared.unit_read.UnitRead.{UnitRead};
-
-    ghost Value = { List UnitRead };
-
-    ghost view = { λ t. t.units.now };
-}
-
-impl<'u, 'a> InlineTrees<'u, 'a> {
-    /// Finds which inlined copies stand directly in each entry, once for all pieces.
-    pub fn of(alloc: Global, units: &'u Units<'a>) -> Result<InlineTrees<'u, 'a>, OutOfMemory>
-        ensures { IfOk result (λ trees. trees ≡ units.now) }
-    {
-        Ok(InlineTrees { units })
-    }
-}
-
-/// The inlined copies on the chains of a piece's addresses, by level and first address.
+/// The inlined copies on the chains of a piece's addresses, by level and first address: for each entry on a chain, at its level, the
+/// maximal ranges of its addresses in the piece, in records of at most 16,384 ranges.
 pub fn inlines(
     alloc: Global,
     trees: &InlineTrees<'_, '_>,
@@ -41,5 +24,41 @@ pub fn inlines(
 ) -> Result<InlineRuns, OutOfMemory>
     ensures { IfOk result (λ runs. AreInlineRuns trees.now piece.now runs) }
 {
+    let Some(tree) = trees.tree(piece.unit) else {
+        return Ok(ListOf::of(Vec::new(alloc)));
+    };
+    if piece.end <= piece.start {
+        return Ok(ListOf::of(Vec::new(alloc)));
+    }
+    let owner = Stretch {
+        first: piece.start,
+        last: piece.end - 1,
+        index: piece.entry,
+        class: piece.entry,
+    };
+    let runs = runs_under(alloc, tree.as_slice(), owner)?;
+    Ok(ListOf::of(runs))
+}
+
+/// The records of what stands in an owner, level by level.
+fn runs_under(
+    alloc: Global,
+    lists: &[CoverList],
+    owner: Stretch,
+) -> Result<Vec<InlineRun>, OutOfMemory>
+    requires fit { AreFit (owner ∷ []) }
+    requires runs { HaveRuns lists.now }
+    ensures { IfOk result (λ runs. (part : UnitRead) → IsTree part lists.now → AllRuns part owner runs.items) }
+{
+    let mut runs = Vec::new(alloc);
+    let mut level = level_under(alloc, lists, &[owner])?;
+    'levels: for number in 0..u32::MAX {
+        if level.is_empty() {
+            return Ok(runs);
+        }
+        let next = level_under(alloc, lists, level.as_slice())?;
+        push_level(alloc, &mut runs, number, level)?;
+        level = next;
+    }
     Err(OutOfMemory)
 }

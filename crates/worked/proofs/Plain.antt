@@ -22,23 +22,22 @@ use Rattle.func_records.specs.FuncRecords.{Part, AreFuncRecords, file_lines, par
 use Rattle.sym_records.specs.Canon.{canon_text}
 use Rattle.sym_records.specs.declared.line.SymLine.{SymLine}
 use Rattle.dumpsyms_cmd.specs.Words.{Asked, dump, command_of, module_name}
-use Rattle.dumpsyms_cmd.specs.Refusals.{elf_line, debug_line, too_long_line, unbuilt_line}
-use Rattle.dumpsyms_cmd.specs.Dump.{identity_lines, public_lines, frame_lines, is_unbuilt, CanonFile}
-use Rattle.dumpsyms_cmd.specs.Verdict.{Verdict, refused, usage, unread, left_out, LIMIT, IsFoundVerdict, IsDebugVerdict, IsImageVerdict, IsBytesVerdict, IsFileVerdict, IsVerdict}
+use Rattle.dumpsyms_cmd.specs.Refusals.{elf_line, debug_line, too_long_line}
+use Rattle.dumpsyms_cmd.specs.Dump.{identity_lines, public_lines, frame_lines, CanonFile}
+use Rattle.dumpsyms_cmd.specs.Verdict.{Verdict, refused, usage, unread, left_out, LIMIT, GivesText, IsDebugVerdict, IsImageVerdict, IsBytesVerdict, IsFileVerdict, IsVerdict}
 
 -- the records of a file of which no unit is read
 abbrev pub plain_lines : ImageParts → List ℕ → DebugSays → List SymLine
 plain_lines parts name found = identity_lines parts name ++ (public_lines parts [] ++ frame_lines parts found)
 
--- by whether the file has inlined copies, and by the units that are read: nothing is computed where one is
-abbrev pub found_verdict : Bool → List UnitSays → ImageParts → List ℕ → DebugSays → Option Verdict
-found_verdict true units parts name found = Some (refused unbuilt_line)
-found_verdict false [] parts name found = Some (record { status = 0; out = canon_text (plain_lines parts name found); err = left_out parts found })
-found_verdict false (unit ∷ units) parts name found = None
+-- by the units that are read: nothing is computed where one is
+abbrev pub found_verdict : List UnitSays → ImageParts → List ℕ → DebugSays → Option Verdict
+found_verdict [] parts name found = Some (record { status = 0; out = canon_text (plain_lines parts name found); err = left_out parts found })
+found_verdict (unit ∷ units) parts name found = None
 
 abbrev pub debug_verdict : Result DebugSays DebugFault → ImageParts → List ℕ → Option Verdict
 debug_verdict (Err fault) parts name = Some (refused (debug_line fault))
-debug_verdict (Ok found) parts name = found_verdict (is_unbuilt parts.code found) found.units parts name found
+debug_verdict (Ok found) parts name = found_verdict found.units parts name found
 
 abbrev pub image_verdict : Result ImageParts ElfFault → List ℕ → Option Verdict
 image_verdict (Err fault) name = Some (refused (elf_line fault))
@@ -92,14 +91,13 @@ the_same is = cc
 not_told : {A : Type 0} {x : A} → ◌≡◌ {A = Option A} None (Some x) → ⊥
 not_told is = cc
 
-found_is : (copies : Bool) (units : List UnitSays) (parts : ImageParts) (name : List ℕ) (found : DebugSays) (v : Verdict) → found.units ≡ units → found_verdict copies units parts name found ≡ Some v → IsFoundVerdict copies parts name found v
-found_is true units parts name found v same is = the_same is
-found_is false [] parts name found v none is = record { lines = plain_lines parts name found; canon = plain_canon parts name found none; is = the_same is }
-found_is false (unit ∷ units) parts name found v same is = absurd (not_told is)
+found_is : (units : List UnitSays) (parts : ImageParts) (name : List ℕ) (found : DebugSays) (v : Verdict) → found.units ≡ units → found_verdict units parts name found ≡ Some v → GivesText parts name found v
+found_is [] parts name found v none is = record { lines = plain_lines parts name found; canon = plain_canon parts name found none; is = the_same is }
+found_is (unit ∷ units) parts name found v same is = absurd (not_told is)
 
 debug_is : (says : Result DebugSays DebugFault) (parts : ImageParts) (name : List ℕ) (v : Verdict) → debug_verdict says parts name ≡ Some v → IsDebugVerdict says parts name v
 debug_is (Err fault) parts name v is = the_same is
-debug_is (Ok found) parts name v is = found_is (is_unbuilt parts.code found) found.units parts name found v refl is
+debug_is (Ok found) parts name v is = found_is found.units parts name found v refl is
 
 image_is : (read : Result ImageParts ElfFault) (name : List ℕ) (v : Verdict) → image_verdict read name ≡ Some v → IsImageVerdict read name v
 image_is (Err fault) name v is = the_same is
@@ -166,14 +164,13 @@ other_lines parts name found lines none canon =
 abbrev given : ImageParts → DebugSays → List SymLine → Verdict
 given parts found lines = record { status = 0; out = canon_text lines; err = left_out parts found }
 
-found_only : (copies : Bool) (units : List UnitSays) (parts : ImageParts) (name : List ℕ) (found : DebugSays) (v w : Verdict) → found.units ≡ units → found_verdict copies units parts name found ≡ Some v → IsFoundVerdict copies parts name found w → w ≡ v
-found_only true units parts name found v w same is other = other ∙ sym (the_same is)
-found_only false [] parts name found v w none is other = other.is ∙ ap (given parts found) (other_lines parts name found other.lines none other.canon) ∙ sym (the_same is)
-found_only false (unit ∷ units) parts name found v w same is other = absurd (not_told is)
+found_only : (units : List UnitSays) (parts : ImageParts) (name : List ℕ) (found : DebugSays) (v w : Verdict) → found.units ≡ units → found_verdict units parts name found ≡ Some v → GivesText parts name found w → w ≡ v
+found_only [] parts name found v w none is other = other.is ∙ ap (given parts found) (other_lines parts name found other.lines none other.canon) ∙ sym (the_same is)
+found_only (unit ∷ units) parts name found v w same is other = absurd (not_told is)
 
 debug_only : (says : Result DebugSays DebugFault) (parts : ImageParts) (name : List ℕ) (v w : Verdict) → debug_verdict says parts name ≡ Some v → IsDebugVerdict says parts name w → w ≡ v
 debug_only (Err fault) parts name v w is other = other ∙ sym (the_same is)
-debug_only (Ok found) parts name v w is other = found_only (is_unbuilt parts.code found) found.units parts name found v w refl is other
+debug_only (Ok found) parts name v w is other = found_only found.units parts name found v w refl is other
 
 image_only : (read : Result ImageParts ElfFault) (name : List ℕ) (v w : Verdict) → image_verdict read name ≡ Some v → IsImageVerdict read name w → w ≡ v
 image_only (Err fault) name v w is other = other ∙ sym (the_same is)

@@ -93,11 +93,6 @@ frames_behind_a_unit : says (info (of_16 8) ∷ eight_or_four ∷ bad_frames ∷
 unfolding files unit_4 unit_5 file says says_by
 frames_behind_a_unit = refl
 
--- where there is no fault, an inlined copy with an address is not dumped yet
-an_inlined_copy : says (info copy ∷ entry_and_copy ∷ []) ≡ refused "refused unbuilt\n"
-unfolding files unit_4 unit_5 file says says_by
-an_inlined_copy = refl
-
 frames_before_an_inlined_copy : says (info copy ∷ entry_and_copy ∷ bad_frames ∷ []) ≡ refused "refused frame length eh_frame 0\n"
 unfolding files unit_4 unit_5 file says says_by
 frames_before_an_inlined_copy = refl

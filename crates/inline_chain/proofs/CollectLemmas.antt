@@ -1,0 +1,137 @@
+-- What is collected of the inlined copies.
+use Rattle.std.proofs.Common.{◌≡◌, ℕ, zero, suc, ◌+◌, ◌<◌, ◌≤◌, ◌++◌, ◌⊎◌, Bool, true, false, if◌then◌else◌, List, [], ◌∷◌, length, drop, Option, None, Some, arith, refl, sym, ap, subst, ◌∙◌, ⊎_elim, inl}
+use Rattle.std.proofs.lemmas.Bool.{cases_lt}
+use Rattle.std.proofs.lemmas.List.{append_assoc, append-nil, drop_more, drop_all}
+use Rattle.std.specs.List.{slice_get}
+use Rattle.sym_edges.specs.Addresses.{Range}
+use Rattle.range_set.specs.Canonical.{IsCanonical}
+use Rattle.step_maps.specs.declared.stretch.Stretch.{Stretch}
+use Rattle.die_walk.specs.EntryTable.{DieFields}
+use Rattle.die_names.specs.UnitEntries.{is_inlined}
+use Rattle.die_names.specs.Owners.{inside_of}
+use Rattle.func_flatten.specs.Collecting.{span_stretches, AreFit}
+use Rattle.inline_chain.specs.Trees.{stretches_in, copy_by, copy_stretches, child_stretches, HaveClasses, HaveSets, SaysInside, Collects}
+use Rattle.inline_chain.proofs.InsideLemmas.{IsBelow, taken, inside_below}
+
+got_inside : {X : Type 0} (xs : List X) (k : ℕ) (x : X) → slice_get xs k ≡ Some x → k < length xs
+got_inside [] k x is = absurd (cc)
+got_inside (y ∷ xs) zero x is = omega arith
+got_inside (y ∷ xs) (suc k) x is = (let inside : k < length xs = got_inside xs k x is in omega arith)
+
+got_none : {X : Type 0} (xs : List X) (k : ℕ) → slice_get xs k ≡ None → length xs ≤ k
+got_none [] k is = omega arith
+got_none (y ∷ xs) zero is = absurd (cc)
+got_none (y ∷ xs) (suc k) is = (let outside : length xs ≤ k = got_none xs k is in omega arith)
+
+-- what a list has from a number on
+dropped : {X : Type 0} (xs : List X) (k : ℕ) (x : X) → slice_get xs k ≡ Some x → drop k xs ≡ x ∷ drop (k + 1) xs
+dropped xs k x is = drop_more xs k x (got_inside xs k x is) ∙ ap (λ y. y ∷ drop (k + 1) xs) (taken xs k x x is)
+
+dropped_none : {X : Type 0} (xs : List X) (k : ℕ) → slice_get xs k ≡ None → drop k xs ≡ []
+dropped_none xs k is = drop_all k xs (got_none xs k is)
+
+got_front : {X : Type 0} (xs : List X) (k : ℕ) (x : X) → k < length xs → slice_get (xs ++ x ∷ []) k ≡ slice_get xs k
+got_front [] k x inside = absurd (omega arith)
+got_front (y ∷ xs) zero x inside = refl
+got_front (y ∷ xs) (suc k) x inside = got_front xs k x (omega arith)
+
+got_last : {X : Type 0} (xs : List X) (x : X) → slice_get (xs ++ x ∷ []) (length xs) ≡ Some x
+got_last [] x = refl
+got_last (y ∷ xs) x = got_last xs x
+
+joined_length : {X : Type 0} (xs : List X) (x : X) → length (xs ++ x ∷ []) ≡ length xs + 1
+joined_length [] x = refl
+joined_length (y ∷ xs) x = omega (arith, joined_length xs x)
+
+some_same : {X : Type 0} (x y : X) → Some x ≡ Some y → x ≡ y
+some_same x y is = cc
+
+inside_more : (all : List DieFields) (row : List (Option ℕ)) (k : ℕ) (die : DieFields) (above : Option ℕ) → SaysInside all row k → slice_get all k ≡ Some die → above ≡ inside_of all (length row) die.parent → SaysInside all (row ++ above ∷ []) (k + 1)
+inside_more all row k die above says is said = record {
+  many = omega (arith, joined_length row above, says.many);
+  each = λ j d below found. ⊎_elim
+      (λ less. got_front row j above (omega (arith, says.many)) ∙ says.each j d less found)
+      (λ here.
+      let at : j ≡ k = omega arith in
+      let same : d ≡ die = some_same d die (sym found ∙ ap (slice_get all) at ∙ is) in
+      ap (slice_get (row ++ above ∷ [])) (let e : j ≡ length row = omega (arith, says.many) in e) ∙ got_last row above
+      ∙ ap Some (said ∙ (λ i. inside_of all ((says.many ∙ sym at) i) ((ap (λ (e : DieFields). e.parent) (sym same)) i))))
+      (cases_lt j k);
+}
+
+-- the stretches of an entry, and those of the entries behind
+child_left : (all : List DieFields) (k : ℕ) (dies : List DieFields) (sets : List (List Range)) (die : DieFields) (spans : List Range) → slice_get dies k ≡ Some die → slice_get sets k ≡ Some spans
+    → child_stretches all k (drop k dies) (drop k sets) ≡ copy_stretches all k die spans ++ child_stretches all (k + 1) (drop (k + 1) dies) (drop (k + 1) sets)
+child_left all k dies sets die spans is set_is = λ i. child_stretches all k ((dropped dies k die is) i) ((dropped sets k spans set_is) i)
+
+classes_joined : (n : ℕ) (xs ys : List Stretch) → HaveClasses n xs → HaveClasses n ys → HaveClasses n (xs ++ ys)
+classes_joined n [] ys p q = q
+classes_joined n (x ∷ xs) ys p q = (p.0, classes_joined n xs ys p.1 q)
+
+span_classes : (n index class : ℕ) (spans : List Range) → class < n → HaveClasses n (span_stretches index class spans)
+span_classes n index class [] below = tt
+span_classes n index class (r ∷ spans) below = (below, span_classes n index class spans below)
+
+copy_classes : (n : ℕ) (die : DieFields) (k : ℕ) (above : Option ℕ) (spans : List Range) → k ≤ n → IsBelow k above → HaveClasses n (copy_by die above k spans)
+copy_classes n die k above spans less below = go (is_inlined die) above below
+  where
+    go : (b : Bool) (o : Option ℕ) → IsBelow k o → HaveClasses n (if b then stretches_in k o spans else [])
+    go false o is = tt
+    go true None is = tt
+    go true (Some p) is = span_classes n k p spans (omega (arith, is))
+
+pub collects_begin : (all : List DieFields) (sets : List (List Range)) → Collects all sets 0 [] []
+collects_begin all sets = record {
+  inside = record { many = refl; each = λ k die below found. absurd (omega arith) };
+  items_are = refl;
+  fit = tt;
+  below = tt;
+  sets_are = λ left. left;
+}
+
+pub collects_more : (all : List DieFields) (sets : List (List Range)) (k : ℕ) (row : List (Option ℕ)) (items made : List Stretch) (die : DieFields) (spans : List Range) (above : Option ℕ)
+    → Some die ≡ slice_get all k → Some spans ≡ slice_get sets k → k < length all → above ≡ inside_of all (length row) die.parent → IsCanonical spans → AreFit made → made ≡ items ++ copy_by die above k spans
+    → Collects all sets k row items → Collects all sets (k + 1) (row ++ above ∷ []) made
+collects_more all sets k row items made die spans above is set_is below said canonical fit grown c =
+    let here : above ≡ inside_of all k die.parent = said ∙ ap (λ n. inside_of all n die.parent) c.inside.many in
+    record {
+      inside = inside_more all row k die above c.inside (sym is) said;
+      items_are =
+          ap (λ l. l ++ child_stretches all (k + 1) (drop (k + 1) all) (drop (k + 1) sets)) grown
+          ∙ append_assoc items (copy_by die above k spans) (child_stretches all (k + 1) (drop (k + 1) all) (drop (k + 1) sets))
+          ∙ ap (λ o. items ++ (copy_by die o k spans ++ child_stretches all (k + 1) (drop (k + 1) all) (drop (k + 1) sets))) here
+          ∙ ap (λ l. items ++ l) (sym (child_left all k all sets die spans (sym is) (sym set_is)))
+          ∙ c.items_are;
+      fit = fit;
+      below = subst (HaveClasses (length all)) (sym grown) (classes_joined (length all) items (copy_by die above k spans) c.below (copy_classes (length all) die k above spans (omega arith) (subst (IsBelow k) (sym here) (inside_below all k die.parent))));
+      sets_are = λ left. c.sets_are (subst (λ l. HaveSets l (drop k sets)) (sym (dropped all k die (sym is))) (subst (λ l. HaveSets (die ∷ drop (k + 1) all) l) (sym (dropped sets k spans (sym set_is))) (canonical, left)));
+    }
+
+-- where there is no entry, or no set, of a number, all is collected
+pub collects_end : (all : List DieFields) (sets : List (List Range)) (k : ℕ) (row : List (Option ℕ)) (items : List Stretch) → (None ≡ slice_get all k) ⊎ (None ≡ slice_get sets k) → Collects all sets k row items
+    → (items ≡ child_stretches all 0 all sets) × HaveSets all sets
+collects_end all sets k row items none c =
+    (sym (append-nil items) ∙ ap (λ l. items ++ l) (sym no_more) ∙ c.items_are, c.sets_are no_sets)
+  where
+    empty : (xs : List DieFields) → child_stretches all k xs [] ≡ []
+    empty [] = refl
+    empty (x ∷ xs) = refl
+
+    unset : (xs : List DieFields) → HaveSets xs []
+    unset [] = tt
+    unset (x ∷ xs) = tt
+
+    no_more : child_stretches all k (drop k all) (drop k sets) ≡ []
+    no_more = ⊎_elim (λ is. ap (λ l. child_stretches all k l (drop k sets)) (dropped_none all k (sym is))) (λ is. ap (λ l. child_stretches all k (drop k all) l) (dropped_none sets k (sym is)) ∙ empty (drop k all)) none
+
+    no_sets : HaveSets (drop k all) (drop k sets)
+    no_sets = ⊎_elim (λ is. subst (λ l. HaveSets l (drop k sets)) (sym (dropped_none all k (sym is))) tt) (λ is. subst (λ l. HaveSets (drop k all) l) (sym (dropped_none sets k (sym is))) (unset (drop k all))) none
+
+got_all : {X : Type 0} (xs : List X) (k : ℕ) → length xs ≤ k → None ≡ slice_get xs k
+got_all [] k outside = refl
+got_all (x ∷ xs) zero outside = absurd (omega arith)
+got_all (x ∷ xs) (suc k) outside = got_all xs k (omega arith)
+
+pub collects_all : (all : List DieFields) (sets : List (List Range)) (k : ℕ) (row : List (Option ℕ)) (items : List Stretch) → length all ≤ k → Collects all sets k row items
+    → (items ≡ child_stretches all 0 all sets) × HaveSets all sets
+collects_all all sets k row items over c = collects_end all sets k row items (inl (got_all all k over)) c

@@ -1,0 +1,178 @@
+-- Records in the order of their first addresses.
+use Rattle.std.proofs.Common.{◌≡◌, ℕ, zero, suc, ◌<◌, ◌≤◌, ◌==◌, ◌&&◌, ◌++◌, not, Bool, true, false, if◌then◌else◌, List, [], ◌∷◌, length, get_or, map, arith, refl, sym, ap, ◌∙◌, inl, inr}
+use Rattle.std.specs.List.{filter, list_all, AllByRecursion}
+use Rattle.std.specs.List.Sorted.{IsNonDecreasingBy, IsStableByKey, IsPermutation, ties}
+use Rattle.std.specs.Ordering.{nat_cmp, is_lt}
+use Rattle.std.proofs.ByRecursion.{all_shuffled}
+use Rattle.std.proofs.lemmas.Bool.{cond-true, cond-false, eq-eqb, ne_eqb, cases_lt}
+use Rattle.std.proofs.lemmas.Bool.Decides.{nat_tests, eqb_tells}
+use Rattle.std.proofs.lemmas.List.Elements.{filter_agree}
+use Rattle.std.proofs.lemmas.List.Kept.{IsNonDecreasingBy-filter}
+use Rattle.sym_edges.specs.Addresses.{Range}
+use Rattle.range_set.specs.Canonical.{IsCanonical}
+use Rattle.inline_chain.specs.InlineRuns.{InlineParts, is_of, spans_of, joined, AreParts, first_address, is_before, IsOrdered}
+use Rattle.inline_chain.specs.Levels.{AreOfLevel, Rising}
+
+abbrev key : InlineParts → ℕ
+key r = first_address r.spans
+
+-- the first addresses rise, from a lowest one on
+abbrev KeysFrom : ℕ → List InlineParts → Type 0
+KeysFrom low [] = Prim.Unit {0}
+KeysFrom low (r ∷ runs) = (low ≤ key r) × KeysFrom (key r) runs
+
+abbrev of_key : ℕ → List InlineParts → List InlineParts
+of_key v runs = filter (λ r. key r == v) runs
+
+keys_none : (low v : ℕ) (runs : List InlineParts) → KeysFrom low runs → v < low → of_key v runs ≡ []
+keys_none low v [] keys below = refl
+keys_none low v (r ∷ runs) keys below = cond-false _ _ _ (ne_eqb (key r) v (λ (e : key r ≡ v). absurd (omega (arith, keys.0)))) ∙ keys_none (key r) v runs keys.1 (omega (arith, keys.0))
+
+first_kept : (r : InlineParts) (runs : List InlineParts) → of_key (key r) (r ∷ runs) ≡ r ∷ of_key (key r) runs
+first_kept r runs = cond-true _ _ _ (eq-eqb (key r) (key r) refl)
+
+some_left : (r : InlineParts) (runs others : List InlineParts) → of_key (key r) (r ∷ runs) ≡ others → others ≡ [] → ⊥
+some_left r runs others is none = (let e : r ∷ of_key (key r) runs ≡ [] = sym (first_kept r runs) ∙ is ∙ none in cc)
+
+cons_first : (x y : InlineParts) (xs ys : List InlineParts) → x ∷ xs ≡ y ∷ ys → x ≡ y
+cons_first x y xs ys is = cc
+
+cons_rest : (x y : InlineParts) (xs ys : List InlineParts) → x ∷ xs ≡ y ∷ ys → xs ≡ ys
+cons_rest x y xs ys is = cc
+
+-- a list in this order is known by those of each first address
+one_order : (low high : ℕ) (xs ys : List InlineParts) → KeysFrom low xs → KeysFrom high ys → ((v : ℕ) → of_key v xs ≡ of_key v ys) → xs ≡ ys
+one_order low high [] [] p q same = refl
+one_order low high [] (y ∷ ys) p q same = absurd (some_left y ys [] (sym (same (key y))) refl)
+one_order low high (x ∷ xs) [] p q same = absurd (some_left x xs [] (same (key x)) refl)
+one_order low high (x ∷ xs) (y ∷ ys) p q same = elim (cases_lt (key x) (key y)) [
+  | inl less ↦ absurd (some_left x xs _ (same (key x)) (keys_none (key y) (key x) (y ∷ ys) (omega arith, q.1) less))
+  | inr from ↦ elim (cases_lt (key y) (key x)) [
+    | inl less ↦ absurd (some_left y ys _ (sym (same (key y))) (keys_none (key x) (key y) (x ∷ xs) (omega arith, p.1) less))
+    | inr to ↦
+        let keys : key x ≡ key y = omega arith in
+        let fronts : x ∷ of_key (key x) xs ≡ y ∷ of_key (key y) ys = sym (first_kept x xs) ∙ same (key x) ∙ ap (λ v. of_key v (y ∷ ys)) keys ∙ first_kept y ys in
+        (λ i. (cons_first x y _ _ fronts) i ∷ (one_order (key x) (key y) xs ys p.1 q.1 (λ v. tail_same v keys fronts (same v))) i)
+  ]
+]
+  where
+    tail_same : (v : ℕ) → key x ≡ key y → x ∷ of_key (key x) xs ≡ y ∷ of_key (key y) ys → of_key v (x ∷ xs) ≡ of_key v (y ∷ ys) → of_key v xs ≡ of_key v ys
+    tail_same v keys fronts both = elim (eqb_tells (key x) v) [
+      | inl is ↦ ap (λ n. of_key n xs) (sym is.1) ∙ cons_rest x y _ _ fronts ∙ ap (λ n. of_key n ys) (sym keys ∙ is.1)
+      | inr is ↦ sym (cond-false _ _ _ is.0) ∙ both ∙ cond-false _ _ _ (ne_eqb (key y) v (λ (e : key y ≡ v). is.1 (keys ∙ e)))
+    ]
+
+filter_swap : (p q : InlineParts → Bool) (runs : List InlineParts) → filter p (filter q runs) ≡ filter q (filter p runs)
+filter_swap p q [] = refl
+filter_swap p q (r ∷ runs) = go (p r) (q r) refl refl (filter_swap p q runs)
+  where
+    go : (b c : Bool) → p r ≡ b → q r ≡ c → filter p (filter q runs) ≡ filter q (filter p runs) → filter p (if c then r ∷ filter q runs else filter q runs) ≡ filter q (if b then r ∷ filter p runs else filter p runs)
+    go true true pr qr later = cond-true _ _ _ pr ∙ ap (λ l. r ∷ l) later ∙ sym (cond-true _ _ _ qr)
+    go true false pr qr later = later ∙ sym (cond-false _ _ _ qr)
+    go false true pr qr later = cond-false _ _ _ pr ∙ later
+    go false false pr qr later = later
+
+keys_by : (low : ℕ) (runs : List InlineParts) → IsNonDecreasingBy key runs → (0 < length runs → (d : InlineParts) → low ≤ key (get_or runs 0 d)) → KeysFrom low runs
+keys_by low [] rises first = tt
+keys_by low (r ∷ runs) rises first =
+    (first (omega arith) r, keys_by (key r) runs (λ i j d up h. rises (suc i) (suc j) d (omega arith) (omega arith)) (λ some d. rises 0 1 d (omega arith) (omega arith)))
+
+keys_of : (runs : List InlineParts) → IsNonDecreasingBy key runs → KeysFrom 0 runs
+keys_of runs rises = keys_by 0 runs rises (λ some d. omega arith)
+
+tie_is : (v w : ℕ) → (not (is_lt (nat_cmp v w)) && not (is_lt (nat_cmp w v))) ≡ (w == v)
+tie_is v w = grind (arith, nat_tests)
+
+-- a stable sort keeps those of each first address in their order
+same_keys : (xs ys : List InlineParts) → IsStableByKey key nat_cmp xs ys → (v : ℕ) → of_key v ys ≡ of_key v xs
+same_keys xs ys stable v =
+    let tied : InlineParts = record { level = 0; entry = 0; spans = record { start = v; end = v } ∷ [] } in
+    sym (filter_agree (ties (λ (r s : InlineParts). is_lt (nat_cmp (key r) (key s))) tied) (λ r. key r == v) (λ r. tie_is v (key r)) ys)
+    ∙ stable tied
+    ∙ filter_agree (ties (λ (r s : InlineParts). is_lt (nat_cmp (key r) (key s))) tied) (λ r. key r == v) (λ r. tie_is v (key r)) xs
+
+pub sorted_spans : (level : ℕ) (xs ys : List InlineParts) → Rising level xs → IsNonDecreasingBy key ys → IsStableByKey key nat_cmp xs ys → (x : ℕ) → spans_of level x ys ≡ spans_of level x xs
+sorted_spans level xs ys rising sorted stable x =
+    ap (map (λ (r : InlineParts). r.spans))
+    (one_order 0 0 (filter (is_of level x) ys) (filter (is_of level x) xs) (keys_of _ (IsNonDecreasingBy-filter key (is_of level x) ys sorted)) (keys_of _ (rising x))
+    (λ v. filter_swap (λ r. key r == v) (is_of level x) ys ∙ ap (filter (is_of level x)) (same_keys xs ys stable v) ∙ filter_swap (is_of level x) (λ r. key r == v) xs))
+
+all_level : (level : ℕ) (runs : List InlineParts) → AreOfLevel level runs → AllByRecursion (λ (r : InlineParts). r.level ≡ level) runs
+all_level level [] are = tt
+all_level level (r ∷ runs) are = (are.0, all_level level runs are.1)
+
+level_all : (level : ℕ) (runs : List InlineParts) → AllByRecursion (λ (r : InlineParts). r.level ≡ level) runs → AreOfLevel level runs
+level_all level [] are = tt
+level_all level (r ∷ runs) are = (are.0, level_all level runs are.1)
+
+pub sorted_level : (level : ℕ) (xs ys : List InlineParts) → IsPermutation xs ys → AreOfLevel level xs → AreOfLevel level ys
+sorted_level level xs ys moved are = level_all level ys (all_shuffled (λ (r : InlineParts). r.level ≡ level) xs ys moved (all_level level xs are))
+
+all_before : (low level : ℕ) (r : InlineParts) (runs : List InlineParts) → KeysFrom low runs → key r ≤ low → r.level ≡ level → AreOfLevel level runs → list_all (is_before r) runs ≡ true
+all_before low level r [] keys less is are = refl
+all_before low level r (s ∷ runs) keys less is are = go (is_before r s) (list_all (is_before r) runs) before (all_before (key s) level r runs keys.1 (omega (arith, keys.0)) is are.1)
+  where
+    before : is_before r s ≡ true
+    before = (let up : key r ≤ key s = omega (arith, keys.0) in let same : r.level ≡ s.level = is ∙ sym are.0 in grind (arith, nat_tests))
+
+    go : (b c : Bool) → b ≡ true → c ≡ true → (b && c) ≡ true
+    go true c one two = two
+    go false c one two = absurd (cc)
+
+ordered_by : (low level : ℕ) (runs : List InlineParts) → KeysFrom low runs → AreOfLevel level runs → IsOrdered runs
+ordered_by low level [] keys are = tt
+ordered_by low level (r ∷ runs) keys are = (all_before (key r) level r runs keys.1 (omega arith) are.0 are.1, ordered_by (key r) level runs keys.1 are.1)
+
+pub sorted_ordered : (level : ℕ) (xs ys : List InlineParts) → IsPermutation xs ys → IsNonDecreasingBy key ys → AreOfLevel level xs → IsOrdered ys
+sorted_ordered level xs ys moved sorted are = ordered_by 0 level ys (keys_of ys sorted) (sorted_level level xs ys moved are)
+
+-- parts of a set begin one behind the other
+abbrev BeginsFrom : ℕ → List Range → Type 0
+BeginsFrom low [] = Prim.Unit {0}
+BeginsFrom low (r ∷ spans) = low ≤ r.start
+
+suffix : (r : Range) (spans more : List Range) → IsCanonical (r ∷ (spans ++ more)) → IsCanonical more × BeginsFrom r.start more
+suffix r [] [] canonical = (tt, tt)
+suffix r [] (m ∷ more) canonical = (canonical.2, omega (arith, canonical.0, canonical.1))
+suffix r (s ∷ spans) more canonical =
+    (let later : IsCanonical more × BeginsFrom s.start more = suffix s spans more canonical.2 in (later.0, lower more later.1 (omega (arith, canonical.0, canonical.1))))
+  where
+    lower : (more : List Range) → BeginsFrom s.start more → r.start ≤ s.start → BeginsFrom r.start more
+    lower [] begins less = tt
+    lower (m ∷ more) begins less = omega (arith, begins)
+
+parts_rise : (low : ℕ) (runs : List InlineParts) → AreParts (map (λ (r : InlineParts). r.spans) runs) → IsCanonical (joined (map (λ (r : InlineParts). r.spans) runs)) → BeginsFrom low (joined (map (λ (r : InlineParts). r.spans) runs)) → KeysFrom low runs
+unfolding joined
+parts_rise low [] parts canonical begins = tt
+parts_rise low (r ∷ []) parts canonical begins = go r.spans parts.0 begins
+  where
+    go : (spans : List Range) → 0 < length spans → BeginsFrom low (spans ++ []) → (low ≤ first_address spans) × Prim.Unit {0}
+    go [] some begins = absurd (omega arith)
+    go (s ∷ spans) some begins = (begins, tt)
+parts_rise low (r ∷ s ∷ runs) parts canonical begins = go r.spans (omega (arith, parts.0)) canonical begins (λ low. parts_rise low (s ∷ runs) parts.1)
+  where
+    go : (spans : List Range) → 0 < length spans → IsCanonical (spans ++ joined (map (λ (r : InlineParts). r.spans) (s ∷ runs))) → BeginsFrom low (spans ++ joined (map (λ (r : InlineParts). r.spans) (s ∷ runs)))
+        → ((low : ℕ) → IsCanonical (joined (map (λ (r : InlineParts). r.spans) (s ∷ runs))) → BeginsFrom low (joined (map (λ (r : InlineParts). r.spans) (s ∷ runs))) → KeysFrom low (s ∷ runs))
+        → (low ≤ first_address spans) × KeysFrom (first_address spans) (s ∷ runs)
+    go [] some canonical begins later = absurd (omega arith)
+    go (t ∷ spans) some canonical begins later =
+        (let behind : IsCanonical (joined (map (λ (r : InlineParts). r.spans) (s ∷ runs))) × BeginsFrom t.start (joined (map (λ (r : InlineParts). r.spans) (s ∷ runs))) = suffix t spans _ canonical in (begins, later t.start behind.0 behind.1))
+
+keys_non_decreasing : (low : ℕ) (runs : List InlineParts) → KeysFrom low runs → IsNonDecreasingBy key runs
+keys_non_decreasing low [] keys i j d up h = absurd (omega arith)
+keys_non_decreasing low (r ∷ runs) keys zero zero d up h = omega arith
+keys_non_decreasing low (r ∷ runs) keys zero (suc j) d up h = from_key (key r) runs keys.1 j d (omega arith)
+  where
+    from_key : (low : ℕ) (runs : List InlineParts) → KeysFrom low runs → (k : ℕ) (d : InlineParts) → k < length runs → low ≤ key (get_or runs k d)
+    from_key low [] keys k d h = absurd (omega arith)
+    from_key low (r ∷ runs) keys zero d h = keys.0
+    from_key low (r ∷ runs) keys (suc k) d h = (let up : key r ≤ key (get_or runs k d) = from_key (key r) runs keys.1 k d (omega arith) in omega (arith, keys.0))
+keys_non_decreasing low (r ∷ runs) keys (suc i) zero d up h = absurd (omega arith)
+keys_non_decreasing low (r ∷ runs) keys (suc i) (suc j) d up h = keys_non_decreasing (key r) runs keys.1 i j d (omega arith) (omega arith)
+
+pub rising_parts : (runs : List InlineParts) → AreParts (map (λ (r : InlineParts). r.spans) runs) → IsCanonical (joined (map (λ (r : InlineParts). r.spans) runs)) → IsNonDecreasingBy key runs
+rising_parts runs parts canonical = keys_non_decreasing 0 runs (parts_rise 0 runs parts canonical (from_0 (joined (map (λ (r : InlineParts). r.spans) runs))))
+  where
+    from_0 : (spans : List Range) → BeginsFrom 0 spans
+    from_0 [] = tt
+    from_0 (r ∷ spans) = omega arith

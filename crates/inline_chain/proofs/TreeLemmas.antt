@@ -1,0 +1,129 @@
+-- The trees of units.
+use Rattle.std.proofs.Common.{◌≡◌, ℕ, zero, suc, ◌+◌, ◌<◌, ◌≤◌, ◌&&◌, ◌++◌, Bool, true, false, if◌then◌else◌, nat_le, nat_lt, List, [], ◌∷◌, length, take, drop, get_or, map, Option, None, Some, unwrap_or, arith, refl, sym, ap, subst, ◌∙◌, ⊎_elim}
+use Rattle.std.specs.List.{slice_get}
+use Rattle.std.proofs.lemmas.Bool.{cond-false, ne_eqb, cases_lt}
+use Rattle.std.proofs.lemmas.List.{length-append, take_more, take_all}
+use Rattle.step_maps.specs.Runs.{Run, IsRuns, between}
+use Rattle.step_maps.specs.declared.stretch.Stretch.{Stretch}
+use Rattle.step_maps.specs.declared.stretch.Cover.{Cover}
+use Rattle.step_maps.specs.Covers.{AreCovers, cover_run, first_at, index_at}
+use Rattle.die_walk.specs.EntryTable.{DieFields}
+use Rattle.die_names.specs.declared.unit_read.UnitRead.{UnitRead}
+use Rattle.die_names.specs.UnitEntries.{places}
+use Rattle.func_flatten.specs.Collecting.{AreFit}
+use Rattle.inline_chain.specs.Trees.{of_class, HaveClasses, SortedFrom, front_count, list_of, IsList, AreLists, ListsTo, HaveSets, child_at, child_stretches, IsTree, AreTrees, TreeFor}
+use Rattle.inline_chain.proofs.ChildLemmas.{index_children}
+use Rattle.inline_chain.proofs.ClassLemmas.{take_front, drop_front, sorted_behind, fit_drop}
+
+same_runs : {V : Type 0} (f g : ℕ → Option V) (runs : List (Run V)) → ((a : ℕ) → f a ≡ g a) → IsRuns f runs → IsRuns g runs
+same_runs f g runs same is = record { apart = is.apart; values = λ a. is.values a ∙ same a }
+
+between_same : {V : Type 0} (start end : ℕ) (f g : ℕ → Option V) → ((a : ℕ) → f a ≡ g a) → (a : ℕ) → between start end f a ≡ between start end g a
+between_same start end f g same a = ap (λ o. if nat_le start a && nat_lt a end then o else None) (same a)
+
+no_runs : {V : Type 0} (start end : ℕ) (f : ℕ → Option V) → ((a : ℕ) → f a ≡ None) → IsRuns (between start end f) []
+no_runs start end f none = record { apart = tt; values = λ a. sym (ap (λ o. if nat_le start a && nat_lt a end then o else None) (none a) ∙ same (nat_le start a && nat_lt a end) None) }
+  where
+    same : {A : Type 0} (b : Bool) (o : A) → (if b then o else o) ≡ o
+    same true o = refl
+    same false o = refl
+
+got_front : {X : Type 0} (xs : List X) (k : ℕ) (x : X) → k < length xs → slice_get (xs ++ x ∷ []) k ≡ slice_get xs k
+got_front [] k x inside = absurd (omega arith)
+got_front (y ∷ xs) zero x inside = refl
+got_front (y ∷ xs) (suc k) x inside = got_front xs k x (omega arith)
+
+got_last : {X : Type 0} (xs : List X) (x : X) → slice_get (xs ++ x ∷ []) (length xs) ≡ Some x
+got_last [] x = refl
+got_last (y ∷ xs) x = got_last xs x
+
+got_past : {X : Type 0} (xs : List X) (k : ℕ) → length xs ≤ k → slice_get xs k ≡ None
+got_past [] k outside = refl
+got_past (x ∷ xs) zero outside = absurd (omega arith)
+got_past (x ∷ xs) (suc k) outside = got_past xs k (omega arith)
+
+pub lists_begin : (items : List Stretch) (lists : List (List Cover)) → lists ≡ [] → SortedFrom 0 items → AreFit items → ListsTo items items lists 0
+lists_begin items lists none sorted fit = record { many = ap length none; each = λ x below. absurd (omega arith); ahead = λ x up. refl; sorted = sorted; fit = fit }
+
+pub lists_more : (items rest : List Stretch) (lists : List (List Cover)) (count : ℕ) (group later : List Stretch) (covers : List Cover) → group ≡ take (front_count count rest) rest → later ≡ drop (front_count count rest) rest
+    → AreCovers group covers → ListsTo items rest lists count → ListsTo items later (lists ++ covers ∷ []) (count + 1)
+unfolding list_of
+lists_more items rest lists count group later covers front back made to = record {
+  many = length-append lists (covers ∷ []) ∙ omega (arith, to.many);
+  each = λ x below. ⊎_elim
+      (λ less. subst (λ o. IsRuns (between 0 18446744073709551616 (index_at (of_class x items))) (map cover_run (unwrap_or o []))) (sym (got_front lists x covers (omega (arith, to.many)))) (to.each x less))
+      (λ from.
+      let here : length lists ≡ x = omega (arith, to.many) in
+      let class_is : group ≡ of_class x items = front ∙ take_front count rest to.sorted ∙ to.ahead count (omega arith) ∙ ap (λ n. of_class n items) (let e : count ≡ x = omega (arith, to.many) in e) in
+      subst (λ o. IsRuns (between 0 18446744073709551616 (index_at (of_class x items))) (map cover_run (unwrap_or o [])))
+      (sym (ap (slice_get (lists ++ covers ∷ [])) (sym here) ∙ got_last lists covers))
+      (same_runs _ _ (map cover_run covers) (between_same 0 18446744073709551616 (index_at group) (index_at (of_class x items)) (λ a. ap (λ l. index_at l a) class_is)) made.runs))
+      (cases_lt x count);
+  ahead = λ x up. ap (of_class x) back ∙ drop_front count x rest (λ (e : count ≡ x). absurd (omega arith)) ∙ to.ahead x (omega arith);
+  sorted = subst (SortedFrom (count + 1)) (sym back) (sorted_behind count rest to.sorted);
+  fit = subst AreFit (sym back) (fit_drop (front_count count rest) rest to.fit);
+}
+
+none_of : (x count : ℕ) (items : List Stretch) → HaveClasses count items → count ≤ x → of_class x items ≡ []
+none_of x count [] below up = refl
+none_of x count (s ∷ items) below up = cond-false _ _ _ (ne_eqb s.class x (λ (e : s.class ≡ x). absurd (omega (arith, below.0)))) ∙ none_of x count items below.1 up
+
+empty_list : (items : List Stretch) (lists : List (List Cover)) (x : ℕ) → length lists ≤ x → of_class x items ≡ [] → IsList items lists x
+unfolding list_of index_at first_at
+empty_list items lists x past none =
+    subst (λ o. IsRuns (between 0 18446744073709551616 (index_at (of_class x items))) (map cover_run (unwrap_or o []))) (sym (got_past lists x past))
+    (no_runs 0 18446744073709551616 (index_at (of_class x items)) (λ a. ap (λ l. index_at l a) none))
+
+pub lists_out : (items rest : List Stretch) (lists : List (List Cover)) (count : ℕ) → length rest ≡ 0 → ListsTo items rest lists count → AreLists items lists
+lists_out items [] lists count out to x = ⊎_elim (λ less. to.each x less) (λ from. empty_list items lists x (omega (arith, to.many)) (sym (to.ahead x from))) (cases_lt x count)
+lists_out items (s ∷ rest) lists count out to x = absurd (omega arith)
+
+pub lists_all : (items rest : List Stretch) (lists : List (List Cover)) (n count : ℕ) → n ≤ count → HaveClasses n items → ListsTo items rest lists count → AreLists items lists
+lists_all items rest lists n count less below to x = ⊎_elim (λ less. to.each x less) (λ from. empty_list items lists x (omega (arith, to.many)) (none_of x n items below (omega arith))) (cases_lt x count)
+
+-- the lists of a unit's copies are its tree
+pub tree_is : (part : UnitRead) (items sorted : List Stretch) (lists : List (List Cover)) → items ≡ child_stretches part.die.dies 0 part.die.dies part.spans → HaveSets part.die.dies part.spans
+    → ((x : ℕ) → of_class x sorted ≡ of_class x items) → AreLists sorted lists → IsTree part lists
+unfolding child_at
+tree_is part items sorted lists items_are sets same are x =
+    same_runs _ _ (map cover_run (list_of lists x))
+    (between_same 0 18446744073709551616 (index_at (of_class x sorted)) (child_at part x)
+    (λ a. ap (λ l. index_at l a) (same x ∙ ap (of_class x) items_are) ∙ index_children part.die.dies x 0 part.die.dies part.spans a sets))
+    (are x)
+
+-- the trees of the first units
+abbrev pub TreesTo : List UnitRead → ℕ → List (List (List Cover)) → Type 0
+TreesTo units count trees = AreTrees (take count units) trees
+
+trees_joined : (units more : List UnitRead) (trees others : List (List (List Cover))) → AreTrees units trees → AreTrees more others → AreTrees (units ++ more) (trees ++ others)
+trees_joined [] more [] others are later = later
+trees_joined [] more (t ∷ trees) others are later = absurd are
+trees_joined (u ∷ units) more [] others are later = absurd are
+trees_joined (u ∷ units) more (t ∷ trees) others are later = (are.0, trees_joined units more trees others are.1 later)
+
+pub trees_more : (units : List UnitRead) (count : ℕ) (trees : List (List (List Cover))) (lists : List (List Cover)) (part d : UnitRead) → count < length units → part ≡ get_or units count d → IsTree part lists
+    → TreesTo units count trees → TreesTo units (count + 1) (trees ++ lists ∷ [])
+trees_more units count trees lists part d inside is tree are =
+    subst (λ l. AreTrees l (trees ++ lists ∷ [])) (sym (take_more units count d inside ∙ ap (λ u. take count units ++ u ∷ []) (sym is)))
+    (trees_joined (take count units) (part ∷ []) trees (lists ∷ []) are (tree, tt))
+
+pub trees_all : (units : List UnitRead) (count : ℕ) (trees : List (List (List Cover))) → length units ≤ count → TreesTo units count trees → AreTrees units trees
+trees_all units count trees over are = subst (λ l. AreTrees l trees) (take_all count units over) are
+
+pub tree_at : (units : List UnitRead) (trees : List (List (List Cover))) (k : ℕ) → AreTrees units trees → TreeFor (slice_get units k) (slice_get trees k)
+tree_at [] [] k are = tt
+tree_at [] (t ∷ trees) k are = absurd are
+tree_at (u ∷ units) [] k are = absurd are
+tree_at (u ∷ units) (t ∷ trees) zero are = are.0
+tree_at (u ∷ units) (t ∷ trees) (suc k) are = tree_at units trees k are.1
+
+ats : (dies : List DieFields) → length (map (λ die. die.at) dies) ≡ length dies
+ats [] = refl
+ats (d ∷ dies) = omega (arith, ats dies)
+
+-- a unit has no more entries than all units have
+pub unit_few : (units : List UnitRead) (k : ℕ) (d : UnitRead) → k < length units → length (get_or units k d).die.dies ≤ length (places units)
+unit_few [] k d inside = absurd (omega arith)
+unit_few (u ∷ units) zero d inside = omega (arith, length-append (map (λ die. die.at) u.die.dies) (places units), ats u.die.dies)
+unit_few (u ∷ units) (suc k) d inside =
+    (let less : length (get_or units k d).die.dies ≤ length (places units) = unit_few units k d (omega arith) in omega (arith, length-append (map (λ die. die.at) u.die.dies) (places units)))

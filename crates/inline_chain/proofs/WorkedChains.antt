@@ -1,0 +1,103 @@
+-- Worked rows: which inlined copies stand at an address. A sign for each address, in order: the number of the entry on a level, or a point.
+use Rattle.std.proofs.Common.{◌≡◌, ℕ, ◌+◌, false, map, List, [], ◌∷◌, Option, Some, None, codes, refl}
+use Rattle.std.specs.List.{range_with_len, slice_get}
+use Prim.Native.String.{String}
+use Rattle.sym_edges.specs.Addresses.{Range}
+use Rattle.sym_edges.proofs.Shown.{shown}
+use Rattle.die_walk.specs.EntryTable.{DieFields}
+use Rattle.die_names.specs.declared.unit_read.UnitRead.{UnitRead}
+use Rattle.die_names.specs.Owners.{Covering}
+use Rattle.inline_chain.specs.InlineRuns.{entry_chain}
+use Rattle.inline_chain.proofs.Computing.{inline_chain_computes}
+
+record Made : Type 0 where
+  die : DieFields
+  spans : List Range
+
+-- an entry by its tag, the entry around it and its addresses
+unfoldable entry : ℕ → Option ℕ → List Range → Made
+entry tag parent spans = record {
+  die = record {
+    at = 0;
+    tag = tag;
+    parent = parent;
+    declaration = false;
+    low = None;
+    high = None;
+    ranges = None;
+    origin = None;
+    spec = None;
+    name = None;
+    linkage = None;
+    call_file = None;
+    call_line = 0;
+  };
+  spans = spans;
+}
+
+abbrev on : ℕ → ℕ → List Range
+on start end = record { start = start; end = end } ∷ []
+
+abbrev root : Made
+root = entry 0x11 None []
+
+-- an inlined copy in an entry
+abbrev copy : ℕ → List Range → Made
+copy parent spans = entry 0x1d (Some parent) spans
+
+-- a function in an entry
+abbrev function : ℕ → List Range → Made
+function parent spans = entry 0x2e (Some parent) spans
+
+unfoldable unit : List Made → UnitRead
+unit entries = record {
+  die = record { root = record { at = 0; low = None; stmt_list = None; comp_dir = None; str_offsets_base = None; addr_base = None; rnglists_base = None }; dies = map (λ m. m.die) entries };
+  spans = map (λ m. m.spans) entries;
+  lines = record { lines = record { stops = []; values = [] }; paths = []; first = 0; files = [] };
+}
+
+abbrev digit : Option Covering → ℕ
+digit None = 46
+digit (Some c) = 48 + c.entry
+
+-- a level of the chain under an entry, at the addresses 0 to 7
+unfoldable level : List Made → ℕ → ℕ → String
+level entries owner k = shown (map (λ a. digit (slice_get (entry_chain (unit entries ∷ []) 0 owner a) k)) (range_with_len 0 8))
+
+-- a copy has no address outside of the copy that it stands in
+clipped_outer : level (root ∷ function 0 (on 0 8) ∷ copy 1 (on 2 6) ∷ copy 2 (on 4 8) ∷ []) 1 0 ≡ "..2222.."
+unfolding inline_chain_computes level entry unit
+clipped_outer = refl
+
+clipped_inner : level (root ∷ function 0 (on 0 8) ∷ copy 1 (on 2 6) ∷ copy 2 (on 4 8) ∷ []) 1 1 ≡ "....33.."
+unfolding inline_chain_computes level entry unit
+clipped_inner = refl
+
+-- of two siblings the first counts
+first_sibling : level (root ∷ function 0 (on 0 8) ∷ copy 1 (on 1 5) ∷ copy 1 (on 3 7) ∷ []) 1 0 ≡ ".222233."
+unfolding inline_chain_computes level entry unit
+first_sibling = refl
+
+-- and what stands in the second, only where the second does
+in_second_sibling : level (root ∷ function 0 (on 0 8) ∷ copy 1 (on 1 5) ∷ copy 1 (on 3 7) ∷ copy 3 (on 3 7) ∷ []) 1 1 ≡ ".....44."
+unfolding inline_chain_computes level entry unit
+in_second_sibling = refl
+
+-- a structure in between does not count
+through_structure : level (root ∷ function 0 (on 0 8) ∷ entry 0x13 (Some 1) [] ∷ copy 2 (on 2 6) ∷ []) 1 0 ≡ "..3333.."
+unfolding inline_chain_computes level entry unit
+through_structure = refl
+
+-- a function in between does: its copies are its own
+in_inner_function : level (root ∷ function 0 (on 0 8) ∷ function 1 (on 2 6) ∷ copy 2 (on 2 6) ∷ []) 1 0 ≡ "........"
+unfolding inline_chain_computes level entry unit
+in_inner_function = refl
+
+of_inner_function : level (root ∷ function 0 (on 0 8) ∷ function 1 (on 2 6) ∷ copy 2 (on 2 6) ∷ []) 2 0 ≡ "..3333.."
+unfolding inline_chain_computes level entry unit
+of_inner_function = refl
+
+-- a copy with the addresses of the copy that it stands in
+same_addresses : level (root ∷ function 0 (on 0 8) ∷ copy 1 (on 2 6) ∷ copy 2 (on 2 6) ∷ []) 1 1 ≡ "..3333.."
+unfolding inline_chain_computes level entry unit
+same_addresses = refl

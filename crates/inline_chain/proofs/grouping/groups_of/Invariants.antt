@@ -1,0 +1,15 @@
+use Rattle.std.proofs.Common.{length}
+use Rattle.func_flatten.specs.Collecting.{AreFit}
+use Rattle.inline_chain.specs.Trees.{SortedFrom}
+use Rattle.inline_chain.specs.Levels.{Groups}
+use Rattle.inline_chain.proofs.grouping.groups_of.Given as goal
+
+abbrev pub invariant-groups : goal.invariant-groups
+invariant-groups l = record {
+  fit : AreFit l.rest;
+  sorted : SortedFrom 0 l.rest;
+  groups : Groups l.level l.items l.rest l.made.items;
+}
+
+abbrev pub decreases-groups : goal.decreases-groups
+decreases-groups l = length l.rest

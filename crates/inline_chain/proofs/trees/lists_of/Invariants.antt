@@ -1,0 +1,5 @@
+use Rattle.inline_chain.specs.Trees.{ListsTo}
+use Rattle.inline_chain.proofs.trees.lists_of.Given as goal
+
+abbrev pub invariant-classes : goal.invariant-classes
+invariant-classes l = ListsTo l.items l.rest l.lists.items l.class

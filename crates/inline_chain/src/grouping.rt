@@ -1,0 +1,150 @@
+//! The records of a level: the addresses of each entry together.
+ghost use Rattle.std.specs.Prelude.{◌≡◌, ℕ, ◌<◌, ◌++◌, length, IfOk, OnOk};
+ghost use Rattle.std.specs.List.{list_any};
+ghost use Rattle.range_set.specs.Members.{holds_any};
+ghost use Rattle.range_set.specs.Canonical.{IsCanonical};
+ghost use Rattle.step_maps.specs.Covers.{reaches};
+ghost use Rattle.func_flatten.specs.Collecting.{AreFit};
+ghost use Rattle.inline_chain.specs.InlineRuns.{IsOrdered, spans_of, first_address};
+ghost use Rattle.inline_chain.specs.Trees.{SortedFrom};
+ghost use Rattle.inline_chain.specs.Levels.{AddsGroup, AddsParts, IsMade, AddsLevel, Rising, AreOfLevel};
+
+use crate::inline_run::InlineRun;
+use crate::trees::{front_count, sort_by_class};
+use range_set::{RangeSet, of_ranges};
+use std::alloc::{AllocError, Global};
+use step_maps::Stretch;
+use sym_edges::{OutOfMemory, Span};
+
+/// A record has at most so many ranges.
+const RANGES: usize = 16384;
+
+/// The stretches as spans.
+fn spans_of(alloc: Global, group: &[Stretch]) -> Result<Vec<Span>, AllocError>
+    requires { AreFit group.now }
+    ensures { IfOk result (λ spans. (a : ℕ) → holds_any spans.items a ≡ list_any (λ s. reaches s a) group.now) }
+{
+    let mut spans = Vec::with_capacity(alloc, group.len())?;
+    let mut rest = group;
+    'group: while let Some((stretch, later)) = rest.split_first() {
+        spans.push(Span::new(stretch.first, stretch.last + 1))?;
+        rest = later;
+    }
+    Ok(spans)
+}
+
+/// The set of ranges that are sorted and disjoint.
+#[tactic(auto, using(range_set::proofs::OneList::one_list))]
+fn set_of(alloc: Global, spans: &[Span]) -> Result<RangeSet, OutOfMemory>
+    requires { IsCanonical spans.now }
+    ensures { IfOk result (λ set. set ≡ spans.now) }
+{
+    let set = of_ranges(alloc, spans)?;
+    let _held = set.spans();
+    Ok(set)
+}
+
+/// Adds the records of an entry with many ranges: each has as many as a record may have, and the last those that are left.
+fn push_parts(
+    alloc: Global,
+    made: &mut Vec<InlineRun>,
+    level: u32,
+    entry: u32,
+    spans: &[Span],
+) -> Result<(), OutOfMemory>
+    requires { IsCanonical spans.now }
+    ensures { OnOk result (AddsParts level entry spans.now made.old.items made.new.items) }
+{
+    let mut rest = spans;
+    'parts: while rest.len() > RANGES {
+        let (part, later) = rest.split_at(RANGES);
+        made.push(InlineRun {
+            level,
+            entry,
+            spans: set_of(alloc, part)?,
+        })?;
+        rest = later;
+    }
+    if rest.is_empty() {
+        return Ok(());
+    }
+    made.push(InlineRun {
+        level,
+        entry,
+        spans: set_of(alloc, rest)?,
+    })?;
+    Ok(())
+}
+
+/// Adds the records of the stretches of one entry.
+fn push_group(
+    alloc: Global,
+    made: &mut Vec<InlineRun>,
+    level: u32,
+    entry: u32,
+    group: &[Stretch],
+) -> Result<(), OutOfMemory>
+    requires { AreFit group.now }
+    ensures { OnOk result (AddsGroup level entry group.now made.old.items made.new.items) }
+{
+    let spans = spans_of(alloc, group)?;
+    let set = of_ranges(alloc, spans.as_slice())?;
+    push_parts(alloc, made, level, entry, set.spans())?;
+    Ok(())
+}
+
+/// The records of sorted stretches, entry by entry.
+fn groups_of(alloc: Global, level: u32, items: &[Stretch]) -> Result<Vec<InlineRun>, OutOfMemory>
+    requires fit { AreFit items.now }
+    requires sorted { SortedFrom 0 items.now }
+    ensures { IfOk result (λ made. IsMade level items.now made.items) }
+{
+    let mut made = Vec::new(alloc);
+    let mut rest = items;
+    'groups: while let Some((first, _)) = rest.split_first() {
+        let entry = first.class;
+        let (group, later) = rest.split_at(front_count(rest, entry));
+        push_group(alloc, &mut made, level, entry, group)?;
+        rest = later;
+    }
+    Ok(made)
+}
+
+/// The first address of a record.
+fn first_address(spans: &RangeSet) -> u64
+    ensures { result ≡ first_address spans.now }
+{
+    match spans.get(0) {
+        Some(span) => span.start(),
+        None => 0,
+    }
+}
+
+/// Sorts the records of a level by their first addresses.
+fn sort_by_address(made: &mut Vec<InlineRun>, level: u32) -> Result<(), AllocError>
+    requires { Rising level made.old.items }
+    ensures same { OnOk result ((x : ℕ) → spans_of level x made.new.items ≡ spans_of level x made.old.items) }
+    ensures level { OnOk result (AreOfLevel level made.old.items → AreOfLevel level made.new.items) }
+    ensures sorted { OnOk result (AreOfLevel level made.old.items → IsOrdered made.new.items) }
+{
+    made.sort_by_key(|run| first_address(&run.spans))?;
+    Ok(())
+}
+
+/// Adds the records of a level.
+pub fn push_level(
+    alloc: Global,
+    runs: &mut Vec<InlineRun>,
+    level: u32,
+    items: Vec<Stretch>,
+) -> Result<(), OutOfMemory>
+    requires { AreFit items.items }
+    ensures { OnOk result (AddsLevel level items.items runs.old.items runs.new.items) }
+{
+    let mut sorted = items;
+    sort_by_class(&mut sorted)?;
+    let mut made = groups_of(alloc, level, sorted.as_slice())?;
+    sort_by_address(&mut made, level)?;
+    runs.append(&mut made)?;
+    Ok(())
+}

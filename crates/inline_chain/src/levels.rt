@@ -1,0 +1,82 @@
+//! The levels of a piece, one below the other.
+ghost use Rattle.std.specs.Prelude.{◌≡◌, ℕ, ◌&&◌, ◌||◌, ◌≤◌, length, map, [], ◌∷◌, IfOk, OnOk};
+ghost use Rattle.std.specs.List.{list_any};
+ghost use Rattle.step_maps.specs.Runs.{AreRuns};
+ghost use Rattle.step_maps.specs.Covers.{reaches, cover_run};
+ghost use Rattle.func_flatten.specs.Collecting.{AreFit};
+ghost use Rattle.inline_chain.specs.Trees.{list_of};
+ghost use Rattle.inline_chain.specs.Levels.{has_at, covers_at, reaches_under, cut, HaveRuns, StartsCovers};
+
+use std::alloc::{AllocError, Global};
+use step_maps::{Cover, CoverList, Stretch};
+
+/// The covers of an entry.
+#[tactic(auto, unfolding(crate::specs::Trees::list_of))]
+fn list_in(lists: &[CoverList], entry: usize) -> &[Cover]
+    ensures { result.now ≡ list_of lists.now entry }
+{
+    match lists.get(entry) {
+        Some(list) => list.as_slice(),
+        None => &[],
+    }
+}
+
+/// How many covers end below an address.
+fn count_below(covers: &[Cover], first: u64) -> usize
+    requires { AreRuns (map cover_run covers.now) }
+    ensures { StartsCovers covers.now first result }
+{
+    covers.partition_point(|cover| cover.last < first)
+}
+
+/// The part of a cover inside of a stretch, with which it has an address in common.
+fn cut(cover: &Cover, around: Stretch) -> Stretch
+    ensures { result ≡ cut cover.now around }
+{
+    Stretch {
+        first: cover.first.max(around.first),
+        last: cover.last.min(around.last),
+        index: cover.index,
+        class: cover.index,
+    }
+}
+
+/// Adds what stands directly in an entry at the addresses of one of its stretches.
+fn push_under(next: &mut Vec<Stretch>, covers: &[Cover], around: Stretch) -> Result<(), AllocError>
+    requires runs { AreRuns (map cover_run covers.now) }
+    requires fit { AreFit next.old.items }
+    requires one { AreFit (around ∷ []) }
+    ensures fit { OnOk result (AreFit next.new.items) }
+    ensures at { OnOk result ((y a : ℕ) → has_at next.new.items y a ≡ (has_at next.old.items y a || (reaches around a && covers_at covers.now y a))) }
+{
+    let (_, front) = covers.split_at(count_below(covers, around.first));
+    let mut rest = front;
+    'covers: while let Some((cover, later)) = rest.split_first() {
+        if cover.first > around.last {
+            return Ok(());
+        }
+        next.push(cut(cover, around))?;
+        rest = later;
+    }
+    Ok(())
+}
+
+/// What stands directly in the entries of a level, at the addresses at which these stand.
+pub fn level_under(
+    alloc: Global,
+    lists: &[CoverList],
+    level: &[Stretch],
+) -> Result<Vec<Stretch>, AllocError>
+    requires runs { HaveRuns lists.now }
+    requires fit { AreFit level.now }
+    ensures fit { IfOk result (λ next. AreFit next.items) }
+    ensures at { IfOk result (λ next. (y a : ℕ) → has_at next.items y a ≡ list_any (reaches_under lists.now y a) level.now) }
+{
+    let mut next = Vec::new(alloc);
+    let mut rest = level;
+    'level: while let Some((around, later)) = rest.split_first() {
+        push_under(&mut next, list_in(lists, around.class as usize), *around)?;
+        rest = later;
+    }
+    Ok(next)
+}

@@ -1,0 +1,131 @@
+//! Which inlined copies stand directly in each entry.
+ghost use Rattle.std.specs.Prelude.{◌≡◌, ℕ, ◌<◌, ◌^◌, length, IfOk, OnOk};
+ghost use Rattle.func_flatten.specs.Collecting.{AreFit};
+ghost use Rattle.std.specs.List.{slice_get};
+ghost use Rattle.std.specs.Option.{option_copied};
+ghost use Rattle.die_names.specs.UnitEntries.{AreRead};
+ghost use Rattle.inline_chain.specs.Trees.{HaveClasses, SortedFrom, of_class, front_count, AreLists, IsTree, AreTrees, TreeFor};
+
+use crate::children::collect_copies;
+use die_names::{UnitRead, Units};
+use std::alloc::{AllocError, Global};
+use std::marker::Model;
+use step_maps::{CoverList, Stretch, covers};
+use sym_edges::{ListOf, OutOfMemory};
+
+/// For each entry the covers of the inlined copies directly in it.
+pub(crate) type CoverLists = ListOf<CoverList>;
+
+/// The units of a file, and which inlined copies stand directly in each of their entries, by address.
+#[derive(Drop)]
+pub struct InlineTrees<'u, 'a> {
+    units: &'u Units<'a>,
+    trees: Vec<CoverLists>,
+}
+
+impl<'u, 'a> Model for InlineTrees<'u, 'a> {
+    ghost use Rattle.std.specs.Prelude.{List};
+    ghost use Rattle.die_names.specs.declared.unit_read.UnitRead.{UnitRead};
+    ghost use Rattle.inline_chain.specs.Trees.{AreTrees};
+
+    ghost Value = { List UnitRead };
+
+    ghost view = { λ t. t.units.now };
+
+    ghost invariant = { λ t. AreTrees t.units.now t.trees.items };
+}
+
+impl<'u, 'a> InlineTrees<'u, 'a> {
+    /// Finds which inlined copies stand directly in each entry, once for all pieces.
+    pub fn of(alloc: Global, units: &'u Units<'a>) -> Result<InlineTrees<'u, 'a>, OutOfMemory>
+        ensures { IfOk result (λ trees. trees ≡ units.now) }
+    {
+        let trees = all_trees(alloc, units.as_slice())?;
+        Ok(InlineTrees { units, trees })
+    }
+
+    /// The covers of the entries of a unit.
+    pub(crate) fn tree(&self, unit: u32) -> Option<&CoverLists>
+        ensures { TreeFor (slice_get self.now unit) (option_copied result) }
+    {
+        tree_in(self.trees.as_slice(), unit as usize)
+    }
+}
+
+fn tree_in(trees: &[CoverLists], unit: usize) -> Option<&CoverLists>
+    ensures { option_copied result ≡ slice_get trees.now unit }
+{
+    trees.get(unit)
+}
+
+/// The trees of all units.
+fn all_trees(alloc: Global, units: &[UnitRead<'_>]) -> Result<Vec<CoverLists>, OutOfMemory>
+    requires { AreRead units.now }
+    ensures { IfOk result (λ trees. AreTrees units.now trees.items) }
+{
+    let mut trees = Vec::with_capacity(alloc, units.len())?;
+    'units: for unit in 0..units.len() {
+        let part = &units[unit];
+        trees.push(ListOf::of(tree_of(alloc, part)?))?;
+    }
+    Ok(trees)
+}
+
+/// The tree of a unit.
+fn tree_of(alloc: Global, part: &UnitRead<'_>) -> Result<Vec<CoverList>, OutOfMemory>
+    requires { length part.now.die.dies < 2 ^ 32 }
+    ensures { IfOk result (λ lists. IsTree part.now lists.items) }
+{
+    let mut items = collect_copies(alloc, part.die.dies(), part.spans.as_slice())?;
+    sort_by_class(&mut items)?;
+    let lists = lists_of(alloc, part.die.dies().len(), items.as_slice())?;
+    Ok(lists)
+}
+
+/// Sorts stretches by class; those of one class stay in their order.
+pub(crate) fn sort_by_class(items: &mut Vec<Stretch>) -> Result<(), AllocError>
+    ensures same { OnOk result ((x : ℕ) → of_class x items.new.items ≡ of_class x items.old.items) }
+    ensures sorted { OnOk result (SortedFrom 0 items.new.items) }
+    ensures fit { OnOk result (AreFit items.old.items → AreFit items.new.items) }
+    ensures below { OnOk result ((count : ℕ) → HaveClasses count items.old.items → HaveClasses count items.new.items) }
+{
+    items.sort_by_key(|item| item.class)?;
+    Ok(())
+}
+
+/// How many stretches at the front are of a class.
+pub(crate) fn front_count(items: &[Stretch], class: u32) -> usize
+    ensures { result ≡ front_count class items.now }
+{
+    let mut count: usize = 0;
+    let mut rest = items;
+    'items: while let Some((item, later)) = rest.split_first() {
+        if item.class != class {
+            return count;
+        }
+        count += 1;
+        rest = later;
+    }
+    count
+}
+
+/// The covers of each class of sorted stretches, as far as there are any.
+fn lists_of(alloc: Global, count: usize, items: &[Stretch]) -> Result<Vec<CoverList>, OutOfMemory>
+    requires few { count < 2 ^ 32 }
+    requires fit { AreFit items.now }
+    requires sorted { SortedFrom 0 items.now }
+    requires below { HaveClasses count items.now }
+    ensures { IfOk result (λ lists. AreLists items.now lists.items) }
+{
+    let mut lists = Vec::new(alloc);
+    let mut rest = items;
+    'classes: for class in 0..count {
+        if rest.is_empty() {
+            return Ok(lists);
+        }
+        let (group, later) = rest.split_at(front_count(rest, class as u32));
+        lists.push(covers(alloc, group)?)?;
+        rest = later;
+    }
+    Ok(lists)
+}
