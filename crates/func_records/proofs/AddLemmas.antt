@@ -1,69 +1,38 @@
--- What the whole text has: FILE records of the paths in use, and the records of all pieces.
-use Rattle.std.proofs.Common.{◌≡◌, ℕ, zero, suc, ◌<◌, ◌-◌, Bool, true, false, ◌||◌, cond, map, length, List, [], ◌∷◌, ◌++◌, Option, None, Some, unwrap_or, arith, refl, sym, ap, subst, ◌∙◌, Bor, append_assoc}
-use Rattle.std.specs.List.{slice_get, list_any, AllByRecursion}
+-- What the whole text has: the records of the paths and the names in use, and those of all pieces.
+use Rattle.std.proofs.Common.{◌≡◌, ℕ, zero, suc, ◌<◌, ◌-◌, Bool, true, ◌||◌, cond, map, length, List, [], ◌∷◌, ◌++◌, Option, None, Some, unwrap_or, arith, refl, sym, ap, subst, ◌∙◌, Bor, append_assoc}
+use Rattle.std.specs.List.{slice_get, list_any}
 use Rattle.std.specs.List.Sorted.{IsStrictlySortedBy}
-use Rattle.std.specs.Ordering.{nat_cmp}
-use Rattle.std.specs.declared.cmp.Ordering.TheVariants.{Less}
-use Rattle.std.specs.Cmp.Lexicographic.{slice_cmp}
 use Rattle.std.specs.Str.{bytes_eq}
 use Rattle.std.proofs.lemmas.Slice.Eq.{bytes_eq-Decides}
-use Rattle.std.proofs.lemmas.List.Folds.{Any-from_list_any, list_any-from_Any}
+use Rattle.std.proofs.lemmas.List.Folds.{list_any-append}
 use Rattle.step_maps.specs.Runs.{Run}
 use Rattle.step_maps.proofs.OneRuns.{one_runs}
 use Rattle.sym_records.specs.Canon.{canon_text}
-use Rattle.sym_records.specs.Cleaning.{cleaned}
 use Rattle.sym_records.specs.Validity.{first_bad_from}
 use Rattle.sym_records.specs.declared.place.Place.TheVariants.{Inside}
-use Rattle.sym_records.specs.declared.line.SymLine.TheVariants.{Line}
+use Rattle.sym_records.specs.declared.line.SymLine.{SymLine}
+use Rattle.sym_records.specs.declared.line.SymLine.TheVariants.{Inline, Line}
 use Rattle.sym_records.proofs.JoiningLemmas.{join_behind}
 use Rattle.die_names.specs.declared.unit_read.UnitRead.{UnitRead}
+use Rattle.die_names.specs.Names.{entry_name}
 use Rattle.func_flatten.specs.declared.piece.Piece.{Piece}
 use Rattle.func_flatten.specs.declared.line_run.LineRun.{LineRun}
 use Rattle.func_flatten.specs.LineRuns.{paths_in, number_run, unit_paths, AreLineRuns}
+use Rattle.inline_chain.specs.InlineRuns.{InlineParts}
+use Rattle.func_records.specs.declared.numbers.Numbers.{Numbers}
 use Rattle.func_records.specs.Texts.{text_cmp, SameTexts}
-use Rattle.func_records.specs.FuncRecords.{Part, pieces_of, path_in, number_in, file_lines, func_record, line_record, part_lines, AreLined, names_path}
-use Rattle.func_records.specs.Gathering.{bytes_of, has_text, ArePathed, Gathered}
-use Rattle.func_records.specs.Spelling.{number_or_0, unit_numbers, line_by, row_of, parts_by, AreClean, AddsParts}
-use Rattle.func_records.specs.Adding.{HaveCleanPaths, AddsFunctions}
+use Rattle.func_records.specs.FuncRecords.{Part, pieces_of, path_in, no_path, call_path, call_line, number_in, file_lines, origin_lines, extent, func_record, inline_record, line_record, part_lines, AreLined, names_path, names_origin}
+use Rattle.func_records.specs.Calls.{call_number, path_or, IsPathed, IsKnown, AreKnown, AreAllKnown}
+use Rattle.func_records.specs.Gathering.{bytes_of, ArePathed, AreHeld, Gathered, copies_of}
+use Rattle.func_records.specs.Spelling.{number_or_0, unit_numbers, line_by, row_of}
+use Rattle.func_records.specs.Origins.{entry_names, all_names}
+use Rattle.func_records.specs.Parts.{file_by, inline_by, parts_by, AddsParts}
+use Rattle.func_records.specs.Adding.{AddsFunctions}
 use Rattle.func_records.proofs.PathLemmas.{all_pathed}
-use Rattle.func_records.proofs.SpellLemmas.{canon_join}
-
--- sorted texts by their bytes
-all_below : (x : Bor (List ℕ)) (xs : List (Bor (List ℕ))) → AllByRecursion (λ y. text_cmp x y ≡ Less) xs → AllByRecursion (λ y. slice_cmp nat_cmp x.now y ≡ Less) (bytes_of xs)
-all_below x [] below = tt
-all_below x (y ∷ xs) below = (below.0, all_below x xs below.1)
-
-bytes_sorted : (xs : List (Bor (List ℕ))) → IsStrictlySortedBy text_cmp xs → IsStrictlySortedBy (slice_cmp nat_cmp) (bytes_of xs)
-unfolding IsStrictlySortedBy
-bytes_sorted [] sorted = tt
-bytes_sorted (x ∷ xs) sorted = (all_below x xs sorted.0, bytes_sorted xs sorted.1)
-
--- the same texts
-same_true : (a b : Bool) → (a ≡ true → b ≡ true) → (b ≡ true → a ≡ true) → a ≡ b
-same_true true true there back = refl
-same_true true false there back = sym (there refl)
-same_true false true there back = back refl
-same_true false false there back = refl
-
-had_from : (xs ys : List (Bor (List ℕ))) (path : List ℕ) → SameTexts xs ys → has_text ys path ≡ true → has_text xs path ≡ true
-had_from xs ys path same had =
-    let any = Any-from_list_any (λ (t : Bor (List ℕ)). bytes_eq path t.now) ys had in
-    let has = same.from any.1 (any.0, any.2, any.3) in
-    list_any-from_Any (λ (t : Bor (List ℕ)). bytes_eq path t.now) xs (has.0, any.1, has.1, has.2, any.4)
-
-had_all : (xs ys : List (Bor (List ℕ))) (path : List ℕ) → SameTexts xs ys → has_text xs path ≡ true → has_text ys path ≡ true
-had_all xs ys path same had =
-    let any = Any-from_list_any (λ (t : Bor (List ℕ)). bytes_eq path t.now) xs had in
-    let other = same.all any.1 (any.0, any.2, any.3) in
-    let alike : path ≡ other.1.now = (bytes_eq-Decides path any.1.now).0 any.4 ∙ (bytes_eq-Decides any.1.now other.1.now).0 other.4 in
-    list_any-from_Any (λ (t : Bor (List ℕ)). bytes_eq path t.now) ys (other.0, other.1, other.2, other.3, (bytes_eq-Decides path other.1.now).1 alike)
-
-bytes_had : (xs : List (Bor (List ℕ))) (path : List ℕ) → list_any (bytes_eq path) (bytes_of xs) ≡ has_text xs path
-bytes_had [] path = refl
-bytes_had (x ∷ xs) path = ap (λ b. bytes_eq path x.now || b) (bytes_had xs path)
-
-pub same_paths : (xs ys : List (Bor (List ℕ))) (path : List ℕ) → SameTexts xs ys → list_any (bytes_eq path) (bytes_of ys) ≡ has_text xs path
-same_paths xs ys path same = bytes_had ys path ∙ same_true (has_text ys path) (has_text xs path) (had_from xs ys path same) (had_all xs ys path same)
+use Rattle.func_records.proofs.CanonLemmas.{canon_join}
+use Rattle.func_records.proofs.HoldLemmas.{held_inlined}
+use Rattle.func_records.proofs.UsedLemmas.{bytes_sorted, bytes_had, same_used}
+use Rattle.func_records.proofs.ListLemmas.{or_left, or_right}
 
 -- the parts of some pieces are one list
 abbrev back : Run (ℕ × ℕ) → LineRun
@@ -77,25 +46,32 @@ one_lines : (units : List UnitRead) (piece : Piece) (xs ys : List LineRun) → A
 one_lines units piece xs ys first second =
     sym (back_is xs) ∙ ap (map back) (one_runs _ (map number_run xs) (map number_run ys) first.numbers second.numbers) ∙ back_is ys
 
-abbrev first_piece : Piece → List Piece → Piece
-first_piece other [] = other
-first_piece other (p ∷ pieces) = p
+abbrev first_of : {X : Type 0} → X → List X → X
+first_of other [] = other
+first_of other (x ∷ xs) = x
 
-abbrev rest_pieces : List Piece → List Piece
-rest_pieces [] = []
-rest_pieces (p ∷ pieces) = pieces
+abbrev rest_of : {X : Type 0} → List X → List X
+rest_of [] = []
+rest_of (x ∷ xs) = xs
 
-part_is : (p q : Part) → p.piece ≡ q.piece → p.lines ≡ q.lines → p ≡ q
-part_is p q piece lines = ap (λ (x : Piece). record { piece = x; lines = p.lines }) piece ∙ ap (λ (ls : List LineRun). record { piece = q.piece; lines = ls }) lines
+part_is : (p q : Part) → p.piece ≡ q.piece → p.copies ≡ q.copies → p.lines ≡ q.lines → p ≡ q
+part_is p q piece copies lines =
+    ap (λ (x : Piece). record { piece = x; copies = p.copies; lines = p.lines }) piece
+    ∙ ap (λ (cs : List InlineParts). record { piece = q.piece; copies = cs; lines = p.lines }) copies
+    ∙ ap (λ (ls : List LineRun). record { piece = q.piece; copies = q.copies; lines = ls }) lines
 
-one_parts : (units : List UnitRead) (xs ys : List Part) → pieces_of xs ≡ pieces_of ys → AreLined units xs → AreLined units ys → xs ≡ ys
-one_parts units [] [] same first second = refl
-one_parts units [] (y ∷ ys) same first second = absurd (cc)
-one_parts units (x ∷ xs) [] same first second = absurd (cc)
-one_parts units (x ∷ xs) (y ∷ ys) same first second =
-    let piece : x.piece ≡ y.piece = ap (first_piece x.piece) same in
+one_parts : (units : List UnitRead) (xs ys : List Part) → pieces_of xs ≡ pieces_of ys → copies_of xs ≡ copies_of ys → AreLined units xs → AreLined units ys → xs ≡ ys
+one_parts units [] [] same held first second = refl
+one_parts units [] (y ∷ ys) same held first second = absurd (cc)
+one_parts units (x ∷ xs) [] same held first second = absurd (cc)
+one_parts units (x ∷ xs) (y ∷ ys) same held first second =
+    let piece : x.piece ≡ y.piece = ap (first_of x.piece) same in
+    let copies : x.copies ≡ y.copies = ap (first_of x.copies) held in
     let lines : x.lines ≡ y.lines = one_lines units y.piece x.lines y.lines (subst (λ (p : Piece). AreLineRuns units p x.lines) piece first.0) second.0 in
-    ap (λ p. p ∷ xs) (part_is x y piece lines) ∙ ap (λ ps. y ∷ ps) (one_parts units xs ys (ap rest_pieces same) first.1 second.1)
+    ap (λ p. p ∷ xs) (part_is x y piece copies lines) ∙ ap (λ ps. y ∷ ps) (one_parts units xs ys (ap rest_of same) (ap rest_of held) first.1 second.1)
+
+same_bytes : (text : List ℕ) → bytes_eq text text ≡ true
+same_bytes text = (bytes_eq-Decides text text).1 refl
 
 -- the number of a run's path
 number_there : (paths : List (List ℕ)) (path : List ℕ) → list_any (bytes_eq path) paths ≡ true → number_or_0 paths path ≡ number_in paths path
@@ -124,17 +100,6 @@ unfolding unit_paths
 number_is paths units unit k below had =
     ap (λ row. unwrap_or (slice_get row k) 0) (row_is paths units unit) ∙ number_by paths (slice_get units unit) k below had
 
-or_right : (b c : Bool) → c ≡ true → (b || c) ≡ true
-or_right true c is = refl
-or_right false c is = is
-
-or_left : (b c : Bool) → b ≡ true → (b || c) ≡ true
-or_left true c is = refl
-or_left false c is = absurd (cc)
-
-same_bytes : (path : List ℕ) → bytes_eq path path ≡ true
-same_bytes path = (bytes_eq-Decides path path).1 refl
-
 lines_same : (base : ℕ) (paths : List (List ℕ)) (units : List UnitRead) (unit : ℕ) (runs : List LineRun) → ArePathed units unit runs → ((path : List ℕ) → list_any (λ (r : LineRun). bytes_eq path (path_in units unit r.path)) runs ≡ true → list_any (bytes_eq path) paths ≡ true) → map (line_by base (row_of (unit_numbers paths units) unit)) runs ≡ map (line_record base paths units unit) runs
 lines_same base paths units unit [] pathed used = refl
 lines_same base paths units unit (r ∷ runs) pathed used =
@@ -142,74 +107,113 @@ lines_same base paths units unit (r ∷ runs) pathed used =
     ap (λ n. Line (r.start - base) (r.end - r.start) r.line n ∷ map (line_by base (row_of (unit_numbers paths units) unit)) runs) (number_is paths units unit r.path pathed.0 named)
     ∙ ap (λ rest. line_record base paths units unit r ∷ rest) (lines_same base paths units unit runs pathed.1 (λ path had. used path (or_right (bytes_eq path (path_in units unit r.path)) (list_any (λ (s : LineRun). bytes_eq path (path_in units unit s.path)) runs) had)))
 
-pub parts_same : (base : ℕ) (paths : List (List ℕ)) (units : List UnitRead) (parts : List Part) → AreLined units parts → ((path : List ℕ) → list_any (names_path units path) parts ≡ true → list_any (bytes_eq path) paths ≡ true) → parts_by base (unit_numbers paths units) units parts ≡ part_lines base paths units parts
-parts_same base paths units [] lined used = refl
-parts_same base paths units (p ∷ parts) lined used =
-    ap (λ ls. func_record base units p.piece ∷ (ls ++ parts_by base (unit_numbers paths units) units parts))
-    (lines_same base paths units p.piece.unit p.lines (all_pathed units p.piece p.lines lined.0) (λ path had. used path (or_left (names_path units path p) (list_any (names_path units path) parts) had)))
-    ∙ ap (λ rest. func_record base units p.piece ∷ (map (line_record base paths units p.piece.unit) p.lines ++ rest))
-    (parts_same base paths units parts lined.1 (λ path had. used path (or_right (names_path units path p) (list_any (names_path units path) parts) had)))
+-- the number of a call's path
+abbrev HasCalls : List (List ℕ) → List UnitRead → ℕ → List InlineParts → Type 0
+HasCalls paths units unit copies = (path : List ℕ) → list_any (λ (r : InlineParts). bytes_eq path (call_path units unit r.entry)) copies ≡ true → list_any (bytes_eq path) paths ≡ true
+
+abbrev HasNames : List (List ℕ) → List UnitRead → ℕ → List InlineParts → Type 0
+HasNames names units unit copies = (name : List ℕ) → list_any (λ (r : InlineParts). bytes_eq name (entry_name units unit r.entry)) copies ≡ true → list_any (bytes_eq name) names ≡ true
+
+file_is : (paths : List (List ℕ)) (units : List UnitRead) (unit : ℕ) (o : Option ℕ) → IsPathed units unit o → list_any (bytes_eq (path_or units unit o)) paths ≡ true → file_by (row_of (unit_numbers paths units) unit) (number_or_0 paths no_path) o ≡ number_in paths (path_or units unit o)
+file_is paths units unit None pathed had = number_there paths no_path had
+file_is paths units unit (Some k) pathed had = number_is paths units unit k pathed had
+
+call_is : (paths : List (List ℕ)) (units : List UnitRead) (unit entry : ℕ) → IsKnown units unit entry → list_any (bytes_eq (call_path units unit entry)) paths ≡ true → file_by (row_of (unit_numbers paths units) unit) (number_or_0 paths no_path) (call_number units unit entry) ≡ number_in paths (call_path units unit entry)
+call_is paths units unit entry known had =
+    file_is paths units unit (call_number units unit entry) known.pathed (ap (λ path. list_any (bytes_eq path) paths) (sym known.path) ∙ had)
+    ∙ ap (number_in paths) (sym known.path)
+
+copies_same : (base : ℕ) (paths names : List (List ℕ)) (numbers : Numbers) (units : List UnitRead) (unit : ℕ) (copies : List InlineParts) → numbers.rows.now ≡ unit_numbers paths units → numbers.omitted ≡ number_or_0 paths no_path → bytes_of numbers.names.now ≡ names → AreKnown units unit copies → HasCalls paths units unit copies → HasNames names units unit copies → map (inline_by base numbers units unit) copies ≡ map (inline_record base paths names units unit) copies
+copies_same base paths names numbers units unit [] rows omitted named known calls origins = refl
+copies_same base paths names numbers units unit (r ∷ copies) rows omitted named known calls origins =
+    let path : List ℕ = call_path units unit r.entry in
+    let name : List ℕ = entry_name units unit r.entry in
+    let has_path = calls path (or_left (bytes_eq path path) (list_any (λ (s : InlineParts). bytes_eq path (call_path units unit s.entry)) copies) (same_bytes path)) in
+    let has_name = origins name (or_left (bytes_eq name name) (list_any (λ (s : InlineParts). bytes_eq name (entry_name units unit s.entry)) copies) (same_bytes name)) in
+    let file : file_by (row_of numbers.rows.now unit) numbers.omitted (call_number units unit r.entry) ≡ number_in paths path
+    = ap (λ (rs : List (List ℕ)). file_by (row_of rs unit) numbers.omitted (call_number units unit r.entry)) rows
+    ∙ ap (λ n. file_by (row_of (unit_numbers paths units) unit) n (call_number units unit r.entry)) omitted
+    ∙ call_is paths units unit r.entry known.0 has_path in
+    let origin : number_or_0 (bytes_of numbers.names.now) name ≡ number_in names name = ap (λ ns. number_or_0 ns name) named ∙ number_there names name has_name in
+    ap (λ n. Inline r.level (call_line units unit r.entry) n (number_or_0 (bytes_of numbers.names.now) name) (map (extent base) r.spans) ∷ map (inline_by base numbers units unit) copies) file
+    ∙ ap (λ n. Inline r.level (call_line units unit r.entry) (number_in paths path) n (map (extent base) r.spans) ∷ map (inline_by base numbers units unit) copies) origin
+    ∙ ap (λ rest. inline_record base paths names units unit r ∷ rest)
+    (copies_same base paths names numbers units unit copies rows omitted named known.1
+    (λ p had. calls p (or_right (bytes_eq p path) (list_any (λ (s : InlineParts). bytes_eq p (call_path units unit s.entry)) copies) had))
+    (λ n had. origins n (or_right (bytes_eq n name) (list_any (λ (s : InlineParts). bytes_eq n (entry_name units unit s.entry)) copies) had)))
+
+parts_same : (base : ℕ) (paths names : List (List ℕ)) (numbers : Numbers) (units : List UnitRead) (parts : List Part) → numbers.rows.now ≡ unit_numbers paths units → numbers.omitted ≡ number_or_0 paths no_path → bytes_of numbers.names.now ≡ names → AreLined units parts → AreAllKnown units parts → ((path : List ℕ) → list_any (names_path units path) parts ≡ true → list_any (bytes_eq path) paths ≡ true) → ((name : List ℕ) → list_any (names_origin units name) parts ≡ true → list_any (bytes_eq name) names ≡ true) → parts_by base numbers units parts ≡ part_lines base paths names units parts
+parts_same base paths names numbers units [] rows omitted named lined known used origins = refl
+parts_same base paths names numbers units (p ∷ parts) rows omitted named lined known used origins =
+    let unit = p.piece.unit in
+    let by_run : List ℕ → Bool = λ path. list_any (λ (r : LineRun). bytes_eq path (path_in units unit r.path)) p.lines in
+    let by_call : List ℕ → Bool = λ path. list_any (λ (r : InlineParts). bytes_eq path (call_path units unit r.entry)) p.copies in
+    let copies : map (inline_by base numbers units unit) p.copies ≡ map (inline_record base paths names units unit) p.copies
+    = copies_same base paths names numbers units unit p.copies rows omitted named known.0
+    (λ path had. used path (or_left (names_path units path p) (list_any (names_path units path) parts) (or_right (by_run path) (by_call path) had)))
+    (λ name had. origins name (or_left (names_origin units name p) (list_any (names_origin units name) parts) had)) in
+    let lines : map (line_by base (row_of numbers.rows.now unit)) p.lines ≡ map (line_record base paths units unit) p.lines
+    = ap (λ (rs : List (List ℕ)). map (line_by base (row_of rs unit)) p.lines) rows
+    ∙ lines_same base paths units unit p.lines (all_pathed units p.piece p.lines lined.0) (λ path had. used path (or_left (names_path units path p) (list_any (names_path units path) parts) (or_left (by_run path) (by_call path) had))) in
+    let later : parts_by base numbers units parts ≡ part_lines base paths names units parts
+    = parts_same base paths names numbers units parts rows omitted named lined.1 known.1
+    (λ path had. used path (or_right (names_path units path p) (list_any (names_path units path) parts) had))
+    (λ name had. origins name (or_right (names_origin units name p) (list_any (names_origin units name) parts) had)) in
+    ap (λ cs. func_record base units p.piece ∷ ((cs ++ map (line_by base (row_of numbers.rows.now unit)) p.lines) ++ parts_by base numbers units parts)) copies
+    ∙ ap (λ ls. func_record base units p.piece ∷ ((map (inline_record base paths names units unit) p.copies ++ ls) ++ parts_by base numbers units parts)) lines
+    ∙ ap (λ rest. func_record base units p.piece ∷ rest) (append_assoc (map (inline_record base paths names units unit) p.copies) (map (line_record base paths units unit) p.lines) (parts_by base numbers units parts))
+    ∙ ap (λ rest. func_record base units p.piece ∷ (map (inline_record base paths names units unit) p.copies ++ (map (line_record base paths units unit) p.lines ++ rest))) later
+
+-- the names of all inlined copies
+any_name : (units : List UnitRead) (unit : ℕ) (name : List ℕ) (copies : List InlineParts) → list_any (bytes_eq name) (entry_names units unit copies) ≡ list_any (λ (r : InlineParts). bytes_eq name (entry_name units unit r.entry)) copies
+any_name units unit name [] = refl
+any_name units unit name (r ∷ copies) = ap (λ b. bytes_eq name (entry_name units unit r.entry) || b) (any_name units unit name copies)
+
+names_in_parts : (units : List UnitRead) (name : List ℕ) (parts : List Part) → list_any (bytes_eq name) (all_names units (pieces_of parts) (copies_of parts)) ≡ list_any (names_origin units name) parts
+names_in_parts units name [] = refl
+names_in_parts units name (p ∷ parts) =
+    list_any-append (bytes_eq name) (entry_names units p.piece.unit p.copies) (all_names units (pieces_of parts) (copies_of parts))
+    ∙ ap (λ b. b || list_any (bytes_eq name) (all_names units (pieces_of parts) (copies_of parts))) (any_name units p.piece.unit name p.copies)
+    ∙ ap (λ b. names_origin units name p || b) (names_in_parts units name parts)
 
 -- all together
-pub functions_added : (base : ℕ) (units : List UnitRead) (pieces : List Piece) (used sorted : List (Bor (List ℕ))) (rows : List (List ℕ)) (old mid new : List ℕ) → Gathered units pieces used → IsStrictlySortedBy text_cmp sorted → SameTexts used sorted → rows ≡ unit_numbers (bytes_of sorted) units → mid ≡ old ++ canon_text (file_lines 0 (bytes_of sorted)) → first_bad_from 0 Inside (file_lines 0 (bytes_of sorted)) ≡ None → AddsParts base rows units pieces mid new → AddsFunctions base units pieces old new
-functions_added base units pieces used sorted rows old mid new gathered strict same numbered files fit adds =
+pub functions_added : (base : ℕ) (units : List UnitRead) (pieces : List Piece) (held : List (List InlineParts)) (used sorted slices names : List (Bor (List ℕ))) (texts : List (List ℕ)) (numbers : Numbers) (old filed named new : List ℕ) → AreHeld units pieces held → Gathered units pieces held used → IsStrictlySortedBy text_cmp sorted → SameTexts used sorted
+    → ((name : List ℕ) → list_any (bytes_eq name) texts ≡ list_any (bytes_eq name) (all_names units pieces held)) → bytes_of slices ≡ texts → IsStrictlySortedBy text_cmp names → SameTexts slices names
+    → numbers.rows.now ≡ unit_numbers (bytes_of sorted) units → numbers.omitted ≡ number_or_0 (bytes_of sorted) no_path → numbers.names.now ≡ names
+    → filed ≡ old ++ canon_text (file_lines 0 (bytes_of sorted)) → first_bad_from 0 Inside (file_lines 0 (bytes_of sorted)) ≡ None → named ≡ filed ++ canon_text (origin_lines 0 (bytes_of names)) → first_bad_from 0 Inside (origin_lines 0 (bytes_of names)) ≡ None
+    → AddsParts base numbers units pieces held named new → AddsFunctions base units pieces old new
+functions_added base units pieces held used sorted slices names texts numbers old filed named new are gathered strict same all_texts slices_are names_strict names_same rows omitted names_are files files_fit origins origins_fit adds =
     let paths : List (List ℕ) = bytes_of sorted in
-    let parts : gathered.parts ≡ adds.parts = one_parts units gathered.parts adds.parts (gathered.pieces_are ∙ sym adds.pieces_are) gathered.lines_are adds.lines_are in
-    let named : (path : List ℕ) → list_any (bytes_eq path) paths ≡ list_any (names_path units path) adds.parts
-    = λ path. same_paths used sorted path same ∙ gathered.same path ∙ ap (list_any (names_path units path)) parts in
-    let spelled : parts_by base rows units adds.parts ≡ part_lines base paths units adds.parts
-    = ap (λ (r : List (List ℕ)). parts_by base r units adds.parts) numbered ∙ parts_same base paths units adds.parts adds.lines_are (λ path had. named path ∙ had) in
+    let owners : List (List ℕ) = bytes_of names in
+    let parts : gathered.parts ≡ adds.parts = one_parts units gathered.parts adds.parts (gathered.pieces_are ∙ sym adds.pieces_are) (gathered.copies_are ∙ sym adds.copies_are) gathered.lines_are adds.lines_are in
+    let known : AreAllKnown units adds.parts = subst (λ (ps : List Part). AreAllKnown units ps) parts gathered.known in
+    let inlined = held_inlined units adds.parts (rw adds.pieces_are (rw adds.copies_are are)) in
+    let path_same : (path : List ℕ) → list_any (bytes_eq path) paths ≡ list_any (names_path units path) adds.parts
+    = λ path. same_used used sorted path same ∙ gathered.same path ∙ ap (list_any (names_path units path)) parts in
+    let name_same : (name : List ℕ) → list_any (bytes_eq name) owners ≡ list_any (names_origin units name) adds.parts
+    = λ name. same_used slices names name names_same ∙ sym (bytes_had slices name) ∙ ap (list_any (bytes_eq name)) slices_are ∙ all_texts name
+    ∙ ap (λ (ps : List Piece). list_any (bytes_eq name) (all_names units ps held)) (sym adds.pieces_are)
+    ∙ ap (λ (cs : List (List InlineParts)). list_any (bytes_eq name) (all_names units (pieces_of adds.parts) cs)) (sym adds.copies_are)
+    ∙ names_in_parts units name adds.parts in
+    let spelled : parts_by base numbers units adds.parts ≡ part_lines base paths owners units adds.parts
+    = parts_same base paths owners numbers units adds.parts rows omitted (ap bytes_of names_are) adds.lines_are known (λ path had. path_same path ∙ had) (λ name had. name_same name ∙ had) in
+    let functions : List SymLine = part_lines base paths owners units adds.parts in
     record {
-      records = file_lines 0 paths ++ part_lines base paths units adds.parts;
+      records = file_lines 0 paths ++ (origin_lines 0 owners ++ functions);
       are = record {
         parts = adds.parts;
         paths = paths;
+        names = owners;
         whole = refl;
         pieces_are = adds.pieces_are;
+        inlined = inlined;
         lines_are = adds.lines_are;
-        used = record { sorted = bytes_sorted sorted strict; same = named };
+        used = record { sorted = bytes_sorted sorted strict; same = path_same };
+        origins = record { sorted = bytes_sorted names names_strict; same = name_same };
       };
-      text = adds.text ∙ ap (λ t. t ++ canon_text (parts_by base rows units adds.parts)) files ∙ append_assoc old (canon_text (file_lines 0 paths)) (canon_text (parts_by base rows units adds.parts))
-          ∙ ap (λ t. old ++ t) (ap (λ ls. canon_text (file_lines 0 paths) ++ canon_text ls) spelled ∙ sym (canon_join (file_lines 0 paths) (part_lines base paths units adds.parts)));
-      fit = join_behind (file_lines 0 paths) (part_lines base paths units adds.parts) fit (ap (first_bad_from 0 Inside) (sym spelled) ∙ adds.fit);
+      text = adds.text ∙ ap (λ ls. named ++ canon_text ls) spelled ∙ ap (λ t. t ++ canon_text functions) origins ∙ append_assoc filed (canon_text (origin_lines 0 owners)) (canon_text functions)
+          ∙ ap (λ t. filed ++ t) (sym (canon_join (origin_lines 0 owners) functions)) ∙ ap (λ t. t ++ canon_text (origin_lines 0 owners ++ functions)) files
+          ∙ append_assoc old (canon_text (file_lines 0 paths)) (canon_text (origin_lines 0 owners ++ functions))
+          ∙ ap (λ t. old ++ t) (sym (canon_join (file_lines 0 paths) (origin_lines 0 owners ++ functions)));
+      fit = join_behind (file_lines 0 paths) (origin_lines 0 owners ++ functions) files_fit (join_behind (origin_lines 0 owners) functions origins_fit (ap (first_bad_from 0 Inside) (sym spelled) ∙ adds.fit));
     }
-
--- the paths that records name are cleaned
-clean_at : (paths : List (List ℕ)) (n : ℕ) → n < length paths → AreClean paths → cleaned (unwrap_or (slice_get paths n) []) ≡ unwrap_or (slice_get paths n) []
-clean_at [] n below clean = absurd (omega arith)
-clean_at (p ∷ paths) zero below clean = clean.0
-clean_at (p ∷ paths) (suc n) below clean = clean_at paths n (omega arith) clean.1
-
-clean_in : (units : List UnitRead) (unit k : ℕ) → k < length (unit_paths units unit) → HaveCleanPaths units → cleaned (path_in units unit k) ≡ path_in units unit k
-unfolding unit_paths
-clean_in [] unit k below clean = absurd (omega arith)
-clean_in (u ∷ units) zero k below clean = clean_at u.lines.paths k below clean.0
-clean_in (u ∷ units) (suc unit) k below clean = clean_in units unit k below clean.1
-
-or_either : (b c : Bool) (P : Type 0) → (b || c) ≡ true → (b ≡ true → P) → (c ≡ true → P) → P
-or_either true c P is first second = first refl
-or_either false c P is first second = second is
-
-run_clean : (units : List UnitRead) (unit : ℕ) (runs : List LineRun) (path : List ℕ) → HaveCleanPaths units → ArePathed units unit runs → list_any (λ (r : LineRun). bytes_eq path (path_in units unit r.path)) runs ≡ true → cleaned path ≡ path
-run_clean units unit [] path clean pathed had = absurd (cc)
-run_clean units unit (r ∷ runs) path clean pathed had =
-    or_either (bytes_eq path (path_in units unit r.path)) (list_any (λ (s : LineRun). bytes_eq path (path_in units unit s.path)) runs) (cleaned path ≡ path) had
-    (λ same. let alike : path ≡ path_in units unit r.path = (bytes_eq-Decides path (path_in units unit r.path)).0 same in
-    ap cleaned alike ∙ clean_in units unit r.path pathed.0 clean ∙ sym alike)
-    (λ later. run_clean units unit runs path clean pathed.1 later)
-
-part_clean : (units : List UnitRead) (parts : List Part) (path : List ℕ) → HaveCleanPaths units → AreLined units parts → list_any (names_path units path) parts ≡ true → cleaned path ≡ path
-part_clean units [] path clean lined had = absurd (cc)
-part_clean units (p ∷ parts) path clean lined had =
-    or_either (names_path units path p) (list_any (names_path units path) parts) (cleaned path ≡ path) had
-    (λ here. run_clean units p.piece.unit p.lines path clean (all_pathed units p.piece p.lines lined.0) here)
-    (λ later. part_clean units parts path clean lined.1 later)
-
-each_clean : (paths : List (List ℕ)) → ((path : List ℕ) → list_any (bytes_eq path) paths ≡ true → cleaned path ≡ path) → AreClean paths
-each_clean [] each = tt
-each_clean (p ∷ paths) each =
-    (each p (or_left (bytes_eq p p) (list_any (bytes_eq p) paths) (same_bytes p)), each_clean paths (λ path had. each path (or_right (bytes_eq path p) (list_any (bytes_eq path) paths) had)))
-
-pub paths_clean : (units : List UnitRead) (pieces : List Piece) (used sorted : List (Bor (List ℕ))) → HaveCleanPaths units → Gathered units pieces used → SameTexts used sorted → AreClean (bytes_of sorted)
-paths_clean units pieces used sorted clean gathered same =
-    each_clean (bytes_of sorted) (λ path had. part_clean units gathered.parts path clean gathered.lines_are (sym (gathered.same path) ∙ sym (same_paths used sorted path same) ∙ had))

@@ -14,7 +14,6 @@ use Rattle.die_names.specs.declared.unit_read.UnitRead.{UnitRead}
 use Rattle.die_names.specs.UnitEntries.{Placed}
 use Rattle.die_names.specs.Names.{entry_name}
 use Rattle.die_names.specs.Owners.{Covering}
-use Rattle.func_flatten.specs.declared.piece.Piece.{Piece}
 use Rattle.func_flatten.specs.declared.line_run.LineRun.{LineRun}
 use Rattle.func_flatten.specs.Publics.{is_inside}
 use Rattle.inline_chain.specs.InlineRuns.{InlineParts, entry_chain, AreInlineRuns}

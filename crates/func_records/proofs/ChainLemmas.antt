@@ -1,7 +1,6 @@
 -- The inlined copies of a piece at one address: the first of each level is the entry of that level on the chain.
-use Rattle.std.proofs.Common.{◌≡◌, ℕ, zero, suc, ◌+◌, ◌-◌, ◌<◌, ◌≤◌, Bool, true, false, ◌&&◌, ◌||◌, ◌==◌, nat_le, nat_lt, cond, max, map, filter, length, List, [], ◌∷◌, ◌++◌, Option, None, Some, arith, refl, sym, ap, ◌∙◌, append_assoc}
+use Rattle.std.proofs.Common.{◌≡◌, ℕ, zero, suc, ◌+◌, ◌<◌, ◌≤◌, Bool, true, false, ◌&&◌, ◌||◌, ◌==◌, nat_le, nat_lt, cond, map, filter, List, [], ◌∷◌, ◌++◌, Option, None, Some, arith, refl, sym, ap, ◌∙◌}
 use Rattle.std.proofs.lemmas.Bool.Decides.{nat_tests}
-use Rattle.std.proofs.lemmas.List.Folds.{list_any-append}
 use Rattle.std.specs.List.{find, slice_get, list_any}
 use Rattle.std.specs.Option.{option_map, option_map_or}
 use Rattle.sym_edges.specs.Addresses.{Range}
@@ -13,7 +12,8 @@ use Rattle.die_names.specs.UnitEntries.{is_inlined, entry_of}
 use Rattle.die_names.specs.Owners.{Covering, inside_of, chain_from, unit_covering}
 use Rattle.func_flatten.specs.declared.piece.Piece.{Piece}
 use Rattle.func_flatten.specs.Publics.{is_inside}
-use Rattle.inline_chain.specs.InlineRuns.{InlineParts, chain_by, entry_chain, is_on_chain, is_of, spans_of, joined, IsCopy, AreInlineRuns}
+use Rattle.inline_chain.specs.InlineRuns.{InlineParts, chain_by, entry_chain, is_on_chain, is_of, spans_of, joined, AreInlineRuns}
+use Rattle.func_records.proofs.ListLemmas.{or_left, or_right}
 
 -- the entries on a chain are those of the unit
 pub record IsEntry (units : List UnitRead) (unit : ℕ) (c : Covering) : Type 0 where
@@ -88,14 +88,6 @@ abbrev pub Agree : ℕ → Option Covering → Option InlineParts → Type 0
 Agree level None None = Unit {0}
 Agree level (Some c) (Some r) = (r.entry ≡ c.entry) × (r.level ≡ level)
 Agree level _ _ = ⊥
-
-or_right : (b c : Bool) → c ≡ true → (b || c) ≡ true
-or_right true c is = refl
-or_right false c is = is
-
-or_left : (b c : Bool) → b ≡ true → (b || c) ≡ true
-or_left true c is = refl
-or_left false c is = absurd (cc)
 
 found_here : (level a : ℕ) (r : InlineParts) → is_copy_at level a r ≡ true → (r.level ≡ level) × (is_held level r.entry a r ≡ true)
 found_here level a r is = go (r.level == level) refl (holds_any r.spans a) refl is

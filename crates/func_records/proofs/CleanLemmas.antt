@@ -4,6 +4,7 @@ use Rattle.std.proofs.lemmas.List.{length-take}
 use Rattle.std.proofs.lemmas.List.{take_all}
 use Rattle.sym_rules.specs.Cuts.{is_space, skip}
 use Rattle.sym_records.specs.Cleaning.{shown_byte, or_omitted, cleaned_upto, cleaned}
+use Rattle.func_records.specs.FuncRecords.{no_path}
 
 -- a byte that is shown is shown as it is
 shown_by : (b : ℕ) (control : Bool) → (nat_lt b 32 || nat_eq b 127) ≡ control → shown_byte (cond control 63 b) ≡ cond control 63 b
@@ -90,3 +91,7 @@ upto_again limit bytes room =
 pub cleaned_again : (bytes : List ℕ) → cleaned (cleaned bytes) ≡ cleaned bytes
 unfolding cleaned
 cleaned_again bytes = upto_again 65536 bytes (omega arith)
+
+pub omitted_clean : cleaned no_path ≡ no_path
+unfolding cleaned no_path
+omitted_clean = omitted_again 65536 (omega arith)

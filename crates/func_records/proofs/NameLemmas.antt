@@ -19,11 +19,12 @@ use Rattle.func_flatten.specs.declared.piece.Place.{Place}
 use Rattle.func_flatten.specs.declared.piece.Piece.{Piece}
 use Rattle.func_flatten.specs.declared.line_run.LineRun.{LineRun}
 use Rattle.func_flatten.specs.Pieces.{piece_run, place_of, owner_place, ArePieces}
-use Rattle.func_flatten.specs.LineRuns.{path_line, path_run, unit_line, unit_paths, AreLineRuns}
+use Rattle.func_flatten.specs.LineRuns.{path_line, path_run, unit_line, unit_paths}
 use Rattle.inline_chain.specs.InlineRuns.{InlineParts, chain_by, entry_chain}
 use Rattle.func_records.specs.FuncRecords.{Part, pieces_of, path_in, call_path, number_in, file_lines, origin_lines, func_record, line_record, inline_record, part_lines, AreLined, AreInlined, BeginAbove, names_path, names_origin, AreFuncRecords}
 use Rattle.func_records.specs.TextNames.{name_of, call_in, found_line, Names}
 use Rattle.func_records.proofs.CallLemmas.{below, line_past, part_calls, HasPaths, HasOrigins}
+use Rattle.func_records.proofs.ListLemmas.{or_left, or_right}
 
 -- records in front that are no FUNC
 no_func : (behind : List SymLine) (x : ℕ) → ArePlain behind → text_func behind x ≡ None
@@ -214,14 +215,6 @@ FindPaths records paths units parts = (path : List ℕ) → list_any (names_path
 
 abbrev FindNames : List SymLine → List (List ℕ) → List UnitRead → List Part → Type 0
 FindNames records names units parts = (name : List ℕ) → list_any (names_origin units name) parts ≡ true → text_origin records (number_in names name) ≡ Some name
-
-or_right : (b c : Bool) → c ≡ true → (b || c) ≡ true
-or_right true c is = refl
-or_right false c is = is
-
-or_left : (b c : Bool) → b ≡ true → (b || c) ≡ true
-or_left true c is = refl
-or_left false c is = absurd (cc)
 
 paths_here : (records : List SymLine) (paths : List (List ℕ)) (units : List UnitRead) (p : Part) (parts : List Part) → FindPaths records paths units (p ∷ parts) → HasPaths records paths units p.piece.unit p.copies
 paths_here records paths units p parts each path had =

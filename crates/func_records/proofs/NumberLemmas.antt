@@ -14,6 +14,7 @@ use Rattle.func_records.specs.Texts.{text_cmp}
 use Rattle.func_records.specs.FuncRecords.{number_in}
 use Rattle.func_records.specs.Gathering.{bytes_of}
 use Rattle.func_records.specs.Spelling.{number_or_0}
+use Rattle.func_records.proofs.ListLemmas.{take_more}
 
 -- a text below all others is none of them
 other_there : (x : Bor (List ℕ)) (xs : List (Bor (List ℕ))) (n : ℕ) (path : List ℕ) → AllByRecursion (λ y. text_cmp x y ≡ Less) xs → slice_get (bytes_of xs) n ≡ Some path → bytes_eq x.now path ≡ false
@@ -70,13 +71,6 @@ number_none xs path none = go (list_any (bytes_eq path) (bytes_of xs)) refl
     go false is = refl
 
 -- the numbers of one path more
-take_more : {X : Type 0} (xs : List X) (n : ℕ) (x : X) → slice_get xs n ≡ Some x → take (n + 1) xs ≡ take n xs ++ x ∷ []
-take_more [] n x is = absurd (cc)
-take_more (y ∷ xs) zero x is = ap (λ z. z ∷ []) (let same : y ≡ x = cc in same)
-take_more (y ∷ xs) (suc n) x is =
-    let next : suc n + 1 ≡ suc (n + 1) = omega arith in
-    ap (λ k. take k (y ∷ xs)) next ∙ ap (λ zs. y ∷ zs) (take_more xs n x is)
-
 pub row_more : (paths texts : List (List ℕ)) (n : ℕ) (path : List ℕ) (number : ℕ) (row after : List ℕ) → row ≡ map (number_or_0 texts) (take n paths) → Some path ≡ slice_get paths n → number ≡ number_or_0 texts path → after ≡ row ++ number ∷ [] → after ≡ map (number_or_0 texts) (take (n + 1) paths)
 row_more paths texts n path number row after is there numbered added =
     added ∙ ap (λ r. r ++ number ∷ []) is ∙ ap (λ k. map (number_or_0 texts) (take n paths) ++ k ∷ []) numbered

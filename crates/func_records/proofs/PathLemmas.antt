@@ -1,9 +1,10 @@
 -- The paths that line records name, as they are gathered.
-use Rattle.std.proofs.Common.{◌≡◌, ℕ, zero, suc, ◌<◌, Bool, true, false, ◌||◌, ◌&&◌, nat_le, nat_lt, cond, length, map, List, [], ◌∷◌, ◌++◌, Option, None, Some, unwrap_or, arith, refl, sym, ap, subst, ◌∙◌, ◌⊎◌, inl, inr, slice_set, replicate, Bor, append-nil, append_assoc}
+use Rattle.std.proofs.Common.{◌≡◌, ℕ, zero, suc, ◌<◌, Bool, true, false, ◌||◌, ◌&&◌, nat_le, nat_lt, cond, length, map, List, [], ◌∷◌, ◌++◌, Option, None, Some, unwrap_or, arith, refl, sym, ap, subst, ◌∙◌, ◌⊎◌, inl, inr, slice_set, replicate, take, get_or, ◌+◌, Bor}
 use Rattle.std.specs.List.{slice_get, list_any}
 use Rattle.std.specs.Option.{option_copied, option_map}
 use Rattle.std.specs.Str.{bytes_eq}
-use Rattle.std.proofs.lemmas.Option.{slice_get_within}
+use Rattle.std.proofs.lemmas.Option.{slice_get_within, slice_get-get_or}
+use Rattle.std.proofs.lemmas.List.{take_all}
 use Rattle.std.proofs.lemmas.List.Folds.{list_any-append}
 use Rattle.std.proofs.lemmas.Slice.Eq.{bytes_eq-Decides}
 use Rattle.step_maps.specs.Runs.{AreMaximal, between}
@@ -14,24 +15,11 @@ use Rattle.die_names.specs.Owners.{line_in}
 use Rattle.func_flatten.specs.declared.piece.Piece.{Piece}
 use Rattle.func_flatten.specs.declared.line_run.LineRun.{LineRun}
 use Rattle.func_flatten.specs.LineRuns.{number_line_in, paths_in, number_run, path_run, path_line, unit_number_line, unit_line, unit_paths, AreLineRuns}
-use Rattle.func_records.specs.FuncRecords.{Part, pieces_of, path_in, AreLined, names_path}
-use Rattle.func_records.specs.Gathering.{has_text, ArePathed, any_run, RowSays, RowsSay, AddsPiece, Gathered, GatheredSo, any_mark}
-
-or_false : (b : Bool) → (b || false) ≡ b
-or_false true = refl
-or_false false = refl
-
-or_assoc : (a b c : Bool) → ((a || b) || c) ≡ (a || (b || c))
-or_assoc true b c = refl
-or_assoc false b c = refl
-
-or_right : (b c : Bool) → c ≡ true → (b || c) ≡ true
-or_right true c is = refl
-or_right false c is = is
-
-or_left : (b c : Bool) → b ≡ true → (b || c) ≡ true
-or_left true c is = refl
-or_left false c is = absurd (cc)
+use Rattle.inline_chain.specs.InlineRuns.{InlineParts}
+use Rattle.func_records.specs.FuncRecords.{Part, path_in, names_path}
+use Rattle.func_records.specs.Gathering.{has_text, ArePathed, any_run, RowSays, RowsSay, AddsPiece, Gathered, any_call, any_mark}
+use Rattle.func_records.proofs.PartLemmas.{lined_push, pieces_push, copies_push, known_push}
+use Rattle.func_records.proofs.ListLemmas.{or_assoc, or_false, or_left, or_right, take_more}
 
 -- a text that is there already
 pub run_known : (used : List (Bor (List ℕ))) (q path : List ℕ) → has_text used q ≡ true → has_text used path ≡ (has_text used path || bytes_eq path q)
@@ -81,7 +69,7 @@ kept_text : (old new : List (Bor (List ℕ))) (t : Bor (List ℕ)) (q : List ℕ
 kept_text old new t q is there =
     grown old new t t.now q refl is ∙ or_left (has_text old q) (bytes_eq q t.now) there
 
-own_text : (old new : List (Bor (List ℕ))) (t : Bor (List ℕ)) (q : List ℕ) → q ≡ t.now → new ≡ old ++ t ∷ [] → has_text new q ≡ true
+pub own_text : (old new : List (Bor (List ℕ))) (t : Bor (List ℕ)) (q : List ℕ) → q ≡ t.now → new ≡ old ++ t ∷ [] → has_text new q ≡ true
 own_text old new t q same is =
     grown old new t t.now q refl is ∙ or_right (has_text old q) (bytes_eq q t.now) ((bytes_eq-Decides q t.now).1 same)
 
@@ -138,41 +126,37 @@ row_pushed rows after row n none is added =
     ∙ ap (λ b. b || (any_mark row || false)) none ∙ or_false (any_mark row) ∙ ap any_mark is ∙ replicate_unmarked n
 
 -- the paths of one piece more
-lined_push : (units : List UnitRead) (parts : List Part) (p : Part) → AreLined units parts → AreLineRuns units p.piece p.lines → AreLined units (parts ++ p ∷ [])
-lined_push units [] p lined runs = (runs, tt)
-lined_push units (q ∷ parts) p lined runs = (lined.0, lined_push units parts p lined.1 runs)
-
-pieces_push : (parts : List Part) (p : Part) → pieces_of (parts ++ p ∷ []) ≡ pieces_of parts ++ p.piece ∷ []
-pieces_push [] p = refl
-pieces_push (q ∷ parts) p = ap (λ ps. q.piece ∷ ps) (pieces_push parts p)
-
-pub gathered_more : (units : List UnitRead) (pieces rest later : List Piece) (piece : Piece) (old new : List (Bor (List ℕ))) → rest ≡ piece ∷ later → GatheredSo units pieces rest old → AddsPiece units piece old new → GatheredSo units pieces later new
-gathered_more units pieces rest later piece old new split so adds =
-    let part : Part = record { piece = piece; lines = adds.lines } in
+gathered_one : (units : List UnitRead) (pieces : List Piece) (held : List (List InlineParts)) (piece : Piece) (copies : List InlineParts) (old new : List (Bor (List ℕ))) → Gathered units pieces held old → AddsPiece units piece copies old new → Gathered units (pieces ++ piece ∷ []) (held ++ copies ∷ []) new
+gathered_one units pieces held piece copies old new so adds =
+    let part : Part = record { piece = piece; copies = copies; lines = adds.lines } in
     record {
-      done = so.done ++ piece ∷ [];
-      split = append_assoc so.done (piece ∷ []) later ∙ ap (λ r. so.done ++ r) (sym split) ∙ so.split;
-      gathered = record {
-        parts = so.gathered.parts ++ part ∷ [];
-        pieces_are = pieces_push so.gathered.parts part ∙ ap (λ ps. ps ++ piece ∷ []) so.gathered.pieces_are;
-        lines_are = lined_push units so.gathered.parts part so.gathered.lines_are adds.runs;
-        same = λ path. adds.same path ∙ ap (λ b. b || any_run units piece.unit adds.lines path) (so.gathered.same path)
-            ∙ sym (list_any-append (names_path units path) so.gathered.parts (part ∷ [])
-            ∙ ap (λ b. list_any (names_path units path) so.gathered.parts || b) (or_false (names_path units path part)));
-      };
+      parts = so.parts ++ part ∷ [];
+      pieces_are = pieces_push so.parts part ∙ ap (λ ps. ps ++ piece ∷ []) so.pieces_are;
+      copies_are = copies_push so.parts part ∙ ap (λ cs. cs ++ copies ∷ []) so.copies_are;
+      lines_are = lined_push units so.parts part so.lines_are adds.runs;
+      known = known_push units so.parts part so.known adds.known;
+      same = λ path. adds.same path ∙ or_assoc (has_text old path) (any_run units piece.unit adds.lines path) (any_call units piece.unit copies path)
+          ∙ ap (λ b. b || (any_run units piece.unit adds.lines path || any_call units piece.unit copies path)) (so.same path)
+          ∙ sym (list_any-append (names_path units path) so.parts (part ∷ [])
+          ∙ ap (λ b. list_any (names_path units path) so.parts || b) (or_false (names_path units path part)));
     }
 
-pub gathered_none : (units : List UnitRead) (pieces : List Piece) (used : List (Bor (List ℕ))) → used ≡ [] → GatheredSo units pieces pieces used
-gathered_none units pieces used none = record {
-  done = [];
-  split = refl;
-  gathered = record { parts = []; pieces_are = refl; lines_are = tt; same = λ path. ap (λ ts. has_text ts path) none };
-}
+pub gathered_more : (units : List UnitRead) (pieces : List Piece) (held : List (List InlineParts)) (n : ℕ) (piece : Piece) (copies : List InlineParts) (old new : List (Bor (List ℕ))) → slice_get pieces n ≡ Some piece → slice_get held n ≡ Some copies → Gathered units (take n pieces) (take n held) old → AddsPiece units piece copies old new → Gathered units (take (n + 1) pieces) (take (n + 1) held) new
+gathered_more units pieces held n piece copies old new piece_is copies_are so adds =
+    rw (take_more pieces n piece piece_is) (rw (take_more held n copies copies_are) (gathered_one units (take n pieces) (take n held) piece copies old new so adds))
 
-pub gathered_all : (units : List UnitRead) (pieces rest : List Piece) (used : List (Bor (List ℕ))) → rest ≡ [] → GatheredSo units pieces rest used → Gathered units pieces used
-gathered_all units pieces rest used none so =
-    let whole : so.done ≡ pieces = sym (append-nil so.done) ∙ ap (λ r. so.done ++ r) (sym none) ∙ so.split in
-    subst (λ ps. Gathered units ps used) whole so.gathered
+pub gathered_next : (units : List UnitRead) (pieces : List Piece) (held : List (List InlineParts)) (n : ℕ) (d : Piece) (e copies : List InlineParts) (old new : List (Bor (List ℕ))) → n < length pieces → length held ≡ length pieces → copies ≡ get_or held n e → Gathered units (take n pieces) (take n held) old → AddsPiece units (get_or pieces n d) copies old new → Gathered units (take (n + 1) pieces) (take (n + 1) held) new
+gathered_next units pieces held n d e copies old new below count is so adds =
+    gathered_more units pieces held n (get_or pieces n d) copies old new (slice_get-get_or pieces n d below) (slice_get-get_or held n e (omega (arith, below, count)) ∙ ap Some (sym is)) so adds
+
+pub gathered_none : (units : List UnitRead) (used : List (Bor (List ℕ))) → used ≡ [] → Gathered units [] [] used
+gathered_none units used none = record { parts = []; pieces_are = refl; copies_are = refl; lines_are = tt; known = tt; same = λ path. ap (λ ts. has_text ts path) none }
+
+pub gathered_all : (units : List UnitRead) (pieces : List Piece) (held : List (List InlineParts)) (n : ℕ) (used : List (Bor (List ℕ))) → n ≡ length pieces → length held ≡ length pieces → Gathered units (take n pieces) (take n held) used → Gathered units pieces held used
+gathered_all units pieces held n used all count so =
+    let whole : take n pieces ≡ pieces = take_all n pieces (omega (arith, all)) in
+    let every : take n held ≡ held = take_all n held (omega (arith, all, count)) in
+    subst (λ (ps : List Piece). Gathered units ps held used) whole (subst (λ (hs : List (List InlineParts)). Gathered units (take n pieces) hs used) every so)
 
 -- each run of a piece has a path of the table: where it begins there is a line with that path
 named_some : (paths : List (List ℕ)) (k line : ℕ) (m : List ℕ × ℕ) → named_line paths (Some (k, line)) ≡ Some m → k < length paths

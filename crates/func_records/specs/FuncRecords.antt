@@ -61,15 +61,16 @@ unfoldable pub number_in : List (List ℕ) → List ℕ → ℕ
 number_in [] text = 0
 number_in (t ∷ texts) text = if bytes_eq t text then 0 else number_in texts text + 1
 
--- the FILE records of some paths, numbered from `k`
-abbrev pub file_lines : ℕ → List (List ℕ) → List SymLine
-file_lines k [] = []
-file_lines k (path ∷ paths) = File k path ∷ file_lines (k + 1) paths
+-- records that give numbers to some texts, from `k` on: FILE for paths, INLINE_ORIGIN for names
+abbrev pub numbered_lines : (ℕ → List ℕ → SymLine) → ℕ → List (List ℕ) → List SymLine
+numbered_lines made k [] = []
+numbered_lines made k (text ∷ texts) = made k text ∷ numbered_lines made (k + 1) texts
 
--- the INLINE_ORIGIN records of some names, numbered from `k`
+abbrev pub file_lines : ℕ → List (List ℕ) → List SymLine
+file_lines k paths = numbered_lines File k paths
+
 abbrev pub origin_lines : ℕ → List (List ℕ) → List SymLine
-origin_lines k [] = []
-origin_lines k (name ∷ names) = Origin k name ∷ origin_lines (k + 1) names
+origin_lines k names = numbered_lines Origin k names
 
 -- the record of a piece, those of its inlined copies, and those of its lines; the base is taken off all addresses
 abbrev pub func_record : ℕ → List UnitRead → Piece → SymLine

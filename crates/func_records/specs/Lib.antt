@@ -1,6 +1,9 @@
 pub mod Texts
 pub mod FuncRecords
 pub mod TextNames
+pub mod Calls
 pub mod Gathering
 pub mod Spelling
+pub mod Origins
+pub mod Parts
 pub mod Adding

@@ -3,20 +3,25 @@ ghost use Rattle.std.specs.Prelude.{OnOk};
 ghost use Rattle.sym_records.specs.Spelled.{text_bytes};
 ghost use Rattle.func_records.specs.Adding.{HaveCleanPaths, AddsFunctions};
 
-use crate::numbers::number_rows;
+use crate::call_paths::no_path;
+use crate::holding::hold_inlines;
+use crate::numbers::{Numbers, number_of, number_rows};
+use crate::origins::{gather_names, number_origins, text_slices};
 use crate::paths::gather_paths;
 use crate::sorting::sorted_texts;
-use crate::spelling::{add_files, add_parts};
+use crate::spelling::add_parts;
+use crate::tables::{add_files, add_origins};
 use die_names::Units;
 use func_flatten::Piece;
 use std::alloc::Global;
 use sym_edges::OutOfMemory;
 use sym_records::TextPieces;
 
-/// Adds to a text the records of functions and their lines (Breakpad's symbol_files.md): a FILE record for each path that a line
-/// record names, sorted by bytes and numbered from 0; then for each piece its FUNC record, and a line record for each run of its
-/// lines. The base is taken off all addresses. Line runs are made where they are spelled and not kept.
-
+/// Adds to a text the records of functions (Breakpad's symbol_files.md): a FILE record for each path that a line record or a call
+/// names, and an INLINE_ORIGIN record for each name of a function that was inlined, both sorted by bytes and numbered from 0; then for
+/// each piece its FUNC record, an INLINE record for each inlined copy on the chains of its addresses, and a line record for each run
+/// of its lines. The base is taken off all addresses. Inlined copies are held from the first pass to the second; line runs are made
+/// where they are spelled and not kept.
 pub fn add_functions(
     alloc: Global,
     base: u64,
@@ -27,14 +32,29 @@ pub fn add_functions(
     requires { HaveCleanPaths units.now }
     ensures { OnOk result (AddsFunctions base units.now pieces.now (text_bytes text.old) (text_bytes text.new)) }
 {
-    let used = gather_paths(alloc, units, pieces)?;
+    let held = hold_inlines(alloc, units, pieces)?;
+    let copies = held.as_slice();
+    let used = gather_paths(alloc, units, pieces, copies)?;
     let sorted = sorted_texts(alloc, used.as_slice())?;
     let paths = sorted.as_slice();
-    if paths.len() > u32::MAX as usize {
+    let named = gather_names(alloc, units, pieces, copies)?;
+    let texts = named.texts.as_slice();
+    let slices = text_slices(alloc, texts)?;
+    let sorted_names = sorted_texts(alloc, slices.as_slice())?;
+    let names = sorted_names.as_slice();
+    if paths.len() > u32::MAX as usize || names.len() > u32::MAX as usize {
         return Err(OutOfMemory);
     }
     let rows = number_rows(alloc, units, paths)?;
+    let origins = number_origins(alloc, named.refs.as_slice(), texts, names)?;
+    let numbers = Numbers {
+        rows: rows.as_slice(),
+        omitted: number_of(paths, no_path()),
+        names,
+        origins: origins.as_slice(),
+    };
     add_files(alloc, paths, text)?;
-    add_parts(alloc, base, units, pieces, rows.as_slice(), text)?;
+    add_origins(alloc, names, text)?;
+    add_parts(alloc, base, units, &numbers, pieces, copies, text)?;
     Ok(())
 }

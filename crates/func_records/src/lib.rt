@@ -1,19 +1,29 @@
-//! The records of functions and their lines (Breakpad's symbol_files.md): FILE, FUNC and line records, spelled at the end of a text.
+//! The records of functions (Breakpad's symbol_files.md): FILE, INLINE_ORIGIN, FUNC, INLINE and line records, spelled at the end of
+//! a text.
 //!
-//! [`add_functions`] goes over the pieces of functions twice. First it gathers the paths that line records will name, each once for
-//! its unit, and numbers them in the order of their bytes; then it spells the records of each piece, with its line runs made on the
-//! spot. Nothing is held for a line record. `specs/FuncRecords.antt` says which records these are, and `specs/TextNames.antt` what
-//! a look-up in a text that has them names: at each address the function that owns it and the line that it has in the file
-//! (`laws::names_are_kept`).
+//! [`add_functions`] goes over the pieces of functions twice. First it asks for the inlined copies of each piece and holds them, and
+//! gathers the paths that line records and calls will name, each once for its unit, and the names of the functions that were inlined,
+//! each once for the entry that gives it; both are sorted by their bytes and numbered. Then it spells the records of each piece, with
+//! its line runs made on the spot. Nothing is held for a line record. `specs/FuncRecords.antt` says which records these are, and
+//! `specs/TextNames.antt` what a look-up in a text that has them names: at each address the function that owns it, the calls that are
+//! inlined there, and the line that it has in the file (`laws::names_are_kept`).
 //!
-//! To read: `functions` first, then `paths`, `sorting`, `numbers` and `spelling`.
+//! To read: `functions` first, then `holding`; `calls`, `marks`, `call_paths` and `paths`; `sorting`, `numbers` and `origins`; and
+//! `tables`, `inlines` and `spelling`.
 #![tactic(auto)]
 
+mod call_paths;
+mod calls;
 mod functions;
+mod holding;
+mod inlines;
 pub mod laws;
+mod marks;
 mod numbers;
+mod origins;
 mod paths;
 mod sorting;
 mod spelling;
+mod tables;
 
 pub use functions::add_functions;

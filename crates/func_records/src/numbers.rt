@@ -1,16 +1,27 @@
-//! The numbers of paths among those in use.
+//! The numbers of paths and names among those in use.
 ghost use Rattle.std.specs.Prelude.{◌≡◌, ℕ, ◌<◌, ◌^◌, false, map, length, Any, slice_get, IfSome, IfNone, IfOk, true, vec_len};
 ghost use Rattle.std.specs.Str.{bytes_eq};
 ghost use Rattle.std.specs.List.Sorted.{IsStrictlySortedBy};
 ghost use Rattle.line_program.specs.LineMaps.{LineMap};
 ghost use Rattle.func_records.specs.Texts.{text_cmp};
 ghost use Rattle.func_records.specs.Gathering.{bytes_of};
-ghost use Rattle.func_records.specs.Spelling.{number_or_0, unit_numbers};
+ghost use Rattle.func_records.specs.Spelling.{number_or_0, unit_numbers, row_of};
 
+use crate::origins::Origin;
 use die_names::Units;
 use line_program::LineTable;
 use std::alloc::Global;
 use sym_edges::{ListOf, OutOfMemory};
+
+/// The numbers in the text: of the paths of each unit's table, of the text for a path that is not known, and of the names that are
+/// sorted, by the entries that give them.
+#[derive(Clone, Copy)]
+pub struct Numbers<'n> {
+    pub rows: &'n [ListOf<u32>],
+    pub omitted: u32,
+    pub names: &'n [&'n [u8]],
+    pub origins: &'n [Origin],
+}
 
 /// The place of a text among sorted texts, by halves.
 fn find_text(sorted: &[&[u8]], text: &[u8]) -> Option<usize>
@@ -25,8 +36,8 @@ fn find_text(sorted: &[&[u8]], text: &[u8]) -> Option<usize>
     }
 }
 
-/// The number of a path that is in use, and 0 for others.
-fn number_of(sorted: &[&[u8]], path: &[u8]) -> u32
+/// The number of a text that is in use, and 0 for others.
+pub fn number_of(sorted: &[&[u8]], path: &[u8]) -> u32
     requires sorted { IsStrictlySortedBy text_cmp sorted.now }
     requires few { length sorted.now < 2 ^ 32 }
     ensures { result ≡ number_or_0 (bytes_of sorted.now) path.now }
@@ -75,4 +86,14 @@ pub fn number_rows(
         rows.push(number_row(alloc, &part.lines, sorted)?)?;
     }
     Ok(rows)
+}
+
+/// The FILE numbers of a unit's paths.
+pub fn row_in(rows: &[ListOf<u32>], unit: usize) -> &[u32]
+    ensures { result.now ≡ row_of rows.now unit }
+{
+    match rows.get(unit) {
+        Some(row) => row.as_slice(),
+        None => &[],
+    }
 }

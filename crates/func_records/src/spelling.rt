@@ -1,23 +1,26 @@
-//! The records of functions and their lines, spelled.
+//! The records of functions, their inlined copies and their lines, spelled.
 ghost use Rattle.std.specs.Prelude.{◌≡◌, ◌++◌, ◌<◌, ◌^◌, None, true, length, map, unwrap_or, OnOk};
 ghost use Rattle.std.specs.List.{list_all, slice_get};
 ghost use Rattle.std.specs.Option.{option_copied};
 ghost use Rattle.sym_records.specs.Canon.{canon, canon_text};
 ghost use Rattle.sym_records.specs.Cleaning.{cleaned};
 ghost use Rattle.sym_records.specs.Spelled.{text_bytes};
-ghost use Rattle.sym_records.specs.Validity.{fields_fit, first_bad_from};
-ghost use Rattle.sym_records.specs.declared.place.Place.TheVariants.{Inside};
+ghost use Rattle.sym_records.specs.Validity.{fields_fit};
 ghost use Rattle.func_flatten.specs.LineRuns.{AreLineRuns};
-ghost use Rattle.func_records.specs.FuncRecords.{file_lines, func_record};
-ghost use Rattle.func_records.specs.Gathering.{bytes_of};
-ghost use Rattle.func_records.specs.Spelling.{line_by, row_of, AreClean, AddsPart, AddsParts, AddsSo};
+ghost use Rattle.func_records.specs.FuncRecords.{func_record};
+ghost use Rattle.func_records.specs.Origins.{AreNumbered};
+ghost use Rattle.func_records.specs.Parts.{AreShort, AreAllShort, AddsPart, AddsParts};
+ghost use Rattle.func_records.specs.Spelling.{line_by};
 
+use crate::inlines::add_copies;
+use crate::numbers::{Numbers, row_in};
 use die_names::{Units, name_of, name_slice, name_text};
 use func_flatten::{LineRun, Piece, lines_of};
+use inline_chain::{InlineRun, InlineRuns};
 use std::alloc::Global;
-use sym_edges::{ListOf, OutOfMemory};
+use sym_edges::OutOfMemory;
 use sym_records::laws::{cleaned_bytes_are_names, records_of_functions_fit};
-use sym_records::{TextPieces, add_file, add_func, add_line};
+use sym_records::{Extent, TextPieces, add_func, add_line};
 
 /// The FILE number of a path.
 fn number_in(row: &[u32], path: usize) -> u32
@@ -26,16 +29,6 @@ fn number_in(row: &[u32], path: usize) -> u32
     match row.get(path) {
         Some(number) => *number,
         None => 0,
-    }
-}
-
-/// The FILE numbers of a unit's paths.
-fn row_in(rows: &[ListOf<u32>], unit: usize) -> &[u32]
-    ensures { result.now ≡ row_of rows.now unit }
-{
-    match rows.get(unit) {
-        Some(row) => row.as_slice(),
-        None => &[],
     }
 }
 
@@ -65,7 +58,7 @@ fn add_runs(text: &mut Vec<u8>, base: u64, row: &[u32], runs: &[LineRun]) -> Res
 }
 
 /// Adds the FUNC record of a piece.
-#[tactic(auto, using(crate::proofs::SpellLemmas::sliced_name, crate::proofs::SpellLemmas::made_name))]
+#[tactic(auto, using(crate::proofs::SpellLemmas::sliced_name, crate::proofs::SpellLemmas::name_made))]
 fn add_owner(
     alloc: Global,
     text: &mut Vec<u8>,
@@ -88,60 +81,70 @@ fn add_owner(
     add_func(text, piece.many, address, size, 0, made.as_slice())
 }
 
-/// Adds the records of a piece and its lines.
+/// Adds the records of a piece, its inlined copies and its lines.
 fn add_part(
     alloc: Global,
     base: u64,
     units: &Units<'_>,
+    numbers: &Numbers<'_>,
     piece: &Piece,
-    rows: &[ListOf<u32>],
+    copies: &[InlineRun],
+    ranges: &mut Vec<Extent>,
     text: &mut TextPieces,
 ) -> Result<(), OutOfMemory>
-    ensures { OnOk result (AddsPart base rows.now units.now piece.now (text_bytes text.old) (text_bytes text.new)) }
+    requires numbered { AreNumbered units.now numbers.now }
+    requires short { AreShort copies.now }
+    ensures { OnOk result (AddsPart base numbers.now units.now piece.now copies.now (text_bytes text.old) (text_bytes text.new)) }
 {
     add_owner(alloc, &mut text.last, base, units, piece)?;
+    add_copies(
+        alloc,
+        base,
+        units,
+        numbers,
+        piece.unit,
+        copies,
+        ranges,
+        &mut text.last,
+    )?;
     let runs = lines_of(alloc, units, piece)?;
     add_runs(
         &mut text.last,
         base,
-        row_in(rows, piece.unit as usize),
+        row_in(numbers.rows, piece.unit as usize),
         runs.as_slice(),
     )?;
     text.turn(alloc)?;
     Ok(())
 }
 
-/// Adds the records of pieces and their lines.
+/// Adds the records of pieces, their inlined copies and their lines.
 pub fn add_parts(
     alloc: Global,
     base: u64,
     units: &Units<'_>,
+    numbers: &Numbers<'_>,
     pieces: &[Piece],
-    rows: &[ListOf<u32>],
+    held: &[InlineRuns],
     text: &mut TextPieces,
 ) -> Result<(), OutOfMemory>
-    ensures { OnOk result (AddsParts base rows.now units.now pieces.now (text_bytes text.old) (text_bytes text.new)) }
+    requires numbered { AreNumbered units.now numbers.now }
+    requires count { length held.now ≡ length pieces.now }
+    requires short { AreAllShort held.now }
+    ensures { OnOk result (AddsParts base numbers.now units.now pieces.now held.now (text_bytes text.old) (text_bytes text.new)) }
 {
-    let mut rest = pieces;
-    'pieces: while let Some((piece, later)) = rest.split_first() {
-        add_part(alloc, base, units, piece, rows, text)?;
-        rest = later;
-    }
-    Ok(())
-}
-
-/// Adds the FILE records of paths.
-pub fn add_files(alloc: Global, paths: &[&[u8]], text: &mut TextPieces) -> Result<(), OutOfMemory>
-    requires few { length paths.now < 2 ^ 32 }
-    requires clean { AreClean (bytes_of paths.now) }
-    ensures text { OnOk result (text_bytes text.new ≡ text_bytes text.old ++ canon_text (file_lines 0 (bytes_of paths.now))) }
-    ensures fit { OnOk result (first_bad_from 0 Inside (file_lines 0 (bytes_of paths.now)) ≡ None) }
-{
-    cleaned_bytes_are_names();
-    records_of_functions_fit();
-    'paths: for number in 0..paths.len() {
-        add_file(&mut text.last, number as u32, paths[number])?;
-        text.turn(alloc)?;
+    let mut ranges = Vec::new(alloc);
+    'pieces: for place in 0..pieces.len() {
+        add_part(
+            alloc,
+            base,
+            units,
+            numbers,
+            &pieces[place],
+            held[place].as_slice(),
+            &mut ranges,
+            text,
+        )?;
     }
     Ok(())
 }

@@ -1,12 +1,10 @@
-use Rattle.std.proofs.Common.{length}
-use Rattle.func_records.specs.Gathering.{RowsSay, GatheredSo}
+use Rattle.std.proofs.Common.{take}
+use Rattle.func_records.specs.Gathering.{OmittedSays, RowsSay, Gathered}
 use Rattle.func_records.proofs.paths.gather_paths.Given as goal
 
 abbrev pub invariant-pieces : goal.invariant-pieces
 invariant-pieces l = record {
   marked : RowsSay l.units l.rows.items l.used.items;
-  gathered : GatheredSo l.units l.pieces l.rest l.used.items;
+  omitted : OmittedSays l.omitted l.used.items;
+  gathered : Gathered l.units (take l.place l.pieces) (take l.place l.held) l.used.items;
 }
-
-abbrev pub decreases-pieces : goal.decreases-pieces
-decreases-pieces l = length l.rest

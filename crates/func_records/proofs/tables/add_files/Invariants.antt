@@ -5,7 +5,7 @@ use Rattle.sym_records.specs.Validity.{first_bad_from}
 use Rattle.sym_records.specs.declared.place.Place.TheVariants.{Inside}
 use Rattle.func_records.specs.FuncRecords.{file_lines}
 use Rattle.func_records.specs.Gathering.{bytes_of}
-use Rattle.func_records.proofs.spelling.add_files.Given as goal
+use Rattle.func_records.proofs.tables.add_files.Given as goal
 
 abbrev pub invariant-paths : goal.invariant-paths
 invariant-paths l = record {

@@ -1,6 +1,6 @@
 use Rattle.std.proofs.Common.{◌∙◌}
 use Rattle.func_records.proofs.PathLemmas.{row_pushed, rows_empty}
-use Rattle.func_records.proofs.paths.empty_rows.Goals as goal
+use Rattle.func_records.proofs.marks.empty_rows.Goals as goal
 
 pub loop-part-preserved : goal.loop-part-preserved
 loop-part-preserved c = row_pushed c.loop-part.rows.items _ _ _ c.loop-part.invariant (c.of.ensures ∙ c.in_ok-vec.ensures.items_if_clones_equal (λ b is. is)) c.in_ok-push.ensures.items

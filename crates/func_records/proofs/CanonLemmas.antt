@@ -1,0 +1,39 @@
+-- The text of records behind one another.
+use Rattle.std.proofs.Common.{◌≡◌, ℕ, length, List, [], ◌∷◌, ◌++◌, None, arith, refl, sym, ap, ◌∙◌, append_assoc, append-nil}
+use Rattle.std.proofs.lemmas.Grind.{flat_map-append}
+use Rattle.sym_records.specs.Canon.{canon, canon_text}
+use Rattle.sym_records.specs.Validity.{first_bad_from}
+use Rattle.sym_records.specs.declared.place.Place.{Place}
+use Rattle.sym_records.specs.declared.line.SymLine.{SymLine}
+
+pub canon_none : canon_text [] ≡ []
+unfolding canon_text
+canon_none = refl
+
+pub canon_join : (xs ys : List SymLine) → canon_text (xs ++ ys) ≡ canon_text xs ++ canon_text ys
+unfolding canon_text
+canon_join xs ys = flat_map-append canon xs ys
+
+pub canon_more : (s : SymLine) (xs : List SymLine) → canon_text (s ∷ xs) ≡ canon s ++ canon_text xs
+unfolding canon_text
+canon_more s xs = refl
+
+pub nothing_added : (old : List ℕ) → old ≡ old ++ canon_text []
+nothing_added old = sym (ap (λ t. old ++ t) canon_none ∙ append-nil old)
+
+-- one record more behind a text, of records that are left
+pub record_more : (old mid all : List ℕ) (s : SymLine) (rest : List SymLine) → old ++ canon_text (s ∷ rest) ≡ all → mid ≡ old ++ canon s → mid ++ canon_text rest ≡ all
+record_more old mid all s rest so added =
+    ap (λ t. t ++ canon_text rest) added ∙ append_assoc old (canon s) (canon_text rest) ∙ ap (λ t. old ++ t) (sym (canon_more s rest)) ∙ so
+
+pub none_left : {X : Type 0} (xs : List X) → length xs ≡ 0 → xs ≡ []
+none_left [] is = refl
+none_left (x ∷ xs) is = absurd (omega (arith, is))
+
+pub records_done : (old new : List ℕ) (rest : List SymLine) → rest ≡ [] → old ++ canon_text rest ≡ new → old ≡ new
+records_done old new rest none so = sym (append-nil old) ∙ ap (λ t. old ++ t) (sym (ap canon_text none ∙ canon_none)) ∙ so
+
+-- no record
+pub none_here : (i : ℕ) (place : Place) → first_bad_from i place [] ≡ None
+unfolding first_bad_from
+none_here i place = refl

@@ -1,0 +1,42 @@
+-- No public clause cites this: the names of the functions that were inlined, as they are gathered and numbered.
+use Rattle.std.specs.Prelude.{◌≡◌, ℕ, ◌<◌, ◌^◌, List, [], ◌∷◌, ◌++◌, map, length}
+use Rattle.std.specs.List.Sorted.{IsStrictlySortedBy}
+use Rattle.sym_records.specs.Cleaning.{cleaned}
+use Rattle.die_names.specs.declared.unit_read.UnitRead.{UnitRead}
+use Rattle.die_names.specs.declared.naming.NameRef.{NameRef}
+use Rattle.die_names.specs.Names.{entry_name}
+use Rattle.die_names.specs.NameRefs.{name_bytes}
+use Rattle.func_flatten.specs.declared.piece.Piece.{Piece}
+use Rattle.inline_chain.specs.InlineRuns.{InlineParts}
+use Rattle.func_records.specs.declared.numbers.Numbers.{Numbers}
+use Rattle.func_records.specs.declared.origins.Origin.{Origin}
+use Rattle.func_records.specs.Texts.{text_cmp}
+use Rattle.func_records.specs.Gathering.{bytes_of}
+use Rattle.func_records.specs.Spelling.{number_or_0}
+
+-- the name that an entry gives
+abbrev pub made_name : List UnitRead → NameRef → List ℕ
+made_name units name = cleaned (name_bytes units name)
+
+-- the names of a piece's inlined copies, and those of all pieces
+abbrev pub entry_names : List UnitRead → ℕ → List InlineParts → List (List ℕ)
+entry_names units unit copies = map (λ (r : InlineParts). entry_name units unit r.entry) copies
+
+abbrev pub all_names : List UnitRead → List Piece → List (List InlineParts) → List (List ℕ)
+all_names units (piece ∷ pieces) (copies ∷ held) = entry_names units piece.unit copies ++ all_names units pieces held
+all_names units _ _ = []
+
+-- each reference with the number of its name
+abbrev pub numbered_refs : List (List ℕ) → List NameRef → List (List ℕ) → List Origin
+numbered_refs names (name ∷ refs) (text ∷ texts) = record { name = name; number = number_or_0 names text } ∷ numbered_refs names refs texts
+numbered_refs names _ _ = []
+
+abbrev pub AllNumbered : List UnitRead → List (List ℕ) → List Origin → Type 0
+AllNumbered units names [] = Unit {0}
+AllNumbered units names (o ∷ origins) = (o.number ≡ number_or_0 names (made_name units o.name)) × AllNumbered units names origins
+
+-- the names are sorted, and the numbers are those of the names
+pub record AreNumbered (units : List UnitRead) (numbers : Numbers) : Type 0 where
+  pub sorted : IsStrictlySortedBy text_cmp numbers.names.now
+  pub few : length numbers.names.now < 2 ^ 32
+  pub numbered : AllNumbered units (bytes_of numbers.names.now) numbers.origins.now

@@ -1,0 +1,111 @@
+//! The records of inlined copies, spelled.
+ghost use Rattle.std.specs.Prelude.{◌≡◌, ◌++◌, ◌<◌, ◌≤◌, true, length, map, unwrap_or, OnOk};
+ghost use Rattle.std.specs.List.{list_all, slice_get};
+ghost use Rattle.sym_records.specs.Canon.{canon, canon_text};
+ghost use Rattle.sym_records.specs.Fields.{is_range};
+ghost use Rattle.sym_records.specs.Validity.{fields_fit};
+ghost use Rattle.func_records.specs.FuncRecords.{extent};
+ghost use Rattle.func_records.specs.Origins.{AreNumbered};
+ghost use Rattle.func_records.specs.Parts.{file_by, inline_by, AreShort};
+ghost use Rattle.func_records.specs.Spelling.{row_of};
+
+use crate::calls::call_site;
+use crate::numbers::{Numbers, row_in};
+use crate::origins::origin_number;
+use die_names::Units;
+use inline_chain::InlineRun;
+use std::alloc::Global;
+use sym_edges::{OutOfMemory, Span};
+use sym_records::laws::records_of_functions_fit;
+use sym_records::{Extent, add_inline};
+
+/// A span, less the base.
+fn extent_of(base: u64, span: Span) -> Extent
+    ensures extent { result ≡ extent base span }
+    ensures fit { is_range result ≡ true }
+{
+    Extent {
+        address: span.start().saturating_sub(base),
+        size: span.end().saturating_sub(span.start()),
+    }
+}
+
+/// Puts spans, less the base, in the place of what was there.
+fn fill_ranges(base: u64, spans: &[Span], ranges: &mut Vec<Extent>) -> Result<(), OutOfMemory>
+    ensures filled { OnOk result (ranges.new.items ≡ map (extent base) spans.now) }
+    ensures fit { OnOk result (list_all is_range ranges.new.items ≡ true) }
+{
+    ranges.clear();
+    let mut rest = spans;
+    'spans: while let Some((span, later)) = rest.split_first() {
+        ranges.push(extent_of(base, *span))?;
+        rest = later;
+    }
+    Ok(())
+}
+
+/// The FILE number of a call's path.
+fn file_number(row: &[u32], omitted: u32, path: Option<u32>) -> u32
+    ensures { result ≡ file_by row.now omitted path }
+{
+    match path {
+        Some(path) => match row.get(path as usize) {
+            Some(number) => *number,
+            None => 0,
+        },
+        None => omitted,
+    }
+}
+
+/// Adds the record of an inlined copy. What `ranges` holds does not matter: it is used again for the sake of its memory.
+fn add_copy(
+    alloc: Global,
+    base: u64,
+    units: &Units<'_>,
+    numbers: &Numbers<'_>,
+    unit: u32,
+    copy: &InlineRun,
+    ranges: &mut Vec<Extent>,
+    text: &mut Vec<u8>,
+) -> Result<(), OutOfMemory>
+    requires numbered { AreNumbered units.now numbers.now }
+    requires some { 0 < length copy.now.spans }
+    requires short { length copy.now.spans ≤ 16384 }
+    ensures text { OnOk result (text.new.items ≡ text.old.items ++ canon (inline_by base numbers.now units.now unit copy.now)) }
+    ensures fit { OnOk result (fields_fit (inline_by base numbers.now units.now unit copy.now) ≡ true) }
+{
+    records_of_functions_fit();
+    let site = call_site(units, unit, copy.entry);
+    let file = file_number(
+        row_in(numbers.rows, unit as usize),
+        numbers.omitted,
+        site.path,
+    );
+    let origin = origin_number(alloc, units, numbers, unit, copy.entry)?;
+    fill_ranges(base, copy.spans.spans(), ranges)?;
+    add_inline(text, copy.level, site.line, file, origin, ranges.as_slice())
+}
+
+/// Adds the records of a piece's inlined copies.
+pub fn add_copies(
+    alloc: Global,
+    base: u64,
+    units: &Units<'_>,
+    numbers: &Numbers<'_>,
+    unit: u32,
+    copies: &[InlineRun],
+    ranges: &mut Vec<Extent>,
+    text: &mut Vec<u8>,
+) -> Result<(), OutOfMemory>
+    requires numbered { AreNumbered units.now numbers.now }
+    requires short { AreShort copies.now }
+    ensures text { OnOk result (text.new.items ≡ text.old.items ++ canon_text (map (inline_by base numbers.now units.now unit) copies.now)) }
+    ensures fit { OnOk result (list_all fields_fit (map (inline_by base numbers.now units.now unit) copies.now) ≡ true) }
+{
+    let mut rest = copies;
+    'copies: while let Some((copy, later)) = rest.split_first() {
+        add_copy(alloc, base, units, numbers, unit, copy, ranges, text)?;
+        rest = later;
+    }
+    Ok(())
+}
