@@ -45,7 +45,7 @@ use Rattle.func_records.specs.FuncRecords.{AreFuncRecords, BeginAbove}
 use Rattle.func_records.specs.TextNames.{Names}
 use Rattle.func_records.proofs.NameLemmas.{all_named}
 use Rattle.func_records.specs.Adding.{HaveCleanPaths, AddsFunctions}
-use Rattle.func_records.proofs.SpellLemmas.{canon_join, canon_more, canon_none, none_here}
+use Rattle.func_records.proofs.CanonLemmas.{canon_join, canon_more, canon_none, none_here}
 use Rattle.debug_read.specs.Each.{Match}
 use Rattle.debug_read.specs.UnitSays.{UnitSays}
 use Rattle.debug_read.specs.UnitsRead.{IsSet, IsUnitRead}

@@ -10,7 +10,8 @@ use Rattle.die_names.specs.declared.unit_read.UnitRead.{UnitRead}
 use Rattle.func_flatten.specs.declared.piece.Piece.{Piece}
 use Rattle.func_flatten.specs.declared.line_run.LineRun.{LineRun}
 use Rattle.func_flatten.specs.Publics.{PublicParts, publics}
-use Rattle.func_records.specs.FuncRecords.{Part, file_lines, line_record, part_lines, AreFuncRecords}
+use Rattle.inline_chain.specs.InlineRuns.{InlineParts}
+use Rattle.func_records.specs.FuncRecords.{Part, file_lines, origin_lines, inline_record, line_record, part_lines, AreFuncRecords}
 use Rattle.sym_records.specs.Canon.{spaced}
 use Rattle.sym_records.specs.declared.line.SymLine.{SymLine}
 use Rattle.sym_records.specs.declared.line.SymLine.TheVariants.{Module, Info, File, Origin, Func, Inline, Line, Public, Init, Change}
@@ -72,12 +73,24 @@ runs_frameless : (base : ℕ) (paths : List (List ℕ)) (units : List UnitRead) 
 runs_frameless base paths units unit [] = refl
 runs_frameless base paths units unit (r ∷ runs) = runs_frameless base paths units unit runs
 
-parts_frameless : (base : ℕ) (paths : List (List ℕ)) (units : List UnitRead) (parts : List Part) → list_all is_frameless (part_lines base paths units parts) ≡ true
-parts_frameless base paths units [] = refl
-parts_frameless base paths units (p ∷ parts) = both_frameless (map (line_record base paths units p.piece.unit) p.lines) (part_lines base paths units parts) (runs_frameless base paths units p.piece.unit p.lines) (parts_frameless base paths units parts)
+origins_frameless : (k : ℕ) (names : List (List ℕ)) → list_all is_frameless (origin_lines k names) ≡ true
+origins_frameless k [] = refl
+origins_frameless k (name ∷ names) = origins_frameless (k + 1) names
+
+copies_frameless : (base : ℕ) (paths names : List (List ℕ)) (units : List UnitRead) (unit : ℕ) (copies : List InlineParts) → list_all is_frameless (map (inline_record base paths names units unit) copies) ≡ true
+copies_frameless base paths names units unit [] = refl
+copies_frameless base paths names units unit (c ∷ copies) = copies_frameless base paths names units unit copies
+
+parts_frameless : (base : ℕ) (paths names : List (List ℕ)) (units : List UnitRead) (parts : List Part) → list_all is_frameless (part_lines base paths names units parts) ≡ true
+parts_frameless base paths names units [] = refl
+parts_frameless base paths names units (p ∷ parts) =
+    both_frameless (map (inline_record base paths names units p.piece.unit) p.copies) (map (line_record base paths units p.piece.unit) p.lines ++ part_lines base paths names units parts) (copies_frameless base paths names units p.piece.unit p.copies)
+    (both_frameless (map (line_record base paths units p.piece.unit) p.lines) (part_lines base paths names units parts) (runs_frameless base paths units p.piece.unit p.lines) (parts_frameless base paths names units parts))
 
 functions_frameless : (base : ℕ) (units : List UnitRead) (pieces : List Piece) (records : List SymLine) → AreFuncRecords base units pieces records → list_all is_frameless records ≡ true
-functions_frameless base units pieces records are = rw are.whole (both_frameless (file_lines 0 are.paths) (part_lines base are.paths units are.parts) (files_frameless 0 are.paths) (parts_frameless base are.paths units are.parts))
+functions_frameless base units pieces records are = rw are.whole
+    (both_frameless (file_lines 0 are.paths) (origin_lines 0 are.names ++ part_lines base are.paths are.names units are.parts) (files_frameless 0 are.paths)
+    (both_frameless (origin_lines 0 are.names) (part_lines base are.paths are.names units are.parts) (origins_frameless 0 are.names) (parts_frameless base are.paths are.names units are.parts)))
 
 publics_frameless : (base : ℕ) (ps : List PublicParts) → list_all is_frameless (map (public_line base) ps) ≡ true
 publics_frameless base [] = refl
