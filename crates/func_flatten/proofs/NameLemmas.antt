@@ -119,19 +119,6 @@ meets_made old new key number none same added = record {
     joined None two text = refl
     joined (Some k) two text = refl
 
--- a name that was there already
-pub meets_known : (old : Names) (name : List ℕ) (number class : ℕ) → Some class ≡ name_number old name → Meets old old name number class
-meets_known old name number class found = record {
-  class_is = ap (λ o. option_or o (Some number)) found;
-  names = λ text. known text (bytes_eq text name) refl;
-}
-  where
-    known : (text : List ℕ) (b : Bool) → bytes_eq text name ≡ b → name_number old text ≡ option_or (name_number old text) (if b then Some number else None)
-    known text true is = (let same : text ≡ name = (bytes_eq-Decides text name).0 is in
-        let there : name_number old text ≡ Some class = ap (name_number old) same ∙ sym found in
-        there ∙ sym (ap (λ o. option_or o (Some number)) there))
-    known text false is = sym (or_none (name_number old text))
-
 -- one more stretch
 first_push : (name : ℕ → List ℕ) (front later : List Stretch) (text : List ℕ) → first_named name (front ++ later) text ≡ option_or (first_named name front text) (first_named name later text)
 first_push name [] later text = refl
