@@ -1,117 +1,373 @@
--- Classes of functions with equal names.
-use Rattle.std.proofs.Common.{◌≡◌, ℕ, zero, suc, ◌+◌, ◌==◌, Bool, true, false, ◌||◌, ◌&&◌, nat_le, nat_lt, if◌then◌else◌, ◌-◌, map, List, [], ◌∷◌, ◌++◌, Option, None, Some, arith, refl, sym, ap, ◌∙◌, subst, eq-eqb}
+-- Where functions of different names share an address.
+use Rattle.std.proofs.Common.{◌≡◌, ℕ, zero, suc, ◌+◌, ◌-◌, ◌<◌, ◌≤◌, ◌==◌, Bool, true, false, not, ◌||◌, ◌&&◌, nat_le, nat_lt, if◌then◌else◌, map, List, [], ◌∷◌, ◌++◌, Option, None, Some, arith, refl, sym, ap, ◌∙◌, subst, eq-eqb, append_assoc, unwrap_or, length, get_or, take, drop, set}
 use Rattle.std.proofs.lemmas.Bool.Decides.{nat_tests}
+use Rattle.std.proofs.lemmas.List.Edits.{map_over_more}
+use Rattle.std.proofs.lemmas.Map.Views.{any-filter_same}
 use Rattle.std.proofs.lemmas.Slice.Eq.{bytes_eq-Decides}
-use Rattle.std.specs.List.{slice_get, list_any}
+use Rattle.std.specs.List.{find, filter, list_any, slice_get}
+use Rattle.std.specs.Option.{option_map, option_map_or}
 use Rattle.std.specs.Str.{bytes_eq}
 use Rattle.sym_edges.specs.Addresses.{Range}
 use Rattle.step_maps.specs.declared.stretch.Stretch.{Stretch}
 use Rattle.step_maps.specs.declared.stretch.Cover.{Cover}
-use Rattle.step_maps.specs.Runs.{IsRuns, between}
-use Rattle.step_maps.specs.Covers.{AreStretches, index_at, is_shared, cover_run, AreMarked, AreCovers}
-use Rattle.line_program.specs.LineMaps.{AreDistinct}
-use Rattle.line_program.specs.Numbering.{AreNumbered}
+use Rattle.step_maps.specs.declared.stretch.FirstItem.{FirstItem}
+use Rattle.step_maps.specs.Runs.{IsRuns, AreRuns, Follows, AreMaximal, between}
+use Rattle.step_maps.specs.Stepping.{Stepping, RisesFrom, value_at}
+use Rattle.step_maps.specs.Covers.{AreStretches, reaches, first_at, index_at, is_shared, first_item, cover_run, AreMarked, AreCovers}
+use Rattle.step_maps.proofs.MaximalLemmas.{maximal}
+use Rattle.step_maps.proofs.SteppingLemmas.{Point}
 use Rattle.die_names.specs.declared.unit_read.UnitRead.{UnitRead}
 use Rattle.die_names.specs.Owners.{Covering}
 use Rattle.func_flatten.specs.declared.piece.Place.{Place}
 use Rattle.func_flatten.specs.Pieces.{place_of, covering_name, is_many}
-use Rattle.func_flatten.specs.Collecting.{all_functions, function_stretches, span_stretches, own_class, class_in, classed, Collects}
-use Rattle.func_flatten.specs.Classes.{place_name, AreClasses, TellMany, AreNamedCovers}
-use Rattle.func_flatten.proofs.FunctionLemmas.{index_is, many_is, TellNames, shared_is, unshared_is}
+use Rattle.func_flatten.specs.Collecting.{all_functions, function_stretches, span_stretches, own_class, Collects}
+use Rattle.func_flatten.specs.Classes.{number_name, has_other_name, shared_starts, reaches_any, first_named, class_by, classed, shared_in, marked, TellMany, AreNamedCovers}
+use Rattle.func_flatten.proofs.FunctionLemmas.{many_is, other_name_is}
 use Rattle.func_flatten.proofs.PieceLemmas.{places_are, stretches_are}
-
--- the number beside a text
-beside : (paths : List (List ℕ)) (numbers : List ℕ) (files : List (List ℕ)) (i : ℕ) (text : List ℕ) → AreNumbered paths numbers files → slice_get files i ≡ Some text → slice_get paths (class_in numbers i) ≡ Some text
-beside paths [] [] i text are at = absurd (cc)
-beside paths [] (f ∷ files) i text are at = absurd are
-beside paths (n ∷ numbers) [] i text are at = absurd are
-beside paths (n ∷ numbers) (f ∷ files) zero text are at = are.0 ∙ at
-beside paths (n ∷ numbers) (f ∷ files) (suc i) text are at = beside paths numbers files i text are.1 at
 
 equal_by : (b c : Bool) → (b ≡ true → c ≡ true) → (c ≡ true → b ≡ true) → b ≡ c
 equal_by true c one two = sym (one refl)
 equal_by false true one two = two refl
 equal_by false false one two = refl
 
--- numbers of texts are classes of them
-pub numbers_class : (paths : List (List ℕ)) (numbers : List ℕ) (files : List (List ℕ)) → AreNumbered paths numbers files → AreDistinct paths → AreClasses files numbers
-numbers_class paths numbers files are apart i j m n one two =
-    let first : slice_get paths (class_in numbers i) ≡ Some m = beside paths numbers files i m are one in
-    let second : slice_get paths (class_in numbers j) ≡ Some n = beside paths numbers files j n are two in
-    equal_by (class_in numbers j == class_in numbers i) (bytes_eq n m)
-    (λ is. (let number : class_in numbers j ≡ class_in numbers i = grind (arith, nat_tests) in
-    let here : slice_get paths (class_in numbers i) ≡ Some n = ap (slice_get paths) (sym number) ∙ second in
-    let alike : n ≡ m = cc in (bytes_eq-Decides n m).1 alike))
-    (λ is. (let alike : n ≡ m = (bytes_eq-Decides n m).0 is in
-    eq-eqb (class_in numbers j) (class_in numbers i) (apart (class_in numbers j) (class_in numbers i) n second (first ∙ ap Some (sym alike)))))
-
-name_get : (units : List UnitRead) (functions : List Covering) (k : ℕ) (c : Covering) → slice_get functions k ≡ Some c → slice_get (map (place_name units) (map place_of functions)) k ≡ Some (covering_name units c)
+name_get : (units : List UnitRead) (functions : List Covering) (k : ℕ) (c : Covering) → slice_get functions k ≡ Some c → number_name units (map place_of functions) k ≡ covering_name units c
 name_get units [] k c is = absurd (cc)
-name_get units (d ∷ functions) zero c is = (let same : d ≡ c = cc in ap (λ x. Some (covering_name units x)) same)
+name_get units (d ∷ functions) zero c is = (let same : d ≡ c = cc in ap (covering_name units) same)
 name_get units (d ∷ functions) (suc k) c is = name_get units functions k c is
 
--- classes of the functions' names tell them apart
-tell_names : (units : List UnitRead) (functions : List Covering) (classes : List ℕ) → AreClasses (map (place_name units) (map place_of functions)) classes → TellNames (class_in classes) (covering_name units) functions
-tell_names units functions classes are i j c d one two = are i j (covering_name units c) (covering_name units d) (name_get units functions i c one) (name_get units functions j d two)
+-- a stretch of another name is there just where a function of another name is
+other_is : (units : List UnitRead) (places : List Place) (stretches : List Stretch) (a : ℕ) → Collects [] places [] stretches (all_functions units) [] → has_other_name (number_name units places) stretches a ≡ is_many units a
+other_is units places stretches a c =
+    ap (λ l. has_other_name (number_name units l) stretches a) (places_are places stretches (all_functions units) c)
+    ∙ ap (λ l. has_other_name (number_name units (map place_of (all_functions units))) l a) (stretches_are places stretches (all_functions units) c)
+    ∙ other_name_is (number_name units (map place_of (all_functions units))) (covering_name units) (all_functions units) a (c.sets tt) (λ j d at. name_get units (all_functions units) j d at)
+    ∙ sym (many_is units a)
 
-map_both : (f : Stretch → Stretch) (xs ys : List Stretch) → map f (xs ++ ys) ≡ map f xs ++ map f ys
-map_both f [] ys = refl
-map_both f (x ∷ xs) ys = ap (λ l. f x ∷ l) (map_both f xs ys)
+-- what holds of each stretch holds of the one that is found
+abbrev AllOf : (Stretch → Type 0) → List Stretch → Type 0
+AllOf P [] = Unit {0}
+AllOf P (s ∷ items) = P s × AllOf P items
 
-classed_spans : (classes : List ℕ) (k class : ℕ) (spans : List Range) → map (classed classes) (span_stretches k class spans) ≡ span_stretches k (class_in classes k) spans
-classed_spans classes k class [] = refl
-classed_spans classes k class (r ∷ spans) = ap (λ l. record { first = r.start; last = r.end - 1; index = k; class = class_in classes k } ∷ l) (classed_spans classes k class spans)
+of_found : (P : Stretch → Type 0) (test : Stretch → Bool) (items : List Stretch) (s : Stretch) → AllOf P items → find test items ≡ Some s → P s
+of_found P test [] s all is = absurd (cc)
+of_found P test (t ∷ items) s all is = go (test t) is (λ found. of_found P test items s all.1 found)
+  where
+    go : (b : Bool) → (if b then Some t else find test items) ≡ Some s → (find test items ≡ Some s → P s) → P s
+    go true found later = (let same : t ≡ s = cc in subst P same all.0)
+    go false found later = later found
 
--- stretches with other classes
-classed_is : (classes : List ℕ) (k : ℕ) (functions : List Covering) → map (classed classes) (function_stretches own_class k functions) ≡ function_stretches (class_in classes) k functions
-classed_is classes k [] = refl
-classed_is classes k (c ∷ functions) =
-    map_both (classed classes) (span_stretches k k c.spans) (function_stretches own_class (k + 1) functions)
-    ∙ ap (λ l. l ++ map (classed classes) (function_stretches own_class (k + 1) functions)) (classed_spans classes k k c.spans)
-    ∙ ap (λ l. span_stretches k (class_in classes k) c.spans ++ l) (classed_is classes (k + 1) functions)
+of_joined : (P : Stretch → Type 0) (xs ys : List Stretch) → AllOf P xs → AllOf P ys → AllOf P (xs ++ ys)
+of_joined P [] ys p q = q
+of_joined P (x ∷ xs) ys p q = (p.0, of_joined P xs ys p.1 q)
 
-pub classed_stretches : (classes : List ℕ) (items : List Stretch) → AreStretches items → AreStretches (map (classed classes) items)
-classed_stretches classes [] all = tt
-classed_stretches classes (s ∷ items) all = (all.0, classed_stretches classes items all.1)
+-- each stretch has its function's number as its class
+own_spans : (k : ℕ) (spans : List Range) → AllOf (λ t. t.class ≡ t.index) (span_stretches k k spans)
+own_spans k [] = tt
+own_spans k (r ∷ spans) = (refl, own_spans k spans)
 
-tell_all : (units : List UnitRead) (items : List Stretch) (covers : List Cover) → ((a : ℕ) → is_shared items a ≡ is_many units a) → AreMarked items covers → TellMany units covers
-tell_all units items [] same marks = tt
-tell_all units items (c ∷ covers) same marks = (marks.0 ∙ same c.first, tell_all units items covers same marks.1)
+own_classes : (k : ℕ) (functions : List Covering) → AllOf (λ t. t.class ≡ t.index) (function_stretches own_class k functions)
+own_classes k [] = tt
+own_classes k (c ∷ functions) = of_joined (λ t. t.class ≡ t.index) (span_stretches k k c.spans) (function_stretches own_class (k + 1) functions) (own_spans k c.spans) (own_classes (k + 1) functions)
 
-none_left : (b rest : Bool) → (b || rest) ≡ false → (b ≡ false) × (rest ≡ false)
-none_left true rest is = absurd (cc)
-none_left false rest is = (refl, is)
+finer_by : (r b c rest later : Bool) → (b ≡ true → c ≡ true) → (rest ≡ false → later ≡ false) → ((r && not b) || rest) ≡ false → ((r && not c) || later) ≡ false
+finer_by true true c rest later fine on none = ap (λ t. not t || later) (fine refl) ∙ on none
+finer_by true false c rest later fine on none = absurd (cc)
+finer_by false b c rest later fine on none = on none
 
-tell_none : (units : List UnitRead) (items : List Stretch) (covers : List Cover) → ((a : ℕ) → is_shared items a ≡ false → is_many units a ≡ false) → list_any (λ c. c.shared) covers ≡ false → AreMarked items covers → TellMany units covers
-tell_none units items [] same none marks = tt
-tell_none units items (c ∷ covers) same none marks =
-    let left = none_left c.shared (list_any (λ x. x.shared) covers) none in
-    (left.0 ∙ sym (same c.first (sym marks.0 ∙ left.0)), tell_none units items covers same left.1 marks.1)
+finer_any : (name : ℕ → List ℕ) (s : Stretch) (a : ℕ) (items : List Stretch) → s.class ≡ s.index → AllOf (λ t. t.class ≡ t.index) items → list_any (λ t. reaches t a && not (t.class == s.class)) items ≡ false → list_any (λ t. reaches t a && not (bytes_eq (name t.index) (name s.index))) items ≡ false
+finer_any name s a [] own all none = refl
+finer_any name s a (t ∷ items) own all none =
+    finer_by (reaches t a) (t.class == s.class) (bytes_eq (name t.index) (name s.index)) (list_any (λ u. reaches u a && not (u.class == s.class)) items) (list_any (λ u. reaches u a && not (bytes_eq (name u.index) (name s.index))) items)
+    (λ is. (let same : t.class ≡ s.class = grind (arith, nat_tests) in
+    let alike : t.index ≡ s.index = sym all.0 ∙ same ∙ own in
+    (bytes_eq-Decides (name t.index) (name s.index)).1 (ap name alike)))
+    (λ rest. finer_any name s a items own all.1 rest) none
 
--- no cover is shared, so no name is needed
-pub covers_apart : (units : List UnitRead) (places : List Place) (stretches : List Stretch) (covers : List Cover) → Collects [] places [] stretches (all_functions units) [] → AreCovers stretches covers → list_any (λ c. c.shared) covers ≡ false → AreNamedCovers units stretches covers
-covers_apart units places stretches covers c is none =
+-- where no other function is there, no other name is
+other_none : (name : ℕ → List ℕ) (items : List Stretch) (a : ℕ) → AllOf (λ t. t.class ≡ t.index) items → is_shared items a ≡ false → has_other_name name items a ≡ false
+unfolding is_shared has_other_name first_at
+other_none name items a all none = go (find (λ s. reaches s a) items) refl none
+  where
+    go : (o : Option Stretch) → find (λ s. reaches s a) items ≡ o → option_map_or (λ s. list_any (λ t. reaches t a && not (t.class == s.class)) items) o false ≡ false → option_map_or (λ s. list_any (λ t. reaches t a && not (bytes_eq (name t.index) (name s.index))) items) o false ≡ false
+    go None is gone = refl
+    go (Some s) is gone = finer_any name s a items (of_found (λ t. t.class ≡ t.index) (λ t. reaches t a) items s all is) all gone
+
+-- the stretches that are kept
+found_kept : (keep : Stretch → Bool) (a : ℕ) (items : List Stretch) → ((s : Stretch) → reaches s a ≡ true → keep s ≡ true) → find (λ s. reaches s a) (filter keep items) ≡ find (λ s. reaches s a) items
+found_kept keep a [] all = refl
+found_kept keep a (s ∷ items) all = step (keep s) ∙ go (keep s) (reaches s a) (find (λ t. reaches t a) (filter keep items)) (find (λ t. reaches t a) items) (all s) (found_kept keep a items all)
+  where
+    step : (k : Bool) → find (λ t. reaches t a) (if k then s ∷ filter keep items else filter keep items) ≡ (if k then (if reaches s a then Some s else find (λ t. reaches t a) (filter keep items)) else find (λ t. reaches t a) (filter keep items))
+    step true = refl
+    step false = refl
+
+    go : (k r : Bool) (front whole : Option Stretch) → (r ≡ true → k ≡ true) → front ≡ whole → (if k then (if r then Some s else front) else front) ≡ (if r then Some s else whole)
+    go true true front whole only is = refl
+    go true false front whole only is = is
+    go false true front whole only is = (let wrong : false ≡ true = only refl in absurd (cc))
+    go false false front whole only is = is
+
+first_true : (p q : Bool) → (p && q) ≡ true → p ≡ true
+first_true true q is = refl
+first_true false q is = absurd (cc)
+
+-- those that are kept tell all
+other_kept : (name : ℕ → List ℕ) (keep : Stretch → Bool) (a : ℕ) (items : List Stretch) → ((s : Stretch) → reaches s a ≡ true → keep s ≡ true) → has_other_name name (filter keep items) a ≡ has_other_name name items a
+unfolding has_other_name first_at
+other_kept name keep a items all =
+    ap (λ o. option_map_or (λ s. list_any (λ t. reaches t a && not (bytes_eq (name t.index) (name s.index))) (filter keep items)) o false) (found_kept keep a items all)
+    ∙ go (find (λ s. reaches s a) items)
+  where
+    go : (o : Option Stretch) → option_map_or (λ s. list_any (λ t. reaches t a && not (bytes_eq (name t.index) (name s.index))) (filter keep items)) o false ≡ option_map_or (λ s. list_any (λ t. reaches t a && not (bytes_eq (name t.index) (name s.index))) items) o false
+    go None = refl
+    go (Some s) = any-filter_same (λ t. reaches t a && not (bytes_eq (name t.index) (name s.index))) keep true (λ t is. all t (first_true (reaches t a) (not (bytes_eq (name t.index) (name s.index))) is)) items
+
+-- the first function that has a name has it
+found_name : (name : ℕ → List ℕ) (items : List Stretch) (text : List ℕ) (k : ℕ) → first_named name items text ≡ Some k → name k ≡ text
+found_name name [] text k is = absurd (cc)
+found_name name (s ∷ items) text k is = go (bytes_eq text (name s.index)) refl is (λ found. found_name name items text k found)
+  where
+    go : (b : Bool) → bytes_eq text (name s.index) ≡ b → option_map (λ t. t.index) (if b then Some s else find (λ t. bytes_eq text (name t.index)) items) ≡ Some k → (first_named name items text ≡ Some k → name k ≡ text) → name k ≡ text
+    go true has found later = (let same : s.index ≡ k = cc in ap name (sym same) ∙ sym ((bytes_eq-Decides text (name s.index)).0 has))
+    go false has found later = later found
+
+-- each of the stretches has a name among them
+some_name : (name : ℕ → List ℕ) (front later : List Stretch) (s : Stretch) → first_named name (front ++ s ∷ later) (name s.index) ≡ None → false ≡ true
+some_name name [] later s none = go (bytes_eq (name s.index) (name s.index)) ((bytes_eq-Decides (name s.index) (name s.index)).1 refl) none
+  where
+    go : (b : Bool) → b ≡ true → option_map (λ t. t.index) (if b then Some s else find (λ t. bytes_eq (name s.index) (name t.index)) later) ≡ None → false ≡ true
+    go true same is = absurd (cc)
+    go false same is = same
+some_name name (t ∷ front) later s none = go (bytes_eq (name s.index) (name t.index)) none (λ is. some_name name front later s is)
+  where
+    go : (b : Bool) → option_map (λ u. u.index) (if b then Some t else find (λ u. bytes_eq (name s.index) (name u.index)) (front ++ s ∷ later)) ≡ None → (first_named name (front ++ s ∷ later) (name s.index) ≡ None → false ≡ true) → false ≡ true
+    go true is rest = absurd (cc)
+    go false is rest = rest is
+
+class_name : (name : ℕ → List ℕ) (items front later : List Stretch) (s : Stretch) → items ≡ front ++ s ∷ later → name (class_by name items s.index) ≡ name s.index
+class_name name items front later s is = go (first_named name items (name s.index)) refl
+  where
+    go : (o : Option ℕ) → first_named name items (name s.index) ≡ o → name (unwrap_or o 0) ≡ name s.index
+    go None none = (let wrong : false ≡ true = some_name name front later s (ap (λ l. first_named name l (name s.index)) (sym is) ∙ none) in absurd (cc))
+    go (Some k) found = found_name name items (name s.index) k found
+
+class_names : (name : ℕ → List ℕ) (items front later : List Stretch) → items ≡ front ++ later → AllOf (λ s. name (class_by name items s.index) ≡ name s.index) later
+class_names name items front [] is = tt
+class_names name items front (s ∷ later) is = (class_name name items front later s is, class_names name items (front ++ s ∷ []) later (is ∙ sym (append_assoc front (s ∷ []) later)))
+
+found_classed : (class : ℕ → ℕ) (a : ℕ) (items : List Stretch) → find (λ s. reaches s a) (map (classed class) items) ≡ option_map (classed class) (find (λ s. reaches s a) items)
+found_classed class a [] = refl
+found_classed class a (s ∷ items) = go (reaches s a) (found_classed class a items)
+  where
+    go : (b : Bool) → find (λ t. reaches t a) (map (classed class) items) ≡ option_map (classed class) (find (λ t. reaches t a) items) → (if b then Some (classed class s) else find (λ t. reaches t a) (map (classed class) items)) ≡ option_map (classed class) (if b then Some s else find (λ t. reaches t a) items)
+    go true is = refl
+    go false is = is
+
+-- two have one class where their names are equal
+equal_class : (name : ℕ → List ℕ) (class : ℕ → ℕ) (j k : ℕ) → ((i l : ℕ) → name i ≡ name l → class i ≡ class l) → name (class j) ≡ name j → name (class k) ≡ name k → (class j == class k) ≡ bytes_eq (name j) (name k)
+equal_class name class j k same one two =
+    equal_by (class j == class k) (bytes_eq (name j) (name k))
+    (λ is. (let number : class j ≡ class k = grind (arith, nat_tests) in (bytes_eq-Decides (name j) (name k)).1 (sym one ∙ ap name number ∙ two)))
+    (λ is. eq-eqb (class j) (class k) (same j k ((bytes_eq-Decides (name j) (name k)).0 is)))
+
+any_classed : (name : ℕ → List ℕ) (class : ℕ → ℕ) (s : Stretch) (a : ℕ) (items : List Stretch) → ((i l : ℕ) → name i ≡ name l → class i ≡ class l) → name (class s.index) ≡ name s.index → AllOf (λ t. name (class t.index) ≡ name t.index) items
+    → list_any (λ t. reaches t a && not (t.class == class s.index)) (map (classed class) items) ≡ list_any (λ t. reaches t a && not (bytes_eq (name t.index) (name s.index))) items
+any_classed name class s a [] same here all = refl
+any_classed name class s a (t ∷ items) same here all =
+    ap (λ b. (reaches t a && not b) || list_any (λ u. reaches u a && not (u.class == class s.index)) (map (classed class) items)) (equal_class name class t.index s.index same all.0 here)
+    ∙ ap (λ b. (reaches t a && not (bytes_eq (name t.index) (name s.index))) || b) (any_classed name class s a items same here all.1)
+
+-- by these classes another class is there just where another name is
+shared_classed : (name : ℕ → List ℕ) (items : List Stretch) (a : ℕ) → is_shared (map (classed (class_by name items)) items) a ≡ has_other_name name items a
+unfolding is_shared has_other_name first_at
+shared_classed name items a =
+    ap (λ o. option_map_or (λ s. list_any (λ t. reaches t a && not (t.class == s.class)) (map (classed (class_by name items)) items)) o false) (found_classed (class_by name items) a items)
+    ∙ go (find (λ s. reaches s a) items) refl
+  where
+    names : AllOf (λ t. name (class_by name items t.index) ≡ name t.index) items
+    names = class_names name items [] items refl
+
+    go : (o : Option Stretch) → find (λ s. reaches s a) items ≡ o → option_map_or (λ s. list_any (λ t. reaches t a && not (t.class == s.class)) (map (classed (class_by name items)) items)) (option_map (classed (class_by name items)) o) false
+        ≡ option_map_or (λ s. list_any (λ t. reaches t a && not (bytes_eq (name t.index) (name s.index))) items) o false
+    go None is = refl
+    go (Some s) is =
+        any_classed name (class_by name items) s a items (λ i l same. ap (λ n. unwrap_or (first_named name items n) 0) same)
+        (of_found (λ t. name (class_by name items t.index) ≡ name t.index) (λ t. reaches t a) items s names is) names
+
+pub classed_stretches : (class : ℕ → ℕ) (items : List Stretch) → AreStretches items → AreStretches (map (classed class) items)
+classed_stretches class [] all = tt
+classed_stretches class (s ∷ items) all = (all.0, classed_stretches class items all.1)
+
+pub kept_stretches : (keep : Stretch → Bool) (items : List Stretch) → AreStretches items → AreStretches (filter keep items)
+kept_stretches keep [] all = tt
+kept_stretches keep (s ∷ items) all = go (keep s) (kept_stretches keep items all.1)
+  where
+    go : (b : Bool) → AreStretches (filter keep items) → AreStretches (if b then s ∷ filter keep items else filter keep items)
+    go true rest = (all.0, rest)
+    go false rest = rest
+
+abbrev BeginsFrom : ℕ → List Cover → Type 0
+BeginsFrom low [] = Unit {0}
+BeginsFrom low (c ∷ covers) = low ≤ c.first
+
+rises_lower : (low high : ℕ) (xs : List ℕ) → low ≤ high → RisesFrom high xs → RisesFrom low xs
+rises_lower low high [] less rises = tt
+rises_lower low high (x ∷ xs) less rises = (omega (arith, rises.0), rises.1)
+
+rise_from : (low : ℕ) (covers : List Cover) → BeginsFrom low covers → AreRuns (map cover_run covers) → RisesFrom low (shared_starts covers)
+rise_from low [] begins runs = tt
+rise_from low (c ∷ covers) begins runs = go c.shared (rise_from (c.first + 1) covers (next covers runs.1) runs.2)
+  where
+    next : (later : List Cover) → Follows (cover_run c) (map cover_run later) → BeginsFrom (c.first + 1) later
+    next [] follows = tt
+    next (d ∷ later) follows = omega (arith, runs.0, follows.0)
+
+    go : (b : Bool) → RisesFrom (c.first + 1) (shared_starts covers) → RisesFrom low (if b then c.first ∷ shared_starts covers else shared_starts covers)
+    go true later = (begins, later)
+    go false later = rises_lower low (c.first + 1) (shared_starts covers) (omega (arith, begins)) later
+
+begins_anywhere : (covers : List Cover) → BeginsFrom 0 covers
+begins_anywhere [] = tt
+begins_anywhere (c ∷ covers) = omega arith
+
+-- the first addresses of shared covers rise
+pub starts_rise : (items : List Stretch) (covers : List Cover) → AreCovers items covers → RisesFrom 0 (shared_starts covers)
+starts_rise items covers is = rise_from 0 covers (begins_anywhere covers) is.runs.apart
+
+-- each stretch that has the address has one of these
+abbrev IsKept : List ℕ → ℕ → Type 0
+IsKept addresses a = (s : Stretch) → reaches s a ≡ true → reaches_any addresses s ≡ true
+
+abbrev AreKept : List ℕ → List Cover → Type 0
+AreKept addresses [] = Unit {0}
+AreKept addresses (c ∷ covers) = (c.shared ≡ true → IsKept addresses c.first) × AreKept addresses covers
+
+or_true : (b : Bool) → (b || true) ≡ true
+or_true true = refl
+or_true false = refl
+
+kept_more : (b : ℕ) (addresses : List ℕ) (covers : List Cover) → AreKept addresses covers → AreKept (b ∷ addresses) covers
+kept_more b addresses [] all = tt
+kept_more b addresses (c ∷ covers) all = (λ shared s has. ap (λ t. reaches s b || t) (all.0 shared s has) ∙ or_true (reaches s b), kept_more b addresses covers all.1)
+
+kept_starts : (covers : List Cover) → AreKept (shared_starts covers) covers
+kept_starts [] = tt
+kept_starts (c ∷ covers) = go c.shared refl (kept_starts covers)
+  where
+    go : (b : Bool) → c.shared ≡ b → AreKept (shared_starts covers) covers → AreKept (if b then c.first ∷ shared_starts covers else shared_starts covers) (c ∷ covers)
+    go true is later = (λ shared s has. ap (λ t. t || reaches_any (shared_starts covers) s) has, kept_more c.first (shared_starts covers) covers later)
+    go false is later = (λ shared. (let wrong : false ≡ true = sym is ∙ shared in absurd (cc)), later)
+
+shared_item : (items : List Stretch) (a : ℕ) → shared_in (first_item items a) ≡ is_shared items a
+unfolding first_item is_shared
+shared_item items a = go (first_at items a)
+  where
+    go : (o : Option Stretch) → shared_in (option_map (λ s. record { index = s.index; class = s.class; shared = option_map_or (λ t. list_any (λ u. reaches u a && not (u.class == t.class)) items) o false }) o) ≡ option_map_or (λ t. list_any (λ u. reaches u a && not (u.class == t.class)) items) o false
+    go None = refl
+    go (Some s) = refl
+
+-- what was found at a shared first address tells of names
+found_other : (units : List UnitRead) (places : List Place) (stretches kept named : List Stretch) (addresses : List ℕ) (items : Stepping (Option FirstItem)) (a : ℕ) → Collects [] places [] stretches (all_functions units) []
+    → kept ≡ filter (reaches_any addresses) stretches → named ≡ map (classed (class_by (number_name units places) kept)) kept → value_at None items a ≡ first_item named a → IsKept addresses a → shared_in (value_at None items a) ≡ is_many units a
+found_other units places stretches kept named addresses items a c keeps classes found all =
+    ap shared_in found
+    ∙ shared_item named a
+    ∙ ap (λ l. is_shared l a) classes
+    ∙ shared_classed (number_name units places) kept a
+    ∙ ap (λ l. has_other_name (number_name units places) l a) keeps
+    ∙ other_kept (number_name units places) (reaches_any addresses) a stretches all
+    ∙ other_is units places stretches a c
+
+-- where a cover is not shared no other name is
+found_none : (units : List UnitRead) (places : List Place) (stretches : List Stretch) (a : ℕ) → Collects [] places [] stretches (all_functions units) [] → is_shared stretches a ≡ false → is_many units a ≡ false
+found_none units places stretches a c none =
     let one = stretches_are places stretches (all_functions units) c in
-    record {
-      runs = is.runs;
-      marks = tell_none units stretches covers
-          (λ a no. many_is units a ∙ unshared_is (covering_name units) (all_functions units) a (c.sets tt) (ap (λ l. is_shared l a) (sym one) ∙ no)) none is.marks;
-    }
+    sym (other_is units places stretches a c)
+    ∙ other_none (number_name units places) stretches a (subst (λ l. AllOf (λ t. t.class ≡ t.index) l) (sym one) (own_classes 0 (all_functions units))) none
 
-moved_runs : (f g : ℕ → Option ℕ) (covers : List Cover) → ((a : ℕ) → f a ≡ g a) → IsRuns f (map cover_run covers) → IsRuns g (map cover_run covers)
-moved_runs f g covers same is = record { apart = is.apart; values = λ a. is.values a ∙ same a }
+abbrev AreLow : List Cover → Type 0
+AreLow [] = Unit {0}
+AreLow (c ∷ covers) = (c.first < 18446744073709551616) × AreLow covers
 
--- covers by the classes of names
-pub covers_named : (units : List UnitRead) (places : List Place) (stretches classed_items : List Stretch) (classes : List ℕ) (covers : List Cover) → Collects [] places [] stretches (all_functions units) [] → AreClasses (map (place_name units) places) classes → classed_items ≡ map (classed classes) stretches → AreCovers classed_items covers → AreNamedCovers units stretches covers
-covers_named units places stretches classed_items classes covers c are same is =
-    let functions = all_functions units in
-    let one = stretches_are places stretches functions c in
-    let other : classed_items ≡ function_stretches (class_in classes) 0 functions = same ∙ ap (map (classed classes)) one ∙ classed_is classes 0 functions in
-    let P : List Place → Type 0 = λ l. AreClasses (map (place_name units) l) classes in
-    let tell = tell_names units functions classes (subst P (places_are places stretches functions c) are) in
-    let alike : (a : ℕ) → index_at classed_items a ≡ index_at stretches a =
-    λ a. ap (λ l. index_at l a) other ∙ index_is (class_in classes) functions a (c.sets tt) ∙ sym (index_is own_class functions a (c.sets tt)) ∙ ap (λ l. index_at l a) (sym one) in
-    record {
-      runs = moved_runs (between 0 18446744073709551616 (index_at classed_items)) (between 0 18446744073709551616 (index_at stretches)) covers (λ a. ap (λ o. if nat_le 0 a && nat_lt a 18446744073709551616 then o else None) (alike a)) is.runs;
-      marks = tell_all units classed_items covers (λ a. ap (λ l. is_shared l a) other ∙ shared_is (class_in classes) (covering_name units) functions a (c.sets tt) tell ∙ sym (many_is units a)) is.marks;
-    }
+low_all : (f : ℕ → Option ℕ) (covers : List Cover) → AreMaximal (between 0 18446744073709551616 f) (map cover_run covers) → AreLow covers
+low_all f [] all = tt
+low_all f (c ∷ covers) all = (let some : c.first < c.last + 1 = all.0.some in within c.first c.index (all.0.constant c.first (omega arith) some), low_all f covers all.1)
+  where
+    within : (a k : ℕ) → between 0 18446744073709551616 f a ≡ Some k → a < 18446744073709551616
+    within a k is = go (nat_le 0 a && nat_lt a 18446744073709551616) refl is
+      where
+        go : (b : Bool) → (nat_le 0 a && nat_lt a 18446744073709551616) ≡ b → (if b then f a else None) ≡ Some k → a < 18446744073709551616
+        go true has found = grind (arith, nat_tests)
+        go false has found = absurd (cc)
+
+tell_all : (units : List UnitRead) (stretches : List Stretch) (items : Stepping (Option FirstItem)) (addresses : List ℕ) (covers : List Cover)
+    → ((a : ℕ) → is_shared stretches a ≡ false → is_many units a ≡ false) → ((a : ℕ) → a < 18446744073709551616 → IsKept addresses a → shared_in (value_at None items a) ≡ is_many units a)
+    → AreMarked stretches covers → AreKept addresses covers → AreLow covers → TellMany units (map (marked items) covers)
+tell_all units stretches items addresses [] none other marks kept low = tt
+tell_all units stretches items addresses (c ∷ covers) none other marks kept low =
+    (go c.shared (shared_in (value_at None items c.first)) (λ is. none c.first (sym marks.0 ∙ is)) (λ is. other c.first low.0 (kept.0 is)), tell_all units stretches items addresses covers none other marks.1 kept.1 low.1)
+  where
+    go : (b t : Bool) → (b ≡ false → is_many units c.first ≡ false) → (b ≡ true → t ≡ is_many units c.first) → (b && t) ≡ is_many units c.first
+    go true t none_here some_here = some_here refl
+    go false t none_here some_here = sym (none_here refl)
+
+marked_runs : (items : Stepping (Option FirstItem)) (covers : List Cover) → map cover_run (map (marked items) covers) ≡ map cover_run covers
+marked_runs items [] = refl
+marked_runs items (c ∷ covers) = ap (λ l. cover_run c ∷ l) (marked_runs items covers)
+
+-- covers that are marked by what was found among the stretches that are kept
+pub covers_named : (units : List UnitRead) (places : List Place) (stretches kept named : List Stretch) (covers : List Cover) (items : Stepping (Option FirstItem)) → Collects [] places [] stretches (all_functions units) [] → AreCovers stretches covers
+    → kept ≡ filter (reaches_any (shared_starts covers)) stretches → named ≡ map (classed (class_by (number_name units places) kept)) kept → ((a : ℕ) → a < 18446744073709551616 → value_at None items a ≡ first_item named a)
+    → AreNamedCovers units stretches (map (marked items) covers)
+covers_named units places stretches kept named covers items c is keeps classes found = record {
+  runs = subst (λ l. IsRuns (between 0 18446744073709551616 (index_at stretches)) l) (sym (marked_runs items covers)) is.runs;
+  marks = tell_all units stretches items (shared_starts covers) covers (λ a none. found_none units places stretches a c none)
+      (λ a low all. found_other units places stretches kept named (shared_starts covers) items a c keeps classes (found a low) all)
+      is.marks (kept_starts covers) (low_all (index_at stretches) covers (maximal (between 0 18446744073709551616 (index_at stretches)) (map cover_run covers) is.runs));
+}
+
+none_past : (addresses : List ℕ) (s : Stretch) → ((k : ℕ) → k < length addresses → s.last < get_or addresses k 0) → reaches_any addresses s ≡ false
+none_past [] s past = refl
+none_past (a ∷ addresses) s past = ap (λ b. b || reaches_any addresses s) (behind a (past 0 (omega arith))) ∙ none_past addresses s (λ k h. past (suc k) (omega arith))
+  where
+    behind : (a : ℕ) → s.last < a → reaches s a ≡ false
+    behind a out = grind (arith, nat_tests)
+
+rises_to : (low : ℕ) (xs : List ℕ) → RisesFrom low xs → (k : ℕ) → k < length xs → low ≤ get_or xs k 0
+rises_to low [] rises k h = absurd (omega arith)
+rises_to low (x ∷ xs) rises zero h = rises.0
+rises_to low (x ∷ xs) rises (suc k) h = (let up : x + 1 ≤ get_or xs k 0 = rises_to (x + 1) xs rises.1 k (omega arith) in omega (arith, rises.0, up))
+
+reached_at : (low : ℕ) (addresses : List ℕ) (s : Stretch) (j : ℕ) → RisesFrom low addresses → get_or addresses j 0 ≤ s.last → ((k : ℕ) → j < k → k < length addresses → s.last < get_or addresses k 0) → j < length addresses → nat_le s.first (get_or addresses j 0) ≡ reaches_any addresses s
+reached_at low [] s j rises here past inside = absurd (omega arith)
+reached_at low (a ∷ addresses) s zero rises here past inside =
+    first (nat_le s.first a) (nat_le a s.last) (reaches_any addresses s) (let test : nat_le a s.last ≡ true = grind (arith, nat_tests) in test) (none_past addresses s (λ k h. past (suc k) (omega arith) (omega arith)))
+  where
+    first : (b t rest : Bool) → t ≡ true → rest ≡ false → b ≡ ((b && t) || rest)
+    first true true rest yes_here none = refl
+    first true false rest yes_here none = absurd (cc)
+    first false t rest yes_here none = sym none
+reached_at low (a ∷ addresses) s (suc j) rises here past inside =
+    let is : nat_le s.first (get_or addresses j 0) ≡ reaches_any addresses s = reached_at (a + 1) addresses s j rises.1 here (λ k h g. past (suc k) (omega arith) (omega arith)) (omega arith) in
+    is ∙ later (reaches s a) (reaches_any addresses s)
+    (λ has. (let from : s.first ≤ a = grind (arith, nat_tests) in
+    let up : a + 1 ≤ get_or addresses j 0 = rises_to (a + 1) addresses rises.1 j (omega arith) in
+    let test : nat_le s.first (get_or addresses j 0) ≡ true = grind (arith, nat_tests) in sym is ∙ test))
+  where
+    later : (b rest : Bool) → (b ≡ true → rest ≡ true) → rest ≡ (b || rest)
+    later true rest all = all refl
+    later false rest all = refl
+
+-- the last address at or below the end of the stretch decides
+pub reached_some : (addresses : List ℕ) (s : Stretch) (count : ℕ) → RisesFrom 0 addresses → Point addresses s.last count → 0 < count → count ≤ length addresses → nat_le s.first (get_or addresses (count - 1) 0) ≡ reaches_any addresses s
+reached_some addresses s count rises point some inside =
+    reached_at 0 addresses s (count - 1) rises
+    (let test : nat_le (get_or addresses (count - 1) 0) s.last ≡ true = point.0 (count - 1) 0 (omega arith) (omega arith) in grind (arith, nat_tests))
+    (λ k h g. (let test : nat_le (get_or addresses k 0) s.last ≡ false = point.1 k 0 (omega arith) g in grind (arith, nat_tests))) (omega arith)
+
+pub reached_none : (addresses : List ℕ) (s : Stretch) (count : ℕ) → Point addresses s.last count → count ≡ 0 → nat_lt 0 count ≡ reaches_any addresses s
+reached_none addresses s count point none = (let test : nat_lt 0 count ≡ false = grind (arith, nat_tests) in test) ∙ sym (none_past addresses s (λ k h. (let test : nat_le (get_or addresses k 0) s.last ≡ false = point.1 k 0 (omega arith) h in grind (arith, nat_tests))))
+
+-- one more cover was marked
+pub mark_next : (items : Stepping (Option FirstItem)) (made covers : List Cover) (i : ℕ) (c new : Cover) → i < length covers → made ≡ map (marked items) (take i covers) ++ drop i covers → c ≡ get_or made i c → new ≡ marked items c → set made i new ≡ map (marked items) (take (i + 1) covers) ++ drop (i + 1) covers
+mark_next items made covers i c new inside is at same = ap (set made i) same ∙ map_over_more (marked items) covers made i c inside is at

@@ -1,8 +1,7 @@
 -- The first stretch at an address is one of the first function there.
-use Rattle.std.proofs.Common.{◌≡◌, ℕ, suc, ◌+◌, ◌-◌, ◌<◌, Bool, true, false, not, ◌&&◌, ◌||◌, ◌==◌, nat_le, if◌then◌else◌, List, [], ◌∷◌, ◌++◌, Option, None, Some, arith, refl, sym, ap, ◌∙◌}
+use Rattle.std.proofs.Common.{◌≡◌, ℕ, suc, ◌+◌, ◌-◌, ◌<◌, Bool, true, false, not, ◌&&◌, ◌||◌, nat_le, if◌then◌else◌, List, [], ◌∷◌, ◌++◌, Option, None, Some, arith, refl, sym, ap, ◌∙◌}
 use Rattle.std.proofs.lemmas.Bool.Decides.{nat_tests}
 use Rattle.std.proofs.lemmas.List.Folds.{find-append, list_any-append}
-use Rattle.std.proofs.lemmas.Slice.Eq.{bytes_eq-Decides}
 use Rattle.std.specs.List.{find, list_any, slice_get}
 use Rattle.std.specs.Option.{option_map, option_map_or, option_or}
 use Rattle.std.specs.Str.{bytes_eq}
@@ -10,11 +9,12 @@ use Rattle.sym_edges.specs.Addresses.{Range}
 use Rattle.range_set.specs.Members.{holds, holds_any}
 use Rattle.range_set.specs.Canonical.{IsCanonical}
 use Rattle.step_maps.specs.declared.stretch.Stretch.{Stretch}
-use Rattle.step_maps.specs.Covers.{reaches, first_at, index_at, is_shared}
+use Rattle.step_maps.specs.Covers.{reaches, first_at, index_at}
 use Rattle.die_names.specs.declared.unit_read.UnitRead.{UnitRead}
 use Rattle.die_names.specs.UnitEntries.{is_function}
 use Rattle.die_names.specs.Owners.{Covering, covering_from, owner}
 use Rattle.func_flatten.specs.Pieces.{owns, covering_name, has_other, is_many}
+use Rattle.func_flatten.specs.Classes.{has_other_name}
 use Rattle.func_flatten.specs.Collecting.{functions_in, all_functions, span_stretches, function_stretches, own_class, HaveSets, has_address, Numbered, first_function}
 
 reaches_range : (r : Range) (a : ℕ) → r.start < r.end → (nat_le r.start a && nat_le a (r.end - 1)) ≡ holds r a
@@ -59,17 +59,17 @@ pub index_is : (class : ℕ → ℕ) (functions : List Covering) (a : ℕ) → H
 unfolding index_at first_at
 index_is class functions a all = all_told (λ s. s.index) (λ k. k) class (λ k first last. refl) 0 functions a all
 
--- whether a function that has the address has another class
-abbrev any_class : (ℕ → ℕ) → ℕ → ℕ → ℕ → List Covering → Bool
-any_class class n k a [] = false
-any_class class n k a (c ∷ functions) = (has_address a c && not (class k == n)) || any_class class n (k + 1) a functions
+-- whether a function that has the address has a number that passes
+abbrev any_number : (ℕ → Bool) → ℕ → ℕ → List Covering → Bool
+any_number passes k a [] = false
+any_number passes k a (c ∷ functions) = (has_address a c && passes k) || any_number passes (k + 1) a functions
 
-differ_spans : (n index class : ℕ) (spans : List Range) (a : ℕ) → IsCanonical spans → list_any (λ t. reaches t a && not (t.class == n)) (span_stretches index class spans) ≡ (holds_any spans a && not (class == n))
-differ_spans n index class [] a canonical = refl
-differ_spans n index class (r ∷ spans) a canonical =
-    ap (λ b. (b && not (class == n)) || list_any (λ t. reaches t a && not (t.class == n)) (span_stretches index class spans)) (reaches_range r a canonical.0)
-    ∙ ap (λ b. (holds r a && not (class == n)) || b) (differ_spans n index class spans a canonical.2)
-    ∙ both (holds r a) (holds_any spans a) (not (class == n))
+any_spans : (passes : ℕ → Bool) (index class : ℕ) (spans : List Range) (a : ℕ) → IsCanonical spans → list_any (λ t. reaches t a && passes t.index) (span_stretches index class spans) ≡ (holds_any spans a && passes index)
+any_spans passes index class [] a canonical = refl
+any_spans passes index class (r ∷ spans) a canonical =
+    ap (λ b. (b && passes index) || list_any (λ t. reaches t a && passes t.index) (span_stretches index class spans)) (reaches_range r a canonical.0)
+    ∙ ap (λ b. (holds r a && passes index) || b) (any_spans passes index class spans a canonical.2)
+    ∙ both (holds r a) (holds_any spans a) (passes index)
   where
     both : (p q r : Bool) → ((p && r) || (q && r)) ≡ ((p || q) && r)
     both true true true = refl
@@ -78,28 +78,12 @@ differ_spans n index class (r ∷ spans) a canonical =
     both true false false = refl
     both false q r = refl
 
-differ_functions : (class : ℕ → ℕ) (n k : ℕ) (functions : List Covering) (a : ℕ) → HaveSets functions → list_any (λ t. reaches t a && not (t.class == n)) (function_stretches class k functions) ≡ any_class class n k a functions
-differ_functions class n k [] a all = refl
-differ_functions class n k (c ∷ functions) a all =
-    list_any-append (λ t. reaches t a && not (t.class == n)) (span_stretches k (class k) c.spans) (function_stretches class (k + 1) functions)
-    ∙ ap (λ b. b || list_any (λ t. reaches t a && not (t.class == n)) (function_stretches class (k + 1) functions)) (differ_spans n k (class k) c.spans a all.0)
-    ∙ ap (λ b. (has_address a c && not (class k == n)) || b) (differ_functions class n (k + 1) functions a all.1)
-
-abbrev any_for : (ℕ → ℕ) → ℕ → List Covering → Option Numbered → Bool
-any_for class a functions None = false
-any_for class a functions (Some m) = any_class class (class m.number) 0 a functions
-
-shared_by : (class : ℕ → ℕ) (functions : List Covering) (a : ℕ) → HaveSets functions → is_shared (function_stretches class 0 functions) a ≡ any_for class a functions (first_function a 0 functions)
-unfolding is_shared first_at
-shared_by class functions a all = go (find (λ s. reaches s a) (function_stretches class 0 functions)) (first_function a 0 functions) (all_told (λ s. s.class) class class (λ k first last. refl) 0 functions a all)
-  where
-    go : (p : Option Stretch) (q : Option Numbered) → option_map (λ s. s.class) p ≡ option_map (λ m. class m.number) q → option_map_or (λ s. list_any (λ t. reaches t a && not (t.class == s.class)) (function_stretches class 0 functions)) p false ≡ any_for class a functions q
-    go None None is = refl
-    go None (Some q) is = absurd (cc)
-    go (Some p) None is = absurd (cc)
-    go (Some p) (Some q) is =
-        (let same : p.class ≡ class q.number = cc in
-        differ_functions class p.class 0 functions a all ∙ ap (λ n. any_class class n 0 a functions) same)
+any_functions : (class : ℕ → ℕ) (passes : ℕ → Bool) (k : ℕ) (functions : List Covering) (a : ℕ) → HaveSets functions → list_any (λ t. reaches t a && passes t.index) (function_stretches class k functions) ≡ any_number passes k a functions
+any_functions class passes k [] a all = refl
+any_functions class passes k (c ∷ functions) a all =
+    list_any-append (λ t. reaches t a && passes t.index) (span_stretches k (class k) c.spans) (function_stretches class (k + 1) functions)
+    ∙ ap (λ b. b || list_any (λ t. reaches t a && passes t.index) (function_stretches class (k + 1) functions)) (any_spans passes k (class k) c.spans a all.0)
+    ∙ ap (λ b. (has_address a c && passes k) || b) (any_functions class passes (k + 1) functions a all.1)
 
 -- whether a function that has the address has another name
 abbrev pub any_name : (Covering → List ℕ) → List ℕ → ℕ → List Covering → Bool
@@ -164,50 +148,28 @@ first_get a k (c ∷ functions) m is = go (has_address a c) is (λ found. first_
 pub first_at_number : (a : ℕ) (functions : List Covering) (m : Numbered) → first_function a 0 functions ≡ Some m → slice_get functions m.number ≡ Some m.function
 first_at_number a functions m is = (let found = first_get a 0 functions m is in let same : m.number ≡ found.0 = omega (arith, found.1) in ap (slice_get functions) same ∙ found.2)
 
--- the classes of all functions tell names apart
-abbrev pub TellNames : (ℕ → ℕ) → (Covering → List ℕ) → List Covering → Type 0
-TellNames class name functions = (i j : ℕ) (c d : Covering) → slice_get functions i ≡ Some c → slice_get functions j ≡ Some d → (class j == class i) ≡ bytes_eq (name d) (name c)
-
-same_any : (class : ℕ → ℕ) (name : Covering → List ℕ) (n : ℕ) (text : List ℕ) (k a : ℕ) (functions : List Covering) → ((j : ℕ) (d : Covering) → slice_get functions j ≡ Some d → (class (k + j) == n) ≡ bytes_eq (name d) text) → any_class class n k a functions ≡ any_name name text a functions
-same_any class name n text k a [] same = refl
-same_any class name n text k a (c ∷ functions) same =
-    let first : (class k == n) ≡ bytes_eq (name c) text = (let here : k + 0 ≡ k = omega arith in ap (λ i. class i == n) (sym here) ∙ same 0 c refl) in
-    ap (λ b. (has_address a c && not b) || any_class class n (k + 1) a functions) first
+same_any : (passes : ℕ → Bool) (name : Covering → List ℕ) (text : List ℕ) (k a : ℕ) (functions : List Covering) → ((j : ℕ) (d : Covering) → slice_get functions j ≡ Some d → passes (k + j) ≡ not (bytes_eq (name d) text)) → any_number passes k a functions ≡ any_name name text a functions
+same_any passes name text k a [] same = refl
+same_any passes name text k a (c ∷ functions) same =
+    let first : passes k ≡ not (bytes_eq (name c) text) = (let here : k + 0 ≡ k = omega arith in ap passes (sym here) ∙ same 0 c refl) in
+    ap (λ b. (has_address a c && b) || any_number passes (k + 1) a functions) first
     ∙ ap (λ b. (has_address a c && not (bytes_eq (name c) text)) || b)
-    (same_any class name n text (k + 1) a functions (λ j d at. (let next : (k + 1) + j ≡ k + suc j = omega arith in ap (λ i. class i == n) next ∙ same (suc j) d at)))
+    (same_any passes name text (k + 1) a functions (λ j d at. (let next : (k + 1) + j ≡ k + suc j = omega arith in ap passes next ∙ same (suc j) d at)))
 
--- so a stretch of another class is there just where a function of another name is
-pub shared_is : (class : ℕ → ℕ) (name : Covering → List ℕ) (functions : List Covering) (a : ℕ) → HaveSets functions → TellNames class name functions → is_shared (function_stretches class 0 functions) a ≡ any_named name a functions (first_function a 0 functions)
-shared_is class name functions a all tell = shared_by class functions a all ∙ go (first_function a 0 functions) refl
+-- a stretch of another name is there just where a function of another name is
+pub other_name_is : (number_name : ℕ → List ℕ) (name : Covering → List ℕ) (functions : List Covering) (a : ℕ) → HaveSets functions → ((j : ℕ) (d : Covering) → slice_get functions j ≡ Some d → number_name j ≡ name d) → has_other_name number_name (function_stretches own_class 0 functions) a ≡ any_named name a functions (first_function a 0 functions)
+unfolding has_other_name first_at
+other_name_is number_name name functions a all names = go (find (λ s. reaches s a) (function_stretches own_class 0 functions)) (first_function a 0 functions) refl (all_told (λ s. s.index) (λ k. k) own_class (λ k first last. refl) 0 functions a all)
   where
-    go : (o : Option Numbered) → first_function a 0 functions ≡ o → any_for class a functions o ≡ any_named name a functions o
-    go None is = refl
-    go (Some m) is =
-        same_any class name (class m.number) (name m.function) 0 a functions
-        (λ j d at. (let here : 0 + j ≡ j = omega arith in ap (λ i. class i == class m.number) here ∙ tell m.number j m.function d (first_at_number a functions m is) at))
-
-finer_by : (h b c rest later : Bool) → (b ≡ true → c ≡ true) → (rest ≡ false → later ≡ false) → ((h && not b) || rest) ≡ false → ((h && not c) || later) ≡ false
-finer_by true true c rest later fine on none = ap (λ t. not t || later) (fine refl) ∙ on none
-finer_by true false c rest later fine on none = absurd (cc)
-finer_by false b c rest later fine on none = on none
-
-finer_any : (name : Covering → List ℕ) (n : ℕ) (text : List ℕ) (k a : ℕ) (functions : List Covering) → ((j : ℕ) (d : Covering) → slice_get functions j ≡ Some d → k + j ≡ n → bytes_eq (name d) text ≡ true) → any_class own_class n k a functions ≡ false → any_name name text a functions ≡ false
-finer_any name n text k a [] fine none = refl
-finer_any name n text k a (c ∷ functions) fine none =
-    finer_by (has_address a c) (k == n) (bytes_eq (name c) text) (any_class own_class n (k + 1) a functions) (any_name name text a functions)
-    (λ is. fine 0 c refl (let same : k ≡ n = grind (arith, nat_tests) in omega arith))
-    (λ rest. finer_any name n text (k + 1) a functions (λ j d at is. fine (suc j) d at (omega arith)) rest) none
-
--- where each function has a class of its own and none is shared, no other name is there
-pub unshared_is : (name : Covering → List ℕ) (functions : List Covering) (a : ℕ) → HaveSets functions → is_shared (function_stretches own_class 0 functions) a ≡ false → any_named name a functions (first_function a 0 functions) ≡ false
-unshared_is name functions a all none = go (first_function a 0 functions) refl (sym (shared_by own_class functions a all) ∙ none)
-  where
-    go : (o : Option Numbered) → first_function a 0 functions ≡ o → any_for own_class a functions o ≡ false → any_named name a functions o ≡ false
-    go None is none_here = refl
-    go (Some m) is none_here =
-        finer_any name m.number (name m.function) 0 a functions
-        (λ j d at same. (let there : slice_get functions m.number ≡ Some m.function = first_at_number a functions m is in
-        let number : j ≡ m.number = omega (arith, same) in
-        let here : slice_get functions m.number ≡ Some d = ap (slice_get functions) (sym number) ∙ at in
-        let alike : m.function ≡ d = cc in
-        (bytes_eq-Decides (name d) (name m.function)).1 (ap name (sym alike)))) none_here
+    go : (p : Option Stretch) (q : Option Numbered) → first_function a 0 functions ≡ q → option_map (λ s. s.index) p ≡ option_map (λ m. m.number) q
+        → option_map_or (λ s. list_any (λ t. reaches t a && not (bytes_eq (number_name t.index) (number_name s.index))) (function_stretches own_class 0 functions)) p false ≡ any_named name a functions q
+    go None None first is = refl
+    go None (Some q) first is = absurd (cc)
+    go (Some p) None first is = absurd (cc)
+    go (Some p) (Some q) first is =
+        (let same : p.index ≡ q.number = cc in
+        let text : number_name p.index ≡ name q.function = ap number_name same ∙ names q.number q.function (first_at_number a functions q first) in
+        any_functions own_class (λ k. not (bytes_eq (number_name k) (number_name p.index))) 0 functions a all
+        ∙ ap (λ n. any_number (λ k. not (bytes_eq (number_name k) n)) 0 a functions) text
+        ∙ same_any (λ k. not (bytes_eq (number_name k) (name q.function))) name (name q.function) 0 a functions
+        (λ j d at. (let here : 0 + j ≡ j = omega arith in ap (λ i. not (bytes_eq (number_name i) (name q.function))) here ∙ ap (λ n. not (bytes_eq n (name q.function))) (names j d at))))

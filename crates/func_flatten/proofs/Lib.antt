@@ -3,6 +3,7 @@ pub mod MappedRuns
 pub mod FunctionLemmas
 pub mod PieceLemmas
 pub mod ClassLemmas
+pub mod NameLemmas
 pub mod GrowingRuns
 pub mod LineLemmas
 pub mod PublicLemmas

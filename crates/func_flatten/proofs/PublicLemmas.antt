@@ -1,10 +1,10 @@
-use Rattle.std.proofs.Common.{◌≡◌, ℕ, zero, suc, ◌+◌, ◌<◌, ◌≤◌, ◌==◌, ◌||◌, ◌&&◌, Bool, true, false, not, cond, if◌then◌else◌, inl, inr, List, [], ◌∷◌, ◌++◌, length, take, drop, Some, map, filter, nat_lt, nat_le, get_or, refl, sym, ◌∙◌, ap, arith, eq-eqb, subst, append_assoc}
+use Rattle.std.proofs.Common.{◌≡◌, ℕ, zero, suc, ◌+◌, ◌<◌, ◌≤◌, ◌==◌, ◌||◌, ◌&&◌, Bool, true, false, not, cond, if◌then◌else◌, inl, inr, List, [], ◌∷◌, ◌++◌, length, take, drop, map, filter, nat_lt, nat_le, get_or, refl, sym, ◌∙◌, ap, arith, eq-eqb, subst, append_assoc}
 use Rattle.std.proofs.lemmas.Grind.{common_steps}
 use Rattle.std.proofs.lemmas.Bool.Decides.{nat_tests, leb_tells}
 use Rattle.std.proofs.lemmas.List.{map-append, append-nil, take-append-drop, drop_all, get_or_default}
 use Rattle.std.proofs.lemmas.List.Folds.{list_any-append}
 use Rattle.std.proofs.lemmas.List.Elements.{filter-append}
-use Rattle.std.specs.List.{list_all, list_any, slice_get}
+use Rattle.std.specs.List.{list_all, list_any}
 use Rattle.std.specs.Ordering.{nat_cmp, is_lt}
 use Rattle.std.specs.List.Sorted.{ties, IsNonDecreasingBy}
 use Rattle.std.specs.declared.cmp.Ordering.TheVariants.{Less, Equal, Greater}
@@ -15,7 +15,7 @@ use Rattle.elf_sections.specs.declared.symbols.Symbol.{Symbol}
 use Rattle.elf_sections.specs.Symbols.{SymbolParts, symbol_view}
 use Rattle.func_flatten.specs.Publics.{with_number, ascending, has, IsRising, stands_at, addresses, names_of, public_named, public_at, PublicParts, publics_where, is_inside, is_covered, publics}
 use Rattle.func_flatten.specs.declared.piece.Piece.{Piece}
-use Rattle.func_flatten.proofs.CollectLemmas.{drop_index, drop_get}
+use Rattle.func_flatten.proofs.CollectLemmas.{drop_index}
 use Rattle.func_flatten.specs.Grouping.{IsOrdered, starts_elsewhere, group_public, AgreeAt}
 
 above_by : (t : Bool) (a b x : ℕ) (xs : List ℕ) → nat_lt a x ≡ t → (t && list_all (λ y. nat_lt a y) xs) ≡ true → b ≤ a → (list_all (λ y. nat_lt a y) xs ≡ true → has b xs ≡ false) → ((x == b) || has b xs) ≡ false

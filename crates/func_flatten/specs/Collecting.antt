@@ -1,6 +1,6 @@
 -- No public clause cites this: the functions of the units, and the stretches of their addresses.
-use Rattle.std.specs.Prelude.{◌≡◌, ℕ, ◌+◌, ◌-◌, ◌<◌, ◌≤◌, ◌^◌, Bool, Option, None, Some, if◌then◌else◌, map, length, List, [], ◌∷◌, ◌++◌, unwrap_or}
-use Rattle.std.specs.List.{slice_get, slice_index_or}
+use Rattle.std.specs.Prelude.{◌≡◌, ℕ, ◌+◌, ◌-◌, ◌<◌, ◌≤◌, ◌^◌, Bool, Option, None, Some, if◌then◌else◌, map, length, List, [], ◌∷◌, ◌++◌}
+use Rattle.std.specs.List.{slice_index_or}
 use Rattle.sym_edges.specs.Addresses.{Range}
 use Rattle.range_set.specs.Canonical.{IsCanonical}
 use Rattle.range_set.specs.Members.{holds_any}
@@ -35,13 +35,6 @@ function_stretches class k (c ∷ functions) = span_stretches k (class k) c.span
 -- each function has a class of its own
 abbrev pub own_class : ℕ → ℕ
 own_class k = k
-
--- the class of a number in a list
-abbrev pub class_in : List ℕ → ℕ → ℕ
-class_in classes k = unwrap_or (slice_get classes k) 0
-
-abbrev pub classed : List ℕ → Stretch → Stretch
-classed classes s = record { first = s.first; last = s.last; index = s.index; class = class_in classes s.index }
 
 -- no stretch is empty or has the last address of all
 abbrev pub AreFit : List Stretch → Type 0

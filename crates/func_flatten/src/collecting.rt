@@ -26,7 +26,6 @@ pub fn collect_all(alloc: Global, units: &[UnitRead<'_>]) -> Result<Collected, A
     requires { AreRead units.now }
     ensures all { IfOk result (λ c. Collects [] c.places.items [] c.stretches.items (all_functions units.now) []) }
     ensures fit { IfOk result (λ c. AreFit c.stretches.items) }
-    ensures few { IfOk result (λ c. vec_len c.places < 2 ^ 32) }
 {
     let mut places = Vec::new(alloc);
     let mut stretches = Vec::new(alloc);

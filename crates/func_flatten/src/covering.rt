@@ -1,87 +1,98 @@
 //! Which function covers which addresses, and where names differ.
-ghost use Rattle.std.specs.Prelude.{◌≡◌, ◌<◌, ◌^◌, [], map, length, vec_len, IfOk};
-ghost use Rattle.std.specs.List.{list_any};
-ghost use Rattle.func_flatten.specs.Collecting.{all_functions, class_in, classed, AreFit, Collects};
-ghost use Rattle.func_flatten.specs.Classes.{place_name, AreClasses, AreNamedCovers};
+ghost use Rattle.std.specs.Prelude.{◌≡◌, ◌<◌, ◌^◌, ℕ, None, [], map, length, vec_len, IfOk};
+ghost use Rattle.std.specs.List.{filter};
+ghost use Rattle.step_maps.specs.Covers.{first_item, AreCovers};
+ghost use Rattle.step_maps.specs.Stepping.{RisesFrom, value_at};
+ghost use Rattle.func_flatten.specs.Collecting.{all_functions, AreFit, Collects};
+ghost use Rattle.func_flatten.specs.Classes.{shared_starts, reaches_any, shared_in, marked, AreNamedCovers};
 
+use crate::classing::with_classes;
 use crate::collecting::Collected;
-use crate::piece::Place;
-use die_names::{Units, name_of, name_text};
-use line_program::number_paths;
+use die_names::Units;
 use std::alloc::{AllocError, Global};
-use step_maps::{Cover, CoverList, Stretch, covers};
-use sym_edges::OutOfMemory;
-use sym_records::ByteText;
+use step_maps::{Cover, CoverList, FirstItem, StepMap, Stretch, covers, first_items};
+use sym_edges::{ListOf, OutOfMemory};
 
-fn is_any_shared(covers: &[Cover]) -> bool
-    ensures { result ≡ list_any (λ c. c.shared) covers.now }
+/// The first addresses of the covers that are shared.
+fn shared_starts(alloc: Global, covers: &[Cover]) -> Result<Vec<u64>, AllocError>
+    ensures { IfOk result (λ starts. starts.items ≡ shared_starts covers.now) }
 {
-    covers.iter().any(|cover| cover.shared)
+    let mut starts = Vec::new(alloc);
+    let mut rest = covers;
+    'covers: while let Some((cover, later)) = rest.split_first() {
+        rest = later;
+        if !cover.shared {
+            continue;
+        }
+        starts.push(cover.first)?;
+    }
+    Ok(starts)
 }
 
-/// The names of the functions.
-fn names_of(
+/// Whether the stretch has one of the addresses, which rise.
+fn reaches_any(addresses: &[u64], stretch: Stretch) -> bool
+    requires { RisesFrom 0 addresses.now }
+    ensures { result ≡ reaches_any addresses.now stretch }
+{
+    let count = addresses.partition_point(|address| *address <= stretch.last);
+    count > 0 && stretch.first <= addresses[count - 1]
+}
+
+/// The stretches that have one of the addresses, which rise.
+fn stretches_at(
     alloc: Global,
-    units: &Units<'_>,
-    places: &[Place],
-) -> Result<Vec<ByteText>, OutOfMemory>
-    ensures { IfOk result (λ names. names.items ≡ map (place_name units.now) places.now) }
-{
-    let mut names = Vec::with_capacity(alloc, places.len())?;
-    'places: for place in places {
-        let text = name_text(alloc, units, name_of(units, place.unit, place.entry))?;
-        names.push(text)?;
-    }
-    Ok(names)
-}
-
-/// A number for each name: two have one number exactly where they are equal.
-#[tactic(auto, using(crate::proofs::ClassLemmas::numbers_class))]
-fn classes_of(alloc: Global, names: &[ByteText]) -> Result<Vec<u32>, OutOfMemory>
-    requires { length names.now < 2 ^ 32 }
-    ensures { IfOk result (λ classes. AreClasses names.now classes.items) }
-{
-    let numbering = number_paths(alloc, names)?;
-    Ok(numbering.files)
-}
-
-/// The class of a number.
-fn class_in(classes: &[u32], index: u32) -> u32
-    ensures { result ≡ class_in classes.now index }
-{
-    match classes.get(index as usize) {
-        Some(class) => *class,
-        None => 0,
-    }
-}
-
-fn classed(classes: &[u32], stretch: Stretch) -> Stretch
-    ensures { result ≡ classed classes.now stretch }
-{
-    Stretch {
-        first: stretch.first,
-        last: stretch.last,
-        index: stretch.index,
-        class: class_in(classes, stretch.index),
-    }
-}
-
-/// The stretches with these classes.
-fn classify(
-    alloc: Global,
+    addresses: &[u64],
     stretches: &[Stretch],
-    classes: &[u32],
 ) -> Result<Vec<Stretch>, AllocError>
-    ensures { IfOk result (λ made. made.items ≡ map (classed classes.now) stretches.now) }
+    requires { RisesFrom 0 addresses.now }
+    ensures { IfOk result (λ kept. kept.items ≡ filter (reaches_any addresses.now) stretches.now) }
 {
-    let mut made = Vec::with_capacity(alloc, stretches.len())?;
-    'stretches: for stretch in stretches {
-        made.push(classed(classes, *stretch))?;
+    let mut kept = Vec::new(alloc);
+    let mut rest = stretches;
+    'stretches: while let Some((stretch, later)) = rest.split_first() {
+        rest = later;
+        if !reaches_any(addresses, *stretch) {
+            continue;
+        }
+        kept.push(*stretch)?;
     }
-    Ok(made)
+    Ok(kept)
 }
 
-/// The covers of the functions' stretches. Names are needed only where some address of a beginning is that of two functions.
+/// Whether another class is at an address.
+fn is_shared_at(items: &StepMap<Option<FirstItem>>, address: u64) -> bool
+    ensures { result ≡ shared_in (value_at None items.now address) }
+{
+    match items.at(None, address) {
+        Some(item) => item.shared,
+        None => false,
+    }
+}
+
+/// A cover that is shared only where another class is at its first address.
+fn marked(items: &StepMap<Option<FirstItem>>, cover: Cover) -> Cover
+    ensures { result ≡ marked items.now cover }
+{
+    Cover {
+        first: cover.first,
+        last: cover.last,
+        index: cover.index,
+        shared: cover.shared && is_shared_at(items, cover.first),
+    }
+}
+
+/// The covers, each shared only where another class is at its first address.
+fn mark_covers(mut covers: Vec<Cover>, items: &StepMap<Option<FirstItem>>) -> Vec<Cover>
+    ensures { result.items ≡ map (marked items.now) covers.items }
+{
+    for at in 0..covers.len() {
+        covers[at] = marked(items, covers[at]);
+    }
+    covers
+}
+
+/// The covers of the functions' stretches. First each function has a class of its own. Where the first address of a cover is
+/// that of two functions, all stretches that have it are looked at again, with classes by their functions' names.
 pub fn named_covers(
     alloc: Global,
     units: &Units<'_>,
@@ -89,17 +100,13 @@ pub fn named_covers(
 ) -> Result<CoverList, OutOfMemory>
     requires all { Collects [] all.now.places.items [] all.now.stretches.items (all_functions units.now) [] }
     requires fit { AreFit all.now.stretches.items }
-    requires few { vec_len all.now.places < 2 ^ 32 }
     ensures { IfOk result (λ covers. AreNamedCovers units.now all.now.stretches.items covers) }
 {
     let stretches = all.stretches.as_slice();
     let apart = covers(alloc, stretches)?;
-    if !is_any_shared(apart.as_slice()) {
-        return Ok(apart);
-    }
-    let names = names_of(alloc, units, all.places.as_slice())?;
-    let classes = classes_of(alloc, names.as_slice())?;
-    let with_classes = classify(alloc, stretches, classes.as_slice())?;
-    let named = covers(alloc, with_classes.as_slice())?;
-    Ok(named)
+    let starts = shared_starts(alloc, apart.as_slice())?;
+    let kept = stretches_at(alloc, starts.as_slice(), stretches)?;
+    let named = with_classes(alloc, units, all.places.as_slice(), kept.as_slice())?;
+    let items = first_items(alloc, named.as_slice())?;
+    Ok(ListOf::of(mark_covers(apart.into_vec(), &items)))
 }

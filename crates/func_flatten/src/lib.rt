@@ -8,12 +8,14 @@
 //!
 //! The definitions stand in `specs/`: `Pieces`, `LineRuns` and `Publics`, each of which asks one address at a time; the owner, its
 //! name and its line are those of `die_names`. The other modules there are for the code alone. The code takes all functions' ranges as
-//! stretches and sweeps them once (`step_maps::covers`); only where a run begins at an address that two functions have are names
-//! made, numbered and swept once more. Lines are walked stop by stop, and sorted symbols are merged with the pieces.
+//! stretches and sweeps them once (`step_maps::covers`). Only those stretches that have the first address of a run which another
+//! function has too are given classes by their functions' names, and swept once more (`step_maps::first_items`). A name that stands
+//! clean in the file is compared where it stands. Lines are walked stop by stop, and sorted symbols are merged with the pieces.
 //!
-//! To read: `piece`, `collecting`, `covering` and `owning`; then `line_run` and `lines`; then `public` and `uncovered`; last `laws`.
+//! To read: `piece`, `collecting`, `classing`, `covering` and `owning`; then `line_run` and `lines`; then `public` and `uncovered`; last `laws`.
 #![tactic(auto)]
 
+mod classing;
 mod collecting;
 mod covering;
 pub mod laws;

@@ -15,8 +15,8 @@ use sym_edges::{ListOf, OutOfMemory};
 /// the first function, in the order of `.debug_info`, whose addresses hold it (DWARF 5, 3.3). A piece's `many` says of its first
 /// address whether another function with another name, cleaned as a record carries it, has it too.
 ///
-/// For n ranges of functions it takes n log n turns however they overlap, and n where they ascend; names are made only
-/// where two functions overlap.
+/// For n ranges of functions it takes n log n turns however they overlap, and n where they ascend; only functions that have the
+/// first address of a piece which another function has too are asked for their names.
 pub fn pieces(alloc: Global, units: &Units<'_>) -> Result<PieceList, OutOfMemory>
     ensures { IfOk result (λ pieces. ArePieces units.now pieces) }
 {

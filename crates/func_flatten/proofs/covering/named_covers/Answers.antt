@@ -1,24 +1,24 @@
-use Rattle.std.proofs.Common.{ap, ◌∙◌, sym, map}
-use Rattle.func_flatten.specs.Collecting.{classed}
+use Rattle.std.proofs.Common.{◌∙◌}
 use Rattle.func_flatten.proofs.CollectLemmas.{fit_stretches}
-use Rattle.func_flatten.proofs.ClassLemmas.{classed_stretches, covers_apart, covers_named}
+use Rattle.func_flatten.proofs.ClassLemmas.{classed_stretches, kept_stretches, starts_rise, covers_named}
 use Rattle.func_flatten.proofs.covering.named_covers.Goals as goal
 
 pub covers-requires : goal.covers-requires
 covers-requires c = rw c.as_slice-stretches.ensures.value (fit_stretches _ c.requires.fit)
 
-pub returns-then-not-is_any_shared : goal.returns-then-not-is_any_shared
-returns-then-not-is_any_shared c =
-    covers_apart c.args.units.now _ c.args.all.now.stretches.items _ c.requires.all (rw c.as_slice-stretches.ensures.value at c.in_ok-apart.ensures) (sym (rw c.as_slice.ensures at c.if-not-is_any_shared.ensures))
+pub stretches_at-requires : goal.stretches_at-requires
+stretches_at-requires c = rw (c.as_slice-2.ensures.value, c.in_ok-starts.ensures, c.as_slice.ensures) (starts_rise _ _ c.in_ok-apart.ensures)
 
-pub covers-requires-2 : goal.covers-requires-2
-covers-requires-2 c =
-    rw (c.as_slice-5.ensures.value, c.in_ok-with_classes.ensures, c.as_slice-stretches.ensures.value)
-    (classed_stretches c.as_slice-4.result.now c.args.all.now.stretches.items (fit_stretches _ c.requires.fit))
+pub first_items-requires : goal.first_items-requires
+first_items-requires c =
+    rw (c.as_slice-5.ensures.value, c.in_ok-named.ensures)
+    (classed_stretches _ _ (rw (c.as_slice-4.ensures.value, c.in_ok-kept.ensures, c.as_slice-stretches.ensures.value) (kept_stretches _ _ (fit_stretches _ c.requires.fit))))
 
 pub returns : goal.returns
 returns c =
-    covers_named c.args.units.now _ c.args.all.now.stretches.items c.as_slice-5.result.now c.as_slice-4.result.now _ c.requires.all
-    (rw (c.as_slice-3.ensures.value, c.in_ok-names.ensures, c.as_slice-2.ensures.value, ← c.as_slice-4.ensures.value) at c.in_ok-classes.ensures)
-    (c.as_slice-5.ensures.value ∙ c.in_ok-with_classes.ensures ∙ ap (map (classed c.as_slice-4.result.now)) c.as_slice-stretches.ensures.value)
-    c.in_ok-named.ensures
+    rw (c.of.ensures, c.mark_covers.ensures, c.into_vec.ensures)
+    (covers_named c.args.units.now c.args.all.now.places.items c.args.all.now.stretches.items c.as_slice-4.result.now c.as_slice-5.result.now _ _ c.requires.all
+    (rw c.as_slice-stretches.ensures.value at c.in_ok-apart.ensures)
+    (c.as_slice-4.ensures.value ∙ (rw (c.as_slice-2.ensures.value, c.in_ok-starts.ensures, c.as_slice.ensures, c.as_slice-stretches.ensures.value) at c.in_ok-kept.ensures))
+    (c.as_slice-5.ensures.value ∙ (rw c.as_slice-3.ensures.value at c.in_ok-named.ensures))
+    c.in_ok-items.ensures)
