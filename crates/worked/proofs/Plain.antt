@@ -68,10 +68,13 @@ unfolding IsStrictlySortedBy
 no_records base = record {
   parts = [];
   paths = [];
+  names = [];
   whole = refl;
   pieces_are = refl;
+  inlined = tt;
   lines_are = tt;
   used = record { sorted = tt; same = λ path. refl };
+  origins = record { sorted = tt; same = λ name. refl };
 }
 
 plain_canon : (parts : ImageParts) (name : List ℕ) (found : DebugSays) → found.units ≡ [] → CanonFile parts name found (plain_lines parts name found)
