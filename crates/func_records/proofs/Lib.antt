@@ -15,3 +15,4 @@ pub mod TableLemmas
 pub mod SpellLemmas
 pub mod UsedLemmas
 pub mod AddLemmas
+mod WorkedRecords
