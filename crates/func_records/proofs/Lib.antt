@@ -5,6 +5,7 @@ pub mod TextLemmas
 pub mod CleanLemmas
 pub mod ChainLemmas
 pub mod CallLemmas
+pub mod FoundLemmas
 pub mod NameLemmas
 pub mod SiteLemmas
 pub mod HoldLemmas
