@@ -8,8 +8,8 @@
 //! `specs/TextNames.antt` what a look-up in a text that has them names: at each address the function that owns it, the calls that are
 //! inlined there, and the line that it has in the file (`laws::names_are_kept`).
 //!
-//! To read: `functions` first, then `holding`; `calls`, `marks`, `call_paths` and `paths`; `sorting`, `numbers` and `origins`; and
-//! `tables`, `inlines` and `spelling`.
+//! To read: `functions` first, then `holding`; `calls`, `marks`, `call_paths` and `paths`; `names`; `sorting`, `numbers` and
+//! `origins`; and `tables`, `inlines` and `spelling`.
 #![tactic(auto)]
 
 mod call_paths;
@@ -19,6 +19,7 @@ mod holding;
 mod inlines;
 pub mod laws;
 mod marks;
+mod names;
 mod numbers;
 mod origins;
 mod paths;

@@ -18,7 +18,7 @@ use Rattle.die_names.specs.Owners.{owner}
 use Rattle.func_flatten.specs.declared.piece.Piece.{Piece}
 use Rattle.func_flatten.specs.Pieces.{owner_place, ArePieces}
 use Rattle.func_flatten.proofs.LawLemmas.{one_pieces}
-use Rattle.func_records.specs.FuncRecords.{Part, AreFuncRecords, file_lines, part_lines, names_path}
+use Rattle.func_records.specs.FuncRecords.{Part, AreFuncRecords, file_lines, origin_lines, part_lines, names_path, names_origin}
 use Rattle.sym_records.specs.Canon.{canon_text}
 use Rattle.sym_records.specs.declared.line.SymLine.{SymLine}
 use Rattle.dumpsyms_cmd.specs.Words.{Asked, dump, command_of, module_name}
@@ -141,17 +141,19 @@ map_none f (x ∷ xs) is = absurd (cons_none is)
 other_pieces : (pieces : List Piece) → ArePieces [] pieces → pieces ≡ []
 other_pieces pieces are = one_pieces [] pieces [] are no_pieces
 
-no_paths : (parts : List Part) (paths : List (List ℕ)) → parts ≡ [] → ((path : List ℕ) → list_any (bytes_eq path) paths ≡ list_any (names_path [] path) parts) → paths ≡ []
-no_paths parts [] none same = refl
-no_paths parts (p ∷ paths) none same =
-    let first : list_any (bytes_eq p) (p ∷ paths) ≡ true = ap (λ (b : Bool). b || list_any (bytes_eq p) paths) ((bytes_eq-Decides p p).1 refl) in
-    absurd (true_false (sym first ∙ same p ∙ ap (λ (ps : List Part). list_any (names_path [] p) ps) none))
+no_texts : (named : List ℕ → Part → Bool) (parts : List Part) (texts : List (List ℕ)) → parts ≡ [] → ((text : List ℕ) → list_any (bytes_eq text) texts ≡ list_any (named text) parts) → texts ≡ []
+no_texts named parts [] none same = refl
+no_texts named parts (t ∷ texts) none same =
+    let first : list_any (bytes_eq t) (t ∷ texts) ≡ true = ap (λ (b : Bool). b || list_any (bytes_eq t) texts) ((bytes_eq-Decides t t).1 refl) in
+    absurd (true_false (sym first ∙ same t ∙ ap (λ (ps : List Part). list_any (named t) ps) none))
 
 other_records : (base : ℕ) (records : List SymLine) → AreFuncRecords base [] [] records → records ≡ []
 other_records base records are =
     let parts : are.parts ≡ [] = map_none (λ (p : Part). p.piece) are.parts are.pieces_are in
-    let paths : are.paths ≡ [] = no_paths are.parts are.paths parts are.used.same in
-    are.whole ∙ ap (λ (ps : List (List ℕ)). file_lines 0 ps ++ part_lines base are.paths [] are.parts) paths ∙ ap (part_lines base are.paths []) parts
+    let paths : are.paths ≡ [] = no_texts (names_path []) are.parts are.paths parts are.used.same in
+    let names : are.names ≡ [] = no_texts (names_origin []) are.parts are.names parts are.origins.same in
+    are.whole ∙ ap (λ (ps : List (List ℕ)). file_lines 0 ps ++ (origin_lines 0 are.names ++ part_lines base are.paths are.names [] are.parts)) paths
+    ∙ ap (λ (ns : List (List ℕ)). origin_lines 0 ns ++ part_lines base are.paths are.names [] are.parts) names ∙ ap (part_lines base are.paths are.names []) parts
 
 other_lines : (parts : ImageParts) (name : List ℕ) (found : DebugSays) (lines : List SymLine) → found.units ≡ [] → CanonFile parts name found lines → lines ≡ plain_lines parts name found
 other_lines parts name found lines none canon =
