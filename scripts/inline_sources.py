@@ -1,11 +1,13 @@
 #!/usr/bin/env python3
 """Assembler text of files whose inlined copies no compiler makes.
 
-    inline_sources.py NAME VERSION   writes the text of that name (`SOURCES`) with debugging information of that version (4 or 5)
+    inline_sources.py NAME VERSION          writes the text of that name (`SOURCES`) with debugging information of that version (4 or 5)
+    inline_sources.py random VERSION SEED   writes one whose functions and copies have addresses by chance
 
 Addresses are counted from the first byte of the code. Entries of the functions that were inlined stand in front of the others.
 """
 
+import random
 import sys
 
 FORMS = {"addr": 0x01, "data2": 0x05, "data4": 0x06, "string": 0x08, "data1": 0x0b, "flag": 0x0c, "udata": 0x0f, "ref4": 0x13, "sec_offset": 0x17, "implicit_const": 0x21}
@@ -182,14 +184,55 @@ def nested(version):
     return source
 
 
+def by_chance(version, seed):
+    """Functions and copies in each other, with other entries between them, at addresses by chance, some of them beyond the code."""
+    pick, source = random.Random(seed), Source(version, 512, [])
+    calls_by_chance = [(), (("call_file", "data1", 0),), (("call_file", "data1", 1), ("call_line", "data1", 7)), (("call_file", "data1", 2), ("call_line", "data2", 300))]
+
+    def where(low, high):
+        """Addresses that for the most part lie between these two: a pair or a list."""
+        pairs = []
+        for _ in range(pick.choice((1, 1, 1, 2, 3, 6))):
+            start = max(low + pick.randrange(-4, high - low + 4), 0)
+            pairs.append((start, start + int(pick.expovariate(2 / (high - low)))))
+        return pairs if len(pairs) > 1 or pick.random() < 0.3 else pairs[0]
+
+    def function_of(text, low, high, depth):
+        placed = where(low, high)
+        return Entry("subprogram", name(text), *([source.ranges(placed)] if isinstance(placed, list) else span(*placed)), children=inside(placed, depth))
+
+    def inside(placed, depth):
+        low, high = (min(placed)[0], max(placed)[1]) if isinstance(placed, list) else placed
+        count = pick.choice((2, 3, 4) if depth == 0 else (0, 1, 2, 3) if depth < 6 else (0, 0, 1, 2) if depth < 12 else (0,))
+        return [entry(low, max(high, low + 4), depth + 1) for _ in range(count)]
+
+    def entry(low, high, depth):
+        what = pick.random()
+        if what < 0.8:
+            placed = where(low, high)
+            return source.copy(pick.choice((None, "a", "b", "c", "d")), placed, *inside(placed, depth), call=pick.choice(calls_by_chance))
+        if what < 0.95:
+            return Entry(pick.choice(("lexical_block", "structure_type")), children=inside((low, high), depth))
+        return function_of("in%d" % depth, low, high, depth)
+
+    starts = [pick.randrange(0, 400) for _ in range(8)]
+    source.entries = [function_of("f%d" % k, start, start + 150, 0) if pick.random() < 0.9 else entry(start, start + 150, 0) for k, start in enumerate(starts)]
+    return source
+
+
 SOURCES = {"many-runs": many_runs, "deep": deep, "calls": calls, "nested": nested}
 
 
 def main():
-    if len(sys.argv) != 3 or sys.argv[1] not in SOURCES or sys.argv[2] not in ("4", "5"):
-        print("usage: inline_sources.py " + "|".join(SOURCES) + " 4|5", file=sys.stderr)
+    words = sys.argv[1:]
+    if len(words) == 3 and words[0] == "random" and words[1] in ("4", "5"):
+        source = by_chance(int(words[1]), words[2])
+    elif len(words) == 2 and words[0] in SOURCES and words[1] in ("4", "5"):
+        source = SOURCES[words[0]](int(words[1]))
+    else:
+        print("usage: inline_sources.py " + "|".join(SOURCES) + "|random 4|5 [SEED]", file=sys.stderr)
         return 9
-    print("\n".join(SOURCES[sys.argv[1]](int(sys.argv[2])).text()))
+    print("\n".join(source.text()))
     return 0
 
 
