@@ -53,13 +53,17 @@ class Text:
             elif re.fullmatch(rb"[0-9a-f]+", word):
                 size, row, file = rest.split()
                 self.functions[-1].lines.append((int(word, 16), int(word, 16) + int(size, 16), int(row), int(file)))
-        self.places = sorted((function.start, k) for k, function in enumerate(self.functions))
+        # No two of them share addresses, so the first one that covers an address is the only one.
+        self.functions.sort(key=lambda function: function.start)
+        self.starts = [function.start for function in self.functions]
+        for one, other in zip(self.functions, self.functions[1:]):
+            if one.end > other.start:
+                raise ValueError("two FUNC records cover %x" % other.start)
 
     def function_at(self, address):
-        """The first FUNC that covers the address. No two of these texts share addresses, which expected_debug.py sees to."""
-        k = bisect.bisect(self.places, (address, len(self.functions))) - 1
-        function = self.functions[self.places[k][1]] if k >= 0 else None
-        return function if function and address < function.end else None
+        """The FUNC that covers the address, or None."""
+        k = bisect.bisect(self.starts, address) - 1
+        return self.functions[k] if k >= 0 and address < self.functions[k].end else None
 
     def frames_at(self, address):
         """The frames at an address, the innermost first; none where no FUNC covers it."""
