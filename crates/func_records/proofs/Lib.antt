@@ -5,6 +5,7 @@ pub mod TextLemmas
 pub mod CleanLemmas
 pub mod ChainLemmas
 pub mod CallLemmas
+pub mod RunLemmas
 pub mod NameLemmas
 pub mod SiteLemmas
 pub mod HoldLemmas
@@ -15,3 +16,4 @@ pub mod TableLemmas
 pub mod SpellLemmas
 pub mod UsedLemmas
 pub mod AddLemmas
+pub mod FindingLemmas
