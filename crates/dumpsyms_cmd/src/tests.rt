@@ -387,7 +387,8 @@ fn with_copy(alloc: Global, first: u64, base: u64) -> Result<Vec<u8>, AllocError
 }
 
 /// The records of `f` with the copy of `g`, whose call names neither a file nor a line.
-const WITH_COPY: &[u8] = b"FILE 0 /s/a.c\nFILE 1 <name omitted>\nINLINE_ORIGIN 0 g\nFUNC 1000 20 0 f\nINLINE 0 0 1 0 1004 8\n1000 4 3 0\n1004 8 9 0\n100c 14 4 0\n";
+const WITH_COPY: &[u8] =
+    b"FILE 0 /s/a.c\nFILE 1 <name omitted>\nINLINE_ORIGIN 0 g\nFUNC 1000 20 0 f\nINLINE 0 0 1 0 1004 8\n1000 4 3 0\n1004 8 9 0\n100c 14 4 0\n";
 
 #[test]
 fn an_inlined_copy_has_its_addresses_in_code(rt: HostRuntime) -> Result<(), Fail> {
@@ -400,6 +401,31 @@ fn an_inlined_copy_has_its_addresses_in_code(rt: HostRuntime) -> Result<(), Fail
     let text = behind_front(alloc, records)?;
     expect_dump(&rt, alloc, "outside of code", &file, 0, &text, b"")
 }
+
+/// A file with the function `f` of eight bytes at this address, and the symbols of `ENTRIES`.
+fn with_symbols(alloc: Global, first: u64) -> Result<Vec<u8>, AllocError> {
+    let f = entry_of(alloc, 2, b"f\0", first, 8)?;
+    let unit = unit_of(alloc, 0, &f)?;
+    let table = line_table(alloc, b"\0", b"")?;
+    let sections = [
+        NULL,
+        ID,
+        LONG_CODE,
+        (".symtab", [2, 0, 0, 4], &ENTRIES),
+        (".strtab", [3, 0, 0, 0], b"\0main\0"),
+        (".debug_info", [1, 0, 0, 0], unit.as_slice()),
+        (".debug_abbrev", [1, 0, 0, 0], FUNCTIONS),
+        (".debug_line", [1, 0, 0, 0], table.as_slice()),
+    ];
+    file_of(alloc, &[(1, 0)], &sections)
+}
+
+/// Of `f` at this address: the records behind the front.
+const SYMBOLS: [(u64, &[u8]); 3] = [
+    (0x1000, b"FUNC 1000 8 0 f\n"),
+    (0xff8, b"PUBLIC 1000 0 main\n"),
+    (0x1001, b"FUNC 1001 8 0 f\nPUBLIC 1000 0 main\n"),
+];
 
 #[test]
 fn a_symbol_where_a_function_begins_is_left_out(rt: HostRuntime) -> Result<(), Fail> {
