@@ -1,7 +1,9 @@
 -- The records of a file are its canonical ones, and a look-up in them names the owner and the line of each address.
 use Rattle.std.proofs.Common.{◌≡◌, ℕ, zero, suc, ◌+◌, ◌-◌, ◌≤◌, Bool, true, false, ◌&&◌, ◌||◌, nat_le, nat_lt, cond, map, take, List, [], ◌∷◌, ◌++◌, Option, None, Some, Ok, arith, refl, sym, ap, subst, ◌∙◌, append_assoc, append-nil}
 use Rattle.std.proofs.lemmas.Bool.Decides.{nat_tests}
-use Rattle.std.specs.List.{find, list_any, slice_get, flat_map, range_with_len}
+use Rattle.std.proofs.lemmas.List.{length-take-le}
+use Rattle.std.proofs.lemmas.Option.{slice_get_within}
+use Rattle.std.specs.List.{find, list_any, list_all, slice_get, flat_map, range_with_len}
 use Rattle.std.proofs.lemmas.List.{map-append}
 use Rattle.std.specs.Option.{option_map}
 use Rattle.sym_edges.specs.Addresses.{Range}
@@ -21,7 +23,8 @@ use Rattle.sym_records.specs.declared.line.SymLine.{SymLine}
 use Rattle.sym_records.specs.declared.line.SymLine.TheVariants.{Init}
 use Rattle.sym_records.proofs.JoiningLemmas.{from_here, join_fits, join_behind}
 use Rattle.sym_records.proofs.SpelledLemmas.{spelled, spelled_records}
-use Rattle.sym_lookup.specs.Plain.{ArePlain, HaveNoFile, HaveNoOrigin}
+use Rattle.sym_lookup.specs.Plain.{ArePlain}
+use Rattle.sym_lookup.specs.Findings.{are_sized}
 use Rattle.die_walk.specs.EntryTable.{DieFields}
 use Rattle.die_names.specs.declared.unit_read.UnitRead.{UnitRead}
 use Rattle.die_names.specs.UnitEntries.{is_function}
@@ -49,11 +52,13 @@ use Rattle.debug_read.specs.UnitSays.{UnitSays}
 use Rattle.debug_read.specs.UnitsRead.{IsSet, IsUnitRead}
 use Rattle.debug_read.specs.DebugSays.{DebugSays, debug_says, IsDebugRead}
 use Rattle.debug_read.specs.declared.found.DebugRead.{DebugRead}
-use Rattle.dumpsyms_cmd.specs.Dump.{module_line, info_line, info_lines, identity_lines, public_line, public_lines, frame_lines}
-use Rattle.dumpsyms_cmd.specs.Frames.{written_of}
+use Rattle.dumpsyms_cmd.specs.Dump.{module_line, info_line, info_lines, identity_lines, public_line, public_lines, frame_lines, CanonFile}
+use Rattle.dumpsyms_cmd.specs.Frames.{SaysFrames}
 use Rattle.dumpsyms_cmd.specs.Spelled.{FitsInside, HasHead, DumpsRead}
 use Rattle.dumpsyms_cmd.proofs.CleanLemmas.{all_clean, said_clean}
 use Rattle.dumpsyms_cmd.proofs.FrameLemmas.{kept, frames_framed, head_frameless}
+use Rattle.dumpsyms_cmd.proofs.AroundLemmas.{identity_plain, identity_no_file, identity_no_origin, behind_plain, frames_plain}
+use Rattle.dumpsyms_cmd.proofs.FindingLemmas.{frames_sized, written_ends, file_clean}
 
 -- an address of a function is code, so it is not below the base
 code_above : (base start end : ℕ) (code : List Range) → AllFrom base code → encloses code start end ≡ true → base ≤ start
@@ -127,74 +132,12 @@ each_above base code says parts (p ∷ pieces) above are all =
 pub pieces_above : (base : ℕ) (code : List Range) (says : List UnitSays) (parts : List UnitRead) (pieces : List Piece) → AllFrom base code → Match (IsUnitRead code) says parts → ArePieces parts pieces → BeginAbove base pieces
 pieces_above base code says parts pieces above are pieced = each_above base code says parts pieces above are (maximal _ (map piece_run pieces) pieced.runs)
 
--- the records around those of functions are passed over
-infos_plain : (id : Option (List ℕ)) → ArePlain (info_lines id)
-unfolding info_line
-infos_plain None = tt
-infos_plain (Some id) = (tt, tt)
-
-identity_plain : (image : ImageParts) (name : List ℕ) → ArePlain (identity_lines image name)
-unfolding module_line
-identity_plain image name = (tt, infos_plain image.build_id)
-
-infos_no_file : (id : Option (List ℕ)) → HaveNoFile (info_lines id)
-unfolding info_line
-infos_no_file None = tt
-infos_no_file (Some id) = (tt, tt)
-
-identity_no_file : (image : ImageParts) (name : List ℕ) → HaveNoFile (identity_lines image name)
-unfolding module_line
-identity_no_file image name = (tt, infos_no_file image.build_id)
-
-infos_no_origin : (id : Option (List ℕ)) → HaveNoOrigin (info_lines id)
-unfolding info_line
-infos_no_origin None = tt
-infos_no_origin (Some id) = (tt, tt)
-
-identity_no_origin : (image : ImageParts) (name : List ℕ) → HaveNoOrigin (identity_lines image name)
-unfolding module_line
-identity_no_origin image name = (tt, infos_no_origin image.build_id)
-
-publics_plain : (base : ℕ) (ps : List PublicParts) (rest : List SymLine) → ArePlain rest → ArePlain (map (public_line base) ps ++ rest)
-publics_plain base [] rest plain = plain
-publics_plain base (p ∷ ps) rest plain = (tt, publics_plain base ps rest plain)
-
--- records of frames are no records of functions
-append_plain : (xs ys : List SymLine) → ArePlain xs → ArePlain ys → ArePlain (xs ++ ys)
-append_plain [] ys first second = second
-append_plain (x ∷ xs) ys first second = (first.0, append_plain xs ys first.1 second)
-
-flat_plain : {X : Type 0} (f : X → List SymLine) (xs : List X) → ((x : X) → ArePlain (f x)) → ArePlain (flat_map f xs)
-flat_plain f [] each = tt
-flat_plain f (x ∷ xs) each = append_plain (f x) (flat_map f xs) (each x) (flat_plain f xs each)
-
-change_plain : (address : ℕ) (rules : List RuleText) → ArePlain (change address rules)
-change_plain address [] = tt
-change_plain address (r ∷ rules) = (tt, tt)
-
-record_plain : (cut : Bool) (address size : ℕ) (rules changed : List RuleText) → ArePlain (cond cut (Init address size rules ∷ []) (change address changed))
-record_plain true address size rules changed = (tt, tt)
-record_plain false address size rules changed = change_plain address changed
-
-records_plain : (row : ℕ → Row) (start end base b : ℕ) → ArePlain (records_at row start end base b)
-unfolding records_at
-records_plain row start end base b = record_plain (is_cut row start b) (b - base) _ (row_rules (row b)) (changed_rules (row (b - 1)) (row b))
-
-entry_plain : (base : ℕ) (e : FdeFields) → ArePlain (entry_lines base e)
-unfolding entry_lines lines_of_rows
-entry_plain base e = flat_plain (records_at (row_at e) e.start (e.start + e.size) base) (range_with_len e.start e.size) (records_plain (row_at e) e.start (e.start + e.size) base)
-
-frames_plain : (image : ImageParts) (found : DebugSays) → ArePlain (frame_lines image found)
-unfolding written_lines
-frames_plain image found = flat_plain (entry_lines image.base) (written_of image found) (entry_plain image.base)
-
 -- what a look-up in the records of a file names
 pub file_named : (image : ImageParts) (name : List ℕ) (found : DebugSays) (units : List UnitRead) (pieces : List Piece) (functions lines : List SymLine) → AllFrom image.base image.code → Match (IsUnitRead image.code) found.units units → ArePieces units pieces → AreFuncRecords image.base units pieces functions → lines ≡ identity_lines image name ++ (functions ++ (public_lines image pieces ++ frame_lines image found)) → (x : ℕ) → Names image.base units lines x
 file_named image name found units pieces functions lines above are pieced records whole x =
     subst (λ (l : List SymLine). Names image.base units l x) (sym whole)
     (all_named image.base units pieces (identity_lines image name) functions (public_lines image pieces ++ frame_lines image found) pieced
-    (pieces_above image.base image.code found.units units pieces above are pieced) records (identity_plain image name) (identity_no_file image name) (identity_no_origin image name)
-    (publics_plain image.base (publics pieces image.symbols) (frame_lines image found) (frames_plain image found)) x)
+    (pieces_above image.base image.code found.units units pieces above are pieced) records (identity_plain image name) (identity_no_file image name) (identity_no_origin image name) (behind_plain image pieces found) x)
 
 -- the records in front: of the binary, of functions, of symbols
 pub head_spelled : (image : ImageParts) (name : List ℕ) (units : List UnitRead) (pieces : List Piece) (base : ℕ) (shown : List PublicParts) (full last longer first second text : List ℕ) → base ≡ image.base → shown ≡ publics pieces image.symbols → full ++ last ≡ [] → longer ≡ last ++ canon_text (identity_lines image name) → first ≡ full ++ longer → first_bad (identity_lines image name) ≡ None → AddsFunctions base units pieces first second → text ≡ second ++ canon_text (map (public_line base) shown) → first_bad_from 0 Inside (map (public_line base) shown) ≡ None → HasHead image name units pieces text
@@ -209,6 +152,7 @@ head_spelled image name units pieces base shown full last longer first second te
           ∙ append_assoc (canon_text (identity_lines image name)) (canon_text adds.records) (canon_text own)
           ∙ ap (λ t. canon_text (identity_lines image name) ++ t) (sym (canon_join adds.records own) ∙ ap (λ l. canon_text (adds.records ++ l)) publics_are)
           ∙ sym (canon_join (identity_lines image name) (adds.records ++ public_lines image pieces));
+      below = adds.below;
       valid = join_fits (identity_lines image name) (adds.records ++ public_lines image pieces) valid
           (join_behind adds.records (public_lines image pieces) adds.fit (subst (λ (l : List SymLine). first_bad_from 0 Inside l ≡ None) publics_are fit));
     }
@@ -262,15 +206,19 @@ file_dumped image name read pieces lines framed base code left head is above pie
     let whole : lines ≡ identity_lines image name ++ (front.functions ++ (public_lines image pieces ++ frame_lines image k.says)) =
     are ∙ append_assoc (identity_lines image name) (front.functions ++ public_lines image pieces) framed
     ∙ ap (λ l. identity_lines image name ++ l) (append_assoc front.functions (public_lines image pieces) framed ∙ ap (λ l. front.functions ++ (public_lines image pieces ++ l)) all) in
+    let frames : SaysFrames image k.says lines = frames_framed image k.says (identity_lines image name ++ (front.functions ++ public_lines image pieces)) lines framed base code (head_frameless image name read.units pieces front.functions front.are) low ranges
+    (framed_is ∙ ap (written_lines base) same) (λ x. cover x ∙ ap (λ l. entries_at l (x + base)) same) nested (subst AreDisjoint same apart) are in
+    let sized : list_all are_sized (frame_lines image k.says) ≡ true =
+    subst (λ (l : List SymLine). list_all are_sized l ≡ true) all (frames_sized base (written code read.first read.second) framed (subst (λ (l : List SymLine). ArePlain l) (sym all) (frames_plain image k.says)) nested cover (written_ends code read.first read.second)) in
     record {
       found = k.says;
       found_is = k.says_is;
       canon = record { units = read.units; units_are = k.units; pieces = pieces; pieces_are = pieced; functions = front.functions; functions_are = front.are; whole = whole };
       left_is = left_is ∙ ap (λ first. omitted code first read.second) k.first ∙ ap (omitted code k.says.first) k.second ∙ ap (λ c. omitted c k.says.first k.says.second) ranges;
       reads = reads;
-      frames = frames_framed image k.says (identity_lines image name ++ (front.functions ++ public_lines image pieces)) lines framed base code (head_frameless image name read.units pieces front.functions front.are) low ranges
-          (framed_is ∙ ap (written_lines base) same) (λ x. cover x ∙ ap (λ l. entries_at l (x + base)) same) nested (subst AreDisjoint same apart) are;
+      frames = frames;
       names = file_named image name k.says read.units pieces front.functions lines above k.units pieced front.are whole;
+      clean = file_clean image name k.says read.units pieces front.functions lines pieced (pieces_above image.base image.code k.says.units read.units pieces above k.units pieced) front.below front.are whole sized frames;
     }
 
 -- the paths of the units that were read are cleaned

@@ -101,6 +101,7 @@ dumps_parts parts name text read lines left says dumps is =
       reads = dumps.reads;
       frames = dumps.frames;
       names = dumps.names;
+      clean = dumps.clean;
     }
   where
     said : {x y : DebugSays} → ◌≡◌ {A = Result DebugSays DebugFault} (Ok x) (Ok y) → x ≡ y

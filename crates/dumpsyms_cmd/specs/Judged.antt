@@ -16,6 +16,7 @@ use Rattle.debug_read.specs.DebugSays.{DebugSays, debug_says}
 use Rattle.func_records.specs.TextNames.{Names}
 use Rattle.rule_postfix.specs.Written.{omitted}
 use Rattle.dumpsyms_cmd.specs.Frames.{SaysFrames}
+use Rattle.dumpsyms_cmd.specs.Findings.{HasNoFindings}
 use Rattle.dumpsyms_cmd.specs.Refusals.{too_long_line, usage_line}
 use Rattle.dumpsyms_cmd.specs.Verdict.{Verdict, refused, unread, left_out, IsPartsVerdict, IsDumpVerdict, IsFileVerdict, IsVerdict, LIMIT}
 use Rattle.dumpsyms_cmd.specs.declared.judgement.Output.{Output}
@@ -73,7 +74,7 @@ abbrev pub Judges : Judgement → (List ℕ → Type 0) → (List SymLine → Li
 Judges j P Q = RefusesOrGives j.out j.status (err_bytes j.err) P Q
 
 -- the records of an image, and the text on what is left out; what the records say of frames; and what a look-up
--- in them names: at each address the function that owns it in the file, its inline chain and its line
+-- in them names: at each address the function that owns it in the file, its inline chain and its line; a checker finds nothing in them
 pub record DumpsParts (parts : ImageParts) (name : List ℕ) (lines : List SymLine) (text : List ℕ) : Type 0 where
   pub found : DebugSays
   pub found_is : debug_says parts ≡ Ok found
@@ -82,6 +83,7 @@ pub record DumpsParts (parts : ImageParts) (name : List ℕ) (lines : List SymLi
   pub reads : reading (canon_text lines) ≡ Ok lines
   pub frames : SaysFrames parts found lines
   pub names : (x : ℕ) → Names parts.base canon.units lines x
+  pub clean : HasNoFindings lines
 
 -- the same, and how many frame entries are left out
 pub record Assembles (parts : ImageParts) (name : List ℕ) (lines : List SymLine) (text : List ℕ) (count : ℕ) : Type 0 where

@@ -1,5 +1,5 @@
 -- No public clause cites this: the records of a file as they are spelled.
-use Rattle.std.specs.Prelude.{◌≡◌, ℕ, true, List, ◌++◌, None, Ok}
+use Rattle.std.specs.Prelude.{◌≡◌, ℕ, ◌+◌, ◌^◌, true, List, ◌++◌, None, Ok}
 use Rattle.elf_sections.specs.Image.{ImageParts}
 use Rattle.sym_records.specs.Canon.{canon_text}
 use Rattle.sym_records.specs.Reading.{fits, reading}
@@ -10,12 +10,13 @@ use Rattle.rule_postfix.specs.Written.{omitted}
 use Rattle.rule_postfix.specs.declared.omission.Omission.{Omission}
 use Rattle.die_names.specs.declared.unit_read.UnitRead.{UnitRead}
 use Rattle.func_flatten.specs.declared.piece.Piece.{Piece}
-use Rattle.func_records.specs.FuncRecords.{AreFuncRecords}
+use Rattle.func_records.specs.FuncRecords.{AreFuncRecords, EndBelow}
 use Rattle.func_records.specs.TextNames.{Names}
 use Rattle.debug_read.specs.DebugSays.{DebugSays, debug_says}
 use Rattle.debug_read.specs.declared.found.DebugRead.{DebugRead}
 use Rattle.dumpsyms_cmd.specs.Dump.{identity_lines, public_lines, CanonFile}
 use Rattle.dumpsyms_cmd.specs.Frames.{SaysFrames}
+use Rattle.dumpsyms_cmd.specs.Findings.{HasNoFindings}
 
 -- a record that may stand behind the first one
 abbrev pub FitsInside : SymLine → Type 0
@@ -25,6 +26,7 @@ FitsInside line = (fits Inside line ≡ true) × (fields_fit line ≡ true)
 pub record HasHead (image : ImageParts) (name : List ℕ) (units : List UnitRead) (pieces : List Piece) (text : List ℕ) : Type 0 where
   pub functions : List SymLine
   pub are : AreFuncRecords image.base units pieces functions
+  pub below : EndBelow (2 ^ 64) pieces
   pub text_is : text ≡ canon_text (identity_lines image name ++ (functions ++ public_lines image pieces))
   pub valid : first_bad (identity_lines image name ++ (functions ++ public_lines image pieces)) ≡ None
 
@@ -37,3 +39,4 @@ pub record DumpsRead (image : ImageParts) (name : List ℕ) (read : DebugRead) (
   pub reads : reading (canon_text lines) ≡ Ok lines
   pub frames : SaysFrames image found lines
   pub names : (x : ℕ) → Names image.base canon.units lines x
+  pub clean : HasNoFindings lines

@@ -402,6 +402,31 @@ fn an_inlined_copy_has_its_addresses_in_code(rt: HostRuntime) -> Result<(), Fail
     expect_dump(&rt, alloc, "outside of code", &file, 0, &text, b"")
 }
 
+/// A file with the function `f` of eight bytes at this address, and the symbols of `ENTRIES`.
+fn with_symbols(alloc: Global, first: u64) -> Result<Vec<u8>, AllocError> {
+    let f = entry_of(alloc, 2, b"f\0", first, 8)?;
+    let unit = unit_of(alloc, 0, &f)?;
+    let table = line_table(alloc, b"\0", b"")?;
+    let sections = [
+        NULL,
+        ID,
+        LONG_CODE,
+        (".symtab", [2, 0, 0, 4], &ENTRIES),
+        (".strtab", [3, 0, 0, 0], b"\0main\0"),
+        (".debug_info", [1, 0, 0, 0], unit.as_slice()),
+        (".debug_abbrev", [1, 0, 0, 0], FUNCTIONS),
+        (".debug_line", [1, 0, 0, 0], table.as_slice()),
+    ];
+    file_of(alloc, &[(1, 0)], &sections)
+}
+
+/// Of `f` at this address: the records behind the front.
+const SYMBOLS: [(u64, &[u8]); 3] = [
+    (0x1000, b"FUNC 1000 8 0 f\n"),
+    (0xff8, b"PUBLIC 1000 0 main\n"),
+    (0x1001, b"FUNC 1001 8 0 f\nPUBLIC 1000 0 main\n"),
+];
+
 #[test]
 fn a_symbol_where_a_function_begins_is_left_out(rt: HostRuntime) -> Result<(), Fail> {
     let alloc = rt.alloc();

@@ -216,4 +216,5 @@ functions_added base units pieces held used sorted slices names texts numbers ol
           ∙ append_assoc old (canon_text (file_lines 0 paths)) (canon_text (origin_lines 0 owners ++ functions))
           ∙ ap (λ t. old ++ t) (sym (canon_join (file_lines 0 paths) (origin_lines 0 owners ++ functions)));
       fit = join_behind (file_lines 0 paths) (origin_lines 0 owners ++ functions) files_fit (join_behind (origin_lines 0 owners) functions origins_fit (ap (first_bad_from 0 Inside) (sym spelled) ∙ adds.fit));
+      below = adds.below;
     }

@@ -22,17 +22,17 @@ use Rattle.func_records.specs.TextNames.{call_in}
 use Rattle.func_records.proofs.ChainLemmas.{IsEntry, chain_entry, is_copy_at, Agree, found_any, copies_agree, AllRanges, AllOfRuns, Good, copies_good}
 
 -- an INLINE covers an address of the text just where its copy has the address
-range_within : (base low x : ℕ) (range : Range) → base ≤ low → Good low range → is_within (range.start - base) (range.end - range.start) x ≡ holds range (x + base)
-range_within base low x range above good = within base range.start range.end x (omega (arith, good.0)) good.1
+range_within : (base low high x : ℕ) (range : Range) → base ≤ low → Good low high range → is_within (range.start - base) (range.end - range.start) x ≡ holds range (x + base)
+range_within base low high x range above good = within base range.start range.end x (omega (arith, good.0)) good.1
   where
     within : (b s e y : ℕ) → b ≤ s → s < e → is_within (s - b) (e - s) y ≡ (nat_le s (y + b) && nat_lt (y + b) e)
     within b s e y high some = grind (arith, nat_tests)
 
-ranges_within : (base low x : ℕ) (ranges : List Range) → base ≤ low → AllRanges (Good low) ranges → list_any (λ (r : Extent). is_within r.address r.size x) (map (extent base) ranges) ≡ holds_any ranges (x + base)
-ranges_within base low x [] above good = refl
-ranges_within base low x (range ∷ ranges) above good =
-    ap (λ b. b || list_any (λ (r : Extent). is_within r.address r.size x) (map (extent base) ranges)) (range_within base low x range above good.0)
-    ∙ ap (λ b. holds range (x + base) || b) (ranges_within base low x ranges above good.1)
+ranges_within : (base low high x : ℕ) (ranges : List Range) → base ≤ low → AllRanges (Good low high) ranges → list_any (λ (r : Extent). is_within r.address r.size x) (map (extent base) ranges) ≡ holds_any ranges (x + base)
+ranges_within base low high x [] above good = refl
+ranges_within base low high x (range ∷ ranges) above good =
+    ap (λ b. b || list_any (λ (r : Extent). is_within r.address r.size x) (map (extent base) ranges)) (range_within base low high x range above good.0)
+    ∙ ap (λ b. holds range (x + base) || b) (ranges_within base low high x ranges above good.1)
 
 -- line records are no INLINE records, and INLINE records no line records
 lines_no_inline : (base : ℕ) (paths : List (List ℕ)) (units : List UnitRead) (unit level x : ℕ) (lines : List LineRun) → find (is_inline_at level x) (map (line_record base paths units unit) lines) ≡ None
@@ -48,11 +48,11 @@ abbrev pub below : ℕ → List (List ℕ) → List (List ℕ) → List UnitRead
 below base paths names units p = map (inline_record base paths names units p.piece.unit) p.copies ++ map (line_record base paths units p.piece.unit) p.lines
 
 -- the first INLINE of a level that covers an address is the record of the first copy that has it
-find_copy : (base : ℕ) (paths names : List (List ℕ)) (units : List UnitRead) (unit low level x : ℕ) (copies : List InlineParts) (rest : List SymLine) → base ≤ low → AllOfRuns (Good low) copies → find (is_inline_at level x) rest ≡ None → find (is_inline_at level x) (map (inline_record base paths names units unit) copies ++ rest) ≡ option_map (inline_record base paths names units unit) (find (is_copy_at level (x + base)) copies)
-find_copy base paths names units unit low level x [] rest above good none = none
-find_copy base paths names units unit low level x (r ∷ copies) rest above good none =
-    ap (λ b. cond ((r.level == level) && b) (Some (inline_record base paths names units unit r)) (find (is_inline_at level x) (map (inline_record base paths names units unit) copies ++ rest))) (ranges_within base low x r.spans above good.0)
-    ∙ go (is_copy_at level (x + base) r) (find_copy base paths names units unit low level x copies rest above good.1 none)
+find_copy : (base : ℕ) (paths names : List (List ℕ)) (units : List UnitRead) (unit low high level x : ℕ) (copies : List InlineParts) (rest : List SymLine) → base ≤ low → AllOfRuns (Good low high) copies → find (is_inline_at level x) rest ≡ None → find (is_inline_at level x) (map (inline_record base paths names units unit) copies ++ rest) ≡ option_map (inline_record base paths names units unit) (find (is_copy_at level (x + base)) copies)
+find_copy base paths names units unit low high level x [] rest above good none = none
+find_copy base paths names units unit low high level x (r ∷ copies) rest above good none =
+    ap (λ b. cond ((r.level == level) && b) (Some (inline_record base paths names units unit r)) (find (is_inline_at level x) (map (inline_record base paths names units unit) copies ++ rest))) (ranges_within base low high x r.spans above good.0)
+    ∙ go (is_copy_at level (x + base) r) (find_copy base paths names units unit low high level x copies rest above good.1 none)
   where
     go : (b : Bool) → find (is_inline_at level x) (map (inline_record base paths names units unit) copies ++ rest) ≡ option_map (inline_record base paths names units unit) (find (is_copy_at level (x + base)) copies) → cond b (Some (inline_record base paths names units unit r)) (find (is_inline_at level x) (map (inline_record base paths names units unit) copies ++ rest)) ≡ option_map (inline_record base paths names units unit) (cond b (Some r) (find (is_copy_at level (x + base)) copies))
     go true is = refl
@@ -133,10 +133,10 @@ call_said base paths names units records unit level a copies o pathed named entr
 pub part_calls : (base : ℕ) (paths names : List (List ℕ)) (units : List UnitRead) (records : List SymLine) (x : ℕ) (p : Part) → base ≤ p.piece.start → AreInlineRuns units p.piece p.copies → is_inside (x + base) p.piece ≡ true → HasPaths records paths units p.piece.unit p.copies → HasOrigins records names units p.piece.unit p.copies
     → map (call_of records) (inlines_from x 0 (level_count (below base paths names units p)) (below base paths names units p)) ≡ map (call_in units) (entry_chain units p.piece.unit p.piece.entry (x + base))
 part_calls base paths names units records x p above are inside pathed named =
-    let good : AllOfRuns (Good p.piece.start) p.copies = copies_good units p.piece p.copies are in
+    let good : AllOfRuns (Good p.piece.start p.piece.end) p.copies = copies_good units p.piece p.copies are in
     let lines : List SymLine = map (line_record base paths units p.piece.unit) p.lines in
     let found : (k : ℕ) → find (is_inline_at k x) (below base paths names units p) ≡ option_map (inline_record base paths names units p.piece.unit) (find (is_copy_at k (x + base)) p.copies)
-    = λ k. find_copy base paths names units p.piece.unit p.piece.start k x p.copies lines above good (lines_no_inline base paths units p.piece.unit k x p.lines) in
+    = λ k. find_copy base paths names units p.piece.unit p.piece.start p.piece.end k x p.copies lines above good (lines_no_inline base paths units p.piece.unit k x p.lines) in
     let agree : (k : ℕ) → Agree k (slice_get (entry_chain units p.piece.unit p.piece.entry (x + base)) k) (find (is_copy_at k (x + base)) p.copies)
     = λ k. copies_agree units p.piece p.copies k (x + base) are inside in
     calls_chain records units x 0 (level_count (below base paths names units p)) (below base paths names units p) (entry_chain units p.piece.unit p.piece.entry (x + base))

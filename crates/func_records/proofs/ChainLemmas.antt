@@ -1,5 +1,5 @@
 -- The inlined copies of a piece at one address: the first of each level is the entry of that level on the chain.
-use Rattle.std.proofs.Common.{◌≡◌, ℕ, zero, suc, ◌+◌, ◌<◌, ◌≤◌, Bool, true, false, ◌&&◌, ◌||◌, ◌==◌, nat_le, nat_lt, cond, map, filter, List, [], ◌∷◌, ◌++◌, Option, None, Some, arith, refl, sym, ap, ◌∙◌}
+use Rattle.std.proofs.Common.{◌≡◌, ℕ, zero, suc, ◌+◌, ◌-◌, ◌<◌, ◌≤◌, Bool, true, false, ◌&&◌, ◌||◌, ◌==◌, nat_le, nat_lt, cond, map, filter, List, [], ◌∷◌, ◌++◌, Option, None, Some, arith, refl, sym, ap, ◌∙◌}
 use Rattle.std.proofs.lemmas.Bool.Decides.{nat_tests}
 use Rattle.std.specs.List.{find, slice_get, list_any}
 use Rattle.std.specs.Option.{option_map, option_map_or}
@@ -194,29 +194,37 @@ all_each P (r ∷ runs) each =
     let own : is_of r.level r.entry r ≡ true = ap (λ b. b && (r.entry == r.entry)) (same_entry r.level) ∙ same_entry r.entry in
     ((each r.level r.entry).0 own, all_each P runs (λ level entry. (each level entry).1))
 
-abbrev pub Good : ℕ → Range → Type 0
-Good low range = (low ≤ range.start) × (range.start < range.end)
+abbrev pub Good : ℕ → ℕ → Range → Type 0
+Good low high range = (low ≤ range.start) × (range.start < range.end) × (range.end ≤ high)
 
-good_from : (low : ℕ) (all ranges : List Range) → ((a : ℕ) → holds_any all a ≡ true → low ≤ a) → ((a : ℕ) → holds_any ranges a ≡ true → holds_any all a ≡ true) → IsCanonical ranges → AllRanges (Good low) ranges
-good_from low all [] above held canonical = tt
-good_from low all (range ∷ ranges) above held canonical =
-    let here : holds range range.start ≡ true = first_held range canonical.0 in (
-      (above range.start (held range.start (or_left (holds range range.start) (holds_any ranges range.start) here)), canonical.0),
-      good_from low all ranges above (λ a is. held a (or_right (holds range a) (holds_any ranges a) is)) canonical.2,
+abbrev IsWithin : ℕ → ℕ → ℕ → Type 0
+IsWithin low high a = (low ≤ a) × (a < high)
+
+good_from : (low high : ℕ) (all ranges : List Range) → ((a : ℕ) → holds_any all a ≡ true → IsWithin low high a) → ((a : ℕ) → holds_any ranges a ≡ true → holds_any all a ≡ true) → IsCanonical ranges → AllRanges (Good low high) ranges
+good_from low high all [] within held canonical = tt
+good_from low high all (range ∷ ranges) within held canonical =
+    let from : IsWithin low high range.start = within range.start (held range.start (or_left (holds range range.start) (holds_any ranges range.start) (first_held range canonical.0))) in
+    let to : IsWithin low high (range.end - 1) = within (range.end - 1) (held (range.end - 1) (or_left (holds range (range.end - 1)) (holds_any ranges (range.end - 1)) (last_held range canonical.0))) in (
+      (from.0, canonical.0, omega (arith, to.1, canonical.0)),
+      good_from low high all ranges within (λ a is. held a (or_right (holds range a) (holds_any ranges a) is)) canonical.2,
     )
   where
     first_held : (r : Range) → r.start < r.end → holds r r.start ≡ true
     first_held r some = grind (arith, nat_tests)
 
-chain_above : (units : List UnitRead) (piece : Piece) (level entry a : ℕ) → is_on_chain units piece level entry a ≡ true → piece.start ≤ a
-unfolding is_on_chain
-chain_above units piece level entry a is = go (nat_le piece.start a) refl (nat_lt a piece.end) is
-  where
-    go : (b : Bool) → nat_le piece.start a ≡ b → (d : Bool) → ((b && d) && option_map_or (λ (c : Covering). c.entry == entry) (slice_get (entry_chain units piece.unit piece.entry a) level) false) ≡ true → piece.start ≤ a
-    go true low d both = grind (arith, nat_tests)
-    go false low d both = absurd (cc)
+    last_held : (r : Range) → r.start < r.end → holds r (r.end - 1) ≡ true
+    last_held r some = grind (arith, nat_tests)
 
-pub copies_good : (units : List UnitRead) (piece : Piece) (runs : List InlineParts) → AreInlineRuns units piece runs → AllOfRuns (Good piece.start) runs
+chain_within : (units : List UnitRead) (piece : Piece) (level entry a : ℕ) → is_on_chain units piece level entry a ≡ true → IsWithin piece.start piece.end a
+unfolding is_on_chain
+chain_within units piece level entry a is = go (nat_le piece.start a) refl (nat_lt a piece.end) refl is
+  where
+    go : (b : Bool) → nat_le piece.start a ≡ b → (d : Bool) → nat_lt a piece.end ≡ d → ((b && d) && option_map_or (λ (c : Covering). c.entry == entry) (slice_get (entry_chain units piece.unit piece.entry a) level) false) ≡ true → IsWithin piece.start piece.end a
+    go true low true high both = (grind (arith, nat_tests), grind (arith, nat_tests))
+    go true low false high both = absurd (cc)
+    go false low d high both = absurd (cc)
+
+pub copies_good : (units : List UnitRead) (piece : Piece) (runs : List InlineParts) → AreInlineRuns units piece runs → AllOfRuns (Good piece.start piece.end) runs
 copies_good units piece runs are =
-    all_each (Good piece.start) runs (λ level entry. all_split (Good piece.start) level entry runs
-    (good_from piece.start (joined (spans_of level entry runs)) (joined (spans_of level entry runs)) (λ a held. chain_above units piece level entry a (sym ((are.copies level entry).members a) ∙ held)) (λ a held. held) (are.copies level entry).canonical))
+    all_each (Good piece.start piece.end) runs (λ level entry. all_split (Good piece.start piece.end) level entry runs
+    (good_from piece.start piece.end (joined (spans_of level entry runs)) (joined (spans_of level entry runs)) (λ a held. chain_within units piece level entry a (sym ((are.copies level entry).members a) ∙ held)) (λ a held. held) (are.copies level entry).canonical))

@@ -6,6 +6,7 @@ pub mod CleanLemmas
 pub mod ChainLemmas
 pub mod CallLemmas
 pub mod FoundLemmas
+pub mod RunLemmas
 pub mod NameLemmas
 pub mod SiteLemmas
 pub mod HoldLemmas
@@ -17,3 +18,4 @@ pub mod SpellLemmas
 pub mod UsedLemmas
 pub mod AddLemmas
 mod WorkedRecords
+pub mod FindingLemmas

@@ -1,11 +1,11 @@
 -- In a text with the records of functions a look-up names the owner, the inlined copies and the line of each address.
-use Rattle.std.proofs.Common.{◌≡◌, ℕ, ◌+◌, ◌-◌, ◌<◌, ◌≤◌, Bool, true, false, ◌&&◌, ◌||◌, nat_le, nat_lt, if◌then◌else◌, map, List, [], ◌∷◌, ◌++◌, Option, None, Some, arith, refl, sym, ap, ◌∙◌, inl, inr, append_assoc, append-nil}
-use Rattle.std.proofs.lemmas.Bool.Decides.{nat_tests, leb_tells}
+use Rattle.std.proofs.Common.{◌≡◌, ℕ, ◌+◌, ◌-◌, ◌<◌, ◌≤◌, Bool, true, false, ◌&&◌, ◌||◌, ◌==◌, nat_le, nat_lt, if◌then◌else◌, cond, map, List, [], ◌∷◌, ◌++◌, Option, None, Some, arith, refl, sym, ap, ◌∙◌, append_assoc, append-nil}
+use Rattle.std.proofs.lemmas.Bool.Decides.{nat_tests}
 use Rattle.std.proofs.lemmas.Slice.Eq.{bytes_eq-Decides}
 use Rattle.std.specs.List.{find, slice_get, list_any}
 use Rattle.std.specs.Str.{bytes_eq}
 use Rattle.std.specs.Option.{option_map, option_map_or, option_and_then}
-use Rattle.step_maps.specs.Runs.{Run, has, value_in, AreRuns, AreMaximal, between}
+use Rattle.step_maps.specs.Runs.{Run, has, value_in, AreRuns, between}
 use Rattle.step_maps.proofs.MaximalLemmas.{maximal}
 use Rattle.sym_records.specs.declared.line.SymLine.{SymLine}
 use Rattle.sym_lookup.specs.TextNames.{is_within, is_line_at, under, Found, text_func, func_name, text_owner, line_under, text_line, text_path, path_and_line, text_origin, Call, call_of, level_count, inlines_from, inlines_under, text_chain}
@@ -18,13 +18,14 @@ use Rattle.func_flatten.specs.declared.piece.Place.{Place}
 use Rattle.func_flatten.specs.declared.piece.Piece.{Piece}
 use Rattle.func_flatten.specs.declared.line_run.LineRun.{LineRun}
 use Rattle.func_flatten.specs.Pieces.{piece_run, place_of, owner_place, ArePieces}
-use Rattle.func_flatten.specs.LineRuns.{path_line, path_run, unit_line, unit_paths}
+use Rattle.func_flatten.specs.LineRuns.{path_line, path_run, unit_line, unit_paths, AreLineRuns}
 use Rattle.inline_chain.specs.InlineRuns.{InlineParts, chain_by, entry_chain}
 use Rattle.func_records.specs.FuncRecords.{Part, pieces_of, path_in, call_path, number_in, file_lines, origin_lines, func_record, line_record, inline_record, part_lines, AreLined, AreInlined, BeginAbove, names_path, names_origin, AreFuncRecords}
 use Rattle.func_records.specs.TextNames.{name_of, call_in, found_line, Names}
 use Rattle.func_records.proofs.FoundLemmas.{path_found, origin_found}
 use Rattle.func_records.proofs.CallLemmas.{below, line_past, part_calls, HasPaths, HasOrigins}
 use Rattle.func_records.proofs.ListLemmas.{or_left, or_right}
+use Rattle.func_records.proofs.RunLemmas.{AreBetween, AreFrom, are_between, from_between}
 
 -- records in front that are no FUNC
 no_func : (behind : List SymLine) (x : ℕ) → ArePlain behind → text_func behind x ≡ None
@@ -58,40 +59,18 @@ under_copies base paths names units unit (r ∷ copies) rest = ap (λ k. inline_
 within_run : (base start end x : ℕ) → base ≤ start → start < end → is_within (start - base) (end - start) x ≡ (nat_le start (x + base) && nat_lt (x + base) end)
 within_run base start end x above some = grind (arith, nat_tests)
 
--- runs of a function from an address on begin at or above it
-abbrev BeginFrom : List (List ℕ) → ℕ → List LineRun → Type 0
-BeginFrom table low [] = Unit {0}
-BeginFrom table low (r ∷ runs) = (low ≤ r.start) × BeginFrom table low runs
-
-between_low : (low high a : ℕ) (f : ℕ → Option (List ℕ × ℕ)) → a < low → between low high f a ≡ None
-between_low low high a f below =
-    let out : (nat_le low a && nat_lt a high) ≡ false = grind (arith, nat_tests) in
-    ap (λ b. if b then f a else None) out
-
+-- at an address between the two
 between_in : (low high a : ℕ) (f : ℕ → Option (List ℕ × ℕ)) → low ≤ a → a < high → between low high f a ≡ f a
 between_in low high a f above below =
     let inside : (nat_le low a && nat_lt a high) ≡ true = grind (arith, nat_tests) in
     ap (λ b. if b then f a else None) inside
-
-begin_all : (table : List (List ℕ)) (low high : ℕ) (f : ℕ → Option (List ℕ × ℕ)) (runs : List LineRun) → AreMaximal (between low high f) (map (path_run table) runs) → BeginFrom table low runs
-begin_all table low high f [] all = tt
-begin_all table low high f (r ∷ runs) all = (
-  elim (leb_tells low r.start) [
-    | inl is ↦ is.1
-    | inr below ↦
-        (let value : between low high f r.start ≡ Some (path_line table (r.path, r.line)) = all.0.constant r.start (omega arith) all.0.some in
-        let none : between low high f r.start ≡ None = between_low low high r.start f below.1 in
-        cc)
-  ],
-  begin_all table low high f runs all.1,
-)
 
 -- a path as its number finds it, and the line
 abbrev numbered : List SymLine → List (List ℕ) → List ℕ × ℕ → Option (List ℕ) × ℕ
 numbered records paths m = (text_path records (number_in paths m.0), m.1)
 
 -- the line record that is found is the run's
-line_found : (base : ℕ) (paths : List (List ℕ)) (units : List UnitRead) (unit low x : ℕ) (records : List SymLine) (runs : List LineRun) → base ≤ low → BeginFrom (unit_paths units unit) low runs → AreRuns (map (path_run (unit_paths units unit)) runs) → option_map (path_and_line records) (find (is_line_at x) (map (line_record base paths units unit) runs)) ≡ option_map (numbered records paths) (value_in (map (path_run (unit_paths units unit)) runs) (x + base))
+line_found : (base : ℕ) (paths : List (List ℕ)) (units : List UnitRead) (unit low x : ℕ) (records : List SymLine) (runs : List LineRun) → base ≤ low → AreFrom low (map (path_run (unit_paths units unit)) runs) → AreRuns (map (path_run (unit_paths units unit)) runs) → option_map (path_and_line records) (find (is_line_at x) (map (line_record base paths units unit) runs)) ≡ option_map (numbered records paths) (value_in (map (path_run (unit_paths units unit)) runs) (x + base))
 line_found base paths units unit low x records [] above from apart = refl
 line_found base paths units unit low x records (r ∷ runs) above from apart =
     ap (λ b. option_map (path_and_line records) (if b then Some (line_record base paths units unit r) else find (is_line_at x) (map (line_record base paths units unit) runs))) (within_run base r.start r.end x (omega (arith, from.0)) apart.0)
@@ -102,21 +81,26 @@ line_found base paths units unit low x records (r ∷ runs) above from apart =
     go true is = refl
     go false is = is
 
+-- the lines of a part lie in its piece
+pub lines_between : (units : List UnitRead) (p : Part) → AreLineRuns units p.piece p.lines → AreBetween p.piece.start p.piece.end (map (path_run (unit_paths units p.piece.unit)) p.lines)
+lines_between units p lined =
+    are_between p.piece.start p.piece.end (unit_line units p.piece.unit) (map (path_run (unit_paths units p.piece.unit)) p.lines) (maximal _ (map (path_run (unit_paths units p.piece.unit)) p.lines) lined.paths)
+
 -- behind a part no line record stands
 none_after : (base : ℕ) (paths names : List (List ℕ)) (units : List UnitRead) (parts : List Part) (behind : List SymLine) → ArePlain behind → under (part_lines base paths names units parts ++ behind) ≡ []
 none_after base paths names units [] behind plain = none_under behind plain
 none_after base paths names units (p ∷ parts) behind plain = refl
 
 -- what stands behind the record of a part
-abbrev after : ℕ → List (List ℕ) → List (List ℕ) → List UnitRead → Part → List Part → List SymLine → List SymLine
+abbrev pub after : ℕ → List (List ℕ) → List (List ℕ) → List UnitRead → Part → List Part → List SymLine → List SymLine
 after base paths names units p parts behind = (map (inline_record base paths names units p.piece.unit) p.copies ++ (map (line_record base paths units p.piece.unit) p.lines ++ part_lines base paths names units parts)) ++ behind
 
-regroup : (base : ℕ) (paths names : List (List ℕ)) (units : List UnitRead) (p : Part) (parts : List Part) (behind : List SymLine) → after base paths names units p parts behind ≡ map (inline_record base paths names units p.piece.unit) p.copies ++ (map (line_record base paths units p.piece.unit) p.lines ++ (part_lines base paths names units parts ++ behind))
+pub regroup : (base : ℕ) (paths names : List (List ℕ)) (units : List UnitRead) (p : Part) (parts : List Part) (behind : List SymLine) → after base paths names units p parts behind ≡ map (inline_record base paths names units p.piece.unit) p.copies ++ (map (line_record base paths units p.piece.unit) p.lines ++ (part_lines base paths names units parts ++ behind))
 regroup base paths names units p parts behind =
     append_assoc (map (inline_record base paths names units p.piece.unit) p.copies) (map (line_record base paths units p.piece.unit) p.lines ++ part_lines base paths names units parts) behind
     ∙ ap (λ l. map (inline_record base paths names units p.piece.unit) p.copies ++ l) (append_assoc (map (line_record base paths units p.piece.unit) p.lines) (part_lines base paths names units parts) behind)
 
-under_part : (base : ℕ) (paths names : List (List ℕ)) (units : List UnitRead) (p : Part) (parts : List Part) (behind : List SymLine) → ArePlain behind → under (after base paths names units p parts behind) ≡ below base paths names units p
+pub under_part : (base : ℕ) (paths names : List (List ℕ)) (units : List UnitRead) (p : Part) (parts : List Part) (behind : List SymLine) → ArePlain behind → under (after base paths names units p parts behind) ≡ below base paths names units p
 under_part base paths names units p parts behind plain =
     ap (λ l. under l) (regroup base paths names units p parts behind)
     ∙ under_copies base paths names units p.piece.unit p.copies (map (line_record base paths units p.piece.unit) p.lines ++ (part_lines base paths names units parts ++ behind))
@@ -148,10 +132,10 @@ record Shows (base : ℕ) (paths : List (List ℕ)) (units : List UnitRead) (rec
   line : option_map (path_and_line records) (option_and_then (line_under x) found) ≡ numbered_at records paths units (x + base) place
 
 -- the numbers of paths and names in the records of parts lead to them
-abbrev FindPaths : List SymLine → List (List ℕ) → List UnitRead → List Part → Type 0
+abbrev pub FindPaths : List SymLine → List (List ℕ) → List UnitRead → List Part → Type 0
 FindPaths records paths units parts = (path : List ℕ) → list_any (names_path units path) parts ≡ true → text_path records (number_in paths path) ≡ Some path
 
-abbrev FindNames : List SymLine → List (List ℕ) → List UnitRead → List Part → Type 0
+abbrev pub FindNames : List SymLine → List (List ℕ) → List UnitRead → List Part → Type 0
 FindNames records names units parts = (name : List ℕ) → list_any (names_origin units name) parts ≡ true → text_origin records (number_in names name) ≡ Some name
 
 paths_here : (records : List SymLine) (paths : List (List ℕ)) (units : List UnitRead) (p : Part) (parts : List Part) → FindPaths records paths units (p ∷ parts) → HasPaths records paths units p.piece.unit p.copies
@@ -174,14 +158,14 @@ part_shows base paths names units records x p parts behind plain above lined inl
       line =
           ap (λ l. option_map (path_and_line records) (find (is_line_at x) l)) own
           ∙ ap (option_map (path_and_line records)) (line_past base paths names units p.piece.unit x p.copies (map (line_record base paths units p.piece.unit) p.lines))
-          ∙ line_found base paths units p.piece.unit p.piece.start x records p.lines above (begin_all (unit_paths units p.piece.unit) p.piece.start p.piece.end (unit_line units p.piece.unit) p.lines (maximal _ (map (path_run (unit_paths units p.piece.unit)) p.lines) lined.0.paths)) lined.0.paths.apart
+          ∙ line_found base paths units p.piece.unit p.piece.start x records p.lines above (from_between p.piece.start p.piece.start p.piece.end (map (path_run (unit_paths units p.piece.unit)) p.lines) (omega arith) (lines_between units p lined.0)) lined.0.paths.apart
           ∙ ap (λ o. option_map (numbered records paths) o) (lined.0.paths.values (x + base) ∙ between_in p.piece.start p.piece.end (x + base) (unit_line units p.piece.unit) low high);
     }
 
 none_shows : (base : ℕ) (paths : List (List ℕ)) (units : List UnitRead) (records : List SymLine) (x : ℕ) → Shows base paths units records x None None
 none_shows base paths units records x = record { function = refl; chain = refl; line = refl }
 
-abbrev part_runs : List Part → List (Run Place)
+abbrev pub part_runs : List Part → List (Run Place)
 part_runs parts = map piece_run (pieces_of parts)
 
 parts_show : (base : ℕ) (paths names : List (List ℕ)) (units : List UnitRead) (records : List SymLine) (x : ℕ) (parts : List Part) (behind : List SymLine) → ArePlain behind → BeginAbove base (pieces_of parts) → AreLined units parts → AreInlined units parts → FindPaths records paths units parts → FindNames records names units parts → AreRuns (part_runs parts) → Shows base paths units records x (text_func (part_lines base paths names units parts ++ behind) x) (value_in (part_runs parts) (x + base))
@@ -260,6 +244,23 @@ unfolding entry_chain
 chain_by_owner units a None = refl
 chain_by_owner units a (Some c) = ap (map (call_in units)) (chain_same c a (slice_get units c.unit))
 
+-- the records of functions among others
+abbrev pub around : ℕ → List UnitRead → List (List ℕ) → List (List ℕ) → List Part → List SymLine → List SymLine → List SymLine
+around base units paths names parts front behind = front ++ (file_lines 0 paths ++ (origin_lines 0 names ++ (part_lines base paths names units parts ++ behind)))
+
+pub around_is : (base : ℕ) (units : List UnitRead) (pieces : List Piece) (front records behind : List SymLine) (are : AreFuncRecords base units pieces records) → front ++ (records ++ behind) ≡ around base units are.paths are.names are.parts front behind
+around_is base units pieces front records behind are =
+    ap (λ (r : List SymLine). front ++ (r ++ behind)) are.whole
+    ∙ ap (λ (r : List SymLine). front ++ r) (append_assoc (file_lines 0 are.paths) (origin_lines 0 are.names ++ part_lines base are.paths are.names units are.parts) behind
+    ∙ ap (λ (r : List SymLine). file_lines 0 are.paths ++ r) (append_assoc (origin_lines 0 are.names) (part_lines base are.paths are.names units are.parts) behind))
+
+-- the number of each path and name that a record has leads to it
+pub paths_found : (base : ℕ) (units : List UnitRead) (pieces : List Piece) (front records behind : List SymLine) (are : AreFuncRecords base units pieces records) → HaveNoFile front → FindPaths (around base units are.paths are.names are.parts front behind) are.paths units are.parts
+paths_found base units pieces front records behind are none path named = path_found front are.paths (origin_lines 0 are.names ++ (part_lines base are.paths are.names units are.parts ++ behind)) path none (are.used.same path ∙ named)
+
+pub names_found : (base : ℕ) (units : List UnitRead) (pieces : List Piece) (front records behind : List SymLine) (are : AreFuncRecords base units pieces records) → HaveNoOrigin front → FindNames (around base units are.paths are.names are.parts front behind) are.names units are.parts
+names_found base units pieces front records behind are none name named = origin_found front are.paths are.names (part_lines base are.paths are.names units are.parts ++ behind) name none (are.origins.same name ∙ named)
+
 -- in a text with the records of functions, among others that are none, a look-up names the owner, the inlined copies and the line of
 -- each address
 pub all_named : (base : ℕ) (units : List UnitRead) (pieces : List Piece) (front records behind : List SymLine) → ArePieces units pieces → BeginAbove base pieces → AreFuncRecords base units pieces records → ArePlain front → HaveNoFile front → HaveNoOrigin front → ArePlain behind → (x : ℕ) → Names base units (front ++ (records ++ behind)) x
@@ -269,18 +270,15 @@ all_named base units pieces front records behind pieced above are plain no_file 
     let paths = are.paths in
     let names = are.names in
     let functions : List SymLine = part_lines base paths names units parts ++ behind in
-    let all : List SymLine = front ++ (file_lines 0 paths ++ (origin_lines 0 names ++ functions)) in
-    let same : front ++ (records ++ behind) ≡ all
-    = ap (λ (r : List SymLine). front ++ (r ++ behind)) are.whole
-    ∙ ap (λ (r : List SymLine). front ++ r) (append_assoc (file_lines 0 paths) (origin_lines 0 names ++ part_lines base paths names units parts) behind
-    ∙ ap (λ (r : List SymLine). file_lines 0 paths ++ r) (append_assoc (origin_lines 0 names) (part_lines base paths names units parts) behind)) in
+    let all : List SymLine = around base units paths names parts front behind in
+    let same : front ++ (records ++ behind) ≡ all = around_is base units pieces front records behind are in
     let found : text_func all x ≡ text_func functions x = func_behind front (file_lines 0 paths ++ (origin_lines 0 names ++ functions)) x plain ∙ func_files 0 paths (origin_lines 0 names ++ functions) x ∙ func_origins 0 names functions x in
     let runs : part_runs parts ≡ map piece_run pieces = ap (λ (ps : List Piece). map piece_run ps) are.pieces_are in
     let apart : AreRuns (part_runs parts) = rw runs pieced.runs.apart in
     let value : value_in (part_runs parts) (x + base) ≡ owner_place units (x + base) = ap (λ (rs : List (Run Place)). value_in rs (x + base)) runs ∙ pieced.runs.values (x + base) in
     let high : BeginAbove base (pieces_of parts) = rw are.pieces_are above in
-    let path : FindPaths all paths units parts = λ path named. path_found front paths (origin_lines 0 names ++ functions) path no_file (are.used.same path ∙ named) in
-    let name : FindNames all names units parts = λ name named. origin_found front paths names functions name no_origin (are.origins.same name ∙ named) in
+    let path : FindPaths all paths units parts = paths_found base units pieces front records behind are no_file in
+    let name : FindNames all names units parts = names_found base units pieces front records behind are no_origin in
     let shows = parts_show base paths names units all x parts behind last high are.lines_are are.inlined path name apart in
     rw same (record {
       function = ap (λ f. option_map (λ g. func_name g.func) f) found ∙ shows.function ∙ ap (option_map (place_name units)) value ∙ name_by_owner units (owner units (x + base));

@@ -1,5 +1,5 @@
 -- The records of pieces, as they are spelled.
-use Rattle.std.proofs.Common.{◌≡◌, ℕ, ◌+◌, ◌<◌, true, map, length, take, get_or, List, [], ◌∷◌, ◌++◌, None, Some, arith, refl, sym, ap, ◌∙◌, Bor, append_assoc, append-nil}
+use Rattle.std.proofs.Common.{◌≡◌, ℕ, ◌+◌, ◌<◌, ◌^◌, true, map, length, take, get_or, List, [], ◌∷◌, ◌++◌, None, Some, arith, refl, sym, ap, ◌∙◌, Bor, append_assoc, append-nil}
 use Rattle.std.specs.List.{list_all}
 use Rattle.std.specs.Option.{option_copied}
 use Rattle.sym_records.specs.Canon.{canon, canon_text}
@@ -19,7 +19,7 @@ use Rattle.func_flatten.specs.declared.line_run.LineRun.{LineRun}
 use Rattle.func_flatten.specs.LineRuns.{AreLineRuns}
 use Rattle.inline_chain.specs.InlineRuns.{InlineParts}
 use Rattle.func_records.specs.declared.numbers.Numbers.{Numbers}
-use Rattle.func_records.specs.FuncRecords.{Part, func_record}
+use Rattle.func_records.specs.FuncRecords.{Part, func_record, EndBelow}
 use Rattle.func_records.specs.Spelling.{line_by, row_of}
 use Rattle.func_records.specs.Parts.{inline_by, part_by, parts_by, AddsPart, AddsParts}
 use Rattle.func_records.proofs.CleanLemmas.{cleaned_again}
@@ -49,8 +49,8 @@ copies_fit base numbers units unit i (r ∷ copies) row runs fit lines =
 
 -- the text of a piece: its own record, those of its inlined copies, and those of its lines
 pub part_added : (base : ℕ) (numbers : Numbers) (units : List UnitRead) (piece : Piece) (copies : List InlineParts) (lines : List LineRun) (full old owned copied last new : List ℕ) → owned ≡ old ++ canon (func_record base units piece) → copied ≡ owned ++ canon_text (map (inline_by base numbers units piece.unit) copies) → last ≡ copied ++ canon_text (map (line_by base (row_of numbers.rows.now piece.unit)) lines) → new ≡ full ++ last
-    → fields_fit (func_record base units piece) ≡ true → list_all fields_fit (map (inline_by base numbers units piece.unit) copies) ≡ true → list_all fields_fit (map (line_by base (row_of numbers.rows.now piece.unit)) lines) ≡ true → AreLineRuns units piece lines → AddsPart base numbers units piece copies (full ++ old) new
-part_added base numbers units piece copies lines full old owned copied last new owner inlined runs all fit copies_good lines_good are =
+    → fields_fit (func_record base units piece) ≡ true → list_all fields_fit (map (inline_by base numbers units piece.unit) copies) ≡ true → list_all fields_fit (map (line_by base (row_of numbers.rows.now piece.unit)) lines) ≡ true → AreLineRuns units piece lines → piece.end < 2 ^ 64 → AddsPart base numbers units piece copies (full ++ old) new
+part_added base numbers units piece copies lines full old owned copied last new owner inlined runs all fit copies_good lines_good are ends =
     let first : List SymLine = map (inline_by base numbers units piece.unit) copies in
     let second : List SymLine = map (line_by base (row_of numbers.rows.now piece.unit)) lines in
     let below : last ≡ owned ++ canon_text (first ++ second)
@@ -61,6 +61,7 @@ part_added base numbers units piece copies lines full old owned copied last new 
       text = all ∙ ap (λ t. full ++ t) (below ∙ ap (λ t. t ++ canon_text (first ++ second)) owner ∙ append_assoc old (canon (func_record base units piece)) (canon_text (first ++ second)) ∙ ap (λ t. old ++ t) (sym (canon_more (func_record base units piece) (first ++ second))))
           ∙ sym (append_assoc full old (canon_text (func_record base units piece ∷ (first ++ second))));
       fit = from_here 0 Inside (func_record base units piece) (first ++ second) refl fit (copies_fit base numbers units piece.unit 1 copies (row_of numbers.rows.now piece.unit) lines copies_good lines_good);
+      below = ends;
     }
 
 -- a piece more
@@ -69,6 +70,10 @@ text_part base numbers units [] p = append-nil (part_by base numbers units p)
 text_part base numbers units (q ∷ parts) p =
     ap (λ l. part_by base numbers units q ++ l) (text_part base numbers units parts p)
     ∙ sym (append_assoc (part_by base numbers units q) (parts_by base numbers units parts) (part_by base numbers units p))
+
+below_push : (limit : ℕ) (pieces : List Piece) (piece : Piece) → EndBelow limit pieces → piece.end < limit → EndBelow limit (pieces ++ piece ∷ [])
+below_push limit [] piece below ends = (ends, tt)
+below_push limit (p ∷ pieces) piece below ends = (below.0, below_push limit pieces piece below.1 ends)
 
 parts_push : (base : ℕ) (numbers : Numbers) (units : List UnitRead) (pieces : List Piece) (held : List (List InlineParts)) (piece : Piece) (copies : List InlineParts) (old mid new : List ℕ) → AddsParts base numbers units pieces held old mid → AddsPart base numbers units piece copies mid new → AddsParts base numbers units (pieces ++ piece ∷ []) (held ++ copies ∷ []) old new
 parts_push base numbers units pieces held piece copies old mid new so adds =
@@ -82,6 +87,7 @@ parts_push base numbers units pieces held piece copies old mid new so adds =
           ∙ append_assoc old (canon_text (parts_by base numbers units so.parts)) (canon_text (part_by base numbers units part))
           ∙ ap (λ t. old ++ t) (sym (ap canon_text (text_part base numbers units so.parts part) ∙ canon_join (parts_by base numbers units so.parts) (part_by base numbers units part)));
       fit = ap (first_bad_from 0 Inside) (text_part base numbers units so.parts part) ∙ join_behind (parts_by base numbers units so.parts) (part_by base numbers units part) so.fit adds.fit;
+      below = below_push (2 ^ 64) pieces piece so.below adds.below;
     }
 
 pub parts_next : (base : ℕ) (numbers : Numbers) (units : List UnitRead) (pieces : List Piece) (held : List (List InlineParts)) (n : ℕ) (d : Piece) (e copies : List InlineParts) (old mid new : List ℕ) → n < length pieces → length held ≡ length pieces → copies ≡ get_or held n e → AddsParts base numbers units (take n pieces) (take n held) old mid → AddsPart base numbers units (get_or pieces n d) copies mid new → AddsParts base numbers units (take (n + 1) pieces) (take (n + 1) held) old new
@@ -91,4 +97,4 @@ parts_next base numbers units pieces held n d e copies old mid new below count i
     rw first (rw second (parts_push base numbers units (take n pieces) (take n held) (get_or pieces n d) copies old mid new so adds))
 
 pub parts_none : (base : ℕ) (numbers : Numbers) (units : List UnitRead) (old : List ℕ) → AddsParts base numbers units [] [] old old
-parts_none base numbers units old = record { parts = []; pieces_are = refl; copies_are = refl; lines_are = tt; text = sym (ap (λ t. old ++ t) canon_none ∙ append-nil old); fit = none_here 0 Inside }
+parts_none base numbers units old = record { parts = []; pieces_are = refl; copies_are = refl; lines_are = tt; text = sym (ap (λ t. old ++ t) canon_none ∙ append-nil old); fit = none_here 0 Inside; below = tt }

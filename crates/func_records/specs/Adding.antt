@@ -1,12 +1,12 @@
 -- What is added to a text: the records of functions and their lines.
-use Rattle.std.specs.Prelude.{◌≡◌, ℕ, List, [], ◌∷◌, ◌++◌, None}
+use Rattle.std.specs.Prelude.{◌≡◌, ℕ, ◌^◌, List, [], ◌∷◌, ◌++◌, None}
 use Rattle.sym_records.specs.Canon.{canon_text}
 use Rattle.sym_records.specs.Validity.{first_bad_from}
 use Rattle.sym_records.specs.declared.place.Place.TheVariants.{Inside}
 use Rattle.sym_records.specs.declared.line.SymLine.{SymLine}
 use Rattle.die_names.specs.declared.unit_read.UnitRead.{UnitRead}
 use Rattle.func_flatten.specs.declared.piece.Piece.{Piece}
-use Rattle.func_records.specs.FuncRecords.{AreFuncRecords}
+use Rattle.func_records.specs.FuncRecords.{AreFuncRecords, EndBelow}
 use Rattle.func_records.specs.Spelling.{AreClean}
 
 -- the paths of all line tables are cleaned
@@ -14,9 +14,10 @@ abbrev pub HaveCleanPaths : List UnitRead → Type 0
 HaveCleanPaths [] = Prim.Unit {0}
 HaveCleanPaths (u ∷ units) = AreClean u.lines.paths × HaveCleanPaths units
 
--- the text has the records of the pieces behind what stood there, and they may stand behind other records
+-- the text has the records of the pieces behind what stood there, and they may stand behind other records; the pieces end below 2^64
 pub record AddsFunctions (base : ℕ) (units : List UnitRead) (pieces : List Piece) (old new : List ℕ) : Type 0 where
   pub records : List SymLine
   pub are : AreFuncRecords base units pieces records
   pub text : new ≡ old ++ canon_text records
   pub fit : first_bad_from 0 Inside records ≡ None
+  pub below : EndBelow (2 ^ 64) pieces

@@ -1,5 +1,5 @@
 -- The records of functions (Breakpad's symbol_files.md): FILE, INLINE_ORIGIN, FUNC, INLINE and line records.
-use Rattle.std.specs.Prelude.{◌≡◌, ℕ, ◌+◌, ◌-◌, ◌≤◌, ◌||◌, if◌then◌else◌, map, List, [], ◌∷◌, ◌++◌, Bool, Option, None, Some, unwrap_or, option_and_then, codes}
+use Rattle.std.specs.Prelude.{◌≡◌, ℕ, ◌+◌, ◌-◌, ◌≤◌, ◌<◌, ◌||◌, if◌then◌else◌, map, List, [], ◌∷◌, ◌++◌, Bool, Option, None, Some, unwrap_or, option_and_then, codes}
 use Rattle.std.specs.List.{slice_get, list_any}
 use Rattle.std.specs.Option.{option_map_or}
 use Rattle.std.specs.Ordering.{nat_cmp}
@@ -134,3 +134,8 @@ pub record AreFuncRecords (base : ℕ) (units : List UnitRead) (pieces : List Pi
 abbrev pub BeginAbove : ℕ → List Piece → Type 0
 BeginAbove base [] = Prim.Unit {0}
 BeginAbove base (p ∷ pieces) = (base ≤ p.start) × BeginAbove base pieces
+
+-- each piece ends below an address
+abbrev pub EndBelow : ℕ → List Piece → Type 0
+EndBelow limit [] = Prim.Unit {0}
+EndBelow limit (p ∷ pieces) = (p.end < limit) × EndBelow limit pieces

@@ -1,5 +1,5 @@
 -- No public clause cites this: the records of pieces, as they are spelled by the numbers of paths and names.
-use Rattle.std.specs.Prelude.{◌≡◌, ℕ, ◌<◌, ◌≤◌, length, List, [], ◌∷◌, ◌++◌, map, Option, None, Some, unwrap_or}
+use Rattle.std.specs.Prelude.{◌≡◌, ℕ, ◌<◌, ◌≤◌, ◌^◌, length, List, [], ◌∷◌, ◌++◌, map, Option, None, Some, unwrap_or}
 use Rattle.std.specs.List.{slice_get}
 use Rattle.sym_records.specs.Canon.{canon_text}
 use Rattle.sym_records.specs.Validity.{first_bad_from}
@@ -13,7 +13,7 @@ use Rattle.func_flatten.specs.declared.line_run.LineRun.{LineRun}
 use Rattle.func_flatten.specs.LineRuns.{AreLineRuns}
 use Rattle.inline_chain.specs.InlineRuns.{InlineParts}
 use Rattle.func_records.specs.declared.numbers.Numbers.{Numbers}
-use Rattle.func_records.specs.FuncRecords.{Part, pieces_of, call_line, extent, func_record, AreLined}
+use Rattle.func_records.specs.FuncRecords.{Part, pieces_of, call_line, extent, func_record, AreLined, EndBelow}
 use Rattle.func_records.specs.Calls.{call_number}
 use Rattle.func_records.specs.Gathering.{bytes_of, copies_of}
 use Rattle.func_records.specs.Spelling.{number_or_0, line_by, row_of}
@@ -53,6 +53,7 @@ pub record AddsPart (base : ℕ) (numbers : Numbers) (units : List UnitRead) (pi
   pub runs : AreLineRuns units piece lines
   pub text : new ≡ old ++ canon_text (part_by base numbers units (record { piece = piece; copies = copies; lines = lines }))
   pub fit : first_bad_from 0 Inside (part_by base numbers units (record { piece = piece; copies = copies; lines = lines })) ≡ None
+  pub below : piece.end < 2 ^ 64
 
 -- the records of some pieces
 pub record AddsParts (base : ℕ) (numbers : Numbers) (units : List UnitRead) (pieces : List Piece) (held : List (List InlineParts)) (old new : List ℕ) : Type 0 where
@@ -62,3 +63,4 @@ pub record AddsParts (base : ℕ) (numbers : Numbers) (units : List UnitRead) (p
   pub lines_are : AreLined units parts
   pub text : new ≡ old ++ canon_text (parts_by base numbers units parts)
   pub fit : first_bad_from 0 Inside (parts_by base numbers units parts) ≡ None
+  pub below : EndBelow (2 ^ 64) pieces

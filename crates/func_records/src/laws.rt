@@ -1,15 +1,24 @@
 //! What holds of texts with the records of functions. Each function does nothing: its contract is the law.
-ghost use Rattle.std.specs.Prelude.{ℕ, List, ◌++◌};
+ghost use Rattle.std.specs.Prelude.{◌≡◌, ℕ, ◌^◌, true, List, ◌++◌};
+ghost use Rattle.std.specs.List.{list_all};
 ghost use Rattle.sym_records.specs.declared.line.SymLine.{SymLine};
 ghost use Rattle.sym_lookup.specs.Plain.{ArePlain, HaveNoFile, HaveNoOrigin};
+ghost use Rattle.sym_lookup.specs.Findings.{are_sized, HasNoFuncFindings};
 ghost use Rattle.die_names.specs.declared.unit_read.UnitRead.{UnitRead};
 ghost use Rattle.func_flatten.specs.declared.piece.Piece.{Piece};
 ghost use Rattle.func_flatten.specs.Pieces.{ArePieces};
-ghost use Rattle.func_records.specs.FuncRecords.{AreFuncRecords, BeginAbove};
+ghost use Rattle.func_records.specs.FuncRecords.{AreFuncRecords, BeginAbove, EndBelow};
 ghost use Rattle.func_records.specs.TextNames.{Names};
 
 /// In a text with the records of the units' functions a look-up names the owner, the inlined copies and the line of each address,
 /// and nothing where there is none.
 pub fn names_are_kept()
     ensures { (base : ℕ) (units : List UnitRead) (pieces : List Piece) (front records behind : List SymLine) → ArePieces units pieces → BeginAbove base pieces → AreFuncRecords base units pieces records → ArePlain front → HaveNoFile front → HaveNoOrigin front → ArePlain behind → (x : ℕ) → Names base units (front ++ (records ++ behind)) x }
+{}
+
+/// In a text with the records of the units' functions a checker finds nothing of files, functions, inlined copies and lines: each number
+/// is given once and each named one is there; no range is empty or ends above 2^64 - 1; functions are apart, and the lines of
+/// each; and lines and inlined copies lie in their function.
+pub fn records_have_no_findings()
+    ensures { (base : ℕ) (units : List UnitRead) (pieces : List Piece) (front records behind : List SymLine) → ArePieces units pieces → BeginAbove base pieces → EndBelow (2 ^ 64) pieces → AreFuncRecords base units pieces records → ArePlain front → HaveNoFile front → HaveNoOrigin front → list_all are_sized front ≡ true → ArePlain behind → HaveNoFile behind → HaveNoOrigin behind → list_all are_sized behind ≡ true → HasNoFuncFindings (front ++ (records ++ behind)) }
 {}

@@ -6,7 +6,8 @@
 //! each once for the entry that gives it; both are sorted by their bytes and numbered. Then it spells the records of each piece, with
 //! its line runs made on the spot. Nothing is held for a line record. `specs/FuncRecords.antt` says which records these are, and
 //! `specs/TextNames.antt` what a look-up in a text that has them names: at each address the function that owns it, the calls that are
-//! inlined there, and the line that it has in the file (`laws::names_are_kept`).
+//! inlined there, and the line that it has in the file (`laws::names_are_kept`). A checker finds nothing in such a text
+//! (`laws::records_have_no_findings`).
 //!
 //! To read: `functions` first, then `holding`; `calls`, `marks`, `call_paths` and `paths`; `names`; `sorting`, `numbers` and
 //! `origins`; and `tables`, `inlines` and `spelling`.

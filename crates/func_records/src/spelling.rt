@@ -58,6 +58,7 @@ fn add_owner(
 ) -> Result<(), OutOfMemory>
     ensures text { OnOk result (text.new.items ≡ text.old.items ++ canon (func_record base units.now piece.now)) }
     ensures fit { OnOk result (fields_fit (func_record base units.now piece.now) ≡ true) }
+    ensures below { piece.now.end < 2 ^ 64 }
 {
     cleaned_bytes_are_names();
     records_of_functions_fit();

@@ -1,2 +1,4 @@
 pub mod TextLemmas
 mod WorkedNames
+pub mod FindingLemmas
+mod WorkedFindings

@@ -1,2 +1,3 @@
 pub mod TextNames
 pub mod Plain
+pub mod Findings
