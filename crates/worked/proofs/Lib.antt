@@ -1,5 +1,10 @@
 mod Computing
 mod Elf
+mod OneUnits
+mod OneTexts
+mod BareLemmas
+mod OneRecords
+mod OneVerdict
 mod Plain
 mod Small
 mod WorkedWords
