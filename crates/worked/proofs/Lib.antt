@@ -5,6 +5,7 @@ mod OneTexts
 mod BareLemmas
 mod OneRecords
 mod OneVerdict
+mod OneRun
 mod Plain
 mod Small
 mod WorkedWords

@@ -65,10 +65,25 @@ one_file : (elf : List ℕ) (file : Option (List ℕ)) (v w : Verdict) → IsFil
 one_file elf None v w p q = p ∙ sym q
 one_file elf (Some file) v w p q = one_bytes (nat_lt LIMIT (length file)) (module_name elf) file v w p q
 
-one_command : (command : Option Asked) (files : Files) (v w : Verdict) → IsVerdict command files v → IsVerdict command files w → v ≡ w
-one_command None files v w p q = p ∙ sym q
-one_command (Some (dump elf workers)) files v w p q = one_file elf (files elf) v w p q
+-- two commands that ask for the same, by any numbers of workers
+abbrev pub AskAlike : Option Asked → Option Asked → Type 0
+AskAlike None None = Prim.Unit {0}
+AskAlike None (Some d) = ⊥
+AskAlike (Some c) None = ⊥
+AskAlike (Some (dump elf m)) (Some (dump other n)) = elf ≡ other
 
--- whatever a run chose in keeping its units, and by how many workers
+alike : (c : Option Asked) → AskAlike c c
+alike None = tt
+alike (Some (dump elf workers)) = refl
+
+-- they have one verdict
+pub one_asked : (c d : Option Asked) (files : Files) (v w : Verdict) → AskAlike c d → IsVerdict c files v → IsVerdict d files w → v ≡ w
+one_asked None None files v w same p q = p ∙ sym q
+one_asked None (Some d) files v w same p q = absurd same
+one_asked (Some c) None files v w same p q = absurd same
+one_asked (Some (dump elf m)) (Some (dump other n)) files v w same p q =
+    one_file elf (files elf) v w p (subst (λ name. IsFileVerdict name (files name) w) (sym same) q)
+
+-- words and files have one verdict, whatever a run chose in keeping what it read of the units
 pub one_verdict : (words : List (List ℕ)) (files : Files) (v w : Verdict) → IsVerdict (command_of words) files v → IsVerdict (command_of words) files w → v ≡ w
-one_verdict words files v w p q = one_command (command_of words) files v w p q
+one_verdict words files v w p q = one_asked (command_of words) (command_of words) files v w (alike (command_of words)) p q
