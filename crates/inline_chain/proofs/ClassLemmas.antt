@@ -12,7 +12,7 @@ use Rattle.step_maps.specs.Covers.{AreStretches}
 use Rattle.func_flatten.specs.Collecting.{AreFit}
 use Rattle.inline_chain.specs.Trees.{of_class, HaveClasses, SortedFrom, front_count}
 
-tie_is : (v w : ℕ) → (not (is_lt (nat_cmp v w)) && not (is_lt (nat_cmp w v))) ≡ (w == v)
+pub tie_is : (v w : ℕ) → (not (is_lt (nat_cmp v w)) && not (is_lt (nat_cmp w v))) ≡ (w == v)
 tie_is v w = grind (arith, nat_tests)
 
 -- a stable sort keeps those of each class in their order

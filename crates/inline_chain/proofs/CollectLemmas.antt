@@ -30,12 +30,12 @@ dropped xs k x is = drop_more xs k x (got_inside xs k x is) ∙ ap (λ y. y ∷ 
 dropped_none : {X : Type 0} (xs : List X) (k : ℕ) → slice_get xs k ≡ None → drop k xs ≡ []
 dropped_none xs k is = drop_all k xs (got_none xs k is)
 
-got_front : {X : Type 0} (xs : List X) (k : ℕ) (x : X) → k < length xs → slice_get (xs ++ x ∷ []) k ≡ slice_get xs k
+pub got_front : {X : Type 0} (xs : List X) (k : ℕ) (x : X) → k < length xs → slice_get (xs ++ x ∷ []) k ≡ slice_get xs k
 got_front [] k x inside = absurd (omega arith)
 got_front (y ∷ xs) zero x inside = refl
 got_front (y ∷ xs) (suc k) x inside = got_front xs k x (omega arith)
 
-got_last : {X : Type 0} (xs : List X) (x : X) → slice_get (xs ++ x ∷ []) (length xs) ≡ Some x
+pub got_last : {X : Type 0} (xs : List X) (x : X) → slice_get (xs ++ x ∷ []) (length xs) ≡ Some x
 got_last [] x = refl
 got_last (y ∷ xs) x = got_last xs x
 

@@ -146,7 +146,7 @@ under_ends next [] around y a none = sym (away (has_at next y a) (reaches around
     away false false = refl
 under_ends next (c ∷ rest) around y a none = absurd (omega arith)
 
-or_assoc : (x y z : Bool) → ((x || y) || z) ≡ (x || (y || z))
+pub or_assoc : (x y z : Bool) → ((x || y) || z) ≡ (x || (y || z))
 or_assoc true y z = refl
 or_assoc false y z = refl
 

@@ -1,5 +1,5 @@
 -- Records in the order of their first addresses.
-use Rattle.std.proofs.Common.{◌≡◌, ℕ, zero, suc, ◌<◌, ◌≤◌, ◌==◌, ◌&&◌, ◌++◌, not, Bool, true, false, if◌then◌else◌, List, [], ◌∷◌, length, get_or, map, arith, refl, sym, ap, ◌∙◌, inl, inr}
+use Rattle.std.proofs.Common.{◌≡◌, ℕ, zero, suc, ◌<◌, ◌≤◌, ◌==◌, ◌&&◌, ◌++◌, Bool, true, false, if◌then◌else◌, List, [], ◌∷◌, length, get_or, map, arith, refl, sym, ap, ◌∙◌, inl, inr}
 use Rattle.std.specs.List.{filter, list_all, AllByRecursion}
 use Rattle.std.specs.List.Sorted.{IsNonDecreasingBy, IsStableByKey, IsPermutation, ties}
 use Rattle.std.specs.Ordering.{nat_cmp, is_lt}
@@ -10,6 +10,7 @@ use Rattle.std.proofs.lemmas.List.Elements.{filter_agree}
 use Rattle.std.proofs.lemmas.List.Kept.{IsNonDecreasingBy-filter}
 use Rattle.sym_edges.specs.Addresses.{Range}
 use Rattle.range_set.specs.Canonical.{IsCanonical}
+use Rattle.inline_chain.proofs.ClassLemmas.{tie_is}
 use Rattle.inline_chain.specs.InlineRuns.{InlineParts, is_of, spans_of, joined, AreParts, first_address, is_before, IsOrdered}
 use Rattle.inline_chain.specs.Levels.{AreOfLevel, Rising}
 
@@ -80,9 +81,6 @@ keys_by low (r ∷ runs) rises first =
 
 keys_of : (runs : List InlineParts) → IsNonDecreasingBy key runs → RiseBy key 0 runs
 keys_of runs rises = keys_by 0 runs rises (λ some d. omega arith)
-
-tie_is : (v w : ℕ) → (not (is_lt (nat_cmp v w)) && not (is_lt (nat_cmp w v))) ≡ (w == v)
-tie_is v w = grind (arith, nat_tests)
 
 -- a stable sort keeps those of each first address in their order
 same_keys : (xs ys : List InlineParts) → IsStableByKey key nat_cmp xs ys → (v : ℕ) → of_number key v ys ≡ of_number key v xs

@@ -9,15 +9,12 @@ use Rattle.range_set.specs.Canonical.{IsCanonical}
 use Rattle.step_maps.specs.declared.stretch.Stretch.{Stretch}
 use Rattle.step_maps.specs.Covers.{reaches}
 use Rattle.inline_chain.specs.InlineRuns.{InlineParts, joined, AreParts}
+use Rattle.inline_chain.proofs.LevelLemmas.{or_assoc}
 use Rattle.inline_chain.specs.Levels.{entry_runs, AddsParts, AddsGroup}
 
 -- a stretch as a range
 pub stretch_holds : (first last a : ℕ) → holds (record { start = first; end = last + 1 }) a ≡ (nat_le first a && nat_le a last)
 stretch_holds first last a = grind (arith, nat_tests)
-
-or_assoc : (x y z : Bool) → ((x || y) || z) ≡ (x || (y || z))
-or_assoc true y z = refl
-or_assoc false y z = refl
 
 or_last : (x y : Bool) → (x || (y || false)) ≡ (x || y)
 or_last true y = refl

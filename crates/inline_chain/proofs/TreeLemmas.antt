@@ -1,5 +1,5 @@
 -- The trees of units.
-use Rattle.std.proofs.Common.{◌≡◌, ℕ, zero, suc, ◌+◌, ◌<◌, ◌≤◌, ◌&&◌, ◌++◌, Bool, true, false, if◌then◌else◌, nat_le, nat_lt, List, [], ◌∷◌, length, take, drop, get_or, map, Option, None, Some, unwrap_or, arith, refl, sym, ap, subst, ◌∙◌, ⊎_elim}
+use Rattle.std.proofs.Common.{◌≡◌, ℕ, zero, suc, ◌+◌, ◌<◌, ◌≤◌, ◌&&◌, ◌++◌, Bool, true, false, if◌then◌else◌, nat_le, nat_lt, List, [], ◌∷◌, length, take, drop, get_or, map, Option, None, unwrap_or, arith, refl, sym, ap, subst, ◌∙◌, ⊎_elim}
 use Rattle.std.specs.List.{slice_get}
 use Rattle.std.proofs.lemmas.Bool.{cond-false, ne_eqb, cases_lt}
 use Rattle.std.proofs.lemmas.List.{length-append, take_more, take_all}
@@ -13,6 +13,7 @@ use Rattle.die_names.specs.UnitEntries.{places}
 use Rattle.func_flatten.specs.Collecting.{AreFit}
 use Rattle.inline_chain.specs.Trees.{of_class, HaveClasses, SortedFrom, front_count, list_of, IsList, AreLists, ListsTo, HaveSets, child_at, child_stretches, IsTree, AreTrees, TreeFor}
 use Rattle.inline_chain.proofs.ChildLemmas.{index_children}
+use Rattle.inline_chain.proofs.CollectLemmas.{got_front, got_last}
 use Rattle.inline_chain.proofs.ClassLemmas.{take_front, drop_front, sorted_behind, fit_drop}
 
 same_runs : {V : Type 0} (f g : ℕ → Option V) (runs : List (Run V)) → ((a : ℕ) → f a ≡ g a) → IsRuns f runs → IsRuns g runs
@@ -27,15 +28,6 @@ no_runs start end f none = record { apart = tt; values = λ a. sym (ap (λ o. if
     same : {A : Type 0} (b : Bool) (o : A) → (if b then o else o) ≡ o
     same true o = refl
     same false o = refl
-
-got_front : {X : Type 0} (xs : List X) (k : ℕ) (x : X) → k < length xs → slice_get (xs ++ x ∷ []) k ≡ slice_get xs k
-got_front [] k x inside = absurd (omega arith)
-got_front (y ∷ xs) zero x inside = refl
-got_front (y ∷ xs) (suc k) x inside = got_front xs k x (omega arith)
-
-got_last : {X : Type 0} (xs : List X) (x : X) → slice_get (xs ++ x ∷ []) (length xs) ≡ Some x
-got_last [] x = refl
-got_last (y ∷ xs) x = got_last xs x
 
 got_past : {X : Type 0} (xs : List X) (k : ℕ) → length xs ≤ k → slice_get xs k ≡ None
 got_past [] k outside = refl
