@@ -1,5 +1,5 @@
 -- The records around those of functions.
-use Rattle.std.proofs.Common.{◌≡◌, ℕ, ◌+◌, ◌-◌, Bool, true, false, ◌&&◌, cond, map, List, [], ◌∷◌, ◌++◌, Option, None, Some, refl, sym, subst, append_assoc, append-nil}
+use Rattle.std.proofs.Common.{◌≡◌, ℕ, ◌+◌, ◌-◌, Bool, true, false, cond, map, List, [], ◌∷◌, ◌++◌, Option, None, Some, refl, sym, subst, append_assoc, append-nil}
 use Rattle.std.specs.List.{list_all, flat_map, range_with_len}
 use Rattle.elf_sections.specs.Image.{ImageParts}
 use Rattle.sym_records.specs.declared.line.SymLine.{SymLine}

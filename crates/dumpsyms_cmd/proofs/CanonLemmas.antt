@@ -1,9 +1,7 @@
 -- The records of a file are its canonical ones, and a look-up in them names the owner and the line of each address.
-use Rattle.std.proofs.Common.{◌≡◌, ℕ, zero, suc, ◌+◌, ◌-◌, ◌<◌, ◌≤◌, Bool, true, false, ◌&&◌, ◌||◌, nat_le, nat_lt, cond, map, length, take, List, [], ◌∷◌, ◌++◌, Option, None, Some, Result, Ok, Err, arith, refl, sym, ap, subst, ◌∙◌, ◌⊎◌, inl, inr, append_assoc, append-nil}
+use Rattle.std.proofs.Common.{◌≡◌, ℕ, zero, suc, ◌+◌, ◌≤◌, Bool, true, false, ◌&&◌, ◌||◌, nat_le, nat_lt, cond, map, take, List, [], ◌∷◌, ◌++◌, Option, None, Some, Ok, arith, refl, sym, ap, subst, ◌∙◌, append_assoc, append-nil}
 use Rattle.std.proofs.lemmas.Bool.Decides.{nat_tests}
-use Rattle.std.proofs.lemmas.List.{length-take-le}
-use Rattle.std.proofs.lemmas.Option.{slice_get_within}
-use Rattle.std.specs.List.{find, list_any, list_all, slice_get, flat_map, range_with_len}
+use Rattle.std.specs.List.{find, list_any, list_all, slice_get}
 use Rattle.std.proofs.lemmas.List.{map-append}
 use Rattle.std.specs.Option.{option_map}
 use Rattle.sym_edges.specs.Addresses.{Range}
@@ -11,8 +9,8 @@ use Rattle.elf_sections.specs.Image.{ImageParts}
 use Rattle.range_set.specs.Enclosing.{encloses}
 use Rattle.range_set.specs.Members.{holds, holds_any}
 use Rattle.range_set.specs.Starts.{AllFrom}
-use Rattle.range_lists.specs.EntryRanges.{is_code, in_pairs}
-use Rattle.step_maps.specs.Runs.{Run, IsRuns, AreMaximal}
+use Rattle.range_lists.specs.EntryRanges.{in_pairs}
+use Rattle.step_maps.specs.Runs.{AreMaximal}
 use Rattle.step_maps.proofs.MaximalLemmas.{maximal}
 use Rattle.sym_records.specs.Canon.{canon, canon_text}
 use Rattle.sym_records.specs.Reading.{leads, reading}
@@ -20,7 +18,6 @@ use Rattle.sym_records.specs.Spelled.{records_in, IsSpelled}
 use Rattle.sym_records.specs.Validity.{first_bad, first_bad_from}
 use Rattle.sym_records.specs.declared.place.Place.TheVariants.{Inside}
 use Rattle.sym_records.specs.declared.line.SymLine.{SymLine}
-use Rattle.sym_records.specs.declared.line.SymLine.TheVariants.{Init}
 use Rattle.sym_records.proofs.JoiningLemmas.{from_here, join_fits, join_behind}
 use Rattle.sym_records.proofs.SpelledLemmas.{spelled, spelled_records}
 use Rattle.sym_lookup.specs.Plain.{ArePlain}
@@ -29,13 +26,7 @@ use Rattle.die_walk.specs.EntryTable.{DieFields}
 use Rattle.die_names.specs.declared.unit_read.UnitRead.{UnitRead}
 use Rattle.die_names.specs.UnitEntries.{is_function}
 use Rattle.die_names.specs.Owners.{Covering, unit_covering, covering_from, owner}
-use Rattle.frame_entries.specs.FdeFields.{FdeFields}
-use Rattle.frame_rows.specs.Rows.{row_at}
-use Rattle.frame_rows.specs.declared.row.Row.{Row}
-use Rattle.sym_rules.specs.declared.rules.RuleText.{RuleText}
-use Rattle.rule_postfix.specs.RowRules.{row_rules, changed_rules}
-use Rattle.rule_postfix.specs.FrameLines.{is_cut, change, records_at, frame_lines as lines_of_rows}
-use Rattle.rule_postfix.specs.Written.{omitted, written, entry_lines, written_lines}
+use Rattle.rule_postfix.specs.Written.{omitted, written, written_lines}
 use Rattle.rule_postfix.specs.Covering.{inits_at, entries_at, AreDisjoint, AreNested}
 use Rattle.rule_postfix.specs.declared.omission.Omission.{Omission}
 use Rattle.func_flatten.specs.declared.piece.Place.{Place}
@@ -52,7 +43,7 @@ use Rattle.debug_read.specs.UnitSays.{UnitSays}
 use Rattle.debug_read.specs.UnitsRead.{IsSet, IsUnitRead}
 use Rattle.debug_read.specs.DebugSays.{DebugSays, debug_says, IsDebugRead}
 use Rattle.debug_read.specs.declared.found.DebugRead.{DebugRead}
-use Rattle.dumpsyms_cmd.specs.Dump.{module_line, info_line, info_lines, identity_lines, public_line, public_lines, frame_lines, CanonFile}
+use Rattle.dumpsyms_cmd.specs.Dump.{identity_lines, public_line, public_lines, frame_lines}
 use Rattle.dumpsyms_cmd.specs.Frames.{SaysFrames}
 use Rattle.dumpsyms_cmd.specs.Spelled.{FitsInside, HasHead, DumpsRead}
 use Rattle.dumpsyms_cmd.proofs.CleanLemmas.{all_clean, said_clean}

@@ -1,5 +1,5 @@
 -- The paths of all line tables are cleaned.
-use Rattle.std.proofs.Common.{◌≡◌, ℕ, ◌<◌, Bool, true, false, cond, nat_lt, length, map, drop, List, [], ◌∷◌, ◌++◌, Option, None, Some, unwrap_or, Result, Ok, Err, refl, sym, ap, subst, ◌∙◌}
+use Rattle.std.proofs.Common.{◌≡◌, ℕ, Bool, true, false, cond, nat_lt, length, map, drop, List, [], ◌∷◌, ◌++◌, Option, None, Some, unwrap_or, Result, Ok, Err, sym, subst}
 use Rattle.std.specs.List.{list_any}
 use Rattle.std.specs.Str.{bytes_eq}
 use Rattle.sym_edges.specs.Addresses.{Range}
@@ -14,18 +14,17 @@ use Rattle.abbrev_units.specs.declared.unit.Unit.{Unit}
 use Rattle.abbrev_units.specs.DebugSections.{DebugSections}
 use Rattle.abbrev_units.specs.Abbreviations.{abbrevs_of}
 use Rattle.abbrev_units.specs.Faults.{as_header}
-use Rattle.die_walk.specs.EntryTable.{RootFields, EntryTable, entry_table}
+use Rattle.die_walk.specs.EntryTable.{RootFields, entry_table}
 use Rattle.range_lists.specs.EntryRanges.{unit_base, pairs_of}
 use Rattle.line_program.specs.FileFields.{FileFields}
 use Rattle.line_program.specs.FileTables.{Tables, tables_at}
 use Rattle.line_program.specs.Headers.{table_at}
 use Rattle.line_program.specs.LineAt.{Lines}
-use Rattle.line_program.specs.LineMaps.{LineMap, with_path, paths_from, SaysLines}
+use Rattle.line_program.specs.LineMaps.{LineMap, with_path, paths_from}
 use Rattle.line_program.specs.LineRows.{State, line_rows}
 use Rattle.line_program.specs.LineTables.{lines_of, lines_at, unit_lines}
-use Rattle.line_program.specs.Paths.{directories_of, file_path, first_file}
+use Rattle.line_program.specs.Paths.{directories_of, file_path}
 use Rattle.die_names.specs.declared.unit_read.UnitRead.{UnitRead}
-use Rattle.range_set.specs.Enclosing.{encloses}
 use Rattle.sym_edges.specs.declared.part.Sect.TheVariants.{EhFrame, DebugFrame}
 use Rattle.die_names.specs.UnitPlaces.{read_units}
 use Rattle.abbrev_units.specs.Units.{units_in}

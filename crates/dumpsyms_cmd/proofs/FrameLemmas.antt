@@ -15,7 +15,7 @@ use Rattle.func_records.specs.FuncRecords.{Part, file_lines, origin_lines, inlin
 use Rattle.sym_records.specs.Canon.{spaced}
 use Rattle.sym_records.specs.declared.line.SymLine.{SymLine}
 use Rattle.sym_records.specs.declared.line.SymLine.TheVariants.{Module, Info, File, Origin, Func, Inline, Line, Public, Init, Change}
-use Rattle.rule_postfix.specs.Written.{omitted, written, written_lines}
+use Rattle.rule_postfix.specs.Written.{written, written_lines}
 use Rattle.rule_postfix.specs.Covering.{init_covers, inits_at, entries_at, AreDisjoint, AreNested}
 use Rattle.rule_postfix.specs.declared.omission.Omission.{Omission}
 use Rattle.debug_read.specs.DebugSays.{DebugSays, debug_says, IsKept, IsDebugRead}

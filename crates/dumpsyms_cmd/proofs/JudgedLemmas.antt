@@ -1,7 +1,7 @@
 -- Judgements, from the parts of an image up to the words.
-use Rattle.std.proofs.Common.{◌≡◌, inl, inr, ℕ, ◌≤◌, ◌<◌, Bool, true, false, List, [], ◌++◌, Option, Some, None, IsSome, Ok, Err, Result, length, nat_lt, cond, refl, sym, ◌∙◌, ap, arith, append-nil, subst}
+use Rattle.std.proofs.Common.{◌≡◌, inl, inr, ℕ, ◌≤◌, ◌<◌, Bool, true, false, List, [], ◌++◌, Option, Some, None, IsSome, Ok, Err, Result, length, nat_lt, refl, sym, ◌∙◌, ap, arith, append-nil, subst}
 use Rattle.std.proofs.lemmas.Bool.Decides.{nat_tests}
-use Rattle.sym_edges.specs.Outside.{Files, Tells, Rose, MatchStop}
+use Rattle.sym_edges.specs.Outside.{Files, Tells, MatchStop}
 use Rattle.sym_edges.specs.WholeFile.{AsksOnce, HoldsFile, IsWhole, IsLonger, ReadAll}
 use Rattle.sym_edges.specs.declared.fault.Stop.{Stop}
 use Rattle.sym_edges.specs.declared.fault.Stop.TheVariants.{Fault}
@@ -10,13 +10,8 @@ use Rattle.sym_edges.specs.declared.reading.ReadEnd.{ReadEnd}
 use Rattle.sym_edges.specs.declared.reading.ReadEnd.TheVariants.{CantOpen, CantRead, TooLong}
 use Rattle.elf_sections.specs.Image.{ImageParts, image}
 use Rattle.elf_sections.specs.declared.fault.ElfFault.{ElfFault}
-use Rattle.sym_edges.specs.Addresses.{Range}
-use Rattle.std.specs.List.{list_any}
 use Rattle.abbrev_units.specs.declared.unit.Unit.{Unit}
 use Rattle.debug_read.specs.DebugSays.{DebugSays, debug_says, IsDebugRead}
-use Rattle.debug_read.specs.Each.{Match}
-use Rattle.debug_read.specs.UnitSays.{UnitSays}
-use Rattle.debug_read.specs.UnitsRead.{IsUnitRead}
 use Rattle.debug_read.specs.declared.fault.DebugFault.{DebugFault}
 use Rattle.debug_read.specs.declared.found.DebugRead.{DebugRead}
 use Rattle.sym_records.specs.Canon.{canon_text}
@@ -26,7 +21,7 @@ use Rattle.rule_postfix.specs.declared.omission.Omission.{Omission}
 use Rattle.rule_postfix.specs.Written.{omitted}
 use Rattle.dumpsyms_cmd.specs.Words.{Asked, dump, files_of, module_name}
 use Rattle.dumpsyms_cmd.specs.Refusals.{elf_line, debug_line, skipped_text, omitted_text, too_long_line, usage_line}
-use Rattle.dumpsyms_cmd.specs.Verdict.{Verdict, refused, usage, IsDebugVerdict, IsPartsVerdict, IsImageVerdict, IsBytesVerdict, IsDumpVerdict, IsFileVerdict, IsVerdict, LIMIT}
+use Rattle.dumpsyms_cmd.specs.Verdict.{Verdict, refused, IsDebugVerdict, IsPartsVerdict, IsImageVerdict, IsBytesVerdict, IsDumpVerdict, IsFileVerdict, IsVerdict, LIMIT}
 use Rattle.dumpsyms_cmd.specs.Spelled.{DumpsRead}
 use Rattle.dumpsyms_cmd.specs.Observed.{Asks}
 use Rattle.dumpsyms_cmd.specs.Judged.{out_bytes, err_bytes, judgement_verdict, Refuses, RefusesOrGives, Judges, DumpsParts, Assembles, JudgesParts, DumpsImage, JudgesBytes, DumpsFile, DumpPromises, IsUsage, IsJudged, AnswersCommand, AnswersStop}

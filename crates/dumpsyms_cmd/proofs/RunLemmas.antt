@@ -1,15 +1,14 @@
 -- The promises of a run, by the three kinds of answer.
-use Rattle.std.proofs.Common.{◌≡◌, ◌⊎◌, inl, inr, ℕ, zero, suc, take, ◌<◌, ◌≤◌, Bool, true, false, List, [], Option, Some, None, IsSome, refl, sym, ◌∙◌, ap, arith, subst}
-use Rattle.sym_edges.specs.Outside.{Files, Tells, Rose, AddsFront, append_told}
+use Rattle.std.proofs.Common.{◌≡◌, ◌⊎◌, inl, inr, ℕ, ◌<◌, ◌≤◌, Bool, true, false, [], Option, Some, None, IsSome, refl, sym, ◌∙◌, ap, arith}
+use Rattle.sym_edges.specs.Outside.{Files, Rose, append_told}
 use Rattle.dumpsyms_cmd.specs.Words.{Asked, files_of}
 use Rattle.dumpsyms_cmd.specs.Refusals.{usage_line, unread_line}
 use Rattle.dumpsyms_cmd.specs.Verdict.{Verdict, unread, IsVerdict}
-use Rattle.dumpsyms_cmd.specs.Observed.{Reading, Writing, Stood, StoreFailed, SinkFailed, StoreStood, SinkStood, Received, ReceivedFront, ReceivedNothing, ReceivedWhole, ReceivedFronts, Asks}
-use Rattle.dumpsyms_cmd.specs.Judged.{out_bytes, err_bytes, is_some_output, has_output, judgement_verdict, answer_verdict, IsUsage, IsJudged, AnswersCommand}
+use Rattle.dumpsyms_cmd.specs.Observed.{Writing, Stood, StoreFailed, SinkFailed, SinkStood, Received, ReceivedNothing, ReceivedFronts, Asks}
+use Rattle.dumpsyms_cmd.specs.Judged.{out_bytes, is_some_output, has_output, judgement_verdict, answer_verdict, IsUsage, IsJudged, AnswersCommand}
 use Rattle.dumpsyms_cmd.specs.Writes.{Writes}
 use Rattle.dumpsyms_cmd.specs.Program.{Run, command, WasJudged, HoldFronts, HasStatus, Promises}
 use Rattle.dumpsyms_cmd.specs.declared.judgement.Output.{Output}
-use Rattle.dumpsyms_cmd.specs.declared.judgement.Output.TheVariants.{Nothing}
 use Rattle.dumpsyms_cmd.specs.declared.judgement.Judgement.{Judgement}
 use Rattle.dumpsyms_cmd.specs.declared.judgement.Answer.{Answer}
 use Rattle.dumpsyms_cmd.specs.declared.judgement.Answer.TheVariants.{Judged, Unread, NoMemory}

@@ -1,10 +1,10 @@
 -- What the writing of an answer leaves.
 use Rattle.std.proofs.Common.{◌≡◌, inl, inr, ℕ, Bool, true, false, List, [], length, Option, Some, None, refl, sym, ◌∙◌, ap, arith, append-nil, subst}
 use Rattle.std.proofs.lemmas.List.{take_all}
-use Rattle.sym_edges.specs.Outside.{Rose, AddsFront, append_told}
+use Rattle.sym_edges.specs.Outside.{append_told}
 use Rattle.dumpsyms_cmd.specs.Verdict.{Verdict, unread}
 use Rattle.dumpsyms_cmd.specs.Refusals.{unread_line}
-use Rattle.dumpsyms_cmd.specs.Observed.{Writing, SinkFailed, Received, ReceivedFront, ReceivedNothing, ReceivedWhole, ReceivedFronts}
+use Rattle.dumpsyms_cmd.specs.Observed.{Writing, SinkFailed, Received, ReceivedFront, ReceivedNothing}
 use Rattle.dumpsyms_cmd.specs.Writes.{Says, Writes}
 
 -- nothing more was taken

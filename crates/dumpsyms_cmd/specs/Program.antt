@@ -1,5 +1,5 @@
 -- What the program promises of its status, its two texts and the names that it asks for.
-use Rattle.std.specs.Prelude.{◌≡◌, ◌⊎◌, ℕ, ◌<◌, ◌≤◌, List, [], Option, Some, None, IsSome}
+use Rattle.std.specs.Prelude.{◌≡◌, ◌⊎◌, ℕ, ◌<◌, ◌≤◌, List, Option, None, IsSome}
 use Rattle.sym_edges.specs.Outside.{Files, Tells}
 use Rattle.dumpsyms_cmd.specs.Words.{Asked, command_of, files_of}
 use Rattle.dumpsyms_cmd.specs.Refusals.{usage_line, unread_line}

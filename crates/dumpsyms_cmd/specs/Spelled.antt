@@ -1,5 +1,5 @@
 -- No public clause cites this: the records of a file as they are spelled.
-use Rattle.std.specs.Prelude.{◌≡◌, ℕ, ◌+◌, ◌^◌, true, List, ◌++◌, None, Ok}
+use Rattle.std.specs.Prelude.{◌≡◌, ℕ, ◌^◌, true, List, ◌++◌, None, Ok}
 use Rattle.elf_sections.specs.Image.{ImageParts}
 use Rattle.sym_records.specs.Canon.{canon_text}
 use Rattle.sym_records.specs.Reading.{fits, reading}

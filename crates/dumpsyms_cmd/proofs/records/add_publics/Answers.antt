@@ -1,10 +1,10 @@
-use Rattle.std.proofs.Common.{◌≡◌, ◌<◌, Bor, List, [], Some, false, length, get_or, map, ap, refl, arith}
+use Rattle.std.proofs.Common.{◌≡◌, ◌<◌, [], Some, false, length, get_or, map, refl, arith}
 use Rattle.std.specs.List.{flat_map, slice_get}
 use Rattle.std.proofs.lemmas.Option.{slice_get-get_or}
 use Rattle.sym_records.specs.Spelled.{text_bytes}
 use Rattle.sym_records.specs.declared.place.Place.TheVariants.{Inside}
 use Rattle.func_flatten.specs.declared.public.PublicAt.{PublicAt}
-use Rattle.func_flatten.specs.Publics.{PublicParts, public_view}
+use Rattle.func_flatten.specs.Publics.{public_view}
 use Rattle.func_records.proofs.CanonLemmas.{nothing_added, none_here}
 use Rattle.dumpsyms_cmd.specs.Dump.{public_line}
 use Rattle.dumpsyms_cmd.proofs.CanonLemmas.{line_text, line_fit, mapped_at}

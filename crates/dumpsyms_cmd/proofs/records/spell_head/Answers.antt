@@ -1,6 +1,5 @@
-use Rattle.std.proofs.Common.{◌≡◌, map, ap, refl, ◌∙◌}
+use Rattle.std.proofs.Common.{map, ap, refl, ◌∙◌}
 use Rattle.std.specs.List.{flat_map}
-use Rattle.sym_records.specs.Spelled.{text_bytes}
 use Rattle.func_flatten.specs.Publics.{public_view}
 use Rattle.dumpsyms_cmd.proofs.CanonLemmas.{head_spelled}
 use Rattle.dumpsyms_cmd.proofs.records.spell_head.Goals as goal
