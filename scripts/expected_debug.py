@@ -1,5 +1,5 @@
 #!/usr/bin/env python3
-"""The functions and the lines of a file with debugging information, derived from what readelf shows of it.
+"""The functions, their inlined copies and their lines of a file with debugging information, derived from what readelf shows of it.
 
     expected_debug.py FILE TEXT   compares the FUNC and PUBLIC records of TEXT, a dump of FILE, with the symbols that `nm -S` shows;
                                   ends with status 0 where they agree, and else with 1 and the first difference
@@ -9,6 +9,7 @@ Entries are those of `readelf --debug-dump=info`, ranges in .debug_ranges those 
 are read from the bytes: of those that no table of places names readelf shows the first one alone.
 """
 
+import bisect
 import re
 import subprocess
 import sys
@@ -17,6 +18,8 @@ sys.dont_write_bytecode = True
 from read_elf import LONGEST, bytes_named, clean, read_base, read_code, read_sections, readelf  # noqa: E402
 
 LINES = 1 << 32
+# An INLINE record has so many ranges at the most.
+RANGES = 16384
 SCOPES = {b"class_type", b"structure_type", b"union_type", b"namespace"}
 KEPT = SCOPES | {b"inlined_subroutine", b"subprogram"}
 # Of version 5 these types of units are read, and the others passed over.
@@ -53,6 +56,16 @@ class Entry:
 
     def is_function(self):
         return self.tag == b"subprogram" and self.value(b"declaration") != b"1"
+
+    def is_copy(self):
+        return self.tag == b"inlined_subroutine"
+
+    def inside(self):
+        """The nearest function or inlined copy around the entry; all other tags are passed."""
+        around = self.parent
+        while around and not around.is_copy() and around.tag != b"subprogram":
+            around = around.parent
+        return around
 
 
 class Unit:
@@ -293,6 +306,16 @@ def first_wins(spans):
     return runs
 
 
+def met(runs, start, end):
+    """The parts that lie between two addresses of runs (start, end, label), which stand by address and share none."""
+    for k in range(max(bisect.bisect(runs, (start,)) - 1, 0), len(runs)):
+        low, high, label = runs[k]
+        if low >= end:
+            break
+        if start < high:
+            yield max(low, start), min(high, end), label
+
+
 class Debug:
     """What the debugging information says: `functions` with their pairs in code, and `pieces` with their lines."""
 
@@ -303,8 +326,11 @@ class Debug:
         self.rnglists, self.addresses = (bytes_named(sections, name, data) for name in (b".debug_rnglists", b".debug_addr"))
         check_rows(self.tables, path)
         entries = [entry for unit in self.units if unit.is_read() for entry in unit.entries]
-        self.copies = [self.pairs(entry) for entry in entries if entry.tag == b"inlined_subroutine"]
+        self.known, self.copies = {}, {}
         places, functions = {entry.place: entry for entry in entries if entry.tag in KEPT}, []
+        for entry in entries:
+            if entry.is_copy():
+                self.copies.setdefault(entry.inside(), []).append((entry, name_of(entry, places), self.pairs(entry)))
         for entry in entries:
             if entry.is_function():
                 functions.append((entry, name_of(entry, places), self.pairs(entry)))
@@ -312,10 +338,20 @@ class Debug:
         owners = first_wins([(*pair, k) for k, (_, _, pairs) in enumerate(functions) for pair in pairs])
         self.pieces = [(start, end, *functions[k][:2]) for start, end, k in owners]
 
+    def address_at(self, root, index):
+        """An address by its number, from the bytes: of a unit's root readelf may show another one."""
+        return Bytes(self.addresses, root.number(b"addr_base") + 8 * index).fixed(8)
+
+    def bound(self, entry, name):
+        """The entry's low_pc or high_pc, or None."""
+        form, value = entry.attributes.get(name, (b"", b""))
+        index = re.match(rb"\(index: (\w+)\)", value) if form.startswith(b"addrx") else None
+        return self.address_at(entry.unit.entries[0], int(index.group(1), 0)) if index else entry.number(name)
+
     def pairs(self, entry):
         """The entry's pairs of addresses that are code."""
         root = entry.unit.entries[0]
-        low, high = entry.number(b"low_pc"), entry.number(b"high_pc")
+        low, high = self.bound(entry, b"low_pc"), self.bound(entry, b"high_pc")
         if b"ranges" in entry.attributes:
             found = self.list_at(entry, root)
         elif low is not None and high is not None:
@@ -328,15 +364,12 @@ class Debug:
         form, value = entry.attributes[b"ranges"]
         if entry.unit.version < 5:
             return self.ranges[number(value)]
-        place, low = number(value), root.number(b"low_pc") or 0
+        place, low = number(value), self.bound(root, b"low_pc") or 0
         if form == b"rnglistx":
             base = root.number(b"rnglists_base")
             index = int(re.match(rb"\(index: (\w+)\)", value).group(1), 0)
             place = base + Bytes(self.rnglists, base + 4 * index).fixed(4)
-        return list_of(self.rnglists, place, low, lambda k: Bytes(self.addresses, root.number(b"addr_base") + 8 * k).fixed(8))
-
-    def has_copies(self):
-        return any(self.copies)
+        return list_of(self.rnglists, place, low, lambda k: self.address_at(root, k))
 
     def covers(self, address):
         return any(start <= address < end for start, end, _, _ in self.pieces)
@@ -344,36 +377,92 @@ class Debug:
     def skipped(self):
         return [b"skipped debug_info %x version %d" % (unit.place, unit.version) for unit in self.units if unit.is_skipped()]
 
-    def lines_of(self, start, end, entry, known):
-        """The lines of a piece: runs with a path and a line, by the table of the unit."""
+    def table_of(self, entry):
+        """The line table of the entry's unit, or None, and the directory of the compilation."""
         root = entry.unit.entries[0]
-        place = root.number(b"stmt_list")
-        if place is None:
-            return
-        if (place, root.value(b"comp_dir")) not in known:
-            known[place, root.value(b"comp_dir")] = self.tables[place].runs(root.value(b"comp_dir"), self.code)
-        for low, high, line in known[place, root.value(b"comp_dir")]:
-            if line and low < end and start < high:
-                yield max(low, start), min(high, end), line
+        return self.tables.get(root.number(b"stmt_list")), root.value(b"comp_dir")
 
-    def is_shared(self, address, name):
-        return any(other != name and any(start <= address < end for start, end in pairs) for _, other, pairs in self.functions)
+    def lines_of(self, start, end, entry):
+        """The lines of a piece: runs with a path and a line, by the table of the unit."""
+        table, directory = self.table_of(entry)
+        if table is None:
+            return
+        if (table, directory) not in self.known:
+            self.known[table, directory] = table.runs(directory, self.code)
+        for low, high, line in met(self.known[table, directory], start, end):
+            if line:
+                yield low, high, line
+
+    def copies_in(self, entry, spans, level=0):
+        """The inlined copies on the chains of these runs of an entry: for each its level, its entry, its name and its pairs.
+
+        Of the copies directly in the entry the first one has an address.
+        """
+        inside, owned = self.copies.get(entry, ()), {}
+        for low, high, k in first_wins([(*pair, k) for k, (_, _, pairs) in enumerate(inside) for pair in pairs]):
+            for start, end, _ in met(spans, low, high):
+                owned.setdefault(k, []).append((start, end, None))
+        for k, runs in owned.items():
+            yield level, *inside[k][:2], [run[:2] for run in runs]
+            yield from self.copies_in(inside[k][0], runs, level + 1)
+
+    def inlines_of(self, start, end, entry):
+        """The inlined copies of a piece by level and first address: level, line and path of the call, name, and at most 16,384 runs."""
+        inlines = []
+        for level, copy, name, runs in self.copies_in(entry, [(start, end, None)]):
+            table, directory = self.table_of(copy)
+            file = copy.number(b"call_file")
+            path = table.path_of(file, directory) if table and file is not None else None
+            call = (copy.number(b"call_line") or 0) % LINES, path or clean(b""), name
+            inlines += [(level, *call, runs[k:k + RANGES]) for k in range(0, len(runs), RANGES)]
+        return sorted(inlines, key=lambda inline: (inline[0], inline[4][0]))
+
+    def shared(self):
+        """The starts of pieces that a function of another name has, too."""
+        spans = sorted((*pair, name) for _, name, pairs in self.functions for pair in pairs)
+        here, k, found = [], 0, set()
+        for start, _, _, name in self.pieces:
+            while k < len(spans) and spans[k][0] <= start:
+                here.append(spans[k])
+                k += 1
+            here = [span for span in here if span[1] > start]
+            if any(span[2] != name for span in here):
+                found.add(start)
+        return found
 
     def records(self):
-        """The FILE records, then each FUNC with its line records."""
-        known = {}
-        pieces = [(start, end, name, list(self.lines_of(start, end, entry, known))) for start, end, entry, name in self.pieces]
-        paths = sorted({path for _, _, _, lines in pieces for _, _, (path, _) in lines})
+        """The FILE and INLINE_ORIGIN records, then each FUNC with its INLINE and line records."""
+        pieces = [(start, end, name, self.inlines_of(start, end, entry), list(self.lines_of(start, end, entry)))
+                  for start, end, entry, name in self.pieces]
+        paths = sorted({path for *_, lines in pieces for _, _, (path, _) in lines} | {path for *_, inlines, _ in pieces for _, _, path, _, _ in inlines})
+        names = sorted({name for *_, inlines, _ in pieces for _, _, _, name, _ in inlines})
         for pair in enumerate(paths):
             yield b"FILE %d %s" % pair
-        numbers = {path: k for k, path in enumerate(paths)}
-        for start, end, name, lines in pieces:
-            yield b"FUNC %s%x %x 0 %s" % (b"m " if self.is_shared(start, name) else b"", start - self.base, end - start, name)
+        for pair in enumerate(names):
+            yield b"INLINE_ORIGIN %d %s" % pair
+        shared = self.shared()
+        files, origins = ({text: k for k, text in enumerate(texts)} for texts in (paths, names))
+        for start, end, name, inlines, lines in pieces:
+            yield b"FUNC %s%x %x 0 %s" % (b"m " if start in shared else b"", start - self.base, end - start, name)
+            for level, line, path, called, runs in inlines:
+                yield b"INLINE %d %d %d %d " % (level, line, files[path], origins[called]) + b" ".join(
+                    b"%x %x" % (low - self.base, high - low) for low, high in runs)
             for low, high, (path, line) in lines:
-                yield b"%x %x %d %d" % (low - self.base, high - low, line, numbers[path])
+                yield b"%x %x %d %d" % (low - self.base, high - low, line, files[path])
 
 
 # ---- what `nm -S` shows
+
+def last_part(name):
+    """A name without the scopes in front of it and the arguments of templates: `f` of `n::S<a::b>::f<int>`."""
+    depth, part = 0, b""
+    for piece in re.findall(rb"operator(?:[<>=]+|->\*?|\(\))?|::|->|.", name, re.S):
+        depth -= piece in (b">", b")")
+        if depth == 0:
+            part = b"" if piece == b"::" else part + (piece if piece not in (b">", b")", b"<", b"(") else b"")
+        depth += piece in (b"<", b"(")
+    return part
+
 
 def is_named(symbol, name):
     """Whether a symbol has that name: as it is, or with a suffix of the compiler, or as a part where it is a name of C++.
@@ -387,19 +476,24 @@ def is_named(symbol, name):
     return symbol.partition(b".")[0] == name or (name in symbol and (symbol.startswith(b"_Z") or b"(" in symbol))
 
 
-def check_symbols(path, text):
-    """Answers the first difference between the FUNC and PUBLIC records of a text and the symbols of code, or None."""
-    base = read_base(path)
+def read_symbols(path, base):
+    """The names of the symbols of code, as they are and as C++ spells them, by address and size."""
     places = {}
     for options in (["-S"], ["-S", "-C"]):
         done = subprocess.run(["nm", *options, "--", path], stdout=subprocess.PIPE, stderr=subprocess.DEVNULL)
         for address, size, name in re.findall(rb"^([0-9a-f]{16}) ([0-9a-f]{16}) [tTwWi] (.*)$", done.stdout, re.M):
             places.setdefault((int(address, 16) - base, int(size, 16)), []).append(name)
+    return places
+
+
+def check_symbols(path, text):
+    """Answers the first difference between the FUNC and PUBLIC records of a text and the symbols of code, or None."""
+    places = read_symbols(path, read_base(path))
     functions = {int(address, 16): (int(size, 16), name) for address, size, name in
                  re.findall(rb"^FUNC (?:m )?(\w+) (\w+) 0 (.*)$", text, re.M)}
     publics = {int(address, 16) for address in re.findall(rb"^PUBLIC (?:m )?(\w+) 0 ", text, re.M)}
     for address, (size, name) in functions.items():
-        if not any(is_named(symbol, name if len(name) == LONGEST else name.rpartition(b"::")[2]) for symbol in places.get((address, size), ())):
+        if not any(is_named(symbol, name if len(name) == LONGEST else last_part(name)) for symbol in places.get((address, size), ())):
             return "FUNC %x %x %s is no symbol" % (address, size, name[:80].decode())
     for address, size in places:
         if functions.get(address, (None,))[0] != size and address not in publics:

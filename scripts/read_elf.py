@@ -57,6 +57,8 @@ def read_code(sections, base):
             if b"A" in s.flags and b"X" in s.flags and s.size > 0 and s.address >= base and s.address + s.size < 1 << 64]
 
 
+KEPT = bytes(0x3F if byte < 0x20 or byte == 0x7F else byte for byte in range(256))
+
+
 def clean(name):
-    kept = bytes(0x3F if byte < 0x20 or byte == 0x7F else byte for byte in name)
-    return kept.lstrip(b" ")[:LONGEST] or b"<name omitted>"
+    return name.translate(KEPT).lstrip(b" ")[:LONGEST] or b"<name omitted>"

@@ -5,6 +5,7 @@ pub mod TextLemmas
 pub mod CleanLemmas
 pub mod ChainLemmas
 pub mod CallLemmas
+pub mod FoundLemmas
 pub mod RunLemmas
 pub mod NameLemmas
 pub mod SiteLemmas
@@ -16,4 +17,5 @@ pub mod TableLemmas
 pub mod SpellLemmas
 pub mod UsedLemmas
 pub mod AddLemmas
+mod WorkedRecords
 pub mod FindingLemmas

@@ -5,10 +5,11 @@ ghost use Rattle.func_records.specs.Adding.{HaveCleanPaths, AddsFunctions};
 
 use crate::call_paths::no_path;
 use crate::holding::hold_inlines;
+use crate::names::gather_names;
 use crate::numbers::{Numbers, number_of, number_rows};
-use crate::origins::{gather_names, number_origins, text_slices};
+use crate::origins::number_origins;
 use crate::paths::gather_paths;
-use crate::sorting::sorted_texts;
+use crate::sorting::{sorted_texts, text_slices};
 use crate::spelling::add_parts;
 use crate::tables::{add_files, add_origins};
 use die_names::Units;

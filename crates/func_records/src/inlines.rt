@@ -10,7 +10,7 @@ ghost use Rattle.func_records.specs.Parts.{file_by, inline_by, AreShort};
 ghost use Rattle.func_records.specs.Spelling.{row_of};
 
 use crate::calls::call_site;
-use crate::numbers::{Numbers, row_in};
+use crate::numbers::{Numbers, number_in, row_in};
 use crate::origins::origin_number;
 use die_names::Units;
 use inline_chain::InlineRun;
@@ -49,10 +49,7 @@ fn file_number(row: &[u32], omitted: u32, path: Option<u32>) -> u32
     ensures { result ≡ file_by row.now omitted path }
 {
     match path {
-        Some(path) => match row.get(path as usize) {
-            Some(number) => *number,
-            None => 0,
-        },
+        Some(path) => number_in(row, path as usize),
         None => omitted,
     }
 }

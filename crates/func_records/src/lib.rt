@@ -9,8 +9,8 @@
 //! inlined there, and the line that it has in the file (`laws::names_are_kept`). A checker finds nothing in such a text
 //! (`laws::records_have_no_findings`).
 //!
-//! To read: `functions` first, then `holding`; `calls`, `marks`, `call_paths` and `paths`; `sorting`, `numbers` and `origins`; and
-//! `tables`, `inlines` and `spelling`.
+//! To read: `functions` first, then `holding`; `calls`, `marks`, `call_paths` and `paths`; `names`; `sorting`, `numbers` and
+//! `origins`; and `tables`, `inlines` and `spelling`.
 #![tactic(auto)]
 
 mod call_paths;
@@ -20,6 +20,7 @@ mod holding;
 mod inlines;
 pub mod laws;
 mod marks;
+mod names;
 mod numbers;
 mod origins;
 mod paths;

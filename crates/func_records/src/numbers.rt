@@ -1,5 +1,5 @@
 //! The numbers of paths and names among those in use.
-ghost use Rattle.std.specs.Prelude.{◌≡◌, ℕ, ◌<◌, ◌^◌, false, map, length, Any, slice_get, IfSome, IfNone, IfOk, true, vec_len};
+ghost use Rattle.std.specs.Prelude.{◌≡◌, ℕ, ◌<◌, ◌^◌, false, map, length, Any, slice_get, IfSome, IfNone, IfOk, true, vec_len, unwrap_or};
 ghost use Rattle.std.specs.Str.{bytes_eq};
 ghost use Rattle.std.specs.List.Sorted.{IsStrictlySortedBy};
 ghost use Rattle.line_program.specs.LineMaps.{LineMap};
@@ -95,5 +95,15 @@ pub fn row_in(rows: &[ListOf<u32>], unit: usize) -> &[u32]
     match rows.get(unit) {
         Some(row) => row.as_slice(),
         None => &[],
+    }
+}
+
+/// The FILE number of a path.
+pub fn number_in(row: &[u32], path: usize) -> u32
+    ensures { result ≡ unwrap_or (slice_get row.now path) 0 }
+{
+    match row.get(path) {
+        Some(number) => *number,
+        None => 0,
     }
 }

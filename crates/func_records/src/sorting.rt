@@ -1,9 +1,12 @@
-//! Texts in the order of their bytes.
+//! Texts, and the same in the order of their bytes.
 ghost use Rattle.std.specs.Prelude.{◌≡◌, IfOk};
 ghost use Rattle.std.specs.List.Sorted.{IsStrictlySortedBy};
 ghost use Rattle.func_records.specs.Texts.{text_cmp, SameTexts};
+ghost use Rattle.func_records.specs.Gathering.{bytes_of};
 
 use std::alloc::{AllocError, Global};
+use sym_edges::OutOfMemory;
+use sym_records::ByteText;
 
 /// The texts in the order of their bytes, once each.
 pub fn sorted_texts<'a>(alloc: Global, texts: &[&'a [u8]]) -> Result<Vec<&'a [u8]>, AllocError>
@@ -14,4 +17,15 @@ pub fn sorted_texts<'a>(alloc: Global, texts: &[&'a [u8]]) -> Result<Vec<&'a [u8
     all.sort_unstable();
     all.dedup();
     Ok(all)
+}
+
+/// The bytes of texts.
+pub fn text_slices<'t>(alloc: Global, texts: &'t [ByteText]) -> Result<Vec<&'t [u8]>, OutOfMemory>
+    ensures { IfOk result (λ slices. bytes_of slices.items ≡ texts.now) }
+{
+    let mut slices = Vec::with_capacity(alloc, texts.len())?;
+    'texts: for place in 0..texts.len() {
+        slices.push(texts[place].as_slice())?;
+    }
+    Ok(slices)
 }

@@ -13,7 +13,7 @@ ghost use Rattle.func_records.specs.Parts.{AreShort, AreAllShort, AddsPart, Adds
 ghost use Rattle.func_records.specs.Spelling.{line_by};
 
 use crate::inlines::add_copies;
-use crate::numbers::{Numbers, row_in};
+use crate::numbers::{Numbers, number_in, row_in};
 use die_names::{Units, name_of, name_slice, name_text};
 use func_flatten::{LineRun, Piece, lines_of};
 use inline_chain::{InlineRun, InlineRuns};
@@ -21,16 +21,6 @@ use std::alloc::Global;
 use sym_edges::OutOfMemory;
 use sym_records::laws::{cleaned_bytes_are_names, records_of_functions_fit};
 use sym_records::{Extent, TextPieces, add_func, add_line};
-
-/// The FILE number of a path.
-fn number_in(row: &[u32], path: usize) -> u32
-    ensures { result ≡ unwrap_or (slice_get row.now path) 0 }
-{
-    match row.get(path) {
-        Some(number) => *number,
-        None => 0,
-    }
-}
 
 /// Adds the record of a run.
 fn add_run(text: &mut Vec<u8>, base: u64, row: &[u32], run: LineRun) -> Result<(), OutOfMemory>

@@ -1,9 +1,9 @@
 -- A piece has one list of inlined copies.
-use Rattle.std.proofs.Common.{◌≡◌, ℕ, zero, suc, ◌+◌, ◌<◌, ◌≤◌, ◌==◌, ◌&&◌, ◌||◌, ◌++◌, Bool, true, false, if◌then◌else◌, nat_le, nat_lt, List, [], ◌∷◌, length, map, Option, None, Some, arith, refl, sym, ap, subst, ◌∙◌, inl, inr}
+use Rattle.std.proofs.Common.{◌≡◌, ℕ, ◌+◌, ◌<◌, ◌≤◌, ◌==◌, ◌&&◌, ◌||◌, ◌++◌, Bool, true, false, if◌then◌else◌, nat_le, nat_lt, List, [], ◌∷◌, length, map, Option, None, Some, arith, refl, sym, ap, subst, ◌∙◌}
 use Rattle.std.specs.List.{filter, list_all, slice_get}
 use Rattle.std.specs.Option.{option_map_or}
 use Rattle.std.proofs.lemmas.Bool.{cond-true, cond-false, eq-eqb, eqb-true}
-use Rattle.std.proofs.lemmas.Bool.Decides.{nat_tests, eqb_tells}
+use Rattle.std.proofs.lemmas.Bool.Decides.{nat_tests}
 use Rattle.std.proofs.lemmas.List.{append_assoc, append-nil, length-append}
 use Rattle.sym_edges.specs.Addresses.{Range}
 use Rattle.range_set.specs.Members.{holds, holds_any}
@@ -15,7 +15,7 @@ use Rattle.func_flatten.specs.declared.piece.Piece.{Piece}
 use Rattle.func_flatten.specs.Publics.{is_inside}
 use Rattle.inline_chain.specs.InlineRuns.{InlineParts, entry_chain, is_on_chain, is_of, spans_of, joined, AreParts, first_address, is_before, IsOrdered, IsCopy, AreInlineRuns}
 use Rattle.inline_chain.proofs.GroupLemmas.{spans_joined}
-use Rattle.inline_chain.proofs.OrderLemmas.{RiseBy, of_number, one_order, filter_swap}
+use Rattle.inline_chain.proofs.OrderLemmas.{RiseBy, of_number, one_order}
 
 heads_same : {X : Type 0} (x y : X) (xs ys : List X) → x ∷ xs ≡ y ∷ ys → x ≡ y
 heads_same x y xs ys is = cc

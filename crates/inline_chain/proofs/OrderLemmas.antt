@@ -55,7 +55,7 @@ one_order n low high (x ∷ xs) (y ∷ ys) p q same = elim (cases_lt (n x) (n y)
         let fronts : x ∷ of_number n (n x) xs ≡ y ∷ of_number n (n y) ys = sym (first_kept n x xs) ∙ same (n x) ∙ ap (λ v. of_number n v (y ∷ ys)) numbers ∙ first_kept n y ys in
         (λ i. (cons_first x y _ _ fronts) i ∷ (one_order n (n x) (n y) xs ys p.1 q.1 (λ v. tail_same v numbers fronts (same v))) i)
   ]
-  ]
+]
   where
     tail_same : (v : ℕ) → n x ≡ n y → x ∷ of_number n (n x) xs ≡ y ∷ of_number n (n y) ys → of_number n v (x ∷ xs) ≡ of_number n v (y ∷ ys) → of_number n v xs ≡ of_number n v ys
     tail_same v numbers fronts both = elim (eqb_tells (n x) v) [

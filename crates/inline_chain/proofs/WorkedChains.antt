@@ -1,5 +1,5 @@
 -- Worked rows: which inlined copies stand at an address. A sign for each address, in order: the number of the entry on a level, or a point.
-use Rattle.std.proofs.Common.{◌≡◌, ℕ, ◌+◌, false, map, List, [], ◌∷◌, Option, Some, None, codes, refl}
+use Rattle.std.proofs.Common.{◌≡◌, ℕ, ◌+◌, false, map, List, [], ◌∷◌, Option, Some, None, refl}
 use Rattle.std.specs.List.{range_with_len, slice_get}
 use Prim.Native.String.{String}
 use Rattle.sym_edges.specs.Addresses.{Range}

@@ -1,5 +1,11 @@
 mod Computing
 mod Elf
+mod OneUnits
+mod OneTexts
+mod BareLemmas
+mod OneRecords
+mod OneVerdict
+mod OneRun
 mod Plain
 mod Small
 mod WorkedWords

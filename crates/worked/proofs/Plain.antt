@@ -1,9 +1,6 @@
 -- The verdict of words and files, computed, where nothing of a unit is dumped: no unit of the file is read, or it is refused.
-use Rattle.std.specs.Prelude.{◌≡◌, ℕ, length, map, nat_lt, Bool, true, false, ◌||◌, List, [], ◌∷◌, ◌++◌, Option, Some, None, Result, Ok, Err}
-use Rattle.std.proofs.Common.{refl, sym, ◌∙◌, ap, subst}
-use Rattle.std.proofs.lemmas.Slice.Eq.{bytes_eq-Decides}
-use Rattle.std.specs.List.{list_any}
-use Rattle.std.specs.Str.{bytes_eq}
+use Rattle.std.specs.Prelude.{◌≡◌, ℕ, length, nat_lt, Bool, true, false, List, [], ◌∷◌, ◌++◌, Option, Some, None, Result, Ok, Err}
+use Rattle.std.proofs.Common.{refl, sym, subst}
 use Rattle.std.specs.List.Sorted.{IsStrictlySortedBy}
 use Rattle.sym_edges.specs.Outside.{Files}
 use Rattle.elf_sections.specs.Image.{ImageParts, image}
@@ -13,18 +10,16 @@ use Rattle.debug_read.specs.DebugSays.{DebugSays, debug_says}
 use Rattle.debug_read.specs.Each.{Match}
 use Rattle.debug_read.specs.UnitSays.{UnitSays}
 use Rattle.debug_read.specs.UnitsRead.{IsUnitRead}
-use Rattle.die_names.specs.declared.unit_read.UnitRead.{UnitRead}
 use Rattle.die_names.specs.Owners.{owner}
-use Rattle.func_flatten.specs.declared.piece.Piece.{Piece}
 use Rattle.func_flatten.specs.Pieces.{owner_place, ArePieces}
-use Rattle.func_flatten.proofs.LawLemmas.{one_pieces}
-use Rattle.func_records.specs.FuncRecords.{Part, AreFuncRecords, file_lines, part_lines, names_path}
+use Rattle.func_records.specs.FuncRecords.{AreFuncRecords}
 use Rattle.sym_records.specs.Canon.{canon_text}
 use Rattle.sym_records.specs.declared.line.SymLine.{SymLine}
 use Rattle.dumpsyms_cmd.specs.Words.{Asked, dump, command_of, module_name}
 use Rattle.dumpsyms_cmd.specs.Refusals.{elf_line, debug_line, too_long_line}
 use Rattle.dumpsyms_cmd.specs.Dump.{identity_lines, public_lines, frame_lines, CanonFile}
 use Rattle.dumpsyms_cmd.specs.Verdict.{Verdict, refused, usage, unread, left_out, LIMIT, GivesText, IsDebugVerdict, IsImageVerdict, IsBytesVerdict, IsFileVerdict, IsVerdict}
+use Rattle.worked.proofs.OneVerdict.{one_verdict}
 
 -- the records of a file of which no unit is read
 abbrev pub plain_lines : ImageParts → List ℕ → DebugSays → List SymLine
@@ -68,10 +63,13 @@ unfolding IsStrictlySortedBy
 no_records base = record {
   parts = [];
   paths = [];
+  names = [];
   whole = refl;
   pieces_are = refl;
+  inlined = tt;
   lines_are = tt;
   used = record { sorted = tt; same = λ path. refl };
+  origins = record { sorted = tt; same = λ name. refl };
 }
 
 plain_canon : (parts : ImageParts) (name : List ℕ) (found : DebugSays) → found.units ≡ [] → CanonFile parts name found (plain_lines parts name found)
@@ -119,75 +117,6 @@ command_is (Some (dump elf workers)) files v is = file_is elf (files elf) v is
 pub plain_is_verdict : (words : List (List ℕ)) (files : Files) (v : Verdict) → plain_verdict words files ≡ Some v → IsVerdict (command_of words) files v
 plain_is_verdict words files v is = command_is (command_of words) files v is
 
--- of a file of which no unit is read there is one list of records
-cons_none : {A : Type 0} {x : A} {xs : List A} → ◌≡◌ {A = List A} (x ∷ xs) [] → ⊥
-cons_none is = cc
-
-true_false : true ≡ false → ⊥
-true_false is = cc
-
-no_units : {A B : Type 0} (R : A → B → Type 0) (says : List A) (units : List B) → says ≡ [] → Match R says units → units ≡ []
-no_units R says [] none are = refl
-no_units R [] (u ∷ units) none are = absurd are
-no_units R (s ∷ says) (u ∷ units) none are = absurd (cons_none none)
-
-map_none : {A B : Type 0} (f : A → B) (xs : List A) → map f xs ≡ [] → xs ≡ []
-map_none f [] is = refl
-map_none f (x ∷ xs) is = absurd (cons_none is)
-
-other_pieces : (pieces : List Piece) → ArePieces [] pieces → pieces ≡ []
-other_pieces pieces are = one_pieces [] pieces [] are no_pieces
-
-no_paths : (parts : List Part) (paths : List (List ℕ)) → parts ≡ [] → ((path : List ℕ) → list_any (bytes_eq path) paths ≡ list_any (names_path [] path) parts) → paths ≡ []
-no_paths parts [] none same = refl
-no_paths parts (p ∷ paths) none same =
-    let first : list_any (bytes_eq p) (p ∷ paths) ≡ true = ap (λ (b : Bool). b || list_any (bytes_eq p) paths) ((bytes_eq-Decides p p).1 refl) in
-    absurd (true_false (sym first ∙ same p ∙ ap (λ (ps : List Part). list_any (names_path [] p) ps) none))
-
-other_records : (base : ℕ) (records : List SymLine) → AreFuncRecords base [] [] records → records ≡ []
-other_records base records are =
-    let parts : are.parts ≡ [] = map_none (λ (p : Part). p.piece) are.parts are.pieces_are in
-    let paths : are.paths ≡ [] = no_paths are.parts are.paths parts are.used.same in
-    are.whole ∙ ap (λ (ps : List (List ℕ)). file_lines 0 ps ++ part_lines base are.paths [] are.parts) paths ∙ ap (part_lines base are.paths []) parts
-
-other_lines : (parts : ImageParts) (name : List ℕ) (found : DebugSays) (lines : List SymLine) → found.units ≡ [] → CanonFile parts name found lines → lines ≡ plain_lines parts name found
-other_lines parts name found lines none canon =
-    let units : canon.units ≡ [] = no_units (IsUnitRead parts.code) found.units canon.units none canon.units_are in
-    let pieces : canon.pieces ≡ [] = other_pieces canon.pieces (subst (λ (us : List UnitRead). ArePieces us canon.pieces) units canon.pieces_are) in
-    let are : AreFuncRecords parts.base [] canon.pieces canon.functions = subst (λ (us : List UnitRead). AreFuncRecords parts.base us canon.pieces canon.functions) units canon.functions_are in
-    let functions : canon.functions ≡ [] = other_records parts.base canon.functions (subst (λ (ps : List Piece). AreFuncRecords parts.base [] ps canon.functions) pieces are) in
-    canon.whole
-    ∙ ap (λ (fs : List SymLine). identity_lines parts name ++ (fs ++ (public_lines parts canon.pieces ++ frame_lines parts found))) functions
-    ∙ ap (λ (ps : List Piece). identity_lines parts name ++ (public_lines parts ps ++ frame_lines parts found)) pieces
-
--- and so there is one verdict
-abbrev given : ImageParts → DebugSays → List SymLine → Verdict
-given parts found lines = record { status = 0; out = canon_text lines; err = left_out parts found }
-
-found_only : (units : List UnitSays) (parts : ImageParts) (name : List ℕ) (found : DebugSays) (v w : Verdict) → found.units ≡ units → found_verdict units parts name found ≡ Some v → GivesText parts name found w → w ≡ v
-found_only [] parts name found v w none is other = other.is ∙ ap (given parts found) (other_lines parts name found other.lines none other.canon) ∙ sym (the_same is)
-found_only (unit ∷ units) parts name found v w same is other = absurd (not_told is)
-
-debug_only : (says : Result DebugSays DebugFault) (parts : ImageParts) (name : List ℕ) (v w : Verdict) → debug_verdict says parts name ≡ Some v → IsDebugVerdict says parts name w → w ≡ v
-debug_only (Err fault) parts name v w is other = other ∙ sym (the_same is)
-debug_only (Ok found) parts name v w is other = found_only found.units parts name found v w refl is other
-
-image_only : (read : Result ImageParts ElfFault) (name : List ℕ) (v w : Verdict) → image_verdict read name ≡ Some v → IsImageVerdict read name w → w ≡ v
-image_only (Err fault) name v w is other = other ∙ sym (the_same is)
-image_only (Ok parts) name v w is other = debug_only (debug_says parts) parts name v w is other
-
-bytes_only : (longer : Bool) (name file : List ℕ) (v w : Verdict) → bytes_verdict longer name file ≡ Some v → IsBytesVerdict longer name file w → w ≡ v
-bytes_only true name file v w is other = other ∙ sym (the_same is)
-bytes_only false name file v w is other = image_only (image file) name v w is other
-
-file_only : (elf : List ℕ) (file : Option (List ℕ)) (v w : Verdict) → file_verdict elf file ≡ Some v → IsFileVerdict elf file w → w ≡ v
-file_only elf None v w is other = other ∙ sym (the_same is)
-file_only elf (Some file) v w is other = bytes_only (nat_lt LIMIT (length file)) (module_name elf) file v w is other
-
-command_only : (command : Option Asked) (files : Files) (v w : Verdict) → command_verdict command files ≡ Some v → IsVerdict command files w → w ≡ v
-command_only None files v w is other = other ∙ sym (the_same is)
-command_only (Some (dump elf workers)) files v w is other = file_only elf (files elf) v w is other
-
--- a verdict that is computed is the only one of the words and files
+-- and as words and files have one verdict, it is the only one
 pub plain_is_only_verdict : (words : List (List ℕ)) (files : Files) (v w : Verdict) → plain_verdict words files ≡ Some v → IsVerdict (command_of words) files w → w ≡ v
-plain_is_only_verdict words files v w is other = command_only (command_of words) files v w is other
+plain_is_only_verdict words files v w is other = one_verdict words files w v other (plain_is_verdict words files v is)

@@ -2,7 +2,7 @@ use Rattle.std.proofs.Common.{map, ap, ◌∙◌}
 use Rattle.std.specs.List.{list_any}
 use Rattle.func_records.specs.Origins.{made_name}
 use Rattle.func_records.proofs.OriginLemmas.{same_names}
-use Rattle.func_records.proofs.origins.gather_names.Goals as goal
+use Rattle.func_records.proofs.names.gather_names.Goals as goal
 
 pub returns-clause-same : goal.returns-clause-same
 returns-clause-same c = λ name.

@@ -1,0 +1,89 @@
+-- Words and files have one verdict.
+use Rattle.std.proofs.Common.{◌≡◌, ℕ, Bool, true, false, List, ◌++◌, Option, None, Some, Result, Ok, Err, length, nat_lt, refl, sym, ap, subst, ◌∙◌}
+use Rattle.sym_edges.specs.Outside.{Files}
+use Rattle.elf_sections.specs.Image.{ImageParts, parts_of, image_fault, image_by, image}
+use Rattle.elf_sections.specs.Programs.{base, code}
+use Rattle.elf_sections.specs.Sections.{sections}
+use Rattle.elf_sections.specs.declared.fault.ElfFault.{ElfFault}
+use Rattle.sym_records.specs.Canon.{canon_text}
+use Rattle.sym_records.specs.declared.line.SymLine.{SymLine}
+use Rattle.debug_read.specs.declared.fault.DebugFault.{DebugFault}
+use Rattle.debug_read.specs.DebugSays.{DebugSays, debug_says}
+use Rattle.debug_read.specs.Each.{Match}
+use Rattle.dumpsyms_cmd.specs.Words.{Asked, dump, command_of, module_name}
+use Rattle.dumpsyms_cmd.specs.Dump.{identity_lines, public_lines, frame_lines, CanonFile}
+use Rattle.dumpsyms_cmd.specs.Verdict.{Verdict, left_out, LIMIT, GivesText, IsDebugVerdict, IsImageVerdict, IsBytesVerdict, IsFileVerdict, IsVerdict}
+use Rattle.worked.proofs.OneUnits.{SameUnit, same_units, EndBelow, code_below, small_units}
+use Rattle.worked.proofs.OneRecords.{same_pieces, same_records}
+
+-- a file without fault has one list of records
+one_canon : (parts : ImageParts) (name : List ℕ) (found : DebugSays) (xs ys : List SymLine) → EndBelow parts.code → CanonFile parts name found xs → CanonFile parts name found ys → xs ≡ ys
+one_canon parts name found xs ys below p q =
+    let same : Match SameUnit p.units q.units = same_units parts.code found.units p.units q.units p.units_are q.units_are in
+    let pieces : p.pieces ≡ q.pieces = same_pieces p.units q.units p.pieces q.pieces same p.pieces_are q.pieces_are in
+    let functions : p.functions ≡ q.functions
+    = same_records parts.base p.units q.units p.pieces q.pieces p.functions q.functions same (small_units parts.code found.units p.units below p.units_are) p.pieces_are q.pieces_are p.functions_are q.functions_are in
+    p.whole ∙ (λ i. identity_lines parts name ++ (functions i ++ (public_lines parts (pieces i) ++ frame_lines parts found))) ∙ sym q.whole
+
+abbrev given : ImageParts → DebugSays → List SymLine → Verdict
+given parts found lines = record { status = 0; out = canon_text lines; err = left_out parts found }
+
+one_text : (parts : ImageParts) (name : List ℕ) (found : DebugSays) (v w : Verdict) → EndBelow parts.code → GivesText parts name found v → GivesText parts name found w → v ≡ w
+one_text parts name found v w below p q = p.is ∙ ap (given parts found) (one_canon parts name found p.lines q.lines below p.canon q.canon) ∙ sym q.is
+
+-- code ends below 2^64
+code_ends : (file : List ℕ) → EndBelow (code file)
+unfolding code
+code_ends file = code_below (base file) (sections file)
+
+parts_end : (file : List ℕ) → EndBelow (parts_of file).code
+unfolding parts_of
+parts_end file = code_ends file
+
+made_ends : (fault : Option ElfFault) (made parts : ImageParts) → EndBelow made.code → image_by fault made ≡ Ok parts → EndBelow parts.code
+made_ends None made parts below is = (let same : made ≡ parts = cc in subst (λ (p : ImageParts). EndBelow p.code) same below)
+made_ends (Some fault) made parts below is = absurd (cc)
+
+image_ends : (file : List ℕ) (parts : ImageParts) → image file ≡ Ok parts → EndBelow parts.code
+unfolding image
+image_ends file parts is = made_ends (image_fault file) (parts_of file) parts (parts_end file) is
+
+-- verdict by verdict
+one_debug : (says : Result DebugSays DebugFault) (parts : ImageParts) (name : List ℕ) (v w : Verdict) → EndBelow parts.code → IsDebugVerdict says parts name v → IsDebugVerdict says parts name w → v ≡ w
+one_debug (Err fault) parts name v w below p q = p ∙ sym q
+one_debug (Ok found) parts name v w below p q = one_text parts name found v w below p q
+
+one_image : (read : Result ImageParts ElfFault) (name : List ℕ) (v w : Verdict) → ((parts : ImageParts) → read ≡ Ok parts → EndBelow parts.code) → IsImageVerdict read name v → IsImageVerdict read name w → v ≡ w
+one_image (Err fault) name v w below p q = p ∙ sym q
+one_image (Ok parts) name v w below p q = one_debug (debug_says parts) parts name v w (below parts refl) p q
+
+one_bytes : (longer : Bool) (name file : List ℕ) (v w : Verdict) → IsBytesVerdict longer name file v → IsBytesVerdict longer name file w → v ≡ w
+one_bytes true name file v w p q = p ∙ sym q
+one_bytes false name file v w p q = one_image (image file) name v w (image_ends file) p q
+
+one_file : (elf : List ℕ) (file : Option (List ℕ)) (v w : Verdict) → IsFileVerdict elf file v → IsFileVerdict elf file w → v ≡ w
+one_file elf None v w p q = p ∙ sym q
+one_file elf (Some file) v w p q = one_bytes (nat_lt LIMIT (length file)) (module_name elf) file v w p q
+
+-- two commands that ask for the same, by any numbers of workers
+abbrev pub AskAlike : Option Asked → Option Asked → Type 0
+AskAlike None None = Prim.Unit {0}
+AskAlike None (Some d) = ⊥
+AskAlike (Some c) None = ⊥
+AskAlike (Some (dump elf m)) (Some (dump other n)) = elf ≡ other
+
+alike : (c : Option Asked) → AskAlike c c
+alike None = tt
+alike (Some (dump elf workers)) = refl
+
+-- they have one verdict
+pub one_asked : (c d : Option Asked) (files : Files) (v w : Verdict) → AskAlike c d → IsVerdict c files v → IsVerdict d files w → v ≡ w
+one_asked None None files v w same p q = p ∙ sym q
+one_asked None (Some d) files v w same p q = absurd same
+one_asked (Some c) None files v w same p q = absurd same
+one_asked (Some (dump elf m)) (Some (dump other n)) files v w same p q =
+    one_file elf (files elf) v w p (subst (λ name. IsFileVerdict name (files name) w) (sym same) q)
+
+-- words and files have one verdict, whatever a run chose in keeping what it read of the units
+pub one_verdict : (words : List (List ℕ)) (files : Files) (v w : Verdict) → IsVerdict (command_of words) files v → IsVerdict (command_of words) files w → v ≡ w
+one_verdict words files v w p q = one_asked (command_of words) (command_of words) files v w (alike (command_of words)) p q
