@@ -9,3 +9,4 @@ pub mod CleanLemmas
 pub mod AroundLemmas
 pub mod FindingLemmas
 pub mod CanonLemmas
+mod WorkedFindings

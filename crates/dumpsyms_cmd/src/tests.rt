@@ -386,9 +386,9 @@ fn with_copy(alloc: Global, first: u64, base: u64) -> Result<Vec<u8>, AllocError
     with_functions(alloc, &unit, &table, &[(1, base)])
 }
 
-/// The records of `f` with the copy of `g`, whose call names neither a file nor a line.
+/// The records of `f` with the copy of `g`, which is called in line 4 of the table's file 1.
 const WITH_COPY: &[u8] =
-    b"FILE 0 /s/a.c\nFILE 1 <name omitted>\nINLINE_ORIGIN 0 g\nFUNC 1000 20 0 f\nINLINE 0 0 1 0 1004 8\n1000 4 3 0\n1004 8 9 0\n100c 14 4 0\n";
+    b"FILE 0 /s/a.c\nINLINE_ORIGIN 0 g\nFUNC 1000 20 0 f\nINLINE 0 4 0 0 1004 8\n1000 4 3 0\n1004 8 9 0\n100c 14 4 0\n";
 
 #[test]
 fn an_inlined_copy_has_its_addresses_in_code(rt: HostRuntime) -> Result<(), Fail> {
