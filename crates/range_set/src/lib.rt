@@ -28,6 +28,3 @@ pub use joining::of_ranges;
 pub use law::same_addresses_same_list;
 pub use outermost::Enclosing;
 pub use set::RangeSet;
-
-#[cfg(test)]
-mod tests;

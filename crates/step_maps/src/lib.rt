@@ -36,6 +36,3 @@ pub use laws::{runs_are_maximal, same_values_same_runs, steps_are_runs};
 pub use overlaying::overlay;
 pub use steps::StepMap;
 pub use stretch::{Cover, CoverList, FirstItem, Stretch};
-
-#[cfg(test)]
-mod tests;

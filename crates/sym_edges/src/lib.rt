@@ -38,6 +38,3 @@ pub use span::Span;
 pub use store::Store;
 pub use stream_sink::StreamSink;
 pub use writing::write_all;
-
-#[cfg(test)]
-mod tests;

@@ -28,6 +28,3 @@ mod working;
 pub use job::{Gate, NoGate, UnitJob};
 pub use running::run_all;
 pub use tickets::{Hand, Tickets, open_tickets};
-
-#[cfg(test)]
-mod tests;

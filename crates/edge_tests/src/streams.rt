@@ -1,16 +1,14 @@
 //! What no clause says: that calls answer with ample memory, and what the system's edge does with streams that are slow,
-//! interrupted or broken.
-mod fakes;
-
-use crate::{
-    ByteRun, CallList, Failed, FileList, FileStore, MemSink, MemStore, NameText, NamedFile,
-    ReadEnd, Sink, Stop, Store, StreamSink, read_all, write_all,
-};
-use fakes::{Fake, FakeFiles, Turn};
+//! interrupted or broken (`sym_edges`).
+use crate::fakes::{Fake, FakeFiles, Turn};
 use std::alloc::{AllocError, Global};
 use std::fs::{self, Files};
 use std::process::Abort;
 use std::test::Fail;
+use sym_edges::{
+    ByteRun, CallList, FileList, FileStore, MemSink, MemStore, NameText, NamedFile, ReadEnd, Stop,
+    StreamSink, read_all, write_all,
+};
 
 /// Ends the test where a row has another answer than it should have.
 fn expect(rt: &impl Abort, row: &str, found: &[u8], wanted: &[u8]) {

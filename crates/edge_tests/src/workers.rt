@@ -1,6 +1,7 @@
+//! Examples with ample memory, by one and by many workers, and a worker that is held (`unit_workers`).
 ghost use Rattle.std.specs.Prelude.{◌≡◌, ◌*◌, ◌%◌, ◌^◌, ◌≤◌, min, length, drop, None, IsSome};
 
-use crate::{Gate, NoGate, UnitJob, open_tickets, run_all};
+use crate::comparing::expect;
 use std::alloc::Global;
 use std::process::Abort;
 use std::sync::atomic::AtomicU64;
@@ -8,6 +9,7 @@ use std::sync::atomic::Ordering::SeqCst;
 use std::test::Fail;
 use std::thread::Threads;
 use sym_edges::OutOfMemory;
+use unit_workers::{Gate, NoGate, UnitJob, open_tickets, run_all};
 
 /// How often a held unit looks whether the others were reached.
 const TURNS: u64 = 200_000_000;
@@ -96,11 +98,6 @@ impl Gate for Holding {
         }
         self.late.store(1, SeqCst);
     }
-}
-
-/// Compares what came out with what is wanted.
-fn expect(rt: &impl Abort, row: &str, got: &[u64], want: &[u64]) {
-    assert_eq!(rt; got, want, "{row}");
 }
 
 fn expect_none(rt: &impl Abort, row: &str, drawn: Option<usize>)

@@ -1,6 +1,8 @@
+//! Examples with ample memory, many spans, sets that take none, and random sets beside lists of addresses (`range_set`).
 ghost use Rattle.std.specs.Prelude.{◌<◌};
 
-use crate::{Enclosing, RangeSet, of_ranges};
+use crate::comparing::expect;
+use range_set::{Enclosing, RangeSet, of_ranges};
 use std::alloc::{AllocError, Global};
 use std::mem::size_of;
 use std::process::Abort;
@@ -21,11 +23,6 @@ fn spans_of(alloc: Global, pairs: &[(u64, u64)]) -> Result<Vec<Span>, AllocError
 fn set_of(alloc: Global, pairs: &[(u64, u64)]) -> Result<RangeSet, Fail> {
     let spans = spans_of(alloc, pairs)?;
     Ok(of_ranges(alloc, spans.as_slice())?)
-}
-
-/// Compares what came out with what is wanted.
-fn expect(rt: &impl Abort, row: &str, got: &[u64], want: &[u64]) {
-    assert_eq!(rt; got, want, "{row}");
 }
 
 /// The starts and ends of spans, in turn.

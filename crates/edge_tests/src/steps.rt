@@ -1,10 +1,12 @@
+//! Examples with ample memory and thousands of stretches (`step_maps`).
 ghost use Rattle.std.specs.Prelude.{◌≤◌, IfOk};
 ghost use Rattle.step_maps.specs.Covers.{AreStretches};
 
-use crate::{Cover, StepMap, Stretch, copy_steps, covers, first_items, overlay};
+use crate::comparing::expect;
 use std::alloc::{AllocError, Global};
 use std::process::Abort;
 use std::test::Fail;
+use step_maps::{Cover, StepMap, Stretch, copy_steps, covers, first_items, overlay};
 
 fn stretch(first: u64, last: u64, index: u32, class: u32) -> Stretch
     requires { first ≤ last }
@@ -40,11 +42,6 @@ fn expect_covers(
     let found = covers(alloc, items)?;
     assert_eq!(rt; found.as_slice(), want, "{row}");
     Ok(())
-}
-
-/// Compares what came out with what is wanted.
-fn expect(rt: &impl Abort, row: &str, got: &[u64], want: &[u64]) {
-    assert_eq!(rt; got, want, "{row}");
 }
 
 #[test]
@@ -100,7 +97,7 @@ fn the_first_in_the_list_covers_an_address(rt: HostRuntime) -> Result<(), Fail> 
 }
 
 /// Stretches that fall, each of four addresses and overlapping the one behind it by one.
-#[tactic(auto, using(crate::proofs::StretchLemmas::stretches_push))]
+#[tactic(auto, using(step_maps::proofs::StretchLemmas::stretches_push))]
 fn falling(alloc: Global, count: u32) -> Result<Vec<Stretch>, AllocError>
     ensures { IfOk result (λ items. AreStretches items.items) }
 {
