@@ -22,8 +22,6 @@ mod length;
 mod plan;
 mod sections;
 mod spec;
-#[cfg(test)]
-mod tests;
 mod text;
 mod unit;
 mod value;

@@ -33,8 +33,6 @@ mod picking;
 mod ranges;
 mod reading;
 mod sections;
-#[cfg(test)]
-mod tests;
 mod unit;
 mod units;
 

@@ -20,8 +20,6 @@ mod die;
 mod packed;
 mod picks;
 mod table;
-#[cfg(test)]
-mod tests;
 mod walker;
 
 pub use crate::die::{Die, Root};

@@ -24,6 +24,3 @@ pub use fault::ElfFault;
 pub use image::Image;
 pub use reading::read_image;
 pub use symbols::Symbol;
-
-#[cfg(test)]
-mod tests;

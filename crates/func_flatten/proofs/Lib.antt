@@ -12,4 +12,3 @@ pub mod Computing
 mod WorkedPieces
 mod WorkedLines
 mod WorkedPublics
-pub mod TestLemmas

@@ -32,6 +32,3 @@ pub use crate::owning::pieces;
 pub use crate::piece::{Piece, PieceList, Place};
 pub use crate::public::{PublicAt, PublicList};
 pub use crate::uncovered::publics;
-
-#[cfg(test)]
-mod tests;

@@ -40,8 +40,4 @@ mod table;
 mod tables;
 
 pub use crate::lines::read_lines;
-pub use crate::numbering::{Numbering, number_paths};
 pub use crate::table::LineTable;
-
-#[cfg(test)]
-mod tests;

@@ -10,13 +10,13 @@ use sym_records::ByteText;
 
 /// Where each path first stands among the files' paths, and the number of each file's path.
 #[derive(Drop)]
-pub struct Numbering {
+pub(crate) struct Numbering {
     pub firsts: Vec<u32>,
     pub files: Vec<u32>,
 }
 
 /// Numbers paths in the order of the first file that has each.
-pub fn number_paths(alloc: Global, texts: &[ByteText]) -> Result<Numbering, OutOfMemory>
+pub(crate) fn number_paths(alloc: Global, texts: &[ByteText]) -> Result<Numbering, OutOfMemory>
     requires { length texts.now < 2 ^ 32 }
     ensures paths { IfOk result (λ n. picked texts.now n.firsts.items ≡ distinct_paths texts.now) }
     ensures files { IfOk result (λ n. AreNumbered (picked texts.now n.firsts.items) n.files.items texts.now) }

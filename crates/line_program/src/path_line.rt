@@ -3,6 +3,7 @@ ghost use Rattle.std.specs.Prelude.{◌≡◌, Some};
 ghost use Rattle.line_program.specs.Numbered.{number_of, numbered_line_of};
 
 use crate::row::Row;
+use std::mem::size_of;
 
 /// The number of a path, and a line of that file; a line of 0 is none. 8 bytes.
 #[derive(Clone, Copy, Debug, PartialEq, Eq)]
@@ -10,6 +11,8 @@ pub struct PathLine {
     pub path: u32,
     pub line: u32,
 }
+
+const _: () = prove!(size_of::<PathLine>() == 8);
 
 pub const NO_LINE: PathLine = PathLine { path: 0, line: 0 };
 

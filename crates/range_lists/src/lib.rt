@@ -28,7 +28,5 @@ mod item;
 pub mod laws;
 mod list;
 mod places;
-#[cfg(test)]
-mod tests;
 
 pub use crate::entry::{ranges_of, unit_base};

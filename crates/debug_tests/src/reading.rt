@@ -1,8 +1,10 @@
-//! Files with ample memory, by one and by many workers: the first fault, what is read, many units, and a unit that takes long.
+//! All debugging information of a file (`debug_read`) with ample memory, by one and by many workers: the first fault, what is read,
+//! many units, and a unit that takes long.
 ghost use Rattle.std.specs.Prelude.{◌≤◌};
 
-use crate::{DebugFault, DebugRead, read_debug};
+use crate::elf_files::{file_of, plain, text};
 use abbrev_units::DwarfKind;
+use debug_read::{DebugFault, DebugRead, read_debug};
 use elf_sections::read_image;
 use frame_entries::FrameKind;
 use std::alloc::Global;
@@ -19,9 +21,6 @@ const TURNS: u64 = 200_000_000;
 
 const NAMES: &[u8] =
     b"\0.text\0.debug_info\0.debug_abbrev\0.debug_line\0.eh_frame\0.debug_frame\0.shstrtab\0";
-
-/// Names in `NAMES`, in the order of a file's sections.
-const PLACES: [u32; 7] = [1, 7, 19, 33, 45, 55, 68];
 
 /// At 0 an attribute of eight bytes, at 8 one of four. At 16, 1: a root with DW_AT_stmt_list. 2: a subprogram with an address and a
 /// length.
@@ -76,52 +75,18 @@ struct Parts<'a> {
     debug_frame: &'a [u8],
 }
 
-fn put(file: &mut Vec<u8>, fields: &[u64]) -> Result<(), Fail> {
-    for field in fields {
-        file.extend_from_slice(&field.to_le_bytes())?;
-    }
-    Ok(())
-}
-
-fn put_word(file: &mut Vec<u8>, field: u64) -> Result<(), Fail> {
-    file.extend_from_slice(&((field % (1 << 32)) as u32).to_le_bytes())?;
-    Ok(())
-}
-
-/// A section header: the address and the flags are those of code where the name is that of the first section.
-fn put_section(file: &mut Vec<u8>, name: u32, place: u64, size: u64) -> Result<(), Fail> {
-    put_word(file, u64::from(name))?;
-    put_word(file, 1)?;
-    let (flags, address) = if name == 1 { (6, 0x1000) } else { (0, 0) };
-    put(file, &[flags, address, place, size])?;
-    put(file, &[0, 1, 0])
-}
-
 /// An ELF file of 0x20 bytes of code at 1000 and these sections.
-fn file_of(alloc: Global, parts: Parts<'_>) -> Result<Vec<u8>, Fail> {
+fn file_with(alloc: Global, parts: Parts<'_>) -> Result<Vec<u8>, Fail> {
     let sections = [
-        [0; 32].as_slice(),
-        parts.info,
-        ABBREVS,
-        parts.line,
-        parts.eh_frame,
-        parts.debug_frame,
-        NAMES,
+        text(&[0; 32]),
+        plain(7, 1, parts.info),
+        plain(19, 1, ABBREVS),
+        plain(33, 1, parts.line),
+        plain(45, 1, parts.eh_frame),
+        plain(55, 1, parts.debug_frame),
+        plain(68, 3, NAMES),
     ];
-    let mut file = Vec::new(alloc);
-    file.extend_from_slice(b"\x7fELF\x02\x01\x01\0\0\0\0\0\0\0\0\0\x03\0\x3e\0\x01\0\0\0")?;
-    put(&mut file, &[0, 0, 64])?;
-    file.extend_from_slice(b"\0\0\0\0\x40\0\x38\0\0\0\x40\0\x07\0\x06\0")?;
-    let mut place = 64 + 64 * 7;
-    for i in 0..7 {
-        let size = sections[i].len() as u64;
-        put_section(&mut file, PLACES[i], place, size)?;
-        place = place.saturating_add(size);
-    }
-    for bytes in sections {
-        file.extend_from_slice(bytes)?;
-    }
-    Ok(file)
+    file_of(alloc, 0, &sections)
 }
 
 /// What is read: how many headers, units and frame entries of both sections there are; and for each unit the number of its
@@ -159,7 +124,7 @@ fn answer<R: Threads + Sync, G: Gate + Sync>(
 ) -> Result<(Vec<u64>, Option<DebugFault>), Fail>
     requires { (1 ≤ workers) × (workers ≤ 64) }
 {
-    let file = file_of(alloc, parts)?;
+    let file = file_with(alloc, parts)?;
     let image = match read_image(alloc, file.as_slice()) {
         Ok(image) => image,
         Err(_) => return Err("no image".into()),

@@ -1,7 +1,8 @@
-//! Examples with ample memory: each public call that takes memory, and many members.
-use crate::{DwarfKind, Sections, Unit, UnitPart, read_abbrevs, units};
+//! Units and abbreviations (`abbrev_units`) with ample memory: each public call that takes memory, and many members.
+use crate::comparing::expect;
+use crate::fixtures::NO_SECTIONS;
+use abbrev_units::{DwarfKind, Sections, Unit, UnitPart, read_abbrevs, units};
 use std::alloc::Global;
-use std::process::Abort;
 use std::test::Fail;
 use sym_edges::{Located, Sect, Stop};
 
@@ -9,10 +10,6 @@ use sym_edges::{Located, Sect, Stop};
 const UNIT: &[u8] = b"\x0c\0\0\0\x04\0\0\0\0\0\x08\x01\0\0\0\0";
 
 const COUNT: usize = 1000;
-
-fn expect(rt: &impl Abort, name: &str, got: &[u64], want: &[u64]) {
-    assert_eq!(rt; got, want, "{name}");
-}
 
 /// In which order the codes of a table stand.
 #[derive(Clone, Copy)]
@@ -54,20 +51,6 @@ fn table(alloc: Global, order: Order) -> Result<Vec<u8>, Fail> {
     Ok(bytes)
 }
 
-fn sections(abbrevs: &[u8]) -> Sections<'_> {
-    Sections {
-        info: &[],
-        abbrevs,
-        line: &[],
-        line_str: &[],
-        strs: &[],
-        str_offsets: &[],
-        addr: &[],
-        ranges: &[],
-        rnglists: &[],
-    }
-}
-
 const FIRST: Unit = Unit {
     start: 0,
     body: 11,
@@ -80,7 +63,11 @@ const FIRST: Unit = Unit {
 
 /// The tags of the abbreviations that codes find: 0 where there is none.
 fn tags(alloc: Global, bytes: &[u8], codes: &[u64]) -> Result<Vec<u64>, Fail> {
-    let abbrevs = read_abbrevs(alloc, &sections(bytes), &FIRST)?;
+    let sections = Sections {
+        abbrevs: bytes,
+        ..NO_SECTIONS
+    };
+    let abbrevs = read_abbrevs(alloc, &sections, &FIRST)?;
     let mut tags = Vec::new(alloc);
     for code in codes {
         let tag = match abbrevs.find(*code) {

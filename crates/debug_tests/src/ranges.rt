@@ -1,10 +1,11 @@
-//! Examples with ample memory: each public call, lists of many pairs, and what one range takes.
-use crate::{ranges_of, unit_base};
+//! Ranges of entries (`range_lists`) with ample memory: each public call, and lists of many pairs.
+use crate::comparing::expect;
+use crate::fixtures::NO_SECTIONS;
 use abbrev_units::{Sections, read_abbrevs, units};
 use die_walk::walk;
+use range_lists::{ranges_of, unit_base};
 use range_set::Enclosing;
 use std::alloc::Global;
-use std::process::Abort;
 use std::test::Fail;
 use sym_edges::Span;
 
@@ -18,10 +19,6 @@ const INFO: &[u8] =
 
 /// How many pairs a list has.
 const COUNT: u64 = 1000;
-
-fn expect(rt: &impl Abort, name: &str, got: &[u64], want: &[u64]) {
-    assert_eq!(rt; got, want, "{name}");
-}
 
 /// A list of pairs of 8 addresses, so far apart from 0x1_0000 on.
 fn list(alloc: Global, apart: u64, is_falling: bool) -> Result<Vec<u8>, Fail> {
@@ -46,13 +43,8 @@ fn found(alloc: Global, rnglists: &[u8]) -> Result<Vec<u64>, Fail> {
     let sections = Sections {
         info: INFO,
         abbrevs: ABBREVS,
-        line: &[],
-        line_str: &[],
-        strs: &[],
-        str_offsets: &[],
-        addr: &[],
-        ranges: &[],
         rnglists,
+        ..NO_SECTIONS
     };
     let code = Enclosing::of_spans(alloc, &[Span::new(0x1000, 0x1000_0000)])?;
     let mut seen = Vec::new(alloc);

@@ -1,22 +1,24 @@
-//! Examples with ample memory, many functions, and the sizes of what is held by the million.
+//! Functions and function symbols by address (`func_flatten`) with ample memory, many of them, and the sizes of what is held by the
+//! million.
 ghost use Rattle.std.specs.Prelude.{◌≡◌, ℕ, ◌<◌, ◌≤◌, ◌^◌, true, false, [], map, length, IfOk};
 ghost use Rattle.step_maps.specs.Stepping.{RisesFrom};
 ghost use Rattle.die_walk.specs.EntryTable.{DieFields};
 ghost use Rattle.die_names.specs.UnitEntries.{ArePaired, counts};
 
-use crate::uncovered::{publics_beside, sorted_symbols, spans_of};
-use crate::{LineRun, Piece, PublicAt, lines_of, pieces};
+use crate::comparing::expect;
+use crate::elf_files::{file_with, put_function};
+use crate::fixtures::{NO_SECTIONS, unit_of};
 use abbrev_units::{Sections, read_abbrevs, units};
 use die_names::{SpanSets, UnitRead, Units};
 use die_walk::{Die, walk};
-use elf_sections::Symbol;
+use elf_sections::read_image;
+use func_flatten::{LineRun, Piece, PieceList, PublicAt, lines_of, pieces, publics};
 use line_program::LineTable;
-use range_set::{RangeSet, of_ranges};
+use range_set::RangeSet;
 use std::alloc::{AllocError, Global};
 use std::mem::size_of;
-use std::process::Abort;
 use std::test::Fail;
-use sym_edges::{ListOf, Span};
+use sym_edges::Span;
 
 /// A root with children, and functions with a name.
 const ABBREVS: &[u8] = b"\x01\x11\x01\0\0\x02\x2e\0\x03\x08\0\0\0";
@@ -27,12 +29,8 @@ const COUNT: usize = 1000;
 /// How many addresses a function has.
 const SIZE: u64 = 8;
 
-fn expect(rt: &impl Abort, name: &str, got: &[u64], want: &[u64]) {
-    assert_eq!(rt; got, want, "{name}");
-}
-
 /// A unit of version 4 with functions of these two names in turn.
-fn unit_of(alloc: Global, names: [&[u8]; 2]) -> Result<Vec<u8>, Fail> {
+fn functions_of(alloc: Global, names: [&[u8]; 2]) -> Result<Vec<u8>, Fail> {
     let mut body = Vec::new(alloc);
     body.push(1)?;
     for k in 0..COUNT {
@@ -41,12 +39,7 @@ fn unit_of(alloc: Global, names: [&[u8]; 2]) -> Result<Vec<u8>, Fail> {
         body.push(0)?;
     }
     body.push(0)?;
-    let mut info = Vec::new(alloc);
-    let count = (body.len() % (1 << 29)) as u32 + 7;
-    info.extend_from_slice(&count.to_le_bytes())?;
-    info.extend_from_slice(b"\x04\0\0\0\0\0\x08")?;
-    info.extend_from_slice(&body)?;
-    Ok(info)
+    unit_of(alloc, &body)
 }
 
 /// Whether the places of entries rise.
@@ -84,7 +77,7 @@ fn sets_of(alloc: Global, dies: &[Die<'_>], apart: u64) -> Result<Vec<RangeSet>,
     Ok(sets)
 }
 
-#[tactic(auto, using(crate::proofs::TestLemmas::one_read))]
+#[tactic(auto, using(crate::proofs::UnitLemmas::one_read))]
 fn units_of_one<'a>(alloc: Global, part: UnitRead<'a>) -> Result<Units<'a>, AllocError>
     requires few { length part.die.dies < 2 ^ 32 }
     requires paired { ArePaired part.die.dies part.spans }
@@ -100,13 +93,7 @@ fn found(alloc: Global, info: &[u8], apart: u64) -> Result<[u64; 4], Fail> {
     let sections = Sections {
         info,
         abbrevs: ABBREVS,
-        line: &[],
-        line_str: &[],
-        strs: &[],
-        str_offsets: &[],
-        addr: &[],
-        ranges: &[],
-        rnglists: &[],
+        ..NO_SECTIONS
     };
     let list = units(alloc, info)?;
     let Some(unit) = list.get(0) else {
@@ -140,7 +127,7 @@ fn found(alloc: Global, info: &[u8], apart: u64) -> Result<[u64; 4], Fail> {
 #[test]
 fn a_thousand_functions(rt: HostRuntime) -> Result<(), Fail> {
     let alloc = rt.alloc();
-    let info = unit_of(alloc, [b"a", b"b"])?;
+    let info = functions_of(alloc, [b"a", b"b"])?;
     expect(
         &rt,
         "that do not touch",
@@ -166,7 +153,7 @@ fn a_thousand_functions(rt: HostRuntime) -> Result<(), Fail> {
         &found(alloc, &info, 0)?,
         &[1, 1, 8, 0],
     );
-    let alike = unit_of(alloc, [b"?", b"\t"])?;
+    let alike = functions_of(alloc, [b"?", b"\t"])?;
     expect(
         &rt,
         "of one cleaned name",
@@ -180,27 +167,22 @@ fn a_thousand_functions(rt: HostRuntime) -> Result<(), Fail> {
 fn a_thousand_symbols(rt: HostRuntime) -> Result<(), Fail> {
     let alloc = rt.alloc();
     let mut symbols = Vec::new(alloc);
-    for k in 0..1000u64 {
-        symbols.push(Symbol {
-            address: 0x2000 - k,
-            name: b"x",
-        })?;
-        symbols.push(Symbol {
-            address: 0x2000 - k,
-            name: b"y",
-        })?;
+    for k in 0..1000 {
+        put_function(&mut symbols, 1, 0x2000 - k)?;
+        put_function(&mut symbols, 2, 0x2000 - k)?;
     }
-    let piece = Piece {
+    let file = file_with(alloc, &[0x90; 0x1001], &symbols)?;
+    let image = read_image(alloc, &file)?;
+    let mut covering = Vec::new(alloc);
+    covering.push(Piece {
         unit: 0,
         entry: 1,
         start: 0x1fff,
         end: 0x2000,
         many: false,
-    };
-    let spans = spans_of(alloc, &[piece])?;
-    let covered = of_ranges(alloc, spans.as_slice())?;
-    let sorted = sorted_symbols(alloc, symbols.as_slice())?;
-    let list = publics_beside(alloc, sorted.as_slice(), covered.spans())?;
+    })?;
+    let found = publics(alloc, &image, &PieceList::of(covering))?;
+    let list = found.as_slice();
     let last = match list.last() {
         Some(public) => public.address,
         None => 0,

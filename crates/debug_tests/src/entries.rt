@@ -1,9 +1,10 @@
-//! Examples with ample memory, many entries, and the size of an entry.
-use crate::{Die, walk};
+//! Entries (`die_walk`) with ample memory, many of them, and the size of one.
+use crate::comparing::expect;
+use crate::fixtures::{NO_SECTIONS, unit_of};
 use abbrev_units::{Sections, read_abbrevs, units};
+use die_walk::{Die, walk};
 use std::alloc::Global;
 use std::mem::size_of;
-use std::process::Abort;
 use std::test::Fail;
 
 /// A subprogram with children, one without, and a variable.
@@ -15,32 +16,12 @@ const COUNT: u32 = 1000;
 /// How deep entries stand in one another.
 const DEPTH: u32 = 1_000_000;
 
-fn expect(rt: &impl Abort, name: &str, got: &[u64], want: &[u64]) {
-    assert_eq!(rt; got, want, "{name}");
-}
-
-/// A unit of version 4 with these bytes as its entries.
-fn unit_of(alloc: Global, body: &[u8]) -> Result<Vec<u8>, Fail> {
-    let mut info = Vec::new(alloc);
-    let length = (body.len() % (1 << 29)) as u32 + 7;
-    info.extend_from_slice(&length.to_le_bytes())?;
-    info.extend_from_slice(b"\x04\0\0\0\0\0\x08")?;
-    info.extend_from_slice(body)?;
-    Ok(info)
-}
-
 /// How many entries are kept, and the place and the parent of the last.
 fn last_kept(alloc: Global, info: &[u8]) -> Result<[u64; 3], Fail> {
     let sections = Sections {
         info,
         abbrevs: ABBREVS,
-        line: &[],
-        line_str: &[],
-        strs: &[],
-        str_offsets: &[],
-        addr: &[],
-        ranges: &[],
-        rnglists: &[],
+        ..NO_SECTIONS
     };
     let list = units(alloc, info)?;
     let mut seen = [0, 0, 0];

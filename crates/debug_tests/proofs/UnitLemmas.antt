@@ -1,4 +1,4 @@
--- A unit of the tests.
+-- A unit alone, as a list of units.
 use Rattle.std.proofs.Common.{◌≡◌, ℕ, ◌+◌, ◌<◌, ◌^◌, false, map, length, take, List, [], ◌∷◌, ◌++◌, get_or, arith, refl, sym, ap, ◌∙◌, subst, append-nil}
 use Rattle.std.proofs.lemmas.List.{take_more, take_all}
 use Rattle.sym_edges.specs.Addresses.{Range}

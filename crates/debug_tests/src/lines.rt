@@ -1,13 +1,10 @@
-//! Examples with ample memory: each public call that takes memory, and tables with many members; the sizes of what is held
-//! by the million.
-use crate::path_line::PathLine;
-use crate::row::Row;
-use crate::{LineTable, read_lines};
+//! Line tables (`line_program`) with ample memory: each public call that takes memory, and tables with many members.
+use crate::comparing::expect;
+use crate::fixtures::NO_SECTIONS;
 use abbrev_units::Sections;
+use line_program::{LineTable, read_lines};
 use range_set::Enclosing;
 use std::alloc::Global;
-use std::mem::size_of;
-use std::process::Abort;
 use std::test::Fail;
 use sym_edges::{Span, Stop};
 
@@ -26,10 +23,6 @@ const NEW_FIELDS: &[u8] =
 
 const COUNT: u64 = 3000;
 
-fn expect(rt: &impl Abort, name: &str, got: &[u64], want: &[u64]) {
-    assert_eq!(rt; got, want, "{name}");
-}
-
 fn push_length(bytes: &mut Vec<u8>, length: usize) -> Result<(), Fail> {
     bytes.extend_from_slice(&((length % (1 << 32)) as u32).to_le_bytes())?;
     Ok(())
@@ -46,15 +39,8 @@ fn table(alloc: Global, program: &[u8]) -> Result<Vec<u8>, Fail> {
 
 fn read(alloc: Global, line: &[u8]) -> Result<LineTable, Fail> {
     let sections = Sections {
-        info: &[],
-        abbrevs: &[],
         line,
-        line_str: &[],
-        strs: &[],
-        str_offsets: &[],
-        addr: &[],
-        ranges: &[],
-        rnglists: &[],
+        ..NO_SECTIONS
     };
     let code = Enclosing::of_spans(alloc, &[Span::new(0x1000, 0x100000)])?;
     match read_lines(alloc, &sections, 0, 11, b"/s", &code) {
@@ -248,10 +234,4 @@ fn a_table_of_nothing(rt: HostRuntime) {
         u64::from(table.file(0).is_some()),
     ];
     expect(&rt, "nothing", &got, &[0, 0, 0]);
-}
-
-#[test]
-fn sizes(rt: HostRuntime) {
-    let got = [size_of::<Row>() as u64, size_of::<PathLine>() as u64];
-    expect(&rt, "a row and a line", &got, &[16, 8]);
 }
