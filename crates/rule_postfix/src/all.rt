@@ -19,7 +19,7 @@ ghost use Rattle.rule_postfix.specs.Covering.{inits_at, entries_at, AreDisjoint,
 ghost use Rattle.rule_postfix.specs.Keeping.{KeptFor, StaysKept};
 ghost use Rattle.rule_postfix.specs.Deciding.{LiesAbove, EndsAt, IfRefused, Shows};
 
-use crate::kept_state::KeptState;
+use crate::cie_states::CieStates;
 use crate::omission::{Omission, Omissions};
 use crate::open_init::{OpenInit, spell_steps};
 use crate::taken::Taken;
@@ -189,53 +189,43 @@ fn put_behind(
     }
 }
 
-/// An entry whose fields can be read is written or left out. The state behind its CIE is kept for those that follow.
+/// An entry whose fields can be read is written or left out. The state behind its CIE is made where it is not there.
 fn put_good(
     alloc: Global,
     progress: &mut Progress,
-    kept: &mut Option<KeptState>,
+    states: &mut CieStates,
     entry: &Entry<'_>,
     fde: &Fde<'_>,
     code: &Enclosing,
     base: u64,
 ) -> Result<(), OutOfMemory>
     requires good { entry.now.body ≡ Good fde.now }
-    requires known { KeptFor kept.old fde.now }
+    requires known { KeptFor states.old fde.now }
     requires above { LiesAbove base code.now }
     ensures shown { OnOk result ((d : Decided) → Shows base progress.old d → Shows base progress.new (with_entry code.now entry.now d)) }
-    ensures kept { OnOk result (StaysKept entry.now kept.old kept.new) }
+    ensures kept { OnOk result (StaysKept entry.now states.old states.new) }
 {
-    if let Some(known) = kept {
-        if known.place == fde.cie {
-            return put_behind(alloc, progress, &known.state, entry, fde, code, base);
-        }
-    }
-    let state = CieState::of(alloc, fde)?;
-    put_behind(alloc, progress, &state, entry, fde, code, base)?;
-    *kept = Some(KeptState {
-        place: fde.cie,
-        state,
-    });
-    Ok(())
+    states.make(alloc, fde)?;
+    put_behind(alloc, progress, states.behind(fde), entry, fde, code, base)
 }
 
 /// An entry is written or left out.
 fn put_entry(
     alloc: Global,
     progress: &mut Progress,
-    kept: &mut Option<KeptState>,
+    states: &mut CieStates,
     entry: &Entry<'_>,
     code: &Enclosing,
     base: u64,
 ) -> Result<(), OutOfMemory>
-    requires known { (e : FdeFields) → entry.now.body ≡ Good e → KeptFor kept.old e }
+    requires known { (e : FdeFields) → entry.now.body ≡ Good e → KeptFor states.old e }
     requires above { LiesAbove base code.now }
     ensures shown { OnOk result ((d : Decided) → Shows base progress.old d → Shows base progress.new (with_entry code.now entry.now d)) }
-    ensures kept { OnOk result (StaysKept entry.now kept.old kept.new) }
+    ensures kept { OnOk result (StaysKept entry.now states.old states.new) }
 {
     match &entry.body {
         Body::Bad(reason) => leave_out(progress, entry, *reason),
-        Body::Good(fde) => put_good(alloc, progress, kept, entry, fde, code, base),
+        Body::Good(fde) => put_good(alloc, progress, states, entry, fde, code, base),
     }
 }
 
@@ -251,9 +241,9 @@ fn put_entries(
     requires above { LiesAbove base code.now }
     ensures { OnOk result ((d : Decided) → Shows base progress.old d → Shows base progress.new (with_entries code.now entries.now d)) }
 {
-    let mut kept = None;
+    let mut states = CieStates::new(alloc);
     for entry in entries {
-        put_entry(alloc, progress, &mut kept, entry, code, base)?;
+        put_entry(alloc, progress, &mut states, entry, code, base)?;
     }
     Ok(())
 }
