@@ -34,7 +34,7 @@ starts_by : (cut : Bool) (b : ℕ) (after : Row) (rules : List RuleText) (w : Op
 starts_by true b after rules w low first second = second
 starts_by false b after rules w low first second = first
 
-starts : (b : ℕ) (before after : Row) (w : Open) (low : ℕ) → w.start ≤ low → b ≤ low → (with_row b before after w).start ≤ low
+pub starts : (b : ℕ) (before after : Row) (w : Open) (low : ℕ) → w.start ≤ low → b ≤ low → (with_row b before after w).start ≤ low
 unfolding with_row
 starts b before after w low first second = starts_by (some_becomes_unspecified before after) b after (changed_rules before after) w low first second
 
@@ -42,7 +42,7 @@ above_by : (cut : Bool) (b : ℕ) (after : Row) (rules : List RuleText) (w : Ope
 above_by true b after rules w low first second = second
 above_by false b after rules w low first second = first
 
-aboves : (b : ℕ) (before after : Row) (w : Open) (low : ℕ) → low ≤ w.start → low ≤ b → low ≤ (with_row b before after w).start
+pub aboves : (b : ℕ) (before after : Row) (w : Open) (low : ℕ) → low ≤ w.start → low ≤ b → low ≤ (with_row b before after w).start
 unfolding with_row
 aboves b before after w low first second = above_by (some_becomes_unspecified before after) b after (changed_rules before after) w low first second
 

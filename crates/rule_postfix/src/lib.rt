@@ -12,14 +12,14 @@
 //! with its first reason. `specs/Written.antt` has that choice, and `specs/Covering.antt` what it comes to: each address of a
 //! written entry is covered by one INIT, and no other address by any.
 //!
-//! The instructions of a CIE are carried out once for the entries that follow it: `kept_state` has the state that they leave.
+//! The instructions of a CIE are carried out once for all of its entries: `cie_states` has the states that they leave.
 //!
-//! To read: `parts`, `column_target`, `rules`, `spelling`, `open_init`, `translating`, then `omission`, `taken`, `kept_state` and `all`.
+//! To read: `parts`, `column_target`, `rules`, `spelling`, `open_init`, `translating`, then `omission`, `taken`, `cie_states` and `all`.
 #![tactic(auto)]
 
 mod all;
+mod cie_states;
 mod column_target;
-mod kept_state;
 pub mod laws;
 mod omission;
 mod open_init;

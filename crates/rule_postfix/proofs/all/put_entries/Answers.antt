@@ -6,14 +6,14 @@ use Rattle.rule_postfix.proofs.all.put_entries.Goals as goal
 
 pub loop-entry-init : goal.loop-entry-init
 unfolding with_entries
-loop-entry-init c = record { shown = λ d so. so; kept = λ j d f there good. tt }
+loop-entry-init c = record { shown = λ d so. so; kept = λ j d f there good. c.new-states.ensures f }
 
 pub put_entry-requires-clause-known : goal.put_entry-requires-clause-known
 put_entry-requires-clause-known c =
-    kept_at c.args.entries.now c.loop-entry.entry-index c.entry-item.result c.loop-entry.kept (omega arith) c.entry-item.is c.loop-entry.invariant.kept
+    kept_at c.args.entries.now c.loop-entry.entry-index c.entry-item.result c.loop-entry.states (omega arith) c.entry-item.is c.loop-entry.invariant.kept
 
 pub loop-entry-preserved : goal.loop-entry-preserved
 loop-entry-preserved c = record {
   shown = on_more c.args.base c.args.code.now c.args.entries.now c.loop-entry.entry-index c.entry-item.result c.args.progress.now c.loop-entry.progress c.put_entry.new.progress (omega arith) c.entry-item.is c.loop-entry.invariant.shown c.in_ok-put_entry.ensures.shown;
-  kept = kept_more c.args.entries.now c.loop-entry.entry-index c.entry-item.result c.loop-entry.kept c.put_entry.new.kept c.requires.shared (omega arith) c.entry-item.is c.loop-entry.invariant.kept c.in_ok-put_entry.ensures.kept;
+  kept = kept_more c.args.entries.now c.loop-entry.entry-index c.entry-item.result c.loop-entry.states c.put_entry.new.states c.requires.shared (omega arith) c.entry-item.is c.loop-entry.invariant.kept c.in_ok-put_entry.ensures.kept;
 }

@@ -1,0 +1,58 @@
+//! The states behind the CIEs of a section.
+ghost use Rattle.std.specs.Prelude.{◌≡◌, Some, OnOk};
+ghost use Rattle.std.specs.Ordering.{nat_cmp};
+ghost use Rattle.std.specs.BTreeMap.{get};
+ghost use Rattle.frame_entries.specs.FdeFields.{FdeFields};
+ghost use Rattle.frame_entries.specs.SharedCies.{HaveOneCie};
+ghost use Rattle.frame_rows.specs.CieLeft.{cie_left};
+ghost use Rattle.rule_postfix.specs.Keeping.{KeptFor};
+
+use frame_entries::Fde;
+use frame_rows::CieState;
+use std::alloc::Global;
+use std::collections::BTreeMap;
+use sym_edges::OutOfMemory;
+
+/// The states behind the CIEs at some places of a section. Each is made once, however the entries of the CIEs alternate.
+#[derive(Drop)]
+pub struct CieStates {
+    by_place: BTreeMap<usize, CieState>,
+}
+
+impl CieStates {
+    /// None yet.
+    #[tactic(auto, using(crate::proofs::KeepingLemmas::none_kept))]
+    pub fn new(alloc: Global) -> CieStates
+        ensures { (e : FdeFields) → KeptFor result e }
+    {
+        CieStates {
+            by_place: BTreeMap::new(alloc),
+        }
+    }
+
+    /// Makes the state behind the CIE of an entry, where it is not there.
+    #[tactic(auto, using(crate::proofs::KeepingLemmas::is_there, crate::proofs::KeepingLemmas::is_made, crate::proofs::KeepingLemmas::new_kept))]
+    pub fn make(&mut self, alloc: Global, fde: &Fde<'_>) -> Result<(), OutOfMemory>
+        requires { KeptFor self.old fde.now }
+        ensures known { OnOk result (get nat_cmp self.new.by_place fde.now.cie ≡ Some (cie_left fde.now)) }
+        ensures kept { OnOk result ((f : FdeFields) → KeptFor self.old f → (fde.now.cie ≡ f.cie → HaveOneCie fde.now f) → KeptFor self.new f) }
+    {
+        if self.by_place.contains_key(&fde.cie) {
+            return Ok(());
+        }
+        let state = CieState::of(alloc, fde)?;
+        self.by_place.insert(fde.cie, state)?;
+        Ok(())
+    }
+
+    /// The state behind the CIE of an entry, which was made.
+    pub fn behind(&self, fde: &Fde<'_>) -> &CieState
+        requires { get nat_cmp self.now.by_place fde.now.cie ≡ Some (cie_left fde.now) }
+        ensures { result.now ≡ cie_left fde.now }
+    {
+        match self.by_place.get(&fde.cie) {
+            Some(state) => state,
+            None => unreachable!(),
+        }
+    }
+}
