@@ -5,7 +5,7 @@ use Rattle.std.proofs.lemmas.Bool.{cond-true}
 use Rattle.sym_edges.specs.declared.part.Sect.{Sect}
 use Rattle.leb_cursor.specs.declared.fault.CursorFault.{CursorFault}
 use Rattle.sym_edges.specs.Results.{◌>>=◌}
-use Rattle.leb_cursor.specs.Ahead.{Ahead}
+use Rattle.leb_cursor.specs.Ahead.{Ahead, passed}
 use Rattle.leb_cursor.specs.Passes.{Passes}
 use Rattle.leb_cursor.specs.Readings.{fixed_at, take_at}
 use Rattle.leb_cursor.proofs.PassLemmas.{fixed_passes, take_passes, passes_then}
@@ -57,6 +57,27 @@ unfolding mark_at
 mark_passes which c =
     passes_then (or_length which c.at (fixed_at 4 c)) (λ count. mark_behind which c.at count.0 count.1) 4 0 c
     (or_passes which c.at (fixed_at 4 c) 4 c (fixed_passes 4 c)) (λ count. behind_passes which c.at count.0 count.1)
+
+-- the place behind a number of so many bytes
+abbrev place_behind : ℕ → Result (ℕ × Ahead) CursorFault → ℕ
+place_behind at (Ok x) = x.1.at
+place_behind at (Err fault) = at
+
+ends_by : (test : Bool) (fault : CursorFault) (sum width : ℕ) (c : Ahead) (x : ℕ × Ahead) → Ok x ≡ cond test (Err fault) (Ok (sum, passed width c)) → x.1.at ≡ c.at + width
+unfolding passed
+ends_by true fault sum width c x is = cc
+ends_by false fault sum width c x is = ap (place_behind c.at) is
+
+pub fixed_ends : (width n : ℕ) (c d : Ahead) → Ok (n, d) ≡ fixed_at width c → d.at ≡ c.at + width
+unfolding fixed_at
+fixed_ends width n c d is = ends_by (nat_lt (length c.bytes) width) _ _ width c (n, d) is
+
+-- the end behind a mark
+pub mark_ends : (which : Sect) (c d : Ahead) (mark : Mark) → Ok (mark, d) ≡ mark_at which c → d.at + length d.bytes ≡ c.at + length c.bytes
+mark_ends which c d mark is =
+    let P : Result (Mark × Ahead) (Located FrameKind) → Type 0 = λ reading. Passes 4 c reading in
+    let goes = subst P (sym is) (mark_passes which c) in
+    goes.1
 
 -- an entry starts where its mark was looked for
 abbrev pub MarkStarts : ℕ → Mark → Type 0

@@ -33,7 +33,6 @@ mod reading;
 mod tests;
 
 pub use crate::description::{Body, Entry, Fde};
-pub use crate::entry_list::EntryList;
+pub use crate::entry_list::{EntryList, entries};
 pub use crate::fault::{FrameFault, FrameKind};
 pub use crate::pointer::read_pointer;
-pub use crate::reading::entries;
