@@ -69,6 +69,3 @@ pub kept_more : (entries : List Entry) (i : ℕ) (entry : Entry) (before after :
 kept_more entries i entry before after share inside same kept stays j d f there good =
     stays f (kept j d f there good)
     (λ e is one. share.one i j entry e f inside there (sym (ap (λ (x : Entry). x.body) same) ∙ is) (other_default entries j d entry f there good) one)
-
-pub shared_by : (xs ys : List Entry) → xs ≡ ys → ShareCies ys → ShareCies xs
-shared_by xs ys same share = let P : List Entry → Type 0 = λ es. ShareCies es in subst P (sym same) share

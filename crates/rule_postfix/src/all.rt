@@ -6,7 +6,6 @@ ghost use Rattle.sym_edges.specs.Addresses.{Range};
 ghost use Rattle.range_set.specs.Enclosing.{encloses};
 ghost use Rattle.range_set.specs.Starts.{AllFrom};
 ghost use Rattle.frame_entries.specs.FdeFields.{FdeFields};
-ghost use Rattle.frame_entries.specs.SharedCies.{ShareCies};
 ghost use Rattle.frame_entries.specs.declared.description.Body.TheVariants.{Good};
 ghost use Rattle.frame_rows.specs.Rows.{rows_fault};
 ghost use Rattle.frame_rows.specs.CieLeft.{cie_left};
@@ -262,17 +261,17 @@ fn put_entry(
 fn put_entries(
     alloc: Global,
     progress: &mut Progress,
-    entries: &[Entry<'_>],
+    entries: &EntryList<'_>,
     code: &Enclosing,
     base: u64,
 ) -> Result<(), OutOfMemory>
-    requires shared { ShareCies entries.now }
-    requires above { LiesAbove base code.now }
+    requires { LiesAbove base code.now }
     ensures { OnOk result ((d : Decided) → Shows base progress.old d → Shows base progress.new (with_entries code.now entries.now d)) }
 {
     let mut states = CieStates::new(alloc);
-    for entry in entries {
-        put_entry(alloc, progress, &mut states, entry, code, base)?;
+    'entries: for i in 0..entries.len() {
+        let entry = entries.entry(i);
+        put_entry(alloc, progress, &mut states, &entry, code, base)?;
     }
     Ok(())
 }
@@ -302,8 +301,8 @@ pub fn translate_all(
         omitted: Vec::new(alloc),
         taken: Taken::new(alloc),
     };
-    put_entries(alloc, &mut progress, first.as_slice(), &enclosing, base)?;
-    put_entries(alloc, &mut progress, second.as_slice(), &enclosing, base)?;
+    put_entries(alloc, &mut progress, first, &enclosing, base)?;
+    put_entries(alloc, &mut progress, second, &enclosing, base)?;
     let Progress {
         text,
         open: _,
