@@ -116,10 +116,12 @@ fn found(alloc: Global, info: &[u8], apart: u64) -> Result<[u64; 4], Fail> {
     let read = units_of_one(alloc, part)?;
     let pieces = pieces(alloc, &read)?;
     let mut seen = [pieces.len() as u64, 0, 0, 0];
+    let mut runs = Vec::new(alloc);
     for piece in pieces.as_slice() {
         seen[1] = seen[1].saturating_add(piece.many as u64);
         seen[2] = seen[2].saturating_add(piece.end.saturating_sub(piece.start));
-        seen[3] = seen[3].saturating_add(lines_of(alloc, &read, piece)?.len() as u64);
+        lines_of(&read, piece, &mut runs)?;
+        seen[3] = seen[3].saturating_add(runs.len() as u64);
     }
     Ok(seen)
 }

@@ -4,6 +4,7 @@ mod FollowLemmas
 mod NameLemmas
 mod JoinLemmas
 pub mod TextLemmas
+mod CleanLemmas
 pub mod Computing
 mod WorkedNames
 pub mod PlaceLemmas

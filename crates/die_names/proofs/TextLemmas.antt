@@ -3,7 +3,6 @@ use Rattle.std.proofs.Common.{◌≡◌, ◌++◌, ◌||◌, ℕ, Bool, true, fa
 use Rattle.std.specs.List.{slice_get, list_any}
 use Rattle.std.specs.Option.{option_map, option_map_or}
 use Rattle.std.proofs.lemmas.Bool.{cond-true, cond-false}
-use Rattle.std.proofs.lemmas.Option.{none-some}
 use Rattle.die_walk.specs.EntryTable.{DieFields}
 use Rattle.die_names.specs.declared.naming.How.{How}
 use Rattle.die_names.specs.declared.naming.How.TheVariants.{Linkage, Joined, Omitted}
@@ -107,24 +106,27 @@ slice_scoped units name part die by is got scoped =
     ∙ ap (λ f. unless_front f die.name) (sym (front_is units name part die is))
     ∙ sym (slice_is units name part die Joined by is got)
 
--- the bytes
-sliced_joined : (front : List ℕ) (name : Option (List ℕ)) (text : List ℕ) → unless_front front name ≡ Some text → option_map (λ n. front ++ n) name ≡ Some text
-sliced_joined [] None text is = is
-sliced_joined [] (Some name) text is = is
-sliced_joined (b ∷ front) name text is = absurd (none-some text is)
+-- where a name stands in the file as it is, these are its bytes
+bare_by : (front : List ℕ) (name : Option (List ℕ)) (bytes : List ℕ) → unless_front front name ≡ Some bytes → option_map (λ n. front ++ n) name ≡ Some bytes
+bare_by [] (Some name) bytes is = is
+bare_by [] None bytes is = absurd (cc)
+bare_by (b ∷ front) name bytes is = absurd (cc)
 
-sliced_by : (units : List UnitRead) (how : How) (p : Placed) (text : List ℕ) → slice_by units how p ≡ Some text → bytes_by units how p ≡ Some text
-sliced_by units Linkage p text is = is
-sliced_by units Joined p text is = sliced_joined (front_of units p) p.die.name text is
-sliced_by units Omitted p text is = is
+slice_of : (units : List UnitRead) (how : How) (p : Placed) (bytes : List ℕ) → slice_by units how p ≡ Some bytes → bytes_by units how p ≡ Some bytes
+slice_of units Linkage p bytes is = is
+slice_of units Joined p bytes is = bare_by (front_of units p) p.die.name bytes is
+slice_of units Omitted p bytes is = absurd (cc)
 
-sliced_of : (units : List UnitRead) (how : How) (p : Option Placed) (text : List ℕ) → option_and_then (slice_by units how) p ≡ Some text → option_and_then (bytes_by units how) p ≡ Some text
-sliced_of units how None text is = is
-sliced_of units how (Some p) text is = sliced_by units how p text is
+sliced_in : (units : List UnitRead) (how : How) (at : Option Placed) (bytes : List ℕ) → option_and_then (slice_by units how) at ≡ Some bytes → option_and_then (bytes_by units how) at ≡ Some bytes
+sliced_in units how None bytes is = absurd (cc)
+sliced_in units how (Some p) bytes is = slice_of units how p bytes is
+
+pub slice_bytes : (units : List UnitRead) (name : NameRef) (bytes : List ℕ) → name_slice units name ≡ Some bytes → name_bytes units name ≡ bytes
+unfolding name_slice name_bytes
+slice_bytes units name bytes is = ap (λ o. unwrap_or o (codes "<name omitted>")) (sliced_in units name.how (entry_of units name.unit name.entry) bytes is)
 
 pub text_sliced : (units : List UnitRead) (name : NameRef) (text : List ℕ) → Some text ≡ name_slice units name → text ≡ name_bytes units name
-unfolding name_slice name_bytes
-text_sliced units name text is = ap (λ o. unwrap_or o omitted_text) (sym (sliced_of units name.how (entry_of units name.unit name.entry) text (sym is)))
+text_sliced units name text is = sym (slice_bytes units name text (sym is))
 
 text_is : (units : List UnitRead) (name : NameRef) (part : UnitRead) (die : DieFields) (how : How) → name.how ≡ how → Some part ≡ slice_get units name.unit → Some die ≡ slice_get part.die.dies name.entry → name_bytes units name ≡ unwrap_or (bytes_by units how (placed name die)) omitted_text
 unfolding name_bytes
@@ -158,22 +160,3 @@ text_no_linkage units name part die by is got none =
 
 pub text_omitted : (units : List UnitRead) (name : NameRef) (part : UnitRead) (die : DieFields) → name.how ≡ Omitted → Some part ≡ slice_get units name.unit → Some die ≡ slice_get part.die.dies name.entry → codes "<name omitted>" ≡ name_bytes units name
 text_omitted units name part die by is got = sym (text_is units name part die Omitted by is got)
-
--- where a name stands in the file as it is, these are its bytes
-bare_by : (front : List ℕ) (name : Option (List ℕ)) (bytes : List ℕ) → unless_front front name ≡ Some bytes → option_map (λ n. front ++ n) name ≡ Some bytes
-bare_by [] (Some name) bytes is = is
-bare_by [] None bytes is = absurd (cc)
-bare_by (b ∷ front) name bytes is = absurd (cc)
-
-slice_of : (units : List UnitRead) (how : How) (p : Placed) (bytes : List ℕ) → slice_by units how p ≡ Some bytes → bytes_by units how p ≡ Some bytes
-slice_of units Linkage p bytes is = is
-slice_of units Joined p bytes is = bare_by (front_of units p) p.die.name bytes is
-slice_of units Omitted p bytes is = absurd (cc)
-
-sliced_in : (units : List UnitRead) (how : How) (at : Option Placed) (bytes : List ℕ) → option_and_then (slice_by units how) at ≡ Some bytes → option_and_then (bytes_by units how) at ≡ Some bytes
-sliced_in units how None bytes is = absurd (cc)
-sliced_in units how (Some p) bytes is = slice_of units how p bytes is
-
-pub slice_bytes : (units : List UnitRead) (name : NameRef) (bytes : List ℕ) → name_slice units name ≡ Some bytes → name_bytes units name ≡ bytes
-unfolding name_slice name_bytes
-slice_bytes units name bytes is = ap (λ o. unwrap_or o (codes "<name omitted>")) (sliced_in units name.how (entry_of units name.unit name.entry) bytes is)

@@ -3,6 +3,7 @@ pub mod UnitPlaces
 pub mod Names
 pub mod NameRefs
 pub mod Owners
+pub mod KeptNames
 pub mod Finding
 pub mod Following
 pub mod Gathering

@@ -8,6 +8,7 @@ ghost use Rattle.die_names.specs.Names.{around, is_scope, scope_front, front_in}
 ghost use Rattle.die_names.specs.NameRefs.{name_bytes, name_slice};
 ghost use Rattle.die_names.specs.Gathering.{is_scope_at};
 
+use crate::kept::{NameText, whole_name};
 use crate::naming::{How, NameRef};
 use crate::unit_read::{UnitRead, Units};
 use die_walk::Die;
@@ -153,9 +154,9 @@ pub fn name_slice<'a>(units: &Units<'a>, name: NameRef) -> Option<&'a [u8]>
     }
 }
 
-/// The text of a name, as a record may carry it: `name_text` of what `name_of` gave is the name of the entry.
+/// The text of a name, made as a record may carry it.
 #[tactic(auto, using(crate::proofs::TextLemmas::text_sliced, crate::proofs::TextLemmas::text_joined, crate::proofs::TextLemmas::text_no_part, crate::proofs::TextLemmas::text_no_die, crate::proofs::TextLemmas::text_no_name, crate::proofs::TextLemmas::text_no_linkage, crate::proofs::TextLemmas::text_omitted))]
-pub fn name_text(alloc: Global, units: &Units<'_>, name: NameRef) -> Result<ByteText, OutOfMemory>
+fn made_text(alloc: Global, units: &Units<'_>, name: NameRef) -> Result<ByteText, OutOfMemory>
     ensures { IfOk result (λ t. t ≡ cleaned (name_bytes units.now name)) }
 {
     if let Some(bytes) = name_slice(units, name) {
@@ -179,4 +180,19 @@ pub fn name_text(alloc: Global, units: &Units<'_>, name: NameRef) -> Result<Byte
         How::Linkage => clean(alloc, b"<name omitted>"),
         How::Omitted => clean(alloc, b"<name omitted>"),
     }
+}
+
+/// The text of a name, as a record may carry it: `name_text` of what `name_of` gave is the name of the entry. Takes no memory where
+/// the name stands in the file as it is, and is clean.
+pub fn name_text<'a>(
+    alloc: Global,
+    units: &Units<'a>,
+    name: NameRef,
+) -> Result<NameText<'a>, OutOfMemory>
+    ensures { IfOk result (λ t. t ≡ cleaned (name_bytes units.now name)) }
+{
+    if let Some(text) = whole_name(units, name) {
+        return Ok(text);
+    }
+    Ok(NameText::of(made_text(alloc, units, name)?))
 }

@@ -1,7 +1,7 @@
 -- The walk over the stops of a line table.
-use Rattle.std.proofs.Common.{◌≡◌, ℕ, zero, suc, ◌+◌, ◌<◌, ◌≤◌, Bool, true, false, ◌&&◌, ◌==◌, nat_le, nat_lt, if◌then◌else◌, map, length, drop, subst, List, [], ◌∷◌, ◌++◌, Option, None, Some, IfSome, unwrap_or, arith, refl, sym, ap, ◌∙◌, inl, inr, append_assoc}
+use Rattle.std.proofs.Common.{◌≡◌, ℕ, zero, suc, ◌+◌, ◌<◌, ◌≤◌, Bool, true, false, ◌&&◌, ◌==◌, nat_le, nat_lt, if◌then◌else◌, map, length, drop, subst, List, [], ◌∷◌, ◌++◌, Option, None, Some, IfSome, unwrap_or, arith, refl, sym, ap, ◌∙◌, inl, inr}
 use Rattle.std.proofs.lemmas.Bool.Decides.{nat_tests}
-use Rattle.std.specs.List.{slice_get, slice_index_or}
+use Rattle.std.specs.List.{slice_get, slice_index_or, slice_set}
 use Rattle.step_maps.specs.Runs.{IsRuns, AreRuns, between, has, value_in}
 use Rattle.step_maps.specs.Stepping.{RisesFrom}
 use Rattle.step_maps.proofs.SteppingLemmas.{Point}
@@ -149,19 +149,21 @@ walks_start table stops count n start end now same some rising few point is know
 pub drop_next : (xs : List ℕ) (n d : ℕ) → n < length xs → drop n xs ≡ slice_index_or xs n d ∷ drop (n + 1) xs
 drop_next xs n d inside = drop_index xs n (slice_index_or xs n d) inside (get_or_default xs n d (slice_index_or xs n d) inside)
 
--- a run added behind the last of a list
-pub with_last : (xs : List LineRun) (x r : LineRun) → with_run (xs ++ x ∷ []) r ≡ xs ++ with_run_after x [] r
-with_last [] x r = refl
-with_last (y ∷ []) x r = refl
-with_last (y ∷ z ∷ ys) x r = ap (λ l. y ∷ l) (with_last (z ∷ ys) x r)
+-- the last run made longer, where another goes on with it
+pub with_longer : (runs : List LineRun) (n : ℕ) (x r : LineRun) → n + 1 ≡ length runs → x ≡ slice_index_or runs n x → continues x r ≡ true → slice_set runs n (record { start = x.start; end = r.end; path = x.path; line = x.line }) ≡ with_run runs r
+with_longer [] n x r few last on = absurd (omega arith)
+with_longer (y ∷ []) zero x r few last on = subst (λ (z : LineRun). record { start = x.start; end = r.end; path = x.path; line = x.line } ∷ [] ≡ with_run (z ∷ []) r) last (sym (ap (λ b. if b then record { start = x.start; end = r.end; path = x.path; line = x.line } ∷ [] else x ∷ r ∷ []) on))
+with_longer (y ∷ []) (suc n) x r few last on = absurd (omega arith)
+with_longer (y ∷ z ∷ runs) zero x r few last on = absurd (omega arith)
+with_longer (y ∷ z ∷ runs) (suc n) x r few last on = ap (λ l. y ∷ l) (with_longer (z ∷ runs) n x r (omega arith) last on)
 
-pub with_on : (xs : List LineRun) (x r : LineRun) → true ≡ continues x r → xs ++ record { start = x.start; end = r.end; path = x.path; line = x.line } ∷ [] ≡ with_run (xs ++ x ∷ []) r
-with_on xs x r on = sym (with_last xs x r ∙ ap (λ b. xs ++ (if b then record { start = x.start; end = r.end; path = x.path; line = x.line } ∷ [] else x ∷ r ∷ [])) (sym on))
-
-pub with_off : (xs : List LineRun) (x r : LineRun) → false ≡ continues x r → (xs ++ x ∷ []) ++ r ∷ [] ≡ with_run (xs ++ x ∷ []) r
-with_off xs x r off =
-    append_assoc xs (x ∷ []) (r ∷ [])
-    ∙ sym (with_last xs x r ∙ ap (λ b. xs ++ (if b then record { start = x.start; end = r.end; path = x.path; line = x.line } ∷ [] else x ∷ r ∷ [])) (sym off))
+-- another run behind the last, where it does not go on with it
+pub with_more : (runs : List LineRun) (n : ℕ) (x r : LineRun) → n + 1 ≡ length runs → x ≡ slice_index_or runs n x → continues x r ≡ false → runs ++ r ∷ [] ≡ with_run runs r
+with_more [] n x r few last off = absurd (omega arith)
+with_more (y ∷ []) zero x r few last off = subst (λ (z : LineRun). z ∷ r ∷ [] ≡ with_run (z ∷ []) r) last (sym (ap (λ b. if b then record { start = x.start; end = r.end; path = x.path; line = x.line } ∷ [] else x ∷ r ∷ []) off))
+with_more (y ∷ []) (suc n) x r few last off = absurd (omega arith)
+with_more (y ∷ z ∷ runs) zero x r few last off = absurd (omega arith)
+with_more (y ∷ z ∷ runs) (suc n) x r few last off = ap (λ l. y ∷ l) (with_more (z ∷ runs) n x r (omega arith) last off)
 
 pub known_by : (count : ℕ) (o : Option (ℕ × ℕ)) → IfSome o (λ line. line.0 < count) → IsKnown count o
 known_by count None known = tt

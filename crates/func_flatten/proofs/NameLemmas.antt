@@ -1,42 +1,20 @@
 -- Names that were met, and classes by them.
-use Rattle.std.proofs.Common.{◌≡◌, ◌≢◌, ℕ, zero, suc, ◌+◌, ◌-◌, ◌<◌, ◌≤◌, ◌==◌, Bool, true, false, cond, if◌then◌else◌, map, length, take, drop, min, get_or, List, [], ◌∷◌, ◌++◌, Option, None, Some, arith, refl, sym, ap, ◌∙◌, unwrap_or, Ordering, Less, Equal, Greater}
+use Rattle.std.proofs.Common.{◌≡◌, ℕ, zero, suc, ◌+◌, ◌-◌, ◌<◌, ◌==◌, Bool, true, false, cond, if◌then◌else◌, map, length, take, drop, get_or, List, [], ◌∷◌, ◌++◌, Option, None, Some, arith, refl, sym, ap, ◌∙◌, unwrap_or, Ordering, Less, Equal, Greater}
 use Rattle.std.proofs.lemmas.Bool.Decides.{nat_tests}
-use Rattle.std.proofs.lemmas.List.{take_more, take_all}
+use Rattle.std.proofs.lemmas.List.{take_more}
 use Rattle.std.proofs.lemmas.Map.Text.{is_eq-slice_cmp, btree_map_updates_str}
 use Rattle.std.proofs.lemmas.Slice.Eq.{bytes_eq-Decides}
 use Rattle.std.specs.BTreeMap as tree
 use Rattle.std.specs.Cmp.Lexicographic.{slice_cmp}
 use Rattle.std.specs.Global.{Vec}
-use Rattle.std.specs.List.{find, list_all, slice_get}
+use Rattle.std.specs.List.{find, slice_get}
 use Rattle.std.specs.Map.{lookup}
 use Rattle.std.specs.Option.{option_map, option_or}
 use Rattle.std.specs.Ordering.{nat_cmp, match_ordering, is_eq}
 use Rattle.std.specs.Str.{bytes_eq}
-use Rattle.sym_rules.specs.Cuts.{is_space, skip}
-use Rattle.sym_records.specs.Cleaning.{shown_byte, cleaned, cleaned_upto}
-use Rattle.sym_records.proofs.CleaningLemmas.{cleaned_some, all_same}
 use Rattle.step_maps.specs.declared.stretch.Stretch.{Stretch}
 use Rattle.func_flatten.specs.declared.classing.Names.{Names}
 use Rattle.func_flatten.specs.Classes.{first_named, class_by, classed, class_where, last_class, name_number, Meets}
-
-skipped : (b : ℕ) (bytes : List ℕ) → b ≢ 32 → skip is_space (b ∷ bytes) ≡ b ∷ bytes
-unfolding skip
-skipped b bytes differ = go (b == 32) refl
-  where
-    go : (t : Bool) → (b == 32) ≡ t → (if t then skip is_space bytes else b ∷ bytes) ≡ b ∷ bytes
-    go true is = absurd (differ (grind (arith, nat_tests)))
-    go false is = refl
-
-clean_upto : (limit : ℕ) (bytes : List ℕ) → length bytes ≢ 0 → length bytes ≤ limit → get_or bytes 0 0 ≢ 32 → list_all (λ b. shown_byte b == b) bytes ≡ true → cleaned_upto limit bytes ≡ bytes
-clean_upto limit [] some short first all = absurd (some refl)
-clean_upto limit (b ∷ bytes) some short first all =
-    cleaned_some limit (b ∷ bytes) (b ∷ bytes) (sym (ap (λ l. take (min limit (length l)) l) (skipped b bytes first) ∙ take_all (min limit (length (b ∷ bytes))) (b ∷ bytes) (omega arith))) some
-    ∙ sym (all_same (b ∷ bytes) [] (b ∷ bytes) all refl)
-
--- a name that cleaning leaves as it is
-pub clean_already : (bytes : List ℕ) → length bytes ≢ 0 → length bytes ≤ 65536 → get_or bytes 0 0 ≢ 32 → list_all (λ b. shown_byte b == b) bytes ≡ true → cleaned bytes ≡ bytes
-unfolding cleaned
-clean_already bytes some short first all = clean_upto 65536 bytes some short first all
 
 or_none : {A : Type 0} (o : Option A) → option_or o None ≡ o
 or_none None = refl

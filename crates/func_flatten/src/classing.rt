@@ -7,7 +7,7 @@ ghost use Rattle.die_names.specs.NameRefs.{name_bytes};
 ghost use Rattle.func_flatten.specs.Classes.{place_name, place_at, number_name, name_number, class_by, classed, last_class, Meets};
 
 use crate::piece::Place;
-use die_names::{NameRef, Units, name_of, name_slice, name_text};
+use die_names::{Units, name_of, name_text};
 use std::alloc::Global;
 use std::collections::BTreeMap;
 use step_maps::Stretch;
@@ -53,40 +53,6 @@ fn meet_made(names: &mut Names<'_>, name: Vec<u8>, number: u32) -> Result<u32, O
     Ok(number)
 }
 
-/// Whether no byte is a control byte.
-fn are_shown(bytes: &[u8]) -> bool
-    ensures { result ≡ list_all (λ b. shown_byte b == b) bytes.now }
-{
-    bytes.iter().all(|b| *b >= 0x20 && *b != 0x7f)
-}
-
-/// Whether a name is clean as it is.
-fn is_clean(bytes: &[u8]) -> bool
-    ensures { result ≡ true → cleaned bytes.now ≡ bytes.now }
-{
-    if bytes.is_empty() {
-        return false;
-    }
-    if bytes.len() > 65_536 {
-        return false;
-    }
-    if bytes[0] == b' ' {
-        return false;
-    }
-    are_shown(bytes)
-}
-
-/// A name that stands in the file as a record may carry it.
-fn whole_name<'a>(units: &Units<'a>, name: NameRef) -> Option<&'a [u8]>
-    ensures { IfSome (option_copied result) (λ text. text ≡ cleaned (name_bytes units.now name)) }
-{
-    let bytes = name_slice(units, name)?;
-    if is_clean(bytes) {
-        return Some(bytes);
-    }
-    None
-}
-
 /// The number of the first function with the name of this one.
 fn meet<'a>(
     alloc: Global,
@@ -97,12 +63,11 @@ fn meet<'a>(
 ) -> Result<u32, OutOfMemory>
     ensures { IfOk result (λ class. Meets names.old names.new (place_name units.now place) number class) }
 {
-    let name = name_of(units, place.unit, place.entry);
-    if let Some(bytes) = whole_name(units, name) {
-        return meet_whole(names, bytes, number);
+    let text = name_text(alloc, units, name_of(units, place.unit, place.entry))?;
+    match text.into_made() {
+        Ok(text) => meet_made(names, text.into_vec(), number),
+        Err(bytes) => meet_whole(names, bytes, number),
     }
-    let text = name_text(alloc, units, name)?;
-    meet_made(names, text.into_vec(), number)
 }
 
 /// The place of the function of a number.

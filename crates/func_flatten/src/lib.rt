@@ -26,7 +26,7 @@ mod piece;
 mod public;
 mod uncovered;
 
-pub use crate::line_run::{LineRun, LineRuns};
+pub use crate::line_run::LineRun;
 pub use crate::lines::lines_of;
 pub use crate::owning::pieces;
 pub use crate::piece::{Piece, PieceList, Place};

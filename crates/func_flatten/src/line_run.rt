@@ -1,5 +1,4 @@
-//! The types of line runs.
-use sym_edges::ListOf;
+//! Runs of a line.
 
 /// The addresses from `start` up to, and without, `end`, which come from one line of one file: the path of that number in the line
 /// table of the unit. 24 bytes.
@@ -10,6 +9,3 @@ pub struct LineRun {
     pub path: u32,
     pub line: u32,
 }
-
-/// Line runs in the order of their addresses.
-pub type LineRuns = ListOf<LineRun>;

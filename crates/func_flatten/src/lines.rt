@@ -1,5 +1,5 @@
 //! The lines of a piece.
-ghost use Rattle.std.specs.Prelude.{◌≡◌, ℕ, ◌<◌, ◌≤◌, map, length, IfOk, OnOk};
+ghost use Rattle.std.specs.Prelude.{◌≡◌, ℕ, ◌<◌, ◌≤◌, [], ◌∷◌, ◌++◌, true, false, map, length, OnOk};
 ghost use Rattle.std.specs.List.{slice_get};
 ghost use Rattle.std.specs.Option.{option_copied};
 ghost use Rattle.step_maps.specs.Runs.{IsRuns, between};
@@ -7,12 +7,12 @@ ghost use Rattle.line_program.specs.LineMaps.{numbered_line, named_line, AreDist
 ghost use Rattle.func_flatten.specs.LineRuns.{number_run, path_run, AreLineRuns};
 ghost use Rattle.func_flatten.specs.Growing.{continues, with_run, with_part, AreKnown};
 
-use crate::line_run::{LineRun, LineRuns};
+use crate::line_run::LineRun;
 use crate::piece::Piece;
 use die_names::{UnitRead, Units};
 use line_program::LineTable;
-use std::alloc::{AllocError, Global};
-use sym_edges::{ListOf, OutOfMemory};
+use std::alloc::AllocError;
+use sym_edges::OutOfMemory;
 
 /// What was read of the unit of a number.
 fn part_in<'u, 'a>(units: &'u Units<'a>, unit: usize) -> Option<&'u UnitRead<'a>>
@@ -21,20 +21,25 @@ fn part_in<'u, 'a>(units: &'u Units<'a>, unit: usize) -> Option<&'u UnitRead<'a>
     units.as_slice().get(unit)
 }
 
-/// The lines of a piece: for each maximal run of its addresses with one path and one line, by the table of its unit, a line run,
-/// by address.
-pub fn lines_of(alloc: Global, units: &Units<'_>, piece: &Piece) -> Result<LineRuns, OutOfMemory>
-    ensures { IfOk result (λ runs. AreLineRuns units.now piece.now runs) }
+/// Puts the lines of a piece in the place of what `runs` held: for each maximal run of its addresses with one path and one line, by
+/// the table of its unit, a line run, by address.
+pub fn lines_of(
+    units: &Units<'_>,
+    piece: &Piece,
+    runs: &mut Vec<LineRun>,
+) -> Result<(), OutOfMemory>
+    ensures { OnOk result (AreLineRuns units.now piece.now runs.new.items) }
 {
+    runs.clear();
     let Some(part) = part_in(units, piece.unit as usize) else {
-        return Ok(ListOf::of(Vec::new(alloc)));
+        return Ok(());
     };
     if piece.end <= piece.start {
-        return Ok(ListOf::of(Vec::new(alloc)));
+        return Ok(());
     }
-    let runs = line_runs(alloc, &part.lines, piece.start, piece.end)?;
+    put_runs(&part.lines, piece.start, piece.end, runs)?;
     tell_apart(&part.lines, runs.as_slice());
-    Ok(ListOf::of(runs))
+    Ok(())
 }
 
 /// No two numbers have one path.
@@ -47,34 +52,34 @@ fn tell_apart(table: &LineTable, runs: &[LineRun])
     }
 }
 
-/// The runs of the line from `start` up to `end`.
-fn line_runs(
-    alloc: Global,
+/// Puts the runs of the line from `start` up to `end` where there are none.
+fn put_runs(
     table: &LineTable,
     start: u64,
     end: u64,
-) -> Result<Vec<LineRun>, OutOfMemory>
-    requires { start < end }
-    ensures runs { IfOk result (λ runs. IsRuns (between start end (numbered_line table.now)) (map number_run runs.items)) }
-    ensures known { IfOk result (λ runs. AreKnown (length table.now.paths) runs.items) }
+    runs: &mut Vec<LineRun>,
+) -> Result<(), OutOfMemory>
+    requires none { runs.old.items ≡ [] }
+    requires some { start < end }
+    ensures runs { OnOk result (IsRuns (between start end (numbered_line table.now)) (map number_run runs.new.items)) }
+    ensures known { OnOk result (AreKnown (length table.now.paths) runs.new.items) }
 {
     let stops = table.stops();
     let first = stops.partition_point(|stop| *stop <= start);
-    let mut runs = Vec::new(alloc);
     let mut at = start;
     let mut now = table.line_at(start);
     'stops: for place in first..stops.len() {
         let stop = stops[place];
         if end <= stop {
-            push_part(&mut runs, now, at, end)?;
-            return Ok(runs);
+            push_part(runs, now, at, end)?;
+            return Ok(());
         }
-        push_part(&mut runs, now, at, stop)?;
+        push_part(runs, now, at, stop)?;
         at = stop;
         now = table.line_from(place);
     }
-    push_part(&mut runs, now, at, end)?;
-    Ok(runs)
+    push_part(runs, now, at, end)?;
+    Ok(())
 }
 
 /// Adds a run, where there is a line.
@@ -104,22 +109,28 @@ fn push_part(
 fn push_run(runs: &mut Vec<LineRun>, run: LineRun) -> Result<(), AllocError>
     ensures { OnOk result (runs.new.items ≡ with_run runs.old.items run) }
 {
-    let Some(last) = runs.pop() else {
-        runs.push(run)?;
-        return Ok(());
-    };
-    if continues(last, run) {
-        runs.push(LineRun {
-            start: last.start,
-            end: run.end,
-            path: last.path,
-            line: last.line,
-        })?;
+    if lengthen(runs, run) {
         return Ok(());
     }
-    runs.push(last)?;
     runs.push(run)?;
     Ok(())
+}
+
+/// Makes the last run longer where another goes on with the same path and line.
+#[tactic(auto, using(crate::proofs::LineLemmas::with_longer, crate::proofs::LineLemmas::with_more))]
+fn lengthen(runs: &mut Vec<LineRun>, run: LineRun) -> bool
+    ensures longer { result ≡ true → runs.new.items ≡ with_run runs.old.items run }
+    ensures stays { result ≡ false → runs.new.items ≡ runs.old.items }
+    ensures apart { result ≡ false → runs.old.items ++ run ∷ [] ≡ with_run runs.old.items run }
+{
+    let Some(last) = runs.last_mut() else {
+        return false;
+    };
+    if !continues(*last, run) {
+        return false;
+    }
+    last.end = run.end;
+    true
 }
 
 /// Whether a run goes on where the last ended, with the same path and line.

@@ -1,11 +1,10 @@
 -- The records of the paths and the names in use, as they are spelled.
-use Rattle.std.proofs.Common.{◌≡◌, ℕ, zero, suc, ◌+◌, ◌<◌, ◌≤◌, ◌^◌, true, length, take, List, [], ◌∷◌, ◌++◌, None, Some, arith, sym, ap, subst, ◌∙◌, Bor, append_assoc, append-nil}
+use Rattle.std.proofs.Common.{◌≡◌, ℕ, zero, suc, ◌+◌, ◌<◌, true, length, take, List, [], ◌∷◌, ◌++◌, None, Some, arith, sym, ap, subst, ◌∙◌, refl, Bor, append_assoc, append-nil}
 use Rattle.std.specs.List.{slice_get}
 use Rattle.std.proofs.lemmas.Option.{slice_get_within}
 use Rattle.std.proofs.lemmas.List.{length-take-le}
 use Rattle.sym_records.specs.Canon.{canon, canon_text}
 use Rattle.sym_records.specs.Cleaning.{cleaned}
-use Rattle.sym_records.specs.Fields.{is_name}
 use Rattle.sym_records.specs.Reading.{fits, leads}
 use Rattle.sym_records.specs.Validity.{fields_fit, first_bad_from}
 use Rattle.sym_records.specs.declared.place.Place.TheVariants.{Inside}
@@ -13,7 +12,10 @@ use Rattle.sym_records.specs.declared.line.SymLine.{SymLine}
 use Rattle.sym_records.proofs.JoiningLemmas.{from_here, join_behind}
 use Rattle.func_records.specs.FuncRecords.{numbered_lines}
 use Rattle.func_records.specs.Gathering.{bytes_of}
+use Rattle.func_records.specs.Numbering.{numbered}
 use Rattle.func_records.specs.Spelling.{AreClean}
+use Rattle.func_records.specs.declared.numbering.Numbering.{Numbering}
+use Rattle.func_records.specs.declared.numbering.Numbering.TheVariants as by
 use Rattle.func_records.proofs.ListLemmas.{take_more}
 use Rattle.func_records.proofs.CanonLemmas.{canon_none, canon_join, canon_more, none_here}
 
@@ -50,12 +52,15 @@ line_text made xs n x full old mid last after new clean is so added all turned =
     ∙ sym (canon_join front (made n x.now ∷ []))
     ∙ sym (ap canon_text (lines_more made (bytes_of xs) n x.now text)))
 
-pub line_fit : (made : ℕ → List ℕ → SymLine) (xs : List (Bor (List ℕ))) (n : ℕ) (x : Bor (List ℕ)) → ((number : ℕ) (text : List ℕ) → fits Inside (made number text) ≡ true) → AreClean (bytes_of xs) → slice_get xs n ≡ Some x → first_bad_from 0 Inside (numbered_lines made 0 (take n (bytes_of xs))) ≡ None → n < 2 ^ 32 → ((bytes : List ℕ) → is_name (cleaned bytes) ≡ true) → ((bytes : List ℕ) → length (cleaned bytes) ≤ 65536) → ((number : ℕ) (name : List ℕ) → number < 2 ^ 32 → is_name name ≡ true → length name ≤ 2 ^ 16 → fields_fit (made number name) ≡ true) → first_bad_from 0 Inside (numbered_lines made 0 (take (n + 1) (bytes_of xs))) ≡ None
-line_fit made xs n x stands clean is so few named short fit =
+-- such a record may stand anywhere
+pub stands_inside : (numbering : Numbering) (number : ℕ) (text : List ℕ) → fits Inside (numbered numbering number text) ≡ true
+stands_inside by.Files number text = refl
+stands_inside by.Origins number text = refl
+
+pub line_fit : (made : ℕ → List ℕ → SymLine) (xs : List (Bor (List ℕ))) (n : ℕ) (x : Bor (List ℕ)) → ((number : ℕ) (text : List ℕ) → fits Inside (made number text) ≡ true) → AreClean (bytes_of xs) → slice_get xs n ≡ Some x → first_bad_from 0 Inside (numbered_lines made 0 (take n (bytes_of xs))) ≡ None → fields_fit (made n (cleaned x.now)) ≡ true → first_bad_from 0 Inside (numbered_lines made 0 (take (n + 1) (bytes_of xs))) ≡ None
+line_fit made xs n x stands clean is so fit =
     let text = bytes_at xs n x is in
-    let same : cleaned x.now ≡ x.now = clean_at (bytes_of xs) n x.now clean text in
-    let small : length (cleaned x.now) ≤ 65536 = short x.now in
-    let good : fields_fit (made n x.now) ≡ true = subst (λ q. fields_fit (made n q) ≡ true) same (fit n (cleaned x.now) few (named x.now) (omega (arith, small))) in
+    let good : fields_fit (made n x.now) ≡ true = subst (λ q. fields_fit (made n q) ≡ true) (clean_at (bytes_of xs) n x.now clean text) fit in
     let last : first_bad_from 0 Inside (made n x.now ∷ []) ≡ None = from_here 0 Inside (made n x.now) [] (stands n x.now) good (none_here 1 (leads Inside (made n x.now))) in
     ap (first_bad_from 0 Inside) (lines_more made (bytes_of xs) n x.now text)
     ∙ join_behind (numbered_lines made 0 (take n (bytes_of xs))) (made n x.now ∷ []) so last

@@ -3,6 +3,7 @@ pub mod FuncRecords
 pub mod TextNames
 pub mod Calls
 pub mod Gathering
+pub mod Numbering
 pub mod Spelling
 pub mod Origins
 pub mod Parts

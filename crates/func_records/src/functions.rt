@@ -6,12 +6,12 @@ ghost use Rattle.func_records.specs.Adding.{HaveCleanPaths, AddsFunctions};
 use crate::call_paths::no_path;
 use crate::holding::hold_inlines;
 use crate::names::gather_names;
+use crate::numbering::{Numbering, add_texts};
 use crate::numbers::{Numbers, number_of, number_rows};
 use crate::origins::number_origins;
 use crate::paths::gather_paths;
 use crate::sorting::{sorted_texts, text_slices};
 use crate::spelling::add_parts;
-use crate::tables::{add_files, add_origins};
 use die_names::Units;
 use func_flatten::Piece;
 use std::alloc::Global;
@@ -54,8 +54,8 @@ pub fn add_functions(
         names,
         origins: origins.as_slice(),
     };
-    add_files(alloc, paths, text)?;
-    add_origins(alloc, names, text)?;
+    add_texts(alloc, Numbering::Files, paths, text)?;
+    add_texts(alloc, Numbering::Origins, names, text)?;
     add_parts(alloc, base, units, &numbers, pieces, copies, text)?;
     Ok(())
 }

@@ -10,7 +10,7 @@
 //! (`laws::records_have_no_findings`).
 //!
 //! To read: `functions` first, then `holding`; `calls`, `marks`, `call_paths` and `paths`; `names`; `sorting`, `numbers` and
-//! `origins`; and `tables`, `inlines` and `spelling`.
+//! `origins`; and `numbering`, `inlines` and `spelling`.
 #![tactic(auto)]
 
 mod call_paths;
@@ -21,11 +21,11 @@ mod inlines;
 pub mod laws;
 mod marks;
 mod names;
+mod numbering;
 mod numbers;
 mod origins;
 mod paths;
 mod sorting;
 mod spelling;
-mod tables;
 
 pub use functions::add_functions;

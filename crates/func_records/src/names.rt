@@ -5,18 +5,17 @@ ghost use Rattle.std.specs.Str.{bytes_eq};
 ghost use Rattle.die_names.specs.declared.naming.NameRef.{NameRef};
 ghost use Rattle.func_records.specs.Origins.{made_name, entry_names, all_names};
 
-use die_names::{How, NameRef, Units, name_of, name_text};
+use die_names::{How, NameRef, NameText, Units, name_of, name_text};
 use func_flatten::Piece;
 use inline_chain::{InlineRun, InlineRuns};
 use std::alloc::Global;
 use sym_edges::OutOfMemory;
-use sym_records::ByteText;
 
 /// Names, and which entry gives each of them.
 #[derive(Drop)]
-pub struct OriginNames {
+pub struct OriginNames<'a> {
     pub refs: Vec<NameRef>,
-    pub texts: Vec<ByteText>,
+    pub texts: Vec<NameText<'a>>,
 }
 
 /// References are sorted and looked up by the numbers of their entries.
@@ -118,11 +117,11 @@ fn distinct_refs(alloc: Global, refs: &[NameRef]) -> Result<Vec<NameRef>, OutOfM
 }
 
 /// The names that entries give, cleaned.
-fn make_names(
+fn make_names<'a>(
     alloc: Global,
-    units: &Units<'_>,
+    units: &Units<'a>,
     refs: &[NameRef],
-) -> Result<Vec<ByteText>, OutOfMemory>
+) -> Result<Vec<NameText<'a>>, OutOfMemory>
     ensures { IfOk result (λ texts. texts.items ≡ map (made_name units.now) refs.now) }
 {
     let mut texts = Vec::with_capacity(alloc, refs.len())?;
@@ -135,12 +134,12 @@ fn make_names(
 }
 
 /// The names of the functions that were inlined, each once for the entry that gives it.
-pub fn gather_names(
+pub fn gather_names<'a>(
     alloc: Global,
-    units: &Units<'_>,
+    units: &Units<'a>,
     pieces: &[Piece],
     held: &[InlineRuns],
-) -> Result<OriginNames, OutOfMemory>
+) -> Result<OriginNames<'a>, OutOfMemory>
     requires { length held.now ≡ length pieces.now }
     ensures made { IfOk result (λ names. names.texts.items ≡ map (made_name units.now) names.refs.items) }
     ensures same { IfOk result (λ names. (name : List ℕ) → list_any (bytes_eq name) names.texts.items ≡ list_any (bytes_eq name) (all_names units.now pieces.now held.now)) }

@@ -10,10 +10,9 @@ ghost use Rattle.func_records.specs.Origins.{made_name, numbered_refs, AllNumber
 
 use crate::names::{is_same, key_of};
 use crate::numbers::{Numbers, number_of};
-use die_names::{NameRef, Units, name_of, name_text};
+use die_names::{NameRef, NameText, Units, name_of, name_text};
 use std::alloc::Global;
 use sym_edges::OutOfMemory;
-use sym_records::ByteText;
 
 /// The number of a name.
 #[derive(Clone, Copy, Debug, PartialEq, Eq)]
@@ -26,7 +25,7 @@ pub struct Origin {
 pub fn number_origins(
     alloc: Global,
     refs: &[NameRef],
-    texts: &[ByteText],
+    texts: &[NameText<'_>],
     sorted: &[&[u8]],
 ) -> Result<Vec<Origin>, OutOfMemory>
     requires count { length texts.now ≡ length refs.now }

@@ -55,13 +55,14 @@ fn gather_texts<'u>(
     Ok(())
 }
 
-/// Adds the paths of a piece.
+/// Adds the paths of a piece. What `runs` holds does not matter: it is used again for the sake of its memory.
 #[tactic(auto, using(crate::proofs::PathLemmas::all_pathed))]
 fn gather_piece<'u>(
     alloc: Global,
     units: &'u Units<'_>,
     piece: &Piece,
     copies: &[InlineRun],
+    runs: &mut Vec<LineRun>,
     rows: &mut Vec<Marks>,
     omitted: &mut bool,
     used: &mut Vec<&'u [u8]>,
@@ -72,7 +73,7 @@ fn gather_piece<'u>(
     ensures omitted { OnOk result (OmittedSays omitted.new used.new.items) }
     ensures added { OnOk result (AddsPiece units.now piece.now copies.now used.old.items used.new.items) }
 {
-    let runs = lines_of(alloc, units, piece)?;
+    lines_of(units, piece, runs)?;
     let unit = piece.unit as usize;
     if unit >= rows.len() {
         let mut row = Marks::of(Vec::new(alloc));
@@ -112,12 +113,14 @@ pub fn gather_paths<'u>(
     let mut rows = empty_rows(alloc, units)?;
     let mut omitted = false;
     let mut used = Vec::new(alloc);
+    let mut runs = Vec::new(alloc);
     'pieces: for place in 0..pieces.len() {
         gather_piece(
             alloc,
             units,
             &pieces[place],
             held[place].as_slice(),
+            &mut runs,
             &mut rows,
             &mut omitted,
             &mut used,

@@ -4,9 +4,9 @@ ghost use Rattle.std.specs.List.Sorted.{IsStrictlySortedBy};
 ghost use Rattle.func_records.specs.Texts.{text_cmp, SameTexts};
 ghost use Rattle.func_records.specs.Gathering.{bytes_of};
 
+use die_names::NameText;
 use std::alloc::{AllocError, Global};
 use sym_edges::OutOfMemory;
-use sym_records::ByteText;
 
 /// The texts in the order of their bytes, once each.
 pub fn sorted_texts<'a>(alloc: Global, texts: &[&'a [u8]]) -> Result<Vec<&'a [u8]>, AllocError>
@@ -20,7 +20,10 @@ pub fn sorted_texts<'a>(alloc: Global, texts: &[&'a [u8]]) -> Result<Vec<&'a [u8
 }
 
 /// The bytes of texts.
-pub fn text_slices<'t>(alloc: Global, texts: &'t [ByteText]) -> Result<Vec<&'t [u8]>, OutOfMemory>
+pub fn text_slices<'t>(
+    alloc: Global,
+    texts: &'t [NameText<'_>],
+) -> Result<Vec<&'t [u8]>, OutOfMemory>
     ensures { IfOk result (λ slices. bytes_of slices.items ≡ texts.now) }
 {
     let mut slices = Vec::with_capacity(alloc, texts.len())?;

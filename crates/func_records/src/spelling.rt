@@ -72,7 +72,7 @@ fn add_owner(
     add_func(text, piece.many, address, size, 0, made.as_slice())
 }
 
-/// Adds the records of a piece, its inlined copies and its lines.
+/// Adds the records of a piece, its inlined copies and its lines. What `ranges` and `runs` hold does not matter.
 fn add_part(
     alloc: Global,
     base: u64,
@@ -81,6 +81,7 @@ fn add_part(
     piece: &Piece,
     copies: &[InlineRun],
     ranges: &mut Vec<Extent>,
+    runs: &mut Vec<LineRun>,
     text: &mut TextPieces,
 ) -> Result<(), OutOfMemory>
     requires numbered { AreNumbered units.now numbers.now }
@@ -98,7 +99,7 @@ fn add_part(
         ranges,
         &mut text.last,
     )?;
-    let runs = lines_of(alloc, units, piece)?;
+    lines_of(units, piece, runs)?;
     add_runs(
         &mut text.last,
         base,
@@ -125,6 +126,7 @@ pub fn add_parts(
     ensures { OnOk result (AddsParts base numbers.now units.now pieces.now held.now (text_bytes text.old) (text_bytes text.new)) }
 {
     let mut ranges = Vec::new(alloc);
+    let mut runs = Vec::new(alloc);
     'pieces: for place in 0..pieces.len() {
         add_part(
             alloc,
@@ -134,6 +136,7 @@ pub fn add_parts(
             &pieces[place],
             held[place].as_slice(),
             &mut ranges,
+            &mut runs,
             text,
         )?;
     }

@@ -2,9 +2,8 @@ use Rattle.func_flatten.proofs.LineLemmas.{lines_none, lines_some}
 use Rattle.func_flatten.proofs.lines.lines_of.Goals as goal
 
 pub returns-in_default : goal.returns-in_default
-returns-in_default c = rw (c.of.ensures, c.new.ensures.items) (lines_none c.args.units.now c.args.piece.now c.in_default.ensures)
+returns-in_default c = rw c.clear.ensures.items (lines_none c.args.units.now c.args.piece.now c.in_default.ensures)
 
 pub returns : goal.returns
 returns c =
-    rw c.of-2.ensures
-    (lines_some c.args.units.now c.args.piece.now _ c.in-Some.part.now c.in-Some.ensures c.in_ok-runs.ensures.runs c.in_ok-runs.ensures.known (rw c.as_slice.ensures.value at c.tell_apart.ensures))
+    lines_some c.args.units.now c.args.piece.now _ c.in-Some.part.now c.in-Some.ensures c.in_ok-put_runs.ensures.runs c.in_ok-put_runs.ensures.known (rw c.as_slice.ensures.value at c.tell_apart.ensures)

@@ -9,14 +9,14 @@ use Rattle.func_records.proofs.UsedLemmas.{paths_clean, names_clean}
 use Rattle.func_records.proofs.AddLemmas.{functions_added}
 use Rattle.func_records.proofs.functions.add_functions.Goals as goal
 
-pub add_files-requires-clause-clean : goal.add_files-requires-clause-clean
-add_files-requires-clause-clean c =
+pub add_texts-requires-clause-clean : goal.add_texts-requires-clause-clean
+add_texts-requires-clause-clean c =
     let used : c.as_slice.result.now ≡ c.in_ok-used.used.items = c.as_slice.ensures.value in
     let paths : c.as_slice-paths.result.now ≡ c.in_ok-sorted.sorted.items = c.as_slice-paths.ensures.value in
     paths_clean c.args.units.now c.args.pieces.now c.as_slice-copies.result.now c.in_ok-used.used.items c.as_slice-paths.result.now c.requires c.in_ok-used.ensures (rw (sym paths) at (rw used at c.in_ok-sorted.ensures.same))
 
-pub add_origins-requires-clause-clean : goal.add_origins-requires-clause-clean
-add_origins-requires-clause-clean c =
+pub add_texts-requires-2-clause-clean : goal.add_texts-requires-2-clause-clean
+add_texts-requires-2-clause-clean c =
     let slices : c.as_slice-2.result.now ≡ c.in_ok-slices.slices.items = c.as_slice-2.ensures.value in
     let names : c.as_slice-names.result.now ≡ c.in_ok-sorted_names.sorted_names.items = c.as_slice-names.ensures.value in
     names_clean c.args.units.now c.in_ok-named.named.refs.items c.in_ok-named.named.texts.items c.in_ok-slices.slices.items c.as_slice-names.result.now c.in_ok-named.ensures.made (c.in_ok-slices.ensures ∙ c.as_slice-texts.ensures.value) (rw (sym names) at (rw slices at c.in_ok-sorted_names.ensures.same))
@@ -42,4 +42,4 @@ returns c =
     let paths : c.as_slice-paths.result.now ≡ c.in_ok-sorted.sorted.items = c.as_slice-paths.ensures.value in
     let slices : c.as_slice-2.result.now ≡ c.in_ok-slices.slices.items = c.as_slice-2.ensures.value in
     let names : c.as_slice-names.result.now ≡ c.in_ok-sorted_names.sorted_names.items = c.as_slice-names.ensures.value in
-    functions_added c.args.base c.args.units.now c.args.pieces.now c.as_slice-copies.result.now c.in_ok-used.used.items c.as_slice-paths.result.now c.in_ok-slices.slices.items c.as_slice-names.result.now c.in_ok-named.named.texts.items _ (text_bytes c.args.text.now) _ _ _ (rw (sym copies) at c.in_ok-held.ensures.are) c.in_ok-used.ensures (rw (sym paths) at c.in_ok-sorted.ensures.sorted) (rw (sym paths) at (rw used at c.in_ok-sorted.ensures.same)) c.in_ok-named.ensures.same (c.in_ok-slices.ensures ∙ c.as_slice-texts.ensures.value) (rw (sym names) at c.in_ok-sorted_names.ensures.sorted) (rw (sym names) at (rw slices at c.in_ok-sorted_names.ensures.same)) (c.as_slice-4.ensures.value ∙ c.in_ok-rows.ensures) (c.number_of.ensures ∙ ap (number_or_0 (bytes_of c.as_slice-paths.result.now)) c.no_path.ensures) refl c.in_ok-add_files.ensures.text c.in_ok-add_files.ensures.fit c.in_ok-add_origins.ensures.text c.in_ok-add_origins.ensures.fit c.in_ok-add_parts.ensures
+    functions_added c.args.base c.args.units.now c.args.pieces.now c.as_slice-copies.result.now c.in_ok-used.used.items c.as_slice-paths.result.now c.in_ok-slices.slices.items c.as_slice-names.result.now c.in_ok-named.named.texts.items _ (text_bytes c.args.text.now) _ _ _ (rw (sym copies) at c.in_ok-held.ensures.are) c.in_ok-used.ensures (rw (sym paths) at c.in_ok-sorted.ensures.sorted) (rw (sym paths) at (rw used at c.in_ok-sorted.ensures.same)) c.in_ok-named.ensures.same (c.in_ok-slices.ensures ∙ c.as_slice-texts.ensures.value) (rw (sym names) at c.in_ok-sorted_names.ensures.sorted) (rw (sym names) at (rw slices at c.in_ok-sorted_names.ensures.same)) (c.as_slice-4.ensures.value ∙ c.in_ok-rows.ensures) (c.number_of.ensures ∙ ap (number_or_0 (bytes_of c.as_slice-paths.result.now)) c.no_path.ensures) refl c.in_ok-add_texts.ensures.text c.in_ok-add_texts.ensures.fit c.in_ok-add_texts-2.ensures.text c.in_ok-add_texts-2.ensures.fit c.in_ok-add_parts.ensures

@@ -1,7 +1,7 @@
 use Rattle.std.proofs.Common.{◌≢◌, length, sym, ◌∙◌, arith}
 use Rattle.std.proofs.lemmas.Bool.Decides.{nat_tests}
-use Rattle.func_flatten.proofs.NameLemmas.{clean_already}
-use Rattle.func_flatten.proofs.classing.is_clean.Goals as goal
+use Rattle.die_names.proofs.CleanLemmas.{clean_already}
+use Rattle.die_names.proofs.kept.is_clean.Goals as goal
 
 pub returns : goal.returns
 returns c =

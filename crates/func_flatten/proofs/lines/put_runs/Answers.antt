@@ -4,15 +4,15 @@ use Rattle.std.proofs.lemmas.List.Sorted.{IsPartitionPoint-from_clause}
 use Rattle.step_maps.specs.Stepping.{RisesFrom}
 use Rattle.step_maps.proofs.SteppingLemmas.{Point, parted}
 use Rattle.func_flatten.proofs.LineLemmas.{rising_same, line_at_stop, walks_start, walks_on, walks_end, walks_out, known_by, known_part, drop_next}
-use Rattle.func_flatten.proofs.lines.line_runs.Goals as goal
+use Rattle.func_flatten.proofs.lines.put_runs.Goals as goal
 
 pub stops-init : goal.stops-init
 stops-init c =
     let rising : RisesFrom 0 c.stops-stops.result.now = rising_same _ _ c.stops-stops.ensures.same c.stops-stops.ensures.rising in
     let point : Point c.stops-stops.result.now c.args.start c.partition_point-first.result
     = IsPartitionPoint-from_clause (λ s. nat_le s c.args.start) _ _ c.partition_point-first.ensures.partitioned (parted _ _ rising) (λ a r q k. search rules) in
-    rw c.new-runs.ensures.items
-    (walks_start c.args.table.now c.stops-stops.result.now _ _ _ _ c.line_at-now.result c.stops-stops.ensures.same c.requires c.stops-stops.ensures.rising (omega arith) point c.line_at-now.ensures.line (known_by _ _ (c.line_at-now.ensures.known (omega arith))))
+    rw c.requires.none
+    (walks_start c.args.table.now c.stops-stops.result.now _ _ _ _ c.line_at-now.result c.stops-stops.ensures.same c.requires.some c.stops-stops.ensures.rising (omega arith) point c.line_at-now.ensures.line (known_by _ _ (c.line_at-now.ensures.known (omega arith))))
 
 pub returns-then-end-stop-clause-runs : goal.returns-then-end-stop-clause-runs
 returns-then-end-stop-clause-runs c =

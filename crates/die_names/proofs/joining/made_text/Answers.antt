@@ -3,7 +3,7 @@ use Rattle.std.specs.List.{slice_get}
 use Rattle.sym_records.specs.Cleaning.{cleaned}
 use Rattle.die_names.specs.Names.{front_in}
 use Rattle.die_names.proofs.TextLemmas.{text_joined, text_no_name, text_no_linkage, text_omitted}
-use Rattle.die_names.proofs.joining.name_text.Goals as goal
+use Rattle.die_names.proofs.joining.made_text.Goals as goal
 
 pub returns-in_ok-joined-in-Some-name : goal.returns-in_ok-joined-in-Some-name
 returns-in_ok-joined-in-Some-name c =

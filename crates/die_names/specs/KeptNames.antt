@@ -1,0 +1,8 @@
+-- No public clause cites this: where the bytes of a name are.
+use Rattle.std.specs.Prelude.{ℕ, List}
+use Rattle.die_names.specs.declared.kept.KeptName.{KeptName}
+use Rattle.die_names.specs.declared.kept.KeptName.TheVariants.{Whole, Made}
+
+abbrev pub kept_name : KeptName → List ℕ
+kept_name (Whole bytes) = bytes.now
+kept_name (Made text) = text

@@ -1,0 +1,107 @@
+//! Names as records carry them.
+ghost use Rattle.std.specs.Prelude.{◌≡◌, ◌==◌, true, IfSome, MatchResult};
+ghost use Rattle.std.specs.List.{list_all};
+ghost use Rattle.std.specs.Option.{option_copied};
+ghost use Rattle.sym_records.specs.Cleaning.{cleaned, shown_byte};
+ghost use Rattle.die_names.specs.NameRefs.{name_bytes};
+
+use crate::joining::name_slice;
+use crate::naming::NameRef;
+use crate::unit_read::Units;
+use std::marker::Model;
+use sym_rules::ByteText;
+
+/// Where the bytes of a name are.
+#[derive(Drop)]
+pub(crate) enum KeptName<'a> {
+    Whole(&'a [u8]),
+    Made(ByteText),
+}
+
+/// A name as a record carries it, which contracts see as its bytes. Where they stand in the file as they are, they are not copied.
+#[derive(Drop)]
+pub struct NameText<'a> {
+    kept: KeptName<'a>,
+}
+
+impl<'a> Model for NameText<'a> {
+    ghost use Rattle.std.specs.Prelude.{List, ℕ};
+    ghost use Rattle.die_names.specs.KeptNames.{kept_name};
+
+    ghost Value = { List ℕ };
+
+    ghost view = { λ t. kept_name t.kept };
+}
+
+impl<'a> NameText<'a> {
+    /// A name that was made.
+    pub(crate) fn of(text: ByteText) -> NameText<'a>
+        ensures { result ≡ text }
+    {
+        NameText {
+            kept: KeptName::Made(text),
+        }
+    }
+
+    /// A name that stands in the file.
+    fn in_file(bytes: &'a [u8]) -> NameText<'a>
+        ensures { result ≡ bytes.now }
+    {
+        NameText {
+            kept: KeptName::Whole(bytes),
+        }
+    }
+
+    pub fn as_slice(&self) -> &[u8]
+        ensures { result.now ≡ self.now }
+    {
+        match &self.kept {
+            KeptName::Whole(bytes) => bytes,
+            KeptName::Made(text) => text.as_slice(),
+        }
+    }
+
+    /// The bytes that were made, or else those of the file.
+    pub fn into_made(self) -> Result<ByteText, &'a [u8]>
+        ensures { MatchResult result (λ text. text ≡ self.entry) (λ bytes. bytes.now ≡ self.entry) }
+    {
+        match self.kept {
+            KeptName::Whole(bytes) => Err(bytes),
+            KeptName::Made(text) => Ok(text),
+        }
+    }
+}
+
+/// Whether no byte is a control byte.
+fn are_shown(bytes: &[u8]) -> bool
+    ensures { result ≡ list_all (λ b. shown_byte b == b) bytes.now }
+{
+    bytes.iter().all(|b| *b >= 0x20 && *b != 0x7f)
+}
+
+/// Whether a name is clean as it is.
+fn is_clean(bytes: &[u8]) -> bool
+    ensures { result ≡ true → cleaned bytes.now ≡ bytes.now }
+{
+    if bytes.is_empty() {
+        return false;
+    }
+    if bytes.len() > 65_536 {
+        return false;
+    }
+    if bytes[0] == b' ' {
+        return false;
+    }
+    are_shown(bytes)
+}
+
+/// A name that stands in the file as a record may carry it.
+pub(crate) fn whole_name<'a>(units: &Units<'a>, name: NameRef) -> Option<NameText<'a>>
+    ensures { IfSome result (λ text. text ≡ cleaned (name_bytes units.now name)) }
+{
+    let bytes = name_slice(units, name)?;
+    if is_clean(bytes) {
+        return Some(NameText::in_file(bytes));
+    }
+    None
+}
