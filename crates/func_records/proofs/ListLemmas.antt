@@ -1,5 +1,5 @@
 -- Fronts of lists, and tests of one of two things.
-use Rattle.std.proofs.Common.{◌≡◌, ℕ, zero, suc, ◌+◌, ◌<◌, Bool, true, false, ◌||◌, take, get_or, length, List, [], ◌∷◌, ◌++◌, Some, arith, refl, ap, ◌∙◌}
+use Rattle.std.proofs.Common.{◌≡◌, ℕ, zero, suc, ◌+◌, ◌<◌, Bool, true, false, ◌||◌, take, drop, get_or, length, List, [], ◌∷◌, ◌++◌, Some, arith, refl, sym, ap, ◌∙◌}
 use Rattle.std.proofs.lemmas.Option.{slice_get-get_or}
 use Rattle.std.specs.List.{slice_get}
 
@@ -13,6 +13,14 @@ take_more (y ∷ xs) (suc n) x is =
 
 pub take_next : {X : Type 0} (xs : List X) (n : ℕ) (d : X) → n < length xs → take (n + 1) xs ≡ take n xs ++ get_or xs n d ∷ []
 take_next xs n d below = take_more xs n (get_or xs n d) (slice_get-get_or xs n d below)
+
+-- what is left of a list
+pub drop_next : {X : Type 0} (xs : List X) (n : ℕ) (d : X) → n < length xs → drop n xs ≡ get_or xs n d ∷ drop (n + 1) xs
+drop_next [] n d below = absurd (omega (arith, below))
+drop_next (x ∷ xs) zero d below = refl
+drop_next (x ∷ xs) (suc n) d below =
+    let next : suc n + 1 ≡ suc (n + 1) = omega arith in
+    drop_next xs n d (omega (arith, below)) ∙ ap (λ k. get_or xs n d ∷ drop k (x ∷ xs)) (sym next)
 
 pub or_right : (b c : Bool) → c ≡ true → (b || c) ≡ true
 or_right true c is = refl

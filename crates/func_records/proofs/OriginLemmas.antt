@@ -1,10 +1,12 @@
 -- The names of the functions that were inlined, as they are gathered and numbered.
-use Rattle.std.proofs.Common.{◌≡◌, ℕ, zero, suc, ◌+◌, ◌<◌, Bool, map, length, take, get_or, List, [], ◌∷◌, ◌++◌, ◌||◌, arith, refl, sym, ap, ◌∙◌, append_assoc, append-nil}
-use Rattle.std.proofs.lemmas.List.{length-take-le}
+use Rattle.std.proofs.Common.{◌≡◌, ℕ, zero, suc, ◌+◌, ◌<◌, ◌≤◌, Bool, map, length, take, drop, get_or, List, [], ◌∷◌, ◌++◌, ◌||◌, arith, refl, sym, ap, ◌∙◌, append_assoc, append-nil}
+use Rattle.std.proofs.Math.Seq.{take-append_seam, drop-append_seam}
+use Rattle.std.proofs.lemmas.List.{length-take-le, length-append, map-append}
 use Rattle.std.specs.List.{list_any}
 use Rattle.std.specs.Str.{bytes_eq}
 use Rattle.die_names.specs.declared.unit_read.UnitRead.{UnitRead}
 use Rattle.die_names.specs.declared.naming.NameRef.{NameRef}
+use Rattle.die_names.specs.Names.{entry_name}
 use Rattle.func_flatten.specs.declared.piece.Piece.{Piece}
 use Rattle.inline_chain.specs.InlineRuns.{InlineParts}
 use Rattle.func_records.specs.declared.origins.Origin.{Origin}
@@ -31,6 +33,61 @@ names_next units pieces held n d e copies old new below count is so added =
     ∙ sym (names_push units (take n pieces) (take n held) (get_or pieces n d) (get_or held n e) same)
     ∙ ap (λ cs. all_names units (take n pieces ++ get_or pieces n d ∷ []) cs) (sym second)
     ∙ ap (λ ps. all_names units ps (take (n + 1) held)) (sym first)
+
+-- the names of a piece and those of the later ones
+pub names_from : (units : List UnitRead) (pieces : List Piece) (held : List (List InlineParts)) (n : ℕ) (d : Piece) (e copies : List InlineParts) → n < length pieces → length held ≡ length pieces → copies ≡ get_or held n e → all_names units (drop n pieces) (drop n held) ≡ entry_names units (get_or pieces n d).unit copies ++ all_names units (drop (n + 1) pieces) (drop (n + 1) held)
+names_from units [] held n d e copies below count is = absurd (omega (arith, below))
+names_from units (p ∷ pieces) [] n d e copies below count is = absurd (omega (arith, count))
+names_from units (p ∷ pieces) (h ∷ held) zero d e copies below count is = ap (λ cs. entry_names units p.unit cs ++ all_names units pieces held) (sym is)
+names_from units (p ∷ pieces) (h ∷ held) (suc n) d e copies below count is =
+    let next : suc n + 1 ≡ suc (n + 1) = omega arith in
+    names_from units pieces held n d e copies (omega (arith, below)) (omega (arith, count)) is
+    ∙ ap (λ k. entry_names units (get_or pieces n d).unit copies ++ all_names units (drop k (p ∷ pieces)) (drop k (h ∷ held))) (sym next)
+
+-- their numbers
+count_names : (f : List ℕ → ℕ) (units : List UnitRead) (unit : ℕ) (copies : List InlineParts) → length (map f (entry_names units unit copies)) ≡ length copies
+count_names f units unit [] = refl
+count_names f units unit (r ∷ copies) = ap suc (count_names f units unit copies)
+
+numbers_split : (f : List ℕ → ℕ) (units : List UnitRead) (pieces : List Piece) (held : List (List InlineParts)) (n : ℕ) (d : Piece) (e copies : List InlineParts) → n < length pieces → length held ≡ length pieces → copies ≡ get_or held n e → map f (all_names units (drop n pieces) (drop n held)) ≡ map f (entry_names units (get_or pieces n d).unit copies) ++ map f (all_names units (drop (n + 1) pieces) (drop (n + 1) held))
+numbers_split f units pieces held n d e copies below count is =
+    ap (map f) (names_from units pieces held n d e copies below count is)
+    ∙ map-append f (entry_names units (get_or pieces n d).unit copies) (all_names units (drop (n + 1) pieces) (drop (n + 1) held))
+
+pub numbers_enough : (f : List ℕ → ℕ) (units : List UnitRead) (pieces : List Piece) (held : List (List InlineParts)) (n : ℕ) (d : Piece) (e copies : List InlineParts) (rest : List ℕ) → n < length pieces → length held ≡ length pieces → copies ≡ get_or held n e → rest ≡ map f (all_names units (drop n pieces) (drop n held)) → length copies ≤ length rest
+numbers_enough f units pieces held n d e copies rest below count is so =
+    let here = map f (entry_names units (get_or pieces n d).unit copies) in
+    let later = map f (all_names units (drop (n + 1) pieces) (drop (n + 1) held)) in
+    let whole : length rest ≡ length here + length later = ap length (so ∙ numbers_split f units pieces held n d e copies below count is) ∙ length-append here later in
+    omega (arith, whole, count_names f units (get_or pieces n d).unit copies)
+
+pub numbers_here : (f : List ℕ → ℕ) (units : List UnitRead) (pieces : List Piece) (held : List (List InlineParts)) (n : ℕ) (d : Piece) (e copies : List InlineParts) (rest : List ℕ) → n < length pieces → length held ≡ length pieces → copies ≡ get_or held n e → rest ≡ map f (all_names units (drop n pieces) (drop n held)) → take (length copies) rest ≡ map f (entry_names units (get_or pieces n d).unit copies)
+numbers_here f units pieces held n d e copies rest below count is so =
+    let here = map f (entry_names units (get_or pieces n d).unit copies) in
+    ap (take (length copies)) (so ∙ numbers_split f units pieces held n d e copies below count is)
+    ∙ ap (λ k. take k (here ++ map f (all_names units (drop (n + 1) pieces) (drop (n + 1) held)))) (sym (count_names f units (get_or pieces n d).unit copies))
+    ∙ take-append_seam here (map f (all_names units (drop (n + 1) pieces) (drop (n + 1) held)))
+
+pub numbers_later : (f : List ℕ → ℕ) (units : List UnitRead) (pieces : List Piece) (held : List (List InlineParts)) (n : ℕ) (d : Piece) (e copies : List InlineParts) (rest : List ℕ) → n < length pieces → length held ≡ length pieces → copies ≡ get_or held n e → rest ≡ map f (all_names units (drop n pieces) (drop n held)) → drop (length copies) rest ≡ map f (all_names units (drop (n + 1) pieces) (drop (n + 1) held))
+numbers_later f units pieces held n d e copies rest below count is so =
+    let here = map f (entry_names units (get_or pieces n d).unit copies) in
+    ap (drop (length copies)) (so ∙ numbers_split f units pieces held n d e copies below count is)
+    ∙ ap (λ k. drop k (here ++ map f (all_names units (drop (n + 1) pieces) (drop (n + 1) held)))) (sym (count_names f units (get_or pieces n d).unit copies))
+    ∙ drop-append_seam here (map f (all_names units (drop (n + 1) pieces) (drop (n + 1) held)))
+
+-- the number of a copy's name
+pub number_at : (f : List ℕ → ℕ) (units : List UnitRead) (unit : ℕ) (copies : List InlineParts) (n : ℕ) (d : InlineParts) (e : ℕ) → n < length copies → get_or (map f (entry_names units unit copies)) n e ≡ f (entry_name units unit (get_or copies n d).entry)
+number_at f units unit [] n d e below = absurd (omega (arith, below))
+number_at f units unit (r ∷ copies) zero d e below = refl
+number_at f units unit (r ∷ copies) (suc n) d e below = number_at f units unit copies n d e (omega (arith, below))
+
+-- the number of a name more
+pub numbers_next : (f : List ℕ → ℕ) (units : List UnitRead) (refs : List NameRef) (n : ℕ) (d : NameRef) (number : ℕ) (old new : List ℕ) → n < length refs → number ≡ f (made_name units (get_or refs n d)) → old ≡ map f (map (made_name units) (take n refs)) → new ≡ old ++ number ∷ [] → new ≡ map f (map (made_name units) (take (n + 1) refs))
+numbers_next f units refs n d number old new below is so added =
+    added ∙ ap (λ ns. ns ++ number ∷ []) so ∙ ap (λ k. map f (map (made_name units) (take n refs)) ++ k ∷ []) is
+    ∙ sym (map-append f (map (made_name units) (take n refs)) (made_name units (get_or refs n d) ∷ []))
+    ∙ ap (map f) (sym (map-append (made_name units) (take n refs) (get_or refs n d ∷ [])))
+    ∙ ap (λ rs. map f (map (made_name units) rs)) (sym (take_next refs n d below))
 
 -- the number of a reference more
 numbered_push : (names : List (List ℕ)) (refs : List NameRef) (texts : List (List ℕ)) (name : NameRef) (text : List ℕ) → length texts ≡ length refs → numbered_refs names (refs ++ name ∷ []) (texts ++ text ∷ []) ≡ numbered_refs names refs texts ++ record { name = name; number = number_or_0 names text } ∷ []

@@ -1,6 +1,5 @@
 -- No public clause cites this: the names of the functions that were inlined, as they are gathered and numbered.
-use Rattle.std.specs.Prelude.{◌≡◌, ℕ, ◌<◌, ◌^◌, List, [], ◌∷◌, ◌++◌, map, length}
-use Rattle.std.specs.List.Sorted.{IsStrictlySortedBy}
+use Rattle.std.specs.Prelude.{◌≡◌, ℕ, List, [], ◌∷◌, ◌++◌, map}
 use Rattle.sym_records.specs.Cleaning.{cleaned}
 use Rattle.die_names.specs.declared.unit_read.UnitRead.{UnitRead}
 use Rattle.die_names.specs.declared.naming.NameRef.{NameRef}
@@ -10,7 +9,6 @@ use Rattle.func_flatten.specs.declared.piece.Piece.{Piece}
 use Rattle.inline_chain.specs.InlineRuns.{InlineParts}
 use Rattle.func_records.specs.declared.numbers.Numbers.{Numbers}
 use Rattle.func_records.specs.declared.origins.Origin.{Origin}
-use Rattle.func_records.specs.Texts.{text_cmp}
 use Rattle.func_records.specs.Gathering.{bytes_of}
 use Rattle.func_records.specs.Spelling.{number_or_0}
 
@@ -35,8 +33,9 @@ abbrev pub AllNumbered : List UnitRead → List (List ℕ) → List Origin → T
 AllNumbered units names [] = Unit {0}
 AllNumbered units names (o ∷ origins) = (o.number ≡ number_or_0 names (made_name units o.name)) × AllNumbered units names origins
 
--- the names are sorted, and the numbers are those of the names
-pub record AreNumbered (units : List UnitRead) (numbers : Numbers) : Type 0 where
-  pub sorted : IsStrictlySortedBy text_cmp numbers.names.now
-  pub few : length numbers.names.now < 2 ^ 32
-  pub numbered : AllNumbered units (bytes_of numbers.names.now) numbers.origins.now
+-- the numbers of the names of a piece's inlined copies, and of those of all pieces
+abbrev pub copy_numbers : Numbers → List UnitRead → ℕ → List InlineParts → List ℕ
+copy_numbers numbers units unit copies = map (number_or_0 (bytes_of numbers.names.now)) (entry_names units unit copies)
+
+abbrev pub all_numbers : Numbers → List UnitRead → List Piece → List (List InlineParts) → List ℕ
+all_numbers numbers units pieces held = map (number_or_0 (bytes_of numbers.names.now)) (all_names units pieces held)

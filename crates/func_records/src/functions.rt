@@ -8,7 +8,7 @@ use crate::holding::hold_inlines;
 use crate::names::gather_names;
 use crate::numbering::{Numbering, add_texts};
 use crate::numbers::{Numbers, number_of, number_rows};
-use crate::origins::number_origins;
+use crate::origins::{number_origins, number_refs};
 use crate::paths::gather_paths;
 use crate::sorting::{sorted_texts, text_slices};
 use crate::spelling::add_parts;
@@ -47,15 +47,24 @@ pub fn add_functions(
         return Err(OutOfMemory);
     }
     let rows = number_rows(alloc, units, paths)?;
-    let origins = number_origins(alloc, named.refs.as_slice(), texts, names)?;
+    let known = number_origins(alloc, named.refs.as_slice(), texts, names)?;
+    let origins = number_refs(alloc, units, known.as_slice(), names, named.all.as_slice())?;
     let numbers = Numbers {
         rows: rows.as_slice(),
         omitted: number_of(paths, no_path()),
         names,
-        origins: origins.as_slice(),
     };
     add_texts(alloc, Numbering::Files, paths, text)?;
     add_texts(alloc, Numbering::Origins, names, text)?;
-    add_parts(alloc, base, units, &numbers, pieces, copies, text)?;
+    add_parts(
+        alloc,
+        base,
+        units,
+        &numbers,
+        pieces,
+        copies,
+        origins.as_slice(),
+        text,
+    )?;
     Ok(())
 }

@@ -5,16 +5,16 @@ ghost use Rattle.sym_records.specs.Canon.{canon, canon_text};
 ghost use Rattle.sym_records.specs.Fields.{is_range};
 ghost use Rattle.sym_records.specs.Validity.{fields_fit};
 ghost use Rattle.func_records.specs.FuncRecords.{extent};
-ghost use Rattle.func_records.specs.Origins.{AreNumbered};
+ghost use Rattle.func_records.specs.Gathering.{bytes_of};
+ghost use Rattle.func_records.specs.Origins.{copy_numbers};
 ghost use Rattle.func_records.specs.Parts.{file_by, inline_by, AreShort};
-ghost use Rattle.func_records.specs.Spelling.{row_of};
+ghost use Rattle.func_records.specs.Spelling.{number_or_0, row_of};
+ghost use Rattle.die_names.specs.Names.{entry_name};
 
 use crate::calls::call_site;
 use crate::numbers::{Numbers, number_in, row_in};
-use crate::origins::origin_number;
 use die_names::Units;
 use inline_chain::InlineRun;
-use std::alloc::Global;
 use sym_edges::{OutOfMemory, Span};
 use sym_records::laws::records_of_functions_fit;
 use sym_records::{Extent, add_inline};
@@ -56,16 +56,16 @@ fn file_number(row: &[u32], omitted: u32, path: Option<u32>) -> u32
 
 /// Adds the record of an inlined copy. What `ranges` holds does not matter: it is used again for the sake of its memory.
 fn add_copy(
-    alloc: Global,
     base: u64,
     units: &Units<'_>,
     numbers: &Numbers<'_>,
     unit: u32,
     copy: &InlineRun,
+    origin: u32,
     ranges: &mut Vec<Extent>,
     text: &mut Vec<u8>,
 ) -> Result<(), OutOfMemory>
-    requires numbered { AreNumbered units.now numbers.now }
+    requires numbered { origin ≡ number_or_0 (bytes_of numbers.now.names.now) (entry_name units.now unit copy.now.entry) }
     requires some { 0 < length copy.now.spans }
     requires short { length copy.now.spans ≤ 16384 }
     ensures text { OnOk result (text.new.items ≡ text.old.items ++ canon (inline_by base numbers.now units.now unit copy.now)) }
@@ -78,31 +78,37 @@ fn add_copy(
         numbers.omitted,
         site.path,
     );
-    let origin = origin_number(alloc, units, numbers, unit, copy.entry)?;
     fill_ranges(base, copy.spans.spans(), ranges)?;
     add_inline(text, copy.level, site.line, file, origin, ranges.as_slice())
 }
 
-/// Adds the records of a piece's inlined copies.
+/// Adds the records of a piece's inlined copies, each with the number of its name.
 pub fn add_copies(
-    alloc: Global,
     base: u64,
     units: &Units<'_>,
     numbers: &Numbers<'_>,
     unit: u32,
     copies: &[InlineRun],
+    origins: &[u32],
     ranges: &mut Vec<Extent>,
     text: &mut Vec<u8>,
 ) -> Result<(), OutOfMemory>
-    requires numbered { AreNumbered units.now numbers.now }
+    requires numbered { origins.now ≡ copy_numbers numbers.now units.now unit copies.now }
     requires short { AreShort copies.now }
     ensures text { OnOk result (text.new.items ≡ text.old.items ++ canon_text (map (inline_by base numbers.now units.now unit) copies.now)) }
     ensures fit { OnOk result (list_all fields_fit (map (inline_by base numbers.now units.now unit) copies.now) ≡ true) }
 {
-    let mut rest = copies;
-    'copies: while let Some((copy, later)) = rest.split_first() {
-        add_copy(alloc, base, units, numbers, unit, copy, ranges, text)?;
-        rest = later;
+    'copies: for place in 0..copies.len() {
+        add_copy(
+            base,
+            units,
+            numbers,
+            unit,
+            &copies[place],
+            origins[place],
+            ranges,
+            text,
+        )?;
     }
     Ok(())
 }

@@ -11,9 +11,10 @@ use inline_chain::{InlineRun, InlineRuns};
 use std::alloc::Global;
 use sym_edges::OutOfMemory;
 
-/// Names, and which entry gives each of them.
+/// Which entry names the function of each inlined copy; and each of these entries once, with the name that it gives.
 #[derive(Drop)]
 pub struct OriginNames<'a> {
+    pub all: Vec<NameRef>,
     pub refs: Vec<NameRef>,
     pub texts: Vec<NameText<'a>>,
 }
@@ -141,12 +142,14 @@ pub fn gather_names<'a>(
     held: &[InlineRuns],
 ) -> Result<OriginNames<'a>, OutOfMemory>
     requires { length held.now ≡ length pieces.now }
+    ensures all { IfOk result (λ names. map (made_name units.now) names.all.items ≡ all_names units.now pieces.now held.now) }
     ensures made { IfOk result (λ names. names.texts.items ≡ map (made_name units.now) names.refs.items) }
     ensures same { IfOk result (λ names. (name : List ℕ) → list_any (bytes_eq name) names.texts.items ≡ list_any (bytes_eq name) (all_names units.now pieces.now held.now)) }
 {
-    let mut all = gather_refs(alloc, units, pieces, held)?;
-    sort_refs(&mut all);
-    let refs = distinct_refs(alloc, all.as_slice())?;
+    let all = gather_refs(alloc, units, pieces, held)?;
+    let mut sorted = Vec::from_slice(alloc, all.as_slice())?;
+    sort_refs(&mut sorted);
+    let refs = distinct_refs(alloc, sorted.as_slice())?;
     let texts = make_names(alloc, units, refs.as_slice())?;
-    Ok(OriginNames { refs, texts })
+    Ok(OriginNames { all, refs, texts })
 }

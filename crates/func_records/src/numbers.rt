@@ -7,20 +7,18 @@ ghost use Rattle.func_records.specs.Texts.{text_cmp};
 ghost use Rattle.func_records.specs.Gathering.{bytes_of};
 ghost use Rattle.func_records.specs.Spelling.{number_or_0, unit_numbers, row_of};
 
-use crate::origins::Origin;
 use die_names::Units;
 use line_program::LineTable;
 use std::alloc::Global;
 use sym_edges::{ListOf, OutOfMemory};
 
-/// The numbers in the text: of the paths of each unit's table, of the text for a path that is not known, and of the names that are
-/// sorted, by the entries that give them.
+/// The numbers in the text: of the paths of each unit's table, of the text for a path that is not known, and, by their places, of the
+/// names, which are sorted.
 #[derive(Clone, Copy)]
 pub struct Numbers<'n> {
     pub rows: &'n [ListOf<u32>],
     pub omitted: u32,
     pub names: &'n [&'n [u8]],
-    pub origins: &'n [Origin],
 }
 
 /// The place of a text among sorted texts, by halves.

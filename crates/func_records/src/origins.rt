@@ -1,16 +1,15 @@
 //! The numbers of the names of functions that were inlined.
-ghost use Rattle.std.specs.Prelude.{◌≡◌, ℕ, ◌<◌, ◌^◌, List, length, IfOk, IfSome};
+ghost use Rattle.std.specs.Prelude.{◌≡◌, ℕ, ◌<◌, ◌^◌, List, map, length, IfOk, IfSome};
 ghost use Rattle.std.specs.List.Sorted.{IsStrictlySortedBy};
 ghost use Rattle.die_names.specs.declared.unit_read.UnitRead.{UnitRead};
-ghost use Rattle.die_names.specs.Names.{entry_name};
 ghost use Rattle.func_records.specs.Texts.{text_cmp};
 ghost use Rattle.func_records.specs.Gathering.{bytes_of};
 ghost use Rattle.func_records.specs.Spelling.{number_or_0};
-ghost use Rattle.func_records.specs.Origins.{made_name, numbered_refs, AllNumbered, AreNumbered};
+ghost use Rattle.func_records.specs.Origins.{made_name, numbered_refs, AllNumbered};
 
 use crate::names::{is_same, key_of};
-use crate::numbers::{Numbers, number_of};
-use die_names::{NameRef, NameText, Units, name_of, name_text};
+use crate::numbers::number_of;
+use die_names::{NameRef, NameText, Units, name_text};
 use std::alloc::Global;
 use sym_edges::OutOfMemory;
 
@@ -57,21 +56,43 @@ fn find_origin(origins: &[Origin], name: NameRef) -> Option<u32>
     None
 }
 
-/// The INLINE_ORIGIN number of an inlined copy. The name is made and looked up only where its entry was not numbered.
-pub fn origin_number(
+/// The number of the name that an entry gives. It is looked up as a text only where the entry was not numbered.
+fn origin_number(
     alloc: Global,
     units: &Units<'_>,
-    numbers: &Numbers<'_>,
-    unit: u32,
-    entry: u32,
+    origins: &[Origin],
+    sorted: &[&[u8]],
+    name: NameRef,
 ) -> Result<u32, OutOfMemory>
-    requires { AreNumbered units.now numbers.now }
-    ensures { IfOk result (λ number. number ≡ number_or_0 (bytes_of numbers.now.names.now) (entry_name units.now unit entry)) }
+    requires numbered { AllNumbered units.now (bytes_of sorted.now) origins.now }
+    requires sorted { IsStrictlySortedBy text_cmp sorted.now }
+    requires few { length sorted.now < 2 ^ 32 }
+    ensures { IfOk result (λ number. number ≡ number_or_0 (bytes_of sorted.now) (made_name units.now name)) }
 {
-    let name = name_of(units, unit, entry);
-    if let Some(number) = find_origin(numbers.origins, name) {
+    if let Some(number) = find_origin(origins, name) {
         return Ok(number);
     }
     let text = name_text(alloc, units, name)?;
-    Ok(number_of(numbers.names, text.as_slice()))
+    Ok(number_of(sorted, text.as_slice()))
+}
+
+/// The numbers of the names that entries give.
+#[tactic(auto, using(crate::proofs::OriginLemmas::numbers_next))]
+pub fn number_refs(
+    alloc: Global,
+    units: &Units<'_>,
+    origins: &[Origin],
+    sorted: &[&[u8]],
+    refs: &[NameRef],
+) -> Result<Vec<u32>, OutOfMemory>
+    requires numbered { AllNumbered units.now (bytes_of sorted.now) origins.now }
+    requires sorted { IsStrictlySortedBy text_cmp sorted.now }
+    requires few { length sorted.now < 2 ^ 32 }
+    ensures { IfOk result (λ numbers. numbers.items ≡ map (number_or_0 (bytes_of sorted.now)) (map (made_name units.now) refs.now)) }
+{
+    let mut numbers = Vec::with_capacity(alloc, refs.len())?;
+    'refs: for place in 0..refs.len() {
+        numbers.push(origin_number(alloc, units, origins, sorted, refs[place])?)?;
+    }
+    Ok(numbers)
 }

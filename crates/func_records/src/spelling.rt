@@ -8,7 +8,7 @@ ghost use Rattle.sym_records.specs.Spelled.{text_bytes};
 ghost use Rattle.sym_records.specs.Validity.{fields_fit};
 ghost use Rattle.func_flatten.specs.LineRuns.{AreLineRuns};
 ghost use Rattle.func_records.specs.FuncRecords.{func_record};
-ghost use Rattle.func_records.specs.Origins.{AreNumbered};
+ghost use Rattle.func_records.specs.Origins.{copy_numbers, all_numbers};
 ghost use Rattle.func_records.specs.Parts.{AreShort, AreAllShort, AddsPart, AddsParts};
 ghost use Rattle.func_records.specs.Spelling.{line_by};
 
@@ -80,22 +80,23 @@ fn add_part(
     numbers: &Numbers<'_>,
     piece: &Piece,
     copies: &[InlineRun],
+    origins: &[u32],
     ranges: &mut Vec<Extent>,
     runs: &mut Vec<LineRun>,
     text: &mut TextPieces,
 ) -> Result<(), OutOfMemory>
-    requires numbered { AreNumbered units.now numbers.now }
+    requires numbered { origins.now ≡ copy_numbers numbers.now units.now piece.now.unit copies.now }
     requires short { AreShort copies.now }
     ensures { OnOk result (AddsPart base numbers.now units.now piece.now copies.now (text_bytes text.old) (text_bytes text.new)) }
 {
     add_owner(alloc, &mut text.last, base, units, piece)?;
     add_copies(
-        alloc,
         base,
         units,
         numbers,
         piece.unit,
         copies,
+        origins,
         ranges,
         &mut text.last,
     )?;
@@ -110,7 +111,7 @@ fn add_part(
     Ok(())
 }
 
-/// Adds the records of pieces, their inlined copies and their lines.
+/// Adds the records of pieces, their inlined copies, each with the number of its name, and their lines.
 pub fn add_parts(
     alloc: Global,
     base: u64,
@@ -118,23 +119,29 @@ pub fn add_parts(
     numbers: &Numbers<'_>,
     pieces: &[Piece],
     held: &[InlineRuns],
+    origins: &[u32],
     text: &mut TextPieces,
 ) -> Result<(), OutOfMemory>
-    requires numbered { AreNumbered units.now numbers.now }
+    requires numbered { origins.now ≡ all_numbers numbers.now units.now pieces.now held.now }
     requires count { length held.now ≡ length pieces.now }
     requires short { AreAllShort held.now }
     ensures { OnOk result (AddsParts base numbers.now units.now pieces.now held.now (text_bytes text.old) (text_bytes text.new)) }
 {
     let mut ranges = Vec::new(alloc);
     let mut runs = Vec::new(alloc);
+    let mut rest = origins;
     'pieces: for place in 0..pieces.len() {
+        let copies = held[place].as_slice();
+        let (here, later) = rest.split_at(copies.len());
+        rest = later;
         add_part(
             alloc,
             base,
             units,
             numbers,
             &pieces[place],
-            held[place].as_slice(),
+            copies,
+            here,
             &mut ranges,
             &mut runs,
             text,

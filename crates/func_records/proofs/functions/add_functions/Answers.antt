@@ -1,4 +1,4 @@
-use Rattle.std.proofs.Common.{◌≡◌, map, refl, sym, ap, ◌∙◌, arith}
+use Rattle.std.proofs.Common.{◌≡◌, map, refl, sym, ap, ◌∙◌}
 use Rattle.sym_records.specs.Spelled.{text_bytes}
 use Rattle.func_records.specs.Gathering.{bytes_of}
 use Rattle.func_records.specs.Spelling.{number_or_0}
@@ -21,14 +21,14 @@ add_texts-requires-2-clause-clean c =
     let names : c.as_slice-names.result.now ≡ c.in_ok-sorted_names.sorted_names.items = c.as_slice-names.ensures.value in
     names_clean c.args.units.now c.in_ok-named.named.refs.items c.in_ok-named.named.texts.items c.in_ok-slices.slices.items c.as_slice-names.result.now c.in_ok-named.ensures.made (c.in_ok-slices.ensures ∙ c.as_slice-texts.ensures.value) (rw (sym names) at (rw slices at c.in_ok-sorted_names.ensures.same))
 
+pub number_refs-requires-clause-numbered : goal.number_refs-requires-clause-numbered
+number_refs-requires-clause-numbered c =
+    numbered_by c.args.units.now _ c.as_slice-3.result.now c.as_slice-texts.result.now c.as_slice-4.result.now (c.as_slice-4.ensures.value ∙ c.in_ok-known.ensures) (c.as_slice-texts.ensures.value ∙ c.in_ok-named.ensures.made ∙ ap (map (made_name c.args.units.now)) (sym c.as_slice-3.ensures.value))
+
 pub add_parts-requires-clause-numbered : goal.add_parts-requires-clause-numbered
 add_parts-requires-clause-numbered c =
-    let names : c.as_slice-names.result.now ≡ c.in_ok-sorted_names.sorted_names.items = c.as_slice-names.ensures.value in
-    record {
-      sorted = rw (sym names) at c.in_ok-sorted_names.ensures.sorted;
-      few = omega arith;
-      numbered = numbered_by c.args.units.now _ c.as_slice-3.result.now c.as_slice-texts.result.now c.as_slice-5.result.now (c.as_slice-5.ensures.value ∙ c.in_ok-origins.ensures) (c.as_slice-texts.ensures.value ∙ c.in_ok-named.ensures.made ∙ ap (map (made_name c.args.units.now)) (sym c.as_slice-3.ensures.value));
-    }
+    c.as_slice-7.ensures.value ∙ c.in_ok-origins.ensures
+    ∙ ap (map (number_or_0 (bytes_of c.as_slice-names.result.now))) (ap (map (made_name c.args.units.now)) c.as_slice-5.ensures.value ∙ c.in_ok-named.ensures.all)
 
 pub add_parts-requires-clause-short : goal.add_parts-requires-clause-short
 add_parts-requires-clause-short c =
@@ -42,4 +42,4 @@ returns c =
     let paths : c.as_slice-paths.result.now ≡ c.in_ok-sorted.sorted.items = c.as_slice-paths.ensures.value in
     let slices : c.as_slice-2.result.now ≡ c.in_ok-slices.slices.items = c.as_slice-2.ensures.value in
     let names : c.as_slice-names.result.now ≡ c.in_ok-sorted_names.sorted_names.items = c.as_slice-names.ensures.value in
-    functions_added c.args.base c.args.units.now c.args.pieces.now c.as_slice-copies.result.now c.in_ok-used.used.items c.as_slice-paths.result.now c.in_ok-slices.slices.items c.as_slice-names.result.now c.in_ok-named.named.texts.items _ (text_bytes c.args.text.now) _ _ _ (rw (sym copies) at c.in_ok-held.ensures.are) c.in_ok-used.ensures (rw (sym paths) at c.in_ok-sorted.ensures.sorted) (rw (sym paths) at (rw used at c.in_ok-sorted.ensures.same)) c.in_ok-named.ensures.same (c.in_ok-slices.ensures ∙ c.as_slice-texts.ensures.value) (rw (sym names) at c.in_ok-sorted_names.ensures.sorted) (rw (sym names) at (rw slices at c.in_ok-sorted_names.ensures.same)) (c.as_slice-4.ensures.value ∙ c.in_ok-rows.ensures) (c.number_of.ensures ∙ ap (number_or_0 (bytes_of c.as_slice-paths.result.now)) c.no_path.ensures) refl c.in_ok-add_texts.ensures.text c.in_ok-add_texts.ensures.fit c.in_ok-add_texts-2.ensures.text c.in_ok-add_texts-2.ensures.fit c.in_ok-add_parts.ensures
+    functions_added c.args.base c.args.units.now c.args.pieces.now c.as_slice-copies.result.now c.in_ok-used.used.items c.as_slice-paths.result.now c.in_ok-slices.slices.items c.as_slice-names.result.now c.in_ok-named.named.texts.items _ (text_bytes c.args.text.now) _ _ _ (rw (sym copies) at c.in_ok-held.ensures.are) c.in_ok-used.ensures (rw (sym paths) at c.in_ok-sorted.ensures.sorted) (rw (sym paths) at (rw used at c.in_ok-sorted.ensures.same)) c.in_ok-named.ensures.same (c.in_ok-slices.ensures ∙ c.as_slice-texts.ensures.value) (rw (sym names) at c.in_ok-sorted_names.ensures.sorted) (rw (sym names) at (rw slices at c.in_ok-sorted_names.ensures.same)) (c.as_slice-6.ensures.value ∙ c.in_ok-rows.ensures) (c.number_of.ensures ∙ ap (number_or_0 (bytes_of c.as_slice-paths.result.now)) c.no_path.ensures) refl c.in_ok-add_texts.ensures.text c.in_ok-add_texts.ensures.fit c.in_ok-add_texts-2.ensures.text c.in_ok-add_texts-2.ensures.fit c.in_ok-add_parts.ensures

@@ -1,21 +1,35 @@
-use Rattle.std.proofs.Common.{◌≡◌, [], ◌∷◌, ◌++◌, map, sym, ap, ◌∙◌}
+use Rattle.std.proofs.Common.{◌≡◌, ◌+◌, List, ◌∷◌, ◌++◌, map, drop, slice_index_or, sym, ap, ◌∙◌, arith}
+use Rattle.std.proofs.lemmas.List.{drop_all}
 use Rattle.sym_rules.proofs.BoolLemmas.{both}
 use Rattle.sym_records.specs.Canon.{canon_text}
+use Rattle.die_names.specs.Names.{entry_name}
+use Rattle.inline_chain.specs.InlineRuns.{InlineParts}
+use Rattle.func_records.specs.Gathering.{bytes_of}
 use Rattle.func_records.specs.Parts.{inline_by}
-use Rattle.func_records.proofs.CanonLemmas.{record_more, records_done, none_left}
+use Rattle.func_records.specs.Spelling.{number_or_0}
+use Rattle.func_records.proofs.CanonLemmas.{record_more, records_done}
+use Rattle.func_records.proofs.ListLemmas.{drop_next}
+use Rattle.func_records.proofs.OriginLemmas.{number_at}
 use Rattle.func_records.proofs.inlines.add_copies.Goals as goal
-
-pub copies-preserved : goal.copies-preserved
-copies-preserved c =
-    let split : c.copies.rest.now ≡ c.in-Some.copy.now ∷ c.in-Some.later.now = c.in-Some.ensures.cases.0 in
-    let all = rw split at c.copies.invariant.short in
-    record {
-      short = all.1;
-      text = record_more c.copies.text.items _ _ (inline_by c.args.base c.args.numbers.now c.args.units.now c.args.unit c.in-Some.copy.now) (map (inline_by c.args.base c.args.numbers.now c.args.units.now c.args.unit) c.in-Some.later.now) (ap (λ rs. c.copies.text.items ++ canon_text (map (inline_by c.args.base c.args.numbers.now c.args.units.now c.args.unit) rs)) (sym split) ∙ c.copies.invariant.text) c.in_ok-add_copy.ensures.text;
-      fit = λ later. c.copies.invariant.fit (rw split (both c.in_ok-add_copy.ensures.fit later));
-    }
 
 pub returns-clause-text : goal.returns-clause-text
 returns-clause-text c =
-    let none : c.copies.rest.now ≡ [] = none_left c.copies.rest.now c.in_default.ensures.cases in
-    records_done c.copies.text.items _ (map (inline_by c.args.base c.args.numbers.now c.args.units.now c.args.unit) c.copies.rest.now) (ap (map (inline_by c.args.base c.args.numbers.now c.args.units.now c.args.unit)) none) c.copies.invariant.text
+    records_done c.copies.text.items _ (map (inline_by c.args.base c.args.numbers.now c.args.units.now c.args.unit) (drop c.copies.place c.args.copies.now)) (ap (map (inline_by c.args.base c.args.numbers.now c.args.units.now c.args.unit)) (drop_all c.copies.place c.args.copies.now (omega arith))) c.copies.invariant.text
+
+pub add_copy-requires-clause-numbered : goal.add_copy-requires-clause-numbered
+add_copy-requires-clause-numbered c =
+    ap (λ os. slice_index_or os c.copies.place 0) c.requires.numbered
+    ∙ number_at (number_or_0 (bytes_of c.args.numbers.now.names.now)) c.args.units.now c.args.unit c.args.copies.now c.copies.place c.index-copies-place.result 0 (omega arith)
+    ∙ ap (λ r. number_or_0 (bytes_of c.args.numbers.now.names.now) (entry_name c.args.units.now c.args.unit r.entry)) (sym c.index-copies-place.is)
+
+pub copies-preserved : goal.copies-preserved
+copies-preserved c =
+    let by = inline_by c.args.base c.args.numbers.now c.args.units.now c.args.unit in
+    let later : List InlineParts = drop (c.copies.place + 1) c.args.copies.now in
+    let split : drop c.copies.place c.args.copies.now ≡ c.index-copies-place.result ∷ later = drop_next c.args.copies.now c.copies.place c.index-copies-place.result (omega arith) ∙ ap (λ r. r ∷ later) (sym c.index-copies-place.is) in
+    let all = rw split at c.copies.invariant.short in
+    record {
+      short = all.1;
+      text = record_more c.copies.text.items _ _ (by c.index-copies-place.result) (map by later) (ap (λ rs. c.copies.text.items ++ canon_text (map by rs)) (sym split) ∙ c.copies.invariant.text) c.in_ok-add_copy.ensures.text;
+      fit = λ rest. c.copies.invariant.fit (rw split (both c.in_ok-add_copy.ensures.fit rest));
+    }
