@@ -1,4 +1,4 @@
-//! Examples with ample memory, many spans, sets that take none, and random sets beside lists of addresses (`range_set`).
+//! Examples with ample memory, many spans, sets that take none, and random sets beside the addresses of their spans (`range_set`).
 ghost use Rattle.std.specs.Prelude.{◌<◌};
 
 use crate::comparing::expect;
@@ -228,121 +228,70 @@ impl Draws {
     }
 }
 
-/// The addresses that some span holds, looked up one by one.
-fn addresses_of(alloc: Global, spans: &[Span]) -> Result<Vec<u64>, AllocError> {
-    let mut addresses = Vec::new(alloc);
+/// The addresses that some span has, each a bit.
+fn bits_of(spans: &[Span]) -> u64 {
+    let mut bits = 0;
     for a in 0..ADDRESSES {
         if spans.iter().any(|span| span.start() <= a && a < span.end()) {
-            addresses.push(a)?;
+            bits |= 1 << a;
         }
     }
-    Ok(addresses)
+    bits
 }
 
-/// The runs of a list of addresses, address by address.
-fn runs_of(alloc: Global, addresses: &[u64]) -> Result<Vec<Span>, AllocError> {
-    let mut runs = Vec::new(alloc);
-    let mut start = None;
+/// Where the runs of bits start and end.
+fn changes(alloc: Global, bits: u64) -> Result<Vec<u64>, AllocError> {
+    let changes = bits ^ (bits << 1);
+    let mut ends = Vec::new(alloc);
     for a in 0..=ADDRESSES {
-        match start {
-            None if addresses.contains(&a) => start = Some(a),
-            Some(first) if !addresses.contains(&a) => {
-                if first < a {
-                    runs.push(Span::new(first, a))?;
-                }
-                start = None;
-            }
-            _ => {}
+        if (changes >> a) & 1 == 1 {
+            ends.push(a)?;
         }
     }
-    Ok(runs)
+    Ok(ends)
 }
 
-/// The addresses of the first list that are in the second, or that are not.
-fn picked(
-    alloc: Global,
-    first: &[u64],
-    second: &[u64],
-    in_second: bool,
-) -> Result<Vec<u64>, AllocError> {
-    let mut addresses = Vec::new(alloc);
-    for a in first {
-        if second.contains(a) == in_second {
-            addresses.push(*a)?;
-        }
-    }
-    Ok(addresses)
-}
-
-/// Compares the set of some spans with the list of their addresses.
-fn check_one(rt: &impl Abort, alloc: Global, spans: &[Span]) -> Result<RangeSet, Fail> {
-    let set = of_ranges(alloc, spans)?;
-    let addresses = addresses_of(alloc, spans)?;
-    let runs = runs_of(alloc, addresses.as_slice())?;
-    expect_set(
-        rt,
-        alloc,
-        "of_ranges",
-        &set,
-        &ends_of(alloc, runs.as_slice())?,
-    )?;
-    expect(
-        rt,
-        "has",
-        &held_below(alloc, &set, ADDRESSES)?,
-        addresses.as_slice(),
-    );
-    Ok(set)
-}
-
-/// Compares a set with the runs of a list of addresses.
-fn check_runs(
+/// Compares a set with the addresses that it should have.
+fn expect_bits(
     rt: &impl Abort,
     alloc: Global,
     row: &str,
-    set: &RangeSet,
-    addresses: &[u64],
+    got: &RangeSet,
+    want: u64,
 ) -> Result<(), Fail> {
-    let runs = runs_of(alloc, addresses)?;
-    expect_set(rt, alloc, row, set, &ends_of(alloc, runs.as_slice())?)
+    expect_set(rt, alloc, row, got, &changes(alloc, want)?)?;
+    for a in 0..ADDRESSES {
+        expect(rt, row, &[a, got.has(a) as u64], &[a, (want >> a) & 1]);
+    }
+    Ok(())
+}
+
+/// Compares the sets of two lists of spans, and what is made of both, with their addresses.
+fn check_two(rt: &impl Abort, alloc: Global, left: &[Span], right: &[Span]) -> Result<(), Fail> {
+    let one = of_ranges(alloc, left)?;
+    let other = of_ranges(alloc, right)?;
+    let first = bits_of(left);
+    let second = bits_of(right);
+    for (row, set, want) in [
+        ("of_ranges", &one, first),
+        ("of_ranges", &other, second),
+        ("meet", &one.meet(alloc, &other)?, first & second),
+        ("minus", &one.minus(alloc, &other)?, first & !second),
+        ("join", &one.join(alloc, &other)?, first | second),
+    ] {
+        expect_bits(rt, alloc, row, set, want)?;
+    }
+    Ok(())
 }
 
 #[test]
-fn random_sets_hold_what_lists_of_addresses_hold(rt: HostRuntime) -> Result<(), Fail> {
+fn random_sets_have_the_addresses_of_their_spans(rt: HostRuntime) -> Result<(), Fail> {
     let alloc = rt.alloc();
     let mut draws = Draws { state: 1 };
     for _ in 0..200 {
         let left = draws.spans(alloc)?;
         let right = draws.spans(alloc)?;
-        let one = check_one(&rt, alloc, left.as_slice())?;
-        let other = check_one(&rt, alloc, right.as_slice())?;
-        let first = addresses_of(alloc, left.as_slice())?;
-        let second = addresses_of(alloc, right.as_slice())?;
-        let both = picked(alloc, first.as_slice(), second.as_slice(), true)?;
-        let rest = picked(alloc, first.as_slice(), second.as_slice(), false)?;
-        let mut either = picked(alloc, second.as_slice(), first.as_slice(), false)?;
-        either.extend_from_slice(first.as_slice())?;
-        check_runs(
-            &rt,
-            alloc,
-            "meet",
-            &one.meet(alloc, &other)?,
-            both.as_slice(),
-        )?;
-        check_runs(
-            &rt,
-            alloc,
-            "minus",
-            &one.minus(alloc, &other)?,
-            rest.as_slice(),
-        )?;
-        check_runs(
-            &rt,
-            alloc,
-            "join",
-            &one.join(alloc, &other)?,
-            either.as_slice(),
-        )?;
+        check_two(&rt, alloc, left.as_slice(), right.as_slice())?;
     }
     Ok(())
 }

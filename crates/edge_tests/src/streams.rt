@@ -1,19 +1,14 @@
 //! What no clause says: that calls answer with ample memory, and what the system's edge does with streams that are slow,
 //! interrupted or broken (`sym_edges`).
+use crate::comparing::expect_bytes;
 use crate::fakes::{Fake, FakeFiles, Turn};
 use std::alloc::{AllocError, Global};
 use std::fs::{self, Files};
-use std::process::Abort;
 use std::test::Fail;
 use sym_edges::{
     ByteRun, CallList, FileList, FileStore, MemSink, MemStore, NameText, NamedFile, ReadEnd, Stop,
     StreamSink, read_all, write_all,
 };
-
-/// Ends the test where a row has another answer than it should have.
-fn expect(rt: &impl Abort, row: &str, found: &[u8], wanted: &[u8]) {
-    assert_eq!(rt; found, wanted, "{row}");
-}
 
 /// The word of a reading's end.
 fn end_word(found: &Result<ByteRun, Stop<ReadEnd>>) -> &[u8] {
@@ -54,7 +49,7 @@ fn a_reading_of_a_store_over_memory_ends_as_its_cause_says(rt: HostRuntime) -> R
     for (name, fail, wanted) in cases {
         let mut store = store_of(rt.alloc(), fail)?;
         let found = read_all(rt.alloc(), &mut store, name, 4);
-        expect(&rt, name, end_word(&found), wanted);
+        expect_bytes(&rt, name, end_word(&found), wanted);
     }
     Ok(())
 }
@@ -73,7 +68,7 @@ fn a_sink_over_memory_takes_what_its_room_and_calls_allow(rt: HostRuntime) -> Re
             |_| "there is memory for the sink",
         )?;
         let _written = write_all(&mut sink, b"abcd");
-        expect(&rt, row, sink.written(), wanted);
+        expect_bytes(&rt, row, sink.written(), wanted);
     }
     Ok(())
 }
@@ -84,9 +79,9 @@ fn a_file_of_the_system_is_read_and_a_missing_one_is_a_fault(rt: HostRuntime) ->
     fs::write(&rt, "edges.bin", &long)?;
     let mut store = FileStore::new(rt.alloc(), &rt);
     let found = read_all(rt.alloc(), &mut store, "edges.bin", 100_000);
-    expect(&rt, "a file of two pieces", end_word(&found), &long);
+    expect_bytes(&rt, "a file of two pieces", end_word(&found), &long);
     let missing = read_all(rt.alloc(), &mut store, "edges.none", 100);
-    expect(&rt, "no file", end_word(&missing), b"(not opened)");
+    expect_bytes(&rt, "no file", end_word(&missing), b"(not opened)");
     fs::remove_file(&rt, "edges.bin")?;
     Ok(())
 }
@@ -126,7 +121,7 @@ fn a_slow_interrupted_or_broken_file(rt: HostRuntime) -> Result<(), Fail> {
             source: b"abcd",
         };
         let found = read_from(rt.alloc(), &files);
-        expect(&rt, row, end_word(&found), wanted);
+        expect_bytes(&rt, row, end_word(&found), wanted);
     }
     Ok(())
 }
@@ -175,8 +170,8 @@ fn a_slow_interrupted_or_broken_stream(rt: HostRuntime) -> Result<(), Fail> {
         let mut sink = StreamSink::new(&mut held);
         let written = write_all(&mut sink, b"abcd");
         drop(sink);
-        expect(&rt, row, held.held.as_slice(), wanted);
-        expect(&rt, row, &[u8::from(written.is_ok())], &[u8::from(whole)]);
+        expect_bytes(&rt, row, held.held.as_slice(), wanted);
+        expect_bytes(&rt, row, &[u8::from(written.is_ok())], &[u8::from(whole)]);
     }
     Ok(())
 }
@@ -187,7 +182,7 @@ fn a_stream_of_the_system_takes_all_bytes(rt: HostRuntime) -> Result<(), Fail> {
     let _written = write_all(&mut sink, b"some text");
     drop(sink);
     let taken = fs::read(&rt, "edges.out")?;
-    expect(&rt, "a file", taken.as_slice(), b"some text");
+    expect_bytes(&rt, "a file", taken.as_slice(), b"some text");
     fs::remove_file(&rt, "edges.out")?;
     Ok(())
 }

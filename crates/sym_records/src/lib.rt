@@ -59,6 +59,3 @@ pub use sym_rules::{
 pub use text::SymText;
 pub use validity::is_valid;
 pub use writing::write_file;
-
-#[cfg(test)]
-mod tests;

@@ -34,6 +34,3 @@ pub use text_fault::{TextFault, TextKind};
 pub use validity::{are_rules, are_unparted};
 pub use waiting::Waiting;
 pub use words::rules_length;
-
-#[cfg(test)]
-mod tests;

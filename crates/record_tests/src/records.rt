@@ -1,25 +1,18 @@
+//! A record of each kind, many records, and the longest lines and names (`sym_records`).
 ghost use Rattle.std.specs.Prelude.{IfOk};
 ghost use Rattle.sym_records.specs.Spelled.{text_bytes, IsSpelled};
 
-use crate::{
+use crate::comparing::{expect, expect_bytes};
+use std::alloc::Global;
+use std::mem::size_of;
+use std::test::Fail;
+use sym_edges::{CallList, MemSink, OutOfMemory};
+use sym_records::{
     Binary, BoxedBinary, ByteText, Extent, Extents, RuleText, Rules, SymFile, SymLine, SymText,
     Target, TextPieces, Token, Tokens, add_change, add_file, add_func, add_info, add_init,
     add_inline, add_line, add_module, add_origin, add_public, clean, file_of, is_valid, render,
     write_file,
 };
-use std::alloc::Global;
-use std::mem::size_of;
-use std::process::Abort;
-use std::test::Fail;
-use sym_edges::{CallList, MemSink, OutOfMemory};
-
-fn expect(rt: &impl Abort, row: &str, got: &[u8], want: &[u8]) {
-    assert_eq!(rt; got, want, "{row}");
-}
-
-fn expect_number(rt: &impl Abort, row: &str, got: usize, want: usize) {
-    assert_eq!(rt; got, want, "{row}");
-}
 
 fn text(alloc: Global, bytes: &[u8]) -> Result<ByteText, OutOfMemory> {
     Ok(ByteText::of(Vec::from_slice(alloc, bytes)?))
@@ -126,7 +119,7 @@ fn records_are_rendered_and_added(rt: HostRuntime) -> Result<(), Fail> {
     for line in &each_record(alloc)? {
         rendered.extend_from_slice(render(alloc, line)?.as_slice())?;
     }
-    expect(&rt, "rendered", rendered.as_slice(), WHOLE);
+    expect_bytes(&rt, "rendered", rendered.as_slice(), WHOLE);
     let mut added = Vec::new(alloc);
     add_module(&mut added, b"Linux", b"x86_64", b"0F0", b"a.out")?;
     add_info(&mut added, b"CODE_ID 00")?;
@@ -138,11 +131,11 @@ fn records_are_rendered_and_added(rt: HostRuntime) -> Result<(), Fail> {
     add_public(&mut added, false, u64::MAX, 0, b"main ")?;
     add_init(&mut added, 0x1000, 0x20, one_rule(alloc, 8)?.as_slice())?;
     add_change(&mut added, 0x1001, one_rule(alloc, 16)?.as_slice())?;
-    expect(&rt, "added", added.as_slice(), WHOLE);
+    expect_bytes(&rt, "added", added.as_slice(), WHOLE);
     let mut named = Vec::new(alloc);
     add_func(&mut named, false, 0, 1, 0, b" a\tb\x7f")?;
     add_public(&mut named, false, 0, 0, b"  ")?;
-    expect(
+    expect_bytes(
         &rt,
         "names are cleaned",
         named.as_slice(),
@@ -171,7 +164,7 @@ fn frame_records_with_many_rules_are_added(rt: HostRuntime) -> Result<(), Fail> 
     let mut added = Vec::new(alloc);
     add_init(&mut added, 0x1000, 0x20, &rules)?;
     add_change(&mut added, 0x1001, &rules)?;
-    expect(&rt, "added", &added, &want);
+    expect_bytes(&rt, "added", &added, &want);
     Ok(())
 }
 
@@ -200,15 +193,16 @@ const WRITES: [(&str, (usize, usize, u64), bool, usize); 6] = [
 fn a_file_is_written_as_far_as_the_sink_takes_it(rt: HostRuntime) -> Result<(), Fail> {
     let alloc = rt.alloc();
     let Ok(file) = file_of(each_record(alloc)?) else {
-        expect_number(&rt, "the records are valid", 0, 1);
+        expect(&rt, "the records are valid", &[0], &[1]);
         return Ok(());
     };
     for (row, sink, whole, count) in WRITES {
         let (sink, done) = write(alloc, &file, sink)?;
-        expect(&rt, row, sink.written(), &WHOLE[..count.min(WHOLE.len())]);
-        expect_number(&rt, row, done as usize, whole as usize);
+        expect_bytes(&rt, row, sink.written(), &WHOLE[..count.min(WHOLE.len())]);
+        expect(&rt, row, &[done as u64], &[whole as u64]);
     }
-    expect_number(&rt, "the records come back", file.into_vec().len(), 10);
+    let count = file.into_vec().len() as u64;
+    expect(&rt, "the records come back", &[count], &[10]);
     Ok(())
 }
 
@@ -233,18 +227,14 @@ fn many_records_and_a_long_name_are_written(rt: HostRuntime) -> Result<(), Fail>
         })?;
     }
     let Ok(file) = file_of(lines) else {
-        expect_number(&rt, "the records are valid", 0, 1);
+        expect(&rt, "the records are valid", &[0], &[1]);
         return Ok(());
     };
     let (sink, _) = write(alloc, &file, (3_000_000, 3_000_000, 0))?;
-    expect_number(
-        &rt,
-        "all bytes",
-        sink.written().len(),
-        30 + 200_012 + 12 * 200_000,
-    );
+    let count = sink.written().len() as u64;
+    expect(&rt, "all bytes", &[count], &[30 + 200_012 + 12 * 200_000]);
     let ends = sink.written().ends_with(b"1000 10 5 1\n");
-    expect_number(&rt, "the last line", ends as usize, 1);
+    expect(&rt, "the last line", &[ends as u64], &[1]);
     Ok(())
 }
 
@@ -268,16 +258,16 @@ fn a_text_grows_in_pieces_and_is_written(rt: HostRuntime) -> Result<(), Fail> {
     }
     let mut rest = 12 * 200_000 - long.last.len().min(2_000_000);
     for piece in &long.full {
-        expect_number(&rt, "a full piece", piece.len(), 1_048_584);
+        expect(&rt, "a full piece", &[piece.len() as u64], &[1_048_584]);
         rest = rest.saturating_sub(piece.len());
     }
-    expect_number(&rt, "nothing is lost", rest, 0);
+    expect(&rt, "nothing is lost", &[rest as u64], &[0]);
     let text = SymText::of(made_text(alloc)?);
     let fail = CallList::of(Vec::from_slice(alloc, &[0])?);
     let mut sink = MemSink::new(alloc, 100, 7, fail)?;
     let whole = text.write(&mut sink).is_ok();
-    expect_number(&rt, "all is written", whole as usize, 1);
-    expect(
+    expect(&rt, "all is written", &[whole as u64], &[1]);
+    expect_bytes(
         &rt,
         "the text",
         sink.written(),
@@ -296,7 +286,7 @@ fn a_line_has_at_most_two_to_the_twentieth_bytes(rt: HostRuntime) -> Result<(), 
             params: 0,
             name: long_text(alloc, length)?,
         };
-        expect_number(&rt, "PUBLIC", is_valid(&line) as usize, want);
+        expect(&rt, "PUBLIC", &[is_valid(&line) as u64], &[want]);
     }
     for (count, last, want) in [(262_139, 16, 1), (262_139, 256, 0)] {
         let mut ranges = vec![in alloc; Extent {
@@ -314,16 +304,16 @@ fn a_line_has_at_most_two_to_the_twentieth_bytes(rt: HostRuntime) -> Result<(), 
             origin: 0,
             ranges: Extents::of(ranges),
         };
-        expect_number(&rt, "INLINE", is_valid(&line) as usize, want);
+        expect(&rt, "INLINE", &[is_valid(&line) as u64], &[want]);
     }
     for (length, want) in [(65_536, 65_536), (65_537, 65_536)] {
         let name = clean(alloc, long_text(alloc, length)?.as_slice())?;
-        expect_number(&rt, "a cleaned name", name.len(), want);
+        expect(&rt, "a cleaned name", &[name.len() as u64], &[want]);
     }
     Ok(())
 }
 
 #[test]
 fn records_are_small(rt: HostRuntime) {
-    expect_number(&rt, "SymLine", size_of::<SymLine>(), 56);
+    expect(&rt, "a record", &[size_of::<SymLine>() as u64], &[56]);
 }

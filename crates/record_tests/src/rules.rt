@@ -1,20 +1,13 @@
-use crate::{
+//! Rules of one to four words, spelled in two ways, and sizes of types (`sym_rules`).
+use crate::comparing::{expect, expect_bytes};
+use std::alloc::Global;
+use std::mem::size_of;
+use std::test::Fail;
+use sym_edges::{CallList, MemSink, OutOfMemory};
+use sym_rules::{
     ByteText, RuleName, RuleText, Target, Token, Tokens, Waiting, add_rules, add_word, hand_on,
     put_rules,
 };
-use std::alloc::Global;
-use std::mem::size_of;
-use std::process::Abort;
-use std::test::Fail;
-use sym_edges::{CallList, MemSink, OutOfMemory};
-
-fn expect(rt: &impl Abort, row: &str, got: &[u8], want: &[u8]) {
-    assert_eq!(rt; got, want, "{row}");
-}
-
-fn expect_size(rt: &impl Abort, row: &str, got: usize, want: usize) {
-    assert_eq!(rt; got, want, "{row}");
-}
 
 fn name(alloc: Global, bytes: &[u8]) -> Result<RuleName, OutOfMemory> {
     RuleName::of(alloc, ByteText::of(Vec::from_slice(alloc, bytes)?))
@@ -53,19 +46,19 @@ fn rules_are_spelled(rt: HostRuntime) -> Result<(), Fail> {
     let mut text = Vec::new(rt.alloc());
     add_word(&mut text, b"a")?;
     add_rules(&mut text, rules.as_slice())?;
-    expect(&rt, "at the end of a text", text.split_at(2).1, RULES);
+    expect_bytes(&rt, "at the end of a text", text.split_at(2).1, RULES);
     let none = CallList::of(Vec::new(rt.alloc()));
     let mut sink = MemSink::new(rt.alloc(), 100, 7, none)?;
     let mut waiting = Waiting::<4>::new();
     let put = put_rules(&mut sink, &mut waiting, rules.as_slice()).is_ok()
         && hand_on(&mut sink, &mut waiting).is_ok();
-    expect(&rt, "in front of a sink", sink.written(), RULES);
-    expect_size(&rt, "with no fault", put as usize, 1);
+    expect_bytes(&rt, "in front of a sink", sink.written(), RULES);
+    expect(&rt, "with no fault", &[put as u64], &[1]);
     Ok(())
 }
 
 #[test]
 fn words_are_small(rt: HostRuntime) {
-    expect_size(&rt, "Token", size_of::<Token>(), 16);
-    expect_size(&rt, "Target", size_of::<Target>(), 16);
+    let sizes = [size_of::<Token>() as u64, size_of::<Target>() as u64];
+    expect(&rt, "a token and a target", &sizes, &[16, 16]);
 }
