@@ -16,6 +16,7 @@ use Rattle.std.specs.Option.{option_or}
 use Rattle.frame_rows.specs.Steps.{has_cfa}
 use Rattle.frame_rows.specs.Rows.{first_fault, cie_setting, cie_items, cie_begin, own_setting, own_items, own_begin, instruction_fault, lacks_cfa, rows_fault, AreRows, HasCfa, IsSound, row_at}
 use Rattle.frame_rows.specs.Walk.{rows_from}
+use Rattle.frame_rows.proofs.TestLemmas.{neither}
 use Rattle.frame_rows.proofs.RowLemmas.{are_rows}
 use Rattle.frame_rows.proofs.CfaLemmas.{none_lacks, some_lacks, has_not_lacks}
 use Rattle.frame_rows.proofs.SoundLemmas.{entry_sound}
@@ -54,6 +55,12 @@ pub fine : (e : FdeFields) (rows : List RowAt) → Walked e rows → instruction
 unfolding instruction_fault
 fine e rows w = ap (λ o. option_or o (first_fault (own_setting e) (own_items e) (own_begin e))) w.cie ∙ w.own
 
+pub walked_by : (e : FdeFields) (rows : List RowAt) → instruction_fault e ≡ None → AreRows e rows → Walked e rows
+unfolding instruction_fault
+walked_by e rows good are =
+    let both = neither (first_fault (cie_setting e) (cie_items e) (cie_begin e)) (first_fault (own_setting e) (own_items e) (own_begin e)) good in
+    record { cie = both.0; own = both.1; are = are }
+
 -- each row has a rule for the CFA
 pub rows_have : (e : FdeFields) (rows : List RowAt) (b : _) → Walked e rows → b ≡ false → b ≡ list_any (λ r. not (has_cfa r.row)) rows → HasCfa e
 rows_have e rows b w none is = none_lacks e rows w.are (sym is ∙ none)
@@ -77,7 +84,11 @@ pub cie_bad : (e : FdeFields) (why : Reason) → first_fault (cie_setting e) (ci
 unfolding rows_fault instruction_fault
 cie_bad e why bad = ap (λ o. option_or (option_or o (first_fault (own_setting e) (own_items e) (own_begin e))) (unless (not (lacks_cfa e)) reason.Cfa)) bad
 
-own_bad : (e : FdeFields) (why : Reason) → first_fault (cie_setting e) (cie_items e) (cie_begin e) ≡ None → first_fault (own_setting e) (own_items e) (own_begin e) ≡ Some why → rows_fault e ≡ Some why
+pub bad_instruction : (e : FdeFields) (why : Reason) → instruction_fault e ≡ Some why → rows_fault e ≡ Some why
+unfolding rows_fault
+bad_instruction e why bad = ap (λ o. option_or o (unless (not (lacks_cfa e)) reason.Cfa)) bad
+
+pub own_bad : (e : FdeFields) (why : Reason) → first_fault (cie_setting e) (cie_items e) (cie_begin e) ≡ None → first_fault (own_setting e) (own_items e) (own_begin e) ≡ Some why → rows_fault e ≡ Some why
 unfolding rows_fault instruction_fault
 own_bad e why cie bad =
     ap (λ o. option_or (option_or o (first_fault (own_setting e) (own_items e) (own_begin e))) (unless (not (lacks_cfa e)) reason.Cfa)) cie ∙ ap (λ o. option_or o (unless (not (lacks_cfa e)) reason.Cfa)) bad

@@ -105,10 +105,10 @@ stacks_apart s (i ∷ items) a b row stack =
 -- what is left, by the fields of a CIE
 abbrev left_with : ℕ → ℤ → Option Reason → Row → List Row → Result Left Reason
 left_with code factor why row stack =
-    left_unless why (record { setting = record { code_align = code; data_align = factor; initial = Some row }; row = row; stack = stack })
+    left_unless why (record { setting = record { code_align = code; data_align = factor; initial = Some row }; stack = stack })
 
-abbrev left_ok : Setting → Row → List Row → Result Left Reason
-left_ok s row stack = Ok (record { setting = s; row = row; stack = stack })
+abbrev left_ok : Setting → List Row → Result Left Reason
+left_ok s stack = Ok (record { setting = s; stack = stack })
 
 abbrev left_from : ℕ → ℤ → List Item → ℕ → Result Left Reason
 left_from code factor items a =
@@ -140,12 +140,15 @@ one_left e f one =
 pub record IsLeft (e : FdeFields) (left : Left) : Type 0 where
   pub fault : first_fault (cie_setting e) (cie_items e) (cie_begin e) ≡ None
   pub setting : left.setting ≡ own_setting e
-  pub row : left.row ≡ (cie_end e).row
   pub stack : left.stack ≡ (cie_end e).stack
 
 abbrev ok_or : Left → Result Left Reason → Left
 ok_or d (Ok left) = left
 ok_or d (Err why) = d
+
+abbrev row_or : Row → Option Row → Row
+row_or d None = d
+row_or d (Some row) = row
 
 abbrev err_or : Reason → Result Left Reason → Reason
 err_or d (Ok left) = d
@@ -162,31 +165,44 @@ bad_part (Some w) x why is = ap Some (ap (err_or w) is)
 pub left_good : (e : FdeFields) (left : Left) → cie_left e ≡ Ok left → IsLeft e left
 unfolding cie_left
 left_good e left is =
-    let parts = good_parts (first_fault (cie_setting e) (cie_items e) (cie_begin e)) (record { setting = own_setting e; row = (cie_end e).row; stack = (cie_end e).stack }) left is in
+    let parts = good_parts (first_fault (cie_setting e) (cie_items e) (cie_begin e)) (record { setting = own_setting e; stack = (cie_end e).stack }) left is in
     record {
       fault = parts.0;
       setting = ap (λ (l : Left). l.setting) (sym parts.1);
-      row = ap (λ (l : Left). l.row) (sym parts.1);
       stack = ap (λ (l : Left). l.stack) (sym parts.1);
     }
 
 pub left_bad : (e : FdeFields) (why : Reason) → cie_left e ≡ Err why → first_fault (cie_setting e) (cie_items e) (cie_begin e) ≡ Some why
 unfolding cie_left
-left_bad e why is = bad_part (first_fault (cie_setting e) (cie_items e) (cie_begin e)) (record { setting = own_setting e; row = (cie_end e).row; stack = (cie_end e).stack }) why is
+left_bad e why is = bad_part (first_fault (cie_setting e) (cie_items e) (cie_begin e)) (record { setting = own_setting e; stack = (cie_end e).stack }) why is
+
+some_row : (a b : Row) → ◌≡◌ {A = Option Row} (Some a) (Some b) → a ≡ b
+some_row a b is = ap (row_or a) is
+
+-- the row is behind the instructions of the CIE
+row_left : (e : FdeFields) (left : Left) (o : Option Row) (row : Row) → IsLeft e left → o ≡ left.setting.initial → o ≡ Some row → row ≡ (cie_end e).row
+unfolding own_setting
+row_left e left o row is in_setting there = some_row row (cie_end e).row (sym there ∙ in_setting ∙ ap (λ (s : Setting). s.initial) is.setting)
+
+pub no_row_left : (e : FdeFields) (left : Left) (o : Option Row) → IsLeft e left → o ≡ left.setting.initial → o ≡ None → ⊥
+unfolding own_setting
+no_row_left e left o is in_setting none =
+    let bad : ◌≡◌ {A = Option Row} None (Some (cie_end e).row) = sym none ∙ in_setting ∙ ap (λ (s : Setting). s.initial) is.setting in
+    cc
 
 -- an entry begins with what is left
-pub begun : (e : FdeFields) (left : Left) (m : Machine) (address : ℕ) (row : Row) (stack : List Row) → IsLeft e left → m ≡ state address row stack → address ≡ e.start → row ≡ left.row → stack ≡ left.stack → m ≡ own_begin e
+pub begun : (e : FdeFields) (left : Left) (m : Machine) (address : ℕ) (o : Option Row) (row : Row) (stack : List Row) → IsLeft e left → m ≡ state address row stack → address ≡ e.start → o ≡ left.setting.initial → o ≡ Some row → stack ≡ left.stack → m ≡ own_begin e
 unfolding own_begin
-begun e left m address row stack is made at row_is stack_is =
-    made ∙ ap (λ a. state a row stack) at ∙ ap (λ r. state e.start r stack) (row_is ∙ is.row) ∙ ap (λ k. state e.start (cie_end e).row k) (stack_is ∙ is.stack)
+begun e left m address o row stack is made at in_setting there stack_is =
+    made ∙ ap (λ a. state a row stack) at ∙ ap (λ r. state e.start r stack) (row_left e left o row is in_setting there) ∙ ap (λ k. state e.start (cie_end e).row k) (stack_is ∙ is.stack)
 
 -- what is left behind a CIE that was carried out
-pub left_is : (e : FdeFields) (s : Setting) (m : Machine) (row : Row) (stack : List Row) → first_fault (cie_setting e) (cie_items e) (cie_begin e) ≡ None → m ≡ cie_end e → row ≡ m.row → stack ≡ m.stack → s ≡ record { code_align = e.code_align; data_align = e.data_align; initial = Some row } → cie_left e ≡ Ok (record { setting = s; row = row; stack = stack })
+pub left_is : (e : FdeFields) (s : Setting) (m : Machine) (row : Row) (stack : List Row) → first_fault (cie_setting e) (cie_items e) (cie_begin e) ≡ None → m ≡ cie_end e → row ≡ m.row → stack ≡ m.stack → s ≡ record { code_align = e.code_align; data_align = e.data_align; initial = Some row } → cie_left e ≡ Ok (record { setting = s; stack = stack })
 unfolding cie_left own_setting
 left_is e s m row stack good is row_is stack_is setting_is =
     let row_of : row ≡ (cie_end e).row = row_is ∙ ap (λ (k : Machine). k.row) is in
     let stack_of : stack ≡ (cie_end e).stack = stack_is ∙ ap (λ (k : Machine). k.stack) is in
-    sym (ap (λ (l : Setting). left_ok l row stack) setting_is
+    sym (ap (λ (l : Setting). left_ok l stack) setting_is
     ∙ ap (λ r. left_with e.code_align e.data_align None r stack) row_of
     ∙ ap (λ k. left_with e.code_align e.data_align None (cie_end e).row k) stack_of
     ∙ ap (λ o. left_with e.code_align e.data_align o (cie_end e).row (cie_end e).stack) (sym good))
@@ -194,5 +210,5 @@ left_is e s m row stack good is row_is stack_is setting_is =
 -- or was refused
 pub refused_left : (A B : Type 0) (stop : Stop Reason) (e : FdeFields) (P : B → Type 0) → MatchStop {A = A} {F = Reason} (Err stop) (λ _. first_fault (cie_setting e) (cie_items e) (cie_begin e) ≡ None) (λ why. first_fault (cie_setting e) (cie_items e) (cie_begin e) ≡ Some why) (Unit {0}) → MatchStop {A = B} {F = Reason} (Err stop) P (λ why. cie_left e ≡ Err why) (Unit {0})
 unfolding cie_left
-refused_left A B (Fault why) e P bad = ap (λ o. left_unless o (record { setting = own_setting e; row = (cie_end e).row; stack = (cie_end e).stack })) bad
+refused_left A B (Fault why) e P bad = ap (λ o. left_unless o (record { setting = own_setting e; stack = (cie_end e).stack })) bad
 refused_left A B NoMemory e P bad = tt

@@ -10,6 +10,7 @@ pub mod LeftLemmas
 pub mod FollowLemmas
 pub mod OperandLemmas
 pub mod ColumnLemmas
+pub mod TakeLemmas
 pub mod SteppingLemmas
 pub mod LackLemmas
 pub mod StartLemmas

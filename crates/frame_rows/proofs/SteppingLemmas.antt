@@ -1,6 +1,7 @@
 -- The rows from where a stepper stands.
-use Rattle.std.proofs.Common.{◌≡◌, ◌≢◌, ℕ, ◌<◌, ◌≤◌, cond, List, [], ◌∷◌, ◌++◌, length, Option, None, Some, Result, Ok, Err, refl, sym, ◌∙◌, ap, arith, subst}
-use Rattle.std.proofs.lemmas.Bool.{eq-eqb, ne_eqb, le-ltb, lt-ltb}
+use Rattle.std.proofs.Common.{◌≡◌, ◌≢◌, ◌⊎◌, inl, inr, ℕ, ◌<◌, ◌≤◌, Bool, true, false, cond, List, [], ◌∷◌, ◌++◌, length, Option, None, Some, Result, Ok, Err, refl, sym, ◌∙◌, ap, arith, subst}
+use Rattle.std.proofs.lemmas.Bool.{cases_lt, eq-eqb, ne_eqb, le-ltb, lt-ltb}
+use Rattle.std.specs.Option.{option_or}
 use Rattle.sym_edges.specs.declared.reason.Reason.{Reason}
 use Rattle.sym_edges.specs.declared.fault.Stop.{Stop}
 use Rattle.sym_edges.specs.declared.fault.Stop.TheVariants.{Fault, NoMemory}
@@ -14,10 +15,13 @@ use Rattle.frame_rows.specs.Instructions.{Item, instruction_at, onto_later, list
 use Rattle.frame_rows.specs.Machine.{Machine}
 use Rattle.frame_rows.specs.Steps.{stepped, step_fault}
 use Rattle.frame_rows.specs.Rows.{first_fault}
+use Rattle.frame_rows.specs.declared.columns.Columns.{Columns}
+use Rattle.frame_rows.specs.Columns.{StayOutside}
+use Rattle.frame_rows.specs.Standing.{Standing, GoesOn, Stays, Refuses, Ends}
 use Rattle.frame_rows.specs.Walk.{ended_row, last_row, rows_from, rows_past, row_with}
 use Rattle.frame_rows.proofs.StepLemmas.{step_keeps, step_grows}
 use Rattle.frame_rows.proofs.RowLemmas.{ended_yes, ended_no, from_more, past}
-use Rattle.frame_rows.proofs.ReadLemmas.{fault_more, fault_here}
+use Rattle.frame_rows.proofs.ReadLemmas.{fault_none, fault_more, fault_here}
 use Rattle.frame_rows.proofs.FollowLemmas.{listed_is, instruction_passes}
 
 -- the instructions ahead by the first of them
@@ -51,23 +55,25 @@ past_none : (end : ℕ) (s : Setting) (items : List Item) (m : Machine) (at : �
 unfolding rows_past
 past_none end s items m at stays = ap (λ t. cond t (rows_from end s items m) []) (le-ltb at m.address stays)
 
--- no instruction is bad: not the next
-pub not_unread : (s : Setting) (encoding base : ℕ) (c : Ahead) (m : Machine) (why : Reason) → length c.bytes ≢ 0 → Err why ≡ instruction_at encoding base c → first_fault s (listed_at encoding base c) m ≡ None → ⊥
-not_unread s encoding base c m why some read good =
-    let bad : ◌≡◌ {A = Option Reason} (Some why) None = sym (ap (λ l. first_fault s l m) (ahead_refused encoding base c why some read) ∙ fault_here s (Err why) [] m why refl) ∙ good in
-    cc
+-- the next instruction is bad
+pub unread_fault : (s : Setting) (encoding base : ℕ) (c : Ahead) (m : Machine) (why : Reason) (whole : Option Reason) → length c.bytes ≢ 0 → Err why ≡ instruction_at encoding base c → first_fault s (listed_at encoding base c) m ≡ whole → whole ≡ Some why
+unread_fault s encoding base c m why whole some read so =
+    sym so ∙ ap (λ l. first_fault s l m) (ahead_refused encoding base c why some read) ∙ fault_here s (Err why) [] m why refl
 
-pub not_refused : (A B : Type 0) (stop : Stop Reason) (s : Setting) (encoding base : ℕ) (c later : Ahead) (i : Instruction) (m n : Machine) (P : B → Type 0) → length c.bytes ≢ 0 → Ok (i, later) ≡ instruction_at encoding base c → MatchStop {A = A} {F = Reason} (Err stop) (λ _. (step_fault s i m ≡ None) × (n ≡ stepped s i m)) (λ why. step_fault s i m ≡ Some why) (Unit {0}) → first_fault s (listed_at encoding base c) m ≡ None → MatchStop {A = B} {F = Reason} (Err stop) P (λ _. ⊥) (Unit {0})
-not_refused A B (Fault why) s encoding base c later i m n P some read bad good =
-    let is : ◌≡◌ {A = Option Reason} (Some why) None = sym (ap (λ l. first_fault s l m) (ahead_more encoding base c later i some read) ∙ fault_here s (Ok i) (listed_at encoding base later) m why bad) ∙ good in
-    cc
-not_refused A B NoMemory s encoding base c later i m n P some read bad good = tt
+pub refused_fault : (A B : Type 0) (stop : Stop Reason) (s : Setting) (encoding base : ℕ) (c later : Ahead) (i : Instruction) (m n : Machine) (P : B → Type 0) (whole : Option Reason) → length c.bytes ≢ 0 → Ok (i, later) ≡ instruction_at encoding base c → MatchStop {A = A} {F = Reason} (Err stop) (λ _. (step_fault s i m ≡ None) × (n ≡ stepped s i m)) (λ why. step_fault s i m ≡ Some why) (Unit {0}) → first_fault s (listed_at encoding base c) m ≡ whole → MatchStop {A = B} {F = Reason} (Err stop) P (λ why. whole ≡ Some why) (Unit {0})
+refused_fault A B (Fault why) s encoding base c later i m n P whole some read bad so =
+    sym so ∙ ap (λ l. first_fault s l m) (ahead_more encoding base c later i some read) ∙ fault_here s (Ok i) (listed_at encoding base later) m why bad
+refused_fault A B NoMemory s encoding base c later i m n P whole some read bad so = tt
 
--- nor any behind it
-pub still_good : (s : Setting) (encoding base : ℕ) (c later : Ahead) (i : Instruction) (m n : Machine) → length c.bytes ≢ 0 → Ok (i, later) ≡ instruction_at encoding base c → step_fault s i m ≡ None → n ≡ stepped s i m → first_fault s (listed_at encoding base c) m ≡ None → first_fault s (listed_at encoding base later) n ≡ None
-still_good s encoding base c later i m n some read fine is good =
+-- or it is not, and those behind it decide
+pub still : (s : Setting) (encoding base : ℕ) (c later : Ahead) (i : Instruction) (m n : Machine) (whole : Option Reason) → length c.bytes ≢ 0 → Ok (i, later) ≡ instruction_at encoding base c → step_fault s i m ≡ None → n ≡ stepped s i m → first_fault s (listed_at encoding base c) m ≡ whole → first_fault s (listed_at encoding base later) n ≡ whole
+still s encoding base c later i m n whole some read fine is so =
     ap (first_fault s (listed_at encoding base later)) is ∙ sym (fault_more s (Ok i) (listed_at encoding base later) m fine)
-    ∙ sym (ap (λ l. first_fault s l m) (ahead_more encoding base c later i some read)) ∙ good
+    ∙ sym (ap (λ l. first_fault s l m) (ahead_more encoding base c later i some read)) ∙ so
+
+-- or none is left
+pub none_ahead : (s : Setting) (encoding base : ℕ) (c : Ahead) (m : Machine) → length c.bytes ≡ 0 → first_fault s (listed_at encoding base c) m ≡ None
+none_ahead s encoding base c m none = ap (λ l. first_fault s l m) (ahead_none encoding base c none) ∙ fault_none s m
 
 -- the rows by the next instruction
 rows_next : (end : ℕ) (s : Setting) (encoding base : ℕ) (c later : Ahead) (i : Instruction) (m n : Machine) → length c.bytes ≢ 0 → Ok (i, later) ≡ instruction_at encoding base c → n ≡ stepped s i m → rows_from end s (listed_at encoding base c) m ≡ ended_row end m n.address ++ rows_from end s (listed_at encoding base later) n
@@ -106,12 +112,76 @@ rows_last end s encoding base at c m whole none here low so =
     ∙ ap (λ a. row_with a m.row ∷ []) here
     ∙ ap (λ l. row_with at m.row ∷ l) (sym (past_none end s (listed_at encoding base c) m at (omega (arith, here))))
 
--- a step from where a stepper stands
-pub no_later : (end : ℕ) (s : Setting) (items : List Item) (m : Machine) (at : ℕ) → m.address ≤ at → rows_past end s items m at ≡ []
-no_later end s items m at stays = past_none end s items m at stays
-
-pub later_over : (end : ℕ) (s : Setting) (items : List Item) (m : Machine) (at : ℕ) → first_fault s items m ≡ None → at < m.address → end ≤ m.address → rows_past end s items m at ≡ []
+-- no row is later, where the next lies at the end or above
+later_over : (end : ℕ) (s : Setting) (items : List Item) (m : Machine) (at : ℕ) → first_fault s items m ≡ None → at < m.address → end ≤ m.address → rows_past end s items m at ≡ []
 later_over end s items m at good up over = past_some end s items m at up ∙ past end s items m good over
 
-pub later_next : (end : ℕ) (s : Setting) (items : List Item) (m : Machine) (at : ℕ) (whole : List RowAt) → at < m.address → rows_from end s items m ≡ whole → rows_past end s items m at ≡ whole
-later_next end s items m at whole up so = past_some end s items m at up ∙ so
+-- where a stepper stands, by its parts
+abbrev pub standing : Bool → Option Reason → ℕ → ℕ → Setting → List Item → Machine → Standing
+standing failed refused end at s items m = record {
+  failed = failed;
+  refused = refused;
+  fault = option_or refused (first_fault s items m);
+  end = end;
+  here = row_with at m.row;
+  later = rows_past end s items m at;
+}
+
+ahead_fault : (refused : Option Reason) (fault : Option Reason) → refused ≡ None → option_or refused fault ≡ fault
+ahead_fault refused fault none = ap (λ o. option_or o fault) none
+
+-- no row is later
+over_later : (end : ℕ) (s : Setting) (items : List Item) (m : Machine) (at : ℕ) → first_fault s items m ≡ None → end ≤ m.address → rows_past end s items m at ≡ []
+over_later end s items m at good over =
+    elim (cases_lt at m.address) [
+      | inl up ↦ later_over end s items m at good up over
+      | inr stays ↦ past_none end s items m at stays
+    ]
+
+stays_by : (failed : Bool) (refused : Option Reason) (end at : ℕ) (s : Setting) (items : List Item) (m : Machine) → refused ≡ None → (m.address ≤ at) ⊎ (end ≤ m.address) → Stays (standing failed refused end at s items m) (standing failed refused end at s items m)
+stays_by failed refused end at s items m going (inl stays) = record { none = λ good. past_none end s items m at stays; same = refl }
+stays_by failed refused end at s items m going (inr over) = record { none = λ good. over_later end s items m at (sym (ahead_fault refused (first_fault s items m) going) ∙ good) over; same = refl }
+
+pub stays : (failed : Bool) (refused : Option Reason) (end at : ℕ) (s : Setting) (items : List Item) (m : Machine) (before : Standing) → standing failed refused end at s items m ≡ before → refused ≡ None → (m.address ≤ at) ⊎ (end ≤ m.address) → Stays before before
+stays failed refused end at s items m before view going where_to =
+    let P : Standing → Type 0 = λ b. Stays b b in
+    subst P view (stays_by failed refused end at s items m going where_to)
+
+-- the next row
+goes_by : (failed : Bool) (refused : Option Reason) (end at next : ℕ) (s : Setting) (items later : List Item) (m n : Machine) → failed ≡ false → refused ≡ None → next ≡ m.address → at < next → next < end → first_fault s later n ≡ first_fault s items m →
+    ((end : ℕ) → m.address < end → rows_from end s items m ≡ row_with m.address n.row ∷ rows_past end s later n m.address) → GoesOn (standing failed refused end at s items m) (standing failed refused end next s later n)
+goes_by failed refused end at next s items later m n fresh going here up low kept settled = record {
+  failed = fresh;
+  refused = going;
+  fault = ap (option_or refused) kept;
+  end = refl;
+  rises = up;
+  below = low;
+  later = past_some end s items m at (omega (arith, here, up)) ∙ settled end (omega (arith, here, low)) ∙ ap (λ a. row_with a n.row ∷ rows_past end s later n a) (sym here);
+}
+
+pub goes_on : (failed : Bool) (refused : Option Reason) (end at next : ℕ) (s held : Setting) (items later : List Item) (m n : Machine) (before : Standing) (columns : Columns) → standing failed refused end at held items m ≡ before → s ≡ held → failed ≡ false → refused ≡ None → next ≡ m.address → at < next → next < end → first_fault s later n ≡ first_fault s items m →
+    ((end : ℕ) → m.address < end → rows_from end s items m ≡ row_with m.address n.row ∷ rows_past end s later n m.address) → StayOutside columns m.row n.row → GoesOn before (standing failed refused end next held later n) × StayOutside columns before.here.row n.row
+goes_on failed refused end at next s held items later m n before columns view same fresh going here up low kept settled alike =
+    let P : Setting → Type 0 = λ k. GoesOn (standing failed refused end at k items m) (standing failed refused end next k later n) in
+    let Q : Standing → Type 0 = λ b. GoesOn b (standing failed refused end next held later n) × StayOutside columns b.here.row n.row in
+    subst Q view (subst P same (goes_by failed refused end at next s items later m n fresh going here up low kept settled), alike)
+
+-- no instruction is left
+pub ends : (failed : Bool) (refused : Option Reason) (end at over : ℕ) (s held : Setting) (items later : List Item) (m n : Machine) (before : Standing) → standing failed refused end at held items m ≡ before → s ≡ held → before.refused ≡ None → first_fault s items m ≡ None → over ≡ n.address → Ends before (standing failed refused end over held later n)
+ends failed refused end at over s held items later m n before view same going good past = record {
+  good = ap (λ (b : Standing). b.fault) (sym view) ∙ ahead_fault refused (first_fault held items m) (ap (λ (b : Standing). b.refused) view ∙ going) ∙ ap (λ k. first_fault k items m) (sym same) ∙ good;
+  none = past_none end held later n over (omega (arith, past));
+}
+
+-- where no instruction is bad, none refuses
+pub not_refused : (A B : Type 0) (stop : Stop Reason) (before after : Standing) (P : A → Type 0) (Q : B → Type 0) → before.fault ≡ None → MatchStop {A = A} {F = Reason} (Err stop) P (λ why. Refuses why before after) (after.failed ≡ true) → MatchStop {A = B} {F = Reason} (Err stop) Q (λ _. ⊥) (after.failed ≡ true)
+not_refused A B (Fault why) before after P Q good refuses =
+    let bad : ◌≡◌ {A = Option Reason} (Some why) None = sym refuses.is ∙ good in
+    cc
+not_refused A B NoMemory before after P Q good failed = failed
+
+-- a reason behind others that were none
+pub still_stopped : (A B : Type 0) (stop : Stop Reason) (here whole : Option Reason) (P : A → Type 0) (Q : B → Type 0) → here ≡ whole → MatchStop {A = A} {F = Reason} (Err stop) P (λ why. here ≡ Some why) (Unit {0}) → MatchStop {A = B} {F = Reason} (Err stop) Q (λ why. whole ≡ Some why) (Unit {0})
+still_stopped A B (Fault why) here whole P Q so bad = sym so ∙ bad
+still_stopped A B NoMemory here whole P Q so bad = tt

@@ -14,4 +14,4 @@ left_unless (Some why) left = Err why
 unfoldable pub cie_left : FdeFields → Result Left Reason
 cie_left e =
     left_unless (first_fault (cie_setting e) (cie_items e) (cie_begin e))
-    (record { setting = own_setting e; row = (cie_end e).row; stack = (cie_end e).stack })
+    (record { setting = own_setting e; stack = (cie_end e).stack })

@@ -1,12 +1,12 @@
 -- Which columns of a row an instruction may change.
-use Rattle.std.specs.Prelude.{◌≡◌, ℕ, ◌+◌, ◌<◌, ◌≤◌, nat_lt, if◌then◌else◌, Option, Some, None, true, false}
+use Rattle.std.specs.Prelude.{◌≡◌, ℕ, ◌+◌, ◌<◌, ◌≤◌, nat_lt, if◌then◌else◌, Option, Some, None}
 use Rattle.std.specs.List.{slice_index_or}
 use Rattle.frame_rows.specs.declared.row.Rule.TheVariants as rule
 use Rattle.frame_rows.specs.declared.row.Row.{Row}
 use Rattle.frame_rows.specs.declared.columns.Columns.{Columns}
 use Rattle.frame_rows.specs.declared.instruction.Instruction.{Instruction}
 use Rattle.frame_rows.specs.declared.instruction.Instruction.TheVariants.{SetLoc, AdvanceLoc, DefCfa, DefCfaSf, DefCfaRegister, DefCfaOffset, DefCfaOffsetSf, Undefined, SameValue, Offset, OffsetExtendedSf, ValOffset, ValOffsetSf, Register, Restore, RememberState, RestoreState, Nop}
-use Rattle.frame_rows.specs.Standing.{Standing, IsStep}
+use Rattle.frame_rows.specs.Standing.{Standing, GoesOn, Stays}
 
 -- two rows are alike in the columns outside of some
 pub record StayOutside (columns : Columns) (before after : Row) : Type 0 where
@@ -15,8 +15,8 @@ pub record StayOutside (columns : Columns) (before after : Row) : Type 0 where
 
 -- a step to the next row, and the columns outside of which it is as the row before; at the last row there is none, and all stays
 abbrev pub IsNext : Option Columns → Standing → Standing → Type 0
-IsNext None before after = IsStep false before after
-IsNext (Some columns) before after = IsStep true before after × StayOutside columns before.here.row after.here.row
+IsNext None before after = Stays before after
+IsNext (Some columns) before after = GoesOn before after × StayOutside columns before.here.row after.here.row
 
 -- No public clause cites these: no column, all of them, and one, where there is such a column.
 abbrev pub no_columns : Columns

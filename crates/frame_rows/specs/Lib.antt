@@ -3,6 +3,7 @@ pub mod Operands
 pub mod Machine
 pub mod Steps
 pub mod Rows
+pub mod Held
 pub mod Left
 pub mod CieLeft
 pub mod Walk

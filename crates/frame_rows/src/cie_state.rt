@@ -3,7 +3,9 @@ ghost use Rattle.std.specs.Prelude.{◌≡◌, Ok, Err, Some, None, reverse, Mat
 ghost use Rattle.sym_edges.specs.Outside.{MatchStop};
 ghost use Rattle.frame_rows.specs.Rows.{empty_row, first_fault, cie_setting, cie_items, cie_begin, cie_end, own_setting, own_begin};
 ghost use Rattle.frame_rows.specs.CieLeft.{cie_left};
+ghost use Rattle.frame_rows.specs.Held.{setting_in};
 
+use crate::held_setting::HeldSetting;
 use crate::machine::{Machine, Setting};
 use crate::row::{COLUMNS, Row, Rule};
 use crate::running::run;
@@ -12,11 +14,10 @@ use std::alloc::Global;
 use std::marker::Model;
 use sym_edges::{OutOfMemory, Reason, Stop};
 
-/// What the instructions of a CIE leave: what those of its entries are carried out with, the row, and the row stack.
+/// What the instructions of a CIE leave: what those of its entries are carried out with, in which the row is, and the row stack.
 #[derive(Drop)]
 struct Left {
     setting: Setting,
-    row: Row,
     stack: Vec<Row>,
 }
 
@@ -26,7 +27,7 @@ impl Model for Left {
 
     ghost Value = { Left };
 
-    ghost view = { λ l. record { setting = l.setting; row = l.row; stack = reverse l.stack.items } };
+    ghost view = { λ l. record { setting = l.setting; stack = reverse l.stack.items } };
 }
 
 /// The state behind the instructions of a CIE, or the reason of the first bad one. It is the same for each entry of the CIE.
@@ -99,21 +100,16 @@ fn leave(alloc: Global, fde: &Fde<'_>) -> Result<Left, Stop<Reason>>
         Ok(machine) => machine,
         Err(stop) => return Err(stop),
     };
-    let row = *machine.row();
-    let setting = setting_of(fde, Some(row));
+    let setting = setting_of(fde, Some(*machine.row()));
     let stack = machine.into_stack(alloc)?;
-    Ok(Left {
-        setting,
-        row,
-        stack,
-    })
+    Ok(Left { setting, stack })
 }
 
 /// What the instructions of an entry begin with.
 #[derive(Drop)]
 pub struct Begun<'c> {
     pub machine: Machine<'c>,
-    pub setting: Setting,
+    pub setting: HeldSetting<'c>,
 }
 
 impl CieState {
@@ -129,46 +125,50 @@ impl CieState {
     }
 
     /// Begins an entry of the CIE. Takes no memory.
+    #[inline]
     pub fn begin(&self, alloc: Global, fde: &Fde<'_>) -> Result<Begun<'_>, Reason>
         requires { self.now ≡ cie_left fde.now }
         ensures fault { MatchResult result
             (λ _. first_fault (cie_setting fde.now) (cie_items fde.now) (cie_begin fde.now) ≡ None)
             (λ why. first_fault (cie_setting fde.now) (cie_items fde.now) (cie_begin fde.now) ≡ Some why) }
         ensures machine { IfOk result (λ begun. begun.machine ≡ own_begin fde.now) }
-        ensures setting { IfOk result (λ begun. begun.setting ≡ own_setting fde.now) }
+        ensures setting { IfOk result (λ begun. setting_in begun.setting ≡ own_setting fde.now) }
     {
         match &self.left {
-            Ok(left) => Ok(Begun {
-                machine: Machine::new(alloc, fde.start, &left.row, &left.stack),
-                setting: left.setting,
-            }),
+            Ok(left) => match &left.setting.initial {
+                Some(row) => Ok(Begun {
+                    machine: Machine::new(alloc, fde.start, row, &left.stack),
+                    setting: HeldSetting::Lent(&left.setting),
+                }),
+                None => unreachable!(),
+            },
             Err(why) => Err(*why),
         }
     }
 
-    /// Begins an entry of the CIE, the only one. Takes no memory.
-    pub fn into_begun<'c>(self, fde: &Fde<'_>) -> Result<Begun<'c>, Reason>
+    /// Begins an entry of the CIE, the only one.
+    pub fn into_begun<'c>(self, alloc: Global, fde: &Fde<'_>) -> Result<Begun<'c>, Stop<Reason>>
         requires { self ≡ cie_left fde.now }
-        ensures fault { MatchResult result
+        ensures fault { MatchStop result
             (λ _. first_fault (cie_setting fde.now) (cie_items fde.now) (cie_begin fde.now) ≡ None)
-            (λ why. first_fault (cie_setting fde.now) (cie_items fde.now) (cie_begin fde.now) ≡ Some why) }
+            (λ why. first_fault (cie_setting fde.now) (cie_items fde.now) (cie_begin fde.now) ≡ Some why)
+            (Unit {0}) }
         ensures machine { IfOk result (λ begun. begun.machine ≡ own_begin fde.now) }
-        ensures setting { IfOk result (λ begun. begun.setting ≡ own_setting fde.now) }
+        ensures setting { IfOk result (λ begun. setting_in begun.setting ≡ own_setting fde.now) }
     {
         let CieState { left } = self;
         match left {
             Ok(left) => {
-                let Left {
-                    setting,
-                    row,
-                    stack,
-                } = left;
-                Ok(Begun {
-                    machine: Machine::with_stack(fde.start, row, stack),
-                    setting,
-                })
+                let Left { setting, stack } = left;
+                match setting.initial {
+                    Some(row) => Ok(Begun {
+                        machine: Machine::with_stack(fde.start, row, stack),
+                        setting: HeldSetting::Own(Box::new(alloc, setting)?),
+                    }),
+                    None => unreachable!(),
+                }
             }
-            Err(why) => Err(why),
+            Err(why) => Err(Stop::Fault(why)),
         }
     }
 }

@@ -1,8 +1,8 @@
 //! Columns of a row, one behind another.
 ghost use Rattle.std.specs.Prelude.{◌≡◌, min, max};
-ghost use Rattle.frame_rows.specs.Columns.{no_columns, all_columns, one_column};
+ghost use Rattle.frame_rows.specs.Columns.{no_columns, all_columns, one_column, StayOutside};
 
-use crate::row::COLUMNS;
+use crate::row::{COLUMNS, Row};
 
 /// The columns from the first on and below the end; none where the end is not above the first.
 #[derive(Clone, Copy, PartialEq, Eq, Debug)]
@@ -48,6 +48,23 @@ impl Columns {
         Columns {
             first: self.first.min(other.first),
             end: self.end.max(other.end),
+        }
+    }
+}
+
+impl Row {
+    /// Becomes as another row, from which it differs in no column outside of some.
+    #[tactic(auto, using(crate::proofs::TakeLemmas::all_taken))]
+    pub fn follow(&mut self, columns: Columns, to: &Row)
+        requires { StayOutside columns self.old to.now }
+        ensures { self.new ≡ to.now }
+    {
+        self.cfa = to.cfa;
+        let end = columns.end.min(17);
+        let mut column = columns.first;
+        'columns: while column < end {
+            self.rules[column as usize] = to.rules[column as usize];
+            column += 1;
         }
     }
 }

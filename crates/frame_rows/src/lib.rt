@@ -12,7 +12,8 @@
 //! two rows differ in none. Once memory ran out, it answers that from then on.
 //!
 //! The instructions of a CIE leave the same for each of its entries: a [`CieState`] is made once, and [`rows_behind`],
-//! [`inspect_behind`] and `Stepper::behind` begin with it.
+//! [`inspect_behind`], [`check_rows_behind`] and `Stepper::begin` begin with it. A stepper that begins so has looked at no instruction
+//! before: it meets the first bad one as it goes, and from then on each step answers its reason.
 //!
 //! An entry is refused exactly with the reason of its first bad instruction, the CIE's before its own, or else with
 //! `Cfa` where some address of the range has no CFA rule. Instructions with a DWARF expression are refused as
@@ -30,7 +31,9 @@ mod effect;
 mod machine;
 
 // All instructions of an entry.
+mod checking;
 mod cie_state;
+mod held_setting;
 mod lacking;
 mod running;
 mod stepper;
@@ -41,6 +44,7 @@ mod walking;
 // For proofs above.
 pub mod laws;
 
+pub use crate::checking::check_rows_behind;
 pub use crate::cie_state::CieState;
 pub use crate::columns::Columns;
 pub use crate::row::{CfaRule, Row, RowAt, RowList, Rule};

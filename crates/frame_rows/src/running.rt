@@ -68,7 +68,7 @@ pub fn inspect_behind(
     } = begun;
     match run(
         &mut machine,
-        &setting,
+        setting.get(),
         fde.encoding,
         fde.instructions_address,
         fde.instructions,

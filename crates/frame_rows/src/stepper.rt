@@ -1,21 +1,21 @@
 //! The rows of an entry, one after the other: only the row where a stepper stands is in memory, and the row stack.
-ghost use Rattle.std.specs.Prelude.{◌≡◌, ℕ, ◌+◌, ◌<◌, ◌^◌, ◌∷◌, ◌||◌, None, Some, Bool, true, false, not, IsTrue, IfOk, OnOk, Err};
-ghost use Rattle.std.specs.List.{list_any};
+ghost use Rattle.std.specs.Prelude.{◌≡◌, ℕ, ◌+◌, ◌<◌, ◌^◌, [], ◌∷◌, None, Some, Bool, true, false, IsTrue, length, IfOk, OnOk, Err, MatchOption};
 ghost use Rattle.sym_edges.specs.Outside.{MatchStop};
 ghost use Rattle.sym_edges.specs.declared.fault.Stop.TheVariants as stop;
 ghost use Rattle.frame_entries.specs.Pointers.{is_encoding};
-ghost use Rattle.frame_rows.specs.Instructions.{instructions, listed_at};
-ghost use Rattle.frame_rows.specs.Steps.{has_cfa};
-ghost use Rattle.frame_rows.specs.Rows.{first_fault, own_setting, own_items, own_begin, instruction_fault, row_at, rows_fault, AreRows, HasCfa, IsSound};
+ghost use Rattle.frame_rows.specs.Instructions.{listed_at};
+ghost use Rattle.frame_rows.specs.Rows.{first_fault, own_setting, own_items, own_begin, row_at, rows_fault, AreRows, HasCfa, IsSound};
 ghost use Rattle.frame_rows.specs.CieLeft.{cie_left};
 ghost use Rattle.frame_rows.specs.Columns.{StayOutside, IsNext};
-ghost use Rattle.frame_rows.specs.Standing.{IsStep};
+ghost use Rattle.frame_rows.specs.Held.{setting_in};
+ghost use Rattle.frame_rows.specs.Standing.{Begins, IsStep, Refuses, Ends};
 ghost use Rattle.frame_rows.specs.Walk.{rows_from, rows_past, row_with};
 
+use crate::checking::check_rows_behind;
 use crate::cie_state::{Begun, CieState};
 use crate::columns::Columns;
+use crate::held_setting::HeldSetting;
 use crate::instruction::Instruction;
-use crate::lacking::lack_cfa_below;
 use crate::machine::{Machine, Setting};
 use crate::row::Row;
 use frame_entries::Fde;
@@ -29,20 +29,23 @@ use sym_edges::{Reason, Stop};
 #[derive(Drop)]
 pub struct Stepper<'c, 'a> {
     machine: Machine<'c>,
-    setting: Setting,
+    setting: HeldSetting<'c>,
     cursor: Cursor<'a>,
     encoding: u8,
     base: u64,
     address: u64,
     end: u64,
     failed: bool,
+    refused: Option<Reason>,
 }
 
 impl<'c, 'a> Model for Stepper<'c, 'a> {
-    ghost use Rattle.std.specs.Prelude.{◌≡◌, None, false, IsTrue};
+    ghost use Rattle.std.specs.Prelude.{IsTrue};
+    ghost use Rattle.std.specs.Option.{option_or};
     ghost use Rattle.frame_entries.specs.Pointers.{is_encoding};
     ghost use Rattle.frame_rows.specs.Instructions.{listed_at};
     ghost use Rattle.frame_rows.specs.Rows.{first_fault};
+    ghost use Rattle.frame_rows.specs.Held.{setting_in};
     ghost use Rattle.frame_rows.specs.Standing.{Standing};
     ghost use Rattle.frame_rows.specs.Walk.{rows_past, row_with};
 
@@ -50,14 +53,17 @@ impl<'c, 'a> Model for Stepper<'c, 'a> {
 
     ghost view = { λ s. record {
       failed = s.failed;
+      refused = s.refused;
+      fault = option_or s.refused (first_fault (setting_in s.setting) (listed_at s.encoding s.base s.cursor) s.machine);
+      end = s.end;
       here = row_with s.address s.machine.row;
-      later = rows_past s.end s.setting (listed_at s.encoding s.base s.cursor) s.machine s.address;
+      later = rows_past s.end (setting_in s.setting) (listed_at s.encoding s.base s.cursor) s.machine s.address;
     } };
 
-    ghost invariant = { λ s. IsTrue (is_encoding s.encoding) × (s.failed ≡ false → first_fault s.setting (listed_at s.encoding s.base s.cursor) s.machine ≡ None) };
+    ghost invariant = { λ s. IsTrue (is_encoding s.encoding) };
 }
 
-/// Carries out the instructions up to the first that moves the location on; none of them is bad.
+/// Carries out the instructions up to the first that moves the location on.
 fn settle(
     machine: &mut Machine<'_>,
     cursor: &mut Cursor<'_>,
@@ -66,12 +72,15 @@ fn settle(
     base: u64,
 ) -> Result<Columns, Stop<Reason>>
     requires known { IsTrue (is_encoding encoding) }
-    requires good { first_fault setting.now (listed_at encoding base cursor.old) machine.old ≡ None }
-    ensures good { MatchStop result (λ _. first_fault setting.now (listed_at encoding base cursor.new) machine.new ≡ None) (λ _. ⊥) (Unit {0}) }
+    ensures fault { MatchStop result
+        (λ _. first_fault setting.now (listed_at encoding base cursor.new) machine.new ≡ first_fault setting.now (listed_at encoding base cursor.old) machine.old)
+        (λ why. first_fault setting.now (listed_at encoding base cursor.old) machine.old ≡ Some why)
+        (Unit {0}) }
     ensures stays { IfOk result (λ columns. StayOutside columns machine.old.row machine.new.row) }
     ensures rows { OnOk result ((end : ℕ) → machine.old.address < end →
         rows_from end setting.now (listed_at encoding base cursor.old) machine.old
         ≡ row_with machine.old.address machine.new.row ∷ rows_past end setting.now (listed_at encoding base cursor.new) machine.new machine.old.address) }
+    ensures fewer { OnOk result (0 < length cursor.old.bytes → length cursor.new.bytes < length cursor.old.bytes) }
 {
     let address = machine.address();
     let mut columns = Columns::none();
@@ -92,47 +101,41 @@ fn settle(
     Ok(columns)
 }
 
-/// Whether an entry has rows, or the reason for which it has none; the state behind its CIE is given. All instructions are
-/// looked at.
-fn look(alloc: Global, state: &CieState, fde: &Fde<'_>) -> Result<(), Stop<Reason>>
-    requires behind { state.now ≡ cie_left fde.now }
-    requires some { 0 < fde.now.size }
-    requires fits { fde.now.start + fde.now.size < 2 ^ 64 }
-    ensures good { MatchStop result (λ _. instruction_fault fde.now ≡ None) (λ _. Unit {0}) (Unit {0}) }
-    ensures cfa { MatchStop result (λ _. HasCfa fde.now) (λ _. Unit {0}) (Unit {0}) }
-    ensures sound { MatchStop result (λ _. (a : ℕ) → IsSound (row_at fde.now a)) (λ _. Unit {0}) (Unit {0}) }
-    ensures exact { MatchStop result (λ _. rows_fault fde.now ≡ None) (λ why. rows_fault fde.now ≡ Some why) (Unit {0}) }
+/// Carries out all instructions that are left.
+fn run_on(
+    machine: &mut Machine<'_>,
+    cursor: &mut Cursor<'_>,
+    setting: &Setting,
+    encoding: u8,
+    base: u64,
+) -> Result<(), Stop<Reason>>
+    requires known { IsTrue (is_encoding encoding) }
+    ensures fault { MatchStop result
+        (λ _. first_fault setting.now (listed_at encoding base cursor.old) machine.old ≡ None)
+        (λ why. first_fault setting.now (listed_at encoding base cursor.old) machine.old ≡ Some why)
+        (Unit {0}) }
 {
-    let begun = match state.begin(alloc, fde) {
-        Ok(begun) => begun,
-        Err(why) => return Err(Stop::Fault(why)),
-    };
-    let Begun { machine, setting } = begun;
-    let end = fde.start + fde.size;
-    let lacking = match lack_cfa_below(
-        machine,
-        &setting,
-        end,
-        fde.encoding,
-        fde.instructions_address,
-        fde.instructions,
-    ) {
-        Ok(lacking) => lacking,
-        Err(stop) => return Err(stop),
-    };
-    if lacking {
-        return Err(Stop::Fault(Reason::Cfa));
+    'rest: while !cursor.is_at_end() {
+        match settle(machine, cursor, setting, encoding, base) {
+            Ok(_) => {}
+            Err(stop) => return Err(stop),
+        }
     }
     Ok(())
 }
 
-/// The first row of an entry whose instructions are good.
+/// The first row of an entry.
+#[inline]
 fn start<'c, 'a>(begun: Begun<'c>, fde: &Fde<'a>, end: u64) -> Result<Stepper<'c, 'a>, Stop<Reason>>
     requires machine { begun.machine ≡ own_begin fde.now }
-    requires setting { begun.setting ≡ own_setting fde.now }
-    requires good { instruction_fault fde.now ≡ None }
+    requires setting { setting_in begun.setting ≡ own_setting fde.now }
     requires some { fde.now.start < end }
-    ensures fresh { MatchStop result (λ s. s.failed ≡ false) (λ _. ⊥) (Unit {0}) }
+    ensures fresh { IfOk result (λ s. (s.failed ≡ false) × (s.refused ≡ None)) }
+    ensures place { IfOk result (λ s. (s.here.address ≡ fde.now.start) × (s.end ≡ end)) }
+    ensures fault { MatchStop result
+        (λ s. s.fault ≡ first_fault (own_setting fde.now) (own_items fde.now) (own_begin fde.now))
+        (λ why. first_fault (own_setting fde.now) (own_items fde.now) (own_begin fde.now) ≡ Some why)
+        (Unit {0}) }
     ensures rows { IfOk result (λ s. s.here ∷ s.later ≡ rows_from end (own_setting fde.now) (own_items fde.now) (own_begin fde.now)) }
 {
     let Begun {
@@ -143,7 +146,7 @@ fn start<'c, 'a>(begun: Begun<'c>, fde: &Fde<'a>, end: u64) -> Result<Stepper<'c
     match settle(
         &mut machine,
         &mut cursor,
-        &setting,
+        setting.get(),
         fde.encoding,
         fde.instructions_address,
     ) {
@@ -156,6 +159,7 @@ fn start<'c, 'a>(begun: Begun<'c>, fde: &Fde<'a>, end: u64) -> Result<Stepper<'c
             address: fde.start,
             end,
             failed: false,
+            refused: None,
         }),
         Err(stop) => Err(stop),
     }
@@ -168,19 +172,20 @@ impl<'c, 'a> Stepper<'c, 'a> {
         requires some { 0 < fde.now.size }
         requires fits { fde.now.start + fde.now.size < 2 ^ 64 }
         ensures fresh { MatchStop result (λ s. s.failed ≡ false) (λ _. Unit {0}) (Unit {0}) }
+        ensures good { IfOk result (λ s. (s.refused ≡ None) × (s.fault ≡ None)) }
         ensures rows { MatchStop result (λ s. AreRows fde.now (s.here ∷ s.later)) (λ _. Unit {0}) (Unit {0}) }
         ensures cfa { MatchStop result (λ _. HasCfa fde.now) (λ _. Unit {0}) (Unit {0}) }
         ensures sound { MatchStop result (λ _. (a : ℕ) → IsSound (row_at fde.now a)) (λ _. Unit {0}) (Unit {0}) }
         ensures exact { MatchStop result (λ _. rows_fault fde.now ≡ None) (λ why. rows_fault fde.now ≡ Some why) (Unit {0}) }
     {
         let state = CieState::of(alloc, fde)?;
-        match look(alloc, &state, fde) {
+        match check_rows_behind(alloc, &state, fde) {
             Ok(()) => {}
             Err(stop) => return Err(stop),
         }
-        let begun = match state.into_begun(fde) {
+        let begun = match state.into_begun(alloc, fde) {
             Ok(begun) => begun,
-            Err(why) => return Err(Stop::Fault(why)),
+            Err(stop) => return Err(stop),
         };
         match start(begun, fde, fde.start + fde.size) {
             Ok(stepper) => Ok(stepper),
@@ -188,9 +193,11 @@ impl<'c, 'a> Stepper<'c, 'a> {
         }
     }
 
-    /// The same where the state behind the CIE of the entry is given.
+    /// At the first row of an entry, where the state behind its CIE is given, or the reason of a bad instruction up to the next
+    /// row. The instructions behind that are not looked at.
+    #[inline]
     #[tactic(auto, using(crate::proofs::EntryLemmas::cie_bad))]
-    pub fn behind(
+    pub fn begin(
         alloc: Global,
         state: &'c CieState,
         fde: &Fde<'a>,
@@ -198,16 +205,10 @@ impl<'c, 'a> Stepper<'c, 'a> {
         requires behind { state.now ≡ cie_left fde.now }
         requires some { 0 < fde.now.size }
         requires fits { fde.now.start + fde.now.size < 2 ^ 64 }
-        ensures fresh { MatchStop result (λ s. s.failed ≡ false) (λ _. Unit {0}) (Unit {0}) }
-        ensures rows { MatchStop result (λ s. AreRows fde.now (s.here ∷ s.later)) (λ _. Unit {0}) (Unit {0}) }
-        ensures cfa { MatchStop result (λ _. HasCfa fde.now) (λ _. Unit {0}) (Unit {0}) }
-        ensures sound { MatchStop result (λ _. (a : ℕ) → IsSound (row_at fde.now a)) (λ _. Unit {0}) (Unit {0}) }
-        ensures exact { MatchStop result (λ _. rows_fault fde.now ≡ None) (λ why. rows_fault fde.now ≡ Some why) (Unit {0}) }
+        ensures fresh { IfOk result (λ s. (s.failed ≡ false) × (s.refused ≡ None)) }
+        ensures place { IfOk result (λ s. (s.here.address ≡ fde.now.start) × (s.end ≡ fde.now.start + fde.now.size)) }
+        ensures begins { MatchStop result (λ s. Begins fde.now s) (λ why. rows_fault fde.now ≡ Some why) (Unit {0}) }
     {
-        match look(alloc, state, fde) {
-            Ok(()) => {}
-            Err(stop) => return Err(stop),
-        }
         let begun = match state.begin(alloc, fde) {
             Ok(begun) => begun,
             Err(why) => return Err(Stop::Fault(why)),
@@ -233,14 +234,18 @@ impl<'c, 'a> Stepper<'c, 'a> {
     }
 
     /// Goes on to the next row, and says outside of which columns it is as the one before; or stays, at the last row: nothing.
-    /// Once memory ran out, each step answers that.
-    #[tactic(auto, using(crate::proofs::SteppingLemmas::no_later, crate::proofs::SteppingLemmas::later_over, crate::proofs::SteppingLemmas::later_next))]
+    /// The reason of a bad instruction refuses the step. Once memory ran out, each step answers that, and once one was refused,
+    /// each is for the same reason.
     pub fn next(&mut self) -> Result<Option<Columns>, Stop<Reason>>
-        ensures steps { self.old.failed ≡ false → MatchStop result (λ next. IsNext next self.old self.new) (λ _. ⊥) (self.new.failed ≡ true) }
+        ensures steps { self.old.failed ≡ false → self.old.refused ≡ None → MatchStop result (λ next. IsNext next self.old self.new) (λ why. Refuses why self.old self.new) (self.new.failed ≡ true) }
         ensures failed { self.old.failed ≡ true → (result ≡ Err stop.NoMemory) × (self.new ≡ self.old) }
+        ensures refused { self.old.failed ≡ false → MatchOption self.old.refused (Unit {0}) (λ why. (result ≡ Err (stop.Fault why)) × (self.new ≡ self.old)) }
     {
         if self.failed {
             return Err(Stop::NoMemory);
+        }
+        if let Some(why) = self.refused {
+            return Err(Stop::Fault(why));
         }
         let next = self.machine.address();
         if next <= self.address || self.end <= next {
@@ -250,27 +255,62 @@ impl<'c, 'a> Stepper<'c, 'a> {
         match settle(
             &mut self.machine,
             &mut self.cursor,
-            &self.setting,
+            self.setting.get(),
             self.encoding,
             self.base,
         ) {
             Ok(columns) => Ok(Some(columns)),
-            Err(stop) => {
+            Err(Stop::Fault(why)) => {
+                self.refused = Some(why);
+                Err(Stop::Fault(why))
+            }
+            Err(Stop::NoMemory) => {
                 self.failed = true;
-                Err(stop)
+                Err(Stop::NoMemory)
             }
         }
     }
 
-    /// Goes on to the next row: true; or stays, at the last row: false. Once memory ran out, each step answers that.
+    /// Goes on to the next row: true; or stays, at the last row: false. Where all instructions were looked at before, no step gives a
+    /// reason. Once memory ran out, each step answers that.
     pub fn step(&mut self) -> Result<bool, Stop<Reason>>
-        ensures steps { self.old.failed ≡ false → MatchStop result (λ more. IsStep more self.old self.new) (λ _. ⊥) (self.new.failed ≡ true) }
+        ensures steps { self.old.failed ≡ false → self.old.refused ≡ None → self.old.fault ≡ None → MatchStop result (λ more. IsStep more self.old self.new) (λ _. ⊥) (self.new.failed ≡ true) }
         ensures failed { self.old.failed ≡ true → (result ≡ Err stop.NoMemory) × (self.new ≡ self.old) }
+        ensures refused { self.old.failed ≡ false → MatchOption self.old.refused (Unit {0}) (λ why. (result ≡ Err (stop.Fault why)) × (self.new ≡ self.old)) }
     {
         match self.next() {
             Ok(Some(_)) => Ok(true),
             Ok(None) => Ok(false),
             Err(stop) => Err(stop),
+        }
+    }
+
+    /// Carries out the instructions that are left, whose rows lie at the end or above; no row is later then. The reason of a bad
+    /// one refuses that.
+    pub fn finish(&mut self) -> Result<(), Stop<Reason>>
+        requires fresh { self.old.failed ≡ false }
+        requires going { self.old.refused ≡ None }
+        ensures { MatchStop result (λ _. Ends self.old self.new) (λ why. Refuses why self.old self.new) (self.new.failed ≡ true) }
+    {
+        match run_on(
+            &mut self.machine,
+            &mut self.cursor,
+            self.setting.get(),
+            self.encoding,
+            self.base,
+        ) {
+            Ok(()) => {
+                self.address = self.machine.address();
+                Ok(())
+            }
+            Err(Stop::Fault(why)) => {
+                self.refused = Some(why);
+                Err(Stop::Fault(why))
+            }
+            Err(Stop::NoMemory) => {
+                self.failed = true;
+                Err(Stop::NoMemory)
+            }
         }
     }
 }

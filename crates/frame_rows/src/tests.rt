@@ -1,6 +1,6 @@
 //! Examples with ample memory: each public call, and entries with many rows.
 use crate::row::{COLUMNS, CfaRule, Row, Rule};
-use crate::{RowAt, Stepper, inspect, rows};
+use crate::{CieState, RowAt, Stepper, inspect, rows};
 use frame_entries::Fde;
 use std::alloc::Global;
 use std::process::Abort;
@@ -76,15 +76,10 @@ fn row_at(rows: &[RowAt], address: u64) -> Option<Row> {
     found
 }
 
-/// A stepper goes over the rows of an entry, and has the row at each address.
-fn expect_steps(rt: &impl Abort, alloc: Global, number: u8, fde: &Fde<'_>) -> Result<(), Fail> {
+/// The rows that a stepper goes over, so many at most.
+fn steps_of(alloc: Global, stepper: &mut Stepper<'_, '_>, most: u64) -> Result<Vec<RowAt>, Fail> {
     let mut found = Vec::new(alloc);
-    if fde.size == 0 || fde.size > u64::MAX - fde.start {
-        return Ok(());
-    }
-    let list = rows(alloc, fde)?;
-    let mut stepper = Stepper::new(alloc, fde)?;
-    for _ in 0..=fde.size {
+    for _ in 0..=most {
         found.push(RowAt {
             address: stepper.address(),
             row: *stepper.row(),
@@ -93,13 +88,25 @@ fn expect_steps(rt: &impl Abort, alloc: Global, number: u8, fde: &Fde<'_>) -> Re
             break;
         }
     }
+    Ok(found)
+}
+
+/// A stepper goes over the rows of an entry, and has the row at each address; also one that begins behind the CIE.
+fn expect_steps(rt: &impl Abort, alloc: Global, number: u8, fde: &Fde<'_>) -> Result<(), Fail> {
+    if fde.size == 0 || fde.size > u64::MAX - fde.start {
+        return Ok(());
+    }
+    let list = rows(alloc, fde)?;
+    let found = steps_of(alloc, &mut Stepper::new(alloc, fde)?, fde.size)?;
     let mut same = true;
     for address in fde.start..fde.start + fde.size {
         same = same && row_at(list.as_slice(), address) == row_at(&found, address);
     }
+    let state = CieState::of(alloc, fde)?;
+    let begun = steps_of(alloc, &mut Stepper::begin(alloc, &state, fde)?, fde.size)?;
     assert_eq!(rt;
-        (same, found.as_slice()),
-        (true, list.as_slice()),
+        (same, found.as_slice(), begun.as_slice()),
+        (true, list.as_slice(), list.as_slice()),
         "entry {number}"
     );
     Ok(())

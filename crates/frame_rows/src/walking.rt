@@ -123,7 +123,7 @@ pub fn rows_behind(alloc: Global, state: &CieState, fde: &Fde<'_>) -> Result<Row
     let rows = match walk(
         alloc,
         machine,
-        &setting,
+        setting.get(),
         end,
         fde.encoding,
         fde.instructions_address,

@@ -29,8 +29,10 @@ use Rattle.rule_postfix.specs.declared.all.Progress.{Progress}
 use Rattle.rule_postfix.specs.declared.omission.Omission.{Omission}
 use Rattle.rule_postfix.specs.Overlaps.{meet, any_meets}
 use Rattle.rule_postfix.specs.Written.{Decided, range_of, has_range, is_code, reason_among, reason_behind, rows_reason, body_reason, reason_of, left_out, with_written, with_fields, with_decision, with_entry, with_entries, decided_behind, decided_of, decided, written, omitted, entry_lines, written_lines}
-use Rattle.rule_postfix.specs.Deciding.{LiesAbove, IfRefused, Shows}
+use Rattle.rule_postfix.specs.Deciding.{LiesAbove, EndsAt, IfRefused, Shows}
+use Rattle.frame_rows.specs.Rows.{rows_fault}
 use Rattle.rule_postfix.proofs.SpellingLemmas.{canon_append}
+use Rattle.rule_postfix.proofs.ReasonLemmas.{no_rows}
 
 -- one entry more
 lines_more : (base : ℕ) (ws : List FdeFields) (e : FdeFields) → written_lines base (ws ++ e ∷ []) ≡ written_lines base ws ++ entry_lines base e
@@ -140,16 +142,27 @@ written_too base code p q entry e body is more d so =
     let P : Decided → Type 0 = λ x. Shows base q x in
     subst P (sym (good_by base code p entry e None d body is so)) (more d so)
 
-left_too : (base : ℕ) (code : List Range) (p q : Progress) (entry : Entry) (e : FdeFields) (why : Reason) → entry.body ≡ Good e → reason_among code p.taken e ≡ Some why →
+pub left_too : (base : ℕ) (code : List Range) (p q : Progress) (entry : Entry) (e : FdeFields) (why : Reason) → entry.body ≡ Good e → reason_among code p.taken e ≡ Some why →
     ((base : ℕ) (d : Decided) → Shows base p d → Shows base q (left_out entry why d)) → (d : Decided) → Shows base p d → Shows base q (with_entry code entry d)
 left_too base code p q entry e why body is more d so =
     let P : Decided → Type 0 = λ x. Shows base q x in
     subst P (sym (good_by base code p entry e (Some why) d body is so)) (more base d so)
 
-pub refused_too : (A : Type 0) (base : ℕ) (code : List Range) (p q : Progress) (entry : Entry) (e : FdeFields) (stop : Stop Reason) → entry.body ≡ Good e → MatchStop {A = A} {F = Reason} (Err stop) (λ _. reason_among code p.taken e ≡ None) (λ why. reason_among code p.taken e ≡ Some why) (Unit {0}) →
-    IfRefused stop (λ why. (base : ℕ) (d : Decided) → Shows base p d → Shows base q (left_out entry why d)) → (d : Decided) → Shows base p d → Shows base q (with_entry code entry d)
-refused_too A base code p q entry e (Fault why) body is more = left_too base code p q entry e why body is more
-refused_too A base code p q entry e NoMemory body is more = absurd more
+-- an entry that is refused behind some of its text
+pub refused_too : (A B : Type 0) (base : ℕ) (code : List Range) (p q r : Progress) (entry : Entry) (e : FdeFields) (end : ℕ) (stop : Stop Reason) (P : A → Type 0) (Q : B → Type 0) → entry.body ≡ Good e → EndsAt e end →
+    MatchStop {A = A} {F = Reason} (Err stop) P (λ _. (b : ℕ) (d : Decided) → Shows b p d → Shows b q d) (Unit {0}) → MatchStop {A = B} {F = Reason} (Err stop) Q (λ why. rows_fault e ≡ Some why) (Unit {0}) →
+    IfRefused stop (λ why. (base : ℕ) (d : Decided) → Shows base q d → Shows base r (left_out entry why d)) → (d : Decided) → Shows base p d → Shows base r (with_entry code entry d)
+refused_too A B base code p q r entry e end (Fault why) P Q body ends still bad more = left_too base code p r entry e why body (no_rows code p.taken e why ends.ranged bad) (λ b d so. more b d (still b d so))
+refused_too A B base code p q r entry e end NoMemory P Q body ends still bad more = absurd more
+
+-- the text stays
+pub shows_same : (p q : Progress) → text_bytes q.text ≡ text_bytes p.text → q.omitted.items ≡ p.omitted.items → q.taken ≡ p.taken → (base : ℕ) (d : Decided) → Shows base p d → Shows base q d
+shows_same p q text omitted taken base d so = record {
+  text = text ∙ so.text;
+  valid = so.valid;
+  omitted = omitted ∙ so.omitted;
+  taken = λ range. ap (any_meets range) taken ∙ so.taken range;
+}
 
 pub bad_too : (base : ℕ) (code : List Range) (p q : Progress) (entry : Entry) (why : Reason) → entry.body ≡ Bad why →
     ((base : ℕ) (d : Decided) → Shows base p d → Shows base q (left_out entry why d)) → (d : Decided) → Shows base p d → Shows base q (with_entry code entry d)

@@ -1,44 +1,51 @@
 -- The rows of an entry, and its records.
-use Rattle.std.proofs.Common.{◌≡◌, ℕ, ◌+◌, ◌<◌, ◌≤◌, ◌^◌, List, [], ◌++◌, None, true, ◌∙◌, ap, arith}
+use Rattle.std.proofs.Common.{◌≡◌, ℕ, ◌+◌, ◌<◌, ◌^◌, Bool, true, false, List, ◌∷◌, ◌++◌, None, Some, Err, sym, ◌∙◌, ap}
+use Rattle.std.specs.List.{list_any}
+use Rattle.sym_edges.specs.declared.reason.Reason.{Reason}
+use Rattle.sym_edges.specs.declared.reason.Reason.TheVariants as reason
+use Rattle.sym_edges.specs.Outside.{MatchStop}
+use Rattle.sym_edges.specs.declared.fault.Stop.{Stop}
+use Rattle.sym_edges.specs.declared.fault.Stop.TheVariants.{Fault, NoMemory}
 use Rattle.frame_entries.specs.FdeFields.{FdeFields}
 use Rattle.frame_rows.specs.declared.row.RowAt.{RowAt}
-use Rattle.frame_rows.specs.Rows.{Ascending, AreRows, HasCfa, IsSound, row_at}
+use Rattle.frame_rows.specs.Rows.{AreRows, HasCfa, IsSound, row_at, rows_fault}
+use Rattle.frame_rows.specs.Standing.{Standing, Begins}
+use Rattle.frame_rows.proofs.EntryLemmas.{Walked, walked_by, rows_have, rows_good, rows_lack, rows_sound, bad_instruction}
 use Rattle.sym_records.specs.Canon.{canon_text}
-use Rattle.sym_edges.specs.Addresses.{Range}
 use Rattle.sym_records.specs.declared.place.Place.TheVariants.{Inside}
 use Rattle.sym_records.specs.Validity.{first_bad_from}
-use Rattle.range_set.specs.Enclosing.{encloses}
 use Rattle.rule_postfix.specs.FrameLines.{frame_lines}
-use Rattle.rule_postfix.specs.Written.{entry_lines as one_entry}
-use Rattle.rule_postfix.specs.Deciding.{LiesAbove, EndsAt}
+use Rattle.rule_postfix.specs.Spelling.{lacks_rule}
 use Rattle.rule_postfix.specs.Writing.{lines_of}
-use Rattle.rule_postfix.proofs.WriterLemmas.{lower}
 use Rattle.rule_postfix.proofs.LinesLemmas.{lines_are}
 use Rattle.rule_postfix.proofs.ValidLemmas.{RecordLaws, lines_valid}
-
--- the rows rise from the base on
-pub rising : (base : ℕ) (e : FdeFields) (rows : List RowAt) → AreRows e rows → base ≤ e.start → Ascending base (e.start + e.size) rows
-rising base e rows are le = lower base e.start (e.start + e.size) rows le are.in_order
 
 -- the pass over the rows of an entry gives its records
 rows_lines : (base : ℕ) (e : FdeFields) (rows : List RowAt) → AreRows e rows → 0 < e.size → lines_of base (e.start + e.size) rows ≡ frame_lines (row_at e) e.start e.size base
 rows_lines base e rows are some = lines_are (row_at e) e.start e.size base rows some are.in_order are.each
 
-pub entry_text : (base end : ℕ) (e : FdeFields) (rows : List RowAt) (old text : List ℕ) → AreRows e rows → 0 < e.size → old ≡ [] → end ≡ e.start + e.size → text ≡ old ++ canon_text (lines_of base end rows) → text ≡ canon_text (frame_lines (row_at e) e.start e.size base)
-entry_text base end e rows old text are some none sum made = made ∙ ap (λ t. t ++ canon_text (lines_of base end rows)) none ∙ ap (λ k. canon_text (lines_of base k rows)) sum ∙ ap canon_text (rows_lines base e rows are some)
+pub entry_text : (base end : ℕ) (e : FdeFields) (rows : List RowAt) (old text : List ℕ) → AreRows e rows → 0 < e.size → end ≡ e.start + e.size → text ≡ old ++ canon_text (lines_of base end rows) → text ≡ old ++ canon_text (frame_lines (row_at e) e.start e.size base)
+entry_text base end e rows old text are some sum made = made ∙ ap (λ k. old ++ canon_text (lines_of base k rows)) sum ∙ ap (λ lines. old ++ canon_text lines) (rows_lines base e rows are some)
 
--- the same with an end that is known
-pub rising_to : (base end : ℕ) (code : List Range) (e : FdeFields) (rows : List RowAt) → AreRows e rows → EndsAt e end → LiesAbove base code → encloses code e.start end ≡ true → Ascending base (e.start + e.size) rows
-rising_to base end code e rows are ends above place = rising base e rows are (above.at e.start end place)
+-- what the pass over the rows of an entry that begins tells of it
+pass_walked : (e : FdeFields) (s : Standing) → Begins e s → s.fault ≡ None → Walked e (s.here ∷ s.later)
+pass_walked e s begun good = walked_by e (s.here ∷ s.later) (sym begun.fault ∙ good) (begun.rows good)
 
-pub lines_to : (base end : ℕ) (e : FdeFields) (rows : List RowAt) → AreRows e rows → EndsAt e end → lines_of base (e.start + e.size) rows ≡ one_entry base e
-unfolding one_entry
-lines_to base end e rows are ends = rows_lines base e rows are ends.some
+pub pass_lack : (e : FdeFields) (s : Standing) (lacking : Bool) → Begins e s → s.fault ≡ None → lacking ≡ list_any lacks_rule (s.here ∷ s.later) → lacking ≡ true → rows_fault e ≡ Some reason.Cfa
+pass_lack e s lacking begun good is some = rows_lack e (s.here ∷ s.later) lacking (pass_walked e s begun good) some is
+
+pub pass_good : (e : FdeFields) (s : Standing) (lacking : Bool) → Begins e s → s.fault ≡ None → lacking ≡ list_any lacks_rule (s.here ∷ s.later) → lacking ≡ false → rows_fault e ≡ None
+pass_good e s lacking begun good is none = rows_good e (s.here ∷ s.later) lacking (pass_walked e s begun good) none is
+
+pub pass_bad : (A B : Type 0) (stop : Stop Reason) (e : FdeFields) (s : Standing) (P : A → Type 0) (Q : B → Type 0) → Begins e s → MatchStop {A = A} {F = Reason} (Err stop) P (λ why. s.fault ≡ Some why) (Unit {0}) → MatchStop {A = B} {F = Reason} (Err stop) Q (λ why. rows_fault e ≡ Some why) (Unit {0})
+pass_bad A B (Fault why) e s P Q begun bad = bad_instruction e why (sym begun.fault ∙ bad)
+pass_bad A B NoMemory e s P Q begun bad = tt
 
 -- the records of an entry are valid behind any record
 pub entry_valid : RecordLaws → (base : ℕ) (e : FdeFields) → HasCfa e → ((a : ℕ) → IsSound (row_at e a)) → 0 < e.size → e.start + e.size < 2 ^ 64 → first_bad_from 0 Inside (frame_lines (row_at e) e.start e.size base) ≡ None
 entry_valid laws base e cfa sound some inside = lines_valid laws (row_at e) e.start e.size base (record { sound = sound; cfa = cfa.everywhere; inside = inside }) some
 
-pub entry_valid_to : RecordLaws → (base end : ℕ) (e : FdeFields) → HasCfa e → ((a : ℕ) → IsSound (row_at e a)) → EndsAt e end → first_bad_from 0 Inside (one_entry base e) ≡ None
-unfolding one_entry
-entry_valid_to laws base end e cfa sound ends = entry_valid laws base e cfa sound ends.some (omega (arith, ends.sum, ends.fits))
+pub pass_valid : RecordLaws → (base : ℕ) (e : FdeFields) (s : Standing) (lacking : Bool) → Begins e s → s.fault ≡ None → lacking ≡ list_any lacks_rule (s.here ∷ s.later) → lacking ≡ false → 0 < e.size → e.start + e.size < 2 ^ 64 → first_bad_from 0 Inside (frame_lines (row_at e) e.start e.size base) ≡ None
+pass_valid laws base e s lacking begun good is none some inside =
+    let walked = pass_walked e s begun good in
+    entry_valid laws base e (rows_have e (s.here ∷ s.later) lacking walked none is) (rows_sound e (s.here ∷ s.later) walked) some inside

@@ -160,7 +160,7 @@ pub put_apart : (start end : ℕ) (entries more : List (ℕ × ℕ)) → AreApar
 unfolding any_meets
 put_apart start end entries more apart some none e = let P : List (ℕ × ℕ) → Type 0 = λ xs. AreApart xs in subst P (sym e) (inserted_apart start end entries apart some none)
 
-or_assoc_by : (a b c : Bool) → ((a || b) || c) ≡ (a || (b || c))
+pub or_assoc_by : (a b c : Bool) → ((a || b) || c) ≡ (a || (b || c))
 or_assoc_by true b c = refl
 or_assoc_by false b c = refl
 

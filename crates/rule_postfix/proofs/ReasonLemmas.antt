@@ -1,9 +1,6 @@
 -- The first reason to leave an entry out.
-use Rattle.std.proofs.Common.{◌≡◌, ℕ, ◌+◌, ◌<◌, ◌≤◌, ◌&&◌, ◌^◌, not, nat_lt, Bool, true, false, cond, List, Option, None, Some, Err, refl, ap, sym, ◌∙◌, arith}
+use Rattle.std.proofs.Common.{◌≡◌, ℕ, ◌+◌, ◌<◌, ◌≤◌, ◌&&◌, ◌^◌, not, nat_lt, Bool, true, false, cond, List, Option, None, Some, refl, ap, sym, ◌∙◌, arith}
 use Rattle.std.proofs.lemmas.Bool.{and_right, and_from, le-ltb, lt-ltb}
-use Rattle.sym_edges.specs.declared.fault.Stop.{Stop}
-use Rattle.sym_edges.specs.declared.fault.Stop.TheVariants.{Fault, NoMemory}
-use Rattle.sym_edges.specs.Outside.{MatchStop}
 use Rattle.rule_postfix.specs.Deciding.{EndsAt}
 use Rattle.sym_edges.specs.declared.reason.Reason.{Reason}
 use Rattle.sym_edges.specs.declared.reason.Reason.TheVariants as reason
@@ -38,21 +35,24 @@ ranged code taken e why inside meets has rows place met =
     ∙ ap (λ t. option_or why (option_or (unless t reason.Outside) (unless (not (any_meets (range_of e) taken)) reason.Overlap))) place
     ∙ ap (λ t. option_or why (option_or (unless inside reason.Outside) (unless (not t) reason.Overlap))) met
 
-no_rows : (code taken : List Range) (e : FdeFields) (why : Reason) → has_range e ≡ true → rows_fault e ≡ Some why → reason_among code taken e ≡ Some why
+-- the reason that its rows give, or else a later one
+pub later_reason : (rows : Option Reason) (later : Reason) → rows ≡ None → option_or rows (Some later) ≡ Some later
+later_reason rows later none = ap (λ o. option_or o (Some later)) none
+
+pub first_reason : (rows : Option Reason) (later why : Reason) → rows ≡ Some why → option_or rows (Some later) ≡ Some why
+first_reason rows later why is = ap (λ o. option_or o (Some later)) is
+
+pub no_rows : (code taken : List Range) (e : FdeFields) (why : Reason) → has_range e ≡ true → rows_fault e ≡ Some why → reason_among code taken e ≡ Some why
 no_rows code taken e why has rows = ranged code taken e (Some why) (encloses code e.start (e.start + e.size)) (any_meets (range_of e) taken) has rows refl refl
 
-pub rows_refused : (A B : Type 0) (code taken : List Range) (e : FdeFields) (end : ℕ) (stop : Stop Reason) → EndsAt e end → MatchStop {A = A} {F = Reason} (Err stop) (λ _. rows_fault e ≡ None) (λ why. rows_fault e ≡ Some why) (Unit {0}) → MatchStop {A = B} {F = Reason} (Err stop) (λ _. reason_among code taken e ≡ None) (λ why. reason_among code taken e ≡ Some why) (Unit {0})
-rows_refused A B code taken e end (Fault why) ends rows = no_rows code taken e why ends.ranged rows
-rows_refused A B code taken e end NoMemory ends rows = tt
+pub no_code : (code taken : List Range) (e : FdeFields) (end : ℕ) (why : Reason) → EndsAt e end → encloses code e.start end ≡ false → option_or (rows_fault e) (Some reason.Outside) ≡ Some why → reason_among code taken e ≡ Some why
+no_code code taken e end why ends place is = ranged code taken e (rows_fault e) false (any_meets (range_of e) taken) ends.ranged refl (ap (encloses code e.start) (sym ends.sum) ∙ place) refl ∙ is
 
-pub no_code : (code taken : List Range) (e : FdeFields) (end : ℕ) → EndsAt e end → rows_fault e ≡ None → encloses code e.start end ≡ false → reason_among code taken e ≡ Some reason.Outside
-no_code code taken e end ends rows place = ranged code taken e None false (any_meets (range_of e) taken) ends.ranged rows (ap (encloses code e.start) (sym ends.sum) ∙ place) refl
-
-at_end : (taken : List Range) (e : FdeFields) (end : ℕ) (meets : Bool) → EndsAt e end → any_meets (record { start = e.start; end = end }) taken ≡ meets → any_meets (range_of e) taken ≡ meets
+pub at_end : (taken : List Range) (e : FdeFields) (end : ℕ) (meets : Bool) → EndsAt e end → any_meets (record { start = e.start; end = end }) taken ≡ meets → any_meets (range_of e) taken ≡ meets
 at_end taken e end meets ends met = ap (λ (k : ℕ). any_meets (record { start = e.start; end = k }) taken) (sym ends.sum) ∙ met
 
-pub overlaps : (code taken : List Range) (e : FdeFields) (end : ℕ) → EndsAt e end → rows_fault e ≡ None → encloses code e.start end ≡ true → any_meets (record { start = e.start; end = end }) taken ≡ true → reason_among code taken e ≡ Some reason.Overlap
-overlaps code taken e end ends rows place met = ranged code taken e None true true ends.ranged rows (ap (encloses code e.start) (sym ends.sum) ∙ place) (at_end taken e end true ends met)
+pub overlaps : (code taken : List Range) (e : FdeFields) (end : ℕ) (why : Reason) → EndsAt e end → encloses code e.start end ≡ true → any_meets (record { start = e.start; end = end }) taken ≡ true → option_or (rows_fault e) (Some reason.Overlap) ≡ Some why → reason_among code taken e ≡ Some why
+overlaps code taken e end why ends place met is = ranged code taken e (rows_fault e) true true ends.ranged refl (ap (encloses code e.start) (sym ends.sum) ∙ place) (at_end taken e end true ends met) ∙ is
 
 pub no_reason : (code taken : List Range) (e : FdeFields) (end : ℕ) → EndsAt e end → rows_fault e ≡ None → encloses code e.start end ≡ true → any_meets (record { start = e.start; end = end }) taken ≡ false → reason_among code taken e ≡ None
 no_reason code taken e end ends rows place met = ranged code taken e None true false ends.ranged rows (ap (encloses code e.start) (sym ends.sum) ∙ place) (at_end taken e end false ends met)

@@ -1,9 +1,15 @@
 -- What is spelled as a stepper moves.
-use Rattle.std.proofs.Common.{◌≡◌, Option, Some, None, Result, Ok, Err, OnOk, ℕ, ◌-◌, ◌≤◌, true, false, cond, List, [], ◌∷◌, ◌++◌, refl, ap, sym, subst, ◌∙◌, arith, append_assoc, append-nil}
+use Rattle.std.proofs.Math.Bool.{or_comm}
+use Rattle.std.proofs.Math.Seq.{take-append_seam}
+use Rattle.std.proofs.Common.{◌≡◌, Option, Some, None, Result, Ok, Err, OnOk, ℕ, ◌-◌, ◌<◌, ◌≤◌, Bool, true, false, not, ◌||◌, cond, take, length, List, [], ◌∷◌, ◌++◌, refl, ap, sym, subst, ◌∙◌, arith, append_assoc, append-nil}
+use Rattle.std.specs.List.{list_any}
+use Rattle.sym_edges.specs.declared.reason.Reason.{Reason}
+use Rattle.sym_edges.specs.Outside.{MatchStop}
+use Rattle.sym_edges.specs.declared.fault.Stop.{Stop}
+use Rattle.sym_edges.specs.declared.fault.Stop.TheVariants.{Fault, NoMemory}
 use Rattle.frame_rows.specs.declared.row.Row.{Row}
-use Rattle.frame_rows.specs.declared.row.RowAt.{RowAt}
-use Rattle.frame_rows.specs.Rows.{Ascending}
-use Rattle.frame_rows.specs.Standing.{Standing, IsStep}
+use Rattle.frame_rows.specs.Steps.{has_cfa}
+use Rattle.frame_rows.specs.Standing.{Standing, GoesOn, Refuses}
 use Rattle.frame_rows.specs.Columns.{StayOutside, IsNext}
 use Rattle.frame_rows.specs.declared.columns.Columns.{Columns}
 use Rattle.sym_rules.specs.Rules.{spelled_rules}
@@ -15,8 +21,9 @@ use Rattle.rule_postfix.specs.declared.open_init.OpenInit.{OpenInit}
 use Rattle.rule_postfix.specs.RowRules.{row_rules, changed_rules, some_becomes_unspecified}
 use Rattle.rule_postfix.specs.FrameLines.{change}
 use Rattle.rule_postfix.specs.Writing.{Open, opened, closed, with_changes, with_row, with_rows, lines_of}
-use Rattle.rule_postfix.specs.Spelling.{IsSpelled}
-use Rattle.rule_postfix.proofs.WriterLemmas.{Writing, writing_begins, one_on}
+use Rattle.rule_postfix.specs.Spelling.{IsSpelled, lacks_rule}
+use Rattle.rule_postfix.proofs.WriterLemmas.{starts, aboves}
+use Rattle.rule_postfix.proofs.OverlapLemmas.{or_assoc_by}
 use Rattle.rule_postfix.proofs.SpellingLemmas.{canon_append, more}
 
 canon_more : (line : SymLine) (lines : List SymLine) → canon_text (line ∷ lines) ≡ canon line ++ canon_text lines
@@ -69,61 +76,106 @@ change_spelled front text base a before after p q o stays start body so =
       lines = so.lines;
     })
 
--- what is spelled where a stepper stands
-pub record Passing (base end : ℕ) (front text : List ℕ) (p : OpenInit) (before : Row) (s : Standing) (whole : Open) : Type 0 where
+-- what is spelled where a stepper stands, behind its first row
+pub record Passing (base end : ℕ) (front text : List ℕ) (p : OpenInit) (before : Row) (lacking : Bool) (s first : Standing) : Type 0 where
   pub fresh : s.failed ≡ false
+  pub going : s.refused ≡ None
+  pub fault : s.fault ≡ first.fault
+  pub ends : s.end ≡ end
   pub here : before ≡ s.here.row
   pub o : Open
   pub spelled : IsSpelled front base text p o
-  pub writing : Writing base end s.here.row s.later o whole
+  pub same : with_rows s.here.row s.later o ≡ with_rows first.here.row first.later (opened base [] first.here.address first.here.row)
+  pub above : base ≤ o.start
+  pub below : o.start ≤ s.here.address
+  pub low : s.here.address < end
+  pub lack : (lacking || list_any lacks_rule s.later) ≡ list_any lacks_rule (first.here ∷ first.later)
 
-pub pass_begins : (base end : ℕ) (text : List ℕ) (p : OpenInit) (before : Row) (s : Standing) → s.failed ≡ false → Ascending base end (s.here ∷ s.later) → before ≡ s.here.row → p.start ≡ s.here.address → p.body.items ≡ spelled_rules (row_rules before) ++ 10 ∷ [] → Passing base end text text p before s (with_rows s.here.row s.later (opened base [] s.here.address s.here.row))
-pass_begins base end text p before s fresh rising here start body = record {
+pub pass_begins : (base end : ℕ) (text : List ℕ) (p : OpenInit) (before : Row) (lacking : Bool) (s : Standing) → s.failed ≡ false → s.refused ≡ None → s.end ≡ end → base ≤ s.here.address → s.here.address < end → before ≡ s.here.row → lacking ≡ not (has_cfa before) → p.start ≡ s.here.address → p.body.items ≡ spelled_rules (row_rules before) ++ 10 ∷ [] → Passing base end text text p before lacking s s
+pass_begins base end text p before lacking s fresh going ends above low here lack start body = record {
   fresh = fresh;
+  going = going;
+  fault = refl;
+  ends = ends;
   here = here;
   o = opened base [] s.here.address s.here.row;
   spelled = record { based = refl; start = start; body = body ∙ ap (λ row. spelled_rules (row_rules row) ++ 10 ∷ []) here ∙ canon_none (spelled_rules (row_rules s.here.row) ++ 10 ∷ []); lines = canon_none text };
-  writing = writing_begins base end s.here s.later (opened base [] s.here.address s.here.row) rising refl;
+  same = refl;
+  above = above;
+  below = omega arith;
+  low = low;
+  lack = ap (λ t. t || list_any lacks_rule s.later) (lack ∙ ap (λ row. not (has_cfa row)) here);
 }
 
-next_writing : (base end : ℕ) (front text : List ℕ) (p : OpenInit) (before : Row) (s t : Standing) (whole : Open) → (so : Passing base end front text p before s whole) → IsStep true s t → Writing base end s.here.row (t.here ∷ t.later) so.o whole
-next_writing base end front text p before s t whole so step =
-    let P : List RowAt → Type 0 = λ rows. Writing base end s.here.row rows so.o whole in
-    subst P step.1 so.writing
-
-pub pass_on : (base end : ℕ) (front old new : List ℕ) (p q : OpenInit) (before after : Row) (s t : Standing) (whole : Open) → Passing base end front old p before s whole → IsStep true s t →
-    ((front : List ℕ) (o : Open) → IsSpelled front base old p o → IsSpelled front base new q (with_row t.here.address before t.here.row o)) → after ≡ t.here.row → Passing base end front new q after t whole
-pass_on base end front old new p q before after s t whole so step one here =
+pub pass_on : (base end : ℕ) (front old new : List ℕ) (p q : OpenInit) (before after : Row) (lacking more : Bool) (s t first : Standing) → Passing base end front old p before lacking s first → GoesOn s t →
+    ((front : List ℕ) (o : Open) → IsSpelled front base old p o → IsSpelled front base new q (with_row t.here.address before t.here.row o)) → after ≡ t.here.row → more ≡ (lacking || not (has_cfa t.here.row)) → Passing base end front new q after more t first
+unfolding with_rows
+pass_on base end front old new p q before after lacking more s t first so step one here lack =
     let P : Row → Type 0 = λ row. IsSpelled front base new q (with_row t.here.address row t.here.row so.o) in
     record {
-      fresh = step.0;
+      fresh = step.failed;
+      going = step.refused;
+      fault = step.fault ∙ so.fault;
+      ends = step.end ∙ so.ends;
       here = here;
       o = with_row t.here.address s.here.row t.here.row so.o;
       spelled = subst P so.here (one front so.o so.spelled);
-      writing = one_on base end s.here.row t.here t.later so.o whole (next_writing base end front old p before s t whole so step);
+      same = ap (λ rows. with_rows s.here.row rows so.o) (sym step.later) ∙ so.same;
+      above = aboves t.here.address s.here.row t.here.row so.o base so.above (omega (arith, so.above, so.below, step.rises));
+      below = starts t.here.address s.here.row t.here.row so.o t.here.address (omega (arith, so.below, step.rises)) (omega arith);
+      low = omega (arith, step.below, so.ends);
+      lack = ap (λ b. b || list_any lacks_rule t.later) lack
+          ∙ or_assoc_by lacking (not (has_cfa t.here.row)) (list_any lacks_rule t.later)
+          ∙ ap (λ rows. lacking || list_any lacks_rule rows) (sym step.later) ∙ so.lack;
     }
 
-pub pass_ends : (base end : ℕ) (front old new : List ℕ) (p : OpenInit) (before : Row) (s : Standing) (first : RowAt) (rest : List RowAt) → Passing base end front old p before s (with_rows first.row rest (opened base [] first.address first.row)) → s.later ≡ [] → new ≡ old ++ (init_front (p.start - base) (end - p.start) ++ p.body.items) → new ≡ front ++ canon_text (lines_of base end (first ∷ rest))
+pub pass_ends : (base end : ℕ) (front old new : List ℕ) (p : OpenInit) (before : Row) (lacking : Bool) (s first : Standing) → Passing base end front old p before lacking s first → s.later ≡ [] → new ≡ old ++ (init_front (p.start - base) (end - p.start) ++ p.body.items) → new ≡ front ++ canon_text (lines_of base end (first.here ∷ first.later))
 unfolding lines_of with_rows
-pass_ends base end front old new p before s first rest so none is =
+pass_ends base end front old new p before lacking s first so none is =
     closed_spelled front old new base end p so.o so.spelled is
-    ∙ ap (λ o. front ++ canon_text (closed o end)) (sym (ap (λ rows. with_rows s.here.row rows so.o) none) ∙ so.writing.same)
+    ∙ ap (λ o. front ++ canon_text (closed o end)) (sym (ap (λ rows. with_rows s.here.row rows so.o) none) ∙ so.same)
+
+pub pass_lacks : (base end : ℕ) (front old : List ℕ) (p : OpenInit) (before : Row) (lacking : Bool) (s first : Standing) → Passing base end front old p before lacking s first → s.later ≡ [] → lacking ≡ list_any lacks_rule (first.here ∷ first.later)
+pass_lacks base end front old p before lacking s first so none =
+    sym (or_comm lacking false) ∙ ap (λ rows. lacking || list_any lacks_rule rows) (sym none) ∙ so.lack
+
+-- where a stepper stays, all stays
+pub pass_same : (base end : ℕ) (front text : List ℕ) (p : OpenInit) (before : Row) (lacking : Bool) (s t first : Standing) → Passing base end front text p before lacking s first → t ≡ s → Passing base end front text p before lacking t first
+pass_same base end front text p before lacking s t first so same = let P : Standing → Type 0 = λ k. Passing base end front text p before lacking k first in subst P (sym same) so
 
 -- the open INIT lies between the base and the end, and below the next row
-pub pass_above : (base end : ℕ) (front text : List ℕ) (p : OpenInit) (before : Row) (s : Standing) (whole : Open) → Passing base end front text p before s whole → base ≤ p.start
-pass_above base end front text p before s whole so = omega (arith, so.writing.above, so.spelled.start)
+pub pass_above : (base end : ℕ) (front text : List ℕ) (p : OpenInit) (before : Row) (lacking : Bool) (s first : Standing) → Passing base end front text p before lacking s first → base ≤ p.start
+pass_above base end front text p before lacking s first so = omega (arith, so.above, so.spelled.start)
 
-pub pass_below : (base end : ℕ) (front text : List ℕ) (p : OpenInit) (before : Row) (s : Standing) (whole : Open) → Passing base end front text p before s whole → p.start ≤ end
-pass_below base end front text p before s whole so = omega (arith, so.writing.below, so.spelled.start)
+pub pass_below : (base end : ℕ) (front text : List ℕ) (p : OpenInit) (before : Row) (lacking : Bool) (s first : Standing) → Passing base end front text p before lacking s first → p.start ≤ end
+pass_below base end front text p before lacking s first so = omega (arith, so.below, so.low, so.spelled.start)
 
-pub pass_rises : (base end : ℕ) (front text : List ℕ) (p : OpenInit) (before : Row) (s t : Standing) (whole : Open) → Passing base end front text p before s whole → IsStep true s t → p.start ≤ t.here.address
-pass_rises base end front text p before s t whole so step =
-    let next = next_writing base end front text p before s t whole so step in
-    omega (arith, next.rising.0, so.spelled.start)
+pub pass_rises : (base end : ℕ) (front text : List ℕ) (p : OpenInit) (before : Row) (lacking : Bool) (s t first : Standing) → Passing base end front text p before lacking s first → GoesOn s t → p.start ≤ t.here.address
+pass_rises base end front text p before lacking s t first so step = omega (arith, so.below, so.spelled.start, step.rises)
 
--- whether there is another row
-pub is_last : (o : Option Columns) (s t : Standing) → o ≡ None → IsNext o s t → s.later ≡ []
-is_last None s t none next = next.0
+-- what is spelled so far stands behind what stood in front
+pub front_stays : (front text more : List ℕ) → text ≡ front ++ more → take (length front) text ≡ front
+front_stays front text more is = ap (take (length front)) is ∙ take-append_seam front more
+
+pub pass_front : (base end : ℕ) (front text : List ℕ) (p : OpenInit) (before : Row) (lacking : Bool) (s first : Standing) → Passing base end front text p before lacking s first → take (length front) text ≡ front
+pass_front base end front text p before lacking s first so = front_stays front text (canon_text so.o.lines) so.spelled.lines
+
+-- the reason of a refusal
+pub pass_refused : (A B : Type 0) (stop : Stop Reason) (s t first : Standing) (P : A → Type 0) (Q : Type 0) (R : B → Type 0) → s.fault ≡ first.fault → MatchStop {A = A} {F = Reason} (Err stop) P (λ why. Refuses why s t) Q → MatchStop {A = B} {F = Reason} (Err stop) R (λ why. first.fault ≡ Some why) (Unit {0})
+pass_refused A B (Fault why) s t first P Q R same refuses = sym same ∙ refuses.is
+pass_refused A B NoMemory s t first P Q R same refuses = tt
+
+pub end_refused : (A B : Type 0) (stop : Stop Reason) (s first : Standing) (P : A → Type 0) (R : B → Type 0) → s.fault ≡ first.fault → MatchStop {A = A} {F = Reason} (Err stop) P (λ why. s.fault ≡ Some why) (Unit {0}) → MatchStop {A = B} {F = Reason} (Err stop) R (λ why. first.fault ≡ Some why) (Unit {0})
+end_refused A B (Fault why) s first P R same bad = sym same ∙ bad
+end_refused A B NoMemory s first P R same bad = tt
+
+pub end_text : (A B : Type 0) (stop : Stop Reason) (front old new : List ℕ) (P : A → Type 0) (R : B → Type 0) → take (length front) old ≡ front → MatchStop {A = A} {F = Reason} (Err stop) P (λ _. new ≡ old) (Unit {0}) → MatchStop {A = B} {F = Reason} (Err stop) R (λ _. take (length front) new ≡ front) (Unit {0})
+end_text A B (Fault why) front old new P R so same = ap (take (length front)) same ∙ so
+end_text A B NoMemory front old new P R so same = tt
+
+-- whether there is another row; one that is last counts where no instruction is bad
+pub is_last : (o : Option Columns) (s t : Standing) → o ≡ None → IsNext o s t → (s.fault ≡ None → s.later ≡ []) × (t ≡ s)
+is_last None s t none next = (next.none, next.same)
 is_last (Some columns) s t none next = cc
 
 pub is_more : (o : Option Columns) (columns : Columns) (s t : Standing) → o ≡ Some columns → IsNext o s t → IsNext (Some columns) s t
@@ -135,8 +187,8 @@ on_both (Ok x) then first second = then first second
 on_both (Err e) then first second = tt
 
 -- the next row differs from this one in some columns alone
-pub pass_alike : (base end : ℕ) (front text : List ℕ) (p : OpenInit) (before after : Row) (s t : Standing) (whole : Open) (columns : Columns) → Passing base end front text p before s whole → StayOutside columns s.here.row t.here.row → after ≡ t.here.row → StayOutside columns before after
-pass_alike base end front text p before after s t whole columns so alike is =
+pub pass_alike : (base end : ℕ) (front text : List ℕ) (p : OpenInit) (before after : Row) (lacking : Bool) (s t first : Standing) (columns : Columns) → Passing base end front text p before lacking s first → StayOutside columns s.here.row t.here.row → after ≡ t.here.row → StayOutside columns before after
+pass_alike base end front text p before after lacking s t first columns so alike is =
     let P : Row → Type 0 = λ row. StayOutside columns row after in
     let Q : Row → Type 0 = λ row. StayOutside columns s.here.row row in
     subst P (sym so.here) (subst Q (sym is) alike)

@@ -1,5 +1,7 @@
 -- No public clause cites this: the text of the records so far, and the INIT that is open.
-use Rattle.std.specs.Prelude.{◌≡◌, ℕ, List, [], ◌∷◌, ◌++◌}
+use Rattle.std.specs.Prelude.{◌≡◌, ℕ, Bool, not, List, [], ◌∷◌, ◌++◌}
+use Rattle.frame_rows.specs.declared.row.RowAt.{RowAt}
+use Rattle.frame_rows.specs.Steps.{has_cfa}
 use Rattle.sym_rules.specs.Rules.{spelled_rules}
 use Rattle.sym_records.specs.Canon.{canon_text}
 use Rattle.rule_postfix.specs.declared.open_init.OpenInit.{OpenInit}
@@ -11,3 +13,7 @@ pub record IsSpelled (front : List ℕ) (base : ℕ) (text : List ℕ) (p : Open
   pub start : p.start ≡ o.start
   pub body : p.body.items ≡ (spelled_rules o.rules ++ 10 ∷ []) ++ canon_text o.changes
   pub lines : text ≡ front ++ canon_text o.lines
+
+-- a row lacks a rule for the CFA
+abbrev pub lacks_rule : RowAt → Bool
+lacks_rule r = not (has_cfa r.row)

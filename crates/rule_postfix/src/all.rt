@@ -1,35 +1,37 @@
 //! The records of all entries.
-ghost use Rattle.std.specs.Prelude.{◌≡◌, ℕ, List, ◌∷◌, ◌+◌, ◌^◌, ◌<◌, ◌≤◌, true, false, None, Some, MatchOption, IfOk, OnOk};
+ghost use Rattle.std.specs.Prelude.{◌≡◌, ℕ, List, ◌+◌, ◌^◌, ◌<◌, ◌≤◌, true, false, None, Some, MatchOption, IfOk, OnOk};
+ghost use Rattle.std.specs.Option.{option_or};
 ghost use Rattle.sym_edges.specs.Outside.{MatchStop};
 ghost use Rattle.sym_edges.specs.Addresses.{Range};
+ghost use Rattle.range_set.specs.Enclosing.{encloses};
 ghost use Rattle.range_set.specs.Starts.{AllFrom};
 ghost use Rattle.frame_entries.specs.FdeFields.{FdeFields};
 ghost use Rattle.frame_entries.specs.SharedCies.{ShareCies};
 ghost use Rattle.frame_entries.specs.declared.description.Body.TheVariants.{Good};
-ghost use Rattle.frame_rows.specs.Rows.{Ascending};
+ghost use Rattle.frame_rows.specs.Rows.{rows_fault};
 ghost use Rattle.frame_rows.specs.CieLeft.{cie_left};
 ghost use Rattle.sym_records.specs.Canon.{canon_text};
 ghost use Rattle.sym_records.specs.Spelled.{text_bytes};
 ghost use Rattle.sym_records.specs.declared.place.Place.{Place};
 ghost use Rattle.sym_records.specs.Validity.{first_bad_from};
 ghost use Rattle.rule_postfix.specs.Overlaps.{any_meets};
-ghost use Rattle.rule_postfix.specs.Writing.{lines_of};
-ghost use Rattle.rule_postfix.specs.Written.{Decided, has_range, range_of, reason_among, entry_lines, left_out, with_written, with_entry, with_entries, written, omitted, written_lines};
+ghost use Rattle.rule_postfix.specs.Written.{Decided, has_range, range_of, reason_among, left_out, with_written, with_entry, with_entries, written, omitted, written_lines};
 ghost use Rattle.rule_postfix.specs.Covering.{inits_at, entries_at, AreDisjoint, AreNested};
 ghost use Rattle.rule_postfix.specs.Keeping.{KeptFor, StaysKept};
 ghost use Rattle.rule_postfix.specs.Deciding.{LiesAbove, EndsAt, IfRefused, Shows};
 
 use crate::cie_states::CieStates;
 use crate::omission::{Omission, Omissions};
-use crate::open_init::{OpenInit, spell_steps};
+use crate::open_init::OpenInit;
 use crate::taken::Taken;
+use crate::translating::spell_entry;
 use frame_entries::{Body, Entry, EntryList, Fde};
-use frame_rows::{CieState, Stepper, inspect_behind};
+use frame_rows::{CieState, check_rows_behind, inspect_behind};
 use range_set::Enclosing;
 use std::alloc::Global;
 use sym_edges::{ListOf, OutOfMemory, Reason, Span, Stop};
 use sym_records::TextPieces;
-use sym_records::laws::{good_lists_are_joined, plain_rules_fit};
+use sym_records::laws::good_lists_are_joined;
 
 /// The text of the frame records of a file, and the entries that are left out.
 #[derive(Debug, Drop)]
@@ -76,40 +78,24 @@ fn reason_without_range(
     }
 }
 
-/// A stepper over the rows of an entry, or the first reason to leave it out, where the state behind its CIE is given.
-#[tactic(auto, using(crate::proofs::ReasonLemmas::rows_refused, crate::proofs::ReasonLemmas::no_code, crate::proofs::ReasonLemmas::overlaps, crate::proofs::ReasonLemmas::no_reason, crate::proofs::EntryLemmas::rising_to, crate::proofs::EntryLemmas::lines_to))]
-fn steps_or_reason<'c, 'a>(
+/// Why an entry with such a range is left out, where there is a later reason.
+#[tactic(auto, using(crate::proofs::ReasonLemmas::later_reason, crate::proofs::ReasonLemmas::first_reason))]
+fn reason_or(
     alloc: Global,
-    state: &'c CieState,
-    fde: &Fde<'a>,
-    code: &Enclosing,
-    taken: &Taken,
-    base: u64,
-) -> Result<Stepper<'c, 'a>, Stop<Reason>>
+    state: &CieState,
+    fde: &Fde<'_>,
+    later: Reason,
+) -> Result<Reason, OutOfMemory>
     requires behind { state.now ≡ cie_left fde.now }
-    requires above { LiesAbove base code.now }
-    ensures fresh { MatchStop result (λ s. s.failed ≡ false) (λ _. Unit {0}) (Unit {0}) }
-    ensures rising { MatchStop result (λ s. Ascending base (fde.now.start + fde.now.size) (s.here ∷ s.later)) (λ _. Unit {0}) (Unit {0}) }
-    ensures lines { MatchStop result (λ s. lines_of base (fde.now.start + fde.now.size) (s.here ∷ s.later) ≡ entry_lines base fde.now) (λ _. Unit {0}) (Unit {0}) }
-    ensures valid { MatchStop result (λ _. first_bad_from 0 Place.Inside (entry_lines base fde.now) ≡ None) (λ _. Unit {0}) (Unit {0}) }
-    ensures exact { MatchStop result (λ _. reason_among code.now taken.now fde.now ≡ None) (λ why. reason_among code.now taken.now fde.now ≡ Some why) (Unit {0}) }
+    requires some { 0 < fde.now.size }
+    requires fits { fde.now.start + fde.now.size < 2 ^ 64 }
+    ensures { IfOk result (λ why. option_or (rows_fault fde.now) (Some later) ≡ Some why) }
 {
-    plain_rules_fit();
-    good_lists_are_joined();
-    let Some(end) = end_of(fde) else {
-        return Err(Stop::Fault(reason_without_range(alloc, state, fde)?));
-    };
-    let stepper = match Stepper::behind(alloc, state, fde) {
-        Ok(stepper) => stepper,
-        Err(stop) => return Err(stop),
-    };
-    if !code.encloses(fde.start, end) {
-        return Err(Stop::Fault(Reason::Outside));
+    match check_rows_behind(alloc, state, fde) {
+        Ok(()) => Ok(later),
+        Err(Stop::Fault(why)) => Ok(why),
+        Err(Stop::NoMemory) => Err(OutOfMemory),
     }
-    if taken.meets(fde.start, end) {
-        return Err(Stop::Fault(Reason::Overlap));
-    }
-    Ok(stepper)
 }
 
 /// An entry is left out.
@@ -138,34 +124,68 @@ fn leave_out_where_refused(
     }
 }
 
-/// An entry is written.
+/// An entry whose range is free is written, or has the reason that its rows give; then the text stays.
 fn write(
     alloc: Global,
     progress: &mut Progress,
+    state: &CieState,
     fde: &Fde<'_>,
-    stepper: Stepper<'_, '_>,
     base: u64,
-) -> Result<(), OutOfMemory>
+) -> Result<(), Stop<Reason>>
+    requires behind { state.now ≡ cie_left fde.now }
     requires some { 0 < fde.now.size }
     requires fits { fde.now.start + fde.now.size < 2 ^ 64 }
+    requires based { base ≤ fde.now.start }
     requires apart { any_meets (range_of fde.now) progress.old.taken ≡ false }
-    requires fresh { stepper.failed ≡ false }
-    requires rising { Ascending base (fde.now.start + fde.now.size) (stepper.here ∷ stepper.later) }
-    requires lines { lines_of base (fde.now.start + fde.now.size) (stepper.here ∷ stepper.later) ≡ entry_lines base fde.now }
-    requires valid { first_bad_from 0 Place.Inside (entry_lines base fde.now) ≡ None }
-    ensures { OnOk result ((d : Decided) → Shows base progress.old d → Shows base progress.new (with_written fde.now d)) }
+    ensures shown { MatchStop result
+        (λ _. (d : Decided) → Shows base progress.old d → Shows base progress.new (with_written fde.now d))
+        (λ _. (b : ℕ) (d : Decided) → Shows b progress.old d → Shows b progress.new d)
+        (Unit {0}) }
+    ensures exact { MatchStop result (λ _. rows_fault fde.now ≡ None) (λ why. rows_fault fde.now ≡ Some why) (Unit {0}) }
 {
     good_lists_are_joined();
-    let end = fde.start + fde.size;
-    progress.taken.put(fde.start, end)?;
-    spell_steps(
+    let front = progress.text.last.len();
+    match spell_entry(
+        alloc,
         &mut progress.text.last,
         &mut progress.open,
-        stepper,
-        end,
+        state,
+        fde,
         base,
-    )?;
-    progress.text.turn(alloc)
+    ) {
+        Ok(()) => {}
+        Err(stop) => {
+            progress.text.last.truncate(front);
+            return Err(stop);
+        }
+    }
+    progress.taken.put(fde.start, fde.start + fde.size)?;
+    progress.text.turn(alloc)?;
+    Ok(())
+}
+/// An entry whose range is free is written, or left out for its rows.
+fn put_free(
+    alloc: Global,
+    progress: &mut Progress,
+    state: &CieState,
+    entry: &Entry<'_>,
+    fde: &Fde<'_>,
+    code: &Enclosing,
+    end: u64,
+    base: u64,
+) -> Result<(), OutOfMemory>
+    requires good { entry.now.body ≡ Good fde.now }
+    requires behind { state.now ≡ cie_left fde.now }
+    requires ends { EndsAt fde.now end }
+    requires inside { encloses code.now fde.now.start end ≡ true }
+    requires above { LiesAbove base code.now }
+    requires apart { any_meets (record { start = fde.now.start; end = end }) progress.old.taken ≡ false }
+    ensures { OnOk result ((d : Decided) → Shows base progress.old d → Shows base progress.new (with_entry code.now entry.now d)) }
+{
+    match write(alloc, progress, state, fde, base) {
+        Ok(()) => Ok(()),
+        Err(stop) => leave_out_where_refused(progress, entry, stop),
+    }
 }
 
 /// An entry whose fields can be read is written or left out, where the state behind its CIE is given.
@@ -183,10 +203,19 @@ fn put_behind(
     requires above { LiesAbove base code.now }
     ensures { OnOk result ((d : Decided) → Shows base progress.old d → Shows base progress.new (with_entry code.now entry.now d)) }
 {
-    match steps_or_reason(alloc, state, fde, code, &progress.taken, base) {
-        Ok(stepper) => write(alloc, progress, fde, stepper, base),
-        Err(stop) => leave_out_where_refused(progress, entry, stop),
+    let Some(end) = end_of(fde) else {
+        let why = reason_without_range(alloc, state, fde)?;
+        return leave_out(progress, entry, why);
+    };
+    if !code.encloses(fde.start, end) {
+        let why = reason_or(alloc, state, fde, Reason::Outside)?;
+        return leave_out(progress, entry, why);
     }
+    if progress.taken.meets(fde.start, end) {
+        let why = reason_or(alloc, state, fde, Reason::Overlap)?;
+        return leave_out(progress, entry, why);
+    }
+    put_free(alloc, progress, state, entry, fde, code, end, base)
 }
 
 /// An entry whose fields can be read is written or left out. The state behind its CIE is made where it is not there.

@@ -1,28 +1,32 @@
 //! The records of an entry, spelled row after row: an INIT is written when its end is known.
-ghost use Rattle.std.specs.Prelude.{◌≡◌, ◌≤◌, ◌++◌, ◌∷◌, ◌-◌, [], ℕ, List, false, length, IfOk, OnOk};
-ghost use Rattle.frame_rows.specs.Rows.{Ascending};
-ghost use Rattle.frame_rows.specs.Columns.{StayOutside, IsNext};
+ghost use Rattle.std.specs.Prelude.{◌≡◌, ◌<◌, ◌≤◌, ◌++◌, ◌∷◌, ◌-◌, ◌||◌, [], ℕ, List, false, not, None, Some, length, take, drop, IfOk, OnOk};
+ghost use Rattle.std.specs.List.{list_any};
+ghost use Rattle.sym_edges.specs.Outside.{MatchStop};
+ghost use Rattle.frame_rows.specs.Columns.{StayOutside};
+ghost use Rattle.frame_rows.specs.Steps.{has_cfa};
 ghost use Rattle.sym_rules.specs.Rules.{spelled_rules};
 ghost use Rattle.sym_records.specs.Canon.{canon_text, init_front};
 ghost use Rattle.rule_postfix.specs.RowRules.{row_rules};
 ghost use Rattle.rule_postfix.specs.Writing.{Open, with_row, lines_of};
-ghost use Rattle.rule_postfix.specs.Spelling.{IsSpelled};
+ghost use Rattle.rule_postfix.specs.Spelling.{IsSpelled, lacks_rule};
 
 use crate::rules::{LINE, write_row_rules};
 use crate::spelling::write_change_line;
 use frame_rows::{Columns, Row, Stepper};
 use std::alloc::Global;
-use sym_edges::OutOfMemory;
+use sym_edges::{OutOfMemory, Reason, Stop};
 use sym_records::write_init;
 
 /// The front of an INIT has at most so many bytes.
 const FRONT: usize = 48;
 
-/// The INIT whose end is not known yet: its start, and the text behind its numbers, which is its rules and the changes in it.
+/// The INIT whose end is not known yet: its start, and the text behind its numbers, which is its rules and the changes in it. A
+/// line is made in `line`.
 #[derive(Drop)]
 pub struct OpenInit {
     start: u64,
     body: Vec<u8>,
+    line: [u8; LINE],
 }
 
 impl OpenInit {
@@ -31,21 +35,29 @@ impl OpenInit {
         OpenInit {
             start: 0,
             body: Vec::new(alloc),
+            line: [0; LINE],
         }
     }
 }
 
-/// An INIT begins at a row; `line` has room for a line.
-fn begin(open: &mut OpenInit, address: u64, row: &Row, line: &mut [u8]) -> Result<(), OutOfMemory>
-    requires { 768 ≤ length line.old }
+/// Adds what stands in a line from a place on.
+fn add_end(text: &mut Vec<u8>, line: &[u8], at: usize) -> Result<(), OutOfMemory>
+    requires { at ≤ length line.now }
+    ensures { OnOk result (text.new.items ≡ text.old.items ++ drop at line.now) }
+{
+    text.extend_from_slice(line.split_at(at).1)?;
+    Ok(())
+}
+
+/// An INIT begins at a row.
+fn begin(open: &mut OpenInit, address: u64, row: &Row) -> Result<(), OutOfMemory>
     ensures start { OnOk result (open.new.start ≡ address) }
     ensures body { OnOk result (open.new.body.items ≡ spelled_rules (row_rules row.now) ++ 10 ∷ []) }
 {
-    let at = write_row_rules(row, line);
+    let at = write_row_rules(row, &mut open.line);
     open.start = address;
     open.body.clear();
-    open.body.extend_from_slice(line.split_at(at).1)?;
-    Ok(())
+    add_end(&mut open.body, &open.line, at)
 }
 
 /// The INIT ends: it is spelled, and the changes in it.
@@ -63,7 +75,7 @@ fn close(text: &mut Vec<u8>, open: &OpenInit, end: u64, base: u64) -> Result<(),
 }
 
 /// A row behind another: where a column becomes unspecified, another INIT begins, else the changes are spelled. The two rows
-/// differ in no column outside of those that are given, and `line` has room for a line.
+/// differ in no column outside of those that are given.
 fn put_row(
     text: &mut Vec<u8>,
     open: &mut OpenInit,
@@ -72,68 +84,93 @@ fn put_row(
     address: u64,
     after: &Row,
     base: u64,
-    line: &mut [u8],
 ) -> Result<(), OutOfMemory>
     requires alike { StayOutside columns before.now after.now }
-    requires room { 768 ≤ length line.old }
     requires above { base ≤ open.old.start }
     requires rises { open.old.start ≤ address }
     ensures { OnOk result ((front : List ℕ) (o : Open) → IsSpelled front base text.old.items open.old o → IsSpelled front base text.new.items open.new (with_row address before.now after.now o)) }
 {
-    match write_change_line(address - base, columns, before, after, line) {
-        Some(at) => {
-            open.body.extend_from_slice(line.split_at(at).1)?;
-            Ok(())
-        }
+    match write_change_line(address - base, columns, before, after, &mut open.line) {
+        Some(at) => add_end(&mut open.body, &open.line, at),
         None => {
             close(text, open, address, base)?;
-            begin(open, address, after, line)
+            begin(open, address, after)
         }
     }
 }
 
-/// Goes on to the next row, if there is one: no step gives a reason.
-fn next(stepper: &mut Stepper<'_, '_>) -> Result<Option<Columns>, OutOfMemory>
-    requires { stepper.old.failed ≡ false }
-    ensures { IfOk result (λ next. IsNext next stepper.old stepper.new) }
+/// The last row ends, and with it the INIT, unless an instruction behind it is bad.
+fn end_steps(
+    text: &mut Vec<u8>,
+    open: &OpenInit,
+    stepper: &mut Stepper<'_, '_>,
+    end: u64,
+    base: u64,
+) -> Result<(), Stop<Reason>>
+    requires fresh { stepper.old.failed ≡ false }
+    requires going { stepper.old.refused ≡ None }
+    requires above { base ≤ open.now.start }
+    requires ends { open.now.start ≤ end }
+    ensures fault { MatchStop result (λ _. stepper.old.fault ≡ None) (λ why. stepper.old.fault ≡ Some why) (Unit {0}) }
+    ensures text { MatchStop result
+        (λ _. text.new.items ≡ text.old.items ++ (init_front (open.now.start - base) (end - open.now.start) ++ open.now.body.items))
+        (λ _. text.new.items ≡ text.old.items)
+        (Unit {0}) }
 {
-    match stepper.next() {
-        Ok(next) => Ok(next),
-        Err(_) => Err(OutOfMemory),
+    match stepper.finish() {
+        Ok(()) => {}
+        Err(stop) => return Err(stop),
     }
+    close(text, open, end, base)?;
+    Ok(())
 }
 
-/// Spells the records of the rows from where a stepper stands, each row compared with the one before it.
+/// Whether one lacked a rule for the CFA before, or a row does.
+fn lack_rule(lacking: bool, row: &Row) -> bool
+    ensures { result ≡ (lacking || not (has_cfa row.now)) }
+{
+    lacking || row.cfa.is_none()
+}
+
+/// Spells the records of the rows from where a stepper stands, each row compared with the one before it, and says whether some
+/// row lacks a rule for the CFA; or the reason of the first bad instruction, which is met behind some of the text.
 pub fn spell_steps(
     text: &mut Vec<u8>,
     open: &mut OpenInit,
-    mut stepper: Stepper<'_, '_>,
+    stepper: &mut Stepper<'_, '_>,
     end: u64,
     base: u64,
-) -> Result<(), OutOfMemory>
-    requires fresh { stepper.failed ≡ false }
-    requires rising { Ascending base end (stepper.here ∷ stepper.later) }
-    ensures { OnOk result (text.new.items ≡ text.old.items ++ canon_text (lines_of base end (stepper.entry.here ∷ stepper.entry.later))) }
+) -> Result<bool, Stop<Reason>>
+    requires fresh { stepper.old.failed ≡ false }
+    requires going { stepper.old.refused ≡ None }
+    requires above { base ≤ stepper.old.here.address }
+    requires low { stepper.old.here.address < end }
+    requires ends { stepper.old.end ≡ end }
+    ensures fault { MatchStop result (λ _. stepper.old.fault ≡ None) (λ why. stepper.old.fault ≡ Some why) (Unit {0}) }
+    ensures lacking { IfOk result (λ lacking. lacking ≡ list_any lacks_rule (stepper.old.here ∷ stepper.old.later)) }
+    ensures text { MatchStop result
+        (λ _. text.new.items ≡ text.old.items ++ canon_text (lines_of base end (stepper.old.here ∷ stepper.old.later)))
+        (λ _. take (length text.old.items) text.new.items ≡ text.old.items)
+        (Unit {0}) }
 {
-    let mut line = [0; LINE];
     let mut before = *stepper.row();
-    begin(open, stepper.address(), &before, &mut line)?;
+    let mut lacking = lack_rule(false, &before);
+    begin(open, stepper.address(), &before)?;
     'rows: loop {
-        let Some(columns) = next(&mut stepper)? else {
-            close(text, open, end, base)?;
-            return Ok(());
+        let next = match stepper.next() {
+            Ok(next) => next,
+            Err(stop) => return Err(stop),
+        };
+        let Some(columns) = next else {
+            return match end_steps(text, open, stepper, end, base) {
+                Ok(()) => Ok(lacking),
+                Err(stop) => Err(stop),
+            };
         };
         let address = stepper.address();
-        put_row(
-            text,
-            open,
-            columns,
-            &before,
-            address,
-            stepper.row(),
-            base,
-            &mut line,
-        )?;
-        before = *stepper.row();
+        let row = stepper.row();
+        put_row(text, open, columns, &before, address, row, base)?;
+        before.follow(columns, row);
+        lacking = lack_rule(lacking, row);
     }
 }

@@ -1,6 +1,7 @@
 //! The records of an entry.
-ghost use Rattle.std.specs.Prelude.{◌≡◌, ◌+◌, ◌^◌, ◌<◌, ◌≤◌, Some, None};
+ghost use Rattle.std.specs.Prelude.{◌≡◌, ◌+◌, ◌++◌, ◌^◌, ◌<◌, ◌≤◌, Some, None, length, take};
 ghost use Rattle.sym_edges.specs.Outside.{MatchStop};
+ghost use Rattle.frame_rows.specs.CieLeft.{cie_left};
 ghost use Rattle.frame_rows.specs.Rows.{row_at, rows_fault};
 ghost use Rattle.sym_records.specs.declared.place.Place.{Place};
 ghost use Rattle.sym_records.specs.Canon.{canon_text};
@@ -9,15 +10,52 @@ ghost use Rattle.rule_postfix.specs.FrameLines.{frame_lines};
 
 use crate::open_init::{OpenInit, spell_steps};
 use frame_entries::Fde;
-use frame_rows::Stepper;
+use frame_rows::{CieState, Stepper};
 use std::alloc::Global;
 use sym_edges::{Reason, Stop};
 use sym_records::ByteText;
 use sym_records::laws::{good_lists_are_joined, plain_rules_fit};
 
+/// Adds the text of an entry's frame records, with addresses counted from `base`, where the state behind its CIE is given; or
+/// the reason for which it has none, which is met behind some of the text.
+pub fn spell_entry(
+    alloc: Global,
+    text: &mut Vec<u8>,
+    open: &mut OpenInit,
+    state: &CieState,
+    fde: &Fde<'_>,
+    base: u64,
+) -> Result<(), Stop<Reason>>
+    requires behind { state.now ≡ cie_left fde.now }
+    requires some { 0 < fde.now.size }
+    requires fits { fde.now.start + fde.now.size < 2 ^ 64 }
+    requires based { base ≤ fde.now.start }
+    ensures text { MatchStop result
+        (λ _. text.new.items ≡ text.old.items ++ canon_text (frame_lines (row_at fde.now) fde.now.start fde.now.size base))
+        (λ _. take (length text.old.items) text.new.items ≡ text.old.items)
+        (Unit {0}) }
+    ensures valid { MatchStop result (λ _. first_bad_from 0 Place.Inside (frame_lines (row_at fde.now) fde.now.start fde.now.size base) ≡ None) (λ _. Unit {0}) (Unit {0}) }
+    ensures exact { MatchStop result (λ _. rows_fault fde.now ≡ None) (λ why. rows_fault fde.now ≡ Some why) (Unit {0}) }
+{
+    plain_rules_fit();
+    good_lists_are_joined();
+    let mut stepper = match Stepper::begin(alloc, state, fde) {
+        Ok(stepper) => stepper,
+        Err(stop) => return Err(stop),
+    };
+    let end = fde.start + fde.size;
+    let lacking = match spell_steps(text, open, &mut stepper, end, base) {
+        Ok(lacking) => lacking,
+        Err(stop) => return Err(stop),
+    };
+    if lacking {
+        return Err(Stop::Fault(Reason::Cfa));
+    }
+    Ok(())
+}
+
 /// The text of an entry's frame records, with addresses counted from `base`, or the reason for which it has none: that of
 /// its first bad instruction, or `Cfa` where some address of its range has no CFA rule.
-#[tactic(auto, using(crate::proofs::EntryLemmas::rising, crate::proofs::EntryLemmas::entry_text))]
 pub fn translate(alloc: Global, fde: &Fde<'_>, base: u64) -> Result<ByteText, Stop<Reason>>
     requires some { 0 < fde.now.size }
     requires fits { fde.now.start + fde.now.size < 2 ^ 64 }
@@ -26,14 +64,11 @@ pub fn translate(alloc: Global, fde: &Fde<'_>, base: u64) -> Result<ByteText, St
     ensures valid { MatchStop result (λ _. first_bad_from 0 Place.Inside (frame_lines (row_at fde.now) fde.now.start fde.now.size base) ≡ None) (λ _. Unit {0}) (Unit {0}) }
     ensures exact { MatchStop result (λ _. rows_fault fde.now ≡ None) (λ why. rows_fault fde.now ≡ Some why) (Unit {0}) }
 {
-    plain_rules_fit();
-    good_lists_are_joined();
-    let stepper = match Stepper::new(alloc, fde) {
-        Ok(stepper) => stepper,
-        Err(stop) => return Err(stop),
-    };
+    let state = CieState::of(alloc, fde)?;
     let mut text = Vec::new(alloc);
     let mut open = OpenInit::new(alloc);
-    spell_steps(&mut text, &mut open, stepper, fde.start + fde.size, base)?;
-    Ok(ByteText::of(text))
+    match spell_entry(alloc, &mut text, &mut open, &state, fde, base) {
+        Ok(()) => Ok(ByteText::of(text)),
+        Err(stop) => Err(stop),
+    }
 }

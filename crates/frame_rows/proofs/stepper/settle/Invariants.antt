@@ -1,4 +1,4 @@
-use Rattle.std.proofs.Common.{◌≡◌, ℕ, length, None}
+use Rattle.std.proofs.Common.{◌≡◌, ◌≤◌, ℕ, length}
 use Rattle.frame_rows.specs.Instructions.{listed_at}
 use Rattle.frame_rows.specs.Columns.{StayOutside}
 use Rattle.frame_rows.specs.Rows.{first_fault}
@@ -7,10 +7,11 @@ use Rattle.frame_rows.proofs.stepper.settle.Given as goal
 
 abbrev pub invariant-turns : goal.invariant-turns
 invariant-turns l = record {
-  good : first_fault l.setting (listed_at l.encoding l.base l.cursor) l.machine ≡ None;
+  fault : first_fault l.setting (listed_at l.encoding l.base l.cursor) l.machine ≡ first_fault l.setting (listed_at l.encoding l.base l.fn.cursor) l.fn.machine;
   stays : StayOutside l.columns l.fn.machine.row l.machine.row;
   here : l.machine.address ≡ l.fn.machine.address;
   rows : (end : ℕ) → rows_from end l.setting (listed_at l.encoding l.base l.cursor) l.machine ≡ rows_from end l.setting (listed_at l.encoding l.base l.fn.cursor) l.fn.machine;
+  fewer : length l.cursor.bytes ≤ length l.fn.cursor.bytes;
 }
 
 abbrev pub decreases-turns : goal.decreases-turns

@@ -1,11 +1,17 @@
-use Rattle.frame_rows.proofs.StartLemmas.{own_good, start_rows}
+use Rattle.frame_rows.proofs.StartLemmas.{start_fault, start_refused, start_rows}
 use Rattle.frame_rows.proofs.stepper.start.Goals as goal
 
-pub settle-requires-clause-good : goal.settle-requires-clause-good
-settle-requires-clause-good c =
-    own_good _ c.args.fde.now c.args.begun.setting c.args.begun.machine c.new-cursor.result c.fde.view_is c.requires.setting c.requires.machine c.new-cursor.ensures c.requires.good
+pub returns-in-Ok-clause-fault : goal.returns-in-Ok-clause-fault
+returns-in-Ok-clause-fault c =
+    start_fault _ c.args.fde.now _ _ c.args.begun.machine c.settle.new.machine c.new-cursor.result c.settle.new.cursor c.fde.view_is c.get.ensures c.requires.setting c.requires.machine c.new-cursor.ensures
+    c.in-Ok.ensures.fault
 
 pub returns-in-Ok-clause-rows : goal.returns-in-Ok-clause-rows
 returns-in-Ok-clause-rows c =
-    start_rows _ c.args.fde.now c.args.begun.setting c.args.begun.machine c.settle.new.machine c.new-cursor.result c.settle.new.cursor c.args.end c.fde.view_is c.requires.setting c.requires.machine c.new-cursor.ensures c.requires.some
+    start_rows _ c.args.fde.now _ _ c.args.begun.machine c.settle.new.machine c.new-cursor.result c.settle.new.cursor c.args.end c.fde.view_is c.get.ensures c.requires.setting c.requires.machine c.new-cursor.ensures c.requires.some
     c.in-Ok.ensures.rows
+
+pub returns-clause-fault : goal.returns-clause-fault
+returns-clause-fault c =
+    start_refused _ _ c.in-Err.stop _ c.args.fde.now _ _ c.args.begun.machine c.new-cursor.result _ _ c.fde.view_is c.get.ensures c.requires.setting c.requires.machine c.new-cursor.ensures
+    c.in-Err.ensures.fault

@@ -1,11 +1,14 @@
 use Rattle.std.proofs.Common.{◌++◌, refl, ap, ◌∙◌}
+use Rattle.std.proofs.lemmas.Result.{IfOk-weaker}
 use Rattle.rule_postfix.proofs.StepsLemmas.{cut_spelled, change_spelled, on_both}
 use Rattle.rule_postfix.proofs.open_init.put_row.Goals as goal
 
-pub returns-in_ok-extend_from_slice-in-Some : goal.returns-in_ok-extend_from_slice-in-Some
-returns-in_ok-extend_from_slice-in-Some c = λ front o so.
+pub returns-in-Some : goal.returns-in-Some
+returns-in-Some c =
+    IfOk-weaker c.add_end.result _ _ (λ _ more front o so.
     change_spelled front c.args.text.now.items c.args.base c.args.address c.args.before.now c.args.after.now c.args.open.now _ o c.in-Some.ensures.kept refl
-    (c.in_ok-extend_from_slice-in-Some.ensures.items ∙ ap (λ l. c.args.open.now.body.items ++ l) (c.split_at.ensures.back ∙ c.in-Some.ensures.written)) so
+    (more ∙ ap (λ l. c.args.open.now.body.items ++ l) c.in-Some.ensures.written) so)
+    c.add_end.ensures
 
 pub returns-in_ok-close-in-None : goal.returns-in_ok-close-in-None
 returns-in_ok-close-in-None c =
