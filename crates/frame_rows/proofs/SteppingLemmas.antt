@@ -112,15 +112,9 @@ rows_last end s encoding base at c m whole none here low so =
     ∙ ap (λ a. row_with a m.row ∷ []) here
     ∙ ap (λ l. row_with at m.row ∷ l) (sym (past_none end s (listed_at encoding base c) m at (omega (arith, here))))
 
--- a step from where a stepper stands
-pub no_later : (end : ℕ) (s : Setting) (items : List Item) (m : Machine) (at : ℕ) → m.address ≤ at → rows_past end s items m at ≡ []
-no_later end s items m at stays = past_none end s items m at stays
-
-pub later_over : (end : ℕ) (s : Setting) (items : List Item) (m : Machine) (at : ℕ) → first_fault s items m ≡ None → at < m.address → end ≤ m.address → rows_past end s items m at ≡ []
+-- no row is later, where the next lies at the end or above
+later_over : (end : ℕ) (s : Setting) (items : List Item) (m : Machine) (at : ℕ) → first_fault s items m ≡ None → at < m.address → end ≤ m.address → rows_past end s items m at ≡ []
 later_over end s items m at good up over = past_some end s items m at up ∙ past end s items m good over
-
-pub later_next : (end : ℕ) (s : Setting) (items : List Item) (m : Machine) (at : ℕ) (whole : List RowAt) → at < m.address → rows_from end s items m ≡ whole → rows_past end s items m at ≡ whole
-later_next end s items m at whole up so = past_some end s items m at up ∙ so
 
 -- where a stepper stands, by its parts
 abbrev pub standing : Bool → Option Reason → ℕ → ℕ → Setting → List Item → Machine → Standing

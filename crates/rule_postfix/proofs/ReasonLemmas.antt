@@ -1,5 +1,5 @@
 -- The first reason to leave an entry out.
-use Rattle.std.proofs.Common.{◌≡◌, ℕ, ◌+◌, ◌<◌, ◌≤◌, ◌&&◌, ◌^◌, not, nat_lt, Bool, true, false, cond, List, Option, None, Some, Err, refl, ap, sym, ◌∙◌, arith}
+use Rattle.std.proofs.Common.{◌≡◌, ℕ, ◌+◌, ◌<◌, ◌≤◌, ◌&&◌, ◌^◌, not, nat_lt, Bool, true, false, cond, List, Option, None, Some, refl, ap, sym, ◌∙◌, arith}
 use Rattle.std.proofs.lemmas.Bool.{and_right, and_from, le-ltb, lt-ltb}
 use Rattle.rule_postfix.specs.Deciding.{EndsAt}
 use Rattle.sym_edges.specs.declared.reason.Reason.{Reason}

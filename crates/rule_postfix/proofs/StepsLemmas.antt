@@ -160,11 +160,7 @@ front_stays front text more is = ap (take (length front)) is ∙ take-append_sea
 pub pass_front : (base end : ℕ) (front text : List ℕ) (p : OpenInit) (before : Row) (lacking : Bool) (s first : Standing) → Passing base end front text p before lacking s first → take (length front) text ≡ front
 pass_front base end front text p before lacking s first so = front_stays front text (canon_text so.o.lines) so.spelled.lines
 
--- a fact of a refusal, and its reason
-pub on_refusal : (B : Type 0) (R : B → Type 0) (P : Type 0) (stop : Stop Reason) → P → MatchStop {A = B} {F = Reason} (Err stop) R (λ _. P) (Unit {0})
-on_refusal B R P (Fault why) holds = holds
-on_refusal B R P NoMemory holds = tt
-
+-- the reason of a refusal
 pub pass_refused : (A B : Type 0) (stop : Stop Reason) (s t first : Standing) (P : A → Type 0) (Q : Type 0) (R : B → Type 0) → s.fault ≡ first.fault → MatchStop {A = A} {F = Reason} (Err stop) P (λ why. Refuses why s t) Q → MatchStop {A = B} {F = Reason} (Err stop) R (λ why. first.fault ≡ Some why) (Unit {0})
 pass_refused A B (Fault why) s t first P Q R same refuses = sym same ∙ refuses.is
 pass_refused A B NoMemory s t first P Q R same refuses = tt

@@ -162,6 +162,7 @@ fn write(
     progress.text.turn(alloc)?;
     Ok(())
 }
+
 /// An entry whose range is free is written, or left out for its rows.
 fn put_free(
     alloc: Global,

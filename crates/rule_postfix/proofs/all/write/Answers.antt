@@ -1,4 +1,4 @@
-use Rattle.std.proofs.Common.{◌+◌, ◌∙◌, ◌||◌, ap, refl}
+use Rattle.std.proofs.Common.{◌∙◌, ◌||◌, ap, refl}
 use Rattle.std.specs.List.{flat_map}
 use Rattle.frame_entries.specs.FdeFields.{FdeFields}
 use Rattle.rule_postfix.specs.Overlaps.{any_meets, meet}
