@@ -8,7 +8,7 @@ use Rattle.std.specs.Cmp.{nat_cmp_is}
 use Rattle.std.proofs.Math.Bool.{or_comm}
 use Rattle.std.proofs.lemmas.Bool.{cases_lt, cases_order, lt-ltb, le-ltb, ltb-true, ltb-false, ne_eqb, or_parts, or_from, and_right, and_cases}
 use Rattle.sym_edges.specs.Addresses.{Range}
-use Rattle.rule_postfix.specs.Overlaps.{meet, any_meets, range_by, ranges_by, StartsFrom, AreApart, or_end, last_end_below}
+use Rattle.rule_postfix.specs.Overlaps.{meet, any_meets, range_by, ranges_by, StartsFrom, AreApart, EndBy, or_end, last_end_below}
 use Rattle.rule_postfix.proofs.OptionLemmas.{some_same, none_some}
 
 or_none : (o : Option ℕ) → or_end o None ≡ o
@@ -61,6 +61,13 @@ last_of_kept test below entries kept rest entry same all ends = sym (last_end-ap
 pub none_kept : (test : ℕ × ℕ → Bool) (below : ℕ) (entries kept : List (ℕ × ℕ)) → ((e : ℕ × ℕ) → test e ≡ nat_lt e.0 below) → kept ≡ filter test entries → kept ≡ [] → None ≡ last_end_below below entries
 unfolding last_end
 none_kept test below entries kept same all none = ap last_end (sym none ∙ all) ∙ last_below test below same entries
+
+-- where all end at or below an address, none meets a range from it on
+pub none_reaches : (q : Range) (top : ℕ) (entries : List (ℕ × ℕ)) → top ≤ q.start → EndBy top entries → false ≡ any_meets q (ranges_by entries)
+unfolding any_meets ranges_by
+none_reaches q top [] le by = refl
+none_reaches q top (e ∷ entries) le by =
+    sym (or_from (meet q (range_by e)) (list_any (meet q) (map range_by entries)) (ap (λ t. t && nat_lt e.0 q.end) (le-ltb q.start e.1 (omega (arith, le, by.0)))) (sym (none_reaches q top entries le by.1)))
 
 -- where all start at or above an end, none starts below it, and none meets a range up to it
 none_below : (below a : ℕ) (entries : List (ℕ × ℕ)) → below ≤ a → StartsFrom a entries → AreApart entries → last_end_below below entries ≡ None
@@ -155,6 +162,24 @@ inserted_apart start end (e ∷ entries) apart some none =
       | inl behind ↦ subst P (sym (goes_behind start end e entries (omega (arith, behind, apart.0)))) (apart.0, starts_with e.1 start end entries apart.2 some parts.1 apart.1 behind, inserted_apart start end entries apart.2 some parts.1)
       | inr before ↦ subst P (sym (goes_before start end e entries (omega (arith, before, some)))) (some, before, apart)
     ]
+
+-- one range more, and the ends
+by_more : (top more : ℕ) (entries : List (ℕ × ℕ)) → top ≤ more → EndBy top entries → EndBy more entries
+by_more top more [] le by = tt
+by_more top more (e ∷ entries) le by = (omega (arith, le, by.0), by_more top more entries le by.1)
+
+inserted_by : (top start end : ℕ) (entries : List (ℕ × ℕ)) → end ≤ top → EndBy top entries → EndBy top (insert_entry nat_cmp entries start end)
+inserted_by top start end [] le by = (le, tt)
+inserted_by top start end (e ∷ entries) le by =
+    let P : List (ℕ × ℕ) → Type 0 = λ xs. EndBy top xs in
+    elim (cases_order start e.0) [
+      | inl same ↦ subst P (ap (λ o. match_ordering o ((start, end) ∷ e ∷ entries) ((e.0, end) ∷ entries) (e ∷ insert_entry nat_cmp entries start end)) (nat_cmp_is start e.0 Equal same)) (le, by.1)
+      | inr (inl less) ↦ subst P (sym (goes_before start end e entries less)) (le, by)
+      | inr (inr more) ↦ subst P (sym (goes_behind start end e entries more)) (by.0, inserted_by top start end entries le by.1)
+    ]
+
+pub put_by : (top start end more : ℕ) (entries new : List (ℕ × ℕ)) → EndBy top entries → top ≤ more → end ≤ more → new ≡ insert_entry nat_cmp entries start end → EndBy more new
+put_by top start end more entries new by le last e = let P : List (ℕ × ℕ) → Type 0 = λ xs. EndBy more xs in subst P (sym e) (inserted_by more start end entries last (by_more top more entries le by))
 
 pub put_apart : (start end : ℕ) (entries more : List (ℕ × ℕ)) → AreApart entries → start < end → any_meets (record { start = start; end = end }) (ranges_by entries) ≡ false → more ≡ insert_entry nat_cmp entries start end → AreApart more
 unfolding any_meets
