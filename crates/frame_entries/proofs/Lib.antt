@@ -1,7 +1,6 @@
 pub mod LetterLemmas
 pub mod ListingLemmas
 pub mod FindLemmas
-pub mod EntryLemmas
 pub mod PlaceLemmas
 pub mod ReasonLemmas
 pub mod SharedLemmas

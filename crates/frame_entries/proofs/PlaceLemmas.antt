@@ -5,10 +5,11 @@ use Rattle.std.proofs.lemmas.Bool.{cond-true}
 use Rattle.sym_edges.specs.declared.part.Sect.{Sect}
 use Rattle.leb_cursor.specs.declared.fault.CursorFault.{CursorFault}
 use Rattle.sym_edges.specs.Results.{◌>>=◌}
-use Rattle.leb_cursor.specs.Ahead.{Ahead}
+use Rattle.leb_cursor.specs.Ahead.{Ahead, passed}
 use Rattle.leb_cursor.specs.Passes.{Passes}
 use Rattle.leb_cursor.specs.Readings.{fixed_at, take_at}
 use Rattle.leb_cursor.proofs.PassLemmas.{fixed_passes, take_passes, passes_then}
+use Rattle.leb_cursor.proofs.ListLemmas.{weaker, either_passes}
 use Rattle.frame_entries.specs.declared.fault.FrameKind.TheVariants.{Length, Format64}
 use Rattle.sym_edges.specs.declared.located.Located.{Located}
 use Rattle.frame_entries.specs.declared.fault.FrameKind.{FrameKind}
@@ -25,18 +26,10 @@ or_passes : {A : Type 0} (which : Sect) (at : ℕ) (reading : Result (A × Ahead
 or_passes which at (Ok x) least c goes = goes
 or_passes which at (Err fault) least c goes = tt
 
-weaker : {A E : Type 0} (reading : Result (A × Ahead) E) (least : ℕ) (c : Ahead) → Passes least c reading → Passes 0 c reading
-weaker (Ok x) least c goes = (omega (arith, goes.0), goes.1)
-weaker (Err fault) least c goes = tt
-
-either_passes : {A E : Type 0} (test : Bool) (given other : Result (A × Ahead) E) (least : ℕ) (c : Ahead) → Passes least c given → Passes least c other → Passes least c (cond test given other)
-either_passes true given other least c first second = first
-either_passes false given other least c first second = second
-
 entry_passes : (which : Sect) (at count : ℕ) (c : Ahead) → Passes 0 c (entry_at which at count c)
 unfolding entry_at
 entry_passes which at count c =
-    weaker (entry_at which at count c) (4 + (count - 4 + 0)) c
+    weaker (entry_at which at count c) (4 + (count - 4 + 0)) 0 c (omega arith)
     (passes_then (or_length which at (fixed_at 4 c))
     (λ id. or_length which at (take_at (count - 4) id.1) >>= λ body. Ok (Listed (record { at = at; id_at = c.at; id = id.0; body_at = id.1.at; body = body.0 }), body.1))
     4 (count - 4 + 0) c (or_passes which at (fixed_at 4 c) 4 c (fixed_passes 4 c))
@@ -57,6 +50,27 @@ unfolding mark_at
 mark_passes which c =
     passes_then (or_length which c.at (fixed_at 4 c)) (λ count. mark_behind which c.at count.0 count.1) 4 0 c
     (or_passes which c.at (fixed_at 4 c) 4 c (fixed_passes 4 c)) (λ count. behind_passes which c.at count.0 count.1)
+
+-- the place behind a number of so many bytes
+abbrev place_behind : ℕ → Result (ℕ × Ahead) CursorFault → ℕ
+place_behind at (Ok x) = x.1.at
+place_behind at (Err fault) = at
+
+ends_by : (test : Bool) (fault : CursorFault) (sum width : ℕ) (c : Ahead) (x : ℕ × Ahead) → Ok x ≡ cond test (Err fault) (Ok (sum, passed width c)) → x.1.at ≡ c.at + width
+unfolding passed
+ends_by true fault sum width c x is = cc
+ends_by false fault sum width c x is = ap (place_behind c.at) is
+
+pub fixed_ends : (width n : ℕ) (c d : Ahead) → Ok (n, d) ≡ fixed_at width c → d.at ≡ c.at + width
+unfolding fixed_at
+fixed_ends width n c d is = ends_by (nat_lt (length c.bytes) width) _ _ width c (n, d) is
+
+-- the end behind a mark
+pub mark_ends : (which : Sect) (c d : Ahead) (mark : Mark) → Ok (mark, d) ≡ mark_at which c → d.at + length d.bytes ≡ c.at + length c.bytes
+mark_ends which c d mark is =
+    let P : Result (Mark × Ahead) (Located FrameKind) → Type 0 = λ reading. Passes 4 c reading in
+    let goes = subst P (sym is) (mark_passes which c) in
+    goes.1
 
 -- an entry starts where its mark was looked for
 abbrev pub MarkStarts : ℕ → Mark → Type 0

@@ -1,9 +1,10 @@
 -- Entries of one section whose CIE stands at one place have one CIE's fields.
-use Rattle.std.proofs.Common.{◌≡◌, ◌<◌, ℕ, Bool, true, false, not, nat_eq, cond, List, [], ◌∷◌, map, length, get_or, Option, None, Some, Result, Ok, Err, refl, sym, ap, ◌∙◌, pos, subst, arith}
-use Rattle.std.specs.List.{filter, find}
-use Rattle.std.specs.Option.{option_and_then}
+use Rattle.std.proofs.Common.{◌≡◌, ◌<◌, ℕ, Bool, true, false, nat_eq, cond, List, [], ◌∷◌, map, length, get_or, Option, None, Some, Result, Ok, Err, refl, sym, ap, ◌∙◌, pos, subst, arith}
+use Rattle.std.specs.List.{find, slice_get}
+use Rattle.std.specs.Option.{option_and_then, option_map}
 use Rattle.std.proofs.lemmas.Bool.{eqb-true}
 use Rattle.std.proofs.lemmas.List.{get_or-map, length-map}
+use Rattle.std.proofs.lemmas.Option.{slice_get-map, slice_get-get_or}
 use Rattle.sym_edges.specs.declared.part.Sect.{Sect}
 use Rattle.sym_edges.specs.declared.reason.Reason.{Reason}
 use Rattle.leb_cursor.specs.declared.fault.CursorFault.{CursorFault}
@@ -18,9 +19,8 @@ use Rattle.frame_entries.specs.Listing.{from_start}
 use Rattle.frame_entries.specs.CieFields.{CieFields}
 use Rattle.frame_entries.specs.Cies.{augmentation_at}
 use Rattle.frame_entries.specs.FdeFields.{FdeFields}
-use Rattle.frame_entries.specs.FrameEntries.{is_cie, cie_place, cie_from, cie_named, address_at, fde_of, body_read, body_under, body_by, entry_of}
+use Rattle.frame_entries.specs.FrameEntries.{cie_place, cie_from, cie_named, address_at, fde_of, body_read, body_under, body_by, entry_of}
 use Rattle.frame_entries.specs.SharedCies.{HaveOneCie, ShareCies}
-use Rattle.frame_entries.proofs.EntryLemmas.{fdes_of}
 
 -- what the CIE at a place says, where one is there that can be used
 abbrev no_fields : CieFields
@@ -139,7 +139,17 @@ fdes_share which address cies raws = record {
       both_under cies e f (listed_fields which address cies raws i d e there is) (listed_fields which address cies raws j d f there' is') same;
 }
 
-pub entries_share : (which : Sect) (address : ℕ) (cies : List Cie) (raws : List Raw) (entries : List Entry) → entries ≡ fdes_of which address cies raws → ShareCies entries
+pub entries_share : (which : Sect) (address : ℕ) (cies : List Cie) (raws : List Raw) (entries : List Entry) → entries ≡ map (entry_of which address cies) raws → ShareCies entries
 entries_share which address cies raws entries are =
     let P : List Entry → Type 0 = λ xs. ShareCies xs in
-    subst P (sym are) (fdes_share which address cies (filter (λ raw. not (is_cie which raw)) raws))
+    subst P (sym are) (fdes_share which address cies raws)
+
+-- an entry of the list is read where it lies
+pub entries_counted : (which : Sect) (address : ℕ) (cies : List Cie) (raws : List Raw) (entries : List Entry) → entries ≡ map (entry_of which address cies) raws → length entries ≡ length raws
+entries_counted which address cies raws entries are = ap length are ∙ length-map raws (entry_of which address cies)
+
+pub entry_read : (which : Sect) (address : ℕ) (cies : List Cie) (raws : List Raw) (entries : List Entry) (i : ℕ) (raw : Raw) → entries ≡ map (entry_of which address cies) raws → i < length raws → raw ≡ get_or raws i raw → slice_get entries i ≡ Some (entry_of which address cies raw)
+entry_read which address cies raws entries i raw are inside is =
+    ap (λ xs. slice_get xs i) are
+    ∙ slice_get-map (entry_of which address cies) raws i
+    ∙ ap (option_map (entry_of which address cies)) (slice_get-get_or raws i raw inside ∙ ap Some (sym is))

@@ -12,7 +12,7 @@ use sym_edges::Reason;
 
 /// What the FDEs of a CIE need of it: the code and data alignment factors, the encoding of pointers,
 /// whether there is an augmentation, and the initial instructions.
-#[derive(Drop)]
+#[derive(Debug, Drop)]
 pub struct CieParts<'a> {
     pub code_align: u64,
     pub data_align: i64,
@@ -40,7 +40,7 @@ impl<'a> Model for CieParts<'a> {
 }
 
 /// A CIE, read once: its place, and what it says or why it cannot be used.
-#[derive(Drop)]
+#[derive(Debug, Drop)]
 pub struct Cie<'a> {
     pub at: usize,
     pub parts: Result<CieParts<'a>, Reason>,

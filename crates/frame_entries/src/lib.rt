@@ -11,9 +11,9 @@
 //! The contract compares the answer with a definition over the list of all entries of the section:
 //! `specs/Listing.antt` has that list, `specs/Cies.antt` what a CIE's bytes say, and
 //! `specs/FrameEntries.antt` which CIE an FDE means and what the FDE says. The code goes over the
-//! section once, reads each CIE once, and finds an FDE's CIE by halves, since places rise. An [`Fde`] has
-//! the place of its CIE; those of one section with one such place have one CIE's fields
-//! (`specs/SharedCies.antt`).
+//! section once and reads each CIE once. An [`EntryList`] holds where the FDEs lie, and reads one when it
+//! is asked for; its CIE is found by halves, since places rise. An [`Fde`] has the place of its CIE; those
+//! of one section with one such place have one CIE's fields (`specs/SharedCies.antt`).
 //!
 //! [`read_pointer`] reads a pointer whose field has an address. The instructions of an [`Fde`] use it
 //! with the entry's encoding, which always is one that it reads.
@@ -33,7 +33,6 @@ mod reading;
 mod tests;
 
 pub use crate::description::{Body, Entry, Fde};
-pub use crate::entry_list::EntryList;
+pub use crate::entry_list::{EntryList, entries};
 pub use crate::fault::{FrameFault, FrameKind};
 pub use crate::pointer::read_pointer;
-pub use crate::reading::entries;

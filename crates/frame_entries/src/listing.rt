@@ -1,5 +1,5 @@
 //! The entries of a section as they lie one behind the other.
-ghost use Rattle.std.specs.Prelude.{◌≡◌, ◌≤◌, Ok, Err};
+ghost use Rattle.std.specs.Prelude.{◌≡◌, ◌+◌, ◌^◌, ◌<◌, ◌≤◌, Ok, Err};
 ghost use Rattle.sym_edges.specs.Outside.{MatchStop};
 ghost use Rattle.leb_cursor.specs.Ahead.{gave};
 ghost use Rattle.frame_entries.specs.Listing.{is_eh, from_start, entry_at, mark_behind, mark_at, listed_at};
@@ -10,26 +10,29 @@ use std::alloc::Global;
 use std::marker::Model;
 use sym_edges::{Located, Sect, Stop};
 
-/// An entry as it lies in its section: the places of its first byte, of its id and of its body.
-#[derive(Drop)]
+/// A section of more bytes is not read: 2^29.
+const LIMIT: usize = 0x2000_0000;
+
+/// An entry as it lies in its section: the place of its first byte, its id, and its body. The id stands four bytes behind that
+/// place, and the body eight.
+#[derive(Debug, Drop)]
 pub struct RawEntry<'a> {
-    pub at: usize,
-    pub id_at: usize,
+    pub at: u32,
     pub id: u32,
-    pub body_at: usize,
     pub body: &'a [u8],
 }
 
 impl<'a> Model for RawEntry<'a> {
+    ghost use Rattle.std.specs.Prelude.{◌+◌};
     ghost use Rattle.frame_entries.specs.Raw.{Raw};
 
     ghost Value = { Raw };
 
     ghost view = { λ r. record {
       at = r.at;
-      id_at = r.id_at;
+      id_at = r.at + 4;
       id = r.id;
-      body_at = r.body_at;
+      body_at = r.at + 8;
       body = r.body.now;
     } };
 }
@@ -60,42 +63,35 @@ pub fn is_eh(which: Sect) -> bool
 }
 
 #[inline]
-fn fault_at(kind: FrameKind, which: Sect, at: usize) -> FrameFault
+fn fault_at(kind: FrameKind, which: Sect, at: u32) -> FrameFault
     ensures { result ≡ record { kind = kind; section = which; at = at } }
 {
     Located {
         kind,
         section: which,
-        at,
+        at: at as usize,
     }
 }
 
 /// Reads an entry behind its length.
-#[tactic(auto, unfolding(crate::specs::Listing::entry_at))]
+#[tactic(auto, using(crate::proofs::PlaceLemmas::fixed_ends), unfolding(crate::specs::Listing::entry_at))]
 fn read_entry<'a>(
     cursor: &mut Cursor<'a>,
     which: Sect,
-    at: usize,
+    at: u32,
     count: u32,
 ) -> Result<Mark<'a>, FrameFault>
-    requires { 4 ≤ count }
+    requires some { 4 ≤ count }
+    requires behind { cursor.old.at ≡ at + 4 }
     ensures { gave result cursor.new ≡ entry_at which at count cursor.old }
 {
-    let id_at = cursor.at();
     let Ok(id) = cursor.u32() else {
         return Err(fault_at(FrameKind::Length, which, at));
     };
-    let body_at = cursor.at();
     let Ok(body) = cursor.take(u64::from(count - 4)) else {
         return Err(fault_at(FrameKind::Length, which, at));
     };
-    Ok(Mark::Listed(RawEntry {
-        at,
-        id_at,
-        id,
-        body_at,
-        body,
-    }))
+    Ok(Mark::Listed(RawEntry { at, id, body }))
 }
 
 /// Reads what a length stands in front of.
@@ -103,9 +99,10 @@ fn read_entry<'a>(
 fn read_behind<'a>(
     cursor: &mut Cursor<'a>,
     which: Sect,
-    at: usize,
+    at: u32,
     count: u32,
 ) -> Result<Mark<'a>, FrameFault>
+    requires { cursor.old.at ≡ at + 4 }
     ensures { gave result cursor.new ≡ mark_behind which at count cursor.old }
 {
     if count == 0 {
@@ -124,19 +121,21 @@ fn read_behind<'a>(
 }
 
 /// Reads what stands next in a section.
-#[tactic(auto, unfolding(crate::specs::Listing::mark_at))]
+#[tactic(auto, using(crate::proofs::PlaceLemmas::fixed_ends), unfolding(crate::specs::Listing::mark_at))]
 fn read_mark<'a>(cursor: &mut Cursor<'a>, which: Sect) -> Result<Mark<'a>, FrameFault>
+    requires { cursor.old.at < 2 ^ 32 }
     ensures { gave result cursor.new ≡ mark_at which cursor.old }
 {
-    let at = cursor.at();
+    let at = cursor.at() as u32;
     let Ok(count) = cursor.u32() else {
         return Err(fault_at(FrameKind::Length, which, at));
     };
     read_behind(cursor, which, at, count)
 }
 
-/// The entries of a section, or its first fault.
-#[tactic(auto, using(crate::proofs::ListingLemmas::listing_begins, crate::proofs::ListingLemmas::listing_at_end, crate::proofs::ListingLemmas::listing_ended, crate::proofs::ListingLemmas::listing_refused, crate::proofs::ListingLemmas::listing_passed, crate::proofs::ListingLemmas::listing_more, crate::proofs::ListingLemmas::listing_out_of_turns), unfolding(crate::specs::Listing::listed_at))]
+/// The entries of a section, or its first fault. A section of more than 2^29 bytes, which no file that is dumped has, wants more
+/// memory than there is: places are kept in four bytes.
+#[tactic(auto, using(crate::proofs::ListingLemmas::listing_begins, crate::proofs::ListingLemmas::listing_at_end, crate::proofs::ListingLemmas::listing_ended, crate::proofs::ListingLemmas::listing_refused, crate::proofs::ListingLemmas::listing_passed, crate::proofs::ListingLemmas::listing_more, crate::proofs::ListingLemmas::listing_out_of_turns, crate::proofs::PlaceLemmas::mark_ends), unfolding(crate::specs::Listing::listed_at))]
 pub fn read_listing<'a>(
     alloc: Global,
     bytes: &'a [u8],
@@ -147,6 +146,9 @@ pub fn read_listing<'a>(
         (λ fault. listed_at which (from_start bytes.now) ≡ Err fault)
         (Unit {0}) }
 {
+    if bytes.len() > LIMIT {
+        return Err(Stop::NoMemory);
+    }
     let mut cursor = cursor_over(bytes);
     let mut raws = Vec::new(alloc);
     'marks: for _ in 0..bytes.len() {

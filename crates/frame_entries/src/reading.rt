@@ -1,21 +1,18 @@
-//! The frame description entries of a section.
-ghost use Rattle.std.specs.Prelude.{◌≡◌, ◌==◌, Some, Ok, Err, IfOk, find, filter, map, not};
+//! The CIEs of a section, and what an FDE says under its CIE.
+ghost use Rattle.std.specs.Prelude.{◌≡◌, IfOk};
 ghost use Rattle.std.specs.Option.{option_copied};
-ghost use Rattle.sym_edges.specs.Outside.{MatchStop};
-ghost use Rattle.frame_entries.specs.FrameEntries.{IsFrameSection, is_cie, cie_at, cies_of, cie_place, cie_from, cie_named, entry_of, entries_of, frame_entries};
+ghost use Rattle.frame_entries.specs.FrameEntries.{is_cie, cie_at, cies_of, cie_place, cie_from, cie_named, entry_of};
 ghost use Rattle.frame_entries.specs.Climbs.{Climbs, places_of, Before};
 
 use crate::cie::{Cie, read_cie};
 use crate::description::{Body, Entry, read_body};
-use crate::entry_list::EntryList;
-use crate::fault::FrameFault;
-use crate::listing::{RawEntry, is_eh, read_listing};
+use crate::listing::{RawEntry, is_eh};
 use std::alloc::{AllocError, Global};
-use sym_edges::{Part, Reason, Sect, Stop};
+use sym_edges::{Reason, Sect};
 
 #[inline]
 #[tactic(auto, unfolding(crate::specs::FrameEntries::is_cie))]
-fn is_cie(which: Sect, raw: &RawEntry<'_>) -> bool
+pub fn is_cie(which: Sect, raw: &RawEntry<'_>) -> bool
     ensures { result ≡ is_cie which raw.now }
 {
     raw.id == if is_eh(which) { 0 } else { 0xffff_ffff }
@@ -25,14 +22,14 @@ fn cie_at<'a>(raw: &RawEntry<'a>) -> Cie<'a>
     ensures { result ≡ cie_at raw.now }
 {
     Cie {
-        at: raw.at,
+        at: raw.at as usize,
         parts: read_cie(raw.body),
     }
 }
 
 /// The CIEs of a section, each read once.
 #[tactic(auto, unfolding(crate::specs::FrameEntries::cies_of))]
-fn read_cies<'a>(
+pub fn read_cies<'a>(
     alloc: Global,
     raws: &[RawEntry<'a>],
     which: Sect,
@@ -55,11 +52,8 @@ fn cie_place(which: Sect, raw: &RawEntry<'_>) -> Option<usize>
     if !is_eh(which) {
         return Some(id);
     }
-    if id <= raw.id_at {
-        Some(raw.id_at - id)
-    } else {
-        None
-    }
+    let id_at = raw.at as usize + 4;
+    if id <= id_at { Some(id_at - id) } else { None }
 }
 
 /// How many CIEs start before a place, by halves.
@@ -101,59 +95,18 @@ fn name_cie<'c, 'a>(which: Sect, cies: &'c [Cie<'a>], raw: &RawEntry<'a>) -> Opt
 
 /// Reads an FDE.
 #[tactic(auto, unfolding(crate::specs::FrameEntries::entry_of, crate::specs::FrameEntries::address_at))]
-fn read_entry<'a>(which: Sect, address: u64, cies: &[Cie<'a>], raw: &RawEntry<'a>) -> Entry<'a>
+pub fn read_entry<'a>(which: Sect, address: u64, cies: &[Cie<'a>], raw: &RawEntry<'a>) -> Entry<'a>
     requires { Climbs 0 (places_of cies.now) }
     ensures { result ≡ entry_of which address cies.now raw.now }
 {
-    let base = address.wrapping_add(raw.body_at as u64);
+    let base = address.wrapping_add(u64::from(raw.at) + 8);
     let body = match name_cie(which, cies, raw) {
         Some(cie) => read_body(cie.at, &cie.parts, base, raw.body),
         None => Body::Bad(Reason::Cie),
     };
     Entry {
         section: which,
-        at: raw.at as u64,
+        at: u64::from(raw.at),
         body,
     }
-}
-
-/// Reads the FDEs.
-#[tactic(auto, using(crate::proofs::EntryLemmas::entries_begin, crate::proofs::EntryLemmas::entries_end, crate::proofs::EntryLemmas::entries_more, crate::proofs::EntryLemmas::entries_other))]
-fn read_entries<'a>(
-    alloc: Global,
-    which: Sect,
-    address: u64,
-    cies: &[Cie<'a>],
-    raws: &[RawEntry<'a>],
-) -> Result<Vec<Entry<'a>>, AllocError>
-    requires { Climbs 0 (places_of cies.now) }
-    ensures { IfOk result (λ entries. entries.items ≡ map (entry_of which address cies.now) (filter (λ raw. not (is_cie which raw)) raws.now)) }
-{
-    let mut entries = Vec::with_capacity(alloc, raws.len().saturating_sub(cies.len()))?;
-    'raws: for raw in raws {
-        if !is_cie(which, raw) {
-            entries.push(read_entry(which, address, cies, raw))?;
-        }
-    }
-    Ok(entries)
-}
-
-/// The frame description entries of a section, in their order, or its first fault (DWARF 5, 6.4.1;
-/// LSB Core, ".eh_frame"). Each has what it says, or the first reason to leave it out.
-#[tactic(auto, using(crate::proofs::PlaceLemmas::cies_climb), unfolding(crate::specs::FrameEntries::frame_entries, crate::specs::FrameEntries::entries_of))]
-pub fn entries<'a>(
-    alloc: Global,
-    part: Part<'a>,
-    which: Sect,
-) -> Result<EntryList<'a>, Stop<FrameFault>>
-    requires { IsFrameSection which }
-    ensures { MatchStop result
-        (λ list. frame_entries part.entry.bytes.now part.entry.address which ≡ Ok list)
-        (λ fault. frame_entries part.entry.bytes.now part.entry.address which ≡ Err fault)
-        (Unit {0}) }
-{
-    let raws = read_listing(alloc, part.bytes, which)?;
-    let cies = read_cies(alloc, raws.as_slice(), which)?;
-    let entries = read_entries(alloc, which, part.address, cies.as_slice(), raws.as_slice())?;
-    Ok(EntryList::of(entries))
 }

@@ -1,6 +1,9 @@
-//! Examples with ample memory: each public call that takes memory, and one list of 1,000 entries.
+//! Examples with ample memory: each public call that takes memory, and one list of 1,000 entries. The size of what is held for an
+//! entry.
+use crate::listing::RawEntry;
 use crate::{Body, Entry, entries};
 use std::alloc::Global;
+use std::mem::size_of;
 use std::process::Abort;
 use std::test::Fail;
 use sym_edges::{Part, Reason, Sect};
@@ -29,8 +32,8 @@ fn expect(
             address: 0x2000,
         };
         let list = entries(alloc, part, which)?;
-        for entry in list.as_slice() {
-            found.push(see(entry))?;
+        for i in 0..list.len() {
+            found.push(see(&list.entry(i)))?;
         }
     }
     assert_eq!(rt; found.as_slice(), want, "{name}");
@@ -76,4 +79,9 @@ fn sections_give_their_entries(rt: HostRuntime) -> Result<(), Fail> {
         Sect::DebugFrame,
         &want,
     )
+}
+
+#[test]
+fn an_entry_takes_few_bytes(rt: HostRuntime) {
+    assert_eq!(rt; size_of::<RawEntry<'_>>(), 24);
 }

@@ -198,14 +198,14 @@ same_entries kept code [] d same = refl
 same_entries kept code (x ∷ entries) d same =
     ap (λ o. with_entries kept entries (with_decision x o d)) (same_body kept code d.written x.body same) ∙ same_entries kept code entries (with_entry code x d) same
 
-pub shown_all : (base : ℕ) (kept code : List Range) (first second one two : List Entry) (p q r : Progress) → ((start end : ℕ) → encloses kept start end ≡ encloses code start end) → text_bytes p.text ≡ [] → p.omitted.items ≡ [] → p.taken ≡ [] → one ≡ first → two ≡ second →
-    ((d : Decided) → Shows base p d → Shows base q (with_entries kept one d)) → ((d : Decided) → Shows base q d → Shows base r (with_entries kept two d)) → Shows base r (decided code first second)
+pub shown_all : (base : ℕ) (kept code : List Range) (first second : List Entry) (p q r : Progress) → ((start end : ℕ) → encloses kept start end ≡ encloses code start end) → text_bytes p.text ≡ [] → p.omitted.items ≡ [] → p.taken ≡ [] →
+    ((d : Decided) → Shows base p d → Shows base q (with_entries kept first d)) → ((d : Decided) → Shows base q d → Shows base r (with_entries kept second d)) → Shows base r (decided code first second)
 unfolding decided decided_of decided_behind
-shown_all base kept code first second one two p q r at lines omitted taken one_is two_is on_one on_two =
+shown_all base kept code first second p q r at lines omitted taken on_first on_second =
     let same : SameCode kept code = record { at = at } in
     let P : Decided → Type 0 = λ x. Shows base r x in
-    subst P (ap (λ xs. with_entries kept xs (with_entries kept one none_decided)) two_is ∙ ap (λ xs. with_entries kept second (with_entries kept xs none_decided)) one_is ∙ same_entries kept code second (with_entries kept first none_decided) same ∙ ap (with_entries code second) (same_entries kept code first none_decided same) ∙ sym (entries_append code first second none_decided))
-    (on_two (with_entries kept one none_decided) (on_one none_decided (shows_none base p lines omitted taken)))
+    subst P (same_entries kept code second (with_entries kept first none_decided) same ∙ ap (with_entries code second) (same_entries kept code first none_decided same) ∙ sym (entries_append code first second none_decided))
+    (on_second (with_entries kept first none_decided) (on_first none_decided (shows_none base p lines omitted taken)))
 
 pub shown_text : (base : ℕ) (code : List Range) (first second : List Entry) (r : Progress) → Shows base r (decided code first second) → text_bytes r.text ≡ canon_text (written_lines base (written code first second))
 unfolding written

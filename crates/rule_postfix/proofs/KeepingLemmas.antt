@@ -1,5 +1,5 @@
 -- The state behind a CIE that is kept is that of the entries that follow.
-use Rattle.std.proofs.Common.{◌≡◌, ℕ, ◌<◌, List, length, get_or, Option, Result, sym, ◌∙◌, ap, subst}
+use Rattle.std.proofs.Common.{◌≡◌, ℕ, ◌<◌, List, length, get_or, Option, Result, sym, ◌∙◌, ap}
 use Rattle.std.proofs.lemmas.List.{get_or_default}
 use Rattle.frame_entries.specs.FdeFields.{FdeFields}
 use Rattle.frame_entries.specs.SharedCies.{HaveOneCie, ShareCies}
@@ -28,6 +28,3 @@ pub kept_more : (entries : List Entry) (i : ℕ) (entry : Entry) (before after :
 kept_more entries i entry before after share inside same kept stays j d f there good =
     stays f (kept j d f there good)
     (λ e is one. share.one i j entry e f inside there (sym (ap (λ (x : Entry). x.body) same) ∙ is) (other_default entries j d entry f there good) one)
-
-pub shared_by : (xs ys : List Entry) → xs ≡ ys → ShareCies ys → ShareCies xs
-shared_by xs ys same share = let P : List Entry → Type 0 = λ es. ShareCies es in subst P (sym same) share

@@ -4,7 +4,6 @@ ghost use Rattle.sym_edges.specs.Outside.{MatchStop};
 ghost use Rattle.sym_edges.specs.Addresses.{Range};
 ghost use Rattle.range_set.specs.Starts.{AllFrom};
 ghost use Rattle.frame_entries.specs.FdeFields.{FdeFields};
-ghost use Rattle.frame_entries.specs.SharedCies.{ShareCies};
 ghost use Rattle.frame_entries.specs.declared.description.Body.TheVariants.{Good};
 ghost use Rattle.frame_rows.specs.Rows.{Ascending};
 ghost use Rattle.frame_rows.specs.CieLeft.{cie_left};
@@ -243,17 +242,17 @@ fn put_entry(
 fn put_entries(
     alloc: Global,
     progress: &mut Progress,
-    entries: &[Entry<'_>],
+    entries: &EntryList<'_>,
     code: &Enclosing,
     base: u64,
 ) -> Result<(), OutOfMemory>
-    requires shared { ShareCies entries.now }
-    requires above { LiesAbove base code.now }
+    requires { LiesAbove base code.now }
     ensures { OnOk result ((d : Decided) → Shows base progress.old d → Shows base progress.new (with_entries code.now entries.now d)) }
 {
     let mut kept = None;
-    for entry in entries {
-        put_entry(alloc, progress, &mut kept, entry, code, base)?;
+    'entries: for i in 0..entries.len() {
+        let entry = entries.entry(i);
+        put_entry(alloc, progress, &mut kept, &entry, code, base)?;
     }
     Ok(())
 }
@@ -283,8 +282,8 @@ pub fn translate_all(
         omitted: Vec::new(alloc),
         taken: Taken::new(alloc),
     };
-    put_entries(alloc, &mut progress, first.as_slice(), &enclosing, base)?;
-    put_entries(alloc, &mut progress, second.as_slice(), &enclosing, base)?;
+    put_entries(alloc, &mut progress, first, &enclosing, base)?;
+    put_entries(alloc, &mut progress, second, &enclosing, base)?;
     let Progress {
         text,
         open: _,

@@ -61,8 +61,8 @@ fn eh_frame<'a>(alloc: Global, bytes: &'a [u8]) -> Result<EntryList<'a>, Stop<Fr
 /// The text of the first entry's records.
 fn translated(alloc: Global, bytes: &[u8]) -> Result<Vec<u8>, Fail> {
     let list = eh_frame(alloc, bytes)?;
-    if let Some(entry) = list.get(0) {
-        if let Body::Good(fde) = &entry.body {
+    if !list.is_empty() {
+        if let Body::Good(fde) = &list.entry(0).body {
             let end = fde.start.saturating_add(fde.size);
             if end < u64::MAX && fde.start < end {
                 return Ok(translate(alloc, fde, 0)?.into_vec());

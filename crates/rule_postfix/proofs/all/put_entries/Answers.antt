@@ -1,19 +1,23 @@
-use Rattle.std.proofs.Common.{arith}
+use Rattle.std.proofs.Common.{sym, arith}
+use Rattle.std.proofs.lemmas.Option.{get_or_from_slice_get}
 use Rattle.rule_postfix.specs.Written.{with_entries}
 use Rattle.rule_postfix.proofs.DecidedLemmas.{on_more}
 use Rattle.rule_postfix.proofs.KeepingLemmas.{kept_at, kept_more}
 use Rattle.rule_postfix.proofs.all.put_entries.Goals as goal
 
-pub loop-entry-init : goal.loop-entry-init
+pub entries-init : goal.entries-init
 unfolding with_entries
-loop-entry-init c = record { shown = λ d so. so; kept = λ j d f there good. tt }
+entries-init c = record { shown = λ d so. so; kept = λ j d f there good. tt }
 
 pub put_entry-requires-clause-known : goal.put_entry-requires-clause-known
 put_entry-requires-clause-known c =
-    kept_at c.args.entries.now c.loop-entry.entry-index c.entry-item.result c.loop-entry.kept (omega arith) c.entry-item.is c.loop-entry.invariant.kept
+    let here = sym (get_or_from_slice_get c.args.entries.now c.entries.i c.entry-entry.result c.entry-entry.result c.entry-entry.ensures.value) in
+    kept_at c.args.entries.now c.entries.i c.entry-entry.result c.entries.kept (omega arith) here c.entries.invariant.kept
 
-pub loop-entry-preserved : goal.loop-entry-preserved
-loop-entry-preserved c = record {
-  shown = on_more c.args.base c.args.code.now c.args.entries.now c.loop-entry.entry-index c.entry-item.result c.args.progress.now c.loop-entry.progress c.put_entry.new.progress (omega arith) c.entry-item.is c.loop-entry.invariant.shown c.in_ok-put_entry.ensures.shown;
-  kept = kept_more c.args.entries.now c.loop-entry.entry-index c.entry-item.result c.loop-entry.kept c.put_entry.new.kept c.requires.shared (omega arith) c.entry-item.is c.loop-entry.invariant.kept c.in_ok-put_entry.ensures.kept;
-}
+pub entries-preserved : goal.entries-preserved
+entries-preserved c =
+    let here = sym (get_or_from_slice_get c.args.entries.now c.entries.i c.entry-entry.result c.entry-entry.result c.entry-entry.ensures.value) in
+    record {
+      shown = on_more c.args.base c.args.code.now c.args.entries.now c.entries.i c.entry-entry.result c.args.progress.now c.entries.progress c.put_entry.new.progress (omega arith) here c.entries.invariant.shown c.in_ok-put_entry.ensures.shown;
+      kept = kept_more c.args.entries.now c.entries.i c.entry-entry.result c.entries.kept c.put_entry.new.kept c.entry-entry.ensures.shared (omega arith) here c.entries.invariant.kept c.in_ok-put_entry.ensures.kept;
+    }

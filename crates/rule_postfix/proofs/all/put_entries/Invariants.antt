@@ -4,8 +4,8 @@ use Rattle.rule_postfix.specs.Deciding.{Shows}
 use Rattle.rule_postfix.specs.Keeping.{KeptForAll}
 use Rattle.rule_postfix.proofs.all.put_entries.Given as goal
 
-abbrev pub invariant-loop-entry : goal.invariant-loop-entry
-invariant-loop-entry l = record {
-  shown : (d : Decided) → Shows l.base l.initial.progress d → Shows l.base l.progress (with_entries l.code (take l.entry-index l.entries) d);
+abbrev pub invariant-entries : goal.invariant-entries
+invariant-entries l = record {
+  shown : (d : Decided) → Shows l.base l.initial.progress d → Shows l.base l.progress (with_entries l.code (take l.i l.entries) d);
   kept : KeptForAll l.kept l.entries;
 }

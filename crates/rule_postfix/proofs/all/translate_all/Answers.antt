@@ -1,27 +1,20 @@
 use Rattle.std.proofs.Common.{refl}
 use Rattle.rule_postfix.proofs.DecidedLemmas.{shown_all, shown_text, shown_valid, shown_omitted}
 use Rattle.rule_postfix.specs.Written.{written, written_lines}
-use Rattle.rule_postfix.proofs.KeepingLemmas.{shared_by}
 use Rattle.rule_postfix.proofs.KeptLemmas.{written_cover, written_changes, written_apart}
 use Rattle.rule_postfix.proofs.all.translate_all.Goals as goal
-
-pub put_entries-requires-clause-shared : goal.put_entries-requires-clause-shared
-put_entries-requires-clause-shared c = shared_by _ _ c.as_slice.ensures.value c.as_slice.ensures.shared
-
-pub put_entries-requires-2-clause-shared : goal.put_entries-requires-2-clause-shared
-put_entries-requires-2-clause-shared c = shared_by _ _ c.as_slice-2.ensures.value c.as_slice-2.ensures.shared
 
 pub returns-clause-text : goal.returns-clause-text
 returns-clause-text c =
     shown_text c.args.base c.args.code.now c.args.first.now c.args.second.now c.put_entries-2.new.progress
-    (shown_all c.args.base c.in_ok-enclosing.enclosing c.args.code.now c.args.first.now c.args.second.now c.as_slice.result.now c.as_slice-2.result.now _ c.put_entries.new.progress c.put_entries-2.new.progress
-    c.in_ok-enclosing.ensures.same c.new.ensures c.new-3.ensures.items c.new-4.ensures c.as_slice.ensures.value c.as_slice-2.ensures.value c.in_ok-put_entries.ensures c.in_ok-put_entries-2.ensures)
+    (shown_all c.args.base c.in_ok-enclosing.enclosing c.args.code.now c.args.first.now c.args.second.now _ c.put_entries.new.progress c.put_entries-2.new.progress
+    c.in_ok-enclosing.ensures.same c.new.ensures c.new-3.ensures.items c.new-4.ensures c.in_ok-put_entries.ensures c.in_ok-put_entries-2.ensures)
 
 pub returns-clause-valid : goal.returns-clause-valid
 returns-clause-valid c =
     shown_valid c.args.base c.args.code.now c.args.first.now c.args.second.now c.put_entries-2.new.progress
-    (shown_all c.args.base c.in_ok-enclosing.enclosing c.args.code.now c.args.first.now c.args.second.now c.as_slice.result.now c.as_slice-2.result.now _ c.put_entries.new.progress c.put_entries-2.new.progress
-    c.in_ok-enclosing.ensures.same c.new.ensures c.new-3.ensures.items c.new-4.ensures c.as_slice.ensures.value c.as_slice-2.ensures.value c.in_ok-put_entries.ensures c.in_ok-put_entries-2.ensures)
+    (shown_all c.args.base c.in_ok-enclosing.enclosing c.args.code.now c.args.first.now c.args.second.now _ c.put_entries.new.progress c.put_entries-2.new.progress
+    c.in_ok-enclosing.ensures.same c.new.ensures c.new-3.ensures.items c.new-4.ensures c.in_ok-put_entries.ensures c.in_ok-put_entries-2.ensures)
 
 pub returns-clause-covers : goal.returns-clause-covers
 returns-clause-covers c = written_cover c.args.base c.args.code.now c.args.first.now c.args.second.now (written_lines c.args.base (written c.args.code.now c.args.first.now c.args.second.now)) c.requires refl
@@ -35,6 +28,6 @@ returns-clause-disjoint c = written_apart c.args.base c.args.code.now c.args.fir
 pub returns-clause-omitted : goal.returns-clause-omitted
 returns-clause-omitted c =
     shown_omitted c.args.base c.args.code.now c.args.first.now c.args.second.now c.put_entries-2.new.progress c.of.result
-    (shown_all c.args.base c.in_ok-enclosing.enclosing c.args.code.now c.args.first.now c.args.second.now c.as_slice.result.now c.as_slice-2.result.now _ c.put_entries.new.progress c.put_entries-2.new.progress
-    c.in_ok-enclosing.ensures.same c.new.ensures c.new-3.ensures.items c.new-4.ensures c.as_slice.ensures.value c.as_slice-2.ensures.value c.in_ok-put_entries.ensures c.in_ok-put_entries-2.ensures)
+    (shown_all c.args.base c.in_ok-enclosing.enclosing c.args.code.now c.args.first.now c.args.second.now _ c.put_entries.new.progress c.put_entries-2.new.progress
+    c.in_ok-enclosing.ensures.same c.new.ensures c.new-3.ensures.items c.new-4.ensures c.in_ok-put_entries.ensures c.in_ok-put_entries-2.ensures)
     c.of.ensures
