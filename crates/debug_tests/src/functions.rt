@@ -1,7 +1,7 @@
 //! Functions and function symbols by address (`func_flatten`) with ample memory, many of them, and the sizes of what is held by the
 //! million.
 ghost use Rattle.std.specs.Prelude.{◌≡◌, ℕ, ◌<◌, ◌≤◌, ◌^◌, true, false, [], map, length, IfOk};
-ghost use Rattle.step_maps.specs.Stepping.{RisesFrom};
+ghost use Rattle.sym_edges.specs.Rising.{RisesFrom};
 ghost use Rattle.die_walk.specs.EntryTable.{DieFields};
 ghost use Rattle.die_names.specs.UnitEntries.{ArePaired, counts};
 

@@ -6,7 +6,8 @@ use Rattle.std.proofs.lemmas.Option.{none-some, slice_get-get_or}
 use Rattle.std.proofs.lemmas.Bool.{cond-false, ne_eqb}
 use Rattle.std.proofs.lemmas.List.{append_assoc, take-append-drop, length-append}
 use Rattle.std.proofs.lemmas.List.Folds.{find-append}
-use Rattle.step_maps.specs.Stepping.{RisesFrom}
+use Rattle.sym_edges.specs.Rising.{RisesFrom}
+use Rattle.sym_edges.proofs.RisingLemmas.{rises_lower}
 use Rattle.die_walk.specs.EntryTable.{DieFields}
 use Rattle.die_names.specs.declared.finding.Standing.{Standing}
 use Rattle.die_names.specs.declared.unit_read.UnitRead.{UnitRead}
@@ -72,13 +73,9 @@ units_avoided place first (u ∷ units) a =
     ∙ ap (λ o. option_or o (among place (first + 1) units)) (dies_avoided place first 0 u.die.dies (avoids_left place (dies_places u.die.dies) (places units) a))
     ∙ units_avoided place (first + 1) units (avoids_right place (dies_places u.die.dies) (places units) a)
 
-weaken : (low high : ℕ) (xs : List ℕ) → low ≤ high → RisesFrom high xs → RisesFrom low xs
-weaken low high [] le rises = tt
-weaken low high (x ∷ xs) le rises = (let first : high ≤ x = rises.0 in omega arith, rises.1)
-
 rises_right : (low : ℕ) (xs ys : List ℕ) → RisesFrom low (xs ++ ys) → RisesFrom low ys
 rises_right low [] ys rises = rises
-rises_right low (x ∷ xs) ys rises = weaken low (x + 1) ys (let first : low ≤ x = rises.0 in omega arith) (rises_right (x + 1) xs ys rises.1)
+rises_right low (x ∷ xs) ys rises = rises_lower (x + 1) low ys (let first : low ≤ x = rises.0 in omega arith) (rises_right (x + 1) xs ys rises.1)
 
 rises_left : (low : ℕ) (xs ys : List ℕ) → RisesFrom low (xs ++ ys) → RisesFrom low xs
 rises_left low [] ys rises = tt

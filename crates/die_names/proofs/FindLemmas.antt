@@ -1,60 +1,17 @@
 -- A search among entries whose places rise.
 use Rattle.std.proofs.Common.{◌≡◌, ◌<◌, ◌≤◌, ◌+◌, ℕ, zero, suc, true, false, eqb, ltb, List, [], ◌∷◌, map, length, get_or, Option, None, Some, refl, sym, ap, ◌∙◌, arith, ⊎_elim}
 use Rattle.std.specs.List.{find, slice_get}
-use Rattle.std.specs.List.Sorted.{IsNonDecreasingBy, IsPartitionPoint}
+use Rattle.std.specs.List.Sorted.{IsPartitionPoint}
 use Rattle.std.specs.Option.{option_map}
 use Rattle.std.proofs.lemmas.Bool.{cond-true, cond-false, eq-eqb, ne_eqb, ltb-true, ltb-false, cases_lt}
-use Rattle.std.proofs.lemmas.List.{get_or-map, length-map}
-use Rattle.step_maps.specs.Stepping.{RisesFrom}
+use Rattle.sym_edges.specs.Rising.{RisesFrom}
+use Rattle.sym_edges.proofs.RisingLemmas.{ordered_by}
 use Rattle.die_walk.specs.EntryTable.{DieFields}
 use Rattle.die_names.specs.UnitEntries.{Placed, unit_entries}
 use Rattle.die_names.specs.Finding.{is_at, found_in, Before}
 
 abbrev pub dies_places : List DieFields → List ℕ
 dies_places dies = map (λ (d : DieFields). d.at) dies
-
--- numbers that rise are in order at any two places
-rises_above : (low : ℕ) (xs : List ℕ) → RisesFrom low xs → (j : ℕ) → j < length xs → low ≤ get_or xs j 0
-rises_above low [] rising j there = absurd (omega arith)
-rises_above low (x ∷ xs) rising zero there = rising.0
-rises_above low (x ∷ xs) rising (suc j) there =
-    let later : x + 1 ≤ get_or xs j 0 = rises_above (x + 1) xs rising.1 j (omega arith) in
-    let first : low ≤ x = rising.0 in
-    omega arith
-
-rises_apart : (low : ℕ) (xs : List ℕ) → RisesFrom low xs → (i j : ℕ) → i < j → j < length xs → get_or xs i 0 < get_or xs j 0
-rises_apart low [] rising i j below there = absurd (omega arith)
-rises_apart low (x ∷ xs) rising i zero below there = absurd (omega arith)
-rises_apart low (x ∷ xs) rising zero (suc j) below there =
-    let later : x + 1 ≤ get_or xs j 0 = rises_above (x + 1) xs rising.1 j (omega arith) in
-    omega arith
-rises_apart low (x ∷ xs) rising (suc i) (suc j) below there =
-    rises_apart (x + 1) xs rising.1 i j (omega arith) (omega arith)
-
-place_at : (dies : List DieFields) (k : ℕ) (d : DieFields) → k < length dies → (get_or dies k d).at ≡ get_or (dies_places dies) k 0
-place_at dies k d there = sym (get_or-map (λ (c : DieFields). c.at) dies k d 0 there)
-
-places_apart : (dies : List DieFields) → RisesFrom 0 (dies_places dies) → (i j : ℕ) (d e : DieFields) → i < j → j < length dies → (get_or dies i d).at < (get_or dies j e).at
-places_apart dies rising i j d e below there =
-    let apart = rises_apart 0 (dies_places dies) rising i j below (rw length-map there) in
-    let first = place_at dies i d (omega arith) in
-    let second = place_at dies j e there in
-    omega arith
-
-places_le : (dies : List DieFields) → RisesFrom 0 (dies_places dies) → (i j : ℕ) (d e : DieFields) → i ≤ j → j < length dies → (get_or dies i d).at ≤ (get_or dies j e).at
-places_le dies rising i j d e order there =
-    ⊎_elim
-    (λ below. let apart = places_apart dies rising i j d e below there in omega arith)
-    (λ same.
-    let here : i ≡ j = omega arith in
-    let alike = ap (λ (n : ℕ). get_or (dies_places dies) n 0) here in
-    let first = place_at dies i d (omega arith) in
-    let second = place_at dies j e there in
-    omega arith)
-    (cases_lt i j)
-
-pub places_in_order : (dies : List DieFields) → RisesFrom 0 (dies_places dies) → IsNonDecreasingBy (λ (c : DieFields). c.at) dies
-places_in_order dies rising i j d order there = places_le dies rising i j d d order there
 
 pub before_by : (place count : ℕ) (dies : List DieFields) → count ≤ length dies → IsPartitionPoint (λ (c : DieFields). ltb c.at place ≡ true) (λ (c : DieFields). ltb c.at place ≡ false) dies count → Before place count dies
 before_by place count dies within point = record {
@@ -98,7 +55,7 @@ die_other place count unit dies d rising h there other =
     (λ under. let less = h.below j e under in absurd (omega arith))
     (λ from.
     let more : place < (get_or dies count d).at = lt_of_le_ne (h.above count d (omega arith) there) other in
-    let later = places_le dies rising count j d e from inside in
+    let later = ordered_by (λ (c : DieFields). c.at) dies rising count j d e from inside in
     absurd (omega arith))
     (cases_lt j count)))
 

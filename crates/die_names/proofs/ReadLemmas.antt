@@ -6,7 +6,7 @@ use Rattle.abbrev_units.specs.declared.unit.UnitPart.TheVariants.{Read, Passed, 
 use Rattle.abbrev_units.specs.DebugSections.{DebugSections}
 use Rattle.abbrev_units.specs.Units.{units_in}
 use Rattle.die_walk.specs.EntryTable.{DieFields}
-use Rattle.step_maps.specs.Stepping.{RisesFrom}
+use Rattle.sym_edges.specs.Rising.{RisesFrom}
 use Rattle.die_names.specs.declared.unit_read.UnitRead.{UnitRead}
 use Rattle.die_names.specs.UnitEntries.{places, ArePairs, AreRead}
 use Rattle.die_names.specs.UnitPlaces.{RisesTo, BodyInside, Follow, with_read, read_units, AreTables}

@@ -3,7 +3,7 @@ use Rattle.std.specs.Prelude.{◌≡◌, ℕ, ◌+◌, ◌<◌, ◌^◌, ◌==�
 use Rattle.std.specs.List.{find, slice_get}
 use Rattle.std.specs.Option.{option_map}
 use Rattle.sym_edges.specs.Addresses.{Range}
-use Rattle.step_maps.specs.Stepping.{RisesFrom}
+use Rattle.sym_edges.specs.Rising.{RisesFrom}
 use Rattle.die_walk.specs.EntryTable.{DieFields}
 use Rattle.die_names.specs.declared.unit_read.UnitRead.{UnitRead}
 

@@ -1,7 +1,7 @@
 //! The entry that begins at a place.
 ghost use Rattle.std.specs.Prelude.{◌≡◌, ◌+◌, ◌<◌, ◌^◌, ℕ, map, length, IfSome};
 ghost use Rattle.std.specs.List.{find};
-ghost use Rattle.step_maps.specs.Stepping.{RisesFrom};
+ghost use Rattle.sym_edges.specs.Rising.{RisesFrom};
 ghost use Rattle.die_walk.specs.EntryTable.{DieFields};
 ghost use Rattle.die_names.specs.UnitEntries.{places, unit_entries, entries_from, entry_at};
 ghost use Rattle.die_names.specs.Finding.{is_at, found_in, found_from, found, moved, Before, IsInside};

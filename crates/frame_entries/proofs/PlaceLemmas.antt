@@ -18,7 +18,9 @@ use Rattle.frame_entries.specs.declared.listing.Mark.TheVariants.{Terminator, Pa
 use Rattle.frame_entries.specs.declared.cie.Cie.{Cie}
 use Rattle.frame_entries.specs.Raw.{Raw}
 use Rattle.frame_entries.specs.Listing.{or_length, is_eh, entry_at, mark_behind, mark_at, listed_from, listed_in, listed_at, listed_by}
-use Rattle.frame_entries.specs.Climbs.{Climbs, places_of}
+use Rattle.frame_entries.specs.CiePlaces.{places_of}
+use Rattle.sym_edges.specs.Rising.{RisesFrom}
+use Rattle.sym_edges.proofs.RisingLemmas.{rises_lower}
 use Rattle.frame_entries.specs.FrameEntries.{is_cie, cie_at, cies_of}
 
 -- how far a mark goes
@@ -120,64 +122,60 @@ mark_starts which c =
 abbrev pub starts_of : List Raw → List ℕ
 starts_of raws = map (λ raw. raw.at) raws
 
-climbs_lower : (low high : ℕ) (xs : List ℕ) → low ≤ high → Climbs high xs → Climbs low xs
-climbs_lower low high [] below rising = tt
-climbs_lower low high (x ∷ xs) below rising = let first : high ≤ x = rising.0 in (omega arith, rising.1)
+abbrev pub PlacesRise : ℕ → Result (List Raw) (Located FrameKind) → Type 0
+PlacesRise low (Ok raws) = RisesFrom low (starts_of raws)
+PlacesRise low (Err fault) = Unit {0}
 
-abbrev pub ClimbsFrom : ℕ → Result (List Raw) (Located FrameKind) → Type 0
-ClimbsFrom low (Ok raws) = Climbs low (starts_of raws)
-ClimbsFrom low (Err fault) = Unit {0}
-
-from_lower : (low high : ℕ) (later : Result (List Raw) (Located FrameKind)) → low ≤ high → ClimbsFrom high later → ClimbsFrom low later
-from_lower low high (Ok raws) below rising = climbs_lower low high (starts_of raws) below rising
+from_lower : (low high : ℕ) (later : Result (List Raw) (Located FrameKind)) → low ≤ high → PlacesRise high later → PlacesRise low later
+from_lower low high (Ok raws) below rising = rises_lower high low (starts_of raws) below rising
 from_lower low high (Err fault) below rising = tt
 
-climbs_behind : (raw : Raw) (later : Result (List Raw) (Located FrameKind)) (low high : ℕ) → low + 1 ≤ high → raw.at ≡ low → ClimbsFrom high later → ClimbsFrom low (listed_from (Listed raw) later)
-climbs_behind raw (Ok raws) low high below here rising =
-    (omega arith, climbs_lower (raw.at + 1) high (starts_of raws) (omega arith) rising)
-climbs_behind raw (Err fault) low high below here rising = tt
+rises_behind : (raw : Raw) (later : Result (List Raw) (Located FrameKind)) (low high : ℕ) → low + 1 ≤ high → raw.at ≡ low → PlacesRise high later → PlacesRise low (listed_from (Listed raw) later)
+rises_behind raw (Ok raws) low high below here rising =
+    (omega arith, rises_lower high (raw.at + 1) (starts_of raws) (omega arith) rising)
+rises_behind raw (Err fault) low high below here rising = tt
 
-climbs_mark : (mark : Mark) (later : Result (List Raw) (Located FrameKind)) (low high : ℕ) → low + 1 ≤ high → MarkStarts low mark → ClimbsFrom high later → ClimbsFrom low (listed_from mark later)
-climbs_mark Terminator later low high below here rising = tt
-climbs_mark Padding later low high below here rising = from_lower low high later (omega arith) rising
-climbs_mark (Listed raw) later low high below here rising = climbs_behind raw later low high below here rising
+rises_mark : (mark : Mark) (later : Result (List Raw) (Located FrameKind)) (low high : ℕ) → low + 1 ≤ high → MarkStarts low mark → PlacesRise high later → PlacesRise low (listed_from mark later)
+rises_mark Terminator later low high below here rising = tt
+rises_mark Padding later low high below here rising = from_lower low high later (omega arith) rising
+rises_mark (Listed raw) later low high below here rising = rises_behind raw later low high below here rising
 
-climbs_marks : (reading : Result (Mark × Ahead) (Located FrameKind)) (c : Ahead) (later : Ahead → Result (List Raw) (Located FrameKind)) → Passes 4 c reading → Starts c.at reading → ((d : Ahead) → ClimbsFrom d.at (later d)) → ClimbsFrom c.at (reading >>= λ mark. listed_from mark.0 (later mark.1))
-climbs_marks (Ok mark) c later goes here rising =
-    climbs_mark mark.0 (later mark.1) c.at mark.1.at (omega (arith, goes.0, goes.1)) here (rising mark.1)
-climbs_marks (Err fault) c later goes here rising = tt
+rises_marks : (reading : Result (Mark × Ahead) (Located FrameKind)) (c : Ahead) (later : Ahead → Result (List Raw) (Located FrameKind)) → Passes 4 c reading → Starts c.at reading → ((d : Ahead) → PlacesRise d.at (later d)) → PlacesRise c.at (reading >>= λ mark. listed_from mark.0 (later mark.1))
+rises_marks (Ok mark) c later goes here rising =
+    rises_mark mark.0 (later mark.1) c.at mark.1.at (omega (arith, goes.0, goes.1)) here (rising mark.1)
+rises_marks (Err fault) c later goes here rising = tt
 
-either_climbs : (low : ℕ) (test : Bool) (given other : Result (List Raw) (Located FrameKind)) → ClimbsFrom low given → ClimbsFrom low other → ClimbsFrom low (cond test given other)
-either_climbs low true given other first second = first
-either_climbs low false given other first second = second
+either_rises : (low : ℕ) (test : Bool) (given other : Result (List Raw) (Located FrameKind)) → PlacesRise low given → PlacesRise low other → PlacesRise low (cond test given other)
+either_rises low true given other first second = first
+either_rises low false given other first second = second
 
-listed_climbs : (n : ℕ) (which : Sect) (c : Ahead) → ClimbsFrom c.at (listed_in n which c)
+listed_rises : (n : ℕ) (which : Sect) (c : Ahead) → PlacesRise c.at (listed_in n which c)
 unfolding listed_in
-listed_climbs zero which c = tt
-listed_climbs (suc n) which c =
-    either_climbs c.at (nat_eq (length c.bytes) 0) (Ok []) _ tt
-    (climbs_marks (mark_at which c) c (λ d. listed_in n which d) (mark_passes which c) (mark_starts which c) (λ d. listed_climbs n which d))
+listed_rises zero which c = tt
+listed_rises (suc n) which c =
+    either_rises c.at (nat_eq (length c.bytes) 0) (Ok []) _ tt
+    (rises_marks (mark_at which c) c (λ d. listed_in n which d) (mark_passes which c) (mark_starts which c) (λ d. listed_rises n which d))
 
-climbs_chosen : (test : Bool) (low : ℕ) (raw : Raw) (chosen : List Raw) → low ≤ raw.at → Climbs (raw.at + 1) (starts_of chosen) → Climbs low (starts_of (cond test (raw ∷ chosen) chosen))
-climbs_chosen true low raw chosen first rising = (first, rising)
-climbs_chosen false low raw chosen first rising = climbs_lower low (raw.at + 1) (starts_of chosen) (omega arith) rising
+rises_chosen : (test : Bool) (low : ℕ) (raw : Raw) (chosen : List Raw) → low ≤ raw.at → RisesFrom (raw.at + 1) (starts_of chosen) → RisesFrom low (starts_of (cond test (raw ∷ chosen) chosen))
+rises_chosen true low raw chosen first rising = (first, rising)
+rises_chosen false low raw chosen first rising = rises_lower (raw.at + 1) low (starts_of chosen) (omega arith) rising
 
-climbs_filter : (test : Raw → Bool) (low : ℕ) (raws : List Raw) → Climbs low (starts_of raws) → Climbs low (starts_of (filter test raws))
-climbs_filter test low [] rising = tt
-climbs_filter test low (raw ∷ raws) rising =
-    climbs_chosen (test raw) low raw (filter test raws) rising.0 (climbs_filter test (raw.at + 1) raws rising.1)
+rises_filter : (test : Raw → Bool) (low : ℕ) (raws : List Raw) → RisesFrom low (starts_of raws) → RisesFrom low (starts_of (filter test raws))
+rises_filter test low [] rising = tt
+rises_filter test low (raw ∷ raws) rising =
+    rises_chosen (test raw) low raw (filter test raws) rising.0 (rises_filter test (raw.at + 1) raws rising.1)
 
-climbs_cies : (low : ℕ) (raws : List Raw) → Climbs low (starts_of raws) → Climbs low (places_of (map cie_at raws))
-climbs_cies low [] rising = tt
-climbs_cies low (raw ∷ raws) rising = (rising.0, climbs_cies (raw.at + 1) raws rising.1)
+rises_cies : (low : ℕ) (raws : List Raw) → RisesFrom low (starts_of raws) → RisesFrom low (places_of (map cie_at raws))
+rises_cies low [] rising = tt
+rises_cies low (raw ∷ raws) rising = (rising.0, rises_cies (raw.at + 1) raws rising.1)
 
-pub cies_climb : (which : Sect) (c : Ahead) (raws : List Raw) (cies : List Cie) → listed_at which c ≡ Ok raws → cies ≡ cies_of which raws → Climbs 0 (places_of cies)
+pub cies_rise : (which : Sect) (c : Ahead) (raws : List Raw) (cies : List Cie) → listed_at which c ≡ Ok raws → cies ≡ cies_of which raws → RisesFrom 0 (places_of cies)
 unfolding listed_at cies_of
-cies_climb which c raws cies is made =
-    let rising : Climbs c.at (starts_of raws) = subst (ClimbsFrom c.at) is (listed_climbs (length c.bytes) which c) in
-    let chosen = climbs_filter (is_cie which) c.at raws rising in
-    let cie_places = climbs_cies c.at (filter (is_cie which) raws) chosen in
-    subst (λ (xs : List Cie). Climbs 0 (places_of xs)) (sym made) (climbs_lower 0 c.at _ (omega arith) cie_places)
+cies_rise which c raws cies is made =
+    let rising : RisesFrom c.at (starts_of raws) = subst (PlacesRise c.at) is (listed_rises (length c.bytes) which c) in
+    let chosen = rises_filter (is_cie which) c.at raws rising in
+    let cie_places = rises_cies c.at (filter (is_cie which) raws) chosen in
+    subst (λ (xs : List Cie). RisesFrom 0 (places_of xs)) (sym made) (rises_lower c.at 0 _ (omega arith) cie_places)
 
 -- the list of what is ahead, whatever number of turns is allowed
 marks_same : (reading : Result (Mark × Ahead) (Located FrameKind)) (c : Ahead) (f g : Ahead → Result (List Raw) (Located FrameKind)) → Passes 4 c reading → ((d : Ahead) → length d.bytes + 4 ≤ length c.bytes → f d ≡ g d) → (reading >>= λ mark. listed_from mark.0 (f mark.1)) ≡ (reading >>= λ mark. listed_from mark.0 (g mark.1))

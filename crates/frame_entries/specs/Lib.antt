@@ -6,5 +6,5 @@ pub mod Cies
 pub mod FdeFields
 pub mod FrameEntries
 pub mod SharedCies
-pub mod Climbs
+pub mod CiePlaces
 pub mod KnownEncodings

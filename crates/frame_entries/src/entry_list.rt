@@ -27,13 +27,14 @@ impl<'a> Model for EntryList<'a> {
     ghost use Rattle.std.specs.Prelude.{List, map};
     ghost use Rattle.frame_entries.specs.declared.description.Entry.{Entry};
     ghost use Rattle.frame_entries.specs.FrameEntries.{entry_of};
-    ghost use Rattle.frame_entries.specs.Climbs.{Climbs, places_of};
+    ghost use Rattle.sym_edges.specs.Rising.{RisesFrom};
+    ghost use Rattle.frame_entries.specs.CiePlaces.{places_of};
 
     ghost Value = { List Entry };
 
     ghost view = { λ l. map (entry_of l.which l.address l.cies.items) l.fdes.items };
 
-    ghost invariant = { λ l. Climbs 0 (places_of l.cies.items) };
+    ghost invariant = { λ l. RisesFrom 0 (places_of l.cies.items) };
 }
 
 impl<'a> EntryList<'a> {
@@ -73,7 +74,7 @@ fn keep_fdes(raws: &mut Vec<RawEntry<'_>>, which: Sect)
 /// The frame description entries of a section, in their order, or its first fault (DWARF 5, 6.4.1;
 /// LSB Core, ".eh_frame"). Each has what it says, or the first reason to leave it out. A section of
 /// more than 2^29 bytes, which no file that is dumped has, wants more memory than there is.
-#[tactic(auto, using(crate::proofs::PlaceLemmas::cies_climb), unfolding(crate::specs::FrameEntries::frame_entries, crate::specs::FrameEntries::entries_of))]
+#[tactic(auto, using(crate::proofs::PlaceLemmas::cies_rise), unfolding(crate::specs::FrameEntries::frame_entries, crate::specs::FrameEntries::entries_of))]
 pub fn entries<'a>(
     alloc: Global,
     part: Part<'a>,

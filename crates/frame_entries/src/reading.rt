@@ -2,7 +2,8 @@
 ghost use Rattle.std.specs.Prelude.{◌≡◌, IfOk};
 ghost use Rattle.std.specs.Option.{option_copied};
 ghost use Rattle.frame_entries.specs.FrameEntries.{is_cie, cie_at, cies_of, cie_place, cie_from, cie_named, entry_of};
-ghost use Rattle.frame_entries.specs.Climbs.{Climbs, places_of, Before};
+ghost use Rattle.sym_edges.specs.Rising.{RisesFrom};
+ghost use Rattle.frame_entries.specs.CiePlaces.{places_of, Before};
 
 use crate::cie::{Cie, read_cie};
 use crate::description::{Body, Entry, read_body};
@@ -58,7 +59,7 @@ fn cie_place(which: Sect, raw: &RawEntry<'_>) -> Option<usize>
 
 /// How many CIEs start before a place, by halves.
 fn count_before(cies: &[Cie<'_>], place: usize) -> usize
-    requires { Climbs 0 (places_of cies.now) }
+    requires { RisesFrom 0 (places_of cies.now) }
     ensures { Before place result cies.now }
 {
     cies.partition_point(|cie| cie.at < place)
@@ -67,7 +68,7 @@ fn count_before(cies: &[Cie<'_>], place: usize) -> usize
 /// The CIE that starts at a place.
 #[tactic(auto, using(crate::proofs::FindLemmas::cie_found, crate::proofs::FindLemmas::cie_other, crate::proofs::FindLemmas::cie_none))]
 fn find_cie<'c, 'a>(cies: &'c [Cie<'a>], place: usize) -> Option<&'c Cie<'a>>
-    requires { Climbs 0 (places_of cies.now) }
+    requires { RisesFrom 0 (places_of cies.now) }
     ensures { option_copied result ≡ cie_from cies.now place }
 {
     let count = count_before(cies, place);
@@ -84,7 +85,7 @@ fn find_cie<'c, 'a>(cies: &'c [Cie<'a>], place: usize) -> Option<&'c Cie<'a>>
 /// The CIE of an FDE.
 #[tactic(auto, unfolding(crate::specs::FrameEntries::cie_named))]
 fn name_cie<'c, 'a>(which: Sect, cies: &'c [Cie<'a>], raw: &RawEntry<'a>) -> Option<&'c Cie<'a>>
-    requires { Climbs 0 (places_of cies.now) }
+    requires { RisesFrom 0 (places_of cies.now) }
     ensures { option_copied result ≡ cie_named which cies.now raw.now }
 {
     match cie_place(which, raw) {
@@ -96,7 +97,7 @@ fn name_cie<'c, 'a>(which: Sect, cies: &'c [Cie<'a>], raw: &RawEntry<'a>) -> Opt
 /// Reads an FDE.
 #[tactic(auto, unfolding(crate::specs::FrameEntries::entry_of, crate::specs::FrameEntries::address_at))]
 pub fn read_entry<'a>(which: Sect, address: u64, cies: &[Cie<'a>], raw: &RawEntry<'a>) -> Entry<'a>
-    requires { Climbs 0 (places_of cies.now) }
+    requires { RisesFrom 0 (places_of cies.now) }
     ensures { result ≡ entry_of which address cies.now raw.now }
 {
     let base = address.wrapping_add(u64::from(raw.at) + 8);

@@ -12,7 +12,9 @@ use Rattle.step_maps.specs.declared.stretch.Stretch.{Stretch}
 use Rattle.step_maps.specs.declared.stretch.Cover.{Cover}
 use Rattle.step_maps.specs.declared.stretch.FirstItem.{FirstItem}
 use Rattle.step_maps.specs.Runs.{IsRuns, AreRuns, Follows, AreMaximal, between}
-use Rattle.step_maps.specs.Stepping.{Stepping, RisesFrom, value_at}
+use Rattle.sym_edges.specs.Rising.{RisesFrom}
+use Rattle.sym_edges.proofs.RisingLemmas.{rises_lower, rises_above}
+use Rattle.step_maps.specs.Stepping.{Stepping, value_at}
 use Rattle.step_maps.specs.Covers.{AreStretches, reaches, first_at, index_at, is_shared, first_item, cover_run, AreMarked, AreCovers}
 use Rattle.step_maps.proofs.MaximalLemmas.{maximal}
 use Rattle.step_maps.proofs.SteppingLemmas.{Point}
@@ -210,10 +212,6 @@ abbrev BeginsFrom : ℕ → List Cover → Type 0
 BeginsFrom low [] = Unit {0}
 BeginsFrom low (c ∷ covers) = low ≤ c.first
 
-rises_lower : (low high : ℕ) (xs : List ℕ) → low ≤ high → RisesFrom high xs → RisesFrom low xs
-rises_lower low high [] less rises = tt
-rises_lower low high (x ∷ xs) less rises = (omega (arith, rises.0), rises.1)
-
 rise_from : (low : ℕ) (covers : List Cover) → BeginsFrom low covers → AreRuns (map cover_run covers) → RisesFrom low (shared_starts covers)
 rise_from low [] begins runs = tt
 rise_from low (c ∷ covers) begins runs = go c.shared (rise_from (c.first + 1) covers (next covers runs.1) runs.2)
@@ -224,7 +222,7 @@ rise_from low (c ∷ covers) begins runs = go c.shared (rise_from (c.first + 1) 
 
     go : (b : Bool) → RisesFrom (c.first + 1) (shared_starts covers) → RisesFrom low (if b then c.first ∷ shared_starts covers else shared_starts covers)
     go true later = (begins, later)
-    go false later = rises_lower low (c.first + 1) (shared_starts covers) (omega (arith, begins)) later
+    go false later = rises_lower (c.first + 1) low (shared_starts covers) (omega (arith, begins)) later
 
 begins_anywhere : (covers : List Cover) → BeginsFrom 0 covers
 begins_anywhere [] = tt
@@ -333,11 +331,6 @@ none_past (a ∷ addresses) s past = ap (λ b. b || reaches_any addresses s) (be
     behind : (a : ℕ) → s.last < a → reaches s a ≡ false
     behind a out = grind (arith, nat_tests)
 
-rises_to : (low : ℕ) (xs : List ℕ) → RisesFrom low xs → (k : ℕ) → k < length xs → low ≤ get_or xs k 0
-rises_to low [] rises k h = absurd (omega arith)
-rises_to low (x ∷ xs) rises zero h = rises.0
-rises_to low (x ∷ xs) rises (suc k) h = (let up : x + 1 ≤ get_or xs k 0 = rises_to (x + 1) xs rises.1 k (omega arith) in omega (arith, rises.0, up))
-
 reached_at : (low : ℕ) (addresses : List ℕ) (s : Stretch) (j : ℕ) → RisesFrom low addresses → get_or addresses j 0 ≤ s.last → ((k : ℕ) → j < k → k < length addresses → s.last < get_or addresses k 0) → j < length addresses → nat_le s.first (get_or addresses j 0) ≡ reaches_any addresses s
 reached_at low [] s j rises here past inside = absurd (omega arith)
 reached_at low (a ∷ addresses) s zero rises here past inside =
@@ -351,7 +344,7 @@ reached_at low (a ∷ addresses) s (suc j) rises here past inside =
     let is : nat_le s.first (get_or addresses j 0) ≡ reaches_any addresses s = reached_at (a + 1) addresses s j rises.1 here (λ k h g. past (suc k) (omega arith) (omega arith)) (omega arith) in
     is ∙ later (reaches s a) (reaches_any addresses s)
     (λ has. (let from : s.first ≤ a = grind (arith, nat_tests) in
-    let up : a + 1 ≤ get_or addresses j 0 = rises_to (a + 1) addresses rises.1 j (omega arith) in
+    let up : a + 1 ≤ get_or addresses j 0 = rises_above (a + 1) addresses rises.1 j 0 (omega arith) in
     let test : nat_le s.first (get_or addresses j 0) ≡ true = grind (arith, nat_tests) in sym is ∙ test))
   where
     later : (b rest : Bool) → (b ≡ true → rest ≡ true) → rest ≡ (b || rest)

@@ -3,7 +3,7 @@ use Rattle.std.proofs.Common.{◌≡◌, ℕ, zero, suc, ◌+◌, ◌<◌, ◌�
 use Rattle.std.proofs.lemmas.Bool.Decides.{nat_tests}
 use Rattle.std.specs.List.{slice_get, slice_index_or, slice_set}
 use Rattle.step_maps.specs.Runs.{IsRuns, AreRuns, between, has, value_in}
-use Rattle.step_maps.specs.Stepping.{RisesFrom}
+use Rattle.sym_edges.specs.Rising.{RisesFrom}
 use Rattle.step_maps.proofs.SteppingLemmas.{Point}
 use Rattle.std.proofs.lemmas.List.{get_or_default}
 use Rattle.line_program.specs.LineMaps.{LineMap, numbered_line, named_line, NoStopBetween, AreDistinct}

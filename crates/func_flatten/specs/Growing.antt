@@ -1,7 +1,7 @@
 -- No public clause cites this: runs that are made from one stop to the next.
 use Rattle.std.specs.Prelude.{◌≡◌, ℕ, ◌+◌, ◌<◌, ◌≤◌, Bool, ◌&&◌, ◌==◌, if◌then◌else◌, map, List, [], ◌∷◌, Option, None, Some}
 use Rattle.step_maps.specs.Runs.{Run, IsRuns, between}
-use Rattle.step_maps.specs.Stepping.{RisesFrom}
+use Rattle.sym_edges.specs.Rising.{RisesFrom}
 use Rattle.line_program.specs.LineMaps.{NoStopBetween}
 use Rattle.func_flatten.specs.declared.line_run.LineRun.{LineRun}
 use Rattle.func_flatten.specs.LineRuns.{number_run}

@@ -2,7 +2,8 @@
 ghost use Rattle.std.specs.Prelude.{◌≡◌, ◌<◌, ◌^◌, ℕ, None, [], map, length, vec_len, IfOk};
 ghost use Rattle.std.specs.List.{filter};
 ghost use Rattle.step_maps.specs.Covers.{first_item, AreCovers};
-ghost use Rattle.step_maps.specs.Stepping.{RisesFrom, value_at};
+ghost use Rattle.sym_edges.specs.Rising.{RisesFrom};
+ghost use Rattle.step_maps.specs.Stepping.{value_at};
 ghost use Rattle.func_flatten.specs.Collecting.{all_functions, AreFit, Collects};
 ghost use Rattle.func_flatten.specs.Classes.{shared_starts, reaches_any, shared_in, marked, AreNamedCovers};
 

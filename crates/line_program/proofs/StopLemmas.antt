@@ -2,22 +2,15 @@
 use Rattle.std.proofs.Common.{◌≡◌, ◌≢◌, ◌<◌, ◌≤◌, ◌^◌, ℕ, zero, suc, ◌+◌, ◌==◌, Bool, true, false, cond, List, [], ◌∷◌, length, get_or, Some, None, refl, sym, ◌∙◌, ap, subst, arith}
 use Rattle.std.specs.Option.{IfSome}
 use Rattle.std.proofs.lemmas.Bool.Decides.{nat_tests}
-use Rattle.step_maps.specs.Stepping.{Stepping, value_at, RisesFrom, last_from, IsStepping}
+use Rattle.sym_edges.specs.Rising.{RisesFrom}
+use Rattle.sym_edges.proofs.RisingLemmas.{rises_apart}
+use Rattle.step_maps.specs.Stepping.{Stepping, value_at, last_from, IsStepping}
 use Rattle.step_maps.proofs.PieceLemmas.{start_low}
 use Rattle.step_maps.proofs.SteppingLemmas.{held_at_index}
 use Rattle.line_program.specs.declared.path_line.PathLine.{PathLine}
 use Rattle.std.proofs.lemmas.List.{length-map}
 use Rattle.line_program.specs.LineMaps.{LineMap, no_line, shown, numbered_line}
 use Rattle.line_program.specs.Numbering.{picked, IsLineMap}
-
--- a stop is below the next one
-rises : (low : ℕ) (stops : List ℕ) (i j : ℕ) → RisesFrom low stops → j ≡ i + 1 → j < length stops → get_or stops i 0 < get_or stops j 0
-rises low [] i j up next inside = absurd (omega arith)
-rises low (s ∷ stops) i zero up next inside = absurd (omega arith)
-rises low (s ∷ []) i (suc j) up next inside = absurd (omega arith)
-rises low (s ∷ t ∷ stops) zero (suc zero) up next inside = omega (arith, up.1.0)
-rises low (s ∷ t ∷ stops) zero (suc (suc j)) up next inside = absurd (omega arith)
-rises low (s ∷ t ∷ stops) (suc i) (suc j) up next inside = rises (s + 1) (t ∷ stops) i j up.1 (omega arith) (omega arith)
 
 up_to_last : (from low : ℕ) (stops : List ℕ) (i : ℕ) → RisesFrom from stops → i < length stops → get_or stops i 0 ≤ last_from low stops
 up_to_last from low [] i up inside = absurd (omega arith)
@@ -33,7 +26,7 @@ values_there lines values i stepping is inside = omega (arith, stepping.paired, 
 pub stop_line : (lines : Stepping PathLine) (values : List PathLine) (i : ℕ) (d : PathLine) → IsStepping lines.stops lines.values → values ≡ lines.values → i < length lines.stops → get_or values i d ≡ value_at no_line lines (get_or lines.stops i 0)
 stop_line lines values i d stepping is inside =
     ap (λ l. get_or l i d) is
-    ∙ sym (held_at_index no_line d lines.stops lines.values i (get_or lines.stops i 0) stepping inside (omega arith) (λ more. rises 0 lines.stops i (i + 1) stepping.rising refl more))
+    ∙ sym (held_at_index no_line d lines.stops lines.values i (get_or lines.stops i 0) stepping inside (omega arith) (λ more. rises_apart 0 lines.stops stepping.rising i (i + 1) 0 0 (omega arith) more))
 
 named_by : (t : Bool) (v : PathLine) (bound : ℕ) → (v.line == 0) ≡ t → (v.line ≢ 0 → v.path < bound) → IfSome {T = ℕ × ℕ} (cond t None (Some (v.path, v.line))) (λ line. line.0 < bound)
 named_by true v bound is below = tt

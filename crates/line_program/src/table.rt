@@ -2,7 +2,8 @@
 ghost use Rattle.std.specs.Prelude.{◌≡◌, ℕ, ◌^◌, ◌<◌, [], length, slice_index, Some, IfOk, IfSome};
 ghost use Rattle.std.specs.List.{slice_get};
 ghost use Rattle.range_set.specs.Enclosing.{encloses};
-ghost use Rattle.step_maps.specs.Stepping.{RisesFrom, value_at};
+ghost use Rattle.sym_edges.specs.Rising.{RisesFrom};
+ghost use Rattle.step_maps.specs.Stepping.{value_at};
 ghost use Rattle.line_program.specs.LineMaps.{no_line, shown, numbered_line, numbered_file, AreDistinct, SaysLines};
 ghost use Rattle.line_program.specs.Numbered.{numbered_at};
 

@@ -5,14 +5,15 @@ use Rattle.std.specs.Option.{option_map}
 use Rattle.step_maps.specs.declared.stretch.Stretch.{Stretch}
 use Rattle.step_maps.specs.declared.stretch.FirstItem.{FirstItem}
 use Rattle.step_maps.specs.declared.stretch.Cover.{Cover}
-use Rattle.step_maps.specs.Stepping.{Stepping, held_from, value_at, RisesFrom, last_from, IsStepping}
+use Rattle.sym_edges.specs.Rising.{RisesFrom}
+use Rattle.step_maps.specs.Stepping.{Stepping, held_from, value_at, last_from, IsStepping}
 use Rattle.step_maps.specs.StepRuns.{with_piece}
 use Rattle.step_maps.specs.Runs.{Run, value_in, Follows, AreRuns, between}
 use Rattle.step_maps.specs.Covers.{index_at, first_item, cover_run, AreMarked, AreCovers}
 use Rattle.step_maps.specs.Laying.{laid}
 use Rattle.step_maps.specs.Joining.{is_same_index, with_cover, covers_from}
 use Rattle.step_maps.proofs.SteppingLemmas.{held_before}
-use Rattle.step_maps.proofs.OverlayLemmas.{rises_lower}
+use Rattle.sym_edges.proofs.RisingLemmas.{rises_lower}
 use Rattle.step_maps.proofs.PieceLemmas.{start_low, between_low, between_none, between_same, between_later, piece_above, piece_within}
 use Rattle.step_maps.proofs.FirstLemmas.{first_where_laid, first_index, first_shared}
 

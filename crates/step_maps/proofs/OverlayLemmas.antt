@@ -1,7 +1,9 @@
 use Rattle.std.proofs.Common.{◌≡◌, ℕ, zero, suc, ◌+◌, ◌<◌, ◌≤◌, true, false, cond, nat_le, List, [], ◌∷◌, length, get_or, drop, Option, None, refl, sym, ap, ◌∙◌, subst, inl, inr, arith}
 use Rattle.std.proofs.lemmas.Bool.{cases_lt, le-leb, lt-leb}
 use Rattle.std.proofs.lemmas.List.{drop_more, drop_all}
-use Rattle.step_maps.specs.Stepping.{Stepping, held_from, value_at, RisesFrom, last_from, IsStepping}
+use Rattle.sym_edges.specs.Rising.{RisesFrom}
+use Rattle.sym_edges.proofs.RisingLemmas.{rises_lower}
+use Rattle.step_maps.specs.Stepping.{Stepping, held_from, value_at, last_from, IsStepping}
 use Rattle.step_maps.specs.Overlays.{over}
 use Rattle.step_maps.specs.Places.{IsNextFirst}
 use Rattle.step_maps.specs.declared.stretch.FirstItem.{FirstItem}
@@ -24,10 +26,6 @@ pub record Merges (xs : List ℕ) (x_values : List (Option FirstItem)) (ys : Lis
   pub in_first : i ≤ length xs
   pub in_second : j ≤ length ys
   pub left : Left (wanted xs x_values ys y_values) both (drop i xs) (drop i x_values) (drop j ys) (drop j y_values) x y
-
-pub rises_lower : (low less : ℕ) (xs : List ℕ) → less ≤ low → RisesFrom low xs → RisesFrom less xs
-rises_lower low less [] le rises = tt
-rises_lower low less (x ∷ xs) le rises = (omega arith, rises.1)
 
 rises_higher : (low more : ℕ) (xs : List ℕ) → RisesFrom low xs → (0 < length xs → more ≤ get_or xs 0 0) → RisesFrom more xs
 rises_higher low more [] rises first = tt

@@ -1,7 +1,8 @@
 use Rattle.std.proofs.Common.{◌≡◌, ◌≢◌, ℕ, ◌+◌, ◌<◌, ◌≤◌, Bool, true, false, cond, ◌&&◌, nat_le, nat_lt, if◌then◌else◌, List, [], ◌∷◌, length, Option, None, Some, arith, refl, sym, ap, ◌∙◌, inl, inr}
 use Rattle.std.proofs.lemmas.Bool.{cases_lt, le-leb}
 use Rattle.std.proofs.lemmas.Bool.Decides.{nat_tests}
-use Rattle.step_maps.specs.Stepping.{Stepping, held_from, value_at, RisesFrom, last_from, IsStepping}
+use Rattle.sym_edges.specs.Rising.{RisesFrom}
+use Rattle.step_maps.specs.Stepping.{Stepping, held_from, value_at, last_from, IsStepping}
 use Rattle.step_maps.specs.Runs.{Run, value_in, Follows, AreRuns, IsRuns, between}
 use Rattle.step_maps.specs.StepRuns.{Differ, with_piece, pieces_from, pieces}
 use Rattle.step_maps.proofs.RunLemmas.{if_false, rest_above}

@@ -4,7 +4,9 @@ use Rattle.std.proofs.lemmas.Bool.Decides.{nat_tests}
 use Rattle.std.specs.List.Sorted.{IsNonDecreasingBy, IsPartitionedBy, IsPartitionPoint}
 use Rattle.std.proofs.lemmas.List.Sorted.{IsPartitionedBy-leb}
 use Rattle.std.proofs.lemmas.List.{get_or_default}
-use Rattle.step_maps.specs.Stepping.{held_from, RisesFrom, last_from, IsStepping}
+use Rattle.sym_edges.specs.Rising.{RisesFrom}
+use Rattle.sym_edges.proofs.RisingLemmas.{rises_sorted}
+use Rattle.step_maps.specs.Stepping.{held_from, last_from, IsStepping}
 
 -- one more stop at the end
 pub held_push : {V : Type 0} (before v : V) (stops : List ℕ) (values : List V) (s a : ℕ) → length stops ≡ length values → held_from before (stops ++ s ∷ []) (values ++ v ∷ []) a ≡ cond (nat_le s a) v (held_from before stops values a)
@@ -78,18 +80,6 @@ held_none before [] values a above = refl
 held_none before (s ∷ stops) [] a above = refl
 held_none before (s ∷ stops) (v ∷ values) a above =
     ap (λ b. held_from (cond b v before) stops values a) (lt-leb s a (above 0 0 (omega arith))) ∙ held_none before stops values a (λ k e h. above (suc k) e (omega arith))
-
-stops_from : (low : ℕ) (stops : List ℕ) → RisesFrom low stops → (k d : ℕ) → k < length stops → low ≤ get_or stops k d
-stops_from low [] rises k d h = absurd (omega arith)
-stops_from low (s ∷ stops) rises zero d h = rises.0
-stops_from low (s ∷ stops) rises (suc k) d h = (let up : s + 1 ≤ get_or stops k d = stops_from (s + 1) stops rises.1 k d (omega arith) in omega arith)
-
-rises_sorted : (low : ℕ) (stops : List ℕ) → RisesFrom low stops → IsNonDecreasingBy (λ s. s) stops
-rises_sorted low [] rises i j d up h = absurd (omega arith)
-rises_sorted low (s ∷ stops) rises zero zero d up h = omega arith
-rises_sorted low (s ∷ stops) rises zero (suc j) d up h = (let more : s + 1 ≤ get_or stops j d = stops_from (s + 1) stops rises.1 j d (omega arith) in omega arith)
-rises_sorted low (s ∷ stops) rises (suc i) zero d up h = absurd (omega arith)
-rises_sorted low (s ∷ stops) rises (suc i) (suc j) d up h = rises_sorted (s + 1) stops rises.1 i j d (omega arith) (omega arith)
 
 pub parted : (stops : List ℕ) (a : ℕ) → RisesFrom 0 stops → IsPartitionedBy (λ s. nat_le s a) stops
 parted stops a rises = IsPartitionedBy-leb (λ s. s) stops a (rises_sorted 0 stops rises)

@@ -1,5 +1,6 @@
 -- Functions of addresses that change at a few of them: the stops.
 use Rattle.std.specs.Prelude.{◌≡◌, ℕ, ◌+◌, ◌^◌, ◌<◌, ◌≤◌, nat_le, if◌then◌else◌, List, [], ◌∷◌, length}
+use Rattle.sym_edges.specs.Rising.{RisesFrom}
 
 -- the stops in order, and beside each the value from there on
 pub record Stepping (V : Type 0) : Type 0 where
@@ -14,11 +15,6 @@ held_from before (s ∷ stops) (v ∷ values) a = held_from (if nat_le s a then 
 
 abbrev pub value_at : {V : Type 0} → V → Stepping V → ℕ → V
 value_at before steps a = held_from before steps.stops steps.values a
-
--- each stop is above the one before it, and the first is not below `low`
-abbrev pub RisesFrom : ℕ → List ℕ → Type 0
-RisesFrom low [] = Unit {0}
-RisesFrom low (s ∷ stops) = (low ≤ s) × RisesFrom (s + 1) stops
 
 -- the last stop, or `low` where there is none
 abbrev pub last_from : ℕ → List ℕ → ℕ

@@ -1,5 +1,6 @@
 ghost use Rattle.std.specs.Prelude.{◌≡◌, ℕ, ◌^◌, ◌<◌, ◌≤◌, nat_le, if◌then◌else◌, [], length, OnOk, OnErr, IfOk};
-ghost use Rattle.step_maps.specs.Stepping.{IsStepping, RisesFrom, last_from, held_from, value_at};
+ghost use Rattle.sym_edges.specs.Rising.{RisesFrom};
+ghost use Rattle.step_maps.specs.Stepping.{IsStepping, last_from, held_from, value_at};
 
 use std::alloc::Global;
 use std::marker::Model;

@@ -3,3 +3,4 @@ pub mod ReadingLemmas
 pub mod WritingLemmas
 pub mod Hex
 pub mod Shown
+pub mod RisingLemmas

@@ -5,3 +5,4 @@ pub mod WholeFile
 pub mod Results
 pub mod Integers
 pub mod Abi
+pub mod Rising

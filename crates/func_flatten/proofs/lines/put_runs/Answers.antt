@@ -1,7 +1,7 @@
 use Rattle.std.proofs.Common.{nat_le, rules, arith}
 use Rattle.std.proofs.lemmas.List.{drop_all}
 use Rattle.std.proofs.lemmas.List.Sorted.{IsPartitionPoint-from_clause}
-use Rattle.step_maps.specs.Stepping.{RisesFrom}
+use Rattle.sym_edges.specs.Rising.{RisesFrom}
 use Rattle.step_maps.proofs.SteppingLemmas.{Point, parted}
 use Rattle.func_flatten.proofs.LineLemmas.{rising_same, line_at_stop, walks_start, walks_on, walks_end, walks_out, known_by, known_part, drop_next}
 use Rattle.func_flatten.proofs.lines.put_runs.Goals as goal

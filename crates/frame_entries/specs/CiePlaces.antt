@@ -1,11 +1,6 @@
--- No public clause cites this: the places of CIEs, which rise.
-use Rattle.std.specs.Prelude.{ℕ, ◌+◌, ◌<◌, ◌≤◌, List, [], ◌∷◌, length, map, slice_index_or}
+-- No public clause cites this: the places of CIEs.
+use Rattle.std.specs.Prelude.{ℕ, ◌<◌, ◌≤◌, List, length, map, slice_index_or}
 use Rattle.frame_entries.specs.declared.cie.Cie.{Cie}
-
--- each number is above the one before it, and the first not below a bound
-abbrev pub Climbs : ℕ → List ℕ → Type 0
-Climbs low [] = Unit {0}
-Climbs low (x ∷ xs) = (low ≤ x) × Climbs (x + 1) xs
 
 -- where CIEs start
 abbrev pub places_of : List Cie → List ℕ

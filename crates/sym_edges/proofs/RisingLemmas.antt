@@ -1,0 +1,51 @@
+-- Numbers that rise are in order at any two places, and so are members of a list whose numbers rise.
+use Rattle.std.proofs.Common.{◌≡◌, ◌<◌, ◌≤◌, ◌+◌, ℕ, zero, suc, List, [], ◌∷◌, map, length, get_or, sym, arith}
+use Rattle.std.specs.List.Sorted.{IsNonDecreasingBy}
+use Rattle.std.proofs.lemmas.List.{get_or-map, length-map}
+use Rattle.sym_edges.specs.Rising.{RisesFrom}
+
+pub rises_lower : (high low : ℕ) (xs : List ℕ) → low ≤ high → RisesFrom high xs → RisesFrom low xs
+rises_lower high low [] le rises = tt
+rises_lower high low (x ∷ xs) le rises = (let first : high ≤ x = rises.0 in omega arith, rises.1)
+
+pub rises_above : (low : ℕ) (xs : List ℕ) → RisesFrom low xs → (k d : ℕ) → k < length xs → low ≤ get_or xs k d
+rises_above low [] rises k d there = absurd (omega arith)
+rises_above low (x ∷ xs) rises zero d there = rises.0
+rises_above low (x ∷ xs) rises (suc k) d there =
+    let later : x + 1 ≤ get_or xs k d = rises_above (x + 1) xs rises.1 k d (omega arith) in
+    let first : low ≤ x = rises.0 in
+    omega arith
+
+pub rises_apart : (low : ℕ) (xs : List ℕ) → RisesFrom low xs → (i j d e : ℕ) → i < j → j < length xs → get_or xs i d < get_or xs j e
+rises_apart low [] rises i j d e below there = absurd (omega arith)
+rises_apart low (x ∷ xs) rises i zero d e below there = absurd (omega arith)
+rises_apart low (x ∷ xs) rises zero (suc j) d e below there =
+    let later : x + 1 ≤ get_or xs j e = rises_above (x + 1) xs rises.1 j e (omega arith) in
+    omega arith
+rises_apart low (x ∷ xs) rises (suc i) (suc j) d e below there = rises_apart (x + 1) xs rises.1 i j d e (omega arith) (omega arith)
+
+rises_ordered : (low : ℕ) (xs : List ℕ) → RisesFrom low xs → (i j d e : ℕ) → i ≤ j → j < length xs → get_or xs i d ≤ get_or xs j e
+rises_ordered low [] rises i j d e order there = absurd (omega arith)
+rises_ordered low (x ∷ xs) rises zero zero d e order there = omega arith
+rises_ordered low (x ∷ xs) rises zero (suc j) d e order there =
+    let later : x + 1 ≤ get_or xs j e = rises_above (x + 1) xs rises.1 j e (omega arith) in
+    omega arith
+rises_ordered low (x ∷ xs) rises (suc i) zero d e order there = absurd (omega arith)
+rises_ordered low (x ∷ xs) rises (suc i) (suc j) d e order there = rises_ordered (x + 1) xs rises.1 i j d e (omega arith) (omega arith)
+
+pub rises_sorted : (low : ℕ) (xs : List ℕ) → RisesFrom low xs → IsNonDecreasingBy (λ x. x) xs
+rises_sorted low xs rises i j d order there = rises_ordered low xs rises i j d d order there
+
+-- the number of a member, whatever default is given
+number_at : {X : Type 0} (number : X → ℕ) (xs : List X) (k : ℕ) (d : X) → k < length xs → number (get_or xs k d) ≡ get_or (map number xs) k 0
+number_at number xs k d there = sym (get_or-map number xs k d 0 there)
+
+pub ordered_by : {X : Type 0} (number : X → ℕ) (xs : List X) → RisesFrom 0 (map number xs) → (i j : ℕ) (d e : X) → i ≤ j → j < length xs → number (get_or xs i d) ≤ number (get_or xs j e)
+ordered_by number xs rises i j d e order there =
+    let ordered = rises_ordered 0 (map number xs) rises i j 0 0 order (rw length-map there) in
+    let first = number_at number xs i d (omega arith) in
+    let second = number_at number xs j e there in
+    omega arith
+
+pub sorted_by : {X : Type 0} (number : X → ℕ) (xs : List X) → RisesFrom 0 (map number xs) → IsNonDecreasingBy number xs
+sorted_by number xs rises i j d order there = ordered_by number xs rises i j d d order there
