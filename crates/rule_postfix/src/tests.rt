@@ -22,8 +22,11 @@ STACK CFI 1004 .cfa: $rbp 16 +
 STACK CFI 100e .cfa: $rsp 8 +
 ";
 
-/// How many entries or rows the large inputs have.
+/// How many entries the large input has of each kind.
 const COUNT: u64 = 1000;
+
+/// How many rows the large entry has behind its first.
+const ROWS: u64 = 400_000;
 
 /// What was answered is what is wanted: a text, and the entries that are left out.
 fn expect(rt: &impl Abort, label: &str, got: (&[u8], &[Omission]), want: (&[u8], &[Omission])) {
@@ -82,19 +85,19 @@ fn an_entry_has_its_records(rt: HostRuntime) -> Result<(), Fail> {
     let mut own = Vec::new(alloc);
     let mut want = Vec::from_slice(
         alloc,
-        b"STACK CFI INIT 1000 3e9 .cfa: $rsp 8 + .ra: .cfa -8 + ^\n",
+        b"STACK CFI INIT 1000 7a120 .cfa: $rsp 8 + .ra: .cfa -8 + ^\n",
     )?;
-    for number in 1..=COUNT {
-        let offset: u8 = if number % 2 == 1 { 16 } else { 8 };
+    for number in 1..=ROWS {
+        let offset: u8 = if number % 2 == 1 { 16 } else { 24 };
         own.extend_from_slice(&[0x41, 0x0e, offset])?;
         let address = 0x1000 + number;
         let line = format!(in alloc; "STACK CFI {address:x} .cfa: $rsp {offset} +\n")?;
         want.extend_from_slice(line.as_bytes())?;
     }
     let mut large = Vec::from_slice(alloc, CIE)?;
-    put_fde(&mut large, 0x1000, COUNT + 1, &own)?;
+    put_fde(&mut large, 0x1000, 500_000, &own)?;
     let text = translated(alloc, &large)?;
-    expect(&rt, "a thousand rows", (&text, &[]), (&want, &[]));
+    expect(&rt, "many rows", (&text, &[]), (&want, &[]));
     Ok(())
 }
 
