@@ -13,10 +13,15 @@ use std::alloc::Global;
 use std::collections::BTreeMap;
 use sym_edges::OutOfMemory;
 
-/// The states behind the CIEs at some places of a section. Each is made once, however the entries of the CIEs alternate.
+/// Of the CIEs whose instructions have at most so many bytes the state of one at a time is kept.
+const SHORT: usize = 64;
+
+/// The states behind the CIEs at some places of a section. That of a long CIE is made once, however the entries of the CIEs
+/// alternate; of the short ones the last is kept, whose place is `short`, so that many of them take no memory.
 #[derive(Drop)]
 pub struct CieStates {
     by_place: BTreeMap<usize, CieState>,
+    short: Option<usize>,
 }
 
 impl CieStates {
@@ -27,6 +32,26 @@ impl CieStates {
     {
         CieStates {
             by_place: BTreeMap::new(alloc),
+            short: None,
+        }
+    }
+
+    /// Lets the state of the short CIE go.
+    fn drop_short(&mut self)
+        ensures { (f : FdeFields) → KeptFor self.old f → KeptFor self.new f }
+    {
+        if let Some(place) = self.short {
+            self.by_place.remove(&place);
+        }
+    }
+
+    /// Makes room for the state of a CIE.
+    fn make_room(&mut self, fde: &Fde<'_>)
+        ensures { (f : FdeFields) → KeptFor self.old f → KeptFor self.new f }
+    {
+        if fde.initial_instructions.len() <= SHORT {
+            self.drop_short();
+            self.short = Some(fde.cie);
         }
     }
 
@@ -41,6 +66,7 @@ impl CieStates {
             return Ok(());
         }
         let state = CieState::of(alloc, fde)?;
+        self.make_room(fde);
         self.by_place.insert(fde.cie, state)?;
         Ok(())
     }
