@@ -10,3 +10,4 @@ pub mod Abbreviations
 pub mod Places
 pub mod Values
 pub mod Plans
+pub mod FaultWords

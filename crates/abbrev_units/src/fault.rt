@@ -53,6 +53,32 @@ pub enum DwarfKind {
     LineOpcode,
 }
 
+impl DwarfKind {
+    ghost use Rattle.abbrev_units.specs.FaultWords.{dwarf_word};
+
+    /// The kind as it is printed.
+    pub fn word(self) -> &'static [u8]
+        ensures { result.now ≡ dwarf_word self }
+    {
+        match self {
+            DwarfKind::Ends => b"ends",
+            DwarfKind::LebLong => b"leb-long",
+            DwarfKind::NoZero => b"no-zero",
+            DwarfKind::Reserved => b"reserved",
+            DwarfKind::AddressSize => b"address-size",
+            DwarfKind::UnitType => b"unit-type",
+            DwarfKind::UnknownForm => b"unknown-form",
+            DwarfKind::NoAbbrev => b"no-abbrev",
+            DwarfKind::OffsetOutside => b"offset-outside",
+            DwarfKind::NoBase => b"no-base",
+            DwarfKind::RangeKind => b"range-kind",
+            DwarfKind::LineVersion => b"line-version",
+            DwarfKind::LineHeader => b"line-header",
+            DwarfKind::LineOpcode => b"line-opcode",
+        }
+    }
+}
+
 /// A fault of debugging information, at a place of a section.
 pub type DwarfFault = Located<DwarfKind>;
 

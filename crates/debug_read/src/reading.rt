@@ -12,11 +12,8 @@ use elf_sections::Image;
 use frame_entries::entries;
 use std::alloc::Global;
 use std::thread::Threads;
-use sym_edges::{Sect, Stop};
+use sym_edges::{FILE_LIMIT, Sect, Stop};
 use unit_workers::Gate;
-
-/// A section of more bytes is not read: 2^29.
-const LIMIT: usize = 0x2000_0000;
 
 /// All debugging information of an image, by `workers` workers, 1 to 64: the headers of the units of `.debug_info`, the units
 /// that are read, in their order, and the entries of `.eh_frame` and of `.debug_frame`. `gate` is told of each unit before it
@@ -41,7 +38,7 @@ pub fn read_debug<'a, R: Threads + Sync, G: Gate + Sync>(
         (Prim.Unit {0}) }
 {
     let sections = sections_of(image);
-    if sections.info.len() > LIMIT {
+    if sections.info.len() > FILE_LIMIT {
         return Err(Stop::NoMemory);
     }
     let headers = match units(alloc, sections.info) {

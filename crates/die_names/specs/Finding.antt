@@ -1,6 +1,6 @@
 -- How an entry is found by its place.
-use Rattle.std.specs.Prelude.{ℕ, ◌+◌, ◌<◌, ◌≤◌, ◌==◌, Bool, List, length, Option, None, Some}
-use Rattle.std.specs.List.{slice_get, slice_index_or}
+use Rattle.std.specs.Prelude.{ℕ, ◌+◌, ◌<◌, ◌==◌, Bool, List, length, Option, None, Some}
+use Rattle.std.specs.List.{slice_get}
 use Rattle.std.specs.Option.{option_map}
 use Rattle.die_walk.specs.EntryTable.{DieFields}
 use Rattle.die_names.specs.declared.finding.Standing.{Standing}
@@ -23,12 +23,6 @@ found_from first units (Some s) = entry_in (first + s.unit) s.entry (slice_get u
 abbrev pub found : List UnitRead → Option Standing → Option Placed
 found units None = None
 found units (Some s) = entry_of units s.unit s.entry
-
--- how many entries begin before a place
-pub record Before (place count : ℕ) (dies : List DieFields) : Type 0 where
-  pub within : count ≤ length dies
-  pub below : (j : ℕ) (d : DieFields) → j < count → (slice_index_or dies j d).at < place
-  pub above : (j : ℕ) (d : DieFields) → count ≤ j → j < length dies → place ≤ (slice_index_or dies j d).at
 
 -- the entry of these numbers, alone
 abbrev pub die_from : ℕ → Option UnitRead → Option DieFields

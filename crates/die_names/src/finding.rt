@@ -1,10 +1,10 @@
 //! The entry that begins at a place.
 ghost use Rattle.std.specs.Prelude.{◌≡◌, ◌+◌, ◌<◌, ◌^◌, ℕ, map, length, IfSome};
 ghost use Rattle.std.specs.List.{find};
-ghost use Rattle.sym_edges.specs.Rising.{RisesFrom};
+ghost use Rattle.sym_edges.specs.Rising.{RisesFrom, StandBelow};
 ghost use Rattle.die_walk.specs.EntryTable.{DieFields};
 ghost use Rattle.die_names.specs.UnitEntries.{places, unit_entries, entries_from, entry_at};
-ghost use Rattle.die_names.specs.Finding.{is_at, found_in, found_from, found, moved, Before, IsInside};
+ghost use Rattle.die_names.specs.Finding.{is_at, found_in, found_from, found, moved, IsInside};
 
 use crate::unit_read::UnitRead;
 use die_walk::Die;
@@ -19,7 +19,7 @@ pub struct Standing {
 /// How many entries begin before a place, by halves.
 fn count_before(dies: &[Die<'_>], place: u64) -> usize
     requires { RisesFrom 0 (map (λ (d : DieFields). d.at) dies.now) }
-    ensures { Before place result dies.now }
+    ensures { StandBelow (λ (d : DieFields). d.at) place result dies.now }
 {
     dies.partition_point(|die| u64::from(die.at()) < place)
 }

@@ -10,7 +10,7 @@ use abbrev_units::{Abbrevs, DwarfFault, Sections, Unit};
 use leb_cursor::Cursor;
 use std::alloc::Global;
 use std::marker::Model;
-use sym_edges::{OutOfMemory, Stop};
+use sym_edges::{FILE_LIMIT, OutOfMemory, Stop};
 
 /// The root of a unit and its kept entries, of which the root is the first.
 #[derive(Debug, Drop)]
@@ -46,9 +46,6 @@ impl<'a> DieTable<'a> {
         self.dies.as_slice()
     }
 }
-
-/// A section of more bytes is not walked.
-const LIMIT: usize = 0x2000_0000;
 
 /// A cursor over the entries of a unit.
 fn entries_of<'a>(sections: &Sections<'a>, unit: &Unit) -> Cursor<'a>
@@ -101,7 +98,7 @@ pub fn walk<'a>(
     requires inside { unit.now.end ≤ length sections.now.info }
     ensures { Gives result (entry_table sections.now unit.now abbrevs.now) }
 {
-    if sections.info.len() > LIMIT {
+    if sections.info.len() > FILE_LIMIT {
         return Err(Stop::NoMemory);
     }
     let mut walker = Walker::new(alloc);

@@ -17,11 +17,8 @@ use debug_read::{DebugRead, read_debug};
 use elf_sections::{Image, read_image};
 use std::alloc::Global;
 use std::thread::Threads;
-use sym_edges::{OutOfMemory, ReadEnd, Stop, Store, read_all};
+use sym_edges::{FILE_LIMIT, OutOfMemory, ReadEnd, Stop, Store, read_all};
 use unit_workers::Gate;
-
-/// The greatest length of an ELF file, in bytes.
-const ELF_LIMIT: usize = 536_870_912;
 
 /// A refusal with a line.
 fn refuse(line: Message) -> Judgement
@@ -120,7 +117,7 @@ fn answer_dump<R: Threads + Sync, S: Store, G: Gate + Sync>(
     ensures faults { S.faults store.old ≤ S.faults store.new }
     ensures answered { AnswersCommand result (Some (dump elf.now workers)) (S.files store.old) (S.faults store.old) (S.faults store.new) }
 {
-    match read_all(alloc, store, elf, ELF_LIMIT) {
+    match read_all(alloc, store, elf, FILE_LIMIT) {
         Ok(bytes) => match judge_bytes(
             rt,
             alloc,

@@ -2,7 +2,7 @@
 ghost use Rattle.std.specs.Prelude.{◌≡◌, ◌++◌, OnOk, IfOk};
 ghost use Rattle.dumpsyms_cmd.specs.Refusals.{omitted_line, omitted_text, skipped_of, skipped_text};
 
-use crate::refusals::{add_line, reason_word, section_word};
+use crate::refusals::add_line;
 use abbrev_units::{Unit, UnitPart};
 use itoa::Buffer;
 use rule_postfix::Omission;
@@ -46,9 +46,9 @@ fn add_omission(text: &mut Vec<u8>, omission: &Omission) -> Result<(), AllocErro
 {
     let at = HexText::of(omission.at);
     let words = [
-        section_word(omission.section),
+        omission.section.word(),
         at.as_slice(),
-        reason_word(omission.reason),
+        omission.reason.word(),
     ];
     add_line(text, b"omitted", &words)
 }

@@ -1,14 +1,14 @@
 ghost use Rattle.std.specs.Prelude.{◌≡◌, ◌++◌, map, IfOk, OnOk};
 ghost use Rattle.sym_records.specs.Canon.{spaced};
-ghost use Rattle.dumpsyms_cmd.specs.Refusals.{line, elf_line, fault_word, joined_word, section_word, dwarf_word, kind_word, dwarf_line, frame_line, debug_line, located_line, reason_word};
+ghost use Rattle.dumpsyms_cmd.specs.Refusals.{line, elf_line, dwarf_line, frame_line, debug_line, located_line};
 
-use abbrev_units::{DwarfFault, DwarfKind};
+use abbrev_units::DwarfFault;
 use debug_read::DebugFault;
 use elf_sections::ElfFault;
-use frame_entries::{FrameFault, FrameKind};
+use frame_entries::FrameFault;
 use itoa::Buffer;
 use std::alloc::{AllocError, Global};
-use sym_edges::{Reason, Sect};
+use sym_edges::Sect;
 use sym_records::{ByteText, HexText};
 
 /// The file passes the limit.
@@ -21,31 +21,11 @@ pub const UNREAD: &[u8] = b"cannot read input\n";
 pub const USAGE: &[u8] =
     b"usage: dumpsyms dump ELF, check SYM, lookup SYM ADDR, frame SYM ADDR STATE, sample N\n";
 
-/// The word of a fault, without the number of a section.
-fn word_of(fault: ElfFault) -> (&'static [u8], Option<u32>)
-    ensures { fault_word fault ≡ joined_word result.0.now result.1 }
-{
-    match fault {
-        ElfFault::NotElf => (b"not-elf", None),
-        ElfFault::Class => (b"class", None),
-        ElfFault::Order => (b"order", None),
-        ElfFault::Machine => (b"machine", None),
-        ElfFault::Kind => (b"kind", None),
-        ElfFault::SectionTable => (b"section-table", None),
-        ElfFault::SectionNames => (b"section-names", None),
-        ElfFault::SectionBytes { index } => (b"section-bytes ", Some(index)),
-        ElfFault::Compressed { index } => (b"compressed ", Some(index)),
-        ElfFault::ProgramTable => (b"program-table", None),
-        ElfFault::SymbolTable => (b"symbol-table", None),
-        ElfFault::NoIdentity => (b"no-identity", None),
-    }
-}
-
 /// The line that names an image fault.
 pub fn fault_line(alloc: Global, fault: ElfFault) -> Result<ByteText, AllocError>
     ensures { IfOk result (λ text. text ≡ elf_line fault) }
 {
-    let (word, index) = word_of(fault);
+    let (word, index) = fault.word();
     let mut text = Vec::from_slice(alloc, b"refused elf ")?;
     text.extend_from_slice(word)?;
     if let Some(index) = index {
@@ -69,77 +49,6 @@ pub fn add_line(text: &mut Vec<u8>, first: &[u8], words: &[&[u8]]) -> Result<(),
     Ok(())
 }
 
-/// The word of a section.
-pub fn section_word(section: Sect) -> &'static [u8]
-    ensures { result.now ≡ section_word section }
-{
-    match section {
-        Sect::Info => b"debug_info",
-        Sect::Abbrev => b"debug_abbrev",
-        Sect::Line => b"debug_line",
-        Sect::LineStr => b"debug_line_str",
-        Sect::Str => b"debug_str",
-        Sect::StrOffsets => b"debug_str_offsets",
-        Sect::Addr => b"debug_addr",
-        Sect::Ranges => b"debug_ranges",
-        Sect::Rnglists => b"debug_rnglists",
-        Sect::DebugFrame => b"debug_frame",
-        Sect::EhFrame => b"eh_frame",
-        Sect::Text => b"text",
-    }
-}
-
-fn dwarf_word(kind: DwarfKind) -> &'static [u8]
-    ensures { result.now ≡ dwarf_word kind }
-{
-    match kind {
-        DwarfKind::Ends => b"ends",
-        DwarfKind::LebLong => b"leb-long",
-        DwarfKind::NoZero => b"no-zero",
-        DwarfKind::Reserved => b"reserved",
-        DwarfKind::AddressSize => b"address-size",
-        DwarfKind::UnitType => b"unit-type",
-        DwarfKind::UnknownForm => b"unknown-form",
-        DwarfKind::NoAbbrev => b"no-abbrev",
-        DwarfKind::OffsetOutside => b"offset-outside",
-        DwarfKind::NoBase => b"no-base",
-        DwarfKind::RangeKind => b"range-kind",
-        DwarfKind::LineVersion => b"line-version",
-        DwarfKind::LineHeader => b"line-header",
-        DwarfKind::LineOpcode => b"line-opcode",
-    }
-}
-
-fn kind_word(kind: FrameKind) -> &'static [u8]
-    ensures { result.now ≡ kind_word kind }
-{
-    match kind {
-        FrameKind::Length => b"length",
-        FrameKind::Format64 => b"format64",
-    }
-}
-
-/// The word of a reason to leave an entry out.
-pub fn reason_word(reason: Reason) -> &'static [u8]
-    ensures { result.now ≡ reason_word reason }
-{
-    match reason {
-        Reason::Cie => b"cie",
-        Reason::Augmentation => b"augmentation",
-        Reason::Encoding => b"encoding",
-        Reason::Column => b"column",
-        Reason::Entry => b"entry",
-        Reason::Expression => b"expression",
-        Reason::Instruction => b"instruction",
-        Reason::Register => b"register",
-        Reason::State => b"state",
-        Reason::Range => b"range",
-        Reason::Cfa => b"cfa",
-        Reason::Outside => b"outside",
-        Reason::Overlap => b"overlap",
-    }
-}
-
 /// The line that names a fault by its kind, its section and its place.
 fn located_line(
     alloc: Global,
@@ -151,7 +60,7 @@ fn located_line(
     ensures { IfOk result (λ text. text ≡ located_line refused.now kind.now section at) }
 {
     let at = HexText::of(at as u64);
-    let words = [kind, section_word(section), at.as_slice()];
+    let words = [kind, section.word(), at.as_slice()];
     let mut text = Vec::new(alloc);
     add_line(&mut text, refused, &words)?;
     Ok(ByteText::of(text))
@@ -164,7 +73,7 @@ fn dwarf_line(alloc: Global, fault: DwarfFault) -> Result<ByteText, AllocError>
     located_line(
         alloc,
         b"refused dwarf",
-        dwarf_word(fault.kind),
+        fault.kind.word(),
         fault.section,
         fault.at,
     )
@@ -177,7 +86,7 @@ fn frame_line(alloc: Global, fault: FrameFault) -> Result<ByteText, AllocError>
     located_line(
         alloc,
         b"refused frame",
-        kind_word(fault.kind),
+        fault.kind.word(),
         fault.section,
         fault.at,
     )

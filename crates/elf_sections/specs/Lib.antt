@@ -10,3 +10,4 @@ pub mod Symbols
 pub mod Image
 pub mod Kept
 pub mod Steps
+pub mod FaultWords

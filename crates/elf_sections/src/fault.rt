@@ -28,3 +28,28 @@ pub enum ElfFault {
     #[error("neither a build id nor code to take an identity from")]
     NoIdentity,
 }
+
+impl ElfFault {
+    ghost use Rattle.std.specs.Prelude.{◌≡◌};
+    ghost use Rattle.elf_sections.specs.FaultWords.{fault_word, joined_word};
+
+    /// The fault as it is printed: a word, and after it the number of a section where there is one.
+    pub fn word(self) -> (&'static [u8], Option<u32>)
+        ensures { fault_word self ≡ joined_word result.0.now result.1 }
+    {
+        match self {
+            ElfFault::NotElf => (b"not-elf", None),
+            ElfFault::Class => (b"class", None),
+            ElfFault::Order => (b"order", None),
+            ElfFault::Machine => (b"machine", None),
+            ElfFault::Kind => (b"kind", None),
+            ElfFault::SectionTable => (b"section-table", None),
+            ElfFault::SectionNames => (b"section-names", None),
+            ElfFault::SectionBytes { index } => (b"section-bytes ", Some(index)),
+            ElfFault::Compressed { index } => (b"compressed ", Some(index)),
+            ElfFault::ProgramTable => (b"program-table", None),
+            ElfFault::SymbolTable => (b"symbol-table", None),
+            ElfFault::NoIdentity => (b"no-identity", None),
+        }
+    }
+}

@@ -8,3 +8,4 @@ pub mod FrameEntries
 pub mod SharedCies
 pub mod CiePlaces
 pub mod KnownEncodings
+pub mod FaultWords

@@ -11,5 +11,20 @@ pub enum FrameKind {
     Format64,
 }
 
+impl FrameKind {
+    ghost use Rattle.std.specs.Prelude.{◌≡◌};
+    ghost use Rattle.frame_entries.specs.FaultWords.{kind_word};
+
+    /// The kind as it is printed.
+    pub fn word(self) -> &'static [u8]
+        ensures { result.now ≡ kind_word self }
+    {
+        match self {
+            FrameKind::Length => b"length",
+            FrameKind::Format64 => b"format64",
+        }
+    }
+}
+
 /// The first entry of a section whose length is bad: its place is that of its first byte.
 pub type FrameFault = Located<FrameKind>;

@@ -8,10 +8,7 @@ use crate::fault::{FrameFault, FrameKind};
 use leb_cursor::Cursor;
 use std::alloc::Global;
 use std::marker::Model;
-use sym_edges::{Located, Sect, Stop};
-
-/// A section of more bytes is not read: 2^29.
-const LIMIT: usize = 0x2000_0000;
+use sym_edges::{FILE_LIMIT, Located, Sect, Stop};
 
 /// An entry as it lies in its section: the place of its first byte, its id, and its body. The id stands four bytes behind that
 /// place, and the body eight.
@@ -146,7 +143,7 @@ pub fn read_listing<'a>(
         (λ fault. listed_at which (from_start bytes.now) ≡ Err fault)
         (Unit {0}) }
 {
-    if bytes.len() > LIMIT {
+    if bytes.len() > FILE_LIMIT {
         return Err(Stop::NoMemory);
     }
     let mut cursor = cursor_over(bytes);

@@ -2,8 +2,8 @@
 ghost use Rattle.std.specs.Prelude.{◌≡◌, IfOk};
 ghost use Rattle.std.specs.Option.{option_copied};
 ghost use Rattle.frame_entries.specs.FrameEntries.{is_cie, cie_at, cies_of, cie_place, cie_from, cie_named, entry_of};
-ghost use Rattle.sym_edges.specs.Rising.{RisesFrom};
-ghost use Rattle.frame_entries.specs.CiePlaces.{places_of, Before};
+ghost use Rattle.sym_edges.specs.Rising.{RisesFrom, StandBelow};
+ghost use Rattle.frame_entries.specs.CiePlaces.{places_of};
 
 use crate::cie::{Cie, read_cie};
 use crate::description::{Body, Entry, read_body};
@@ -60,7 +60,7 @@ fn cie_place(which: Sect, raw: &RawEntry<'_>) -> Option<usize>
 /// How many CIEs start before a place, by halves.
 fn count_before(cies: &[Cie<'_>], place: usize) -> usize
     requires { RisesFrom 0 (places_of cies.now) }
-    ensures { Before place result cies.now }
+    ensures { StandBelow (λ (c : Cie). c.at) place result cies.now }
 {
     cies.partition_point(|cie| cie.at < place)
 }

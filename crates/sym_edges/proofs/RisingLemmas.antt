@@ -1,8 +1,9 @@
 -- Numbers that rise are in order at any two places, and so are members of a list whose numbers rise.
-use Rattle.std.proofs.Common.{◌≡◌, ◌<◌, ◌≤◌, ◌+◌, ℕ, zero, suc, List, [], ◌∷◌, map, length, get_or, sym, arith}
-use Rattle.std.specs.List.Sorted.{IsNonDecreasingBy}
+use Rattle.std.proofs.Common.{◌≡◌, ◌<◌, ◌≤◌, ◌+◌, ℕ, zero, suc, true, false, eqb, ltb, List, [], ◌∷◌, map, length, get_or, sym, arith, ⊎_elim}
+use Rattle.std.specs.List.Sorted.{IsNonDecreasingBy, IsPartitionPoint}
+use Rattle.std.proofs.lemmas.Bool.{ne_eqb, ltb-true, ltb-false, cases_lt}
 use Rattle.std.proofs.lemmas.List.{get_or-map, length-map}
-use Rattle.sym_edges.specs.Rising.{RisesFrom}
+use Rattle.sym_edges.specs.Rising.{RisesFrom, StandBelow}
 
 pub rises_lower : (high low : ℕ) (xs : List ℕ) → low ≤ high → RisesFrom high xs → RisesFrom low xs
 rises_lower high low [] le rises = tt
@@ -49,3 +50,35 @@ ordered_by number xs rises i j d e order there =
 
 pub sorted_by : {X : Type 0} (number : X → ℕ) (xs : List X) → RisesFrom 0 (map number xs) → IsNonDecreasingBy number xs
 sorted_by number xs rises i j d order there = ordered_by number xs rises i j d d order there
+
+-- a search by halves finds how many members have numbers below a bound
+pub stand_below : {X : Type 0} (number : X → ℕ) (bound count : ℕ) (xs : List X) → count ≤ length xs → IsPartitionPoint (λ (x : X). ltb (number x) bound ≡ true) (λ (x : X). ltb (number x) bound ≡ false) xs count → StandBelow number bound count xs
+stand_below number bound count xs within point = record {
+  within = within;
+  below = λ k d under. ltb-true _ _ (point.0 k d (omega arith) under);
+  above = λ k d from there. ltb-false _ _ (point.1 k d from there);
+}
+
+-- none of those that stand below it is the bound
+pub differ_below : {X : Type 0} (number : X → ℕ) (bound count : ℕ) (xs : List X) → StandBelow number bound count xs → (k : ℕ) (d : X) → k < count → eqb (number (get_or xs k d)) bound ≡ false
+differ_below number bound count xs h k d under = let less = h.below k d under in ne_eqb _ _ (λ e. absurd (omega arith))
+
+-- none at all is, where all stand below it
+pub differ_all : {X : Type 0} (number : X → ℕ) (bound count : ℕ) (xs : List X) → StandBelow number bound count xs → count ≡ length xs → (k : ℕ) (d : X) → k < length xs → eqb (number (get_or xs k d)) bound ≡ false
+differ_all number bound count xs h whole k d there = differ_below number bound count xs h k d (omega arith)
+
+lt_of_le_ne : {a b : ℕ} → a ≤ b → (b ≡ a → ⊥) → a < b
+lt_of_le_ne le ne = omega arith
+
+-- or where the first that does not stand below it is another number
+pub differ_other : {X : Type 0} (number : X → ℕ) (bound count : ℕ) (xs : List X) (first : X) → RisesFrom 0 (map number xs) → StandBelow number bound count xs → count < length xs → (number (get_or xs count first) ≡ bound → ⊥) → (k : ℕ) (d : X) → k < length xs → eqb (number (get_or xs k d)) bound ≡ false
+differ_other number bound count xs first rises h there other k d inside =
+    ne_eqb _ _
+    (λ same.
+    ⊎_elim
+    (λ under. let less = h.below k d under in absurd (omega arith))
+    (λ from.
+    let more : bound < number (get_or xs count first) = lt_of_le_ne (h.above count first (omega arith) there) other in
+    let later = ordered_by number xs rises count k first d from inside in
+    absurd (omega arith))
+    (cases_lt k count))

@@ -6,3 +6,4 @@ pub mod Results
 pub mod Integers
 pub mod Abi
 pub mod Rising
+pub mod PrintedWords

@@ -31,7 +31,7 @@ pub use mem_sink::MemSink;
 pub use mem_store::{FileList, MemStore};
 pub use name::{NameText, NamedFile};
 pub use part::{Part, Sect};
-pub use reading::{ReadEnd, read_all};
+pub use reading::{FILE_LIMIT, ReadEnd, read_all};
 pub use reason::Reason;
 pub use sink::Sink;
 pub use span::Span;

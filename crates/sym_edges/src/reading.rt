@@ -19,6 +19,9 @@ pub enum ReadEnd {
     TooLong,
 }
 
+/// The greatest length of a file that is dumped, and so of each of its sections: 2^29 bytes.
+pub const FILE_LIMIT: usize = 0x2000_0000;
+
 /// The bytes that are read at once.
 const PIECE: usize = 65536;
 
