@@ -27,7 +27,8 @@ use Rattle.die_names.specs.declared.unit_read.UnitRead.{UnitRead}
 use Rattle.die_names.specs.UnitEntries.{is_function}
 use Rattle.die_names.specs.Owners.{Covering, unit_covering, covering_from, owner}
 use Rattle.rule_postfix.specs.Written.{omitted, written, written_lines}
-use Rattle.rule_postfix.specs.Covering.{inits_at, entries_at, AreDisjoint, AreNested}
+use Rattle.rule_postfix.specs.Covering.{SaysFrames}
+use Rattle.rule_postfix.proofs.SayingLemmas.{frames_said, written_sized}
 use Rattle.rule_postfix.specs.declared.omission.Omission.{Omission}
 use Rattle.func_flatten.specs.declared.piece.Place.{Place}
 use Rattle.func_flatten.specs.declared.piece.Piece.{Piece}
@@ -43,13 +44,12 @@ use Rattle.debug_read.specs.UnitSays.{UnitSays}
 use Rattle.debug_read.specs.UnitsRead.{IsSet, IsUnitRead}
 use Rattle.debug_read.specs.DebugSays.{DebugSays, debug_says, IsDebugRead}
 use Rattle.debug_read.specs.declared.found.DebugRead.{DebugRead}
-use Rattle.dumpsyms_cmd.specs.Dump.{identity_lines, public_line, public_lines, frame_lines}
-use Rattle.dumpsyms_cmd.specs.Frames.{SaysFrames}
+use Rattle.dumpsyms_cmd.specs.Dump.{identity_lines, public_line, public_lines, frame_lines, written_of}
 use Rattle.dumpsyms_cmd.specs.Spelled.{FitsInside, HasHead, DumpsRead}
 use Rattle.dumpsyms_cmd.proofs.CleanLemmas.{all_clean, said_clean}
-use Rattle.dumpsyms_cmd.proofs.FrameLemmas.{kept, frames_framed, head_frameless}
-use Rattle.dumpsyms_cmd.proofs.AroundLemmas.{identity_plain, identity_no_file, identity_no_origin, behind_plain, frames_plain}
-use Rattle.dumpsyms_cmd.proofs.FindingLemmas.{frames_sized, written_ends, file_clean}
+use Rattle.dumpsyms_cmd.proofs.FrameLemmas.{kept, head_frameless}
+use Rattle.dumpsyms_cmd.proofs.AroundLemmas.{identity_plain, identity_no_file, identity_no_origin, behind_plain}
+use Rattle.dumpsyms_cmd.proofs.FindingLemmas.{file_clean}
 
 -- an address of a function is code, so it is not below the base
 code_above : (base start end : ℕ) (code : List Range) → AllFrom base code → encloses code start end ≡ true → base ≤ start
@@ -187,8 +187,8 @@ mapped_at f (y ∷ xs) zero x is = ap (λ z. Some (f z)) (let same : y ≡ x = c
 mapped_at f (y ∷ xs) (suc n) x is = mapped_at f xs n x is
 
 -- what is dumped of a file that was read
-pub file_dumped : (image : ImageParts) (name : List ℕ) (read : DebugRead) (pieces : List Piece) (lines framed : List SymLine) (base : ℕ) (code : List Range) (left : List Omission) (head : List ℕ) → IsDebugRead image read → AllFrom image.base image.code → ArePieces read.units pieces → (front : HasHead image name read.units pieces head) → base ≡ image.base → code ≡ image.code → framed ≡ written_lines base (written code read.first read.second) → ((x : ℕ) → inits_at framed x ≡ entries_at (written code read.first read.second) (x + base)) → AreNested 0 0 framed → AreDisjoint (written code read.first read.second) → left ≡ omitted code read.first read.second → lines ≡ (identity_lines image name ++ (front.functions ++ public_lines image pieces)) ++ framed → reading (canon_text lines) ≡ Ok lines → DumpsRead image name read lines left
-file_dumped image name read pieces lines framed base code left head is above pieced front low ranges framed_is cover nested apart left_is are reads =
+pub file_dumped : (image : ImageParts) (name : List ℕ) (read : DebugRead) (pieces : List Piece) (lines framed : List SymLine) (base : ℕ) (code : List Range) (left : List Omission) (head : List ℕ) → IsDebugRead image read → AllFrom image.base image.code → ArePieces read.units pieces → (front : HasHead image name read.units pieces head) → base ≡ image.base → code ≡ image.code → framed ≡ written_lines base (written code read.first read.second) → left ≡ omitted code read.first read.second → lines ≡ (identity_lines image name ++ (front.functions ++ public_lines image pieces)) ++ framed → reading (canon_text lines) ≡ Ok lines → DumpsRead image name read lines left
+file_dumped image name read pieces lines framed base code left head is above pieced front low ranges framed_is left_is are reads =
     let k = kept image read is in
     let same : written code read.first read.second ≡ written code k.says.first k.says.second =
     ap (λ first. written code first read.second) k.first ∙ ap (written code k.says.first) k.second in
@@ -197,10 +197,12 @@ file_dumped image name read pieces lines framed base code left head is above pie
     let whole : lines ≡ identity_lines image name ++ (front.functions ++ (public_lines image pieces ++ frame_lines image k.says)) =
     are ∙ append_assoc (identity_lines image name) (front.functions ++ public_lines image pieces) framed
     ∙ ap (λ l. identity_lines image name ++ l) (append_assoc front.functions (public_lines image pieces) framed ∙ ap (λ l. front.functions ++ (public_lines image pieces ++ l)) all) in
-    let frames : SaysFrames image k.says lines = frames_framed image k.says (identity_lines image name ++ (front.functions ++ public_lines image pieces)) lines framed base code (head_frameless image name read.units pieces front.functions front.are) low ranges
-    (framed_is ∙ ap (written_lines base) same) (λ x. cover x ∙ ap (λ l. entries_at l (x + base)) same) nested (subst AreDisjoint same apart) are in
-    let sized : list_all are_sized (frame_lines image k.says) ≡ true =
-    subst (λ (l : List SymLine). list_all are_sized l ≡ true) all (frames_sized base (written code read.first read.second) framed (subst (λ (l : List SymLine). ArePlain l) (sym all) (frames_plain image k.says)) nested cover (written_ends code read.first read.second)) in
+    let front_lines : List SymLine = identity_lines image name ++ (front.functions ++ public_lines image pieces) in
+    let split : lines ≡ front_lines ++ frame_lines image k.says = are ∙ ap (λ l. front_lines ++ l) all in
+    let frames : SaysFrames image.base (written_of image k.says) lines =
+    subst (SaysFrames image.base (written_of image k.says)) (sym split)
+    (frames_said image.base image.code k.says.first k.says.second front_lines above (head_frameless image name read.units pieces front.functions front.are)) in
+    let sized : list_all are_sized (frame_lines image k.says) ≡ true = written_sized image.base image.code k.says.first k.says.second above in
     record {
       found = k.says;
       found_is = k.says_is;

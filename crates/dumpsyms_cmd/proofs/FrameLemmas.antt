@@ -15,8 +15,6 @@ use Rattle.func_records.specs.FuncRecords.{Part, file_lines, origin_lines, inlin
 use Rattle.sym_records.specs.Canon.{spaced}
 use Rattle.sym_records.specs.declared.line.SymLine.{SymLine}
 use Rattle.sym_records.specs.declared.line.SymLine.TheVariants.{Module, Info, File, Origin, Func, Inline, Line, Public, Init, Change}
-use Rattle.rule_postfix.specs.Written.{written, written_lines}
-use Rattle.rule_postfix.specs.Covering.{init_covers, inits_at, entries_at, AreDisjoint, AreNested}
 use Rattle.rule_postfix.specs.declared.omission.Omission.{Omission}
 use Rattle.debug_read.specs.DebugSays.{DebugSays, debug_says, IsKept, IsDebugRead}
 use Rattle.debug_read.specs.Each.{Match, Says}
@@ -24,7 +22,8 @@ use Rattle.debug_read.specs.UnitsRead.{IsUnitRead}
 use Rattle.debug_read.specs.declared.fault.DebugFault.{DebugFault}
 use Rattle.debug_read.specs.declared.found.DebugRead.{DebugRead}
 use Rattle.dumpsyms_cmd.specs.Refusals.{line, omitted_line, omitted_text, skipped_of, skipped_text}
-use Rattle.dumpsyms_cmd.specs.Frames.{written_of, is_frameless, SaysFrames}
+use Rattle.sym_lookup.specs.Inits.{is_frameless}
+use Rattle.sym_lookup.proofs.InitLemmas.{both_frameless}
 use Rattle.dumpsyms_cmd.specs.Dump.{module_line, info_line, info_lines, identity_lines, public_line, public_lines}
 
 -- words by what they are, and words as they are
@@ -50,12 +49,6 @@ unfolding skipped_text
 skipped_end before text units i past is = is ∙ ap (λ l. before ++ flat_map skipped_of l) (take_all i units past)
 
 -- records in front of those of frames say nothing of these
-both_frameless : (xs ys : List SymLine) → list_all is_frameless xs ≡ true → list_all is_frameless ys ≡ true → list_all is_frameless (xs ++ ys) ≡ true
-both_frameless [] ys first second = second
-both_frameless (x ∷ xs) ys first second =
-    let parts = and_parts (is_frameless x) (list_all is_frameless xs) first in
-    ap (λ b. b && list_all is_frameless (xs ++ ys)) parts.0 ∙ both_frameless xs ys parts.1 second
-
 infos_frameless : (id : Option (List ℕ)) → list_all is_frameless (info_lines id) ≡ true
 unfolding info_line
 infos_frameless None = refl
@@ -100,73 +93,6 @@ pub head_frameless : (image : ImageParts) (name : List ℕ) (units : List UnitRe
 head_frameless image name units pieces functions are =
     both_frameless (identity_lines image name) (functions ++ public_lines image pieces) (identity_frameless image name)
     (both_frameless functions (public_lines image pieces) (functions_frameless image.base units pieces functions are) (publics_frameless image.base (publics pieces image.symbols)))
-
--- such records cover nothing
-line_plain : (x : ℕ) (s : SymLine) → is_frameless s ≡ true → init_covers x s ≡ false
-line_plain x (Init address size rules) plain = cc
-line_plain x (Change address rules) plain = refl
-line_plain x (Module binary) plain = refl
-line_plain x (Info text) plain = refl
-line_plain x (File number name) plain = refl
-line_plain x (Origin number name) plain = refl
-line_plain x (Func many address size params name) plain = refl
-line_plain x (Inline level line file origin ranges) plain = refl
-line_plain x (Line address size line file) plain = refl
-line_plain x (Public many address params name) plain = refl
-
-covered_behind : (x : ℕ) (front rest : List SymLine) → list_all is_frameless front ≡ true → count_by (init_covers x) (front ++ rest) ≡ count_by (init_covers x) rest
-covered_behind x [] rest plain = refl
-covered_behind x (s ∷ front) rest plain =
-    let parts = and_parts (is_frameless s) (list_all is_frameless front) plain in
-    ap (λ t. fold (λ count line. count + cond (init_covers x line) 1 0) (0 + cond t 1 0) (front ++ rest)) (line_plain x s parts.0) ∙ covered_behind x front rest parts.1
-
-covers_behind : (x : ℕ) (front rest : List SymLine) → list_all is_frameless front ≡ true → inits_at (front ++ rest) x ≡ inits_at rest x
-unfolding inits_at
-covers_behind x front rest plain = covered_behind x front rest plain
-
--- nested records are nested behind such ones
-nested_behind : (front rest : List SymLine) → list_all is_frameless front ≡ true → AreNested 0 0 rest → AreNested 0 0 (front ++ rest)
-nested_behind [] rest plain nested = nested
-nested_behind (Module binary ∷ front) rest plain nested = nested_behind front rest plain nested
-nested_behind (Info text ∷ front) rest plain nested = nested_behind front rest plain nested
-nested_behind (File number name ∷ front) rest plain nested = nested_behind front rest plain nested
-nested_behind (Origin number name ∷ front) rest plain nested = nested_behind front rest plain nested
-nested_behind (Func many address size params name ∷ front) rest plain nested = nested_behind front rest plain nested
-nested_behind (Inline level line file origin ranges ∷ front) rest plain nested = nested_behind front rest plain nested
-nested_behind (Line address size line file ∷ front) rest plain nested = nested_behind front rest plain nested
-nested_behind (Public many address params name ∷ front) rest plain nested = nested_behind front rest plain nested
-nested_behind (Init address size rules ∷ front) rest plain nested = cc
-nested_behind (Change address rules ∷ front) rest plain nested = cc
-
--- which addresses the records of written entries cover
-pub record CoversWritten (base : ℕ) (image : ImageParts) (found : DebugSays) : Type 0 where
-  pub disjoint : AreDisjoint (written_of image found)
-  pub at : (x : ℕ) → inits_at (written_lines base (written_of image found)) x ≡ entries_at (written_of image found) (x + base)
-  pub nested : AreNested 0 0 (written_lines base (written_of image found))
-
--- the records of a file say which written entry covers an address
-frames_said : (image : ImageParts) (found : DebugSays) (front lines : List SymLine) → list_all is_frameless front ≡ true → lines ≡ front ++ written_lines image.base (written_of image found) → CoversWritten image.base image found → SaysFrames image found lines
-frames_said image found front lines plain are cover = record {
-  front = front;
-  frameless = plain;
-  whole = are;
-  disjoint = cover.disjoint;
-  covered = λ x. ap (λ l. inits_at l x) are ∙ covers_behind x front (written_lines image.base (written_of image found)) plain ∙ cover.at x;
-  nested = subst (AreNested 0 0) (sym are) (nested_behind front (written_lines image.base (written_of image found)) plain cover.nested);
-}
-
--- the same, by what each call gave
-pub frames_framed : (image : ImageParts) (found : DebugSays) (front lines framed : List SymLine) (base : ℕ) (code : List Range) → list_all is_frameless front ≡ true → base ≡ image.base → code ≡ image.code → framed ≡ written_lines base (written code found.first found.second) → ((x : ℕ) → inits_at framed x ≡ entries_at (written code found.first found.second) (x + base)) → AreNested 0 0 framed → AreDisjoint (written code found.first found.second) → lines ≡ front ++ framed → SaysFrames image found lines
-frames_framed image found front lines framed base code plain low ranges framed_is cover nested apart are =
-    let all : framed ≡ written_lines image.base (written_of image found) =
-    framed_is ∙ ap (λ b. written_lines b (written code found.first found.second)) low ∙ ap (λ k. written_lines image.base (written k found.first found.second)) ranges in
-    frames_said image found front lines plain
-    (are ∙ ap (λ l. front ++ l) all)
-    (record {
-      disjoint = subst (λ (k : List Range). AreDisjoint (written k found.first found.second)) ranges apart;
-      at = λ x. ap (λ l. inits_at l x) (sym all) ∙ cover x ∙ ap (λ b. entries_at (written code found.first found.second) (x + b)) low ∙ ap (λ k. entries_at (written k found.first found.second) (x + image.base)) ranges;
-      nested = subst (AreNested 0 0) all nested;
-    })
 
 -- what a file says that was read
 pub record Kept (image : ImageParts) (read : DebugRead) : Type 0 where

@@ -9,4 +9,3 @@ pub mod CleanLemmas
 pub mod AroundLemmas
 pub mod FindingLemmas
 pub mod CanonLemmas
-mod WorkedFindings

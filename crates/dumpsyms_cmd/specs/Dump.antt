@@ -5,7 +5,8 @@ use Rattle.elf_sections.specs.Image.{ImageParts}
 use Rattle.sym_records.specs.Cleaning.{cleaned}
 use Rattle.sym_records.specs.declared.line.SymLine.{SymLine}
 use Rattle.sym_records.specs.declared.line.SymLine.TheVariants.{Module, Info, Public}
-use Rattle.rule_postfix.specs.Written.{written_lines}
+use Rattle.frame_entries.specs.FdeFields.{FdeFields}
+use Rattle.rule_postfix.specs.Written.{written, written_lines}
 use Rattle.die_names.specs.declared.unit_read.UnitRead.{UnitRead}
 use Rattle.func_flatten.specs.declared.piece.Piece.{Piece}
 use Rattle.func_flatten.specs.Pieces.{ArePieces}
@@ -14,7 +15,6 @@ use Rattle.func_records.specs.FuncRecords.{AreFuncRecords}
 use Rattle.debug_read.specs.Each.{Match}
 use Rattle.debug_read.specs.UnitsRead.{IsUnitRead}
 use Rattle.debug_read.specs.DebugSays.{DebugSays}
-use Rattle.dumpsyms_cmd.specs.Frames.{written_of}
 
 -- the identity as a GUID is written: its first four bytes, the next two and the next two, each turned round
 unfoldable pub turned : List ℕ → List ℕ
@@ -49,7 +49,10 @@ public_line base p = Public p.many (p.address - base) 0 p.name
 abbrev pub public_lines : ImageParts → List Piece → List SymLine
 public_lines image pieces = map (public_line image.base) (publics pieces image.symbols)
 
--- the records of the frame entries that are written
+-- the frame entries that are written, and their records
+abbrev pub written_of : ImageParts → DebugSays → List FdeFields
+written_of image found = written image.code found.first found.second
+
 abbrev pub frame_lines : ImageParts → DebugSays → List SymLine
 frame_lines image found = written_lines image.base (written_of image found)
 

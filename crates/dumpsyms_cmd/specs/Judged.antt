@@ -11,12 +11,12 @@ use Rattle.sym_records.specs.Canon.{canon_text}
 use Rattle.sym_records.specs.Reading.{reading}
 use Rattle.sym_records.specs.declared.line.SymLine.{SymLine}
 use Rattle.dumpsyms_cmd.specs.Words.{Asked, dump, module_name}
-use Rattle.dumpsyms_cmd.specs.Dump.{CanonFile}
+use Rattle.dumpsyms_cmd.specs.Dump.{written_of, CanonFile}
 use Rattle.debug_read.specs.DebugSays.{DebugSays, debug_says}
 use Rattle.func_records.specs.TextNames.{Names}
 use Rattle.rule_postfix.specs.Written.{omitted}
-use Rattle.dumpsyms_cmd.specs.Frames.{SaysFrames}
-use Rattle.dumpsyms_cmd.specs.Findings.{HasNoFindings}
+use Rattle.rule_postfix.specs.Covering.{SaysFrames}
+use Rattle.sym_lookup.specs.Findings.{HasNoFindings}
 use Rattle.dumpsyms_cmd.specs.Refusals.{too_long_line, usage_line}
 use Rattle.dumpsyms_cmd.specs.Verdict.{Verdict, refused, unread, left_out, IsPartsVerdict, IsDumpVerdict, IsFileVerdict, IsVerdict, LIMIT}
 use Rattle.dumpsyms_cmd.specs.declared.judgement.Output.{Output}
@@ -81,7 +81,7 @@ pub record DumpsParts (parts : ImageParts) (name : List ℕ) (lines : List SymLi
   pub canon : CanonFile parts name found lines
   pub text_is : text ≡ left_out parts found
   pub reads : reading (canon_text lines) ≡ Ok lines
-  pub frames : SaysFrames parts found lines
+  pub frames : SaysFrames parts.base (written_of parts found) lines
   pub names : (x : ℕ) → Names parts.base canon.units lines x
   pub clean : HasNoFindings lines
 

@@ -1,7 +1,5 @@
 pub mod Words
 pub mod Refusals
-pub mod Frames
-pub mod Findings
 pub mod Dump
 pub mod Spelled
 pub mod Verdict

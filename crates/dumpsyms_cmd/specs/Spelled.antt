@@ -14,9 +14,9 @@ use Rattle.func_records.specs.FuncRecords.{AreFuncRecords, EndBelow}
 use Rattle.func_records.specs.TextNames.{Names}
 use Rattle.debug_read.specs.DebugSays.{DebugSays, debug_says}
 use Rattle.debug_read.specs.declared.found.DebugRead.{DebugRead}
-use Rattle.dumpsyms_cmd.specs.Dump.{identity_lines, public_lines, CanonFile}
-use Rattle.dumpsyms_cmd.specs.Frames.{SaysFrames}
-use Rattle.dumpsyms_cmd.specs.Findings.{HasNoFindings}
+use Rattle.dumpsyms_cmd.specs.Dump.{identity_lines, public_lines, written_of, CanonFile}
+use Rattle.rule_postfix.specs.Covering.{SaysFrames}
+use Rattle.sym_lookup.specs.Findings.{HasNoFindings}
 
 -- a record that may stand behind the first one
 abbrev pub FitsInside : SymLine → Type 0
@@ -37,6 +37,6 @@ pub record DumpsRead (image : ImageParts) (name : List ℕ) (read : DebugRead) (
   pub canon : CanonFile image name found lines
   pub left_is : left ≡ omitted image.code found.first found.second
   pub reads : reading (canon_text lines) ≡ Ok lines
-  pub frames : SaysFrames image found lines
+  pub frames : SaysFrames image.base (written_of image found) lines
   pub names : (x : ℕ) → Names image.base canon.units lines x
   pub clean : HasNoFindings lines

@@ -16,6 +16,7 @@ pub mod ValidLemmas
 pub mod CoveringLemmas
 pub mod NestingLemmas
 pub mod KeptLemmas
+pub mod SayingLemmas
 pub mod TestLemmas
 pub mod OmittedLemmas
 pub mod ComputingBelow

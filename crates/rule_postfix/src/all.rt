@@ -15,7 +15,6 @@ ghost use Rattle.sym_records.specs.declared.place.Place.{Place};
 ghost use Rattle.sym_records.specs.Validity.{first_bad_from};
 ghost use Rattle.rule_postfix.specs.Overlaps.{any_meets};
 ghost use Rattle.rule_postfix.specs.Written.{Decided, has_range, range_of, reason_among, left_out, with_written, with_entry, with_entries, written, omitted, written_lines};
-ghost use Rattle.rule_postfix.specs.Covering.{inits_at, entries_at, AreDisjoint, AreNested};
 ghost use Rattle.rule_postfix.specs.Keeping.{KeptFor, StaysKept};
 ghost use Rattle.rule_postfix.specs.Deciding.{LiesAbove, EndsAt, IfRefused, Shows};
 
@@ -290,9 +289,6 @@ pub fn translate_all(
     requires { AllFrom base code.now }
     ensures text { IfOk result (λ frames. text_bytes frames.text ≡ canon_text (written_lines base (written code.now first.now second.now))) }
     ensures valid { IfOk result (λ _. first_bad_from 0 Place.Inside (written_lines base (written code.now first.now second.now)) ≡ None) }
-    ensures covers { IfOk result (λ _. (x : ℕ) → inits_at (written_lines base (written code.now first.now second.now)) x ≡ entries_at (written code.now first.now second.now) (x + base)) }
-    ensures nested { IfOk result (λ _. AreNested 0 0 (written_lines base (written code.now first.now second.now))) }
-    ensures disjoint { IfOk result (λ _. AreDisjoint (written code.now first.now second.now)) }
     ensures omitted { IfOk result (λ frames. frames.omitted ≡ omitted code.now first.now second.now) }
 {
     let enclosing = Enclosing::of_spans(alloc, code)?;

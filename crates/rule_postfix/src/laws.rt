@@ -1,8 +1,15 @@
 //! Laws of the definitions, for readers and for proofs above. Each function does nothing: its contract is the law.
-ghost use Rattle.std.specs.Prelude.{◌≡◌, List, [], ◌∷◌, ◌++◌};
+ghost use Rattle.std.specs.Prelude.{◌≡◌, ℕ, ◌≤◌, true, List, [], ◌∷◌, ◌++◌};
+ghost use Rattle.std.specs.List.{list_all};
 ghost use Rattle.sym_edges.specs.Addresses.{Range};
 ghost use Rattle.frame_entries.specs.declared.description.Entry.{Entry};
-ghost use Rattle.rule_postfix.specs.Written.{decided_behind, decided_of, reason_of};
+ghost use Rattle.frame_entries.specs.FdeFields.{FdeFields};
+ghost use Rattle.range_set.specs.Starts.{AllFrom};
+ghost use Rattle.sym_records.specs.declared.line.SymLine.{SymLine};
+ghost use Rattle.sym_lookup.specs.Findings.{are_sized};
+ghost use Rattle.sym_lookup.specs.Inits.{inits_at, is_frameless};
+ghost use Rattle.rule_postfix.specs.Written.{decided_behind, decided_of, reason_of, written, written_lines};
+ghost use Rattle.rule_postfix.specs.Covering.{SaysFrames};
 ghost use Rattle.rule_postfix.specs.Decision.{omission_for, fields_for};
 
 /// An entry is left out with a reason exactly where that is its reason behind the entries written before it, and is written
@@ -17,4 +24,19 @@ pub fn entries_are_decided_by_their_reasons()
     ensures written { (code : List Range) (xs : List Entry) (entry : Entry) →
         (decided_of code (xs ++ entry ∷ [])).written
         ≡ (decided_of code xs).written ++ fields_for entry (reason_of code (decided_of code xs).written entry) }
+{}
+
+/// The records of the written entries, after records that say nothing of frames: no two entries have an address in common, as many
+/// INITs cover an address as written entries hold it, and the changes of an INIT stand inside it and rise.
+#[tactic(auto, using(crate::proofs::SayingLemmas::frames_said))]
+pub fn frames_are_said()
+    ensures { (base : ℕ) (code : List Range) (first second : List Entry) (front : List SymLine) → AllFrom base code → list_all is_frameless front ≡ true →
+        SaysFrames base (written code first second) (front ++ written_lines base (written code first second)) }
+{}
+
+/// A checker finds nothing in the records of the written entries: no INIT is empty or ends above 2^64 - 1, and no two cover an address.
+#[tactic(auto, using(crate::proofs::SayingLemmas::frames_said, crate::proofs::SayingLemmas::written_sized, crate::proofs::SayingLemmas::written_once))]
+pub fn frames_have_no_findings()
+    ensures sized { (base : ℕ) (code : List Range) (first second : List Entry) → AllFrom base code → list_all are_sized (written_lines base (written code first second)) ≡ true }
+    ensures apart { (base : ℕ) (entries : List FdeFields) (lines : List SymLine) → SaysFrames base entries lines → (x : ℕ) → inits_at lines x ≤ 1 }
 {}

@@ -1,11 +1,12 @@
 -- Lists of records of a symbol file (Breakpad's symbol_files.md) in which a checker finds nothing: its findings C1 to C7, of files,
--- functions, inlined copies and lines. Ends are whole numbers, and an empty range has no address.
-use Rattle.std.specs.Prelude.{◌≡◌, ℕ, ◌+◌, ◌^◌, ◌&&◌, nat_le, nat_lt, min, max, Bool, true, false, List, [], ◌∷◌}
+-- functions, inlined copies and lines, and C8 and C9, of frames. Ends are whole numbers, and an empty range has no address.
+use Rattle.std.specs.Prelude.{◌≡◌, ℕ, ◌+◌, ◌^◌, ◌≤◌, ◌&&◌, nat_le, nat_lt, min, max, Bool, true, false, List, [], ◌∷◌}
 use Rattle.std.specs.List.{list_any, list_all, flat_map}
 use Rattle.sym_records.specs.declared.line.Extent.{Extent}
 use Rattle.sym_records.specs.declared.line.SymLine.{SymLine}
 use Rattle.sym_records.specs.declared.line.SymLine.TheVariants.{File, Origin, Func, Inline, Line, Init}
 use Rattle.sym_lookup.specs.TextNames.{under, is_file, is_origin}
+use Rattle.sym_lookup.specs.Inits.{inits_at, AreNested}
 
 -- the addresses from a first one on, so many
 abbrev pub run_of : ℕ → ℕ → Extent
@@ -83,7 +84,7 @@ LieInside f records = list_all (λ s. list_all (holds_run f) (runs_of s)) record
 abbrev pub HaveLinesApart : Extent → List SymLine → Type 0
 HaveLinesApart f records = AreApart (flat_map line_run records)
 
--- a checker finds none of these in the records
+-- a checker finds none of these in the records of functions
 pub record HasNoFuncFindings (lines : List SymLine) : Type 0 where
   -- C1: the number of a FILE, or of an INLINE_ORIGIN, was given before by the same keyword
   pub given_once : AreGivenOnce lines
@@ -99,3 +100,12 @@ pub record HasNoFuncFindings (lines : List SymLine) : Type 0 where
   pub inside : EachFunc LieInside lines
   -- C7: a line record meets another of its FUNC
   pub lines_apart : EachFunc HaveLinesApart lines
+
+-- a checker has nine findings, and finds none of them in the records
+pub record HasNoFindings (lines : List SymLine) : Type 0 where
+  -- C1 to C7: of files, functions, inlined copies and lines; C4 of frames too
+  pub functions : HasNoFuncFindings lines
+  -- C8: an INIT meets another, so that both cover an address
+  pub inits_apart : (x : ℕ) → inits_at lines x ≤ 1
+  -- C9: a STACK CFI lies outside its INIT, or not above the address of the record before it
+  pub changes_rise : AreNested 0 0 lines

@@ -1,3 +1,4 @@
 pub mod TextNames
 pub mod Plain
+pub mod Inits
 pub mod Findings

@@ -23,7 +23,7 @@ returns c =
     let front = c.in_ok-head.ensures in
     let head : List SymLine = identity_lines c.args.image.now c.args.name.now ++ (front.functions ++ public_lines c.args.image.now c.in_ok-pieces.pieces) in
     file_dumped c.args.image.now c.args.name.now c.args.debug.now c.in_ok-pieces.pieces c.of.result lines c.base.result c.code.result.now c.in_ok-framed.framed.omitted (text_bytes c.in_ok-head.head)
-    c.requires.found c.code.ensures.above c.in_ok-pieces.ensures front c.base.ensures c.code.ensures.ranges refl c.in_ok-framed.ensures.covers c.in_ok-framed.ensures.nested c.in_ok-framed.ensures.disjoint c.in_ok-framed.ensures.omitted
+    c.requires.found c.code.ensures.above c.in_ok-pieces.ensures front c.base.ensures c.code.ensures.ranges refl c.in_ok-framed.ensures.omitted
     (c.of.ensures ∙ whole_records (text_bytes c.in_ok-head.head) (text_bytes c.in_ok-framed.framed.text) (text_bytes c.in_ok-join_texts.field-0) head lines front.text_is front.valid c.in_ok-framed.ensures.text c.in_ok-framed.ensures.valid c.in_ok-join_texts.ensures)
     (spelled_reads (text_bytes c.in_ok-join_texts.field-0) c.of.result
     (whole_spelled (text_bytes c.in_ok-head.head) (text_bytes c.in_ok-framed.framed.text) (text_bytes c.in_ok-join_texts.field-0) head lines front.text_is front.valid c.in_ok-framed.ensures.text c.in_ok-framed.ensures.valid c.in_ok-join_texts.ensures)

@@ -1,7 +1,4 @@
-use Rattle.std.proofs.Common.{refl}
 use Rattle.rule_postfix.proofs.DecidedLemmas.{shown_all, shown_text, shown_valid, shown_omitted}
-use Rattle.rule_postfix.specs.Written.{written, written_lines}
-use Rattle.rule_postfix.proofs.KeptLemmas.{written_cover, written_changes, written_apart}
 use Rattle.rule_postfix.proofs.all.translate_all.Goals as goal
 
 pub returns-clause-text : goal.returns-clause-text
@@ -15,15 +12,6 @@ returns-clause-valid c =
     shown_valid c.args.base c.args.code.now c.args.first.now c.args.second.now c.put_entries-2.new.progress
     (shown_all c.args.base c.in_ok-enclosing.enclosing c.args.code.now c.args.first.now c.args.second.now _ c.put_entries.new.progress c.put_entries-2.new.progress
     c.in_ok-enclosing.ensures.same c.new.ensures c.new-3.ensures.items c.new-4.ensures c.in_ok-put_entries.ensures c.in_ok-put_entries-2.ensures)
-
-pub returns-clause-covers : goal.returns-clause-covers
-returns-clause-covers c = written_cover c.args.base c.args.code.now c.args.first.now c.args.second.now (written_lines c.args.base (written c.args.code.now c.args.first.now c.args.second.now)) c.requires refl
-
-pub returns-clause-nested : goal.returns-clause-nested
-returns-clause-nested c = written_changes c.args.base c.args.code.now c.args.first.now c.args.second.now (written_lines c.args.base (written c.args.code.now c.args.first.now c.args.second.now)) c.requires refl
-
-pub returns-clause-disjoint : goal.returns-clause-disjoint
-returns-clause-disjoint c = written_apart c.args.base c.args.code.now c.args.first.now c.args.second.now c.requires
 
 pub returns-clause-omitted : goal.returns-clause-omitted
 returns-clause-omitted c =

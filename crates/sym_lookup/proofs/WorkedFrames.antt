@@ -2,9 +2,8 @@
 use Rattle.std.proofs.Common.{◌≡◌, ◌+◌, ◌<◌, ◌≤◌, ◌&&◌, nat_le, nat_lt, Bool, true, false, cond, List, [], ◌∷◌, codes, refl, arith, rules}
 use Rattle.sym_records.specs.declared.line.SymLine.{SymLine}
 use Rattle.sym_records.specs.declared.line.SymLine.TheVariants.{File, Func, Line, Init, Change}
-use Rattle.sym_lookup.specs.Findings.{are_sized}
-use Rattle.rule_postfix.specs.Covering.{inits_at, AreNested}
-use Rattle.dumpsyms_cmd.specs.Findings.{HasNoFindings}
+use Rattle.sym_lookup.specs.Findings.{are_sized, HasNoFindings}
+use Rattle.sym_lookup.specs.Inits.{inits_at, AreNested}
 
 -- a function with a line, and its frames; the rules say nothing
 abbrev clean : List SymLine
@@ -53,7 +52,7 @@ inits_touch : inits_at (Init 0x10 0x10 [] ∷ Init 0x20 8 [] ∷ []) 0x20 ≡ 1
 unfolding inits_at
 inits_touch = refl
 
--- C9: at the INIT's own address, at that of the change before it, behind the INIT, and with no INIT before it
+-- C9: at the INIT's own address, at that of the change before it, after the INIT, and with no INIT before it
 change_at_init : AreNested 0 0 (Init 0x10 0x10 [] ∷ Change 0x10 [] ∷ []) → ⊥
 change_at_init nested = let above : 0x10 < 0x10 = nested.1.0 in absurd (omega arith)
 
