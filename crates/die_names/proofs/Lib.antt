@@ -4,7 +4,6 @@ mod FollowLemmas
 mod NameLemmas
 mod JoinLemmas
 pub mod TextLemmas
-mod CleanLemmas
 pub mod Computing
 mod WorkedNames
 pub mod PlaceLemmas

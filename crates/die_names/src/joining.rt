@@ -1,7 +1,7 @@
 //! The text of a name.
 ghost use Rattle.std.specs.Prelude.{◌≡◌, ◌++◌, ◌≤◌, ◌<◌, length, IfOk, OnOk};
 ghost use Rattle.std.specs.Option.{option_copied};
-ghost use Rattle.sym_records.specs.Cleaning.{cleaned};
+ghost use Rattle.clean_names.specs.Cleaning.{cleaned};
 ghost use Rattle.die_walk.specs.EntryTable.{DieFields};
 ghost use Rattle.std.specs.List.{slice_get, list_any};
 ghost use Rattle.die_names.specs.Names.{around, is_scope, scope_front, front_in};
@@ -14,8 +14,8 @@ use crate::unit_read::{UnitRead, Units};
 use die_walk::Die;
 use std::alloc::Global;
 use sym_edges::OutOfMemory;
-use sym_records::clean;
-use sym_rules::ByteText;
+use clean_names::clean;
+use sym_edges::ByteRun;
 
 /// Whether an entry is a scope: a class, a structure, a union or a namespace.
 #[tactic(auto, unfolding(crate::specs::Names::is_scope))]
@@ -156,7 +156,7 @@ pub fn name_slice<'a>(units: &Units<'a>, name: NameRef) -> Option<&'a [u8]>
 
 /// The text of a name, made as a record may carry it.
 #[tactic(auto, using(crate::proofs::TextLemmas::text_sliced, crate::proofs::TextLemmas::text_joined, crate::proofs::TextLemmas::text_no_part, crate::proofs::TextLemmas::text_no_die, crate::proofs::TextLemmas::text_no_name, crate::proofs::TextLemmas::text_no_linkage, crate::proofs::TextLemmas::text_omitted))]
-fn made_text(alloc: Global, units: &Units<'_>, name: NameRef) -> Result<ByteText, OutOfMemory>
+fn made_text(alloc: Global, units: &Units<'_>, name: NameRef) -> Result<ByteRun, OutOfMemory>
     ensures { IfOk result (λ t. t ≡ cleaned (name_bytes units.now name)) }
 {
     if let Some(bytes) = name_slice(units, name) {

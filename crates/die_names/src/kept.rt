@@ -2,20 +2,20 @@
 ghost use Rattle.std.specs.Prelude.{◌≡◌, ◌==◌, true, IfSome, MatchResult};
 ghost use Rattle.std.specs.List.{list_all};
 ghost use Rattle.std.specs.Option.{option_copied};
-ghost use Rattle.sym_records.specs.Cleaning.{cleaned, shown_byte};
+ghost use Rattle.clean_names.specs.Cleaning.{cleaned, shown_byte};
 ghost use Rattle.die_names.specs.NameRefs.{name_bytes};
 
 use crate::joining::name_slice;
 use crate::naming::NameRef;
 use crate::unit_read::Units;
 use std::marker::Model;
-use sym_rules::ByteText;
+use sym_edges::ByteRun;
 
 /// Where the bytes of a name are.
 #[derive(Drop)]
 pub(crate) enum KeptName<'a> {
     Whole(&'a [u8]),
-    Made(ByteText),
+    Made(ByteRun),
 }
 
 /// A name as a record carries it, which contracts see as its bytes. Where they stand in the file as they are, they are not copied.
@@ -35,7 +35,7 @@ impl<'a> Model for NameText<'a> {
 
 impl<'a> NameText<'a> {
     /// A name that was made.
-    pub(crate) fn of(text: ByteText) -> NameText<'a>
+    pub(crate) fn of(text: ByteRun) -> NameText<'a>
         ensures { result ≡ text }
     {
         NameText {
@@ -62,7 +62,7 @@ impl<'a> NameText<'a> {
     }
 
     /// The bytes that were made, or else those of the file.
-    pub fn into_made(self) -> Result<ByteText, &'a [u8]>
+    pub fn into_made(self) -> Result<ByteRun, &'a [u8]>
         ensures { MatchResult result (λ text. text ≡ self.entry) (λ bytes. bytes.now ≡ self.entry) }
     {
         match self.kept {

@@ -1,7 +1,7 @@
 //! Which entry gives a name.
 ghost use Rattle.std.specs.Prelude.{◌≡◌, ◌<◌, ◌^◌, if◌then◌else◌};
 ghost use Rattle.std.specs.Option.{option_copied};
-ghost use Rattle.sym_records.specs.Cleaning.{cleaned};
+ghost use Rattle.clean_names.specs.Cleaning.{cleaned};
 ghost use Rattle.die_names.specs.UnitEntries.{AreRead, entry_of};
 ghost use Rattle.die_names.specs.Names.{way, entry_name, linked_from};
 ghost use Rattle.die_names.specs.NameRefs.{name_ref, name_bytes};

@@ -7,7 +7,7 @@ use Rattle.sym_edges.specs.Results.{◌>>=◌}
 use Rattle.sym_edges.specs.declared.located.Located.{Located}
 use Rattle.sym_edges.specs.declared.part.Sect.TheVariants.{Line}
 use Rattle.leb_cursor.specs.Ahead.{Ahead}
-use Rattle.sym_records.specs.Cleaning.{cleaned}
+use Rattle.clean_names.specs.Cleaning.{cleaned}
 use Rattle.elf_sections.specs.Image.{ImageParts}
 use Rattle.abbrev_units.specs.declared.fault.DwarfKind.{DwarfKind}
 use Rattle.abbrev_units.specs.declared.unit.Unit.{Unit}
@@ -38,7 +38,7 @@ use Rattle.debug_read.specs.UnitSays.{UnitSays, lines_by, root_lines, unit_says}
 use Rattle.debug_read.specs.UnitsRead.{IsUnitRead, KeepsLines, has_function}
 use Rattle.func_records.specs.Spelling.{AreClean}
 use Rattle.func_records.specs.Adding.{HaveCleanPaths}
-use Rattle.func_records.proofs.CleanLemmas.{cleaned_again}
+use Rattle.clean_names.proofs.CleanLemmas.{cleaned_again}
 
 -- what holds of what is read, where it is read
 abbrev pub Holds : {A F : Type 0} → (A → Type 0) → Result A F → Type 0

@@ -2,7 +2,7 @@
 use Rattle.std.specs.Prelude.{◌≡◌, ℕ, ◌-◌, List, [], ◌∷◌, ◌++◌, Option, Some, None, map, slice_index, codes}
 use Rattle.hex.specs.Hex.{encode_upper}
 use Rattle.elf_sections.specs.Image.{ImageParts}
-use Rattle.sym_records.specs.Cleaning.{cleaned}
+use Rattle.clean_names.specs.Cleaning.{cleaned}
 use Rattle.sym_records.specs.declared.line.SymLine.{SymLine}
 use Rattle.sym_records.specs.declared.line.SymLine.TheVariants.{Module, Info, Public}
 use Rattle.frame_entries.specs.FdeFields.{FdeFields}

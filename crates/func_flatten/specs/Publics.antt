@@ -3,7 +3,7 @@ use Rattle.std.specs.Prelude.{◌≡◌, ℕ, ◌==◌, ◌&&◌, Bool, true, fa
 use Rattle.std.specs.List.{list_any, list_all}
 use Rattle.std.specs.Str.{bytes_eq}
 use Rattle.elf_sections.specs.Symbols.{SymbolParts}
-use Rattle.sym_records.specs.Cleaning.{cleaned}
+use Rattle.clean_names.specs.Cleaning.{cleaned}
 use Rattle.func_flatten.specs.declared.piece.Piece.{Piece}
 use Rattle.func_flatten.specs.declared.public.PublicAt.{PublicAt}
 

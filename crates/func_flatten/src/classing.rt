@@ -2,7 +2,7 @@
 ghost use Rattle.std.specs.Prelude.{◌≡◌, ◌==◌, true, map, IfOk, IfSome};
 ghost use Rattle.std.specs.List.{list_all};
 ghost use Rattle.std.specs.Option.{option_copied};
-ghost use Rattle.sym_records.specs.Cleaning.{cleaned, shown_byte};
+ghost use Rattle.clean_names.specs.Cleaning.{cleaned, shown_byte};
 ghost use Rattle.die_names.specs.NameRefs.{name_bytes};
 ghost use Rattle.func_flatten.specs.Classes.{place_name, place_at, number_name, name_number, class_by, classed, last_class, Meets};
 

@@ -3,7 +3,7 @@ ghost use Rattle.std.specs.Prelude.{◌≡◌, ℕ, ◌<◌, ◌≤◌, ◌∷�
 ghost use Rattle.std.specs.List.{list_all, list_any};
 ghost use Rattle.std.specs.Str.{bytes_eq};
 ghost use Rattle.elf_sections.specs.Symbols.{symbol_view};
-ghost use Rattle.sym_records.specs.Cleaning.{cleaned};
+ghost use Rattle.clean_names.specs.Cleaning.{cleaned};
 ghost use Rattle.range_set.specs.Members.{holds_any};
 ghost use Rattle.range_set.specs.Canonical.{IsCanonical};
 ghost use Rattle.func_flatten.specs.Publics.{publics, publics_where, is_inside, stands_at, names_of, public_named, public_view};
@@ -15,7 +15,7 @@ use elf_sections::{Image, Symbol};
 use range_set::of_ranges;
 use std::alloc::{AllocError, Global};
 use sym_edges::{ListOf, OutOfMemory, Span};
-use sym_records::clean;
+use clean_names::clean;
 
 /// The symbols by address; those of one address in the order in which they came.
 pub(crate) fn sorted_symbols<'a>(

@@ -2,7 +2,6 @@ pub mod ListLemmas
 pub mod PartLemmas
 pub mod CanonLemmas
 pub mod TextLemmas
-pub mod CleanLemmas
 pub mod ChainLemmas
 pub mod CallLemmas
 pub mod FoundLemmas

@@ -3,7 +3,7 @@ use Rattle.std.proofs.Common.{◌≡◌, ℕ, ◌+◌, ◌<◌, ◌^◌, true, m
 use Rattle.std.specs.List.{list_all}
 use Rattle.std.specs.Option.{option_copied}
 use Rattle.sym_records.specs.Canon.{canon, canon_text}
-use Rattle.sym_records.specs.Cleaning.{cleaned}
+use Rattle.clean_names.specs.Cleaning.{cleaned}
 use Rattle.sym_records.specs.Validity.{fields_fit, first_bad_from}
 use Rattle.sym_records.specs.declared.place.Place.TheVariants.{Inside, Function}
 use Rattle.sym_records.specs.declared.line.SymLine.{SymLine}
@@ -22,7 +22,7 @@ use Rattle.func_records.specs.declared.numbers.Numbers.{Numbers}
 use Rattle.func_records.specs.FuncRecords.{Part, func_record, EndBelow}
 use Rattle.func_records.specs.Spelling.{line_by, row_of}
 use Rattle.func_records.specs.Parts.{inline_by, part_by, parts_by, AddsPart, AddsParts}
-use Rattle.func_records.proofs.CleanLemmas.{cleaned_again}
+use Rattle.clean_names.proofs.CleanLemmas.{cleaned_again}
 use Rattle.func_records.proofs.ListLemmas.{take_next}
 use Rattle.func_records.proofs.PartLemmas.{lined_push, pieces_push, copies_push}
 use Rattle.func_records.proofs.CanonLemmas.{canon_none, canon_join, canon_more, none_here}

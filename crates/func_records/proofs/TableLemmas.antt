@@ -4,7 +4,7 @@ use Rattle.std.specs.List.{slice_get}
 use Rattle.std.proofs.lemmas.Option.{slice_get_within}
 use Rattle.std.proofs.lemmas.List.{length-take-le}
 use Rattle.sym_records.specs.Canon.{canon, canon_text}
-use Rattle.sym_records.specs.Cleaning.{cleaned}
+use Rattle.clean_names.specs.Cleaning.{cleaned}
 use Rattle.sym_records.specs.Reading.{fits, leads}
 use Rattle.sym_records.specs.Validity.{fields_fit, first_bad_from}
 use Rattle.sym_records.specs.declared.place.Place.TheVariants.{Inside}

@@ -8,7 +8,7 @@ use Rattle.std.specs.Cmp.Lexicographic.{slice_cmp}
 use Rattle.std.specs.Str.{bytes_eq}
 use Rattle.std.proofs.lemmas.Slice.Eq.{bytes_eq-Decides}
 use Rattle.std.proofs.lemmas.List.Folds.{Any-from_list_any, list_any-from_Any}
-use Rattle.sym_records.specs.Cleaning.{cleaned}
+use Rattle.clean_names.specs.Cleaning.{cleaned}
 use Rattle.die_names.specs.declared.unit_read.UnitRead.{UnitRead}
 use Rattle.die_names.specs.declared.naming.NameRef.{NameRef}
 use Rattle.die_names.specs.NameRefs.{name_bytes}
@@ -17,15 +17,19 @@ use Rattle.func_flatten.specs.declared.line_run.LineRun.{LineRun}
 use Rattle.func_flatten.specs.LineRuns.{unit_paths}
 use Rattle.inline_chain.specs.InlineRuns.{InlineParts}
 use Rattle.func_records.specs.Texts.{text_cmp, SameTexts}
-use Rattle.func_records.specs.FuncRecords.{Part, path_in, call_path, AreLined, names_path}
+use Rattle.func_records.specs.FuncRecords.{Part, path_in, no_path, call_path, AreLined, names_path}
 use Rattle.func_records.specs.Calls.{call_number, path_or, IsPathed, AreKnown, AreAllKnown}
 use Rattle.func_records.specs.Gathering.{bytes_of, has_text, ArePathed, Gathered}
 use Rattle.func_records.specs.Spelling.{AreClean}
 use Rattle.func_records.specs.Adding.{HaveCleanPaths}
 use Rattle.func_records.specs.Origins.{made_name}
-use Rattle.func_records.proofs.CleanLemmas.{cleaned_again, omitted_clean}
+use Rattle.clean_names.proofs.CleanLemmas.{cleaned_again, omitted_again}
 use Rattle.func_records.proofs.PathLemmas.{all_pathed}
 use Rattle.func_records.proofs.ListLemmas.{or_left, or_right}
+
+omitted_clean : cleaned no_path ≡ no_path
+unfolding cleaned no_path
+omitted_clean = omitted_again 65536 (omega arith)
 
 -- sorted texts by their bytes
 all_below : (x : Bor (List ℕ)) (xs : List (Bor (List ℕ))) → AllByRecursion (λ y. text_cmp x y ≡ Less) xs → AllByRecursion (λ y. slice_cmp nat_cmp x.now y ≡ Less) (bytes_of xs)

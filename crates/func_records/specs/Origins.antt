@@ -1,6 +1,6 @@
 -- No public clause cites this: the names of the functions that were inlined, as they are gathered and numbered.
 use Rattle.std.specs.Prelude.{◌≡◌, ℕ, List, [], ◌∷◌, ◌++◌, map}
-use Rattle.sym_records.specs.Cleaning.{cleaned}
+use Rattle.clean_names.specs.Cleaning.{cleaned}
 use Rattle.die_names.specs.declared.unit_read.UnitRead.{UnitRead}
 use Rattle.die_names.specs.declared.naming.NameRef.{NameRef}
 use Rattle.die_names.specs.Names.{entry_name}

@@ -1,7 +1,7 @@
 //! The records of the paths and the names in use, spelled.
 ghost use Rattle.std.specs.Prelude.{◌≡◌, ◌++◌, ◌<◌, ◌^◌, None, true, length, OnOk};
 ghost use Rattle.sym_records.specs.Canon.{canon, canon_text};
-ghost use Rattle.sym_records.specs.Cleaning.{cleaned};
+ghost use Rattle.clean_names.specs.Cleaning.{cleaned};
 ghost use Rattle.sym_records.specs.Spelled.{text_bytes};
 ghost use Rattle.sym_records.specs.Validity.{fields_fit, first_bad_from};
 ghost use Rattle.sym_records.specs.declared.place.Place.TheVariants.{Inside};

@@ -3,7 +3,7 @@ ghost use Rattle.std.specs.Prelude.{◌≡◌, ◌++◌, ◌<◌, ◌^◌, None,
 ghost use Rattle.std.specs.List.{list_all, slice_get};
 ghost use Rattle.std.specs.Option.{option_copied};
 ghost use Rattle.sym_records.specs.Canon.{canon, canon_text};
-ghost use Rattle.sym_records.specs.Cleaning.{cleaned};
+ghost use Rattle.clean_names.specs.Cleaning.{cleaned};
 ghost use Rattle.sym_records.specs.Spelled.{text_bytes};
 ghost use Rattle.sym_records.specs.Validity.{fields_fit};
 ghost use Rattle.func_flatten.specs.LineRuns.{AreLineRuns};

@@ -19,14 +19,14 @@ use range_set::Enclosing;
 use std::alloc::Global;
 use std::marker::Model;
 use sym_edges::{Located, OutOfMemory, Sect, Stop};
-use sym_records::ByteText;
+use sym_edges::ByteRun;
 
 /// What a line table says: its sequences, the number of its first file, and the files' paths.
 #[derive(Drop)]
 struct Lines {
     sequences: Vec<LineSequence>,
     first: u32,
-    files: Vec<ByteText>,
+    files: Vec<ByteRun>,
 }
 
 impl Model for Lines {

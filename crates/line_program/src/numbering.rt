@@ -6,7 +6,7 @@ ghost use Rattle.line_program.specs.Numbering.{picked, AreNumbered, AllBelow};
 use std::alloc::Global;
 use std::collections::BTreeMap;
 use sym_edges::OutOfMemory;
-use sym_records::ByteText;
+use sym_edges::ByteRun;
 
 /// Where each path first stands among the files' paths, and the number of each file's path.
 #[derive(Drop)]
@@ -16,7 +16,7 @@ pub(crate) struct Numbering {
 }
 
 /// Numbers paths in the order of the first file that has each.
-pub(crate) fn number_paths(alloc: Global, texts: &[ByteText]) -> Result<Numbering, OutOfMemory>
+pub(crate) fn number_paths(alloc: Global, texts: &[ByteRun]) -> Result<Numbering, OutOfMemory>
     requires { length texts.now < 2 ^ 32 }
     ensures paths { IfOk result (λ n. picked texts.now n.firsts.items ≡ distinct_paths texts.now) }
     ensures files { IfOk result (λ n. AreNumbered (picked texts.now n.firsts.items) n.files.items texts.now) }

@@ -6,7 +6,8 @@ use crate::file_entry::FileEntry;
 use std::alloc::Global;
 use std::marker::Model;
 use sym_edges::OutOfMemory;
-use sym_records::{ByteText, clean};
+use clean_names::clean;
+use sym_edges::ByteRun;
 
 /// The directories of a table, by their numbers: the first one, and those that stand in it.
 #[derive(Drop)]
@@ -161,7 +162,7 @@ impl<'t, 'a> Directories<'t, 'a> {
         &self,
         alloc: Global,
         files: &[FileEntry<'_>],
-    ) -> Result<Vec<ByteText>, OutOfMemory>
+    ) -> Result<Vec<ByteRun>, OutOfMemory>
         ensures { IfOk result (λ paths. paths.items ≡ map (file_path self.now) files.now) }
     {
         let mut paths = Vec::with_capacity(alloc, files.len())?;

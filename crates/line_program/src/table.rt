@@ -18,13 +18,13 @@ use std::alloc::Global;
 use std::marker::Model;
 use step_maps::{StepMap, first_items};
 use sym_edges::OutOfMemory;
-use sym_records::ByteText;
+use sym_edges::ByteRun;
 
 /// Lines by address, and the files' paths by their numbers.
 #[derive(Drop)]
 pub struct LineTable {
     lines: StepMap<PathLine>,
-    texts: Vec<ByteText>,
+    texts: Vec<ByteRun>,
     firsts: Vec<u32>,
     first: u32,
     files: Vec<u32>,
@@ -115,7 +115,7 @@ impl LineTable {
         code: &Enclosing,
         sequences: Vec<LineSequence>,
         first: u32,
-        texts: Vec<ByteText>,
+        texts: Vec<ByteRun>,
     ) -> Result<LineTable, OutOfMemory>
         ensures { IfOk result (λ table. SaysLines (encloses code.now) (record { sequences = sequences.items; first = first; files = texts.items }) table) }
     {

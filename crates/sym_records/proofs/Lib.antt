@@ -9,8 +9,6 @@ pub mod ValidityLemmas
 pub mod ReadingLemmas
 pub mod FileLemmas
 pub mod JoiningLemmas
-pub mod CutsLemmas
-pub mod CleaningLemmas
 pub mod AddingLemmas
 pub mod HandingLemmas
 pub mod MakingLemmas

@@ -14,7 +14,7 @@ use Rattle.sym_rules.proofs.PlainLemmas.{rules_short, rules_are}
 use Rattle.sym_records.proofs.LengthLemmas.{length_module, length_info, length_file, length_origin, length_func, length_inline, length_line, length_public, length_init, length_change}
 use Rattle.sym_rules.proofs.DigitsLemmas.{length_hex}
 use Rattle.sym_records.proofs.TextLemmas.{digits_within}
-use Rattle.sym_records.proofs.CleaningLemmas.{is_shown, named}
+use Rattle.clean_names.proofs.CleaningLemmas.{is_shown, named}
 use Rattle.sym_rules.specs.RuleValidity.{is_plain_rule}
 use Rattle.sym_rules.specs.declared.rules.RuleText.{RuleText}
 use Rattle.sym_records.specs.Canon.{body}

@@ -2,7 +2,6 @@
 use Rattle.std.proofs.Common.{◌≡◌, true, false, [], ◌∷◌, codes, Some, None, refl}
 use Rattle.sym_edges.proofs.Shown.{shown}
 use Rattle.sym_records.proofs.Computing.{sym_records_computes}
-use Rattle.sym_records.specs.Cleaning.{cleaned, cleaned_upto}
 use Rattle.sym_records.specs.Fields.{is_field, is_name}
 use Rattle.sym_records.specs.Validity.{first_bad}
 use Rattle.sym_records.specs.declared.line.SymLine.{SymLine}
@@ -259,46 +258,3 @@ field_lf = refl
 field_space_first : is_field (codes " a") ≡ false
 unfolding sym_records_computes
 field_space_first = refl
-
--- a cleaned name
-clean_plain : shown (cleaned (codes "main")) ≡ "main"
-unfolding sym_records_computes shown
-clean_plain = refl
-
-clean_controls : shown (cleaned (codes "  a\tb\u{7f}\u{1f}~ ")) ≡ "a?b??~ "
-unfolding sym_records_computes shown
-clean_controls = refl
-
-clean_lf_first : shown (cleaned (codes "\n a")) ≡ "? a"
-unfolding sym_records_computes shown
-clean_lf_first = refl
-
-clean_spaces : shown (cleaned (codes "   ")) ≡ "<name omitted>"
-unfolding sym_records_computes shown
-clean_spaces = refl
-
-clean_nothing : shown (cleaned (codes "")) ≡ "<name omitted>"
-unfolding sym_records_computes shown
-clean_nothing = refl
-
--- cut
-cut_three : shown (cleaned_upto 3 (codes " abcd")) ≡ "abc"
-unfolding sym_records_computes shown
-cut_three = refl
-
-cut_four : shown (cleaned_upto 4 (codes " abcd")) ≡ "abcd"
-unfolding sym_records_computes shown
-cut_four = refl
-
-cut_five : shown (cleaned_upto 5 (codes " abcd")) ≡ "abcd"
-unfolding sym_records_computes shown
-cut_five = refl
-
-cut_all : shown (cleaned_upto 0 (codes " abcd")) ≡ "<name omitted>"
-unfolding sym_records_computes shown
-cut_all = refl
-
--- a byte above ASCII
-clean_utf8 : cleaned (195 ∷ 169 ∷ []) ≡ 195 ∷ 169 ∷ []
-unfolding sym_records_computes
-clean_utf8 = refl

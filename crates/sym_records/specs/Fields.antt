@@ -3,7 +3,8 @@
 use Rattle.std.specs.Prelude.{ℕ, ◌-◌, ◌^◌, ◌==◌, ◌&&◌, Bool, true, false, not, nat_lt, List, [], ◌∷◌, ◌++◌, length, slice_index, codes}
 use Rattle.std.specs.List.{list_all, flat_map}
 use Rattle.std.specs.Fmt.{decimal, digits}
-use Rattle.sym_rules.specs.Cuts.{is_within_line, is_within_field}
+unfoldable pub use Rattle.clean_names.specs.Names.{is_name}
+use Rattle.sym_rules.specs.Cuts.{is_within_field}
 use Rattle.sym_rules.specs.Rules.{spelled_rules}
 use Rattle.sym_rules.specs.RuleValidity.{are_rules}
 use Rattle.sym_rules.specs.declared.rules.RuleText.{RuleText}
@@ -78,10 +79,6 @@ spelled (Then m rest) v = spelled_middle m v.0 ++ spelled rest v.1
 -- a field: not empty, without spaces and LFs
 unfoldable pub is_field : List ℕ → Bool
 is_field bytes = nat_lt 0 (length bytes) && list_all is_within_field bytes
-
--- a name: not empty, no space in front, no CR at the end, without LFs
-unfoldable pub is_name : List ℕ → Bool
-is_name bytes = nat_lt 0 (length bytes) && not (slice_index bytes 0 == 32) && not (slice_index bytes (length bytes - 1) == 13) && list_all is_within_line bytes
 
 -- a number in hexadecimal is below 2^64, a decimal one below 2^32
 abbrev pub fits_middle : (m : Middle) → Held m → Bool

@@ -7,5 +7,4 @@ pub mod Places
 pub mod Reading
 pub mod Validity
 pub mod Listed
-pub mod Cleaning
 pub mod Spelled

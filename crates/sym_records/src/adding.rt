@@ -2,12 +2,12 @@ ghost use Rattle.std.specs.Prelude.{◌≡◌, ◌+◌, ◌≤◌, [], ◌∷◌
 ghost use Rattle.std.specs.Fmt.{decimal};
 ghost use Rattle.std.specs.List.{flat_map};
 ghost use Rattle.sym_records.specs.Canon.{canon, init_front, change_front};
-ghost use Rattle.sym_records.specs.Cleaning.{cleaned};
+ghost use Rattle.clean_names.specs.Cleaning.{cleaned};
 ghost use Rattle.sym_records.specs.Fields.{hex, mark, spelled_range};
 ghost use Rattle.sym_records.specs.declared.line.SymLine.TheVariants as line;
 
-use crate::cleaning::add_cleaned;
 use crate::line::Extent;
+use clean_names::add_cleaned;
 use sym_edges::OutOfMemory;
 use sym_rules::{
     RuleText, add_rules, add_word, fit_rules, write_byte, write_bytes, write_decimal, write_hex,

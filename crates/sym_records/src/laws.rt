@@ -5,13 +5,14 @@ ghost use Rattle.sym_records.specs.declared.line.SymLine.{SymLine};
 ghost use Rattle.sym_records.specs.declared.place.Place.{Place};
 ghost use Rattle.sym_rules.specs.declared.rules.RuleText.{RuleText};
 ghost use Rattle.sym_records.specs.Canon.{canon, canon_text};
-ghost use Rattle.sym_records.specs.Cleaning.{cleaned};
 ghost use Rattle.sym_records.specs.Fields.{is_name, is_range};
 ghost use Rattle.sym_records.specs.Spelled.{records_in, IsSpelled};
 ghost use Rattle.sym_records.specs.declared.line.Extent.{Extent};
 ghost use Rattle.sym_records.specs.Reading.{reading, fits, leads};
 ghost use Rattle.sym_rules.specs.RuleValidity.{is_plain_rule};
 ghost use Rattle.sym_records.specs.Validity.{fields_fit, first_bad, first_bad_from, place_behind, is_change, IsValid, AreValid};
+
+pub use clean_names::laws::cleaned_bytes_are_names;
 
 /// The canonical text of a valid list reads back as the list.
 #[tactic(auto, using(crate::proofs::ReadingLemmas::reads_back))]
@@ -43,13 +44,6 @@ pub fn good_lists_are_joined()
     ensures pushed { (place : Place) (lines : List SymLine) (s : SymLine) → first_bad_from 0 place lines ≡ None → fits (place_behind place lines) s ≡ true → fields_fit s ≡ true → first_bad_from 0 place (lines ++ s ∷ []) ≡ None }
     ensures place { (place : Place) (lines : List SymLine) (s : SymLine) → place_behind place (lines ++ s ∷ []) ≡ leads (place_behind place lines) s }
     ensures frame { (address size : ℕ) (rules : List RuleText) (changes : List SymLine) → fields_fit (SymLine.Init address size rules) ≡ true → list_all is_change changes ≡ true → list_all fields_fit changes ≡ true → first_bad_from 0 Place.Inside (SymLine.Init address size rules ∷ changes) ≡ None }
-{}
-
-/// What `clean` makes is a name that records may carry, and no longer than a line bears.
-#[tactic(auto, using(crate::proofs::CleaningLemmas::cleaned_named, crate::proofs::CleaningLemmas::cleaned_short), unfolding(crate::specs::Cleaning::cleaned))]
-pub fn cleaned_bytes_are_names()
-    ensures named { (bytes : List ℕ) → is_name (cleaned bytes) ≡ true }
-    ensures short { (bytes : List ℕ) → length (cleaned bytes) ≤ 65536 }
 {}
 
 /// Records of numbers in their ranges and of names up to 2^16 bytes pass the test, and an inline of at most 30,000 ranges.

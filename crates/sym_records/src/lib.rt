@@ -34,9 +34,6 @@ mod spelling;
 mod text;
 mod writing;
 
-// The names that they carry.
-mod cleaning;
-
 // What holds of all of it.
 pub mod laws;
 
@@ -44,7 +41,7 @@ pub use adding::{
     add_change, add_file, add_func, add_info, add_init, add_inline, add_line, add_module,
     add_origin, add_public, write_change, write_init,
 };
-pub use cleaning::clean;
+pub use clean_names::clean;
 pub use digits::HexText;
 pub use fields::{is_field, is_name};
 pub use file::{NotValid, SymFile, file_of};

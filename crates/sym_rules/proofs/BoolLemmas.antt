@@ -1,19 +1,7 @@
 use Rattle.std.proofs.Common.{◌≡◌, ℕ, ◌==◌, ◌&&◌, cond, Bool, true, false, not, List, ◌∷◌, length, nat_lt, ◌<◌, Result, Ok, Err, refl, arith, ◌⊎◌, inl, inr}
 use Rattle.std.proofs.lemmas.Bool.Decides.{nat_tests}
 use Rattle.sym_edges.specs.Results.{◌>>=◌}
-
--- both tests are true
-pub and_true : {a b : Bool} → (a && b) ≡ true → (a ≡ true) × (b ≡ true)
-and_true {a = true} is = (refl, is)
-and_true {a = false} is = cc
-
-pub both : {a b : Bool} → a ≡ true → b ≡ true → (a && b) ≡ true
-both {a = true} first second = second
-both {a = false} first second = cc
-
-pub not_false : {b : Bool} → b ≡ false → not b ≡ true
-not_false {b = true} is = cc
-not_false {b = false} is = refl
+pub use Rattle.clean_names.proofs.BoolLemmas.{and_true, both, not_false, if_both, some_bytes}
 
 pub not_true : {b : Bool} → not b ≡ true → b ≡ false
 not_true {b = true} is = cc
@@ -23,10 +11,6 @@ not_true {b = false} is = refl
 pub elim_bool : (b : Bool) (P : Bool → Type 0) → (b ≡ true → P true) → (b ≡ false → P false) → P b
 elim_bool true P whole none = whole refl
 elim_bool false P whole none = none refl
-
-pub if_both : {A : Type 0} (P : A → Type 0) (b : Bool) (x y : A) → P x → P y → P (cond b x y)
-if_both P true x y first second = first
-if_both P false x y first second = second
 
 -- which value was chosen
 pub chosen : {A : Type 0} (b : Bool) (x y z : A) → cond b x y ≡ z → ((b ≡ true) × (x ≡ z)) ⊎ ((b ≡ false) × (y ≡ z))
@@ -40,9 +24,6 @@ bind_ok (Err e) f y is = cc
 
 pub eq_32 : (x : ℕ) → (x == 32) ≡ true → x ≡ 32
 eq_32 x is = grind (arith, nat_tests)
-
-pub some_bytes : (x : ℕ) (xs : List ℕ) → nat_lt 0 (length (x ∷ xs)) ≡ true
-some_bytes x xs = grind (arith, nat_tests)
 
 pub no_bytes : (xs : List ℕ) → nat_lt 0 (length xs) ≡ true → 0 < length xs
 no_bytes xs is = grind (arith, nat_tests)

@@ -2,7 +2,8 @@
 use Rattle.std.proofs.Common.{◌≡◌, ℕ, ◌-◌, ◌==◌, cond, suc, Bool, true, false, List, [], ◌∷◌, ◌++◌, length, get_or, refl, sym, ◌∙◌, ap, arith}
 use Rattle.std.specs.List.{list_all}
 use Rattle.sym_rules.proofs.BoolLemmas.{and_true, both, elim_bool, false_true}
-use Rattle.sym_rules.specs.Cuts.{is_space, is_cr, from, skip, trim_end, last_is}
+pub use Rattle.clean_names.proofs.SkipLemmas.{Begins, begins_skip}
+use Rattle.sym_rules.specs.Cuts.{is_cr, from, skip, trim_end, last_is}
 
 -- whether bytes end in CR
 abbrev pub ends_in_cr : List ℕ → Bool
@@ -119,13 +120,3 @@ unfolding trim_end
 all_trim p q [] all = refl
 all_trim p q (x ∷ xs) all =
     elim_bool (list_all q (x ∷ xs)) (λ t. list_all p (cond t [] (x ∷ trim_end q xs)) ≡ true) (λ _. refl) (λ _. both (and_true {a = p x} all).0 (all_trim p q xs (and_true {a = p x} all).1))
-
--- no space stands in front
-abbrev pub Begins : List ℕ → Type 0
-Begins [] = Unit {0}
-Begins (x ∷ xs) = (x == 32) ≡ false
-
-pub begins_skip : (xs : List ℕ) → Begins (skip is_space xs)
-unfolding skip
-begins_skip [] = tt
-begins_skip (x ∷ xs) = elim_bool (x == 32) (λ t. Begins (cond t (skip is_space xs) (x ∷ xs))) (λ _. begins_skip xs) (λ is. is)

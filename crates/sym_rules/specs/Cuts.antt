@@ -1,9 +1,8 @@
 -- Where a text is cut into lines and a line into fields (Breakpad's symbol_files.md).
 use Rattle.std.specs.Prelude.{ℕ, ◌==◌, ◌||◌, ◌&&◌, Bool, false, not, if◌then◌else◌, List, [], ◌∷◌}
 use Rattle.std.specs.List.{list_all}
-
-abbrev pub is_space : ℕ → Bool
-is_space b = b == 32
+pub use Rattle.clean_names.specs.Names.{is_space, is_within_line}
+unfoldable pub use Rattle.clean_names.specs.Names.{skip}
 
 abbrev pub is_cr : ℕ → Bool
 is_cr b = b == 13
@@ -11,10 +10,6 @@ is_cr b = b == 13
 -- what a line may have beside its fields
 abbrev pub is_margin : ℕ → Bool
 is_margin b = is_space b || is_cr b
-
--- a byte that ends no line
-abbrev pub is_within_line : ℕ → Bool
-is_within_line b = not (b == 10)
 
 -- what stands before the first of these bytes
 unfoldable pub before : ℕ → List ℕ → List ℕ
@@ -25,11 +20,6 @@ before b (x ∷ xs) = if x == b then [] else x ∷ before b xs
 unfoldable pub from : ℕ → List ℕ → List ℕ
 from b [] = []
 from b (x ∷ xs) = if x == b then x ∷ xs else from b xs
-
--- without the bytes of a kind in front
-unfoldable pub skip : (ℕ → Bool) → List ℕ → List ℕ
-skip p [] = []
-skip p (x ∷ xs) = if p x then skip p xs else x ∷ xs
 
 -- without the bytes of a kind at the end
 unfoldable pub trim_end : (ℕ → Bool) → List ℕ → List ℕ

@@ -3,10 +3,10 @@ ghost use Rattle.std.specs.Option.{option_copied};
 
 use std::alloc::Global;
 use std::marker::Model;
-use sym_edges::{ListOf, OutOfMemory};
+use sym_edges::{ByteRun, ListOf, OutOfMemory};
 
 /// Bytes of a text, as a field or a name.
-pub type ByteText = ListOf<u8>;
+pub type ByteText = ByteRun;
 
 /// A name that has no variant of its own, which contracts see as its bytes. It is kept behind one pointer, so that words
 /// stay small.

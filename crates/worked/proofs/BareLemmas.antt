@@ -4,7 +4,7 @@ use Rattle.std.specs.List.{find, slice_get, list_any}
 use Rattle.std.specs.Option.{option_map, option_map_or}
 use Rattle.std.specs.Str.{bytes_eq}
 use Rattle.std.proofs.lemmas.Option.{slice_get-map}
-use Rattle.sym_records.specs.Cleaning.{cleaned}
+use Rattle.clean_names.specs.Cleaning.{cleaned}
 use Rattle.range_set.specs.Members.{holds_any}
 use Rattle.die_walk.specs.Attributes.{or_else}
 use Rattle.die_walk.specs.EntryTable.{DieFields}

@@ -1,6 +1,6 @@
 use Rattle.std.proofs.Common.{◌≡◌, ◌++◌, ℕ, List, IfOk, subst, ap, ◌∙◌}
 use Rattle.std.specs.List.{slice_get}
-use Rattle.sym_records.specs.Cleaning.{cleaned}
+use Rattle.clean_names.specs.Cleaning.{cleaned}
 use Rattle.die_names.specs.Names.{front_in}
 use Rattle.die_names.proofs.TextLemmas.{text_joined, text_no_name, text_no_linkage, text_omitted}
 use Rattle.die_names.proofs.joining.made_text.Goals as goal

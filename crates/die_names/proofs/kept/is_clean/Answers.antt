@@ -1,6 +1,6 @@
 use Rattle.std.proofs.Common.{◌≢◌, length, sym, ◌∙◌, arith}
 use Rattle.std.proofs.lemmas.Bool.Decides.{nat_tests}
-use Rattle.die_names.proofs.CleanLemmas.{clean_already}
+use Rattle.clean_names.proofs.CleanLemmas.{clean_already}
 use Rattle.die_names.proofs.kept.is_clean.Goals as goal
 
 pub returns : goal.returns

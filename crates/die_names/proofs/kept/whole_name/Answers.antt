@@ -1,5 +1,5 @@
 use Rattle.std.proofs.Common.{refl, sym, ap, ◌∙◌}
-use Rattle.sym_records.specs.Cleaning.{cleaned}
+use Rattle.clean_names.specs.Cleaning.{cleaned}
 use Rattle.die_names.proofs.TextLemmas.{slice_bytes}
 use Rattle.die_names.proofs.kept.whole_name.Goals as goal
 

@@ -1,7 +1,7 @@
 use Rattle.std.proofs.Common.{ℕ, List, ◌++◌, ◌∙◌, ap, sym}
 use Rattle.sym_records.specs.Canon.{canon}
 use Rattle.dumpsyms_cmd.specs.Dump.{module_line}
-use Rattle.sym_records.specs.Cleaning.{cleaned}
+use Rattle.clean_names.specs.Cleaning.{cleaned}
 use Rattle.dumpsyms_cmd.proofs.RecordLemmas.{module_and_info}
 use Rattle.dumpsyms_cmd.proofs.records.put_identity.Goals as goal
 

@@ -2,7 +2,7 @@ use Rattle.std.proofs.Common.{◌≡◌, not, map, drop}
 use Rattle.std.specs.List.{list_any}
 use Rattle.std.specs.Str.{bytes_eq}
 use Rattle.elf_sections.specs.Symbols.{symbol_view}
-use Rattle.sym_records.specs.Cleaning.{cleaned}
+use Rattle.clean_names.specs.Cleaning.{cleaned}
 use Rattle.func_flatten.specs.Publics.{names_of}
 use Rattle.func_flatten.proofs.uncovered.has_other_name.Given as goal
 

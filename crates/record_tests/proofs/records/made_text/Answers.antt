@@ -6,7 +6,7 @@ use Rattle.sym_records.specs.Spelled.{text_bytes, IsSpelled}
 use Rattle.sym_records.specs.Validity.{first_bad}
 use Rattle.sym_records.specs.declared.line.SymLine.{SymLine}
 use Rattle.sym_records.specs.declared.line.SymLine.TheVariants.{Module}
-use Rattle.sym_records.specs.Cleaning.{cleaned}
+use Rattle.clean_names.specs.Cleaning.{cleaned}
 use Rattle.record_tests.proofs.records.made_text.Goals as goal
 
 abbrev binary : SymLine

@@ -1,10 +1,11 @@
-use Rattle.std.proofs.Common.{◌≡◌, ◌≢◌, ℕ, ◌+◌, ◌<◌, ◌≤◌, List, [], ◌∷◌, length, drop, get_or, refl, sym, ◌∙◌, ap, arith}
+-- Spaces in front of a name (unspaced, clean).
+use Rattle.std.proofs.Common.{◌≡◌, ◌≢◌, ℕ, ◌+◌, ◌<◌, ◌≤◌, ◌==◌, cond, Bool, true, false, List, [], ◌∷◌, length, drop, get_or, refl, sym, ◌∙◌, ap, arith}
 use Rattle.std.proofs.lemmas.Grind.{common_steps}
 use Rattle.std.proofs.lemmas.List.{at_drop_more}
 use Rattle.std.proofs.lemmas.Bool.Decides.{nat_tests}
-use Rattle.sym_rules.specs.Cuts.{is_space, skip}
+use Rattle.clean_names.specs.Names.{is_space, skip}
 
-skip_here : (x : ℕ) (xs : List ℕ) → x ≢ 32 → skip is_space (x ∷ xs) ≡ x ∷ xs
+pub skip_here : (x : ℕ) (xs : List ℕ) → x ≢ 32 → skip is_space (x ∷ xs) ≡ x ∷ xs
 unfolding skip
 skip_here x xs other = grind (arith, nat_tests)
 
@@ -28,3 +29,17 @@ skip_none = refl
 -- there is nothing behind the last byte
 pub skip_end : (bytes : List ℕ) (i : ℕ) → length bytes ≤ i → skip is_space (drop i bytes) ≡ []
 skip_end bytes i past = ap (skip is_space) (grind (arith, common_steps)) ∙ skip_none
+
+-- no space stands in front
+abbrev pub Begins : List ℕ → Type 0
+Begins [] = Unit {0}
+Begins (x ∷ xs) = (x == 32) ≡ false
+
+begins_by : (x : ℕ) (xs : List ℕ) (space : Bool) → (x == 32) ≡ space → Begins (skip is_space xs) → Begins (cond space (skip is_space xs) (x ∷ xs))
+begins_by x xs true is later = later
+begins_by x xs false is later = is
+
+pub begins_skip : (xs : List ℕ) → Begins (skip is_space xs)
+unfolding skip
+begins_skip [] = tt
+begins_skip (x ∷ xs) = begins_by x xs (x == 32) refl (begins_skip xs)

@@ -1,3 +1,4 @@
+-- The cleaning of a name (unspaced, shown, add_shown, add_cleaned, clean).
 use Rattle.std.proofs.Common.{◌≡◌, ◌≢◌, ℕ, ◌+◌, ◌-◌, ◌<◌, ◌≤◌, ◌==◌, cond, Bool, true, false, not, List, [], ◌∷◌, ◌++◌, length, map, take, drop, set, get_or, min, codes, refl, sym, ◌∙◌, ap, arith, zero, suc, nat_le, length-take}
 use Rattle.std.specs.List.{list_all}
 use Rattle.std.proofs.lemmas.Grind.{common_steps, get_or_default_zero}
@@ -6,11 +7,10 @@ use Rattle.std.proofs.lemmas.Bool.Decides.{nat_tests}
 use Rattle.std.proofs.lemmas.List.Recursion.{and_at}
 use Rattle.std.proofs.lemmas.List.Edits.{map_over_more}
 use Rattle.std.proofs.lemmas.List.{take-map, take_min, take_all}
-use Rattle.sym_rules.proofs.BoolLemmas.{and_true, both, some_bytes, not_false, if_both}
-use Rattle.sym_rules.proofs.EndLemmas.{Begins, begins_skip}
-use Rattle.sym_rules.specs.Cuts.{is_space, is_within_line, skip}
-use Rattle.sym_records.specs.Cleaning.{shown_byte, or_omitted, cleaned_upto}
-use Rattle.sym_records.specs.Fields.{is_name}
+use Rattle.clean_names.proofs.BoolLemmas.{and_true, both, some_bytes, not_false, if_both}
+use Rattle.clean_names.proofs.SkipLemmas.{Begins, begins_skip}
+use Rattle.clean_names.specs.Names.{is_space, is_within_line, skip, is_name}
+use Rattle.clean_names.specs.Cleaning.{shown_byte, or_omitted, cleaned_upto}
 
 longer : (f : ℕ → ℕ) (name bytes : List ℕ) (i : ℕ) → i < length bytes → name ≡ map f (take i bytes) ++ drop i bytes → i < length name
 longer f name bytes i within is = grind (arith, common_steps)
@@ -82,7 +82,7 @@ all_taken zero xs all = refl
 all_taken (suc n) [] all = refl
 all_taken (suc n) (x ∷ xs) all = both (and_true all).0 (all_taken n xs (and_true all).1)
 
-begins_take : (n : ℕ) (xs : List ℕ) → Begins xs → Begins (take n xs)
+pub begins_take : (n : ℕ) (xs : List ℕ) → Begins xs → Begins (take n xs)
 begins_take zero xs begins = tt
 begins_take (suc n) [] begins = tt
 begins_take (suc n) (x ∷ xs) begins = begins

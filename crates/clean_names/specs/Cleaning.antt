@@ -1,6 +1,6 @@
 -- The cleaning of a name, so that a record may carry it.
 use Rattle.std.specs.Prelude.{ℕ, ◌==◌, ◌||◌, nat_lt, if◌then◌else◌, List, [], ◌∷◌, map, take, codes}
-use Rattle.sym_rules.specs.Cuts.{is_space, skip}
+use Rattle.clean_names.specs.Names.{is_space, skip}
 
 -- control bytes, below 0x20 and 0x7f, become `?`
 abbrev pub shown_byte : ℕ → ℕ

@@ -1,10 +1,11 @@
--- A cleaned name is not changed by cleaning.
-use Rattle.std.proofs.Common.{◌≡◌, ℕ, zero, suc, ◌≤◌, Bool, true, false, nat_lt, nat_eq, ◌||◌, cond, List, [], ◌∷◌, map, take, length, codes, refl, ap, ◌∙◌, arith}
-use Rattle.std.proofs.lemmas.List.{length-take}
-use Rattle.std.proofs.lemmas.List.{take_all}
-use Rattle.sym_rules.specs.Cuts.{is_space, skip}
-use Rattle.sym_records.specs.Cleaning.{shown_byte, or_omitted, cleaned_upto, cleaned}
-use Rattle.func_records.specs.FuncRecords.{no_path}
+-- Names that cleaning leaves as they are (for whole_name of die_names, and for the texts of func_records).
+use Rattle.std.proofs.Common.{◌≡◌, ◌≢◌, ℕ, zero, suc, ◌≤◌, ◌==◌, Bool, true, false, nat_lt, nat_eq, ◌||◌, cond, min, get_or, List, [], ◌∷◌, map, take, length, codes, refl, sym, ap, ◌∙◌, arith}
+use Rattle.std.specs.List.{list_all}
+use Rattle.std.proofs.lemmas.List.{length-take, take_all}
+use Rattle.clean_names.specs.Names.{is_space, skip}
+use Rattle.clean_names.specs.Cleaning.{shown_byte, or_omitted, cleaned_upto, cleaned}
+use Rattle.clean_names.proofs.SkipLemmas.{skip_here, Begins, begins_skip}
+use Rattle.clean_names.proofs.CleaningLemmas.{begins_take, cleaned_some, all_same}
 
 -- a byte that is shown is shown as it is
 shown_by : (b : ℕ) (control : Bool) → (nat_lt b 32 || nat_eq b 127) ≡ control → shown_byte (cond control 63 b) ≡ cond control 63 b
@@ -40,25 +41,6 @@ shown_take zero bytes shown = tt
 shown_take (suc n) [] shown = tt
 shown_take (suc n) (b ∷ bytes) shown = (shown.0, shown_take n bytes shown.1)
 
--- no space in front
-abbrev Begins : List ℕ → Type 0
-Begins [] = Prim.Unit {0}
-Begins (b ∷ bytes) = is_space b ≡ false
-
-begins_by : (b : ℕ) (bytes : List ℕ) (space : Bool) → is_space b ≡ space → Begins (skip is_space bytes) → Begins (cond space (skip is_space bytes) (b ∷ bytes))
-begins_by b bytes true is later = later
-begins_by b bytes false is later = is
-
-begins_skip : (bytes : List ℕ) → Begins (skip is_space bytes)
-unfolding skip
-begins_skip [] = tt
-begins_skip (b ∷ bytes) = begins_by b bytes (is_space b) refl (begins_skip bytes)
-
-begins_take : (n : ℕ) (bytes : List ℕ) → Begins bytes → Begins (take n bytes)
-begins_take zero bytes begins = tt
-begins_take (suc n) [] begins = tt
-begins_take (suc n) (b ∷ bytes) begins = begins
-
 nothing_skipped : (bytes : List ℕ) → Begins bytes → skip is_space bytes ≡ bytes
 unfolding skip
 nothing_skipped [] begins = refl
@@ -71,7 +53,7 @@ front_fixed limit bytes shown begins short =
     ∙ ap (take limit) (nothing_skipped bytes begins)
     ∙ take_all limit bytes short
 
-omitted_again : (limit : ℕ) → 14 ≤ limit → cleaned_upto limit (codes "<name omitted>") ≡ codes "<name omitted>"
+pub omitted_again : (limit : ℕ) → 14 ≤ limit → cleaned_upto limit (codes "<name omitted>") ≡ codes "<name omitted>"
 unfolding cleaned_upto skip
 omitted_again limit room = ap or_omitted (take_all limit (codes "<name omitted>") (omega arith))
 
@@ -92,6 +74,13 @@ pub cleaned_again : (bytes : List ℕ) → cleaned (cleaned bytes) ≡ cleaned b
 unfolding cleaned
 cleaned_again bytes = upto_again 65536 bytes (omega arith)
 
-pub omitted_clean : cleaned no_path ≡ no_path
-unfolding cleaned no_path
-omitted_clean = omitted_again 65536 (omega arith)
+-- bytes that need no cleaning
+clean_upto : (limit : ℕ) (bytes : List ℕ) → length bytes ≢ 0 → length bytes ≤ limit → get_or bytes 0 0 ≢ 32 → list_all (λ b. shown_byte b == b) bytes ≡ true → cleaned_upto limit bytes ≡ bytes
+clean_upto limit [] some short first all = absurd (some refl)
+clean_upto limit (b ∷ bytes) some short first all =
+    cleaned_some limit (b ∷ bytes) (b ∷ bytes) (sym (ap (λ l. take (min limit (length l)) l) (skip_here b bytes first) ∙ take_all (min limit (length (b ∷ bytes))) (b ∷ bytes) (omega arith))) some
+    ∙ sym (all_same (b ∷ bytes) [] (b ∷ bytes) all refl)
+
+pub clean_already : (bytes : List ℕ) → length bytes ≢ 0 → length bytes ≤ 65536 → get_or bytes 0 0 ≢ 32 → list_all (λ b. shown_byte b == b) bytes ≡ true → cleaned bytes ≡ bytes
+unfolding cleaned
+clean_already bytes some short first all = clean_upto 65536 bytes some short first all

@@ -1,18 +1,16 @@
 ghost use Rattle.std.specs.Prelude.{◌≡◌, ◌≤◌, ◌==◌, ◌++◌, map, length, true, IfOk, OnOk, take};
 ghost use Rattle.std.specs.List.{list_all};
-ghost use Rattle.sym_rules.specs.Cuts.{is_space, skip};
-ghost use Rattle.sym_records.specs.Cleaning.{shown_byte, cleaned, cleaned_upto};
-ghost use Rattle.sym_records.specs.Fields.{is_name};
+ghost use Rattle.clean_names.specs.Names.{is_space, skip, is_name};
+ghost use Rattle.clean_names.specs.Cleaning.{shown_byte, cleaned, cleaned_upto};
 
 use std::alloc::{AllocError, Global};
-use sym_edges::OutOfMemory;
-use sym_rules::ByteText;
+use sym_edges::{ByteRun, OutOfMemory};
 
 /// A name has at most so many bytes.
 const NAME_LIMIT: usize = 65_536;
 
 /// The bytes without the spaces in front.
-#[tactic(auto, using(crate::proofs::CutsLemmas::skip_stop, crate::proofs::CutsLemmas::skip_more, crate::proofs::CutsLemmas::skip_end))]
+#[tactic(auto, using(crate::proofs::SkipLemmas::skip_stop, crate::proofs::SkipLemmas::skip_more, crate::proofs::SkipLemmas::skip_end))]
 fn unspaced(bytes: &[u8]) -> &[u8]
     ensures { result.now ≡ skip is_space bytes.now }
 {
@@ -67,7 +65,7 @@ fn add_shown(text: &mut Vec<u8>, bytes: &[u8]) -> Result<(), OutOfMemory>
 
 /// Adds the name that `clean` makes of the bytes. Takes no memory beside the text's.
 #[tactic(auto, using(crate::proofs::CleaningLemmas::cleaned_none, crate::proofs::CleaningLemmas::cleaned_some), unfolding(crate::specs::Cleaning::cleaned))]
-pub(crate) fn add_cleaned(text: &mut Vec<u8>, bytes: &[u8]) -> Result<(), OutOfMemory>
+pub fn add_cleaned(text: &mut Vec<u8>, bytes: &[u8]) -> Result<(), OutOfMemory>
     ensures { OnOk result (text.new.items ≡ text.old.items ++ cleaned bytes.now) }
 {
     let rest = unspaced(bytes);
@@ -80,21 +78,21 @@ pub(crate) fn add_cleaned(text: &mut Vec<u8>, bytes: &[u8]) -> Result<(), OutOfM
 }
 
 #[tactic(auto, using(crate::proofs::CleaningLemmas::cleaned_none, crate::proofs::CleaningLemmas::cleaned_some))]
-pub(crate) fn clean_upto(alloc: Global, limit: usize, bytes: &[u8]) -> Result<ByteText, OutOfMemory>
+fn clean_upto(alloc: Global, limit: usize, bytes: &[u8]) -> Result<ByteRun, OutOfMemory>
     ensures { IfOk result (λ t. t ≡ cleaned_upto limit bytes.now) }
 {
     let rest = unspaced(bytes);
     let front = rest.split_at(limit.min(rest.len())).0;
     if front.is_empty() {
-        return Ok(ByteText::of(Vec::from_slice(alloc, b"<name omitted>")?));
+        return Ok(ByteRun::of(Vec::from_slice(alloc, b"<name omitted>")?));
     }
-    Ok(ByteText::of(shown(alloc, front)?))
+    Ok(ByteRun::of(shown(alloc, front)?))
 }
 
 /// A name for a record, of any bytes: control bytes become `?`, leading spaces go, the rest is cut after 65,536 bytes, and
 /// an empty name becomes `<name omitted>`.
 #[tactic(auto, using(crate::proofs::CleaningLemmas::cleaned_named, crate::proofs::CleaningLemmas::cleaned_short), unfolding(crate::specs::Cleaning::cleaned))]
-pub fn clean(alloc: Global, bytes: &[u8]) -> Result<ByteText, OutOfMemory>
+pub fn clean(alloc: Global, bytes: &[u8]) -> Result<ByteRun, OutOfMemory>
     ensures cleaned { IfOk result (λ t. t ≡ cleaned bytes.now) }
     ensures named { IfOk result (λ t. is_name t ≡ true) }
     ensures short { IfOk result (λ t. length t ≤ 65536) }

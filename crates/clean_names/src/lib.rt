@@ -1,0 +1,10 @@
+//! Names of any bytes, cleaned for a text of lines.
+//!
+//! A name ends a line (Breakpad's symbol_files.md), so it is not empty, begins with no space and has no bytes that end lines. `clean`
+//! makes a name of any bytes, as a list of its own, and `add_cleaned` adds the same name at the end of a text.
+#![tactic(auto)]
+
+mod cleaning;
+pub mod laws;
+
+pub use cleaning::{add_cleaned, clean};
