@@ -1,5 +1,5 @@
 -- The cleaning of a name, so that a record may carry it.
-use Rattle.std.specs.Prelude.{ℕ, ◌==◌, ◌||◌, nat_lt, if◌then◌else◌, List, [], ◌∷◌, map, take, codes}
+use Rattle.std.specs.Prelude.{◌≡◌, ℕ, ◌==◌, ◌||◌, nat_lt, if◌then◌else◌, List, [], ◌∷◌, map, take, codes}
 use Rattle.clean_names.specs.Names.{is_space, skip}
 
 -- control bytes, below 0x20 and 0x7f, become `?`
@@ -18,3 +18,8 @@ cleaned_upto limit bytes = or_omitted (take limit (skip is_space (map shown_byte
 -- a cleaned name has at most 65,536 bytes
 unfoldable pub cleaned : List ℕ → List ℕ
 cleaned bytes = cleaned_upto 65536 bytes
+
+-- cleaning does not change the texts
+abbrev pub AreClean : List (List ℕ) → Type 0
+AreClean [] = Prim.Unit {0}
+AreClean (text ∷ texts) = (cleaned text ≡ text) × AreClean texts

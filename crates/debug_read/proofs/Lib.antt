@@ -6,3 +6,6 @@ pub mod PickLemmas
 pub mod JobLemmas
 pub mod Computing
 mod WorkedFaults
+pub mod KeptLemmas
+pub mod PathLemmas
+pub mod OwnerLemmas

@@ -28,6 +28,7 @@ mod fault;
 mod found;
 mod job;
 mod joining;
+pub mod laws;
 mod lines;
 mod picking;
 mod ranges;

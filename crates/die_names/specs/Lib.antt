@@ -7,3 +7,4 @@ pub mod KeptNames
 pub mod Finding
 pub mod Following
 pub mod Gathering
+pub mod CleanPaths

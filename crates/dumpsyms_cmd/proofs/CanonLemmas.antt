@@ -1,17 +1,10 @@
 -- The records of a file are its canonical ones, and a look-up in them names the owner and the line of each address.
 use Rattle.std.proofs.Common.{◌≡◌, ℕ, zero, suc, ◌+◌, ◌≤◌, Bool, true, false, ◌&&◌, ◌||◌, nat_le, nat_lt, cond, map, take, List, [], ◌∷◌, ◌++◌, Option, None, Some, Ok, arith, refl, sym, ap, subst, ◌∙◌, append_assoc, append-nil}
-use Rattle.std.proofs.lemmas.Bool.Decides.{nat_tests}
-use Rattle.std.specs.List.{find, list_any, list_all, slice_get}
+use Rattle.std.specs.List.{list_all, slice_get}
 use Rattle.std.proofs.lemmas.List.{map-append}
-use Rattle.std.specs.Option.{option_map}
 use Rattle.sym_edges.specs.Addresses.{Range}
 use Rattle.elf_sections.specs.Image.{ImageParts}
-use Rattle.range_set.specs.Enclosing.{encloses}
-use Rattle.range_set.specs.Members.{holds, holds_any}
 use Rattle.range_set.specs.Starts.{AllFrom}
-use Rattle.range_lists.specs.EntryRanges.{in_pairs}
-use Rattle.step_maps.specs.Runs.{AreMaximal}
-use Rattle.step_maps.proofs.MaximalLemmas.{maximal}
 use Rattle.sym_records.specs.Canon.{canon, canon_text}
 use Rattle.sym_records.specs.Reading.{leads, reading}
 use Rattle.sym_records.specs.Spelled.{records_in, IsSpelled}
@@ -22,113 +15,36 @@ use Rattle.sym_records.proofs.JoiningLemmas.{from_here, join_fits, join_behind}
 use Rattle.sym_records.proofs.SpelledLemmas.{spelled, spelled_records}
 use Rattle.sym_lookup.specs.Plain.{ArePlain}
 use Rattle.sym_lookup.specs.Findings.{are_sized}
-use Rattle.die_walk.specs.EntryTable.{DieFields}
 use Rattle.die_names.specs.declared.unit_read.UnitRead.{UnitRead}
-use Rattle.die_names.specs.UnitEntries.{is_function}
-use Rattle.die_names.specs.Owners.{Covering, unit_covering, covering_from, owner}
 use Rattle.rule_postfix.specs.Written.{omitted, written, written_lines}
 use Rattle.rule_postfix.specs.Covering.{SaysFrames}
 use Rattle.rule_postfix.proofs.SayingLemmas.{frames_said, written_sized}
 use Rattle.rule_postfix.specs.declared.omission.Omission.{Omission}
-use Rattle.func_flatten.specs.declared.piece.Place.{Place}
 use Rattle.func_flatten.specs.declared.piece.Piece.{Piece}
-use Rattle.func_flatten.specs.Pieces.{place_of, owner_place, piece_run, ArePieces}
+use Rattle.func_flatten.specs.Pieces.{ArePieces}
 use Rattle.func_flatten.specs.Publics.{PublicParts, publics}
 use Rattle.func_records.specs.FuncRecords.{AreFuncRecords, BeginAbove}
 use Rattle.func_records.specs.TextNames.{Names}
 use Rattle.func_records.proofs.NameLemmas.{all_named}
-use Rattle.func_records.specs.Adding.{HaveCleanPaths, AddsFunctions}
+use Rattle.func_records.specs.Adding.{AddsFunctions}
 use Rattle.func_records.proofs.CanonLemmas.{canon_join, canon_more, canon_none, none_here}
-use Rattle.debug_read.specs.Each.{Match}
-use Rattle.debug_read.specs.UnitSays.{UnitSays}
-use Rattle.debug_read.specs.UnitsRead.{IsSet, IsUnitRead}
 use Rattle.debug_read.specs.DebugSays.{DebugSays, debug_says, IsDebugRead}
 use Rattle.debug_read.specs.declared.found.DebugRead.{DebugRead}
 use Rattle.dumpsyms_cmd.specs.Dump.{identity_lines, public_line, public_lines, frame_lines, written_of}
 use Rattle.dumpsyms_cmd.specs.Spelled.{FitsInside, HasHead, DumpsRead}
-use Rattle.dumpsyms_cmd.proofs.CleanLemmas.{all_clean, said_clean}
-use Rattle.dumpsyms_cmd.proofs.FrameLemmas.{kept, head_frameless}
+use Rattle.func_records.proofs.AboveLemmas.{pieces_above}
+use Rattle.debug_read.proofs.KeptLemmas.{kept}
+use Rattle.debug_read.proofs.OwnerLemmas.{owners_above}
+use Rattle.dumpsyms_cmd.proofs.FrameLemmas.{head_frameless}
 use Rattle.dumpsyms_cmd.proofs.AroundLemmas.{identity_plain, identity_no_file, identity_no_origin, behind_plain}
 use Rattle.dumpsyms_cmd.proofs.FindingLemmas.{file_clean}
 
--- an address of a function is code, so it is not below the base
-code_above : (base start end : ℕ) (code : List Range) → AllFrom base code → encloses code start end ≡ true → base ≤ start
-unfolding encloses
-code_above base start end [] above is = absurd (cc)
-code_above base start end (range ∷ code) above is = go (nat_le range.start start) (nat_le end range.end) refl is (code_above base start end code above.1)
-  where
-    go : (b c : Bool) → nat_le range.start start ≡ b → ((b && c) || list_any (λ (r : Range). nat_le r.start start && nat_le end r.end) code) ≡ true → (list_any (λ (r : Range). nat_le r.start start && nat_le end r.end) code ≡ true → base ≤ start) → base ≤ start
-    go true c low same later =
-        let first : base ≤ range.start = above.0 in
-        let below : range.start ≤ start = grind (arith, nat_tests, low) in
-        omega arith
-    go false c low same later = later same
-
-pairs_above : (base a : ℕ) (code pairs : List Range) → AllFrom base code → in_pairs code pairs a ≡ true → base ≤ a
-pairs_above base a code [] above is = absurd (cc)
-pairs_above base a code (pair ∷ pairs) above is = go (nat_lt pair.start pair.end) (encloses code pair.start pair.end) refl (holds pair a) refl is (pairs_above base a code pairs above)
-  where
-    go : (b c : Bool) → encloses code pair.start pair.end ≡ c → (h : Bool) → holds pair a ≡ h → (((b && c) && h) || in_pairs code pairs a) ≡ true → (in_pairs code pairs a ≡ true → base ≤ a) → base ≤ a
-    go true true inside true held same later =
-        let low : base ≤ pair.start = code_above base pair.start pair.end code above inside in
-        let below : pair.start ≤ a = grind (arith, nat_tests, held) in
-        omega arith
-    go true true inside false held same later = later same
-    go true false inside h held same later = later same
-    go false c inside h held same later = later same
-
--- the entries of a unit, and those of all units
-abbrev owns : ℕ → Covering → Bool
-owns a c = is_function c.die && holds_any c.spans a
-
-unit_above : (base a : ℕ) (code : List Range) (unit entry : ℕ) (dies : List DieFields) (pairs sets : List (List Range)) (rest : List Covering) → AllFrom base code → Match (IsSet code) pairs sets → list_any (owns a) (unit_covering unit entry dies sets ++ rest) ≡ true → (list_any (owns a) rest ≡ true → base ≤ a) → base ≤ a
-unit_above base a code unit entry [] pairs sets rest above are is later = later is
-unit_above base a code unit entry (die ∷ dies) pairs [] rest above are is later = later is
-unit_above base a code unit entry (die ∷ dies) [] (set ∷ sets) rest above are is later = absurd are
-unit_above base a code unit entry (die ∷ dies) (own ∷ pairs) (set ∷ sets) rest above are is later =
-    go (is_function die) (holds_any set a) refl is (λ more. unit_above base a code unit (entry + 1) dies pairs sets rest above are.1 more later)
-  where
-    go : (f h : Bool) → holds_any set a ≡ h → ((f && h) || list_any (owns a) (unit_covering unit (entry + 1) dies sets ++ rest)) ≡ true → (list_any (owns a) (unit_covering unit (entry + 1) dies sets ++ rest) ≡ true → base ≤ a) → base ≤ a
-    go true true held same more = pairs_above base a code own above (sym (are.0.each a) ∙ held)
-    go true false held same more = more same
-    go false h held same more = more same
-
-all_above : (base a : ℕ) (code : List Range) (unit : ℕ) (says : List UnitSays) (parts : List UnitRead) → AllFrom base code → Match (IsUnitRead code) says parts → list_any (owns a) (covering_from unit parts) ≡ true → base ≤ a
-all_above base a code unit says [] above are is = absurd (cc)
-all_above base a code unit [] (part ∷ parts) above are is = absurd are
-all_above base a code unit (s ∷ says) (part ∷ parts) above are is =
-    unit_above base a code unit 0 part.die.dies s.pairs part.spans (covering_from (unit + 1) parts) above are.0.spans is (λ later. all_above base a code (unit + 1) says parts above are.1 later)
-
-found_any : (p : Covering → Bool) (all : List Covering) (c : Covering) → find p all ≡ Some c → list_any p all ≡ true
-found_any p [] c is = absurd (cc)
-found_any p (x ∷ all) c is = go (p x) is (found_any p all c)
-  where
-    go : (b : Bool) → cond b (Some x) (find p all) ≡ Some c → (find p all ≡ Some c → list_any p all ≡ true) → (b || list_any p all) ≡ true
-    go true same later = refl
-    go false same later = later same
-
-owner_above : (base a : ℕ) (code : List Range) (says : List UnitSays) (parts : List UnitRead) (place : Place) → AllFrom base code → Match (IsUnitRead code) says parts → owner_place parts a ≡ Some place → base ≤ a
-unfolding owner_place owner
-owner_above base a code says parts place above are is = go (find (owns a) (covering_from 0 parts)) refl is
-  where
-    go : (o : Option Covering) → find (owns a) (covering_from 0 parts) ≡ o → option_map place_of o ≡ Some place → base ≤ a
-    go None found same = absurd (cc)
-    go (Some c) found same = all_above base a code 0 says parts above are (found_any (owns a) (covering_from 0 parts) c found)
-
-each_above : (base : ℕ) (code : List Range) (says : List UnitSays) (parts : List UnitRead) (pieces : List Piece) → AllFrom base code → Match (IsUnitRead code) says parts → AreMaximal (owner_place parts) (map piece_run pieces) → BeginAbove base pieces
-each_above base code says parts [] above are all = tt
-each_above base code says parts (p ∷ pieces) above are all =
-    (owner_above base p.start code says parts (record { unit = p.unit; entry = p.entry }) above are (all.0.constant p.start (omega arith) all.0.some), each_above base code says parts pieces above are all.1)
-
-pub pieces_above : (base : ℕ) (code : List Range) (says : List UnitSays) (parts : List UnitRead) (pieces : List Piece) → AllFrom base code → Match (IsUnitRead code) says parts → ArePieces parts pieces → BeginAbove base pieces
-pieces_above base code says parts pieces above are pieced = each_above base code says parts pieces above are (maximal _ (map piece_run pieces) pieced.runs)
-
 -- what a look-up in the records of a file names
-pub file_named : (image : ImageParts) (name : List ℕ) (found : DebugSays) (units : List UnitRead) (pieces : List Piece) (functions lines : List SymLine) → AllFrom image.base image.code → Match (IsUnitRead image.code) found.units units → ArePieces units pieces → AreFuncRecords image.base units pieces functions → lines ≡ identity_lines image name ++ (functions ++ (public_lines image pieces ++ frame_lines image found)) → (x : ℕ) → Names image.base units lines x
-file_named image name found units pieces functions lines above are pieced records whole x =
+pub file_named : (image : ImageParts) (name : List ℕ) (found : DebugSays) (units : List UnitRead) (pieces : List Piece) (functions lines : List SymLine) → BeginAbove image.base pieces → ArePieces units pieces → AreFuncRecords image.base units pieces functions → lines ≡ identity_lines image name ++ (functions ++ (public_lines image pieces ++ frame_lines image found)) → (x : ℕ) → Names image.base units lines x
+file_named image name found units pieces functions lines above pieced records whole x =
     subst (λ (l : List SymLine). Names image.base units l x) (sym whole)
     (all_named image.base units pieces (identity_lines image name) functions (public_lines image pieces ++ frame_lines image found) pieced
-    (pieces_above image.base image.code found.units units pieces above are pieced) records (identity_plain image name) (identity_no_file image name) (identity_no_origin image name) (behind_plain image pieces found) x)
+    above records (identity_plain image name) (identity_no_file image name) (identity_no_origin image name) (behind_plain image pieces found) x)
 
 -- the records in front: of the binary, of functions, of symbols
 pub head_spelled : (image : ImageParts) (name : List ℕ) (units : List UnitRead) (pieces : List Piece) (base : ℕ) (shown : List PublicParts) (full last longer first second text : List ℕ) → base ≡ image.base → shown ≡ publics pieces image.symbols → full ++ last ≡ [] → longer ≡ last ++ canon_text (identity_lines image name) → first ≡ full ++ longer → first_bad (identity_lines image name) ≡ None → AddsFunctions base units pieces first second → text ≡ second ++ canon_text (map (public_line base) shown) → first_bad_from 0 Inside (map (public_line base) shown) ≡ None → HasHead image name units pieces text
@@ -197,6 +113,7 @@ file_dumped image name read pieces lines framed base code left head is above pie
     let whole : lines ≡ identity_lines image name ++ (front.functions ++ (public_lines image pieces ++ frame_lines image k.says)) =
     are ∙ append_assoc (identity_lines image name) (front.functions ++ public_lines image pieces) framed
     ∙ ap (λ l. identity_lines image name ++ l) (append_assoc front.functions (public_lines image pieces) framed ∙ ap (λ l. front.functions ++ (public_lines image pieces ++ l)) all) in
+    let begin : BeginAbove image.base pieces = pieces_above image.base read.units pieces (owners_above image read is above) pieced in
     let front_lines : List SymLine = identity_lines image name ++ (front.functions ++ public_lines image pieces) in
     let split : lines ≡ front_lines ++ frame_lines image k.says = are ∙ ap (λ l. front_lines ++ l) all in
     let frames : SaysFrames image.base (written_of image k.says) lines =
@@ -210,13 +127,6 @@ file_dumped image name read pieces lines framed base code left head is above pie
       left_is = left_is ∙ ap (λ first. omitted code first read.second) k.first ∙ ap (omitted code k.says.first) k.second ∙ ap (λ c. omitted c k.says.first k.says.second) ranges;
       reads = reads;
       frames = frames;
-      names = file_named image name k.says read.units pieces front.functions lines above k.units pieced front.are whole;
-      clean = file_clean image name k.says read.units pieces front.functions lines pieced (pieces_above image.base image.code k.says.units read.units pieces above k.units pieced) front.below front.are whole sized frames;
+      names = file_named image name k.says read.units pieces front.functions lines begin pieced front.are whole;
+      clean = file_clean image name k.says read.units pieces front.functions lines pieced begin front.below front.are whole sized frames;
     }
-
--- the paths of the units that were read are cleaned
-clean_by : (image : ImageParts) (says : DebugSays) (parts : List UnitRead) → debug_says image ≡ Ok says → Match (IsUnitRead image.code) says.units parts → HaveCleanPaths parts
-clean_by image says parts is are = all_clean image.code says.units parts (said_clean image says is) are
-
-pub read_clean : (image : ImageParts) (read : DebugRead) → IsDebugRead image read → HaveCleanPaths read.units
-read_clean image read is = let k = kept image read is in clean_by image k.says read.units k.says_is k.units

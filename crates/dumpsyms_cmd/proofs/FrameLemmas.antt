@@ -16,11 +16,6 @@ use Rattle.sym_records.specs.Canon.{spaced}
 use Rattle.sym_records.specs.declared.line.SymLine.{SymLine}
 use Rattle.sym_records.specs.declared.line.SymLine.TheVariants.{Module, Info, File, Origin, Func, Inline, Line, Public, Init, Change}
 use Rattle.rule_postfix.specs.declared.omission.Omission.{Omission}
-use Rattle.debug_read.specs.DebugSays.{DebugSays, debug_says, IsKept, IsDebugRead}
-use Rattle.debug_read.specs.Each.{Match, Says}
-use Rattle.debug_read.specs.UnitsRead.{IsUnitRead}
-use Rattle.debug_read.specs.declared.fault.DebugFault.{DebugFault}
-use Rattle.debug_read.specs.declared.found.DebugRead.{DebugRead}
 use Rattle.dumpsyms_cmd.specs.Refusals.{line, omitted_line, omitted_text, skipped_of, skipped_text}
 use Rattle.sym_lookup.specs.Inits.{is_frameless}
 use Rattle.sym_lookup.proofs.InitLemmas.{both_frameless}
@@ -93,19 +88,3 @@ pub head_frameless : (image : ImageParts) (name : List ℕ) (units : List UnitRe
 head_frameless image name units pieces functions are =
     both_frameless (identity_lines image name) (functions ++ public_lines image pieces) (identity_frameless image name)
     (both_frameless functions (public_lines image pieces) (functions_frameless image.base units pieces functions are) (publics_frameless image.base (publics pieces image.symbols)))
-
--- what a file says that was read
-pub record Kept (image : ImageParts) (read : DebugRead) : Type 0 where
-  pub says : DebugSays
-  pub says_is : debug_says image ≡ Ok says
-  pub headers : read.headers ≡ says.headers
-  pub units : Match (IsUnitRead image.code) says.units read.units
-  pub first : read.first ≡ says.first
-  pub second : read.second ≡ says.second
-
-kept_by : (image : ImageParts) (read : DebugRead) (says : Result DebugSays DebugFault) → debug_says image ≡ says → Says (IsKept image.code) says read → Kept image read
-kept_by image read (Ok says) is kept = record { says = says; says_is = is; headers = kept.headers; units = kept.units; first = kept.first; second = kept.second }
-kept_by image read (Err fault) is kept = absurd kept
-
-pub kept : (image : ImageParts) (read : DebugRead) → IsDebugRead image read → Kept image read
-kept image read is = kept_by image read (debug_says image) refl is

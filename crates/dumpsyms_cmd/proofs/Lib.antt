@@ -5,7 +5,6 @@ pub mod WriteLemmas
 pub mod RunLemmas
 pub mod FrameLemmas
 pub mod Computing
-pub mod CleanLemmas
 pub mod AroundLemmas
 pub mod FindingLemmas
 pub mod CanonLemmas

@@ -9,7 +9,7 @@ ghost use Rattle.sym_records.specs.Reading.{fits};
 ghost use Rattle.sym_records.specs.Validity.{first_bad, first_bad_from, fields_fit};
 ghost use Rattle.sym_records.specs.declared.place.Place.TheVariants.{Start, Inside};
 ghost use Rattle.func_flatten.specs.Publics.{public_view};
-ghost use Rattle.func_records.specs.Adding.{HaveCleanPaths};
+ghost use Rattle.die_names.specs.CleanPaths.{HaveCleanPaths};
 ghost use Rattle.debug_read.specs.DebugSays.{IsDebugRead};
 ghost use Rattle.dumpsyms_cmd.specs.Dump.{turned, module_id, module_line, info_line, info_lines, public_line};
 ghost use Rattle.dumpsyms_cmd.specs.Spelled.{FitsInside, HasHead, DumpsRead};

@@ -18,3 +18,4 @@ pub mod UsedLemmas
 pub mod AddLemmas
 mod WorkedRecords
 pub mod FindingLemmas
+pub mod AboveLemmas

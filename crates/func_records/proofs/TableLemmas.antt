@@ -13,7 +13,7 @@ use Rattle.sym_records.proofs.JoiningLemmas.{from_here, join_behind}
 use Rattle.func_records.specs.FuncRecords.{numbered_lines}
 use Rattle.func_records.specs.Gathering.{bytes_of}
 use Rattle.func_records.specs.Numbering.{numbered}
-use Rattle.func_records.specs.Spelling.{AreClean}
+use Rattle.clean_names.specs.Cleaning.{AreClean}
 use Rattle.func_records.specs.declared.numbering.Numbering.{Numbering}
 use Rattle.func_records.specs.declared.numbering.Numbering.TheVariants as by
 use Rattle.func_records.proofs.ListLemmas.{take_more}

@@ -20,8 +20,8 @@ use Rattle.func_records.specs.Texts.{text_cmp, SameTexts}
 use Rattle.func_records.specs.FuncRecords.{Part, path_in, no_path, call_path, AreLined, names_path}
 use Rattle.func_records.specs.Calls.{call_number, path_or, IsPathed, AreKnown, AreAllKnown}
 use Rattle.func_records.specs.Gathering.{bytes_of, has_text, ArePathed, Gathered}
-use Rattle.func_records.specs.Spelling.{AreClean}
-use Rattle.func_records.specs.Adding.{HaveCleanPaths}
+use Rattle.clean_names.specs.Cleaning.{AreClean}
+use Rattle.die_names.specs.CleanPaths.{HaveCleanPaths}
 use Rattle.func_records.specs.Origins.{made_name}
 use Rattle.clean_names.proofs.CleanLemmas.{cleaned_again, omitted_again}
 use Rattle.func_records.proofs.PathLemmas.{all_pathed}

@@ -7,12 +7,6 @@ use Rattle.sym_records.specs.declared.line.SymLine.{SymLine}
 use Rattle.die_names.specs.declared.unit_read.UnitRead.{UnitRead}
 use Rattle.func_flatten.specs.declared.piece.Piece.{Piece}
 use Rattle.func_records.specs.FuncRecords.{AreFuncRecords, EndBelow}
-use Rattle.func_records.specs.Spelling.{AreClean}
-
--- the paths of all line tables are cleaned
-abbrev pub HaveCleanPaths : List UnitRead → Type 0
-HaveCleanPaths [] = Prim.Unit {0}
-HaveCleanPaths (u ∷ units) = AreClean u.lines.paths × HaveCleanPaths units
 
 -- the text has the records of the pieces behind what stood there, and they may stand behind other records; the pieces end below 2^64
 pub record AddsFunctions (base : ℕ) (units : List UnitRead) (pieces : List Piece) (old new : List ℕ) : Type 0 where

@@ -1,8 +1,7 @@
 -- No public clause cites this: the records of functions, as they are spelled.
-use Rattle.std.specs.Prelude.{◌≡◌, ℕ, ◌-◌, if◌then◌else◌, List, [], ◌∷◌, map, unwrap_or}
+use Rattle.std.specs.Prelude.{ℕ, ◌-◌, if◌then◌else◌, List, [], ◌∷◌, map, unwrap_or}
 use Rattle.std.specs.List.{slice_get, list_any}
 use Rattle.std.specs.Str.{bytes_eq}
-use Rattle.clean_names.specs.Cleaning.{cleaned}
 use Rattle.sym_records.specs.declared.line.SymLine.{SymLine}
 use Rattle.sym_records.specs.declared.line.SymLine.TheVariants.{Line}
 use Rattle.die_names.specs.declared.unit_read.UnitRead.{UnitRead}
@@ -23,8 +22,3 @@ line_by base row r = Line (r.start - base) (r.end - r.start) r.line (unwrap_or (
 
 abbrev pub row_of : List (List ℕ) → ℕ → List ℕ
 row_of rows unit = unwrap_or (slice_get rows unit) []
-
--- cleaning does not change the texts
-abbrev pub AreClean : List (List ℕ) → Type 0
-AreClean [] = Prim.Unit {0}
-AreClean (path ∷ paths) = (cleaned path ≡ path) × AreClean paths

@@ -1,7 +1,8 @@
 //! The records of all functions of a file.
 ghost use Rattle.std.specs.Prelude.{OnOk};
 ghost use Rattle.sym_records.specs.Spelled.{text_bytes};
-ghost use Rattle.func_records.specs.Adding.{HaveCleanPaths, AddsFunctions};
+ghost use Rattle.die_names.specs.CleanPaths.{HaveCleanPaths};
+ghost use Rattle.func_records.specs.Adding.{AddsFunctions};
 
 use crate::call_paths::no_path;
 use crate::holding::hold_inlines;

@@ -1,10 +1,11 @@
 //! What holds of texts with the records of functions. Each function does nothing: its contract is the law.
-ghost use Rattle.std.specs.Prelude.{◌≡◌, ℕ, ◌^◌, true, List, ◌++◌};
+ghost use Rattle.std.specs.Prelude.{◌≡◌, ℕ, ◌≤◌, ◌^◌, true, List, ◌++◌, Some};
 ghost use Rattle.std.specs.List.{list_all};
 ghost use Rattle.sym_records.specs.declared.line.SymLine.{SymLine};
 ghost use Rattle.sym_lookup.specs.Plain.{ArePlain, HaveNoFile, HaveNoOrigin};
 ghost use Rattle.sym_lookup.specs.Findings.{are_sized, HasNoFuncFindings};
 ghost use Rattle.die_names.specs.declared.unit_read.UnitRead.{UnitRead};
+ghost use Rattle.die_names.specs.Owners.{Covering, owner};
 ghost use Rattle.func_flatten.specs.declared.piece.Piece.{Piece};
 ghost use Rattle.func_flatten.specs.Pieces.{ArePieces};
 ghost use Rattle.func_records.specs.FuncRecords.{AreFuncRecords, BeginAbove, EndBelow};
@@ -21,4 +22,10 @@ pub fn names_are_kept()
 /// each; and lines and inlined copies lie in their function.
 pub fn records_have_no_findings()
     ensures { (base : ℕ) (units : List UnitRead) (pieces : List Piece) (front records behind : List SymLine) → ArePieces units pieces → BeginAbove base pieces → EndBelow (2 ^ 64) pieces → AreFuncRecords base units pieces records → ArePlain front → HaveNoFile front → HaveNoOrigin front → list_all are_sized front ≡ true → ArePlain behind → HaveNoFile behind → HaveNoOrigin behind → list_all are_sized behind ≡ true → HasNoFuncFindings (front ++ (records ++ behind)) }
+{}
+
+/// Pieces begin at or above a base, where no function owns an address below it.
+#[tactic(auto, using(crate::proofs::AboveLemmas::pieces_above))]
+pub fn pieces_begin_above()
+    ensures { (base : ℕ) (units : List UnitRead) (pieces : List Piece) → ((a : ℕ) (c : Covering) → owner units a ≡ Some c → base ≤ a) → ArePieces units pieces → BeginAbove base pieces }
 {}

@@ -8,7 +8,7 @@ ghost use Rattle.sym_records.specs.declared.place.Place.TheVariants.{Inside};
 ghost use Rattle.func_records.specs.FuncRecords.{numbered_lines};
 ghost use Rattle.func_records.specs.Gathering.{bytes_of};
 ghost use Rattle.func_records.specs.Numbering.{numbered};
-ghost use Rattle.func_records.specs.Spelling.{AreClean};
+ghost use Rattle.clean_names.specs.Cleaning.{AreClean};
 
 use std::alloc::Global;
 use sym_edges::OutOfMemory;

@@ -4,7 +4,8 @@ use Rattle.sym_records.specs.Spelled.{text_bytes}
 use Rattle.sym_records.proofs.SpelledLemmas.{spelled_reads}
 use Rattle.rule_postfix.specs.Written.{written, written_lines}
 use Rattle.dumpsyms_cmd.specs.Dump.{identity_lines, public_lines}
-use Rattle.dumpsyms_cmd.proofs.CanonLemmas.{read_clean, whole_spelled, whole_records, file_dumped}
+use Rattle.debug_read.proofs.PathLemmas.{read_clean}
+use Rattle.dumpsyms_cmd.proofs.CanonLemmas.{whole_spelled, whole_records, file_dumped}
 use Rattle.dumpsyms_cmd.proofs.records.dump_file.Goals as goal
 
 pub spell_head-requires : goal.spell_head-requires

@@ -1,4 +1,4 @@
--- The paths of all line tables are cleaned.
+-- The paths of all line tables that are read are cleaned: for the law `paths_are_clean`.
 use Rattle.std.proofs.Common.{◌≡◌, ℕ, Bool, true, false, cond, nat_lt, length, map, drop, List, [], ◌∷◌, ◌++◌, Option, None, Some, unwrap_or, Result, Ok, Err, sym, subst}
 use Rattle.std.specs.List.{list_any}
 use Rattle.std.specs.Str.{bytes_eq}
@@ -31,17 +31,19 @@ use Rattle.abbrev_units.specs.Units.{units_in}
 use Rattle.frame_entries.specs.declared.description.Entry.{Entry}
 use Rattle.frame_entries.specs.FrameEntries.{frame_entries}
 use Rattle.debug_read.specs.declared.fault.DebugFault.{DebugFault}
-use Rattle.debug_read.specs.DebugSays.{DebugSays, as_dwarf, as_frame, debug_says}
+use Rattle.debug_read.specs.DebugSays.{DebugSays, as_dwarf, as_frame, debug_says, IsDebugRead}
+use Rattle.debug_read.specs.declared.found.DebugRead.{DebugRead}
+use Rattle.debug_read.proofs.KeptLemmas.{kept}
 use Rattle.debug_read.specs.Each.{each_of, Match}
 use Rattle.debug_read.specs.ImageSections.{sections_of}
 use Rattle.debug_read.specs.UnitSays.{UnitSays, lines_by, root_lines, unit_says}
 use Rattle.debug_read.specs.UnitsRead.{IsUnitRead, KeepsLines, has_function}
-use Rattle.func_records.specs.Spelling.{AreClean}
-use Rattle.func_records.specs.Adding.{HaveCleanPaths}
+use Rattle.clean_names.specs.Cleaning.{AreClean}
+use Rattle.die_names.specs.CleanPaths.{HaveCleanPaths}
 use Rattle.clean_names.proofs.CleanLemmas.{cleaned_again}
 
 -- what holds of what is read, where it is read
-abbrev pub Holds : {A F : Type 0} → (A → Type 0) → Result A F → Type 0
+abbrev Holds : {A F : Type 0} → (A → Type 0) → Result A F → Type 0
 Holds P (Ok x) = P x
 Holds P (Err fault) = Prim.Unit {0}
 
@@ -103,7 +105,7 @@ says_clean sections unit =
     then_holds SaysClean (each_of (pairs_of sections unit table.root base) table.dies) _ (λ pairs.
     made_holds MayHaveClean SaysClean (lines_by sections table.root table.root.stmt_list) (λ lines. record { table = table; pairs = pairs; lines = lines }) (root_clean sections table.root table.root.stmt_list) (λ lines clean. clean)))))
 
-abbrev pub AllSayClean : List UnitSays → Type 0
+abbrev AllSayClean : List UnitSays → Type 0
 AllSayClean [] = Prim.Unit {0}
 AllSayClean (says ∷ all) = SaysClean says × AllSayClean all
 
@@ -115,7 +117,7 @@ first_more : {F : Type 0} (first : Result UnitSays F) (later : Result (List Unit
 first_more (Ok says) later clean all = one_more says later clean all
 first_more (Err fault) later clean all = tt
 
-pub units_clean : (sections : DebugSections) (units : List Unit) → Holds AllSayClean (each_of (unit_says sections) units)
+units_clean : (sections : DebugSections) (units : List Unit) → Holds AllSayClean (each_of (unit_says sections) units)
 unfolding each_of
 units_clean sections [] = tt
 units_clean sections (unit ∷ units) = first_more (unit_says sections unit) (each_of (unit_says sections) units) (says_clean sections unit) (units_clean sections units)
@@ -141,7 +143,7 @@ kept_clean code true (Some lines) kept clean says = subst AreClean (sym says.pat
 kept_clean code true None kept clean says = subst (λ (m : LineMap). AreClean m.paths) (sym says) tt
 kept_clean code false lines kept clean says = subst (λ (m : LineMap). AreClean m.paths) (sym says) tt
 
-pub all_clean : (code : List Range) (says : List UnitSays) (parts : List UnitRead) → AllSayClean says → Match (IsUnitRead code) says parts → HaveCleanPaths parts
+all_clean : (code : List Range) (says : List UnitSays) (parts : List UnitRead) → AllSayClean says → Match (IsUnitRead code) says parts → HaveCleanPaths parts
 all_clean code [] [] clean are = tt
 all_clean code [] (part ∷ parts) clean are = absurd are
 all_clean code (s ∷ says) [] clean are = absurd are
@@ -166,9 +168,12 @@ dwarf_clean : (given : Result (List UnitSays) (Located DwarfKind)) → Holds All
 dwarf_clean (Ok units) clean = clean
 dwarf_clean (Err fault) clean = tt
 
-pub said_clean : (image : ImageParts) (says : DebugSays) → debug_says image ≡ Ok says → AllSayClean says.units
+said_clean : (image : ImageParts) (says : DebugSays) → debug_says image ≡ Ok says → AllSayClean says.units
 unfolding debug_says
 said_clean image says is =
     units_part (as_dwarf (units_in image.info.bytes)) (λ headers. as_dwarf (each_of (unit_says (sections_of image)) (read_units headers)))
     (as_frame (frame_entries image.eh_frame.bytes image.eh_frame.address EhFrame)) (as_frame (frame_entries image.debug_frame.bytes image.debug_frame.address DebugFrame))
     says (λ headers. dwarf_clean (each_of (unit_says (sections_of image)) (read_units headers)) (units_clean (sections_of image) (read_units headers))) is
+
+pub read_clean : (image : ImageParts) (read : DebugRead) → IsDebugRead image read → HaveCleanPaths read.units
+read_clean image read is = let k = kept image read is in all_clean image.code k.says.units read.units (said_clean image k.says k.says_is) k.units

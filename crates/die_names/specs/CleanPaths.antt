@@ -1,0 +1,9 @@
+-- The paths of line tables, as records may carry them.
+use Rattle.std.specs.Prelude.{List, [], ◌∷◌}
+use Rattle.clean_names.specs.Cleaning.{AreClean}
+use Rattle.die_names.specs.declared.unit_read.UnitRead.{UnitRead}
+
+-- the paths of all line tables are cleaned
+abbrev pub HaveCleanPaths : List UnitRead → Type 0
+HaveCleanPaths [] = Prim.Unit {0}
+HaveCleanPaths (u ∷ units) = AreClean u.lines.paths × HaveCleanPaths units
