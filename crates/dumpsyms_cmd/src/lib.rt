@@ -4,19 +4,20 @@
 //! records of its symbol file (Breakpad's symbol_files.md) and writes them, or names the first fault. Its contract says which
 //! status comes, what each text holds, which names are asked for, and that what was written reads back as the records of the
 //! file.
+//!
+//! To read: `specs/Program.antt` with `program`; `words` and `commands`; `dump`, `omissions` and `refusals`.
 #![tactic(auto)]
 
-mod assembling;
+mod commands;
+mod dump;
 mod judgement;
-mod judging;
 mod omissions;
-mod records;
+mod program;
 mod refusals;
-mod running;
 mod words;
 
-pub use assembling::{Dumped, assemble};
-pub use running::run;
+pub use dump::{Dumped, assemble};
+pub use program::run;
 
 #[cfg(test)]
 mod tests;

@@ -4,22 +4,8 @@ use Rattle.sym_edges.specs.Outside.{Files, Tells, append_told}
 use Rattle.dumpsyms_cmd.specs.Verdict.{Verdict, IsVerdict}
 use Rattle.dumpsyms_cmd.specs.Judged.{judgement_verdict}
 use Rattle.dumpsyms_cmd.specs.Program.{Run, command, WasJudged, Promises}
-use Rattle.worked.proofs.OneVerdict.{AskAlike, one_asked}
-
--- two runs that ask for the same of stores with the same files, and whose sinks held the same
-pub record RunAlike (one other : Run) : Type 0 where
-  pub files : Files
-  pub one_tells : one.store.files ≡ Some files
-  pub other_tells : other.store.files ≡ Some files
-  pub asked : AskAlike (command one) (command other)
-  pub out : one.out.taken ≡ other.out.taken
-  pub err : one.err.taken ≡ other.err.taken
-
--- they answer the same status, and their sinks hold the same
-pub record EndAlike (one other : Run) : Type 0 where
-  pub status : one.status ≡ other.status
-  pub out : one.out.taken_after ≡ other.out.taken_after
-  pub err : one.err.taken_after ≡ other.err.taken_after
+use Rattle.worked.specs.Runs.{RunAlike, EndAlike}
+use Rattle.worked.proofs.OneVerdict.{one_asked}
 
 told_verdict : (run : Run) (files : Files) → run.store.files ≡ Some files → (judged : WasJudged run) → IsVerdict (command run) files (judgement_verdict judged.judgement)
 told_verdict run files tells judged = subst (λ (told : Option Files). Tells told (λ known. IsVerdict (command run) known (judgement_verdict judged.judgement))) tells judged.verdict

@@ -13,6 +13,7 @@ use Rattle.debug_read.specs.Each.{Match}
 use Rattle.dumpsyms_cmd.specs.Words.{Asked, dump, command_of, module_name}
 use Rattle.dumpsyms_cmd.specs.Dump.{identity_lines, public_lines, frame_lines, CanonFile}
 use Rattle.dumpsyms_cmd.specs.Verdict.{Verdict, left_out, LIMIT, GivesText, IsDebugVerdict, IsImageVerdict, IsBytesVerdict, IsFileVerdict, IsVerdict}
+use Rattle.worked.specs.Runs.{AskAlike}
 use Rattle.worked.proofs.OneUnits.{SameUnit, same_units, EndBelow, code_below, small_units}
 use Rattle.worked.proofs.OneRecords.{same_pieces, same_records}
 
@@ -65,18 +66,12 @@ one_file : (elf : List ℕ) (file : Option (List ℕ)) (v w : Verdict) → IsFil
 one_file elf None v w p q = p ∙ sym q
 one_file elf (Some file) v w p q = one_bytes (nat_lt LIMIT (length file)) (module_name elf) file v w p q
 
--- two commands that ask for the same, by any numbers of workers
-abbrev pub AskAlike : Option Asked → Option Asked → Type 0
-AskAlike None None = Prim.Unit {0}
-AskAlike None (Some d) = ⊥
-AskAlike (Some c) None = ⊥
-AskAlike (Some (dump elf m)) (Some (dump other n)) = elf ≡ other
-
+-- a command asks for the same as itself
 alike : (c : Option Asked) → AskAlike c c
 alike None = tt
 alike (Some (dump elf workers)) = refl
 
--- they have one verdict
+-- two commands that ask for the same have one verdict
 pub one_asked : (c d : Option Asked) (files : Files) (v w : Verdict) → AskAlike c d → IsVerdict c files v → IsVerdict d files w → v ≡ w
 one_asked None None files v w same p q = p ∙ sym q
 one_asked None (Some d) files v w same p q = absurd same

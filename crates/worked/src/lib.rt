@@ -1,10 +1,11 @@
 //! Laws and worked rows of the whole program: that words and files have one verdict, and small ELF files with the status and
 //! the two texts that they give.
 //!
-//! There is no code here. `proofs/OneVerdict.antt` proves that words and files have one verdict by `IsVerdict` of
-//! dumpsyms_cmd, and `proofs/OneRun.antt` that two runs which keep `Promises`, the contract of `run`, and judge the same file,
-//! by any numbers of workers, answer the same status and write the same texts. `proofs/Plain.antt` computes the verdict of a
-//! file, where no unit of it is read or it is refused, and proves that it is one; `run`'s contract ties the program to that
-//! definition. Each row of `proofs/Worked*.antt` says what is computed on a file that is written out field by field.
-//! `proofs/Elf.antt` has the files' parts.
+//! [`laws::verdicts_are_one`] says that words and files have at most one verdict by `IsVerdict` of dumpsyms_cmd, and
+//! [`laws::judging_runs_end_alike`] that two runs which keep `Promises`, the contract of `run`, and judge the same file, by any
+//! numbers of workers, end alike. `proofs/Plain.antt` computes the verdict of a file, where no unit of it is read or it is refused,
+//! and proves that it is one; `run`'s contract ties the program to that definition. Each row of `proofs/Worked*.antt` says what is
+//! computed on a file that is written out field by field. `proofs/Elf.antt` has the files' parts.
 #![tactic(auto)]
+
+pub mod laws;

@@ -2,7 +2,7 @@ use Rattle.std.proofs.Common.{map, ap, refl, ◌∙◌}
 use Rattle.std.specs.List.{flat_map}
 use Rattle.func_flatten.specs.Publics.{public_view}
 use Rattle.dumpsyms_cmd.proofs.CanonLemmas.{head_spelled}
-use Rattle.dumpsyms_cmd.proofs.records.spell_head.Goals as goal
+use Rattle.dumpsyms_cmd.proofs.dump.spell_head.Goals as goal
 
 pub returns : goal.returns
 returns c =

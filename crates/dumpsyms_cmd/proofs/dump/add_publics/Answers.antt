@@ -8,7 +8,7 @@ use Rattle.func_flatten.specs.Publics.{public_view}
 use Rattle.func_records.proofs.CanonLemmas.{nothing_added, none_here}
 use Rattle.dumpsyms_cmd.specs.Dump.{public_line}
 use Rattle.dumpsyms_cmd.proofs.CanonLemmas.{line_text, line_fit, mapped_at}
-use Rattle.dumpsyms_cmd.proofs.records.add_publics.Goals as goal
+use Rattle.dumpsyms_cmd.proofs.dump.add_publics.Goals as goal
 
 pub addresses-init : goal.addresses-init
 addresses-init c = record { text = nothing_added (text_bytes c.args.text.now); fit = none_here 0 Inside }

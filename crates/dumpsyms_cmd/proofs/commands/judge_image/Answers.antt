@@ -1,5 +1,5 @@
 use Rattle.dumpsyms_cmd.proofs.JudgedLemmas.{stop_judged}
-use Rattle.dumpsyms_cmd.proofs.judging.judge_image.Goals as goal
+use Rattle.dumpsyms_cmd.proofs.commands.judge_image.Goals as goal
 
 pub returns-in_ok-debug_line-in-Err-Fault : goal.returns-in_ok-debug_line-in-Err-Fault
 returns-in_ok-debug_line-in-Err-Fault g c =

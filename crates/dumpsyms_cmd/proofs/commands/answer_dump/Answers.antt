@@ -1,7 +1,7 @@
 use Rattle.std.proofs.Common.{◌∙◌, ap}
 use Rattle.dumpsyms_cmd.specs.Words.{module_name}
 use Rattle.dumpsyms_cmd.proofs.JudgedLemmas.{bytes_command}
-use Rattle.dumpsyms_cmd.proofs.judging.answer_dump.Goals as goal
+use Rattle.dumpsyms_cmd.proofs.commands.answer_dump.Goals as goal
 
 pub returns-in-Ok-judge_bytes-clause-answered : goal.returns-in-Ok-judge_bytes-clause-answered
 returns-in-Ok-judge_bytes-clause-answered g c =

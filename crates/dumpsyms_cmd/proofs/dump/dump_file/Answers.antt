@@ -6,7 +6,7 @@ use Rattle.rule_postfix.specs.Written.{written, written_lines}
 use Rattle.dumpsyms_cmd.specs.Dump.{identity_lines, public_lines}
 use Rattle.debug_read.proofs.PathLemmas.{read_clean}
 use Rattle.dumpsyms_cmd.proofs.CanonLemmas.{whole_spelled, whole_records, file_dumped}
-use Rattle.dumpsyms_cmd.proofs.records.dump_file.Goals as goal
+use Rattle.dumpsyms_cmd.proofs.dump.dump_file.Goals as goal
 
 pub spell_head-requires : goal.spell_head-requires
 spell_head-requires c = read_clean c.args.image.now c.args.debug.now c.requires.found

@@ -1,7 +1,7 @@
 use Rattle.std.proofs.Common.{◌∙◌, ◌++◌, ap}
 use Rattle.dumpsyms_cmd.specs.Refusals.{omitted_text, skipped_text}
 use Rattle.dumpsyms_cmd.proofs.JudgedLemmas.{assembles}
-use Rattle.dumpsyms_cmd.proofs.assembling.assemble.Goals as goal
+use Rattle.dumpsyms_cmd.proofs.dump.assemble.Goals as goal
 
 pub returns : goal.returns
 returns c =

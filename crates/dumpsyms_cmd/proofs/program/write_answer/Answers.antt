@@ -3,7 +3,7 @@ use Rattle.dumpsyms_cmd.specs.Judged.{answer_verdict, has_output}
 use Rattle.dumpsyms_cmd.specs.Writes.{Writes}
 use Rattle.dumpsyms_cmd.specs.declared.judgement.Answer.{Answer}
 use Rattle.dumpsyms_cmd.proofs.WriteLemmas.{line_said}
-use Rattle.dumpsyms_cmd.proofs.running.write_answer.Goals as goal
+use Rattle.dumpsyms_cmd.proofs.program.write_answer.Goals as goal
 
 pub returns-in-Unread-clause-written : goal.returns-in-Unread-clause-written
 returns-in-Unread-clause-written g c =

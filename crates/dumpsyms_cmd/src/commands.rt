@@ -9,7 +9,7 @@ ghost use Rattle.dumpsyms_cmd.specs.Verdict.{LIMIT};
 ghost use Rattle.dumpsyms_cmd.specs.Judged.{err_bytes, Refuses, JudgesParts, JudgesBytes, AnswersStop, AnswersCommand};
 ghost use Rattle.dumpsyms_cmd.specs.Observed.{Asks};
 
-use crate::assembling::assemble;
+use crate::dump::assemble;
 use crate::judgement::{Answer, Judgement, Message, Output};
 use crate::refusals::{TOO_LONG, USAGE, debug_line, fault_line};
 use crate::words::{Command, name_of, parse_words};

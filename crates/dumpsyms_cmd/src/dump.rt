@@ -1,4 +1,4 @@
-//! The records of a file, spelled.
+//! The symbol file of an image: its records, spelled, and what is said of those that are left out.
 ghost use Rattle.std.specs.Prelude.{◌≡◌, ◌*◌, ◌≤◌, ◌++◌, ◌∷◌, true, None, Ok, length, map, IfOk, OnOk};
 ghost use Rattle.std.specs.Str.Parse.{AllDigits};
 ghost use Rattle.hex.specs.Hex.{encode_upper};
@@ -13,7 +13,9 @@ ghost use Rattle.die_names.specs.CleanPaths.{HaveCleanPaths};
 ghost use Rattle.debug_read.specs.DebugSays.{IsDebugRead};
 ghost use Rattle.dumpsyms_cmd.specs.Dump.{turned, module_id, module_line, info_line, info_lines, public_line};
 ghost use Rattle.dumpsyms_cmd.specs.Spelled.{FitsInside, HasHead, DumpsRead};
+ghost use Rattle.dumpsyms_cmd.specs.Judged.{Assembles};
 
+use crate::omissions::list_left_out;
 use debug_read::DebugRead;
 use die_names::Units;
 use elf_sections::Image;
@@ -170,13 +172,13 @@ fn join_texts(front: TextPieces, rest: TextPieces) -> Result<TextPieces, OutOfMe
 
 /// The text of a file, and the frame entries that are left out.
 #[derive(Debug, Drop)]
-pub struct FileText {
-    pub file: SymText,
-    pub omitted: Omissions,
+struct FileText {
+    file: SymText,
+    omitted: Omissions,
 }
 
 /// The records of a file, spelled: those in front, and then those of its frame entries.
-pub fn dump_file(
+fn dump_file(
     alloc: Global,
     image: &Image<'_>,
     name: &[u8],
@@ -198,5 +200,35 @@ pub fn dump_file(
     Ok(FileText {
         file: SymText::of(join_texts(head, text)?),
         omitted,
+    })
+}
+
+/// A symbol file, what is left out of it as lines of text (units that are skipped, then frame entries), and how many frame
+/// entries these are.
+#[derive(Debug, Drop)]
+pub struct Dumped {
+    pub file: SymText,
+    pub err: ByteText,
+    pub omitted: usize,
+}
+
+/// Spells the symbol file of an image under a name, which is cleaned (Breakpad's symbol_files.md): MODULE, INFO, FILE, INLINE_ORIGIN,
+/// each FUNC with its INLINE and line records, PUBLIC, and the records of frames. `debug` is what `read_debug` answered for the image.
+pub fn assemble(
+    alloc: Global,
+    image: &Image<'_>,
+    debug: &DebugRead<'_>,
+    name: &[u8],
+) -> Result<Dumped, OutOfMemory>
+    requires found { IsDebugRead image.now debug.now }
+    ensures { IfOk result (λ d. Assembles image.now name.now d.file d.err d.omitted) }
+{
+    let text = dump_file(alloc, image, name, debug)?;
+    let FileText { file, omitted } = text;
+    let err = list_left_out(alloc, debug.headers.as_slice(), omitted.as_slice())?;
+    Ok(Dumped {
+        file,
+        err,
+        omitted: omitted.len(),
     })
 }

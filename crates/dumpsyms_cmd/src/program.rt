@@ -7,7 +7,7 @@ ghost use Rattle.dumpsyms_cmd.specs.Program.{Promises};
 ghost use Rattle.dumpsyms_cmd.specs.Writes.{Says, Writes};
 
 use crate::judgement::{Answer, Judgement, Message, Output};
-use crate::judging::answer_words;
+use crate::commands::answer_words;
 use crate::refusals::UNREAD;
 use std::alloc::Global;
 use std::thread::Threads;

@@ -1,6 +1,6 @@
 use Rattle.std.proofs.Common.{◌∙◌, ap, arith}
 use Rattle.dumpsyms_cmd.proofs.RecordLemmas.{text_digits}
-use Rattle.dumpsyms_cmd.proofs.records.hex_text.Goals as goal
+use Rattle.dumpsyms_cmd.proofs.dump.hex_text.Goals as goal
 
 pub returns-clause-digits : goal.returns-clause-digits
 returns-clause-digits c =

@@ -3,7 +3,7 @@ use Rattle.sym_records.specs.Canon.{canon}
 use Rattle.dumpsyms_cmd.specs.Dump.{module_line}
 use Rattle.clean_names.specs.Cleaning.{cleaned}
 use Rattle.dumpsyms_cmd.proofs.RecordLemmas.{module_and_info}
-use Rattle.dumpsyms_cmd.proofs.records.put_identity.Goals as goal
+use Rattle.dumpsyms_cmd.proofs.dump.put_identity.Goals as goal
 
 pub returns-in_ok-put_info-clause-text : goal.returns-in_ok-put_info-clause-text
 returns-in_ok-put_info-clause-text c =

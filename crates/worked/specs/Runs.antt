@@ -1,0 +1,27 @@
+-- Two runs of the program over one file, and how they end.
+use Rattle.std.specs.Prelude.{◌≡◌, List, Option, None, Some}
+use Rattle.sym_edges.specs.Outside.{Files}
+use Rattle.dumpsyms_cmd.specs.Words.{Asked, dump}
+use Rattle.dumpsyms_cmd.specs.Program.{Run, command}
+
+-- two commands that ask for the same, by any numbers of workers
+abbrev pub AskAlike : Option Asked → Option Asked → Type 0
+AskAlike None None = Prim.Unit {0}
+AskAlike None (Some d) = ⊥
+AskAlike (Some c) None = ⊥
+AskAlike (Some (dump elf m)) (Some (dump other n)) = elf ≡ other
+
+-- two runs that ask for the same of stores with the same files, and whose sinks held the same
+pub record RunAlike (one other : Run) : Type 0 where
+  pub files : Files
+  pub one_tells : one.store.files ≡ Some files
+  pub other_tells : other.store.files ≡ Some files
+  pub asked : AskAlike (command one) (command other)
+  pub out : one.out.taken ≡ other.out.taken
+  pub err : one.err.taken ≡ other.err.taken
+
+-- they answer the same status, and their sinks hold the same
+pub record EndAlike (one other : Run) : Type 0 where
+  pub status : one.status ≡ other.status
+  pub out : one.out.taken_after ≡ other.out.taken_after
+  pub err : one.err.taken_after ≡ other.err.taken_after
