@@ -1,18 +1,15 @@
 -- The promises of a run, by the three kinds of answer.
-use Rattle.std.proofs.Common.{◌≡◌, ◌⊎◌, inl, inr, ℕ, ◌<◌, ◌≤◌, Bool, true, false, [], Option, Some, None, IsSome, refl, sym, ◌∙◌, ap, arith}
-use Rattle.sym_edges.specs.Outside.{Files, Rose, append_told}
+use Rattle.std.proofs.Common.{◌≡◌, ◌⊎◌, inl, inr, ℕ, ◌<◌, ◌≤◌, Bool, true, false, Option, Some, None, IsSome, refl, sym, ◌∙◌, ap, arith}
+use Rattle.sym_edges.specs.Outside.{Files, Rose}
 use Rattle.dumpsyms_cmd.specs.Words.{Asked, files_of}
-use Rattle.dumpsyms_cmd.specs.Refusals.{usage_line, unread_line}
-use Rattle.dumpsyms_cmd.specs.Verdict.{Verdict, unread, IsVerdict}
-use Rattle.dumpsyms_cmd.specs.Observed.{Writing, Stood, StoreFailed, SinkFailed, SinkStood, Received, ReceivedNothing, ReceivedFronts, Asks}
-use Rattle.dumpsyms_cmd.specs.Judged.{out_bytes, is_some_output, has_output, judgement_verdict, answer_verdict, IsUsage, IsJudged, AnswersCommand}
+use Rattle.dumpsyms_cmd.specs.Verdict.{Verdict, unread, no_memory}
+use Rattle.dumpsyms_cmd.specs.Observed.{Writing, Stood, StoreFailed, SinkFailed, SinkStood, ReceivedWhole, Asks}
+use Rattle.dumpsyms_cmd.specs.Judged.{is_some_output, has_output, judgement_verdict, answer_verdict, IsUsage, IsJudged, AnswersCommand}
 use Rattle.dumpsyms_cmd.specs.Writes.{Writes}
-use Rattle.dumpsyms_cmd.specs.Program.{Run, command, WasJudged, HoldFronts, HasStatus, Promises}
-use Rattle.dumpsyms_cmd.specs.declared.judgement.Output.{Output}
+use Rattle.dumpsyms_cmd.specs.Program.{Run, command, WasWritten, WasJudged, WasNotRead, HadNoMemory, Promises}
 use Rattle.dumpsyms_cmd.specs.declared.judgement.Judgement.{Judgement}
 use Rattle.dumpsyms_cmd.specs.declared.judgement.Answer.{Answer}
 use Rattle.dumpsyms_cmd.specs.declared.judgement.Answer.TheVariants.{Judged, Unread, NoMemory}
-use Rattle.dumpsyms_cmd.proofs.JudgedLemmas.{told, always}
 use Rattle.dumpsyms_cmd.proofs.WriteLemmas.{nothing}
 
 none_some : {A : Type 0} (o : Option A) → o ≡ None → IsSome o → ⊥
@@ -45,19 +42,30 @@ row_by : (c : Option Asked) (files : Option Files) (j : Judgement) → IsJudged 
 row_by None files j judged two = refl
 row_by (Some asked) files j judged two = absurd (let low = judged.row refl in omega arith)
 
--- what follows where the answer is a judgement
-judged_run : (j : Judgement) (run : Run) → IsJudged j (command run) run.store.files → Writes run.status (judgement_verdict j) (is_some_output j.out) run.out run.err → run.status < 3 → WasJudged run
-judged_run j run judged (inl whole) low = record { judgement = j; status = whole.0; received = whole.1; promised = judged.kept; verdict = judged.told }
-judged_run j run judged (inr failed) low = absurd (let is = failed.0 in omega arith)
+-- what `run` says of what it wrote, by what its writing leaves
+written : (run : Run) (v : Verdict) (has : Bool) → Writes run.status v has run.out run.err → WasWritten run v
+written run v has (inl whole) = inl whole
+written run v has (inr failed) = inr (failed.0, failed.1, some_failed has run.out run.err failed.2)
 
-nothing_out : (j : Judgement) (run : Run) → IsUsage j → Received run.out (out_bytes j.out) → ReceivedNothing run.out
-nothing_out j run usage took = took ∙ ap (λ (o : Output). append_told run.out.taken (out_bytes o)) usage.out ∙ nothing run.out.taken
+judged_run : (j : Judgement) (run : Run) → IsJudged j (command run) run.store.files → Writes run.status (judgement_verdict j) (is_some_output j.out) run.out run.err → WasJudged run
+judged_run j run judged writes = record { judgement = j; promised = judged.kept; verdict = judged.told; written = written run (judgement_verdict j) (is_some_output j.out) writes }
 
-usage_run : (j : Judgement) (run : Run) → IsJudged j (command run) run.store.files → Writes run.status (judgement_verdict j) (is_some_output j.out) run.out run.err → run.status ≡ 2 → (command run ≡ None) × ReceivedNothing run.out × Received run.err usage_line
-usage_run j run judged (inl whole) two =
-    let none : command run ≡ None = row_by (command run) run.store.files j judged (sym whole.0 ∙ two) in
-    let usage : IsUsage j = usage_by (command run) run.store.files j judged none in
-    (none, nothing_out j run usage whole.1.out_text, whole.1.err_text ∙ ap (append_told run.err.taken) usage.err)
+-- the status is the one of what was written, or 4
+unlike : (run : Run) (v : Verdict) (has : Bool) (n : ℕ) → Writes run.status v has run.out run.err → run.status ≡ n → (v.status ≡ n → ⊥) → (n ≡ 4 → ⊥) → ⊥
+unlike run v has n (inl whole) is other four = other (sym whole.0 ∙ is)
+unlike run v has n (inr failed) is other four = four (sym is ∙ failed.0)
+
+is_row : (c : Option Asked) → (c ≡ None → ⊥) → IsSome c
+is_row None some = absurd (some refl)
+is_row (Some asked) some = refl
+
+row_run : (j : Judgement) (run : Run) → IsJudged j (command run) run.store.files → Writes run.status (judgement_verdict j) (is_some_output j.out) run.out run.err → run.status < 2 → IsSome (command run)
+row_run j run judged (inl whole) low =
+    is_row (command run) (λ none. let two = (usage_by (command run) run.store.files j judged none).status in let same = whole.0 in absurd (omega arith))
+row_run j run judged (inr failed) low = absurd (let is = failed.0 in omega arith)
+
+usage_run : (j : Judgement) (run : Run) → IsJudged j (command run) run.store.files → Writes run.status (judgement_verdict j) (is_some_output j.out) run.out run.err → run.status ≡ 2 → command run ≡ None
+usage_run j run judged (inl whole) two = row_by (command run) run.store.files j judged (sym whole.0 ∙ two)
 usage_run j run judged (inr failed) two = absurd (let is = failed.0 in omega arith)
 
 no_row_run : (j : Judgement) (run : Run) → IsJudged j (command run) run.store.files → Writes run.status (judgement_verdict j) (is_some_output j.out) run.out run.err → command run ≡ None → (run.status ≡ 2) ⊎ ((run.status ≡ 4) × SinkFailed run.err)
@@ -65,18 +73,9 @@ no_row_run j run judged (inl whole) none = inl (whole.0 ∙ (usage_by (command r
 no_row_run j run judged (inr failed) none =
     inr (failed.0, err_failed (is_some_output j.out) run.out run.err (ap is_some_output (usage_by (command run) run.store.files j judged none).out) failed.2)
 
--- other statuses than the one that was written
-unlike : (run : Run) (v : Verdict) (has : Bool) (n : ℕ) → Writes run.status v has run.out run.err → run.status ≡ n → (v.status ≡ n → ⊥) → (n ≡ 4 → ⊥) → ⊥
-unlike run v has n (inl whole) is other four = other (sym whole.0 ∙ is)
-unlike run v has n (inr failed) is other four = four (sym is ∙ failed.0)
-
 unwritten_run : (run : Run) (v : Verdict) (has : Bool) → Writes run.status v has run.out run.err → (v.status ≡ 4 → ⊥) → run.status ≡ 4 → SinkFailed run.out ⊎ SinkFailed run.err
 unwritten_run run v has (inl whole) known four = absurd (known (sym whole.0 ∙ four))
 unwritten_run run v has (inr failed) known four = some_failed has run.out run.err failed.2
-
-fronts_run : (run : Run) (v : Verdict) (has : Bool) → Writes run.status v has run.out run.err → (v.status ≡ 4 → ⊥) → run.status ≡ 4 → ReceivedFronts run.out run.err v
-fronts_run run v has (inl whole) known four = absurd (known (sym whole.0 ∙ four))
-fronts_run run v has (inr failed) known four = failed.1
 
 small : (run : Run) (v : Verdict) (has : Bool) → Writes run.status v has run.out run.err → v.status ≤ 5 → run.status ≤ 5
 small run v has (inl whole) low = let is = whole.0 in omega arith
@@ -87,68 +86,61 @@ status_said run v has (inl whole) quiet calm = whole.0
 status_said run v has (inr failed) quiet calm = absurd (no_failure run.out run.err quiet calm (some_failed has run.out run.err failed.2))
 
 -- a judgement
-pub by_judgement : (j : Judgement) (run : Run) → IsJudged j (command run) run.store.files → Asks (files_of (command run) run.store.files) run.store.asked run.store.asked_after → Writes run.status (judgement_verdict j) (is_some_output j.out) run.out run.err → Promises run
+by_judgement : (j : Judgement) (run : Run) → IsJudged j (command run) run.store.files → Asks (files_of (command run) run.store.files) run.store.asked run.store.asked_after → Writes run.status (judgement_verdict j) (is_some_output j.out) run.out run.err → Promises run
 by_judgement j run judged asks writes =
     let low : j.status < 3 = judged.low in
     let v : Verdict = judgement_verdict j in
     let has : Bool = is_some_output j.out in
     record {
-      judged = judged_run j run judged writes;
+      found = inl (judged_run j run judged writes);
+      judged = λ below. (row_run j run judged writes below, judged_run j run judged writes);
       usage = usage_run j run judged writes;
       no_row = no_row_run j run judged writes;
       not_read = λ three. absurd (unlike run v has 3 writes three (λ is. omega arith) (λ is. omega arith));
       not_written = unwritten_run run v has writes (λ is. omega arith);
-      fronts = λ four. inr (
-          told (λ f. IsVerdict (command run) f v) (HoldFronts run) run.store.files
-          (λ f same. record { verdict = v; is = same; fronts = fronts_run run v has writes (λ is. omega arith) four })
-          judged.told);
-      no_memory = λ five. absurd (unlike run v has 5 writes five (λ is. omega arith) (λ is. omega arith));
+      out_of_memory = λ five. absurd (unlike run v has 5 writes five (λ is. omega arith) (λ is. omega arith));
       range = small run v has writes (omega arith);
       asked = asks;
-      complete = λ stood quiet calm.
-          told (λ f. IsVerdict (command run) f v) (λ f. HasStatus run f ⊎ (run.status ≡ 5)) run.store.files
-          (λ f same. inl (record { verdict = v; is = same; same = status_said run v has writes quiet calm }))
-          judged.told;
+      complete = λ stood quiet calm. inl (let same = status_said run v has writes quiet calm in omega arith);
     }
 
-unread_run : (run : Run) → StoreFailed run.store → Writes run.status unread false run.out run.err → run.status ≡ 3 → StoreFailed run.store × ReceivedNothing run.out × Received run.err unread_line
-unread_run run failed (inl whole) three = (failed, whole.1.out_text ∙ nothing run.out.taken, whole.1.err_text)
-unread_run run failed (inr stopped) three = absurd (let is = stopped.0 in omega arith)
-
 -- a file that could not be read
-pub by_unread : (run : Run) → IsSome (command run) → StoreFailed run.store → Asks (files_of (command run) run.store.files) run.store.asked run.store.asked_after → Writes run.status unread false run.out run.err → Promises run
-by_unread run some failed asks writes = record {
-  judged = λ low. absurd (unlike run unread false run.status writes refl (λ is. omega arith) (λ is. omega arith));
-  usage = λ two. absurd (unlike run unread false 2 writes two (λ is. omega arith) (λ is. omega arith));
-  no_row = λ none. absurd (none_some (command run) none some);
-  not_read = unread_run run failed writes;
-  not_written = unwritten_run run unread false writes (λ is. omega arith);
-  fronts = λ four. inl (failed, fronts_run run unread false writes (λ is. omega arith) four);
-  no_memory = λ five. absurd (unlike run unread false 5 writes five (λ is. omega arith) (λ is. omega arith));
-  range = small run unread false writes (omega arith);
-  asked = asks;
-  complete = λ stood quiet calm. absurd (stood_rose run.store.faults run.store.faults_after stood failed);
-}
-
--- want of memory
-no_memory_run : (run : Run) → IsSome (command run) → Writes run.status (record { status = 5; out = []; err = [] }) false run.out run.err → run.status ≡ 5 → IsSome (command run) × ReceivedNothing run.out × ReceivedNothing run.err
-no_memory_run run some (inl whole) five = (some, whole.1.out_text ∙ nothing run.out.taken, whole.1.err_text ∙ nothing run.err.taken)
-no_memory_run run some (inr failed) five = absurd (let is = failed.0 in omega arith)
-
-pub by_no_memory : (run : Run) → IsSome (command run) → run.status ≡ 5 → Asks (files_of (command run) run.store.files) run.store.asked run.store.asked_after → Writes run.status (record { status = 5; out = []; err = [] }) false run.out run.err → Promises run
-by_no_memory run some five asks writes =
-    let v : Verdict = record { status = 5; out = []; err = [] } in
+by_unread : (run : Run) → IsSome (command run) → StoreFailed run.store → Asks (files_of (command run) run.store.files) run.store.asked run.store.asked_after → Writes run.status unread false run.out run.err → Promises run
+by_unread run some failed asks writes =
+    let not_read : WasNotRead run = record { row = some; failed = failed; written = written run unread false writes } in
     record {
-      judged = λ low. absurd (unlike run v false run.status writes refl (λ is. omega arith) (λ is. omega arith));
-      usage = λ two. absurd (unlike run v false 2 writes two (λ is. omega arith) (λ is. omega arith));
+      found = inr (inl not_read);
+      judged = λ low. absurd (unlike run unread false run.status writes refl (λ is. omega arith) (λ is. omega arith));
+      usage = λ two. absurd (unlike run unread false 2 writes two (λ is. omega arith) (λ is. omega arith));
       no_row = λ none. absurd (none_some (command run) none some);
-      not_read = λ three. absurd (unlike run v false 3 writes three (λ is. omega arith) (λ is. omega arith));
-      not_written = unwritten_run run v false writes (λ is. omega arith);
-      fronts = λ four. absurd (omega (arith, four, five));
-      no_memory = no_memory_run run some writes;
-      range = small run v false writes (omega arith);
+      not_read = λ three. not_read;
+      not_written = unwritten_run run unread false writes (λ is. omega arith);
+      out_of_memory = λ five. absurd (unlike run unread false 5 writes five (λ is. omega arith) (λ is. omega arith));
+      range = small run unread false writes (omega arith);
       asked = asks;
-      complete = λ stood quiet calm. always (λ f. HasStatus run f ⊎ (run.status ≡ 5)) run.store.files (λ f. inr five);
+      complete = λ stood quiet calm. absurd (stood_rose run.store.faults run.store.faults_after stood failed);
+    }
+
+-- memory ran out
+whole_nothing : (run : Run) → Writes run.status no_memory false run.out run.err → run.status ≡ 5 → ReceivedWhole run.out run.err no_memory
+whole_nothing run (inl whole) five = whole.1
+whole_nothing run (inr failed) five = absurd (let is = failed.0 in omega arith)
+
+by_no_memory : (run : Run) → IsSome (command run) → run.status ≡ 5 → Asks (files_of (command run) run.store.files) run.store.asked run.store.asked_after → Writes run.status no_memory false run.out run.err → Promises run
+by_no_memory run some five asks writes =
+    let texts : ReceivedWhole run.out run.err no_memory = whole_nothing run writes five in
+    let none_left : HadNoMemory run = record { row = some; status = five; out = texts.out_text ∙ nothing run.out.taken; err = texts.err_text ∙ nothing run.err.taken } in
+    record {
+      found = inr (inr none_left);
+      judged = λ low. absurd (omega (arith, low, five));
+      usage = λ two. absurd (omega (arith, two, five));
+      no_row = λ none. absurd (none_some (command run) none some);
+      not_read = λ three. absurd (omega (arith, three, five));
+      not_written = λ four. absurd (omega (arith, four, five));
+      out_of_memory = λ is. none_left;
+      range = omega (arith, five);
+      asked = asks;
+      complete = λ stood quiet calm. inr five;
     }
 
 pub promises : (answer : Answer) (run : Run) → AnswersCommand answer (command run) run.store.files run.store.faults run.store.faults_after → Asks (files_of (command run) run.store.files) run.store.asked run.store.asked_after → Writes run.status (answer_verdict answer) (has_output answer) run.out run.err → (answer ≡ NoMemory → run.status ≡ 5) → Promises run

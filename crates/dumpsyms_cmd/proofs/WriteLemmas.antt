@@ -2,7 +2,7 @@
 use Rattle.std.proofs.Common.{◌≡◌, inl, inr, ℕ, Bool, true, false, List, [], length, Option, Some, None, refl, sym, ◌∙◌, ap, arith, append-nil, subst}
 use Rattle.std.proofs.lemmas.List.{take_all}
 use Rattle.sym_edges.specs.Outside.{append_told}
-use Rattle.dumpsyms_cmd.specs.Verdict.{Verdict, unread}
+use Rattle.dumpsyms_cmd.specs.Verdict.{Verdict, unread, no_memory}
 use Rattle.dumpsyms_cmd.specs.Refusals.{unread_line}
 use Rattle.dumpsyms_cmd.specs.Observed.{Writing, SinkFailed, Received, ReceivedFront, ReceivedNothing}
 use Rattle.dumpsyms_cmd.specs.Writes.{Says, Writes}
@@ -36,5 +36,5 @@ pub line_said : (result : ℕ) (out err : Writing) (line : List ℕ) → Receive
 line_said result out err line same is says = said_behind result unread false out err line (same ∙ sym (nothing out.taken)) is says
 
 -- nothing is said
-pub nothing_said : (result : ℕ) (out err : Writing) → result ≡ 5 → ReceivedNothing out → ReceivedNothing err → Writes result (record { status = 5; out = []; err = [] }) false out err
+pub nothing_said : (result : ℕ) (out err : Writing) → result ≡ 5 → ReceivedNothing out → ReceivedNothing err → Writes result no_memory false out err
 nothing_said result out err five same quiet = inl (five, record { out_text = same ∙ sym (nothing out.taken); err_text = quiet ∙ sym (nothing err.taken) })

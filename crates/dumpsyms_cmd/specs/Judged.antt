@@ -18,7 +18,7 @@ use Rattle.rule_postfix.specs.Written.{omitted}
 use Rattle.rule_postfix.specs.Covering.{SaysFrames}
 use Rattle.sym_lookup.specs.Findings.{HasNoFindings}
 use Rattle.dumpsyms_cmd.specs.Refusals.{too_long_line, usage_line}
-use Rattle.dumpsyms_cmd.specs.Verdict.{Verdict, refused, unread, left_out, IsPartsVerdict, IsDumpVerdict, IsFileVerdict, IsVerdict, LIMIT}
+use Rattle.dumpsyms_cmd.specs.Verdict.{Verdict, refused, unread, no_memory, left_out, IsPartsVerdict, IsDumpVerdict, IsFileVerdict, IsVerdict, LIMIT}
 use Rattle.dumpsyms_cmd.specs.declared.judgement.Output.{Output}
 use Rattle.dumpsyms_cmd.specs.declared.judgement.Output.TheVariants.{Nothing, Text, Bytes}
 use Rattle.dumpsyms_cmd.specs.declared.judgement.Message.{Message}
@@ -45,7 +45,7 @@ judgement_verdict j = record { status = j.status; out = out_bytes j.out; err = e
 abbrev pub answer_verdict : Answer → Verdict
 answer_verdict (Judged j) = judgement_verdict j
 answer_verdict Unread = unread
-answer_verdict NoMemory = record { status = 5; out = []; err = [] }
+answer_verdict NoMemory = no_memory
 
 -- standard output gets something
 abbrev pub is_some_output : Output → Bool

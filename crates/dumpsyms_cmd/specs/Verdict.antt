@@ -30,6 +30,10 @@ usage = record { status = 2; out = []; err = usage_line }
 abbrev pub unread : Verdict
 unread = record { status = 3; out = []; err = unread_line }
 
+-- where memory ran out
+abbrev pub no_memory : Verdict
+no_memory = record { status = 5; out = []; err = [] }
+
 -- an ELF file has at most 2^29 bytes
 abbrev pub LIMIT : ℕ
 LIMIT = 2 ^ 29

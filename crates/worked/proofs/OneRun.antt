@@ -1,25 +1,45 @@
 -- Two runs over the same file write the same, by any numbers of workers.
-use Rattle.std.proofs.Common.{◌≡◌, ◌<◌, Option, Some, sym, ap, subst, ◌∙◌}
+use Rattle.std.proofs.Common.{◌≡◌, ◌⊎◌, inl, inr, ◌<◌, Option, Some, sym, ap, subst, ◌∙◌, arith}
 use Rattle.sym_edges.specs.Outside.{Files, Tells, append_told}
-use Rattle.dumpsyms_cmd.specs.Verdict.{Verdict, IsVerdict}
+use Rattle.dumpsyms_cmd.specs.Verdict.{Verdict, unread, IsVerdict}
+use Rattle.dumpsyms_cmd.specs.Observed.{ReceivedWhole}
 use Rattle.dumpsyms_cmd.specs.Judged.{judgement_verdict}
-use Rattle.dumpsyms_cmd.specs.Program.{Run, command, WasJudged, Promises}
+use Rattle.dumpsyms_cmd.specs.Program.{Run, command, WasWritten, WasJudged, WasNotRead, HadNoMemory, Promises}
 use Rattle.worked.specs.Runs.{RunAlike, EndAlike}
 use Rattle.worked.proofs.OneVerdict.{one_asked}
 
 told_verdict : (run : Run) (files : Files) → run.store.files ≡ Some files → (judged : WasJudged run) → IsVerdict (command run) files (judgement_verdict judged.judgement)
 told_verdict run files tells judged = subst (λ (told : Option Files). Tells told (λ known. IsVerdict (command run) known (judgement_verdict judged.judgement))) tells judged.verdict
 
-judged_alike : (one other : Run) → RunAlike one other → WasJudged one → WasJudged other → EndAlike one other
-judged_alike one other runs p q =
+-- a run that judged and whose status is not 4 wrote its verdict whole
+whole_by : (run : Run) (v : Verdict) → WasWritten run v → run.status < 3 → (run.status ≡ v.status) × ReceivedWhole run.out run.err v
+whole_by run v (inl whole) low = whole
+whole_by run v (inr failed) low = absurd (let is = failed.0 in omega arith)
+
+-- status 0, 1 and 2 come where the run judged
+judging_by : (run : Run) → Promises run → run.status < 3 → WasJudged run
+judging_by run p low = go p.found
+  where
+    other : (v : Verdict) → WasWritten run v → (v.status < 3 → ⊥) → ⊥
+    other v (inl whole) high = high (let same = whole.0 in omega arith)
+    other v (inr failed) high = (let is = failed.0 in absurd (omega arith))
+    go : WasJudged run ⊎ (WasNotRead run ⊎ HadNoMemory run) → WasJudged run
+    go (inl judged) = judged
+    go (inr (inl unread_run)) = absurd (other unread unread_run.written (λ is. omega arith))
+    go (inr (inr none)) = absurd (let five = none.status in omega arith)
+
+judged_alike : (one other : Run) → RunAlike one other → WasJudged one → WasJudged other → one.status < 3 → other.status < 3 → EndAlike one other
+judged_alike one other runs p q low lower =
     let same : judgement_verdict p.judgement ≡ judgement_verdict q.judgement
     = one_asked (command one) (command other) runs.files _ _ runs.asked (told_verdict one runs.files runs.one_tells p) (told_verdict other runs.files runs.other_tells q) in
+    let first = whole_by one (judgement_verdict p.judgement) p.written low in
+    let second = whole_by other (judgement_verdict q.judgement) q.written lower in
     record {
-      status = p.status ∙ ap (λ (v : Verdict). v.status) same ∙ sym q.status;
-      out = p.received.out_text ∙ (λ i. append_told (runs.out i) (same i).out) ∙ sym q.received.out_text;
-      err = p.received.err_text ∙ (λ i. append_told (runs.err i) (same i).err) ∙ sym q.received.err_text;
+      status = first.0 ∙ ap (λ (v : Verdict). v.status) same ∙ sym second.0;
+      out = first.1.out_text ∙ (λ i. append_told (runs.out i) (same i).out) ∙ sym second.1.out_text;
+      err = first.1.err_text ∙ (λ i. append_told (runs.err i) (same i).err) ∙ sym second.1.err_text;
     }
 
 -- two runs that keep the promises of `run` and that judge
 pub runs_end_alike : (one other : Run) → Promises one → Promises other → RunAlike one other → one.status < 3 → other.status < 3 → EndAlike one other
-runs_end_alike one other p q runs low lower = judged_alike one other runs (p.judged low) (q.judged lower)
+runs_end_alike one other p q runs low lower = judged_alike one other runs (judging_by one p low) (judging_by other q lower) low lower
