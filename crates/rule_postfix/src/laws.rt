@@ -35,7 +35,7 @@ pub fn frames_are_said()
 {}
 
 /// A checker finds nothing in the records of the written entries: no INIT is empty or ends above 2^64 - 1, and no two cover an address.
-#[tactic(auto, using(crate::proofs::SayingLemmas::frames_said, crate::proofs::SayingLemmas::written_sized, crate::proofs::SayingLemmas::written_once))]
+#[tactic(auto, using(crate::proofs::SayingLemmas::written_sized))]
 pub fn frames_have_no_findings()
     ensures sized { (base : ℕ) (code : List Range) (first second : List Entry) → AllFrom base code → list_all are_sized (written_lines base (written code first second)) ≡ true }
     ensures apart { (base : ℕ) (entries : List FdeFields) (lines : List SymLine) → SaysFrames base entries lines → (x : ℕ) → inits_at lines x ≤ 1 }
