@@ -7,9 +7,8 @@ use Rattle.frame_rows.specs.declared.row.Row.{Row}
 use Rattle.frame_rows.specs.declared.columns.Columns.{Columns}
 use Rattle.frame_rows.specs.declared.machine.Setting.{Setting}
 use Rattle.frame_rows.specs.declared.instruction.Instruction.{Instruction}
-use Rattle.frame_rows.specs.declared.instruction.Instruction.TheVariants.{SetLoc, AdvanceLoc, DefCfa, DefCfaSf, DefCfaRegister, DefCfaOffset, DefCfaOffsetSf, Undefined, SameValue, Offset, OffsetExtendedSf, ValOffset, ValOffsetSf, Register, Restore, RememberState, RestoreState, Nop}
 use Rattle.frame_rows.specs.Machine.{Machine}
-use Rattle.frame_rows.specs.Steps.{stepped, put_rule, put_cfa, put_register, put_offset, scaled, plain, rule_behind}
+use Rattle.frame_rows.specs.Steps.{Effect, MovesTo, MovesBy, DefinesCfa, ChangesRegister, ChangesOffset, PutsRule, Remembers, TakesBack, DoesNothing, effect, done, stepped, put_rule, put_cfa, put_register, put_offset}
 use Rattle.frame_rows.specs.Columns.{StayOutside, no_columns, one_column, touched}
 
 -- rows with the same rules
@@ -34,26 +33,21 @@ one_stays column new row =
       | inr past ↦ rw (le-ltb column 17 past) (alike no_columns row row refl)
     ]
 
-touched_stay : (s : Setting) (i : Instruction) (m : Machine) → StayOutside (touched i) m.row (stepped s i m).row
-unfolding stepped put_cfa put_register put_offset
-touched_stay s (SetLoc address) m = alike no_columns m.row (stepped s (SetLoc address) m).row refl
-touched_stay s (AdvanceLoc delta) m = alike no_columns m.row (stepped s (AdvanceLoc delta) m).row refl
-touched_stay s (DefCfa register offset) m = alike no_columns m.row (stepped s (DefCfa register offset) m).row refl
-touched_stay s (DefCfaSf register factored) m = alike no_columns m.row (stepped s (DefCfaSf register factored) m).row refl
-touched_stay s (DefCfaRegister register) m = alike no_columns m.row (stepped s (DefCfaRegister register) m).row refl
-touched_stay s (DefCfaOffset offset) m = alike no_columns m.row (stepped s (DefCfaOffset offset) m).row refl
-touched_stay s (DefCfaOffsetSf factored) m = alike no_columns m.row (stepped s (DefCfaOffsetSf factored) m).row refl
-touched_stay s (Undefined column) m = one_stays column rule.Undefined m.row
-touched_stay s (SameValue column) m = one_stays column rule.Same m.row
-touched_stay s (Offset column factored) m = one_stays column (rule.Offset (scaled s (plain factored))) m.row
-touched_stay s (OffsetExtendedSf column factored) m = one_stays column (rule.Offset (scaled s factored)) m.row
-touched_stay s (ValOffset column factored) m = one_stays column (rule.ValOffset (scaled s (plain factored))) m.row
-touched_stay s (ValOffsetSf column factored) m = one_stays column (rule.ValOffset (scaled s factored)) m.row
-touched_stay s (Register column register) m = one_stays column (rule.Register register) m.row
-touched_stay s (Restore column) m = one_stays column (rule_behind s.initial column) m.row
-touched_stay s RememberState m = alike no_columns m.row (stepped s RememberState m).row refl
-touched_stay s RestoreState m = record { below = λ k low. absurd (omega arith); above = λ k past low. absurd (omega arith) }
-touched_stay s Nop m = alike no_columns m.row (stepped s Nop m).row refl
+effect_stays : (e : Effect) (m : Machine) → StayOutside (touched e) m.row (done e m).row
+unfolding put_cfa put_register put_offset
+effect_stays (MovesTo address) m = alike no_columns m.row m.row refl
+effect_stays (MovesBy distance) m = alike no_columns m.row m.row refl
+effect_stays (DefinesCfa register offset) m = alike no_columns m.row (put_cfa register offset m.row) refl
+effect_stays (ChangesRegister register) m = alike no_columns m.row (put_register register m.row) refl
+effect_stays (ChangesOffset offset) m = alike no_columns m.row (put_offset offset m.row) refl
+effect_stays (PutsRule column new why) m = one_stays column new m.row
+effect_stays Remembers m = alike no_columns m.row m.row refl
+effect_stays TakesBack m = record { below = λ k low. absurd (omega arith); above = λ k past low. absurd (omega arith) }
+effect_stays DoesNothing m = alike no_columns m.row m.row refl
+
+touched_stay : (s : Setting) (i : Instruction) (m : Machine) → StayOutside (touched (effect s i)) m.row (stepped s i m).row
+unfolding stepped
+touched_stay s i m = effect_stays (effect s i) m
 
 -- the columns of two changes, one behind the other
 stay_both : (first second : Columns) (a b c : Row) → StayOutside first a b → StayOutside second b c → StayOutside (record { first = min first.first second.first; end = max first.end second.end }) a c
@@ -62,11 +56,11 @@ stay_both first second a b c one two = record {
   above = λ k past low. one.above k (omega arith) low ∙ two.above k (omega arith) low;
 }
 
-pub stay_on : (begin : Row) (m n : Machine) (s : Setting) (i : Instruction) (columns more other : Columns) → StayOutside columns begin m.row → other ≡ touched i → n ≡ stepped s i m → more ≡ record { first = min columns.first other.first; end = max columns.end other.end } → StayOutside more begin n.row
+pub stay_on : (begin : Row) (m n : Machine) (s : Setting) (i : Instruction) (columns more other : Columns) → StayOutside columns begin m.row → other ≡ touched (effect s i) → n ≡ stepped s i m → more ≡ record { first = min columns.first other.first; end = max columns.end other.end } → StayOutside more begin n.row
 stay_on begin m n s i columns more other so which is both =
     let P : Columns → Type 0 = λ c. StayOutside c begin n.row in
-    let Q : Row → Type 0 = λ r. StayOutside (record { first = min columns.first (touched i).first; end = max columns.end (touched i).end }) begin r in
-    let here : StayOutside (record { first = min columns.first (touched i).first; end = max columns.end (touched i).end }) begin n.row = subst Q (sym (ap (λ (k : Machine). k.row) is)) (stay_both columns (touched i) begin m.row (stepped s i m).row so (touched_stay s i m)) in
+    let Q : Row → Type 0 = λ r. StayOutside (record { first = min columns.first (touched (effect s i)).first; end = max columns.end (touched (effect s i)).end }) begin r in
+    let here : StayOutside (record { first = min columns.first (touched (effect s i)).first; end = max columns.end (touched (effect s i)).end }) begin n.row = subst Q (sym (ap (λ (k : Machine). k.row) is)) (stay_both columns (touched (effect s i)) begin m.row (stepped s i m).row so (touched_stay s i m)) in
     subst P (sym (both ∙ ap (λ (c : Columns). (let d : Columns = record { first = min columns.first c.first; end = max columns.end c.end } in d)) which)) here
 
 -- no column yet

@@ -1,5 +1,5 @@
 -- The rows of an entry, from the states of its two runs of instructions.
-use Rattle.std.proofs.Common.{◌≡◌, ℕ, ◌+◌, ◌<◌, not, true, false, List, Option, Some, None, Err, sym, ◌∙◌, ap, subst}
+use Rattle.std.proofs.Common.{◌≡◌, ℕ, not, true, false, List, Option, Some, None, Err, sym, ◌∙◌, ap}
 use Rattle.std.specs.List.{list_any}
 use Rattle.sym_edges.specs.Outside.{MatchStop}
 use Rattle.sym_edges.specs.declared.fault.Stop.{Stop}
@@ -8,48 +8,19 @@ use Rattle.sym_edges.specs.declared.reason.Reason.{Reason}
 use Rattle.sym_edges.specs.declared.reason.Reason.TheVariants as reason
 use Rattle.frame_entries.specs.FdeFields.{FdeFields}
 use Rattle.frame_rows.specs.declared.row.RowAt.{RowAt}
-use Rattle.frame_rows.specs.declared.machine.Setting.{Setting}
-use Rattle.frame_rows.specs.Instructions.{instructions}
-use Rattle.frame_rows.specs.Machine.{Machine}
 use Rattle.sym_edges.specs.Results.{unless}
 use Rattle.std.specs.Option.{option_or}
 use Rattle.frame_rows.specs.Steps.{has_cfa}
 use Rattle.frame_rows.specs.Rows.{first_fault, cie_setting, cie_items, cie_begin, own_setting, own_items, own_begin, instruction_fault, lacks_cfa, rows_fault, AreRows, HasCfa, IsSound, row_at}
-use Rattle.frame_rows.specs.Walk.{rows_from}
 use Rattle.frame_rows.proofs.TestLemmas.{neither}
-use Rattle.frame_rows.proofs.RowLemmas.{are_rows}
 use Rattle.frame_rows.proofs.CfaLemmas.{none_lacks, some_lacks, has_not_lacks}
 use Rattle.frame_rows.proofs.SoundLemmas.{entry_sound}
-
--- the entry's own instructions, carried out behind the CIE's
-own_fault : (v e : FdeFields) (s : Setting) (m : Machine) (o : Option Reason) → v ≡ e → s ≡ own_setting e → m ≡ own_begin e → first_fault s (instructions v.encoding v.instructions_address v.instructions) m ≡ o → first_fault (own_setting e) (own_items e) (own_begin e) ≡ o
-unfolding own_items
-own_fault v e s m o view setting machine is =
-    sym (ap (λ (k : FdeFields). first_fault s (instructions k.encoding k.instructions_address k.instructions) m) view
-    ∙ ap (λ k. first_fault k (instructions e.encoding e.instructions_address e.instructions) m) setting ∙ ap (first_fault (own_setting e) (instructions e.encoding e.instructions_address e.instructions)) machine) ∙ is
-
-own_rows : (v e : FdeFields) (s : Setting) (m : Machine) (end : ℕ) (rows : List RowAt) → v ≡ e → s ≡ own_setting e → m ≡ own_begin e → end ≡ v.start + v.size → rows ≡ rows_from end s (instructions v.encoding v.instructions_address v.instructions) m → rows ≡ rows_from (e.start + e.size) (own_setting e) (own_items e) (own_begin e)
-unfolding own_items
-own_rows v e s m end rows view setting machine stop is =
-    is ∙ ap (λ n. rows_from n s (instructions v.encoding v.instructions_address v.instructions) m) stop
-    ∙ ap (λ (k : FdeFields). rows_from (k.start + k.size) s (instructions k.encoding k.instructions_address k.instructions) m) view
-    ∙ ap (λ k. rows_from (e.start + e.size) k (instructions e.encoding e.instructions_address e.instructions) m) setting
-    ∙ ap (rows_from (e.start + e.size) (own_setting e) (instructions e.encoding e.instructions_address e.instructions)) machine
 
 -- what is known once both runs are carried out
 pub record Walked (e : FdeFields) (rows : List RowAt) : Type 0 where
   pub cie : first_fault (cie_setting e) (cie_items e) (cie_begin e) ≡ None
   pub own : first_fault (own_setting e) (own_items e) (own_begin e) ≡ None
   pub are : AreRows e rows
-
-pub walked : (v e : FdeFields) (s : Setting) (m : Machine) (end : ℕ) (rows : List RowAt) → first_fault (cie_setting e) (cie_items e) (cie_begin e) ≡ None → v ≡ e → s ≡ own_setting e → m ≡ own_begin e → end ≡ v.start + v.size → first_fault s (instructions v.encoding v.instructions_address v.instructions) m ≡ None → rows ≡ rows_from end s (instructions v.encoding v.instructions_address v.instructions) m → 0 < e.size → Walked e rows
-walked v e s m end rows cie view setting machine stop good is some =
-    let own = own_fault v e s m None view setting machine good in
-    record {
-      cie = cie;
-      own = own;
-      are = subst (λ (l : List RowAt). AreRows e l) (sym (own_rows v e s m end rows view setting machine stop is)) (are_rows e own some);
-    }
 
 pub fine : (e : FdeFields) (rows : List RowAt) → Walked e rows → instruction_fault e ≡ None
 unfolding instruction_fault
@@ -93,6 +64,7 @@ unfolding rows_fault instruction_fault
 own_bad e why cie bad =
     ap (λ o. option_or (option_or o (first_fault (own_setting e) (own_items e) (own_begin e))) (unless (not (lacks_cfa e)) reason.Cfa)) cie ∙ ap (λ o. option_or o (unless (not (lacks_cfa e)) reason.Cfa)) bad
 
-pub own_stopped : (A B : Type 0) (stop : Stop Reason) (v e : FdeFields) (s : Setting) (m : Machine) → first_fault (cie_setting e) (cie_items e) (cie_begin e) ≡ None → v ≡ e → s ≡ own_setting e → m ≡ own_begin e → MatchStop {A = A} {F = Reason} (Err stop) (λ _. first_fault s (instructions v.encoding v.instructions_address v.instructions) m ≡ None) (λ why. first_fault s (instructions v.encoding v.instructions_address v.instructions) m ≡ Some why) (Unit {0}) → MatchStop {A = B} {F = Reason} (Err stop) (λ _. rows_fault e ≡ None) (λ why. rows_fault e ≡ Some why) (Unit {0})
-own_stopped A B (Fault why) v e s m cie view setting machine bad = own_bad e why cie (own_fault v e s m (Some why) view setting machine bad)
-own_stopped A B NoMemory v e s m cie view setting machine bad = tt
+-- a pass over its rows stops
+pub pass_stopped : (A B : Type 0) (stop : Stop Reason) (e : FdeFields) (fault : Option Reason) → fault ≡ instruction_fault e → MatchStop {A = A} {F = Reason} (Err stop) (λ _. fault ≡ None) (λ why. fault ≡ Some why) (Unit {0}) → MatchStop {A = B} {F = Reason} (Err stop) (λ _. rows_fault e ≡ None) (λ why. rows_fault e ≡ Some why) (Unit {0})
+pass_stopped A B (Fault why) e fault is bad = bad_instruction e why (sym is ∙ bad)
+pass_stopped A B NoMemory e fault is bad = tt

@@ -9,11 +9,10 @@ use Rattle.frame_entries.specs.FdeFields.{FdeFields}
 use Rattle.frame_entries.specs.SharedCies.{HaveOneCie}
 use Rattle.frame_rows.specs.declared.row.Row.{Row}
 use Rattle.frame_rows.specs.declared.machine.Setting.{Setting}
-use Rattle.frame_rows.specs.declared.instruction.Instruction.TheVariants.{SetLoc, AdvanceLoc, DefCfa, DefCfaSf, DefCfaRegister, DefCfaOffset, DefCfaOffsetSf, Undefined, SameValue, Offset, OffsetExtendedSf, ValOffset, ValOffsetSf, Register, Restore, RememberState, RestoreState, Nop}
 use Rattle.frame_rows.specs.Instructions.{Item, instructions}
 use Rattle.frame_rows.specs.Machine.{Machine}
 use Rattle.frame_rows.specs.Left.{Left}
-use Rattle.frame_rows.specs.Steps.{stepped, step_fault}
+use Rattle.frame_rows.specs.Steps.{Effect, MovesTo, MovesBy, DefinesCfa, ChangesRegister, ChangesOffset, PutsRule, Remembers, TakesBack, DoesNothing, effect, done, effect_fault, stepped, step_fault}
 use Rattle.frame_rows.specs.Rows.{item_stepped, item_fault, all_stepped, first_fault, empty_row, cie_setting, cie_items, cie_begin, cie_end, own_setting, own_begin}
 use Rattle.frame_rows.specs.CieLeft.{left_unless, cie_left}
 
@@ -30,49 +29,37 @@ row_behind s i row stack = (item_stepped s i (state 0 row stack)).row
 abbrev stack_behind : Setting → Item → Row → List Row → List Row
 stack_behind s i row stack = (item_stepped s i (state 0 row stack)).stack
 
+effect_apart : (e : Effect) (a : ℕ) (row : Row) (stack : List Row) → done e (state a row stack) ≡ state (done e (state a row stack)).address (done e (state 0 row stack)).row (done e (state 0 row stack)).stack
+effect_apart (MovesTo address) a row stack = refl
+effect_apart (MovesBy distance) a row stack = refl
+effect_apart (DefinesCfa register offset) a row stack = refl
+effect_apart (ChangesRegister register) a row stack = refl
+effect_apart (ChangesOffset offset) a row stack = refl
+effect_apart (PutsRule column new why) a row stack = refl
+effect_apart Remembers a row stack = refl
+effect_apart TakesBack a row stack = refl
+effect_apart DoesNothing a row stack = refl
+
 step_apart : (s : Setting) (i : Item) (a : ℕ) (row : Row) (stack : List Row) → item_stepped s i (state a row stack) ≡ state (item_stepped s i (state a row stack)).address (row_behind s i row stack) (stack_behind s i row stack)
 unfolding stepped
 step_apart s (Err why) a row stack = refl
-step_apart s (Ok (SetLoc address)) a row stack = refl
-step_apart s (Ok (AdvanceLoc delta)) a row stack = refl
-step_apart s (Ok (DefCfa register offset)) a row stack = refl
-step_apart s (Ok (DefCfaSf register factored)) a row stack = refl
-step_apart s (Ok (DefCfaRegister register)) a row stack = refl
-step_apart s (Ok (DefCfaOffset offset)) a row stack = refl
-step_apart s (Ok (DefCfaOffsetSf factored)) a row stack = refl
-step_apart s (Ok (Undefined column)) a row stack = refl
-step_apart s (Ok (SameValue column)) a row stack = refl
-step_apart s (Ok (Offset column factored)) a row stack = refl
-step_apart s (Ok (OffsetExtendedSf column factored)) a row stack = refl
-step_apart s (Ok (ValOffset column factored)) a row stack = refl
-step_apart s (Ok (ValOffsetSf column factored)) a row stack = refl
-step_apart s (Ok (Register column register)) a row stack = refl
-step_apart s (Ok (Restore column)) a row stack = refl
-step_apart s (Ok RememberState) a row stack = refl
-step_apart s (Ok RestoreState) a row stack = refl
-step_apart s (Ok Nop) a row stack = refl
+step_apart s (Ok i) a row stack = effect_apart (effect s i) a row stack
+
+effect_fault_apart : (code : ℕ) (factor : ℤ) (e : Effect) (a b : ℕ) (row : Row) (stack : List Row) → effect_fault (in_cie code factor) e (state a row stack) ≡ effect_fault (in_cie code factor) e (state b row stack)
+effect_fault_apart code factor (MovesTo address) a b row stack = refl
+effect_fault_apart code factor (MovesBy distance) a b row stack = refl
+effect_fault_apart code factor (DefinesCfa register offset) a b row stack = refl
+effect_fault_apart code factor (ChangesRegister register) a b row stack = refl
+effect_fault_apart code factor (ChangesOffset offset) a b row stack = refl
+effect_fault_apart code factor (PutsRule column new why) a b row stack = refl
+effect_fault_apart code factor Remembers a b row stack = refl
+effect_fault_apart code factor TakesBack a b row stack = refl
+effect_fault_apart code factor DoesNothing a b row stack = refl
 
 fault_apart : (code : ℕ) (factor : ℤ) (i : Item) (a b : ℕ) (row : Row) (stack : List Row) → item_fault (in_cie code factor) i (state a row stack) ≡ item_fault (in_cie code factor) i (state b row stack)
 unfolding step_fault
 fault_apart code factor (Err why) a b row stack = refl
-fault_apart code factor (Ok (SetLoc address)) a b row stack = refl
-fault_apart code factor (Ok (AdvanceLoc delta)) a b row stack = refl
-fault_apart code factor (Ok (DefCfa register offset)) a b row stack = refl
-fault_apart code factor (Ok (DefCfaSf register factored)) a b row stack = refl
-fault_apart code factor (Ok (DefCfaRegister register)) a b row stack = refl
-fault_apart code factor (Ok (DefCfaOffset offset)) a b row stack = refl
-fault_apart code factor (Ok (DefCfaOffsetSf factored)) a b row stack = refl
-fault_apart code factor (Ok (Undefined column)) a b row stack = refl
-fault_apart code factor (Ok (SameValue column)) a b row stack = refl
-fault_apart code factor (Ok (Offset column factored)) a b row stack = refl
-fault_apart code factor (Ok (OffsetExtendedSf column factored)) a b row stack = refl
-fault_apart code factor (Ok (ValOffset column factored)) a b row stack = refl
-fault_apart code factor (Ok (ValOffsetSf column factored)) a b row stack = refl
-fault_apart code factor (Ok (Register column register)) a b row stack = refl
-fault_apart code factor (Ok (Restore column)) a b row stack = refl
-fault_apart code factor (Ok RememberState) a b row stack = refl
-fault_apart code factor (Ok RestoreState) a b row stack = refl
-fault_apart code factor (Ok Nop) a b row stack = refl
+fault_apart code factor (Ok i) a b row stack = effect_fault_apart code factor (effect (in_cie code factor) i) a b row stack
 
 -- all instructions, from two addresses
 faults_apart : (code : ℕ) (factor : ℤ) (items : List Item) (a b : ℕ) (row : Row) (stack : List Row) → first_fault (in_cie code factor) items (state a row stack) ≡ first_fault (in_cie code factor) items (state b row stack)

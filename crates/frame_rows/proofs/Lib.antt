@@ -2,7 +2,6 @@ pub mod TestLemmas
 pub mod ReadLemmas
 pub mod StepLemmas
 pub mod RowLemmas
-pub mod WalkLemmas
 pub mod SoundLemmas
 pub mod CfaLemmas
 pub mod EntryLemmas
@@ -12,7 +11,6 @@ pub mod OperandLemmas
 pub mod ColumnLemmas
 pub mod TakeLemmas
 pub mod SteppingLemmas
-pub mod LackLemmas
 pub mod StartLemmas
 pub mod Computing
 mod Entries

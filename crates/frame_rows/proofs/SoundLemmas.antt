@@ -15,7 +15,7 @@ use Rattle.frame_rows.specs.declared.instruction.Instruction.{Instruction}
 use Rattle.frame_rows.specs.declared.instruction.Instruction.TheVariants.{SetLoc, AdvanceLoc, DefCfa, DefCfaSf, DefCfaRegister, DefCfaOffset, DefCfaOffsetSf, Undefined, SameValue, Offset, OffsetExtendedSf, ValOffset, ValOffsetSf, Register, Restore, RememberState, RestoreState, Nop}
 use Rattle.frame_rows.specs.Instructions.{Item}
 use Rattle.frame_rows.specs.Machine.{Machine}
-use Rattle.frame_rows.specs.Steps.{plain, scaled, stepped, step_fault, register_fault, part_fault, put_cfa, put_register, put_offset, put_rule, cfa_register, cfa_offset, rule_behind, top_or, under}
+use Rattle.frame_rows.specs.Steps.{Effect, MovesTo, MovesBy, DefinesCfa, ChangesRegister, ChangesOffset, PutsRule, Remembers, TakesBack, DoesNothing, effect, done, effect_fault, plain, scaled, stepped, step_fault, register_fault, part_fault, put_cfa, put_register, put_offset, put_rule, cfa_register, cfa_offset, rule_behind, top_or, under}
 use Rattle.frame_rows.specs.Rows.{item_stepped, item_fault, first_fault, all_stepped, replay, empty_row, cie_setting, cie_items, cie_begin, cie_end, own_setting, own_items, own_begin, row_at, instruction_fault, is_sound_rule, is_sound_cfa, IsSound}
 use Rattle.frame_rows.proofs.TestLemmas.{elim_bool, neither}
 use Rattle.frame_rows.proofs.StepLemmas.{unless_none}
@@ -99,26 +99,47 @@ same_named column other low = grind (arith, nat_tests)
 source_named : (column register : ℕ) → (nat_lt 16 column || nat_lt register 16) ≡ true → column < 17 → nat_lt register 16 ≡ true
 source_named column register either low = grind (arith, nat_tests)
 
+-- what an effect puts into a row is sound, unless there is a reason against it
+abbrev Puts : Effect → Type 0
+Puts (DefinesCfa register offset) = fits_i64 offset ≡ true
+Puts (ChangesOffset offset) = fits_i64 offset ≡ true
+Puts (PutsRule column new why) = why ≡ None → column < 17 → is_sound_rule column new ≡ true
+Puts _ = Unit {0}
+
+puts : (s : Setting) (i : Instruction) → InitialSound s.initial → Puts (effect s i)
+puts s (SetLoc address) initial = tt
+puts s (AdvanceLoc delta) initial = tt
+puts s (DefCfa register offset) initial = plain_fits offset
+puts s (DefCfaSf register factored) initial = scaled_fits s factored
+puts s (DefCfaRegister register) initial = tt
+puts s (DefCfaOffset offset) initial = plain_fits offset
+puts s (DefCfaOffsetSf factored) initial = scaled_fits s factored
+puts s (Undefined column) initial = λ good low. refl
+puts s (SameValue column) initial = λ good low. same_named column (unless_none (not (column == 16)) reason.Register good) low
+puts s (Offset column factored) initial = λ good low. scaled_fits s (plain factored)
+puts s (OffsetExtendedSf column factored) initial = λ good low. scaled_fits s factored
+puts s (ValOffset column factored) initial = λ good low. scaled_fits s (plain factored)
+puts s (ValOffsetSf column factored) initial = λ good low. scaled_fits s factored
+puts s (Register column register) initial = λ good low. source_named column register (unless_none (nat_lt 16 column || nat_lt register 16) reason.Register good) low
+puts s (Restore column) initial = λ good low. behind_sound s.initial column initial
+puts s RememberState initial = tt
+puts s RestoreState initial = tt
+puts s Nop initial = tt
+
+effect_sound : (s : Setting) (e : Effect) (m : Machine) → effect_fault s e m ≡ None → Puts e → IsSoundState m → IsSoundState (done e m)
+effect_sound s (MovesTo address) m good what names = record { row = names.row; stack = names.stack }
+effect_sound s (MovesBy distance) m good what names = record { row = names.row; stack = names.stack }
+effect_sound s (DefinesCfa register offset) m good what names = record { row = cfa_sound register offset m.row good what names.row; stack = names.stack }
+effect_sound s (ChangesRegister register) m good what names = record { row = register_sound register m.row (neither (register_fault register) (part_fault m) good).0 names.row; stack = names.stack }
+effect_sound s (ChangesOffset offset) m good what names = record { row = offset_sound offset m.row what names.row; stack = names.stack }
+effect_sound s (PutsRule column new why) m good what names = record { row = put_sound column new m.row (what good) names.row; stack = names.stack }
+effect_sound s Remembers m good what names = record { row = names.row; stack = (names.row, names.stack) }
+effect_sound s TakesBack m good what names = record { row = top_sound m.row m.stack names.row names.stack; stack = under_sound m.stack names.stack }
+effect_sound s DoesNothing m good what names = names
+
 step_sound : (s : Setting) (i : Instruction) (m : Machine) → step_fault s i m ≡ None → InitialSound s.initial → IsSoundState m → IsSoundState (stepped s i m)
 unfolding stepped step_fault
-step_sound s (SetLoc address) m good initial names = record { row = names.row; stack = names.stack }
-step_sound s (AdvanceLoc delta) m good initial names = record { row = names.row; stack = names.stack }
-step_sound s (DefCfa register offset) m good initial names = record { row = cfa_sound register (plain offset) m.row good (plain_fits offset) names.row; stack = names.stack }
-step_sound s (DefCfaSf register factored) m good initial names = record { row = cfa_sound register (scaled s factored) m.row good (scaled_fits s factored) names.row; stack = names.stack }
-step_sound s (DefCfaRegister register) m good initial names = record { row = register_sound register m.row (neither (register_fault register) (part_fault m) good).0 names.row; stack = names.stack }
-step_sound s (DefCfaOffset offset) m good initial names = record { row = offset_sound (plain offset) m.row (plain_fits offset) names.row; stack = names.stack }
-step_sound s (DefCfaOffsetSf factored) m good initial names = record { row = offset_sound (scaled s factored) m.row (scaled_fits s factored) names.row; stack = names.stack }
-step_sound s (Undefined column) m good initial names = record { row = put_sound column rule.Undefined m.row (λ low. refl) names.row; stack = names.stack }
-step_sound s (SameValue column) m good initial names = record { row = put_sound column rule.Same m.row (λ low. same_named column (unless_none (not (column == 16)) reason.Register good) low) names.row; stack = names.stack }
-step_sound s (Offset column factored) m good initial names = record { row = put_sound column (rule.Offset (scaled s (plain factored))) m.row (λ low. scaled_fits s (plain factored)) names.row; stack = names.stack }
-step_sound s (OffsetExtendedSf column factored) m good initial names = record { row = put_sound column (rule.Offset (scaled s factored)) m.row (λ low. scaled_fits s factored) names.row; stack = names.stack }
-step_sound s (ValOffset column factored) m good initial names = record { row = put_sound column (rule.ValOffset (scaled s (plain factored))) m.row (λ low. scaled_fits s (plain factored)) names.row; stack = names.stack }
-step_sound s (ValOffsetSf column factored) m good initial names = record { row = put_sound column (rule.ValOffset (scaled s factored)) m.row (λ low. scaled_fits s factored) names.row; stack = names.stack }
-step_sound s (Register column register) m good initial names = record { row = put_sound column (rule.Register register) m.row (λ low. source_named column register (unless_none (nat_lt 16 column || nat_lt register 16) reason.Register good) low) names.row; stack = names.stack }
-step_sound s (Restore column) m good initial names = record { row = put_sound column (rule_behind s.initial column) m.row (λ low. behind_sound s.initial column initial) names.row; stack = names.stack }
-step_sound s RememberState m good initial names = record { row = names.row; stack = (names.row, names.stack) }
-step_sound s RestoreState m good initial names = record { row = top_sound m.row m.stack names.row names.stack; stack = under_sound m.stack names.stack }
-step_sound s Nop m good initial names = names
+step_sound s i m good initial names = effect_sound s (effect s i) m good (puts s i initial) names
 
 item_sound : (s : Setting) (i : Item) (m : Machine) → item_fault s i m ≡ None → InitialSound s.initial → IsSoundState m → IsSoundState (item_stepped s i m)
 item_sound s (Ok i) m good initial names = step_sound s i m good initial names

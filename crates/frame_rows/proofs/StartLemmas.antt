@@ -20,7 +20,7 @@ use Rattle.frame_rows.proofs.RowLemmas.{are_rows}
 use Rattle.frame_rows.proofs.EntryLemmas.{cie_bad, own_bad}
 
 -- a cursor over the instructions of an entry
-all_ahead : (encoding base : ℕ) (bytes : List ℕ) (c : Ahead) → c ≡ record { bytes = take (length bytes) bytes; at = 0 } → listed_at encoding base c ≡ instructions encoding base bytes
+pub all_ahead : (encoding base : ℕ) (bytes : List ℕ) (c : Ahead) → c ≡ record { bytes = take (length bytes) bytes; at = 0 } → listed_at encoding base c ≡ instructions encoding base bytes
 unfolding instructions
 all_ahead encoding base bytes c is = ap (listed_at encoding base) (is ∙ ap (λ b. (let a : Ahead = record { bytes = b; at = 0 } in a)) (take_all (length bytes) bytes (omega arith)))
 

@@ -1,5 +1,5 @@
 -- The rows from where a stepper stands.
-use Rattle.std.proofs.Common.{◌≡◌, ◌≢◌, ◌⊎◌, inl, inr, ℕ, ◌<◌, ◌≤◌, Bool, true, false, cond, List, [], ◌∷◌, ◌++◌, length, Option, None, Some, Result, Ok, Err, refl, sym, ◌∙◌, ap, arith, subst}
+use Rattle.std.proofs.Common.{◌≡◌, ◌≢◌, ◌⊎◌, inl, inr, ℕ, ◌<◌, ◌≤◌, Bool, false, cond, List, [], ◌∷◌, ◌++◌, length, Option, None, Some, Result, Ok, Err, refl, sym, ◌∙◌, ap, arith, subst}
 use Rattle.std.proofs.lemmas.Bool.{cases_lt, eq-eqb, ne_eqb, le-ltb, lt-ltb}
 use Rattle.std.specs.Option.{option_or}
 use Rattle.sym_edges.specs.declared.reason.Reason.{Reason}
@@ -14,14 +14,14 @@ use Rattle.frame_rows.specs.declared.machine.Setting.{Setting}
 use Rattle.frame_rows.specs.Instructions.{Item, instruction_at, onto_later, listed_at, listed_by}
 use Rattle.frame_rows.specs.Machine.{Machine}
 use Rattle.frame_rows.specs.Steps.{stepped, step_fault}
-use Rattle.frame_rows.specs.Rows.{first_fault}
+use Rattle.frame_rows.specs.Rows.{all_stepped, first_fault}
 use Rattle.frame_rows.specs.declared.columns.Columns.{Columns}
 use Rattle.frame_rows.specs.Columns.{StayOutside}
-use Rattle.frame_rows.specs.Standing.{Standing, GoesOn, Stays, Refuses, Ends}
+use Rattle.frame_rows.specs.Standing.{Standing, GoesOn, Stays, Ends}
 use Rattle.frame_rows.specs.Walk.{ended_row, last_row, rows_from, rows_past, row_with}
 use Rattle.frame_rows.proofs.StepLemmas.{step_keeps, step_grows}
 use Rattle.frame_rows.proofs.RowLemmas.{ended_yes, ended_no, from_more, past}
-use Rattle.frame_rows.proofs.ReadLemmas.{fault_none, fault_more, fault_here}
+use Rattle.frame_rows.proofs.ReadLemmas.{fault_none, fault_more, fault_here, stepped_none, stepped_more}
 use Rattle.frame_rows.proofs.FollowLemmas.{listed_is, instruction_passes}
 
 -- the instructions ahead by the first of them
@@ -71,7 +71,15 @@ still s encoding base c later i m n whole some read fine is so =
     ap (first_fault s (listed_at encoding base later)) is ∙ sym (fault_more s (Ok i) (listed_at encoding base later) m fine)
     ∙ sym (ap (λ l. first_fault s l m) (ahead_more encoding base c later i some read)) ∙ so
 
+pub state_still : (s : Setting) (encoding base : ℕ) (c later : Ahead) (i : Instruction) (m n whole : Machine) → length c.bytes ≢ 0 → Ok (i, later) ≡ instruction_at encoding base c → n ≡ stepped s i m → all_stepped s (listed_at encoding base c) m ≡ whole → all_stepped s (listed_at encoding base later) n ≡ whole
+state_still s encoding base c later i m n whole some read is so =
+    ap (all_stepped s (listed_at encoding base later)) is ∙ sym (stepped_more s (Ok i) (listed_at encoding base later) m)
+    ∙ sym (ap (λ l. all_stepped s l m) (ahead_more encoding base c later i some read)) ∙ so
+
 -- or none is left
+pub state_ended : (s : Setting) (encoding base : ℕ) (c : Ahead) (m : Machine) → length c.bytes ≡ 0 → all_stepped s (listed_at encoding base c) m ≡ m
+state_ended s encoding base c m none = ap (λ l. all_stepped s l m) (ahead_none encoding base c none) ∙ stepped_none s m
+
 pub none_ahead : (s : Setting) (encoding base : ℕ) (c : Ahead) (m : Machine) → length c.bytes ≡ 0 → first_fault s (listed_at encoding base c) m ≡ None
 none_ahead s encoding base c m none = ap (λ l. first_fault s l m) (ahead_none encoding base c none) ∙ fault_none s m
 
@@ -168,18 +176,17 @@ goes_on failed refused end at next s held items later m n before columns view sa
     subst Q view (subst P same (goes_by failed refused end at next s items later m n fresh going here up low kept settled), alike)
 
 -- no instruction is left
-pub ends : (failed : Bool) (refused : Option Reason) (end at over : ℕ) (s held : Setting) (items later : List Item) (m n : Machine) (before : Standing) → standing failed refused end at held items m ≡ before → s ≡ held → before.refused ≡ None → first_fault s items m ≡ None → over ≡ n.address → Ends before (standing failed refused end over held later n)
-ends failed refused end at over s held items later m n before view same going good past = record {
-  good = ap (λ (b : Standing). b.fault) (sym view) ∙ ahead_fault refused (first_fault held items m) (ap (λ (b : Standing). b.refused) view ∙ going) ∙ ap (λ k. first_fault k items m) (sym same) ∙ good;
-  none = past_none end held later n over (omega (arith, past));
-}
-
--- where no instruction is bad, none refuses
-pub not_refused : (A B : Type 0) (stop : Stop Reason) (before after : Standing) (P : A → Type 0) (Q : B → Type 0) → before.fault ≡ None → MatchStop {A = A} {F = Reason} (Err stop) P (λ why. Refuses why before after) (after.failed ≡ true) → MatchStop {A = B} {F = Reason} (Err stop) Q (λ _. ⊥) (after.failed ≡ true)
-not_refused A B (Fault why) before after P Q good refuses =
-    let bad : ◌≡◌ {A = Option Reason} (Some why) None = sym refuses.is ∙ good in
-    cc
-not_refused A B NoMemory before after P Q good failed = failed
+pub ends : (failed : Bool) (refused : Option Reason) (end at over : ℕ) (s held : Setting) (items : List Item) (encoding base : ℕ) (c : Ahead) (m n : Machine) (before : Standing) → standing failed refused end at held items m ≡ before → s ≡ held → before.refused ≡ None → first_fault s items m ≡ None → length c.bytes ≡ 0 → over ≡ n.address → Ends before (standing failed refused end over held (listed_at encoding base c) n)
+ends failed refused end at over s held items encoding base c m n before view same going good empty past =
+    let none : refused ≡ None = ap (λ (b : Standing). b.refused) view ∙ going in
+    record {
+      good = ap (λ (b : Standing). b.fault) (sym view) ∙ ahead_fault refused (first_fault held items m) none ∙ ap (λ k. first_fault k items m) (sym same) ∙ good;
+      none = past_none end held (listed_at encoding base c) n over (omega (arith, past));
+      failed = ap (λ (b : Standing). b.failed) view;
+      refused = none;
+      fault = ahead_fault refused (first_fault held (listed_at encoding base c) n) none ∙ none_ahead held encoding base c n empty;
+      end = ap (λ (b : Standing). b.end) view;
+    }
 
 -- a reason behind others that were none
 pub still_stopped : (A B : Type 0) (stop : Stop Reason) (here whole : Option Reason) (P : A → Type 0) (Q : B → Type 0) → here ≡ whole → MatchStop {A = A} {F = Reason} (Err stop) P (λ why. here ≡ Some why) (Unit {0}) → MatchStop {A = B} {F = Reason} (Err stop) Q (λ why. whole ≡ Some why) (Unit {0})

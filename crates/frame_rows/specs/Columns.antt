@@ -4,8 +4,7 @@ use Rattle.std.specs.List.{slice_index_or}
 use Rattle.frame_rows.specs.declared.row.Rule.TheVariants as rule
 use Rattle.frame_rows.specs.declared.row.Row.{Row}
 use Rattle.frame_rows.specs.declared.columns.Columns.{Columns}
-use Rattle.frame_rows.specs.declared.instruction.Instruction.{Instruction}
-use Rattle.frame_rows.specs.declared.instruction.Instruction.TheVariants.{SetLoc, AdvanceLoc, DefCfa, DefCfaSf, DefCfaRegister, DefCfaOffset, DefCfaOffsetSf, Undefined, SameValue, Offset, OffsetExtendedSf, ValOffset, ValOffsetSf, Register, Restore, RememberState, RestoreState, Nop}
+use Rattle.frame_rows.specs.Steps.{Effect, PutsRule, TakesBack}
 use Rattle.frame_rows.specs.Standing.{Standing, GoesOn, Stays}
 
 -- two rows are alike in the columns outside of some
@@ -28,23 +27,8 @@ all_columns = record { first = 0; end = 17 }
 abbrev pub one_column : ℕ → Columns
 one_column column = if nat_lt column 17 then record { first = column; end = column + 1 } else no_columns
 
--- the columns that an instruction may change
-abbrev pub touched : Instruction → Columns
-touched (SetLoc address) = no_columns
-touched (AdvanceLoc delta) = no_columns
-touched (DefCfa register offset) = no_columns
-touched (DefCfaSf register factored) = no_columns
-touched (DefCfaRegister register) = no_columns
-touched (DefCfaOffset offset) = no_columns
-touched (DefCfaOffsetSf factored) = no_columns
-touched (Undefined column) = one_column column
-touched (SameValue column) = one_column column
-touched (Offset column factored) = one_column column
-touched (OffsetExtendedSf column factored) = one_column column
-touched (ValOffset column factored) = one_column column
-touched (ValOffsetSf column factored) = one_column column
-touched (Register column register) = one_column column
-touched (Restore column) = one_column column
-touched RememberState = no_columns
-touched RestoreState = all_columns
-touched Nop = no_columns
+-- the columns that an effect may change
+abbrev pub touched : Effect → Columns
+touched (PutsRule column new why) = one_column column
+touched TakesBack = all_columns
+touched _ = no_columns

@@ -1,6 +1,6 @@
 -- The row at an address of an entry, the addresses at which rows begin, and the reason for which an entry has no rows
 -- (DWARF 5, sections 6.4.2 and 6.4.3).
-use Rattle.std.specs.Prelude.{◌≡◌, ℕ, ◌+◌, ◌*◌, ◌<◌, ◌≤◌, ◌&&◌, not, nat_lt, nat_le, Bool, true, if◌then◌else◌, List, [], ◌∷◌, map, replicate, Option, Some, None, Ok, Err}
+use Rattle.std.specs.Prelude.{◌≡◌, ℕ, ◌+◌, ◌<◌, ◌≤◌, ◌&&◌, not, nat_lt, nat_le, Bool, true, if◌then◌else◌, List, [], ◌∷◌, map, replicate, Option, Some, None, Ok, Err}
 use Rattle.std.specs.List.{list_any, range_with_len, slice_index_or}
 use Rattle.sym_edges.specs.declared.reason.Reason.{Reason}
 use Rattle.sym_edges.specs.declared.reason.Reason.TheVariants as reason
@@ -12,12 +12,11 @@ use Rattle.frame_rows.specs.declared.row.CfaRule.{CfaRule}
 use Rattle.frame_rows.specs.declared.row.Row.{Row}
 use Rattle.frame_rows.specs.declared.row.RowAt.{RowAt}
 use Rattle.frame_rows.specs.declared.machine.Setting.{Setting}
-use Rattle.frame_rows.specs.declared.instruction.Instruction.TheVariants.{SetLoc, AdvanceLoc}
 use Rattle.frame_rows.specs.Instructions.{Item, instructions}
 use Rattle.frame_rows.specs.Machine.{Machine}
 use Rattle.sym_edges.specs.Results.{unless}
 use Rattle.std.specs.Option.{option_or}
-use Rattle.frame_rows.specs.Steps.{has_cfa, stepped, step_fault}
+use Rattle.frame_rows.specs.Steps.{Effect, MovesTo, MovesBy, effect, has_cfa, stepped, step_fault}
 
 -- an instruction that cannot be read changes nothing, and is refused for its own reason
 abbrev pub item_stepped : Setting → Item → Machine → Machine
@@ -77,10 +76,13 @@ unfoldable pub row_at : FdeFields → ℕ → Row
 row_at e a = (replay (own_setting e) (own_items e) (own_begin e) a).row
 
 -- where a location instruction moves the location
+abbrev pub location_after : Effect → ℕ → ℕ
+location_after (MovesTo address) at = address
+location_after (MovesBy distance) at = at + distance
+location_after _ at = at
+
 abbrev pub next_location : Setting → Item → ℕ → ℕ
-next_location s (Ok (SetLoc address)) at = address
-next_location s (Ok (AdvanceLoc delta)) at = at + delta * s.code_align
-next_location s (Ok _) at = at
+next_location s (Ok i) at = location_after (effect s i) at
 next_location s (Err why) at = at
 
 -- the addresses below an end to which location instructions move the location, each once

@@ -47,7 +47,11 @@ pub record Refuses (why : Reason) (before after : Standing) : Type 0 where
   pub refused : after.refused ≡ Some why
   pub failed : after.failed ≡ false
 
--- all instructions are carried out, and none was bad
+-- all instructions are carried out, and none was bad: no row is later, and nothing refuses what comes
 pub record Ends (before after : Standing) : Type 0 where
   pub good : before.fault ≡ None
   pub none : after.later ≡ []
+  pub failed : after.failed ≡ before.failed
+  pub refused : after.refused ≡ None
+  pub fault : after.fault ≡ None
+  pub end : after.end ≡ before.end

@@ -75,31 +75,58 @@ abbrev pub has_remembered : List Row → Bool
 has_remembered [] = false
 has_remembered (top ∷ rows) = true
 
--- the state behind an instruction
-unfoldable pub stepped : Setting → Instruction → Machine → Machine
+-- what an instruction may do
+pub data Effect : Type 0 where
+  -- the location moves to an address, or by a distance
+  MovesTo : ℕ → Effect
+  MovesBy : ℕ → Effect
+  -- the CFA has a rule of a register and an offset, or another register in its rule, or another offset
+  DefinesCfa : ℕ → ℤ → Effect
+  ChangesRegister : ℕ → Effect
+  ChangesOffset : ℤ → Effect
+  -- a column has a rule, unless there is a reason against it
+  PutsRule : ℕ → Rule → Option Reason → Effect
+  -- the row is remembered, or the one that was remembered last is taken back
+  Remembers : Effect
+  TakesBack : Effect
+  DoesNothing : Effect
+
+abbrev pub effect : Setting → Instruction → Effect
 -- row creation (6.4.2.1)
-stepped s (SetLoc address) m = moved address m
-stepped s (AdvanceLoc delta) m = moved (m.address + delta * s.code_align) m
+effect s (SetLoc address) = MovesTo address
+effect s (AdvanceLoc delta) = MovesBy (delta * s.code_align)
 -- CFA definition (6.4.2.2)
-stepped s (DefCfa register offset) m = on_row (put_cfa register (plain offset)) m
-stepped s (DefCfaSf register factored) m = on_row (put_cfa register (scaled s factored)) m
-stepped s (DefCfaRegister register) m = on_row (put_register register) m
-stepped s (DefCfaOffset offset) m = on_row (put_offset (plain offset)) m
-stepped s (DefCfaOffsetSf factored) m = on_row (put_offset (scaled s factored)) m
--- register rules (6.4.2.3)
-stepped s (Undefined column) m = on_row (put_rule column rule.Undefined) m
-stepped s (SameValue column) m = on_row (put_rule column rule.Same) m
-stepped s (Offset column factored) m = on_row (put_rule column (rule.Offset (scaled s (plain factored)))) m
-stepped s (OffsetExtendedSf column factored) m = on_row (put_rule column (rule.Offset (scaled s factored))) m
-stepped s (ValOffset column factored) m = on_row (put_rule column (rule.ValOffset (scaled s (plain factored)))) m
-stepped s (ValOffsetSf column factored) m = on_row (put_rule column (rule.ValOffset (scaled s factored))) m
-stepped s (Register column register) m = on_row (put_rule column (rule.Register register)) m
-stepped s (Restore column) m = on_row (put_rule column (rule_behind s.initial column)) m
+effect s (DefCfa register offset) = DefinesCfa register (plain offset)
+effect s (DefCfaSf register factored) = DefinesCfa register (scaled s factored)
+effect s (DefCfaRegister register) = ChangesRegister register
+effect s (DefCfaOffset offset) = ChangesOffset (plain offset)
+effect s (DefCfaOffsetSf factored) = ChangesOffset (scaled s factored)
+-- register rules (6.4.2.3); the return address is no register, and the one that has a column's value is one of the sixteen
+effect s (Undefined column) = PutsRule column rule.Undefined None
+effect s (SameValue column) = PutsRule column rule.Same (unless (not (column == 16)) reason.Register)
+effect s (Offset column factored) = PutsRule column (rule.Offset (scaled s (plain factored))) None
+effect s (OffsetExtendedSf column factored) = PutsRule column (rule.Offset (scaled s factored)) None
+effect s (ValOffset column factored) = PutsRule column (rule.ValOffset (scaled s (plain factored))) None
+effect s (ValOffsetSf column factored) = PutsRule column (rule.ValOffset (scaled s factored)) None
+effect s (Register column register) = PutsRule column (rule.Register register) (unless (nat_lt 16 column || nat_lt register 16) reason.Register)
+effect s (Restore column) = PutsRule column (rule_behind s.initial column) (unless (is_some s.initial) reason.State)
 -- row state (6.4.2.4)
-stepped s RememberState m = record { address = m.address; row = m.row; stack = m.row ∷ m.stack }
-stepped s RestoreState m = record { address = m.address; row = top_or m.row m.stack; stack = under m.stack }
+effect s RememberState = Remembers
+effect s RestoreState = TakesBack
 -- padding (6.4.2.5)
-stepped s Nop m = m
+effect s Nop = DoesNothing
+
+-- the state after an effect
+abbrev pub done : Effect → Machine → Machine
+done (MovesTo address) m = moved address m
+done (MovesBy distance) m = moved (m.address + distance) m
+done (DefinesCfa register offset) m = on_row (put_cfa register offset) m
+done (ChangesRegister register) m = on_row (put_register register) m
+done (ChangesOffset offset) m = on_row (put_offset offset) m
+done (PutsRule column new why) m = on_row (put_rule column new) m
+done Remembers m = record { address = m.address; row = m.row; stack = m.row ∷ m.stack }
+done TakesBack m = record { address = m.address; row = top_or m.row m.stack; stack = under m.stack }
+done DoesNothing m = m
 
 -- a location instruction: none may stand in a CIE, and the location rises and stays below 2^64
 abbrev pub move_fault : Setting → ℕ → ℕ → Option Reason
@@ -112,23 +139,21 @@ register_fault register = unless (nat_lt register 16) reason.Register
 abbrev pub part_fault : Machine → Option Reason
 part_fault m = unless (has_cfa m.row) reason.State
 
--- why an instruction may not stand where it stands; of several reasons the first in their order
+-- why an effect is refused; of several reasons the first in their order
+abbrev pub effect_fault : Setting → Effect → Machine → Option Reason
+effect_fault s (MovesTo address) m = move_fault s m.address address
+effect_fault s (MovesBy distance) m = move_fault s m.address (m.address + distance)
+effect_fault s (DefinesCfa register offset) m = register_fault register
+effect_fault s (ChangesRegister register) m = option_or (register_fault register) (part_fault m)
+effect_fault s (ChangesOffset offset) m = part_fault m
+effect_fault s (PutsRule column new why) m = why
+effect_fault s Remembers m = None
+effect_fault s TakesBack m = unless (has_remembered m.stack) reason.State
+effect_fault s DoesNothing m = None
+
+-- the state after an instruction, and why it may not stand where it stands
+unfoldable pub stepped : Setting → Instruction → Machine → Machine
+stepped s i m = done (effect s i) m
+
 unfoldable pub step_fault : Setting → Instruction → Machine → Option Reason
-step_fault s (SetLoc address) m = move_fault s m.address address
-step_fault s (AdvanceLoc delta) m = move_fault s m.address (m.address + delta * s.code_align)
-step_fault s (DefCfa register offset) m = register_fault register
-step_fault s (DefCfaSf register factored) m = register_fault register
-step_fault s (DefCfaRegister register) m = option_or (register_fault register) (part_fault m)
-step_fault s (DefCfaOffset offset) m = part_fault m
-step_fault s (DefCfaOffsetSf factored) m = part_fault m
-step_fault s (Undefined column) m = None
-step_fault s (SameValue column) m = unless (not (column == 16)) reason.Register
-step_fault s (Offset column factored) m = None
-step_fault s (OffsetExtendedSf column factored) m = None
-step_fault s (ValOffset column factored) m = None
-step_fault s (ValOffsetSf column factored) m = None
-step_fault s (Register column register) m = unless (nat_lt 16 column || nat_lt register 16) reason.Register
-step_fault s (Restore column) m = unless (is_some s.initial) reason.State
-step_fault s RememberState m = None
-step_fault s RestoreState m = unless (has_remembered m.stack) reason.State
-step_fault s Nop m = None
+step_fault s i m = effect_fault s (effect s i) m

@@ -8,7 +8,7 @@ ghost use Rattle.frame_rows.specs.Held.{setting_in};
 use crate::held_setting::HeldSetting;
 use crate::machine::{Machine, Setting};
 use crate::row::{COLUMNS, Row, Rule};
-use crate::running::run;
+use crate::run::run_all;
 use frame_entries::Fde;
 use std::alloc::Global;
 use std::marker::Model;
@@ -79,16 +79,14 @@ fn run_cie<'c>(alloc: Global, fde: &Fde<'_>) -> Result<Machine<'c>, Stop<Reason>
 {
     let setting = setting_of(fde, None);
     let mut machine = Machine::new(alloc, fde.start, &empty_row(), &[]);
-    match run(
+    run_all(
         &mut machine,
         &setting,
         fde.encoding,
         0,
         fde.initial_instructions,
-    ) {
-        Ok(()) => Ok(machine),
-        Err(stop) => Err(stop),
-    }
+    )?;
+    Ok(machine)
 }
 
 /// What the instructions of the CIE of an entry leave.

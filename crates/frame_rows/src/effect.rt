@@ -3,7 +3,8 @@ ghost use Rattle.std.specs.Prelude.{◌≡◌, Some, None};
 ghost use Rattle.sym_edges.specs.Outside.{MatchStop};
 ghost use Rattle.sym_edges.specs.Results.{unless};
 ghost use Rattle.frame_rows.specs.Columns.{touched};
-ghost use Rattle.frame_rows.specs.Steps.{stepped, step_fault, on_row, put_rule};
+ghost use Rattle.frame_rows.specs.declared.machine.Setting.{Setting};
+ghost use Rattle.frame_rows.specs.Steps.{effect, stepped, step_fault, on_row, put_rule};
 
 use crate::columns::Columns;
 use crate::instruction::Instruction;
@@ -15,7 +16,7 @@ impl Instruction {
     /// The columns that the instruction may change.
     #[inline(always)]
     pub fn touched(&self) -> Columns
-        ensures { result ≡ touched self.now }
+        ensures { (s : Setting) → result ≡ touched (effect s self.now) }
     {
         match self {
             Instruction::Undefined { column } => Columns::one(*column),

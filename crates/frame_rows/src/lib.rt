@@ -31,23 +31,21 @@ mod effect;
 mod machine;
 
 // All instructions of an entry.
-mod checking;
 mod cie_state;
+mod entry_rows;
 mod held_setting;
-mod lacking;
-mod running;
+mod inspection;
+mod run;
 mod stepper;
 #[cfg(test)]
 mod tests;
-mod walking;
 
 // For proofs above.
 pub mod laws;
 
-pub use crate::checking::check_rows_behind;
 pub use crate::cie_state::CieState;
 pub use crate::columns::Columns;
+pub use crate::entry_rows::{check_rows_behind, rows, rows_behind};
+pub use crate::inspection::{inspect, inspect_behind};
 pub use crate::row::{CfaRule, Row, RowAt, RowList, Rule};
-pub use crate::running::{inspect, inspect_behind};
 pub use crate::stepper::Stepper;
-pub use crate::walking::{rows, rows_behind};

@@ -11,13 +11,13 @@ ghost use Rattle.frame_rows.specs.Held.{setting_in};
 ghost use Rattle.frame_rows.specs.Standing.{Begins, IsStep, Refuses, Ends};
 ghost use Rattle.frame_rows.specs.Walk.{rows_from, rows_past, row_with};
 
-use crate::checking::check_rows_behind;
 use crate::cie_state::{Begun, CieState};
 use crate::columns::Columns;
+use crate::entry_rows::check_rows_behind;
 use crate::held_setting::HeldSetting;
-use crate::instruction::Instruction;
-use crate::machine::{Machine, Setting};
+use crate::machine::Machine;
 use crate::row::Row;
+use crate::run::{run_to_end, run_to_next_row};
 use frame_entries::Fde;
 use leb_cursor::Cursor;
 use std::alloc::Global;
@@ -63,67 +63,6 @@ impl<'c, 'a> Model for Stepper<'c, 'a> {
     ghost invariant = { λ s. IsTrue (is_encoding s.encoding) };
 }
 
-/// Carries out the instructions up to the first that moves the location on.
-fn settle(
-    machine: &mut Machine<'_>,
-    cursor: &mut Cursor<'_>,
-    setting: &Setting,
-    encoding: u8,
-    base: u64,
-) -> Result<Columns, Stop<Reason>>
-    requires known { IsTrue (is_encoding encoding) }
-    ensures fault { MatchStop result
-        (λ _. first_fault setting.now (listed_at encoding base cursor.new) machine.new ≡ first_fault setting.now (listed_at encoding base cursor.old) machine.old)
-        (λ why. first_fault setting.now (listed_at encoding base cursor.old) machine.old ≡ Some why)
-        (Unit {0}) }
-    ensures stays { IfOk result (λ columns. StayOutside columns machine.old.row machine.new.row) }
-    ensures rows { OnOk result ((end : ℕ) → machine.old.address < end →
-        rows_from end setting.now (listed_at encoding base cursor.old) machine.old
-        ≡ row_with machine.old.address machine.new.row ∷ rows_past end setting.now (listed_at encoding base cursor.new) machine.new machine.old.address) }
-    ensures fewer { OnOk result (0 < length cursor.old.bytes → length cursor.new.bytes < length cursor.old.bytes) }
-{
-    let address = machine.address();
-    let mut columns = Columns::none();
-    'turns: while !cursor.is_at_end() {
-        let instruction = match Instruction::read(cursor, encoding, base) {
-            Ok(instruction) => instruction,
-            Err(why) => return Err(Stop::Fault(why)),
-        };
-        columns = columns.join(instruction.touched());
-        match instruction.step(machine, setting) {
-            Ok(()) => {}
-            Err(stop) => return Err(stop),
-        }
-        if address < machine.address() {
-            return Ok(columns);
-        }
-    }
-    Ok(columns)
-}
-
-/// Carries out all instructions that are left.
-fn run_on(
-    machine: &mut Machine<'_>,
-    cursor: &mut Cursor<'_>,
-    setting: &Setting,
-    encoding: u8,
-    base: u64,
-) -> Result<(), Stop<Reason>>
-    requires known { IsTrue (is_encoding encoding) }
-    ensures fault { MatchStop result
-        (λ _. first_fault setting.now (listed_at encoding base cursor.old) machine.old ≡ None)
-        (λ why. first_fault setting.now (listed_at encoding base cursor.old) machine.old ≡ Some why)
-        (Unit {0}) }
-{
-    'rest: while !cursor.is_at_end() {
-        match settle(machine, cursor, setting, encoding, base) {
-            Ok(_) => {}
-            Err(stop) => return Err(stop),
-        }
-    }
-    Ok(())
-}
-
 /// The first row of an entry.
 #[inline]
 fn start<'c, 'a>(begun: Begun<'c>, fde: &Fde<'a>, end: u64) -> Result<Stepper<'c, 'a>, Stop<Reason>>
@@ -143,7 +82,7 @@ fn start<'c, 'a>(begun: Begun<'c>, fde: &Fde<'a>, end: u64) -> Result<Stepper<'c
         setting,
     } = begun;
     let mut cursor = Cursor::new(fde.instructions, 0, fde.instructions.len());
-    match settle(
+    match run_to_next_row(
         &mut machine,
         &mut cursor,
         setting.get(),
@@ -252,7 +191,7 @@ impl<'c, 'a> Stepper<'c, 'a> {
             return Ok(None);
         }
         self.address = next;
-        match settle(
+        match run_to_next_row(
             &mut self.machine,
             &mut self.cursor,
             self.setting.get(),
@@ -271,10 +210,11 @@ impl<'c, 'a> Stepper<'c, 'a> {
         }
     }
 
-    /// Goes on to the next row: true; or stays, at the last row: false. Where all instructions were looked at before, no step gives a
-    /// reason. Once memory ran out, each step answers that.
+    /// Goes on to the next row: true; or stays, at the last row: false. The reason of a bad instruction refuses the step: none where
+    /// all instructions were looked at before. Once memory ran out, each step answers that, and once one was refused, each is for
+    /// the same reason.
     pub fn step(&mut self) -> Result<bool, Stop<Reason>>
-        ensures steps { self.old.failed ≡ false → self.old.refused ≡ None → self.old.fault ≡ None → MatchStop result (λ more. IsStep more self.old self.new) (λ _. ⊥) (self.new.failed ≡ true) }
+        ensures steps { self.old.failed ≡ false → self.old.refused ≡ None → MatchStop result (λ more. IsStep more self.old self.new) (λ why. Refuses why self.old self.new) (self.new.failed ≡ true) }
         ensures failed { self.old.failed ≡ true → (result ≡ Err stop.NoMemory) × (self.new ≡ self.old) }
         ensures refused { self.old.failed ≡ false → MatchOption self.old.refused (Unit {0}) (λ why. (result ≡ Err (stop.Fault why)) × (self.new ≡ self.old)) }
     {
@@ -292,7 +232,7 @@ impl<'c, 'a> Stepper<'c, 'a> {
         requires going { self.old.refused ≡ None }
         ensures { MatchStop result (λ _. Ends self.old self.new) (λ why. Refuses why self.old self.new) (self.new.failed ≡ true) }
     {
-        match run_on(
+        match run_to_end(
             &mut self.machine,
             &mut self.cursor,
             self.setting.get(),

@@ -1,0 +1,50 @@
+//! The first bad instruction of an entry.
+ghost use Rattle.std.specs.Prelude.{◌≡◌, IfOk};
+ghost use Rattle.frame_rows.specs.Rows.{instruction_fault};
+ghost use Rattle.frame_rows.specs.CieLeft.{cie_left};
+
+use crate::cie_state::{Begun, CieState};
+use crate::run::run_all;
+use frame_entries::Fde;
+use std::alloc::Global;
+use sym_edges::{OutOfMemory, Reason, Stop};
+
+/// The reason of the first bad instruction of an entry, that of its CIE, behind which the state is given, before those of its
+/// own, for any range.
+#[tactic(auto, unfolding(crate::specs::Rows::instruction_fault, crate::specs::Rows::own_items))]
+pub fn inspect_behind(
+    alloc: Global,
+    state: &CieState,
+    fde: &Fde<'_>,
+) -> Result<Option<Reason>, OutOfMemory>
+    requires { state.now ≡ cie_left fde.now }
+    ensures { IfOk result (λ why. why ≡ instruction_fault fde.now) }
+{
+    let begun = match state.begin(alloc, fde) {
+        Ok(begun) => begun,
+        Err(why) => return Ok(Some(why)),
+    };
+    let Begun {
+        mut machine,
+        setting,
+    } = begun;
+    match run_all(
+        &mut machine,
+        setting.get(),
+        fde.encoding,
+        fde.instructions_address,
+        fde.instructions,
+    ) {
+        Ok(()) => Ok(None),
+        Err(Stop::Fault(why)) => Ok(Some(why)),
+        Err(Stop::NoMemory) => Err(OutOfMemory),
+    }
+}
+
+/// The reason of the first bad instruction, those of the CIE before the entry's own, for any range.
+pub fn inspect(alloc: Global, fde: &Fde<'_>) -> Result<Option<Reason>, OutOfMemory>
+    ensures { IfOk result (λ why. why ≡ instruction_fault fde.now) }
+{
+    let state = CieState::of(alloc, fde)?;
+    inspect_behind(alloc, &state, fde)
+}
