@@ -6,5 +6,4 @@ pub mod Cies
 pub mod FdeFields
 pub mod FrameEntries
 pub mod SharedCies
-pub mod CiePlaces
-pub mod KnownEncodings
+pub mod internal
