@@ -1,4 +1,4 @@
--- A search among CIEs whose places rise.
+-- A search among CIEs whose places rise; for `count_before`, `find_cie`.
 use Rattle.std.proofs.Common.{◌≡◌, ◌<◌, ◌≤◌, ◌+◌, ℕ, zero, suc, Bool, true, false, eqb, ltb, List, [], ◌∷◌, length, get_or, None, Some, refl, sym, ap, ◌∙◌, arith, ⊎_elim}
 use Rattle.std.specs.List.{find}
 use Rattle.std.specs.List.Sorted.{IsPartitionPoint}
@@ -6,7 +6,7 @@ use Rattle.std.proofs.lemmas.Bool.{cond-true, cond-false, eq-eqb, ne_eqb, ltb-tr
 use Rattle.sym_edges.specs.Rising.{RisesFrom}
 use Rattle.sym_edges.proofs.RisingLemmas.{ordered_by}
 use Rattle.frame_entries.specs.declared.cie.Cie.{Cie}
-use Rattle.frame_entries.specs.CiePlaces.{places_of, Before}
+use Rattle.frame_entries.specs.internal.CiePlaces.{places_of, Before}
 use Rattle.frame_entries.specs.FrameEntries.{cie_from}
 
 -- the first element that passes is found, and none where none does

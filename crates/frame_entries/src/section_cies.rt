@@ -3,11 +3,11 @@ ghost use Rattle.std.specs.Prelude.{◌≡◌, IfOk};
 ghost use Rattle.std.specs.Option.{option_copied};
 ghost use Rattle.frame_entries.specs.FrameEntries.{is_cie, cie_at, cies_of, cie_place, cie_from, cie_named, entry_of};
 ghost use Rattle.sym_edges.specs.Rising.{RisesFrom};
-ghost use Rattle.frame_entries.specs.CiePlaces.{places_of, Before};
+ghost use Rattle.frame_entries.specs.internal.CiePlaces.{places_of, Before};
 
 use crate::cie::{Cie, read_cie};
 use crate::description::{Body, Entry, read_body};
-use crate::listing::{RawEntry, is_eh};
+use crate::raw_entries::{RawEntry, is_eh};
 use std::alloc::{AllocError, Global};
 use sym_edges::{Reason, Sect};
 

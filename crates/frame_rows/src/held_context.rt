@@ -1,24 +1,24 @@
 //! What instructions are carried out with, owned or lent.
 ghost use Rattle.std.specs.Prelude.{◌≡◌};
-ghost use Rattle.frame_rows.specs.Held.{setting_in};
+ghost use Rattle.frame_rows.specs.internal.Held.{context_in};
 
-use crate::machine::Setting;
+use crate::machine::CieContext;
 
-/// A setting of its own, or one that lies in the state behind a CIE.
+/// A context of its own, or one that lies in the state behind a CIE.
 #[derive(Drop)]
-pub enum HeldSetting<'c> {
-    Own(Box<Setting>),
-    Lent(&'c Setting),
+pub enum HeldContext<'c> {
+    Own(Box<CieContext>),
+    Lent(&'c CieContext),
 }
 
-impl<'c> HeldSetting<'c> {
+impl<'c> HeldContext<'c> {
     #[inline]
-    pub fn get(&self) -> &Setting
-        ensures { result.now ≡ setting_in self.now }
+    pub fn get(&self) -> &CieContext
+        ensures { result.now ≡ context_in self.now }
     {
         match self {
-            HeldSetting::Own(setting) => setting,
-            HeldSetting::Lent(setting) => setting,
+            HeldContext::Own(context) => context,
+            HeldContext::Lent(context) => context,
         }
     }
 }

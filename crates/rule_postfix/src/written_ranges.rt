@@ -1,4 +1,4 @@
-//! The ranges that are taken.
+//! The ranges of the entries that are written.
 ghost use Rattle.std.specs.Prelude.{◌≡◌, ◌<◌, ◌∷◌, [], false, Some, None, Bool, ◌||◌, MatchOption, IfOk, OnOk};
 ghost use Rattle.std.specs.BTreeMap.{BTreeMap};
 ghost use Rattle.sym_edges.specs.Addresses.{Range};
@@ -11,12 +11,12 @@ use sym_edges::OutOfMemory;
 
 /// Ranges of addresses of which no two meet, and an address at or above all their ends.
 #[derive(Drop)]
-pub struct Taken {
+pub struct WrittenRanges {
     ends: BTreeMap<u64, u64>,
     top: u64,
 }
 
-impl Model for Taken {
+impl Model for WrittenRanges {
     ghost use Rattle.std.specs.Prelude.{List};
     ghost use Rattle.sym_edges.specs.Addresses.{Range};
     ghost use Rattle.rule_postfix.specs.Overlaps.{ranges_by, AreApart, EndBy};
@@ -38,11 +38,11 @@ fn last_end(ends: &BTreeMap<u64, u64>, below: u64) -> Option<u64>
     }
 }
 
-impl Taken {
-    pub fn new(alloc: Global) -> Taken
+impl WrittenRanges {
+    pub fn new(alloc: Global) -> WrittenRanges
         ensures { result ≡ [] }
     {
-        Taken {
+        WrittenRanges {
             ends: BTreeMap::new(alloc),
             top: 0,
         }

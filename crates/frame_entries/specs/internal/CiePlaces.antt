@@ -1,4 +1,4 @@
--- No public clause cites this: the places of CIEs.
+-- The places of CIEs.
 use Rattle.std.specs.Prelude.{ℕ, ◌<◌, ◌≤◌, List, length, map, slice_index_or}
 use Rattle.frame_entries.specs.declared.cie.Cie.{Cie}
 

@@ -1,4 +1,4 @@
--- No public clause cites this: where the encoding of each R of an augmentation is one that is read, the last is.
+-- Where the encoding of each R of an augmentation is one that is read, the last is.
 use Rattle.std.specs.Prelude.{◌≡◌, true}
 use Rattle.frame_entries.specs.declared.augmentation.Encodings.{Encodings}
 use Rattle.frame_entries.specs.Pointers.{is_encoding}

@@ -1,4 +1,4 @@
--- No public clause cites this: the states behind the CIEs of a section.
+-- The states behind the CIEs of a section.
 use Rattle.std.specs.Prelude.{◌≡◌, ℕ, ◌<◌, List, length, slice_index_or, Option, Some, None, Result}
 use Rattle.std.specs.Ordering.{nat_cmp}
 use Rattle.std.specs.BTreeMap.{get}

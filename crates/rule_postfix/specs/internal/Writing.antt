@@ -1,4 +1,4 @@
--- The pass over the rows, as a recursion; no public clause cites it.
+-- The pass over the rows, as a recursion.
 use Rattle.std.specs.Prelude.{ℕ, ◌-◌, if◌then◌else◌, List, [], ◌∷◌, ◌++◌}
 use Rattle.frame_rows.specs.declared.row.Row.{Row}
 use Rattle.frame_rows.specs.declared.row.RowAt.{RowAt}

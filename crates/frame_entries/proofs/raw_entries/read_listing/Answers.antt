@@ -1,7 +1,7 @@
 use Rattle.std.proofs.Common.{◌+◌, ◌-◌, length, Ok, sym, ap, ◌∙◌, arith}
-use Rattle.frame_entries.specs.declared.listing.Mark.{Mark}
+use Rattle.frame_entries.specs.declared.raw_entries.Mark.{Mark}
 use Rattle.frame_entries.proofs.ListingLemmas.{listing_ended, listing_refused}
-use Rattle.frame_entries.proofs.listing.read_listing.Goals as goal
+use Rattle.frame_entries.proofs.raw_entries.read_listing.Goals as goal
 
 pub returns-in-Err : goal.returns-in-Err
 returns-in-Err c =

@@ -1,7 +1,7 @@
 use Rattle.std.proofs.Common.{◌≡◌, ◌+◌, ◌-◌, length}
 use Rattle.frame_entries.specs.Listing.{from_start, listed_in, listed_at}
 use Rattle.frame_entries.proofs.ListingLemmas.{behind}
-use Rattle.frame_entries.proofs.listing.read_listing.Given as goal
+use Rattle.frame_entries.proofs.raw_entries.read_listing.Given as goal
 
 abbrev pub invariant-marks : goal.invariant-marks
 invariant-marks l = record {

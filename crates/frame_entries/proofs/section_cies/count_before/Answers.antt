@@ -3,7 +3,7 @@ use Rattle.std.proofs.lemmas.List.Sorted.{IsPartitionPoint-from_clause, IsPartit
 use Rattle.sym_edges.proofs.RisingLemmas.{sorted_by}
 use Rattle.frame_entries.specs.declared.cie.Cie.{Cie}
 use Rattle.frame_entries.proofs.FindLemmas.{before_by}
-use Rattle.frame_entries.proofs.reading.count_before.Goals as goal
+use Rattle.frame_entries.proofs.section_cies.count_before.Goals as goal
 
 pub returns : goal.returns
 returns c =

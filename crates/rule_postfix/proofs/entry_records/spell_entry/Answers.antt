@@ -1,7 +1,7 @@
 use Rattle.std.proofs.Common.{◌∷◌, ◌+◌, ap}
 use Rattle.frame_entries.specs.FdeFields.{FdeFields}
 use Rattle.rule_postfix.proofs.EntryLemmas.{entry_text, pass_bad, pass_lack, pass_good, pass_valid}
-use Rattle.rule_postfix.proofs.translating.spell_entry.Goals as goal
+use Rattle.rule_postfix.proofs.entry_records.spell_entry.Goals as goal
 
 pub returns-in-Err-spell_steps-clause-exact : goal.returns-in-Err-spell_steps-clause-exact
 returns-in-Err-spell_steps-clause-exact c = pass_bad _ _ c.in-Err-spell_steps.stop c.args.fde.now c.in-Ok.stepper _ _ c.in-Ok.ensures.begins c.in-Err-spell_steps.ensures.fault

@@ -1,7 +1,7 @@
 use Rattle.std.proofs.Common.{◌∙◌, ap, sym}
 use Rattle.rule_postfix.specs.Overlaps.{any_meets}
 use Rattle.rule_postfix.proofs.OverlapLemmas.{meets_last, none_reaches}
-use Rattle.rule_postfix.proofs.taken.Taken.meets.Goals as goal
+use Rattle.rule_postfix.proofs.written_ranges.WrittenRanges.meets.Goals as goal
 
 pub returns-in-Some : goal.returns-in-Some
 returns-in-Some c =

@@ -1,6 +1,6 @@
 use Rattle.std.proofs.Common.{ap}
 use Rattle.rule_postfix.specs.Overlaps.{ranges_by}
-use Rattle.rule_postfix.proofs.taken.Taken.new.Goals as goal
+use Rattle.rule_postfix.proofs.written_ranges.WrittenRanges.new.Goals as goal
 
 pub returns : goal.returns
 unfolding ranges_by

@@ -1,7 +1,7 @@
 use Rattle.std.proofs.Common.{◌∙◌, ◌||◌, ap, arith}
 use Rattle.rule_postfix.specs.Overlaps.{any_meets, meet}
 use Rattle.rule_postfix.proofs.OverlapLemmas.{put_apart, put_by, put_meets}
-use Rattle.rule_postfix.proofs.taken.Taken.put.Goals as goal
+use Rattle.rule_postfix.proofs.written_ranges.WrittenRanges.put.Goals as goal
 
 pub invariant_of-self-2 : goal.invariant_of-self-2
 invariant_of-self-2 c = (
