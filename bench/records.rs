@@ -83,14 +83,4 @@ fn main() {
         text.push(b'\n');
     }
     report("inlines", &text, start);
-    let start = Instant::now();
-    let mut text = Vec::new();
-    for k in 0..OTHERS {
-        text.extend_from_slice(b"STACK CFI");
-        spaced_hex(&mut text, k * 64);
-        text.extend_from_slice(b" .cfa: $rsp");
-        decimal(&mut text, 16);
-        text.extend_from_slice(b" +\n");
-    }
-    report("changes", &text, start);
 }

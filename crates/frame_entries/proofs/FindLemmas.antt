@@ -1,11 +1,11 @@
--- A search among CIEs whose places rise.
+-- A search among CIEs whose places rise; for `count_before`, `find_cie`.
 use Rattle.std.proofs.Common.{◌≡◌, ◌<◌, ◌≤◌, ◌+◌, ℕ, zero, suc, Bool, true, false, eqb, List, [], ◌∷◌, length, get_or, None, Some, refl, sym, ◌∙◌, arith}
 use Rattle.std.specs.List.{find}
 use Rattle.std.proofs.lemmas.Bool.{cond-true, cond-false, eq-eqb}
 use Rattle.sym_edges.specs.Rising.{RisesFrom, StandBelow}
 use Rattle.sym_edges.proofs.RisingLemmas.{differ_below, differ_all, differ_other}
 use Rattle.frame_entries.specs.declared.cie.Cie.{Cie}
-use Rattle.frame_entries.specs.CiePlaces.{places_of}
+use Rattle.frame_entries.specs.internal.CiePlaces.{places_of}
 use Rattle.frame_entries.specs.FrameEntries.{cie_from}
 
 -- the first element that passes is found, and none where none does

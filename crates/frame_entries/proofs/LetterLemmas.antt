@@ -1,4 +1,4 @@
--- The letters of an augmentation, read one after the other.
+-- The letters of an augmentation, read one after the other; for `read_letters`.
 use Rattle.std.proofs.Common.{◌≡◌, ◌+◌, ◌<◌, ◌≤◌, ℕ, true, List, drop, get_or, length, Ok, Err, refl, sym, ◌∙◌, ap, add-one, drop-cons}
 use Rattle.std.proofs.lemmas.List.{drop_all}
 use Rattle.sym_edges.specs.declared.reason.Reason.{Reason}

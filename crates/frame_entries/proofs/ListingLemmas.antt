@@ -1,4 +1,4 @@
--- The list of a section's entries, as the code makes it.
+-- The list of a section's entries, as the code makes it; for `read_listing`.
 use Rattle.std.proofs.Common.{◌≡◌, ◌+◌, ℕ, zero, suc, true, false, nat_eq, List, [], ◌∷◌, ◌++◌, length, Result, Ok, Err, refl, sym, ap, ◌∙◌, arith, append_assoc, append-nil}
 use Rattle.std.proofs.lemmas.Bool.{cond-true, cond-false}
 use Rattle.sym_edges.specs.declared.part.Sect.{Sect}
@@ -6,7 +6,7 @@ use Rattle.sym_edges.specs.Results.{◌>>=◌}
 use Rattle.leb_cursor.specs.Ahead.{Ahead}
 use Rattle.sym_edges.specs.declared.located.Located.{Located}
 use Rattle.frame_entries.specs.declared.fault.FrameKind.{FrameKind}
-use Rattle.frame_entries.specs.declared.listing.Mark.TheVariants.{Terminator, Padding, Listed}
+use Rattle.frame_entries.specs.declared.raw_entries.Mark.TheVariants.{Terminator, Padding, Listed}
 use Rattle.frame_entries.specs.Raw.{Raw}
 use Rattle.frame_entries.specs.Listing.{mark_at, listed_from, listed_in}
 

@@ -1,4 +1,4 @@
--- The places of a section's entries rise, and its list does not depend on how many turns are allowed.
+-- The places of a section's entries rise, and its list does not depend on how many turns are allowed; for `entries`, `entries_follow`, `read_entry`, `read_listing`, `read_mark`.
 use Rattle.std.proofs.Common.{◌≡◌, ◌≤◌, ◌+◌, ◌-◌, ℕ, zero, suc, Bool, true, false, ◌||◌, nat_eq, nat_lt, nat_le, cond, eq-eqb, List, [], ◌∷◌, length, map, Result, Ok, Err, refl, sym, ap, ◌∙◌, subst, arith}
 use Rattle.std.specs.List.{filter}
 use Rattle.std.proofs.lemmas.Bool.{cond-true}
@@ -13,12 +13,12 @@ use Rattle.leb_cursor.proofs.ListLemmas.{weaker, either_passes}
 use Rattle.frame_entries.specs.declared.fault.FrameKind.TheVariants.{Length, Format64}
 use Rattle.sym_edges.specs.declared.located.Located.{Located}
 use Rattle.frame_entries.specs.declared.fault.FrameKind.{FrameKind}
-use Rattle.frame_entries.specs.declared.listing.Mark.{Mark}
-use Rattle.frame_entries.specs.declared.listing.Mark.TheVariants.{Terminator, Padding, Listed}
+use Rattle.frame_entries.specs.declared.raw_entries.Mark.{Mark}
+use Rattle.frame_entries.specs.declared.raw_entries.Mark.TheVariants.{Terminator, Padding, Listed}
 use Rattle.frame_entries.specs.declared.cie.Cie.{Cie}
 use Rattle.frame_entries.specs.Raw.{Raw}
 use Rattle.frame_entries.specs.Listing.{or_length, is_eh, entry_at, mark_behind, mark_at, listed_from, listed_in, listed_at, listed_by}
-use Rattle.frame_entries.specs.CiePlaces.{places_of}
+use Rattle.frame_entries.specs.internal.CiePlaces.{places_of}
 use Rattle.sym_edges.specs.Rising.{RisesFrom}
 use Rattle.sym_edges.proofs.RisingLemmas.{rises_lower}
 use Rattle.frame_entries.specs.FrameEntries.{is_cie, cie_at, cies_of}

@@ -1,4 +1,4 @@
--- The reasons for which entries are left out.
+-- The reasons for which entries are left out; for `reasons_are_of_fields`.
 use Rattle.std.proofs.Common.{ℕ, Bool, true, false, not, ◌&&◌, nat_eq, cond, List, [], ◌∷◌, drop, map, Option, None, Some, Result, Ok, Err}
 use Rattle.std.specs.Option.{IfSome, option_and_then}
 use Rattle.std.specs.List.{filter, find}

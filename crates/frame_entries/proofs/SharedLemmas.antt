@@ -1,4 +1,4 @@
--- Entries of one section whose CIE stands at one place have one CIE's fields.
+-- Entries of one section whose CIE stands at one place have one CIE's fields; for `entry`, `is_empty`, `len`.
 use Rattle.std.proofs.Common.{◌≡◌, ◌<◌, ℕ, Bool, true, false, nat_eq, cond, List, [], ◌∷◌, map, length, get_or, Option, None, Some, Result, Ok, Err, refl, sym, ap, ◌∙◌, pos, subst, arith}
 use Rattle.std.specs.List.{find, slice_get}
 use Rattle.std.specs.Option.{option_and_then, option_map}

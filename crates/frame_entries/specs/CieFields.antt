@@ -1,3 +1,4 @@
+-- What a CIE says.
 use Rattle.std.specs.Prelude.{ℕ, ℤ, Bool, List}
 
 -- what the FDEs of a CIE need of it (DWARF 5, 6.4.1): the code alignment factor, the data alignment factor, the encoding of

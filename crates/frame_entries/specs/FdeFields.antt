@@ -1,3 +1,4 @@
+-- What a frame description entry says.
 use Rattle.std.specs.Prelude.{ℕ, ℤ, List}
 
 -- a frame description entry (DWARF 5, 6.4.1): the place of its CIE in the section, its address range, what its CIE says with the

@@ -6,6 +6,5 @@ pub mod Cies
 pub mod FdeFields
 pub mod FrameEntries
 pub mod SharedCies
-pub mod CiePlaces
-pub mod KnownEncodings
 pub mod FaultWords
+pub mod internal

@@ -9,8 +9,8 @@ use Rattle.leb_cursor.specs.Readings.{fixed_at, take_at}
 use Rattle.frame_entries.specs.declared.fault.FrameKind.TheVariants.{Length, Format64}
 use Rattle.sym_edges.specs.declared.located.Located.{Located}
 use Rattle.frame_entries.specs.declared.fault.FrameKind.{FrameKind}
-use Rattle.frame_entries.specs.declared.listing.Mark.{Mark}
-use Rattle.frame_entries.specs.declared.listing.Mark.TheVariants.{Terminator, Padding, Listed}
+use Rattle.frame_entries.specs.declared.raw_entries.Mark.{Mark}
+use Rattle.frame_entries.specs.declared.raw_entries.Mark.TheVariants.{Terminator, Padding, Listed}
 use Rattle.frame_entries.specs.Raw.{Raw}
 
 -- `.eh_frame` and not `.debug_frame`

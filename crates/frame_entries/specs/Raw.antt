@@ -1,3 +1,4 @@
+-- Entries as they lie in their section.
 use Rattle.std.specs.Prelude.{ℕ, List}
 
 -- an entry as it lies in its section: the places of its first byte, of its id and of its body, and the bytes of the body

@@ -4,10 +4,10 @@ ghost use Rattle.std.specs.List.{list_all};
 ghost use Rattle.leb_cursor.specs.Ahead.{gave};
 ghost use Rattle.frame_entries.specs.Listing.{from_start};
 ghost use Rattle.frame_entries.specs.Cies.{is_letter, is_understood, is_personality, personality_at, encoding_at, letter_at, letters_at, encodings_of};
-ghost use Rattle.frame_entries.specs.KnownEncodings.{LastIsRead};
+ghost use Rattle.frame_entries.specs.internal.KnownEncodings.{LastIsRead};
 
-use crate::listing::cursor_over;
 use crate::pointer::{format_of, is_encoding, is_format, read_number};
+use crate::raw_entries::cursor_over;
 use leb_cursor::Cursor;
 use sym_edges::Reason;
 

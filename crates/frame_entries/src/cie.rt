@@ -1,11 +1,11 @@
 //! Common information entries.
 ghost use Rattle.std.specs.Prelude.{◌≡◌, drop};
-ghost use Rattle.frame_entries.specs.KnownEncodings.{LastIsRead};
+ghost use Rattle.frame_entries.specs.internal.KnownEncodings.{LastIsRead};
 ghost use Rattle.frame_entries.specs.Cies.{is_version, is_augmented, cie_fields, cie_behind, cie_of};
 
 use crate::augmentation::{Encodings, is_understood, read_encodings};
-use crate::listing::cursor_over;
 use crate::numbers::{Numbers, read_augmentation, read_numbers};
+use crate::raw_entries::cursor_over;
 use leb_cursor::Cursor;
 use std::marker::Model;
 use sym_edges::Reason;

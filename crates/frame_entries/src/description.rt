@@ -3,9 +3,9 @@ ghost use Rattle.std.specs.Prelude.{◌≡◌};
 ghost use Rattle.frame_entries.specs.FrameEntries.{fde_of, body_under};
 
 use crate::cie::{CieParts, rest_from};
-use crate::listing::cursor_over;
 use crate::numbers::read_augmentation;
 use crate::pointer::{format_of, read_number, read_pointer};
+use crate::raw_entries::cursor_over;
 use leb_cursor::CursorFault;
 use std::marker::Model;
 use sym_edges::{Reason, Sect};

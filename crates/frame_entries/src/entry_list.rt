@@ -7,8 +7,8 @@ ghost use Rattle.frame_entries.specs.SharedCies.{ShareCies};
 use crate::cie::Cie;
 use crate::description::Entry;
 use crate::fault::FrameFault;
-use crate::listing::{RawEntry, read_listing};
-use crate::reading::{is_cie, read_cies, read_entry};
+use crate::raw_entries::{RawEntry, read_listing};
+use crate::section_cies::{is_cie, read_cies, read_entry};
 use std::alloc::Global;
 use std::marker::Model;
 use sym_edges::{Part, Sect, Stop};
@@ -28,7 +28,7 @@ impl<'a> Model for EntryList<'a> {
     ghost use Rattle.frame_entries.specs.declared.description.Entry.{Entry};
     ghost use Rattle.frame_entries.specs.FrameEntries.{entry_of};
     ghost use Rattle.sym_edges.specs.Rising.{RisesFrom};
-    ghost use Rattle.frame_entries.specs.CiePlaces.{places_of};
+    ghost use Rattle.frame_entries.specs.internal.CiePlaces.{places_of};
 
     ghost Value = { List Entry };
 

@@ -25,10 +25,10 @@ mod description;
 mod entry_list;
 mod fault;
 pub mod laws;
-mod listing;
 mod numbers;
 mod pointer;
-mod reading;
+mod raw_entries;
+mod section_cies;
 #[cfg(test)]
 mod tests;
 

@@ -1,6 +1,6 @@
 //! Examples with ample memory: each public call that takes memory, and one list of 1,000 entries. The size of what is held for an
 //! entry.
-use crate::listing::RawEntry;
+use crate::raw_entries::RawEntry;
 use crate::{Body, Entry, entries};
 use std::alloc::Global;
 use std::mem::size_of;

@@ -1,4 +1,4 @@
--- An entry lacks a rule for the CFA where one of its rows does.
+-- An entry lacks a rule for the CFA where one of its rows does; for the lemmas of EntryLemmas.
 use Rattle.std.proofs.Common.{◌≡◌, ◌⊎◌, inl, inr, ℕ, zero, suc, ◌+◌, ◌<◌, ◌≤◌, ◌||◌, not, cond, Bool, true, false, List, [], ◌∷◌, nat_le, Option, Some, None, refl, sym, ◌∙◌, ap, arith}
 use Rattle.std.proofs.lemmas.Bool.{cases_lt, not-false, not-true, or_parts, or_right}
 use Rattle.std.specs.List.{list_any, range_with_len}

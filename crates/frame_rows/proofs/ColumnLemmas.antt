@@ -1,15 +1,16 @@
--- The columns that instructions leave as they are.
+-- The columns that instructions leave as they are; for `run_to_next_row`.
 use Rattle.std.proofs.Common.{◌≡◌, ◌≢◌, ℕ, ◌+◌, min, max, get_or, set, refl, ap, sym, ◌∙◌, arith, subst, inl, inr, get_or-set_other}
 use Rattle.std.proofs.lemmas.Bool.{cases_lt, lt-ltb, le-ltb}
 use Rattle.frame_rows.specs.declared.row.Rule.{Rule}
 use Rattle.frame_rows.specs.declared.row.Rule.TheVariants as rule
 use Rattle.frame_rows.specs.declared.row.Row.{Row}
 use Rattle.frame_rows.specs.declared.columns.Columns.{Columns}
-use Rattle.frame_rows.specs.declared.machine.Setting.{Setting}
+use Rattle.frame_rows.specs.declared.machine.CieContext.{CieContext}
 use Rattle.frame_rows.specs.declared.instruction.Instruction.{Instruction}
 use Rattle.frame_rows.specs.Machine.{Machine}
 use Rattle.frame_rows.specs.Steps.{Effect, MovesTo, MovesBy, DefinesCfa, ChangesRegister, ChangesOffset, PutsRule, Remembers, TakesBack, DoesNothing, effect, done, stepped, put_rule, put_cfa, put_register, put_offset}
-use Rattle.frame_rows.specs.Columns.{StayOutside, no_columns, one_column, touched}
+use Rattle.frame_rows.specs.Columns.{StayOutside}
+use Rattle.frame_rows.specs.internal.Touched.{no_columns, one_column, touched}
 
 -- rows with the same rules
 alike : (columns : Columns) (before after : Row) → before.rules ≡ after.rules → StayOutside columns before after
@@ -45,7 +46,7 @@ effect_stays Remembers m = alike no_columns m.row m.row refl
 effect_stays TakesBack m = record { below = λ k low. absurd (omega arith); above = λ k past low. absurd (omega arith) }
 effect_stays DoesNothing m = alike no_columns m.row m.row refl
 
-touched_stay : (s : Setting) (i : Instruction) (m : Machine) → StayOutside (touched (effect s i)) m.row (stepped s i m).row
+touched_stay : (s : CieContext) (i : Instruction) (m : Machine) → StayOutside (touched (effect s i)) m.row (stepped s i m).row
 unfolding stepped
 touched_stay s i m = effect_stays (effect s i) m
 
@@ -56,7 +57,7 @@ stay_both first second a b c one two = record {
   above = λ k past low. one.above k (omega arith) low ∙ two.above k (omega arith) low;
 }
 
-pub stay_on : (begin : Row) (m n : Machine) (s : Setting) (i : Instruction) (columns more other : Columns) → StayOutside columns begin m.row → other ≡ touched (effect s i) → n ≡ stepped s i m → more ≡ record { first = min columns.first other.first; end = max columns.end other.end } → StayOutside more begin n.row
+pub stay_on : (begin : Row) (m n : Machine) (s : CieContext) (i : Instruction) (columns more other : Columns) → StayOutside columns begin m.row → other ≡ touched (effect s i) → n ≡ stepped s i m → more ≡ record { first = min columns.first other.first; end = max columns.end other.end } → StayOutside more begin n.row
 stay_on begin m n s i columns more other so which is both =
     let P : Columns → Type 0 = λ c. StayOutside c begin n.row in
     let Q : Row → Type 0 = λ r. StayOutside (record { first = min columns.first (touched (effect s i)).first; end = max columns.end (touched (effect s i)).end }) begin r in

@@ -1,4 +1,4 @@
--- The rows of an entry, from the states of its two runs of instructions.
+-- The rows of an entry, from the states of its two runs of instructions; for `begin`, `check_rows_behind`, `new`.
 use Rattle.std.proofs.Common.{◌≡◌, ℕ, not, true, false, List, Option, Some, None, Err, sym, ◌∙◌, ap}
 use Rattle.std.specs.List.{list_any}
 use Rattle.sym_edges.specs.Outside.{MatchStop}
@@ -11,25 +11,25 @@ use Rattle.frame_rows.specs.declared.row.RowAt.{RowAt}
 use Rattle.sym_edges.specs.Results.{unless}
 use Rattle.std.specs.Option.{option_or}
 use Rattle.frame_rows.specs.Steps.{has_cfa}
-use Rattle.frame_rows.specs.Rows.{first_fault, cie_setting, cie_items, cie_begin, own_setting, own_items, own_begin, instruction_fault, lacks_cfa, rows_fault, AreRows, HasCfa, IsSound, row_at}
+use Rattle.frame_rows.specs.Rows.{first_fault, cie_context, cie_items, cie_begin, own_context, own_items, own_begin, instruction_fault, lacks_cfa, rows_fault, AreRows, HasCfa, IsSound, row_at}
 use Rattle.frame_rows.proofs.TestLemmas.{neither}
 use Rattle.frame_rows.proofs.CfaLemmas.{none_lacks, some_lacks, has_not_lacks}
 use Rattle.frame_rows.proofs.SoundLemmas.{entry_sound}
 
 -- what is known once both runs are carried out
 pub record Walked (e : FdeFields) (rows : List RowAt) : Type 0 where
-  pub cie : first_fault (cie_setting e) (cie_items e) (cie_begin e) ≡ None
-  pub own : first_fault (own_setting e) (own_items e) (own_begin e) ≡ None
+  pub cie : first_fault (cie_context e) (cie_items e) (cie_begin e) ≡ None
+  pub own : first_fault (own_context e) (own_items e) (own_begin e) ≡ None
   pub are : AreRows e rows
 
 pub fine : (e : FdeFields) (rows : List RowAt) → Walked e rows → instruction_fault e ≡ None
 unfolding instruction_fault
-fine e rows w = ap (λ o. option_or o (first_fault (own_setting e) (own_items e) (own_begin e))) w.cie ∙ w.own
+fine e rows w = ap (λ o. option_or o (first_fault (own_context e) (own_items e) (own_begin e))) w.cie ∙ w.own
 
 pub walked_by : (e : FdeFields) (rows : List RowAt) → instruction_fault e ≡ None → AreRows e rows → Walked e rows
 unfolding instruction_fault
 walked_by e rows good are =
-    let both = neither (first_fault (cie_setting e) (cie_items e) (cie_begin e)) (first_fault (own_setting e) (own_items e) (own_begin e)) good in
+    let both = neither (first_fault (cie_context e) (cie_items e) (cie_begin e)) (first_fault (own_context e) (own_items e) (own_begin e)) good in
     record { cie = both.0; own = both.1; are = are }
 
 -- each row has a rule for the CFA
@@ -51,18 +51,18 @@ pub rows_sound : (e : FdeFields) (rows : List RowAt) → Walked e rows → (a : 
 rows_sound e rows w a = entry_sound e a (fine e rows w)
 
 -- an instruction of the CIE, or of the entry, is bad
-pub cie_bad : (e : FdeFields) (why : Reason) → first_fault (cie_setting e) (cie_items e) (cie_begin e) ≡ Some why → rows_fault e ≡ Some why
+pub cie_bad : (e : FdeFields) (why : Reason) → first_fault (cie_context e) (cie_items e) (cie_begin e) ≡ Some why → rows_fault e ≡ Some why
 unfolding rows_fault instruction_fault
-cie_bad e why bad = ap (λ o. option_or (option_or o (first_fault (own_setting e) (own_items e) (own_begin e))) (unless (not (lacks_cfa e)) reason.Cfa)) bad
+cie_bad e why bad = ap (λ o. option_or (option_or o (first_fault (own_context e) (own_items e) (own_begin e))) (unless (not (lacks_cfa e)) reason.Cfa)) bad
 
 pub bad_instruction : (e : FdeFields) (why : Reason) → instruction_fault e ≡ Some why → rows_fault e ≡ Some why
 unfolding rows_fault
 bad_instruction e why bad = ap (λ o. option_or o (unless (not (lacks_cfa e)) reason.Cfa)) bad
 
-pub own_bad : (e : FdeFields) (why : Reason) → first_fault (cie_setting e) (cie_items e) (cie_begin e) ≡ None → first_fault (own_setting e) (own_items e) (own_begin e) ≡ Some why → rows_fault e ≡ Some why
+pub own_bad : (e : FdeFields) (why : Reason) → first_fault (cie_context e) (cie_items e) (cie_begin e) ≡ None → first_fault (own_context e) (own_items e) (own_begin e) ≡ Some why → rows_fault e ≡ Some why
 unfolding rows_fault instruction_fault
 own_bad e why cie bad =
-    ap (λ o. option_or (option_or o (first_fault (own_setting e) (own_items e) (own_begin e))) (unless (not (lacks_cfa e)) reason.Cfa)) cie ∙ ap (λ o. option_or o (unless (not (lacks_cfa e)) reason.Cfa)) bad
+    ap (λ o. option_or (option_or o (first_fault (own_context e) (own_items e) (own_begin e))) (unless (not (lacks_cfa e)) reason.Cfa)) cie ∙ ap (λ o. option_or o (unless (not (lacks_cfa e)) reason.Cfa)) bad
 
 -- a pass over its rows stops
 pub pass_stopped : (A B : Type 0) (stop : Stop Reason) (e : FdeFields) (fault : Option Reason) → fault ≡ instruction_fault e → MatchStop {A = A} {F = Reason} (Err stop) (λ _. fault ≡ None) (λ why. fault ≡ Some why) (Unit {0}) → MatchStop {A = B} {F = Reason} (Err stop) (λ _. rows_fault e ≡ None) (λ why. rows_fault e ≡ Some why) (Unit {0})

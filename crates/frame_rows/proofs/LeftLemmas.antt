@@ -1,4 +1,4 @@
--- What a CIE leaves depends on the CIE alone: no location instruction may stand there, so the address does not count.
+-- What a CIE leaves depends on the CIE alone: no location instruction may stand there, so the address does not count; for `begin`, `entries_of_one_cie_begin_alike`, `into_begun`, `leave`.
 use Rattle.std.proofs.Common.{◌≡◌, ℕ, ℤ, List, [], ◌∷◌, Option, Some, None, Result, Ok, Err, refl, sym, ◌∙◌, ap}
 use Rattle.std.specs.Option.{option_or}
 use Rattle.sym_edges.specs.declared.reason.Reason.{Reason}
@@ -8,25 +8,25 @@ use Rattle.sym_edges.specs.declared.fault.Stop.TheVariants.{Fault, NoMemory}
 use Rattle.frame_entries.specs.FdeFields.{FdeFields}
 use Rattle.frame_entries.specs.SharedCies.{HaveOneCie}
 use Rattle.frame_rows.specs.declared.row.Row.{Row}
-use Rattle.frame_rows.specs.declared.machine.Setting.{Setting}
+use Rattle.frame_rows.specs.declared.machine.CieContext.{CieContext}
 use Rattle.frame_rows.specs.Instructions.{Item, instructions}
 use Rattle.frame_rows.specs.Machine.{Machine}
 use Rattle.frame_rows.specs.Left.{Left}
 use Rattle.frame_rows.specs.Steps.{Effect, MovesTo, MovesBy, DefinesCfa, ChangesRegister, ChangesOffset, PutsRule, Remembers, TakesBack, DoesNothing, effect, done, effect_fault, stepped, step_fault}
-use Rattle.frame_rows.specs.Rows.{item_stepped, item_fault, all_stepped, first_fault, empty_row, cie_setting, cie_items, cie_begin, cie_end, own_setting, own_begin}
+use Rattle.frame_rows.specs.Rows.{item_stepped, item_fault, all_stepped, first_fault, empty_row, cie_context, cie_items, cie_begin, cie_end, own_context, own_begin}
 use Rattle.frame_rows.specs.CieLeft.{left_unless, cie_left}
 
 -- a state, and the state behind an instruction, whose location nothing asks for
 abbrev state : ℕ → Row → List Row → Machine
 state address row stack = record { address = address; row = row; stack = stack }
 
-abbrev in_cie : ℕ → ℤ → Setting
+abbrev in_cie : ℕ → ℤ → CieContext
 in_cie code data_align = record { code_align = code; data_align = data_align; initial = None }
 
-abbrev row_behind : Setting → Item → Row → List Row → Row
+abbrev row_behind : CieContext → Item → Row → List Row → Row
 row_behind s i row stack = (item_stepped s i (state 0 row stack)).row
 
-abbrev stack_behind : Setting → Item → Row → List Row → List Row
+abbrev stack_behind : CieContext → Item → Row → List Row → List Row
 stack_behind s i row stack = (item_stepped s i (state 0 row stack)).stack
 
 effect_apart : (e : Effect) (a : ℕ) (row : Row) (stack : List Row) → done e (state a row stack) ≡ state (done e (state a row stack)).address (done e (state 0 row stack)).row (done e (state 0 row stack)).stack
@@ -40,7 +40,7 @@ effect_apart Remembers a row stack = refl
 effect_apart TakesBack a row stack = refl
 effect_apart DoesNothing a row stack = refl
 
-step_apart : (s : Setting) (i : Item) (a : ℕ) (row : Row) (stack : List Row) → item_stepped s i (state a row stack) ≡ state (item_stepped s i (state a row stack)).address (row_behind s i row stack) (stack_behind s i row stack)
+step_apart : (s : CieContext) (i : Item) (a : ℕ) (row : Row) (stack : List Row) → item_stepped s i (state a row stack) ≡ state (item_stepped s i (state a row stack)).address (row_behind s i row stack) (stack_behind s i row stack)
 unfolding stepped
 step_apart s (Err why) a row stack = refl
 step_apart s (Ok i) a row stack = effect_apart (effect s i) a row stack
@@ -66,14 +66,14 @@ faults_apart : (code : ℕ) (factor : ℤ) (items : List Item) (a b : ℕ) (row 
 unfolding first_fault
 faults_apart code factor [] a b row stack = refl
 faults_apart code factor (i ∷ items) a b row stack =
-    let s : Setting = in_cie code factor in
+    let s : CieContext = in_cie code factor in
     ap (λ o. option_or o (first_fault s items (item_stepped s i (state a row stack)))) (fault_apart code factor i a b row stack)
     ∙ ap (λ o. option_or (item_fault s i (state b row stack)) o)
     (ap (first_fault s items) (step_apart s i a row stack)
     ∙ faults_apart code factor items (item_stepped s i (state a row stack)).address (item_stepped s i (state b row stack)).address (row_behind s i row stack) (stack_behind s i row stack)
     ∙ sym (ap (first_fault s items) (step_apart s i b row stack)))
 
-rows_apart : (s : Setting) (items : List Item) (a b : ℕ) (row : Row) (stack : List Row) → (all_stepped s items (state a row stack)).row ≡ (all_stepped s items (state b row stack)).row
+rows_apart : (s : CieContext) (items : List Item) (a b : ℕ) (row : Row) (stack : List Row) → (all_stepped s items (state a row stack)).row ≡ (all_stepped s items (state b row stack)).row
 unfolding all_stepped
 rows_apart s [] a b row stack = refl
 rows_apart s (i ∷ items) a b row stack =
@@ -81,7 +81,7 @@ rows_apart s (i ∷ items) a b row stack =
     ∙ rows_apart s items (item_stepped s i (state a row stack)).address (item_stepped s i (state b row stack)).address (row_behind s i row stack) (stack_behind s i row stack)
     ∙ sym (ap (λ m. (all_stepped s items m).row) (step_apart s i b row stack))
 
-stacks_apart : (s : Setting) (items : List Item) (a b : ℕ) (row : Row) (stack : List Row) → (all_stepped s items (state a row stack)).stack ≡ (all_stepped s items (state b row stack)).stack
+stacks_apart : (s : CieContext) (items : List Item) (a b : ℕ) (row : Row) (stack : List Row) → (all_stepped s items (state a row stack)).stack ≡ (all_stepped s items (state b row stack)).stack
 unfolding all_stepped
 stacks_apart s [] a b row stack = refl
 stacks_apart s (i ∷ items) a b row stack =
@@ -92,10 +92,10 @@ stacks_apart s (i ∷ items) a b row stack =
 -- what is left, by the fields of a CIE
 abbrev left_with : ℕ → ℤ → Option Reason → Row → List Row → Result Left Reason
 left_with code factor why row stack =
-    left_unless why (record { setting = record { code_align = code; data_align = factor; initial = Some row }; stack = stack })
+    left_unless why (record { context = record { code_align = code; data_align = factor; initial = Some row }; stack = stack })
 
-abbrev left_ok : Setting → List Row → Result Left Reason
-left_ok s stack = Ok (record { setting = s; stack = stack })
+abbrev left_ok : CieContext → List Row → Result Left Reason
+left_ok s stack = Ok (record { context = s; stack = stack })
 
 abbrev left_from : ℕ → ℤ → List Item → ℕ → Result Left Reason
 left_from code factor items a =
@@ -103,13 +103,13 @@ left_from code factor items a =
 
 left_apart : (code : ℕ) (factor : ℤ) (items : List Item) (a b : ℕ) → left_from code factor items a ≡ left_from code factor items b
 left_apart code factor items a b =
-    let s : Setting = in_cie code factor in
+    let s : CieContext = in_cie code factor in
     ap (λ o. left_with code factor o (all_stepped s items (state a empty_row [])).row (all_stepped s items (state a empty_row [])).stack) (faults_apart code factor items a b empty_row [])
     ∙ ap (λ row. left_with code factor (first_fault s items (state b empty_row [])) row (all_stepped s items (state a empty_row [])).stack) (rows_apart s items a b empty_row [])
     ∙ ap (λ stack. left_with code factor (first_fault s items (state b empty_row [])) (all_stepped s items (state b empty_row [])).row stack) (stacks_apart s items a b empty_row [])
 
 left_by_fields : (e : FdeFields) → cie_left e ≡ left_from e.code_align e.data_align (instructions e.encoding 0 e.initial_instructions) e.start
-unfolding cie_left cie_setting cie_items cie_begin cie_end own_setting
+unfolding cie_left cie_context cie_items cie_begin cie_end own_context
 left_by_fields e = refl
 
 -- entries of one CIE begin alike
@@ -125,8 +125,8 @@ one_left e f one =
 
 -- what is left is known by its reason
 pub record IsLeft (e : FdeFields) (left : Left) : Type 0 where
-  pub fault : first_fault (cie_setting e) (cie_items e) (cie_begin e) ≡ None
-  pub setting : left.setting ≡ own_setting e
+  pub fault : first_fault (cie_context e) (cie_items e) (cie_begin e) ≡ None
+  pub context : left.context ≡ own_context e
   pub stack : left.stack ≡ (cie_end e).stack
 
 abbrev ok_or : Left → Result Left Reason → Left
@@ -152,50 +152,50 @@ bad_part (Some w) x why is = ap Some (ap (err_or w) is)
 pub left_good : (e : FdeFields) (left : Left) → cie_left e ≡ Ok left → IsLeft e left
 unfolding cie_left
 left_good e left is =
-    let parts = good_parts (first_fault (cie_setting e) (cie_items e) (cie_begin e)) (record { setting = own_setting e; stack = (cie_end e).stack }) left is in
+    let parts = good_parts (first_fault (cie_context e) (cie_items e) (cie_begin e)) (record { context = own_context e; stack = (cie_end e).stack }) left is in
     record {
       fault = parts.0;
-      setting = ap (λ (l : Left). l.setting) (sym parts.1);
+      context = ap (λ (l : Left). l.context) (sym parts.1);
       stack = ap (λ (l : Left). l.stack) (sym parts.1);
     }
 
-pub left_bad : (e : FdeFields) (why : Reason) → cie_left e ≡ Err why → first_fault (cie_setting e) (cie_items e) (cie_begin e) ≡ Some why
+pub left_bad : (e : FdeFields) (why : Reason) → cie_left e ≡ Err why → first_fault (cie_context e) (cie_items e) (cie_begin e) ≡ Some why
 unfolding cie_left
-left_bad e why is = bad_part (first_fault (cie_setting e) (cie_items e) (cie_begin e)) (record { setting = own_setting e; stack = (cie_end e).stack }) why is
+left_bad e why is = bad_part (first_fault (cie_context e) (cie_items e) (cie_begin e)) (record { context = own_context e; stack = (cie_end e).stack }) why is
 
 some_row : (a b : Row) → ◌≡◌ {A = Option Row} (Some a) (Some b) → a ≡ b
 some_row a b is = ap (row_or a) is
 
 -- the row is behind the instructions of the CIE
-row_left : (e : FdeFields) (left : Left) (o : Option Row) (row : Row) → IsLeft e left → o ≡ left.setting.initial → o ≡ Some row → row ≡ (cie_end e).row
-unfolding own_setting
-row_left e left o row is in_setting there = some_row row (cie_end e).row (sym there ∙ in_setting ∙ ap (λ (s : Setting). s.initial) is.setting)
+row_left : (e : FdeFields) (left : Left) (o : Option Row) (row : Row) → IsLeft e left → o ≡ left.context.initial → o ≡ Some row → row ≡ (cie_end e).row
+unfolding own_context
+row_left e left o row is in_context there = some_row row (cie_end e).row (sym there ∙ in_context ∙ ap (λ (s : CieContext). s.initial) is.context)
 
-pub no_row_left : (e : FdeFields) (left : Left) (o : Option Row) → IsLeft e left → o ≡ left.setting.initial → o ≡ None → ⊥
-unfolding own_setting
-no_row_left e left o is in_setting none =
-    let bad : ◌≡◌ {A = Option Row} None (Some (cie_end e).row) = sym none ∙ in_setting ∙ ap (λ (s : Setting). s.initial) is.setting in
+pub no_row_left : (e : FdeFields) (left : Left) (o : Option Row) → IsLeft e left → o ≡ left.context.initial → o ≡ None → ⊥
+unfolding own_context
+no_row_left e left o is in_context none =
+    let bad : ◌≡◌ {A = Option Row} None (Some (cie_end e).row) = sym none ∙ in_context ∙ ap (λ (s : CieContext). s.initial) is.context in
     cc
 
 -- an entry begins with what is left
-pub begun : (e : FdeFields) (left : Left) (m : Machine) (address : ℕ) (o : Option Row) (row : Row) (stack : List Row) → IsLeft e left → m ≡ state address row stack → address ≡ e.start → o ≡ left.setting.initial → o ≡ Some row → stack ≡ left.stack → m ≡ own_begin e
+pub begun : (e : FdeFields) (left : Left) (m : Machine) (address : ℕ) (o : Option Row) (row : Row) (stack : List Row) → IsLeft e left → m ≡ state address row stack → address ≡ e.start → o ≡ left.context.initial → o ≡ Some row → stack ≡ left.stack → m ≡ own_begin e
 unfolding own_begin
-begun e left m address o row stack is made at in_setting there stack_is =
-    made ∙ ap (λ a. state a row stack) at ∙ ap (λ r. state e.start r stack) (row_left e left o row is in_setting there) ∙ ap (λ k. state e.start (cie_end e).row k) (stack_is ∙ is.stack)
+begun e left m address o row stack is made at in_context there stack_is =
+    made ∙ ap (λ a. state a row stack) at ∙ ap (λ r. state e.start r stack) (row_left e left o row is in_context there) ∙ ap (λ k. state e.start (cie_end e).row k) (stack_is ∙ is.stack)
 
 -- what is left behind a CIE that was carried out
-pub left_is : (e : FdeFields) (s : Setting) (m : Machine) (row : Row) (stack : List Row) → first_fault (cie_setting e) (cie_items e) (cie_begin e) ≡ None → m ≡ cie_end e → row ≡ m.row → stack ≡ m.stack → s ≡ record { code_align = e.code_align; data_align = e.data_align; initial = Some row } → cie_left e ≡ Ok (record { setting = s; stack = stack })
-unfolding cie_left own_setting
-left_is e s m row stack good is row_is stack_is setting_is =
+pub left_is : (e : FdeFields) (s : CieContext) (m : Machine) (row : Row) (stack : List Row) → first_fault (cie_context e) (cie_items e) (cie_begin e) ≡ None → m ≡ cie_end e → row ≡ m.row → stack ≡ m.stack → s ≡ record { code_align = e.code_align; data_align = e.data_align; initial = Some row } → cie_left e ≡ Ok (record { context = s; stack = stack })
+unfolding cie_left own_context
+left_is e s m row stack good is row_is stack_is context_is =
     let row_of : row ≡ (cie_end e).row = row_is ∙ ap (λ (k : Machine). k.row) is in
     let stack_of : stack ≡ (cie_end e).stack = stack_is ∙ ap (λ (k : Machine). k.stack) is in
-    sym (ap (λ (l : Setting). left_ok l stack) setting_is
+    sym (ap (λ (l : CieContext). left_ok l stack) context_is
     ∙ ap (λ r. left_with e.code_align e.data_align None r stack) row_of
     ∙ ap (λ k. left_with e.code_align e.data_align None (cie_end e).row k) stack_of
     ∙ ap (λ o. left_with e.code_align e.data_align o (cie_end e).row (cie_end e).stack) (sym good))
 
 -- or was refused
-pub refused_left : (A B : Type 0) (stop : Stop Reason) (e : FdeFields) (P : B → Type 0) → MatchStop {A = A} {F = Reason} (Err stop) (λ _. first_fault (cie_setting e) (cie_items e) (cie_begin e) ≡ None) (λ why. first_fault (cie_setting e) (cie_items e) (cie_begin e) ≡ Some why) (Unit {0}) → MatchStop {A = B} {F = Reason} (Err stop) P (λ why. cie_left e ≡ Err why) (Unit {0})
+pub refused_left : (A B : Type 0) (stop : Stop Reason) (e : FdeFields) (P : B → Type 0) → MatchStop {A = A} {F = Reason} (Err stop) (λ _. first_fault (cie_context e) (cie_items e) (cie_begin e) ≡ None) (λ why. first_fault (cie_context e) (cie_items e) (cie_begin e) ≡ Some why) (Unit {0}) → MatchStop {A = B} {F = Reason} (Err stop) P (λ why. cie_left e ≡ Err why) (Unit {0})
 unfolding cie_left
-refused_left A B (Fault why) e P bad = ap (λ o. left_unless o (record { setting = own_setting e; stack = (cie_end e).stack })) bad
+refused_left A B (Fault why) e P bad = ap (λ o. left_unless o (record { context = own_context e; stack = (cie_end e).stack })) bad
 refused_left A B NoMemory e P bad = tt

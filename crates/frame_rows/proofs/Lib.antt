@@ -10,7 +10,7 @@ pub mod FollowLemmas
 pub mod OperandLemmas
 pub mod ColumnLemmas
 pub mod TakeLemmas
-pub mod SteppingLemmas
+pub mod StepperLemmas
 pub mod StartLemmas
 pub mod Computing
 mod Entries

@@ -1,4 +1,4 @@
--- An instruction takes the operands that the table of opcodes gives it.
+-- An instruction takes the operands that the table of opcodes gives it; for `operands_are_those_of_the_table`.
 use Rattle.std.proofs.Common.{◌≡◌, ℕ, ℤ, List, [], ◌∷◌, Result, Ok, Err, refl}
 use Rattle.std.specs.List.{All}
 use Rattle.std.proofs.lemmas.List.Elements.{All-nil, All-cons}

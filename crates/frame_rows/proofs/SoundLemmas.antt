@@ -1,4 +1,4 @@
--- The rows of an entry without a bad instruction are sound.
+-- The rows of an entry without a bad instruction are sound; for the lemmas of EntryLemmas.
 use Rattle.std.proofs.Common.{◌≡◌, ℕ, ℤ, pos, negsuc, zero, suc, ◌-◌, ◌*◌, ◌%◌, ◌^◌, ◌<◌, ◌==◌, ◌||◌, not, cond, true, List, [], ◌∷◌, set, get_or, replicate, nat_lt, nat_le, Option, Some, None, Ok, Err, refl, ap, arith}
 use Rattle.std.proofs.lemmas.Bool.{and_from, and_parts, lt-ltb, ltb-false, ltb-true}
 use Rattle.std.proofs.lemmas.Bool.Decides.{nat_tests}
@@ -10,13 +10,13 @@ use Rattle.frame_rows.specs.declared.row.Rule.{Rule}
 use Rattle.frame_rows.specs.declared.row.Rule.TheVariants as rule
 use Rattle.frame_rows.specs.declared.row.CfaRule.{CfaRule}
 use Rattle.frame_rows.specs.declared.row.Row.{Row}
-use Rattle.frame_rows.specs.declared.machine.Setting.{Setting}
+use Rattle.frame_rows.specs.declared.machine.CieContext.{CieContext}
 use Rattle.frame_rows.specs.declared.instruction.Instruction.{Instruction}
 use Rattle.frame_rows.specs.declared.instruction.Instruction.TheVariants.{SetLoc, AdvanceLoc, DefCfa, DefCfaSf, DefCfaRegister, DefCfaOffset, DefCfaOffsetSf, Undefined, SameValue, Offset, OffsetExtendedSf, ValOffset, ValOffsetSf, Register, Restore, RememberState, RestoreState, Nop}
 use Rattle.frame_rows.specs.Instructions.{Item}
 use Rattle.frame_rows.specs.Machine.{Machine}
 use Rattle.frame_rows.specs.Steps.{Effect, MovesTo, MovesBy, DefinesCfa, ChangesRegister, ChangesOffset, PutsRule, Remembers, TakesBack, DoesNothing, effect, done, effect_fault, plain, scaled, stepped, step_fault, register_fault, part_fault, put_cfa, put_register, put_offset, put_rule, cfa_register, cfa_offset, rule_behind, top_or, under}
-use Rattle.frame_rows.specs.Rows.{item_stepped, item_fault, first_fault, all_stepped, replay, empty_row, cie_setting, cie_items, cie_begin, cie_end, own_setting, own_items, own_begin, row_at, instruction_fault, is_sound_rule, is_sound_cfa, IsSound}
+use Rattle.frame_rows.specs.Rows.{item_stepped, item_fault, first_fault, all_stepped, replay, empty_row, cie_context, cie_items, cie_begin, cie_end, own_context, own_items, own_begin, row_at, instruction_fault, is_sound_rule, is_sound_cfa, IsSound}
 use Rattle.frame_rows.proofs.TestLemmas.{elim_bool, neither}
 use Rattle.frame_rows.proofs.StepLemmas.{unless_none}
 use Rattle.frame_rows.proofs.RowLemmas.{parted}
@@ -58,7 +58,7 @@ fits_cast n =
 plain_fits : (offset : ℕ) → fits_i64 (plain offset) ≡ true
 plain_fits offset = fits_cast offset
 
-scaled_fits : (s : Setting) (factored : ℤ) → fits_i64 (scaled s factored) ≡ true
+scaled_fits : (s : CieContext) (factored : ℤ) → fits_i64 (scaled s factored) ≡ true
 scaled_fits s factored = fits_cast ((cast_unsigned w64 factored * cast_unsigned w64 s.data_align) % 2 ^ 64)
 
 cfa_sound : (register : ℕ) (offset : ℤ) (row : Row) → register_fault register ≡ None → fits_i64 offset ≡ true → IsSound row → IsSound (put_cfa register offset row)
@@ -106,7 +106,7 @@ Puts (ChangesOffset offset) = fits_i64 offset ≡ true
 Puts (PutsRule column new why) = why ≡ None → column < 17 → is_sound_rule column new ≡ true
 Puts _ = Unit {0}
 
-puts : (s : Setting) (i : Instruction) → InitialSound s.initial → Puts (effect s i)
+puts : (s : CieContext) (i : Instruction) → InitialSound s.initial → Puts (effect s i)
 puts s (SetLoc address) initial = tt
 puts s (AdvanceLoc delta) initial = tt
 puts s (DefCfa register offset) initial = plain_fits offset
@@ -126,7 +126,7 @@ puts s RememberState initial = tt
 puts s RestoreState initial = tt
 puts s Nop initial = tt
 
-effect_sound : (s : Setting) (e : Effect) (m : Machine) → effect_fault s e m ≡ None → Puts e → IsSoundState m → IsSoundState (done e m)
+effect_sound : (s : CieContext) (e : Effect) (m : Machine) → effect_fault s e m ≡ None → Puts e → IsSoundState m → IsSoundState (done e m)
 effect_sound s (MovesTo address) m good what names = record { row = names.row; stack = names.stack }
 effect_sound s (MovesBy distance) m good what names = record { row = names.row; stack = names.stack }
 effect_sound s (DefinesCfa register offset) m good what names = record { row = cfa_sound register offset m.row good what names.row; stack = names.stack }
@@ -137,22 +137,22 @@ effect_sound s Remembers m good what names = record { row = names.row; stack = (
 effect_sound s TakesBack m good what names = record { row = top_sound m.row m.stack names.row names.stack; stack = under_sound m.stack names.stack }
 effect_sound s DoesNothing m good what names = names
 
-step_sound : (s : Setting) (i : Instruction) (m : Machine) → step_fault s i m ≡ None → InitialSound s.initial → IsSoundState m → IsSoundState (stepped s i m)
+step_sound : (s : CieContext) (i : Instruction) (m : Machine) → step_fault s i m ≡ None → InitialSound s.initial → IsSoundState m → IsSoundState (stepped s i m)
 unfolding stepped step_fault
 step_sound s i m good initial names = effect_sound s (effect s i) m good (puts s i initial) names
 
-item_sound : (s : Setting) (i : Item) (m : Machine) → item_fault s i m ≡ None → InitialSound s.initial → IsSoundState m → IsSoundState (item_stepped s i m)
+item_sound : (s : CieContext) (i : Item) (m : Machine) → item_fault s i m ≡ None → InitialSound s.initial → IsSoundState m → IsSoundState (item_stepped s i m)
 item_sound s (Ok i) m good initial names = step_sound s i m good initial names
 item_sound s (Err why) m good initial names = names
 
-all_sound : (s : Setting) (items : List Item) (m : Machine) → first_fault s items m ≡ None → InitialSound s.initial → IsSoundState m → IsSoundState (all_stepped s items m)
+all_sound : (s : CieContext) (items : List Item) (m : Machine) → first_fault s items m ≡ None → InitialSound s.initial → IsSoundState m → IsSoundState (all_stepped s items m)
 unfolding all_stepped
 all_sound s [] m good initial names = names
 all_sound s (i ∷ items) m good initial names =
     let parts = parted s i items m good in
     all_sound s items (item_stepped s i m) parts.1 initial (item_sound s i m parts.0 initial names)
 
-replay_sound : (s : Setting) (items : List Item) (m : Machine) (a : ℕ) → first_fault s items m ≡ None → InitialSound s.initial → IsSoundState m → IsSoundState (replay s items m a)
+replay_sound : (s : CieContext) (items : List Item) (m : Machine) (a : ℕ) → first_fault s items m ≡ None → InitialSound s.initial → IsSoundState m → IsSoundState (replay s items m a)
 unfolding replay
 replay_sound s [] m a good initial names = names
 replay_sound s (i ∷ items) m a good initial names =
@@ -176,14 +176,14 @@ begin_sound : (e : FdeFields) → IsSoundState (cie_begin e)
 unfolding cie_begin
 begin_sound e = record { row = empty_sound; stack = tt }
 
-end_sound : (e : FdeFields) → first_fault (cie_setting e) (cie_items e) (cie_begin e) ≡ None → IsSoundState (cie_end e)
-unfolding cie_end cie_setting
-end_sound e good = all_sound (cie_setting e) (cie_items e) (cie_begin e) good tt (begin_sound e)
+end_sound : (e : FdeFields) → first_fault (cie_context e) (cie_items e) (cie_begin e) ≡ None → IsSoundState (cie_end e)
+unfolding cie_end cie_context
+end_sound e good = all_sound (cie_context e) (cie_items e) (cie_begin e) good tt (begin_sound e)
 
 -- each row of an entry without a bad instruction
 pub entry_sound : (e : FdeFields) (a : ℕ) → instruction_fault e ≡ None → IsSound (row_at e a)
-unfolding instruction_fault row_at own_begin own_setting
+unfolding instruction_fault row_at own_begin own_context
 entry_sound e a good =
-    let parts = neither (first_fault (cie_setting e) (cie_items e) (cie_begin e)) (first_fault (own_setting e) (own_items e) (own_begin e)) good in
+    let parts = neither (first_fault (cie_context e) (cie_items e) (cie_begin e)) (first_fault (own_context e) (own_items e) (own_begin e)) good in
     let names = end_sound e parts.0 in
-    (replay_sound (own_setting e) (own_items e) (own_begin e) a parts.1 names.row (record { row = names.row; stack = names.stack })).row
+    (replay_sound (own_context e) (own_items e) (own_begin e) a parts.1 names.row (record { row = names.row; stack = names.stack })).row

@@ -1,4 +1,4 @@
--- A row that takes some columns from another.
+-- A row that takes some columns from another; for `follow`.
 use Rattle.std.proofs.Common.{◌≡◌, ◌≢◌, inl, inr, ℕ, ◌+◌, ◌<◌, ◌≤◌, List, length, min, get_or, set, ap, sym, ◌∙◌, arith, get_or-set_other}
 use Rattle.std.proofs.lemmas.Bool.{cases_lt}
 use Rattle.std.proofs.lemmas.Grind.{get_or-set_at}

@@ -1,4 +1,4 @@
--- Tests in two cases, and reasons.
+-- Tests in two cases, and reasons; for the lemmas of CfaLemmas, EntryLemmas, RowLemmas, SoundLemmas.
 use Rattle.std.proofs.Common.{◌≡◌, Bool, true, false, Option, Some, None, refl}
 use Rattle.sym_edges.specs.declared.reason.Reason.{Reason}
 use Rattle.std.specs.Option.{option_or}

@@ -7,7 +7,7 @@ use Rattle.sym_edges.specs.declared.reason.Reason.TheVariants as reason
 use Rattle.frame_rows.specs.declared.row.Rule.{Rule}
 use Rattle.frame_rows.specs.declared.row.Rule.TheVariants as rule
 use Rattle.frame_rows.specs.declared.row.Row.{Row}
-use Rattle.frame_rows.specs.declared.machine.Setting.{Setting}
+use Rattle.frame_rows.specs.declared.machine.CieContext.{CieContext}
 use Rattle.frame_rows.specs.Machine.{Machine}
 use Rattle.frame_rows.specs.Instructions.{instructions}
 use Rattle.frame_rows.specs.Rows.{all_stepped, first_fault}
@@ -19,9 +19,9 @@ unfoldable before : List (ℕ × Rule)
 before = (0, rule.Same) ∷ (6, rule.Offset (minus 16)) ∷ (16, rule.Offset (minus 8)) ∷ []
 
 -- factors 4 and -8; the initial instructions left r5 for rbp, and for r13 to r15 a place
-unfoldable setting : Setting
+unfoldable context : CieContext
 unfolding row
-setting = record {
+context = record {
   code_align = 4;
   data_align = minus 8;
   initial = Some (row 7 (pos 8) ((6, rule.Register 5) ∷ (13, rule.Offset (minus 24)) ∷ (14, rule.Offset (minus 32)) ∷ (15, rule.Offset (minus 40)) ∷ []));
@@ -33,16 +33,16 @@ machine = record { address = 0x1000; row = row 7 (pos 8) before; stack = row 2 (
 
 -- the location and the row behind instructions
 unfoldable behind : String → ℕ × Row
-unfolding hex setting machine
-behind text = ((all_stepped setting (instructions 0 0x2029 (hex text)) machine).address, (all_stepped setting (instructions 0 0x2029 (hex text)) machine).row)
+unfolding hex context machine
+behind text = ((all_stepped context (instructions 0 0x2029 (hex text)) machine).address, (all_stepped context (instructions 0 0x2029 (hex text)) machine).row)
 
 -- why instructions may not stand there
 unfoldable why : String → Option Reason
-unfolding hex setting machine
-why text = first_fault setting (instructions 0 0x2029 (hex text)) machine
+unfolding hex context machine
+why text = first_fault context (instructions 0 0x2029 (hex text)) machine
 
 unfoldable effects : ⊤
-unfolding entries before setting machine behind why
+unfolding entries before context machine behind why
 effects = tt
 
 advance_loc : behind "45" ≡ (0x1014, row 7 (pos 8) before)

@@ -16,19 +16,3 @@ pub record StayOutside (columns : Columns) (before after : Row) : Type 0 where
 abbrev pub IsNext : Option Columns → Standing → Standing → Type 0
 IsNext None before after = Stays before after
 IsNext (Some columns) before after = GoesOn before after × StayOutside columns before.here.row after.here.row
-
--- No public clause cites these: no column, all of them, and one, where there is such a column.
-abbrev pub no_columns : Columns
-no_columns = record { first = 17; end = 0 }
-
-abbrev pub all_columns : Columns
-all_columns = record { first = 0; end = 17 }
-
-abbrev pub one_column : ℕ → Columns
-one_column column = if nat_lt column 17 then record { first = column; end = column + 1 } else no_columns
-
--- the columns that an effect may change
-abbrev pub touched : Effect → Columns
-touched (PutsRule column new why) = one_column column
-touched TakesBack = all_columns
-touched _ = no_columns

@@ -3,9 +3,8 @@ pub mod Operands
 pub mod Machine
 pub mod Steps
 pub mod Rows
-pub mod Held
 pub mod Left
 pub mod CieLeft
-pub mod Walk
 pub mod Standing
 pub mod Columns
+pub mod internal

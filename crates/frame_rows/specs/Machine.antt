@@ -1,3 +1,4 @@
+-- The state that instructions change.
 use Rattle.std.specs.Prelude.{ℕ, List}
 use Rattle.frame_rows.specs.declared.row.Row.{Row}
 

@@ -11,7 +11,7 @@ use Rattle.frame_rows.specs.declared.row.Rule.TheVariants as rule
 use Rattle.frame_rows.specs.declared.row.CfaRule.{CfaRule}
 use Rattle.frame_rows.specs.declared.row.Row.{Row}
 use Rattle.frame_rows.specs.declared.row.RowAt.{RowAt}
-use Rattle.frame_rows.specs.declared.machine.Setting.{Setting}
+use Rattle.frame_rows.specs.declared.machine.CieContext.{CieContext}
 use Rattle.frame_rows.specs.Instructions.{Item, instructions}
 use Rattle.frame_rows.specs.Machine.{Machine}
 use Rattle.sym_edges.specs.Results.{unless}
@@ -19,27 +19,27 @@ use Rattle.std.specs.Option.{option_or}
 use Rattle.frame_rows.specs.Steps.{Effect, MovesTo, MovesBy, effect, has_cfa, stepped, step_fault}
 
 -- an instruction that cannot be read changes nothing, and is refused for its own reason
-abbrev pub item_stepped : Setting → Item → Machine → Machine
+abbrev pub item_stepped : CieContext → Item → Machine → Machine
 item_stepped s (Ok instruction) m = stepped s instruction m
 item_stepped s (Err why) m = m
 
-abbrev pub item_fault : Setting → Item → Machine → Option Reason
+abbrev pub item_fault : CieContext → Item → Machine → Option Reason
 item_fault s (Ok instruction) m = step_fault s instruction m
 item_fault s (Err why) m = Some why
 
 -- the state behind all instructions
-unfoldable pub all_stepped : Setting → List Item → Machine → Machine
+unfoldable pub all_stepped : CieContext → List Item → Machine → Machine
 all_stepped s [] m = m
 all_stepped s (i ∷ items) m = all_stepped s items (item_stepped s i m)
 
 -- the reason of the first bad instruction
-unfoldable pub first_fault : Setting → List Item → Machine → Option Reason
+unfoldable pub first_fault : CieContext → List Item → Machine → Option Reason
 first_fault s [] m = None
 first_fault s (i ∷ items) m = option_or (item_fault s i m) (first_fault s items (item_stepped s i m))
 
 -- the state behind the longest prefix of instructions whose locations are at most an address: each has the location that
 -- those before it left
-unfoldable pub replay : Setting → List Item → Machine → ℕ → Machine
+unfoldable pub replay : CieContext → List Item → Machine → ℕ → Machine
 replay s [] m a = m
 replay s (i ∷ items) m a = if nat_le m.address a then replay s items (item_stepped s i m) a else m
 
@@ -49,8 +49,8 @@ empty_row = record { cfa = None; rules = replicate 17 rule.Rest }
 
 -- the initial instructions, those of the entry's CIE, from the start of the entry's address range; no location instruction may stand there, so
 -- the address of a pointer among them does not count
-unfoldable pub cie_setting : FdeFields → Setting
-cie_setting e = record { code_align = e.code_align; data_align = e.data_align; initial = None }
+unfoldable pub cie_context : FdeFields → CieContext
+cie_context e = record { code_align = e.code_align; data_align = e.data_align; initial = None }
 
 unfoldable pub cie_items : FdeFields → List Item
 cie_items e = instructions e.encoding 0 e.initial_instructions
@@ -59,11 +59,11 @@ unfoldable pub cie_begin : FdeFields → Machine
 cie_begin e = record { address = e.start; row = empty_row; stack = [] }
 
 unfoldable pub cie_end : FdeFields → Machine
-cie_end e = all_stepped (cie_setting e) (cie_items e) (cie_begin e)
+cie_end e = all_stepped (cie_context e) (cie_items e) (cie_begin e)
 
 -- the entry's own instructions, behind the initial ones: the row and the row stack go on
-unfoldable pub own_setting : FdeFields → Setting
-own_setting e = record { code_align = e.code_align; data_align = e.data_align; initial = Some (cie_end e).row }
+unfoldable pub own_context : FdeFields → CieContext
+own_context e = record { code_align = e.code_align; data_align = e.data_align; initial = Some (cie_end e).row }
 
 unfoldable pub own_items : FdeFields → List Item
 own_items e = instructions e.encoding e.instructions_address e.instructions
@@ -73,7 +73,7 @@ own_begin e = record { address = e.start; row = (cie_end e).row; stack = (cie_en
 
 -- the row at an address of the entry
 unfoldable pub row_at : FdeFields → ℕ → Row
-row_at e a = (replay (own_setting e) (own_items e) (own_begin e) a).row
+row_at e a = (replay (own_context e) (own_items e) (own_begin e) a).row
 
 -- where a location instruction moves the location
 abbrev pub location_after : Effect → ℕ → ℕ
@@ -81,12 +81,12 @@ location_after (MovesTo address) at = address
 location_after (MovesBy distance) at = at + distance
 location_after _ at = at
 
-abbrev pub next_location : Setting → Item → ℕ → ℕ
+abbrev pub next_location : CieContext → Item → ℕ → ℕ
 next_location s (Ok i) at = location_after (effect s i) at
 next_location s (Err why) at = at
 
 -- the addresses below an end to which location instructions move the location, each once
-unfoldable pub moves : Setting → ℕ → List Item → ℕ → List ℕ
+unfoldable pub moves : CieContext → ℕ → List Item → ℕ → List ℕ
 moves s end [] at = []
 moves s end (i ∷ items) at =
     if nat_lt at (next_location s i at) && nat_lt (next_location s i at) end
@@ -95,11 +95,11 @@ moves s end (i ∷ items) at =
 
 -- where rows begin: at the start of the range, and at each other address of it to which the location moves
 unfoldable pub stops : FdeFields → List ℕ
-stops e = e.start ∷ moves (own_setting e) (e.start + e.size) (own_items e) e.start
+stops e = e.start ∷ moves (own_context e) (e.start + e.size) (own_items e) e.start
 
 -- the reason of the first bad instruction, the CIE's before the entry's own
 unfoldable pub instruction_fault : FdeFields → Option Reason
-instruction_fault e = option_or (first_fault (cie_setting e) (cie_items e) (cie_begin e)) (first_fault (own_setting e) (own_items e) (own_begin e))
+instruction_fault e = option_or (first_fault (cie_context e) (cie_items e) (cie_begin e)) (first_fault (own_context e) (own_items e) (own_begin e))
 
 -- some address of the range has no CFA rule
 unfoldable pub lacks_cfa : FdeFields → Bool

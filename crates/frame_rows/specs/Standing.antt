@@ -1,18 +1,21 @@
--- Where a stepper stands in the rows of an entry.
+-- Where a stepper stands in the rows of an entry: it begins at the first, and each step goes on to the next. Where no instruction of the
+-- entry is bad, `here ∷ later` are the entry's rows at the beginning, and what is left of them after each step.
 use Rattle.std.specs.Prelude.{◌≡◌, ℕ, ◌<◌, Bool, true, false, List, [], ◌∷◌, Option, None, Some}
 use Rattle.sym_edges.specs.declared.reason.Reason.{Reason}
 use Rattle.frame_entries.specs.FdeFields.{FdeFields}
 use Rattle.frame_rows.specs.declared.row.RowAt.{RowAt}
 use Rattle.frame_rows.specs.Rows.{instruction_fault, AreRows}
 
--- whether memory ran out before, the reason for which a step was refused before, the reason of the first bad instruction that is not
--- carried out yet, the end of the rows, the row where it stands, and the rows behind that: these two are the entry's where there is no
--- such reason
 pub record Standing : Type 0 where
+  -- memory ran out
   pub failed : Bool
+  -- a step was refused, for this reason
   pub refused : Option Reason
+  -- an instruction of the entry is bad, and not carried out yet: the reason of the first
   pub fault : Option Reason
+  -- the end of the entry's range
   pub end : ℕ
+  -- the row where it stands, and the entry's rows after it, where no instruction is bad
   pub here : RowAt
   pub later : List RowAt
 

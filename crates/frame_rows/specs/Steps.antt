@@ -10,7 +10,7 @@ use Rattle.frame_rows.specs.declared.row.Rule.{Rule}
 use Rattle.frame_rows.specs.declared.row.Rule.TheVariants as rule
 use Rattle.frame_rows.specs.declared.row.CfaRule.{CfaRule}
 use Rattle.frame_rows.specs.declared.row.Row.{Row}
-use Rattle.frame_rows.specs.declared.machine.Setting.{Setting}
+use Rattle.frame_rows.specs.declared.machine.CieContext.{CieContext}
 use Rattle.frame_rows.specs.declared.instruction.Instruction.{Instruction}
 use Rattle.frame_rows.specs.declared.instruction.Instruction.TheVariants.{SetLoc, AdvanceLoc, DefCfa, DefCfaSf, DefCfaRegister, DefCfaOffset, DefCfaOffsetSf, Undefined, SameValue, Offset, OffsetExtendedSf, ValOffset, ValOffsetSf, Register, Restore, RememberState, RestoreState, Nop}
 use Rattle.frame_rows.specs.Machine.{Machine}
@@ -46,7 +46,7 @@ put_rule column new row = if nat_lt column 17 then record { cfa = row.cfa; rules
 abbrev pub plain : ℕ → ℤ
 plain offset = cast_signed w64 offset
 
-abbrev pub scaled : Setting → ℤ → ℤ
+abbrev pub scaled : CieContext → ℤ → ℤ
 scaled s factored = int_wrapping_mul w64 factored s.data_align
 
 -- the rule that the initial instructions gave a column
@@ -91,7 +91,7 @@ pub data Effect : Type 0 where
   TakesBack : Effect
   DoesNothing : Effect
 
-abbrev pub effect : Setting → Instruction → Effect
+abbrev pub effect : CieContext → Instruction → Effect
 -- row creation (6.4.2.1)
 effect s (SetLoc address) = MovesTo address
 effect s (AdvanceLoc delta) = MovesBy (delta * s.code_align)
@@ -129,7 +129,7 @@ done TakesBack m = record { address = m.address; row = top_or m.row m.stack; sta
 done DoesNothing m = m
 
 -- a location instruction: none may stand in a CIE, and the location rises and stays below 2^64
-abbrev pub move_fault : Setting → ℕ → ℕ → Option Reason
+abbrev pub move_fault : CieContext → ℕ → ℕ → Option Reason
 move_fault s before after = unless (is_some s.initial && (nat_le before after && nat_lt after (2 ^ 64))) reason.Range
 
 -- the CFA's register is one of the sixteen, and only where there is a CFA rule may a part of it be changed
@@ -140,7 +140,7 @@ abbrev pub part_fault : Machine → Option Reason
 part_fault m = unless (has_cfa m.row) reason.State
 
 -- why an effect is refused; of several reasons the first in their order
-abbrev pub effect_fault : Setting → Effect → Machine → Option Reason
+abbrev pub effect_fault : CieContext → Effect → Machine → Option Reason
 effect_fault s (MovesTo address) m = move_fault s m.address address
 effect_fault s (MovesBy distance) m = move_fault s m.address (m.address + distance)
 effect_fault s (DefinesCfa register offset) m = register_fault register
@@ -152,8 +152,8 @@ effect_fault s TakesBack m = unless (has_remembered m.stack) reason.State
 effect_fault s DoesNothing m = None
 
 -- the state after an instruction, and why it may not stand where it stands
-unfoldable pub stepped : Setting → Instruction → Machine → Machine
+unfoldable pub stepped : CieContext → Instruction → Machine → Machine
 stepped s i m = done (effect s i) m
 
-unfoldable pub step_fault : Setting → Instruction → Machine → Option Reason
+unfoldable pub step_fault : CieContext → Instruction → Machine → Option Reason
 step_fault s i m = effect_fault s (effect s i) m

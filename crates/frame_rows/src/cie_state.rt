@@ -1,12 +1,12 @@
 //! The state behind the instructions of a CIE, which are carried out once for all of its entries.
 ghost use Rattle.std.specs.Prelude.{◌≡◌, Ok, Err, Some, None, reverse, MatchResult, IfOk};
 ghost use Rattle.sym_edges.specs.Outside.{MatchStop};
-ghost use Rattle.frame_rows.specs.Rows.{empty_row, first_fault, cie_setting, cie_items, cie_begin, cie_end, own_setting, own_begin};
+ghost use Rattle.frame_rows.specs.Rows.{empty_row, first_fault, cie_context, cie_items, cie_begin, cie_end, own_context, own_begin};
 ghost use Rattle.frame_rows.specs.CieLeft.{cie_left};
-ghost use Rattle.frame_rows.specs.Held.{setting_in};
+ghost use Rattle.frame_rows.specs.internal.Held.{context_in};
 
-use crate::held_setting::HeldSetting;
-use crate::machine::{Machine, Setting};
+use crate::held_context::HeldContext;
+use crate::machine::{CieContext, Machine};
 use crate::row::{COLUMNS, Row, Rule};
 use crate::run::run_all;
 use frame_entries::Fde;
@@ -14,10 +14,10 @@ use std::alloc::Global;
 use std::marker::Model;
 use sym_edges::{OutOfMemory, Reason, Stop};
 
-/// What the instructions of a CIE leave: what those of its entries are carried out with, in which the row is, and the row stack.
+/// What the instructions of a CIE leave: the context of those of its entries, in which the row is, and the row stack.
 #[derive(Drop)]
 struct Left {
-    setting: Setting,
+    context: CieContext,
     stack: Vec<Row>,
 }
 
@@ -27,7 +27,7 @@ impl Model for Left {
 
     ghost Value = { Left };
 
-    ghost view = { λ l. record { setting = l.setting; stack = reverse l.stack.items } };
+    ghost view = { λ l. record { context = l.context; stack = reverse l.stack.items } };
 }
 
 /// The state behind the instructions of a CIE, or the reason of the first bad one. It is the same for each entry of the CIE.
@@ -58,10 +58,10 @@ fn empty_row() -> Row
 }
 
 /// What instructions of an entry are carried out with, behind a row that its CIE left.
-fn setting_of(fde: &Fde<'_>, initial: Option<Row>) -> Setting
+fn context_of(fde: &Fde<'_>, initial: Option<Row>) -> CieContext
     ensures { result ≡ record { code_align = fde.now.code_align; data_align = fde.now.data_align; initial = initial } }
 {
-    Setting {
+    CieContext {
         code_align: fde.code_align,
         data_align: fde.data_align,
         initial,
@@ -69,19 +69,19 @@ fn setting_of(fde: &Fde<'_>, initial: Option<Row>) -> Setting
 }
 
 /// Carries out the instructions of the CIE of an entry.
-#[tactic(auto, unfolding(crate::specs::Rows::cie_setting, crate::specs::Rows::cie_items, crate::specs::Rows::cie_begin, crate::specs::Rows::cie_end))]
+#[tactic(auto, unfolding(crate::specs::Rows::cie_context, crate::specs::Rows::cie_items, crate::specs::Rows::cie_begin, crate::specs::Rows::cie_end))]
 fn run_cie<'c>(alloc: Global, fde: &Fde<'_>) -> Result<Machine<'c>, Stop<Reason>>
     ensures fault { MatchStop result
-        (λ _. first_fault (cie_setting fde.now) (cie_items fde.now) (cie_begin fde.now) ≡ None)
-        (λ why. first_fault (cie_setting fde.now) (cie_items fde.now) (cie_begin fde.now) ≡ Some why)
+        (λ _. first_fault (cie_context fde.now) (cie_items fde.now) (cie_begin fde.now) ≡ None)
+        (λ why. first_fault (cie_context fde.now) (cie_items fde.now) (cie_begin fde.now) ≡ Some why)
         (Unit {0}) }
     ensures machine { IfOk result (λ machine. machine ≡ cie_end fde.now) }
 {
-    let setting = setting_of(fde, None);
+    let context = context_of(fde, None);
     let mut machine = Machine::new(alloc, fde.start, &empty_row(), &[]);
     run_all(
         &mut machine,
-        &setting,
+        &context,
         fde.encoding,
         0,
         fde.initial_instructions,
@@ -98,16 +98,16 @@ fn leave(alloc: Global, fde: &Fde<'_>) -> Result<Left, Stop<Reason>>
         Ok(machine) => machine,
         Err(stop) => return Err(stop),
     };
-    let setting = setting_of(fde, Some(*machine.row()));
+    let context = context_of(fde, Some(*machine.row()));
     let stack = machine.into_stack(alloc)?;
-    Ok(Left { setting, stack })
+    Ok(Left { context, stack })
 }
 
 /// What the instructions of an entry begin with.
 #[derive(Drop)]
 pub struct Begun<'c> {
     pub machine: Machine<'c>,
-    pub setting: HeldSetting<'c>,
+    pub context: HeldContext<'c>,
 }
 
 impl CieState {
@@ -127,16 +127,16 @@ impl CieState {
     pub fn begin(&self, alloc: Global, fde: &Fde<'_>) -> Result<Begun<'_>, Reason>
         requires { self.now ≡ cie_left fde.now }
         ensures fault { MatchResult result
-            (λ _. first_fault (cie_setting fde.now) (cie_items fde.now) (cie_begin fde.now) ≡ None)
-            (λ why. first_fault (cie_setting fde.now) (cie_items fde.now) (cie_begin fde.now) ≡ Some why) }
+            (λ _. first_fault (cie_context fde.now) (cie_items fde.now) (cie_begin fde.now) ≡ None)
+            (λ why. first_fault (cie_context fde.now) (cie_items fde.now) (cie_begin fde.now) ≡ Some why) }
         ensures machine { IfOk result (λ begun. begun.machine ≡ own_begin fde.now) }
-        ensures setting { IfOk result (λ begun. setting_in begun.setting ≡ own_setting fde.now) }
+        ensures context { IfOk result (λ begun. context_in begun.context ≡ own_context fde.now) }
     {
         match &self.left {
-            Ok(left) => match &left.setting.initial {
+            Ok(left) => match &left.context.initial {
                 Some(row) => Ok(Begun {
                     machine: Machine::new(alloc, fde.start, row, &left.stack),
-                    setting: HeldSetting::Lent(&left.setting),
+                    context: HeldContext::Lent(&left.context),
                 }),
                 None => unreachable!(),
             },
@@ -148,20 +148,20 @@ impl CieState {
     pub fn into_begun<'c>(self, alloc: Global, fde: &Fde<'_>) -> Result<Begun<'c>, Stop<Reason>>
         requires { self ≡ cie_left fde.now }
         ensures fault { MatchStop result
-            (λ _. first_fault (cie_setting fde.now) (cie_items fde.now) (cie_begin fde.now) ≡ None)
-            (λ why. first_fault (cie_setting fde.now) (cie_items fde.now) (cie_begin fde.now) ≡ Some why)
+            (λ _. first_fault (cie_context fde.now) (cie_items fde.now) (cie_begin fde.now) ≡ None)
+            (λ why. first_fault (cie_context fde.now) (cie_items fde.now) (cie_begin fde.now) ≡ Some why)
             (Unit {0}) }
         ensures machine { IfOk result (λ begun. begun.machine ≡ own_begin fde.now) }
-        ensures setting { IfOk result (λ begun. setting_in begun.setting ≡ own_setting fde.now) }
+        ensures context { IfOk result (λ begun. context_in begun.context ≡ own_context fde.now) }
     {
         let CieState { left } = self;
         match left {
             Ok(left) => {
-                let Left { setting, stack } = left;
-                match setting.initial {
+                let Left { context, stack } = left;
+                match context.initial {
                     Some(row) => Ok(Begun {
                         machine: Machine::with_stack(fde.start, row, stack),
-                        setting: HeldSetting::Own(Box::new(alloc, setting)?),
+                        context: HeldContext::Own(Box::new(alloc, context)?),
                     }),
                     None => unreachable!(),
                 }

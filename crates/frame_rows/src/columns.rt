@@ -1,6 +1,7 @@
 //! Columns of a row, one behind another.
 ghost use Rattle.std.specs.Prelude.{◌≡◌, min, max};
-ghost use Rattle.frame_rows.specs.Columns.{no_columns, all_columns, one_column, StayOutside};
+ghost use Rattle.frame_rows.specs.Columns.{StayOutside};
+ghost use Rattle.frame_rows.specs.internal.Touched.{no_columns, all_columns, one_column};
 
 use crate::row::{COLUMNS, Row};
 

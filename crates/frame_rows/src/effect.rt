@@ -2,13 +2,13 @@
 ghost use Rattle.std.specs.Prelude.{◌≡◌, Some, None};
 ghost use Rattle.sym_edges.specs.Outside.{MatchStop};
 ghost use Rattle.sym_edges.specs.Results.{unless};
-ghost use Rattle.frame_rows.specs.Columns.{touched};
-ghost use Rattle.frame_rows.specs.declared.machine.Setting.{Setting};
+ghost use Rattle.frame_rows.specs.internal.Touched.{touched};
+ghost use Rattle.frame_rows.specs.declared.machine.CieContext.{CieContext};
 ghost use Rattle.frame_rows.specs.Steps.{effect, stepped, step_fault, on_row, put_rule};
 
 use crate::columns::Columns;
 use crate::instruction::Instruction;
-use crate::machine::{Machine, Setting};
+use crate::machine::{CieContext, Machine};
 use crate::row::Rule;
 use sym_edges::{Reason, Stop};
 
@@ -16,7 +16,7 @@ impl Instruction {
     /// The columns that the instruction may change.
     #[inline(always)]
     pub fn touched(&self) -> Columns
-        ensures { (s : Setting) → result ≡ touched (effect s self.now) }
+        ensures { (s : CieContext) → result ≡ touched (effect s self.now) }
     {
         match self {
             Instruction::Undefined { column } => Columns::one(*column),
@@ -35,49 +35,49 @@ impl Instruction {
     /// Carries out the instruction, or says why it may not stand there.
     #[inline(always)]
     #[tactic(auto, unfolding(crate::specs::Steps::stepped, crate::specs::Steps::step_fault))]
-    pub fn step(self, machine: &mut Machine<'_>, setting: &Setting) -> Result<(), Stop<Reason>>
+    pub fn step(self, machine: &mut Machine<'_>, context: &CieContext) -> Result<(), Stop<Reason>>
         ensures { MatchStop result
-            (λ _. (step_fault setting.now self machine.old ≡ None) × (machine.new ≡ stepped setting.now self machine.old))
-            (λ why. step_fault setting.now self machine.old ≡ Some why)
+            (λ _. (step_fault context.now self machine.old ≡ None) × (machine.new ≡ stepped context.now self machine.old))
+            (λ why. step_fault context.now self machine.old ≡ Some why)
             (Unit {0}) }
     {
         match self {
-            Instruction::SetLoc { address } => return machine.set_location(setting, address),
-            Instruction::AdvanceLoc { delta } => return machine.advance(setting, delta),
+            Instruction::SetLoc { address } => return machine.set_location(context, address),
+            Instruction::AdvanceLoc { delta } => return machine.advance(context, delta),
             Instruction::DefCfa { register, offset } => {
                 return machine.define_cfa(register, offset.cast_signed());
             }
             Instruction::DefCfaSf { register, factored } => {
-                return machine.define_cfa(register, setting.scale(factored));
+                return machine.define_cfa(register, context.scale(factored));
             }
             Instruction::DefCfaRegister { register } => return machine.change_register(register),
             Instruction::DefCfaOffset { offset } => {
                 return machine.change_offset(offset.cast_signed());
             }
             Instruction::DefCfaOffsetSf { factored } => {
-                return machine.change_offset(setting.scale(factored));
+                return machine.change_offset(context.scale(factored));
             }
             Instruction::Undefined { column } => machine.put_rule(column, Rule::Undefined),
             Instruction::SameValue { column } => return machine.same(column),
             Instruction::Offset { column, factored } => {
-                machine.put_rule(column, Rule::Offset(setting.scale(factored.cast_signed())));
+                machine.put_rule(column, Rule::Offset(context.scale(factored.cast_signed())));
             }
             Instruction::OffsetExtendedSf { column, factored } => {
-                machine.put_rule(column, Rule::Offset(setting.scale(factored)));
+                machine.put_rule(column, Rule::Offset(context.scale(factored)));
             }
             Instruction::ValOffset { column, factored } => {
                 machine.put_rule(
                     column,
-                    Rule::ValOffset(setting.scale(factored.cast_signed())),
+                    Rule::ValOffset(context.scale(factored.cast_signed())),
                 );
             }
             Instruction::ValOffsetSf { column, factored } => {
-                machine.put_rule(column, Rule::ValOffset(setting.scale(factored)));
+                machine.put_rule(column, Rule::ValOffset(context.scale(factored)));
             }
             Instruction::Register { column, register } => {
                 return machine.in_register(column, register);
             }
-            Instruction::Restore { column } => return machine.restore(setting, column),
+            Instruction::Restore { column } => return machine.restore(context, column),
             Instruction::RememberState => machine.remember()?,
             Instruction::RestoreState => return machine.restore_state(),
             Instruction::Nop => {}

@@ -26,11 +26,11 @@ pub fn inspect_behind(
     };
     let Begun {
         mut machine,
-        setting,
+        context,
     } = begun;
     match run_all(
         &mut machine,
-        setting.get(),
+        context.get(),
         fde.encoding,
         fde.instructions_address,
         fde.instructions,

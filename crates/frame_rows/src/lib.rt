@@ -4,9 +4,9 @@
 //! [`rows`] carries out the call frame instructions of an entry's CIE and then its own, and gives the row at each
 //! address at which the location changes; between two of them the row stays. Its contract compares them with
 //! `specs/Rows.antt`, where the row at an address is what a replay from the first instruction leaves there.
-//! `specs/Instructions.antt` says how an instruction is read, one line for each opcode, and `specs/Steps.antt` what each does
-//! to the row and to the row stack, one equation for each instruction, in the standard's order. [`inspect`] looks at the
-//! instructions alone, for any range.
+//! `specs/Instructions.antt` says how an instruction is read, one line for each opcode, and `specs/Steps.antt` which effect each
+//! has, in the standard's order, and what an effect does to the location, the row and the row stack. [`inspect`] looks at the
+//! instructions alone, for any range. One loop carries instructions out, `run`; all calls go through it.
 //!
 //! A [`Stepper`] goes over the rows one after the other and keeps only the one where it stands; `next` says beside which columns
 //! two rows differ in none. Once memory ran out, it answers that from then on.
@@ -26,14 +26,14 @@ mod instruction;
 mod row;
 
 // Reading an instruction, and carrying it out.
-mod decoding;
+mod decoder;
 mod effect;
 mod machine;
 
 // All instructions of an entry.
 mod cie_state;
 mod entry_rows;
-mod held_setting;
+mod held_context;
 mod inspection;
 mod run;
 mod stepper;

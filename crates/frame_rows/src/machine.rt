@@ -15,13 +15,13 @@ use sym_edges::{Reason, Stop};
 /// What instructions are carried out with: the code and the data alignment factor of the CIE, and behind it the row that its
 /// initial instructions left.
 #[derive(Clone, Copy)]
-pub struct Setting {
+pub struct CieContext {
     pub code_align: u64,
     pub data_align: i64,
     pub initial: Option<Row>,
 }
 
-impl Setting {
+impl CieContext {
     /// A factored offset, modulo 2^64.
     pub fn scale(&self, factored: i64) -> i64
         ensures { result ≡ scaled self.now factored }
@@ -186,17 +186,17 @@ impl<'c> Machine<'c> {
     }
 
     /// A location instruction that moves by so many units of code.
-    pub fn advance(&mut self, setting: &Setting, delta: u64) -> Result<(), Stop<Reason>>
+    pub fn advance(&mut self, context: &CieContext, delta: u64) -> Result<(), Stop<Reason>>
         ensures { MatchStop result
-            (λ _. (move_fault setting.now self.old.address (self.old.address + delta * setting.now.code_align) ≡ None)
-            × (self.new ≡ moved (self.old.address + delta * setting.now.code_align) self.old))
-            (λ why. move_fault setting.now self.old.address (self.old.address + delta * setting.now.code_align) ≡ Some why)
+            (λ _. (move_fault context.now self.old.address (self.old.address + delta * context.now.code_align) ≡ None)
+            × (self.new ≡ moved (self.old.address + delta * context.now.code_align) self.old))
+            (λ why. move_fault context.now self.old.address (self.old.address + delta * context.now.code_align) ≡ Some why)
             (Unit {0}) }
     {
-        if setting.initial.is_none() {
+        if context.initial.is_none() {
             return Err(Stop::Fault(Reason::Range));
         }
-        match delta.checked_mul(setting.code_align) {
+        match delta.checked_mul(context.code_align) {
             Some(bytes) => match self.address.checked_add(bytes) {
                 Some(address) => {
                     self.address = address;
@@ -209,13 +209,13 @@ impl<'c> Machine<'c> {
     }
 
     /// A location instruction that names an address.
-    pub fn set_location(&mut self, setting: &Setting, address: u64) -> Result<(), Stop<Reason>>
+    pub fn set_location(&mut self, context: &CieContext, address: u64) -> Result<(), Stop<Reason>>
         ensures { MatchStop result
-            (λ _. (move_fault setting.now self.old.address address ≡ None) × (self.new ≡ moved address self.old))
-            (λ why. move_fault setting.now self.old.address address ≡ Some why)
+            (λ _. (move_fault context.now self.old.address address ≡ None) × (self.new ≡ moved address self.old))
+            (λ why. move_fault context.now self.old.address address ≡ Some why)
             (Unit {0}) }
     {
-        if setting.initial.is_none() || address < self.address {
+        if context.initial.is_none() || address < self.address {
             return Err(Stop::Fault(Reason::Range));
         }
         self.address = address;
@@ -256,13 +256,13 @@ impl<'c> Machine<'c> {
 
     /// The rule that the CIE left.
     #[tactic(auto, unfolding(crate::specs::Steps::put_rule))]
-    pub fn restore(&mut self, setting: &Setting, column: u64) -> Result<(), Stop<Reason>>
+    pub fn restore(&mut self, context: &CieContext, column: u64) -> Result<(), Stop<Reason>>
         ensures { MatchStop result
-            (λ _. (unless (is_some setting.now.initial) reason.State ≡ None) × (self.new ≡ on_row (put_rule column (rule_behind setting.now.initial column)) self.old))
-            (λ why. unless (is_some setting.now.initial) reason.State ≡ Some why)
+            (λ _. (unless (is_some context.now.initial) reason.State ≡ None) × (self.new ≡ on_row (put_rule column (rule_behind context.now.initial column)) self.old))
+            (λ why. unless (is_some context.now.initial) reason.State ≡ Some why)
             (Unit {0}) }
     {
-        match &setting.initial {
+        match &context.initial {
             Some(initial) => {
                 if column < COLUMNS as u64 {
                     self.put_rule(column, initial.rules[column as usize]);

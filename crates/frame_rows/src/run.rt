@@ -5,11 +5,11 @@ ghost use Rattle.frame_entries.specs.Pointers.{is_encoding};
 ghost use Rattle.frame_rows.specs.Instructions.{instructions, listed_at};
 ghost use Rattle.frame_rows.specs.Rows.{all_stepped, first_fault};
 ghost use Rattle.frame_rows.specs.Columns.{StayOutside};
-ghost use Rattle.frame_rows.specs.Walk.{rows_from, rows_past, row_with};
+ghost use Rattle.frame_rows.specs.internal.Walk.{rows_from, rows_past, row_with};
 
 use crate::columns::Columns;
 use crate::instruction::Instruction;
-use crate::machine::{Machine, Setting};
+use crate::machine::{CieContext, Machine};
 use leb_cursor::Cursor;
 use sym_edges::{Reason, Stop};
 
@@ -17,20 +17,20 @@ use sym_edges::{Reason, Stop};
 pub fn run_to_next_row(
     machine: &mut Machine<'_>,
     cursor: &mut Cursor<'_>,
-    setting: &Setting,
+    context: &CieContext,
     encoding: u8,
     base: u64,
 ) -> Result<Columns, Stop<Reason>>
     requires known { IsTrue (is_encoding encoding) }
     ensures fault { MatchStop result
-        (λ _. first_fault setting.now (listed_at encoding base cursor.new) machine.new ≡ first_fault setting.now (listed_at encoding base cursor.old) machine.old)
-        (λ why. first_fault setting.now (listed_at encoding base cursor.old) machine.old ≡ Some why)
+        (λ _. first_fault context.now (listed_at encoding base cursor.new) machine.new ≡ first_fault context.now (listed_at encoding base cursor.old) machine.old)
+        (λ why. first_fault context.now (listed_at encoding base cursor.old) machine.old ≡ Some why)
         (Unit {0}) }
-    ensures state { OnOk result (all_stepped setting.now (listed_at encoding base cursor.new) machine.new ≡ all_stepped setting.now (listed_at encoding base cursor.old) machine.old) }
+    ensures state { OnOk result (all_stepped context.now (listed_at encoding base cursor.new) machine.new ≡ all_stepped context.now (listed_at encoding base cursor.old) machine.old) }
     ensures stays { IfOk result (λ columns. StayOutside columns machine.old.row machine.new.row) }
     ensures rows { OnOk result ((end : ℕ) → machine.old.address < end →
-        rows_from end setting.now (listed_at encoding base cursor.old) machine.old
-        ≡ row_with machine.old.address machine.new.row ∷ rows_past end setting.now (listed_at encoding base cursor.new) machine.new machine.old.address) }
+        rows_from end context.now (listed_at encoding base cursor.old) machine.old
+        ≡ row_with machine.old.address machine.new.row ∷ rows_past end context.now (listed_at encoding base cursor.new) machine.new machine.old.address) }
     ensures fewer { OnOk result (0 < length cursor.old.bytes → length cursor.new.bytes < length cursor.old.bytes) }
 {
     let address = machine.address();
@@ -41,7 +41,7 @@ pub fn run_to_next_row(
             Err(why) => return Err(Stop::Fault(why)),
         };
         columns = columns.join(instruction.touched());
-        match instruction.step(machine, setting) {
+        match instruction.step(machine, context) {
             Ok(()) => {}
             Err(stop) => return Err(stop),
         }
@@ -56,20 +56,20 @@ pub fn run_to_next_row(
 pub fn run_to_end(
     machine: &mut Machine<'_>,
     cursor: &mut Cursor<'_>,
-    setting: &Setting,
+    context: &CieContext,
     encoding: u8,
     base: u64,
 ) -> Result<(), Stop<Reason>>
     requires known { IsTrue (is_encoding encoding) }
     ensures fault { MatchStop result
-        (λ _. first_fault setting.now (listed_at encoding base cursor.old) machine.old ≡ None)
-        (λ why. first_fault setting.now (listed_at encoding base cursor.old) machine.old ≡ Some why)
+        (λ _. first_fault context.now (listed_at encoding base cursor.old) machine.old ≡ None)
+        (λ why. first_fault context.now (listed_at encoding base cursor.old) machine.old ≡ Some why)
         (Unit {0}) }
-    ensures state { OnOk result (machine.new ≡ all_stepped setting.now (listed_at encoding base cursor.old) machine.old) }
+    ensures state { OnOk result (machine.new ≡ all_stepped context.now (listed_at encoding base cursor.old) machine.old) }
     ensures ended { OnOk result (length cursor.new.bytes ≡ 0) }
 {
     'rest: while !cursor.is_at_end() {
-        let _columns = run_to_next_row(machine, cursor, setting, encoding, base)?;
+        let _columns = run_to_next_row(machine, cursor, context, encoding, base)?;
     }
     Ok(())
 }
@@ -77,18 +77,18 @@ pub fn run_to_end(
 /// Carries out the instructions of a run of bytes; `base` is the address of its first byte.
 pub fn run_all(
     machine: &mut Machine<'_>,
-    setting: &Setting,
+    context: &CieContext,
     encoding: u8,
     base: u64,
     bytes: &[u8],
 ) -> Result<(), Stop<Reason>>
     requires known { IsTrue (is_encoding encoding) }
     ensures fault { MatchStop result
-        (λ _. first_fault setting.now (instructions encoding base bytes.now) machine.old ≡ None)
-        (λ why. first_fault setting.now (instructions encoding base bytes.now) machine.old ≡ Some why)
+        (λ _. first_fault context.now (instructions encoding base bytes.now) machine.old ≡ None)
+        (λ why. first_fault context.now (instructions encoding base bytes.now) machine.old ≡ Some why)
         (Unit {0}) }
-    ensures state { OnOk result (machine.new ≡ all_stepped setting.now (instructions encoding base bytes.now) machine.old) }
+    ensures state { OnOk result (machine.new ≡ all_stepped context.now (instructions encoding base bytes.now) machine.old) }
 {
     let mut cursor = Cursor::new(bytes, 0, bytes.len());
-    run_to_end(machine, &mut cursor, setting, encoding, base)
+    run_to_end(machine, &mut cursor, context, encoding, base)
 }

@@ -4,17 +4,17 @@ ghost use Rattle.sym_edges.specs.Outside.{MatchStop};
 ghost use Rattle.sym_edges.specs.declared.fault.Stop.TheVariants as stop;
 ghost use Rattle.frame_entries.specs.Pointers.{is_encoding};
 ghost use Rattle.frame_rows.specs.Instructions.{listed_at};
-ghost use Rattle.frame_rows.specs.Rows.{first_fault, own_setting, own_items, own_begin, row_at, rows_fault, AreRows, HasCfa, IsSound};
+ghost use Rattle.frame_rows.specs.Rows.{first_fault, own_context, own_items, own_begin, row_at, rows_fault, AreRows, HasCfa, IsSound};
 ghost use Rattle.frame_rows.specs.CieLeft.{cie_left};
 ghost use Rattle.frame_rows.specs.Columns.{StayOutside, IsNext};
-ghost use Rattle.frame_rows.specs.Held.{setting_in};
+ghost use Rattle.frame_rows.specs.internal.Held.{context_in};
 ghost use Rattle.frame_rows.specs.Standing.{Begins, IsStep, Refuses, Ends};
-ghost use Rattle.frame_rows.specs.Walk.{rows_from, rows_past, row_with};
+ghost use Rattle.frame_rows.specs.internal.Walk.{rows_from, rows_past, row_with};
 
 use crate::cie_state::{Begun, CieState};
 use crate::columns::Columns;
 use crate::entry_rows::check_rows_behind;
-use crate::held_setting::HeldSetting;
+use crate::held_context::HeldContext;
 use crate::machine::Machine;
 use crate::row::Row;
 use crate::run::{run_to_end, run_to_next_row};
@@ -29,7 +29,7 @@ use sym_edges::{Reason, Stop};
 #[derive(Drop)]
 pub struct Stepper<'c, 'a> {
     machine: Machine<'c>,
-    setting: HeldSetting<'c>,
+    context: HeldContext<'c>,
     cursor: Cursor<'a>,
     encoding: u8,
     base: u64,
@@ -45,19 +45,19 @@ impl<'c, 'a> Model for Stepper<'c, 'a> {
     ghost use Rattle.frame_entries.specs.Pointers.{is_encoding};
     ghost use Rattle.frame_rows.specs.Instructions.{listed_at};
     ghost use Rattle.frame_rows.specs.Rows.{first_fault};
-    ghost use Rattle.frame_rows.specs.Held.{setting_in};
+    ghost use Rattle.frame_rows.specs.internal.Held.{context_in};
     ghost use Rattle.frame_rows.specs.Standing.{Standing};
-    ghost use Rattle.frame_rows.specs.Walk.{rows_past, row_with};
+    ghost use Rattle.frame_rows.specs.internal.Walk.{rows_past, row_with};
 
     ghost Value = { Standing };
 
     ghost view = { λ s. record {
       failed = s.failed;
       refused = s.refused;
-      fault = option_or s.refused (first_fault (setting_in s.setting) (listed_at s.encoding s.base s.cursor) s.machine);
+      fault = option_or s.refused (first_fault (context_in s.context) (listed_at s.encoding s.base s.cursor) s.machine);
       end = s.end;
       here = row_with s.address s.machine.row;
-      later = rows_past s.end (setting_in s.setting) (listed_at s.encoding s.base s.cursor) s.machine s.address;
+      later = rows_past s.end (context_in s.context) (listed_at s.encoding s.base s.cursor) s.machine s.address;
     } };
 
     ghost invariant = { λ s. IsTrue (is_encoding s.encoding) };
@@ -67,31 +67,31 @@ impl<'c, 'a> Model for Stepper<'c, 'a> {
 #[inline]
 fn start<'c, 'a>(begun: Begun<'c>, fde: &Fde<'a>, end: u64) -> Result<Stepper<'c, 'a>, Stop<Reason>>
     requires machine { begun.machine ≡ own_begin fde.now }
-    requires setting { setting_in begun.setting ≡ own_setting fde.now }
+    requires context { context_in begun.context ≡ own_context fde.now }
     requires some { fde.now.start < end }
     ensures fresh { IfOk result (λ s. (s.failed ≡ false) × (s.refused ≡ None)) }
     ensures place { IfOk result (λ s. (s.here.address ≡ fde.now.start) × (s.end ≡ end)) }
     ensures fault { MatchStop result
-        (λ s. s.fault ≡ first_fault (own_setting fde.now) (own_items fde.now) (own_begin fde.now))
-        (λ why. first_fault (own_setting fde.now) (own_items fde.now) (own_begin fde.now) ≡ Some why)
+        (λ s. s.fault ≡ first_fault (own_context fde.now) (own_items fde.now) (own_begin fde.now))
+        (λ why. first_fault (own_context fde.now) (own_items fde.now) (own_begin fde.now) ≡ Some why)
         (Unit {0}) }
-    ensures rows { IfOk result (λ s. s.here ∷ s.later ≡ rows_from end (own_setting fde.now) (own_items fde.now) (own_begin fde.now)) }
+    ensures rows { IfOk result (λ s. s.here ∷ s.later ≡ rows_from end (own_context fde.now) (own_items fde.now) (own_begin fde.now)) }
 {
     let Begun {
         mut machine,
-        setting,
+        context,
     } = begun;
     let mut cursor = Cursor::new(fde.instructions, 0, fde.instructions.len());
     match run_to_next_row(
         &mut machine,
         &mut cursor,
-        setting.get(),
+        context.get(),
         fde.encoding,
         fde.instructions_address,
     ) {
         Ok(_) => Ok(Stepper {
             machine,
-            setting,
+            context,
             cursor,
             encoding: fde.encoding,
             base: fde.instructions_address,
@@ -194,7 +194,7 @@ impl<'c, 'a> Stepper<'c, 'a> {
         match run_to_next_row(
             &mut self.machine,
             &mut self.cursor,
-            self.setting.get(),
+            self.context.get(),
             self.encoding,
             self.base,
         ) {
@@ -235,7 +235,7 @@ impl<'c, 'a> Stepper<'c, 'a> {
         match run_to_end(
             &mut self.machine,
             &mut self.cursor,
-            self.setting.get(),
+            self.context.get(),
             self.encoding,
             self.base,
         ) {

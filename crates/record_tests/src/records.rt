@@ -9,10 +9,10 @@ use std::test::Fail;
 use sym_edges::{CallList, MemSink, OutOfMemory};
 use sym_records::{
     Binary, BoxedBinary, ByteText, Extent, Extents, RuleText, Rules, SymFile, SymLine, SymText,
-    Target, TextPieces, Token, Tokens, add_change, add_file, add_func, add_info, add_init,
-    add_inline, add_line, add_module, add_origin, add_public, clean, file_of, is_valid, render,
-    write_file,
+    Target, TextPieces, Token, Tokens, add_file, add_func, add_info, add_inline, add_line,
+    add_module, add_origin, add_public, clean, file_of, is_valid, render, write_file,
 };
+use sym_rules::add_rules;
 
 fn text(alloc: Global, bytes: &[u8]) -> Result<ByteText, OutOfMemory> {
     Ok(ByteText::of(Vec::from_slice(alloc, bytes)?))
@@ -129,8 +129,11 @@ fn records_are_rendered_and_added(rt: HostRuntime) -> Result<(), Fail> {
     add_inline(&mut added, 0, 4, 0, 0, two_ranges(alloc)?.as_slice())?;
     add_line(&mut added, 0x1004, 8, 9, 0)?;
     add_public(&mut added, false, u64::MAX, 0, b"main ")?;
-    add_init(&mut added, 0x1000, 0x20, one_rule(alloc, 8)?.as_slice())?;
-    add_change(&mut added, 0x1001, one_rule(alloc, 16)?.as_slice())?;
+    added.extend_from_slice(b"STACK CFI INIT 1000 20")?;
+    add_rules(&mut added, one_rule(alloc, 8)?.as_slice())?;
+    added.extend_from_slice(b"\nSTACK CFI 1001")?;
+    add_rules(&mut added, one_rule(alloc, 16)?.as_slice())?;
+    added.push(b'\n')?;
     expect_bytes(&rt, "added", added.as_slice(), WHOLE);
     let mut named = Vec::new(alloc);
     add_func(&mut named, false, 0, 1, 0, b" a\tb\x7f")?;
@@ -141,30 +144,6 @@ fn records_are_rendered_and_added(rt: HostRuntime) -> Result<(), Fail> {
         named.as_slice(),
         b"FUNC 0 1 0 a?b?\nPUBLIC 0 0 <name omitted>\n",
     );
-    Ok(())
-}
-
-#[test]
-fn frame_records_with_many_rules_are_added(rt: HostRuntime) -> Result<(), Fail> {
-    let alloc = rt.alloc();
-    let mut rules = Vec::new(alloc);
-    let mut want = Vec::from_slice(alloc, b"STACK CFI INIT 1000 20")?;
-    for _ in 0..20 {
-        rules.push(RuleText {
-            target: Target::Cfa,
-            tokens: Tokens::three(Token::Reg(7), Token::Number(-8), Token::Add),
-        })?;
-        want.extend_from_slice(b" .cfa: $rsp -8 +")?;
-    }
-    want.extend_from_slice(b"\nSTACK CFI 1001")?;
-    for _ in 0..20 {
-        want.extend_from_slice(b" .cfa: $rsp -8 +")?;
-    }
-    want.push(b'\n')?;
-    let mut added = Vec::new(alloc);
-    add_init(&mut added, 0x1000, 0x20, &rules)?;
-    add_change(&mut added, 0x1001, &rules)?;
-    expect_bytes(&rt, "added", &added, &want);
     Ok(())
 }
 

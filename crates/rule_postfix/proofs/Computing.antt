@@ -6,7 +6,7 @@ use Rattle.rule_postfix.specs.FrameLines.{is_cut, first_cut, records_at, frame_l
 use Rattle.rule_postfix.specs.Overlaps.{any_meets, ranges_by, last_end_below}
 use Rattle.rule_postfix.specs.RowParts.{column_part, part_of, is_unspecified, becomes_unspecified}
 use Rattle.rule_postfix.specs.RowRules.{spelled, registers, rules_of, rules_by, if_ruled, if_changed, row_rules, changed_rules, some_unspecified_below, some_becomes_unspecified}
-use Rattle.rule_postfix.specs.Writing.{with_row, with_rows, lines_of}
+use Rattle.rule_postfix.specs.internal.Writing.{with_row, with_rows, lines_of}
 use Rattle.rule_postfix.specs.Written.{has_range, rows_reason, is_code, reason_among, reason_behind, reason_of, with_entry, with_entries, decided_behind, decided_of, decided, written, omitted, entry_lines, written_lines}
 use Rattle.rule_postfix.proofs.ComputingBelow.{frames_below_compute}
 

@@ -1,4 +1,4 @@
--- What the pass over the entries holds, entry after entry.
+-- What the pass over the entries holds, entry after entry; for `put_behind`, `put_entries`, `put_entry`, `put_free`, `translate_all`, `write`.
 use Rattle.std.proofs.Common.{◌≡◌, ℕ, ◌+◌, ◌<◌, ◌≤◌, ◌&&◌, ◌||◌, ◌^◌, not, nat_lt, nat_le, Bool, true, false, List, [], ◌∷◌, ◌++◌, map, take, length, get_or, Option, None, Some, Err, refl, ap, sym, ◌∙◌, inl, inr, arith, subst}
 use Rattle.std.specs.List.{flat_map, list_any}
 use Rattle.std.proofs.lemmas.Bool.{and_parts, not-true, or_cases, leb-true, ltb-true}
@@ -29,7 +29,7 @@ use Rattle.rule_postfix.specs.declared.all.Progress.{Progress}
 use Rattle.rule_postfix.specs.declared.omission.Omission.{Omission}
 use Rattle.rule_postfix.specs.Overlaps.{meet, any_meets}
 use Rattle.rule_postfix.specs.Written.{Decided, range_of, has_range, is_code, reason_among, reason_behind, rows_reason, body_reason, reason_of, left_out, with_written, with_fields, with_decision, with_entry, with_entries, decided_behind, decided_of, decided, written, omitted, entry_lines, written_lines}
-use Rattle.rule_postfix.specs.Deciding.{LiesAbove, EndsAt, IfRefused, Shows}
+use Rattle.rule_postfix.specs.internal.Deciding.{LiesAbove, EndsAt, IfRefused, Shows}
 use Rattle.frame_rows.specs.Rows.{rows_fault}
 use Rattle.rule_postfix.proofs.SpellingLemmas.{canon_append}
 use Rattle.rule_postfix.proofs.ReasonLemmas.{no_rows}

@@ -1,4 +1,4 @@
--- The rows of an entry, and its records.
+-- The rows of an entry, and its records; for `spell_entry`.
 use Rattle.std.proofs.Common.{◌≡◌, ℕ, ◌+◌, ◌<◌, ◌^◌, Bool, true, false, List, ◌∷◌, ◌++◌, None, Some, Err, sym, ◌∙◌, ap}
 use Rattle.std.specs.List.{list_any}
 use Rattle.sym_edges.specs.declared.reason.Reason.{Reason}
@@ -15,8 +15,8 @@ use Rattle.sym_records.specs.Canon.{canon_text}
 use Rattle.sym_records.specs.declared.place.Place.TheVariants.{Inside}
 use Rattle.sym_records.specs.Validity.{first_bad_from}
 use Rattle.rule_postfix.specs.FrameLines.{frame_lines}
-use Rattle.rule_postfix.specs.Spelling.{lacks_rule}
-use Rattle.rule_postfix.specs.Writing.{lines_of}
+use Rattle.rule_postfix.specs.internal.Spelling.{lacks_rule}
+use Rattle.rule_postfix.specs.internal.Writing.{lines_of}
 use Rattle.rule_postfix.proofs.LinesLemmas.{lines_are}
 use Rattle.rule_postfix.proofs.ValidLemmas.{RecordLaws, lines_valid}
 

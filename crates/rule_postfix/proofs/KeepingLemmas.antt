@@ -1,4 +1,4 @@
--- The state behind a CIE that is kept is that of the entries that follow.
+-- The state behind a CIE that is kept is that of the entries that follow; for `make`, `new`, `put_entries`.
 use Rattle.std.proofs.Common.{◌≡◌, ℕ, ◌<◌, Bool, true, false, cond, List, [], length, get_or, Option, Some, None, Result, refl, sym, ◌∙◌, ap, arith, subst}
 use Rattle.std.specs.Prelude.{is_some}
 use Rattle.std.specs.Ordering.{nat_cmp}
@@ -15,7 +15,7 @@ use Rattle.frame_rows.specs.Left.{Left}
 use Rattle.frame_rows.specs.CieLeft.{cie_left}
 use Rattle.frame_rows.proofs.LeftLemmas.{one_left}
 use Rattle.rule_postfix.specs.declared.cie_states.CieStates.{CieStates}
-use Rattle.rule_postfix.specs.Keeping.{IsStateOf, KeptFor, KeptForAll, StaysKept}
+use Rattle.rule_postfix.specs.internal.Keeping.{IsStateOf, KeptFor, KeptForAll, StaysKept}
 
 -- no state
 pub none_kept : (states : CieStates) (e : FdeFields) → states.by_place.entries ≡ [] → KeptFor states e

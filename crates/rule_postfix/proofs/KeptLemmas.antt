@@ -1,4 +1,4 @@
--- The entries that are written lie above the base, and no two have an address in common.
+-- The entries that are written lie above the base, and no two have an address in common; for `translate_all`.
 use Rattle.std.proofs.Common.{◌≡◌, ℕ, ◌+◌, List, [], ◌∷◌, ◌++◌, map, Option, None, Some, refl, ap, sym, ◌∙◌, subst}
 use Rattle.sym_edges.specs.declared.reason.Reason.{Reason}
 use Rattle.sym_edges.specs.Addresses.{Range}

@@ -1,4 +1,4 @@
--- The pass over the rows gives the records that the rows at each address have.
+-- The pass over the rows gives the records that the rows at each address have; for the lemmas of CoveringLemmas, EntryLemmas, NestingLemmas.
 use Rattle.std.proofs.Common.{◌≡◌, ℕ, zero, suc, ◌+◌, ◌-◌, ◌<◌, ◌≤◌, ◌&&◌, ◌||◌, not, nat_le, Bool, true, false, cond, List, [], ◌∷◌, ◌++◌, Option, Some, None, refl, ap, sym, subst, ◌∙◌, inl, inr, arith, append_assoc, eq-eqb}
 use Rattle.std.specs.List.{flat_map, range_with_len, list_any, cons_option}
 use Rattle.std.proofs.lemmas.Bool.{cases_lt, ne_eqb, le-leb, lt-leb, and_right, or_from}
@@ -14,7 +14,7 @@ use Rattle.sym_rules.specs.declared.rules.Target.{Target}
 use Rattle.rule_postfix.specs.RowParts.{becomes_unspecified, is_unspecified, is_unruled, column_part, rule_at, part_of}
 use Rattle.rule_postfix.specs.RowRules.{rule_of, rules_of, rules_by, targets, if_changed, some_becomes_unspecified, some_unspecified_below, row_rules, changed_rules}
 use Rattle.rule_postfix.specs.FrameLines.{is_cut, first_cut, change, records_at, frame_lines}
-use Rattle.rule_postfix.specs.Writing.{Open, opened, closed, with_changes, with_row, with_rows, lines_of}
+use Rattle.rule_postfix.specs.internal.Writing.{Open, opened, closed, with_changes, with_row, with_rows, lines_of}
 use Rattle.rule_postfix.proofs.OptionLemmas.{some_same, none_some}
 use Rattle.rule_postfix.proofs.PartLemmas.{no_other}
 

@@ -1,4 +1,4 @@
--- The records of changes stand inside the INIT of their range, and their addresses rise.
+-- The records of changes stand inside the INIT of their range, and their addresses rise; for the lemmas of KeptLemmas.
 use Rattle.std.proofs.Common.{◌≡◌, ℕ, zero, suc, ◌+◌, ◌-◌, ◌<◌, ◌≤◌, ◌||◌, Bool, true, false, cond, List, [], ◌∷◌, ◌++◌, refl, ap, sym, ◌∙◌, arith, append_assoc, eq-eqb, subst}
 use Rattle.std.specs.List.{flat_map, range_with_len}
 use Rattle.frame_rows.specs.declared.row.Row.{Row}

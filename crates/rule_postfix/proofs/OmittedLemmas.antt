@@ -1,4 +1,4 @@
--- What is decided of an entry, whatever stands behind it.
+-- What is decided of an entry, whatever stands behind it; for `entries_are_decided_by_their_reasons`.
 use Rattle.std.proofs.Common.{◌≡◌, List, [], ◌∷◌, ◌++◌, Option, None, Some, refl, ap, sym, ◌∙◌}
 use Rattle.std.proofs.lemmas.List.{append-nil, append_assoc}
 use Rattle.sym_edges.specs.declared.reason.Reason.{Reason}

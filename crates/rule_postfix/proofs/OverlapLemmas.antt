@@ -1,4 +1,4 @@
--- Ranges of which no two meet, by their starts: which of them a range meets, and one more.
+-- Ranges of which no two meet, by their starts: which of them a range meets, and one more; for `last_end`, `meets`, `put`.
 use Rattle.std.proofs.Common.{◌≡◌, ℕ, ◌<◌, ◌≤◌, ◌==◌, ◌&&◌, ◌||◌, not, nat_lt, Bool, true, false, cond, List, [], ◌∷◌, ◌++◌, map, Option, None, Some, refl, ap, sym, ◌∙◌, ◌⊎◌, inl, inr, subst, arith, eq-eqb}
 use Rattle.std.specs.List.{list_any, filter}
 use Rattle.std.specs.Ordering.{nat_cmp, is_le, match_ordering}

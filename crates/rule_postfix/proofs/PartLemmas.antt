@@ -1,4 +1,4 @@
--- Parts that are the same.
+-- Parts that are the same; for the lemmas of LinesLemmas, RulesLemmas.
 use Rattle.std.proofs.Common.{◌≡◌, ℕ, ℤ, ◌==◌, true, cond, None, refl, ap, sym, ◌∙◌, eq-eqb}
 use Rattle.std.specs.Ordering.{int_eq}
 use Rattle.std.proofs.lemmas.Bool.{and_from}

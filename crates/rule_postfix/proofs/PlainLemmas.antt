@@ -1,4 +1,4 @@
--- The rules of sound rows can be spelled.
+-- The rules of sound rows can be spelled; for the lemmas of ValidLemmas.
 use Rattle.std.proofs.Common.{◌≡◌, ℕ, ◌+◌, ◌<◌, ◌≤◌, ◌==◌, ◌&&◌, nat_lt, nat_le, Bool, true, false, cond, List, [], ◌∷◌, length, Option, None, Some, is_some, refl, ap, ◌∙◌, arith}
 use Rattle.std.specs.List.{list_all, cons_option}
 use Rattle.std.proofs.lemmas.Bool.{and_from, and_parts}

@@ -1,7 +1,7 @@
--- The first reason to leave an entry out.
+-- The first reason to leave an entry out; for `end_of`, `put_behind`, `put_free`, `reason_or`, `reason_without_range`.
 use Rattle.std.proofs.Common.{◌≡◌, ℕ, ◌+◌, ◌<◌, ◌≤◌, ◌&&◌, ◌^◌, not, nat_lt, Bool, true, false, cond, List, Option, None, Some, refl, ap, sym, ◌∙◌, arith}
 use Rattle.std.proofs.lemmas.Bool.{and_right, and_from, le-ltb, lt-ltb}
-use Rattle.rule_postfix.specs.Deciding.{EndsAt}
+use Rattle.rule_postfix.specs.internal.Deciding.{EndsAt}
 use Rattle.sym_edges.specs.declared.reason.Reason.{Reason}
 use Rattle.sym_edges.specs.declared.reason.Reason.TheVariants as reason
 use Rattle.sym_edges.specs.Addresses.{Range}

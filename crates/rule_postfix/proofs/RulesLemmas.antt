@@ -1,4 +1,4 @@
--- Rules of records, one target after another.
+-- Rules of records, one target after another; for `write_changes`, `write_registers`, `write_row_rules`.
 use Rattle.std.proofs.Common.{◌≡◌, ℕ, zero, suc, min, ◌+◌, ◌-◌, ◌<◌, ◌≤◌, ◌||◌, ◌&&◌, not, Bool, true, false, List, [], ◌∷◌, ◌++◌, map, cond, Option, None, Some, refl, ap, sym, ◌∙◌, arith, append_assoc, get_or, replicate, inl, inr}
 use Rattle.std.specs.List.{flat_map, cons_option, list_any, range_with_len, filter_map}
 use Rattle.std.specs.Option.{option_to_list}
@@ -15,14 +15,15 @@ use Rattle.sym_rules.specs.declared.rules.Target.TheVariants.{Cfa, Ra, Reg, Othe
 use Rattle.sym_rules.specs.declared.rules.Token.{Token}
 use Rattle.sym_rules.specs.Rules.{spelled_rule, spelled_rules}
 use Rattle.frame_rows.specs.Rows.{empty_row}
-use Rattle.frame_rows.specs.Columns.{StayOutside, all_columns}
+use Rattle.frame_rows.specs.Columns.{StayOutside}
+use Rattle.frame_rows.specs.internal.Touched.{all_columns}
 use Rattle.frame_rows.specs.declared.columns.Columns.{Columns}
 use Rattle.frame_rows.specs.declared.row.Rule.TheVariants as rule
 use Rattle.rule_postfix.specs.declared.parts.RowPart.{RowPart}
 use Rattle.rule_postfix.specs.declared.parts.RowPart.TheVariants.{Unruled, Base, Column}
 use Rattle.rule_postfix.specs.RowParts.{becomes_unspecified, is_unspecified, is_unruled, cfa_part, rule_at, part_of, column_part}
 use Rattle.rule_postfix.proofs.PartLemmas.{same_rules}
-use Rattle.rule_postfix.specs.Backward.{rule_text, registers_from, some_unspecified_from}
+use Rattle.rule_postfix.specs.internal.Backward.{rule_text, registers_from, some_unspecified_from}
 use Rattle.rule_postfix.specs.RowRules.{rule_of, rule_by, rules_of, rules_by, registers, targets, if_other, spelled, if_ruled, row_rules, if_changed, changed_rules, some_unspecified_below, some_becomes_unspecified}
 
 -- the rules of a list of targets

@@ -1,4 +1,4 @@
--- What is spelled as a stepper moves.
+-- What is spelled as a stepper moves; for `put_row`, `spell_steps`.
 use Rattle.std.proofs.Math.Bool.{or_comm}
 use Rattle.std.proofs.Math.Seq.{take-append_seam}
 use Rattle.std.proofs.Common.{◌≡◌, Option, Some, None, Result, Ok, Err, OnOk, ℕ, ◌-◌, ◌<◌, ◌≤◌, Bool, true, false, not, ◌||◌, cond, take, length, List, [], ◌∷◌, ◌++◌, refl, ap, sym, subst, ◌∙◌, arith, append_assoc, append-nil}
@@ -20,8 +20,8 @@ use Rattle.sym_records.specs.declared.line.SymLine.TheVariants.{Init}
 use Rattle.rule_postfix.specs.declared.open_init.OpenInit.{OpenInit}
 use Rattle.rule_postfix.specs.RowRules.{row_rules, changed_rules, some_becomes_unspecified}
 use Rattle.rule_postfix.specs.FrameLines.{change}
-use Rattle.rule_postfix.specs.Writing.{Open, opened, closed, with_changes, with_row, with_rows, lines_of}
-use Rattle.rule_postfix.specs.Spelling.{IsSpelled, lacks_rule}
+use Rattle.rule_postfix.specs.internal.Writing.{Open, opened, closed, with_changes, with_row, with_rows, lines_of}
+use Rattle.rule_postfix.specs.internal.Spelling.{IsSpelled, lacks_rule}
 use Rattle.rule_postfix.proofs.WriterLemmas.{starts, aboves}
 use Rattle.rule_postfix.proofs.OverlapLemmas.{or_assoc_by}
 use Rattle.rule_postfix.proofs.SpellingLemmas.{canon_append, more}

@@ -1,4 +1,4 @@
--- The words of a rule, as they are written from the last to the first.
+-- The words of a rule, as they are written from the last to the first; for `write_base`, `write_cfa`, `write_column`, `write_own`, `write_part`, `write_rule` and others.
 use Rattle.std.proofs.Common.{◌≡◌, ℕ, ℤ, ◌∷◌, ◌++◌, List, [], codes, Some, None, refl, ap, sym, ◌∙◌, append_assoc, append-nil}
 use Rattle.std.specs.List.{flat_map}
 use Rattle.std.specs.Fmt.{signed_decimal}
@@ -8,7 +8,7 @@ use Rattle.sym_rules.specs.declared.rules.Target.{Target}
 use Rattle.sym_rules.specs.declared.rules.Target.TheVariants.{Cfa, Reg}
 use Rattle.sym_rules.specs.declared.rules.Token.{Token}
 use Rattle.sym_rules.specs.declared.rules.Token.TheVariants as token
-use Rattle.rule_postfix.specs.Backward.{rule_text}
+use Rattle.rule_postfix.specs.internal.Backward.{rule_text}
 
 -- the CFA plus an offset, and the word there
 pub sum_written : (n : ℤ) (old a b c : List ℕ) → a ≡ codes " +" ++ old → b ≡ signed_decimal n ++ a → c ≡ codes " .cfa " ++ b → c ≡ flat_map spelled_token (token.Cfa ∷ token.Number n ∷ token.Add ∷ []) ++ old

@@ -1,9 +1,9 @@
--- The INIT that is open behind a row.
+-- The INIT that is open behind a row; for the lemmas of StepsLemmas.
 use Rattle.std.proofs.Common.{ℕ, ◌≤◌, Bool, true, false, List, cond}
 use Rattle.frame_rows.specs.declared.row.Row.{Row}
 use Rattle.sym_rules.specs.declared.rules.RuleText.{RuleText}
 use Rattle.rule_postfix.specs.RowRules.{some_becomes_unspecified, changed_rules}
-use Rattle.rule_postfix.specs.Writing.{Open, opened, closed, with_changes, with_row}
+use Rattle.rule_postfix.specs.internal.Writing.{Open, opened, closed, with_changes, with_row}
 
 -- its start lies between the same bounds as the start before and the row
 starts_by : (cut : Bool) (b : ℕ) (after : Row) (rules : List RuleText) (w : Open) (low : ℕ) → w.start ≤ low → b ≤ low → (cond cut (opened w.base (closed w b) b after) (with_changes b rules w)).start ≤ low

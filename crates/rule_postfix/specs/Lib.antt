@@ -1,12 +1,8 @@
 pub mod RowParts
 pub mod RowRules
-pub mod Backward
 pub mod FrameLines
-pub mod Writing
-pub mod Spelling
 pub mod Overlaps
 pub mod Written
-pub mod Deciding
-pub mod Keeping
 pub mod Covering
 pub mod Decision
+pub mod internal

@@ -15,14 +15,14 @@ ghost use Rattle.sym_records.specs.declared.place.Place.{Place};
 ghost use Rattle.sym_records.specs.Validity.{first_bad_from};
 ghost use Rattle.rule_postfix.specs.Overlaps.{any_meets};
 ghost use Rattle.rule_postfix.specs.Written.{Decided, has_range, range_of, reason_among, left_out, with_written, with_entry, with_entries, written, omitted, written_lines};
-ghost use Rattle.rule_postfix.specs.Keeping.{KeptFor, StaysKept};
-ghost use Rattle.rule_postfix.specs.Deciding.{LiesAbove, EndsAt, IfRefused, Shows};
+ghost use Rattle.rule_postfix.specs.internal.Keeping.{KeptFor, StaysKept};
+ghost use Rattle.rule_postfix.specs.internal.Deciding.{LiesAbove, EndsAt, IfRefused, Shows};
 
 use crate::cie_states::CieStates;
+use crate::entry_records::spell_entry;
 use crate::omission::{Omission, Omissions};
 use crate::open_init::OpenInit;
-use crate::taken::Taken;
-use crate::translating::spell_entry;
+use crate::written_ranges::WrittenRanges;
 use frame_entries::{Body, Entry, EntryList, Fde};
 use frame_rows::{CieState, check_rows_behind, inspect_behind};
 use range_set::Enclosing;
@@ -45,7 +45,7 @@ struct Progress {
     text: TextPieces,
     open: OpenInit,
     omitted: Vec<Omission>,
-    taken: Taken,
+    taken: WrittenRanges,
 }
 
 /// The end of a range of addresses that is not empty and ends below 2^64.
@@ -296,7 +296,7 @@ pub fn translate_all(
         text: TextPieces::new(alloc),
         open: OpenInit::new(alloc),
         omitted: Vec::new(alloc),
-        taken: Taken::new(alloc),
+        taken: WrittenRanges::new(alloc),
     };
     put_entries(alloc, &mut progress, first, &enclosing, base)?;
     put_entries(alloc, &mut progress, second, &enclosing, base)?;

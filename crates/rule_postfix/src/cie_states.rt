@@ -5,7 +5,7 @@ ghost use Rattle.std.specs.BTreeMap.{get};
 ghost use Rattle.frame_entries.specs.FdeFields.{FdeFields};
 ghost use Rattle.frame_entries.specs.SharedCies.{HaveOneCie};
 ghost use Rattle.frame_rows.specs.CieLeft.{cie_left};
-ghost use Rattle.rule_postfix.specs.Keeping.{KeptFor};
+ghost use Rattle.rule_postfix.specs.internal.Keeping.{KeptFor};
 
 use frame_entries::Fde;
 use frame_rows::CieState;

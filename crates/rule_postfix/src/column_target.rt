@@ -1,6 +1,6 @@
 //! The target of a column.
 ghost use Rattle.std.specs.Prelude.{◌≡◌};
-ghost use Rattle.rule_postfix.specs.Backward.{column_of};
+ghost use Rattle.rule_postfix.specs.internal.Backward.{column_of};
 
 /// What the rule of a column gives the value of.
 #[derive(Clone, Copy)]

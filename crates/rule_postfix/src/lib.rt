@@ -14,24 +14,25 @@
 //!
 //! The instructions of a CIE are carried out once for all of its entries: `cie_states` has the states that they leave.
 //!
-//! To read: `parts`, `column_target`, `rules`, `spelling`, `open_init`, `translating`, then `omission`, `taken`, `cie_states` and `all`.
+//! To read: `parts`, `column_target`, `rules`, `change_record`, `open_init`, `entry_records`, then `omission`, `written_ranges`, `cie_states` and
+//! `all`.
 #![tactic(auto)]
 
 mod all;
+mod change_record;
 mod cie_states;
 mod column_target;
+mod entry_records;
 pub mod laws;
 mod omission;
 mod open_init;
 mod parts;
 mod rules;
-mod spelling;
-mod taken;
-mod translating;
+mod written_ranges;
 
 pub use crate::all::{Frames, translate_all};
+pub use crate::entry_records::translate;
 pub use crate::omission::{Omission, Omissions};
-pub use crate::translating::translate;
 
 #[cfg(test)]
 mod tests;

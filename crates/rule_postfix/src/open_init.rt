@@ -7,11 +7,11 @@ ghost use Rattle.frame_rows.specs.Steps.{has_cfa};
 ghost use Rattle.sym_rules.specs.Rules.{spelled_rules};
 ghost use Rattle.sym_records.specs.Canon.{canon_text, init_front};
 ghost use Rattle.rule_postfix.specs.RowRules.{row_rules};
-ghost use Rattle.rule_postfix.specs.Writing.{Open, with_row, lines_of};
-ghost use Rattle.rule_postfix.specs.Spelling.{IsSpelled, lacks_rule};
+ghost use Rattle.rule_postfix.specs.internal.Writing.{Open, with_row, lines_of};
+ghost use Rattle.rule_postfix.specs.internal.Spelling.{IsSpelled, lacks_rule};
 
+use crate::change_record::write_change_line;
 use crate::rules::{LINE, write_row_rules};
-use crate::spelling::write_change_line;
 use frame_rows::{Columns, Row, Stepper};
 use std::alloc::Global;
 use sym_edges::{OutOfMemory, Reason, Stop};

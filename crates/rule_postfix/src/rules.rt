@@ -9,7 +9,7 @@ ghost use Rattle.frame_rows.specs.Columns.{StayOutside};
 ghost use Rattle.frame_rows.specs.Rows.{empty_row};
 ghost use Rattle.rule_postfix.specs.RowParts.{cfa_part, column_part};
 ghost use Rattle.rule_postfix.specs.RowRules.{own_name, unruled_tokens, rule_spelled, spelled, rules_of, registers, if_other, if_changed, row_rules, changed_rules, some_unspecified_below, some_becomes_unspecified};
-ghost use Rattle.rule_postfix.specs.Backward.{column_of, target_of, rule_text};
+ghost use Rattle.rule_postfix.specs.internal.Backward.{column_of, target_of, rule_text};
 
 use crate::column_target::ColumnTarget;
 use crate::parts::{

@@ -104,28 +104,6 @@ pub change_line : (address : ℕ) (rules : List RuleText) → change_front addre
 unfolding canon body change_front
 change_line address rules = simp append_assoc refl
 
-ruled : (old before front rules a b c d : List ℕ) (end : ℕ) → length before ≤ end → a ≡ front ++ drop end before → b ≡ old ++ a → c ≡ b ++ rules → d ≡ c ++ 10 ∷ [] → d ≡ old ++ (front ++ (rules ++ 10 ∷ []))
-ruled old before front rules a b c d end past p0 p1 p2 p3 =
-    let p : a ≡ front = p0 ∙ alone front before end past in
-    rw (p3, p2, p1, p) (simp append_assoc refl)
-
-pub adds_init : (address size : ℕ) (rules : List RuleText) (old before a b c d : List ℕ) (end : ℕ) → length before ≤ end → a ≡ init_front address size ++ drop end before → b ≡ old ++ a → c ≡ b ++ spelled_rules rules → d ≡ c ++ 10 ∷ [] → d ≡ old ++ canon (line.Init address size rules)
-adds_init address size rules old before a b c d end past p0 p1 p2 p3 =
-    ruled old before (init_front address size) (spelled_rules rules) a b c d end past p0 p1 p2 p3 ∙ ap (λ l. old ++ l) (init_line address size rules)
-
-pub adds_change : (address : ℕ) (rules : List RuleText) (old before a b c d : List ℕ) (end : ℕ) → length before ≤ end → a ≡ change_front address ++ drop end before → b ≡ old ++ a → c ≡ b ++ spelled_rules rules → d ≡ c ++ 10 ∷ [] → d ≡ old ++ canon (line.Change address rules)
-adds_change address rules old before a b c d end past p0 p1 p2 p3 =
-    ruled old before (change_front address) (spelled_rules rules) a b c d end past p0 p1 p2 p3 ∙ ap (λ l. old ++ l) (change_line address rules)
-
--- the same in a line of its own
-pub short_init : (address size : ℕ) (rules : List RuleText) (old a b c d : List ℕ) → a ≡ 10 ∷ [] → b ≡ spelled_rules rules ++ a → c ≡ init_front address size ++ b → d ≡ old ++ c → d ≡ old ++ canon (line.Init address size rules)
-short_init address size rules old a b c d p q r s =
-    s ∙ ap (λ l. old ++ l) (r ∙ ap (λ l. init_front address size ++ l) (q ∙ ap (λ l. spelled_rules rules ++ l) p) ∙ init_line address size rules)
-
-pub short_change : (address : ℕ) (rules : List RuleText) (old a b c d : List ℕ) → a ≡ 10 ∷ [] → b ≡ spelled_rules rules ++ a → c ≡ change_front address ++ b → d ≡ old ++ c → d ≡ old ++ canon (line.Change address rules)
-short_change address rules old a b c d p q r s =
-    s ∙ ap (λ l. old ++ l) (r ∙ ap (λ l. change_front address ++ l) (q ∙ ap (λ l. spelled_rules rules ++ l) p) ∙ change_line address rules)
-
 -- what stands in a line from a place on
 pub tail_added : (old line text : List ℕ) (size at : ℕ) → length line ≤ size → text ≡ old ++ take (size - at) (drop at line) → text ≡ old ++ drop at line
 tail_added old line text size at short is = is ∙ ap (λ l. old ++ l) (take_all (size - at) (drop at line) (omega (arith, length-drop at line)))

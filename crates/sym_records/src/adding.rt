@@ -9,10 +9,7 @@ ghost use Rattle.sym_records.specs.declared.line.SymLine.TheVariants as line;
 use crate::line::Extent;
 use clean_names::add_cleaned;
 use sym_edges::OutOfMemory;
-use sym_rules::{
-    RuleText, add_rules, add_word, fit_rules, write_byte, write_bytes, write_decimal, write_hex,
-    write_last,
-};
+use sym_rules::{add_word, write_byte, write_bytes, write_decimal, write_hex, write_last};
 
 /// Room for the numbers of a line, with their spaces and its words.
 const LINE: usize = 64;
@@ -272,71 +269,4 @@ pub fn add_public(
     let at = write_bytes(b"PUBLIC", &mut line, at);
     begin(text, &line[at..], name.len())?;
     end_with_name(text, name)
-}
-
-/// Room for a line of a frame record whose rules are short.
-const RULED: usize = 160;
-
-/// Adds `STACK CFI INIT` with rules of any length.
-fn add_long_init(
-    text: &mut Vec<u8>,
-    address: u64,
-    size: u64,
-    rules: &[RuleText],
-) -> Result<(), OutOfMemory>
-    ensures { OnOk result (text.new.items ≡ text.old.items ++ canon (line.Init address size rules.now)) }
-{
-    let mut line = [0; LINE];
-    let at = write_init(address, size, &mut line, LINE);
-    begin(text, &line[at..], 0)?;
-    add_rules(text, rules)?;
-    end(text)
-}
-
-/// Adds `STACK CFI INIT`.
-pub fn add_init(
-    text: &mut Vec<u8>,
-    address: u64,
-    size: u64,
-    rules: &[RuleText],
-) -> Result<(), OutOfMemory>
-    ensures { OnOk result (text.new.items ≡ text.old.items ++ canon (line.Init address size rules.now)) }
-{
-    let mut line = [0; RULED];
-    let end = write_last(b'\n', &mut line);
-    if let Some(at) = fit_rules(rules, &mut line, end) {
-        if at >= 48 {
-            let front = write_init(address, size, &mut line, at);
-            text.extend_from_slice(&line[front..])?;
-            return Ok(());
-        }
-    }
-    add_long_init(text, address, size, rules)
-}
-
-/// Adds `STACK CFI` with rules of any length.
-fn add_long_change(text: &mut Vec<u8>, address: u64, rules: &[RuleText]) -> Result<(), OutOfMemory>
-    ensures { OnOk result (text.new.items ≡ text.old.items ++ canon (line.Change address rules.now)) }
-{
-    let mut line = [0; LINE];
-    let at = write_change(address, &mut line, LINE);
-    begin(text, &line[at..], 0)?;
-    add_rules(text, rules)?;
-    end(text)
-}
-
-/// Adds `STACK CFI`.
-pub fn add_change(text: &mut Vec<u8>, address: u64, rules: &[RuleText]) -> Result<(), OutOfMemory>
-    ensures { OnOk result (text.new.items ≡ text.old.items ++ canon (line.Change address rules.now)) }
-{
-    let mut line = [0; RULED];
-    let end = write_last(b'\n', &mut line);
-    if let Some(at) = fit_rules(rules, &mut line, end) {
-        if at >= 26 {
-            let front = write_change(address, &mut line, at);
-            text.extend_from_slice(&line[front..])?;
-            return Ok(());
-        }
-    }
-    add_long_change(text, address, rules)
 }

@@ -38,8 +38,8 @@ mod writing;
 pub mod laws;
 
 pub use adding::{
-    add_change, add_file, add_func, add_info, add_init, add_inline, add_line, add_module,
-    add_origin, add_public, write_change, write_init,
+    add_file, add_func, add_info, add_inline, add_line, add_module, add_origin, add_public,
+    write_change, write_init,
 };
 pub use clean_names::clean;
 pub use digits::HexText;

@@ -1,4 +1,4 @@
--- What is spelled at the end of a text.
+-- What is spelled at the end of a text; for `add_rule`, `add_rules`, `add_tokens`.
 use Rattle.std.proofs.Common.{◌≡◌, ℕ, ◌+◌, ◌<◌, ◌≤◌, ◌∷◌, ◌++◌, List, [], length, take, get_or, sym, ◌∙◌, ap, append_assoc}
 use Rattle.std.specs.List.{flat_map}
 use Rattle.std.proofs.lemmas.List.{take_all}

@@ -1,4 +1,4 @@
--- Text that is written from its end to its front.
+-- Text that is written from its end to its front; for `write_byte`, `write_bytes`, `write_last`.
 use Rattle.std.proofs.Common.{◌≡◌, ℕ, ◌+◌, ◌-◌, ◌≤◌, ◌∷◌, ◌++◌, List, [], length, take, drop, set, ap, ◌∙◌, arith, append-nil, length-take}
 use Rattle.std.proofs.lemmas.List.{drop-set, drop_all, drop_at, drop-drop}
 use borrow.Rule.Slice.PartMut.{put_mid}

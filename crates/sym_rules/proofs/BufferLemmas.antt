@@ -1,4 +1,4 @@
--- Bytes that are handed on through a buffer.
+-- Bytes that are handed on through a buffer; for `put`, `put_rules`, `put_tokens`, `put_word`.
 use Rattle.std.proofs.Common.{◌≡◌, ℕ, ◌+◌, ◌^◌, ◌<◌, ◌≤◌, List, [], ◌∷◌, ◌++◌, Option, Some, None, Result, Ok, Err, length, take, drop, refl, sym, ◌∙◌, ap, arith, append_assoc, append-nil, length-append, get_or, subst, ⊎_elim}
 use Rattle.std.specs.List.{flat_map}
 use Rattle.std.proofs.lemmas.Bool.{cases_lt}

@@ -1,3 +1,4 @@
+-- Numbers by their digits; for `write_hex`.
 use Rattle.std.proofs.Common.{◌≡◌, ◌≢◌, ℕ, ◌+◌, ◌-◌, ◌/◌, ◌%◌, ◌^◌, ◌*◌, ◌<◌, ◌≤◌, ◌==◌, zero, suc, false, cond, List, [], ◌∷◌, length, set, ◌++◌, append_assoc, drop, get_or, map, codes, refl, sym, ◌∙◌, ap, arith, subst}
 use Rattle.std.specs.List.{range_with_len}
 use Rattle.std.proofs.lemmas.Grind.{common_steps, drop-set_at}

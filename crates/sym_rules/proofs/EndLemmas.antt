@@ -1,4 +1,4 @@
--- The last member of a list, and the last byte of a line.
+-- The last member of a list, and the last byte of a line; for the lemmas of PlainLemmas, RuleLemmas, RuleListLemmas, RuleSoundLemmas.
 use Rattle.std.proofs.Common.{◌≡◌, ℕ, ◌-◌, ◌==◌, cond, suc, Bool, true, false, List, [], ◌∷◌, ◌++◌, length, get_or, refl, sym, ◌∙◌, ap, arith}
 use Rattle.std.specs.List.{list_all}
 use Rattle.sym_rules.proofs.BoolLemmas.{and_true, both, elim_bool, false_true}

@@ -1,4 +1,4 @@
--- The last member of a list, as the code finds it, and the names that the code compares with.
+-- The last member of a list, as the code finds it, and the names that the code compares with; for `end_in_cr`, `ends_with`, `is_register`, `is_symbol`, `last_ends_in_cr`.
 use Rattle.std.proofs.Common.{◌≡◌, ℕ, ◌+◌, ◌-◌, ◌<◌, ◌≤◌, ◌==◌, ◌&&◌, ◌||◌, suc, Bool, true, false, not, List, [], ◌∷◌, length, drop, get_or, slice_get, Some, None, refl, sym, ◌∙◌, ap, arith}
 use Rattle.std.specs.List.{list_any}
 use Rattle.std.specs.Option.{option_map_or}

@@ -13,5 +13,4 @@ pub mod LastLemmas
 pub mod Computing
 pub mod DigitsLemmas
 pub mod BackwardLemmas
-pub mod FittingLemmas
 pub mod WorkedRules

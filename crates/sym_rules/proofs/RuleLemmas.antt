@@ -1,4 +1,4 @@
--- The words of targets and tokens are read as these.
+-- The words of targets and tokens are read as these; for the lemmas of PlainLemmas, RuleListLemmas.
 use Rattle.std.proofs.Common.{◌≡◌, ℕ, ◌+◌, ◌-◌, ◌^◌, ◌<◌, ◌≤◌, ◌==◌, ◌&&◌, ◌||◌, cond, suc, Bool, true, false, not, ℤ, pos, negsuc, neg_ℤ, List, [], ◌∷◌, ◌++◌, length, take, drop, get_or, codes, Some, None, ok_or, Ok, Err, nat_lt, nat_le, refl, ◌∙◌, ap, arith, length-append}
 use Rattle.std.specs.List.{list_all, list_any, prefix_len}
 use Rattle.std.specs.Option.{option_or, option_map, option_map_or}

@@ -1,4 +1,4 @@
--- What is read as frame rules is spelled by words.
+-- What is read as frame rules is spelled by words; for sym_records.
 use Rattle.std.proofs.Common.{◌≡◌, ℕ, ◌-◌, ◌+◌, ◌<◌, ◌≤◌, ◌==◌, ◌&&◌, ◌||◌, cond, zero, suc, Bool, true, false, not, ℤ, pos, neg_ℤ, List, [], ◌∷◌, length, take, drop, get_or, codes, Option, Some, None, ok_or, Result, Ok, Err, nat_lt, refl, sym, ◌∙◌, ap, arith, subst, ⊎_elim}
 use Rattle.std.specs.List.{list_all, list_any, prefix_len}
 use Rattle.std.specs.Option.{option_or, option_map, option_map_or}

@@ -1,4 +1,4 @@
--- Frame rules, as they are handed on.
+-- Frame rules, as they are handed on; for `put_rule`, `put_target`.
 use Rattle.std.proofs.Common.{◌≡◌, ℕ, List, [], ◌∷◌, ◌++◌, Option, Result, Ok, Err, subst}
 use Rattle.std.specs.List.{flat_map}
 use Rattle.sym_rules.proofs.BufferLemmas.{hands_both, hands_off}

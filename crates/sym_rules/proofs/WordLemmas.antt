@@ -1,4 +1,4 @@
--- The words of a line, and the groups of words.
+-- The words of a line, and the groups of words; for the lemmas of LengthLemmas, RuleLemmas, RuleListLemmas, RuleSoundLemmas.
 use Rattle.std.proofs.Common.{◌≡◌, ℕ, ◌==◌, ◌||◌, cond, Bool, true, false, not, List, [], ◌∷◌, ◌++◌, Result, Ok, refl, sym, ◌∙◌, ap, map}
 use Rattle.std.specs.List.{list_all, flat_map}
 use Rattle.sym_rules.proofs.BoolLemmas.{and_true, both, not_true, not_false, elim_bool, bind_ok}

@@ -2,7 +2,6 @@
 //! starts. So digits stand where they belong as they are found, and a line needs no second buffer.
 ghost use Rattle.std.specs.Prelude.{◌≡◌, ◌+◌, ◌<◌, ◌≤◌, [], ◌∷◌, ◌++◌, false, length, drop};
 ghost use Rattle.std.specs.Fmt.{decimal, signed_decimal, digits};
-ghost use Rattle.sym_edges.specs.Abi.{register_name};
 
 use itoa::write_digits;
 
@@ -95,35 +94,4 @@ pub fn write_signed(number: i64, line: &mut [u8], end: usize) -> usize
         return start;
     }
     write_byte(b'-', line, start)
-}
-
-/// Writes the name of a register by its DWARF number; from 16 on there is none.
-#[inline]
-#[tactic(auto, unfolding(sym_edges::specs::Abi::register_name, sym_edges::specs::Abi::register_names))]
-pub fn write_register(number: u8, line: &mut [u8], end: usize) -> usize
-    requires room { 4 ≤ end }
-    requires within { end ≤ length line.old }
-    ensures below { result ≤ end }
-    ensures short { end ≤ result + 4 }
-    ensures written { drop result line.new ≡ register_name number ++ drop end line.old }
-{
-    match number {
-        0 => write_bytes(b"$rax", line, end),
-        1 => write_bytes(b"$rdx", line, end),
-        2 => write_bytes(b"$rcx", line, end),
-        3 => write_bytes(b"$rbx", line, end),
-        4 => write_bytes(b"$rsi", line, end),
-        5 => write_bytes(b"$rdi", line, end),
-        6 => write_bytes(b"$rbp", line, end),
-        7 => write_bytes(b"$rsp", line, end),
-        8 => write_bytes(b"$r8", line, end),
-        9 => write_bytes(b"$r9", line, end),
-        10 => write_bytes(b"$r10", line, end),
-        11 => write_bytes(b"$r11", line, end),
-        12 => write_bytes(b"$r12", line, end),
-        13 => write_bytes(b"$r13", line, end),
-        14 => write_bytes(b"$r14", line, end),
-        15 => write_bytes(b"$r15", line, end),
-        _ => end,
-    }
 }

@@ -1,3 +1,4 @@
+//! Rules, their targets and their words.
 ghost use Rattle.std.specs.Prelude.{◌≡◌, ◌==◌, [], ◌∷◌, length, slice_get, IfOk};
 ghost use Rattle.std.specs.Option.{option_copied};
 

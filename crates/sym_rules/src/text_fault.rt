@@ -1,3 +1,5 @@
+//! What may be wrong with a text that has rules.
+
 /// What is wrong with a line of a symbol file, in the order of the kinds' numbers.
 #[derive(Clone, Copy, Debug, PartialEq, Eq)]
 pub enum TextKind {

@@ -1,3 +1,4 @@
+//! Which rules a text can spell.
 ghost use Rattle.std.specs.Prelude.{◌≡◌, ◌==◌};
 ghost use Rattle.std.specs.List.{list_all, list_any};
 ghost use Rattle.std.specs.Str.{bytes_eq};
@@ -6,8 +7,8 @@ ghost use Rattle.sym_edges.specs.Abi.{register_names};
 ghost use Rattle.sym_rules.specs.RuleReading.{begins_symbol, is_symbol};
 ghost use Rattle.sym_rules.specs.RuleValidity.{is_other, target_names, token_names, is_target, is_token, is_rule, ends_in_cr, end_in_cr, are_rules};
 
+use crate::registers::register_name;
 use crate::rules::{RuleText, Target, Token};
-use crate::words::register_name;
 
 /// Whether the bytes have no space and no end of a line among them.
 pub fn are_unparted(bytes: &[u8]) -> bool

@@ -1,3 +1,4 @@
+//! The buffer in front of a sink.
 ghost use Rattle.std.specs.Prelude.{◌≡◌, ◌+◌, ◌≤◌, [], ◌++◌, length};
 
 use std::marker::Model;

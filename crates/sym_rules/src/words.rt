@@ -1,36 +1,11 @@
+//! The words of rules, and how long rules are.
 ghost use Rattle.std.specs.Prelude.{◌≡◌, ◌^◌, ◌-◌, min, length};
 ghost use Rattle.std.specs.List.{flat_map};
-ghost use Rattle.sym_edges.specs.Abi.{register_name};
 ghost use Rattle.sym_rules.specs.Rules.{target_name, token_word, spelled_token, spelled_rule, spelled_rules};
 
+use crate::registers::register_name;
 use crate::rules::{RuleText, Target, Token};
 use itoa::Buffer;
-
-/// The name of a register by its DWARF number; from 16 on there is none.
-#[tactic(auto, unfolding(sym_edges::specs::Abi::register_name, sym_edges::specs::Abi::register_names))]
-pub(crate) fn register_name(number: u8) -> &'static [u8]
-    ensures { result.now ≡ register_name number }
-{
-    match number {
-        0 => b"$rax",
-        1 => b"$rdx",
-        2 => b"$rcx",
-        3 => b"$rbx",
-        4 => b"$rsi",
-        5 => b"$rdi",
-        6 => b"$rbp",
-        7 => b"$rsp",
-        8 => b"$r8",
-        9 => b"$r9",
-        10 => b"$r10",
-        11 => b"$r11",
-        12 => b"$r12",
-        13 => b"$r13",
-        14 => b"$r14",
-        15 => b"$r15",
-        _ => b"",
-    }
-}
 
 pub(crate) fn target_name(target: &Target) -> &[u8]
     ensures { result.now ≡ target_name target.now }

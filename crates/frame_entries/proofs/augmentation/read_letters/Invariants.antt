@@ -1,7 +1,7 @@
 use Rattle.std.proofs.Common.{◌≡◌, true, drop}
 use Rattle.frame_entries.specs.Listing.{from_start}
 use Rattle.frame_entries.specs.Cies.{letters_at}
-use Rattle.frame_entries.specs.KnownEncodings.{LastIsRead}
+use Rattle.frame_entries.specs.internal.KnownEncodings.{LastIsRead}
 use Rattle.frame_entries.proofs.augmentation.read_letters.Given as goal
 
 abbrev pub invariant-letters : goal.invariant-letters

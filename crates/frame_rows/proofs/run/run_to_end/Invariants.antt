@@ -5,8 +5,8 @@ use Rattle.frame_rows.proofs.run.run_to_end.Given as goal
 
 abbrev pub invariant-rest : goal.invariant-rest
 invariant-rest l = record {
-  fault : first_fault l.setting (listed_at l.encoding l.base l.cursor) l.machine ≡ first_fault l.setting (listed_at l.encoding l.base l.fn.cursor) l.fn.machine;
-  state : all_stepped l.setting (listed_at l.encoding l.base l.cursor) l.machine ≡ all_stepped l.setting (listed_at l.encoding l.base l.fn.cursor) l.fn.machine;
+  fault : first_fault l.context (listed_at l.encoding l.base l.cursor) l.machine ≡ first_fault l.context (listed_at l.encoding l.base l.fn.cursor) l.fn.machine;
+  state : all_stepped l.context (listed_at l.encoding l.base l.cursor) l.machine ≡ all_stepped l.context (listed_at l.encoding l.base l.fn.cursor) l.fn.machine;
 }
 
 abbrev pub decreases-rest : goal.decreases-rest

@@ -1,7 +1,7 @@
 use Rattle.std.proofs.Common.{take}
 use Rattle.rule_postfix.specs.Written.{Decided, with_entries}
-use Rattle.rule_postfix.specs.Deciding.{Shows}
-use Rattle.rule_postfix.specs.Keeping.{KeptForAll}
+use Rattle.rule_postfix.specs.internal.Deciding.{Shows}
+use Rattle.rule_postfix.specs.internal.Keeping.{KeptForAll}
 use Rattle.rule_postfix.proofs.all.put_entries.Given as goal
 
 abbrev pub invariant-entries : goal.invariant-entries

@@ -1,7 +1,7 @@
 use Rattle.std.proofs.Common.{◌≡◌, ◌≤◌, ◌+◌, ◌*◌, ◌-◌, ◌++◌, false, drop}
 use Rattle.sym_rules.specs.Rules.{spelled_rules}
 use Rattle.rule_postfix.specs.RowRules.{rules_of, if_changed}
-use Rattle.rule_postfix.specs.Backward.{registers_from, some_unspecified_from}
+use Rattle.rule_postfix.specs.internal.Backward.{registers_from, some_unspecified_from}
 use Rattle.rule_postfix.proofs.rules.write_registers.Given as goal
 
 abbrev pub invariant-turns : goal.invariant-turns

@@ -6,7 +6,7 @@ use Rattle.frame_rows.proofs.cie_state.CieState.into_begun.Goals as goal
 
 pub unreachable-requires : goal.unreachable-requires
 unreachable-requires c =
-    no_row_left c.args.fde.now c.in-Ok.left _ (left_good c.args.fde.now c.in-Ok.left (sym c.requires ∙ sym c.self.view_is ∙ c.in-Ok.is)) (ap (λ (l : Left). l.setting.initial) c.left.view_is) c.in-None.is
+    no_row_left c.args.fde.now c.in-Ok.left _ (left_good c.args.fde.now c.in-Ok.left (sym c.requires ∙ sym c.self.view_is ∙ c.in-Ok.is)) (ap (λ (l : Left). l.context.initial) c.left.view_is) c.in-None.is
 
 pub returns-in_ok-new-in-Some-clause-fault : goal.returns-in_ok-new-in-Some-clause-fault
 returns-in_ok-new-in-Some-clause-fault c = (left_good c.args.fde.now c.in-Ok.left (sym c.requires ∙ sym c.self.view_is ∙ c.in-Ok.is)).fault
@@ -14,11 +14,11 @@ returns-in_ok-new-in-Some-clause-fault c = (left_good c.args.fde.now c.in-Ok.lef
 pub returns-in_ok-new-in-Some-clause-machine : goal.returns-in_ok-new-in-Some-clause-machine
 returns-in_ok-new-in-Some-clause-machine c =
     begun c.args.fde.now c.in-Ok.left c.with_stack.result _ _ _ _ (left_good c.args.fde.now c.in-Ok.left (sym c.requires ∙ sym c.self.view_is ∙ c.in-Ok.is)) c.with_stack.ensures
-    (ap (λ (e : FdeFields). e.start) c.fde.view_is) (ap (λ (l : Left). l.setting.initial) c.left.view_is) c.in-Some.is (ap (λ (l : Left). l.stack) c.left.view_is)
+    (ap (λ (e : FdeFields). e.start) c.fde.view_is) (ap (λ (l : Left). l.context.initial) c.left.view_is) c.in-Some.is (ap (λ (l : Left). l.stack) c.left.view_is)
 
-pub returns-in_ok-new-in-Some-clause-setting : goal.returns-in_ok-new-in-Some-clause-setting
-returns-in_ok-new-in-Some-clause-setting c =
-    c.in_ok-new-in-Some.ensures.ok ∙ ap (λ (l : Left). l.setting) c.left.view_is ∙ (left_good c.args.fde.now c.in-Ok.left (sym c.requires ∙ sym c.self.view_is ∙ c.in-Ok.is)).setting
+pub returns-in_ok-new-in-Some-clause-context : goal.returns-in_ok-new-in-Some-clause-context
+returns-in_ok-new-in-Some-clause-context c =
+    c.in_ok-new-in-Some.ensures.ok ∙ ap (λ (l : Left). l.context) c.left.view_is ∙ (left_good c.args.fde.now c.in-Ok.left (sym c.requires ∙ sym c.self.view_is ∙ c.in-Ok.is)).context
 
 pub returns-in-Err-clause-fault : goal.returns-in-Err-clause-fault
 returns-in-Err-clause-fault c = left_bad c.args.fde.now c.in-Err.why (sym c.requires ∙ sym c.self.view_is ∙ c.in-Err.is)

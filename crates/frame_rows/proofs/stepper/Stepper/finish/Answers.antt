@@ -1,4 +1,4 @@
-use Rattle.frame_rows.proofs.SteppingLemmas.{ends}
+use Rattle.frame_rows.proofs.StepperLemmas.{ends}
 use Rattle.frame_rows.proofs.stepper.Stepper.finish.Goals as goal
 
 pub returns-in-Ok : goal.returns-in-Ok

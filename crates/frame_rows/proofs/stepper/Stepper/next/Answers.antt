@@ -1,5 +1,5 @@
 use Rattle.std.proofs.Common.{inl, inr, arith}
-use Rattle.frame_rows.proofs.SteppingLemmas.{stays, goes_on}
+use Rattle.frame_rows.proofs.StepperLemmas.{stays, goes_on}
 use Rattle.frame_rows.proofs.stepper.Stepper.next.Goals as goal
 use Rattle.frame_rows.proofs.stepper.Stepper.next.Goals.{then-next-self-via-then-next-self, then-next-self-via-else-next-self+then-self-next}
 

@@ -1,7 +1,0 @@
--- No public clause cites this: where the encoding of each R of an augmentation is one that is read, the last is.
-use Rattle.std.specs.Prelude.{◌≡◌, true}
-use Rattle.frame_entries.specs.declared.augmentation.Encodings.{Encodings}
-use Rattle.frame_entries.specs.Pointers.{is_encoding}
-
-abbrev pub LastIsRead : Encodings → Type 0
-LastIsRead encodings = encodings.known ≡ true → is_encoding encodings.pointer ≡ true

@@ -1,0 +1,6 @@
+-- What serves the functions and loops of the crate alone: no public clause cites it.
+pub mod Backward
+pub mod Deciding
+pub mod Keeping
+pub mod Spelling
+pub mod Writing

@@ -1,0 +1,34 @@
+-- The rules of a record, one behind another, as they are written from the last to the first.
+use Rattle.std.specs.Prelude.{ℕ, ◌-◌, Bool, List, map, Option}
+use Rattle.std.specs.List.{list_any, range_with_len}
+use Rattle.std.specs.Option.{option_to_list}
+use Rattle.frame_rows.specs.declared.row.Row.{Row}
+use Rattle.sym_rules.specs.declared.rules.Target.{Target}
+use Rattle.sym_rules.specs.declared.rules.Target.TheVariants as target
+use Rattle.sym_rules.specs.declared.rules.Token.{Token}
+use Rattle.sym_rules.specs.Rules.{spelled_rules}
+use Rattle.rule_postfix.specs.declared.column_target.ColumnTarget.{ColumnTarget}
+use Rattle.rule_postfix.specs.declared.column_target.ColumnTarget.TheVariants.{Ra, Reg}
+use Rattle.rule_postfix.specs.RowParts.{becomes_unspecified}
+use Rattle.rule_postfix.specs.RowRules.{rule_of}
+
+-- the column of a target, and the target as rules have it
+abbrev pub column_of : ColumnTarget → ℕ
+column_of Ra = 16
+column_of (Reg number) = number
+
+abbrev pub target_of : ColumnTarget → Target
+target_of Ra = target.Ra
+target_of (Reg number) = target.Reg number
+
+-- the rule of a target, where it has tokens
+unfoldable pub rule_text : Target → Option (List Token) → List ℕ
+rule_text t tokens = spelled_rules (option_to_list (rule_of t tokens))
+
+-- the registers from one on
+unfoldable pub registers_from : ℕ → List Target
+registers_from n = map target.Reg (range_with_len n (16 - n))
+
+-- one of these becomes unspecified
+unfoldable pub some_unspecified_from : Row → Row → ℕ → Bool
+some_unspecified_from before after n = list_any (becomes_unspecified before after) (range_with_len n (16 - n))
