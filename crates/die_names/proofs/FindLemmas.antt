@@ -8,7 +8,7 @@ use Rattle.sym_edges.specs.Rising.{RisesFrom}
 use Rattle.sym_edges.proofs.RisingLemmas.{ordered_by}
 use Rattle.die_walk.specs.EntryTable.{DieFields}
 use Rattle.die_names.specs.UnitEntries.{Placed, unit_entries}
-use Rattle.die_names.specs.Finding.{is_at, found_in, Before}
+use Rattle.die_names.specs.internal.Finding.{is_at, found_in, Before}
 
 abbrev pub dies_places : List DieFields → List ℕ
 dies_places dies = map (λ (d : DieFields). d.at) dies

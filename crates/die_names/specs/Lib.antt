@@ -4,6 +4,4 @@ pub mod Names
 pub mod NameRefs
 pub mod Owners
 pub mod KeptNames
-pub mod Finding
-pub mod Following
-pub mod Gathering
+pub mod internal

@@ -24,12 +24,11 @@ use Rattle.sym_lookup.specs.Plain.{ArePlain}
 use Rattle.sym_lookup.specs.Findings.{are_sized}
 use Rattle.die_walk.specs.EntryTable.{DieFields}
 use Rattle.die_names.specs.declared.unit_read.UnitRead.{UnitRead}
-use Rattle.die_names.specs.UnitEntries.{is_function}
+use Rattle.die_walk.specs.EntryKinds.{is_function}
 use Rattle.die_names.specs.Owners.{Covering, unit_covering, covering_from, owner}
 use Rattle.rule_postfix.specs.Written.{omitted, written, written_lines}
 use Rattle.rule_postfix.specs.Covering.{inits_at, entries_at, AreDisjoint, AreNested}
 use Rattle.rule_postfix.specs.declared.omission.Omission.{Omission}
-use Rattle.func_flatten.specs.declared.piece.Place.{Place}
 use Rattle.func_flatten.specs.declared.piece.Piece.{Piece}
 use Rattle.func_flatten.specs.Pieces.{place_of, owner_place, piece_run, ArePieces}
 use Rattle.func_flatten.specs.Publics.{PublicParts, publics}

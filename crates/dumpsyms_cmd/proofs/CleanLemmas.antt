@@ -36,7 +36,7 @@ use Rattle.debug_read.specs.Each.{each_of, Match}
 use Rattle.debug_read.specs.ImageSections.{sections_of}
 use Rattle.debug_read.specs.UnitSays.{UnitSays, lines_by, root_lines, unit_says}
 use Rattle.debug_read.specs.UnitsRead.{IsUnitRead, KeepsLines, has_function}
-use Rattle.func_records.specs.Spelling.{AreClean}
+use Rattle.func_records.specs.Adding.{AreClean}
 use Rattle.func_records.specs.Adding.{HaveCleanPaths}
 use Rattle.clean_names.proofs.CleanLemmas.{cleaned_again}
 

@@ -1,5 +1,6 @@
 -- What is added to a text: the records of functions and their lines.
 use Rattle.std.specs.Prelude.{◌≡◌, ℕ, ◌^◌, List, [], ◌∷◌, ◌++◌, None}
+use Rattle.clean_names.specs.Cleaning.{cleaned}
 use Rattle.sym_records.specs.Canon.{canon_text}
 use Rattle.sym_records.specs.Validity.{first_bad_from}
 use Rattle.sym_records.specs.declared.place.Place.TheVariants.{Inside}
@@ -7,7 +8,11 @@ use Rattle.sym_records.specs.declared.line.SymLine.{SymLine}
 use Rattle.die_names.specs.declared.unit_read.UnitRead.{UnitRead}
 use Rattle.func_flatten.specs.declared.piece.Piece.{Piece}
 use Rattle.func_records.specs.FuncRecords.{AreFuncRecords, EndBelow}
-use Rattle.func_records.specs.Spelling.{AreClean}
+
+-- cleaning does not change the texts
+abbrev pub AreClean : List (List ℕ) → Type 0
+AreClean [] = Prim.Unit {0}
+AreClean (path ∷ paths) = (cleaned path ≡ path) × AreClean paths
 
 -- the paths of all line tables are cleaned
 abbrev pub HaveCleanPaths : List UnitRead → Type 0

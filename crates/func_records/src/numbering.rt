@@ -6,9 +6,9 @@ ghost use Rattle.sym_records.specs.Spelled.{text_bytes};
 ghost use Rattle.sym_records.specs.Validity.{fields_fit, first_bad_from};
 ghost use Rattle.sym_records.specs.declared.place.Place.TheVariants.{Inside};
 ghost use Rattle.func_records.specs.FuncRecords.{numbered_lines};
-ghost use Rattle.func_records.specs.Gathering.{bytes_of};
-ghost use Rattle.func_records.specs.Numbering.{numbered};
-ghost use Rattle.func_records.specs.Spelling.{AreClean};
+ghost use Rattle.func_records.specs.internal.Gathering.{bytes_of};
+ghost use Rattle.func_records.specs.internal.Numbering.{numbered};
+ghost use Rattle.func_records.specs.Adding.{AreClean};
 
 use std::alloc::Global;
 use sym_edges::OutOfMemory;
