@@ -7,7 +7,7 @@ use Rattle.abbrev_units.specs.declared.unit.UnitPart.TheVariants.{Read, Passed, 
 use Rattle.abbrev_units.specs.Units.{units_in}
 use Rattle.die_names.specs.UnitPlaces.{BodyInside, Follow, with_read, read_units}
 use Rattle.die_names.proofs.UnitLemmas.{units_follow}
-use Rattle.debug_read.specs.Jobs.{IsInside}
+use Rattle.debug_read.specs.internal.Jobs.{IsInside}
 
 -- the units of a section are read where they stand, and are no more than its bytes
 inside_by : (unit : Unit) (which : UnitPart) (later : List Unit) (high : ℕ) → BodyInside unit which → unit.end ≤ high → AllByRecursion (IsInside high) later → AllByRecursion (IsInside high) (with_read unit which later)

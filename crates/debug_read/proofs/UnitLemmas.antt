@@ -9,11 +9,12 @@ use Rattle.abbrev_units.specs.declared.unit.Unit.{Unit}
 use Rattle.abbrev_units.specs.DebugSections.{DebugSections}
 use Rattle.abbrev_units.specs.Abbreviations.{abbrevs_of}
 use Rattle.die_walk.specs.EntryTable.{DieFields, RootFields, EntryTable, entry_table}
-use Rattle.range_lists.specs.EntryRanges.{unit_base, pairs_of, in_ranges, counts as range_counts}
+use Rattle.range_lists.specs.EntryRanges.{unit_base, pairs_of, in_ranges}
 use Rattle.line_program.specs.LineAt.{Lines}
 use Rattle.line_program.specs.LineMaps.{LineMap}
 use Rattle.die_names.specs.declared.unit_read.UnitRead.{UnitRead}
-use Rattle.die_names.specs.UnitEntries.{counts, is_function, is_inlined, ArePaired, ArePairs}
+use Rattle.die_walk.specs.EntryKinds.{counts}
+use Rattle.die_names.specs.UnitEntries.{ArePaired, ArePairs}
 use Rattle.die_names.specs.UnitPlaces.{RisesTo, IsTable, AreTables}
 use Rattle.die_names.proofs.PlaceLemmas.{places_rise}
 use Rattle.debug_read.specs.Each.{each_of, Match, Says}
@@ -81,7 +82,7 @@ plain_by spans set true given plain says = absurd (grind (arith, plain))
 plain_by spans set false given plain says = no_address set says.canonical says.each
 
 plain_entry : (sections : DebugSections) (unit : Unit) (root : RootFields) (base : ℕ) (spans set : List Range) (die : DieFields) → Says (IsSet spans) (pairs_of sections unit root base die) set → counts die ≡ false → set ≡ []
-unfolding pairs_of range_counts counts is_function is_inlined
+unfolding pairs_of
 plain_entry sections unit root base spans set die says plain = plain_by spans set (counts die) _ plain says
 
 paired : (sections : DebugSections) (unit : Unit) (root : RootFields) (base : ℕ) (spans : List Range) (dies : List DieFields) (sets : List (List Range)) → Says (Match (IsSet spans)) (each_of (pairs_of sections unit root base) dies) sets → ArePaired dies sets

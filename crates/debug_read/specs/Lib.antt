@@ -3,5 +3,4 @@ pub mod ImageSections
 pub mod UnitSays
 pub mod UnitsRead
 pub mod DebugSays
-pub mod Jobs
-pub mod Stops
+pub mod internal

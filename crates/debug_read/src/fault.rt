@@ -1,6 +1,6 @@
 //! Why the debugging information of a file is refused.
 ghost use Rattle.std.specs.Prelude.{◌≡◌};
-ghost use Rattle.debug_read.specs.Stops.{dwarf_stop, frame_stop};
+ghost use Rattle.debug_read.specs.internal.Stops.{dwarf_stop, frame_stop};
 
 use abbrev_units::DwarfFault;
 use frame_entries::FrameFault;

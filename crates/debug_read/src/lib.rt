@@ -20,21 +20,17 @@
 //! (`unit_workers`); what they found is then joined in the order of the units. All units are read, also behind one that is
 //! refused.
 //!
-//! To read: `specs/UnitSays.antt`, `UnitsRead.antt` and `DebugSays.antt`; then `unit` with `ranges` and `lines`, `job`, `units`
-//! with `picking` and `joining`, and `reading`.
+//! To read: `specs/UnitSays.antt`, `UnitsRead.antt` and `DebugSays.antt`; then `units` with `ranges` and `lines`, and
+//! `reading`.
 #![tactic(auto)]
 
 mod fault;
 mod found;
-mod job;
-mod joining;
 pub mod laws;
 mod lines;
-mod picking;
 mod ranges;
 mod reading;
 mod sections;
-mod unit;
 mod units;
 
 pub use crate::fault::DebugFault;

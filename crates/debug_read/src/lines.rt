@@ -6,7 +6,6 @@ ghost use Rattle.sym_edges.specs.Outside.{MatchStop};
 ghost use Rattle.range_set.specs.Enclosing.{encloses};
 ghost use Rattle.line_program.specs.LineMaps.{EncloseAlike};
 ghost use Rattle.line_program.specs.LineTables.{unit_lines, Says as SaysTable};
-ghost use Rattle.die_names.specs.UnitEntries.{is_function};
 ghost use Rattle.debug_read.specs.Each.{Says};
 ghost use Rattle.debug_read.specs.UnitSays.{root_lines};
 ghost use Rattle.debug_read.specs.UnitsRead.{has_function, no_lines, KeepsLines};
@@ -18,21 +17,11 @@ use range_set::Enclosing;
 use std::alloc::Global;
 use sym_edges::Stop;
 
-const DW_TAG_subprogram: u64 = 0x2e;
-
-/// Whether an entry is a function that is not only declared.
-#[tactic(auto, unfolding(die_names::specs::UnitEntries::is_function))]
-fn is_function(die: &Die<'_>) -> bool
-    ensures { result ≡ is_function die.now }
-{
-    die.tag() == DW_TAG_subprogram && !die.declaration()
-}
-
 #[tactic(auto, unfolding(crate::specs::UnitsRead::has_function))]
 fn has_function(dies: &[Die<'_>]) -> bool
     ensures { result ≡ has_function dies.now }
 {
-    dies.iter().any(|die| is_function(die))
+    dies.iter().any(|die| die.is_function())
 }
 
 /// The directory of the compilation, or the empty text.

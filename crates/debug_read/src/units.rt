@@ -1,23 +1,171 @@
-//! All units, by the workers.
-ghost use Rattle.std.specs.Prelude.{◌≡◌, ◌≤◌, ◌^◌, length, Ok, Err, IfOk};
+//! The units that are read, each by a worker, and joined in their order.
+ghost use Rattle.std.specs.Prelude.{◌≡◌, [], ◌++◌, OnOk, IfOk, ◌≤◌, ◌^◌, length, List, slice_get, Err, Ok};
+ghost use Rattle.die_names.specs.UnitPlaces.{with_read, read_units};
+ghost use Rattle.sym_edges.specs.Addresses.{Range};
 ghost use Rattle.sym_edges.specs.Outside.{MatchStop};
-ghost use Rattle.abbrev_units.specs.Units.{units_in};
-ghost use Rattle.die_names.specs.UnitPlaces.{read_units};
-ghost use Rattle.debug_read.specs.Each.{each_of, Match, Says};
+ghost use Rattle.line_program.specs.LineMaps.{EncloseAlike};
+ghost use Rattle.debug_read.specs.Each.{Says, each_of, Match};
 ghost use Rattle.debug_read.specs.UnitSays.{unit_says};
 ghost use Rattle.debug_read.specs.UnitsRead.{IsUnitRead};
-ghost use Rattle.debug_read.specs.Jobs.{IsFound};
+ghost use Rattle.debug_read.specs.internal.Jobs.{IsInside, IsReader, ReaderGives, IsFound};
+ghost use Rattle.abbrev_units.specs.Units.{units_in};
 
-use crate::job::Reading;
-use crate::joining::join_units;
-use crate::picking::pick_read;
-use abbrev_units::{DwarfFault, Sections, Unit};
+use crate::lines::read_unit_lines;
+use crate::ranges::read_sets;
+use abbrev_units::{DwarfFault, Sections, Unit, UnitPart, read_abbrevs};
 use die_names::{UnitRead, Units};
+use die_walk::walk;
+use range_lists::laws::code_by_what_it_encloses;
+use range_lists::unit_base;
 use range_set::Enclosing;
 use std::alloc::Global;
+use std::marker::Model;
 use std::thread::Threads;
 use sym_edges::{OutOfMemory, Span, Stop};
-use unit_workers::{Gate, run_all};
+use unit_workers::{Gate, UnitJob, run_all};
+
+/// Adds a unit that is read.
+fn add_read(read: &mut Vec<Unit>, unit: &Unit) -> Result<(), OutOfMemory>
+    ensures { OnOk result (read.new.items ≡ read.old.items ++ with_read unit.now unit.now.part []) }
+{
+    match unit.part {
+        UnitPart::Read => read.push(*unit)?,
+        UnitPart::Passed | UnitPart::Skipped => {}
+    }
+    Ok(())
+}
+
+/// The units that are read, in their order.
+fn pick_read(alloc: Global, units: &[Unit]) -> Result<Vec<Unit>, OutOfMemory>
+    ensures { IfOk result (λ read. read.items ≡ read_units units.now) }
+{
+    let mut read = Vec::new(alloc);
+    'units: for unit in units {
+        add_read(&mut read, unit)?;
+    }
+    Ok(read)
+}
+
+/// Reads a unit: its abbreviations, its entries, the base of its range lists, the ranges entry by entry, its line table.
+#[tactic(auto, unfolding(crate::specs::UnitSays::unit_says))]
+fn read_unit<'a>(
+    alloc: Global,
+    sections: &Sections<'a>,
+    unit: &Unit,
+    code: &Enclosing,
+) -> Result<UnitRead<'a>, Stop<DwarfFault>>
+    requires inside { IsInside (length sections.now.info) unit.now }
+    requires small { length sections.now.info ≤ 2 ^ 29 }
+    ensures { MatchStop result
+        (λ part. (spans : List Range) → EncloseAlike code.now spans → Says (IsUnitRead spans) (unit_says sections.now unit.now) part)
+        (λ fault. unit_says sections.now unit.now ≡ Err fault)
+        (Prim.Unit {0}) }
+{
+    code_by_what_it_encloses();
+    let abbrevs = match read_abbrevs(alloc, sections, unit) {
+        Ok(abbrevs) => abbrevs,
+        Err(stop) => return Err(stop),
+    };
+    let die = match walk(alloc, sections, unit, &abbrevs) {
+        Ok(die) => die,
+        Err(stop) => return Err(stop),
+    };
+    let base = match unit_base(sections, unit, &die) {
+        Ok(base) => base,
+        Err(fault) => return Err(Stop::Fault(fault)),
+    };
+    let spans = match read_sets(alloc, sections, unit, &die, base, code) {
+        Ok(spans) => spans,
+        Err(stop) => return Err(stop),
+    };
+    let lines = match read_unit_lines(alloc, sections, &die, code) {
+        Ok(lines) => lines,
+        Err(stop) => return Err(stop),
+    };
+    Ok(UnitRead { die, spans, lines })
+}
+
+/// The units that are to be read, of these sections; ranges that `code` encloses are code.
+#[derive(Drop)]
+struct UnitReader<'s, 'a> {
+    sections: &'s Sections<'a>,
+    units: &'s [Unit],
+    code: &'s Enclosing,
+}
+
+impl<'s, 'a> Model for UnitReader<'s, 'a> {
+    ghost use Rattle.debug_read.specs.internal.Jobs.{ReaderParts, IsReader};
+
+    ghost Value = { ReaderParts };
+
+    ghost view = { λ r. record { sections = r.sections.now; units = r.units.now; code = r.code.now } };
+
+    ghost invariant = { λ r. IsReader (record { sections = r.sections.now; units = r.units.now; code = r.code.now }) };
+}
+
+impl<'s, 'a> UnitReader<'s, 'a> {
+    fn of(sections: &'s Sections<'a>, units: &'s [Unit], code: &'s Enclosing) -> UnitReader<'s, 'a>
+        requires { IsReader (record { sections = sections.now; units = units.now; code = code.now }) }
+        ensures { result ≡ record { sections = sections.now; units = units.now; code = code.now } }
+    {
+        UnitReader {
+            sections,
+            units,
+            code,
+        }
+    }
+}
+
+impl<'s, 'a> UnitJob for UnitReader<'s, 'a> {
+    type Out = Result<UnitRead<'a>, DwarfFault>;
+
+    type Scratch = ();
+
+    ghost gives = { λ reader k out. ReaderGives reader (slice_get reader.units k) out };
+
+    fn scratch(&self, _alloc: Global) -> Result<(), OutOfMemory> {
+        Ok(())
+    }
+
+    /// A number behind the last unit, which no worker draws, has no result.
+    fn run(
+        &self,
+        alloc: Global,
+        k: usize,
+        _scratch: &mut (),
+    ) -> Result<Result<UnitRead<'a>, DwarfFault>, OutOfMemory> {
+        let Some(unit) = self.units.get(k) else {
+            return Err(OutOfMemory);
+        };
+        match read_unit(alloc, self.sections, unit, self.code) {
+            Ok(part) => Ok(Ok(part)),
+            Err(Stop::Fault(fault)) => Ok(Err(fault)),
+            Err(Stop::NoMemory) => Err(OutOfMemory),
+        }
+    }
+}
+
+/// All units, or the fault of the first one that has one.
+fn join_units<'a>(
+    alloc: Global,
+    found: Vec<Result<UnitRead<'a>, DwarfFault>>,
+) -> Result<Vec<UnitRead<'a>>, Stop<DwarfFault>>
+    ensures { MatchStop result
+        (λ parts. Says (Match (λ part read. part ≡ read)) (each_of (λ one. one) found.entry.items) parts.items)
+        (λ fault. each_of (λ one. one) found.entry.items ≡ Err fault)
+        (Prim.Unit {0}) }
+{
+    let mut left = found;
+    left.reverse();
+    let mut parts = Vec::with_capacity(alloc, left.len())?;
+    'units: while let Some(one) = left.pop() {
+        match one {
+            Ok(part) => parts.push(part)?,
+            Err(fault) => return Err(Stop::Fault(fault)),
+        }
+    }
+    Ok(parts)
+}
 
 /// What the workers find, unit by unit.
 fn find_all<'a, R: Threads + Sync, G: Gate + Sync>(
@@ -36,7 +184,7 @@ fn find_all<'a, R: Threads + Sync, G: Gate + Sync>(
 {
     let code = Enclosing::of_spans(alloc, code)?;
     let read = pick_read(alloc, headers)?;
-    let job = Reading::of(sections, read.as_slice(), &code);
+    let job = UnitReader::of(sections, read.as_slice(), &code);
     let found = run_all(rt, alloc, &job, gate, read.len(), workers)?;
     Ok(found)
 }

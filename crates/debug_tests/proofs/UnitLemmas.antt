@@ -5,7 +5,8 @@ use Rattle.sym_edges.specs.Addresses.{Range}
 use Rattle.sym_edges.specs.Rising.{RisesFrom}
 use Rattle.die_walk.specs.EntryTable.{DieFields}
 use Rattle.die_names.specs.declared.unit_read.UnitRead.{UnitRead}
-use Rattle.die_names.specs.UnitEntries.{counts, places, ArePaired, AreRead}
+use Rattle.die_walk.specs.EntryKinds.{counts}
+use Rattle.die_names.specs.UnitEntries.{places, ArePaired, AreRead}
 
 length_at : (dies : List DieFields) → length (map (λ die. die.at) dies) ≡ length dies
 length_at [] = refl

@@ -3,7 +3,8 @@
 ghost use Rattle.std.specs.Prelude.{◌≡◌, ℕ, ◌<◌, ◌≤◌, ◌^◌, true, false, [], map, length, IfOk};
 ghost use Rattle.sym_edges.specs.Rising.{RisesFrom};
 ghost use Rattle.die_walk.specs.EntryTable.{DieFields};
-ghost use Rattle.die_names.specs.UnitEntries.{ArePaired, counts};
+ghost use Rattle.die_walk.specs.EntryKinds.{counts};
+ghost use Rattle.die_names.specs.UnitEntries.{ArePaired};
 
 use crate::comparing::expect;
 use crate::elf_files::{file_with, put_function};
@@ -54,7 +55,7 @@ fn do_rise(dies: &[Die<'_>], low: u64) -> bool
 }
 
 /// The addresses of an entry: so many from a start on, where it is a function.
-#[tactic(auto, unfolding(die_names::specs::UnitEntries::counts, die_names::specs::UnitEntries::is_function))]
+#[tactic(auto, unfolding(die_walk::specs::EntryKinds::counts, die_walk::specs::EntryKinds::is_function))]
 fn set_of(die: &Die<'_>, start: u64) -> RangeSet
     requires { start < 2 ^ 63 }
     ensures { counts die.now ≡ false → result ≡ [] }

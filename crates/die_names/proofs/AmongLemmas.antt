@@ -12,7 +12,7 @@ use Rattle.die_walk.specs.EntryTable.{DieFields}
 use Rattle.die_names.specs.declared.finding.Standing.{Standing}
 use Rattle.die_names.specs.declared.unit_read.UnitRead.{UnitRead}
 use Rattle.die_names.specs.UnitEntries.{Placed, unit_entries, entries_from, entry_in, entry_at, entry_of, places}
-use Rattle.die_names.specs.Finding.{is_at, found_in, found_from, found, moved, die_count, IsInside}
+use Rattle.die_names.specs.internal.Finding.{is_at, found_in, found_from, found, moved, die_count, IsInside}
 use Rattle.die_names.proofs.FindLemmas.{dies_places}
 
 abbrev pub among : ℕ → ℕ → List UnitRead → Option Placed
@@ -298,7 +298,11 @@ rises_in_part units left part rest half h rises = rises_left 0 (dies_places part
 pub rises_in_rest : (units left : List UnitRead) (part : UnitRead) (rest : List UnitRead) (half : ℕ) → Halves units left part rest half → RisesFrom 0 (places units) → RisesFrom 0 (places rest)
 rises_in_rest units left part rest half h rises = rises_right 0 (dies_places part.die.dies) (places rest) (rises_behind units left part rest half h rises)
 
-pub found_is : (place : ℕ) (units : List UnitRead) (r : Option Standing) → found_from 0 units r ≡ among place 0 units → found units r ≡ entry_at units place
+-- what was found, by its numbers alone
+pub found_none : (place : ℕ) (units : List UnitRead) (r : Option Standing) → r ≡ None → found_from 0 units r ≡ among place 0 units → None ≡ entry_at units place
+unfolding entry_at
+found_none place units r none is = sym (ap (found_from 0 units) none) ∙ is
+
+pub found_some : (place : ℕ) (units : List UnitRead) (s : Standing) → found_from 0 units (Some s) ≡ among place 0 units → found units (Some (record { unit = s.unit; entry = s.entry })) ≡ entry_at units place
 unfolding entry_at entry_of
-found_is place units None is = is
-found_is place units (Some s) is = ap (λ n. entry_in n s.entry (slice_get units s.unit)) (omega arith) ∙ is
+found_some place units s is = ap (λ n. entry_in n s.entry (slice_get units s.unit)) (omega arith) ∙ is

@@ -5,8 +5,9 @@ use Rattle.std.specs.Option.{option_map_or}
 use Rattle.std.proofs.lemmas.Bool.{cond-true, cond-false, eq-eqb, ne_eqb, cases_lt}
 use Rattle.std.proofs.lemmas.List.{append_assoc}
 use Rattle.die_walk.specs.EntryTable.{DieFields}
-use Rattle.die_names.specs.Names.{around, is_scope, scope_front, front_at, fronts}
-use Rattle.die_names.specs.Gathering.{is_scope_at}
+use Rattle.die_walk.specs.EntryKinds.{is_scope}
+use Rattle.die_names.specs.Names.{around, scope_front, front_at, fronts}
+use Rattle.die_names.specs.internal.Gathering.{is_scope_at}
 
 around_none : (dies : List DieFields) (limit : ℕ) → around dies limit None ≡ []
 unfolding around

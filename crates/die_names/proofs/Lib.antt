@@ -5,6 +5,7 @@ mod NameLemmas
 mod JoinLemmas
 pub mod TextLemmas
 pub mod Computing
+pub mod MadeUnits
 mod WorkedNames
 pub mod PlaceLemmas
 pub mod UnitLemmas

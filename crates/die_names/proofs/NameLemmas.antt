@@ -13,8 +13,8 @@ use Rattle.die_names.specs.declared.unit_read.UnitRead.{UnitRead}
 use Rattle.die_names.specs.UnitEntries.{Placed, unit_entries, entries_from, entry_in, entry_at, entry_of}
 use Rattle.die_names.specs.Names.{way, linked_from, link_of, front_of, first_linkage, first_joined, entry_name}
 use Rattle.die_names.specs.NameRefs.{name_at, has_linkage, has_name, joined_or, linkage_or, name_ref, bytes_by, name_bytes}
-use Rattle.die_names.specs.Finding.{is_at}
-use Rattle.die_names.specs.Following.{is_omitted, noted, followed}
+use Rattle.die_names.specs.internal.Finding.{is_at}
+use Rattle.die_names.specs.internal.Following.{is_omitted, noted, followed}
 
 -- once an entry with a name has come
 named_by : (best : NameRef) (p : Placed) (rest : List Placed) (has : Bool) → has_linkage p ≡ has → followed (noted best p) rest ≡ linkage_or best (find has_linkage rest) → followed best (p ∷ rest) ≡ linkage_or best (find has_linkage (p ∷ rest))

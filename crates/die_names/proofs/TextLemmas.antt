@@ -9,9 +9,10 @@ use Rattle.die_names.specs.declared.naming.How.TheVariants.{Linkage, Joined, Omi
 use Rattle.die_names.specs.declared.naming.NameRef.{NameRef}
 use Rattle.die_names.specs.declared.unit_read.UnitRead.{UnitRead}
 use Rattle.die_names.specs.UnitEntries.{Placed, entry_in, entry_of}
-use Rattle.die_names.specs.Names.{around, is_scope, scope_front, front_at, fronts, front_in, front_of, dies_of}
+use Rattle.die_walk.specs.EntryKinds.{is_scope}
+use Rattle.die_names.specs.Names.{around, scope_front, front_at, fronts, front_in, front_of, dies_of}
 use Rattle.die_names.specs.NameRefs.{bytes_by, name_bytes, unless_front, slice_by, name_slice}
-use Rattle.die_names.specs.Gathering.{is_scope_at}
+use Rattle.die_names.specs.internal.Gathering.{is_scope_at}
 
 abbrev omitted_text : List ℕ
 omitted_text = codes "<name omitted>"

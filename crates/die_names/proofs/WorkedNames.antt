@@ -1,34 +1,17 @@
 -- Worked rows: the names of entries.
-use Rattle.std.proofs.Common.{◌≡◌, ℕ, false, List, [], ◌∷◌, map, Option, Some, None, codes, suc, zero, ◌+◌, refl}
+use Rattle.std.proofs.Common.{◌≡◌, ℕ, List, [], ◌∷◌, map, Option, Some, None, codes, suc, zero, ◌+◌, refl}
 use Rattle.die_walk.specs.EntryTable.{DieFields}
 use Rattle.die_names.specs.declared.unit_read.UnitRead.{UnitRead}
 use Rattle.die_names.specs.Names.{entry_name}
 use Rattle.die_names.proofs.Computing.{die_names_computes}
+use Rattle.die_names.proofs.MadeUnits.{bare_entry, bare_unit}
 
 -- an entry by its place, tag and parent, what it is linked to, and its names
 unfoldable die : ℕ → ℕ → Option ℕ → Option ℕ → Option ℕ → Option (List ℕ) → Option (List ℕ) → DieFields
-die at tag parent origin spec name linkage = record {
-  at = at;
-  tag = tag;
-  parent = parent;
-  declaration = false;
-  low = None;
-  high = None;
-  ranges = None;
-  origin = origin;
-  spec = spec;
-  name = name;
-  linkage = linkage;
-  call_file = None;
-  call_line = 0;
-}
+die at tag parent origin spec name linkage = record (bare_entry tag) { at = at; parent = parent; origin = origin; spec = spec; name = name; linkage = linkage }
 
 unfoldable unit : List DieFields → UnitRead
-unit dies = record {
-  die = record { root = record { at = 0; low = None; stmt_list = None; comp_dir = None; str_offsets_base = None; addr_base = None; rnglists_base = None }; dies = dies };
-  spans = map (λ (d : DieFields). []) dies;
-  lines = record { lines = record { stops = []; values = [] }; paths = []; first = 0; files = [] };
-}
+unit dies = bare_unit dies (map (λ (d : DieFields). []) dies)
 
 -- a unit's root, without a name
 unfoldable root : ℕ → DieFields

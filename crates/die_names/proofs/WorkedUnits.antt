@@ -15,6 +15,7 @@ use Rattle.die_names.specs.declared.unit_read.UnitRead.{UnitRead}
 use Rattle.die_names.specs.Names.{entry_name}
 use Rattle.die_names.specs.UnitPlaces.{read_units}
 use Rattle.die_names.proofs.Computing.{die_names_computes}
+use Rattle.die_names.proofs.MadeUnits.{bare_unit}
 
 -- 1: a unit with children. 2: a subprogram by name. 3: one by DW_AT_abstract_origin, DW_FORM_ref_addr. 4: a variable by name.
 -- 5: a lexical block with children. 6: an enumeration with children, by name. 7: a class with children, by name. 8: a subprogram with
@@ -34,11 +35,7 @@ sections info = record {
 }
 
 unfoldable part : EntryTable → UnitRead
-part table = record {
-  die = table;
-  spans = map (λ (d : DieFields). []) table.dies;
-  lines = record { lines = record { stops = []; values = [] }; paths = []; first = 0; files = [] };
-}
+part table = record (bare_unit [] (map (λ (d : DieFields). []) table.dies)) { die = table }
 
 unfoldable parts : DebugSections → List Unit → Result (List UnitRead) (Located DwarfKind)
 parts s [] = Ok []

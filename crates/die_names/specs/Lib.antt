@@ -4,7 +4,5 @@ pub mod Names
 pub mod NameRefs
 pub mod Owners
 pub mod KeptNames
-pub mod Finding
-pub mod Following
-pub mod Gathering
 pub mod CleanPaths
+pub mod internal

@@ -1,9 +1,10 @@
 -- The names of entries (DWARF 5, 2.15 and 3.3.8).
-use Rattle.std.specs.Prelude.{ℕ, zero, suc, ◌==◌, ◌||◌, Bool, false, if◌then◌else◌, List, [], ◌∷◌, ◌++◌, codes, Option, None, Some, unwrap_or, option_and_then}
+use Rattle.std.specs.Prelude.{ℕ, zero, suc, ◌==◌, ◌||◌, false, if◌then◌else◌, List, [], ◌∷◌, ◌++◌, codes, Option, None, Some, unwrap_or, option_and_then}
 use Rattle.std.specs.List.{slice_get}
 use Rattle.std.specs.Option.{option_map, option_map_or}
 use Rattle.clean_names.specs.Cleaning.{cleaned}
 use Rattle.die_walk.specs.Attributes.{or_else}
+use Rattle.die_walk.specs.EntryKinds.{is_scope}
 use Rattle.die_walk.specs.EntryTable.{DieFields}
 use Rattle.die_names.specs.declared.unit_read.UnitRead.{UnitRead}
 use Rattle.die_names.specs.UnitEntries.{Placed, entry_at, entry_of}
@@ -28,10 +29,6 @@ around dies (suc number) parent =
     if option_map_or (λ p. p == number) parent false
     then option_map_or (λ die. number ∷ around dies number die.parent) (slice_get dies number) []
     else around dies number parent
-
--- the tags of scopes: DW_TAG_class_type, DW_TAG_structure_type, DW_TAG_union_type, DW_TAG_namespace
-unfoldable pub is_scope : DieFields → Bool
-is_scope die = die.tag == 0x02 || (die.tag == 0x13 || (die.tag == 0x17 || die.tag == 0x39))
 
 -- what a scope puts in front of a name
 unfoldable pub scope_front : DieFields → List ℕ

@@ -7,7 +7,7 @@ use Rattle.range_set.specs.Members.{holds_any}
 use Rattle.die_walk.specs.EntryTable.{DieFields}
 use Rattle.line_program.specs.LineMaps.{named_line, numbered_line}
 use Rattle.die_names.specs.declared.unit_read.UnitRead.{UnitRead}
-use Rattle.die_names.specs.UnitEntries.{is_function, is_inlined}
+use Rattle.die_walk.specs.EntryKinds.{is_function, is_inlined}
 
 -- an entry with its numbers and its addresses
 pub record Covering : Type 0 where
@@ -44,13 +44,17 @@ chain_from dies a entry (c ∷ later) =
     then c ∷ chain_from dies a c.entry later
     else chain_from dies a entry later
 
-abbrev pub chain_in : ℕ → Covering → Option UnitRead → List Covering
-chain_in a c None = []
-chain_in a c (Some part) = chain_from part.die.dies a c.entry (unit_covering c.unit 0 part.die.dies part.spans)
+abbrev pub chain_by : ℕ → ℕ → ℕ → Option UnitRead → List Covering
+chain_by unit entry a None = []
+chain_by unit entry a (Some part) = chain_from part.die.dies a entry (unit_covering unit 0 part.die.dies part.spans)
+
+-- the same inside of the entry of these numbers
+unfoldable pub entry_chain : List UnitRead → ℕ → ℕ → ℕ → List Covering
+entry_chain units unit entry a = chain_by unit entry a (slice_get units unit)
 
 abbrev pub chain_under : List UnitRead → ℕ → Option Covering → List Covering
 chain_under units a None = []
-chain_under units a (Some c) = chain_in a c (slice_get units c.unit)
+chain_under units a (Some c) = entry_chain units c.unit c.entry a
 
 unfoldable pub chain : List UnitRead → ℕ → List Covering
 chain units a = chain_under units a (owner units a)

@@ -1,10 +1,12 @@
 -- The kept entries of all units that were read.
-use Rattle.std.specs.Prelude.{◌≡◌, ℕ, ◌+◌, ◌<◌, ◌^◌, ◌==◌, ◌&&◌, ◌||◌, not, Bool, false, List, [], ◌∷◌, ◌++◌, map, length, Option, None, Some}
+use Rattle.std.specs.Prelude.{◌≡◌, ℕ, ◌+◌, ◌<◌, ◌^◌, ◌==◌, ◌&&◌, ◌||◌, false, List, [], ◌∷◌, ◌++◌, map, length, Option, None, Some}
 use Rattle.std.specs.List.{find, slice_get}
 use Rattle.std.specs.Option.{option_map}
 use Rattle.sym_edges.specs.Addresses.{Range}
 use Rattle.sym_edges.specs.Rising.{RisesFrom}
+use Rattle.die_walk.specs.EntryKinds.{counts}
 use Rattle.die_walk.specs.EntryTable.{DieFields}
+use Rattle.die_names.specs.declared.unit_read.EntryRef.{EntryRef}
 use Rattle.die_names.specs.declared.unit_read.UnitRead.{UnitRead}
 
 -- an entry with the number of its unit and its own number there
@@ -35,15 +37,13 @@ entry_in unit entry (Some part) = option_map (λ die. record { unit = unit; entr
 unfoldable pub entry_of : List UnitRead → ℕ → ℕ → Option Placed
 entry_of units unit entry = entry_in unit entry (slice_get units unit)
 
--- functions, unless they are only declared, and inlined copies of them (DWARF 5, 3.3): DW_TAG_subprogram, DW_TAG_inlined_subroutine
-unfoldable pub is_function : DieFields → Bool
-is_function die = die.tag == 0x2e && not die.declaration
+-- the entry of these numbers, alone
+abbrev pub die_from : ℕ → Option UnitRead → Option DieFields
+die_from entry None = None
+die_from entry (Some part) = slice_get part.die.dies entry
 
-unfoldable pub is_inlined : DieFields → Bool
-is_inlined die = die.tag == 0x1d
-
-unfoldable pub counts : DieFields → Bool
-counts die = is_function die || is_inlined die
+abbrev pub die_in : List UnitRead → EntryRef → Option DieFields
+die_in units s = die_from s.entry (slice_get units s.unit)
 
 -- each entry has a set of addresses, and those that do not count have none
 abbrev pub ArePaired : List DieFields → List (List Range) → Type 0

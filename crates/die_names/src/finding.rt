@@ -3,13 +3,13 @@ ghost use Rattle.std.specs.Prelude.{◌≡◌, ◌+◌, ◌<◌, ◌^◌, ℕ, m
 ghost use Rattle.std.specs.List.{find};
 ghost use Rattle.sym_edges.specs.Rising.{RisesFrom, StandBelow};
 ghost use Rattle.die_walk.specs.EntryTable.{DieFields};
-ghost use Rattle.die_names.specs.UnitEntries.{places, unit_entries, entries_from, entry_at};
-ghost use Rattle.die_names.specs.Finding.{is_at, found_in, found_from, found, moved, IsInside};
+ghost use Rattle.die_names.specs.UnitEntries.{AreRead, places, unit_entries, entries_from, entry_at};
+ghost use Rattle.die_names.specs.internal.Finding.{is_at, found_in, found_from, found, moved, IsInside};
 
-use crate::unit_read::UnitRead;
+use crate::unit_read::{EntryRef, UnitRead};
 use die_walk::Die;
 
-/// Where an entry stands.
+/// Where an entry stands, as it is looked up.
 #[derive(Clone, Copy, Debug)]
 pub struct Standing {
     pub unit: usize,
@@ -84,9 +84,16 @@ fn find_among(units: &[UnitRead<'_>], place: u64) -> Option<Standing>
 }
 
 /// The entry that begins at a place of `.debug_info`.
-pub(crate) fn find_entry(units: &[UnitRead<'_>], place: u64) -> Option<Standing>
-    requires { RisesFrom 0 (places units.now) }
+#[tactic(auto, using(crate::proofs::AmongLemmas::found_none, crate::proofs::AmongLemmas::found_some, crate::proofs::FollowLemmas::small_unit, crate::proofs::FollowLemmas::small_entry))]
+pub(crate) fn find_entry(units: &[UnitRead<'_>], place: u64) -> Option<EntryRef>
+    requires { AreRead units.now }
     ensures { found units.now result ≡ entry_at units.now place }
 {
-    find_among(units, place)
+    match find_among(units, place) {
+        Some(at) => Some(EntryRef {
+            unit: at.unit as u32,
+            entry: at.entry as u32,
+        }),
+        None => None,
+    }
 }

@@ -4,26 +4,17 @@ ghost use Rattle.std.specs.Option.{option_copied};
 ghost use Rattle.clean_names.specs.Cleaning.{cleaned};
 ghost use Rattle.die_walk.specs.EntryTable.{DieFields};
 ghost use Rattle.std.specs.List.{slice_get, list_any};
-ghost use Rattle.die_names.specs.Names.{around, is_scope, scope_front, front_in};
+ghost use Rattle.die_names.specs.Names.{around, scope_front, front_in};
 ghost use Rattle.die_names.specs.NameRefs.{name_bytes, name_slice};
-ghost use Rattle.die_names.specs.Gathering.{is_scope_at};
+ghost use Rattle.die_names.specs.internal.Gathering.{is_scope_at};
 
-use crate::kept::{NameText, whole_name};
+use crate::kept::{EntryNameText, whole_name};
 use crate::naming::{How, NameRef};
-use crate::unit_read::{UnitRead, Units};
+use crate::unit_read::Units;
+use clean_names::clean;
 use die_walk::Die;
 use std::alloc::Global;
-use sym_edges::OutOfMemory;
-use clean_names::clean;
-use sym_edges::ByteRun;
-
-/// Whether an entry is a scope: a class, a structure, a union or a namespace.
-#[tactic(auto, unfolding(crate::specs::Names::is_scope))]
-fn is_scope(die: &Die<'_>) -> bool
-    ensures { result ≡ is_scope die.now }
-{
-    matches!(die.tag(), 0x02 | 0x13 | 0x17 | 0x39)
-}
+use sym_edges::{ByteRun, OutOfMemory};
 
 /// The entry of a number.
 fn entry_in<'u, 'a>(dies: &'u [Die<'a>], entry: usize) -> Option<&'u Die<'a>>
@@ -32,19 +23,12 @@ fn entry_in<'u, 'a>(dies: &'u [Die<'a>], entry: usize) -> Option<&'u Die<'a>>
     dies.get(entry)
 }
 
-/// What was read of the unit of a number.
-fn part_in<'u, 'a>(units: &'u Units<'a>, unit: usize) -> Option<&'u UnitRead<'a>>
-    ensures { option_copied result ≡ slice_get units.now unit }
-{
-    units.as_slice().get(unit)
-}
-
 /// Adds what an entry puts in front of a name.
 #[tactic(auto, unfolding(crate::specs::Names::scope_front))]
 fn add_front(text: &mut Vec<u8>, die: &Die<'_>) -> Result<(), OutOfMemory>
     ensures { OnOk result (text.new.items ≡ text.old.items ++ scope_front die.now) }
 {
-    if !is_scope(die) {
+    if !die.is_scope() {
         return Ok(());
     }
     text.extend_from_slice(die.name().unwrap_or(b"(anonymous)"))?;
@@ -98,7 +82,7 @@ fn has_scope(dies: &[Die<'_>], entry: usize, parent: Option<u32>) -> bool
         let Some(die) = entry_in(dies, number as usize) else {
             return false;
         };
-        if is_scope(die) {
+        if die.is_scope() {
             return true;
         }
         limit = number as usize;
@@ -134,7 +118,7 @@ fn join(
 pub fn name_slice<'a>(units: &Units<'a>, name: NameRef) -> Option<&'a [u8]>
     ensures { option_copied result ≡ name_slice units.now name }
 {
-    let Some(part) = part_in(units, name.unit as usize) else {
+    let Some(part) = units.unit(name.unit) else {
         return None;
     };
     let dies = part.die.dies();
@@ -162,7 +146,7 @@ fn made_text(alloc: Global, units: &Units<'_>, name: NameRef) -> Result<ByteRun,
     if let Some(bytes) = name_slice(units, name) {
         return clean(alloc, bytes);
     }
-    let Some(part) = part_in(units, name.unit as usize) else {
+    let Some(part) = units.unit(name.unit) else {
         return clean(alloc, b"<name omitted>");
     };
     let dies = part.die.dies();
@@ -188,11 +172,11 @@ pub fn name_text<'a>(
     alloc: Global,
     units: &Units<'a>,
     name: NameRef,
-) -> Result<NameText<'a>, OutOfMemory>
+) -> Result<EntryNameText<'a>, OutOfMemory>
     ensures { IfOk result (λ t. t ≡ cleaned (name_bytes units.now name)) }
 {
     if let Some(text) = whole_name(units, name) {
         return Ok(text);
     }
-    Ok(NameText::of(made_text(alloc, units, name)?))
+    Ok(EntryNameText::of(made_text(alloc, units, name)?))
 }

@@ -20,11 +20,11 @@ pub(crate) enum KeptName<'a> {
 
 /// A name as a record carries it, which contracts see as its bytes. Where they stand in the file as they are, they are not copied.
 #[derive(Drop)]
-pub struct NameText<'a> {
+pub struct EntryNameText<'a> {
     kept: KeptName<'a>,
 }
 
-impl<'a> Model for NameText<'a> {
+impl<'a> Model for EntryNameText<'a> {
     ghost use Rattle.std.specs.Prelude.{List, ℕ};
     ghost use Rattle.die_names.specs.KeptNames.{kept_name};
 
@@ -33,21 +33,21 @@ impl<'a> Model for NameText<'a> {
     ghost view = { λ t. kept_name t.kept };
 }
 
-impl<'a> NameText<'a> {
+impl<'a> EntryNameText<'a> {
     /// A name that was made.
-    pub(crate) fn of(text: ByteRun) -> NameText<'a>
+    pub(crate) fn of(text: ByteRun) -> EntryNameText<'a>
         ensures { result ≡ text }
     {
-        NameText {
+        EntryNameText {
             kept: KeptName::Made(text),
         }
     }
 
     /// A name that stands in the file.
-    fn in_file(bytes: &'a [u8]) -> NameText<'a>
+    fn in_file(bytes: &'a [u8]) -> EntryNameText<'a>
         ensures { result ≡ bytes.now }
     {
-        NameText {
+        EntryNameText {
             kept: KeptName::Whole(bytes),
         }
     }
@@ -96,12 +96,12 @@ fn is_clean(bytes: &[u8]) -> bool
 }
 
 /// A name that stands in the file as a record may carry it.
-pub(crate) fn whole_name<'a>(units: &Units<'a>, name: NameRef) -> Option<NameText<'a>>
+pub(crate) fn whole_name<'a>(units: &Units<'a>, name: NameRef) -> Option<EntryNameText<'a>>
     ensures { IfSome result (λ text. text ≡ cleaned (name_bytes units.now name)) }
 {
     let bytes = name_slice(units, name)?;
     if is_clean(bytes) {
-        return Some(NameText::in_file(bytes));
+        return Some(EntryNameText::in_file(bytes));
     }
     None
 }

@@ -4,7 +4,7 @@
 //! The way of an entry is itself and the entries that at most 16 links lead to, by DW_AT_abstract_origin or else by
 //! DW_AT_specification, into any unit. Its name is the first linkage name on the way, or else the first name, behind the names
 //! of the classes, structures, unions and namespaces around the entry that has it, joined by `::`; or else `<name omitted>`.
-//! [`name_of`] says which entry gives the name, and how; [`name_text`] gives its text, cleaned, a [`NameText`]; [`name_slice`] gives
+//! [`name_of`] says which entry gives the name, and how; [`name_text`] gives its text, cleaned, a [`EntryNameText`]; [`name_slice`] gives
 //! the bytes of the file where the name stands there as it is. A link is looked up by halves, among the units and then in one.
 //!
 //! Here also stands which function owns an address, which inlined copies are on its chain, and which line it has
@@ -20,6 +20,6 @@ mod naming;
 mod unit_read;
 
 pub use crate::joining::{name_slice, name_text};
-pub use crate::kept::NameText;
+pub use crate::kept::EntryNameText;
 pub use crate::naming::{How, NameRef, name_of};
-pub use crate::unit_read::{SpanSets, UnitRead, Units};
+pub use crate::unit_read::{EntryRef, SpanSets, UnitRead, Units};

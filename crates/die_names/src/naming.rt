@@ -1,15 +1,14 @@
 //! Which entry gives a name.
-ghost use Rattle.std.specs.Prelude.{◌≡◌, ◌<◌, ◌^◌, if◌then◌else◌};
-ghost use Rattle.std.specs.Option.{option_copied};
+ghost use Rattle.std.specs.Prelude.{◌≡◌, if◌then◌else◌};
 ghost use Rattle.clean_names.specs.Cleaning.{cleaned};
-ghost use Rattle.die_names.specs.UnitEntries.{AreRead, entry_of};
+ghost use Rattle.die_names.specs.UnitEntries.{entry_of};
 ghost use Rattle.die_names.specs.Names.{way, entry_name, linked_from};
 ghost use Rattle.die_names.specs.NameRefs.{name_ref, name_bytes};
-ghost use Rattle.die_names.specs.Finding.{found, die_in};
-ghost use Rattle.die_names.specs.Following.{followed, noted_at};
+ghost use Rattle.die_names.specs.internal.Finding.{found};
+ghost use Rattle.die_names.specs.internal.Following.{followed, noted_at};
 
-use crate::finding::{Standing, find_entry};
-use crate::unit_read::{UnitRead, Units};
+use crate::finding::find_entry;
+use crate::unit_read::{EntryRef, Units};
 use die_walk::Die;
 
 /// How an entry gives a name.
@@ -34,43 +33,30 @@ pub struct NameRef {
 /// So many links are followed.
 const LINKS: u32 = 16;
 
-/// The entry of these numbers.
-pub(crate) fn die_at<'u, 'a>(units: &'u [UnitRead<'a>], at: Standing) -> Option<&'u Die<'a>>
-    ensures { option_copied result ≡ die_in units.now at }
-{
-    let part = units.get(at.unit)?;
-    part.die.dies().get(at.entry)
-}
-
 /// The entry that an entry is linked to.
-fn follow_link(units: &[UnitRead<'_>], die: &Die<'_>) -> Option<Standing>
-    requires { AreRead units.now }
+fn follow_link(units: &Units<'_>, die: &Die<'_>) -> Option<EntryRef>
     ensures { found units.now result ≡ linked_from units.now die.now }
 {
     let place = match die.origin() {
         Some(place) => place,
         None => die.spec()?,
     };
-    find_entry(units, place)
+    find_entry(units.as_slice(), place)
 }
 
 /// The name that the entry gives.
-fn refer(at: Standing, how: How) -> NameRef
-    requires unit { at.unit < 2 ^ 32 }
-    requires entry { at.entry < 2 ^ 32 }
+fn refer(at: EntryRef, how: How) -> NameRef
     ensures { result ≡ record { unit = at.unit; entry = at.entry; how = how } }
 {
     NameRef {
-        unit: at.unit as u32,
-        entry: at.entry as u32,
+        unit: at.unit,
+        entry: at.entry,
         how,
     }
 }
 
 /// The name if no linkage name comes: that of the first entry that has one.
-fn note(die: &Die<'_>, at: Standing, best: NameRef) -> NameRef
-    requires unit { at.unit < 2 ^ 32 }
-    requires entry { at.entry < 2 ^ 32 }
+fn note(die: &Die<'_>, at: EntryRef, best: NameRef) -> NameRef
     ensures { result ≡ noted_at best at die.now }
 {
     match best.how {
@@ -80,15 +66,14 @@ fn note(die: &Die<'_>, at: Standing, best: NameRef) -> NameRef
 }
 
 /// The name from an entry on, where `best` is what it is if no linkage name comes.
-#[tactic(auto, using(crate::proofs::FollowLemmas::way_none, crate::proofs::FollowLemmas::way_lost, crate::proofs::FollowLemmas::linkage_is, crate::proofs::FollowLemmas::last_is, crate::proofs::FollowLemmas::next_is, crate::proofs::FollowLemmas::small_unit, crate::proofs::FollowLemmas::small_entry))]
-fn follow(units: &[UnitRead<'_>], here: Option<Standing>, links: u32, best: NameRef) -> NameRef
-    requires { AreRead units.now }
+#[tactic(auto, using(crate::proofs::FollowLemmas::way_none, crate::proofs::FollowLemmas::way_lost, crate::proofs::FollowLemmas::linkage_is, crate::proofs::FollowLemmas::last_is, crate::proofs::FollowLemmas::next_is))]
+fn follow(units: &Units<'_>, here: Option<EntryRef>, links: u32, best: NameRef) -> NameRef
     ensures { result ≡ followed best (way units.now links (found units.now here)) }
 {
     let Some(at) = here else {
         return best;
     };
-    let Some(die) = die_at(units, at) else {
+    let Some(die) = units.entry(at) else {
         return best;
     };
     if die.linkage().is_some() {
@@ -113,9 +98,5 @@ pub fn name_of(units: &Units<'_>, unit: u32, entry: u32) -> NameRef
         entry,
         how: How::Omitted,
     };
-    let here = Standing {
-        unit: unit as usize,
-        entry: entry as usize,
-    };
-    follow(units.as_slice(), Some(here), LINKS, asked)
+    follow(units, Some(EntryRef { unit, entry }), LINKS, asked)
 }

@@ -1,12 +1,21 @@
 //! The units of a file, as they were read.
 ghost use Rattle.std.specs.Prelude.{◌≡◌};
-ghost use Rattle.die_names.specs.UnitEntries.{AreRead};
+ghost use Rattle.std.specs.List.{slice_get};
+ghost use Rattle.std.specs.Option.{option_copied};
+ghost use Rattle.die_names.specs.UnitEntries.{AreRead, die_in};
 
-use die_walk::DieTable;
+use die_walk::{Die, DieTable};
 use line_program::LineTable;
 use range_set::RangeSet;
 use std::marker::Model;
 use sym_edges::ListOf;
+
+/// An entry: the number of its unit, and its own number there.
+#[derive(Clone, Copy, Debug, PartialEq, Eq)]
+pub struct EntryRef {
+    pub unit: u32,
+    pub entry: u32,
+}
 
 /// The addresses of a unit's entries, one set for each: empty for those that do not count.
 pub type SpanSets = ListOf<RangeSet>;
@@ -17,6 +26,24 @@ pub struct UnitRead<'a> {
     pub die: DieTable<'a>,
     pub spans: SpanSets,
     pub lines: LineTable,
+}
+
+impl<'a> UnitRead<'a> {
+    /// The entry of a number.
+    #[inline]
+    pub fn entry(&self, entry: usize) -> Option<&Die<'a>>
+        ensures { option_copied result ≡ slice_get self.now.die.dies entry }
+    {
+        self.die.dies().get(entry)
+    }
+
+    /// The addresses of the entry of a number.
+    #[inline]
+    pub fn ranges(&self, entry: usize) -> Option<&RangeSet>
+        ensures { option_copied result ≡ slice_get self.now.spans entry }
+    {
+        self.spans.as_slice().get(entry)
+    }
 }
 
 /// The units of a file in the order of their places.
@@ -53,5 +80,21 @@ impl<'a> Units<'a> {
         ensures read { AreRead self.now }
     {
         self.parts.as_slice()
+    }
+
+    /// An entry.
+    pub fn entry(&self, at: EntryRef) -> Option<&Die<'a>>
+        ensures { option_copied result ≡ die_in self.now at }
+    {
+        let part = self.unit(at.unit)?;
+        part.entry(at.entry as usize)
+    }
+
+    /// The unit of a number.
+    #[inline]
+    pub fn unit(&self, unit: u32) -> Option<&UnitRead<'a>>
+        ensures { option_copied result ≡ slice_get self.now unit }
+    {
+        self.parts.get(unit as usize)
     }
 }

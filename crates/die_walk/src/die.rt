@@ -2,6 +2,7 @@
 ghost use Rattle.std.specs.Prelude.{◌≡◌};
 ghost use Rattle.std.specs.Option.{option_copied};
 ghost use Rattle.die_walk.specs.Attributes.{or_else};
+ghost use Rattle.die_walk.specs.EntryKinds.{is_function, is_inlined, is_scope};
 ghost use Rattle.die_walk.specs.Packing.{where_said};
 ghost use Rattle.die_walk.specs.Picking.{text_by, base_by, die_by, root_by};
 
@@ -9,6 +10,10 @@ use crate::attributes::{line_of, number_of, place_of, reference_of, says_yes, te
 use crate::packed::{Class, Packed, pack_high, pack_low, pack_ranges, unpack};
 use crate::picks::Picks;
 use abbrev_units::{Sections, Unit, Value};
+use code_table::{
+    DW_TAG_class_type, DW_TAG_inlined_subroutine, DW_TAG_namespace, DW_TAG_structure_type,
+    DW_TAG_subprogram, DW_TAG_union_type,
+};
 use std::marker::Model;
 
 /// A kept entry with the attributes that matter here (DWARF 5, 7.5.4): absent where they are not given,
@@ -91,6 +96,36 @@ impl<'a> Die<'a> {
         ensures { result ≡ self.now.tag }
     {
         self.tag
+    }
+
+    /// Whether it is a function that is not only declared.
+    #[inline]
+    #[tactic(auto, unfolding(crate::specs::EntryKinds::is_function))]
+    pub fn is_function(&self) -> bool
+        ensures { result ≡ is_function self.now }
+    {
+        self.tag == DW_TAG_subprogram && !self.declaration
+    }
+
+    /// Whether it is an inlined copy of a function.
+    #[inline]
+    #[tactic(auto, unfolding(crate::specs::EntryKinds::is_inlined))]
+    pub fn is_inlined(&self) -> bool
+        ensures { result ≡ is_inlined self.now }
+    {
+        self.tag == DW_TAG_inlined_subroutine
+    }
+
+    /// Whether it is a class, a structure, a union or a namespace, whose name stands in front of other names.
+    #[inline]
+    #[tactic(auto, unfolding(crate::specs::EntryKinds::is_scope))]
+    pub fn is_scope(&self) -> bool
+        ensures { result ≡ is_scope self.now }
+    {
+        matches!(
+            self.tag,
+            DW_TAG_class_type | DW_TAG_structure_type | DW_TAG_union_type | DW_TAG_namespace
+        )
     }
 
     /// The number of the nearest ancestor that is kept.

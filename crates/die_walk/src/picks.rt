@@ -3,13 +3,13 @@ ghost use Rattle.std.specs.Prelude.{◌≡◌};
 ghost use Rattle.leb_cursor.specs.Ahead.{gave};
 ghost use Rattle.die_walk.specs.Picking.{or_value, no_picks, noted, is_picked, picks_at};
 
-use crate::attributes::{
+use abbrev_units::{FormFault, Spec, Value};
+use code_table::{
     DW_AT_MIPS_linkage_name, DW_AT_abstract_origin, DW_AT_addr_base, DW_AT_call_file,
     DW_AT_call_line, DW_AT_comp_dir, DW_AT_declaration, DW_AT_high_pc, DW_AT_linkage_name,
     DW_AT_low_pc, DW_AT_name, DW_AT_ranges, DW_AT_rnglists_base, DW_AT_specification,
     DW_AT_stmt_list, DW_AT_str_offsets_base,
 };
-use abbrev_units::{FormFault, Spec, Value};
 use leb_cursor::Cursor;
 
 /// The first value of each attribute that matters.

@@ -9,6 +9,10 @@ use crate::die::{Die, Root, base_of, make_die, make_root};
 use crate::picks::{Picks, no_picks, read_picks};
 use crate::table::DieTable;
 use abbrev_units::{Abbrev, Abbrevs, DwarfFault, DwarfKind, FormFault, Sections, Unit, in_section};
+use code_table::{
+    DW_TAG_class_type, DW_TAG_inlined_subroutine, DW_TAG_namespace, DW_TAG_structure_type,
+    DW_TAG_subprogram, DW_TAG_union_type,
+};
 use leb_cursor::Cursor;
 use std::alloc::Global;
 use std::marker::Model;
@@ -61,7 +65,15 @@ fn innermost(levels: &[Option<u32>]) -> Option<u32>
 fn is_kept_tag(tag: u64) -> bool
     ensures { result ≡ is_kept_tag tag }
 {
-    matches!(tag, 0x02 | 0x13 | 0x17 | 0x1d | 0x2e | 0x39)
+    matches!(
+        tag,
+        DW_TAG_class_type
+            | DW_TAG_structure_type
+            | DW_TAG_union_type
+            | DW_TAG_inlined_subroutine
+            | DW_TAG_subprogram
+            | DW_TAG_namespace
+    )
 }
 
 impl<'a> Walker<'a> {

@@ -20,10 +20,11 @@ use Rattle.step_maps.proofs.MaximalLemmas.{maximal}
 use Rattle.step_maps.proofs.SteppingLemmas.{Point}
 use Rattle.die_names.specs.declared.unit_read.UnitRead.{UnitRead}
 use Rattle.die_names.specs.Owners.{Covering}
-use Rattle.func_flatten.specs.declared.piece.Place.{Place}
+use Rattle.die_names.specs.declared.unit_read.EntryRef.{EntryRef}
 use Rattle.func_flatten.specs.Pieces.{place_of, covering_name, is_many}
-use Rattle.func_flatten.specs.Collecting.{all_functions, function_stretches, span_stretches, own_class, Collects}
-use Rattle.func_flatten.specs.Classes.{number_name, has_other_name, shared_starts, reaches_any, first_named, class_by, classed, shared_in, marked, TellMany, AreNamedCovers}
+use Rattle.step_maps.specs.SpanStretches.{span_stretches}
+use Rattle.func_flatten.specs.internal.Collecting.{all_functions, function_stretches, own_class, Collects}
+use Rattle.func_flatten.specs.internal.Classes.{number_name, has_other_name, shared_starts, reaches_any, first_named, class_by, classed, shared_in, marked, TellMany, AreNamedCovers}
 use Rattle.func_flatten.proofs.FunctionLemmas.{many_is, other_name_is}
 use Rattle.func_flatten.proofs.PieceLemmas.{places_are, stretches_are}
 
@@ -38,7 +39,7 @@ name_get units (d ∷ functions) zero c is = (let same : d ≡ c = cc in ap (cov
 name_get units (d ∷ functions) (suc k) c is = name_get units functions k c is
 
 -- a stretch of another name is there just where a function of another name is
-other_is : (units : List UnitRead) (places : List Place) (stretches : List Stretch) (a : ℕ) → Collects [] places [] stretches (all_functions units) [] → has_other_name (number_name units places) stretches a ≡ is_many units a
+other_is : (units : List UnitRead) (places : List EntryRef) (stretches : List Stretch) (a : ℕ) → Collects [] places [] stretches (all_functions units) [] → has_other_name (number_name units places) stretches a ≡ is_many units a
 other_is units places stretches a c =
     ap (λ l. has_other_name (number_name units l) stretches a) (places_are places stretches (all_functions units) c)
     ∙ ap (λ l. has_other_name (number_name units (map place_of (all_functions units))) l a) (stretches_are places stretches (all_functions units) c)
@@ -265,7 +266,7 @@ shared_item items a = go (first_at items a)
     go (Some s) = refl
 
 -- what was found at a shared first address tells of names
-found_other : (units : List UnitRead) (places : List Place) (stretches kept named : List Stretch) (addresses : List ℕ) (items : Stepping (Option FirstItem)) (a : ℕ) → Collects [] places [] stretches (all_functions units) []
+found_other : (units : List UnitRead) (places : List EntryRef) (stretches kept named : List Stretch) (addresses : List ℕ) (items : Stepping (Option FirstItem)) (a : ℕ) → Collects [] places [] stretches (all_functions units) []
     → kept ≡ filter (reaches_any addresses) stretches → named ≡ map (classed (class_by (number_name units places) kept)) kept → value_at None items a ≡ first_item named a → IsKept addresses a → shared_in (value_at None items a) ≡ is_many units a
 found_other units places stretches kept named addresses items a c keeps classes found all =
     ap shared_in found
@@ -277,7 +278,7 @@ found_other units places stretches kept named addresses items a c keeps classes 
     ∙ other_is units places stretches a c
 
 -- where a cover is not shared no other name is
-found_none : (units : List UnitRead) (places : List Place) (stretches : List Stretch) (a : ℕ) → Collects [] places [] stretches (all_functions units) [] → is_shared stretches a ≡ false → is_many units a ≡ false
+found_none : (units : List UnitRead) (places : List EntryRef) (stretches : List Stretch) (a : ℕ) → Collects [] places [] stretches (all_functions units) [] → is_shared stretches a ≡ false → is_many units a ≡ false
 found_none units places stretches a c none =
     let one = stretches_are places stretches (all_functions units) c in
     sym (other_is units places stretches a c)
@@ -314,7 +315,7 @@ marked_runs items [] = refl
 marked_runs items (c ∷ covers) = ap (λ l. cover_run c ∷ l) (marked_runs items covers)
 
 -- covers that are marked by what was found among the stretches that are kept
-pub covers_named : (units : List UnitRead) (places : List Place) (stretches kept named : List Stretch) (covers : List Cover) (items : Stepping (Option FirstItem)) → Collects [] places [] stretches (all_functions units) [] → AreCovers stretches covers
+pub covers_named : (units : List UnitRead) (places : List EntryRef) (stretches kept named : List Stretch) (covers : List Cover) (items : Stepping (Option FirstItem)) → Collects [] places [] stretches (all_functions units) [] → AreCovers stretches covers
     → kept ≡ filter (reaches_any (shared_starts covers)) stretches → named ≡ map (classed (class_by (number_name units places) kept)) kept → ((a : ℕ) → a < 18446744073709551616 → value_at None items a ≡ first_item named a)
     → AreNamedCovers units stretches (map (marked items) covers)
 covers_named units places stretches kept named covers items c is keeps classes found = record {

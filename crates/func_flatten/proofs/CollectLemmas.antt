@@ -4,28 +4,21 @@ use Rattle.std.specs.List.{slice_get}
 use Rattle.sym_edges.specs.Addresses.{Range}
 use Rattle.range_set.specs.Canonical.{IsCanonical}
 use Rattle.step_maps.specs.declared.stretch.Stretch.{Stretch}
-use Rattle.step_maps.specs.Covers.{AreStretches}
 use Rattle.die_walk.specs.EntryTable.{DieFields}
 use Rattle.die_names.specs.declared.unit_read.UnitRead.{UnitRead}
-use Rattle.die_names.specs.UnitEntries.{is_function, places}
+use Rattle.die_walk.specs.EntryKinds.{is_function}
+use Rattle.die_names.specs.UnitEntries.{places}
 use Rattle.die_names.specs.Owners.{Covering, unit_covering, covering_from}
-use Rattle.func_flatten.specs.declared.piece.Place.{Place}
+use Rattle.die_names.specs.declared.unit_read.EntryRef.{EntryRef}
 use Rattle.func_flatten.specs.Pieces.{place_of}
-use Rattle.func_flatten.specs.Collecting.{functions_in, span_stretches, function_stretches, own_class, AreFit, HaveSets, Collects}
+use Rattle.step_maps.specs.SpanStretches.{span_stretches}
+use Rattle.func_flatten.specs.internal.Collecting.{functions_in, function_stretches, own_class, HaveSets, Collects}
 
-pub fit_joined : (xs : List Stretch) (s : Stretch) → AreFit xs → s.first ≤ s.last → s.last + 1 < 2 ^ 64 → AreFit (xs ++ s ∷ [])
-fit_joined [] s fit order last = (order, last, tt)
-fit_joined (x ∷ xs) s fit order last = (fit.0, fit.1, fit_joined xs s fit.2 order last)
-
-pub fit_stretches : (xs : List Stretch) → AreFit xs → AreStretches xs
-fit_stretches [] fit = tt
-fit_stretches (x ∷ xs) fit = (fit.0, fit_stretches xs fit.2)
-
-pub collects_none : (old : List Place) (before : List Stretch) (all : List Covering) → Collects old old before before all all
+pub collects_none : (old : List EntryRef) (before : List Stretch) (all : List Covering) → Collects old old before before all all
 collects_none old before all = record { places = refl; stretches = refl; sets = λ is. is }
 
 -- one function was collected
-pub collects_one : (old new : List Place) (before after : List Stretch) (all left : List Covering) (c : Covering) → Collects old new before after all (c ∷ left) → IsCanonical c.spans → Collects old (new ++ place_of c ∷ []) before (after ++ span_stretches (length new) (length new) c.spans) all left
+pub collects_one : (old new : List EntryRef) (before after : List Stretch) (all left : List Covering) (c : Covering) → Collects old new before after all (c ∷ left) → IsCanonical c.spans → Collects old (new ++ place_of c ∷ []) before (after ++ span_stretches (length new) (length new) c.spans) all left
 collects_one old new before after all left c k canonical = record {
   places = append_assoc new (place_of c ∷ []) (map place_of left) ∙ k.places;
   stretches =
@@ -35,21 +28,21 @@ collects_one old new before after all left c k canonical = record {
   sets = λ rest. k.sets (canonical, rest);
 }
 
-taken_by : (b : Bool) (c : Covering) (old new : List Place) (before after : List Stretch) → b ≡ true → Collects old new before after (c ∷ []) [] → Collects old new before after (if b then c ∷ [] else []) []
+taken_by : (b : Bool) (c : Covering) (old new : List EntryRef) (before after : List Stretch) → b ≡ true → Collects old new before after (c ∷ []) [] → Collects old new before after (if b then c ∷ [] else []) []
 taken_by true c old new before after is k = k
 taken_by false c old new before after is k = absurd (cc)
 
-passed_by : (b : Bool) (c : Covering) (old : List Place) (before : List Stretch) → b ≡ false → Collects old old before before (if b then c ∷ [] else []) []
+passed_by : (b : Bool) (c : Covering) (old : List EntryRef) (before : List Stretch) → b ≡ false → Collects old old before before (if b then c ∷ [] else []) []
 passed_by true c old before is = absurd (cc)
 passed_by false c old before is = collects_none old before []
 
 -- the entry is a function, and its addresses and place were added
-pub entry_taken : (c : Covering) (old new : List Place) (before after : List Stretch) → is_function c.die ≡ true → IsCanonical c.spans → after ≡ before ++ span_stretches (length old) (length old) c.spans → new ≡ old ++ place_of c ∷ [] → Collects old new before after (functions_in (c ∷ [])) []
+pub entry_taken : (c : Covering) (old new : List EntryRef) (before after : List Stretch) → is_function c.die ≡ true → IsCanonical c.spans → after ≡ before ++ span_stretches (length old) (length old) c.spans → new ≡ old ++ place_of c ∷ [] → Collects old new before after (functions_in (c ∷ [])) []
 entry_taken c old new before after is canonical stretched placed =
     taken_by (is_function c.die) c old new before after is
     (rw (stretched, placed) (collects_one old old before before (c ∷ []) [] c (collects_none old before (c ∷ [])) canonical))
 
-pub entry_passed : (c : Covering) (old : List Place) (before : List Stretch) → is_function c.die ≡ false → Collects old old before before (functions_in (c ∷ [])) []
+pub entry_passed : (c : Covering) (old : List EntryRef) (before : List Stretch) → is_function c.die ≡ false → Collects old old before before (functions_in (c ∷ [])) []
 entry_passed c old before is = passed_by (is_function c.die) c old before is
 
 map_joined : (xs ys : List Covering) → map place_of (xs ++ ys) ≡ map place_of xs ++ map place_of ys
@@ -79,7 +72,7 @@ functions_joined [] ys = refl
 functions_joined (x ∷ xs) ys = functions_by (is_function x.die) x (functions_in xs) (functions_in ys) (functions_in (xs ++ ys)) (functions_joined xs ys)
 
 -- a unit's functions were collected
-pub collects_unit : (old new newer : List Place) (before after later : List Stretch) (all one left whole : List Covering) → whole ≡ one ++ left → Collects old new before after all whole → Collects new newer after later one [] → Collects old newer before later all left
+pub collects_unit : (old new newer : List EntryRef) (before after later : List Stretch) (all one left whole : List Covering) → whole ≡ one ++ left → Collects old new before after all whole → Collects new newer after later one [] → Collects old newer before later all left
 collects_unit old new newer before after later all one left whole is c d =
     let joined : Collects old new before after all (one ++ left) = (let P : List Covering → Type 0 = λ l. Collects old new before after all l in subst P is c) in
     let places : newer ≡ new ++ map place_of one = sym (append-nil newer) ∙ d.places in
@@ -117,7 +110,7 @@ drop_index (y ∷ xs) zero x inside is = ap (λ z. z ∷ xs) (sym is)
 drop_index (y ∷ xs) (suc k) x inside is = (let same : suc (k + 1) ≡ suc k + 1 = omega arith in drop_index xs k x (omega arith) is ∙ ap (λ n. x ∷ drop n (y ∷ xs)) same)
 
 -- an entry of a unit was added
-pub entry_added : (old new newer : List Place) (before after later : List Stretch) (all : List Covering) (unit entry : ℕ) (dies : List DieFields) (sets : List (List Range)) (die : DieFields) (set : List Range) → Some die ≡ slice_get dies entry → Some set ≡ slice_get sets entry
+pub entry_added : (old new newer : List EntryRef) (before after later : List Stretch) (all : List Covering) (unit entry : ℕ) (dies : List DieFields) (sets : List (List Range)) (die : DieFields) (set : List Range) → Some die ≡ slice_get dies entry → Some set ≡ slice_get sets entry
     → Collects old new before after all (functions_in (unit_covering unit entry (drop entry dies) (drop entry sets))) → Collects new newer after later (functions_in (record { unit = unit; entry = entry; die = die; spans = set } ∷ [])) []
     → Collects old newer before later all (functions_in (unit_covering unit (entry + 1) (drop (entry + 1) dies) (drop (entry + 1) sets)))
 entry_added old new newer before after later all unit entry dies sets die set one two k more =
@@ -129,7 +122,7 @@ entry_added old new newer before after later all unit entry dies sets die set on
     ∙ functions_joined (c ∷ []) rest) k more
 
 -- no entry is left that has a set
-pub entries_done : (old new : List Place) (before after : List Stretch) (all : List Covering) (unit entry : ℕ) (dies : List DieFields) (sets : List (List Range)) (die : DieFields) → Some die ≡ slice_get dies entry → None ≡ slice_get sets entry
+pub entries_done : (old new : List EntryRef) (before after : List Stretch) (all : List Covering) (unit entry : ℕ) (dies : List DieFields) (sets : List (List Range)) (die : DieFields) → Some die ≡ slice_get dies entry → None ≡ slice_get sets entry
     → Collects old new before after all (functions_in (unit_covering unit entry (drop entry dies) (drop entry sets))) → Collects old new before after all []
 entries_done old new before after all unit entry dies sets die one none k =
     let P : List Covering → Type 0 = λ l. Collects old new before after all l in
@@ -137,7 +130,7 @@ entries_done old new before after all unit entry dies sets die one none k =
     ∙ ap (λ l. functions_in (unit_covering unit entry (die ∷ drop (entry + 1) dies) l)) (drop_none sets entry none)) k
 
 -- a unit was added
-pub unit_added : (new newer : List Place) (after later : List Stretch) (all : List Covering) (unit : ℕ) (units : List UnitRead) (part : UnitRead) → unit < length units → part ≡ get_or units unit part
+pub unit_added : (new newer : List EntryRef) (after later : List Stretch) (all : List Covering) (unit : ℕ) (units : List UnitRead) (part : UnitRead) → unit < length units → part ≡ get_or units unit part
     → Collects [] new [] after all (functions_in (covering_from unit (drop unit units))) → Collects new newer after later (functions_in (unit_covering unit 0 part.die.dies part.spans)) []
     → Collects [] newer [] later all (functions_in (covering_from (unit + 1) (drop (unit + 1) units)))
 unit_added new newer after later all unit units part inside is k more =

@@ -11,11 +11,12 @@ use Rattle.range_set.specs.Canonical.{IsCanonical}
 use Rattle.step_maps.specs.declared.stretch.Stretch.{Stretch}
 use Rattle.step_maps.specs.Covers.{reaches, first_at, index_at}
 use Rattle.die_names.specs.declared.unit_read.UnitRead.{UnitRead}
-use Rattle.die_names.specs.UnitEntries.{is_function}
+use Rattle.die_walk.specs.EntryKinds.{is_function}
 use Rattle.die_names.specs.Owners.{Covering, covering_from, owner}
 use Rattle.func_flatten.specs.Pieces.{owns, covering_name, has_other, is_many}
-use Rattle.func_flatten.specs.Classes.{has_other_name}
-use Rattle.func_flatten.specs.Collecting.{functions_in, all_functions, span_stretches, function_stretches, own_class, HaveSets, has_address, Numbered, first_function}
+use Rattle.func_flatten.specs.internal.Classes.{has_other_name}
+use Rattle.step_maps.specs.SpanStretches.{span_stretches}
+use Rattle.func_flatten.specs.internal.Collecting.{functions_in, all_functions, function_stretches, own_class, HaveSets, has_address, Numbered, first_function}
 
 reaches_range : (r : Range) (a : ℕ) → r.start < r.end → (nat_le r.start a && nat_le a (r.end - 1)) ≡ holds r a
 reaches_range r a some = grind (arith, nat_tests)

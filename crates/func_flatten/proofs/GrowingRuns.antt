@@ -3,7 +3,7 @@ use Rattle.std.proofs.Common.{◌≡◌, ◌≢◌, ℕ, ◌<◌, ◌≤◌, Boo
 use Rattle.std.proofs.lemmas.Bool.Decides.{nat_tests, leb_tells}
 use Rattle.std.specs.Option.{option_or}
 use Rattle.step_maps.specs.Runs.{Run, has, value_in, AreRuns, Follows, between}
-use Rattle.func_flatten.specs.Growing.{goes_on, added, added_after, EndBy, Grown}
+use Rattle.func_flatten.specs.internal.Growing.{goes_on, added, added_after, EndBy, Grown}
 use Rattle.step_maps.proofs.RunLemmas.{if_true, if_false}
 
 -- a test of equality

@@ -6,13 +6,13 @@ use Rattle.step_maps.specs.Runs.{Run}
 use Rattle.step_maps.proofs.OneRuns.{one_runs}
 use Rattle.die_names.specs.declared.unit_read.UnitRead.{UnitRead}
 use Rattle.die_names.specs.Owners.{Covering, owner, line, line_in, line_under}
-use Rattle.func_flatten.specs.declared.piece.Place.{Place}
+use Rattle.die_names.specs.declared.unit_read.EntryRef.{EntryRef}
 use Rattle.func_flatten.specs.declared.piece.Piece.{Piece}
 use Rattle.func_flatten.specs.Pieces.{place_of, owner_place, is_many, piece_run, AreMarked, ArePieces}
 use Rattle.func_flatten.specs.LineRuns.{unit_line}
 
 -- a piece by its run and its mark
-abbrev run_piece : Run Place → Bool → Piece
+abbrev run_piece : Run EntryRef → Bool → Piece
 run_piece r many = record { unit = r.value.unit; entry = r.value.entry; start = r.start; end = r.end; many = many }
 
 alike : (units : List UnitRead) (xs ys : List Piece) → AreMarked units xs → AreMarked units ys → map piece_run xs ≡ map piece_run ys → xs ≡ ys
@@ -30,11 +30,11 @@ alike units (x ∷ xs) (y ∷ ys) p q same =
 pub one_pieces : (units : List UnitRead) (xs ys : List Piece) → ArePieces units xs → ArePieces units ys → xs ≡ ys
 one_pieces units xs ys p q = alike units xs ys p.marks q.marks (one_runs (owner_place units) (map piece_run xs) (map piece_run ys) p.runs q.runs)
 
-under : (units : List UnitRead) (a : ℕ) (place : Place) (o : Option Covering) → option_map place_of o ≡ Some place → line_under units a o ≡ line_in a (slice_get units place.unit)
+under : (units : List UnitRead) (a : ℕ) (place : EntryRef) (o : Option Covering) → option_map place_of o ≡ Some place → line_under units a o ≡ line_in a (slice_get units place.unit)
 under units a place None is = absurd (cc)
 under units a place (Some c) is = (let same : place_of c ≡ place = cc in ap (λ p. line_in a (slice_get units p.unit)) same)
 
 -- the line of an address is that of its owner's unit
-pub line_of_owner : (units : List UnitRead) (a : ℕ) (place : Place) → owner_place units a ≡ Some place → line units a ≡ unit_line units place.unit a
+pub line_of_owner : (units : List UnitRead) (a : ℕ) (place : EntryRef) → owner_place units a ≡ Some place → line units a ≡ unit_line units place.unit a
 unfolding owner_place line unit_line
 line_of_owner units a place is = under units a place (owner units a) is

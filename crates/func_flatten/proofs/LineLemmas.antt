@@ -15,7 +15,7 @@ use Rattle.func_flatten.proofs.MappedRuns.{map_run, mapped_value, AllValues, apa
 use Rattle.die_names.specs.declared.unit_read.UnitRead.{UnitRead}
 use Rattle.die_names.specs.Owners.{line_in}
 use Rattle.std.specs.Option.{option_map}
-use Rattle.func_flatten.specs.Growing.{added, added_after, Grown, same_mark, continues, with_run_after, with_run, with_part, AreKnown, IsKnown, Walks}
+use Rattle.func_flatten.specs.internal.Growing.{added, added_after, Grown, same_mark, continues, with_run_after, with_run, with_part, AreKnown, IsKnown, Walks}
 use Rattle.func_flatten.proofs.CollectLemmas.{drop_index}
 use Rattle.func_flatten.proofs.GrowingRuns.{Compares, grown_none, grown_some, grown_empty}
 

@@ -12,24 +12,26 @@ use Rattle.step_maps.proofs.RunLemmas.{if_true, if_false}
 use Rattle.step_maps.proofs.MaximalLemmas.{maximal}
 use Rattle.die_walk.specs.EntryTable.{DieFields}
 use Rattle.die_names.specs.declared.unit_read.UnitRead.{UnitRead}
-use Rattle.die_names.specs.UnitEntries.{is_function, places, AreRead}
+use Rattle.die_walk.specs.EntryKinds.{is_function}
+use Rattle.die_names.specs.UnitEntries.{places, AreRead}
 use Rattle.die_names.specs.Owners.{Covering, unit_covering, covering_from}
-use Rattle.func_flatten.specs.declared.piece.Place.{Place}
+use Rattle.die_names.specs.declared.unit_read.EntryRef.{EntryRef}
 use Rattle.func_flatten.specs.declared.piece.Piece.{Piece}
 use Rattle.func_flatten.specs.Pieces.{place_of, owner_place, piece_run, AreMarked, ArePieces}
-use Rattle.func_flatten.specs.Collecting.{functions_in, all_functions, function_stretches, own_class, AreFit, HaveSets, Numbered, first_function, Collects, piece_of, AreCut}
-use Rattle.func_flatten.specs.Classes.{TellMany, AreNamedCovers}
+use Rattle.step_maps.specs.SpanStretches.{AreFit}
+use Rattle.func_flatten.specs.internal.Collecting.{functions_in, all_functions, function_stretches, own_class, HaveSets, Numbered, first_function, Collects, piece_of, AreCut}
+use Rattle.func_flatten.specs.internal.Classes.{TellMany, AreNamedCovers}
 use Rattle.func_flatten.proofs.MappedRuns.{map_run, AllValues, values_hold, runs_mapped}
 use Rattle.func_flatten.proofs.FunctionLemmas.{index_is, owner_is, first_at_number}
 
-abbrev nowhere : Place
+abbrev nowhere : EntryRef
 nowhere = record { unit = 0; entry = 0 }
 
-abbrev place_at : List Place → ℕ → Place
+abbrev place_at : List EntryRef → ℕ → EntryRef
 place_at places k = slice_index_or places k nowhere
 
 -- places as numbers in their order
-abbrev key : Place → ℕ
+abbrev key : EntryRef → ℕ
 key p = p.unit * 4294967296 + p.entry
 
 -- the functions' places rise, from a number up to and without another
@@ -100,10 +102,10 @@ one_place low high (c ∷ functions) rise (suc i) zero p q same =
 one_place low high (c ∷ functions) rise (suc i) (suc j) p q same = omega (arith, one_place (key (place_of c) + 1) high functions rise.1 i j (omega arith) (omega arith) same)
 
 -- what was collected
-pub places_are : (places : List Place) (stretches : List Stretch) (functions : List Covering) → Collects [] places [] stretches functions [] → places ≡ map place_of functions
+pub places_are : (places : List EntryRef) (stretches : List Stretch) (functions : List Covering) → Collects [] places [] stretches functions [] → places ≡ map place_of functions
 places_are places stretches functions c = sym (append-nil places) ∙ c.places
 
-pub stretches_are : (places : List Place) (stretches : List Stretch) (functions : List Covering) → Collects [] places [] stretches functions [] → stretches ≡ function_stretches own_class 0 functions
+pub stretches_are : (places : List EntryRef) (stretches : List Stretch) (functions : List Covering) → Collects [] places [] stretches functions [] → stretches ≡ function_stretches own_class 0 functions
 stretches_are places stretches functions c = sym (append-nil stretches) ∙ c.stretches
 
 map_length : (functions : List Covering) → length (map place_of functions) ≡ length functions
@@ -165,11 +167,11 @@ owner_at units a all =
     ∙ ap (option_map place_of) (sym (owner_is units a))
 
 -- the runs of pieces are those of the covers, with places for numbers
-runs_of_pieces : (places : List Place) (covers : List Cover) → map piece_run (map (piece_of places) covers) ≡ map (map_run (place_at places)) (map cover_run covers)
+runs_of_pieces : (places : List EntryRef) (covers : List Cover) → map piece_run (map (piece_of places) covers) ≡ map (map_run (place_at places)) (map cover_run covers)
 runs_of_pieces places [] = refl
 runs_of_pieces places (c ∷ covers) = ap (λ l. map_run (place_at places) (cover_run c) ∷ l) (runs_of_pieces places covers)
 
-marks_of_pieces : (units : List UnitRead) (places : List Place) (covers : List Cover) → TellMany units covers → AreMarked units (map (piece_of places) covers)
+marks_of_pieces : (units : List UnitRead) (places : List EntryRef) (covers : List Cover) → TellMany units covers → AreMarked units (map (piece_of places) covers)
 marks_of_pieces units places [] marks = tt
 marks_of_pieces units places (c ∷ covers) marks = (marks.0, marks_of_pieces units places covers marks.1)
 
@@ -189,7 +191,7 @@ pieces_whole units covers read all fit is =
     }
 
 -- covers of the collected stretches make the pieces
-pub pieces_are : (units : List UnitRead) (places : List Place) (stretches : List Stretch) (covers : List Cover) (pieces : List Piece) → AreRead units → Collects [] places [] stretches (all_functions units) [] → AreFit stretches → AreNamedCovers units stretches covers → pieces ≡ map (piece_of places) covers → ArePieces units pieces
+pub pieces_are : (units : List UnitRead) (places : List EntryRef) (stretches : List Stretch) (covers : List Cover) (pieces : List Piece) → AreRead units → Collects [] places [] stretches (all_functions units) [] → AreFit stretches → AreNamedCovers units stretches covers → pieces ≡ map (piece_of places) covers → ArePieces units pieces
 pieces_are units places stretches covers pieces read c fit is same =
     let one = stretches_are places stretches (all_functions units) c in
     let P : List Stretch → Type 0 = λ l. AreFit l in
@@ -205,7 +207,7 @@ cut_all count items (c ∷ covers) fit below all =
     (below.0, found_fit items c.last c.index fit (sym (inside_all items c.last fit) ∙ all.0.constant c.last (omega arith) (omega arith)), cut_all count items covers fit below.1 all.1))
 
 -- so each cover has a place and an end
-pub covers_cut : (units : List UnitRead) (places : List Place) (stretches : List Stretch) (covers : List Cover) → Collects [] places [] stretches (all_functions units) [] → AreFit stretches → AreNamedCovers units stretches covers → AreCut (length places) covers
+pub covers_cut : (units : List UnitRead) (places : List EntryRef) (stretches : List Stretch) (covers : List Cover) → Collects [] places [] stretches (all_functions units) [] → AreFit stretches → AreNamedCovers units stretches covers → AreCut (length places) covers
 covers_cut units places stretches covers c fit is =
     let one = stretches_are places stretches (all_functions units) c in
     let count : length places ≡ length (all_functions units) = ap length (places_are places stretches (all_functions units) c) ∙ map_length (all_functions units) in

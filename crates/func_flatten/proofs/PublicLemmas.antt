@@ -16,7 +16,7 @@ use Rattle.elf_sections.specs.Symbols.{SymbolParts, symbol_view}
 use Rattle.func_flatten.specs.Publics.{with_number, ascending, has, IsRising, stands_at, addresses, names_of, public_named, public_at, PublicParts, publics_where, is_inside, is_covered, publics}
 use Rattle.func_flatten.specs.declared.piece.Piece.{Piece}
 use Rattle.func_flatten.proofs.CollectLemmas.{drop_index}
-use Rattle.func_flatten.specs.Grouping.{IsOrdered, starts_elsewhere, group_public, AgreeAt}
+use Rattle.func_flatten.specs.internal.Grouping.{IsOrdered, starts_elsewhere, group_public, AgreeAt}
 
 above_by : (t : Bool) (a b x : ℕ) (xs : List ℕ) → nat_lt a x ≡ t → (t && list_all (λ y. nat_lt a y) xs) ≡ true → b ≤ a → (list_all (λ y. nat_lt a y) xs ≡ true → has b xs ≡ false) → ((x == b) || has b xs) ≡ false
 above_by true a b x xs test all le later =

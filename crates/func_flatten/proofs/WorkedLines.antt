@@ -6,6 +6,7 @@ use Rattle.sym_edges.proofs.Shown.{shown}
 use Rattle.step_maps.specs.Runs.{between}
 use Rattle.line_program.specs.declared.path_line.PathLine.{PathLine}
 use Rattle.die_names.specs.declared.unit_read.UnitRead.{UnitRead}
+use Rattle.die_names.proofs.MadeUnits.{bare_unit}
 use Rattle.func_flatten.specs.LineRuns.{unit_number_line, unit_line}
 use Rattle.func_flatten.proofs.Computing.{func_flatten_computes}
 
@@ -14,9 +15,7 @@ at path line = record { path = path; line = line }
 
 -- the first path's line 1 from 2 on, its line 3 from 4 on, no line from 6 on, the second path's line 3 from 8 on, the same once more from 9 on, and none from 11 on
 unfoldable lines : List UnitRead
-lines = record {
-  die = record { root = record { at = 0; low = None; stmt_list = None; comp_dir = None; str_offsets_base = None; addr_base = None; rnglists_base = None }; dies = [] };
-  spans = [];
+lines = record (bare_unit [] []) {
   lines = record {
     lines = record { stops = 2 ∷ 4 ∷ 6 ∷ 8 ∷ 9 ∷ 11 ∷ []; values = at 0 1 ∷ at 0 3 ∷ at 0 0 ∷ at 1 3 ∷ at 1 3 ∷ at 0 0 ∷ [] };
     paths = codes "a.c" ∷ codes "b.c" ∷ [];

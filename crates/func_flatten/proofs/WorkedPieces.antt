@@ -6,7 +6,8 @@ use Rattle.sym_edges.specs.Addresses.{Range}
 use Rattle.sym_edges.proofs.Shown.{shown}
 use Rattle.die_walk.specs.EntryTable.{DieFields}
 use Rattle.die_names.specs.declared.unit_read.UnitRead.{UnitRead}
-use Rattle.func_flatten.specs.declared.piece.Place.{Place}
+use Rattle.die_names.specs.declared.unit_read.EntryRef.{EntryRef}
+use Rattle.die_names.proofs.MadeUnits.{bare_entry, bare_unit}
 use Rattle.func_flatten.specs.Pieces.{owner_place, is_many}
 use Rattle.func_flatten.proofs.Computing.{func_flatten_computes}
 
@@ -17,21 +18,7 @@ record Made : Type 0 where
 
 unfoldable entry : ℕ → Bool → Option (List ℕ) → List Range → Made
 entry tag declaration name spans = record {
-  die = record {
-    at = 0;
-    tag = tag;
-    parent = Some 0;
-    declaration = declaration;
-    low = None;
-    high = None;
-    ranges = None;
-    origin = None;
-    spec = None;
-    name = None;
-    linkage = name;
-    call_file = None;
-    call_line = 0;
-  };
+  die = record (bare_entry tag) { parent = Some 0; declaration = declaration; linkage = name };
   spans = spans;
 }
 
@@ -43,13 +30,9 @@ abbrev on : ℕ → ℕ → Range
 on start end = record { start = start; end = end }
 
 unfoldable unit : List Made → UnitRead
-unit entries = record {
-  die = record { root = record { at = 0; low = None; stmt_list = None; comp_dir = None; str_offsets_base = None; addr_base = None; rnglists_base = None }; dies = map (λ m. m.die) entries };
-  spans = map (λ m. m.spans) entries;
-  lines = record { lines = record { stops = []; values = [] }; paths = []; first = 0; files = [] };
-}
+unit entries = bare_unit (map (λ m. m.die) entries) (map (λ m. m.spans) entries)
 
-abbrev digit : Option Place → ℕ
+abbrev digit : Option EntryRef → ℕ
 digit None = 46
 digit (Some p) = 48 + p.entry + p.unit * 4
 

@@ -6,10 +6,10 @@ use Rattle.std.specs.Str.{bytes_eq}
 use Rattle.range_set.specs.Members.{holds_any}
 use Rattle.step_maps.specs.Runs.{Run, IsRuns}
 use Rattle.die_names.specs.declared.unit_read.UnitRead.{UnitRead}
-use Rattle.die_names.specs.UnitEntries.{is_function}
+use Rattle.die_walk.specs.EntryKinds.{is_function}
 use Rattle.die_names.specs.Names.{entry_name}
 use Rattle.die_names.specs.Owners.{Covering, covering_from, owner}
-use Rattle.func_flatten.specs.declared.piece.Place.{Place}
+use Rattle.die_names.specs.declared.unit_read.EntryRef.{EntryRef}
 use Rattle.func_flatten.specs.declared.piece.Piece.{Piece}
 
 -- whether a function has the address
@@ -17,11 +17,11 @@ abbrev pub owns : ℕ → Covering → Bool
 owns a c = is_function c.die && holds_any c.spans a
 
 -- the numbers of an entry
-abbrev pub place_of : Covering → Place
+abbrev pub place_of : Covering → EntryRef
 place_of c = record { unit = c.unit; entry = c.entry }
 
 -- the numbers of the function that owns an address
-unfoldable pub owner_place : List UnitRead → ℕ → Option Place
+unfoldable pub owner_place : List UnitRead → ℕ → Option EntryRef
 owner_place units a = option_map place_of (owner units a)
 
 -- the name of a function, as a record may carry it
@@ -36,7 +36,7 @@ has_other units a (Some c) = list_any (λ d. owns a d && not (bytes_eq (covering
 unfoldable pub is_many : List UnitRead → ℕ → Bool
 is_many units a = has_other units a (owner units a)
 
-abbrev pub piece_run : Piece → Run Place
+abbrev pub piece_run : Piece → Run EntryRef
 piece_run p = record { start = p.start; end = p.end; value = record { unit = p.unit; entry = p.entry } }
 
 -- each piece tells of its first address whether a function of another name has it too

@@ -4,10 +4,9 @@ ghost use Rattle.std.specs.List.{list_all};
 ghost use Rattle.std.specs.Option.{option_copied};
 ghost use Rattle.clean_names.specs.Cleaning.{cleaned, shown_byte};
 ghost use Rattle.die_names.specs.NameRefs.{name_bytes};
-ghost use Rattle.func_flatten.specs.Classes.{place_name, place_at, number_name, name_number, class_by, classed, last_class, Meets};
+ghost use Rattle.func_flatten.specs.internal.Classes.{place_name, place_at, number_name, name_number, class_by, classed, last_class, Meets};
 
-use crate::piece::Place;
-use die_names::{Units, name_of, name_text};
+use die_names::{EntryRef, Units, name_of, name_text};
 use std::alloc::Global;
 use std::collections::BTreeMap;
 use step_maps::Stretch;
@@ -58,7 +57,7 @@ fn meet<'a>(
     alloc: Global,
     names: &mut Names<'a>,
     units: &Units<'a>,
-    place: Place,
+    place: EntryRef,
     number: u32,
 ) -> Result<u32, OutOfMemory>
     ensures { IfOk result (λ class. Meets names.old names.new (place_name units.now place) number class) }
@@ -71,12 +70,12 @@ fn meet<'a>(
 }
 
 /// The place of the function of a number.
-fn place_at(places: &[Place], number: u32) -> Place
+fn place_at(places: &[EntryRef], number: u32) -> EntryRef
     ensures { result ≡ place_at places.now number }
 {
     match places.get(number as usize) {
         Some(place) => *place,
-        None => Place { unit: 0, entry: 0 },
+        None => EntryRef { unit: 0, entry: 0 },
     }
 }
 
@@ -107,7 +106,7 @@ fn classed(stretch: Stretch, class: u32) -> Stretch
 pub fn with_classes(
     alloc: Global,
     units: &Units<'_>,
-    places: &[Place],
+    places: &[EntryRef],
     stretches: &[Stretch],
 ) -> Result<Vec<Stretch>, OutOfMemory>
     ensures { IfOk result (λ named. named.items ≡ map (classed (class_by (number_name units.now places.now) stretches.now)) stretches.now) }

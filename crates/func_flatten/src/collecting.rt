@@ -1,23 +1,20 @@
 //! The functions of the units, and the stretches of their addresses.
 ghost use Rattle.std.specs.Prelude.{◌≡◌, ℕ, ◌+◌, ◌<◌, ◌≤◌, ◌^◌, ◌++◌, [], ◌∷◌, length, vec_len, IfOk, OnOk};
-ghost use Rattle.std.specs.List.{slice_get};
-ghost use Rattle.std.specs.Option.{option_copied};
-ghost use Rattle.die_names.specs.UnitEntries.{AreRead, is_function};
+ghost use Rattle.die_names.specs.UnitEntries.{AreRead};
 ghost use Rattle.die_names.specs.Owners.{unit_covering};
-ghost use Rattle.func_flatten.specs.Collecting.{functions_in, all_functions, span_stretches, AreFit, Collects};
+ghost use Rattle.step_maps.specs.SpanStretches.{AreFit};
+ghost use Rattle.func_flatten.specs.internal.Collecting.{functions_in, all_functions, Collects};
 
-use crate::piece::Place;
-use die_names::UnitRead;
+use die_names::{EntryRef, UnitRead};
 use die_walk::Die;
 use range_set::RangeSet;
 use std::alloc::{AllocError, Global};
-use step_maps::Stretch;
-use sym_edges::Span;
+use step_maps::{Stretch, push_spans};
 
 /// The functions' places, and the stretches of their addresses, each with the number of its function as its index and class.
 #[derive(Drop)]
 pub struct Collected {
-    pub places: Vec<Place>,
+    pub places: Vec<EntryRef>,
     pub stretches: Vec<Stretch>,
 }
 
@@ -31,64 +28,35 @@ pub fn collect_all(alloc: Global, units: &[UnitRead<'_>]) -> Result<Collected, A
     let mut stretches = Vec::new(alloc);
     'units: for unit in 0..units.len() {
         let part = &units[unit];
-        push_unit(
-            &mut places,
-            &mut stretches,
-            unit as u32,
-            part.die.dies(),
-            part.spans.as_slice(),
-        )?;
+        push_unit(&mut places, &mut stretches, unit as u32, part)?;
     }
     Ok(Collected { places, stretches })
 }
 
-/// Whether an entry is a function that is not only declared.
-#[tactic(auto, unfolding(die_names::specs::UnitEntries::is_function))]
-fn is_function(die: &Die<'_>) -> bool
-    ensures { result ≡ is_function die.now }
-{
-    die.tag() == 0x2e && !die.declaration()
-}
-
-/// The entry of a number.
-fn entry_in<'u, 'a>(dies: &'u [Die<'a>], entry: usize) -> Option<&'u Die<'a>>
-    ensures { option_copied result ≡ slice_get dies.now entry }
-{
-    dies.get(entry)
-}
-
-/// The addresses of the entry of a number.
-fn set_in(sets: &[RangeSet], entry: usize) -> Option<&RangeSet>
-    ensures { option_copied result ≡ slice_get sets.now entry }
-{
-    sets.get(entry)
-}
-
 /// Adds the functions of a unit.
 fn push_unit(
-    places: &mut Vec<Place>,
+    places: &mut Vec<EntryRef>,
     stretches: &mut Vec<Stretch>,
     unit: u32,
-    dies: &[Die<'_>],
-    sets: &[RangeSet],
+    part: &UnitRead<'_>,
 ) -> Result<(), AllocError>
-    requires count { vec_len places.old + length dies.now < 2 ^ 32 }
+    requires count { vec_len places.old + length part.now.die.dies < 2 ^ 32 }
     requires fit { AreFit stretches.old.items }
-    ensures all { OnOk result (Collects places.old.items places.new.items stretches.old.items stretches.new.items (functions_in (unit_covering unit 0 dies.now sets.now)) []) }
+    ensures all { OnOk result (Collects places.old.items places.new.items stretches.old.items stretches.new.items (functions_in (unit_covering unit 0 part.now.die.dies part.now.spans)) []) }
     ensures fit { OnOk result (AreFit stretches.new.items) }
-    ensures count { OnOk result (vec_len places.new ≤ vec_len places.old + length dies.now) }
+    ensures count { OnOk result (vec_len places.new ≤ vec_len places.old + length part.now.die.dies) }
 {
-    'entries: for entry in 0..dies.len() {
-        let Some(die) = entry_in(dies, entry) else {
+    'entries: for entry in 0..part.die.dies().len() {
+        let Some(die) = part.entry(entry) else {
             return Ok(());
         };
-        let Some(set) = set_in(sets, entry) else {
+        let Some(set) = part.ranges(entry) else {
             return Ok(());
         };
         push_entry(
             places,
             stretches,
-            Place {
+            EntryRef {
                 unit,
                 entry: entry as u32,
             },
@@ -101,9 +69,9 @@ fn push_unit(
 
 /// Adds an entry, where it is a function.
 fn push_entry(
-    places: &mut Vec<Place>,
+    places: &mut Vec<EntryRef>,
     stretches: &mut Vec<Stretch>,
-    place: Place,
+    place: EntryRef,
     die: &Die<'_>,
     set: &RangeSet,
 ) -> Result<(), AllocError>
@@ -113,29 +81,11 @@ fn push_entry(
     ensures fit { OnOk result (AreFit stretches.new.items) }
     ensures count { OnOk result (vec_len places.new ≤ vec_len places.old + 1) }
 {
-    if !is_function(die) {
+    if !die.is_function() {
         return Ok(());
     }
-    push_spans(stretches, places.len() as u32, set.spans())?;
+    let number = places.len() as u32;
+    push_spans(stretches, number, number, set.spans())?;
     places.push(place)?;
-    Ok(())
-}
-
-/// Adds the stretches of a function.
-fn push_spans(stretches: &mut Vec<Stretch>, index: u32, spans: &[Span]) -> Result<(), AllocError>
-    requires fit { AreFit stretches.old.items }
-    ensures same { OnOk result (stretches.new.items ≡ stretches.old.items ++ span_stretches index index spans.now) }
-    ensures fit { OnOk result (AreFit stretches.new.items) }
-{
-    let mut rest = spans;
-    'spans: while let Some((span, later)) = rest.split_first() {
-        stretches.push(Stretch {
-            first: span.start(),
-            last: span.end() - 1,
-            index,
-            class: index,
-        })?;
-        rest = later;
-    }
     Ok(())
 }

@@ -4,8 +4,9 @@ ghost use Rattle.std.specs.List.{filter};
 ghost use Rattle.step_maps.specs.Covers.{first_item, AreCovers};
 ghost use Rattle.sym_edges.specs.Rising.{RisesFrom};
 ghost use Rattle.step_maps.specs.Stepping.{value_at};
-ghost use Rattle.func_flatten.specs.Collecting.{all_functions, AreFit, Collects};
-ghost use Rattle.func_flatten.specs.Classes.{shared_starts, reaches_any, shared_in, marked, AreNamedCovers};
+ghost use Rattle.step_maps.specs.SpanStretches.{AreFit};
+ghost use Rattle.func_flatten.specs.internal.Collecting.{all_functions, Collects};
+ghost use Rattle.func_flatten.specs.internal.Classes.{shared_starts, reaches_any, shared_in, marked, AreNamedCovers};
 
 use crate::classing::with_classes;
 use crate::collecting::Collected;

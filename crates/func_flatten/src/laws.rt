@@ -3,7 +3,7 @@ ghost use Rattle.std.specs.Prelude.{◌≡◌, ℕ, List, Some, map};
 ghost use Rattle.elf_sections.specs.Symbols.{SymbolParts};
 ghost use Rattle.die_names.specs.declared.unit_read.UnitRead.{UnitRead};
 ghost use Rattle.die_names.specs.Owners.{line};
-ghost use Rattle.func_flatten.specs.declared.piece.Place.{Place};
+ghost use Rattle.die_names.specs.declared.unit_read.EntryRef.{EntryRef};
 ghost use Rattle.func_flatten.specs.declared.piece.Piece.{Piece};
 ghost use Rattle.func_flatten.specs.Pieces.{ArePieces, owner_place};
 ghost use Rattle.func_flatten.specs.LineRuns.{unit_line};
@@ -18,7 +18,7 @@ pub fn units_have_one_list_of_pieces()
 /// The line of an address is that of the table of its owner's unit.
 #[tactic(auto, using(crate::proofs::LawLemmas::line_of_owner))]
 pub fn the_line_is_that_of_the_owners_unit()
-    ensures { (units : List UnitRead) (a : ℕ) (place : Place) → owner_place units a ≡ Some place → line units a ≡ unit_line units place.unit a }
+    ensures { (units : List UnitRead) (a : ℕ) (place : EntryRef) → owner_place units a ≡ Some place → line units a ≡ unit_line units place.unit a }
 {}
 
 /// The addresses of symbols rise.

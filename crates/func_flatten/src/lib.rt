@@ -29,6 +29,6 @@ mod uncovered;
 pub use crate::line_run::LineRun;
 pub use crate::lines::lines_of;
 pub use crate::owning::pieces;
-pub use crate::piece::{Piece, PieceList, Place};
+pub use crate::piece::{Piece, PieceList};
 pub use crate::public::{PublicAt, PublicList};
 pub use crate::uncovered::publics;

@@ -1,25 +1,16 @@
 //! The lines of a piece.
 ghost use Rattle.std.specs.Prelude.{◌≡◌, ℕ, ◌<◌, ◌≤◌, [], ◌∷◌, ◌++◌, true, false, map, length, OnOk};
-ghost use Rattle.std.specs.List.{slice_get};
-ghost use Rattle.std.specs.Option.{option_copied};
 ghost use Rattle.step_maps.specs.Runs.{IsRuns, between};
 ghost use Rattle.line_program.specs.LineMaps.{numbered_line, named_line, AreDistinct};
 ghost use Rattle.func_flatten.specs.LineRuns.{number_run, path_run, AreLineRuns};
-ghost use Rattle.func_flatten.specs.Growing.{continues, with_run, with_part, AreKnown};
+ghost use Rattle.func_flatten.specs.internal.Growing.{continues, with_run, with_part, AreKnown};
 
 use crate::line_run::LineRun;
 use crate::piece::Piece;
-use die_names::{UnitRead, Units};
+use die_names::Units;
 use line_program::LineTable;
 use std::alloc::AllocError;
 use sym_edges::OutOfMemory;
-
-/// What was read of the unit of a number.
-fn part_in<'u, 'a>(units: &'u Units<'a>, unit: usize) -> Option<&'u UnitRead<'a>>
-    ensures { option_copied result ≡ slice_get units.now unit }
-{
-    units.as_slice().get(unit)
-}
 
 /// Puts the lines of a piece in the place of what `runs` held: for each maximal run of its addresses with one path and one line, by
 /// the table of its unit, a line run, by address.
@@ -31,7 +22,7 @@ pub fn lines_of(
     ensures { OnOk result (AreLineRuns units.now piece.now runs.new.items) }
 {
     runs.clear();
-    let Some(part) = part_in(units, piece.unit as usize) else {
+    let Some(part) = units.unit(piece.unit) else {
         return Ok(());
     };
     if piece.end <= piece.start {

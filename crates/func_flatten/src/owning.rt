@@ -1,12 +1,12 @@
 //! Which function owns which addresses.
 ghost use Rattle.std.specs.Prelude.{◌≡◌, map, length, IfOk};
 ghost use Rattle.func_flatten.specs.Pieces.{ArePieces};
-ghost use Rattle.func_flatten.specs.Collecting.{AreCut, piece_of};
+ghost use Rattle.func_flatten.specs.internal.Collecting.{AreCut, piece_of};
 
 use crate::collecting::collect_all;
 use crate::covering::named_covers;
-use crate::piece::{Piece, PieceList, Place};
-use die_names::Units;
+use crate::piece::{Piece, PieceList};
+use die_names::{EntryRef, Units};
 use std::alloc::{AllocError, Global};
 use step_maps::Cover;
 use sym_edges::{ListOf, OutOfMemory};
@@ -27,7 +27,7 @@ pub fn pieces(alloc: Global, units: &Units<'_>) -> Result<PieceList, OutOfMemory
 }
 
 /// The covers as pieces.
-fn pieces_of(alloc: Global, covers: &[Cover], places: &[Place]) -> Result<Vec<Piece>, AllocError>
+fn pieces_of(alloc: Global, covers: &[Cover], places: &[EntryRef]) -> Result<Vec<Piece>, AllocError>
     requires { AreCut (length places.now) covers.now }
     ensures { IfOk result (λ pieces. pieces.items ≡ map (piece_of places.now) covers.now) }
 {

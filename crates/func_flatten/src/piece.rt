@@ -1,13 +1,6 @@
 //! The types of pieces.
 use sym_edges::ListOf;
 
-/// The number of a unit, and the number of an entry there.
-#[derive(Clone, Copy, Debug, PartialEq, Eq)]
-pub struct Place {
-    pub unit: u32,
-    pub entry: u32,
-}
-
 /// The addresses from `start` up to, and without, `end`, which one function owns: the entry of that number in the unit of that
 /// number. `many` is said of `start` alone: a function of another name has that address too. 32 bytes.
 #[derive(Clone, Copy, Debug, PartialEq, Eq)]

@@ -7,15 +7,15 @@ ghost use Rattle.clean_names.specs.Cleaning.{cleaned};
 ghost use Rattle.range_set.specs.Members.{holds_any};
 ghost use Rattle.range_set.specs.Canonical.{IsCanonical};
 ghost use Rattle.func_flatten.specs.Publics.{publics, publics_where, is_inside, stands_at, names_of, public_named, public_view};
-ghost use Rattle.func_flatten.specs.Grouping.{IsOrdered, starts_elsewhere, group_public};
+ghost use Rattle.func_flatten.specs.internal.Grouping.{IsOrdered, starts_elsewhere, group_public};
 
 use crate::piece::{Piece, PieceList};
 use crate::public::{PublicAt, PublicList};
+use clean_names::clean;
 use elf_sections::{Image, Symbol};
 use range_set::of_ranges;
 use std::alloc::{AllocError, Global};
 use sym_edges::{ListOf, OutOfMemory, Span};
-use clean_names::clean;
 
 /// The symbols by address; those of one address in the order in which they came.
 pub(crate) fn sorted_symbols<'a>(

@@ -20,13 +20,13 @@ use Rattle.func_flatten.specs.declared.line_run.LineRun.{LineRun}
 use Rattle.func_flatten.specs.LineRuns.{paths_in, number_run, unit_paths, AreLineRuns}
 use Rattle.inline_chain.specs.InlineRuns.{InlineParts}
 use Rattle.func_records.specs.declared.numbers.Numbers.{Numbers}
-use Rattle.func_records.specs.Texts.{text_cmp, SameTexts}
+use Rattle.func_records.specs.internal.Texts.{text_cmp, SameTexts}
 use Rattle.func_records.specs.FuncRecords.{Part, pieces_of, path_in, no_path, call_path, call_line, number_in, file_lines, origin_lines, extent, func_record, inline_record, line_record, part_lines, AreLined, names_path, names_origin}
-use Rattle.func_records.specs.Calls.{call_number, path_or, IsPathed, IsKnown, AreKnown, AreAllKnown}
-use Rattle.func_records.specs.Gathering.{bytes_of, ArePathed, AreHeld, Gathered, copies_of}
-use Rattle.func_records.specs.Spelling.{number_or_0, unit_numbers, line_by, row_of}
-use Rattle.func_records.specs.Origins.{entry_names, all_names}
-use Rattle.func_records.specs.Parts.{file_by, inline_by, parts_by, AddsParts}
+use Rattle.func_records.specs.internal.Calls.{call_number, path_or, IsPathed, IsKnown, AreKnown, AreAllKnown}
+use Rattle.func_records.specs.internal.Gathering.{bytes_of, ArePathed, AreHeld, Gathered, copies_of}
+use Rattle.func_records.specs.internal.Spelling.{number_or_0, unit_numbers, line_by, row_of}
+use Rattle.func_records.specs.internal.Origins.{entry_names, all_names}
+use Rattle.func_records.specs.internal.Parts.{file_by, inline_by, parts_by, AddsParts}
 use Rattle.func_records.specs.Adding.{AddsFunctions}
 use Rattle.func_records.proofs.PathLemmas.{all_pathed}
 use Rattle.func_records.proofs.CanonLemmas.{canon_join}

@@ -7,8 +7,8 @@ use Rattle.die_names.specs.declared.unit_read.UnitRead.{UnitRead}
 use Rattle.func_flatten.specs.declared.piece.Piece.{Piece}
 use Rattle.inline_chain.specs.InlineRuns.{InlineParts, AreParts, is_of, spans_of, AreInlineRuns}
 use Rattle.func_records.specs.FuncRecords.{Part, pieces_of, AreInlined}
-use Rattle.func_records.specs.Gathering.{copies_of, AreHeld}
-use Rattle.func_records.specs.Parts.{AreShort, AreAllShort}
+use Rattle.func_records.specs.internal.Gathering.{copies_of, AreHeld}
+use Rattle.func_records.specs.internal.Parts.{AreShort, AreAllShort}
 use Rattle.func_records.proofs.ListLemmas.{take_next}
 
 held_push : (units : List UnitRead) (pieces : List Piece) (held : List (List InlineParts)) (piece : Piece) (copies : List InlineParts) → AreHeld units pieces held → AreInlineRuns units piece copies → AreHeld units (pieces ++ piece ∷ []) (held ++ copies ∷ [])

@@ -13,13 +13,13 @@ use Rattle.sym_lookup.specs.Plain.{ArePlain, HaveNoFile, HaveNoOrigin}
 use Rattle.sym_lookup.proofs.TextLemmas.{func_behind, none_under}
 use Rattle.die_names.specs.declared.unit_read.UnitRead.{UnitRead}
 use Rattle.die_names.specs.Names.{entry_name}
-use Rattle.die_names.specs.Owners.{Covering, owner, chain, chain_in, chain_under, line, line_in, line_under as owner_line}
-use Rattle.func_flatten.specs.declared.piece.Place.{Place}
+use Rattle.die_names.specs.Owners.{Covering, owner, chain, entry_chain, chain_under, line, line_in, line_under as owner_line}
+use Rattle.die_names.specs.declared.unit_read.EntryRef.{EntryRef}
 use Rattle.func_flatten.specs.declared.piece.Piece.{Piece}
 use Rattle.func_flatten.specs.declared.line_run.LineRun.{LineRun}
 use Rattle.func_flatten.specs.Pieces.{piece_run, place_of, owner_place, ArePieces}
 use Rattle.func_flatten.specs.LineRuns.{path_line, path_run, unit_line, unit_paths, AreLineRuns}
-use Rattle.inline_chain.specs.InlineRuns.{InlineParts, chain_by, entry_chain}
+use Rattle.inline_chain.specs.InlineRuns.{InlineParts}
 use Rattle.func_records.specs.FuncRecords.{Part, pieces_of, path_in, call_path, number_in, file_lines, origin_lines, func_record, line_record, inline_record, part_lines, AreLined, AreInlined, BeginAbove, names_path, names_origin, AreFuncRecords}
 use Rattle.func_records.specs.TextNames.{name_of, call_in, found_line, Names}
 use Rattle.func_records.proofs.FoundLemmas.{path_found, origin_found}
@@ -113,20 +113,20 @@ func_after base paths names units p parts behind x =
     ∙ func_lines base paths units p.piece.unit p.lines (part_lines base paths names units parts ++ behind) x
 
 -- the line of an address where a unit's function owns it, with the path that its number finds
-abbrev numbered_at : List SymLine → List (List ℕ) → List UnitRead → ℕ → Option Place → Option (Option (List ℕ) × ℕ)
+abbrev numbered_at : List SymLine → List (List ℕ) → List UnitRead → ℕ → Option EntryRef → Option (Option (List ℕ) × ℕ)
 numbered_at records paths units a None = None
 numbered_at records paths units a (Some p) = option_map (numbered records paths) (unit_line units p.unit a)
 
 -- the calls at an address where a function owns it
-abbrev calls_at : List UnitRead → ℕ → Option Place → List Call
+abbrev calls_at : List UnitRead → ℕ → Option EntryRef → List Call
 calls_at units a None = []
 calls_at units a (Some p) = map (call_in units) (entry_chain units p.unit p.entry a)
 
-abbrev place_name : List UnitRead → Place → List ℕ
+abbrev place_name : List UnitRead → EntryRef → List ℕ
 place_name units p = entry_name units p.unit p.entry
 
 -- the FUNC that is found is the piece's, and under it stand its inlined copies and its lines
-record Shows (base : ℕ) (paths : List (List ℕ)) (units : List UnitRead) (records : List SymLine) (x : ℕ) (found : Option Found) (place : Option Place) : Type 0 where
+record Shows (base : ℕ) (paths : List (List ℕ)) (units : List UnitRead) (records : List SymLine) (x : ℕ) (found : Option Found) (place : Option EntryRef) : Type 0 where
   function : option_map (λ f. func_name f.func) found ≡ option_map (place_name units) place
   chain : map (call_of records) (option_map_or (inlines_under x) found []) ≡ calls_at units (x + base) place
   line : option_map (path_and_line records) (option_and_then (line_under x) found) ≡ numbered_at records paths units (x + base) place
@@ -165,7 +165,7 @@ part_shows base paths names units records x p parts behind plain above lined inl
 none_shows : (base : ℕ) (paths : List (List ℕ)) (units : List UnitRead) (records : List SymLine) (x : ℕ) → Shows base paths units records x None None
 none_shows base paths units records x = record { function = refl; chain = refl; line = refl }
 
-abbrev pub part_runs : List Part → List (Run Place)
+abbrev pub part_runs : List Part → List (Run EntryRef)
 part_runs parts = map piece_run (pieces_of parts)
 
 parts_show : (base : ℕ) (paths names : List (List ℕ)) (units : List UnitRead) (records : List SymLine) (x : ℕ) (parts : List Part) (behind : List SymLine) → ArePlain behind → BeginAbove base (pieces_of parts) → AreLined units parts → AreInlined units parts → FindPaths records paths units parts → FindNames records names units parts → AreRuns (part_runs parts) → Shows base paths units records x (text_func (part_lines base paths names units parts ++ behind) x) (value_in (part_runs parts) (x + base))
@@ -198,7 +198,7 @@ run_named units unit a m (r ∷ runs) is = go (has (path_run (unit_paths units u
         or_left (bytes_eq m.0 (path_in units unit r.path)) (list_any (λ (s : LineRun). bytes_eq m.0 (path_in units unit s.path)) runs) ((bytes_eq-Decides m.0 (path_in units unit r.path)).1 (sym path))
     go false same later = or_right (bytes_eq m.0 (path_in units unit r.path)) (list_any (λ (s : LineRun). bytes_eq m.0 (path_in units unit s.path)) runs) (later same)
 
-part_named : (units : List UnitRead) (a : ℕ) (place : Place) (m : List ℕ × ℕ) (parts : List Part) → AreLined units parts → value_in (part_runs parts) a ≡ Some place → unit_line units place.unit a ≡ Some m → list_any (names_path units m.0) parts ≡ true
+part_named : (units : List UnitRead) (a : ℕ) (place : EntryRef) (m : List ℕ × ℕ) (parts : List Part) → AreLined units parts → value_in (part_runs parts) a ≡ Some place → unit_line units place.unit a ≡ Some m → list_any (names_path units m.0) parts ≡ true
 part_named units a place m [] are is line = absurd (cc)
 part_named units a place m (p ∷ parts) are is line =
     go (has (piece_run p.piece) a) refl is (λ later. part_named units a place m parts are.1 later line)
@@ -207,7 +207,7 @@ part_named units a place m (p ∷ parts) are is line =
     here inside same =
         let low : p.piece.start ≤ a = grind (arith, nat_tests) in
         let high : a < p.piece.end = grind (arith, nat_tests) in
-        let unit : place.unit ≡ p.piece.unit = ap (λ (q : Place). q.unit) same in
+        let unit : place.unit ≡ p.piece.unit = ap (λ (q : EntryRef). q.unit) same in
         let there : unit_line units p.piece.unit a ≡ Some m = ap (λ u. unit_line units u a) (sym unit) ∙ line in
         or_left (list_any (λ (r : LineRun). bytes_eq m.0 (path_in units p.piece.unit r.path)) p.lines) (list_any (λ (r : InlineParts). bytes_eq m.0 (call_path units p.piece.unit r.entry)) p.copies)
         (run_named units p.piece.unit a m p.lines (are.0.paths.values a ∙ between_in p.piece.start p.piece.end a (unit_line units p.piece.unit) low high ∙ there))
@@ -225,7 +225,7 @@ found_by : (records : List SymLine) (paths : List (List ℕ)) (o : Option (List 
 found_by records paths None each = refl
 found_by records paths (Some m) each = ap (λ (q : Option (List ℕ)). Some (q, m.1)) (each m refl)
 
-line_by_owner : (records : List SymLine) (paths : List (List ℕ)) (units : List UnitRead) (a : ℕ) (o : Option Covering) → ((p : Place) → option_map place_of o ≡ Some p → (m : List ℕ × ℕ) → unit_line units p.unit a ≡ Some m → text_path records (number_in paths m.0) ≡ Some m.0) → numbered_at records paths units a (option_map place_of o) ≡ option_map found_line (owner_line units a o)
+line_by_owner : (records : List SymLine) (paths : List (List ℕ)) (units : List UnitRead) (a : ℕ) (o : Option Covering) → ((p : EntryRef) → option_map place_of o ≡ Some p → (m : List ℕ × ℕ) → unit_line units p.unit a ≡ Some m → text_path records (number_in paths m.0) ≡ Some m.0) → numbered_at records paths units a (option_map place_of o) ≡ option_map found_line (owner_line units a o)
 unfolding unit_line
 line_by_owner records paths units a None each = refl
 line_by_owner records paths units a (Some c) each = found_by records paths (line_in a (slice_get units c.unit)) (each (place_of c) refl)
@@ -235,14 +235,9 @@ name_by_owner units None = refl
 name_by_owner units (Some c) = refl
 
 -- the chain of an address by its owner
-chain_same : (c : Covering) (a : ℕ) (o : Option UnitRead) → chain_by c.unit c.entry a o ≡ chain_in a c o
-chain_same c a None = refl
-chain_same c a (Some part) = refl
-
 chain_by_owner : (units : List UnitRead) (a : ℕ) (o : Option Covering) → calls_at units a (option_map place_of o) ≡ map (call_in units) (chain_under units a o)
-unfolding entry_chain
 chain_by_owner units a None = refl
-chain_by_owner units a (Some c) = ap (map (call_in units)) (chain_same c a (slice_get units c.unit))
+chain_by_owner units a (Some c) = refl
 
 -- the records of functions among others
 abbrev pub around : ℕ → List UnitRead → List (List ℕ) → List (List ℕ) → List Part → List SymLine → List SymLine → List SymLine
@@ -275,7 +270,7 @@ all_named base units pieces front records behind pieced above are plain no_file 
     let found : text_func all x ≡ text_func functions x = func_behind front (file_lines 0 paths ++ (origin_lines 0 names ++ functions)) x plain ∙ func_files 0 paths (origin_lines 0 names ++ functions) x ∙ func_origins 0 names functions x in
     let runs : part_runs parts ≡ map piece_run pieces = ap (λ (ps : List Piece). map piece_run ps) are.pieces_are in
     let apart : AreRuns (part_runs parts) = rw runs pieced.runs.apart in
-    let value : value_in (part_runs parts) (x + base) ≡ owner_place units (x + base) = ap (λ (rs : List (Run Place)). value_in rs (x + base)) runs ∙ pieced.runs.values (x + base) in
+    let value : value_in (part_runs parts) (x + base) ≡ owner_place units (x + base) = ap (λ (rs : List (Run EntryRef)). value_in rs (x + base)) runs ∙ pieced.runs.values (x + base) in
     let high : BeginAbove base (pieces_of parts) = rw are.pieces_are above in
     let path : FindPaths all paths units parts = paths_found base units pieces front records behind are no_file in
     let name : FindNames all names units parts = names_found base units pieces front records behind are no_origin in

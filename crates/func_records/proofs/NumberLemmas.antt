@@ -10,10 +10,10 @@ use Rattle.std.proofs.lemmas.Cmp.{nat_list_cmp_total, tied_itself}
 use Rattle.std.proofs.lemmas.Slice.Eq.{bytes_eq-Decides}
 use Rattle.std.proofs.lemmas.List.{map-append}
 use Rattle.std.proofs.lemmas.List.Folds.{Any-from_list_any}
-use Rattle.func_records.specs.Texts.{text_cmp}
+use Rattle.func_records.specs.internal.Texts.{text_cmp}
 use Rattle.func_records.specs.FuncRecords.{number_in}
-use Rattle.func_records.specs.Gathering.{bytes_of}
-use Rattle.func_records.specs.Spelling.{number_or_0}
+use Rattle.func_records.specs.internal.Gathering.{bytes_of}
+use Rattle.func_records.specs.internal.Spelling.{number_or_0}
 use Rattle.func_records.proofs.ListLemmas.{take_more}
 
 -- a text below all others is none of them

@@ -10,8 +10,8 @@ use Rattle.die_names.specs.Names.{entry_name}
 use Rattle.func_flatten.specs.declared.piece.Piece.{Piece}
 use Rattle.inline_chain.specs.InlineRuns.{InlineParts}
 use Rattle.func_records.specs.declared.origins.Origin.{Origin}
-use Rattle.func_records.specs.Spelling.{number_or_0}
-use Rattle.func_records.specs.Origins.{made_name, entry_names, all_names, numbered_refs, AllNumbered}
+use Rattle.func_records.specs.internal.Spelling.{number_or_0}
+use Rattle.func_records.specs.internal.Origins.{made_name, entry_names, all_names, numbered_refs, AllNumbered}
 use Rattle.func_records.proofs.ListLemmas.{take_next}
 
 -- the names of a piece more

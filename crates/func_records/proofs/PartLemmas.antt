@@ -3,8 +3,8 @@ use Rattle.std.proofs.Common.{◌≡◌, List, [], ◌∷◌, ◌++◌, refl, ap
 use Rattle.die_names.specs.declared.unit_read.UnitRead.{UnitRead}
 use Rattle.func_flatten.specs.LineRuns.{AreLineRuns}
 use Rattle.func_records.specs.FuncRecords.{Part, pieces_of, AreLined}
-use Rattle.func_records.specs.Calls.{AreKnown, AreAllKnown}
-use Rattle.func_records.specs.Gathering.{copies_of}
+use Rattle.func_records.specs.internal.Calls.{AreKnown, AreAllKnown}
+use Rattle.func_records.specs.internal.Gathering.{copies_of}
 
 pub lined_push : (units : List UnitRead) (parts : List Part) (p : Part) → AreLined units parts → AreLineRuns units p.piece p.lines → AreLined units (parts ++ p ∷ [])
 lined_push units [] p lined runs = (runs, tt)

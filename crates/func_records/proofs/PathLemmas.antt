@@ -17,7 +17,7 @@ use Rattle.func_flatten.specs.declared.line_run.LineRun.{LineRun}
 use Rattle.func_flatten.specs.LineRuns.{number_line_in, paths_in, number_run, path_run, path_line, unit_number_line, unit_line, unit_paths, AreLineRuns}
 use Rattle.inline_chain.specs.InlineRuns.{InlineParts}
 use Rattle.func_records.specs.FuncRecords.{Part, path_in, names_path}
-use Rattle.func_records.specs.Gathering.{has_text, ArePathed, any_run, RowSays, RowsSay, AddsPiece, Gathered, any_call, any_mark}
+use Rattle.func_records.specs.internal.Gathering.{has_text, ArePathed, any_run, RowSays, RowsSay, AddsPiece, Gathered, any_call, any_mark}
 use Rattle.func_records.proofs.PartLemmas.{lined_push, pieces_push, copies_push, known_push}
 use Rattle.func_records.proofs.ListLemmas.{or_assoc, or_false, or_left, or_right, take_more}
 

@@ -9,7 +9,7 @@ use Rattle.die_names.specs.UnitEntries.{Placed, entry_in, entry_of}
 use Rattle.func_flatten.specs.LineRuns.{paths_in, unit_paths}
 use Rattle.func_records.specs.declared.calls.CallSite.{CallSite}
 use Rattle.func_records.specs.FuncRecords.{no_path, file_path, file_path_in, path_of_call}
-use Rattle.func_records.specs.Calls.{file_number_in, number_by, call_number, path_or, IsPathed, IsSite}
+use Rattle.func_records.specs.internal.Calls.{file_number_in, number_by, call_number, path_or, IsPathed, IsSite}
 
 -- an entry that is not there
 lost_site : (units : List UnitRead) (unit entry : ℕ) → entry_of units unit entry ≡ None → IsSite units unit entry (record { path = None; line = 0 })

@@ -20,8 +20,8 @@ use Rattle.func_flatten.specs.LineRuns.{AreLineRuns}
 use Rattle.inline_chain.specs.InlineRuns.{InlineParts}
 use Rattle.func_records.specs.declared.numbers.Numbers.{Numbers}
 use Rattle.func_records.specs.FuncRecords.{Part, func_record, EndBelow}
-use Rattle.func_records.specs.Spelling.{line_by, row_of}
-use Rattle.func_records.specs.Parts.{inline_by, part_by, parts_by, AddsPart, AddsParts}
+use Rattle.func_records.specs.internal.Spelling.{line_by, row_of}
+use Rattle.func_records.specs.internal.Parts.{inline_by, part_by, parts_by, AddsPart, AddsParts}
 use Rattle.clean_names.proofs.CleanLemmas.{cleaned_again}
 use Rattle.func_records.proofs.ListLemmas.{take_next}
 use Rattle.func_records.proofs.PartLemmas.{lined_push, pieces_push, copies_push}

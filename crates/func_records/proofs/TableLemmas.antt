@@ -11,8 +11,8 @@ use Rattle.sym_records.specs.declared.place.Place.TheVariants.{Inside}
 use Rattle.sym_records.specs.declared.line.SymLine.{SymLine}
 use Rattle.sym_records.proofs.JoiningLemmas.{from_here, join_behind}
 use Rattle.func_records.specs.FuncRecords.{numbered_lines}
-use Rattle.func_records.specs.Gathering.{bytes_of}
-use Rattle.func_records.specs.Numbering.{numbered}
+use Rattle.func_records.specs.internal.Gathering.{bytes_of}
+use Rattle.func_records.specs.internal.Numbering.{numbered}
 use Rattle.clean_names.specs.Cleaning.{AreClean}
 use Rattle.func_records.specs.declared.numbering.Numbering.{Numbering}
 use Rattle.func_records.specs.declared.numbering.Numbering.TheVariants as by

@@ -14,7 +14,7 @@ use Rattle.std.proofs.lemmas.Slice.Eq.{bytes_eq-Decides}
 use Rattle.std.proofs.lemmas.List.Filters.{dedup_is}
 use Rattle.std.proofs.lemmas.List.Kept.{IsStrictlySortedBy-dedup, Any-dedup, Contains-from_dedup}
 use Rattle.std.proofs.lemmas.List.Sorted.{IsPermutation-sym, Contains-permutation, searchable_from_sorted}
-use Rattle.func_records.specs.Texts.{text_cmp, SameTexts}
+use Rattle.func_records.specs.internal.Texts.{text_cmp, SameTexts}
 
 abbrev text_eq : Bor (List ℕ) → Bor (List ℕ) → Bool
 text_eq x y = bytes_eq x.now y.now

@@ -16,13 +16,13 @@ use Rattle.func_flatten.specs.declared.piece.Piece.{Piece}
 use Rattle.func_flatten.specs.declared.line_run.LineRun.{LineRun}
 use Rattle.func_flatten.specs.LineRuns.{unit_paths}
 use Rattle.inline_chain.specs.InlineRuns.{InlineParts}
-use Rattle.func_records.specs.Texts.{text_cmp, SameTexts}
+use Rattle.func_records.specs.internal.Texts.{text_cmp, SameTexts}
 use Rattle.func_records.specs.FuncRecords.{Part, path_in, no_path, call_path, AreLined, names_path}
-use Rattle.func_records.specs.Calls.{call_number, path_or, IsPathed, AreKnown, AreAllKnown}
-use Rattle.func_records.specs.Gathering.{bytes_of, has_text, ArePathed, Gathered}
+use Rattle.func_records.specs.internal.Calls.{call_number, path_or, IsPathed, AreKnown, AreAllKnown}
+use Rattle.func_records.specs.internal.Gathering.{bytes_of, has_text, ArePathed, Gathered}
 use Rattle.clean_names.specs.Cleaning.{AreClean}
 use Rattle.die_names.specs.CleanPaths.{HaveCleanPaths}
-use Rattle.func_records.specs.Origins.{made_name}
+use Rattle.func_records.specs.internal.Origins.{made_name}
 use Rattle.clean_names.proofs.CleanLemmas.{cleaned_again, omitted_again}
 use Rattle.func_records.proofs.PathLemmas.{all_pathed}
 use Rattle.func_records.proofs.ListLemmas.{or_left, or_right}

@@ -4,36 +4,18 @@ use Rattle.sym_edges.specs.Addresses.{Range}
 use Rattle.sym_records.specs.declared.line.SymLine.TheVariants.{File, Origin, Func, Inline, Line}
 use Rattle.die_walk.specs.EntryTable.{DieFields}
 use Rattle.die_names.specs.declared.unit_read.UnitRead.{UnitRead}
+use Rattle.die_names.proofs.MadeUnits.{bare_entry, bare_unit}
 use Rattle.func_flatten.specs.LineRuns.{unit_paths}
 use Rattle.func_flatten.proofs.Computing.{func_flatten_computes}
 use Rattle.func_records.specs.FuncRecords.{Part, no_path, path_of_call, call_path, number_in, file_lines, origin_lines, part_lines}
 
 -- an entry with this tag, this linkage name, and a call of this file and line
 unfoldable entry : ℕ → List ℕ → Option ℕ → ℕ → DieFields
-entry tag name file line = record {
-  at = 0;
-  tag = tag;
-  parent = Some 0;
-  declaration = false;
-  low = None;
-  high = None;
-  ranges = None;
-  origin = None;
-  spec = None;
-  name = None;
-  linkage = Some name;
-  call_file = file;
-  call_line = line;
-}
+entry tag name file line = record (bare_entry tag) { parent = Some 0; linkage = Some name; call_file = file; call_line = line }
 
 -- a unit of a function and three inlined copies, whose files are numbered from `first`
 unfoldable unit : ℕ → UnitRead
-unit first = record {
-  die = record {
-    root = record { at = 0; low = None; stmt_list = None; comp_dir = None; str_offsets_base = None; addr_base = None; rnglists_base = None };
-    dies = entry 0x2e (codes "f") None 0 ∷ entry 0x1d (codes "g") (Some 1) 7 ∷ entry 0x1d (codes "h") None 0 ∷ entry 0x1d (codes "g") (Some 0) 8 ∷ [];
-  };
-  spans = [];
+unit first = record (bare_unit (entry 0x2e (codes "f") None 0 ∷ entry 0x1d (codes "g") (Some 1) 7 ∷ entry 0x1d (codes "h") None 0 ∷ entry 0x1d (codes "g") (Some 0) 8 ∷ []) []) {
   lines = record { lines = record { stops = []; values = [] }; paths = codes "b.h" ∷ codes "a.c" ∷ []; first = first; files = 1 ∷ 0 ∷ [] };
 }
 

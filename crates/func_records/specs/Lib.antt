@@ -1,10 +1,4 @@
-pub mod Texts
 pub mod FuncRecords
 pub mod TextNames
-pub mod Calls
-pub mod Gathering
-pub mod Numbering
-pub mod Spelling
-pub mod Origins
-pub mod Parts
 pub mod Adding
+pub mod internal

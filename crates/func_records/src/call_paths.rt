@@ -2,8 +2,8 @@
 ghost use Rattle.std.specs.Prelude.{◌≡◌, ℕ, List, ◌||◌, OnOk};
 ghost use Rattle.std.specs.Str.{bytes_eq};
 ghost use Rattle.func_records.specs.FuncRecords.{no_path, call_path};
-ghost use Rattle.func_records.specs.Calls.{IsKnown, AreKnown};
-ghost use Rattle.func_records.specs.Gathering.{has_text, any_call, OmittedSays, RowSays};
+ghost use Rattle.func_records.specs.internal.Calls.{IsKnown, AreKnown};
+ghost use Rattle.func_records.specs.internal.Gathering.{has_text, any_call, OmittedSays, RowSays};
 
 use crate::calls::call_site;
 use crate::marks::{Marks, gather_path};

@@ -1,12 +1,9 @@
 //! Where inlined copies are called.
 ghost use Rattle.std.specs.Prelude.{◌≡◌, ◌<◌, length, IfSome, option_and_then};
-ghost use Rattle.std.specs.List.{slice_get};
-ghost use Rattle.std.specs.Option.{option_copied};
 ghost use Rattle.line_program.specs.LineMaps.{numbered_file};
-ghost use Rattle.func_records.specs.Calls.{IsSite};
+ghost use Rattle.func_records.specs.internal.Calls.{IsSite};
 
-use die_names::{UnitRead, Units};
-use die_walk::Die;
+use die_names::Units;
 use line_program::LineTable;
 
 /// Where a call is: the number that its path has in the line table of its unit, where the table has its file, and its line.
@@ -14,20 +11,6 @@ use line_program::LineTable;
 pub struct CallSite {
     pub path: Option<u32>,
     pub line: u32,
-}
-
-/// What was read of the unit of a number.
-fn part_in<'u, 'a>(units: &'u Units<'a>, unit: usize) -> Option<&'u UnitRead<'a>>
-    ensures { option_copied result ≡ slice_get units.now unit }
-{
-    units.as_slice().get(unit)
-}
-
-/// The entry of a number.
-fn die_in<'u, 'a>(dies: &'u [Die<'a>], entry: usize) -> Option<&'u Die<'a>>
-    ensures { option_copied result ≡ slice_get dies.now entry }
-{
-    dies.get(entry)
 }
 
 /// The number of a file's path.
@@ -45,13 +28,13 @@ fn number_of_file(table: &LineTable, file: Option<u64>) -> Option<u32>
 pub fn call_site(units: &Units<'_>, unit: u32, entry: u32) -> CallSite
     ensures { IsSite units.now unit entry result }
 {
-    let Some(part) = part_in(units, unit as usize) else {
+    let Some(part) = units.unit(unit) else {
         return CallSite {
             path: None,
             line: 0,
         };
     };
-    let Some(die) = die_in(part.die.dies(), entry as usize) else {
+    let Some(die) = part.entry(entry as usize) else {
         return CallSite {
             path: None,
             line: 0,

@@ -13,6 +13,7 @@ use crate::origins::{number_origins, number_refs};
 use crate::paths::gather_paths;
 use crate::sorting::{sorted_texts, text_slices};
 use crate::spelling::add_parts;
+use crate::writer::FuncWriter;
 use die_names::Units;
 use func_flatten::Piece;
 use std::alloc::Global;
@@ -50,22 +51,17 @@ pub fn add_functions(
     let rows = number_rows(alloc, units, paths)?;
     let known = number_origins(alloc, named.refs.as_slice(), texts, names)?;
     let origins = number_refs(alloc, units, known.as_slice(), names, named.all.as_slice())?;
-    let numbers = Numbers {
-        rows: rows.as_slice(),
-        omitted: number_of(paths, no_path()),
-        names,
+    let writer = FuncWriter {
+        base,
+        units,
+        numbers: Numbers {
+            rows: rows.as_slice(),
+            omitted: number_of(paths, no_path()),
+            names,
+        },
     };
     add_texts(alloc, Numbering::Files, paths, text)?;
     add_texts(alloc, Numbering::Origins, names, text)?;
-    add_parts(
-        alloc,
-        base,
-        units,
-        &numbers,
-        pieces,
-        copies,
-        origins.as_slice(),
-        text,
-    )?;
+    add_parts(alloc, &writer, pieces, copies, origins.as_slice(), text)?;
     Ok(())
 }

@@ -1,6 +1,6 @@
 //! The inlined copies of all pieces.
 ghost use Rattle.std.specs.Prelude.{◌≡◌, length, IfOk};
-ghost use Rattle.func_records.specs.Gathering.{AreHeld};
+ghost use Rattle.func_records.specs.internal.Gathering.{AreHeld};
 
 use die_names::Units;
 use func_flatten::Piece;

@@ -5,15 +5,15 @@ ghost use Rattle.sym_records.specs.Canon.{canon, canon_text};
 ghost use Rattle.sym_records.specs.Fields.{is_range};
 ghost use Rattle.sym_records.specs.Validity.{fields_fit};
 ghost use Rattle.func_records.specs.FuncRecords.{extent};
-ghost use Rattle.func_records.specs.Gathering.{bytes_of};
-ghost use Rattle.func_records.specs.Origins.{copy_numbers};
-ghost use Rattle.func_records.specs.Parts.{file_by, inline_by, AreShort};
-ghost use Rattle.func_records.specs.Spelling.{number_or_0, row_of};
+ghost use Rattle.func_records.specs.internal.Gathering.{bytes_of};
+ghost use Rattle.func_records.specs.internal.Origins.{copy_numbers};
+ghost use Rattle.func_records.specs.internal.Parts.{file_by, inline_by, AreShort};
+ghost use Rattle.func_records.specs.internal.Spelling.{number_or_0, row_of};
 ghost use Rattle.die_names.specs.Names.{entry_name};
 
 use crate::calls::call_site;
-use crate::numbers::{Numbers, number_in, row_in};
-use die_names::Units;
+use crate::numbers::{number_in, row_in};
+use crate::writer::FuncWriter;
 use inline_chain::InlineRun;
 use sym_edges::{OutOfMemory, Span};
 use sym_records::laws::records_of_functions_fit;
@@ -56,59 +56,43 @@ fn file_number(row: &[u32], omitted: u32, path: Option<u32>) -> u32
 
 /// Adds the record of an inlined copy. What `ranges` holds does not matter: it is used again for the sake of its memory.
 fn add_copy(
-    base: u64,
-    units: &Units<'_>,
-    numbers: &Numbers<'_>,
+    writer: &FuncWriter<'_, '_, '_>,
     unit: u32,
     copy: &InlineRun,
     origin: u32,
     ranges: &mut Vec<Extent>,
     text: &mut Vec<u8>,
 ) -> Result<(), OutOfMemory>
-    requires numbered { origin ≡ number_or_0 (bytes_of numbers.now.names.now) (entry_name units.now unit copy.now.entry) }
+    requires numbered { origin ≡ number_or_0 (bytes_of writer.now.numbers.names.now) (entry_name writer.now.units.now unit copy.now.entry) }
     requires some { 0 < length copy.now.spans }
     requires short { length copy.now.spans ≤ 16384 }
-    ensures text { OnOk result (text.new.items ≡ text.old.items ++ canon (inline_by base numbers.now units.now unit copy.now)) }
-    ensures fit { OnOk result (fields_fit (inline_by base numbers.now units.now unit copy.now) ≡ true) }
+    ensures text { OnOk result (text.new.items ≡ text.old.items ++ canon (inline_by writer.now.base writer.now.numbers writer.now.units.now unit copy.now)) }
+    ensures fit { OnOk result (fields_fit (inline_by writer.now.base writer.now.numbers writer.now.units.now unit copy.now) ≡ true) }
 {
     records_of_functions_fit();
-    let site = call_site(units, unit, copy.entry);
-    let file = file_number(
-        row_in(numbers.rows, unit as usize),
-        numbers.omitted,
-        site.path,
-    );
-    fill_ranges(base, copy.spans.spans(), ranges)?;
+    let site = call_site(writer.units, unit, copy.entry);
+    let row = row_in(writer.numbers.rows, unit as usize);
+    let file = file_number(row, writer.numbers.omitted, site.path);
+    fill_ranges(writer.base, copy.spans.spans(), ranges)?;
     add_inline(text, copy.level, site.line, file, origin, ranges.as_slice())
 }
 
 /// Adds the records of a piece's inlined copies, each with the number of its name.
 pub fn add_copies(
-    base: u64,
-    units: &Units<'_>,
-    numbers: &Numbers<'_>,
+    writer: &FuncWriter<'_, '_, '_>,
     unit: u32,
     copies: &[InlineRun],
     origins: &[u32],
     ranges: &mut Vec<Extent>,
     text: &mut Vec<u8>,
 ) -> Result<(), OutOfMemory>
-    requires numbered { origins.now ≡ copy_numbers numbers.now units.now unit copies.now }
+    requires numbered { origins.now ≡ copy_numbers writer.now.numbers writer.now.units.now unit copies.now }
     requires short { AreShort copies.now }
-    ensures text { OnOk result (text.new.items ≡ text.old.items ++ canon_text (map (inline_by base numbers.now units.now unit) copies.now)) }
-    ensures fit { OnOk result (list_all fields_fit (map (inline_by base numbers.now units.now unit) copies.now) ≡ true) }
+    ensures text { OnOk result (text.new.items ≡ text.old.items ++ canon_text (map (inline_by writer.now.base writer.now.numbers writer.now.units.now unit) copies.now)) }
+    ensures fit { OnOk result (list_all fields_fit (map (inline_by writer.now.base writer.now.numbers writer.now.units.now unit) copies.now) ≡ true) }
 {
     'copies: for place in 0..copies.len() {
-        add_copy(
-            base,
-            units,
-            numbers,
-            unit,
-            &copies[place],
-            origins[place],
-            ranges,
-            text,
-        )?;
+        add_copy(writer, unit, &copies[place], origins[place], ranges, text)?;
     }
     Ok(())
 }

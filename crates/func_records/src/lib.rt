@@ -27,5 +27,6 @@ mod origins;
 mod paths;
 mod sorting;
 mod spelling;
+mod writer;
 
 pub use functions::add_functions;

@@ -5,7 +5,7 @@ ghost use Rattle.std.specs.Option.{option_copied};
 ghost use Rattle.std.specs.Str.{bytes_eq};
 ghost use Rattle.func_flatten.specs.LineRuns.{unit_paths};
 ghost use Rattle.func_records.specs.FuncRecords.{path_in};
-ghost use Rattle.func_records.specs.Gathering.{has_text, RowSays, RowsSay};
+ghost use Rattle.func_records.specs.internal.Gathering.{has_text, RowSays, RowsSay};
 
 use die_names::Units;
 use std::alloc::Global;
@@ -56,7 +56,7 @@ impl Marks {
 fn path_in<'u>(units: &'u Units<'_>, unit: u32, path: u32) -> Option<&'u [u8]>
     ensures { option_copied result ≡ slice_get (unit_paths units.now unit) path }
 {
-    let Some(part) = units.as_slice().get(unit as usize) else {
+    let Some(part) = units.unit(unit) else {
         return None;
     };
     if path as usize >= part.lines.path_count() {

@@ -3,9 +3,9 @@ ghost use Rattle.std.specs.Prelude.{◌≡◌, ℕ, Bool, List, ◌++◌, ◌||�
 ghost use Rattle.std.specs.List.{list_any};
 ghost use Rattle.std.specs.Str.{bytes_eq};
 ghost use Rattle.die_names.specs.declared.naming.NameRef.{NameRef};
-ghost use Rattle.func_records.specs.Origins.{made_name, entry_names, all_names};
+ghost use Rattle.func_records.specs.internal.Origins.{made_name, entry_names, all_names};
 
-use die_names::{How, NameRef, NameText, Units, name_of, name_text};
+use die_names::{EntryNameText, How, NameRef, Units, name_of, name_text};
 use func_flatten::Piece;
 use inline_chain::{InlineRun, InlineRuns};
 use std::alloc::Global;
@@ -16,7 +16,7 @@ use sym_edges::OutOfMemory;
 pub struct OriginNames<'a> {
     pub all: Vec<NameRef>,
     pub refs: Vec<NameRef>,
-    pub texts: Vec<NameText<'a>>,
+    pub texts: Vec<EntryNameText<'a>>,
 }
 
 /// References are sorted and looked up by the numbers of their entries.
@@ -122,7 +122,7 @@ fn make_names<'a>(
     alloc: Global,
     units: &Units<'a>,
     refs: &[NameRef],
-) -> Result<Vec<NameText<'a>>, OutOfMemory>
+) -> Result<Vec<EntryNameText<'a>>, OutOfMemory>
     ensures { IfOk result (λ texts. texts.items ≡ map (made_name units.now) refs.now) }
 {
     let mut texts = Vec::with_capacity(alloc, refs.len())?;

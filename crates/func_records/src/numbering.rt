@@ -6,8 +6,8 @@ ghost use Rattle.sym_records.specs.Spelled.{text_bytes};
 ghost use Rattle.sym_records.specs.Validity.{fields_fit, first_bad_from};
 ghost use Rattle.sym_records.specs.declared.place.Place.TheVariants.{Inside};
 ghost use Rattle.func_records.specs.FuncRecords.{numbered_lines};
-ghost use Rattle.func_records.specs.Gathering.{bytes_of};
-ghost use Rattle.func_records.specs.Numbering.{numbered};
+ghost use Rattle.func_records.specs.internal.Gathering.{bytes_of};
+ghost use Rattle.func_records.specs.internal.Numbering.{numbered};
 ghost use Rattle.clean_names.specs.Cleaning.{AreClean};
 
 use std::alloc::Global;

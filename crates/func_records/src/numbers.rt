@@ -3,9 +3,9 @@ ghost use Rattle.std.specs.Prelude.{◌≡◌, ℕ, ◌<◌, ◌^◌, false, map
 ghost use Rattle.std.specs.Str.{bytes_eq};
 ghost use Rattle.std.specs.List.Sorted.{IsStrictlySortedBy};
 ghost use Rattle.line_program.specs.LineMaps.{LineMap};
-ghost use Rattle.func_records.specs.Texts.{text_cmp};
-ghost use Rattle.func_records.specs.Gathering.{bytes_of};
-ghost use Rattle.func_records.specs.Spelling.{number_or_0, unit_numbers, row_of};
+ghost use Rattle.func_records.specs.internal.Texts.{text_cmp};
+ghost use Rattle.func_records.specs.internal.Gathering.{bytes_of};
+ghost use Rattle.func_records.specs.internal.Spelling.{number_or_0, unit_numbers, row_of};
 
 use die_names::Units;
 use line_program::LineTable;

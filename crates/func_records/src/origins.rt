@@ -2,14 +2,14 @@
 ghost use Rattle.std.specs.Prelude.{◌≡◌, ℕ, ◌<◌, ◌^◌, List, map, length, IfOk, IfSome};
 ghost use Rattle.std.specs.List.Sorted.{IsStrictlySortedBy};
 ghost use Rattle.die_names.specs.declared.unit_read.UnitRead.{UnitRead};
-ghost use Rattle.func_records.specs.Texts.{text_cmp};
-ghost use Rattle.func_records.specs.Gathering.{bytes_of};
-ghost use Rattle.func_records.specs.Spelling.{number_or_0};
-ghost use Rattle.func_records.specs.Origins.{made_name, numbered_refs, AllNumbered};
+ghost use Rattle.func_records.specs.internal.Texts.{text_cmp};
+ghost use Rattle.func_records.specs.internal.Gathering.{bytes_of};
+ghost use Rattle.func_records.specs.internal.Spelling.{number_or_0};
+ghost use Rattle.func_records.specs.internal.Origins.{made_name, numbered_refs, AllNumbered};
 
 use crate::names::{is_same, key_of};
 use crate::numbers::number_of;
-use die_names::{NameRef, NameText, Units, name_text};
+use die_names::{EntryNameText, NameRef, Units, name_text};
 use std::alloc::Global;
 use sym_edges::OutOfMemory;
 
@@ -24,7 +24,7 @@ pub struct Origin {
 pub fn number_origins(
     alloc: Global,
     refs: &[NameRef],
-    texts: &[NameText<'_>],
+    texts: &[EntryNameText<'_>],
     sorted: &[&[u8]],
 ) -> Result<Vec<Origin>, OutOfMemory>
     requires count { length texts.now ≡ length refs.now }

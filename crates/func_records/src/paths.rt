@@ -1,7 +1,7 @@
 //! The paths that line records and calls name.
 ghost use Rattle.std.specs.Prelude.{◌≡◌, ℕ, List, ◌||◌, length, IfOk, OnOk};
-ghost use Rattle.func_records.specs.Calls.{AreKnown};
-ghost use Rattle.func_records.specs.Gathering.{has_text, ArePathed, any_run, any_call, OmittedSays, RowSays, RowsSay, AddsPiece, Gathered};
+ghost use Rattle.func_records.specs.internal.Calls.{AreKnown};
+ghost use Rattle.func_records.specs.internal.Gathering.{has_text, ArePathed, any_run, any_call, OmittedSays, RowSays, RowsSay, AddsPiece, Gathered};
 
 use crate::call_paths::gather_calls;
 use crate::marks::{Marks, empty_rows, gather_path};

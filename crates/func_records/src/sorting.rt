@@ -1,10 +1,10 @@
 //! Texts, and the same in the order of their bytes.
 ghost use Rattle.std.specs.Prelude.{◌≡◌, IfOk};
 ghost use Rattle.std.specs.List.Sorted.{IsStrictlySortedBy};
-ghost use Rattle.func_records.specs.Texts.{text_cmp, SameTexts};
-ghost use Rattle.func_records.specs.Gathering.{bytes_of};
+ghost use Rattle.func_records.specs.internal.Texts.{text_cmp, SameTexts};
+ghost use Rattle.func_records.specs.internal.Gathering.{bytes_of};
 
-use die_names::NameText;
+use die_names::EntryNameText;
 use std::alloc::{AllocError, Global};
 use sym_edges::OutOfMemory;
 
@@ -22,7 +22,7 @@ pub fn sorted_texts<'a>(alloc: Global, texts: &[&'a [u8]]) -> Result<Vec<&'a [u8
 /// The bytes of texts.
 pub fn text_slices<'t>(
     alloc: Global,
-    texts: &'t [NameText<'_>],
+    texts: &'t [EntryNameText<'_>],
 ) -> Result<Vec<&'t [u8]>, OutOfMemory>
     ensures { IfOk result (λ slices. bytes_of slices.items ≡ texts.now) }
 {

@@ -8,13 +8,14 @@ ghost use Rattle.sym_records.specs.Spelled.{text_bytes};
 ghost use Rattle.sym_records.specs.Validity.{fields_fit};
 ghost use Rattle.func_flatten.specs.LineRuns.{AreLineRuns};
 ghost use Rattle.func_records.specs.FuncRecords.{func_record};
-ghost use Rattle.func_records.specs.Origins.{copy_numbers, all_numbers};
-ghost use Rattle.func_records.specs.Parts.{AreShort, AreAllShort, AddsPart, AddsParts};
-ghost use Rattle.func_records.specs.Spelling.{line_by};
+ghost use Rattle.func_records.specs.internal.Origins.{copy_numbers, all_numbers};
+ghost use Rattle.func_records.specs.internal.Parts.{AreShort, AreAllShort, AddsPart, AddsParts};
+ghost use Rattle.func_records.specs.internal.Spelling.{line_by};
 
 use crate::inlines::add_copies;
-use crate::numbers::{Numbers, number_in, row_in};
-use die_names::{Units, name_of, name_slice, name_text};
+use crate::numbers::{number_in, row_in};
+use crate::writer::FuncWriter;
+use die_names::{name_of, name_slice, name_text};
 use func_flatten::{LineRun, Piece, lines_of};
 use inline_chain::{InlineRun, InlineRuns};
 use std::alloc::Global;
@@ -51,33 +52,30 @@ fn add_runs(text: &mut Vec<u8>, base: u64, row: &[u32], runs: &[LineRun]) -> Res
 #[tactic(auto, using(crate::proofs::SpellLemmas::sliced_name, crate::proofs::SpellLemmas::name_made))]
 fn add_owner(
     alloc: Global,
-    text: &mut Vec<u8>,
-    base: u64,
-    units: &Units<'_>,
+    writer: &FuncWriter<'_, '_, '_>,
     piece: &Piece,
+    text: &mut Vec<u8>,
 ) -> Result<(), OutOfMemory>
-    ensures text { OnOk result (text.new.items ≡ text.old.items ++ canon (func_record base units.now piece.now)) }
-    ensures fit { OnOk result (fields_fit (func_record base units.now piece.now) ≡ true) }
+    ensures text { OnOk result (text.new.items ≡ text.old.items ++ canon (func_record writer.now.base writer.now.units.now piece.now)) }
+    ensures fit { OnOk result (fields_fit (func_record writer.now.base writer.now.units.now piece.now) ≡ true) }
     ensures below { piece.now.end < 2 ^ 64 }
 {
     cleaned_bytes_are_names();
     records_of_functions_fit();
-    let address = piece.start.saturating_sub(base);
+    let address = piece.start.saturating_sub(writer.base);
     let size = piece.end.saturating_sub(piece.start);
-    let name = name_of(units, piece.unit, piece.entry);
-    if let Some(bytes) = name_slice(units, name) {
+    let name = name_of(writer.units, piece.unit, piece.entry);
+    if let Some(bytes) = name_slice(writer.units, name) {
         return add_func(text, piece.many, address, size, 0, bytes);
     }
-    let made = name_text(alloc, units, name)?;
+    let made = name_text(alloc, writer.units, name)?;
     add_func(text, piece.many, address, size, 0, made.as_slice())
 }
 
 /// Adds the records of a piece, its inlined copies and its lines. What `ranges` and `runs` hold does not matter.
 fn add_part(
     alloc: Global,
-    base: u64,
-    units: &Units<'_>,
-    numbers: &Numbers<'_>,
+    writer: &FuncWriter<'_, '_, '_>,
     piece: &Piece,
     copies: &[InlineRun],
     origins: &[u32],
@@ -85,28 +83,15 @@ fn add_part(
     runs: &mut Vec<LineRun>,
     text: &mut TextPieces,
 ) -> Result<(), OutOfMemory>
-    requires numbered { origins.now ≡ copy_numbers numbers.now units.now piece.now.unit copies.now }
+    requires numbered { origins.now ≡ copy_numbers writer.now.numbers writer.now.units.now piece.now.unit copies.now }
     requires short { AreShort copies.now }
-    ensures { OnOk result (AddsPart base numbers.now units.now piece.now copies.now (text_bytes text.old) (text_bytes text.new)) }
+    ensures { OnOk result (AddsPart writer.now.base writer.now.numbers writer.now.units.now piece.now copies.now (text_bytes text.old) (text_bytes text.new)) }
 {
-    add_owner(alloc, &mut text.last, base, units, piece)?;
-    add_copies(
-        base,
-        units,
-        numbers,
-        piece.unit,
-        copies,
-        origins,
-        ranges,
-        &mut text.last,
-    )?;
-    lines_of(units, piece, runs)?;
-    add_runs(
-        &mut text.last,
-        base,
-        row_in(numbers.rows, piece.unit as usize),
-        runs.as_slice(),
-    )?;
+    add_owner(alloc, writer, piece, &mut text.last)?;
+    add_copies(writer, piece.unit, copies, origins, ranges, &mut text.last)?;
+    lines_of(writer.units, piece, runs)?;
+    let row = row_in(writer.numbers.rows, piece.unit as usize);
+    add_runs(&mut text.last, writer.base, row, runs.as_slice())?;
     text.turn(alloc)?;
     Ok(())
 }
@@ -114,18 +99,16 @@ fn add_part(
 /// Adds the records of pieces, their inlined copies, each with the number of its name, and their lines.
 pub fn add_parts(
     alloc: Global,
-    base: u64,
-    units: &Units<'_>,
-    numbers: &Numbers<'_>,
+    writer: &FuncWriter<'_, '_, '_>,
     pieces: &[Piece],
     held: &[InlineRuns],
     origins: &[u32],
     text: &mut TextPieces,
 ) -> Result<(), OutOfMemory>
-    requires numbered { origins.now ≡ all_numbers numbers.now units.now pieces.now held.now }
+    requires numbered { origins.now ≡ all_numbers writer.now.numbers writer.now.units.now pieces.now held.now }
     requires count { length held.now ≡ length pieces.now }
     requires short { AreAllShort held.now }
-    ensures { OnOk result (AddsParts base numbers.now units.now pieces.now held.now (text_bytes text.old) (text_bytes text.new)) }
+    ensures { OnOk result (AddsParts writer.now.base writer.now.numbers writer.now.units.now pieces.now held.now (text_bytes text.old) (text_bytes text.new)) }
 {
     let mut ranges = Vec::new(alloc);
     let mut runs = Vec::new(alloc);
@@ -136,9 +119,7 @@ pub fn add_parts(
         rest = later;
         add_part(
             alloc,
-            base,
-            units,
-            numbers,
+            writer,
             &pieces[place],
             copies,
             here,

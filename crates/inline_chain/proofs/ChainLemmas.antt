@@ -7,13 +7,13 @@ use Rattle.sym_edges.specs.Addresses.{Range}
 use Rattle.range_set.specs.Members.{holds_any}
 use Rattle.die_walk.specs.EntryTable.{DieFields}
 use Rattle.die_names.specs.declared.unit_read.UnitRead.{UnitRead}
-use Rattle.die_names.specs.UnitEntries.{is_inlined}
-use Rattle.die_names.specs.Owners.{Covering, inside_of, chain_from, unit_covering}
+use Rattle.die_walk.specs.EntryKinds.{is_inlined}
+use Rattle.die_names.specs.Owners.{Covering, inside_of, chain_from, unit_covering, chain_by, entry_chain}
 use Rattle.func_flatten.specs.declared.piece.Piece.{Piece}
 use Rattle.func_flatten.specs.Publics.{is_inside}
-use Rattle.inline_chain.specs.InlineRuns.{chain_by, entry_chain, is_on_chain}
+use Rattle.inline_chain.specs.InlineRuns.{is_on_chain}
 use Rattle.inline_chain.specs.Trees.{is_number, first_child, child_at}
-use Rattle.inline_chain.specs.Levels.{child_under, depth_at}
+use Rattle.inline_chain.specs.internal.Levels.{child_under, depth_at}
 use Rattle.inline_chain.proofs.InsideLemmas.{IsBelow, inside_below}
 
 -- it is an inlined copy directly in an entry, and has the address

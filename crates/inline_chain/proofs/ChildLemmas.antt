@@ -11,10 +11,11 @@ use Rattle.range_set.specs.Canonical.{IsCanonical}
 use Rattle.step_maps.specs.declared.stretch.Stretch.{Stretch}
 use Rattle.step_maps.specs.Covers.{reaches, first_at, index_at}
 use Rattle.die_walk.specs.EntryTable.{DieFields}
-use Rattle.die_names.specs.UnitEntries.{is_inlined}
+use Rattle.die_walk.specs.EntryKinds.{is_inlined}
 use Rattle.die_names.specs.Owners.{inside_of}
-use Rattle.func_flatten.specs.Collecting.{span_stretches}
-use Rattle.inline_chain.specs.Trees.{is_number, first_child, stretches_in, copy_by, copy_stretches, child_stretches, of_class, HaveSets}
+use Rattle.step_maps.specs.SpanStretches.{span_stretches}
+use Rattle.inline_chain.specs.internal.Copies.{stretches_in, copy_by, copy_stretches, child_stretches, of_class, HaveSets}
+use Rattle.inline_chain.specs.Trees.{is_number, first_child}
 
 index_first : (s : Stretch) (items : List Stretch) (a : ℕ) → index_at (s ∷ items) a ≡ (if reaches s a then Some s.index else index_at items a)
 unfolding index_at first_at

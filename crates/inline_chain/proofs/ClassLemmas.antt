@@ -9,8 +9,8 @@ use Rattle.std.proofs.lemmas.List.Elements.{filter_agree}
 use Rattle.std.proofs.ByRecursion.{all_shuffled}
 use Rattle.step_maps.specs.declared.stretch.Stretch.{Stretch}
 use Rattle.step_maps.specs.Covers.{AreStretches}
-use Rattle.func_flatten.specs.Collecting.{AreFit}
-use Rattle.inline_chain.specs.Trees.{of_class, HaveClasses, SortedFrom, front_count}
+use Rattle.step_maps.specs.SpanStretches.{AreFit}
+use Rattle.inline_chain.specs.internal.Copies.{of_class, HaveClasses, SortedFrom, front_count}
 
 pub tie_is : (v w : ℕ) → (not (is_lt (nat_cmp v w)) && not (is_lt (nat_cmp w v))) ≡ (w == v)
 tie_is v w = grind (arith, nat_tests)

@@ -7,10 +7,10 @@ use Rattle.sym_edges.specs.Addresses.{Range}
 use Rattle.range_set.specs.Canonical.{IsCanonical}
 use Rattle.step_maps.specs.declared.stretch.Stretch.{Stretch}
 use Rattle.die_walk.specs.EntryTable.{DieFields}
-use Rattle.die_names.specs.UnitEntries.{is_inlined}
+use Rattle.die_walk.specs.EntryKinds.{is_inlined}
 use Rattle.die_names.specs.Owners.{inside_of}
-use Rattle.func_flatten.specs.Collecting.{span_stretches, AreFit}
-use Rattle.inline_chain.specs.Trees.{stretches_in, copy_by, copy_stretches, child_stretches, HaveClasses, HaveSets, SaysInside, Collects}
+use Rattle.step_maps.specs.SpanStretches.{span_stretches, AreFit}
+use Rattle.inline_chain.specs.internal.Copies.{stretches_in, copy_by, copy_stretches, child_stretches, HaveClasses, HaveSets, SaysInside, Collects}
 use Rattle.inline_chain.proofs.InsideLemmas.{IsBelow, taken, inside_below}
 
 got_inside : {X : Type 0} (xs : List X) (k : ℕ) (x : X) → slice_get xs k ≡ Some x → k < length xs

@@ -1,8 +1,8 @@
 -- What a proof unfolds to compute the definitions of inline_chain where the input is written out.
 use Rattle.std.specs.Prelude.{⊤}
-use Rattle.die_names.specs.Owners.{inside_of}
+use Rattle.die_names.specs.Owners.{inside_of, entry_chain}
 use Rattle.func_flatten.proofs.Computing.{func_flatten_computes}
-use Rattle.inline_chain.specs.InlineRuns.{entry_chain, is_on_chain, joined}
+use Rattle.inline_chain.specs.InlineRuns.{is_on_chain, joined}
 
 unfoldable pub inline_chain_computes : ⊤
 unfolding func_flatten_computes inside_of entry_chain is_on_chain joined

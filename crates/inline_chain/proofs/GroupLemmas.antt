@@ -9,8 +9,8 @@ use Rattle.sym_edges.specs.Addresses.{Range}
 use Rattle.step_maps.specs.declared.stretch.Stretch.{Stretch}
 use Rattle.step_maps.specs.Covers.{reaches}
 use Rattle.inline_chain.specs.InlineRuns.{InlineParts, is_of, spans_of, joined}
-use Rattle.inline_chain.specs.Trees.{of_class, SortedFrom, front_count}
-use Rattle.inline_chain.specs.Levels.{has_at, has_class, AreClassParts, entry_runs, AddsGroup, AreOfLevel, Groups, IsMade}
+use Rattle.inline_chain.specs.internal.Copies.{of_class, SortedFrom, front_count}
+use Rattle.inline_chain.specs.internal.Levels.{has_at, has_class, AreClassParts, entry_runs, AddsGroup, AreOfLevel, Groups, IsMade}
 use Rattle.inline_chain.proofs.ClassLemmas.{take_front, drop_front, sorted_behind}
 
 map_joined : (xs ys : List InlineParts) → map (λ (r : InlineParts). r.spans) (xs ++ ys) ≡ map (λ (r : InlineParts). r.spans) xs ++ map (λ (r : InlineParts). r.spans) ys

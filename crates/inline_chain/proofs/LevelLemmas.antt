@@ -12,10 +12,10 @@ use Rattle.step_maps.specs.declared.stretch.Cover.{Cover}
 use Rattle.step_maps.specs.Covers.{reaches, cover_run}
 use Rattle.step_maps.proofs.RunLemmas.{rest_above, none_after, none_below}
 use Rattle.die_names.specs.declared.unit_read.UnitRead.{UnitRead}
-use Rattle.func_flatten.specs.Collecting.{AreFit}
+use Rattle.step_maps.specs.SpanStretches.{AreFit}
 use Rattle.inline_chain.specs.Trees.{is_number, list_of, child_at, IsTree}
-use Rattle.func_flatten.proofs.CollectLemmas.{fit_joined}
-use Rattle.inline_chain.specs.Levels.{has_at, covers_at, reaches_under, cut, child_under, depth_at, IsLevel, ReachTo, StartsCovers}
+use Rattle.step_maps.proofs.SpanLemmas.{fit_joined}
+use Rattle.inline_chain.specs.internal.Levels.{has_at, covers_at, reaches_under, cut, child_under, depth_at, IsLevel, ReachTo, StartsCovers}
 
 -- the covers end one behind the other
 last_above : (c : Cover) (covers : List Cover) (k : ℕ) (d : Cover) → AreRuns (map cover_run (c ∷ covers)) → k < length covers → c.last ≤ (get_or covers k d).last

@@ -12,7 +12,7 @@ use Rattle.sym_edges.specs.Addresses.{Range}
 use Rattle.range_set.specs.Canonical.{IsCanonical}
 use Rattle.inline_chain.proofs.ClassLemmas.{tie_is}
 use Rattle.inline_chain.specs.InlineRuns.{InlineParts, is_of, spans_of, joined, AreParts, first_address, is_before, IsOrdered}
-use Rattle.inline_chain.specs.Levels.{AreOfLevel, Rising}
+use Rattle.inline_chain.specs.internal.Levels.{AreOfLevel, Rising}
 
 abbrev key : InlineParts → ℕ
 key r = first_address r.spans

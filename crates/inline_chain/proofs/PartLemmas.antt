@@ -10,7 +10,7 @@ use Rattle.step_maps.specs.declared.stretch.Stretch.{Stretch}
 use Rattle.step_maps.specs.Covers.{reaches}
 use Rattle.inline_chain.specs.InlineRuns.{InlineParts, joined, AreParts}
 use Rattle.inline_chain.proofs.LevelLemmas.{or_assoc}
-use Rattle.inline_chain.specs.Levels.{entry_runs, AddsParts, AddsGroup}
+use Rattle.inline_chain.specs.internal.Levels.{entry_runs, AddsParts, AddsGroup}
 
 -- a stretch as a range
 pub stretch_holds : (first last a : ℕ) → holds (record { start = first; end = last + 1 }) a ≡ (nat_le first a && nat_le a last)

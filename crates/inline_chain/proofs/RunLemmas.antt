@@ -14,9 +14,11 @@ use Rattle.step_maps.specs.Covers.{reaches}
 use Rattle.die_names.specs.declared.unit_read.UnitRead.{UnitRead}
 use Rattle.func_flatten.specs.declared.piece.Piece.{Piece}
 use Rattle.func_flatten.specs.Publics.{is_inside}
-use Rattle.inline_chain.specs.InlineRuns.{InlineParts, is_of, spans_of, joined, AreParts, is_before, IsOrdered, entry_chain, is_on_chain, AreInlineRuns}
-use Rattle.inline_chain.specs.Trees.{is_number, of_class, IsTree, TreeFor}
-use Rattle.inline_chain.specs.Levels.{child_under, depth_at, IsLevel, AreClassParts, AreOfLevel, AreAbove, IsMade, AddsLevel, IsEntry, RunsTo, AllRuns, HaveRuns}
+use Rattle.die_names.specs.Owners.{entry_chain}
+use Rattle.inline_chain.specs.InlineRuns.{InlineParts, is_of, spans_of, joined, AreParts, is_before, IsOrdered, is_on_chain, AreInlineRuns}
+use Rattle.inline_chain.specs.internal.Copies.{of_class, TreeFor}
+use Rattle.inline_chain.specs.Trees.{is_number, IsTree}
+use Rattle.inline_chain.specs.internal.Levels.{child_under, depth_at, IsLevel, AreClassParts, AreOfLevel, AreAbove, IsMade, AddsLevel, IsEntry, RunsTo, AllRuns, HaveRuns}
 use Rattle.inline_chain.proofs.ChainLemmas.{on_chain, no_unit}
 use Rattle.inline_chain.proofs.LevelLemmas.{depth_next}
 use Rattle.inline_chain.proofs.GroupLemmas.{spans_joined, same_at}

@@ -10,8 +10,9 @@ use Rattle.step_maps.specs.Covers.{AreCovers, cover_run, first_at, index_at}
 use Rattle.die_walk.specs.EntryTable.{DieFields}
 use Rattle.die_names.specs.declared.unit_read.UnitRead.{UnitRead}
 use Rattle.die_names.specs.UnitEntries.{places}
-use Rattle.func_flatten.specs.Collecting.{AreFit}
-use Rattle.inline_chain.specs.Trees.{of_class, HaveClasses, SortedFrom, front_count, list_of, IsList, AreLists, ListsTo, HaveSets, child_at, child_stretches, IsTree, AreTrees, TreeFor}
+use Rattle.step_maps.specs.SpanStretches.{AreFit}
+use Rattle.inline_chain.specs.internal.Copies.{of_class, HaveClasses, SortedFrom, front_count, IsList, AreLists, ListsTo, HaveSets, child_stretches, TreeFor}
+use Rattle.inline_chain.specs.Trees.{list_of, child_at, IsTree, AreTrees}
 use Rattle.inline_chain.proofs.ChildLemmas.{index_children}
 use Rattle.inline_chain.proofs.CollectLemmas.{got_front, got_last}
 use Rattle.inline_chain.proofs.ClassLemmas.{take_front, drop_front, sorted_behind, fit_drop}

@@ -1,13 +1,13 @@
 -- Worked rows: which inlined copies stand at an address. A sign for each address, in order: the number of the entry on a level, or a point.
-use Rattle.std.proofs.Common.{◌≡◌, ℕ, ◌+◌, false, map, List, [], ◌∷◌, Option, Some, None, refl}
+use Rattle.std.proofs.Common.{◌≡◌, ℕ, ◌+◌, map, List, [], ◌∷◌, Option, Some, None, refl}
 use Rattle.std.specs.List.{range_with_len, slice_get}
 use Prim.Native.String.{String}
 use Rattle.sym_edges.specs.Addresses.{Range}
 use Rattle.sym_edges.proofs.Shown.{shown}
 use Rattle.die_walk.specs.EntryTable.{DieFields}
 use Rattle.die_names.specs.declared.unit_read.UnitRead.{UnitRead}
-use Rattle.die_names.specs.Owners.{Covering}
-use Rattle.inline_chain.specs.InlineRuns.{entry_chain}
+use Rattle.die_names.specs.Owners.{Covering, entry_chain}
+use Rattle.die_names.proofs.MadeUnits.{bare_entry, bare_unit}
 use Rattle.inline_chain.proofs.Computing.{inline_chain_computes}
 
 record Made : Type 0 where
@@ -17,21 +17,7 @@ record Made : Type 0 where
 -- an entry by its tag, the entry around it and its addresses
 unfoldable entry : ℕ → Option ℕ → List Range → Made
 entry tag parent spans = record {
-  die = record {
-    at = 0;
-    tag = tag;
-    parent = parent;
-    declaration = false;
-    low = None;
-    high = None;
-    ranges = None;
-    origin = None;
-    spec = None;
-    name = None;
-    linkage = None;
-    call_file = None;
-    call_line = 0;
-  };
+  die = record (bare_entry tag) { parent = parent };
   spans = spans;
 }
 
@@ -50,11 +36,7 @@ abbrev function : ℕ → List Range → Made
 function parent spans = entry 0x2e (Some parent) spans
 
 unfoldable unit : List Made → UnitRead
-unit entries = record {
-  die = record { root = record { at = 0; low = None; stmt_list = None; comp_dir = None; str_offsets_base = None; addr_base = None; rnglists_base = None }; dies = map (λ m. m.die) entries };
-  spans = map (λ m. m.spans) entries;
-  lines = record { lines = record { stops = []; values = [] }; paths = []; first = 0; files = [] };
-}
+unit entries = bare_unit (map (λ m. m.die) entries) (map (λ m. m.spans) entries)
 
 abbrev digit : Option Covering → ℕ
 digit None = 46

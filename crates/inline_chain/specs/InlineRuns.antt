@@ -1,22 +1,14 @@
 -- The inlined copies of functions on the chains of a piece's addresses (DWARF 5, 3.3.8; Breakpad's symbol_files.md, INLINE records).
-use Rattle.std.specs.Prelude.{◌≡◌, ℕ, ◌<◌, ◌≤◌, ◌==◌, ◌&&◌, ◌||◌, Bool, true, false, nat_lt, nat_le, List, [], ◌∷◌, ◌++◌, map, filter, length, Option, None, Some}
+use Rattle.std.specs.Prelude.{◌≡◌, ℕ, ◌<◌, ◌≤◌, ◌==◌, ◌&&◌, ◌||◌, Bool, true, false, nat_lt, nat_le, List, [], ◌∷◌, ◌++◌, map, filter, length}
 use Rattle.std.specs.List.{slice_get, list_all}
 use Rattle.std.specs.Option.{option_map_or}
 use Rattle.sym_edges.specs.Addresses.{Range}
 use Rattle.range_set.specs.Members.{holds_any}
 use Rattle.range_set.specs.Canonical.{IsCanonical}
 use Rattle.die_names.specs.declared.unit_read.UnitRead.{UnitRead}
-use Rattle.die_names.specs.Owners.{Covering, chain_from, unit_covering}
+use Rattle.die_names.specs.Owners.{entry_chain}
 use Rattle.func_flatten.specs.declared.piece.Piece.{Piece}
 use Rattle.func_flatten.specs.Publics.{is_inside}
-
--- the inlined copies at an address inside of an entry of a unit, level by level
-abbrev pub chain_by : ℕ → ℕ → ℕ → Option UnitRead → List Covering
-chain_by unit entry a None = []
-chain_by unit entry a (Some part) = chain_from part.die.dies a entry (unit_covering unit 0 part.die.dies part.spans)
-
-unfoldable pub entry_chain : List UnitRead → ℕ → ℕ → ℕ → List Covering
-entry_chain units unit entry a = chain_by unit entry a (slice_get units unit)
 
 -- an inlined copy: its level on the chain, the number of its entry, and addresses
 pub record InlineParts : Type 0 where

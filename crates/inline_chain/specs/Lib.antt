@@ -1,3 +1,3 @@
 pub mod InlineRuns
 pub mod Trees
-pub mod Levels
+pub mod internal

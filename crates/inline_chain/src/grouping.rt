@@ -4,10 +4,10 @@ ghost use Rattle.std.specs.List.{list_any};
 ghost use Rattle.range_set.specs.Members.{holds_any};
 ghost use Rattle.range_set.specs.Canonical.{IsCanonical};
 ghost use Rattle.step_maps.specs.Covers.{reaches};
-ghost use Rattle.func_flatten.specs.Collecting.{AreFit};
+ghost use Rattle.step_maps.specs.SpanStretches.{AreFit};
 ghost use Rattle.inline_chain.specs.InlineRuns.{IsOrdered, spans_of, first_address};
-ghost use Rattle.inline_chain.specs.Trees.{SortedFrom};
-ghost use Rattle.inline_chain.specs.Levels.{AddsGroup, AddsParts, IsMade, AddsLevel, Rising, AreOfLevel};
+ghost use Rattle.inline_chain.specs.internal.Copies.{SortedFrom};
+ghost use Rattle.inline_chain.specs.internal.Levels.{AddsGroup, AddsParts, IsMade, AddsLevel, Rising, AreOfLevel};
 
 use crate::inline_run::InlineRun;
 use crate::trees::{front_count, sort_by_class};

@@ -2,9 +2,9 @@
 ghost use Rattle.std.specs.Prelude.{◌≡◌, ◌∷◌, [], ◌<◌, ◌≤◌, IfOk};
 ghost use Rattle.inline_chain.specs.InlineRuns.{AreInlineRuns};
 ghost use Rattle.die_names.specs.declared.unit_read.UnitRead.{UnitRead};
-ghost use Rattle.func_flatten.specs.Collecting.{AreFit};
+ghost use Rattle.step_maps.specs.SpanStretches.{AreFit};
 ghost use Rattle.inline_chain.specs.Trees.{IsTree};
-ghost use Rattle.inline_chain.specs.Levels.{HaveRuns, AllRuns};
+ghost use Rattle.inline_chain.specs.internal.Levels.{HaveRuns, AllRuns};
 
 use crate::grouping::push_level;
 use crate::inline_run::{InlineRun, InlineRuns};

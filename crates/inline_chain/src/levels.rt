@@ -3,9 +3,9 @@ ghost use Rattle.std.specs.Prelude.{◌≡◌, ℕ, ◌&&◌, ◌||◌, ◌≤�
 ghost use Rattle.std.specs.List.{list_any};
 ghost use Rattle.step_maps.specs.Runs.{AreRuns};
 ghost use Rattle.step_maps.specs.Covers.{reaches, cover_run};
-ghost use Rattle.func_flatten.specs.Collecting.{AreFit};
+ghost use Rattle.step_maps.specs.SpanStretches.{AreFit};
 ghost use Rattle.inline_chain.specs.Trees.{list_of};
-ghost use Rattle.inline_chain.specs.Levels.{has_at, covers_at, reaches_under, cut, HaveRuns, StartsCovers};
+ghost use Rattle.inline_chain.specs.internal.Levels.{has_at, covers_at, reaches_under, cut, HaveRuns, StartsCovers};
 
 use std::alloc::{AllocError, Global};
 use step_maps::{Cover, CoverList, Stretch};

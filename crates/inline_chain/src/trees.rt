@@ -1,10 +1,11 @@
 //! Which inlined copies stand directly in each entry.
 ghost use Rattle.std.specs.Prelude.{◌≡◌, ℕ, ◌<◌, ◌^◌, length, IfOk, OnOk};
-ghost use Rattle.func_flatten.specs.Collecting.{AreFit};
+ghost use Rattle.step_maps.specs.SpanStretches.{AreFit};
 ghost use Rattle.std.specs.List.{slice_get};
 ghost use Rattle.std.specs.Option.{option_copied};
 ghost use Rattle.die_names.specs.UnitEntries.{AreRead};
-ghost use Rattle.inline_chain.specs.Trees.{HaveClasses, SortedFrom, of_class, front_count, AreLists, IsTree, AreTrees, TreeFor};
+ghost use Rattle.inline_chain.specs.internal.Copies.{HaveClasses, SortedFrom, of_class, front_count, AreLists, TreeFor};
+ghost use Rattle.inline_chain.specs.Trees.{IsTree, AreTrees};
 
 use crate::children::collect_copies;
 use die_names::{UnitRead, Units};
@@ -76,7 +77,7 @@ fn tree_of(alloc: Global, part: &UnitRead<'_>) -> Result<Vec<CoverList>, OutOfMe
     requires { length part.now.die.dies < 2 ^ 32 }
     ensures { IfOk result (λ lists. IsTree part.now lists.items) }
 {
-    let mut items = collect_copies(alloc, part.die.dies(), part.spans.as_slice())?;
+    let mut items = collect_copies(alloc, part)?;
     sort_by_class(&mut items)?;
     let lists = lists_of(alloc, part.die.dies().len(), items.as_slice())?;
     Ok(lists)

@@ -5,7 +5,7 @@ use Rattle.std.proofs.lemmas.List.{reverse-append}
 use Rattle.line_program.specs.declared.row.Row.{Row}
 use Rattle.line_program.specs.LineRows.{Sequence}
 use Rattle.line_program.specs.LineAt.{least_address, row_at, counts, covers_from, covers, row_in}
-use Rattle.line_program.specs.Painting.{Counted, has, SortedFrom, last_at, counted_row, back_row}
+use Rattle.line_program.specs.internal.Painting.{Counted, has, SortedFrom, last_at, counted_row, back_row}
 use Rattle.line_program.proofs.SortLemmas.{row_last}
 
 -- with a row for what no sequence of a list has

@@ -10,11 +10,11 @@ use Rattle.step_maps.proofs.SteppingLemmas.{held_at_index, held_below_first, ris
 use Rattle.line_program.specs.declared.row.Row.{Row}
 use Rattle.line_program.specs.declared.path_line.PathLine.{PathLine}
 use Rattle.line_program.specs.LineMaps.{no_line}
-use Rattle.line_program.specs.Numbered.{numbered_line_of}
+use Rattle.line_program.specs.internal.Numbered.{numbered_line_of}
 use Rattle.step_maps.specs.declared.stretch.FirstItem.{FirstItem}
 use Rattle.step_maps.specs.Copying.{BelowEnd, UpToEnd}
-use Rattle.line_program.specs.Painting.{Counted, SortedFrom, AllUpTo, or_row, last_at, covering, row_by}
-use Rattle.line_program.specs.Brush.{line_or, Parts}
+use Rattle.line_program.specs.internal.Painting.{Counted, SortedFrom, AllUpTo, or_row, last_at, covering, row_by}
+use Rattle.line_program.specs.internal.RowsAbove.{line_or, Parts}
 use Rattle.line_program.proofs.SortLemmas.{sorted_of, sorted_by, rises_of}
 
 or_assoc : (x y z : Option Row) → or_row (or_row x y) z ≡ or_row x (or_row y z)

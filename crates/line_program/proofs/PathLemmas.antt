@@ -5,7 +5,7 @@ use Rattle.std.specs.Option.{option_map}
 use Rattle.std.proofs.lemmas.Option.{slice_get-map}
 use Rattle.line_program.specs.FileFields.{FileFields}
 use Rattle.line_program.specs.Paths.{joined, root_of, rooted_directories, directories_of, path_under}
-use Rattle.line_program.specs.Directories.{directories_in}
+use Rattle.line_program.specs.internal.Directories.{directories_in}
 
 there : (some : Bool) (root : List ℕ) (entries : List FileFields) (view : List (List ℕ)) → directories_in some root entries ≡ view → some ≡ true → view ≡ root ∷ map (λ d. joined root d.path) entries
 there some root entries view is holds = sym is ∙ ap (λ b. directories_in b root entries) holds

@@ -14,7 +14,7 @@ use Rattle.line_program.specs.LineRows.{Sequence}
 use Rattle.line_program.specs.LineAt.{Lines, least_address, covers_from, covers, row_at, row_in, path_of, line_of, line_at}
 use Rattle.line_program.specs.LineMaps.{LineMap, no_line, shown, named_line, distinct_paths, AreDistinct, SaysLines, EncloseAlike}
 use Rattle.line_program.specs.LineTables.{Says}
-use Rattle.line_program.specs.Numbered.{number_of, numbered_line_by, numbered_line_of, numbered_at}
+use Rattle.line_program.specs.internal.Numbered.{number_of, numbered_line_by, numbered_line_of, numbered_at}
 use Rattle.line_program.specs.Numbering.{picked, AreNumbered, AllBelow, IsLineMap}
 
 -- a file's number leads to its path

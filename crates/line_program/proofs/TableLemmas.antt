@@ -13,8 +13,8 @@ use Rattle.line_program.specs.declared.row.Row.{Row}
 use Rattle.line_program.specs.LineRows.{Sequence}
 use Rattle.line_program.specs.LineAt.{row_in}
 use Rattle.line_program.specs.LineMaps.{LineMap, no_line, shown, numbered_line, NoStopBetween}
-use Rattle.line_program.specs.Numbered.{numbered_line_of, numbered_at}
-use Rattle.line_program.specs.Painting.{Counted, has, stretches_from, covering, row_by, counted_row, last_at}
+use Rattle.line_program.specs.internal.Numbered.{numbered_line_of, numbered_at}
+use Rattle.line_program.specs.internal.Painting.{Counted, has, stretches_from, covering, row_by, counted_row, last_at}
 
 same_test : (s a b : ℕ) → a ≤ b → (s ≤ a) ⊎ (b < s) → nat_le s a ≡ nat_le s b
 same_test s a b le (inl low) = le-leb s a low ∙ sym (le-leb s b (omega arith))

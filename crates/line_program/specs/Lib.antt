@@ -13,8 +13,5 @@ pub mod LineRows
 pub mod LineAt
 pub mod LineMaps
 pub mod LineTables
-pub mod Numbered
-pub mod Painting
-pub mod Brush
-pub mod Directories
 pub mod Numbering
+pub mod internal

@@ -1,4 +1,4 @@
--- Paths by their numbers, as the code keeps them; no public clause cites this.
+-- Paths by their numbers, as the code keeps them.
 use Rattle.std.specs.Prelude.{◌≡◌, ◌≢◌, ℕ, ◌<◌, ◌^◌, List, [], ◌∷◌, map, length, slice_index, slice_index_or, Some}
 use Rattle.std.specs.List.{slice_get}
 use Rattle.step_maps.specs.Stepping.{Stepping, value_at}

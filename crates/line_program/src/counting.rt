@@ -3,7 +3,7 @@ ghost use Rattle.std.specs.Prelude.{◌≡◌, ℕ, ◌^◌, ◌<◌, None, if�
 ghost use Rattle.range_set.specs.Enclosing.{encloses};
 ghost use Rattle.step_maps.specs.Covers.{AreStretches};
 ghost use Rattle.line_program.specs.LineAt.{covers, row_at, row_in};
-ghost use Rattle.line_program.specs.Painting.{back_row, counted_row, stretches_from};
+ghost use Rattle.line_program.specs.internal.Painting.{back_row, counted_row, stretches_from};
 
 use crate::machine::LineSequence;
 use crate::sorting::{CountedSequence, least_address, sort_rows};

@@ -18,8 +18,7 @@ use leb_cursor::Cursor;
 use range_set::Enclosing;
 use std::alloc::Global;
 use std::marker::Model;
-use sym_edges::{Located, OutOfMemory, Sect, Stop};
-use sym_edges::ByteRun;
+use sym_edges::{ByteRun, Located, OutOfMemory, Sect, Stop};
 
 /// What a line table says: its sequences, the number of its first file, and the files' paths.
 #[derive(Drop)]

@@ -5,8 +5,7 @@ ghost use Rattle.line_program.specs.Numbering.{picked, AreNumbered, AllBelow};
 
 use std::alloc::Global;
 use std::collections::BTreeMap;
-use sym_edges::OutOfMemory;
-use sym_edges::ByteRun;
+use sym_edges::{ByteRun, OutOfMemory};
 
 /// Where each path first stands among the files' paths, and the number of each file's path.
 #[derive(Drop)]

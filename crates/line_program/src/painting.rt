@@ -3,10 +3,10 @@ ghost use Rattle.std.specs.Prelude.{◌≡◌, ℕ, ◌+◌, ◌<◌, ◌≤◌,
 ghost use Rattle.std.specs.Option.{option_copied};
 ghost use Rattle.step_maps.specs.Stepping.{last_from, held_from, value_at, IsStepping};
 ghost use Rattle.line_program.specs.LineMaps.{no_line};
-ghost use Rattle.line_program.specs.Numbered.{numbered_line_of};
+ghost use Rattle.line_program.specs.internal.Numbered.{numbered_line_of};
 ghost use Rattle.step_maps.specs.Copying.{BelowEnd, UpToEnd};
-ghost use Rattle.line_program.specs.Painting.{SortedFrom, AllUpTo, last_at, covering, row_by};
-ghost use Rattle.line_program.specs.Brush.{Parts};
+ghost use Rattle.line_program.specs.internal.Painting.{SortedFrom, AllUpTo, last_at, covering, row_by};
+ghost use Rattle.line_program.specs.internal.RowsAbove.{Parts};
 
 use crate::path_line::{NO_LINE, PathLine, line_of};
 use crate::row::Row;
@@ -17,7 +17,7 @@ use sym_edges::OutOfMemory;
 
 /// A line, and the address from which on it holds.
 #[derive(Clone, Copy)]
-struct Brush {
+struct RowPainter {
     from: u64,
     line: PathLine,
 }
@@ -51,7 +51,7 @@ fn rows_above<'a>(rows: &'a [Row], first: u32, numbers: &[u32], start: u64) -> (
 fn paint_line(
     painted: &mut StepMap<PathLine>,
     now: PathLine,
-    next: Brush,
+    next: RowPainter,
 ) -> Result<(), OutOfMemory>
     requires last { last_from 0 painted.old.stops ≤ next.from }
     requires now { (a : ℕ) → next.from ≤ a → value_at no_line painted.old a ≡ now }
@@ -80,10 +80,10 @@ fn paint_rows(
 {
     let (line, above) = rows_above(rows, first, numbers, start);
     painted.set(start, line)?;
-    let mut now = Brush { from: start, line };
+    let mut now = RowPainter { from: start, line };
     let mut rest = above;
     'rows: while let Some((row, after)) = rest.split_first() {
-        let next = Brush {
+        let next = RowPainter {
             from: row.address,
             line: line_of(first, numbers, *row),
         };

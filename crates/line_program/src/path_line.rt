@@ -1,6 +1,6 @@
 //! Lines by address.
 ghost use Rattle.std.specs.Prelude.{◌≡◌, Some};
-ghost use Rattle.line_program.specs.Numbered.{number_of, numbered_line_of};
+ghost use Rattle.line_program.specs.internal.Numbered.{number_of, numbered_line_of};
 
 use crate::row::Row;
 use std::mem::size_of;

@@ -3,11 +3,10 @@ ghost use Rattle.std.specs.Prelude.{◌≡◌, ◌==◌, ◌-◌, map, length, s
 ghost use Rattle.line_program.specs.Paths.{joined, root_of, directories_of, path_under, file_path, is_rooted, ends_in_slash};
 
 use crate::file_entry::FileEntry;
+use clean_names::clean;
 use std::alloc::Global;
 use std::marker::Model;
-use sym_edges::OutOfMemory;
-use clean_names::clean;
-use sym_edges::ByteRun;
+use sym_edges::{ByteRun, OutOfMemory};
 
 /// The directories of a table, by their numbers: the first one, and those that stand in it.
 #[derive(Drop)]
@@ -19,7 +18,7 @@ pub struct Directories<'t, 'a> {
 
 impl<'t, 'a> Model for Directories<'t, 'a> {
     ghost use Rattle.std.specs.Prelude.{List, ℕ};
-    ghost use Rattle.line_program.specs.Directories.{directories_in};
+    ghost use Rattle.line_program.specs.internal.Directories.{directories_in};
 
     ghost Value = { List (List ℕ) };
 

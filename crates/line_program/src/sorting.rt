@@ -2,7 +2,7 @@
 ghost use Rattle.std.specs.Prelude.{◌≡◌, ℕ, OnOk};
 ghost use Rattle.std.specs.Bool.{OnTrue};
 ghost use Rattle.line_program.specs.LineAt.{least_address, row_at};
-ghost use Rattle.line_program.specs.Painting.{SortedFrom, least_step};
+ghost use Rattle.line_program.specs.internal.Painting.{SortedFrom, least_step};
 
 use crate::row::Row;
 use std::marker::Model;
@@ -18,7 +18,7 @@ pub struct CountedSequence {
 
 impl Model for CountedSequence {
     ghost use Rattle.std.specs.Prelude.{◌≤◌};
-    ghost use Rattle.line_program.specs.Painting.{Counted, SortedFrom};
+    ghost use Rattle.line_program.specs.internal.Painting.{Counted, SortedFrom};
 
     ghost Value = { Counted };
 

@@ -5,7 +5,7 @@ ghost use Rattle.range_set.specs.Enclosing.{encloses};
 ghost use Rattle.sym_edges.specs.Rising.{RisesFrom};
 ghost use Rattle.step_maps.specs.Stepping.{value_at};
 ghost use Rattle.line_program.specs.LineMaps.{no_line, shown, numbered_line, numbered_file, AreDistinct, SaysLines};
-ghost use Rattle.line_program.specs.Numbered.{numbered_at};
+ghost use Rattle.line_program.specs.internal.Numbered.{numbered_at};
 
 use crate::counting::{count_sequences, stretches_of};
 use crate::machine::LineSequence;
@@ -17,8 +17,7 @@ use range_set::Enclosing;
 use std::alloc::Global;
 use std::marker::Model;
 use step_maps::{StepMap, first_items};
-use sym_edges::OutOfMemory;
-use sym_edges::ByteRun;
+use sym_edges::{ByteRun, OutOfMemory};
 
 /// Lines by address, and the files' paths by their numbers.
 #[derive(Drop)]

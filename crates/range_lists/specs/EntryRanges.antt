@@ -17,6 +17,7 @@ use Rattle.abbrev_units.specs.declared.value.Value.{Value}
 use Rattle.abbrev_units.specs.declared.value.Value.TheVariants as value
 use Rattle.abbrev_units.specs.DebugSections.{DebugSections}
 use Rattle.abbrev_units.specs.Texts.{place_width}
+use Rattle.die_walk.specs.EntryKinds.{counts}
 use Rattle.die_walk.specs.EntryTable.{DieFields, RootFields}
 use Rattle.range_lists.specs.AddressTable.{AddressTable}
 use Rattle.range_lists.specs.Places.{entry_fault, ahead_in, number_there, address_of}
@@ -85,10 +86,6 @@ bounds_by table None high = Ok []
 abbrev pub pairs_by : AddressTable → ℕ → ℕ → DieFields → Option Ahead → Result (List Range) (Located DwarfKind)
 pairs_by table version base die (Some list) = list_pairs version table base list
 pairs_by table version base die None = bounds_by table die.low die.high
-
--- entries that count: subprograms that are no declarations, and inlined subroutines (DW_TAG_subprogram, DW_TAG_inlined_subroutine)
-unfoldable pub counts : DieFields → Bool
-counts die = (die.tag == 0x2e && not die.declaration) || die.tag == 0x1d
 
 -- the pairs that an entry gives, or its first fault; an entry that does not count gives none. `base` is the unit's
 unfoldable pub pairs_of : DebugSections → Unit → RootFields → ℕ → DieFields → Result (List Range) (Located DwarfKind)

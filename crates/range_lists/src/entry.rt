@@ -1,6 +1,7 @@
 //! The addresses of entries.
 ghost use Rattle.std.specs.Prelude.{◌≡◌, None, slice_get};
-ghost use Rattle.range_lists.specs.EntryRanges.{addresses_for, unit_base, list_bytes, list_by_number, list_place, list_of, end_of, bounds_by, counts, pairs_of, pairs_at, IsRanges, IsGiven, HasNoList};
+ghost use Rattle.die_walk.specs.EntryKinds.{counts};
+ghost use Rattle.range_lists.specs.EntryRanges.{addresses_for, unit_base, list_bytes, list_by_number, list_place, list_of, end_of, bounds_by, pairs_of, pairs_at, IsRanges, IsGiven, HasNoList};
 
 use crate::gathering::set_of_pair;
 use crate::list::ranges_of_list;
@@ -11,10 +12,6 @@ use leb_cursor::Cursor;
 use range_set::{Enclosing, RangeSet};
 use std::alloc::Global;
 use sym_edges::{Sect, Stop};
-
-const DW_TAG_inlined_subroutine: u64 = 0x1d;
-
-const DW_TAG_subprogram: u64 = 0x2e;
 
 /// The addresses by their number, as the entry at `at` asks for them.
 #[inline]
@@ -161,15 +158,11 @@ fn ranges_of_bounds(
 
 /// Whether an entry counts.
 #[inline]
-#[tactic(auto, unfolding(crate::specs::EntryRanges::counts))]
+#[tactic(auto, unfolding(die_walk::specs::EntryKinds::counts))]
 fn counts(die: &Die<'_>) -> bool
     ensures { result ≡ counts die.now }
 {
-    match die.tag() {
-        DW_TAG_subprogram => !die.declaration(),
-        DW_TAG_inlined_subroutine => true,
-        _ => false,
-    }
+    die.is_function() || die.is_inlined()
 }
 
 /// The addresses of an entry.

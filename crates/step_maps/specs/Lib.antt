@@ -2,6 +2,7 @@ pub mod Stepping
 pub mod Runs
 pub mod StepRuns
 pub mod Covers
+pub mod SpanStretches
 pub mod Overlays
 pub mod Laying
 pub mod Joining

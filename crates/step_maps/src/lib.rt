@@ -15,7 +15,7 @@
 //! The runs of a function are the maximal intervals on which it is defined and constant. A function has one list of runs
 //! only ([`same_values_same_runs`]), each of them can't be made longer ([`runs_are_maximal`]), and a step map in which no two
 //! neighbours are equal has them between its stops ([`steps_are_runs`]). [`covers`] gives the runs of the first item's
-//! index, and with each [`Cover`] whether its first address is shared.
+//! index, and with each [`Cover`] whether its first address is shared. [`push_spans`] makes the stretches of an item's ranges.
 //!
 //! To read: `steps` first, then `stretch` and `overlaying`, then `laying`, `joining` and `covering`; `copying` and `laws`
 //! stand alone.
@@ -27,6 +27,7 @@ mod joining;
 mod laws;
 mod laying;
 mod overlaying;
+mod spans;
 mod steps;
 mod stretch;
 
@@ -34,5 +35,6 @@ pub use copying::copy_steps;
 pub use covering::{covers, first_items};
 pub use laws::{runs_are_maximal, same_values_same_runs, steps_are_runs};
 pub use overlaying::overlay;
+pub use spans::push_spans;
 pub use steps::StepMap;
 pub use stretch::{Cover, CoverList, FirstItem, Stretch};

@@ -9,13 +9,15 @@ use Rattle.range_set.specs.Members.{holds_any}
 use Rattle.die_walk.specs.Attributes.{or_else}
 use Rattle.die_walk.specs.EntryTable.{DieFields}
 use Rattle.die_names.specs.declared.unit_read.UnitRead.{UnitRead}
-use Rattle.die_names.specs.UnitEntries.{Placed, unit_entries, entries_from, entry_at, entry_in, entry_of, is_function}
+use Rattle.die_walk.specs.EntryKinds.{is_function}
+use Rattle.die_names.specs.UnitEntries.{Placed, unit_entries, entries_from, entry_at, entry_in, entry_of}
 use Rattle.die_names.specs.Names.{link_of, linked_from, way, dies_of, front_in, front_of, first_linkage, first_joined, name_on, entry_name}
 use Rattle.die_names.specs.Owners.{Covering, unit_covering, covering_from, owner}
 use Rattle.func_flatten.specs.declared.piece.Piece.{Piece}
 use Rattle.func_flatten.specs.Pieces.{owns, place_of, owner_place, has_other, is_many, AreMarked, ArePieces}
 use Rattle.func_flatten.specs.Publics.{is_inside}
-use Rattle.inline_chain.specs.InlineRuns.{InlineParts, chain_by, entry_chain, is_on_chain, AreInlineRuns}
+use Rattle.die_names.specs.Owners.{chain_by, entry_chain}
+use Rattle.inline_chain.specs.InlineRuns.{InlineParts, is_on_chain, AreInlineRuns}
 use Rattle.debug_read.specs.Each.{Match}
 use Rattle.debug_read.specs.UnitsRead.{no_lines}
 use Rattle.worked.proofs.OneUnits.{SameUnit}

@@ -17,9 +17,8 @@ use Rattle.die_walk.specs.EntryTable.{DieFields}
 use Rattle.line_program.specs.LineAt.{Lines}
 use Rattle.line_program.specs.LineMaps.{LineMap, named_line, numbered_line}
 use Rattle.die_names.specs.declared.unit_read.UnitRead.{UnitRead}
-use Rattle.die_names.specs.UnitEntries.{is_function}
+use Rattle.die_walk.specs.EntryKinds.{is_function}
 use Rattle.die_names.specs.Owners.{Covering, unit_covering, covering_from, owner}
-use Rattle.func_flatten.specs.declared.piece.Place.{Place}
 use Rattle.func_flatten.specs.Pieces.{place_of, owner_place}
 use Rattle.func_records.specs.FuncRecords.{file_path}
 use Rattle.debug_read.specs.Each.{Match}

@@ -1,7 +1,7 @@
 use Rattle.std.proofs.Common.{◌≡◌, ◌<◌, ℕ, length, None, Some, sym, ap, subst, ◌∙◌, arith, rules}
 use Rattle.std.specs.List.{slice_get}
 use Rattle.sym_edges.specs.Rising.{RisesFrom}
-use Rattle.die_names.specs.Finding.{found_in}
+use Rattle.die_names.specs.internal.Finding.{found_in}
 use Rattle.die_names.proofs.FindLemmas.{dies_places}
 use Rattle.die_names.proofs.AmongLemmas.{in_unit, halves, at_left, inside_left, at_middle, inside_middle, behind_middle, behind_empty, before_empty, inside_right, rises_in_left, rises_in_part, rises_in_rest}
 use Rattle.die_names.proofs.finding.+find_among.Goals as goal

@@ -1,7 +1,7 @@
 use Rattle.std.proofs.Common.{◌≡◌}
 use Rattle.std.specs.List.{list_any}
 use Rattle.die_names.specs.Names.{around}
-use Rattle.die_names.specs.Gathering.{is_scope_at}
+use Rattle.die_names.specs.internal.Gathering.{is_scope_at}
 use Rattle.die_names.proofs.joining.has_scope.Given as goal
 
 abbrev pub invariant-around : goal.invariant-around

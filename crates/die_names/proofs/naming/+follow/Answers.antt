@@ -1,12 +1,12 @@
 use Rattle.std.proofs.Common.{rules, sym, ap, ◌∙◌}
 use Rattle.die_names.specs.Names.{way}
-use Rattle.die_names.specs.Finding.{found}
-use Rattle.die_names.specs.Following.{followed}
+use Rattle.die_names.specs.internal.Finding.{found}
+use Rattle.die_names.specs.internal.Following.{followed}
 use Rattle.die_names.proofs.FollowLemmas.{linkage_is}
 use Rattle.die_names.proofs.naming.+follow.Goals as goal
 
 pub returns-then-is_some : goal.returns-then-is_some
 returns-then-is_some t c =
     c.refer.ensures
-    ∙ linkage_is c.args.units.now c.args.links c.args.best c.in-Some.at c.in-Some-die_at.die.now c.in-Some-die_at.ensures (search rules)
+    ∙ linkage_is c.args.units.now c.args.links c.args.best c.in-Some.at c.in-Some-entry.die.now c.in-Some-entry.ensures (search rules)
     ∙ ap (λ h. followed c.args.best (way c.args.units.now c.args.links (found c.args.units.now h))) (sym c.in-Some.is)

@@ -1,5 +1,5 @@
 use Rattle.std.proofs.Common.{refl, ap, ◌∙◌}
-use Rattle.func_flatten.specs.Classes.{name_number}
+use Rattle.func_flatten.specs.internal.Classes.{name_number}
 use Rattle.func_flatten.proofs.NameLemmas.{meets_made}
 use Rattle.func_flatten.proofs.classing.meet_made.Goals as goal
 

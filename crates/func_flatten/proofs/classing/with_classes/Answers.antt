@@ -1,7 +1,7 @@
 use Rattle.std.proofs.Common.{◌<◌, length, get_or, arith}
 use Rattle.std.proofs.lemmas.List.{get_or_default}
 use Rattle.step_maps.specs.declared.stretch.Stretch.{Stretch}
-use Rattle.func_flatten.specs.Classes.{number_name, class_by}
+use Rattle.func_flatten.specs.internal.Classes.{number_name, class_by}
 use Rattle.func_flatten.proofs.NameLemmas.{names_next, classes_next, names_same, classes_same}
 use Rattle.func_flatten.proofs.classing.with_classes.Goals as goal
 

@@ -1,5 +1,5 @@
 use Rattle.std.proofs.Common.{◌≡◌, ℕ, List, map, take}
-use Rattle.func_flatten.specs.Classes.{number_name, name_number, first_named, class_by, classed}
+use Rattle.func_flatten.specs.internal.Classes.{number_name, name_number, first_named, class_by, classed}
 use Rattle.func_flatten.proofs.classing.with_classes.Given as goal
 
 abbrev pub invariant-stretches : goal.invariant-stretches

@@ -1,4 +1,4 @@
-use Rattle.std.proofs.Common.{length, arith, ap}
+use Rattle.std.proofs.Common.{arith}
 use Rattle.func_flatten.proofs.CollectLemmas.{unit_added, entries_left}
 use Rattle.func_flatten.proofs.collecting.collect_all.Goals as goal
 
@@ -6,7 +6,7 @@ pub units-preserved : goal.units-preserved
 units-preserved c =
     let left = entries_left c.units.unit c.args.units.now c.index-units-unit.result (omega arith) c.index-units-unit.is in
     record {
-      all = unit_added _ _ _ _ _ c.units.unit c.args.units.now c.index-units-unit.result (omega arith) c.index-units-unit.is c.units.invariant.all (rw (c.dies.ensures, c.as_slice.ensures) at c.in_ok-push_unit.ensures.all);
+      all = unit_added _ _ _ _ _ c.units.unit c.args.units.now c.index-units-unit.result (omega arith) c.index-units-unit.is c.units.invariant.all c.in_ok-push_unit.ensures.all;
       fit = c.in_ok-push_unit.ensures.fit;
-      count = omega (arith, left, c.in_ok-push_unit.ensures.count, c.units.invariant.count, ap length c.dies.ensures);
+      count = omega (arith, left, c.in_ok-push_unit.ensures.count, c.units.invariant.count);
     }

@@ -1,7 +1,8 @@
 use Rattle.std.proofs.Common.{◌+◌, ◌≤◌, [], length, drop, vec_len}
 use Rattle.die_names.specs.UnitEntries.{places}
 use Rattle.die_names.specs.Owners.{covering_from}
-use Rattle.func_flatten.specs.Collecting.{functions_in, all_functions, AreFit, Collects}
+use Rattle.step_maps.specs.SpanStretches.{AreFit}
+use Rattle.func_flatten.specs.internal.Collecting.{functions_in, all_functions, Collects}
 use Rattle.func_flatten.proofs.collecting.collect_all.Given as goal
 
 abbrev pub invariant-units : goal.invariant-units

@@ -2,12 +2,12 @@ use Rattle.std.proofs.Common.{arith}
 use Rattle.func_flatten.proofs.CollectLemmas.{entry_added, entries_done}
 use Rattle.func_flatten.proofs.collecting.push_unit.Goals as goal
 
-pub returns-in_default-set_in-clause-all : goal.returns-in_default-set_in-clause-all
-returns-in_default-set_in-clause-all c = entries_done _ _ _ _ _ c.args.unit c.entries.entry c.args.dies.now c.args.sets.now c.in-Some.die.now c.in-Some.ensures c.in_default-set_in.ensures c.entries.invariant.all
+pub returns-in_default-ranges-clause-all : goal.returns-in_default-ranges-clause-all
+returns-in_default-ranges-clause-all c = entries_done _ _ _ _ _ c.args.unit c.entries.entry c.args.part.now.die.dies c.args.part.now.spans c.in-Some.die.now c.in-Some.ensures c.in_default-ranges.ensures c.entries.invariant.all
 
 pub entries-preserved : goal.entries-preserved
 entries-preserved c = record {
-  all = entry_added _ _ _ _ _ _ _ c.args.unit c.entries.entry c.args.dies.now c.args.sets.now c.in-Some.die.now c.in-Some-set_in.set.now c.in-Some.ensures c.in-Some-set_in.ensures c.entries.invariant.all c.in_ok-push_entry.ensures.all;
+  all = entry_added _ _ _ _ _ _ _ c.args.unit c.entries.entry c.args.part.now.die.dies c.args.part.now.spans c.in-Some.die.now c.in-Some-ranges.set.now c.in-Some.ensures c.in-Some-ranges.ensures c.entries.invariant.all c.in_ok-push_entry.ensures.all;
   fit = c.in_ok-push_entry.ensures.fit;
   count = omega (arith, c.in_ok-push_entry.ensures.count, c.entries.invariant.count);
 }

@@ -1,5 +1,5 @@
 use Rattle.std.proofs.Common.{◌≡◌, ◌++◌, map, take, drop}
-use Rattle.func_flatten.specs.Classes.{marked}
+use Rattle.func_flatten.specs.internal.Classes.{marked}
 use Rattle.func_flatten.proofs.covering.mark_covers.Given as goal
 
 abbrev pub invariant-loop-at : goal.invariant-loop-at

@@ -1,5 +1,5 @@
 use Rattle.std.proofs.Common.{◌∙◌}
-use Rattle.func_flatten.proofs.CollectLemmas.{fit_stretches}
+use Rattle.step_maps.proofs.SpanLemmas.{fit_stretches}
 use Rattle.func_flatten.proofs.ClassLemmas.{classed_stretches, kept_stretches, starts_rise, covers_named}
 use Rattle.func_flatten.proofs.covering.named_covers.Goals as goal
 

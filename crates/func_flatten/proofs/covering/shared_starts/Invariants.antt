@@ -1,5 +1,5 @@
 use Rattle.std.proofs.Common.{◌≡◌, ◌++◌, length}
-use Rattle.func_flatten.specs.Classes.{shared_starts}
+use Rattle.func_flatten.specs.internal.Classes.{shared_starts}
 use Rattle.func_flatten.proofs.covering.shared_starts.Given as goal
 
 abbrev pub invariant-covers : goal.invariant-covers

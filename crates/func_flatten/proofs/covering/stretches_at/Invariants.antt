@@ -1,6 +1,6 @@
 use Rattle.std.proofs.Common.{◌≡◌, ◌++◌, length}
 use Rattle.std.specs.List.{filter}
-use Rattle.func_flatten.specs.Classes.{reaches_any}
+use Rattle.func_flatten.specs.internal.Classes.{reaches_any}
 use Rattle.func_flatten.proofs.covering.stretches_at.Given as goal
 
 abbrev pub invariant-stretches : goal.invariant-stretches

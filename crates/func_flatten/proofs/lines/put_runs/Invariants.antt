@@ -1,6 +1,6 @@
 use Rattle.std.proofs.Common.{length, drop}
 use Rattle.line_program.specs.LineMaps.{numbered_line}
-use Rattle.func_flatten.specs.Growing.{Walks}
+use Rattle.func_flatten.specs.internal.Growing.{Walks}
 use Rattle.func_flatten.proofs.lines.put_runs.Given as goal
 
 abbrev pub invariant-stops : goal.invariant-stops

@@ -1,5 +1,5 @@
 use Rattle.std.proofs.Common.{◌≡◌, ◌++◌, map, length}
-use Rattle.func_flatten.specs.Collecting.{AreCut, piece_of}
+use Rattle.func_flatten.specs.internal.Collecting.{AreCut, piece_of}
 use Rattle.func_flatten.proofs.owning.pieces_of.Given as goal
 
 abbrev pub invariant-covers : goal.invariant-covers

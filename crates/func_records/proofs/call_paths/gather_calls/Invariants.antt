@@ -1,6 +1,6 @@
 use Rattle.std.proofs.Common.{◌≡◌, ℕ, List, ◌||◌, length}
-use Rattle.func_records.specs.Calls.{AreKnown}
-use Rattle.func_records.specs.Gathering.{has_text, any_call, OmittedSays, RowSays}
+use Rattle.func_records.specs.internal.Calls.{AreKnown}
+use Rattle.func_records.specs.internal.Gathering.{has_text, any_call, OmittedSays, RowSays}
 use Rattle.func_records.proofs.call_paths.gather_calls.Given as goal
 
 abbrev pub invariant-copies : goal.invariant-copies

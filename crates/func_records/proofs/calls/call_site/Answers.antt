@@ -5,8 +5,8 @@ use Rattle.func_records.proofs.calls.call_site.Goals as goal
 pub returns-in_default : goal.returns-in_default
 returns-in_default c = site_without_unit c.args.units.now c.args.unit c.args.entry _ refl c.in_default.ensures
 
-pub returns-in_default-die_in : goal.returns-in_default-die_in
-returns-in_default-die_in c = site_without_entry c.args.units.now c.args.unit c.args.entry _ c.in-Some.part.now refl c.in-Some.ensures (rw c.dies.ensures at c.in_default-die_in.ensures)
+pub returns-in_default-entry : goal.returns-in_default-entry
+returns-in_default-entry c = site_without_entry c.args.units.now c.args.unit c.args.entry _ c.in-Some.part.now refl c.in-Some.ensures c.in_default-entry.ensures
 
 pub returns : goal.returns
-returns c = site_there c.args.units.now c.args.unit c.args.entry _ c.in-Some.part.now c.in-Some-die_in.die.now c.in-Some.ensures (rw c.dies.ensures at c.in-Some-die_in.ensures) (rw c.call_file.ensures at c.number_of_file.ensures.number) c.number_of_file.ensures.known c.call_line.ensures
+returns c = site_there c.args.units.now c.args.unit c.args.entry _ c.in-Some.part.now c.in-Some-entry.die.now c.in-Some.ensures c.in-Some-entry.ensures (rw c.call_file.ensures at c.number_of_file.ensures.number) c.number_of_file.ensures.known c.call_line.ensures

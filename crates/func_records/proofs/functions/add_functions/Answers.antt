@@ -1,8 +1,8 @@
 use Rattle.std.proofs.Common.{◌≡◌, map, refl, sym, ap, ◌∙◌}
 use Rattle.sym_records.specs.Spelled.{text_bytes}
-use Rattle.func_records.specs.Gathering.{bytes_of}
-use Rattle.func_records.specs.Spelling.{number_or_0}
-use Rattle.func_records.specs.Origins.{made_name}
+use Rattle.func_records.specs.internal.Gathering.{bytes_of}
+use Rattle.func_records.specs.internal.Spelling.{number_or_0}
+use Rattle.func_records.specs.internal.Origins.{made_name}
 use Rattle.func_records.proofs.HoldLemmas.{held_short}
 use Rattle.func_records.proofs.OriginLemmas.{numbered_by}
 use Rattle.func_records.proofs.UsedLemmas.{paths_clean, names_clean}

@@ -1,5 +1,5 @@
 use Rattle.std.proofs.Common.{◌≡◌, take, length}
-use Rattle.func_records.specs.Gathering.{AreHeld}
+use Rattle.func_records.specs.internal.Gathering.{AreHeld}
 use Rattle.func_records.proofs.holding.hold_inlines.Given as goal
 
 abbrev pub invariant-pieces : goal.invariant-pieces

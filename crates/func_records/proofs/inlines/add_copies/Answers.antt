@@ -4,9 +4,9 @@ use Rattle.sym_rules.proofs.BoolLemmas.{both}
 use Rattle.sym_records.specs.Canon.{canon_text}
 use Rattle.die_names.specs.Names.{entry_name}
 use Rattle.inline_chain.specs.InlineRuns.{InlineParts}
-use Rattle.func_records.specs.Gathering.{bytes_of}
-use Rattle.func_records.specs.Parts.{inline_by}
-use Rattle.func_records.specs.Spelling.{number_or_0}
+use Rattle.func_records.specs.internal.Gathering.{bytes_of}
+use Rattle.func_records.specs.internal.Parts.{inline_by}
+use Rattle.func_records.specs.internal.Spelling.{number_or_0}
 use Rattle.func_records.proofs.CanonLemmas.{record_more, records_done}
 use Rattle.func_records.proofs.ListLemmas.{drop_next}
 use Rattle.func_records.proofs.OriginLemmas.{number_at}
@@ -14,17 +14,17 @@ use Rattle.func_records.proofs.inlines.add_copies.Goals as goal
 
 pub returns-clause-text : goal.returns-clause-text
 returns-clause-text c =
-    records_done c.copies.text.items _ (map (inline_by c.args.base c.args.numbers.now c.args.units.now c.args.unit) (drop c.copies.place c.args.copies.now)) (ap (map (inline_by c.args.base c.args.numbers.now c.args.units.now c.args.unit)) (drop_all c.copies.place c.args.copies.now (omega arith))) c.copies.invariant.text
+    records_done c.copies.text.items _ (map (inline_by c.args.writer.now.base c.args.writer.now.numbers c.args.writer.now.units.now c.args.unit) (drop c.copies.place c.args.copies.now)) (ap (map (inline_by c.args.writer.now.base c.args.writer.now.numbers c.args.writer.now.units.now c.args.unit)) (drop_all c.copies.place c.args.copies.now (omega arith))) c.copies.invariant.text
 
 pub add_copy-requires-clause-numbered : goal.add_copy-requires-clause-numbered
 add_copy-requires-clause-numbered c =
     ap (λ os. slice_index_or os c.copies.place 0) c.requires.numbered
-    ∙ number_at (number_or_0 (bytes_of c.args.numbers.now.names.now)) c.args.units.now c.args.unit c.args.copies.now c.copies.place c.index-copies-place.result 0 (omega arith)
-    ∙ ap (λ r. number_or_0 (bytes_of c.args.numbers.now.names.now) (entry_name c.args.units.now c.args.unit r.entry)) (sym c.index-copies-place.is)
+    ∙ number_at (number_or_0 (bytes_of c.args.writer.now.numbers.names.now)) c.args.writer.now.units.now c.args.unit c.args.copies.now c.copies.place c.index-copies-place.result 0 (omega arith)
+    ∙ ap (λ r. number_or_0 (bytes_of c.args.writer.now.numbers.names.now) (entry_name c.args.writer.now.units.now c.args.unit r.entry)) (sym c.index-copies-place.is)
 
 pub copies-preserved : goal.copies-preserved
 copies-preserved c =
-    let by = inline_by c.args.base c.args.numbers.now c.args.units.now c.args.unit in
+    let by = inline_by c.args.writer.now.base c.args.writer.now.numbers c.args.writer.now.units.now c.args.unit in
     let later : List InlineParts = drop (c.copies.place + 1) c.args.copies.now in
     let split : drop c.copies.place c.args.copies.now ≡ c.index-copies-place.result ∷ later = drop_next c.args.copies.now c.copies.place c.index-copies-place.result (omega arith) ∙ ap (λ r. r ∷ later) (sym c.index-copies-place.is) in
     let all = rw split at c.copies.invariant.short in

@@ -1,5 +1,5 @@
 use Rattle.std.proofs.Common.{◌≡◌, ◌++◌, map, length}
-use Rattle.func_records.specs.Origins.{made_name, entry_names}
+use Rattle.func_records.specs.internal.Origins.{made_name, entry_names}
 use Rattle.func_records.proofs.names.add_refs.Given as goal
 
 abbrev pub invariant-copies : goal.invariant-copies

@@ -1,6 +1,6 @@
 use Rattle.std.proofs.Common.{map, ap, ◌∙◌}
 use Rattle.std.specs.List.{list_any}
-use Rattle.func_records.specs.Origins.{made_name}
+use Rattle.func_records.specs.internal.Origins.{made_name}
 use Rattle.func_records.proofs.OriginLemmas.{same_names}
 use Rattle.func_records.proofs.names.gather_names.Goals as goal
 

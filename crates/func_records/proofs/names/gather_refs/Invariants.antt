@@ -1,5 +1,5 @@
 use Rattle.std.proofs.Common.{◌≡◌, map, take}
-use Rattle.func_records.specs.Origins.{made_name, all_names}
+use Rattle.func_records.specs.internal.Origins.{made_name, all_names}
 use Rattle.func_records.proofs.names.gather_refs.Given as goal
 
 abbrev pub invariant-pieces : goal.invariant-pieces

@@ -1,5 +1,5 @@
 use Rattle.std.proofs.Common.{◌≡◌, ◌++◌, map, length}
-use Rattle.func_records.specs.Origins.{made_name}
+use Rattle.func_records.specs.internal.Origins.{made_name}
 use Rattle.func_records.proofs.names.make_names.Given as goal
 
 abbrev pub invariant-refs : goal.invariant-refs

@@ -3,7 +3,7 @@ use Rattle.std.specs.List.{flat_map, slice_get}
 use Rattle.std.proofs.lemmas.Option.{slice_get-get_or}
 use Rattle.sym_records.specs.Spelled.{text_bytes}
 use Rattle.sym_records.specs.declared.place.Place.TheVariants.{Inside}
-use Rattle.func_records.specs.Numbering.{numbered}
+use Rattle.func_records.specs.internal.Numbering.{numbered}
 use Rattle.func_records.proofs.CanonLemmas.{nothing_added, none_here}
 use Rattle.func_records.proofs.TableLemmas.{line_text, line_fit, stands_inside}
 use Rattle.func_records.proofs.numbering.add_texts.Goals as goal

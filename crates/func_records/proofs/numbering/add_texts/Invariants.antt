@@ -4,8 +4,8 @@ use Rattle.sym_records.specs.Spelled.{text_bytes}
 use Rattle.sym_records.specs.Validity.{first_bad_from}
 use Rattle.sym_records.specs.declared.place.Place.TheVariants.{Inside}
 use Rattle.func_records.specs.FuncRecords.{numbered_lines}
-use Rattle.func_records.specs.Numbering.{numbered}
-use Rattle.func_records.specs.Gathering.{bytes_of}
+use Rattle.func_records.specs.internal.Numbering.{numbered}
+use Rattle.func_records.specs.internal.Gathering.{bytes_of}
 use Rattle.func_records.proofs.numbering.add_texts.Given as goal
 
 abbrev pub invariant-texts : goal.invariant-texts

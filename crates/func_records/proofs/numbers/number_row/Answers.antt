@@ -1,4 +1,4 @@
-use Rattle.func_records.specs.Gathering.{bytes_of}
+use Rattle.func_records.specs.internal.Gathering.{bytes_of}
 use Rattle.func_records.proofs.NumberLemmas.{row_more}
 use Rattle.func_records.proofs.numbers.number_row.Goals as goal
 

@@ -1,6 +1,6 @@
 use Rattle.std.proofs.Common.{◌≡◌, map, take}
-use Rattle.func_records.specs.Gathering.{bytes_of}
-use Rattle.func_records.specs.Spelling.{number_or_0}
+use Rattle.func_records.specs.internal.Gathering.{bytes_of}
+use Rattle.func_records.specs.internal.Spelling.{number_or_0}
 use Rattle.func_records.proofs.numbers.number_row.Given as goal
 
 abbrev pub invariant-paths : goal.invariant-paths

@@ -1,6 +1,6 @@
 use Rattle.std.proofs.Common.{ap, ◌∙◌}
-use Rattle.func_records.specs.Spelling.{number_or_0}
-use Rattle.func_records.specs.Origins.{made_name}
+use Rattle.func_records.specs.internal.Spelling.{number_or_0}
+use Rattle.func_records.specs.internal.Origins.{made_name}
 use Rattle.func_records.proofs.OriginLemmas.{numbered_at}
 use Rattle.func_records.proofs.origins.find_origin.Goals as goal
 

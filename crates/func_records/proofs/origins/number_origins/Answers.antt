@@ -1,5 +1,5 @@
 use Rattle.std.proofs.Common.{arith, ◌∙◌}
-use Rattle.func_records.specs.Gathering.{bytes_of}
+use Rattle.func_records.specs.internal.Gathering.{bytes_of}
 use Rattle.func_records.proofs.OriginLemmas.{numbered_next}
 use Rattle.func_records.proofs.origins.number_origins.Goals as goal
 

@@ -1,6 +1,6 @@
 use Rattle.std.proofs.Common.{◌≡◌, take}
-use Rattle.func_records.specs.Gathering.{bytes_of}
-use Rattle.func_records.specs.Origins.{numbered_refs}
+use Rattle.func_records.specs.internal.Gathering.{bytes_of}
+use Rattle.func_records.specs.internal.Origins.{numbered_refs}
 use Rattle.func_records.proofs.origins.number_origins.Given as goal
 
 abbrev pub invariant-refs : goal.invariant-refs

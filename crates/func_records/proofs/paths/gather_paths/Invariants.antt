@@ -1,5 +1,5 @@
 use Rattle.std.proofs.Common.{take}
-use Rattle.func_records.specs.Gathering.{OmittedSays, RowsSay, Gathered}
+use Rattle.func_records.specs.internal.Gathering.{OmittedSays, RowsSay, Gathered}
 use Rattle.func_records.proofs.paths.gather_paths.Given as goal
 
 abbrev pub invariant-pieces : goal.invariant-pieces

@@ -1,5 +1,5 @@
 use Rattle.std.proofs.Common.{◌≡◌, ℕ, List, ◌||◌, length}
-use Rattle.func_records.specs.Gathering.{ArePathed, has_text, any_run, RowSays}
+use Rattle.func_records.specs.internal.Gathering.{ArePathed, has_text, any_run, RowSays}
 use Rattle.func_records.proofs.paths.gather_runs.Given as goal
 
 abbrev pub invariant-runs : goal.invariant-runs

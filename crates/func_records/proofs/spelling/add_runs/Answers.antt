@@ -1,7 +1,7 @@
 use Rattle.std.proofs.Common.{◌≡◌, [], ◌∷◌, ◌++◌, map, sym, ap, ◌∙◌}
 use Rattle.sym_rules.proofs.BoolLemmas.{both}
 use Rattle.sym_records.specs.Canon.{canon_text}
-use Rattle.func_records.specs.Spelling.{line_by}
+use Rattle.func_records.specs.internal.Spelling.{line_by}
 use Rattle.func_records.proofs.CanonLemmas.{record_more, records_done, none_left}
 use Rattle.func_records.proofs.spelling.add_runs.Goals as goal
 

@@ -2,7 +2,7 @@ use Rattle.std.proofs.Common.{◌≡◌, true, ◌++◌, map, length}
 use Rattle.std.specs.List.{list_all}
 use Rattle.sym_records.specs.Canon.{canon_text}
 use Rattle.sym_records.specs.Validity.{fields_fit}
-use Rattle.func_records.specs.Spelling.{line_by}
+use Rattle.func_records.specs.internal.Spelling.{line_by}
 use Rattle.func_records.proofs.spelling.add_runs.Given as goal
 
 abbrev pub invariant-runs : goal.invariant-runs

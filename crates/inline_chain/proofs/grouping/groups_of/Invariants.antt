@@ -1,7 +1,7 @@
 use Rattle.std.proofs.Common.{length}
-use Rattle.func_flatten.specs.Collecting.{AreFit}
-use Rattle.inline_chain.specs.Trees.{SortedFrom}
-use Rattle.inline_chain.specs.Levels.{Groups}
+use Rattle.step_maps.specs.SpanStretches.{AreFit}
+use Rattle.inline_chain.specs.internal.Copies.{SortedFrom}
+use Rattle.inline_chain.specs.internal.Levels.{Groups}
 use Rattle.inline_chain.proofs.grouping.groups_of.Given as goal
 
 abbrev pub invariant-groups : goal.invariant-groups

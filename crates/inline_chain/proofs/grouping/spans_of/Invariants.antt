@@ -2,7 +2,7 @@ use Rattle.std.proofs.Common.{◌≡◌, ℕ, ◌||◌, length}
 use Rattle.std.specs.List.{list_any}
 use Rattle.range_set.specs.Members.{holds_any}
 use Rattle.step_maps.specs.Covers.{reaches}
-use Rattle.func_flatten.specs.Collecting.{AreFit}
+use Rattle.step_maps.specs.SpanStretches.{AreFit}
 use Rattle.inline_chain.proofs.grouping.spans_of.Given as goal
 
 abbrev pub invariant-group : goal.invariant-group

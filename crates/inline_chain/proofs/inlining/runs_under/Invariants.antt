@@ -1,7 +1,7 @@
 use Rattle.die_names.specs.declared.unit_read.UnitRead.{UnitRead}
-use Rattle.func_flatten.specs.Collecting.{AreFit}
+use Rattle.step_maps.specs.SpanStretches.{AreFit}
 use Rattle.inline_chain.specs.Trees.{IsTree}
-use Rattle.inline_chain.specs.Levels.{IsLevel, RunsTo}
+use Rattle.inline_chain.specs.internal.Levels.{IsLevel, RunsTo}
 use Rattle.std.proofs.Common.{◌+◌}
 use Rattle.inline_chain.proofs.inlining.runs_under.Given as goal
 

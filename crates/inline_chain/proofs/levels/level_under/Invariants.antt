@@ -1,7 +1,7 @@
 use Rattle.std.proofs.Common.{◌≡◌, ℕ, ◌||◌, length}
 use Rattle.std.specs.List.{list_any}
-use Rattle.func_flatten.specs.Collecting.{AreFit}
-use Rattle.inline_chain.specs.Levels.{has_at, reaches_under}
+use Rattle.step_maps.specs.SpanStretches.{AreFit}
+use Rattle.inline_chain.specs.internal.Levels.{has_at, reaches_under}
 use Rattle.inline_chain.proofs.levels.level_under.Given as goal
 
 abbrev pub invariant-level : goal.invariant-level

@@ -1,8 +1,8 @@
 use Rattle.std.proofs.Common.{◌≡◌, ℕ, ◌&&◌, ◌||◌, length, map}
 use Rattle.step_maps.specs.Runs.{AreRuns}
 use Rattle.step_maps.specs.Covers.{reaches, cover_run}
-use Rattle.func_flatten.specs.Collecting.{AreFit}
-use Rattle.inline_chain.specs.Levels.{has_at, covers_at, ReachTo}
+use Rattle.step_maps.specs.SpanStretches.{AreFit}
+use Rattle.inline_chain.specs.internal.Levels.{has_at, covers_at, ReachTo}
 use Rattle.inline_chain.proofs.levels.push_under.Given as goal
 
 abbrev pub invariant-covers : goal.invariant-covers

@@ -1,5 +1,5 @@
 use Rattle.std.proofs.Common.{◌≡◌, ◌+◌, length}
-use Rattle.inline_chain.specs.Trees.{front_count}
+use Rattle.inline_chain.specs.internal.Copies.{front_count}
 use Rattle.inline_chain.proofs.trees.front_count.Given as goal
 
 abbrev pub invariant-items : goal.invariant-items

@@ -1,4 +1,4 @@
-use Rattle.inline_chain.specs.Trees.{ListsTo}
+use Rattle.inline_chain.specs.internal.Copies.{ListsTo}
 use Rattle.inline_chain.proofs.trees.lists_of.Given as goal
 
 abbrev pub invariant-classes : goal.invariant-classes

@@ -2,12 +2,7 @@ use Rattle.inline_chain.proofs.TreeLemmas.{tree_is}
 use Rattle.inline_chain.proofs.trees.tree_of.Goals as goal
 
 pub lists_of-requires-clause-below : goal.lists_of-requires-clause-below
-lists_of-requires-clause-below c =
-    rw (c.dies-2.ensures, c.as_slice-2.ensures.value) (c.in_ok-sort_by_class.ensures.below _ (rw c.dies.ensures at c.in_ok-items.ensures.below))
+lists_of-requires-clause-below c = rw (c.dies.ensures, c.as_slice.ensures.value) (c.in_ok-sort_by_class.ensures.below _ c.in_ok-items.ensures.below)
 
 pub returns : goal.returns
-returns c = tree_is _ _ _ _
-    (rw (c.dies.ensures, c.as_slice.ensures) at c.in_ok-items.ensures.items)
-    (rw (c.dies.ensures, c.as_slice.ensures) at c.in_ok-items.ensures.sets)
-    c.in_ok-sort_by_class.ensures.same
-    (rw c.as_slice-2.ensures.value at c.in_ok-lists.ensures)
+returns c = tree_is _ _ _ _ c.in_ok-items.ensures.items c.in_ok-items.ensures.sets c.in_ok-sort_by_class.ensures.same (rw c.as_slice.ensures.value at c.in_ok-lists.ensures)

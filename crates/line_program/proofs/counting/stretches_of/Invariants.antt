@@ -1,6 +1,6 @@
 use Rattle.std.proofs.Common.{◌≡◌, ◌++◌, drop}
 use Rattle.step_maps.specs.Covers.{AreStretches}
-use Rattle.line_program.specs.Painting.{stretches_from}
+use Rattle.line_program.specs.internal.Painting.{stretches_from}
 use Rattle.line_program.proofs.counting.stretches_of.Given as goal
 
 abbrev pub invariant-loop-index : goal.invariant-loop-index

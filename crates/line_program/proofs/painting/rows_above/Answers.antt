@@ -1,7 +1,7 @@
 use Rattle.std.proofs.Common.{nat_le, rules, subst, sym, refl}
 use Rattle.std.proofs.lemmas.List.Sorted.{IsPartitionPoint-from_clause}
 use Rattle.line_program.specs.LineMaps.{no_line}
-use Rattle.line_program.specs.Brush.{Parts}
+use Rattle.line_program.specs.internal.RowsAbove.{Parts}
 use Rattle.line_program.proofs.PaintLemmas.{Above, parted_above, parts_none, parts_some}
 use Rattle.line_program.proofs.painting.rows_above.Goals as goal
 

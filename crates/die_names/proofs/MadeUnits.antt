@@ -1,0 +1,31 @@
+-- Entries and units for worked rows.
+use Rattle.std.proofs.Common.{ℕ, false, List, [], None}
+use Rattle.sym_edges.specs.Addresses.{Range}
+use Rattle.die_walk.specs.EntryTable.{DieFields}
+use Rattle.die_names.specs.declared.unit_read.UnitRead.{UnitRead}
+
+-- an entry with this tag and nothing else
+abbrev pub bare_entry : ℕ → DieFields
+bare_entry tag = record {
+  at = 0;
+  tag = tag;
+  parent = None;
+  declaration = false;
+  low = None;
+  high = None;
+  ranges = None;
+  origin = None;
+  spec = None;
+  name = None;
+  linkage = None;
+  call_file = None;
+  call_line = 0;
+}
+
+-- a unit of entries with their addresses, without lines
+abbrev pub bare_unit : List DieFields → List (List Range) → UnitRead
+bare_unit dies sets = record {
+  die = record { root = record { at = 0; low = None; stmt_list = None; comp_dir = None; str_offsets_base = None; addr_base = None; rnglists_base = None }; dies = dies };
+  spans = sets;
+  lines = record { lines = record { stops = []; values = [] }; paths = []; first = 0; files = [] };
+}

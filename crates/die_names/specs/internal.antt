@@ -1,0 +1,4 @@
+-- What serves the functions and loops of this crate alone: no public clause names it.
+pub mod Finding
+pub mod Following
+pub mod Gathering

@@ -1,0 +1,8 @@
+-- What serves the functions and loops of this crate alone: no public clause names it.
+pub mod Texts
+pub mod Calls
+pub mod Gathering
+pub mod Numbering
+pub mod Origins
+pub mod Parts
+pub mod Spelling

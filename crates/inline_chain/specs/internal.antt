@@ -1,0 +1,3 @@
+-- What serves the functions and loops of this crate alone: no public clause names it.
+pub mod Levels
+pub mod Copies

@@ -1,0 +1,89 @@
+-- The inlined copies of a unit, as they are collected and sorted by the entries that they stand in.
+use Rattle.std.specs.Prelude.{◌≡◌, ℕ, suc, ◌+◌, ◌<◌, ◌≤◌, ◌==◌, if◌then◌else◌, List, [], ◌∷◌, ◌++◌, map, filter, drop, length, Option, None, Some}
+use Rattle.std.specs.List.{slice_get}
+use Rattle.sym_edges.specs.Addresses.{Range}
+use Rattle.range_set.specs.Canonical.{IsCanonical}
+use Rattle.step_maps.specs.Runs.{IsRuns, between}
+use Rattle.step_maps.specs.declared.stretch.Stretch.{Stretch}
+use Rattle.step_maps.specs.declared.stretch.Cover.{Cover}
+use Rattle.step_maps.specs.Covers.{cover_run, index_at}
+use Rattle.die_walk.specs.EntryTable.{DieFields}
+use Rattle.die_names.specs.declared.unit_read.UnitRead.{UnitRead}
+use Rattle.die_walk.specs.EntryKinds.{is_inlined}
+use Rattle.die_names.specs.Owners.{inside_of}
+use Rattle.step_maps.specs.SpanStretches.{span_stretches, AreFit}
+use Rattle.inline_chain.specs.Trees.{list_of, IsTree}
+
+-- the addresses of the entry of a number, of the class of the entry that it stands in
+abbrev pub stretches_in : ℕ → Option ℕ → List Range → List Stretch
+stretches_in number None spans = []
+stretches_in number (Some above) spans = span_stretches number above spans
+
+abbrev pub copy_by : DieFields → Option ℕ → ℕ → List Range → List Stretch
+copy_by die above number spans = if is_inlined die then stretches_in number above spans else []
+
+abbrev pub copy_stretches : List DieFields → ℕ → DieFields → List Range → List Stretch
+copy_stretches all number die spans = copy_by die (inside_of all number die.parent) number spans
+
+-- the addresses of the inlined copies among entries that are numbered from `number`
+abbrev pub child_stretches : List DieFields → ℕ → List DieFields → List (List Range) → List Stretch
+child_stretches all number (die ∷ dies) (spans ∷ sets) = copy_stretches all number die spans ++ child_stretches all (number + 1) dies sets
+child_stretches all number _ _ = []
+
+-- those of a class
+abbrev pub of_class : ℕ → List Stretch → List Stretch
+of_class x items = filter (λ (s : Stretch). s.class == x) items
+
+-- all classes are below a count
+abbrev pub HaveClasses : ℕ → List Stretch → Type 0
+HaveClasses count [] = Unit {0}
+HaveClasses count (s ∷ items) = (s.class < count) × HaveClasses count items
+
+-- the classes rise, from a lowest one on
+abbrev pub SortedFrom : ℕ → List Stretch → Type 0
+SortedFrom low [] = Unit {0}
+SortedFrom low (s ∷ items) = (low ≤ s.class) × SortedFrom s.class items
+
+-- how many at the front are of a class
+unfoldable pub front_count : ℕ → List Stretch → ℕ
+front_count x [] = 0
+front_count x (s ∷ items) = if s.class == x then suc (front_count x items) else 0
+
+-- what stands around each of the first entries
+pub record SaysInside (all : List DieFields) (row : List (Option ℕ)) (count : ℕ) : Type 0 where
+  pub many : length row ≡ count
+  pub each : (k : ℕ) (die : DieFields) → k < count → slice_get all k ≡ Some die → slice_get row k ≡ Some (inside_of all k die.parent)
+
+-- the sets of the entries are sorted and disjoint
+abbrev pub HaveSets : List DieFields → List (List Range) → Type 0
+HaveSets (die ∷ dies) (spans ∷ sets) = IsCanonical spans × HaveSets dies sets
+HaveSets _ _ = Prim.Unit {0}
+
+-- what was collected of the first entries, and what is left, is all
+pub record Collects (all : List DieFields) (sets : List (List Range)) (count : ℕ) (row : List (Option ℕ)) (items : List Stretch) : Type 0 where
+  pub inside : SaysInside all row count
+  pub items_are : items ++ child_stretches all count (drop count all) (drop count sets) ≡ child_stretches all 0 all sets
+  pub fit : AreFit items
+  pub below : HaveClasses (length all) items
+  pub sets_are : HaveSets (drop count all) (drop count sets) → HaveSets all sets
+
+-- the list of a class has the runs of the first stretch's index
+abbrev pub IsList : List Stretch → List (List Cover) → ℕ → Type 0
+IsList items lists x = IsRuns (between 0 18446744073709551616 (index_at (of_class x items))) (map cover_run (list_of lists x))
+
+abbrev pub AreLists : List Stretch → List (List Cover) → Type 0
+AreLists items lists = (x : ℕ) → IsList items lists x
+
+-- those of the first classes; the other stretches are left
+pub record ListsTo (items rest : List Stretch) (lists : List (List Cover)) (count : ℕ) : Type 0 where
+  pub many : length lists ≡ count
+  pub each : (x : ℕ) → x < count → IsList items lists x
+  pub ahead : (x : ℕ) → count ≤ x → of_class x rest ≡ of_class x items
+  pub sorted : SortedFrom count rest
+  pub fit : AreFit rest
+
+-- the tree of a unit, where there is that unit
+abbrev pub TreeFor : Option UnitRead → Option (List (List Cover)) → Type 0
+TreeFor None None = Prim.Unit {0}
+TreeFor (Some part) (Some lists) = IsTree part lists
+TreeFor _ _ = ⊥
