@@ -22,7 +22,7 @@ use Rattle.abbrev_units.specs.declared.fault.FormFault.{FormFault}
 use Rattle.abbrev_units.specs.declared.plan.Step.{Step}
 use Rattle.abbrev_units.specs.SpecFields.{SpecFields}
 use Rattle.abbrev_units.specs.Values.{value_at, values_at, only_ahead, behind_values}
-use Rattle.abbrev_units.specs.Plans.{step_at, steps_at, IsPlan, HasLayout, HasSize, SizeOf}
+use Rattle.abbrev_units.specs.internal.Plans.{step_at, steps_at, IsPlan, HasLayout, HasSize, SizeOf}
 use Rattle.abbrev_units.proofs.ValueLemmas.{behind_first}
 
 -- what is left ahead
@@ -104,7 +104,7 @@ pub sixteen_sized : HasSize kind.Bytes16 16
 unfolding kind_at
 sixteen_sized c = run_ahead 16 c
 
--- steps one behind the other
+-- steps one after the other
 bind_assoc : (first : Result Ahead CursorFault) (next after : Ahead → Result Ahead CursorFault) → ((first >>= next) >>= after) ≡ (first >>= λ d. next d >>= after)
 bind_assoc (Ok d) next after = refl
 bind_assoc (Err fault) next after = refl

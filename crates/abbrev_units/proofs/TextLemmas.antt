@@ -12,7 +12,7 @@ use Rattle.abbrev_units.specs.Texts.{ahead_from, read_or_none, place_width, text
 pub whole_ahead : (bytes : List ℕ) (place : ℕ) → (let ahead : Ahead = record { bytes = drop place (take (length bytes) bytes); at = place } in ahead) ≡ ahead_from place bytes
 whole_ahead bytes place = ap (λ (all : List ℕ). record { bytes = drop place all; at = place }) (take-length bytes)
 
--- behind the end nothing is left
+-- after the end nothing is left
 beyond : (bytes : List ℕ) (place : ℕ) → length bytes < place → ahead_from place bytes ≡ record { bytes = []; at = place }
 beyond bytes place far = ap (λ (rest : List ℕ). record { bytes = rest; at = place }) (drop_of_length-le bytes (omega arith))
 

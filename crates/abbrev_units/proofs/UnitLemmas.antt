@@ -76,7 +76,7 @@ next_goes c = next_by (nat_eq (length c.bytes) 0) c
 abbrev pub units_behind : List Unit → Ahead → Result (List Unit × Ahead) (Located DwarfKind)
 units_behind done c = behind done (list_at next_unit c)
 
--- without the place behind them
+-- without the place after them
 abbrev pub units_of : Result (List Unit × Ahead) (Located DwarfKind) → Result (List Unit) (Located DwarfKind)
 units_of reading = reading >>= λ units. Ok units.0
 

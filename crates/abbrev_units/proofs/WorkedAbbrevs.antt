@@ -108,7 +108,7 @@ a_long_code : abbrevs_in "80808080 80808080 8080 00" 0 false ≡ Err (record { k
 unfolding abbrev_units_computes abbrevs_in unit_at
 a_long_code = refl
 
--- a place behind the end is a fault of the unit; the end itself is inside
+-- a place after the end is a fault of the unit; the end itself is inside
 behind_the_end : abbrevs_in "01 2e 00 3b 06 00 00 00" 9 false ≡ Err (record { kind = is.OffsetOutside; section = section.Info; at = 32 })
 unfolding abbrev_units_computes abbrevs_in unit_at
 behind_the_end = refl

@@ -11,7 +11,7 @@ use Rattle.abbrev_units.specs.declared.value.Value.TheVariants as value
 use Rattle.abbrev_units.specs.FormValue.{form_at}
 use Rattle.abbrev_units.proofs.Computing.{abbrev_units_computes}
 
--- the value among bytes of which the first has place 1, and the place behind it; the abbreviation has the constant 7
+-- the value among bytes of which the first has place 1, and the place after it; the abbreviation has the constant 7
 unfoldable reads : ℕ → Bool → String → Result (Value × ℕ) FormFault
 unfolding hex
 reads form wide text = form_at form (pos 7) wide (record { bytes = hex text; at = 1 }) >>= λ v. Ok (v.0, v.1.at)

@@ -43,7 +43,7 @@ a_skeleton_unit : units_of "10000000 0500 04 08 05000000 0102030405060708" ≡ O
 unfolding abbrev_units_computes units_of
 a_skeleton_unit = refl
 
--- types that are passed, whatever stands behind the type
+-- types that are passed, whatever stands after the type
 a_type_unit : units_of "03000000 0500 02" ≡ Ok (record { start = 0; body = 0; end = 7; version = 5; abbrev_at = 0; part = part.Passed; wide = false } ∷ [])
 unfolding abbrev_units_computes units_of
 a_type_unit = refl

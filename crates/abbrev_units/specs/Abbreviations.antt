@@ -16,7 +16,7 @@ use Rattle.abbrev_units.specs.DebugSections.{DebugSections}
 use Rattle.abbrev_units.specs.Faults.{read_in}
 use Rattle.abbrev_units.specs.Texts.{ahead_from}
 
--- the constant of an attribute with the form DW_FORM_implicit_const stands behind the form; the others have none
+-- the constant of an attribute with the form DW_FORM_implicit_const stands after the form; the others have none
 unfoldable pub implicit_at : ℕ → Ahead → Result (ℤ × Ahead) CursorFault
 implicit_at form c = if form == 0x21 then sleb_at c else Ok (pos 0, c)
 
@@ -28,7 +28,7 @@ spec_at wide c =
     implicit_at form.0 form.1 >>= λ implicit.
     Ok (if attribute.0 == 0 && form.0 == 0 then None else Some (record { attribute = attribute.0; form = form.0; implicit = implicit.0; wide = wide }), implicit.1)
 
--- an abbreviation behind its code: its tag, whether its entries have children, its attributes
+-- an abbreviation after its code: its tag, whether its entries have children, its attributes
 unfoldable pub abbrev_by : Bool → ℕ → Ahead → Result (Option Abbrev × Ahead) CursorFault
 abbrev_by wide code c =
     uleb_at c >>= λ tag.
@@ -40,7 +40,7 @@ abbrev_by wide code c =
 unfoldable pub abbrev_at : Bool → Ahead → Result (Option Abbrev × Ahead) CursorFault
 abbrev_at wide c = uleb_at c >>= λ code. if code.0 == 0 then Ok (None, code.1) else abbrev_by wide code.0 code.1
 
--- the abbreviations of a unit, from the place on that its header gives; a place behind the end of the section is a fault of the unit
+-- the abbreviations of a unit, from the place on that its header gives; a place after the end of the section is a fault of the unit
 unfoldable pub abbrevs_of : DebugSections → Unit → Result (List Abbrev) (Located DwarfKind)
 abbrevs_of sections unit =
     if nat_lt (length sections.abbrevs) unit.abbrev_at

@@ -52,7 +52,7 @@ abbrev pub left_by : {U E : Type 0} → Result U E → Ahead → Result Ahead E
 left_by (Ok x) c = Ok c
 left_by (Err fault) c = Err fault
 
--- an answer is what a definition gives: its value, or its fault; want of memory says nothing
+-- an answer is what a definition gives: its value, or its fault; out of memory says nothing
 abbrev pub Gives : {A F : Type 0} → Result A (Stop F) → Result A F → Type 0
 Gives (Ok x) given = given ≡ Ok x
 Gives (Err (Fault fault)) given = given ≡ Err fault

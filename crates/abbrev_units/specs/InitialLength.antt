@@ -20,7 +20,7 @@ length_by first c =
 unfoldable pub length_at : Ahead → Result (InitialLength × Ahead) HeaderFault
 length_at c = or_start is.Ends (fixed_at 4 c) >>= λ first. length_by first.0 first.1
 
--- what the length counts: the bytes behind it, up to the end of the unit or of the table
+-- what the length counts: the bytes after it, up to the end of the unit or of the table
 unfoldable pub contents_at : Ahead → Result (Contents × Ahead) HeaderFault
 contents_at c =
     length_at c >>= λ length.

@@ -9,5 +9,5 @@ pub mod SpecFields
 pub mod Abbreviations
 pub mod Places
 pub mod Values
-pub mod Plans
 pub mod FaultWords
+pub mod internal

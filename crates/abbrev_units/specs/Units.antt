@@ -23,7 +23,7 @@ use Rattle.abbrev_units.specs.Texts.{place_width}
 abbrev pub other_unit : UnitPart → Frame → Unit
 other_unit which f = record { start = f.start; body = 0; end = f.end; version = f.version; abbrev_at = 0; part = which; wide = f.wide }
 
--- a unit whose entries are read: they begin behind the header
+-- a unit whose entries are read: they begin after the header
 abbrev pub read_unit : Frame → ℕ → ℕ → Unit
 read_unit f place body = record { start = f.start; body = body; end = f.end; version = f.version; abbrev_at = place; part = part.Read; wide = f.wide }
 
@@ -35,7 +35,7 @@ address_size_at c = as_field (fixed_at 1 c) >>= λ size. if size.0 == 8 then Ok 
 abbrev pub abbrev_place_at : Bool → Ahead → Result (ℕ × Ahead) HeaderFault
 abbrev_place_at wide c = as_field (fixed_at (place_width wide) c)
 
--- the fields of version 4 behind the version: the place of the abbreviations, the size of addresses
+-- the fields of version 4 after the version: the place of the abbreviations, the size of addresses
 unfoldable pub version_4_at : Frame → Ahead → Result Unit HeaderFault
 version_4_at f c =
     abbrev_place_at f.wide c >>= λ place.
@@ -50,11 +50,11 @@ is_read_type type = type == 1 || (type == 3 || type == 4)
 abbrev pub is_passed_type : ℕ → Bool
 is_passed_type type = type == 2 || (type == 5 || type == 6)
 
--- a skeleton unit has the id of its split unit behind the other fields
+-- a skeleton unit has the id of its split unit after the other fields
 abbrev pub id_at : ℕ → Ahead → Result (List ℕ × Ahead) HeaderFault
 id_at type c = as_field (take_at (if type == 4 then 8 else 0) c)
 
--- the fields of version 5 behind the type: the size of addresses, the place of the abbreviations, the id of a skeleton unit
+-- the fields of version 5 after the type: the size of addresses, the place of the abbreviations, the id of a skeleton unit
 unfoldable pub version_5_by : Frame → ℕ → Ahead → Result Unit HeaderFault
 version_5_by f type c =
     address_size_at c >>= λ size.
@@ -62,7 +62,7 @@ version_5_by f type c =
     id_at type place.1 >>= λ id.
     Ok (read_unit f place.0 id.1.at)
 
--- the fields of version 5 behind the version
+-- the fields of version 5 after the version
 unfoldable pub version_5_at : Frame → Ahead → Result Unit HeaderFault
 version_5_at f c =
     as_field (fixed_at 1 c) >>= λ type.

@@ -1,4 +1,4 @@
--- The values of an entry (DWARF 5, 7.5.2): one for each attribute of its abbreviation, one behind the other.
+-- The values of an entry (DWARF 5, 7.5.2): one for each attribute of its abbreviation, one after the other.
 use Rattle.std.specs.Prelude.{List, [], ◌∷◌, Result, Ok, Err}
 use Rattle.sym_edges.specs.Results.{◌>>=◌}
 use Rattle.leb_cursor.specs.Ahead.{Ahead}

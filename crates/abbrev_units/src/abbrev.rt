@@ -21,7 +21,7 @@ pub struct Abbrev {
     pub specs: SpecList,
 }
 
-/// Reads the constant behind a form that has it there.
+/// Reads the constant after a form that has it there.
 #[tactic(auto, unfolding(crate::specs::Abbreviations::implicit_at))]
 fn read_implicit(cursor: &mut Cursor<'_>, form: u64) -> Result<i64, CursorFault>
     ensures { gave result cursor.new ≡ implicit_at form cursor.old }
@@ -65,7 +65,7 @@ fn read_specs(
     }
 }
 
-/// Reads an abbreviation behind its code.
+/// Reads an abbreviation after its code.
 #[tactic(auto, unfolding(crate::specs::Abbreviations::abbrev_by))]
 fn read_behind(
     alloc: Global,

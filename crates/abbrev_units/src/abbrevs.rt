@@ -157,7 +157,7 @@ fn read_list(
 }
 
 /// The abbreviations of a unit (DWARF 5, 7.5.3), or the first fault: `OffsetOutside` in `.debug_info` at
-/// the start of the unit, where their place lies behind the end of `.debug_abbrev`; and `Ends` or
+/// the start of the unit, where their place lies after the end of `.debug_abbrev`; and `Ends` or
 /// `LebLong` in `.debug_abbrev`.
 #[tactic(auto, unfolding(crate::specs::Abbreviations::abbrevs_of))]
 pub fn read_abbrevs(

@@ -9,7 +9,7 @@ use crate::value::{Value, value_of};
 use code_table::{DW_FORM_implicit_const, DW_FORM_indirect, FormRow, find_form, read_kind};
 use leb_cursor::Cursor;
 
-/// Reads a value by the row of its form. A refused call may leave the cursor behind a block's length.
+/// Reads a value by the row of its form. A refused call may leave the cursor after a block's length.
 #[inline]
 pub fn read_known(
     cursor: &mut Cursor<'_>,
@@ -41,7 +41,7 @@ fn read_direct(
     read_known(cursor, find_form(form, wide), implicit)
 }
 
-/// Reads a form and the value behind it.
+/// Reads a form and the value after it.
 #[tactic(auto, unfolding(crate::specs::FormValue::indirect_at))]
 pub fn read_indirect(cursor: &mut Cursor<'_>, wide: bool) -> Result<Value, FormFault>
     ensures { gave result cursor.new ≡ indirect_at wide cursor.old }

@@ -10,7 +10,7 @@ ghost use Rattle.abbrev_units.specs.Values.{values_at};
 ghost use Rattle.abbrev_units.specs.Units.{next_unit};
 ghost use Rattle.abbrev_units.specs.Abbreviations.{spec_at, abbrev_at};
 
-/// The units ahead are what stands first and the units behind it, and so are attributes and
+/// The units ahead are what stands first and the units after it, and so are attributes and
 /// abbreviations: no count of readings is part of what they are.
 #[tactic(auto, using(crate::proofs::UnitLemmas::units_follow, crate::proofs::AbbrevLemmas::specs_follow, crate::proofs::AbbrevLemmas::abbrevs_follow))]
 pub fn lists_follow()
@@ -19,7 +19,7 @@ pub fn lists_follow()
     ensures abbreviations { (wide : Bool) (c : Ahead) → list_at (abbrev_at wide) c ≡ list_cases (abbrev_at wide) c }
 {}
 
-/// Readings never go behind the end of the bytes.
+/// Readings never go after the end of the bytes.
 #[tactic(auto, using(crate::proofs::UnitLemmas::contents_passes, crate::proofs::FormLemmas::form_passes, crate::proofs::FormLemmas::values_pass))]
 pub fn values_pass()
     ensures contents { (c : Ahead) → Passes 4 c (contents_at c) }

@@ -14,7 +14,7 @@ pub struct InitialLength {
     pub wide: bool,
 }
 
-/// What stands behind the length, in the 64-bit format where `wide`.
+/// What stands after the length, in the 64-bit format where `wide`.
 #[derive(Drop)]
 pub struct Contents<'a> {
     pub wide: bool,
@@ -29,7 +29,7 @@ impl<'a> Model for Contents<'a> {
     ghost view = { λ c. record { wide = c.wide; ahead = c.ahead } };
 }
 
-/// Reads a length behind its first four bytes.
+/// Reads a length after its first four bytes.
 #[tactic(auto, unfolding(crate::specs::InitialLength::length_by))]
 fn read_behind(cursor: &mut Cursor<'_>, first: u32) -> Result<InitialLength, HeaderFault>
     ensures { gave result cursor.new ≡ length_by first cursor.old }

@@ -2,7 +2,7 @@
 ghost use Rattle.std.specs.Prelude.{◌≡◌, true, Ok, Some, IfSome, IfOk, MatchOption};
 ghost use Rattle.leb_cursor.specs.Ahead.{Ahead};
 ghost use Rattle.abbrev_units.specs.Faults.{left_by};
-ghost use Rattle.abbrev_units.specs.Plans.{step_at, steps_at, IsPlan, HasLayout, HasSize, SizeOf};
+ghost use Rattle.abbrev_units.specs.internal.Plans.{step_at, steps_at, IsPlan, HasLayout, HasSize, SizeOf};
 
 use crate::spec::Spec;
 use code_table::{DW_FORM_indirect, FormRow, Kind, read_kind};

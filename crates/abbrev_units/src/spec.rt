@@ -5,7 +5,7 @@ ghost use Rattle.leb_cursor.specs.Readings.{take_at};
 ghost use Rattle.abbrev_units.specs.Faults.{left_by, as_value};
 ghost use Rattle.abbrev_units.specs.FormValue.{form_at};
 ghost use Rattle.abbrev_units.specs.Values.{value_at, only_ahead, behind_values};
-ghost use Rattle.abbrev_units.specs.Plans.{HasLayout};
+ghost use Rattle.abbrev_units.specs.internal.Plans.{HasLayout};
 
 use crate::fault::FormFault;
 use crate::form::{read_indirect, read_known};
@@ -33,7 +33,7 @@ impl Model for Spec {
     ghost use Rattle.std.specs.Prelude.{◌≡◌};
     ghost use Rattle.code_table.specs.Forms.{forms, form_row};
     ghost use Rattle.abbrev_units.specs.SpecFields.{SpecFields};
-    ghost use Rattle.abbrev_units.specs.Plans.{SizeOf};
+    ghost use Rattle.abbrev_units.specs.internal.Plans.{SizeOf};
 
     ghost Value = { SpecFields };
 
@@ -140,7 +140,7 @@ pub struct SpecList {
 impl Model for SpecList {
     ghost use Rattle.std.specs.Prelude.{List, IfSome};
     ghost use Rattle.abbrev_units.specs.SpecFields.{SpecFields};
-    ghost use Rattle.abbrev_units.specs.Plans.{IsPlan};
+    ghost use Rattle.abbrev_units.specs.internal.Plans.{IsPlan};
 
     ghost Value = { List SpecFields };
 
@@ -163,7 +163,7 @@ impl SpecList {
         self.items.as_slice()
     }
 
-    /// Passes the values of the attributes, one behind the other. A refused call may leave the cursor among
+    /// Passes the values of the attributes, one after the other. A refused call may leave the cursor among
     /// them.
     #[tactic(auto, using(crate::proofs::PlanLemmas::short_way))]
     pub fn skip(&self, cursor: &mut Cursor<'_>) -> Result<(), FormFault>
@@ -180,7 +180,7 @@ impl SpecList {
     }
 }
 
-/// Passes the values of attributes, one behind the other. A refused call may leave the cursor among them.
+/// Passes the values of attributes, one after the other. A refused call may leave the cursor among them.
 #[tactic(auto, using(crate::proofs::ValueLemmas::skips_more, crate::proofs::ValueLemmas::skips_end, crate::proofs::ValueLemmas::skips_refused))]
 fn skip_values(cursor: &mut Cursor<'_>, specs: &[Spec]) -> Result<(), FormFault>
     ensures { left_by result cursor.new ≡ behind_values specs.now cursor.old }

@@ -62,7 +62,7 @@ pub fn place_in(bytes: &[u8], place: u64, wide: bool) -> Option<u64>
     }
 }
 
-/// So many places of a width behind a base, where that is below 2^64.
+/// So many places of a width after a base, where that is below 2^64.
 #[inline]
 fn indexed(base: u64, width: u64, index: u64) -> Option<u64>
     ensures { MatchOption result (2 ^ 64 ≤ base + width * index) (λ place. place ≡ base + width * index) }

@@ -91,7 +91,7 @@ fn read_address_size(cursor: &mut Cursor<'_>) -> Result<(), HeaderFault>
     Ok(())
 }
 
-/// Reads the fields of version 4 behind the version.
+/// Reads the fields of version 4 after the version.
 #[tactic(auto, unfolding(crate::specs::Units::version_4_at))]
 fn read_version_4(frame: Frame, cursor: &mut Cursor<'_>) -> Result<Unit, HeaderFault>
     ensures { result ≡ version_4_at frame cursor.old }
@@ -101,7 +101,7 @@ fn read_version_4(frame: Frame, cursor: &mut Cursor<'_>) -> Result<Unit, HeaderF
     Ok(read_unit(frame, place, cursor.at()))
 }
 
-/// Reads the fields of version 5 behind the type.
+/// Reads the fields of version 5 after the type.
 #[tactic(auto, unfolding(crate::specs::Units::version_5_by))]
 fn read_fields(frame: Frame, type_: u8, cursor: &mut Cursor<'_>) -> Result<Unit, HeaderFault>
     ensures { result ≡ version_5_by frame type_ cursor.old }
@@ -112,7 +112,7 @@ fn read_fields(frame: Frame, type_: u8, cursor: &mut Cursor<'_>) -> Result<Unit,
     Ok(read_unit(frame, place, cursor.at()))
 }
 
-/// Reads the fields of version 5 behind the version.
+/// Reads the fields of version 5 after the version.
 #[tactic(auto, unfolding(crate::specs::Units::version_5_at))]
 fn read_version_5(frame: Frame, cursor: &mut Cursor<'_>) -> Result<Unit, HeaderFault>
     ensures { result ≡ version_5_at frame cursor.old }
@@ -125,7 +125,7 @@ fn read_version_5(frame: Frame, cursor: &mut Cursor<'_>) -> Result<Unit, HeaderF
     }
 }
 
-/// Reads the fields behind the version.
+/// Reads the fields after the version.
 #[tactic(auto, unfolding(crate::specs::Units::unit_by))]
 fn read_behind(frame: Frame, cursor: &mut Cursor<'_>) -> Result<Unit, HeaderFault>
     ensures { result ≡ unit_by frame cursor.old }

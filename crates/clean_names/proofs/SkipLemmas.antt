@@ -26,7 +26,7 @@ skip_none : skip is_space [] ≡ []
 unfolding skip
 skip_none = refl
 
--- there is nothing behind the last byte
+-- there is nothing after the last byte
 pub skip_end : (bytes : List ℕ) (i : ℕ) → length bytes ≤ i → skip is_space (drop i bytes) ≡ []
 skip_end bytes i past = ap (skip is_space) (grind (arith, common_steps)) ∙ skip_none
 

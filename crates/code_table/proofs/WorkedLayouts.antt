@@ -14,7 +14,7 @@ use Rattle.code_table.specs.FrameOps.{frame_opcodes}
 use Rattle.sym_edges.proofs.Hex.{hex}
 use Rattle.code_table.proofs.Computing.{code_table_computes}
 
--- the operand of a layout among bytes of which the first has place 1, and the place behind it
+-- the operand of a layout among bytes of which the first has place 1, and the place after it
 unfoldable reads : Kind → String → Result (Operand × ℕ) CursorFault
 unfolding hex
 reads kind text = kind_at kind (record { bytes = hex text; at = 1 }) >>= λ operand. Ok (operand.0, operand.1.at)
@@ -161,7 +161,7 @@ a_second_operand_that_is_cut : reads_both Uleb BlockUleb "06 02 70" ≡ Err (End
 unfolding code_table_computes reads_both
 a_second_operand_that_is_cut = refl
 
--- codes between and behind those of the table, and the opcodes with an operand in their low six bits
+-- codes between and after those of the table, and the opcodes with an operand in their low six bits
 no_opcode_17 : shape_of 0x17 frame_opcodes ≡ None
 unfolding code_table_computes
 no_opcode_17 = refl

@@ -1,4 +1,4 @@
--- The call frame instructions whose operands stand behind the opcode (DWARF 5, table 7.29, and
+-- The call frame instructions whose operands stand after the opcode (DWARF 5, table 7.29, and
 -- DW_CFA_GNU_args_size of the GNU tools).
 use Rattle.std.specs.Prelude.{ℕ, List, [], ◌∷◌}
 use Rattle.code_table.specs.declared.kind.Kind.{Kind}

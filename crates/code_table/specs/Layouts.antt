@@ -1,4 +1,4 @@
--- How the operands of a layout are read, one behind the other (DWARF 5, sections 6.4.2 and 7.5.6).
+-- How the operands of a layout are read, one after the other (DWARF 5, sections 6.4.2 and 7.5.6).
 use Rattle.std.specs.Prelude.{ℕ, length, Result, Ok}
 use Rattle.leb_cursor.specs.declared.fault.CursorFault.{CursorFault}
 use Rattle.sym_edges.specs.Results.{◌>>=◌}

@@ -110,7 +110,7 @@ macro_rules! shape_by {
     };
 }
 
-/// The instructions whose operands stand behind the opcode.
+/// The instructions whose operands stand after the opcode.
 pub const FRAME_OPS: Table<24> = Table {
     rows: frame_ops!(rows, 24),
 };

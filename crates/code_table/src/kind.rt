@@ -38,7 +38,7 @@ pub enum Kind {
     BlockUleb,
 }
 
-/// The layouts of a code's two operands, one behind the other.
+/// The layouts of a code's two operands, one after the other.
 #[derive(Clone, Copy, PartialEq, Eq, Debug)]
 pub struct Shape {
     pub first: Kind,

@@ -53,7 +53,7 @@ macro_rules! read_by_kind {
     };
 }
 
-/// Reads an operand. A refused call may leave the cursor behind a block's length.
+/// Reads an operand. A refused call may leave the cursor after a block's length.
 #[inline]
 #[tactic(auto, unfolding(crate::specs::Layouts::kind_at))]
 pub fn read_kind(cursor: &mut Cursor<'_>, kind: Kind) -> Result<Operand, CursorFault>
@@ -72,7 +72,7 @@ pub fn read_kind(cursor: &mut Cursor<'_>, kind: Kind) -> Result<Operand, CursorF
 }
 
 /// Reads the operands of `shape`, the first and then the second. A refusal has the place of the
-/// number, text or run of bytes that fails: of a block whose bytes end too early the place behind
+/// number, text or run of bytes that fails: of a block whose bytes end too early the place after
 /// its length.
 #[inline]
 #[tactic(auto, unfolding(crate::specs::Layouts::shape_at))]

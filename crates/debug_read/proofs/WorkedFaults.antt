@@ -163,7 +163,7 @@ not_read : fault_of (others ++ old 0) ≡ in_info is.Ends 0x28
 unfolding worked others
 not_read = refl
 
--- frame sections come behind all units, `.eh_frame` before `.debug_frame`
+-- frame sections come after all units, `.eh_frame` before `.debug_frame`
 unit_before_frames : fault (debug_says (image (old 0) "" "ff000000" "ff000000")) ≡ in_info is.Ends 0xc
 unfolding worked
 unit_before_frames = refl

@@ -36,7 +36,7 @@ abbrev pub as_frame : {A : Type 0} → Result A (Located FrameKind) → Result A
 as_frame (Ok x) = Ok x
 as_frame (Err fault) = Err (Frame fault)
 
--- what a file says, or its first fault behind its image: of the unit headers, of the units that are read, in their order, of `.eh_frame`, of
+-- what a file says, or its first fault after its image: of the unit headers, of the units that are read, in their order, of `.eh_frame`, of
 -- `.debug_frame`
 unfoldable pub debug_says : ImageParts → Result DebugSays DebugFault
 debug_says image =

@@ -2,7 +2,7 @@
 //! entries, the addresses of these and their line tables, and the frame entries of `.eh_frame` and `.debug_frame` (DWARF 5,
 //! 6.4.1; LSB Core, ".eh_frame").
 //!
-//! [`read_debug`] answers a [`DebugRead`], or the first fault of the file behind its image. First is meant in this order,
+//! [`read_debug`] answers a [`DebugRead`], or the first fault of the file after its image. First is meant in this order,
 //! whatever worker finds a fault and when: the headers of all units; then each unit that is read, in the order of the section,
 //! with its abbreviations, its entries, the base of its range lists, the ranges entry by entry, its line table; then
 //! `.eh_frame`; then `.debug_frame`. Units of other versions than 4 and 5, type units and split units have a header and are not
@@ -17,7 +17,7 @@
 //! the units of functions alone; the table of another unit is read for its faults, and the empty one stands in its place.
 //!
 //! Each worker reads the units that it draws, one at a time, by a function of the file and the unit's number
-//! (`unit_workers`); what they found is then joined in the order of the units. All units are read, also behind one that is
+//! (`unit_workers`); what they found is then joined in the order of the units. All units are read, also after one that is
 //! refused.
 //!
 //! To read: `specs/UnitSays.antt`, `UnitsRead.antt` and `DebugSays.antt`; then `units` with `ranges` and `lines`, and

@@ -127,7 +127,7 @@ impl<'s, 'a> UnitJob for UnitReader<'s, 'a> {
         Ok(())
     }
 
-    /// A number behind the last unit, which no worker draws, has no result.
+    /// A number after the last unit, which no worker draws, has no result.
     fn run(
         &self,
         alloc: Global,

@@ -37,7 +37,7 @@ pub fn put64(file: &mut Vec<u8>, fields: &[u64]) -> Result<(), Fail> {
     Ok(())
 }
 
-/// The file header and the program header of a shared object with one loaded segment, and so many sections behind them.
+/// The file header and the program header of a shared object with one loaded segment, and so many sections after them.
 pub fn put_headers(file: &mut Vec<u8>, base: u64, count: u16) -> Result<(), Fail> {
     file.extend_from_slice(b"\x7fELF\x02\x01\x01\0\0\0\0\0\0\0\0\0")?;
     put16(file, &[3, 62])?;

@@ -8,15 +8,15 @@ use std::alloc::Global;
 use std::test::Fail;
 use sym_edges::{Span, Stop};
 
-/// What stands behind the length of a table of version 4 whose tables have 27 bytes from minimum_instruction_length on: line_base -3, line_range 12,
+/// What stands after the length of a table of version 4 whose tables have 27 bytes from minimum_instruction_length on: line_base -3, line_range 12,
 /// opcode_base 13, no directory and the file `a.c`.
 const HEADER: &[u8] =
     b"\x04\0\x1b\0\0\0\x01\x01\x01\xfd\x0c\x0d\0\x01\x01\x01\x01\0\0\0\x01\0\0\x01\0a.c\0\0\0\0\0";
 
-/// The fields of version 4 behind the header's length, and the end of the directories.
+/// The fields of version 4 after the header's length, and the end of the directories.
 const FIELDS: &[u8] = b"\x01\x01\x01\xfd\x0c\x0d\0\x01\x01\x01\x01\0\0\0\x01\0\0\x01\0";
 
-/// The fields of version 5 behind the header's length, the directory `/s`, the format of files (a path in the table, and a byte for the
+/// The fields of version 5 after the header's length, the directory `/s`, the format of files (a path in the table, and a byte for the
 /// directory), and their count, 3000.
 const NEW_FIELDS: &[u8] =
     b"\x01\x01\x01\xfd\x0c\x0d\0\x01\x01\x01\x01\0\0\0\x01\0\0\x01\x01\x01\x08\x01/s\0\x02\x01\x08\x02\x0b\xb8\x17";
@@ -123,7 +123,7 @@ fn many_rows_of_one_sequence(rt: HostRuntime) -> Result<(), Fail> {
     Ok(())
 }
 
-/// Files `AA.c` and so on, each twice; these bytes stand behind each name.
+/// Files `AA.c` and so on, each twice; these bytes stand after each name.
 fn names(alloc: Global, behind: &[u8]) -> Result<Vec<u8>, Fail> {
     let mut names = Vec::new(alloc);
     for k in 0..COUNT {

@@ -157,7 +157,7 @@ fn expect<R: Threads + Sync + Abort>(
     Ok(())
 }
 
-/// Units behind one another.
+/// Units after one another.
 fn joined(alloc: Global, units: &[&[u8]]) -> Result<Vec<u8>, Fail> {
     let mut info = Vec::new(alloc);
     for unit in units {

@@ -1,4 +1,4 @@
--- Entries stand in their units in rising order, and units one behind the other.
+-- Entries stand in their units in rising order, and units one after the other.
 use Rattle.std.proofs.Common.{◌≡◌, ◌≤◌, ◌+◌, ◌-◌, ℕ, zero, suc, Bool, true, false, nat_eq, cond, List, [], ◌∷◌, ◌++◌, map, length, take, Option, None, Some, Result, Ok, Err, refl, ap, subst, ◌∙◌, arith, length-drop, length-take-le}
 use Rattle.sym_edges.specs.Results.{◌>>=◌}
 use Rattle.sym_edges.specs.declared.located.Located.{Located}

@@ -31,7 +31,7 @@ rises_count low high (x ∷ xs) below rise =
     let later : length xs + (x + 1) ≤ high + 1 = rises_count (x + 1) high xs (omega arith) rise.2 in
     omega arith
 
--- the entries of all units, behind a place
+-- the entries of all units, after a place
 unit_rises : (sections : DebugSections) (unit : Unit) (which : UnitPart) (later : List Unit) (parts : List UnitRead) (low high : ℕ) → low ≤ unit.start → unit.end ≤ high → high ≤ length sections.info → BodyInside unit which → AreTables sections (with_read unit which later) parts → ((rest : List UnitRead) → AreTables sections later rest → RisesTo (unit.end + 1) high (places rest)) → unit.start < unit.end → RisesTo (low + 1) high (places parts)
 unit_rises sections unit Read later [] low high start last small body tables rise some = absurd tables
 unit_rises sections unit Read later (part ∷ parts) low high start last small body tables rise some =

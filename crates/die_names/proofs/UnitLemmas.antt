@@ -1,4 +1,4 @@
--- Units stand one behind the other, and their entries behind their headers.
+-- Units stand one after the other, and their entries after their headers.
 use Rattle.std.proofs.Common.{◌≡◌, ◌<◌, ◌≤◌, ◌+◌, ℕ, zero, suc, Bool, true, false, nat_eq, nat_lt, cond, List, ◌∷◌, length, take, Option, None, Some, Result, Ok, Err, refl, sym, ap, subst, ◌∙◌, arith, length-take-le}
 use Rattle.std.proofs.lemmas.Bool.{ltb-false}
 use Rattle.sym_edges.specs.Results.{◌>>=◌}
@@ -34,7 +34,7 @@ field_passes : {A : Type 0} (reading : Result (A × Ahead) CursorFault) (least :
 field_passes (Ok x) least c goes = goes
 field_passes (Err fault) least c goes = tt
 
--- a unit of a frame, its entries behind its header
+-- a unit of a frame, its entries after its header
 abbrev UnitFits : Frame → Result Unit HeaderFault → Type 0
 UnitFits f (Ok unit) = (unit.start ≡ f.start) × (unit.end ≡ f.end) × BodyInside unit unit.part
 UnitFits f (Err fault) = Prim.Unit {0}
@@ -45,7 +45,7 @@ read_at f place c = Ok (read_unit f place c.at)
 read_fits : (f : Frame) (place : ℕ) (c : Ahead) → f.start < c.at → end_of c ≡ f.end → UnitFits f (read_at f place c)
 read_fits f place c behind ends = (refl, refl, (behind, omega (arith, ends)))
 
--- a place stays behind another, and the end where it was
+-- a place stays after another, and the end where it was
 abbrev Goes : Ahead → Result Ahead HeaderFault → Type 0
 Goes c (Ok d) = (c.at ≤ d.at) × (end_of d ≡ end_of c)
 Goes c (Err fault) = Prim.Unit {0}
@@ -247,7 +247,7 @@ found_units (Ok x) units high follows is =
     subst (λ us. Follow 0 high us) same follows
 found_units (Err fault) units high follows is = absurd (grind (arith, is))
 
--- the units of a section stand one behind the other, up to its end
+-- the units of a section stand one after the other, up to its end
 pub units_follow : (info : List ℕ) (units : List Unit) → units_in info ≡ Ok units → Follow 0 (length info) units
 unfolding units_in list_at
 units_follow info units is =

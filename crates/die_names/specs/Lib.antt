@@ -3,6 +3,5 @@ pub mod UnitPlaces
 pub mod Names
 pub mod NameRefs
 pub mod Owners
-pub mod KeptNames
 pub mod CleanPaths
 pub mod internal

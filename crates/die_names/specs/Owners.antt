@@ -36,7 +36,7 @@ inside_of dies (suc number) parent =
     then option_map_or (λ die. if die.tag == 0x2e || is_inlined die then Some number else inside_of dies number die.parent) (slice_get dies number) None
     else inside_of dies number parent
 
--- the inlined copies at an address inside of an entry, level by level: at each level the first one that stands in the one before; it stands behind that one
+-- the inlined copies at an address inside of an entry, level by level: at each level the first one that stands in the one before; it stands after that one
 abbrev pub chain_from : List DieFields → ℕ → ℕ → List Covering → List Covering
 chain_from dies a entry [] = []
 chain_from dies a entry (c ∷ later) =

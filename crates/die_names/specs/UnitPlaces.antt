@@ -1,4 +1,4 @@
--- Where units and their entries stand in `.debug_info` (DWARF 5, 7.5.1): a unit behind the one before it, its entries behind its header.
+-- Where units and their entries stand in `.debug_info` (DWARF 5, 7.5.1): a unit after the one before it, its entries after its header.
 use Rattle.std.specs.Prelude.{◌≡◌, ℕ, ◌+◌, ◌≤◌, ◌<◌, List, [], ◌∷◌, Ok}
 use Rattle.abbrev_units.specs.declared.abbrev.Abbrev.{Abbrev}
 use Rattle.abbrev_units.specs.declared.unit.Unit.{Unit}
@@ -13,13 +13,13 @@ abbrev pub RisesTo : ℕ → ℕ → List ℕ → Type 0
 RisesTo low high [] = Prim.Unit {0}
 RisesTo low high (x ∷ xs) = (low ≤ x) × (x ≤ high) × RisesTo (x + 1) high xs
 
--- the entries of a unit that is read begin behind its header
+-- the entries of a unit that is read begin after its header
 abbrev pub BodyInside : Unit → UnitPart → Type 0
 BodyInside unit Read = (unit.start < unit.body) × (unit.body ≤ unit.end)
 BodyInside unit Passed = Prim.Unit {0}
 BodyInside unit Skipped = Prim.Unit {0}
 
--- units from a place on, one behind the other, up to the end of the section
+-- units from a place on, one after the other, up to the end of the section
 abbrev pub Follow : ℕ → ℕ → List Unit → Type 0
 Follow low high [] = Prim.Unit {0}
 Follow low high (unit ∷ units) =

@@ -2,3 +2,4 @@
 pub mod Finding
 pub mod Following
 pub mod Gathering
+pub mod KeptNames

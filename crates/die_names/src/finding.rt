@@ -42,7 +42,7 @@ fn find_in_unit(dies: &[Die<'_>], place: u64) -> Option<usize>
     Some(count)
 }
 
-/// The same behind so many units.
+/// The same after so many units.
 fn behind(count: usize, standing: Option<Standing>) -> Option<Standing>
     requires { IfSome standing (λ s. count + s.unit < 2 ^ 63) }
     ensures { result ≡ moved count standing }

@@ -90,7 +90,7 @@ fn has_scope(dies: &[Die<'_>], entry: usize, parent: Option<u32>) -> bool
     }
 }
 
-/// A name behind the names of its scopes.
+/// A name after the names of its scopes.
 #[tactic(auto, using(crate::proofs::JoinLemmas::fronts_more))]
 fn join(
     alloc: Global,

@@ -26,7 +26,7 @@ pub struct EntryNameText<'a> {
 
 impl<'a> Model for EntryNameText<'a> {
     ghost use Rattle.std.specs.Prelude.{List, ℕ};
-    ghost use Rattle.die_names.specs.KeptNames.{kept_name};
+    ghost use Rattle.die_names.specs.internal.KeptNames.{kept_name};
 
     ghost Value = { List ℕ };
 

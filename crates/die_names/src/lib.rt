@@ -2,7 +2,7 @@
 //!
 //! [`Units`] are what was read of each unit, in the order of their places: its entries, the addresses of each, its line table.
 //! The way of an entry is itself and the entries that at most 16 links lead to, by DW_AT_abstract_origin or else by
-//! DW_AT_specification, into any unit. Its name is the first linkage name on the way, or else the first name, behind the names
+//! DW_AT_specification, into any unit. Its name is the first linkage name on the way, or else the first name, after the names
 //! of the classes, structures, unions and namespaces around the entry that has it, joined by `::`; or else `<name omitted>`.
 //! [`name_of`] says which entry gives the name, and how; [`name_text`] gives its text, cleaned, a [`EntryNameText`]; [`name_slice`] gives
 //! the bytes of the file where the name stands there as it is. A link is looked up by halves, among the units and then in one.

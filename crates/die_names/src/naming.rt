@@ -16,7 +16,7 @@ use die_walk::Die;
 pub enum How {
     /// By its linkage name.
     Linkage,
-    /// By its name, behind the names of its scopes.
+    /// By its name, after the names of its scopes.
     Joined,
     /// There is no name on the way.
     Omitted,

@@ -22,7 +22,7 @@ use Rattle.die_walk.specs.Picking.{no_picks, picks_at, picks_of, die_by, root_by
 use Rattle.die_walk.proofs.PickLemmas.{made_of, picks_are}
 use Rattle.die_walk.specs.Steps.{Walked, keeps, begun, begun_by, entered, entered_by, opened, own_number, moved, entering, entered_at, moving, moved_at, Moves}
 
--- a member behind none
+-- a member after none
 pub first_alone : {X : Type 0} (xs : List X) (x : X) → length xs ≡ 0 → xs ++ x ∷ [] ≡ x ∷ []
 first_alone [] x none = refl
 first_alone (y ∷ xs) x none = absurd (grind (arith, none))

@@ -107,7 +107,7 @@ die_is : (sections : DebugSections) (unit : Unit) (base : Option ℕ) (at depth 
 unfolding die_of
 die_is sections unit base at depth tag values inner around same = ap (λ p. die_of sections unit base (kept_at at p tag values)) same
 
--- behind the first entry, one more
+-- after the first entry, one more
 entered_is : (sections : DebugSections) (unit : Unit) (w : Walked) (at tag : ℕ) (values : List Given) (kept : Bool) → 1 ≤ length w.dies → is_kept_tag tag ≡ kept → entered sections unit w at tag values ≡ cond kept (added sections unit w at tag values) w
 unfolding entered
 entered_is sections unit w at tag values kept some is =
@@ -122,7 +122,7 @@ number_is w tag false some is =
     let none : keeps w tag ≡ false = grind (arith, nat_tests, is, some) in
     cond-false _ _ _ none
 
--- the table behind a state: what it has, and the kept ones of the entries to come
+-- the table after a state: what it has, and the kept ones of the entries to come
 abbrev pub behind_state : DebugSections → Unit → Walked → List Item → List Item → EntryTable
 behind_state sections unit w earlier items = record {
   root = w.root;
@@ -162,7 +162,7 @@ opened_table : (sections : DebugSections) (unit : Unit) (v : Walked) (children :
 opened_table sections unit v true own earlier items = refl
 opened_table sections unit v false own earlier items = refl
 
--- the whole walk behind the first entry
+-- the whole walk after the first entry
 pub run_is : (sections : DebugSections) (unit : Unit) (marks : List Mark) (w : Walked) (before : Item) (earlier : List Item) (depth : ℕ) → Holds w (before ∷ earlier) depth → table_in (all_moved sections unit w marks) ≡ behind_state sections unit w (before ∷ earlier) (items_from depth marks)
 unfolding all_moved moved items_from kept_from
 run_is sections unit [] w before earlier depth holds = ap (λ (dies : List DieFields). record { root = w.root; dies = dies }) (sym (append-nil w.dies))

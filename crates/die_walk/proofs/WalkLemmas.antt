@@ -157,7 +157,7 @@ HasEnd (Ok (Some x, c)) = ⊥
 HasEnd (Ok (None, c)) = Prim.Unit {0}
 HasEnd (Err fault) = ⊥
 
--- the walk from a state: behind a step, at the end of the unit, and where a step is refused
+-- the walk from a state: after a step, at the end of the unit, and where a step is refused
 abbrev finishing : DebugSections → Unit → Walked → List Mark × Ahead → Result EntryTable (Located DwarfKind)
 finishing sections unit w marks = Ok (table_in (rounded sections unit (all_moved sections unit w marks.0)))
 
@@ -222,7 +222,7 @@ walked_stopped sections unit abbrevs w x c d (Fault fault) want so_far steps =
     sym so_far ∙ refused_by sections unit abbrevs w c fault (next_mark abbrevs c) refl steps
 walked_stopped sections unit abbrevs w x c d NoMemory want so_far steps = tt
 
--- places stay small, and fewer bytes are left behind a step
+-- places stay small, and fewer bytes are left after a step
 short_by : (sections : DebugSections) (unit : Unit) (w x : Walked) (c d : Ahead) (next : Result (Option Mark × Ahead) (Located DwarfKind)) → GoesOn c next → (next >>= stepping sections unit w) ≡ Ok (Some x, d) → IsShort (length w.dies) c → IsShort (length x.dies) d × (length d.bytes < length c.bytes)
 short_by sections unit w x c d (Ok (Some mark, e)) goes steps short =
     let there : e ≡ d = ap (step_ahead d) steps in

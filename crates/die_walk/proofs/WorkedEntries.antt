@@ -14,7 +14,7 @@ use Rattle.abbrev_units.specs.Abbreviations.{abbrevs_of}
 use Rattle.die_walk.specs.EntryTable.{DieFields, EntryTable, entry_table}
 use Rattle.die_walk.proofs.Computing.{die_walk_computes}
 
--- a file of these two sections, with the texts `ab` and `cd`, whose places are the numbers 0 and 1 behind a header of four bytes
+-- a file of these two sections, with the texts `ab` and `cd`, whose places are the numbers 0 and 1 after a header of four bytes
 unfoldable sections : String → String → DebugSections
 unfolding hex
 sections info abbrevs = record {
@@ -103,7 +103,7 @@ nested : walked "12000000 0400 00000000 08 01 02 03 04 05 06 00 05 00 00 00" "01
 unfolding die_walk_computes walked table table_of_first seen sections
 nested = refl
 
--- behind the children of an entry stand its brothers
+-- after the children of an entry stand its brothers
 brothers : walked "10000000 0400 00000000 08 01 02 05 00 02 05 00 05 00" "01 11 01 00 00 02 39 01 00 00 03 2e 01 00 00 04 0b 01 00 00 05 1d 00 00 00 06 34 00 00 00 00" ≡ Ok ((0xb, 0x11, None) ∷ (0xc, 0x39, Some 0) ∷ (0xd, 0x1d, Some 1) ∷ (0xf, 0x39, Some 0) ∷ (0x10, 0x1d, Some 3) ∷ (0x12, 0x1d, Some 0) ∷ [])
 unfolding die_walk_computes walked table table_of_first seen sections
 brothers = refl
@@ -118,7 +118,7 @@ padding_in_front : walked "0e000000 0400 00000000 08 00 00 05 00 00 03 05" "01 1
 unfolding die_walk_computes walked table table_of_first seen sections
 padding_in_front = refl
 
--- an entry behind the root at its level is no child of it
+-- an entry after the root at its level is no child of it
 entries_behind_the_root : walked "0d000000 0400 00000000 08 01 00 03 05 00 06" "01 11 01 00 00 02 39 01 00 00 03 2e 01 00 00 04 0b 01 00 00 05 1d 00 00 00 06 34 00 00 00 00" ≡ Ok ((0xb, 0x11, None) ∷ (0xd, 0x2e, None) ∷ (0xe, 0x1d, Some 1) ∷ [])
 unfolding die_walk_computes walked table table_of_first seen sections
 entries_behind_the_root = refl
@@ -141,7 +141,7 @@ padding_alone : walked "09000000 0400 00000000 08 0000" "01 11 01 00 00 02 39 01
 unfolding die_walk_computes walked table table_of_first seen sections
 padding_alone = refl
 
--- the name of the root by its number: the base in `.debug_str_offsets` stands behind it, or in front of it
+-- the name of the root by its number: the base in `.debug_str_offsets` stands after it, or in front of it
 name_before_its_base : named "0f000000 0400 00000000 08 01 01 04000000 02 00" "01 11 01 03 1a 72 17 00 00 02 2e 00 03 1a 00 00 00" ≡ Ok (Some (codes "cd") ∷ Some (codes "ab") ∷ [])
 unfolding die_walk_computes named table table_of_first sections
 name_before_its_base = refl

@@ -91,7 +91,7 @@ table_by sections unit (first ∷ items) = record {
 unfoldable pub table_of : DebugSections → Unit → List Mark → EntryTable
 table_of sections unit marks = table_by sections unit (rooted unit.body (items_from 0 marks))
 
--- the entries of a unit begin behind its header, and end with it
+-- the entries of a unit begin after its header, and end with it
 abbrev pub entries_ahead : DebugSections → Unit → Ahead
 entries_ahead sections unit = record { bytes = drop unit.body (take unit.end sections.info); at = unit.body }
 

@@ -1,4 +1,4 @@
--- What stands in a unit behind its header (DWARF 5, 7.5.2): entries, and zeros that end a list of children.
+-- What stands in a unit after its header (DWARF 5, 7.5.2): entries, and zeros that end a list of children.
 use Rattle.std.specs.Prelude.{ℕ, ◌==◌, Bool, if◌then◌else◌, List, length, Option, None, Some, Result, Ok, Err}
 use Rattle.sym_edges.specs.Results.{◌>>=◌}
 use Rattle.sym_edges.specs.declared.located.Located.{Located}

@@ -3,7 +3,7 @@ ghost use Rattle.std.specs.Prelude.{◌≡◌};
 ghost use Rattle.std.specs.Option.{option_copied};
 ghost use Rattle.die_walk.specs.Attributes.{or_else};
 ghost use Rattle.die_walk.specs.EntryKinds.{is_function, is_inlined, is_scope};
-ghost use Rattle.die_walk.specs.Packing.{where_said};
+ghost use Rattle.die_walk.specs.internal.Packing.{where_said};
 ghost use Rattle.die_walk.specs.Picking.{text_by, base_by, die_by, root_by};
 
 use crate::attributes::{line_of, number_of, place_of, reference_of, says_yes, text_of};
@@ -46,7 +46,7 @@ pub struct Die<'a> {
 
 impl<'a> Model for Die<'a> {
     ghost use Rattle.die_walk.specs.EntryTable.{DieFields};
-    ghost use Rattle.die_walk.specs.Packing.{value_in, where_said};
+    ghost use Rattle.die_walk.specs.internal.Packing.{value_in, where_said};
 
     ghost Value = { DieFields };
 
@@ -149,7 +149,7 @@ impl<'a> Die<'a> {
 
     /// An address, or the number of one.
     #[inline]
-    #[tactic(auto, unfolding(crate::specs::Packing::unpacked))]
+    #[tactic(auto, unfolding(crate::specs::internal::Packing::unpacked))]
     pub fn low(&self) -> Option<Value>
         ensures { result ≡ self.now.low }
     {
@@ -161,7 +161,7 @@ impl<'a> Die<'a> {
 
     /// An address, the number of one, or a length.
     #[inline]
-    #[tactic(auto, unfolding(crate::specs::Packing::unpacked))]
+    #[tactic(auto, unfolding(crate::specs::internal::Packing::unpacked))]
     pub fn high(&self) -> Option<Value>
         ensures { result ≡ self.now.high }
     {
@@ -173,7 +173,7 @@ impl<'a> Die<'a> {
 
     /// The place or the number of a range list.
     #[inline]
-    #[tactic(auto, unfolding(crate::specs::Packing::unpacked))]
+    #[tactic(auto, unfolding(crate::specs::internal::Packing::unpacked))]
     pub fn ranges(&self) -> Option<Value>
         ensures { result ≡ self.now.ranges }
     {
@@ -309,7 +309,7 @@ fn parent_parts(parent: Option<u32>) -> (bool, u32)
 
 /// A kept entry from its place, its parent, its tag and its values; `base` is the unit's
 /// str_offsets_base.
-#[tactic(auto, unfolding(crate::specs::Picking::die_by, crate::specs::Packing::unpacked))]
+#[tactic(auto, unfolding(crate::specs::Picking::die_by, crate::specs::internal::Packing::unpacked))]
 pub fn make_die<'a>(
     sections: &Sections<'a>,
     unit: &Unit,

@@ -8,7 +8,7 @@
 //! leads to no text. Texts are slices of the file. What the root says of the whole unit is a [`Root`].
 //!
 //! The contract compares the answer with a definition in two steps. `specs/Marks.antt` says what stands in
-//! the unit, one behind the other: entries with their values, and the zeros that end lists of children; all
+//! the unit, one after the other: entries with their values, and the zeros that end lists of children; all
 //! faults and places are in this step. `specs/EntryTree.antt` says which tree that is: the parent of an
 //! entry is the last one before it that is one less deep. `specs/Attributes.antt` and
 //! `specs/EntryTable.antt` say what the attributes are. The code keeps a stack of the kept entries around it;

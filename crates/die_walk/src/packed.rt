@@ -1,7 +1,7 @@
 //! Attributes with their class, in the nine bytes that they need.
 ghost use Rattle.std.specs.Prelude.{◌≡◌, option_and_then};
 ghost use Rattle.die_walk.specs.Attributes.{as_low, as_high, as_ranges};
-ghost use Rattle.die_walk.specs.Packing.{unpacked};
+ghost use Rattle.die_walk.specs.internal.Packing.{unpacked};
 
 use abbrev_units::Value;
 
@@ -36,7 +36,7 @@ fn pack(class: Class, number: u64) -> Packed
     Packed { class, number }
 }
 
-#[tactic(auto, unfolding(crate::specs::Packing::unpacked))]
+#[tactic(auto, unfolding(crate::specs::internal::Packing::unpacked))]
 pub fn pack_low(value: Option<Value>) -> Packed
     ensures { unpacked result ≡ option_and_then as_low value }
 {
@@ -47,7 +47,7 @@ pub fn pack_low(value: Option<Value>) -> Packed
     }
 }
 
-#[tactic(auto, unfolding(crate::specs::Packing::unpacked))]
+#[tactic(auto, unfolding(crate::specs::internal::Packing::unpacked))]
 pub fn pack_high(value: Option<Value>) -> Packed
     ensures { unpacked result ≡ option_and_then as_high value }
 {
@@ -60,7 +60,7 @@ pub fn pack_high(value: Option<Value>) -> Packed
     }
 }
 
-#[tactic(auto, unfolding(crate::specs::Packing::unpacked))]
+#[tactic(auto, unfolding(crate::specs::internal::Packing::unpacked))]
 pub fn pack_ranges(value: Option<Value>) -> Packed
     ensures { unpacked result ≡ option_and_then as_ranges value }
 {
@@ -74,7 +74,7 @@ pub fn pack_ranges(value: Option<Value>) -> Packed
 
 /// The value that was packed.
 #[inline]
-#[tactic(auto, unfolding(crate::specs::Packing::unpacked))]
+#[tactic(auto, unfolding(crate::specs::internal::Packing::unpacked))]
 pub fn unpack(packed: Packed) -> Option<Value>
     ensures { result ≡ unpacked packed }
 {

@@ -12,7 +12,7 @@ use unit_workers::NoGate;
 /// The status where memory ran out.
 const NO_MEMORY: u8 = 5;
 
-/// The words behind the program's name.
+/// The words after the program's name.
 fn read_words(rt: &(impl Env + AllocGlobal)) -> io::Result<Vec<String>> {
     let mut words = Vec::new(rt.alloc());
     for word in env::args(rt)?.skip(1) {

@@ -48,12 +48,12 @@ pub identity_sized : (image : ImageParts) (name : List ℕ) → list_all are_siz
 unfolding module_line
 identity_sized image name = infos_sized image.build_id
 
--- what holds of a list, and of one record of its kind more in front of it, holds behind such records
+-- what holds of a list, and of one record of its kind more in front of it, holds after such records
 publics_over : (P : List SymLine → Type 0) (base : ℕ) (ps : List PublicParts) (rest : List SymLine) → ((p : PublicParts) (later : List SymLine) → P later → P (public_line base p ∷ later)) → P rest → P (map (public_line base) ps ++ rest)
 publics_over P base [] rest more is = is
 publics_over P base (p ∷ ps) rest more is = more p (map (public_line base) ps ++ rest) (publics_over P base ps rest more is)
 
--- those behind the records of functions are plain, no FILE and no INLINE_ORIGIN
+-- those after the records of functions are plain, no FILE and no INLINE_ORIGIN
 pub frames_plain : (image : ImageParts) (found : DebugSays) → ArePlain (frame_lines image found)
 frames_plain image found = written_plain image.base (written_of image found)
 

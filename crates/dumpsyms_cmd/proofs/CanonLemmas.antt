@@ -31,7 +31,7 @@ use Rattle.func_records.proofs.CanonLemmas.{canon_join, canon_more, canon_none, 
 use Rattle.debug_read.specs.DebugSays.{DebugSays, debug_says, IsDebugRead}
 use Rattle.debug_read.specs.declared.found.DebugRead.{DebugRead}
 use Rattle.dumpsyms_cmd.specs.Dump.{identity_lines, public_line, public_lines, frame_lines, written_of}
-use Rattle.dumpsyms_cmd.specs.Spelled.{FitsInside, HasHead, DumpsRead}
+use Rattle.dumpsyms_cmd.specs.internal.Spelled.{FitsInside, HasHead, DumpsRead}
 use Rattle.func_records.proofs.AboveLemmas.{pieces_above}
 use Rattle.debug_read.proofs.KeptLemmas.{kept}
 use Rattle.debug_read.proofs.OwnerLemmas.{owners_above}

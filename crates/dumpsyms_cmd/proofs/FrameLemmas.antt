@@ -26,7 +26,7 @@ fields_are : {X : Type 0} (f : X → List ℕ) (words : List X) → flat_map (λ
 fields_are f [] = refl
 fields_are f (w ∷ words) = ap (λ l. (32 ∷ f w) ++ l) (fields_are f words)
 
--- behind the last word stands the end of the line
+-- after the last word stands the end of the line
 pub words_end : {X : Type 0} (f : X → List ℕ) (before first text whole : List ℕ) (words : List X) (i : ℕ) → length words ≤ i → text ≡ (before ++ first) ++ flat_map (λ word. 32 ∷ f word) (take i words) → whole ≡ text ++ 10 ∷ [] → whole ≡ before ++ line (spaced first (map f words))
 words_end f before first text whole words i past is ended =
     ended
@@ -34,7 +34,7 @@ words_end f before first text whole words i past is ended =
     ∙ ap (λ t. t ++ 10 ∷ []) (append_assoc before first (flat_map (λ field. 32 ∷ field) (map f words)))
     ∙ append_assoc before (spaced first (map f words)) (10 ∷ [])
 
--- behind the last line
+-- after the last line
 pub lines_end : (before text : List ℕ) (omissions : List Omission) (i : ℕ) → length omissions ≤ i → text ≡ before ++ flat_map omitted_line (take i omissions) → text ≡ before ++ omitted_text omissions
 unfolding omitted_text
 lines_end before text omissions i past is = is ∙ ap (λ l. before ++ flat_map omitted_line l) (take_all i omissions past)

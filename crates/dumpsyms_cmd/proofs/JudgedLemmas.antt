@@ -22,7 +22,7 @@ use Rattle.rule_postfix.specs.Written.{omitted}
 use Rattle.dumpsyms_cmd.specs.Words.{Asked, dump, files_of, module_name}
 use Rattle.dumpsyms_cmd.specs.Refusals.{elf_line, debug_line, skipped_text, omitted_text, too_long_line, usage_line}
 use Rattle.dumpsyms_cmd.specs.Verdict.{Verdict, refused, IsDebugVerdict, IsPartsVerdict, IsImageVerdict, IsBytesVerdict, IsDumpVerdict, IsFileVerdict, IsVerdict, LIMIT}
-use Rattle.dumpsyms_cmd.specs.Spelled.{DumpsRead}
+use Rattle.dumpsyms_cmd.specs.internal.Spelled.{DumpsRead}
 use Rattle.dumpsyms_cmd.specs.Observed.{Asks}
 use Rattle.dumpsyms_cmd.specs.Judged.{out_bytes, err_bytes, judgement_verdict, Refuses, RefusesOrGives, Judges, DumpsParts, Assembles, JudgesParts, DumpsImage, JudgesBytes, DumpsFile, DumpPromises, IsUsage, IsJudged, AnswersCommand, AnswersStop}
 use Rattle.dumpsyms_cmd.proofs.FrameLemmas.{kept}
@@ -63,7 +63,7 @@ within name bytes v few is =
 line_refused : (P : Verdict → Type 0) (line text : List ℕ) → text ≡ line → P (refused line) → P (refused text)
 line_refused P line text same is = subst (λ (t : List ℕ). P (refused t)) (sym same) is
 
--- a fault behind the image is refused with its line
+-- a fault after the image is refused with its line
 fault_by : (parts : ImageParts) (name : List ℕ) (fault : DebugFault) → debug_says parts ≡ Err fault → IsPartsVerdict parts name (refused (debug_line fault))
 fault_by parts name fault is = subst (λ (r : Result DebugSays DebugFault). IsDebugVerdict r parts name (refused (debug_line fault))) (sym is) refl
 

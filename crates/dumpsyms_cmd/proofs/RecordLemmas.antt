@@ -12,7 +12,7 @@ use Rattle.sym_records.specs.declared.line.SymLine.{SymLine}
 use Rattle.sym_records.specs.declared.line.SymLine.TheVariants.{Module, Info}
 use Rattle.sym_records.proofs.MakingLemmas.{upper_digit, digits_field, module_fits, info_fits, code_id_name, first_fits}
 use Rattle.dumpsyms_cmd.specs.Dump.{module_line, info_line, info_lines}
-use Rattle.dumpsyms_cmd.specs.Spelled.{FitsInside}
+use Rattle.dumpsyms_cmd.specs.internal.Spelled.{FitsInside}
 use Rattle.sym_records.proofs.MakingLemmas.{push_fits}
 
 -- the digits of bytes are digits
@@ -76,7 +76,7 @@ module_fits_first line id none first fit = ap (λ o. first_bad (line ∷ info_li
 pub info_fits_behind : (line : SymLine) (bytes : List ℕ) (id : Option (List ℕ)) → id ≡ Some bytes → fits Start line ≡ true → fields_fit line ≡ true → FitsInside (info_line bytes) → first_bad (line ∷ info_lines id) ≡ None
 info_fits_behind line bytes id some first fit behind = ap (λ o. first_bad (line ∷ info_lines o)) some ∙ push_fits (line ∷ []) (info_line bytes) (first_fits line first fit) behind.0 behind.1
 
--- one text behind another
+-- one text after another
 pub joined : (front rest more whole : List (List ℕ)) (middle last : List ℕ) → more ≡ front ++ middle ∷ [] → whole ≡ more ++ rest → flat_map (λ piece. piece) whole ++ last ≡ (flat_map (λ piece. piece) front ++ middle) ++ (flat_map (λ piece. piece) rest ++ last)
 joined front rest more whole middle last pushed appended =
     let pieces : List (List ℕ) → List ℕ = flat_map (λ piece. piece) in

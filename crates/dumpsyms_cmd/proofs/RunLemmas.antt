@@ -5,7 +5,7 @@ use Rattle.dumpsyms_cmd.specs.Words.{Asked, files_of}
 use Rattle.dumpsyms_cmd.specs.Verdict.{Verdict, unread, no_memory}
 use Rattle.dumpsyms_cmd.specs.Observed.{Writing, Stood, StoreFailed, SinkFailed, SinkStood, ReceivedWhole, Asks}
 use Rattle.dumpsyms_cmd.specs.Judged.{is_some_output, has_output, judgement_verdict, answer_verdict, IsUsage, IsJudged, AnswersCommand}
-use Rattle.dumpsyms_cmd.specs.Writes.{Writes}
+use Rattle.dumpsyms_cmd.specs.internal.Writes.{Writes}
 use Rattle.dumpsyms_cmd.specs.Program.{Run, command, WasWritten, WasJudged, WasNotRead, HadNoMemory, Promises}
 use Rattle.dumpsyms_cmd.specs.declared.judgement.Judgement.{Judgement}
 use Rattle.dumpsyms_cmd.specs.declared.judgement.Answer.{Answer}
@@ -33,7 +33,7 @@ no_failure : (out err : Writing) → SinkStood out → SinkStood err → SinkFai
 no_failure out err quiet calm (inl failed) = stood_rose out.faults out.faults_after quiet failed
 no_failure out err quiet calm (inr failed) = stood_rose err.faults err.faults_after calm failed
 
--- a judgement on words that are no row is the usage line
+-- a judgement on invalid arguments is the usage line
 usage_by : (c : Option Asked) (files : Option Files) (j : Judgement) → IsJudged j c files → c ≡ None → IsUsage j
 usage_by None files j judged none = judged.kept
 usage_by (Some asked) files j judged none = absurd (none_some (Some asked) none refl)

@@ -5,7 +5,7 @@ use Rattle.sym_edges.specs.Outside.{append_told}
 use Rattle.dumpsyms_cmd.specs.Verdict.{Verdict, unread, no_memory}
 use Rattle.dumpsyms_cmd.specs.Refusals.{unread_line}
 use Rattle.dumpsyms_cmd.specs.Observed.{Writing, SinkFailed, Received, ReceivedFront, ReceivedNothing}
-use Rattle.dumpsyms_cmd.specs.Writes.{Says, Writes}
+use Rattle.dumpsyms_cmd.specs.internal.Writes.{Says, Writes}
 
 -- nothing more was taken
 pub nothing : (held : Option (List ℕ)) → append_told held [] ≡ held

@@ -117,7 +117,7 @@ DumpPromises elf files j = Judges j
     (λ err. Tells files (λ f. IsFileVerdict elf (f elf) (refused err)))
     (λ lines err. (reading (canon_text lines) ≡ Ok lines) × Tells files (λ f. DumpsFile elf f lines err))
 
--- words that are no row are answered with the usage line
+-- invalid arguments are answered with the usage line
 pub record IsUsage (j : Judgement) : Type 0 where
   pub status : j.status ≡ 2
   pub out : j.out ≡ Nothing
@@ -128,7 +128,7 @@ abbrev pub CommandPromises : Option Asked → Option Files → Judgement → Typ
 CommandPromises None files j = IsUsage j
 CommandPromises (Some (dump elf workers)) files j = DumpPromises elf files j
 
--- what is known of a judgement: it has status 0, 1 or 2, the last for words that are no row alone; it is the verdict where the store
+-- what is known of a judgement: it has status 0, 1 or 2, the last for invalid arguments alone; it is the verdict where the store
 -- tells its files; and it keeps the command's promises
 pub record IsJudged (j : Judgement) (command : Option Asked) (files : Option Files) : Type 0 where
   pub low : j.status < 3

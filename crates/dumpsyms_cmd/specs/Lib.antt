@@ -1,9 +1,8 @@
 pub mod Words
 pub mod Refusals
 pub mod Dump
-pub mod Spelled
 pub mod Verdict
 pub mod Observed
 pub mod Judged
 pub mod Program
-pub mod Writes
+pub mod internal

@@ -52,7 +52,7 @@ pub record Promises (run : Run) : Type 0 where
   pub found : WasJudged run ⊎ (WasNotRead run ⊎ HadNoMemory run)
   -- 0 and 1 come for the words of a row alone, where the run judged
   pub judged : run.status < 2 → IsSome (command run) × WasJudged run
-  -- 2 comes for words that are no row alone; these give 2, or 4 where err failed
+  -- 2 comes for invalid arguments alone; these give 2, or 4 where err failed
   pub usage : run.status ≡ 2 → command run ≡ None
   pub no_row : command run ≡ None → (run.status ≡ 2) ⊎ ((run.status ≡ 4) × SinkFailed run.err)
   -- 3 comes only where the store failed

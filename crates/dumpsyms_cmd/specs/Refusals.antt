@@ -35,7 +35,7 @@ too_long_line = line (codes "refused input too-long")
 abbrev pub unread_line : List ℕ
 unread_line = line (codes "cannot read input")
 
--- the words are no row
+-- the arguments are invalid
 abbrev pub usage_line : List ℕ
 usage_line = line (codes "usage: dumpsyms dump ELF, check SYM, lookup SYM ADDR, frame SYM ADDR STATE, sample N")
 
@@ -51,7 +51,7 @@ dwarf_line fault = located_line (codes "refused dwarf") (dwarf_word fault.kind) 
 abbrev pub frame_line : Located FrameKind → List ℕ
 frame_line fault = located_line (codes "refused frame") (kind_word fault.kind) fault.section fault.at
 
--- the file has a fault behind its image
+-- the file has a fault after its image
 abbrev pub debug_line : DebugFault → List ℕ
 debug_line (Dwarf fault) = dwarf_line fault
 debug_line (Frame fault) = frame_line fault

@@ -22,7 +22,7 @@ pub record Verdict : Type 0 where
 abbrev pub refused : List ℕ → Verdict
 refused text = record { status = 1; out = []; err = text }
 
--- the verdict of words that are no row
+-- the verdict of invalid arguments
 abbrev pub usage : Verdict
 usage = record { status = 2; out = []; err = usage_line }
 
@@ -48,7 +48,7 @@ pub record GivesText (parts : ImageParts) (name : List ℕ) (found : DebugSays) 
   pub canon : CanonFile parts name found lines
   pub is : v ≡ record { status = 0; out = canon_text lines; err = left_out parts found }
 
--- by what stands behind the image: the first fault, or the records
+-- by what stands after the image: the first fault, or the records
 abbrev pub IsDebugVerdict : Result DebugSays DebugFault → ImageParts → List ℕ → Verdict → Type 0
 IsDebugVerdict (Err fault) parts name v = v ≡ refused (debug_line fault)
 IsDebugVerdict (Ok found) parts name v = GivesText parts name found v

@@ -31,7 +31,7 @@ fn refuse(line: Message) -> Judgement
     }
 }
 
-/// A dump of an image without faults behind it.
+/// A dump of an image without faults after it.
 fn judge_records(
     alloc: Global,
     image: &Image<'_>,
@@ -133,7 +133,7 @@ fn answer_dump<R: Threads + Sync, S: Store, G: Gate + Sync>(
     }
 }
 
-/// The answer to words that are no row.
+/// The answer to invalid arguments.
 #[tactic(auto, using(crate::proofs::JudgedLemmas::usage_judged))]
 fn answer_usage() -> Answer
     ensures { (files : Option Files) (before after : ℕ) → AnswersCommand result None files before after }

@@ -12,7 +12,7 @@ ghost use Rattle.func_flatten.specs.Publics.{public_view};
 ghost use Rattle.die_names.specs.CleanPaths.{HaveCleanPaths};
 ghost use Rattle.debug_read.specs.DebugSays.{IsDebugRead};
 ghost use Rattle.dumpsyms_cmd.specs.Dump.{turned, module_id, module_line, info_line, info_lines, public_line};
-ghost use Rattle.dumpsyms_cmd.specs.Spelled.{FitsInside, HasHead, DumpsRead};
+ghost use Rattle.dumpsyms_cmd.specs.internal.Spelled.{FitsInside, HasHead, DumpsRead};
 ghost use Rattle.dumpsyms_cmd.specs.Judged.{Assembles};
 
 use crate::omissions::list_left_out;
@@ -155,7 +155,7 @@ fn spell_head(
     Ok(text)
 }
 
-/// One text behind another.
+/// One text after another.
 #[tactic(auto, using(crate::proofs::RecordLemmas::joined))]
 fn join_texts(front: TextPieces, rest: TextPieces) -> Result<TextPieces, OutOfMemory>
     ensures { IfOk result (λ text. text_bytes text ≡ text_bytes front ++ text_bytes rest) }

@@ -4,7 +4,7 @@ ghost use Rattle.sym_edges.specs.Outside.{append_told, AddsFront, Rose};
 ghost use Rattle.dumpsyms_cmd.specs.Judged.{judgement_verdict, answer_verdict, out_bytes, err_bytes, is_some_output, has_output};
 ghost use Rattle.dumpsyms_cmd.specs.declared.judgement.Answer.TheVariants.{NoMemory};
 ghost use Rattle.dumpsyms_cmd.specs.Program.{Promises};
-ghost use Rattle.dumpsyms_cmd.specs.Writes.{Says, Writes};
+ghost use Rattle.dumpsyms_cmd.specs.internal.Writes.{Says, Writes};
 
 use crate::judgement::{Answer, Judgement, Message, Output};
 use crate::commands::answer_words;
@@ -81,7 +81,7 @@ fn write_answer<O: Sink, E: Sink>(answer: &Answer, out: &mut O, err: &mut E) -> 
 
 /// Does all that the program does: reads the files that the words name, writes the two texts, and answers the status.
 ///
-/// 0: the file was dumped. 1: it was refused. 2: the words are no row. 3: a file could not be read. 4: a text could not be
+/// 0: the file was dumped. 1: it was refused. 2: the arguments are invalid. 3: a file could not be read. 4: a text could not be
 /// written. 5: memory ran out. Out is written before err, and nothing before all is known. What holds of each status,
 /// `specs/Program.antt` says; it does not depend on how many workers there are. `rt` starts their threads, and `gate` is told
 /// of each unit that they read.

@@ -17,7 +17,7 @@ pub const TOO_LONG: &[u8] = b"refused input too-long\n";
 /// A file could not be read.
 pub const UNREAD: &[u8] = b"cannot read input\n";
 
-/// The words are no row.
+/// The arguments are invalid.
 pub const USAGE: &[u8] =
     b"usage: dumpsyms dump ELF, check SYM, lookup SYM ADDR, frame SYM ADDR STATE, sample N\n";
 
@@ -92,7 +92,7 @@ fn frame_line(alloc: Global, fault: FrameFault) -> Result<ByteText, AllocError>
     )
 }
 
-/// The line that names a fault behind the image.
+/// The line that names a fault after the image.
 pub fn debug_line(alloc: Global, fault: DebugFault) -> Result<ByteText, AllocError>
     ensures { IfOk result (λ text. text ≡ debug_line fault) }
 {

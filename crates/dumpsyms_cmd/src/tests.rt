@@ -37,7 +37,7 @@ const DUMP: &[&str] = &["dump", "d/a.out"];
 
 const OTHER: &[&str] = &["dump", "other"];
 
-/// Words that are no row.
+/// Invalid arguments.
 const NO_ROWS: [&[&str]; 6] = [
     &[],
     &["dump"],
@@ -151,7 +151,7 @@ fn expect_dump(
     Ok(())
 }
 
-/// Texts behind one another.
+/// Texts after one another.
 fn joined(alloc: Global, parts: &[&[u8]]) -> Result<Vec<u8>, AllocError> {
     let mut whole = Vec::new(alloc);
     for part in parts {
@@ -287,7 +287,7 @@ fn the_first_fault_of_debug_entries_is_named(rt: HostRuntime) -> Result<(), Fail
     expect_dump(&rt, alloc, "both left out", &file, 0, FRONT, &left_out)
 }
 
-/// Functions: of each its code, its name, its first address and its length; and the records behind those of the binary, where
+/// Functions: of each its code, its name, its first address and its length; and the records after those of the binary, where
 /// the lines are those of one file, 1000 line 3, 1004 line 9 and 100c line 4, up to 1020.
 const OWNERS: [(&str, &[(u8, &[u8], u64, u64)], &[u8]); 9] = [
     (
@@ -420,7 +420,7 @@ fn with_symbols(alloc: Global, first: u64) -> Result<Vec<u8>, AllocError> {
     file_of(alloc, &[(1, 0)], &sections)
 }
 
-/// Of `f` at this address: the records behind the front.
+/// Of `f` at this address: the records after the front.
 const SYMBOLS: [(u64, &[u8]); 3] = [
     (0x1000, b"FUNC 1000 8 0 f\n"),
     (0xff8, b"PUBLIC 1000 0 main\n"),
@@ -438,7 +438,7 @@ fn a_symbol_where_a_function_begins_is_left_out(rt: HostRuntime) -> Result<(), F
     Ok(())
 }
 
-/// A file of two units: `f` with the lines of two files, and `g` with those of the same table or of one behind it.
+/// A file of two units: `f` with the lines of two files, and `g` with those of the same table or of one after it.
 fn of_two_units(alloc: Global, is_one_table: bool) -> Result<Vec<u8>, AllocError> {
     let names = b"b.c\0\0\0\0a\x01.c\0\0\0\0a\x02.c\0\0\0\0\0";
     let two = line_table(alloc, names, TWO_FILES)?;
@@ -619,7 +619,7 @@ fn with_sections(alloc: Global, more: usize, count: [u8; 2]) -> Result<Vec<u8>, 
     Ok(file)
 }
 
-/// The spaces and letters of a name, and how many letters are left of it: it is cut behind 65,536 bytes.
+/// The spaces and letters of a name, and how many letters are left of it: it is cut after 65,536 bytes.
 const NAMES: [(usize, usize, usize); 5] = [
     (0, 65_536, 65_536),
     (0, 65_537, 65_536),

@@ -153,7 +153,7 @@ fn a_set_takes_32_bytes_beside_the_spans_of_larger_ones(rt: HostRuntime) {
     expect(&rt, "a set and a span", &sizes, &[32, 16]);
 }
 
-/// A thousand spans from `from` to `to` behind each tenth address, the highest first or last.
+/// A thousand spans from `from` to `to` after each tenth address, the highest first or last.
 fn thousand(alloc: Global, from: u64, to: u64, rising: bool) -> Result<Vec<Span>, AllocError> {
     let mut spans = Vec::new(alloc);
     for k in 0..1000 {

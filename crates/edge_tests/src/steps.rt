@@ -96,7 +96,7 @@ fn the_first_in_the_list_covers_an_address(rt: HostRuntime) -> Result<(), Fail> 
     Ok(())
 }
 
-/// Stretches that fall, each of four addresses and overlapping the one behind it by one.
+/// Stretches that fall, each of four addresses and overlapping the one after it by one.
 #[tactic(auto, using(step_maps::proofs::StretchLemmas::stretches_push))]
 fn falling(alloc: Global, count: u32) -> Result<Vec<Stretch>, AllocError>
     ensures { IfOk result (λ items. AreStretches items.items) }

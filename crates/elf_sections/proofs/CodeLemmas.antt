@@ -11,7 +11,7 @@ use Rattle.elf_sections.specs.Sections.{has_flag}
 use Rattle.elf_sections.specs.ElfNumbers.{shf_alloc, shf_execinstr}
 use Rattle.elf_sections.specs.Programs.{is_code, code_range, is_in_code}
 use Rattle.elf_sections.specs.Symbols.{SymbolParts, is_function, is_nameless, function_of, has_nameless, functions}
-use Rattle.elf_sections.specs.Steps.{ReadsSymbols}
+use Rattle.elf_sections.specs.internal.Steps.{ReadsSymbols}
 
 -- a list of ranges holds what is in code by it
 pub in_code : (ranges : List Range) (a : ℕ) → is_in_code ranges a ≡ holds_any ranges a

@@ -62,7 +62,7 @@ id_later file all i d inside none =
     ∙ id_behind (notes_of file (get_or all i d)) (flat_map (notes_of file) (drop (suc i) all)) (sym none)
     ∙ ap (λ j. first_id (flat_map (notes_of file) (drop j all))) (sym (add-one i)))
 
--- behind the last section there is none
+-- after the last section there is none
 pub id_end : (file : List ℕ) (all : List SectionHeader) (i : ℕ) → length all ≤ i → None ≡ first_id (flat_map (notes_of file) (drop i all))
 unfolding first_id
 id_end file all i past = sym (ap (λ l. option_map (λ (note : NoteParts). note.descriptor) (find is_build_id (flat_map (notes_of file) l))) (drop_all i all past))
@@ -85,7 +85,7 @@ notes_enough (suc n) zero bytes a b = rw (no_bytes bytes b) refl
 notes_enough (suc n) (suc m) bytes a b =
     ap (λ l. if has_note bytes then note_at bytes ∷ l else []) (notes_enough n m (after_note bytes) (after_less n bytes a) (after_less m bytes b))
 
--- the notes are the one in front and those behind it
+-- the notes are the one in front and those after it
 pub notes_each : (bytes : List ℕ) → notes bytes ≡ (if has_note bytes then note_at bytes ∷ notes (after_note bytes) else [])
 unfolding notes notes_in
 notes_each bytes =

@@ -40,7 +40,7 @@ span_before xs k zero = elim (cases_lt k (span xs)) [
   | inr past ↦ past
 ]
 
--- behind a part of the span the rest of it is left
+-- after a part of the span the rest of it is left
 span_drop : (xs : List ℕ) (n : ℕ) → n ≤ span xs → n + span (drop n xs) ≡ span xs
 span_drop xs n le =
     let within = span_within xs in

@@ -10,7 +10,7 @@ use Rattle.elf_sections.specs.declared.symbols.SymbolEntry.{SymbolEntry}
 use Rattle.elf_sections.specs.declared.symbols.Symbol.{Symbol}
 use Rattle.elf_sections.specs.ElfNumbers.{symbol_size}
 use Rattle.elf_sections.specs.Symbols.{symbol_view, symbol_at, entries_of, is_nameless, function_of, has_nameless, functions}
-use Rattle.elf_sections.specs.Steps.{ReadsSymbols}
+use Rattle.elf_sections.specs.internal.Steps.{ReadsSymbols}
 
 entries_more : (table : List ℕ) (k : ℕ) → entries_of table (k + 1) ≡ entries_of table k ++ symbol_at table (symbol_size * k) ∷ []
 unfolding entries_of

@@ -98,7 +98,7 @@ no_name_table : image_fault (slice_set small 62 6) ≡ Some SectionNames
 unfolding elf_sections_computes elf_builds
 no_name_table = refl
 
--- a name that begins behind the table
+-- a name that begins after the table
 name_outside : image_fault (slice_set small (header_at 2 + 1) 1) ≡ Some SectionNames
 unfolding elf_sections_computes elf_builds
 name_outside = refl
@@ -133,7 +133,7 @@ size_of_program_headers : image_fault (slice_set small 54 55) ≡ Some ProgramTa
 unfolding elf_sections_computes elf_builds
 size_of_program_headers = refl
 
--- e_phoff behind the file
+-- e_phoff after the file
 programs_leave : image_fault (slice_set small 39 1) ≡ Some ProgramTable
 unfolding elf_sections_computes elf_builds
 programs_leave = refl

@@ -9,5 +9,5 @@ pub mod Identity
 pub mod Symbols
 pub mod Image
 pub mod Kept
-pub mod Steps
 pub mod FaultWords
+pub mod internal

@@ -34,7 +34,7 @@ note_at bytes = record {
   descriptor = take (u32_at bytes 4) (drop (12 + padded (u32_at bytes 0)) bytes);
 }
 
--- what stands behind the note in front
+-- what stands after the note in front
 unfoldable pub after_note : List ℕ → List ℕ
 after_note bytes = drop (12 + padded (u32_at bytes 0) + padded (u32_at bytes 4)) bytes
 
@@ -44,7 +44,7 @@ notes_in zero bytes = []
 notes_in (suc n) bytes = if has_note bytes then note_at bytes ∷ notes_in n (after_note bytes) else []
 
 -- the notes of a section; each has some bytes, so there are no more notes than bytes (`find_id` ensures that they are the
--- note in front, and the notes behind it)
+-- note in front, and the notes after it)
 unfoldable pub notes : List ℕ → List NoteParts
 notes bytes = notes_in (length bytes) bytes
 

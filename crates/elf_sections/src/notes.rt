@@ -4,7 +4,7 @@ ghost use Rattle.std.specs.Option.{option_copied, option_map};
 ghost use Rattle.elf_sections.specs.Numbers.{u32_at};
 ghost use Rattle.elf_sections.specs.Sections.{bytes_of};
 ghost use Rattle.elf_sections.specs.Notes.{notes, notes_in, has_note, note_at, after_note, padded, first_id, is_build_id, notes_of};
-ghost use Rattle.elf_sections.specs.Steps.{note_view};
+ghost use Rattle.elf_sections.specs.internal.Steps.{note_view};
 ghost use Rattle.elf_sections.specs.Kept.{GaveNone};
 
 use crate::constants::{NT_GNU_BUILD_ID, SHT_NOTE};
@@ -13,7 +13,7 @@ use crate::section::{SectionHeader, read_content};
 use std::alloc::{AllocError, Global};
 use std::collections::BTreeSet;
 
-/// A note in front of some bytes, and what stands behind it.
+/// A note in front of some bytes, and what stands after it.
 #[derive(Clone, Copy)]
 struct Note<'a> {
     name: &'a [u8],
@@ -31,7 +31,7 @@ fn padded_len(len: u32) -> u64
     (u64::from(len) + 3) / 4 * 4
 }
 
-/// What stands behind the first `len` bytes, or nothing where there are fewer.
+/// What stands after the first `len` bytes, or nothing where there are fewer.
 fn behind(bytes: &[u8], len: u64) -> &[u8]
     ensures { result.now ≡ drop len bytes.now }
 {

@@ -5,7 +5,7 @@ ghost use Rattle.sym_edges.specs.Outside.{MatchStop};
 ghost use Rattle.elf_sections.specs.Programs.{code};
 ghost use Rattle.elf_sections.specs.Symbols.{symbol_view, symbols, symbols_fault};
 ghost use Rattle.elf_sections.specs.Image.{part_view, part_named, name_of, image};
-ghost use Rattle.elf_sections.specs.Steps.{ReadsIdentity};
+ghost use Rattle.elf_sections.specs.internal.Steps.{ReadsIdentity};
 
 use crate::code::read_code;
 use crate::fault::ElfFault;

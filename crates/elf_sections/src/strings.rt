@@ -10,7 +10,7 @@ use std::marker::Model;
 /// The bytes of a block of a string table.
 const BLOCK: usize = 4096;
 
-/// A string table. The first zero at or behind the start of each block is known, so that no string is walked through for
+/// A string table. The first zero at or after the start of each block is known, so that no string is walked through for
 /// more than a block, however many strings end at one zero.
 #[derive(Drop)]
 pub struct StringTable<'a> {

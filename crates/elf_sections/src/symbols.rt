@@ -5,7 +5,7 @@ ghost use Rattle.sym_edges.specs.Outside.{MatchStop};
 ghost use Rattle.elf_sections.specs.Strings.{string_at};
 ghost use Rattle.elf_sections.specs.Programs.{is_in_code};
 ghost use Rattle.elf_sections.specs.Symbols.{symbol_at, is_function, symbol_table, linked, entries_of};
-ghost use Rattle.elf_sections.specs.Steps.{Classifies, ReadsSymbols};
+ghost use Rattle.elf_sections.specs.internal.Steps.{Classifies, ReadsSymbols};
 ghost use Rattle.elf_sections.specs.ElfNumbers.{symbol_size};
 
 use crate::code::holds_code;

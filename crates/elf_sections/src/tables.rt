@@ -142,7 +142,7 @@ pub fn content_at<'a>(file: &'a [u8], sections: &[SectionHeader], index: usize) 
     }
 }
 
-/// Behind the last zero byte: what begins below is a string, and nothing else.
+/// After the last zero byte: what begins below is a string, and nothing else.
 #[tactic(auto, using(crate::proofs::StringLemmas::strings_below, crate::proofs::StringLemmas::no_string))]
 fn end_of_strings(table: &[u8]) -> usize
     ensures { (at : ℕ) → is_none (string_at table.now at) ≡ nat_le result at }

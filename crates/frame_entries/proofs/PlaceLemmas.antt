@@ -53,7 +53,7 @@ mark_passes which c =
     passes_then (or_length which c.at (fixed_at 4 c)) (λ count. mark_behind which c.at count.0 count.1) 4 0 c
     (or_passes which c.at (fixed_at 4 c) 4 c (fixed_passes 4 c)) (λ count. behind_passes which c.at count.0 count.1)
 
--- the place behind a number of so many bytes
+-- the place after a number of so many bytes
 abbrev place_behind : ℕ → Result (ℕ × Ahead) CursorFault → ℕ
 place_behind at (Ok x) = x.1.at
 place_behind at (Err fault) = at
@@ -67,7 +67,7 @@ pub fixed_ends : (width n : ℕ) (c d : Ahead) → Ok (n, d) ≡ fixed_at width 
 unfolding fixed_at
 fixed_ends width n c d is = ends_by (nat_lt (length c.bytes) width) _ _ width c (n, d) is
 
--- the end behind a mark
+-- the end after a mark
 pub mark_ends : (which : Sect) (c d : Ahead) (mark : Mark) → Ok (mark, d) ≡ mark_at which c → d.at + length d.bytes ≡ c.at + length c.bytes
 mark_ends which c d mark is =
     let P : Result (Mark × Ahead) (Located FrameKind) → Type 0 = λ reading. Passes 4 c reading in

@@ -54,7 +54,7 @@ small =
 unfoldable pub changed : ℕ → ℕ → Places
 changed place byte = entries EhFrame 0x2000 (slice_set small place byte)
 
--- `.debug_frame` of a CIE with this body, and of an FDE of 1000 size 20, eight bytes each, with a zero behind them: an
+-- `.debug_frame` of a CIE with this body, and of an FDE of 1000 size 20, eight bytes each, with a zero after them: an
 -- augmentation without bytes, or an instruction
 unfoldable pub under : String → Option Seen
 unfolding hex word

@@ -138,7 +138,7 @@ three_bytes_left_in_debug_frame : lists DebugFrame "000000" ≡ Err (record { ki
 unfolding sections lists
 three_bytes_left_in_debug_frame = refl
 
--- a length of 0 ends `.eh_frame`, and `.debug_frame` goes on behind it
+-- a length of 0 ends `.eh_frame`, and `.debug_frame` goes on after it
 ended_by_zero : lists EhFrame "00000000 01000000" ≡ Ok []
 unfolding sections lists
 ended_by_zero = refl
@@ -151,7 +151,7 @@ zeros_alone : lists DebugFrame "00000000 00000000" ≡ Ok []
 unfolding sections lists
 zeros_alone = refl
 
--- a CIE behind its FDE
+-- a CIE after its FDE
 a_cie_behind_its_fde : lists DebugFrame "14000000 18000000 00100000 00000000 20000000 00000000 09000000 ffffffff 01 00 01 78 10" ≡ Ok ((0, Ok (0x1000, 0x20)) ∷ [])
 unfolding sections lists
 a_cie_behind_its_fde = refl

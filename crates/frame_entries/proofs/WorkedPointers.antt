@@ -7,7 +7,7 @@ use Rattle.frame_entries.specs.Pointers.{is_encoding, pointer_at}
 use Rattle.sym_edges.proofs.Hex.{hex}
 use Rattle.frame_entries.proofs.Computing.{frame_entries_computes}
 
--- the pointer that begins so many bytes behind f0 of ten bytes, and the place behind it
+-- the pointer that begins so many bytes after f0 of ten bytes, and the place after it
 unfoldable pointer : ℕ → Result (ℕ × ℕ) CursorFault
 unfolding hex
 pointer encoding =

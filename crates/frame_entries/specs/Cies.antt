@@ -28,7 +28,7 @@ is_version version = version == 1 || version == 3 || version == 4
 unfoldable pub is_letter : ℕ → Bool
 is_letter letter = letter == 76 || letter == 80 || letter == 82 || letter == 83
 
--- an augmentation that is understood: none, or z and letters behind it
+-- an augmentation that is understood: none, or z and letters after it
 unfoldable pub is_understood : List ℕ → Bool
 is_understood [] = true
 is_understood (first ∷ letters) = first == 122 && list_all is_letter letters
@@ -48,7 +48,7 @@ sizes_at version c =
 unfoldable pub column_at : ℕ → Ahead → Result (ℕ × Ahead) CursorFault
 column_at version c = if version == 1 then fixed_at 1 c else uleb_at c
 
--- the numbers behind the augmentation's text
+-- the numbers after the augmentation's text
 unfoldable pub numbers_at : ℕ → Ahead → Result (Numbers × Ahead) CursorFault
 numbers_at version c =
     sizes_at version c >>= λ sizes.
@@ -57,7 +57,7 @@ numbers_at version c =
     column_at version factor.1 >>= λ column.
     Ok (record { sizes = sizes.0; code_align = code.0; data_align = factor.0; column = column.0 }, column.1)
 
--- the bytes of an augmentation, behind their count
+-- the bytes of an augmentation, after their count
 unfoldable pub augmentation_at : Bool → Ahead → Result (List ℕ × Ahead) CursorFault
 augmentation_at augmented c = if augmented then (uleb_at c >>= λ count. take_at count.0 count.1) else Ok ([], c)
 
@@ -87,7 +87,7 @@ letter_at letter before c =
     if letter == 80 then personality_at before c else
     if letter == 76 then (or_cie (fixed_at 1 c) >>= λ encoding. Ok (before, encoding.1)) else Ok (before, c)
 
--- what the letters have, one behind the other: of two R the last counts
+-- what the letters have, one after the other: of two R the last counts
 unfoldable pub letters_at : List ℕ → Encodings → Ahead → Result Encodings Reason
 letters_at [] before c = Ok before
 letters_at (letter ∷ letters) before c = letter_at letter before c >>= λ after. letters_at letters after.0 after.1
@@ -110,7 +110,7 @@ cie_fields augmented numbers encodings initial_instructions =
       initial_instructions = initial_instructions;
     })
 
--- the fields behind an augmentation's text that is understood; the instructions are the rest of the body
+-- the fields after an augmentation's text that is understood; the instructions are the rest of the body
 unfoldable pub cie_behind : ℕ → List ℕ → List ℕ → Ahead → Result CieFields Reason
 cie_behind version text body c =
     or_cie (numbers_at version c) >>= λ numbers.

@@ -1,4 +1,4 @@
--- The entries of a section of frame entries, one behind the other (DWARF 5, 6.4.1; LSB Core, ".eh_frame").
+-- The entries of a section of frame entries, one after the other (DWARF 5, 6.4.1; LSB Core, ".eh_frame").
 use Rattle.std.specs.Prelude.{ℕ, zero, suc, ◌-◌, ◌==◌, ◌||◌, nat_lt, nat_le, Bool, true, false, if◌then◌else◌, List, [], ◌∷◌, length, Result, Ok, Err}
 use Rattle.sym_edges.specs.declared.part.Sect.{Sect}
 use Rattle.sym_edges.specs.declared.part.Sect.TheVariants.{EhFrame}
@@ -27,14 +27,14 @@ abbrev pub or_length : {A : Type 0} → Sect → ℕ → Result A CursorFault �
 or_length which at (Ok x) = Ok x
 or_length which at (Err fault) = Err (record { kind = Length; section = which; at = at })
 
--- behind a length of four at least: the id, and the body, which has the bytes that are left of the length
+-- after a length of four at least: the id, and the body, which has the bytes that are left of the length
 unfoldable pub entry_at : Sect → ℕ → ℕ → Ahead → Result (Mark × Ahead) (Located FrameKind)
 entry_at which at count c =
     or_length which at (fixed_at 4 c) >>= λ id.
     or_length which at (take_at (count - 4) id.1) >>= λ body.
     Ok (Listed (record { at = at; id_at = c.at; id = id.0; body_at = id.1.at; body = body.0 }), body.1)
 
--- behind a length: a zero is no entry, and ends `.eh_frame`
+-- after a length: a zero is no entry, and ends `.eh_frame`
 unfoldable pub mark_behind : Sect → ℕ → ℕ → Ahead → Result (Mark × Ahead) (Located FrameKind)
 mark_behind which at count c =
     if count == 0 then Ok (if is_eh which then Terminator else Padding, c) else
@@ -46,7 +46,7 @@ mark_behind which at count c =
 unfoldable pub mark_at : Sect → Ahead → Result (Mark × Ahead) (Located FrameKind)
 mark_at which c = or_length which c.at (fixed_at 4 c) >>= λ count. mark_behind which c.at count.0 count.1
 
--- the entries from a mark on, by those behind it
+-- the entries from a mark on, by those after it
 abbrev pub listed_from : Mark → Result (List Raw) (Located FrameKind) → Result (List Raw) (Located FrameKind)
 listed_from Terminator later = Ok []
 listed_from Padding later = later
@@ -62,7 +62,7 @@ listed_in (suc n) which c =
 unfoldable pub listed_at : Sect → Ahead → Result (List Raw) (Located FrameKind)
 listed_at which c = listed_in (length c.bytes) which c
 
--- the entries ahead by the first mark, where the entries behind it are known
+-- the entries ahead by the first mark, where the entries after it are known
 unfoldable pub listed_by : (Sect → Ahead → Result (List Raw) (Located FrameKind)) → Sect → Ahead → Result (List Raw) (Located FrameKind)
 listed_by later which c =
     if length c.bytes == 0 then Ok [] else (mark_at which c >>= λ m. listed_from m.0 (later which m.1))

@@ -46,7 +46,7 @@ pub struct Cie<'a> {
     pub parts: Result<CieParts<'a>, Reason>,
 }
 
-/// The bytes behind a place.
+/// The bytes after a place.
 #[inline]
 pub fn rest_from(bytes: &[u8], at: usize) -> &[u8]
     ensures { result.now ≡ drop at bytes.now }
@@ -88,7 +88,7 @@ fn judge<'a>(
     })
 }
 
-/// Reads a CIE behind its augmentation's text.
+/// Reads a CIE after its augmentation's text.
 #[tactic(auto, unfolding(crate::specs::Cies::cie_behind, crate::specs::Cies::is_augmented))]
 fn read_behind<'a>(
     cursor: &mut Cursor<'a>,

@@ -5,7 +5,7 @@ ghost use Rattle.frame_entries.specs.Cies.{sizes_at, column_at, numbers_at, augm
 
 use leb_cursor::{Cursor, CursorFault};
 
-/// The numbers behind the augmentation's text: whether the sizes of an address and of a segment are
+/// The numbers after the augmentation's text: whether the sizes of an address and of a segment are
 /// those of x86-64, the alignments, and the return address column.
 #[derive(Clone, Copy, PartialEq, Eq, Debug)]
 pub struct Numbers {

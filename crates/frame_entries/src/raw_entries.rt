@@ -1,4 +1,4 @@
-//! The entries of a section as they lie one behind the other.
+//! The entries of a section as they lie one after the other.
 ghost use Rattle.std.specs.Prelude.{◌≡◌, ◌+◌, ◌^◌, ◌<◌, ◌≤◌, Ok, Err};
 ghost use Rattle.sym_edges.specs.Outside.{MatchStop};
 ghost use Rattle.leb_cursor.specs.Ahead.{gave};
@@ -10,7 +10,7 @@ use std::alloc::Global;
 use std::marker::Model;
 use sym_edges::{FILE_LIMIT, Located, Sect, Stop};
 
-/// An entry as it lies in its section: the place of its first byte, its id, and its body. The id stands four bytes behind that
+/// An entry as it lies in its section: the place of its first byte, its id, and its body. The id stands four bytes after that
 /// place, and the body eight.
 #[derive(Debug, Drop)]
 pub struct RawEntry<'a> {
@@ -70,7 +70,7 @@ fn fault_at(kind: FrameKind, which: Sect, at: u32) -> FrameFault
     }
 }
 
-/// Reads an entry behind its length.
+/// Reads an entry after its length.
 #[tactic(auto, using(crate::proofs::PlaceLemmas::fixed_ends), unfolding(crate::specs::Listing::entry_at))]
 fn read_entry<'a>(
     cursor: &mut Cursor<'a>,

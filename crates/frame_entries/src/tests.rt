@@ -43,7 +43,7 @@ fn expect(
 /// A CIE without an augmentation, whose FDEs have numbers of eight bytes.
 const CIE: &[u8] = b"\x01\0\x01\x78\x10";
 
-/// How many FDEs stand behind the CIE of the long section.
+/// How many FDEs stand after the CIE of the long section.
 const COUNT: u32 = 1000;
 
 #[test]

@@ -15,7 +15,7 @@ use Rattle.frame_rows.proofs.RowLemmas.{none_said, above_said, here_said, later_
 lacks : RowAt → Bool
 lacks r = not (has_cfa r.row)
 
--- the last row at an address, by those behind the first
+-- the last row at an address, by those after the first
 or_said : (later : Option Row) (here : Bool) (mine row : Row) → option_or later (cond here (Some mine) None) ≡ Some row → has_cfa mine ≡ true → (later ≡ Some row → has_cfa row ≡ true) → has_cfa row ≡ true
 or_said (Some other) here mine row said have rest = rest said
 or_said None true mine row said have rest = let same : mine ≡ row = cc in ap has_cfa (sym same) ∙ have

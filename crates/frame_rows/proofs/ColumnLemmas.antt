@@ -50,7 +50,7 @@ touched_stay : (s : CieContext) (i : Instruction) (m : Machine) → StayOutside 
 unfolding stepped
 touched_stay s i m = effect_stays (effect s i) m
 
--- the columns of two changes, one behind the other
+-- the columns of two changes, one after the other
 stay_both : (first second : Columns) (a b c : Row) → StayOutside first a b → StayOutside second b c → StayOutside (record { first = min first.first second.first; end = max first.end second.end }) a c
 stay_both first second a b c one two = record {
   below = λ k low. one.below k (omega arith) ∙ two.below k (omega arith);

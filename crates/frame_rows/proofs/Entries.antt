@@ -42,7 +42,7 @@ factored factor start size initial own = record {
 abbrev pub entry : ℕ → ℕ → String → String → FdeFields
 entry start size initial own = factored 1 start size initial own
 
--- an entry of 1000 behind initial instructions as at a call: the CFA is rsp + 8, and the return address lies at the CFA - 8
+-- an entry of 1000 after initial instructions as at a call: the CFA is rsp + 8, and the return address lies at the CFA - 8
 abbrev pub called : ℕ → String → FdeFields
 called size own = entry 0x1000 size "0c0708 9001 0000" own
 

@@ -16,7 +16,7 @@ use Rattle.frame_rows.specs.Steps.{Effect, MovesTo, MovesBy, DefinesCfa, Changes
 use Rattle.frame_rows.specs.Rows.{item_stepped, item_fault, all_stepped, first_fault, empty_row, cie_context, cie_items, cie_begin, cie_end, own_context, own_begin}
 use Rattle.frame_rows.specs.CieLeft.{left_unless, cie_left}
 
--- a state, and the state behind an instruction, whose location nothing asks for
+-- a state, and the state after an instruction, whose location nothing asks for
 abbrev state : ℕ → Row → List Row → Machine
 state address row stack = record { address = address; row = row; stack = stack }
 
@@ -166,7 +166,7 @@ left_bad e why is = bad_part (first_fault (cie_context e) (cie_items e) (cie_beg
 some_row : (a b : Row) → ◌≡◌ {A = Option Row} (Some a) (Some b) → a ≡ b
 some_row a b is = ap (row_or a) is
 
--- the row is behind the instructions of the CIE
+-- the row is after the instructions of the CIE
 row_left : (e : FdeFields) (left : Left) (o : Option Row) (row : Row) → IsLeft e left → o ≡ left.context.initial → o ≡ Some row → row ≡ (cie_end e).row
 unfolding own_context
 row_left e left o row is in_context there = some_row row (cie_end e).row (sym there ∙ in_context ∙ ap (λ (s : CieContext). s.initial) is.context)
@@ -183,7 +183,7 @@ unfolding own_begin
 begun e left m address o row stack is made at in_context there stack_is =
     made ∙ ap (λ a. state a row stack) at ∙ ap (λ r. state e.start r stack) (row_left e left o row is in_context there) ∙ ap (λ k. state e.start (cie_end e).row k) (stack_is ∙ is.stack)
 
--- what is left behind a CIE that was carried out
+-- what is left after a CIE that was carried out
 pub left_is : (e : FdeFields) (s : CieContext) (m : Machine) (row : Row) (stack : List Row) → first_fault (cie_context e) (cie_items e) (cie_begin e) ≡ None → m ≡ cie_end e → row ≡ m.row → stack ≡ m.stack → s ≡ record { code_align = e.code_align; data_align = e.data_align; initial = Some row } → cie_left e ≡ Ok (record { context = s; stack = stack })
 unfolding cie_left own_context
 left_is e s m row stack good is row_is stack_is context_is =

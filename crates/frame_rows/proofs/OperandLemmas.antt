@@ -53,7 +53,7 @@ unfolding kind_at
 number_then_signed make (Ok x) = second_signed (make x.0) _ (sleb_at x.1)
 number_then_signed make (Err fault) = refl
 
--- the fact of a row, and those of the rows behind it
+-- the fact of a row, and those of the rows after it
 pub record Taken (rows : List CodeRow) : Type 0 where
   pub all : All TakesOperands rows
 

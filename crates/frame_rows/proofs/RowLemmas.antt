@@ -13,7 +13,7 @@ use Rattle.frame_rows.specs.internal.Walk.{row_here, ended_row, rows_from}
 use Rattle.frame_rows.proofs.TestLemmas.{elim_bool, neither}
 use Rattle.frame_rows.proofs.StepLemmas.{location, grows, keeps}
 
--- where no instruction is bad, the first is not, and none behind it
+-- where no instruction is bad, the first is not, and none after it
 pub parted : (s : CieContext) (i : Item) (items : List Item) (m : Machine) → first_fault s (i ∷ items) m ≡ None → (item_fault s i m ≡ None) × (first_fault s items (item_stepped s i m) ≡ None)
 unfolding first_fault
 parted s i items m good = neither (item_fault s i m) (first_fault s items (item_stepped s i m)) good
@@ -89,13 +89,13 @@ later end s (i ∷ items) m a good above =
     ∙ ended_either end m (item_stepped s i m).address (λ rows. last_at (rows ++ rows_from end s items (item_stepped s i m)) a ≡ None)
     (λ up low. above_said (row_here m) (rows_from end s items (item_stepped s i m)) a above rest) rest
 
--- the last row says what its address says, where none is behind it
+-- the last row says what its address says, where none is after it
 last_says : (end : ℕ) (s : CieContext) (m : Machine) (a : ℕ) → m.address ≤ a → a < end → last_at (rows_from end s [] m) a ≡ Some m.row
 unfolding rows_from
 last_says end s m a below inside =
     ap (λ t. last_at (cond t (row_here m ∷ []) []) a) (lt-ltb m.address end (omega arith)) ∙ here_said (row_here m) [] a below (none_said a)
 
--- what a state's rows say, by those behind the next step
+-- what a state's rows say, by those after the next step
 says_here : (end : ℕ) (m n : Machine) (rest : List RowAt) (a : ℕ) → m.address < n.address → m.address ≤ a → a < end → last_at rest a ≡ None → last_at (ended_row end m n.address ++ rest) a ≡ Some m.row
 says_here end m n rest a up below inside none =
     ap (λ rows. last_at (rows ++ rest) a) (ended_yes end m n.address up (omega arith)) ∙ here_said (row_here m) rest a below none
@@ -164,7 +164,7 @@ moves_past end s (i ∷ items) m good over =
     moves_out s end i items m.address (omega (arith, grows s i m parts.0, next))
     ∙ ap (moves s end items) next ∙ moves_past end s items (item_stepped s i m) parts.1 (omega (arith, grows s i m parts.0))
 
--- where a state's rows stand, by those behind the next step
+-- where a state's rows stand, by those after the next step
 stands_by : (end : ℕ) (s : CieContext) (i : Item) (items : List Item) (m n : Machine) → m.address < end → m.address ≤ n.address → next_location s i m.address ≡ n.address → (end ≤ n.address → rows_from end s items n ≡ []) → (end ≤ n.address → moves s end items n.address ≡ []) → (n.address < end → map (λ r. r.address) (rows_from end s items n) ≡ n.address ∷ moves s end items n.address) → (m.address < n.address) ⊎ (n.address ≤ m.address) → (n.address < end) ⊎ (end ≤ n.address) → map (λ r. r.address) (ended_row end m n.address ++ rows_from end s items n) ≡ m.address ∷ moves s end (i ∷ items) m.address
 stands_by end s i items m n low up next over_rows over_moves rest (inl moved) (inl inside) =
     ap (λ rows. map (λ r. r.address) (rows ++ rows_from end s items n)) (ended_yes end m n.address moved low)

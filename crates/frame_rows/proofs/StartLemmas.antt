@@ -39,7 +39,7 @@ own_whole v e s m c view context machine over =
     ap (λ l. first_fault s l m) (own_ahead v e c view over)
     ∙ ap (λ k. first_fault k (own_items e) m) context ∙ ap (first_fault (own_context e) (own_items e)) machine
 
--- the reason of the first bad instruction of the entry's own, behind those up to the first row
+-- the reason of the first bad instruction of the entry's own, after those up to the first row
 pub start_fault : (v e : FdeFields) (s held : CieContext) (m n : Machine) (c later : Ahead) → v ≡ e → s ≡ held → held ≡ own_context e → m ≡ own_begin e → c ≡ record { bytes = take (length v.instructions) v.instructions; at = 0 } →
     first_fault s (listed_at v.encoding v.instructions_address later) n ≡ first_fault s (listed_at v.encoding v.instructions_address c) m → first_fault held (listed_at v.encoding v.instructions_address later) n ≡ first_fault (own_context e) (own_items e) (own_begin e)
 start_fault v e s held m n c later view same context machine over kept =

@@ -65,7 +65,7 @@ refused_fault A B (Fault why) s encoding base c later i m n P whole some read ba
     sym so ∙ ap (λ l. first_fault s l m) (ahead_more encoding base c later i some read) ∙ fault_here s (Ok i) (listed_at encoding base later) m why bad
 refused_fault A B NoMemory s encoding base c later i m n P whole some read bad so = tt
 
--- or it is not, and those behind it decide
+-- or it is not, and those after it decide
 pub still : (s : CieContext) (encoding base : ℕ) (c later : Ahead) (i : Instruction) (m n : Machine) (whole : Option Reason) → length c.bytes ≢ 0 → Ok (i, later) ≡ instruction_at encoding base c → step_fault s i m ≡ None → n ≡ stepped s i m → first_fault s (listed_at encoding base c) m ≡ whole → first_fault s (listed_at encoding base later) n ≡ whole
 still s encoding base c later i m n whole some read fine is so =
     ap (first_fault s (listed_at encoding base later)) is ∙ sym (fault_more s (Ok i) (listed_at encoding base later) m fine)
@@ -188,7 +188,7 @@ ends failed refused end at over s held items encoding base c m n before view sam
       end = ap (λ (b : Standing). b.end) view;
     }
 
--- a reason behind others that were none
+-- a reason after others that were none
 pub still_stopped : (A B : Type 0) (stop : Stop Reason) (here whole : Option Reason) (P : A → Type 0) (Q : B → Type 0) → here ≡ whole → MatchStop {A = A} {F = Reason} (Err stop) P (λ why. here ≡ Some why) (Unit {0}) → MatchStop {A = B} {F = Reason} (Err stop) Q (λ why. whole ≡ Some why) (Unit {0})
 still_stopped A B (Fault why) here whole P Q so bad = sym so ∙ bad
 still_stopped A B NoMemory here whole P Q so bad = tt

@@ -1,4 +1,4 @@
--- Worked rows: each instruction with the location and the row behind it.
+-- Worked rows: each instruction with the location and the row after it.
 use Rattle.std.proofs.Common.{◌≡◌, ℕ, pos, List, [], ◌∷◌, Option, None, Some, refl}
 use Prim.Native.String.{String}
 use Rattle.std.specs.Prelude.{⊤}
@@ -31,7 +31,7 @@ unfoldable machine : Machine
 unfolding row before
 machine = record { address = 0x1000; row = row 7 (pos 8) before; stack = row 2 (pos 80) ((1, rule.Undefined) ∷ []) ∷ [] }
 
--- the location and the row behind instructions
+-- the location and the row after instructions
 unfoldable behind : String → ℕ × Row
 unfolding hex context machine
 behind text = ((all_stepped context (instructions 0 0x2029 (hex text)) machine).address, (all_stepped context (instructions 0 0x2029 (hex text)) machine).row)

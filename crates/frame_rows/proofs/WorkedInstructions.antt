@@ -173,7 +173,7 @@ GNU_args_size_of_two_bytes : reads "2e 8101" ≡ Ok (Nop) ∷ []
 unfolding frame_rows_computes reads
 GNU_args_size_of_two_bytes = refl
 
--- one behind the other, up to the first that cannot be read
+-- one after the other, up to the first that cannot be read
 two_in_a_row : reads "41 0e10" ≡ Ok (AdvanceLoc 1) ∷ Ok (DefCfaOffset 16) ∷ []
 unfolding frame_rows_computes reads
 two_in_a_row = refl

@@ -1,4 +1,4 @@
--- The state behind the instructions of a CIE (DWARF 5, 6.4.1 and 6.4.2), from which each of its entries goes on.
+-- The state after the instructions of a CIE (DWARF 5, 6.4.1 and 6.4.2), from which each of its entries goes on.
 use Rattle.std.specs.Prelude.{Option, Some, None, Result, Ok, Err}
 use Rattle.sym_edges.specs.declared.reason.Reason.{Reason}
 use Rattle.frame_entries.specs.FdeFields.{FdeFields}

@@ -17,7 +17,7 @@ abbrev pub or_instruction : {A : Type 0} → Result A CursorFault → Result A R
 or_instruction (Ok x) = Ok x
 or_instruction (Err fault) = Err reason.Instruction
 
--- an instruction without operands, with one operand, and with two, one behind the other
+-- an instruction without operands, with one operand, and with two, one after the other
 abbrev pub alone : Instruction → Ahead → Result (Instruction × Ahead) Reason
 alone instruction c = Ok (instruction, c)
 
@@ -27,7 +27,7 @@ one operand make c = or_instruction (operand c) >>= λ x. Ok (make x.0, x.1)
 abbrev pub two : {A B : Type 0} → (Ahead → Result (A × Ahead) CursorFault) → (Ahead → Result (B × Ahead) CursorFault) → (A → B → Instruction) → Ahead → Result (Instruction × Ahead) Reason
 two first second make c = or_instruction (first c) >>= λ x. or_instruction (second x.1) >>= λ y. Ok (make x.0 y.0, y.1)
 
--- behind an opcode without an operand in it: its operands, and what it means (DWARF 5, table 7.29); the operand of
+-- after an opcode without an operand in it: its operands, and what it means (DWARF 5, table 7.29); the operand of
 -- DW_CFA_set_loc is a pointer in the entry's encoding, and an instruction with a DWARF expression is refused
 unfoldable pub extended_at : ℕ → ℕ → ℕ → Ahead → Result (Instruction × Ahead) Reason
 extended_at encoding base opcode c =
@@ -57,7 +57,7 @@ extended_at encoding base opcode c =
     if opcode == 0x2e then one uleb_at (λ size. Nop) c else  -- DW_CFA_GNU_args_size
     Err reason.Instruction
 
--- behind an opcode: in three of them the low six bits are an operand
+-- after an opcode: in three of them the low six bits are an operand
 unfoldable pub behind_opcode : ℕ → ℕ → ℕ → Ahead → Result (Instruction × Ahead) Reason
 behind_opcode encoding base opcode c =
     if opcode / 64 == 1 then alone (AdvanceLoc (opcode % 64)) c else  -- DW_CFA_advance_loc
@@ -73,7 +73,7 @@ instruction_at encoding base c = or_instruction (fixed_at 1 c) >>= λ opcode. be
 abbrev pub Item : Type 0
 Item = Result Instruction Reason
 
--- an instruction that was read stands in front of those behind it; one that was not ends the list
+-- an instruction that was read stands in front of those after it; one that was not ends the list
 abbrev pub onto_later : Result (Instruction × Ahead) Reason → (Ahead → List Item) → List Item
 onto_later (Ok x) later = Ok x.0 ∷ later x.1
 onto_later (Err why) later = Err why ∷ []
@@ -88,7 +88,7 @@ listed_in (suc n) encoding base c =
 unfoldable pub listed_at : ℕ → ℕ → Ahead → List Item
 listed_at encoding base c = listed_in (length c.bytes) encoding base c
 
--- the instructions ahead by the first of them, where those behind it are known
+-- the instructions ahead by the first of them, where those after it are known
 unfoldable pub listed_by : (ℕ → ℕ → Ahead → List Item) → ℕ → ℕ → Ahead → List Item
 listed_by later encoding base c =
     if length c.bytes == 0 then [] else onto_later (instruction_at encoding base c) (later encoding base)

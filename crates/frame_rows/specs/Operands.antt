@@ -6,7 +6,7 @@ use Rattle.code_table.specs.FrameOps.{frame_opcodes}
 use Rattle.code_table.specs.Layouts.{shape_at}
 use Rattle.frame_rows.specs.Instructions.{extended_at}
 
--- what is ahead behind a reading that is not refused
+-- what is ahead after a reading that is not refused
 abbrev pub left : {A E : Type 0} → Result (A × Ahead) E → Option Ahead
 left (Ok x) = Some x.1
 left (Err fault) = None

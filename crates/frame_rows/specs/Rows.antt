@@ -27,7 +27,7 @@ abbrev pub item_fault : CieContext → Item → Machine → Option Reason
 item_fault s (Ok instruction) m = step_fault s instruction m
 item_fault s (Err why) m = Some why
 
--- the state behind all instructions
+-- the state after all instructions
 unfoldable pub all_stepped : CieContext → List Item → Machine → Machine
 all_stepped s [] m = m
 all_stepped s (i ∷ items) m = all_stepped s items (item_stepped s i m)
@@ -37,7 +37,7 @@ unfoldable pub first_fault : CieContext → List Item → Machine → Option Rea
 first_fault s [] m = None
 first_fault s (i ∷ items) m = option_or (item_fault s i m) (first_fault s items (item_stepped s i m))
 
--- the state behind the longest prefix of instructions whose locations are at most an address: each has the location that
+-- the state after the longest prefix of instructions whose locations are at most an address: each has the location that
 -- those before it left
 unfoldable pub replay : CieContext → List Item → Machine → ℕ → Machine
 replay s [] m a = m
@@ -61,7 +61,7 @@ cie_begin e = record { address = e.start; row = empty_row; stack = [] }
 unfoldable pub cie_end : FdeFields → Machine
 cie_end e = all_stepped (cie_context e) (cie_items e) (cie_begin e)
 
--- the entry's own instructions, behind the initial ones: the row and the row stack go on
+-- the entry's own instructions, after the initial ones: the row and the row stack go on
 unfoldable pub own_context : FdeFields → CieContext
 own_context e = record { code_align = e.code_align; data_align = e.data_align; initial = Some (cie_end e).row }
 

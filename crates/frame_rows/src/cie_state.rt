@@ -1,4 +1,4 @@
-//! The state behind the instructions of a CIE, which are carried out once for all of its entries.
+//! The state after the instructions of a CIE, which are carried out once for all of its entries.
 ghost use Rattle.std.specs.Prelude.{◌≡◌, Ok, Err, Some, None, reverse, MatchResult, IfOk};
 ghost use Rattle.sym_edges.specs.Outside.{MatchStop};
 ghost use Rattle.frame_rows.specs.Rows.{empty_row, first_fault, cie_context, cie_items, cie_begin, cie_end, own_context, own_begin};
@@ -30,7 +30,7 @@ impl Model for Left {
     ghost view = { λ l. record { context = l.context; stack = reverse l.stack.items } };
 }
 
-/// The state behind the instructions of a CIE, or the reason of the first bad one. It is the same for each entry of the CIE.
+/// The state after the instructions of a CIE, or the reason of the first bad one. It is the same for each entry of the CIE.
 #[derive(Drop)]
 pub struct CieState {
     left: Result<Left, Reason>,
@@ -57,7 +57,7 @@ fn empty_row() -> Row
     }
 }
 
-/// What instructions of an entry are carried out with, behind a row that its CIE left.
+/// What instructions of an entry are carried out with, after a row that its CIE left.
 fn context_of(fde: &Fde<'_>, initial: Option<Row>) -> CieContext
     ensures { result ≡ record { code_align = fde.now.code_align; data_align = fde.now.data_align; initial = initial } }
 {
@@ -111,7 +111,7 @@ pub struct Begun<'c> {
 }
 
 impl CieState {
-    /// The state behind the instructions of the CIE of an entry.
+    /// The state after the instructions of the CIE of an entry.
     pub fn of(alloc: Global, fde: &Fde<'_>) -> Result<CieState, OutOfMemory>
         ensures { IfOk result (λ state. state ≡ cie_left fde.now) }
     {

@@ -1,4 +1,4 @@
-//! Columns of a row, one behind another.
+//! Columns of a row, one after another.
 ghost use Rattle.std.specs.Prelude.{◌≡◌, min, max};
 ghost use Rattle.frame_rows.specs.Columns.{StayOutside};
 ghost use Rattle.frame_rows.specs.internal.Touched.{no_columns, all_columns, one_column};

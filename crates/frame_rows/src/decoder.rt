@@ -20,7 +20,7 @@ use frame_entries::read_pointer;
 use leb_cursor::Cursor;
 use sym_edges::Reason;
 
-/// An instruction with its operands, each read by a call of the cursor, one behind the other.
+/// An instruction with its operands, each read by a call of the cursor, one after the other.
 macro_rules! read {
     ($cursor:ident; $instruction:ident { $($field:ident: $call:ident $(as $wide:ty)?),* }) => {{
         $(let Ok($field) = $cursor.$call() else {
@@ -96,7 +96,7 @@ fn read_extended(
     }
 }
 
-/// Reads what stands behind an opcode.
+/// Reads what stands after an opcode.
 #[inline(always)]
 #[tactic(auto, unfolding(crate::specs::Instructions::behind_opcode))]
 fn read_behind(

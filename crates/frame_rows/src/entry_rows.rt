@@ -56,7 +56,7 @@ fn collect(alloc: Global, stepper: &mut Stepper<'_, '_>) -> Result<Vec<RowAt>, S
     Ok(rows)
 }
 
-/// Whether an entry has rows, or the reason for which it has none; the state behind its CIE is given. All instructions are
+/// Whether an entry has rows, or the reason for which it has none; the state after its CIE is given. All instructions are
 /// looked at, and no row is kept.
 pub fn check_rows_behind(alloc: Global, state: &CieState, fde: &Fde<'_>) -> Result<(), Stop<Reason>>
     requires behind { state.now ≡ cie_left fde.now }
@@ -79,7 +79,7 @@ pub fn check_rows_behind(alloc: Global, state: &CieState, fde: &Fde<'_>) -> Resu
 }
 
 /// The rows of an entry by their addresses, or the reason of its first bad instruction, or else `Cfa` where some address of the
-/// range has no rule for the CFA; the state behind its CIE is given.
+/// range has no rule for the CFA; the state after its CIE is given.
 pub fn rows_behind(alloc: Global, state: &CieState, fde: &Fde<'_>) -> Result<RowList, Stop<Reason>>
     requires behind { state.now ≡ cie_left fde.now }
     requires some { 0 < fde.now.size }

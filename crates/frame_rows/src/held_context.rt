@@ -4,7 +4,7 @@ ghost use Rattle.frame_rows.specs.internal.Held.{context_in};
 
 use crate::machine::CieContext;
 
-/// A context of its own, or one that lies in the state behind a CIE.
+/// A context of its own, or one that lies in the state after a CIE.
 #[derive(Drop)]
 pub enum HeldContext<'c> {
     Own(Box<CieContext>),

@@ -9,7 +9,7 @@ use frame_entries::Fde;
 use std::alloc::Global;
 use sym_edges::{OutOfMemory, Reason, Stop};
 
-/// The reason of the first bad instruction of an entry, that of its CIE, behind which the state is given, before those of its
+/// The reason of the first bad instruction of an entry, that of its CIE, after which the state is given, before those of its
 /// own, for any range.
 #[tactic(auto, unfolding(crate::specs::Rows::instruction_fault, crate::specs::Rows::own_items))]
 pub fn inspect_behind(

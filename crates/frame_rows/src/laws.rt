@@ -8,7 +8,7 @@ ghost use Rattle.frame_rows.specs.CieLeft.{cie_left};
 ghost use Rattle.frame_rows.specs.Instructions.{listed_at, listed_by};
 ghost use Rattle.frame_rows.specs.Operands.{TakesOperands, plain_opcodes};
 
-/// The instructions ahead are none where no byte is left, else the next one with those behind it.
+/// The instructions ahead are none where no byte is left, else the next one with those after it.
 #[tactic(auto, using(crate::proofs::FollowLemmas::listed_is))]
 pub fn instructions_follow()
     ensures { (encoding base : ℕ) (c : Ahead) → listed_at encoding base c ≡ listed_by listed_at encoding base c }

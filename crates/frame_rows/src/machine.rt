@@ -12,7 +12,7 @@ use std::alloc::{AllocError, Global};
 use std::marker::Model;
 use sym_edges::{Reason, Stop};
 
-/// What instructions are carried out with: the code and the data alignment factor of the CIE, and behind it the row that its
+/// What instructions are carried out with: the code and the data alignment factor of the CIE, and after it the row that its
 /// initial instructions left.
 #[derive(Clone, Copy)]
 pub struct CieContext {

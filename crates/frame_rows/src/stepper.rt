@@ -132,8 +132,8 @@ impl<'c, 'a> Stepper<'c, 'a> {
         }
     }
 
-    /// At the first row of an entry, where the state behind its CIE is given, or the reason of a bad instruction up to the next
-    /// row. The instructions behind that are not looked at.
+    /// At the first row of an entry, where the state after its CIE is given, or the reason of a bad instruction up to the next
+    /// row. The instructions after that are not looked at.
     #[inline]
     #[tactic(auto, using(crate::proofs::EntryLemmas::cie_bad))]
     pub fn begin(

@@ -7,7 +7,7 @@ use std::process::Abort;
 use std::test::Fail;
 use sym_edges::Reason;
 
-/// An entry of 1000 behind initial instructions as at a call: the CFA is rsp + 8, and the return address lies at the CFA - 8.
+/// An entry of 1000 after initial instructions as at a call: the CFA is rsp + 8, and the return address lies at the CFA - 8.
 #[tactic(auto, unfolding(frame_entries::specs::Pointers::is_encoding, frame_entries::specs::Pointers::is_format))]
 fn called(size: u64, instructions: &[u8]) -> Fde<'_> {
     Fde {
@@ -91,7 +91,7 @@ fn steps_of(alloc: Global, stepper: &mut Stepper<'_, '_>, most: u64) -> Result<V
     Ok(found)
 }
 
-/// A stepper goes over the rows of an entry, and has the row at each address; also one that begins behind the CIE.
+/// A stepper goes over the rows of an entry, and has the row at each address; also one that begins after the CIE.
 fn expect_steps(rt: &impl Abort, alloc: Global, number: u8, fde: &Fde<'_>) -> Result<(), Fail> {
     if fde.size == 0 || fde.size > u64::MAX - fde.start {
         return Ok(());
@@ -145,7 +145,7 @@ fn a_stepper_has_the_row_at_each_address(rt: HostRuntime) -> Result<(), Fail> {
 /// How many rows are remembered at once.
 const NESTED: u64 = 100;
 
-/// How many rows the longest entry has behind its first.
+/// How many rows the longest entry has after its first.
 const MANY: u64 = 5000;
 
 #[test]

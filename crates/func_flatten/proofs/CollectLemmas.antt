@@ -141,7 +141,7 @@ length_dies : (dies : List DieFields) → length (map (λ die. die.at) dies) ≡
 length_dies [] = refl
 length_dies (d ∷ dies) = omega (arith, length_dies dies)
 
--- the entries of a unit, and those of the units behind it
+-- the entries of a unit, and those of the units after it
 pub entries_left : (unit : ℕ) (units : List UnitRead) (part : UnitRead) → unit < length units → part ≡ get_or units unit part → length (places (drop unit units)) ≡ length part.die.dies + length (places (drop (unit + 1) units))
 entries_left unit units part inside is =
     ap (λ l. length (places l)) (drop_index units unit part inside is)

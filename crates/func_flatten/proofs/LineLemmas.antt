@@ -157,7 +157,7 @@ with_longer (y ∷ []) (suc n) x r few last on = absurd (omega arith)
 with_longer (y ∷ z ∷ runs) zero x r few last on = absurd (omega arith)
 with_longer (y ∷ z ∷ runs) (suc n) x r few last on = ap (λ l. y ∷ l) (with_longer (z ∷ runs) n x r (omega arith) last on)
 
--- another run behind the last, where it does not go on with it
+-- another run after the last, where it does not go on with it
 pub with_more : (runs : List LineRun) (n : ℕ) (x r : LineRun) → n + 1 ≡ length runs → x ≡ slice_index_or runs n x → continues x r ≡ false → runs ++ r ∷ [] ≡ with_run runs r
 with_more [] n x r few last off = absurd (omega arith)
 with_more (y ∷ []) zero x r few last off = subst (λ (z : LineRun). z ∷ r ∷ [] ≡ with_run (z ∷ []) r) last (sym (ap (λ b. if b then record { start = x.start; end = r.end; path = x.path; line = x.line } ∷ [] else x ∷ r ∷ []) off))

@@ -30,7 +30,7 @@ turned text name differ = go (bytes_eq text name) refl
     go true is = (let same : text ≡ name = (bytes_eq-Decides text name).0 is in sym (same_bytes text) ∙ ap (λ t. bytes_eq t text) same ∙ differ)
     go false is = refl
 
--- what is found behind a new entry
+-- what is found after a new entry
 abbrev with_name : Option ℕ → List ℕ → List ℕ → ℕ → Option ℕ
 with_name found text name number = option_or found (if bytes_eq text name then Some number else None)
 

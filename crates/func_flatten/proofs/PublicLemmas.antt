@@ -364,7 +364,7 @@ low_later a (s ∷ group) later some all up =
     let P : ℕ → Type 0 = λ x. list_all (λ (u : SymbolParts). nat_le x u.address) later ≡ true in
     subst P is (all_later (λ u. nat_le s.address u.address) group later up.0)
 
--- a group in front of ordered symbols, and the symbols behind it
+-- a group in front of ordered symbols, and the symbols after it
 first_group : (test : ℕ → Bool) (a : ℕ) (group later symbols : List SymbolParts) → symbols ≡ group ++ later → 0 < length group → list_all (stands_at a) group ≡ true → IsOrdered symbols → starts_elsewhere a later ≡ true → (publics_where test symbols ≡ (if test a then [] else public_named a (names_of group) ∷ []) ++ publics_where test later) × IsOrdered later
 first_group test a group later symbols is some all up other =
     let parted : IsOrdered (group ++ later) = subst IsOrdered is up in

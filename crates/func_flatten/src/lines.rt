@@ -96,7 +96,7 @@ fn push_part(
     Ok(())
 }
 
-/// Adds a run behind the last, or makes that one longer where it goes on with the same path and line.
+/// Adds a run after the last, or makes that one longer where it goes on with the same path and line.
 fn push_run(runs: &mut Vec<LineRun>, run: LineRun) -> Result<(), AllocError>
     ensures { OnOk result (runs.new.items ≡ with_run runs.old.items run) }
 {

@@ -1,4 +1,4 @@
--- The text of records behind one another.
+-- The text of records after one another.
 use Rattle.std.proofs.Common.{◌≡◌, ℕ, length, List, [], ◌∷◌, ◌++◌, None, arith, refl, sym, ap, ◌∙◌, append_assoc, append-nil}
 use Rattle.std.proofs.lemmas.Grind.{flat_map-append}
 use Rattle.sym_records.specs.Canon.{canon, canon_text}
@@ -21,7 +21,7 @@ canon_more s xs = refl
 pub nothing_added : (old : List ℕ) → old ≡ old ++ canon_text []
 nothing_added old = sym (ap (λ t. old ++ t) canon_none ∙ append-nil old)
 
--- one record more behind a text, of records that are left
+-- one record more after a text, of records that are left
 pub record_more : (old mid all : List ℕ) (s : SymLine) (rest : List SymLine) → old ++ canon_text (s ∷ rest) ≡ all → mid ≡ old ++ canon s → mid ++ canon_text rest ≡ all
 record_more old mid all s rest so added =
     ap (λ t. t ++ canon_text rest) added ∙ append_assoc old (canon s) (canon_text rest) ∙ ap (λ t. old ++ t) (sym (canon_more s rest)) ∙ so

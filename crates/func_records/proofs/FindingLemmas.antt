@@ -28,7 +28,7 @@ use Rattle.func_records.proofs.CallLemmas.{below}
 use Rattle.func_records.proofs.RunLemmas.{AreBetween, AreFrom, from_between, text_run, runs_apart}
 use Rattle.func_records.proofs.NameLemmas.{after, regroup, under_part, FindPaths, FindNames, part_runs, around, around_is, paths_found, names_found, lines_between}
 
--- what holds of a list, and of one record more in front of it, holds behind records in front
+-- what holds of a list, and of one record more in front of it, holds after records in front
 mapped : {X : Type 0} (P : List SymLine → Type 0) (f : X → SymLine) (xs : List X) (rest : List SymLine) → ((x : X) (later : List SymLine) → P later → P (f x ∷ later)) → P rest → P (map f xs ++ rest)
 mapped P f [] rest more is = is
 mapped P f (x ∷ xs) rest more is = more x (map f xs ++ rest) (mapped P f xs rest more is)

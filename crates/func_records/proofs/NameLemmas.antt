@@ -86,12 +86,12 @@ pub lines_between : (units : List UnitRead) (p : Part) → AreLineRuns units p.p
 lines_between units p lined =
     are_between p.piece.start p.piece.end (unit_line units p.piece.unit) (map (path_run (unit_paths units p.piece.unit)) p.lines) (maximal _ (map (path_run (unit_paths units p.piece.unit)) p.lines) lined.paths)
 
--- behind a part no line record stands
+-- after a part no line record stands
 none_after : (base : ℕ) (paths names : List (List ℕ)) (units : List UnitRead) (parts : List Part) (behind : List SymLine) → ArePlain behind → under (part_lines base paths names units parts ++ behind) ≡ []
 none_after base paths names units [] behind plain = none_under behind plain
 none_after base paths names units (p ∷ parts) behind plain = refl
 
--- what stands behind the record of a part
+-- what stands after the record of a part
 abbrev pub after : ℕ → List (List ℕ) → List (List ℕ) → List UnitRead → Part → List Part → List SymLine → List SymLine
 after base paths names units p parts behind = (map (inline_record base paths names units p.piece.unit) p.copies ++ (map (line_record base paths units p.piece.unit) p.lines ++ part_lines base paths names units parts)) ++ behind
 

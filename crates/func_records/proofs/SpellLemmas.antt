@@ -34,7 +34,7 @@ sliced_name units name unit entry bytes is same = ap cleaned (sym (slice_bytes u
 pub name_made : (units : List UnitRead) (name : NameRef) (unit entry : ℕ) (made : List ℕ) → made ≡ cleaned (name_bytes units name) → cleaned (name_bytes units name) ≡ entry_name units unit entry → cleaned made ≡ entry_name units unit entry
 name_made units name unit entry made is same = ap cleaned is ∙ cleaned_again (name_bytes units name) ∙ same
 
--- the records of a piece behind one another
+-- the records of a piece after one another
 lines_fit : (base : ℕ) (row : List ℕ) (i : ℕ) (runs : List LineRun) → list_all fields_fit (map (line_by base row) runs) ≡ true → first_bad_from i Function (map (line_by base row) runs) ≡ None
 lines_fit base row i [] fit = none_here i Function
 lines_fit base row i (r ∷ runs) fit =

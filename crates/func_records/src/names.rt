@@ -104,7 +104,7 @@ fn sort_refs(refs: &mut Vec<NameRef>)
     refs.sort_unstable_by_key(|name| key_of(*name));
 }
 
-/// The references without those that stand behind the same one.
+/// The references without those that stand after the same one.
 fn distinct_refs(alloc: Global, refs: &[NameRef]) -> Result<Vec<NameRef>, OutOfMemory>
     ensures { IfOk result (λ distinct. (test : NameRef → Bool) → list_any test distinct.items ≡ list_any test refs.now) }
 {

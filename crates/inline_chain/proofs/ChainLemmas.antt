@@ -29,7 +29,7 @@ and_false true true r is = is
 and_false true false r is = refl
 and_false false q r is = refl
 
--- an entry stands in none behind it
+-- an entry stands in none after it
 not_child : (dies : List DieFields) (a e : ℕ) (c : Covering) → c.entry ≤ e → is_child dies a e c ≡ false
 not_child dies a e c above = and_false (is_inlined c.die) (holds_any c.spans a) _ (not_above e c.entry (inside_of dies c.entry c.die.parent) (inside_below dies c.entry c.die.parent) above)
 

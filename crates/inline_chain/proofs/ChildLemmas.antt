@@ -25,7 +25,7 @@ index_first s items a = go (reaches s a)
     go true = refl
     go false = refl
 
--- the first of a set's stretches, or of those behind
+-- the first of a set's stretches, or of those after
 spans_first : (n p : ℕ) (spans : List Range) (items : List Stretch) (a : ℕ) → IsCanonical spans → index_at (span_stretches n p spans ++ items) a ≡ (if holds_any spans a then Some n else index_at items a)
 spans_first n p [] items a canonical = refl
 spans_first n p (r ∷ spans) items a canonical =

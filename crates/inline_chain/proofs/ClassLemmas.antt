@@ -98,7 +98,7 @@ take_front x (s ∷ items) sorted = elim (eqb_tells s.class x) [
       ∙ sym (cond-false _ _ _ is.0 ∙ none_low x s.class items sorted.1 (let less : x < s.class = omega (arith, sorted.0, is.1) in less))
 ]
 
--- and what is behind it
+-- and what is after it
 pub drop_front : (x y : ℕ) (items : List Stretch) → x ≢ y → of_class y (drop (front_count x items) items) ≡ of_class y items
 unfolding front_count
 drop_front x y [] other = refl

@@ -59,7 +59,7 @@ inside_more all row k die above says is said = record {
       (cases_lt j k);
 }
 
--- the stretches of an entry, and those of the entries behind
+-- the stretches of an entry, and those of the entries after
 child_left : (all : List DieFields) (k : ℕ) (dies : List DieFields) (sets : List (List Range)) (die : DieFields) (spans : List Range) → slice_get dies k ≡ Some die → slice_get sets k ≡ Some spans
     → child_stretches all k (drop k dies) (drop k sets) ≡ copy_stretches all k die spans ++ child_stretches all (k + 1) (drop (k + 1) dies) (drop (k + 1) sets)
 child_left all k dies sets die spans is set_is = λ i. child_stretches all k ((dropped dies k die is) i) ((dropped sets k spans set_is) i)

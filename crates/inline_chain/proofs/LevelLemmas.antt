@@ -17,7 +17,7 @@ use Rattle.inline_chain.specs.Trees.{is_number, list_of, child_at, IsTree}
 use Rattle.step_maps.proofs.SpanLemmas.{fit_joined}
 use Rattle.inline_chain.specs.internal.Levels.{has_at, covers_at, reaches_under, cut, child_under, depth_at, IsLevel, ReachTo, StartsCovers}
 
--- the covers end one behind the other
+-- the covers end one after the other
 last_above : (c : Cover) (covers : List Cover) (k : ℕ) (d : Cover) → AreRuns (map cover_run (c ∷ covers)) → k < length covers → c.last ≤ (get_or covers k d).last
 last_above c [] k d runs inside = absurd (omega arith)
 last_above c (e ∷ covers) zero d runs inside = omega (arith, runs.1.0, runs.2.0)
@@ -59,7 +59,7 @@ starts covers first k runs inside point = record {
   reach = reach_drop covers k first (λ i d from end. (let is : nat_lt (get_or covers i d).last first ≡ false = point.1 i d (omega arith) end in grind (arith, nat_tests)));
 }
 
--- the covers behind a start serve as well as all
+-- the covers after a start serve as well as all
 pub under_begins : (next : List Stretch) (covers front : List Cover) (around : Stretch) (k : ℕ) → StartsCovers covers around.first k → front ≡ drop k covers
     → (y a : ℕ) → (has_at next y a || (reaches around a && covers_at front y a)) ≡ (has_at next y a || (reaches around a && covers_at covers y a))
 under_begins next covers front around k starts is y a =

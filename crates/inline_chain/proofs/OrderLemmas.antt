@@ -125,7 +125,7 @@ ordered_by low level (r ∷ runs) keys are = (all_before (key r) level r runs ke
 pub sorted_ordered : (level : ℕ) (xs ys : List InlineParts) → IsPermutation xs ys → IsNonDecreasingBy key ys → AreOfLevel level xs → IsOrdered ys
 sorted_ordered level xs ys moved sorted are = ordered_by 0 level ys (keys_of ys sorted) (sorted_level level xs ys moved are)
 
--- parts of a set begin one behind the other
+-- parts of a set begin one after the other
 abbrev BeginsFrom : ℕ → List Range → Type 0
 BeginsFrom low [] = Prim.Unit {0}
 BeginsFrom low (r ∷ spans) = low ≤ r.start

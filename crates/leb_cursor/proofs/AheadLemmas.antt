@@ -19,13 +19,13 @@ same_ahead place bytes rest c is same =
     let left : rest ≡ drop place bytes = same ∙ sym (ap (λ (d : Ahead). d.bytes) is) in
     ap (λ (r : List ℕ). record { bytes = r; at = place }) left ∙ is
 
--- a run cut behind its next n bytes has these ahead
+-- a run cut after its next n bytes has these ahead
 part_is : (n place : ℕ) (bytes : List ℕ) (c : Ahead) → record { bytes = drop place bytes; at = place } ≡ c → (let part : Ahead = record { bytes = drop place (take (place + n) bytes); at = place } in part) ≡ record { bytes = take n c.bytes; at = c.at }
 part_is n place bytes c is =
     subst (λ (d : Ahead). (let part : Ahead = record { bytes = drop place (take (place + n) bytes); at = place } in part) ≡ record { bytes = take n d.bytes; at = d.at }) is
     (ap (λ (rest : List ℕ). record { bytes = rest; at = place }) (drop-take place n bytes))
 
--- a part of what is ahead, and what is left behind it
+-- a part of what is ahead, and what is left after it
 pub part_moved : (n place : ℕ) (bytes rest : List ℕ) (c : Ahead) → record { bytes = drop place bytes; at = place } ≡ c → rest ≡ c.bytes → n ≤ length rest
     → (let part : Ahead × Ahead = (record { bytes = drop place (take (place + n) bytes); at = place }, record { bytes = drop (place + n) bytes; at = place + n }) in Ok part) ≡ part_at n c
 unfolding part_at

@@ -7,7 +7,7 @@ use Rattle.std.proofs.lemmas.List.{get_or-take, length-take}
 use Rattle.std.proofs.lemmas.Nat.{one_shl, shl_whole, pow-add}
 use Rattle.std.proofs.Math.Nat.{pow-suc, mul-suc, mul-le-mul_right, pow-le-pow_right}
 use Rattle.leb_cursor.specs.Readings.{leb_sum, leb_length}
-use Rattle.leb_cursor.specs.Groups.{SoFar, EndsWith}
+use Rattle.leb_cursor.specs.internal.Groups.{SoFar, EndsWith}
 use Rattle.leb_cursor.proofs.PlaceLemmas.{position_some, position_none}
 
 pub leb_sum_more : (k : ℕ) (bytes : List ℕ) → leb_sum (k + 1) bytes ≡ leb_sum k bytes + get_or bytes k 0 % 128 * 128 ^ k
@@ -25,7 +25,7 @@ weight zero = refl
 weight (suc k) =
     ap (λ (n : ℕ). 2 ^ n) (mul-suc 7 k) ∙ pow-add 2 (7 * k) 7 ∙ ap (λ (n : ℕ). n * 128) (weight k) ∙ sym (pow-suc 128 k)
 
--- one, shifted behind so many groups
+-- one, shifted after so many groups
 pub one_weight : (count : ℕ) → count ≤ 9 → (1 * 2 ^ (7 * count)) % 2 ^ 64 ≡ 128 ^ count
 one_weight count few = one_shl (7 * count) 64 (omega arith) ∙ weight count
 

@@ -94,7 +94,7 @@ then_by : {A B E : Type 0} (second : Result (B × Ahead) E) (x : A × Ahead) (le
 then_by (Ok y) x least more c goes later = (omega (arith, goes.0, later.0), omega (arith, goes.1, later.1))
 then_by (Err fault) x least more c goes later = tt
 
--- a reading behind another: what both pass together
+-- a reading after another: what both pass together
 pub passes_then : {A B E : Type 0} (first : Result (A × Ahead) E) (next : A × Ahead → Result (B × Ahead) E) (least more : ℕ) (c : Ahead) → Passes least c first → ((x : A × Ahead) → Passes more x.1 (next x)) → Passes (least + more) c (first >>= next)
 passes_then (Ok x) next least more c goes later = then_by (next x) x least more c goes (later x)
 passes_then (Err fault) next least more c goes later = tt

@@ -7,7 +7,7 @@ use Rattle.leb_cursor.specs.declared.fault.CursorFault.TheVariants.{Ends, LebLon
 use Rattle.leb_cursor.specs.Ahead.{Ahead, passed}
 use Rattle.sym_edges.specs.Integers.{fits_i64}
 use Rattle.leb_cursor.specs.Readings.{leb_sum, leb_length, sleb_sum, sleb_at, sleb_by}
-use Rattle.leb_cursor.specs.Groups.{SoFar, EndsWith}
+use Rattle.leb_cursor.specs.internal.Groups.{SoFar, EndsWith}
 use Rattle.leb_cursor.proofs.AheadLemmas.{moved, same_ahead}
 use Rattle.leb_cursor.proofs.GroupLemmas.{leb_sum_one, leb_length_some, groups_fit}
 use Rattle.leb_cursor.proofs.TenthLemmas.{ten_sum, ten_ends, open_short, open_long, sum_small}

@@ -4,7 +4,7 @@ use Rattle.std.proofs.lemmas.Bool.Decides.{nat_tests}
 use Rattle.leb_cursor.specs.declared.fault.CursorFault.TheVariants.{Ends, LebLong}
 use Rattle.leb_cursor.specs.Ahead.{Ahead}
 use Rattle.leb_cursor.specs.Readings.{leb_sum, leb_length, leb_open}
-use Rattle.leb_cursor.specs.Groups.{SoFar}
+use Rattle.leb_cursor.specs.internal.Groups.{SoFar}
 use Rattle.leb_cursor.proofs.GroupLemmas.{leb_sum_more, leb_length_some, leb_length_none}
 
 -- the sum of ten groups, of which nine are added up

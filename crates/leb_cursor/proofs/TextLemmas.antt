@@ -30,7 +30,7 @@ text_is c rest found same h =
 pub text_open : (c : Ahead) (rest : List ℕ) → rest ≡ c.bytes → IsFirstByte (is_byte 0) rest None → text_at c ≡ Err (NoZero c.at)
 text_open c rest same h = text_is c rest None same h
 
--- the text is read, and the cursor's place goes on behind its zero byte
+-- the text is read, and the cursor's place goes on after its zero byte
 pub text_moved : (n place : ℕ) (bytes rest : List ℕ) (c : Ahead) → record { bytes = drop place bytes; at = place } ≡ c → rest ≡ c.bytes → IsFirstByte (is_byte 0) rest (Some n) → text_at c ≡ Ok (take n rest, record { bytes = drop (place + (n + 1)) bytes; at = place + (n + 1) })
 text_moved n place bytes rest c is same h =
     let there : n < length rest = h.0.high in

@@ -6,7 +6,7 @@ use Rattle.leb_cursor.specs.declared.fault.CursorFault.{CursorFault}
 use Rattle.leb_cursor.specs.declared.fault.CursorFault.TheVariants.{Ends, LebLong}
 use Rattle.leb_cursor.specs.Ahead.{Ahead, passed}
 use Rattle.leb_cursor.specs.Readings.{leb_sum, leb_length, uleb_at, uleb_by}
-use Rattle.leb_cursor.specs.Groups.{SoFar, EndsWith}
+use Rattle.leb_cursor.specs.internal.Groups.{SoFar, EndsWith}
 use Rattle.leb_cursor.proofs.AheadLemmas.{moved, same_ahead}
 use Rattle.leb_cursor.proofs.GroupLemmas.{leb_sum_one, leb_length_some, groups_fit}
 use Rattle.leb_cursor.proofs.TenthLemmas.{ten_sum, ten_ends, open_short, open_long, sum_small}

@@ -57,7 +57,7 @@ highest_bit : uleb_at (ahead "80808080808080808001" 0) ≡ Ok (92233720368547758
 unfolding ahead leb_cursor_computes
 highest_bit = refl
 
--- what is behind the number is left
+-- what is after the number is left
 behind : uleb_at (ahead "b964 07" 16) ≡ Ok (12857, ahead "07" 18)
 unfolding ahead leb_cursor_computes
 behind = refl

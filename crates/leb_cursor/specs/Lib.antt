@@ -3,5 +3,4 @@ pub mod Texts
 pub mod Readings
 pub mod Passes
 pub mod Lists
-pub mod Steps
-pub mod Groups
+pub mod internal

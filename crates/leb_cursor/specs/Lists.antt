@@ -1,4 +1,4 @@
--- Lists of what stands ahead, one member behind the other, up to what ends them.
+-- Lists of what stands ahead, one member after the other, up to what ends them.
 use Rattle.std.specs.Prelude.{◌≡◌, ℕ, zero, suc, ◌+◌, ◌≤◌, List, [], ◌∷◌, length, Option, None, Some, Result, Ok, Err}
 use Rattle.sym_edges.specs.Results.{◌>>=◌}
 use Rattle.leb_cursor.specs.Ahead.{Ahead}
@@ -22,7 +22,7 @@ list_at read c = list_in read (suc (length c.bytes)) c
 abbrev pub list_cases : {A E : Type 0} → (Ahead → Result (Option A × Ahead) E) → Ahead → Result (List A × Ahead) E
 list_cases read c = read c >>= λ first. list_by first.0 first.1 (list_at read first.1)
 
--- a reading goes on: over one byte at least where it gives a member, and never behind the end
+-- a reading goes on: over one byte at least where it gives a member, and never after the end
 abbrev pub GoesOn : {A E : Type 0} → Ahead → Result (Option A × Ahead) E → Type 0
 GoesOn c (Ok (None, later)) =
     (length later.bytes ≤ length c.bytes) × (later.at + length later.bytes ≡ c.at + length c.bytes)

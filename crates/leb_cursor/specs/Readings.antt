@@ -1,5 +1,5 @@
 -- The readings of numbers, texts and runs of bytes (DWARF 5, section 7.6; all numbers little-endian).
--- Each gives a value and what is ahead behind it, or the fault with the place where the reading began.
+-- Each gives a value and what is ahead after it, or the fault with the place where the reading began.
 use Rattle.std.specs.Prelude.{ℕ, ◌+◌, ◌-◌, ◌*◌, ◌%◌, ◌^◌, nat_lt, if◌then◌else◌, List, length, take, map, sum, position, slice_index, Option, None, Some, Result, Ok, Err, ℤ, pos, ◌-ℤ◌}
 use Rattle.std.specs.Option.{option_map}
 use Rattle.std.specs.List.{range_with_len}

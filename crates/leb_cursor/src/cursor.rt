@@ -58,7 +58,7 @@ impl<'a> Cursor<'a> {
         &self.bytes[self.place..]
     }
 
-    /// The place behind the last byte.
+    /// The place after the last byte.
     #[inline]
     pub fn end(&self) -> usize
         ensures { result ≡ self.now.at + length self.now.bytes }

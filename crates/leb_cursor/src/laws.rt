@@ -14,7 +14,7 @@ pub fn fixed_is_word()
     ensures eight { (bytes : List ℕ) → fixed_sum 8 bytes ≡ from_le_bytes w64 bytes }
 {}
 
-/// Each reading passes the bytes that it reads, and none behind the end: a LEB128 and a text at
+/// Each reading passes the bytes that it reads, and none after the end: a LEB128 and a text at
 /// least one. So a list that is read up to the end has no more members than bytes.
 #[tactic(auto, using(crate::proofs::PassLemmas::fixed_passes, crate::proofs::PassLemmas::uleb_passes, crate::proofs::PassLemmas::sleb_passes, crate::proofs::PassLemmas::text_passes, crate::proofs::PassLemmas::take_passes, crate::proofs::PassLemmas::part_passes))]
 pub fn readings_pass()

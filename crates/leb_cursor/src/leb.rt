@@ -2,8 +2,8 @@
 //! (DWARF 5, 7.6).
 ghost use Rattle.std.specs.Prelude.{◌≡◌, ◌^◌, ◌<◌, ◌≤◌, length, pos, ◌-ℤ◌, IfOk, nat_lt, slice_index, if◌then◌else◌};
 ghost use Rattle.leb_cursor.specs.Readings.{uleb_at, sleb_at};
-ghost use Rattle.leb_cursor.specs.Steps.{read_front};
-ghost use Rattle.leb_cursor.specs.Groups.{AreGroups};
+ghost use Rattle.leb_cursor.specs.internal.Steps.{read_front};
+ghost use Rattle.leb_cursor.specs.internal.Groups.{AreGroups};
 
 use crate::fault::CursorFault;
 

@@ -81,7 +81,7 @@ taken_length n c d run is = elim (cases_lt (length c.bytes) n) [
   | inr all ↦ run_length n c d run all (is ∙ taken n c all)
 ]
 
--- a run that was refused ends behind the last byte
+-- a run that was refused ends after the last byte
 pub bytes_short : (n end : ℕ) (c : Ahead) (fault : CursorFault) → Err fault ≡ take_at n c → end ≡ c.at + length c.bytes → several_at byte_at n c ≡ Err (header.Cursor (Ends end))
 bytes_short n end c fault is at_end = elim (cases_lt (length c.bytes) n) [
   | inl less ↦ several_short n c.bytes c.at less ∙ ap (λ place. Err (header.Cursor (Ends place))) (sym at_end)

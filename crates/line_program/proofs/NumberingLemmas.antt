@@ -13,7 +13,7 @@ use Rattle.std.proofs.lemmas.Map.Text.{btree_map_updates_str}
 use Rattle.std.proofs.lemmas.Slice.Eq.{bytes_eq-Decides}
 use denote.Ref.{Bor}
 use Rattle.line_program.specs.LineMaps.{with_path, paths_from, distinct_paths, AreDistinct}
-use Rattle.line_program.specs.Numbering.{picked, AreNumbered, AllBelow}
+use Rattle.line_program.specs.internal.Numbering.{picked, AreNumbered, AllBelow}
 
 -- the place of a path
 pub place_in : List (List ℕ) → List ℕ → Option ℕ
@@ -230,7 +230,7 @@ numbers_new texts file firsts files more_firsts more numbers more_numbers text n
       placed = subst ArePlaced (sym paths) (placed_push (picked texts firsts) text n.placed none);
     }
 
--- behind the last file
+-- after the last file
 pub numbers_paths : (texts : List (List ℕ)) (file : ℕ) (firsts files : List ℕ) (numbers : BTreeMap (Bor (List ℕ)) ℕ) → length texts ≤ file → Numbers texts file firsts files numbers → picked texts firsts ≡ distinct_paths texts
 numbers_paths texts file firsts files numbers all n = n.paths ∙ ap (λ l. paths_from [] l) (take_all file texts all)
 

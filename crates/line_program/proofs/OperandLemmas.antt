@@ -35,7 +35,7 @@ unfolding kind_at
 one_signed make (Ok x) = refl
 one_signed make (Err fault) = refl
 
--- the fact of a row, and those of the rows behind it
+-- the fact of a row, and those of the rows after it
 record Taken (rows : List CodeRow) : Type 0 where
   all : All TakesOperands rows
 

@@ -12,7 +12,7 @@ use Rattle.line_program.specs.Faults.{Fault}
 use Rattle.line_program.specs.LineAt.{Lines, line_at}
 use Rattle.line_program.specs.LineTables.{unit_lines}
 
--- bytes behind their count
+-- bytes after their count
 unfoldable pub counted : ℕ → List ℕ → List ℕ
 unfolding little
 counted width bytes = little width (length bytes) ++ bytes
@@ -28,7 +28,7 @@ unfoldable pub sizes : ℕ → List ℕ
 unfolding hex
 sizes version = cond (version == 5) (hex "08 00") []
 
--- a table behind its length, with these fields, both tables of directories and files, and a program
+-- a table after its length, with these fields, both tables of directories and files, and a program
 unfoldable pub contents : ℕ → List ℕ → List ℕ → List ℕ → List ℕ
 unfolding little sizes counted
 contents version between tables program = little 2 version ++ (sizes version ++ (counted 4 (between ++ tables) ++ program))

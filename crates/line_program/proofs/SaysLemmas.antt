@@ -15,7 +15,7 @@ use Rattle.line_program.specs.LineAt.{Lines, least_address, covers_from, covers,
 use Rattle.line_program.specs.LineMaps.{LineMap, no_line, shown, named_line, distinct_paths, AreDistinct, SaysLines, EncloseAlike}
 use Rattle.line_program.specs.LineTables.{Says}
 use Rattle.line_program.specs.internal.Numbered.{number_of, numbered_line_by, numbered_line_of, numbered_at}
-use Rattle.line_program.specs.Numbering.{picked, AreNumbered, AllBelow, IsLineMap}
+use Rattle.line_program.specs.internal.Numbering.{picked, AreNumbered, AllBelow, IsLineMap}
 
 -- a file's number leads to its path
 numbered_get : (paths : List (List ℕ)) (numbers : List ℕ) (files : List (List ℕ)) (k : ℕ) → AreNumbered paths numbers files → option_and_then (slice_get paths) (slice_get numbers k) ≡ slice_get files k

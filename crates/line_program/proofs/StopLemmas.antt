@@ -10,7 +10,7 @@ use Rattle.step_maps.proofs.SteppingLemmas.{held_at_index}
 use Rattle.line_program.specs.declared.path_line.PathLine.{PathLine}
 use Rattle.std.proofs.lemmas.List.{length-map}
 use Rattle.line_program.specs.LineMaps.{LineMap, no_line, shown, numbered_line}
-use Rattle.line_program.specs.Numbering.{picked, IsLineMap}
+use Rattle.line_program.specs.internal.Numbering.{picked, IsLineMap}
 
 up_to_last : (from low : ℕ) (stops : List ℕ) (i : ℕ) → RisesFrom from stops → i < length stops → get_or stops i 0 ≤ last_from low stops
 up_to_last from low [] i up inside = absurd (omega arith)

@@ -1,4 +1,4 @@
--- Worked rows: each opcode with the registers behind it (DWARF 5, 6.2.5).
+-- Worked rows: each opcode with the registers after it (DWARF 5, 6.2.5).
 use Rattle.std.proofs.Common.{◌≡◌, ℕ, ◌-◌, ℤ, pos, negsuc, [], ◌∷◌, take, codes, Result, Ok, Err, refl}
 use Prim.Native.String.{String}
 use Rattle.sym_edges.proofs.Hex.{hex}
@@ -61,7 +61,7 @@ moves r = Ok (record { registers = r; rows = []; sequences = []; files = [] })
 abbrev adds : Registers → Result State Fault
 adds r = Ok (record { registers = r; rows = reg_row r ∷ []; sequences = []; files = [] })
 
--- the state behind opcodes that stand from 40 on
+-- the state after opcodes that stand from 40 on
 unfoldable behind : ProgramFields → String → Result State Fault
 unfolding hex
 behind p text = run_from p begun (record { bytes = hex text; at = 0x40 })

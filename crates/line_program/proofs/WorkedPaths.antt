@@ -43,7 +43,7 @@ twice : paths "/s" (table 4 "7800 00 612e6300 00 00 00 612e6300 01 00 00 612e630
 unfolding line_program_computes tables_compute
 twice = refl
 
--- a file that the program defines stands behind the others
+-- a file that the program defines stands after the others
 defined : paths "/s" (table 4 "696e6300 00 612e6300 00 00 00 00" "00 08 03 622e6300 01 00 00") ≡ Ok ("/s/a.c" ∷ "/s/inc/b.c" ∷ [])
 unfolding line_program_computes tables_compute
 defined = refl

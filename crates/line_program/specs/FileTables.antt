@@ -23,7 +23,7 @@ pub record Tables : Type 0 where
   pub directories : List FileFields
   pub files : List FileFields
 
--- an entry of include_directories, or of file_names where `of_files`, in versions 2 to 4: a path, behind which a file has more;
+-- an entry of include_directories, or of file_names where `of_files`, in versions 2 to 4: a path, after which a file has more;
 -- the empty text ends the list
 unfoldable pub old_entry_at : Bool → Ahead → Result (Option FileFields × Ahead) Fault
 old_entry_at of_files c =
@@ -46,7 +46,7 @@ pair_at c =
     in_line (uleb_at content.1) >>= λ form.
     Ok (record { content = content.0; form = form.0 }, form.1)
 
--- the pairs, behind their count
+-- the pairs, after their count
 unfoldable pub pairs_at : Ahead → Result (List EntryFormat × Ahead) Fault
 pairs_at c = in_line (fixed_at 1 c) >>= λ count. several_at pair_at count.0 count.1
 

@@ -64,7 +64,7 @@ program_at version c =
       lengths.1,
     )
 
--- behind a version that is read: header_length cuts off what stands before the program, which is the rest of the table
+-- after a version that is read: header_length cuts off what stands before the program, which is the rest of the table
 unfoldable pub header_behind : ℕ → Bool → Ahead → Result HeaderFields HeaderFault
 header_behind version wide c =
     sizes_at version c >>= λ sizes.

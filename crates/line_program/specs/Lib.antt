@@ -13,5 +13,4 @@ pub mod LineRows
 pub mod LineAt
 pub mod LineMaps
 pub mod LineTables
-pub mod Numbering
 pub mod internal

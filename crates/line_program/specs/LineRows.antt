@@ -29,7 +29,7 @@ advanced p address count = (address + p.minimum_length * count) % 2 ^ 64
 abbrev pub line_on : ℕ → ℤ → ℕ
 line_on line by = (line + cast_unsigned w64 by) % 2 ^ 32
 
--- the registers behind an opcode (6.2.5.1 to 6.2.5.3); DW_LNS_const_add_pc moves the address as the special opcode 255 would
+-- the registers after an opcode (6.2.5.1 to 6.2.5.3); DW_LNS_const_add_pc moves the address as the special opcode 255 would
 unfoldable pub moved : ProgramFields → Opcode → Registers → Registers
 moved p (Special adjusted) r = record { address = advanced p r.address (adjusted / p.line_range); file = r.file; line = line_on r.line (p.line_base +ℤ pos (adjusted % p.line_range)) }
 moved p (AdvancePc by) r = record { address = advanced p r.address by; file = r.file; line = r.line }
@@ -45,7 +45,7 @@ moved p _ r = r
 abbrev pub row_of : Registers → Row
 row_of r = record { address = r.address; file = min r.file (2 ^ 32 - 1); line = r.line }
 
--- a sequence of rows, and the address behind its last instruction
+-- a sequence of rows, and the address after its last instruction
 pub record Sequence : Type 0 where
   pub rows : List Row
   pub end : ℕ
@@ -75,16 +75,16 @@ abbrev pub files_behind : Opcode → State → List FileFields
 files_behind (DefineFile file) s = s.files ++ file ∷ []
 files_behind _ s = s.files
 
--- the state behind an opcode
+-- the state after an opcode
 unfoldable pub carried : ProgramFields → Opcode → State → State
 carried p opcode s = record { registers = moved p opcode s.registers; rows = rows_behind p opcode s; sequences = sequences_behind opcode s; files = files_behind opcode s }
 
--- the state behind a list of opcodes
+-- the state after a list of opcodes
 unfoldable pub all_carried : ProgramFields → List Opcode → State → State
 all_carried p [] s = s
 all_carried p (opcode ∷ opcodes) s = all_carried p opcodes (carried p opcode s)
 
--- the state behind the opcodes ahead, or the first fault
+-- the state after the opcodes ahead, or the first fault
 unfoldable pub run_from : ProgramFields → State → Ahead → Result State Fault
 run_from p s c = opcodes_at p c >>= λ opcodes. Ok (all_carried p opcodes.0 s)
 

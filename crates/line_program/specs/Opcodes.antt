@@ -24,7 +24,7 @@ unfoldable pub pass_ulebs : ℕ → Ahead → Result Ahead Fault
 pass_ulebs zero c = Ok c
 pass_ulebs (suc n) c = in_line (uleb_at c) >>= λ operand. pass_ulebs n operand.1
 
--- behind a file's path: the number of its directory, its time and its size (DWARF 4, 6.2.4, file_names)
+-- after a file's path: the number of its directory, its time and its size (DWARF 4, 6.2.4, file_names)
 unfoldable pub file_behind : List ℕ → Ahead → Result (FileFields × Ahead) Fault
 file_behind path c =
     in_line (uleb_at c) >>= λ directory.
@@ -32,7 +32,7 @@ file_behind path c =
     in_line (uleb_at time.1) >>= λ size.
     Ok (record { path = path; directory = directory.0 }, size.1)
 
--- DW_LNE_define_file: a path, and what stands behind one (DWARF 4, 6.2.5.3)
+-- DW_LNE_define_file: a path, and what stands after one (DWARF 4, 6.2.5.3)
 unfoldable pub define_file_at : Ahead → Result Opcode Fault
 define_file_at c =
     in_line (text_at c) >>= λ path. file_behind path.0 path.1 >>= λ file. Ok (DefineFile file.0)
@@ -44,7 +44,7 @@ set_address_at at len c =
     then (in_line (fixed_at 8 c) >>= λ address. Ok (SetAddress address.0))
     else Err (fault_at LineOpcode at)
 
--- an extended opcode whose zero byte stands at `at`, behind its own number (6.2.5.3); DW_LNE_define_file is none in version 5, and
+-- an extended opcode whose zero byte stands at `at`, after its own number (6.2.5.3); DW_LNE_define_file is none in version 5, and
 -- DW_LNE_set_discriminator and those that are not known do nothing
 unfoldable pub extended_of : ℕ → ℕ → ℕ → ℕ → Ahead → Result Opcode Fault
 extended_of version at len code c =
@@ -57,7 +57,7 @@ extended_of version at len code c =
 unfoldable pub extended_in : ℕ → ℕ → ℕ → Ahead → Result Opcode Fault
 extended_in version at len c = in_line (fixed_at 1 c) >>= λ code. extended_of version at len code.0 code.1
 
--- what stands behind the zero byte: a length, and so many bytes; reading goes on behind them
+-- what stands after the zero byte: a length, and so many bytes; reading goes on after them
 unfoldable pub extended_at : ℕ → ℕ → Ahead → Result (Opcode × Ahead) Fault
 extended_at version at c =
     in_line (uleb_at c) >>= λ len.
@@ -83,7 +83,7 @@ standard_at lengths code c =
     if code == 0x0c then one uleb_at SetIsa c else  -- DW_LNS_set_isa
     (pass_ulebs (slice_index lengths (code - 1)) c >>= λ later. Ok (UnknownStandard, later))
 
--- behind an opcode's byte, which stands at `at`: from the header's opcode_base on it is a special one (6.2.5.1)
+-- after an opcode's byte, which stands at `at`: from the header's opcode_base on it is a special one (6.2.5.1)
 unfoldable pub behind_opcode : ProgramFields → ℕ → ℕ → Ahead → Result (Opcode × Ahead) Fault
 behind_opcode p at code c =
     if nat_le p.opcode_base code then alone (Special (code - p.opcode_base)) c else

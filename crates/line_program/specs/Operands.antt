@@ -5,7 +5,7 @@ use Rattle.code_table.specs.declared.code_row.CodeRow.{CodeRow}
 use Rattle.code_table.specs.Layouts.{shape_at}
 use Rattle.line_program.specs.Opcodes.{standard_at}
 
--- what is ahead behind a reading that is not refused
+-- what is ahead after a reading that is not refused
 abbrev pub left : {A E : Type 0} → Result (A × Ahead) E → Option Ahead
 left (Ok x) = Some x.1
 left (Err fault) = None

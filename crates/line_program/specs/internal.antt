@@ -3,3 +3,4 @@ pub mod Numbered
 pub mod Painting
 pub mod RowsAbove
 pub mod Directories
+pub mod Numbering

@@ -17,7 +17,7 @@ const DW_LNCT_path: u64 = 1;
 
 const DW_LNCT_directory_index: u64 = 2;
 
-/// Reads an entry of versions 2 to 4: a directory's, or a file's, which has more behind its path.
+/// Reads an entry of versions 2 to 4: a directory's, or a file's, which has more after its path.
 #[tactic(auto, unfolding(crate::specs::FileTables::old_entry_at))]
 pub fn read_old_entry<'a>(
     cursor: &mut Cursor<'a>,

@@ -125,7 +125,7 @@ fn read_program<'a>(cursor: &mut Cursor<'a>, version: u16) -> Result<Program<'a>
     })
 }
 
-/// Reads a header behind its version.
+/// Reads a header after its version.
 #[tactic(auto, unfolding(crate::specs::Headers::header_behind))]
 fn read_behind<'a>(
     mut cursor: Cursor<'a>,

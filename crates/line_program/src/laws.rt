@@ -10,13 +10,13 @@ ghost use Rattle.line_program.specs.Opcodes.{next_at, opcodes_at};
 ghost use Rattle.line_program.specs.Operands.{TakesOperands};
 ghost use Rattle.line_program.specs.ProgramFields.{ProgramFields};
 
-/// The opcodes ahead are the next one in front of those behind it, and none where no byte is left.
+/// The opcodes ahead are the next one in front of those after it, and none where no byte is left.
 #[tactic(auto, using(crate::proofs::OpcodeLemmas::opcodes_follow))]
 pub fn opcodes_follow()
     ensures { (p : ProgramFields) (c : Ahead) → opcodes_at p c ≡ list_cases (next_at p) c }
 {}
 
-/// The entries of a list of versions 2 to 4 are the next one in front of those behind it, up to the empty text that ends the list.
+/// The entries of a list of versions 2 to 4 are the next one in front of those after it, up to the empty text that ends the list.
 #[tactic(auto, using(crate::proofs::EntryLemmas::old_entries_follow))]
 pub fn old_entries_follow()
     ensures { (of_files : Bool) (c : Ahead) → list_at (old_entry_at of_files) c ≡ list_cases (old_entry_at of_files) c }

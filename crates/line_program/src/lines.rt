@@ -36,7 +36,7 @@ impl Model for Lines {
     ghost view = { λ l. record { sequences = l.sequences.items; first = l.first; files = l.files.items } };
 }
 
-/// The paths of the files in the header's tables, and of those that the program defined behind them.
+/// The paths of the files in the header's tables, and of those that the program defined after them.
 #[tactic(auto, unfolding(crate::specs::LineTables::lines_of))]
 fn name_files<'a>(
     alloc: Global,
@@ -113,7 +113,7 @@ fn table_of(alloc: Global, code: &Enclosing, lines: Lines) -> Result<LineTable, 
 ///
 /// Versions 2 to 5 are read, in both formats. Faults are in `.debug_line`, but for `OffsetOutside`, which is in `.debug_info` at
 /// `place`. At the table's start: `Ends` where the length leaves the section, `Reserved`, `LineVersion`, and `LineHeader` where a field
-/// of the header cannot be, the program begins behind the table, or a count is above the bytes that are left. At their
+/// of the header cannot be, the program begins after the table, or a count is above the bytes that are left. At their
 /// own places: `Ends`, `LebLong`, `NoZero`, `UnknownForm` and `LineOpcode`.
 #[tactic(auto, using(crate::proofs::LinesLemmas::offset_outside, crate::proofs::LinesLemmas::offset_inside))]
 pub fn read_lines(

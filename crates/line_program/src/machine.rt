@@ -11,7 +11,7 @@ use std::alloc::Global;
 use std::marker::Model;
 use sym_edges::OutOfMemory;
 
-/// A sequence of rows, and the address behind its last instruction.
+/// A sequence of rows, and the address after its last instruction.
 #[derive(Drop)]
 pub struct LineSequence {
     pub rows: Vec<Row>,

@@ -1,7 +1,7 @@
 //! Numbers for the paths of files, each path once.
 ghost use Rattle.std.specs.Prelude.{◌≡◌, ◌<◌, ◌^◌, length, IfOk};
 ghost use Rattle.line_program.specs.LineMaps.{distinct_paths, AreDistinct};
-ghost use Rattle.line_program.specs.Numbering.{picked, AreNumbered, AllBelow};
+ghost use Rattle.line_program.specs.internal.Numbering.{picked, AreNumbered, AllBelow};
 
 use std::alloc::Global;
 use std::collections::BTreeMap;

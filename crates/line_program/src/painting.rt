@@ -141,7 +141,7 @@ fn paint_piece(
     }
 }
 
-/// The stop behind the one at a place, if there is one.
+/// The stop after the one at a place, if there is one.
 fn next_stop(stops: &[u64], place: usize) -> Option<u64>
     requires { place < length stops.now }
     ensures { result ≡ slice_get stops.now (place + 1) }

@@ -27,7 +27,7 @@ fn pass_operands(cursor: &mut Cursor<'_>, count: u8) -> Result<(), LineFault>
     Ok(())
 }
 
-/// Reads what stands behind a file's path.
+/// Reads what stands after a file's path.
 #[tactic(auto, unfolding(crate::specs::Opcodes::file_behind))]
 pub fn read_file_behind<'a>(
     cursor: &mut Cursor<'a>,
@@ -85,7 +85,7 @@ fn read_part<'a>(
     }
 }
 
-/// Reads what stands behind the zero byte of an extended opcode.
+/// Reads what stands after the zero byte of an extended opcode.
 #[tactic(auto, unfolding(crate::specs::Opcodes::extended_at))]
 fn read_extended<'a>(
     cursor: &mut Cursor<'a>,
@@ -111,7 +111,7 @@ macro_rules! read {
     }};
 }
 
-/// Reads what stands behind the byte of a standard opcode.
+/// Reads what stands after the byte of a standard opcode.
 #[inline]
 #[tactic(auto, unfolding(crate::specs::Opcodes::standard_at))]
 fn read_standard<'a>(

@@ -31,7 +31,7 @@ pub struct LineTable {
 
 impl Model for LineTable {
     ghost use Rattle.line_program.specs.LineMaps.{LineMap};
-    ghost use Rattle.line_program.specs.Numbering.{picked, IsLineMap};
+    ghost use Rattle.line_program.specs.internal.Numbering.{picked, IsLineMap};
 
     ghost Value = { LineMap };
 

@@ -64,7 +64,7 @@ fn read_some_pairs(alloc: Global, cursor: &mut Cursor<'_>, count: u8) -> Reading
     Ok(Ok(pairs))
 }
 
-/// Reads the pairs of a format, behind their count.
+/// Reads the pairs of a format, after their count.
 #[tactic(auto, unfolding(crate::specs::FileTables::pairs_at))]
 fn read_pairs(alloc: Global, cursor: &mut Cursor<'_>) -> Reading<Vec<EntryFormat>>
     ensures { IfOk result (λ read. gave_as (λ pairs. pairs.items) read cursor.new ≡ pairs_at cursor.old) }

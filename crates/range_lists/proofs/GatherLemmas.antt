@@ -24,7 +24,7 @@ pairs_given code pairs set given a is held = ap (λ g. in_ranges code g a) is �
 pub joined_holds : (l s : Range) (a : ℕ) → s.start ≤ l.end → l.start ≤ s.end → l.start < l.end → s.start < s.end → (nat_le (min l.start s.start) a && nat_lt a (max l.end s.end)) ≡ (holds l a || holds s a)
 joined_holds l s a near far some other = grind (arith, nat_tests)
 
--- ranges that join those so far: the first, one that widens the last, and one behind the last
+-- ranges that join those so far: the first, one that widens the last, and one after the last
 pub added_first : (done old : List Range) (s : Range) (a : ℕ) → done ++ [] ≡ old → holds_any (done ++ s ∷ []) a ≡ (holds_any old a || holds s a)
 added_first done old s a is =
     added_members done s a ∙ ap (λ xs. holds_any xs a || holds s a) (sym (append-nil done) ∙ is)

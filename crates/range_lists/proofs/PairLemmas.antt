@@ -47,7 +47,7 @@ pairs_follow version table base c =
     ap (λ r. r >>= λ effects. Ok (pairs_from base effects.0)) (list_follows (effect_at version table) (effect_goes version table) c)
     ∙ first_by version table base (effect_at version table c)
 
--- pairs one behind the other give what both give
+-- pairs one after the other give what both give
 in_joined : (code xs ys : List Range) (a : ℕ) → in_pairs code (xs ++ ys) a ≡ (in_pairs code xs a || in_pairs code ys a)
 in_joined code [] ys a = refl
 in_joined code (x ∷ xs) ys a =

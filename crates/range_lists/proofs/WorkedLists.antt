@@ -11,7 +11,7 @@ use Rattle.range_lists.specs.AddressTable.{AddressTable}
 use Rattle.range_lists.specs.ListPairs.{list_pairs}
 use Rattle.range_lists.proofs.Computing.{range_lists_computes}
 
--- the addresses 0x5000 and 0x6000 behind a header of eight bytes, and three bytes of another; the entry stands at 0x2a
+-- the addresses 0x5000 and 0x6000 after a header of eight bytes, and three bytes of another; the entry stands at 0x2a
 unfoldable addresses : AddressTable
 unfolding hex
 addresses = record { bytes = hex "14000000 05000800 0050000000000000 0060000000000000 000000"; base = Some 8; at = 0x2a }
@@ -43,7 +43,7 @@ no_list : listed "" ≡ Err (ends 0xc)
 unfolding range_lists_computes listed addresses
 no_list = refl
 
--- bytes behind the end are not read
+-- bytes after the end are not read
 behind_the_end : listed "00 08" ≡ Ok []
 unfolding range_lists_computes listed addresses
 behind_the_end = refl
@@ -143,7 +143,7 @@ a_length_that_wraps : listed "07 f0ffffffffffffff 20 00" ≡ Ok (pair 0xffffffff
 unfolding range_lists_computes listed addresses
 a_length_that_wraps = refl
 
--- the last number whose address is there, the next one, whose bytes are cut, and one behind the end of the section
+-- the last number whose address is there, the next one, whose bytes are cut, and one after the end of the section
 a_cut_address : listed "01 02 00" ≡ Err (record { kind = is.Ends; section = section.Addr; at = 0x18 })
 unfolding range_lists_computes listed addresses
 a_cut_address = refl
@@ -165,7 +165,7 @@ the_first_address_first : listed "02 02 03 00" ≡ Err (record { kind = is.Ends;
 unfolding range_lists_computes listed addresses
 the_first_address_first = refl
 
--- an address that is not there counts before items behind it, and one that is not read does not count
+-- an address that is not there counts before items after it, and one that is not read does not count
 a_fault_before_those_behind : listed "01 03 08" ≡ Err (record { kind = is.OffsetOutside; section = section.Info; at = 0x2a })
 unfolding range_lists_computes listed addresses
 a_fault_before_those_behind = refl

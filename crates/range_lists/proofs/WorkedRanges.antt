@@ -15,7 +15,7 @@ use Rattle.die_walk.specs.EntryTable.{DieFields, RootFields}
 use Rattle.range_lists.specs.EntryRanges.{unit_base, pairs_of, in_ranges}
 use Rattle.range_lists.proofs.Computing.{range_lists_computes}
 
--- the address 0x5000 behind a header of eight bytes, then seven bytes of another; two lists of version 5 behind a header of twelve
+-- the address 0x5000 after a header of eight bytes, then seven bytes of another; two lists of version 5 after a header of twelve
 -- bytes and the places of both, counted from there, as two numbers of four bytes or as one of eight; a list of version 4
 unfoldable sections : DebugSections
 unfolding hex
@@ -220,7 +220,7 @@ a_number_of_a_list_outside : pairs_5 (die None None (Some (value.ListIndex 5))) 
 unfolding range_lists_computes pairs_5 unit root die sections
 a_number_of_a_list_outside = refl
 
--- the place that stands there leads behind the end
+-- the place that stands there leads after the end
 a_list_by_its_number_outside : pairs_5 (die None None (Some (value.ListIndex 2))) ≡ Err outside
 unfolding range_lists_computes pairs_5 unit root die sections
 a_list_by_its_number_outside = refl

@@ -107,18 +107,18 @@ in_pairs code (pair ∷ pairs) a = (is_code code pair && holds pair a) || in_pai
 abbrev pub in_ranges : List Range → Result (List Range) (Located DwarfKind) → ℕ → Result Bool (Located DwarfKind)
 in_ranges code given a = given >>= λ pairs. Ok (in_pairs code pairs a)
 
--- an answer is the set of all addresses in an entry's ranges, or their first fault; want of memory says nothing
+-- an answer is the set of all addresses in an entry's ranges, or their first fault; out of memory says nothing
 abbrev pub IsRanges : List Range → Result (List Range) (Stop (Located DwarfKind)) → Result (List Range) (Located DwarfKind) → Type 0
 IsRanges code (Ok set) given = (a : ℕ) → in_ranges code given a ≡ Ok (holds_any set a)
 IsRanges code (Err (Fault fault)) given = given ≡ Err fault
 IsRanges code (Err NoMemory) given = Prim.Unit {0}
 
--- the pairs of the entry of a number; behind the last there is none
+-- the pairs of the entry of a number; after the last there is none
 abbrev pub pairs_at : DebugSections → Unit → RootFields → ℕ → Option DieFields → Result (List Range) (Located DwarfKind)
 pairs_at sections unit root base None = Ok []
 pairs_at sections unit root base (Some die) = pairs_of sections unit root base die
 
--- an answer that is no want of memory
+-- an answer that is no out of memory
 abbrev pub IsGiven : {A F : Type 0} → Result A (Stop F) → Type 0
 IsGiven (Ok x) = Prim.Unit {0}
 IsGiven (Err (Fault fault)) = Prim.Unit {0}

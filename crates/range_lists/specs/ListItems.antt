@@ -1,4 +1,4 @@
--- The items of range lists, one behind the other: those of `.debug_rnglists` (DWARF 5, 2.17.3 and 7.25), and those of `.debug_ranges`
+-- The items of range lists, one after the other: those of `.debug_rnglists` (DWARF 5, 2.17.3 and 7.25), and those of `.debug_ranges`
 -- (DWARF 4, 2.17.3), which are pairs of addresses.
 use Rattle.std.specs.Prelude.{ℕ, ◌-◌, ◌^◌, ◌==◌, ◌&&◌, nat_lt, if◌then◌else◌, Option, None, Some, Result, Ok, Err}
 use Rattle.sym_edges.specs.Results.{◌>>=◌}

@@ -58,7 +58,7 @@ effect_by table (Some found) c = effect_of table found >>= λ does. Ok (Some doe
 unfoldable pub effect_at : ℕ → AddressTable → Ahead → Result (Option Effect × Ahead) (Located DwarfKind)
 effect_at version table c = in_list (list_section version) (item_at version c) >>= λ found. effect_by table found.0 found.1
 
--- the base behind an item
+-- the base after an item
 abbrev pub base_after : ℕ → Effect → ℕ
 base_after base (effect.SetBase address) = address
 base_after base (effect.Absolute start end) = base

@@ -18,7 +18,7 @@ use Rattle.range_lists.specs.AddressTable.{AddressTable}
 abbrev pub entry_fault : DwarfKind → ℕ → Located DwarfKind
 entry_fault kind at = record { kind = kind; section = section.Info; at = at }
 
--- a section from the place on to which an entry leads: a place behind the end is a fault of the entry
+-- a section from the place on to which an entry leads: a place after the end is a fault of the entry
 unfoldable pub ahead_in : List ℕ → ℕ → ℕ → Result Ahead (Located DwarfKind)
 ahead_in bytes at place = if nat_lt (length bytes) place then Err (entry_fault is.OffsetOutside at) else Ok (ahead_from place bytes)
 

@@ -27,7 +27,7 @@ fn addresses_for<'a>(sections: &Sections<'a>, root: &Root<'_>, at: usize) -> Add
 
 /// The address from which the offsets of a unit's range lists count (DWARF 5, 3.1.1): the low address of
 /// its root, or 0. Takes no memory. Where the address is given by its number, faults are in `.debug_info` at
-/// the root: `NoBase` where the unit has no addr_base, `OffsetOutside` where the number leads behind the end
+/// the root: `NoBase` where the unit has no addr_base, `OffsetOutside` where the number leads after the end
 /// of `.debug_addr`; or `Ends` in `.debug_addr`, where the bytes of the address are not all there.
 #[tactic(auto, unfolding(crate::specs::EntryRanges::unit_base))]
 pub fn unit_base(
@@ -191,10 +191,10 @@ fn ranges_of_die(
     }
 }
 
-/// The addresses of an entry, by its number in the table (DWARF 5, 2.17); behind the last entry there are
+/// The addresses of an entry, by its number in the table (DWARF 5, 2.17); after the last entry there are
 /// none. `base` is the unit's, as [`unit_base`] gives it. Faults of the entry are in `.debug_info`, at the
 /// entry: `NoBase` where an address or a list is given by its number and the unit has no base for it,
-/// `OffsetOutside` where a list's place or a number leads behind the end of its section. Faults of a list
+/// `OffsetOutside` where a list's place or a number leads after the end of its section. Faults of a list
 /// are in its section: `Ends` and `LebLong` at the field, `RangeKind` at the byte that tells the kind. Where
 /// the bytes of a number are not all there, `Ends` is at the place of the number, in `.debug_addr` or
 /// `.debug_rnglists`. An entry without a list takes no memory.

@@ -106,7 +106,7 @@ impl Gathering {
         Ok(())
     }
 
-    /// Adds what an item gives, and answers the base behind it.
+    /// Adds what an item gives, and answers the base after it.
     #[inline]
     pub fn take(&mut self, code: &Enclosing, base: u64, effect: Effect) -> Result<u64, OutOfMemory>
         ensures base { IfOk result (λ after. after ≡ base_after base effect) }

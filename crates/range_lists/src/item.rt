@@ -81,7 +81,7 @@ fn read_pair(cursor: &mut Cursor<'_>) -> Result<Option<RangeItem>, CursorFault>
     Ok(item_of_pair(first, second))
 }
 
-/// Reads an item of `.debug_rnglists` behind its kind, whose place is `at`.
+/// Reads an item of `.debug_rnglists` after its kind, whose place is `at`.
 #[tactic(auto, unfolding(crate::specs::ListItems::item_by))]
 fn read_operands(
     kind: u8,

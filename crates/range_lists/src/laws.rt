@@ -10,7 +10,7 @@ ghost use Rattle.range_lists.specs.AddressTable.{AddressTable};
 ghost use Rattle.range_lists.specs.ListPairs.{effect_at};
 ghost use Rattle.range_lists.specs.EntryRanges.{in_ranges};
 
-/// A range list is what its first item does and the items behind it: no count of readings is part of
+/// A range list is what its first item does and the items after it: no count of readings is part of
 /// what it is.
 #[tactic(auto, using(crate::proofs::LawLemmas::items_follow))]
 pub fn lists_follow()

@@ -2,5 +2,5 @@ pub mod Members
 pub mod Canonical
 pub mod Starts
 pub mod Building
-pub mod Kept
 pub mod Enclosing
+pub mod internal

@@ -33,7 +33,7 @@ impl Model for RangeSet {
 
     ghost Value = { List Range };
 
-    ghost use Rattle.range_set.specs.Kept.{kept_ranges};
+    ghost use Rattle.range_set.specs.internal.Kept.{kept_ranges};
 
     ghost view = { λ s. kept_ranges s.kept };
 

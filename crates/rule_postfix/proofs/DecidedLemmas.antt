@@ -148,7 +148,7 @@ left_too base code p q entry e why body is more d so =
     let P : Decided → Type 0 = λ x. Shows base q x in
     subst P (sym (good_by base code p entry e (Some why) d body is so)) (more base d so)
 
--- an entry that is refused behind some of its text
+-- an entry that is refused after some of its text
 pub refused_too : (A B : Type 0) (base : ℕ) (code : List Range) (p q r : Progress) (entry : Entry) (e : FdeFields) (end : ℕ) (stop : Stop Reason) (P : A → Type 0) (Q : B → Type 0) → entry.body ≡ Good e → EndsAt e end →
     MatchStop {A = A} {F = Reason} (Err stop) P (λ _. (b : ℕ) (d : Decided) → Shows b p d → Shows b q d) (Unit {0}) → MatchStop {A = B} {F = Reason} (Err stop) Q (λ why. rows_fault e ≡ Some why) (Unit {0}) →
     IfRefused stop (λ why. (base : ℕ) (d : Decided) → Shows base q d → Shows base r (left_out entry why d)) → (d : Decided) → Shows base p d → Shows base r (with_entry code entry d)

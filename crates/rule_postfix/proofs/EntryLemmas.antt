@@ -41,7 +41,7 @@ pub pass_bad : (A B : Type 0) (stop : Stop Reason) (e : FdeFields) (s : Standing
 pass_bad A B (Fault why) e s P Q begun bad = bad_instruction e why (sym begun.fault ∙ bad)
 pass_bad A B NoMemory e s P Q begun bad = tt
 
--- the records of an entry are valid behind any record
+-- the records of an entry are valid after any record
 pub entry_valid : RecordLaws → (base : ℕ) (e : FdeFields) → HasCfa e → ((a : ℕ) → IsSound (row_at e a)) → 0 < e.size → e.start + e.size < 2 ^ 64 → first_bad_from 0 Inside (frame_lines (row_at e) e.start e.size base) ≡ None
 entry_valid laws base e cfa sound some inside = lines_valid laws (row_at e) e.start e.size base (record { sound = sound; cfa = cfa.everywhere; inside = inside }) some
 

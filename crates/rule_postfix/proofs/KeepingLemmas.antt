@@ -1,4 +1,4 @@
--- The state behind a CIE that is kept is that of the entries that follow; for `make`, `new`, `put_entries`.
+-- The state after a CIE that is kept is that of the entries that follow; for `make`, `new`, `put_entries`.
 use Rattle.std.proofs.Common.{◌≡◌, ℕ, ◌<◌, Bool, true, false, cond, List, [], length, get_or, Option, Some, None, Result, refl, sym, ◌∙◌, ap, arith, subst}
 use Rattle.std.specs.Prelude.{is_some}
 use Rattle.std.specs.Ordering.{nat_cmp}

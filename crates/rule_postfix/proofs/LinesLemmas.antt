@@ -56,7 +56,7 @@ past_all low end a (r ∷ rows) rising below =
     ap (λ o. option_or o (cond (nat_le r.address a) (Some r.row) None)) (past_all (r.address + 1) end a rows rising.2 (omega (arith, rising.0)))
     ∙ ap (λ t. cond t (Some r.row) None) (lt-leb r.address a (omega (arith, rising.0)))
 
--- behind a row and those that follow it stand the rows of the range from an address on, so many
+-- after a row and those that follow it stand the rows of the range from an address on, so many
 Follows : (ℕ → Row) → ℕ → ℕ → Row → List RowAt → Type 0
 Follows row b end before rows = (a : ℕ) → b ≤ a → a < end → option_or (last_at rows a) (Some before) ≡ Some (row a)
 
@@ -123,7 +123,7 @@ base_by : (cut : Bool) (b : ℕ) (after : Row) (rules : List RuleText) (o : Open
 base_by true b after rules o = refl
 base_by false b after rules o = refl
 
--- the records from an address on, behind those that are written
+-- the records from an address on, after those that are written
 Rests : (ℕ → Row) → ℕ → ℕ → ℕ → ℕ → Row → List RowAt → Open → Type 0
 Rests row start end b n before rows o =
     closed (with_rows before rows o) end ≡ closed o (first_cut row start b n) ++ flat_map (records_at row start end o.base) (range_with_len b n)

@@ -14,11 +14,11 @@ use Rattle.sym_lookup.specs.Inits.{AreNested}
 use Rattle.rule_postfix.proofs.LinesLemmas.{line_of}
 use Rattle.rule_postfix.proofs.CoveringLemmas.{AreAbove, cut_above, first_by}
 
--- records that are nested behind any record
+-- records that are nested after any record
 pub record NestedAlways (lines : List SymLine) : Type 0 where
   pub at : (last end : ℕ) → AreNested last end lines
 
--- the record of one address, before records that are nested behind it
+-- the record of one address, before records that are nested after it
 nested_line : (cut : Bool) (b c base last end : ℕ) (row rules : List RuleText) (lines : List SymLine) → base ≤ b → last + base < b → b < c → end + base ≡ cond cut b c →
     ((l e : ℕ) → l + base < b + 1 → e + base ≡ c → AreNested l e lines) → AreNested last end (cond cut (Init (b - base) (c - b) row ∷ []) (change (b - base) rules) ++ lines)
 nested_line true b c base last end row rules lines le above below is more = (omega (arith, below), more (b - base) (b - base + (c - b)) (omega (arith, le)) (omega (arith, le, below)))

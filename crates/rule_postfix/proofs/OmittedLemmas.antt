@@ -1,4 +1,4 @@
--- What is decided of an entry, whatever stands behind it; for `entries_are_decided_by_their_reasons`.
+-- What is decided of an entry, whatever stands after it; for `entries_are_decided_by_their_reasons`.
 use Rattle.std.proofs.Common.{◌≡◌, List, [], ◌∷◌, ◌++◌, Option, None, Some, refl, ap, sym, ◌∙◌}
 use Rattle.std.proofs.lemmas.List.{append-nil, append_assoc}
 use Rattle.sym_edges.specs.declared.reason.Reason.{Reason}
@@ -46,7 +46,7 @@ behind code (x ∷ entries) ws os =
     ∙ ap (λ vs. (with_decision x o none).omitted ++ (decided_behind code vs entries).omitted) (sym same)
     ∙ sym (behind code entries (with_decision x o none).written (with_decision x o none).omitted))
 
--- the entry's decision, between what was left out before it and what is left out behind it
+-- the entry's decision, between what was left out before it and what is left out after it
 pub omitted_there : (code : List Range) (xs ys : List Entry) (entry : Entry) → (decided_of code (xs ++ entry ∷ ys)).omitted
     ≡ (decided_of code xs).omitted ++ (omission_for entry (reason_of code (decided_of code xs).written entry) ++ (decided_behind code (decided_of code (xs ++ entry ∷ [])).written ys).omitted)
 unfolding with_entries with_entry decided_behind decided_of

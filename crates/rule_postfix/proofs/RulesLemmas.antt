@@ -255,7 +255,7 @@ rules_from_empty row = rules_same (if_changed empty_row row) (if_ruled row) (if_
 pub from_empty : (empty row : Row) (old now : List ℕ) → empty ≡ empty_row → now ≡ spelled_rules (changed_rules empty row) ++ old → now ≡ spelled_rules (row_rules row) ++ old
 from_empty empty row old now e made = made ∙ ap (λ r. spelled_rules (changed_rules r row) ++ old) e ∙ ap (λ rules. spelled_rules rules ++ old) (rules_from_empty row)
 
--- and no column becomes unspecified behind it
+-- and no column becomes unspecified after it
 never : (is_so unruled : Bool) → (is_so && (unruled && false)) ≡ false
 never true true = refl
 never true false = refl

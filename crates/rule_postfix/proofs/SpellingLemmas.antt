@@ -11,7 +11,7 @@ use Rattle.sym_records.specs.declared.line.SymLine.{SymLine}
 use Rattle.sym_records.specs.declared.line.SymLine.TheVariants.{Change}
 use Rattle.rule_postfix.specs.FrameLines.{change}
 
--- the text of lists, one behind another
+-- the text of lists, one after another
 pub canon_append : (xs ys : List SymLine) → canon_text (xs ++ ys) ≡ canon_text xs ++ canon_text ys
 unfolding canon_text
 canon_append xs ys = flat_map-append canon xs ys
@@ -39,7 +39,7 @@ some_change address (r ∷ rules) old new line at end start same low within apar
     front ∙ ap (λ l. change_front address ++ l) (is ∙ ap (λ l. flat_map spelled_rule (r ∷ rules) ++ l) last)
     ∙ change_line address (r ∷ rules) ∙ sym (canon_one (Change address (r ∷ rules)))
 
--- an INIT that ends: its front, and the text behind that
+-- an INIT that ends: its front, and the text after that
 pub init_closed : (front body old before a b new : List ℕ) (end : ℕ) → length before ≤ end → a ≡ front ++ drop end before → b ≡ old ++ a → new ≡ b ++ body → new ≡ old ++ (front ++ body)
 init_closed front body old before a b new end past written first second =
     second ∙ ap (λ l. l ++ body) (first ∙ ap (λ l. old ++ l) (written ∙ ap (λ l. front ++ l) (drop_all end before past) ∙ append-nil front)) ∙ append_assoc old front body

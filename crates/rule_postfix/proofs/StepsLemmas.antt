@@ -48,7 +48,7 @@ closed_spelled front old new base end p o so is =
     ∙ ap (λ t. t ++ canon_text o.changes) (init_line (o.start - o.base) (end - o.start) o.rules)
     ∙ sym (canon_more (Init (o.start - o.base) (end - o.start) o.rules) o.changes)))
 
--- a row behind another
+-- a row after another
 pub cut_spelled : (front old new : List ℕ) (base a : ℕ) (before after : Row) (p q : OpenInit) (o : Open) → some_becomes_unspecified before after ≡ true → new ≡ old ++ (init_front (p.start - base) (a - p.start) ++ p.body.items) → q.start ≡ a → q.body.items ≡ spelled_rules (row_rules after) ++ 10 ∷ [] → IsSpelled front base old p o → IsSpelled front base new q (with_row a before after o)
 unfolding with_row
 cut_spelled front old new base a before after p q o cut is start body so =
@@ -76,7 +76,7 @@ change_spelled front text base a before after p q o stays start body so =
       lines = so.lines;
     })
 
--- what is spelled where a stepper stands, behind its first row
+-- what is spelled where a stepper stands, after its first row
 pub record Passing (base end : ℕ) (front text : List ℕ) (p : OpenInit) (before : Row) (lacking : Bool) (s first : Standing) : Type 0 where
   pub fresh : s.failed ≡ false
   pub going : s.refused ≡ None
@@ -153,7 +153,7 @@ pass_below base end front text p before lacking s first so = omega (arith, so.be
 pub pass_rises : (base end : ℕ) (front text : List ℕ) (p : OpenInit) (before : Row) (lacking : Bool) (s t first : Standing) → Passing base end front text p before lacking s first → GoesOn s t → p.start ≤ t.here.address
 pass_rises base end front text p before lacking s t first so step = omega (arith, so.below, so.spelled.start, step.rises)
 
--- what is spelled so far stands behind what stood in front
+-- what is spelled so far stands after what stood in front
 pub front_stays : (front text more : List ℕ) → text ≡ front ++ more → take (length front) text ≡ front
 front_stays front text more is = ap (take (length front)) is ∙ take-append_seam front more
 

@@ -1,4 +1,4 @@
--- The records of sound rows are valid behind any record; for the lemmas of CoveringLemmas, EntryLemmas.
+-- The records of sound rows are valid after any record; for the lemmas of CoveringLemmas, EntryLemmas.
 use Rattle.std.proofs.Common.{◌≡◌, ℕ, zero, suc, ◌+◌, ◌-◌, ◌<◌, ◌≤◌, ◌||◌, ◌^◌, Bool, true, false, cond, List, [], ◌∷◌, ◌++◌, length, None, refl, ap, sym, subst, ◌∙◌, arith, eq-eqb}
 use Rattle.std.specs.List.{list_all, flat_map, range_with_len}
 use Rattle.std.proofs.lemmas.Grind.{flat_map-append}
@@ -32,7 +32,7 @@ pub record GoodRows (row : ℕ → Row) (start size base : ℕ) : Type 0 where
   pub cfa : (a : ℕ) → start ≤ a → a < start + size → has_cfa (row a) ≡ true
   pub inside : start + size < 2 ^ 64
 
--- records are valid behind any record, and leave a place
+-- records are valid after any record, and leave a place
 record Good (place : Place) (lines : List SymLine) : Type 0 where
   valid : first_bad_from 0 Inside lines ≡ None
   behind : place_behind Inside lines ≡ place
@@ -98,7 +98,7 @@ all_good laws row start size base end (suc n) rows is below =
     (next_good laws row start size base (start + suc n) end (flat_map (records_at row start end base) (range_with_len start (suc n))) rows is (omega arith) (omega (arith, is, below))
     (let Q : ℕ → Type 0 = λ k. Good Frame (flat_map (records_at row start end base) (range_with_len start k)) in subst Q (sym one) (all_good laws row start size base end n rows is (omega (arith, below)))))
 
--- the records of a range of good rows are valid behind any record
+-- the records of a range of good rows are valid after any record
 pub lines_valid : RecordLaws → (row : ℕ → Row) (start size base : ℕ) → GoodRows row start size base → 0 < size → first_bad_from 0 Inside (frame_lines row start size base) ≡ None
 unfolding frame_lines
 lines_valid laws row start zero base rows some = absurd (omega (arith, some))

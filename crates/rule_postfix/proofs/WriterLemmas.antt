@@ -1,4 +1,4 @@
--- The INIT that is open behind a row; for the lemmas of StepsLemmas.
+-- The INIT that is open after a row; for the lemmas of StepsLemmas.
 use Rattle.std.proofs.Common.{ℕ, ◌≤◌, Bool, true, false, List, cond}
 use Rattle.frame_rows.specs.declared.row.Row.{Row}
 use Rattle.sym_rules.specs.declared.rules.RuleText.{RuleText}

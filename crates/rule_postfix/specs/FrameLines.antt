@@ -12,7 +12,7 @@ use Rattle.rule_postfix.specs.RowRules.{row_rules, changed_rules, some_becomes_u
 unfoldable pub is_cut : (ℕ → Row) → ℕ → ℕ → Bool
 is_cut row start b = b == start || some_becomes_unspecified (row (b - 1)) (row b)
 
--- the first cut at or above an address, among the next n; else the address behind these
+-- the first cut at or above an address, among the next n; else the address after these
 unfoldable pub first_cut : (ℕ → Row) → ℕ → ℕ → ℕ → ℕ
 first_cut row start b zero = b
 first_cut row start b (suc n) = if is_cut row start b then b else first_cut row start (b + 1) n

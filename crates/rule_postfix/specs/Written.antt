@@ -44,7 +44,7 @@ reason_among code taken e =
 unfoldable pub reason_behind : List Range → List FdeFields → FdeFields → Option Reason
 reason_behind code written e = reason_among code (map range_of written) e
 
--- the whole reason to leave an entry out, behind those that are written: the first that applies
+-- the whole reason to leave an entry out, after those that are written: the first that applies
 abbrev pub body_reason : List Range → List FdeFields → Body → Option Reason
 body_reason code before (Good e) = reason_behind code before e
 body_reason code before (Bad why) = Some why

@@ -187,7 +187,7 @@ fn put_free(
     }
 }
 
-/// An entry whose fields can be read is written or left out, where the state behind its CIE is given.
+/// An entry whose fields can be read is written or left out, where the state after its CIE is given.
 fn put_behind(
     alloc: Global,
     progress: &mut Progress,
@@ -217,7 +217,7 @@ fn put_behind(
     put_free(alloc, progress, state, entry, fde, code, end, base)
 }
 
-/// An entry whose fields can be read is written or left out. The state behind its CIE is made where it is not there.
+/// An entry whose fields can be read is written or left out. The state after its CIE is made where it is not there.
 fn put_good(
     alloc: Global,
     progress: &mut Progress,

@@ -1,4 +1,4 @@
-//! The states behind the CIEs of a section.
+//! The states after the CIEs of a section.
 ghost use Rattle.std.specs.Prelude.{◌≡◌, Some, OnOk};
 ghost use Rattle.std.specs.Ordering.{nat_cmp};
 ghost use Rattle.std.specs.BTreeMap.{get};
@@ -16,7 +16,7 @@ use sym_edges::OutOfMemory;
 /// Of the CIEs whose instructions have at most so many bytes the state of one at a time is kept.
 const SHORT: usize = 64;
 
-/// The states behind the CIEs at some places of a section. That of a long CIE is made once, however the entries of the CIEs
+/// The states after the CIEs at some places of a section. That of a long CIE is made once, however the entries of the CIEs
 /// alternate; of the short ones the last is kept, whose place is `short`, so that many of them take no memory.
 #[derive(Drop)]
 pub struct CieStates {
@@ -55,7 +55,7 @@ impl CieStates {
         }
     }
 
-    /// Makes the state behind the CIE of an entry, where it is not there.
+    /// Makes the state after the CIE of an entry, where it is not there.
     #[tactic(auto, using(crate::proofs::KeepingLemmas::is_there, crate::proofs::KeepingLemmas::is_made, crate::proofs::KeepingLemmas::new_kept))]
     pub fn make(&mut self, alloc: Global, fde: &Fde<'_>) -> Result<(), OutOfMemory>
         requires { KeptFor self.old fde.now }
@@ -71,7 +71,7 @@ impl CieStates {
         Ok(())
     }
 
-    /// The state behind the CIE of an entry, which was made.
+    /// The state after the CIE of an entry, which was made.
     pub fn behind(&self, fde: &Fde<'_>) -> &CieState
         requires { get nat_cmp self.now.by_place fde.now.cie ≡ Some (cie_left fde.now) }
         ensures { result.now ≡ cie_left fde.now }

@@ -16,8 +16,8 @@ use sym_edges::{Reason, Stop};
 use sym_records::ByteText;
 use sym_records::laws::{good_lists_are_joined, plain_rules_fit};
 
-/// Adds the text of an entry's frame records, with addresses counted from `base`, where the state behind its CIE is given; or
-/// the reason for which it has none, which is met behind some of the text.
+/// Adds the text of an entry's frame records, with addresses counted from `base`, where the state after its CIE is given; or
+/// the reason for which it has none, which is met after some of the text.
 pub fn spell_entry(
     alloc: Global,
     text: &mut Vec<u8>,

@@ -12,9 +12,9 @@ ghost use Rattle.rule_postfix.specs.Written.{decided_behind, decided_of, reason_
 ghost use Rattle.rule_postfix.specs.Covering.{SaysFrames};
 ghost use Rattle.rule_postfix.specs.Decision.{omission_for, fields_for};
 
-/// An entry is left out with a reason exactly where that is its reason behind the entries written before it, and is written
+/// An entry is left out with a reason exactly where that is its reason after the entries written before it, and is written
 /// exactly where it has none: what is decided at its place depends on nothing else, and is followed by what is decided of
-/// the entries behind it.
+/// the entries after it.
 #[tactic(auto, using(crate::proofs::OmittedLemmas::omitted_there, crate::proofs::OmittedLemmas::written_there))]
 pub fn entries_are_decided_by_their_reasons()
     ensures omitted { (code : List Range) (xs ys : List Entry) (entry : Entry) →

@@ -20,7 +20,7 @@ use sym_records::write_init;
 /// The front of an INIT has at most so many bytes.
 const FRONT: usize = 48;
 
-/// The INIT whose end is not known yet: its start, and the text behind its numbers, which is its rules and the changes in it. A
+/// The INIT whose end is not known yet: its start, and the text after its numbers, which is its rules and the changes in it. A
 /// line is made in `line`.
 #[derive(Drop)]
 pub struct OpenInit {
@@ -74,7 +74,7 @@ fn close(text: &mut Vec<u8>, open: &OpenInit, end: u64, base: u64) -> Result<(),
     Ok(())
 }
 
-/// A row behind another: where a column becomes unspecified, another INIT begins, else the changes are spelled. The two rows
+/// A row after another: where a column becomes unspecified, another INIT begins, else the changes are spelled. The two rows
 /// differ in no column outside of those that are given.
 fn put_row(
     text: &mut Vec<u8>,
@@ -99,7 +99,7 @@ fn put_row(
     }
 }
 
-/// The last row ends, and with it the INIT, unless an instruction behind it is bad.
+/// The last row ends, and with it the INIT, unless an instruction after it is bad.
 fn end_steps(
     text: &mut Vec<u8>,
     open: &OpenInit,
@@ -133,7 +133,7 @@ fn lack_rule(lacking: bool, row: &Row) -> bool
 }
 
 /// Spells the records of the rows from where a stepper stands, each row compared with the one before it, and says whether some
-/// row lacks a rule for the CFA; or the reason of the first bad instruction, which is met behind some of the text.
+/// row lacks a rule for the CFA; or the reason of the first bad instruction, which is met after some of the text.
 pub fn spell_steps(
     text: &mut Vec<u8>,
     open: &mut OpenInit,

@@ -82,7 +82,7 @@ fn write_base(cfa: CfaRule, line: &mut [u8], end: usize) -> usize
     write_byte(b' ', line, at)
 }
 
-/// The name of a column behind one space, with `:` behind it.
+/// The name of a column after one space, with `:` after it.
 #[inline]
 #[tactic(auto, using(crate::proofs::TokenLemmas::register_written))]
 fn write_target(target: ColumnTarget, line: &mut [u8], end: usize) -> usize

@@ -25,7 +25,7 @@ STACK CFI 100e .cfa: $rsp 8 +
 /// How many entries the large input has of each kind.
 const COUNT: u64 = 1000;
 
-/// How many rows the large entry has behind its first.
+/// How many rows the large entry has after its first.
 const ROWS: u64 = 400_000;
 
 /// What was answered is what is wanted: a text, and the entries that are left out.
@@ -44,7 +44,7 @@ fn bytes_of(alloc: Global, text: &TextPieces) -> Result<Vec<u8>, OutOfMemory> {
     Ok(bytes)
 }
 
-/// An FDE more behind those of a section of the CIE above.
+/// An FDE more after those of a section of the CIE above.
 fn put_fde(bytes: &mut Vec<u8>, start: u64, size: u64, own: &[u8]) -> Result<(), AllocError> {
     let cie = bytes.len().saturating_add(4);
     for number in [own.len().saturating_add(20), cie] {

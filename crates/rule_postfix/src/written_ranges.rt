@@ -50,7 +50,7 @@ impl WrittenRanges {
 
     #[tactic(auto, using(crate::proofs::OverlapLemmas::meets_none, crate::proofs::OverlapLemmas::meets_last))]
     /// Whether a range that is not empty meets one of those: the last that starts below its end decides. None meets one that starts
-    /// behind all of them, as most do.
+    /// after all of them, as most do.
     pub fn meets(&self, start: u64, end: u64) -> bool
         requires { start < end }
         ensures { result ≡ any_meets (record { start = start; end = end }) self.now }

@@ -2,7 +2,7 @@ use Rattle.std.proofs.Common.{◌≡◌, ◌≢◌, ℕ, zero, suc, ◌+◌, ◌
 use Rattle.std.proofs.lemmas.Bool.{cases_lt, le-leb, lt-leb, leb-true, leb-false}
 use Rattle.step_maps.specs.Stepping.{Stepping, held_from, value_at, last_from, IsStepping}
 use Rattle.step_maps.specs.Copying.{BelowEnd, UpToEnd}
-use Rattle.step_maps.specs.Places.{is_past, StartsAt}
+use Rattle.step_maps.specs.internal.Places.{is_past, StartsAt}
 use Rattle.step_maps.proofs.SteppingLemmas.{Point, held_at_index, held_below_first, rises_next}
 
 at_zero : (stops : List ℕ) (count a : ℕ) → count ≡ 0 → (count < length stops → a < get_or stops count 0) → 0 < length stops → a < get_or stops 0 0

@@ -7,7 +7,7 @@ use Rattle.step_maps.specs.declared.stretch.FirstItem.{FirstItem}
 use Rattle.step_maps.specs.Stepping.{Stepping, value_at}
 use Rattle.step_maps.specs.Covers.{reaches, first_at, index_at, is_shared, first_item}
 use Rattle.step_maps.specs.Overlays.{over}
-use Rattle.step_maps.specs.Laying.{laid}
+use Rattle.step_maps.specs.internal.Laying.{laid}
 
 -- whether an item of another class than a number lies at or below one
 abbrev beneath : ℕ → Option FirstItem → Bool

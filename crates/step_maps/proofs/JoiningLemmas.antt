@@ -10,8 +10,8 @@ use Rattle.step_maps.specs.Stepping.{Stepping, held_from, value_at, last_from, I
 use Rattle.step_maps.specs.StepRuns.{with_piece}
 use Rattle.step_maps.specs.Runs.{Run, value_in, Follows, AreRuns, between}
 use Rattle.step_maps.specs.Covers.{index_at, first_item, cover_run, AreMarked, AreCovers}
-use Rattle.step_maps.specs.Laying.{laid}
-use Rattle.step_maps.specs.Joining.{is_same_index, with_cover, covers_from}
+use Rattle.step_maps.specs.internal.Laying.{laid}
+use Rattle.step_maps.specs.internal.Joining.{is_same_index, with_cover, covers_from}
 use Rattle.step_maps.proofs.SteppingLemmas.{held_before}
 use Rattle.sym_edges.proofs.RisingLemmas.{rises_lower}
 use Rattle.step_maps.proofs.PieceLemmas.{start_low, between_low, between_none, between_same, between_later, piece_above, piece_within}
@@ -126,7 +126,7 @@ covers_values first now (t ∷ stops) (w ∷ values) a paired rises fits = elim 
     either_index x y true on = index_alike x y on
     either_index x y false on = refl
 
--- from a start on, and up to the address behind the last one of 64 bits
+-- from a start on, and up to the address after the last one of 64 bits
 abbrev pub Gives : (ℕ → Option FirstItem) → ℕ → Option FirstItem → List ℕ → List (Option FirstItem) → Type 0
 Gives f first now stops values = (a : ℕ) → first ≤ a → f a ≡ held_from now stops values a
 

@@ -7,7 +7,7 @@ use Rattle.step_maps.specs.Stepping.{Stepping, held_from, value_at, last_from}
 use Rattle.step_maps.specs.Covers.{reaches, AreStretches}
 use Rattle.step_maps.specs.Overlays.{over}
 use Rattle.step_maps.specs.Copying.{BelowEnd}
-use Rattle.step_maps.specs.Laying.{own_item, laid, ascends, ascends_from, sooner, AreSteady}
+use Rattle.step_maps.specs.internal.Laying.{own_item, laid, ascends, ascends_from, sooner, AreSteady}
 use Rattle.step_maps.proofs.RunLemmas.{if_true, if_false}
 
 or_true : (b : Bool) → (b || true) ≡ true
@@ -49,7 +49,7 @@ halves_laid all xs ys upper lower both whole left right by a fits =
     ∙ sym (laid_split xs ys a)
     ∙ ap (λ l. laid l a) (sym whole)
 
--- a stretch behind the last stop of a map
+-- a stretch after the last stop of a map
 abbrev pub alone : Stretch → FirstItem
 alone s = record { index = s.index; class = s.class; shared = false }
 
@@ -86,7 +86,7 @@ seen_behind old more s r a some fits behind none = elim (cases_lt a s.first) [
 gone_behind : (old more : Stepping (Option FirstItem)) (s : Stretch) (a : ℕ) → Behind old more s → s.last < a → a < 2 ^ 64 → value_at None more a ≡ None
 gone_behind old more s a behind past fits = (let up : nat_lt s.last a ≡ true = grind (arith, nat_tests) in behind a fits ∙ if_true (nat_lt s.last a) None (if nat_le s.first a then Some (alone s) else value_at None old a) up)
 
--- stretches that ascend, up to one, lie in the map, and the rest is behind it
+-- stretches that ascend, up to one, lie in the map, and the rest is after it
 pub record InOrder (items : List Stretch) (steps : Stepping (Option FirstItem)) (last : ℕ) (rest : List Stretch) : Type 0 where
   pub done : (a : ℕ) → a < 2 ^ 64 → over (value_at None steps a) (laid rest a) ≡ laid items a
   pub none : (a : ℕ) → last < a → a < 2 ^ 64 → value_at None steps a ≡ None

@@ -5,7 +5,7 @@ use Rattle.sym_edges.specs.Rising.{RisesFrom}
 use Rattle.sym_edges.proofs.RisingLemmas.{rises_lower}
 use Rattle.step_maps.specs.Stepping.{Stepping, held_from, value_at, last_from, IsStepping}
 use Rattle.step_maps.specs.Overlays.{over}
-use Rattle.step_maps.specs.Places.{IsNextFirst}
+use Rattle.step_maps.specs.internal.Places.{IsNextFirst}
 use Rattle.step_maps.specs.declared.stretch.FirstItem.{FirstItem}
 use Rattle.step_maps.proofs.SteppingLemmas.{held_before}
 

@@ -4,7 +4,5 @@ pub mod StepRuns
 pub mod Covers
 pub mod SpanStretches
 pub mod Overlays
-pub mod Laying
-pub mod Joining
 pub mod Copying
-pub mod Places
+pub mod internal

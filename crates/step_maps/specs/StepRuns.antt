@@ -8,7 +8,7 @@ abbrev pub Differ : {V : Type 0} → V → List V → Type 0
 Differ before [] = Unit {0}
 Differ before (v ∷ values) = (before ≢ v) × Differ v values
 
--- the interval up to an end, where it has a value, in front of those behind it
+-- the interval up to an end, where it has a value, in front of those after it
 abbrev pub with_piece : {V : Type 0} → ℕ → ℕ → Option V → List (Run V) → List (Run V)
 with_piece start end None runs = runs
 with_piece start end (Some v) runs = record { start = start; end = end; value = v } ∷ runs

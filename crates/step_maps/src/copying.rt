@@ -1,7 +1,7 @@
 ghost use Rattle.std.specs.Prelude.{◌≡◌, ℕ, ◌≤◌, ◌<◌, OnOk, nat_le};
 ghost use Rattle.step_maps.specs.Stepping.{IsStepping, last_from, held_from, value_at};
 ghost use Rattle.step_maps.specs.Copying.{BelowEnd, UpToEnd};
-ghost use Rattle.step_maps.specs.Places.{is_past, StartsAt};
+ghost use Rattle.step_maps.specs.internal.Places.{is_past, StartsAt};
 
 use crate::steps::StepMap;
 use sym_edges::OutOfMemory;

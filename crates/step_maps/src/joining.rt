@@ -1,5 +1,5 @@
 ghost use Rattle.std.specs.Prelude.{◌≡◌, ◌-◌, ◌^◌, ◌++◌, [], None, IfOk, OnOk};
-ghost use Rattle.step_maps.specs.Joining.{is_same_index, with_cover, covers_from};
+ghost use Rattle.step_maps.specs.internal.Joining.{is_same_index, with_cover, covers_from};
 
 use crate::stretch::{Cover, FirstItem};
 use std::alloc::{AllocError, Global};

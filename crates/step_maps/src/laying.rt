@@ -2,7 +2,7 @@ ghost use Rattle.std.specs.Prelude.{◌≡◌, ℕ, ◌+◌, ◌^◌, ◌<◌, �
 ghost use Rattle.step_maps.specs.Stepping.{last_from, value_at};
 ghost use Rattle.step_maps.specs.Covers.{reaches, AreStretches};
 ghost use Rattle.step_maps.specs.Copying.{BelowEnd};
-ghost use Rattle.step_maps.specs.Laying.{own_item, laid, ascends, AreSteady, sooner};
+ghost use Rattle.step_maps.specs.internal.Laying.{own_item, laid, ascends, AreSteady, sooner};
 
 use crate::overlaying::{over, overlay};
 use crate::steps::StepMap;
@@ -75,7 +75,7 @@ fn in_order(alloc: Global, items: &[Stretch]) -> Result<StepMap<Option<FirstItem
     Ok(steps)
 }
 
-/// A stretch behind the last stop.
+/// A stretch after the last stop.
 #[inline]
 fn lay_behind(steps: &mut StepMap<Option<FirstItem>>, item: Stretch) -> Result<(), OutOfMemory>
     requires some { item.first ≤ item.last }
@@ -123,7 +123,7 @@ fn own_item(item: Stretch, a: u64) -> Option<FirstItem>
     None
 }
 
-#[tactic(auto, unfolding(crate::specs::Laying::laid))]
+#[tactic(auto, unfolding(crate::specs::internal::Laying::laid))]
 fn laid_at(items: &[Stretch], a: u64) -> Option<FirstItem>
     ensures { result ≡ laid items.now a }
 {

@@ -1,7 +1,7 @@
 ghost use Rattle.std.specs.Prelude.{◌≡◌, ℕ, ◌+◌, ◌<◌, ◌≤◌, length, slice_index, None, IfOk, MatchBool};
 ghost use Rattle.step_maps.specs.Stepping.{IsStepping, held_from, value_at};
 ghost use Rattle.step_maps.specs.Overlays.{over};
-ghost use Rattle.step_maps.specs.Places.{IsNextFirst};
+ghost use Rattle.step_maps.specs.internal.Places.{IsNextFirst};
 
 use crate::steps::StepMap;
 use crate::stretch::FirstItem;

@@ -15,7 +15,7 @@ register_name number = slice_index_or register_names number []
 abbrev pub stack_pointer : ℕ
 stack_pointer = 7
 
--- the column of the return address, behind those of the registers
+-- the column of the return address, after those of the registers
 abbrev pub return_address : ℕ
 return_address = 16
 
@@ -27,7 +27,7 @@ is_kept column = column == 3 || (column == 6 || (nat_le 12 column && nat_le colu
 pub data Default : Type 0 where
   -- the register has the value that it still has
   KeepsValue : Default
-  -- the register is the CFA, as rsp is behind a return
+  -- the register is the CFA, as rsp is after a return
   IsCfa : Default
   -- nothing is specified
   Unspecified : Default

@@ -12,7 +12,7 @@ pub struct OutOfMemory;
 #[derive(Clone, Copy, Debug, PartialEq, Eq)]
 pub struct Failed;
 
-/// Why a call stopped: a fault of its own, or want of memory.
+/// Why a call stopped: a fault of its own, or out of memory.
 #[derive(Clone, Copy, Debug, PartialEq, Eq)]
 pub enum Stop<F> {
     Fault(F),

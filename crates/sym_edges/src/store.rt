@@ -16,7 +16,7 @@ pub trait Store {
 
     ghost faults: { Self → ℕ };
 
-    /// Opens a file: all of its bytes are left then. Want of memory changes nothing.
+    /// Opens a file: all of its bytes are left then. Out of memory changes nothing.
     fn open_file(&mut self, name: &str) -> Result<(), Stop<Failed>>
         ensures asked { MatchStop result
             (λ _. asked self.new ≡ asked self.old ++ name.now ∷ [])

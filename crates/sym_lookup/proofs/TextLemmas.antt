@@ -1,4 +1,4 @@
--- Look-ups in lists of records that stand one behind the other.
+-- Look-ups in lists of records that stand one after the other.
 use Rattle.std.proofs.Common.{◌≡◌, ℕ, List, [], ◌∷◌, ◌++◌, refl}
 use Rattle.std.specs.List.{find}
 use Rattle.sym_records.specs.declared.line.SymLine.{SymLine}

@@ -65,7 +65,7 @@ functions_meet apart = absurd (cc apart.0)
 empty_inside : AreApart (flat_map func_run (Func false 0x10 0x10 0 (codes "f") ∷ Func false 0x18 0 0 (codes "g") ∷ []))
 empty_inside = search rules
 
--- C6: a line that begins before its FUNC, and a range of an INLINE that ends behind it
+-- C6: a line that begins before its FUNC, and a range of an INLINE that ends after it
 line_before : EachFunc LieInside (Func false 0x10 0x10 0 (codes "f") ∷ Line 0xc 8 3 0 ∷ []) → ⊥
 line_before inside = absurd (cc inside.0)
 

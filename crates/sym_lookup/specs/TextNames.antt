@@ -20,14 +20,14 @@ abbrev pub is_line_at : ℕ → SymLine → Bool
 is_line_at x (Line address size line file) = is_within address size x
 is_line_at x _ = false
 
--- the records directly under a FUNC: the INLINE and line records at the front of what stands behind it
+-- the records directly under a FUNC: the INLINE and line records at the front of what stands after it
 abbrev pub under : List SymLine → List SymLine
 under [] = []
 under (Inline level line file origin ranges ∷ lines) = Inline level line file origin ranges ∷ under lines
 under (Line address size line file ∷ lines) = Line address size line file ∷ under lines
 under (_ ∷ lines) = []
 
--- a FUNC, and what stands behind it
+-- a FUNC, and what stands after it
 pub record Found : Type 0 where
   pub func : SymLine
   pub behind : List SymLine

@@ -307,7 +307,7 @@ end_cr false xs is = cr_none xs is
 pub ends_cr : (shape : Shape) (xs : List ℕ) → last_is (is_end shape) xs ≡ false → last_is is_cr xs ≡ false
 ends_cr shape xs is = end_cr (is_named shape) xs is
 
--- the fields behind a keyword
+-- the fields after a keyword
 pub fields_back : (shape : Shape) (v : Values shape) → fit shape v ≡ true → fields_at shape (spelled shape v) ≡ Ok v
 unfolding fields_at
 fields_back shape v fits = ap (values_at shape) (trim_kept (is_end shape) (spelled shape v) (shape_ends shape v fits)) ∙ values_back shape v fits

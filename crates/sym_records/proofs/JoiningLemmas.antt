@@ -1,4 +1,4 @@
--- Lists of records that are valid one behind another.
+-- Lists of records that are valid one after another.
 use Rattle.std.proofs.Common.{◌≡◌, ℕ, ◌+◌, ◌&&◌, cond, true, false, List, [], ◌∷◌, ◌++◌, Some, None, refl, sym, ◌∙◌, ap}
 use Rattle.std.specs.List.{list_all}
 use Rattle.sym_rules.proofs.BoolLemmas.{and_true, both, elim_bool}
@@ -25,7 +25,7 @@ pub first_fits : (s : SymLine) → fits Start s ≡ true → fields_fit s ≡ tr
 unfolding first_bad
 first_fits s stands fit = from_here 0 Start s [] stands fit (none_here 1 (leads Start s))
 
--- a good record and those behind it
+-- a good record and those after it
 pub record HeadFits (i : ℕ) (place : Place) (x : SymLine) (lines : List SymLine) : Type 0 where
   pub stands : fits place x ≡ true
   pub fit : fields_fit x ≡ true
@@ -44,7 +44,7 @@ none_moved i j place (x ∷ lines) none =
     let head = head_fits i place x lines none in
     from_here j place x lines head.stands head.fit (none_moved (i + 1) (j + 1) (leads place x) lines head.later)
 
--- what may stand behind records of their own may stand behind any record, and leads to the same place
+-- what may stand after records of their own may stand after any record, and leads to the same place
 anywhere : (place : Place) (p : Role) → is_start place ≡ false → may_stand Inside p ≡ true → (may_stand place p ≡ true) × (place_behind_role Inside p ≡ place_behind_role place p)
 anywhere Start p on stands = cc
 anywhere Inside p on stands = (stands, refl)
@@ -95,14 +95,14 @@ on_none i place (x ∷ lines) on none =
     let both = anywhere place (role (keyword x)) on head.stands in
     from_here i place x lines both.0 head.fit (ap (λ p. first_bad_from (i + 1) p lines) (sym both.1) ∙ none_moved 1 (i + 1) (leads Inside x) lines head.later)
 
--- records behind records that are not the first
+-- records after records that are not the first
 joined_on : (i : ℕ) (place : Place) (xs ys : List SymLine) → is_start place ≡ false → first_bad_from i place xs ≡ None → first_bad_from 0 Inside ys ≡ None → first_bad_from i place (xs ++ ys) ≡ None
 joined_on i place [] ys on first second = on_none i place ys on second
 joined_on i place (x ∷ xs) ys on first second =
     let head = head_fits i place x xs first in
     from_here i place x (xs ++ ys) head.stands head.fit (joined_on (i + 1) (leads place x) xs ys (leads_away place (role (keyword x)) head.stands) head.later second)
 
--- a valid list stays valid with more records behind it
+-- a valid list stays valid with more records after it
 pub join_fits : (xs ys : List SymLine) → first_bad xs ≡ None → first_bad_from 0 Inside ys ≡ None → first_bad (xs ++ ys) ≡ None
 unfolding first_bad
 join_fits [] ys first second = cc
@@ -110,11 +110,11 @@ join_fits (x ∷ xs) ys first second =
     let head = head_fits 0 Start x xs first in
     from_here 0 Start x (xs ++ ys) head.stands head.fit (joined_on 1 (leads Start x) xs ys (leads_away Start (role (keyword x)) head.stands) head.later second)
 
--- and so do records that may stand behind others
+-- and so do records that may stand after others
 pub join_behind : (xs ys : List SymLine) → first_bad_from 0 Inside xs ≡ None → first_bad_from 0 Inside ys ≡ None → first_bad_from 0 Inside (xs ++ ys) ≡ None
 join_behind xs ys first second = joined_on 0 Inside xs ys refl first second
 
--- a valid list stays valid with one more record behind it
+-- a valid list stays valid with one more record after it
 pub push_fits : (lines : List SymLine) (s : SymLine) → first_bad lines ≡ None → fits Inside s ≡ true → fields_fit s ≡ true → first_bad (lines ++ s ∷ []) ≡ None
 push_fits lines s none stands fit = join_fits lines (s ∷ []) none (from_here 0 Inside s [] stands fit (none_here 1 (leads Inside s)))
 
@@ -125,11 +125,11 @@ pushed_from i place (x ∷ lines) s none stands fit =
     let head = head_fits i place x lines none in
     from_here i place x (lines ++ s ∷ []) head.stands head.fit (pushed_from (i + 1) (leads place x) lines s head.later stands fit)
 
--- a record that may stand at the place behind the others
+-- a record that may stand at the place after the others
 pub push_behind : (place : Place) (lines : List SymLine) (s : SymLine) → first_bad_from 0 place lines ≡ None → fits (place_behind place lines) s ≡ true → fields_fit s ≡ true → first_bad_from 0 place (lines ++ s ∷ []) ≡ None
 push_behind place lines s none stands fit = pushed_from 0 place lines s none stands fit
 
--- and the place behind it
+-- and the place after it
 pub behind_pushed : (place : Place) (lines : List SymLine) (s : SymLine) → place_behind place (lines ++ s ∷ []) ≡ leads (place_behind place lines) s
 unfolding place_behind
 behind_pushed place [] s = refl
@@ -150,6 +150,6 @@ changes_fit i (x ∷ changes) all fit =
     from_here i Frame x changes stands.0 (and_true {a = fields_fit x} fit).0
     (ap (λ p. first_bad_from (i + 1) p changes) stands.1 ∙ changes_fit (i + 1) changes (and_true {a = is_change x} all).1 (and_true {a = fields_fit x} fit).1)
 
--- a STACK CFI INIT and changes behind it
+-- a STACK CFI INIT and changes after it
 pub frame_fits : (address size : ℕ) (rules : List RuleText) (changes : List SymLine) → fields_fit (Init address size rules) ≡ true → list_all is_change changes ≡ true → list_all fields_fit changes ≡ true → first_bad_from 0 Inside (Init address size rules ∷ changes) ≡ None
 frame_fits address size rules changes first all fit = from_here 0 Inside (Init address size rules) changes refl first (changes_fit 1 changes all fit)

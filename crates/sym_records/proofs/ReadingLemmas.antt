@@ -23,7 +23,7 @@ use Rattle.sym_records.specs.declared.place.Place.{Place}
 use Rattle.sym_records.specs.declared.place.Place.TheVariants.{Start, Inside, Function, Frame}
 use Rattle.sym_rules.specs.declared.text_fault.TextKind.TheVariants.{LongLine, NoModule, Misplaced}
 
--- bytes without LF, and an LF behind them, are the first line
+-- bytes without LF, and an LF after them, are the first line
 split_first : (xs ys : List ℕ) → list_all is_within_line xs ≡ true → split_lines (xs ++ 10 ∷ ys) ≡ xs ∷ split_lines ys
 unfolding split_lines
 split_first [] ys all = refl

@@ -58,7 +58,7 @@ line_kept s (c ∷ rest) parts =
     ∙ ap (λ l. (key_at l >>= found_record) >>= λ x. Ok (Some x)) (ap (skip is_space) (trim_kept is_cr (c ∷ rest) parts.ends) ∙ skip_field c rest (no_margin c parts.starts))
     ∙ ap (λ r. r >>= λ x. Ok (Some x)) parts.reads
 
--- the fields behind a keyword that was found
+-- the fields after a keyword that was found
 found_back : (k : Keyword) (v : Values (layout k)) → fit (layout k) v ≡ true → record_of k (spelled (layout k) v) ≡ Ok (made k v)
 found_back k v fits = ap (λ r. r >>= λ x. Ok (made k x)) (fields_back (layout k) v fits)
 

@@ -54,7 +54,7 @@ record_good k bytes s line is =
     let read = bind_ok (fields_at (layout k) bytes) _ s is in
     ap has_fields (sym (ok_is (made k read.0) s read.2)) ∙ made_fits k read.0 ∙ fields_good (layout k) bytes read.0 line read.1
 
--- what stands behind a keyword is left of the line
+-- what stands after a keyword is left of the line
 abbrev IfFound : List ℕ → Result (Keyword × List ℕ) TextKind → Type 0
 IfFound line (Ok found) = Behind line found.1
 IfFound line (Err kind) = Unit {0}

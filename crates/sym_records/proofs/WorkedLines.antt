@@ -167,7 +167,7 @@ name_kept_read : reads "PUBLIC 0 0 \ra\r b " ≡ Ok (Some (line.Public false 0 0
 unfolding sym_records_computes
 name_kept_read = refl
 
--- spaces in front, between and behind, and CRs behind
+-- spaces in front, between and after, and CRs after
 lenient_func : reads "  FUNC   m  1000 2f  0  main of  \r" ≡ Ok (Some (line.Func true 4096 47 0 (codes "main of  ")))
 unfolding sym_records_computes
 lenient_func = refl
@@ -180,7 +180,7 @@ lenient_inline : reads "INLINE 0 4 0 0 1004 8 \r" ≡ Ok (Some (line.Inline 0 4 
 unfolding sym_records_computes
 lenient_inline = refl
 
--- CR behind a name and spaces behind it are of the name
+-- CR after a name and spaces after it are of the name
 name_with_cr : reads "FILE 1 a\r " ≡ Ok (Some (line.File 1 (codes "a\r ")))
 unfolding sym_records_computes
 name_with_cr = refl
@@ -218,7 +218,7 @@ stack_alone : reads "STACK" ≡ Err fault.Unknown
 unfolding sym_records_computes
 stack_alone = refl
 
--- CR behind a keyword is of the keyword
+-- CR after a keyword is of the keyword
 file_cr : reads "FILE\r " ≡ Err fault.Unknown
 unfolding sym_records_computes
 file_cr = refl

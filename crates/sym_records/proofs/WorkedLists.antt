@@ -46,7 +46,7 @@ empty_init = line.Init 4096 32 []
 abbrev bad_public : SymLine
 bad_public = line.Public false 0 0 (codes "a\r")
 
--- each record behind MODULE
+-- each record after MODULE
 all_records : first_bad (binary ∷ info ∷ file ∷ origin ∷ func ∷ inline ∷ line_record ∷ line_record ∷ inline ∷ public ∷ init ∷ change ∷ []) ≡ None
 unfolding sym_records_computes
 all_records = refl
@@ -93,7 +93,7 @@ change_first : first_bad (change ∷ []) ≡ Some 0
 unfolding sym_records_computes
 change_first = refl
 
--- MODULE behind each kind
+-- MODULE after each kind
 module_again : first_bad (binary ∷ binary ∷ []) ≡ Some 1
 unfolding sym_records_computes
 module_again = refl

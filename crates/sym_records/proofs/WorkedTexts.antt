@@ -62,12 +62,12 @@ second_module : reading (codes "MODULE a b c d\nMODULE a b c d\n") ≡ Err (reco
 unfolding sym_records_computes
 second_module = refl
 
--- a line record behind PUBLIC
+-- a line record after PUBLIC
 line_misplaced : reading (codes "MODULE a b c d\nPUBLIC 0 0 a\n\n0 1 1 0\n") ≡ Err (record { kind = fault.Misplaced; line = 4 })
 unfolding sym_records_computes
 line_misplaced = refl
 
--- STACK CFI behind FUNC
+-- STACK CFI after FUNC
 change_misplaced : reading (codes "MODULE a b c d\nFUNC 0 1 0 a\nSTACK CFI 0 .cfa: 1\n") ≡ Err (record { kind = fault.Misplaced; line = 3 })
 unfolding sym_records_computes
 change_misplaced = refl

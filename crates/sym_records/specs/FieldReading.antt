@@ -1,5 +1,5 @@
--- The fields of a line, read from left to right (Breakpad's symbol_files.md): fields stand behind one or more spaces, and the last may be a name,
--- which is the rest of the line. In a line without a name the spaces and CRs behind the last field do not count. The first field that is wrong
+-- The fields of a line, read from left to right (Breakpad's symbol_files.md): fields stand after one or more spaces, and the last may be a name,
+-- which is the rest of the line. In a line without a name the spaces and CRs after the last field do not count. The first field that is wrong
 -- decides the kind of fault.
 use Rattle.std.specs.Prelude.{ℕ, ◌+◌, ◌*◌, ◌^◌, ◌&&◌, Bool, true, false, nat_lt, if◌then◌else◌, List, [], ◌∷◌, length, codes, Option, Some, None, ok_or, option_and_then, Result, Ok, Err}
 use Rattle.std.specs.Char.{digit_value}
@@ -13,12 +13,12 @@ use Rattle.sym_rules.specs.declared.text_fault.TextKind.TheVariants as fault
 use Rattle.sym_records.specs.declared.line.Extent.{Extent}
 use Rattle.sym_records.specs.Fields.{Middle, Word, Hex, Marked, Decimal, Shape, Name, Rules, Ranges, Last, Then, Held, Values}
 
--- the field that bytes begin with, and what stands behind it
+-- the field that bytes begin with, and what stands after it
 abbrev pub field_of : List ℕ → Result (List ℕ × List ℕ) TextKind
 field_of [] = Err fault.Fields
 field_of (b ∷ bytes) = Ok (before 32 (b ∷ bytes), from 32 (b ∷ bytes))
 
--- the next field, behind the spaces in front of it
+-- the next field, after the spaces in front of it
 unfoldable pub word_at : List ℕ → Result (List ℕ × List ℕ) TextKind
 word_at bytes = field_of (skip is_space bytes)
 
@@ -51,7 +51,7 @@ hex_at bytes = do
   n ← ok_or (hex_value word.0) fault.Hex
   Ok (n, word.1)
 
--- whether the next field is `m`, and what stands behind it where it is
+-- whether the next field is `m`, and what stands after it where it is
 unfoldable pub mark_at : List ℕ → Bool × List ℕ
 mark_at bytes = if bytes_eq (before 32 (skip is_space bytes)) (codes "m") then (true, from 32 (skip is_space bytes)) else (false, bytes)
 

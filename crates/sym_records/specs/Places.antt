@@ -27,7 +27,7 @@ role key.Public = Own
 role key.Init = Frames
 role key.Change = Changes
 
--- which may stand at a place: the first at the start alone, parts of a function in a function alone, and a change directly behind a frame record
+-- which may stand at a place: the first at the start alone, parts of a function in a function alone, and a change directly after a frame record
 -- alone
 abbrev pub may_stand : Place → Role → Bool
 may_stand Start First = true
@@ -43,7 +43,7 @@ may_stand Frame First = false
 may_stand Frame Owned = false
 may_stand Frame role = true
 
--- the place behind one; a part of a function leaves it where it is
+-- the place after one; a part of a function leaves it where it is
 abbrev pub place_behind_role : Place → Role → Place
 place_behind_role place First = Inside
 place_behind_role place Own = Inside

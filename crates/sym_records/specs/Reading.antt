@@ -17,11 +17,11 @@ use Rattle.sym_rules.specs.declared.text_fault.TextKind.TheVariants.{Empty, Misp
 abbrev pub fits : Place → SymLine → Bool
 fits place s = may_stand place (role (keyword s))
 
--- the place behind a record
+-- the place after a record
 abbrev pub leads : Place → SymLine → Place
 leads place s = place_behind_role place (role (keyword s))
 
--- what the lines so far gave: their records, the place behind them, and how many lines there were
+-- what the lines so far gave: their records, the place after them, and how many lines there were
 pub record Seen : Type 0 where
   pub records : List SymLine
   pub place : Place

@@ -6,7 +6,7 @@ use Rattle.sym_records.specs.declared.line.SymLine.TheVariants as line
 use Rattle.sym_records.specs.declared.keyword.Keyword.{Keyword}
 use Rattle.sym_records.specs.declared.keyword.Keyword.TheVariants as key
 
--- the fields behind a keyword
+-- the fields after a keyword
 abbrev pub layout : Keyword → Shape
 layout key.Module = Then Word (Then Word (Then Word Name))
 layout key.Info = Name

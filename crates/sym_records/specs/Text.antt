@@ -1,4 +1,4 @@
--- A line of a symbol file (Breakpad's symbol_files.md): its first words say which record it is, and the fields stand behind them.
+-- A line of a symbol file (Breakpad's symbol_files.md): its first words say which record it is, and the fields stand after them.
 use Rattle.std.specs.Prelude.{ℕ, Bool, nat_lt, if◌then◌else◌, List, codes, Option, Some, None, Result, Ok, Err}
 use Rattle.std.specs.List.{list_all}
 use Rattle.std.specs.Char.{digit_value}
@@ -13,7 +13,7 @@ use Rattle.sym_records.specs.declared.line.SymLine.{SymLine}
 use Rattle.sym_records.specs.declared.keyword.Keyword.{Keyword}
 use Rattle.sym_records.specs.declared.keyword.Keyword.TheVariants as key
 
--- the next word, and what stands behind it
+-- the next word, and what stands after it
 abbrev pub next_word : List ℕ → List ℕ
 next_word bytes = before 32 (skip is_space bytes)
 
@@ -47,7 +47,7 @@ stack_key bytes =
     else if bytes_eq (next_word bytes) (codes "WIN") then Err fault.Windows
     else Err fault.Unknown
 
--- the keyword that a word is, and what stands behind it
+-- the keyword that a word is, and what stands after it
 unfoldable pub worded_key : List ℕ → List ℕ → Result (Keyword × List ℕ) TextKind
 worded_key word rest =
     if bytes_eq word (codes "FUNC") then Ok (key.Func, rest)
@@ -64,11 +64,11 @@ worded_key word rest =
 unfoldable pub keyed : List ℕ → List ℕ → List ℕ → Result (Keyword × List ℕ) TextKind
 keyed word rest whole = if list_all is_hex_digit word then Ok (key.Line, whole) else worded_key word rest
 
--- the keyword of a line, and what stands behind it
+-- the keyword of a line, and what stands after it
 unfoldable pub key_at : List ℕ → Result (Keyword × List ℕ) TextKind
 key_at bytes = keyed (before 32 bytes) (from 32 bytes) bytes
 
--- the record behind a keyword
+-- the record after a keyword
 abbrev pub record_of : Keyword → List ℕ → Result SymLine TextKind
 record_of k bytes = fields_at (layout k) bytes >>= λ v. Ok (made k v)
 

@@ -22,7 +22,7 @@ pub record IsValid (s : SymLine) : Type 0 where
 abbrev pub Stands : Place → SymLine → Type 0
 Stands place s = IsValid s × (fits place s ≡ true)
 
--- each record is valid, and may stand behind those before it
+-- each record is valid, and may stand after those before it
 abbrev pub AreValidFrom : Place → List SymLine → Type 0
 AreValidFrom place [] = Unit {0}
 AreValidFrom place (s ∷ lines) = Stands place s × AreValidFrom (leads place s) lines
@@ -51,12 +51,12 @@ has_fields s = fit (layout (keyword s)) (values s)
 unfoldable pub fields_fit : SymLine → Bool
 fields_fit s = has_fields s && nat_le (length (body s)) (2 ^ 20)
 
--- the index of the first bad record of those behind a place, found by the test
+-- the index of the first bad record of those after a place, found by the test
 unfoldable pub first_bad_from : ℕ → Place → List SymLine → Option ℕ
 first_bad_from i place [] = None
 first_bad_from i place (s ∷ lines) = if fits place s && fields_fit s then first_bad_from (i + 1) (leads place s) lines else Some i
 
--- the place behind records
+-- the place after records
 unfoldable pub place_behind : Place → List SymLine → Place
 place_behind place [] = place
 place_behind place (s ∷ lines) = place_behind (leads place s) lines

@@ -17,7 +17,7 @@ const LINE: usize = 64;
 /// The same with the line's end, and a name that is left out.
 const ROOM: usize = 80;
 
-/// Writes a hexadecimal number behind one space.
+/// Writes a hexadecimal number after one space.
 #[inline]
 fn write_hex_field(number: u64, line: &mut [u8], end: usize) -> usize
     requires room { 17 ≤ end }
@@ -30,7 +30,7 @@ fn write_hex_field(number: u64, line: &mut [u8], end: usize) -> usize
     write_byte(b' ', line, start)
 }
 
-/// Writes a decimal number behind one space.
+/// Writes a decimal number after one space.
 #[inline]
 fn write_decimal_field(number: u32, line: &mut [u8], end: usize) -> usize
     requires room { 11 ≤ end }
@@ -43,7 +43,7 @@ fn write_decimal_field(number: u32, line: &mut [u8], end: usize) -> usize
     write_byte(b' ', line, start)
 }
 
-/// Writes `m` behind one space, where it is to stand.
+/// Writes `m` after one space, where it is to stand.
 #[inline]
 fn write_mark(many: bool, line: &mut [u8], end: usize) -> usize
     requires room { 2 ≤ end }
@@ -58,7 +58,7 @@ fn write_mark(many: bool, line: &mut [u8], end: usize) -> usize
     end
 }
 
-/// Adds the first words of a line, and makes room for so many bytes behind them and for its end.
+/// Adds the first words of a line, and makes room for so many bytes after them and for its end.
 #[inline]
 fn begin(text: &mut Vec<u8>, words: &[u8], room: usize) -> Result<(), OutOfMemory>
     ensures { OnOk result (text.new.items ≡ text.old.items ++ words.now) }

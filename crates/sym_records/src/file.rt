@@ -34,7 +34,7 @@ pub struct NotValid {
 }
 
 /// Whether the record may stand at the place: `MODULE` first and nowhere else, lines and inlines in a function, and a change
-/// of frame rules directly behind a frame record.
+/// of frame rules directly after a frame record.
 fn fits(place: Place, line: &SymLine) -> bool
     ensures { result ≡ fits place line.now }
 {
@@ -47,7 +47,7 @@ fn fits(place: Place, line: &SymLine) -> bool
     }
 }
 
-/// The place behind the record.
+/// The place after the record.
 fn leads(place: Place, line: &SymLine) -> Place
     ensures { result ≡ leads place line.now }
 {

@@ -36,7 +36,7 @@ pub fn plain_rules_fit()
     ensures change { (address : ℕ) (rules : List RuleText) → address < 2 ^ 64 → list_all is_plain_rule rules ≡ true → 0 < length rules → length rules ≤ 18 → fields_fit (SymLine.Change address rules) ≡ true }
 {}
 
-/// Lists of good records, one behind another, are a list of good records.
+/// Lists of good records, one after another, are a list of good records.
 #[tactic(auto, using(crate::proofs::JoiningLemmas::join_fits, crate::proofs::JoiningLemmas::join_behind, crate::proofs::JoiningLemmas::push_behind, crate::proofs::JoiningLemmas::behind_pushed, crate::proofs::JoiningLemmas::frame_fits))]
 pub fn good_lists_are_joined()
     ensures whole { (xs ys : List SymLine) → first_bad xs ≡ None → first_bad_from 0 Place.Inside ys ≡ None → first_bad (xs ++ ys) ≡ None }

@@ -1,7 +1,7 @@
 //! The records of a Breakpad symbol file, their canonical spelling, and the reading of a text of them.
 //!
 //! A symbol file is a text of lines, each a record (Breakpad's symbol_files.md): a keyword and its fields. A table says which
-//! fields stand behind each keyword, and spelling, length, validity and reading go over them. A `SymFile` is a list of records
+//! fields stand after each keyword, and spelling, length, validity and reading go over them. A `SymFile` is a list of records
 //! that a text can spell: `file_of` makes it, or names the first record that no text can spell or that may not stand
 //! where it stands. `render` spells one record and `write_file` all of them, each with one space between its fields, and
 //! what is written reads back as the same records. The `add_` calls spell a record at the end of a text with no record made

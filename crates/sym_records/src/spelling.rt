@@ -16,7 +16,7 @@ use itoa::Buffer;
 use sym_edges::{Failed, Sink};
 use sym_rules::{Waiting, put, put_rules, put_word};
 
-/// Puts a hexadecimal number behind one space.
+/// Puts a hexadecimal number after one space.
 fn put_hex<O: Sink, const N: usize>(
     sink: &mut O,
     waiting: &mut Waiting<N>,
@@ -28,7 +28,7 @@ fn put_hex<O: Sink, const N: usize>(
     put_word(sink, waiting, digits.as_slice())
 }
 
-/// Puts a decimal number behind one space.
+/// Puts a decimal number after one space.
 fn put_decimal<O: Sink, const N: usize>(
     sink: &mut O,
     waiting: &mut Waiting<N>,
@@ -40,7 +40,7 @@ fn put_decimal<O: Sink, const N: usize>(
     put_word(sink, waiting, buffer.format(number).as_bytes())
 }
 
-/// Puts `m` behind one space, where it is to stand.
+/// Puts `m` after one space, where it is to stand.
 fn put_mark<O: Sink, const N: usize>(
     sink: &mut O,
     waiting: &mut Waiting<N>,
@@ -102,7 +102,7 @@ fn put_ranges<O: Sink, const N: usize>(
     Ok(())
 }
 
-/// Puts a field behind one space.
+/// Puts a field after one space.
 fn put_field<O: Sink, const N: usize>(
     sink: &mut O,
     waiting: &mut Waiting<N>,

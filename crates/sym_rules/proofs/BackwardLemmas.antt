@@ -19,6 +19,6 @@ bytes_before line bytes start end is within =
     drop_at (take start line) (bytes ++ drop (end - start) (drop start line)) start long
     ∙ ap (λ l. bytes ++ l) (drop-drop (end - start) start line ∙ ap (λ k. drop k line) behind)
 
--- behind its end a line has nothing
+-- after its end a line has nothing
 pub nothing_behind : (line old text : List ℕ) (end : ℕ) → length old ≤ end → line ≡ text ++ drop end old → line ≡ text
 nothing_behind line old text end past is = is ∙ ap (λ l. text ++ l) (drop_all end old past) ∙ append-nil text

@@ -34,7 +34,7 @@ passes_through before between after waited came waits first second none = record
   whole = sym (ap (λ w. (waited ++ came) ++ w) none ∙ append-nil (waited ++ came));
 }
 
--- one piece behind another
+-- one piece after another
 pub passes_more : (a b c : Option (List ℕ)) (w x v y u : List ℕ) → Passes a w x b v → Passes b v y c u → Passes a w (x ++ y) c u
 passes_more a b c w x v y u first second = record {
   front = first.front ++ second.front;
@@ -56,11 +56,11 @@ front_take f l n = sym (take-append-add f l n)
 regrouped : (w x y f v : List ℕ) → w ++ x ≡ f ++ v → w ++ (x ++ y) ≡ f ++ (v ++ y)
 regrouped w x y f v is = sym (append_assoc w x y) ∙ ap (λ l. l ++ y) is ∙ append_assoc f v y
 
--- the same behind other bytes
+-- the same after other bytes
 pub front_more : (a b : Option (List ℕ)) (w x y : List ℕ) → AddsFront a b (w ++ x) → AddsFront a b (w ++ (x ++ y))
 front_more a b w x y front = subst (λ (l : List ℕ). AddsFront a b l) (append_assoc w x y) (front_longer a b (w ++ x) y front)
 
--- a front of what came behind a piece is one of all
+-- a front of what came after a piece is one of all
 pub front_behind : (a b c : Option (List ℕ)) (w x v y : List ℕ) → Passes a w x b v → AddsFront b c (v ++ y) → AddsFront a c (w ++ (x ++ y))
 front_behind a b c w x v y first front = record {
   count = length first.front + front.count;
@@ -83,7 +83,7 @@ pub pieces_more : {X : Type 0} (f : X → List ℕ) (xs : List X) (i : ℕ) (d :
 pieces_more f xs i d within is =
     ap (flat_map f) (take_more xs i d within) ∙ flat_map-append f (take i xs) (get_or xs i d ∷ []) ∙ ap (λ l. flat_map f (take i xs) ++ l) (append-nil (f (get_or xs i d)) ∙ ap f (sym is))
 
--- the pieces behind it
+-- the pieces after it
 pub pieces_rest : {X : Type 0} (f : X → List ℕ) (xs : List X) (i : ℕ) → flat_map f xs ≡ flat_map f (take i xs) ++ flat_map f (drop i xs)
 pieces_rest f xs i = ap (flat_map f) (sym (take-append-drop i xs)) ∙ flat_map-append f (take i xs) (drop i xs)
 
@@ -127,13 +127,13 @@ rose_on f g h first second rose small = ⊎_elim (λ less. (let rises : g < h = 
 pub hands_through_failed : {A F : Type 0} (e : F) (a b c : Option (List ℕ)) (f g h : ℕ) (w p v : List ℕ) → b ≡ append_told a w → AddsFront b c p → f ≤ g → g ≤ h → Rose g h → Hands {A = A} {F = F} (Err e) a f w p c h v
 hands_through_failed e a b c f g h w p v told front first second rose = record { passed = tt; front = front_through a b c w p told front; kept = omega (arith, first, second); cause = rose_on f g h first second rose }
 
--- a piece behind one that passed
+-- a piece after one that passed
 pub hands_both : {A F : Type 0} (x : A) (end : Result A F) (a b c : Option (List ℕ)) (f g h : ℕ) (w p v q u : List ℕ) → Hands {A = A} {F = F} (Ok x) a f w p b g v → Hands end b g v q c h u → Hands end a f w (p ++ q) c h u
 hands_both x (Ok y) a b c f g h w p v q u first second = record { passed = passes_more a b c w p v q u first.passed second.passed; front = tt; kept = omega (arith, first.kept, second.kept); cause = tt }
 hands_both x (Err e) a b c f g h w p v q u first second =
     record { passed = tt; front = front_behind a b c w p v q first.passed second.front; kept = omega (arith, first.kept, second.kept); cause = rose_on f g h first.kept second.kept second.cause }
 
--- and behind one that did not
+-- and after one that did not
 pub hands_off : {A F : Type 0} (d e : F) (a b : Option (List ℕ)) (f g : ℕ) (w p v q u : List ℕ) → Hands {A = A} {F = F} (Err d) a f w p b g v → Hands {A = A} {F = F} (Err e) a f w (p ++ q) b g u
 hands_off d e a b f g w p v q u first = record { passed = tt; front = front_more a b w p q first.front; kept = first.kept; cause = first.cause }
 

@@ -15,7 +15,7 @@ hex_alone : (n : ℕ) → hex_left 64 n [] ≡ digits 16 false n
 unfolding hex_left digits
 hex_alone n = refl
 
--- what stands behind the digits stays there
+-- what stands after the digits stays there
 hex_front : (k n : ℕ) (acc : List ℕ) → hex_left k n acc ≡ hex_left k n [] ++ acc
 unfolding hex_left
 hex_front zero n acc = refl

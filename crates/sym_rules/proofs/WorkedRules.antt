@@ -145,7 +145,7 @@ cr_inside_good : are_rules (record { target = (target.Other (codes "a\r")); toke
 unfolding sym_rules_computes
 cr_inside_good = refl
 
--- spaces between and behind the words
+-- spaces between and after the words
 more_spaces : rules_at (codes "   $rbp:  $rbp  ") ≡ Ok (record { target = (target.Reg 6); tokens = token.Reg 6 ∷ [] } ∷ [])
 unfolding sym_rules_computes
 more_spaces = refl

@@ -31,7 +31,7 @@ abbrev pub onto : {A : Type 0} → A → List (List A) → List (List A)
 onto x [] = (x ∷ []) ∷ []
 onto x (first ∷ later) = (x ∷ first) ∷ later
 
--- the lines of a text: the last is what stands behind the last LF, and it may be empty
+-- the lines of a text: the last is what stands after the last LF, and it may be empty
 unfoldable pub split_lines : List ℕ → List (List ℕ)
 split_lines [] = [] ∷ []
 split_lines (b ∷ bytes) = if b == 10 then [] ∷ split_lines bytes else onto b (split_lines bytes)

@@ -1,4 +1,4 @@
--- The words of frame rules (Breakpad's symbol_files.md): the name of a target with `:` behind it, then the words of a postfix expression.
+-- The words of frame rules (Breakpad's symbol_files.md): the name of a target with `:` after it, then the words of a postfix expression.
 use Rattle.std.specs.Prelude.{ℕ, List, [], ◌∷◌, ◌++◌, map, codes}
 use Rattle.std.specs.List.{flat_map}
 use Rattle.std.specs.Fmt.{signed_decimal}
@@ -31,7 +31,7 @@ token_word token.Rem = codes "%"
 token_word token.Align = codes "@"
 token_word token.Fetch = codes "^"
 
--- the word that begins a rule: its target's name with `:` behind it
+-- the word that begins a rule: its target's name with `:` after it
 abbrev pub target_word : Target → List ℕ
 target_word target = target_name target ++ 58 ∷ []
 
@@ -47,6 +47,6 @@ spelled_token t = 32 ∷ token_word t
 unfoldable pub spelled_rule : RuleText → List ℕ
 spelled_rule rule = (32 ∷ target_word rule.target) ++ flat_map spelled_token rule.tokens
 
--- rules one behind another, with one space in front of each word
+-- rules one after another, with one space in front of each word
 unfoldable pub spelled_rules : List RuleText → List ℕ
 spelled_rules rules = flat_map spelled_rule rules

@@ -100,7 +100,7 @@ enum KeptTokens {
 impl Model for Tokens {
     ghost use Rattle.std.specs.Prelude.{List};
     ghost use Rattle.sym_rules.specs.declared.rules.Token.{Token};
-    ghost use Rattle.sym_rules.specs.KeptTokens.{kept_tokens};
+    ghost use Rattle.sym_rules.specs.internal.KeptTokens.{kept_tokens};
 
     ghost Value = { List Token };
 

@@ -26,7 +26,7 @@ pub fn hand_on<O: Sink, const N: usize>(
     }
 }
 
-/// Puts bytes behind those that wait. Where they do not fit, what waits is handed on first, and a piece that does not
+/// Puts bytes after those that wait. Where they do not fit, what waits is handed on first, and a piece that does not
 /// fit into an empty buffer goes straight to the sink.
 #[tactic(auto, using(crate::proofs::BufferLemmas::hands_held, crate::proofs::BufferLemmas::hands_failed, crate::proofs::BufferLemmas::hands_next, crate::proofs::BufferLemmas::hands_through, crate::proofs::BufferLemmas::hands_through_failed))]
 pub fn put<O: Sink, const N: usize>(
@@ -54,7 +54,7 @@ pub fn put<O: Sink, const N: usize>(
     }
 }
 
-/// Puts a word behind one space.
+/// Puts a word after one space.
 pub fn put_word<O: Sink, const N: usize>(
     sink: &mut O,
     waiting: &mut Waiting<N>,

@@ -11,7 +11,7 @@ use crate::words::{target_name, token_word};
 use itoa::Buffer;
 use sym_edges::{Failed, Sink};
 
-/// Puts a target's name behind one space, with `:` behind it.
+/// Puts a target's name after one space, with `:` after it.
 fn put_target<O: Sink, const N: usize>(
     sink: &mut O,
     waiting: &mut Waiting<N>,
@@ -26,7 +26,7 @@ fn put_target<O: Sink, const N: usize>(
     put(sink, waiting, b":")
 }
 
-/// Puts a token behind one space.
+/// Puts a token after one space.
 fn put_token<O: Sink, const N: usize>(
     sink: &mut O,
     waiting: &mut Waiting<N>,

@@ -8,7 +8,7 @@ use crate::words::{target_name, token_word};
 use itoa::Buffer;
 use sym_edges::OutOfMemory;
 
-/// Adds a word behind one space.
+/// Adds a word after one space.
 pub fn add_word(text: &mut Vec<u8>, word: &[u8]) -> Result<(), OutOfMemory>
     ensures { OnOk result (text.new.items ≡ text.old.items ++ 32 ∷ word.now) }
 {

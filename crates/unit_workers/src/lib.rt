@@ -9,7 +9,7 @@
 //! hands, one for each worker, and `join` takes them in again. A hand that stands for all workers and has no right left has
 //! drawn each number below the count exactly once: that is the clause of `close`.
 //!
-//! Whatever fails for want of memory answers [`sym_edges::OutOfMemory`], and nothing else fails. That threads run beside each
+//! Whatever fails for lack of memory answers [`sym_edges::OutOfMemory`], and nothing else fails. That threads run beside each
 //! other, that the [`Gate`] is called, and who draws what, is not promised.
 //!
 //! # The one shared word

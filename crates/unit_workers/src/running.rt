@@ -35,7 +35,7 @@ fn deal(
 ///
 /// Each worker draws the next number until there is none, so a unit that takes long holds up no other. With one worker, or
 /// one unit, no thread is started, and there are no more workers than units. Where a thread can't be started, the caller does
-/// that worker's units itself. Where one worker wants memory, the answer is [`OutOfMemory`].
+/// that worker's units itself. Where one worker takes memory, the answer is [`OutOfMemory`].
 pub fn run_all<R: Threads + Sync, J: UnitJob + Sync, G: Gate + Sync>(
     rt: &R,
     alloc: Global,

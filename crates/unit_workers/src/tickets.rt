@@ -100,7 +100,7 @@ impl Hand {
         }
     }
 
-    /// Takes in another hand: its numbers stand behind those of this one.
+    /// Takes in another hand: its numbers stand after those of this one.
     pub fn join(&mut self, tickets: &Tickets, other: Hand)
         requires of { (self.old.roll ≡ tickets.now) × (other.roll ≡ tickets.now) }
         ensures { self.new ≡ held tickets.now (self.old.drawn ++ other.drawn) (self.old.rights + other.rights) (self.old.share + other.share) }

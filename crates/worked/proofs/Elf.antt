@@ -103,7 +103,7 @@ whole_file ps ss =
 unfoldable pub file_of : List Program → List Section → List ℕ
 file_of ps ss = whole_file ps (ss ++ plain ".shstrtab" 3 (names ss ++ codes ".shstrtab" ++ 0 ∷ []) ∷ [])
 
--- the entries of a symbol table behind the usual first one, by the place of the next name
+-- the entries of a symbol table after the usual first one, by the place of the next name
 unfoldable pub entries_from : ℕ → List Symbol → List ℕ
 entries_from name [] = []
 entries_from name (s ∷ ss) =
@@ -116,7 +116,7 @@ entries ss = little 8 0 ++ little 8 0 ++ little 8 0 ++ entries_from 1 ss
 unfoldable pub strings : List Symbol → List ℕ
 strings ss = 0 ∷ flat_map (λ s. s.name ++ 0 ∷ []) ss
 
--- a note of a build id, without padding behind it
+-- a note of a build id, without padding after it
 unfoldable pub id_note : List ℕ → List ℕ
 id_note id = little 4 4 ++ little 4 (length id) ++ little 4 3 ++ hex "474e5500" ++ id
 
@@ -127,7 +127,7 @@ put place new file = take place file ++ new ++ drop (place + length new) file
 unfoldable pub in_file : ℕ → String → List ℕ → List ℕ
 in_file place new file = put place (hex new) file
 
--- other bytes in the header of a section: at a field of it, behind the place of the section headers (e_shoff)
+-- other bytes in the header of a section: at a field of it, after the place of the section headers (e_shoff)
 unfoldable pub in_section : ℕ → ℕ → String → List ℕ → List ℕ
 in_section number field new file = put (slice_index file 40 + 256 * slice_index file 41 + 64 * number + field) (hex new) file
 

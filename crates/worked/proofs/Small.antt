@@ -17,12 +17,12 @@ id = plain ".note.gnu.build-id" 7 (id_note (hex "000102030405060708090a0b0c0d0e0
 unfoldable pub text : List ℕ
 text = hex "f30f1efa 31c0c390 c3909090 90909090"
 
--- section 0, sections, a symbol table that links to its names behind it, and sections behind
+-- section 0, sections, a symbol table that links to its names after it, and sections after
 unfoldable pub file_with : List Program → List Section → List Symbol → List Section → List ℕ
 file_with ps front ss back =
     file_of ps (null ∷ front ++ linked ".symtab" 2 (length front + 2) (entries ss) ∷ plain ".strtab" 3 (strings ss) ∷ back)
 
--- a file with a build id (section 1), code from 1000 to 1010 (2), symbols (3) and their names (4), and sections behind
+-- a file with a build id (section 1), code from 1000 to 1010 (2), symbols (3) and their names (4), and sections after
 unfoldable pub worked : List Symbol → List Section → List ℕ
 worked ss back = file_with (loaded 0 ∷ []) (id ∷ code 0x1000 text ∷ []) ss back
 
@@ -33,7 +33,7 @@ main = function "main" 0x1000
 unfoldable pub small : List ℕ
 small = worked (main ∷ []) []
 
--- the small file with sections behind
+-- the small file with sections after
 unfoldable pub small_and : List Section → List ℕ
 small_and back = worked (main ∷ []) back
 

@@ -1,4 +1,4 @@
--- Worked rows: files with debug entries, and their first fault behind the image (DWARF 5, sections 6.2.4, 7.5 and 7.25).
+-- Worked rows: files with debug entries, and their first fault after the image (DWARF 5, sections 6.2.4, 7.5 and 7.25).
 use Rattle.std.proofs.Common.{◌≡◌, ℕ, ◌+◌, List, [], ◌∷◌, ◌++◌, length, codes, refl}
 use Prim.Native.String.{String}
 use Rattle.sym_edges.proofs.Hex.{little}
@@ -19,7 +19,7 @@ info bytes = progbits ".debug_info" bytes
 abbrev abbreviations : String → Section
 abbreviations bytes = progbits ".debug_abbrev" (hex bytes)
 
--- the file of these sections, behind a build id, code and an empty table of symbols
+-- the file of these sections, after a build id, code and an empty table of symbols
 unfoldable file : List Section → List ℕ
 file sections = worked [] sections
 

@@ -371,7 +371,7 @@ no_table : dump (changed (in_section 4 32 "0000000000000000" ∷ in_section 3 4 
 unfolding files
 no_table = refl
 
--- the names of function symbols alone are looked at: that of symbol 1 begins behind the names
+-- the names of function symbols alone are looked at: that of symbol 1 begins after the names
 the_name_of_a_function : dump (changed (in_file 196 "ffffffff" ∷ []) (worked (symbol "f" 0x12 2 0x1000 ∷ main ∷ []) []))
     ≡ refused "refused elf symbol-table\n"
 unfolding files

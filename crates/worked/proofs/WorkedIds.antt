@@ -29,7 +29,7 @@ three = hex "04000000 03000000 05000000 474e5500 11121300"
 abbrev other : List ℕ
 other = hex "05000000 00000000 03000000 474e5573 00000000"
 
--- a file of two sections of a type behind section 0, and code
+-- a file of two sections of a type after section 0, and code
 unfoldable noted : ℕ → List ℕ → List ℕ → List ℕ
 noted kind first second = file_of (loaded 0 ∷ []) (null ∷ plain "one" kind first ∷ plain "two" kind second ∷ code 0x1000 text ∷ [])
 

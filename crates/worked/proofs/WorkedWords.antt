@@ -17,7 +17,7 @@ usage =
 unfoldable named : String → Told
 named path = ran (codes "dump" ∷ codes path ∷ []) (codes path) (worked [] (progbits "x" [] ∷ []))
 
--- words that are no row give the usage line, with no file and with one
+-- invalid arguments give the usage line, with no file and with one
 no_words : both [] ≡ usage
 unfolding files both named
 no_words = refl

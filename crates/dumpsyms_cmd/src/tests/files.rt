@@ -102,7 +102,7 @@ pub fn entry_of(
     Ok(entry)
 }
 
-/// A file with a build id, code, symbols whose names stand behind them, and one section more.
+/// A file with a build id, code, symbols whose names stand after them, and one section more.
 pub fn file_with<'a>(
     alloc: Global,
     programs: &[(u64, u64)],
@@ -144,7 +144,7 @@ fn put_header(
     put(headers, 8, &[1, 0])
 }
 
-/// A shared object of program headers (p_type and p_vaddr) and of sections, behind which that of the names stands.
+/// A shared object of program headers (p_type and p_vaddr) and of sections, after which that of the names stands.
 pub fn file_of(
     alloc: Global,
     programs: &[(u64, u64)],

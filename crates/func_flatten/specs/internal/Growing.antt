@@ -10,7 +10,7 @@ use Rattle.func_flatten.specs.LineRuns.{number_run}
 abbrev pub goes_on : {V : Type 0} → (V → V → Bool) → Run V → Run V → Bool
 goes_on same x r = (x.end == r.start) && same x.value r.value
 
--- a run added behind the last, which it makes longer where that goes on with it
+-- a run added after the last, which it makes longer where that goes on with it
 abbrev pub added_after : {V : Type 0} → (V → V → Bool) → Run V → List (Run V) → Run V → List (Run V)
 added_after same x [] r = if goes_on same x r then record { start = x.start; end = r.end; value = x.value } ∷ [] else x ∷ r ∷ []
 added_after same x (y ∷ ys) r = x ∷ added_after same y ys r
@@ -38,7 +38,7 @@ abbrev pub with_run_after : LineRun → List LineRun → LineRun → List LineRu
 with_run_after x [] r = if continues x r then record { start = x.start; end = r.end; path = x.path; line = x.line } ∷ [] else x ∷ r ∷ []
 with_run_after x (y ∷ ys) r = x ∷ with_run_after y ys r
 
--- a run added behind the last, which it makes longer where that goes on with it
+-- a run added after the last, which it makes longer where that goes on with it
 abbrev pub with_run : List LineRun → LineRun → List LineRun
 with_run [] r = r ∷ []
 with_run (x ∷ xs) r = with_run_after x xs r

@@ -130,7 +130,7 @@ abbrev pub ReachTo : ℕ → List Cover → Type 0
 ReachTo first [] = Unit {0}
 ReachTo first (c ∷ covers) = (first ≤ c.last) × ReachTo first covers
 
--- the covers behind so many have the addresses from a first one on
+-- the covers after so many have the addresses from a first one on
 pub record StartsCovers (covers : List Cover) (first count : ℕ) : Type 0 where
   pub inside : count ≤ length covers
   pub same : (a : ℕ) → first ≤ a → value_in (map cover_run (drop count covers)) a ≡ value_in (map cover_run covers) a

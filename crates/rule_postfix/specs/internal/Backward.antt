@@ -1,4 +1,4 @@
--- The rules of a record, one behind another, as they are written from the last to the first.
+-- The rules of a record, one after another, as they are written from the last to the first.
 use Rattle.std.specs.Prelude.{ℕ, ◌-◌, Bool, List, map, Option}
 use Rattle.std.specs.List.{list_any, range_with_len}
 use Rattle.std.specs.Option.{option_to_list}

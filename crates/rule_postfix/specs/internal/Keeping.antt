@@ -1,4 +1,4 @@
--- The states behind the CIEs of a section.
+-- The states after the CIEs of a section.
 use Rattle.std.specs.Prelude.{◌≡◌, ℕ, ◌<◌, List, length, slice_index_or, Option, Some, None, Result}
 use Rattle.std.specs.Ordering.{nat_cmp}
 use Rattle.std.specs.BTreeMap.{get}
@@ -24,7 +24,7 @@ KeptFor states e = IsStateOf (get nat_cmp states.by_place e.cie) e
 abbrev pub KeptForAll : CieStates → List Entry → Type 0
 KeptForAll states entries = (j : ℕ) (d : Entry) (f : FdeFields) → j < length entries → (slice_index_or entries j d).body ≡ Good f → KeptFor states f
 
--- behind an entry the states are still those of another, where the two have one CIE if they have the place of one
+-- after an entry the states are still those of another, where the two have one CIE if they have the place of one
 abbrev pub StaysKept : Entry → CieStates → CieStates → Type 0
 StaysKept entry before after =
     (f : FdeFields) → KeptFor before f → ((e : FdeFields) → entry.body ≡ Good e → e.cie ≡ f.cie → HaveOneCie e f) → KeptFor after f

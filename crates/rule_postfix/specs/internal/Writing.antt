@@ -34,13 +34,13 @@ with_changes b rules o = record {
   changes = o.changes ++ change (b - o.base) rules;
 }
 
--- one row more, behind another
+-- one row more, after another
 unfoldable pub with_row : ℕ → Row → Row → Open → Open
 with_row b before after o =
     if some_becomes_unspecified before after then opened o.base (closed o b) b after
     else with_changes b (changed_rules before after) o
 
--- rows, behind another
+-- rows, after another
 unfoldable pub with_rows : Row → List RowAt → Open → Open
 with_rows before [] o = o
 with_rows before (r ∷ rows) o = with_rows r.row rows (with_row r.address before r.row o)

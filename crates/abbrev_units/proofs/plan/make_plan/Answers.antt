@@ -1,5 +1,5 @@
 use Rattle.std.proofs.Common.{ℕ, ◌+◌, take, sym, ap, subst, ◌∙◌}
-use Rattle.abbrev_units.specs.Plans.{IsPlan}
+use Rattle.abbrev_units.specs.internal.Plans.{IsPlan}
 use Rattle.abbrev_units.proofs.PlanLemmas.{ended, plan_sized, plan_read, more_taken}
 use Rattle.abbrev_units.proofs.plan.make_plan.Goals as goal
 

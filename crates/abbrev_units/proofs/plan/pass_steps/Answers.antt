@@ -1,5 +1,5 @@
 use Rattle.std.proofs.Common.{refl}
-use Rattle.abbrev_units.specs.Plans.{steps_at}
+use Rattle.abbrev_units.specs.internal.Plans.{steps_at}
 use Rattle.abbrev_units.proofs.PlanLemmas.{steps_more}
 use Rattle.abbrev_units.proofs.plan.pass_steps.Goals as goal
 

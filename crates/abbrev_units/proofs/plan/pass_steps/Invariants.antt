@@ -1,5 +1,5 @@
 use Rattle.std.proofs.Common.{◌≡◌, drop}
-use Rattle.abbrev_units.specs.Plans.{steps_at}
+use Rattle.abbrev_units.specs.internal.Plans.{steps_at}
 use Rattle.abbrev_units.proofs.plan.pass_steps.Given as goal
 
 abbrev pub invariant-steps : goal.invariant-steps

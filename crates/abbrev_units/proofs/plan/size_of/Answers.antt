@@ -1,6 +1,6 @@
 use Rattle.std.proofs.Common.{sym, subst}
 use Rattle.code_table.specs.declared.kind.Kind.{Kind}
-use Rattle.abbrev_units.specs.Plans.{HasSize}
+use Rattle.abbrev_units.specs.internal.Plans.{HasSize}
 use Rattle.abbrev_units.proofs.PlanLemmas.{nothing_sized, u8_sized, u16_sized, u24_sized, u32_sized, u64_sized, sixteen_sized}
 use Rattle.abbrev_units.proofs.plan.size_of.Goals as goal
 

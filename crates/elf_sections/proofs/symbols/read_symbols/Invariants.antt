@@ -1,6 +1,6 @@
 use Rattle.std.proofs.Common.{Some}
 use Rattle.elf_sections.specs.Symbols.{entries_of}
-use Rattle.elf_sections.specs.Steps.{ReadsSymbols}
+use Rattle.elf_sections.specs.internal.Steps.{ReadsSymbols}
 use Rattle.elf_sections.proofs.symbols.read_symbols.Given as goal
 
 abbrev pub invariant-entries : goal.invariant-entries

@@ -1,4 +1,4 @@
-use Rattle.leb_cursor.specs.Groups.{SoFar}
+use Rattle.leb_cursor.specs.internal.Groups.{SoFar}
 use Rattle.leb_cursor.proofs.leb.read_groups.Given as goal
 
 abbrev pub invariant-loop-index : goal.invariant-loop-index

@@ -1,5 +1,5 @@
 use Rattle.std.proofs.Common.{◌≡◌, ◌++◌, None, length}
-use Rattle.step_maps.specs.Joining.{covers_from}
+use Rattle.step_maps.specs.internal.Joining.{covers_from}
 use Rattle.step_maps.proofs.joining.joined_covers.Given as goal
 
 abbrev pub invariant-stops : goal.invariant-stops

@@ -1,5 +1,5 @@
 use Rattle.std.proofs.Common.{◌≡◌, length}
-use Rattle.step_maps.specs.Laying.{ascends, ascends_from}
+use Rattle.step_maps.specs.internal.Laying.{ascends, ascends_from}
 use Rattle.step_maps.proofs.laying.is_ascending.Given as goal
 
 abbrev pub invariant-items : goal.invariant-items

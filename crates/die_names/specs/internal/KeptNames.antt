@@ -1,4 +1,4 @@
--- No public clause cites this: where the bytes of a name are.
+-- Where the bytes of a name are.
 use Rattle.std.specs.Prelude.{ℕ, List}
 use Rattle.die_names.specs.declared.kept.KeptName.{KeptName}
 use Rattle.die_names.specs.declared.kept.KeptName.TheVariants.{Whole, Made}

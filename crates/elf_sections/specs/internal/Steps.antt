@@ -1,4 +1,4 @@
--- No public clause cites this: what the code's own parts answer, below the public calls.
+-- What the code's own parts answer, below the public calls.
 use Rattle.std.specs.Prelude.{◌≡◌, ℕ, ◌==◌, ◌&&◌, true, false, List, Option, Some, None, length, is_none, map}
 use Rattle.sym_edges.specs.Addresses.{Range}
 use Rattle.elf_sections.specs.Notes.{NoteParts}

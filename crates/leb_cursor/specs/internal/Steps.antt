@@ -1,4 +1,4 @@
--- No public clause cites this: words for the code's own parts, below the public calls.
+-- Words for the code's own parts, below the public calls.
 use Rattle.std.specs.Prelude.{ℕ, Result, Ok, Err}
 use Rattle.leb_cursor.specs.Ahead.{Ahead, passed}
 

@@ -1,4 +1,4 @@
--- No public clause cites this: what the groups of a LEB128's first nine bytes are, as the code adds them up.
+-- What the groups of a LEB128's first nine bytes are, as the code adds them up.
 use Rattle.std.specs.Prelude.{◌≡◌, ℕ, ◌≤◌, ◌<◌, ◌^◌, List, length, min, slice_index, Some}
 use Rattle.leb_cursor.specs.declared.leb.Groups.{Groups}
 use Rattle.leb_cursor.specs.declared.leb.Groups.TheVariants.{Ended, Going}
@@ -11,7 +11,7 @@ pub record SoFar (sum count : ℕ) (bytes : List ℕ) : Type 0 where
   pub sum_is : sum ≡ leb_sum count bytes
   pub below : sum < 128 ^ count
 
--- the number ends behind so many bytes, nine at most, with this sum of groups
+-- the number ends after so many bytes, nine at most, with this sum of groups
 pub record EndsWith (sum count : ℕ) (bytes : List ℕ) : Type 0 where
   pub ended : leb_length bytes ≡ Some count
   pub there : count ≤ length bytes

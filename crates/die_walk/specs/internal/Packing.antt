@@ -1,4 +1,4 @@
--- No public clause cites this: how a kept entry holds its attributes.
+-- How a kept entry holds its attributes.
 use Rattle.std.specs.Prelude.{ℕ, Bool, true, false, Option, None, Some}
 use Rattle.std.specs.Int.{w64, cast_signed}
 use Rattle.abbrev_units.specs.declared.value.Value.{Value}

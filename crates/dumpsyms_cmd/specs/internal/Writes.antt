@@ -1,4 +1,4 @@
--- No public clause cites this: what the writing of an answer leaves.
+-- What the writing of an answer leaves.
 use Rattle.std.specs.Prelude.{◌≡◌, ◌⊎◌, ℕ, Bool, true, List}
 use Rattle.dumpsyms_cmd.specs.Verdict.{Verdict}
 use Rattle.dumpsyms_cmd.specs.Observed.{Writing, SinkFailed, Received, ReceivedFront, ReceivedWhole, ReceivedFronts}

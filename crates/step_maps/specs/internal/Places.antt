@@ -1,4 +1,4 @@
--- No public clause cites this: places in the lists of stops.
+-- Places in the lists of stops.
 use Rattle.std.specs.Prelude.{◌≡◌, ℕ, Bool, true, false, ◌<◌, ◌≤◌, length, slice_index, nat_le, List, Option, None, Some}
 use Rattle.step_maps.specs.Stepping.{held_from}
 

@@ -1,4 +1,4 @@
--- No public clause cites this: a short way over the values of an entry.
+-- A short way over the values of an entry.
 use Rattle.std.specs.Prelude.{◌≡◌, ℕ, ◌==◌, false, List, [], ◌∷◌, Option, None, Some, Result, Ok}
 use Rattle.code_table.specs.declared.forms.FormRow.{FormRow}
 use Rattle.sym_edges.specs.Results.{◌>>=◌}

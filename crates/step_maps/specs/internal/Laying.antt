@@ -1,4 +1,4 @@
--- No public clause cites this: stretches laid over one another, each over those behind it.
+-- Stretches laid over one another, each over those after it.
 use Rattle.std.specs.Prelude.{◌≡◌, ℕ, ◌^◌, ◌<◌, ◌≤◌, Bool, true, false, ◌&&◌, nat_lt, min, if◌then◌else◌, List, [], ◌∷◌, Option, None, Some}
 use Rattle.step_maps.specs.declared.stretch.Stretch.{Stretch}
 use Rattle.step_maps.specs.declared.stretch.FirstItem.{FirstItem}
@@ -10,7 +10,7 @@ use Rattle.step_maps.specs.Copying.{BelowEnd}
 abbrev pub own_item : Stretch → ℕ → Option FirstItem
 own_item s a = if reaches s a then Some (record { index = s.index; class = s.class; shared = false }) else None
 
--- each stretch over those behind it
+-- each stretch over those after it
 unfoldable pub laid : List Stretch → ℕ → Option FirstItem
 laid [] a = None
 laid (s ∷ items) a = over (own_item s a) (laid items a)

@@ -1,4 +1,4 @@
--- No public clause cites this: the records of a file as they are spelled.
+-- The records of a file as they are spelled.
 use Rattle.std.specs.Prelude.{◌≡◌, ℕ, ◌^◌, true, List, ◌++◌, None, Ok}
 use Rattle.elf_sections.specs.Image.{ImageParts}
 use Rattle.sym_records.specs.Canon.{canon_text}
@@ -18,7 +18,7 @@ use Rattle.dumpsyms_cmd.specs.Dump.{identity_lines, public_lines, written_of, Ca
 use Rattle.rule_postfix.specs.Covering.{SaysFrames}
 use Rattle.sym_lookup.specs.Findings.{HasNoFindings}
 
--- a record that may stand behind the first one
+-- a record that may stand after the first one
 abbrev pub FitsInside : SymLine → Type 0
 FitsInside line = (fits Inside line ≡ true) × (fields_fit line ≡ true)
 

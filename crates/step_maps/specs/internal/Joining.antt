@@ -1,4 +1,4 @@
--- No public clause cites this: covers made from the stops of a step map.
+-- Covers made from the stops of a step map.
 use Rattle.std.specs.Prelude.{ℕ, ◌-◌, ◌^◌, Bool, true, false, ◌==◌, if◌then◌else◌, List, [], ◌∷◌, Option, None, Some}
 use Rattle.step_maps.specs.declared.stretch.FirstItem.{FirstItem}
 use Rattle.step_maps.specs.declared.stretch.Cover.{Cover}
@@ -9,7 +9,7 @@ is_same_index None (Some y) = false
 is_same_index (Some x) None = false
 is_same_index (Some x) (Some y) = x.index == y.index
 
--- the cover up to a last address, where there is an item, in front of those behind it
+-- the cover up to a last address, where there is an item, in front of those after it
 abbrev pub with_cover : ℕ → ℕ → Option FirstItem → List Cover → List Cover
 with_cover first last None covers = covers
 with_cover first last (Some item) covers = record { first = first; last = last; index = item.index; shared = item.shared } ∷ covers
