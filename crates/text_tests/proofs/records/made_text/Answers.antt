@@ -7,7 +7,7 @@ use Rattle.sym_records.specs.Validity.{first_bad}
 use Rattle.sym_records.specs.declared.line.SymLine.{SymLine}
 use Rattle.sym_records.specs.declared.line.SymLine.TheVariants.{Module}
 use Rattle.clean_names.specs.Cleaning.{cleaned}
-use Rattle.record_tests.proofs.records.made_text.Goals as goal
+use Rattle.text_tests.proofs.records.made_text.Goals as goal
 
 abbrev binary : SymLine
 binary = Module (record { os = codes "Linux"; arch = codes "x86_64"; id = codes "0F0"; name = cleaned (codes "a.out") })

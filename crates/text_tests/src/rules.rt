@@ -1,5 +1,4 @@
 //! Rules of one to four words, spelled in two ways, and sizes of types (`sym_rules`).
-use crate::comparing::{expect, expect_bytes};
 use std::alloc::Global;
 use std::mem::size_of;
 use std::test::Fail;
@@ -8,6 +7,11 @@ use sym_rules::{
     ByteText, RuleName, RuleText, Target, Token, Tokens, Waiting, add_rules, add_word, hand_on,
     put_rules,
 };
+use test_rows::same;
+
+const _: () = prove!(size_of::<Token>() == 16);
+
+const _: () = prove!(size_of::<Target>() == 16);
 
 fn name(alloc: Global, bytes: &[u8]) -> Result<RuleName, OutOfMemory> {
     RuleName::of(alloc, ByteText::of(Vec::from_slice(alloc, bytes)?))
@@ -15,27 +19,23 @@ fn name(alloc: Global, bytes: &[u8]) -> Result<RuleName, OutOfMemory> {
 
 /// Rules of one, two, three and four words, with a name and a negative number among them.
 fn some_rules(alloc: Global) -> Result<Vec<RuleText>, OutOfMemory> {
-    let mut words = Vec::new(alloc);
-    words.push(Token::Other(name(alloc, b".ra")?))?;
-    words.push(Token::Undef)?;
-    let mut rules = Vec::new(alloc);
-    rules.push(RuleText {
-        target: Target::Cfa,
-        tokens: Tokens::three(Token::Reg(7), Token::Number(8), Token::Add),
-    })?;
-    rules.push(RuleText {
-        target: Target::Ra,
-        tokens: Tokens::four(Token::Cfa, Token::Number(-8), Token::Add, Token::Fetch),
-    })?;
-    rules.push(RuleText {
-        target: Target::Reg(6),
-        tokens: Tokens::one(Token::Reg(6)),
-    })?;
-    rules.push(RuleText {
-        target: Target::Other(name(alloc, b"$xmm0")?),
-        tokens: Tokens::of(words),
-    })?;
-    Ok(rules)
+    let other = Target::Other(name(alloc, b"$xmm0")?);
+    let words = [Token::Other(name(alloc, b".ra")?), Token::Undef];
+    let words = Tokens::of(Vec::from_array(alloc, words)?);
+    let rules = [
+        (
+            Target::Cfa,
+            Tokens::three(Token::Reg(7), Token::Number(8), Token::Add),
+        ),
+        (
+            Target::Ra,
+            Tokens::four(Token::Cfa, Token::Number(-8), Token::Add, Token::Fetch),
+        ),
+        (Target::Reg(6), Tokens::one(Token::Reg(6))),
+        (other, words),
+    ];
+    let rules = rules.map(|(target, tokens)| RuleText { target, tokens });
+    Ok(Vec::from_array(alloc, rules)?)
 }
 
 const RULES: &[u8] = b" .cfa: $rsp 8 + .ra: .cfa -8 + ^ $rbp: $rbp $xmm0: .ra .undef";
@@ -46,19 +46,13 @@ fn rules_are_spelled(rt: HostRuntime) -> Result<(), Fail> {
     let mut text = Vec::new(rt.alloc());
     add_word(&mut text, b"a")?;
     add_rules(&mut text, rules.as_slice())?;
-    expect_bytes(&rt, "at the end of a text", text.split_at(2).1, RULES);
+    same(&rt, "at the end of a text", text.split_at(2).1, RULES);
     let none = CallList::of(Vec::new(rt.alloc()));
     let mut sink = MemSink::new(rt.alloc(), 100, 7, none)?;
     let mut waiting = Waiting::<4>::new();
     let put = put_rules(&mut sink, &mut waiting, rules.as_slice()).is_ok()
         && hand_on(&mut sink, &mut waiting).is_ok();
-    expect_bytes(&rt, "in front of a sink", sink.written(), RULES);
-    expect(&rt, "with no fault", &[put as u64], &[1]);
+    same(&rt, "in front of a sink", sink.written(), RULES);
+    same(&rt, "with no fault", &[put], &[true]);
     Ok(())
-}
-
-#[test]
-fn words_are_small(rt: HostRuntime) {
-    let sizes = [size_of::<Token>() as u64, size_of::<Target>() as u64];
-    expect(&rt, "a token and a target", &sizes, &[16, 16]);
 }

@@ -2,11 +2,10 @@
 ghost use Rattle.std.specs.Prelude.{◌≤◌, IfOk};
 ghost use Rattle.step_maps.specs.Covers.{AreStretches};
 
-use crate::comparing::expect;
 use std::alloc::{AllocError, Global};
-use std::process::Abort;
 use std::test::Fail;
 use step_maps::{Cover, StepMap, Stretch, copy_steps, covers, first_items, overlay};
+use test_rows::same;
 
 fn stretch(first: u64, last: u64, index: u32, class: u32) -> Stretch
     requires { first ≤ last }
@@ -27,73 +26,6 @@ fn cover(first: u64, last: u64, index: u32, shared: bool) -> Cover {
         index,
         shared,
     }
-}
-
-/// Compares the covers of stretches with those that are wanted.
-fn expect_covers(
-    rt: &impl Abort,
-    alloc: Global,
-    row: &str,
-    items: &[Stretch],
-    want: &[Cover],
-) -> Result<(), Fail>
-    requires { AreStretches items.now }
-{
-    let found = covers(alloc, items)?;
-    assert_eq!(rt; found.as_slice(), want, "{row}");
-    Ok(())
-}
-
-#[test]
-fn the_first_in_the_list_covers_an_address(rt: HostRuntime) -> Result<(), Fail> {
-    let alloc = rt.alloc();
-    let top = u64::MAX;
-    let two = [stretch(5, 9, 0, 0), stretch(0, 7, 1, 1)];
-    let two_covers = [cover(0, 4, 1, false), cover(5, 9, 0, true)];
-    expect_covers(&rt, alloc, "two that overlap", &two, &two_covers)?;
-    expect_covers(&rt, alloc, "no item", &[], &[])?;
-    let sets = [
-        stretch(5, 8, 0, 0),
-        stretch(1, 2, 0, 0),
-        stretch(3, 4, 0, 0),
-    ];
-    expect_covers(
-        &rt,
-        alloc,
-        "touching, of one index",
-        &sets,
-        &[cover(1, 8, 0, false)],
-    )?;
-    let apart = [stretch(5, 8, 0, 0), stretch(1, 4, 1, 0)];
-    let apart_covers = [cover(1, 4, 1, false), cover(5, 8, 0, false)];
-    expect_covers(
-        &rt,
-        alloc,
-        "touching, of two indices",
-        &apart,
-        &apart_covers,
-    )?;
-    let high = [stretch(top, top, 1, 0), stretch(top - 2, top, 2, 1)];
-    let high_covers = [cover(top - 2, top - 1, 2, false), cover(top, top, 1, true)];
-    expect_covers(&rt, alloc, "up to the last address", &high, &high_covers)?;
-    let whole = [stretch(0, top, 0, 0), stretch(3, 4, 1, 1)];
-    expect_covers(
-        &rt,
-        alloc,
-        "one that holds all, first",
-        &whole,
-        &[cover(0, top, 0, false)],
-    )?;
-    let inner = [stretch(0, 4, 1, 1), stretch(0, top, 0, 0)];
-    let inner_covers = [cover(0, 4, 1, true), cover(5, top, 0, false)];
-    expect_covers(
-        &rt,
-        alloc,
-        "one that holds all, last",
-        &inner,
-        &inner_covers,
-    )?;
-    Ok(())
 }
 
 /// Stretches that fall, each of four addresses and overlapping the one after it by one.
@@ -123,7 +55,7 @@ fn some_thousand_stretches(rt: HostRuntime) -> Result<(), Fail> {
         last.first,
         last.last,
     ];
-    expect(&rt, "the covers", &got, &[5000, 3, 5, 15000, 15003]);
+    same(&rt, "the covers", &got, &[5000, 3, 5, 15000, 15003]);
     let steps = first_items(alloc, items.as_slice())?;
     let both = overlay(alloc, &steps, &steps)?;
     let mut copy = StepMap::with_room(alloc, 4)?;
@@ -133,7 +65,7 @@ fn some_thousand_stretches(rt: HostRuntime) -> Result<(), Fail> {
         None => 0,
         Some(item) => item.index as u64 * 10 + item.shared as u64,
     });
-    expect(
+    same(
         &rt,
         "laid over themselves, in part",
         &marks,

@@ -1,0 +1,22 @@
+//! Tests of the lowest crates and of those that make records: `sym_edges`, `range_set`, `step_maps`, `unit_workers`, `sym_rules` and
+//! `sym_records`.
+//!
+//! They use public calls alone and nothing stands on them, so each of those crates is proved without them. There is no code here. A
+//! test shows what no clause says: that calls answer with ample memory, what files and streams do that are slow, interrupted or
+//! broken, that threads meet, and the sizes of types.
+#![tactic(auto)]
+
+#[cfg(test)]
+mod fakes;
+#[cfg(test)]
+mod records;
+#[cfg(test)]
+mod rules;
+#[cfg(test)]
+mod sets;
+#[cfg(test)]
+mod steps;
+#[cfg(test)]
+mod streams;
+#[cfg(test)]
+mod workers;

@@ -1,0 +1,273 @@
+//! A record of each kind, many records, the longest lines and names, and the size of a record (`sym_records`).
+ghost use Rattle.std.specs.Prelude.{IfOk};
+ghost use Rattle.sym_records.specs.Spelled.{text_bytes, IsSpelled};
+
+use std::alloc::Global;
+use std::mem::size_of;
+use std::test::Fail;
+use sym_edges::{CallList, MemSink, OutOfMemory};
+use sym_records::{
+    Binary, BoxedBinary, ByteText, Extent, Extents, RuleText, Rules, SymFile, SymLine, SymText,
+    Target, TextPieces, Token, Tokens, add_line, add_module, clean, file_of, is_valid, render,
+    write_file,
+};
+use test_rows::same;
+
+const _: () = prove!(size_of::<SymLine>() == 56);
+
+fn text(alloc: Global, bytes: &[u8]) -> Result<ByteText, OutOfMemory> {
+    Ok(ByteText::of(Vec::from_slice(alloc, bytes)?))
+}
+
+fn long_text(alloc: Global, length: usize) -> Result<ByteText, OutOfMemory> {
+    Ok(ByteText::of(vec![in alloc; b'a'; length]?))
+}
+
+fn one_rule(alloc: Global, offset: i64) -> Result<Vec<RuleText>, OutOfMemory> {
+    let tokens = Tokens::three(Token::Reg(7), Token::Number(offset), Token::Add);
+    let target = Target::Cfa;
+    Ok(Vec::from_array(alloc, [RuleText { target, tokens }])?)
+}
+
+fn two_ranges(alloc: Global) -> Result<Vec<Extent>, OutOfMemory> {
+    let ranges = [(0x1004, 8), (0x2000, 16)].map(|(address, size)| Extent { address, size });
+    Ok(Vec::from_array(alloc, ranges)?)
+}
+
+fn module(alloc: Global) -> Result<SymLine, OutOfMemory> {
+    let parts = Binary {
+        os: text(alloc, b"Linux")?,
+        arch: text(alloc, b"x86_64")?,
+        id: text(alloc, b"0F0")?,
+        name: text(alloc, b"a.out")?,
+    };
+    Ok(SymLine::Module {
+        binary: BoxedBinary::of(alloc, parts)?,
+    })
+}
+
+/// The record of a kind, in the order in which they may stand.
+fn record(alloc: Global, kind: u32) -> Result<SymLine, OutOfMemory> {
+    Ok(match kind {
+        0 => module(alloc)?,
+        1 => SymLine::Info {
+            text: text(alloc, b"CODE_ID 00")?,
+        },
+        2 => SymLine::File {
+            number: u32::MAX,
+            name: text(alloc, b"/s/a.c")?,
+        },
+        3 => SymLine::Origin {
+            number: 0,
+            name: text(alloc, b"g")?,
+        },
+        4 => SymLine::Func {
+            many: true,
+            address: 0x1000,
+            size: 0x20,
+            params: 0,
+            name: text(alloc, b"_Z1fv")?,
+        },
+        5 => SymLine::Inline {
+            level: 0,
+            call_line: 4,
+            call_file: 0,
+            origin: 0,
+            ranges: Extents::of(two_ranges(alloc)?),
+        },
+        6 => SymLine::Line {
+            address: 0x1004,
+            size: 8,
+            line: 9,
+            file: 0,
+        },
+        7 => SymLine::Public {
+            many: false,
+            address: u64::MAX,
+            params: 0,
+            name: text(alloc, b"main ")?,
+        },
+        8 => SymLine::Init {
+            address: 0x1000,
+            size: 0x20,
+            rules: Rules::of(one_rule(alloc, 8)?),
+        },
+        _ => SymLine::Change {
+            address: 0x1001,
+            rules: Rules::of(one_rule(alloc, 16)?),
+        },
+    })
+}
+
+/// A record of each kind.
+fn each_record(alloc: Global) -> Result<Vec<SymLine>, OutOfMemory> {
+    let mut lines = Vec::new(alloc);
+    for kind in 0..10 {
+        lines.push(record(alloc, kind)?)?;
+    }
+    Ok(lines)
+}
+
+const WHOLE: &[u8] =
+    b"MODULE Linux x86_64 0F0 a.out\nINFO CODE_ID 00\nFILE 4294967295 /s/a.c\nINLINE_ORIGIN 0 g\nFUNC m 1000 20 0 _Z1fv\nINLINE 0 4 0 0 1004 8 2000 10\n1004 8 9 0\nPUBLIC ffffffffffffffff 0 main \nSTACK CFI INIT 1000 20 .cfa: $rsp 8 +\nSTACK CFI 1001 .cfa: $rsp 16 +\n";
+
+/// What a sink held after `write_file`, and whether all was written.
+fn write(
+    alloc: Global,
+    file: &SymFile,
+    (room, step, fail): (usize, usize, u64),
+) -> Result<(MemSink, bool), OutOfMemory> {
+    let fail = CallList::of(Vec::from_slice(alloc, &[fail])?);
+    let mut sink = MemSink::new(alloc, room, step.max(1), fail)?;
+    let whole = write_file(file, &mut sink).is_ok();
+    Ok((sink, whole))
+}
+
+/// The room of a sink, how many bytes it takes at once, and the number of the call that fails; how many bytes it takes of `WHOLE`.
+const WRITES: [(&str, (usize, usize, u64), usize); 6] = [
+    ("in one piece", (500, 500, 0), 252),
+    ("byte by byte", (500, 1, 0), 252),
+    ("into just enough room", (252, 7, 0), 252),
+    ("into too little room", (251, 7, 0), 251),
+    ("the first call fails", (500, 50, 1), 0),
+    ("the third call fails", (500, 50, 3), 100),
+];
+
+#[test]
+fn records_are_rendered_and_written(rt: HostRuntime) -> Result<(), Fail> {
+    let alloc = rt.alloc();
+    let records = each_record(alloc)?;
+    let mut rendered = Vec::new(alloc);
+    for line in &records {
+        rendered.extend_from_slice(render(alloc, line)?.as_slice())?;
+    }
+    same(&rt, "rendered", rendered.as_slice(), WHOLE);
+    let Ok(file) = file_of(records) else {
+        return Err("the records are no file".into());
+    };
+    for (row, sink, count) in WRITES {
+        let (sink, is_whole) = write(alloc, &file, sink)?;
+        same(
+            &rt,
+            row,
+            sink.written(),
+            WHOLE.split_at(count.min(WHOLE.len())).0,
+        );
+        same(&rt, row, &[is_whole], &[count == WHOLE.len()]);
+    }
+    same(
+        &rt,
+        "the records come back",
+        &[file.into_vec().len()],
+        &[10],
+    );
+    Ok(())
+}
+
+#[test]
+fn many_records_and_a_long_name_are_written(rt: HostRuntime) -> Result<(), Fail> {
+    let alloc = rt.alloc();
+    let mut lines = Vec::new(alloc);
+    lines.push(module(alloc)?)?;
+    lines.push(SymLine::Func {
+        many: false,
+        address: 0,
+        size: 1,
+        params: 0,
+        name: long_text(alloc, 200_000)?,
+    })?;
+    for _ in 0..200_000 {
+        lines.push(SymLine::Line {
+            address: 0x1000,
+            size: 0x10,
+            line: 5,
+            file: 1,
+        })?;
+    }
+    let Ok(file) = file_of(lines) else {
+        return Err("the records are no file".into());
+    };
+    let (sink, is_whole) = write(alloc, &file, (3_000_000, 3_000_000, 0))?;
+    let count = 30 + 200_012 + 12 * 200_000;
+    same(&rt, "all bytes", &[sink.written().len()], &[count]);
+    let is_last = sink.written().ends_with(b"1000 10 5 1\n");
+    same(&rt, "to the last line", &[is_whole, is_last], &[true, true]);
+    Ok(())
+}
+
+/// As a caller makes a text: it is canonical by what is known of its records.
+fn made_text(alloc: Global) -> Result<TextPieces, OutOfMemory>
+    ensures { IfOk result (λ t. IsSpelled (text_bytes t)) }
+{
+    let mut text = TextPieces::new(alloc);
+    add_module(&mut text.last, b"Linux", b"x86_64", b"0F0", b"a.out")?;
+    text.turn(alloc)?;
+    Ok(text)
+}
+
+#[test]
+fn a_text_grows_in_pieces_and_is_written(rt: HostRuntime) -> Result<(), Fail> {
+    let alloc = rt.alloc();
+    let mut long = TextPieces::new(alloc);
+    for _ in 0..200_000 {
+        add_line(&mut long.last, 0x1000, 0x10, 5, 1)?;
+        long.turn(alloc)?;
+    }
+    let mut lengths = Vec::new(alloc);
+    for piece in &long.full {
+        lengths.push(piece.len())?;
+    }
+    lengths.push(long.last.len())?;
+    let rest = 12 * 200_000 - 2 * 1_048_584;
+    same(&rt, "pieces", &lengths, &[1_048_584, 1_048_584, rest]);
+    let text = SymText::of(made_text(alloc)?);
+    let fail = CallList::of(Vec::new(alloc));
+    let mut sink = MemSink::new(alloc, 100, 7, fail)?;
+    let is_whole = text.write(&mut sink).is_ok();
+    same(&rt, "all is written", &[is_whole], &[true]);
+    let line = b"MODULE Linux x86_64 0F0 a.out\n";
+    same(&rt, "the text", sink.written(), line);
+    Ok(())
+}
+
+/// Whether a PUBLIC record with a name of so many bytes is valid.
+fn is_public(alloc: Global, length: usize) -> Result<bool, OutOfMemory> {
+    Ok(is_valid(&SymLine::Public {
+        many: false,
+        address: 0,
+        params: 0,
+        name: long_text(alloc, length)?,
+    }))
+}
+
+/// Whether an INLINE record of many ranges is valid, whose last one has this size.
+fn is_inline(alloc: Global, size: u64) -> Result<bool, OutOfMemory> {
+    let mut ranges = vec![in alloc; Extent {
+        address: 0,
+        size: 0
+    }; 262_139]?;
+    ranges.push(Extent {
+        address: 0x10,
+        size,
+    })?;
+    Ok(is_valid(&SymLine::Inline {
+        level: 0,
+        call_line: 0,
+        call_file: 0,
+        origin: 0,
+        ranges: Extents::of(ranges),
+    }))
+}
+
+#[test]
+fn a_line_has_at_most_two_to_the_twentieth_bytes(rt: HostRuntime) -> Result<(), Fail> {
+    let alloc = rt.alloc();
+    let public = [is_public(alloc, 1_048_565)?, is_public(alloc, 1_048_566)?];
+    same(&rt, "PUBLIC", &public, &[true, false]);
+    let inline = [is_inline(alloc, 16)?, is_inline(alloc, 256)?];
+    same(&rt, "INLINE", &inline, &[true, false]);
+    let name = long_text(alloc, 65_537)?;
+    let name = clean(alloc, name.as_slice())?;
+    same(&rt, "a cleaned name", &[name.len()], &[65_536]);
+    Ok(())
+}
