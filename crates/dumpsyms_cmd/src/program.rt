@@ -6,8 +6,8 @@ ghost use Rattle.dumpsyms_cmd.specs.declared.judgement.Answer.TheVariants.{NoMem
 ghost use Rattle.dumpsyms_cmd.specs.Program.{Promises};
 ghost use Rattle.dumpsyms_cmd.specs.internal.Writes.{Says, Writes};
 
-use crate::judgement::{Answer, Judgement, Message, Output};
 use crate::commands::answer_words;
+use crate::judgement::{Answer, Judgement, Message, Output};
 use crate::refusals::UNREAD;
 use std::alloc::Global;
 use std::thread::Threads;

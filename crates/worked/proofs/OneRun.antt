@@ -23,6 +23,7 @@ judging_by run p low = go p.found
     other : (v : Verdict) → WasWritten run v → (v.status < 3 → ⊥) → ⊥
     other v (inl whole) high = high (let same = whole.0 in omega arith)
     other v (inr failed) high = (let is = failed.0 in absurd (omega arith))
+
     go : WasJudged run ⊎ (WasNotRead run ⊎ HadNoMemory run) → WasJudged run
     go (inl judged) = judged
     go (inr (inl unread_run)) = absurd (other unread unread_run.written (λ is. omega arith))
