@@ -3,7 +3,7 @@ use Rattle.std.proofs.Common.{◌≡◌, ◌⊎◌, inl, inr, ℕ, ◌<◌, ◌�
 use Rattle.sym_edges.specs.Outside.{Files, Rose}
 use Rattle.dumpsyms_cmd.specs.Words.{Asked, files_of}
 use Rattle.dumpsyms_cmd.specs.Verdict.{Verdict, unread, no_memory}
-use Rattle.dumpsyms_cmd.specs.Observed.{Writing, Stood, StoreFailed, SinkFailed, SinkStood, ReceivedWhole, Asks}
+use Rattle.dumpsyms_cmd.specs.Observed.{SinkSeen, Stood, StoreFailed, SinkFailed, SinkStood, ReceivedWhole, Asks}
 use Rattle.dumpsyms_cmd.specs.Judged.{is_some_output, has_output, judgement_verdict, answer_verdict, IsUsage, IsJudged, AnswersCommand}
 use Rattle.dumpsyms_cmd.specs.internal.Writes.{Writes}
 use Rattle.dumpsyms_cmd.specs.Program.{Run, command, WasWritten, WasJudged, WasNotRead, HadNoMemory, Promises}
@@ -17,11 +17,11 @@ none_some None is some = cc
 none_some (Some x) is some = cc
 
 -- a write failed
-some_failed : (has : Bool) (out err : Writing) → (((has ≡ true) × SinkFailed out) ⊎ SinkFailed err) → SinkFailed out ⊎ SinkFailed err
+some_failed : (has : Bool) (out err : SinkSeen) → (((has ≡ true) × SinkFailed out) ⊎ SinkFailed err) → SinkFailed out ⊎ SinkFailed err
 some_failed has out err (inl failed) = inl failed.1
 some_failed has out err (inr failed) = inr failed
 
-err_failed : (has : Bool) (out err : Writing) → has ≡ false → (((has ≡ true) × SinkFailed out) ⊎ SinkFailed err) → SinkFailed err
+err_failed : (has : Bool) (out err : SinkSeen) → has ≡ false → (((has ≡ true) × SinkFailed out) ⊎ SinkFailed err) → SinkFailed err
 err_failed has out err none (inl failed) = absurd (let h = failed.0 in cc)
 err_failed has out err none (inr failed) = failed
 
@@ -29,7 +29,7 @@ err_failed has out err none (inr failed) = failed
 stood_rose : (before after : ℕ) → Stood before after → Rose before after → ⊥
 stood_rose before after stood rose = let more = rose stood.1 in let same = stood.0 in omega arith
 
-no_failure : (out err : Writing) → SinkStood out → SinkStood err → SinkFailed out ⊎ SinkFailed err → ⊥
+no_failure : (out err : SinkSeen) → SinkStood out → SinkStood err → SinkFailed out ⊎ SinkFailed err → ⊥
 no_failure out err quiet calm (inl failed) = stood_rose out.faults out.faults_after quiet failed
 no_failure out err quiet calm (inr failed) = stood_rose err.faults err.faults_after calm failed
 

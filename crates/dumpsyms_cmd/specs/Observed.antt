@@ -4,7 +4,7 @@ use Rattle.sym_edges.specs.Outside.{Files, Rose, AddsFront, append_told}
 use Rattle.dumpsyms_cmd.specs.Verdict.{Verdict}
 
 -- a store: its files, where it tells them; the names that it was asked for, and its count of faults, before and after
-pub record Reading : Type 0 where
+pub record StoreSeen : Type 0 where
   pub files : Option Files
   pub asked : List (List ℕ)
   pub asked_after : List (List ℕ)
@@ -12,46 +12,46 @@ pub record Reading : Type 0 where
   pub faults_after : ℕ
 
 -- a sink: the bytes that it took, where it tells them, and its count of faults, before and after
-pub record Writing : Type 0 where
+pub record SinkSeen : Type 0 where
   pub taken : Option (List ℕ)
   pub taken_after : Option (List ℕ)
   pub faults : ℕ
   pub faults_after : ℕ
 
 -- the store failed, or the sink did: its count rose
-abbrev pub StoreFailed : Reading → Type 0
+abbrev pub StoreFailed : StoreSeen → Type 0
 StoreFailed store = Rose store.faults store.faults_after
 
-abbrev pub SinkFailed : Writing → Type 0
+abbrev pub SinkFailed : SinkSeen → Type 0
 SinkFailed sink = Rose sink.faults sink.faults_after
 
 -- a count did not rise, and does not stand at the greatest u64
 abbrev pub Stood : ℕ → ℕ → Type 0
 Stood before after = (after ≡ before) × (before + 1 < 2 ^ 64)
 
-abbrev pub StoreStood : Reading → Type 0
+abbrev pub StoreStood : StoreSeen → Type 0
 StoreStood store = Stood store.faults store.faults_after
 
-abbrev pub SinkStood : Writing → Type 0
+abbrev pub SinkStood : SinkSeen → Type 0
 SinkStood sink = Stood sink.faults sink.faults_after
 
 -- the sink took exactly this text, a front of it, or nothing
-abbrev pub Received : Writing → List ℕ → Type 0
+abbrev pub Received : SinkSeen → List ℕ → Type 0
 Received sink text = sink.taken_after ≡ append_told sink.taken text
 
-abbrev pub ReceivedFront : Writing → List ℕ → Type 0
+abbrev pub ReceivedFront : SinkSeen → List ℕ → Type 0
 ReceivedFront sink text = AddsFront sink.taken sink.taken_after text
 
-abbrev pub ReceivedNothing : Writing → Type 0
+abbrev pub ReceivedNothing : SinkSeen → Type 0
 ReceivedNothing sink = sink.taken_after ≡ sink.taken
 
 -- both sinks received the texts of a verdict whole
-pub record ReceivedWhole (out err : Writing) (v : Verdict) : Type 0 where
+pub record ReceivedWhole (out err : SinkSeen) (v : Verdict) : Type 0 where
   pub out_text : Received out v.out
   pub err_text : Received err v.err
 
 -- both sinks hold fronts of the verdict's texts, and that of err is empty unless that of out is whole
-pub record ReceivedFronts (out err : Writing) (v : Verdict) : Type 0 where
+pub record ReceivedFronts (out err : SinkSeen) (v : Verdict) : Type 0 where
   pub out_text : ReceivedFront out v.out
   pub err_text : ReceivedFront err v.err
   pub order : ReceivedNothing err ⊎ Received out v.out
@@ -60,5 +60,5 @@ pub record ReceivedFronts (out err : Writing) (v : Verdict) : Type 0 where
 abbrev pub Asks : List (List ℕ) → List (List ℕ) → List (List ℕ) → Type 0
 Asks names before after = (n : ℕ) × (n ≤ length names) × (after ≡ before ++ take n names)
 
-abbrev pub AsksFor : Reading → List (List ℕ) → Type 0
+abbrev pub AsksFor : StoreSeen → List (List ℕ) → Type 0
 AsksFor store names = Asks names store.asked store.asked_after

@@ -3,7 +3,7 @@ use Rattle.std.specs.Prelude.{◌≡◌, ◌⊎◌, ℕ, ◌<◌, ◌≤◌, Lis
 use Rattle.sym_edges.specs.Outside.{Files, Tells}
 use Rattle.dumpsyms_cmd.specs.Words.{Asked, command_of, files_of}
 use Rattle.dumpsyms_cmd.specs.Verdict.{Verdict, unread, IsVerdict}
-use Rattle.dumpsyms_cmd.specs.Observed.{Reading, Writing, StoreFailed, SinkFailed, StoreStood, SinkStood, ReceivedNothing, ReceivedWhole, ReceivedFronts, AsksFor}
+use Rattle.dumpsyms_cmd.specs.Observed.{StoreSeen, SinkSeen, StoreFailed, SinkFailed, StoreStood, SinkStood, ReceivedNothing, ReceivedWhole, ReceivedFronts, AsksFor}
 use Rattle.dumpsyms_cmd.specs.Judged.{judgement_verdict, CommandPromises}
 use Rattle.dumpsyms_cmd.specs.declared.judgement.Judgement.{Judgement}
 
@@ -11,9 +11,9 @@ use Rattle.dumpsyms_cmd.specs.declared.judgement.Judgement.{Judgement}
 pub record Run : Type 0 where
   pub words : List (List ℕ)
   pub status : ℕ
-  pub store : Reading
-  pub out : Writing
-  pub err : Writing
+  pub store : StoreSeen
+  pub out : SinkSeen
+  pub err : SinkSeen
 
 -- what the words ask for
 abbrev pub command : Run → Option Asked
