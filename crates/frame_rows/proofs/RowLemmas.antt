@@ -66,9 +66,6 @@ ended_either end m next P some none =
 pub ended_no : (end : ℕ) (m : Machine) (next : ℕ) → next ≤ m.address → ended_row end m next ≡ []
 ended_no end m next stays = ap (λ t. cond (t && nat_lt m.address end) (row_here m ∷ []) []) (le-ltb m.address next stays)
 
-pub ended_out : (end : ℕ) (m : Machine) (next : ℕ) → end ≤ m.address → ended_row end m next ≡ []
-ended_out end m next over = ap (λ t. cond (nat_lt m.address next && t) (row_here m ∷ []) []) (le-ltb m.address end over) ∙ and_no (nat_lt m.address next) (row_here m ∷ []) []
-
 last_row : (end : ℕ) (s : CieContext) (m : Machine) (P : List RowAt → Type 0) → (m.address < end → P (row_here m ∷ [])) → P [] → P (rows_from end s [] m)
 unfolding rows_from
 last_row end s m P some none =

@@ -187,8 +187,3 @@ ends failed refused end at over s held items encoding base c m n before view sam
       fault = ahead_fault refused (first_fault held (listed_at encoding base c) n) none ∙ none_ahead held encoding base c n empty;
       end = ap (λ (b : Standing). b.end) view;
     }
-
--- a reason after others that were none
-pub still_stopped : (A B : Type 0) (stop : Stop Reason) (here whole : Option Reason) (P : A → Type 0) (Q : B → Type 0) → here ≡ whole → MatchStop {A = A} {F = Reason} (Err stop) P (λ why. here ≡ Some why) (Unit {0}) → MatchStop {A = B} {F = Reason} (Err stop) Q (λ why. whole ≡ Some why) (Unit {0})
-still_stopped A B (Fault why) here whole P Q so bad = sym so ∙ bad
-still_stopped A B NoMemory here whole P Q so bad = tt

@@ -108,13 +108,6 @@ impl<'c> Machine<'c> {
         &self.row
     }
 
-    /// The same at another address.
-    pub fn move_to(&mut self, address: u64)
-        ensures { self.new ≡ moved address self.old }
-    {
-        self.address = address;
-    }
-
     /// Another rule for a column; columns above 16 are passed over.
     #[tactic(auto, unfolding(crate::specs::Steps::put_rule))]
     pub fn put_rule(&mut self, column: u64, rule: Rule)
