@@ -23,6 +23,7 @@ use Rattle.sym_records.proofs.SpelledLemmas.{spelled, spelled_records}
 use Rattle.sym_lookup.specs.Plain.{ArePlain}
 use Rattle.sym_lookup.specs.Findings.{are_sized}
 use Rattle.die_walk.specs.EntryTable.{DieFields}
+use Rattle.die_names.specs.declared.unit_read.EntryRef.{EntryRef}
 use Rattle.die_names.specs.declared.unit_read.UnitRead.{UnitRead}
 use Rattle.die_walk.specs.EntryKinds.{is_function}
 use Rattle.die_names.specs.Owners.{Covering, unit_covering, covering_from, owner}
@@ -106,7 +107,7 @@ found_any p (x ∷ all) c is = go (p x) is (found_any p all c)
     go true same later = refl
     go false same later = later same
 
-owner_above : (base a : ℕ) (code : List Range) (says : List UnitSays) (parts : List UnitRead) (place : Place) → AllFrom base code → Match (IsUnitRead code) says parts → owner_place parts a ≡ Some place → base ≤ a
+owner_above : (base a : ℕ) (code : List Range) (says : List UnitSays) (parts : List UnitRead) (place : EntryRef) → AllFrom base code → Match (IsUnitRead code) says parts → owner_place parts a ≡ Some place → base ≤ a
 unfolding owner_place owner
 owner_above base a code says parts place above are is = go (find (owns a) (covering_from 0 parts)) refl is
   where
