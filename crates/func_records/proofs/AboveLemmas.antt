@@ -5,12 +5,12 @@ use Rattle.step_maps.specs.Runs.{AreMaximal}
 use Rattle.step_maps.proofs.MaximalLemmas.{maximal}
 use Rattle.die_names.specs.declared.unit_read.UnitRead.{UnitRead}
 use Rattle.die_names.specs.Owners.{Covering, owner}
-use Rattle.func_flatten.specs.declared.piece.Place.{Place}
+use Rattle.die_names.specs.declared.unit_read.EntryRef.{EntryRef}
 use Rattle.func_flatten.specs.declared.piece.Piece.{Piece}
 use Rattle.func_flatten.specs.Pieces.{place_of, owner_place, piece_run, ArePieces}
 use Rattle.func_records.specs.FuncRecords.{BeginAbove}
 
-place_above : (base a : ℕ) (parts : List UnitRead) (place : Place) → ((c : Covering) → owner parts a ≡ Some c → base ≤ a) → owner_place parts a ≡ Some place → base ≤ a
+place_above : (base a : ℕ) (parts : List UnitRead) (place : EntryRef) → ((c : Covering) → owner parts a ≡ Some c → base ≤ a) → owner_place parts a ≡ Some place → base ≤ a
 unfolding owner_place
 place_above base a parts place above is = go (owner parts a) refl is
   where

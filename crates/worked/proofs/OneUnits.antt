@@ -16,6 +16,7 @@ use Rattle.range_lists.specs.EntryRanges.{is_code, in_pairs}
 use Rattle.die_walk.specs.EntryTable.{DieFields}
 use Rattle.line_program.specs.LineAt.{Lines}
 use Rattle.line_program.specs.LineMaps.{LineMap, named_line, numbered_line}
+use Rattle.die_names.specs.declared.unit_read.EntryRef.{EntryRef}
 use Rattle.die_names.specs.declared.unit_read.UnitRead.{UnitRead}
 use Rattle.die_walk.specs.EntryKinds.{is_function}
 use Rattle.die_names.specs.Owners.{Covering, unit_covering, covering_from, owner}
@@ -164,10 +165,10 @@ small_found (d ∷ cs) a c small is = go (is_function d.die && holds_any d.spans
     go true here later found = small.0 a (and_parts (is_function d.die) (holds_any d.spans a) here).1
     go false here later found = later found
 
-some_placed : (o : Option Covering) (place : Place) (a : ℕ) → ((c : Covering) → o ≡ Some c → a < 2 ^ 64) → option_map place_of o ≡ Some place → a < 2 ^ 64
+some_placed : (o : Option Covering) (place : EntryRef) (a : ℕ) → ((c : Covering) → o ≡ Some c → a < 2 ^ 64) → option_map place_of o ≡ Some place → a < 2 ^ 64
 some_placed None place a small is = absurd (cc)
 some_placed (Some c) place a small is = small c refl
 
-pub owned_small : (us : List UnitRead) (a : ℕ) (place : Place) → AreSmall us → owner_place us a ≡ Some place → a < 2 ^ 64
+pub owned_small : (us : List UnitRead) (a : ℕ) (place : EntryRef) → AreSmall us → owner_place us a ≡ Some place → a < 2 ^ 64
 unfolding owner_place owner
 owned_small us a place small is = some_placed (owner us a) place a (λ c. small_found (covering_from 0 us) a c (small_from 0 us small)) is
