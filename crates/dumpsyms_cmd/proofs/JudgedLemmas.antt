@@ -25,7 +25,7 @@ use Rattle.dumpsyms_cmd.specs.Verdict.{Verdict, refused, IsDebugVerdict, IsParts
 use Rattle.dumpsyms_cmd.specs.internal.Spelled.{DumpsRead}
 use Rattle.dumpsyms_cmd.specs.Observed.{Asks}
 use Rattle.dumpsyms_cmd.specs.Judged.{out_bytes, err_bytes, judgement_verdict, Refuses, RefusesOrGives, Judges, DumpsParts, Assembles, JudgesParts, DumpsImage, JudgesBytes, DumpsFile, DumpPromises, IsUsage, IsJudged, AnswersCommand, AnswersStop}
-use Rattle.dumpsyms_cmd.proofs.FrameLemmas.{kept}
+use Rattle.debug_read.proofs.KeptLemmas.{kept}
 use Rattle.dumpsyms_cmd.specs.declared.judgement.Output.{Output}
 use Rattle.dumpsyms_cmd.specs.declared.judgement.Output.TheVariants.{Nothing, Text, Bytes}
 use Rattle.dumpsyms_cmd.specs.declared.judgement.Judgement.{Judgement}
