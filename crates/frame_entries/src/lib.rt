@@ -29,8 +29,6 @@ mod listing;
 mod numbers;
 mod pointer;
 mod reading;
-#[cfg(test)]
-mod tests;
 
 pub use crate::description::{Body, Entry, Fde};
 pub use crate::entry_list::{EntryList, entries};

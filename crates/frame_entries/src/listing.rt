@@ -8,6 +8,7 @@ use crate::fault::{FrameFault, FrameKind};
 use leb_cursor::Cursor;
 use std::alloc::Global;
 use std::marker::Model;
+use std::mem::size_of;
 use sym_edges::{Located, Sect, Stop};
 
 /// A section of more bytes is not read: 2^29.
@@ -21,6 +22,8 @@ pub struct RawEntry<'a> {
     pub id: u32,
     pub body: &'a [u8],
 }
+
+const _: () = prove!(size_of::<RawEntry<'_>>() == 24);
 
 impl<'a> Model for RawEntry<'a> {
     ghost use Rattle.std.specs.Prelude.{◌+◌};

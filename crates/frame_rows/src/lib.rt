@@ -37,8 +37,6 @@ mod held_setting;
 mod lacking;
 mod running;
 mod stepper;
-#[cfg(test)]
-mod tests;
 mod walking;
 
 // For proofs above.

@@ -16,7 +16,6 @@ pub mod ValidLemmas
 pub mod CoveringLemmas
 pub mod NestingLemmas
 pub mod KeptLemmas
-pub mod TestLemmas
 pub mod OmittedLemmas
 pub mod ComputingBelow
 pub mod Computing

@@ -32,6 +32,3 @@ mod translating;
 pub use crate::all::{Frames, translate_all};
 pub use crate::omission::{Omission, Omissions};
 pub use crate::translating::translate;
-
-#[cfg(test)]
-mod tests;
