@@ -29,8 +29,6 @@ mod numbers;
 mod pointer;
 mod raw_entries;
 mod section_cies;
-#[cfg(test)]
-mod tests;
 
 pub use crate::description::{Body, Entry, Fde};
 pub use crate::entry_list::{EntryList, entries};

@@ -8,6 +8,7 @@ use crate::fault::{FrameFault, FrameKind};
 use leb_cursor::Cursor;
 use std::alloc::Global;
 use std::marker::Model;
+use std::mem::size_of;
 use sym_edges::{FILE_LIMIT, Located, Sect, Stop};
 
 /// An entry as it lies in its section: the place of its first byte, its id, and its body. The id stands four bytes after that
@@ -18,6 +19,8 @@ pub struct RawEntry<'a> {
     pub id: u32,
     pub body: &'a [u8],
 }
+
+const _: () = prove!(size_of::<RawEntry<'_>>() == 24);
 
 impl<'a> Model for RawEntry<'a> {
     ghost use Rattle.std.specs.Prelude.{◌+◌};

@@ -37,8 +37,6 @@ mod held_context;
 mod inspection;
 mod run;
 mod stepper;
-#[cfg(test)]
-mod tests;
 
 // For proofs above.
 pub mod laws;

@@ -17,7 +17,6 @@ pub mod CoveringLemmas
 pub mod NestingLemmas
 pub mod KeptLemmas
 pub mod SayingLemmas
-pub mod TestLemmas
 pub mod OmittedLemmas
 pub mod ComputingBelow
 pub mod Computing

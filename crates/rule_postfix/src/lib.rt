@@ -33,6 +33,3 @@ mod written_ranges;
 pub use crate::all::{Frames, translate_all};
 pub use crate::entry_records::translate;
 pub use crate::omission::{Omission, Omissions};
-
-#[cfg(test)]
-mod tests;

@@ -1,5 +1,4 @@
-//! Line tables (`line_program`) with ample memory: each public call that takes memory, and tables with many members.
-use crate::comparing::expect;
+//! Line tables of many rows and of many files (`line_program`).
 use crate::fixtures::NO_SECTIONS;
 use abbrev_units::Sections;
 use line_program::{LineTable, read_lines};
@@ -7,11 +6,7 @@ use range_set::Enclosing;
 use std::alloc::Global;
 use std::test::Fail;
 use sym_edges::{Span, Stop};
-
-/// What stands after the length of a table of version 4 whose tables have 27 bytes from minimum_instruction_length on: line_base -3, line_range 12,
-/// opcode_base 13, no directory and the file `a.c`.
-const HEADER: &[u8] =
-    b"\x04\0\x1b\0\0\0\x01\x01\x01\xfd\x0c\x0d\0\x01\x01\x01\x01\0\0\0\x01\0\0\x01\0a.c\0\0\0\0\0";
+use test_rows::same;
 
 /// The fields of version 4 after the header's length, and the end of the directories.
 const FIELDS: &[u8] = b"\x01\x01\x01\xfd\x0c\x0d\0\x01\x01\x01\x01\0\0\0\x01\0\0\x01\0";
@@ -26,15 +21,6 @@ const COUNT: u64 = 3000;
 fn push_length(bytes: &mut Vec<u8>, length: usize) -> Result<(), Fail> {
     bytes.extend_from_slice(&((length % (1 << 32)) as u32).to_le_bytes())?;
     Ok(())
-}
-
-/// A table with this program.
-fn table(alloc: Global, program: &[u8]) -> Result<Vec<u8>, Fail> {
-    let mut bytes = Vec::new(alloc);
-    push_length(&mut bytes, HEADER.len().saturating_add(program.len()))?;
-    bytes.extend_from_slice(HEADER)?;
-    bytes.extend_from_slice(program)?;
-    Ok(bytes)
 }
 
 fn read(alloc: Global, line: &[u8]) -> Result<LineTable, Fail> {
@@ -73,30 +59,8 @@ fn falling(alloc: Global) -> Result<Vec<u8>, Fail> {
     Ok(program)
 }
 
-#[test]
-fn many_sequences_that_overlap(rt: HostRuntime) -> Result<(), Fail> {
-    let alloc = rt.alloc();
-    let bytes = table(alloc, falling(alloc)?.as_slice())?;
-    let table = read(alloc, bytes.as_slice())?;
-    let top = 0x1000 + 4 * COUNT;
-    let addresses = [
-        0x1003,
-        0x1004,
-        0x1007,
-        0x1008,
-        top - 4,
-        top,
-        top + 7,
-        top + 8,
-    ];
-    let got = lines(alloc, &table, &addresses)?;
-    expect(&rt, "lines", &got, &[0, 60, 60, 59, 2, 1, 1, 0]);
-    Ok(())
-}
-
-#[test]
-fn many_rows_of_one_sequence(rt: HostRuntime) -> Result<(), Fail> {
-    let alloc = rt.alloc();
+/// One sequence of 3,000 rows at one address after the other, whose lines are 5 and 6 in turn.
+fn rising(alloc: Global) -> Result<Vec<u8>, Fail> {
     let mut program = Vec::new(alloc);
     program.extend_from_slice(b"\0\x09\x02\0\x10\0\0\0\0\0\0\x03\x04\x01")?;
     for k in 0..COUNT {
@@ -104,34 +68,18 @@ fn many_rows_of_one_sequence(rt: HostRuntime) -> Result<(), Fail> {
         program.push(if k % 2 == 0 { 0x1d } else { 0x1b })?;
     }
     program.extend_from_slice(b"\x02\x02\0\x01\x01")?;
-    let bytes = table(alloc, program.as_slice())?;
-    let table = read(alloc, bytes.as_slice())?;
-    let top = 0x1000 + COUNT;
-    let got = lines(
-        alloc,
-        &table,
-        &[0xfff, 0x1000, 0x1001, 0x1002, top, top + 1, top + 2],
-    )?;
-    expect(&rt, "lines", &got, &[0, 5, 6, 5, 5, 5, 0]);
-    let mut walked = Vec::new(alloc);
-    for stop in [0, 1, 2] {
-        if stop < table.stops().len() {
-            walked.push(table.line_from(stop).map_or(0, |line| u64::from(line.1)))?;
-        }
-    }
-    expect(&rt, "lines from stops", &walked, &[5, 6, 5]);
-    Ok(())
+    Ok(program)
 }
 
 /// Files `AA.c` and so on, each twice; these bytes stand after each name.
-fn names(alloc: Global, behind: &[u8]) -> Result<Vec<u8>, Fail> {
+fn names(alloc: Global, after: &[u8]) -> Result<Vec<u8>, Fail> {
     let mut names = Vec::new(alloc);
     for k in 0..COUNT {
         let half = k / 2 % 1600;
         let name = [b'A' + (half / 40) as u8, b'A' + (half % 40) as u8];
         names.extend_from_slice(&name)?;
         names.extend_from_slice(b".c\0")?;
-        names.extend_from_slice(behind)?;
+        names.extend_from_slice(after)?;
     }
     Ok(names)
 }
@@ -146,10 +94,10 @@ fn whole_table(
 ) -> Result<Vec<u8>, Fail> {
     let mut bytes = Vec::new(alloc);
     let length = fields.len().saturating_add(entries.len());
-    let behind = length.saturating_add(program.len());
+    let after = length.saturating_add(program.len());
     push_length(
         &mut bytes,
-        behind.saturating_add(start.len()).saturating_add(4),
+        after.saturating_add(start.len()).saturating_add(4),
     )?;
     bytes.extend_from_slice(start)?;
     push_length(&mut bytes, length)?;
@@ -157,30 +105,6 @@ fn whole_table(
     bytes.extend_from_slice(entries)?;
     bytes.extend_from_slice(program)?;
     Ok(bytes)
-}
-
-#[test]
-fn many_files_of_fewer_paths(rt: HostRuntime) -> Result<(), Fail> {
-    let alloc = rt.alloc();
-    let mut entries = names(alloc, b"\0\0\0")?;
-    entries.push(0)?;
-    let bytes = whole_table(alloc, b"\x04\0", FIELDS, entries.as_slice(), b"")?;
-    let table = read(alloc, bytes.as_slice())?;
-    let mut got = Vec::new(alloc);
-    for index in [0, 1, 2, 3, 4, COUNT, COUNT + 1] {
-        got.push(table.file(index).map_or(9999, u64::from))?;
-    }
-    expect(
-        &rt,
-        "numbers",
-        &got,
-        &[9999, 0, 0, 1, 1, COUNT / 2 - 1, 9999],
-    );
-    match table.file(3) {
-        Some(number) => assert_eq!(rt; table.path(number), b"/s/AB.c".as_slice()),
-        None => {}
-    }
-    Ok(())
 }
 
 /// One sequence whose rows fall by four addresses, each a line further.
@@ -197,41 +121,82 @@ fn falling_rows(alloc: Global) -> Result<Vec<u8>, Fail> {
     Ok(program)
 }
 
-#[test]
-fn many_files_and_falling_rows_of_version_5(rt: HostRuntime) -> Result<(), Fail> {
-    let alloc = rt.alloc();
-    let bytes = whole_table(
-        alloc,
-        b"\x05\0\x08\0",
-        NEW_FIELDS,
-        names(alloc, b"\0")?.as_slice(),
-        falling_rows(alloc)?.as_slice(),
-    )?;
-    let table = read(alloc, bytes.as_slice())?;
-    let mut got = Vec::new(alloc);
-    for index in [0, 1, 2, COUNT - 1, COUNT] {
-        got.push(table.file(index).map_or(9999, u64::from))?;
+/// The numbers of the paths of files, 9999 where there is none.
+fn files(alloc: Global, table: &LineTable, indices: &[u64]) -> Result<Vec<u64>, Fail> {
+    let mut numbers = Vec::new(alloc);
+    for index in indices {
+        numbers.push(table.file(*index).map_or(9999, u64::from))?;
     }
-    expect(&rt, "numbers", &got, &[0, 0, 1, COUNT / 2 - 1, 9999]);
-    let top = 0x1000 + 4 * COUNT;
-    let addresses = [0x1003, 0x1004, 0x1007, 0x1008, top, top + 7, top + 8];
-    let got = lines(alloc, &table, &addresses)?;
-    expect(
-        &rt,
-        "lines",
-        &got,
-        &[0, COUNT + 1, COUNT + 1, COUNT, 2, 2, 0],
-    );
+    Ok(numbers)
+}
+
+const TOP: u64 = 0x1000 + 4 * COUNT;
+
+const END: u64 = 0x1000 + COUNT;
+
+#[test]
+fn many_rows(rt: HostRuntime) -> Result<(), Fail> {
+    let alloc = rt.alloc();
+    let sequences = falling(alloc)?;
+    let rows = rising(alloc)?;
+    let fallen = falling_rows(alloc)?;
+    let cases: [(&str, &[u8], &[u64], &[u64]); 3] = [
+        (
+            "sequences that overlap",
+            &sequences,
+            &[
+                0x1003,
+                0x1004,
+                0x1007,
+                0x1008,
+                TOP - 4,
+                TOP,
+                TOP + 7,
+                TOP + 8,
+            ],
+            &[0, 60, 60, 59, 2, 1, 1, 0],
+        ),
+        (
+            "rows of one sequence",
+            &rows,
+            &[0xfff, 0x1000, 0x1001, 0x1002, END, END + 1, END + 2],
+            &[0, 5, 6, 5, 5, 5, 0],
+        ),
+        (
+            "rows that fall",
+            &fallen,
+            &[0x1003, 0x1004, 0x1007, 0x1008, TOP, TOP + 7, TOP + 8],
+            &[0, COUNT + 1, COUNT + 1, COUNT, 2, 2, 0],
+        ),
+    ];
+    for (row, program, addresses, wanted) in cases {
+        let bytes = whole_table(alloc, b"\x04\0", FIELDS, b"a.c\0\0\0\0\0", program)?;
+        let table = read(alloc, &bytes)?;
+        same(&rt, row, &lines(alloc, &table, addresses)?, wanted);
+    }
     Ok(())
 }
 
 #[test]
-fn a_table_of_nothing(rt: HostRuntime) {
-    let table = LineTable::empty(rt.alloc());
-    let got = [
-        table.stops().len() as u64,
-        u64::from(table.line_at(0x1000).is_some()),
-        u64::from(table.file(0).is_some()),
-    ];
-    expect(&rt, "nothing", &got, &[0, 0, 0]);
+fn many_files_of_fewer_paths(rt: HostRuntime) -> Result<(), Fail> {
+    let alloc = rt.alloc();
+    let mut entries = names(alloc, b"\0\0\0")?;
+    entries.push(0)?;
+    let bytes = whole_table(alloc, b"\x04\0", FIELDS, &entries, b"")?;
+    let found = files(
+        alloc,
+        &read(alloc, &bytes)?,
+        &[0, 1, 2, 3, COUNT, COUNT + 1],
+    )?;
+    same(
+        &rt,
+        "version 4",
+        &found,
+        &[9999, 0, 0, 1, COUNT / 2 - 1, 9999],
+    );
+    let entries = names(alloc, b"\0")?;
+    let bytes = whole_table(alloc, b"\x05\0\x08\0", NEW_FIELDS, &entries, b"")?;
+    let found = files(alloc, &read(alloc, &bytes)?, &[0, 1, 2, COUNT - 1, COUNT])?;
+    same(&rt, "version 5", &found, &[0, 0, 1, COUNT / 2 - 1, 9999]);
+    Ok(())
 }

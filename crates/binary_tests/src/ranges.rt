@@ -1,5 +1,4 @@
-//! Ranges of entries (`range_lists`) with ample memory: each public call, and lists of many pairs.
-use crate::comparing::expect;
+//! Ranges of entries by lists of many pairs (`range_lists`).
 use crate::fixtures::NO_SECTIONS;
 use abbrev_units::{Sections, read_abbrevs, units};
 use die_walk::walk;
@@ -8,6 +7,7 @@ use range_set::Enclosing;
 use std::alloc::Global;
 use std::test::Fail;
 use sym_edges::Span;
+use test_rows::same;
 
 /// A root with a low address, and subprograms: one with a list, one with bounds.
 const ABBREVS: &[u8] =
@@ -67,35 +67,23 @@ fn found(alloc: Global, rnglists: &[u8]) -> Result<Vec<u64>, Fail> {
     Ok(seen)
 }
 
+/// How far apart the pairs of a list start, whether they fall, how many ranges they make and where the last one ends.
+const LISTS: [(&str, u64, bool, u64, u64); 5] = [
+    ("rising pairs", 16, false, COUNT, 0x1_0000 + 16 * COUNT - 8),
+    ("falling pairs", 16, true, COUNT, 0x1_0000 + 16 * COUNT - 8),
+    ("pairs that touch", 8, false, 1, 0x1_0000 + 8 * COUNT),
+    ("touching, falling", 8, true, 1, 0x1_0000 + 8 * COUNT),
+    ("pairs that overlap", 4, false, 1, 0x1_0000 + 4 * COUNT + 4),
+];
+
 #[test]
 fn entries_give_their_ranges(rt: HostRuntime) -> Result<(), Fail> {
     let alloc = rt.alloc();
-    let last = 0x1_0000 + 16 * (COUNT - 1) + 8;
-    let rows = [
-        ("rising pairs", 16, false, COUNT, last),
-        ("falling pairs", 16, true, COUNT, last),
-        ("pairs that touch", 8, false, 1, 0x1_0000 + 8 * COUNT),
-        (
-            "pairs that touch, falling",
-            8,
-            true,
-            1,
-            0x1_0000 + 8 * COUNT,
-        ),
-        ("pairs that overlap", 4, false, 1, 0x1_0000 + 4 * COUNT + 4),
-    ];
-    for (name, apart, is_falling, count, end) in rows {
+    for (row, apart, is_falling, count, end) in LISTS {
         let bytes = list(alloc, apart, is_falling)?;
-        let got = found(alloc, bytes.as_slice())?;
-        let want = [0x1000, 0, count, 0x1_0000, end, 1, 0x2000, 0x2010, 0];
-        expect(&rt, name, got.as_slice(), &want);
+        let found = found(alloc, &bytes)?;
+        let wanted = [0x1000, 0, count, 0x1_0000, end, 1, 0x2000, 0x2010, 0];
+        same(&rt, row, &found, &wanted);
     }
-    let got = found(alloc, b"\x04\x10\x20\0")?;
-    expect(
-        &rt,
-        "a pair of offsets",
-        got.as_slice(),
-        &[0x1000, 0, 1, 0x1010, 0x1020, 1, 0x2000, 0x2010, 0],
-    );
     Ok(())
 }

@@ -1,22 +1,28 @@
-//! Entries (`die_walk`) with ample memory, many of them, and the size of one.
-use crate::comparing::expect;
+//! Many entries side by side and in one another, and the size of one (`die_walk`).
 use crate::fixtures::{NO_SECTIONS, unit_of};
 use abbrev_units::{Sections, read_abbrevs, units};
 use die_walk::{Die, walk};
 use std::alloc::Global;
 use std::mem::size_of;
 use std::test::Fail;
+use test_rows::same;
+
+const _: () = prove!(size_of::<Die<'_>>() == 112);
 
 /// A subprogram with children, one without, and a variable.
 const ABBREVS: &[u8] = b"\x01\x2e\x01\0\0\x02\x2e\0\0\0\x03\x34\0\0\0\0";
 
-/// How many entries a unit has.
-const COUNT: u32 = 1000;
+/// An entry with children, and so often these bytes after it.
+fn body_of(alloc: Global, count: u32, bytes: &[u8]) -> Result<Vec<u8>, Fail> {
+    let mut body = Vec::new(alloc);
+    body.push(1)?;
+    for _ in 0..count {
+        body.extend_from_slice(bytes)?;
+    }
+    Ok(body)
+}
 
-/// How deep entries stand in one another.
-const DEPTH: u32 = 1_000_000;
-
-/// How many entries are kept, and the place and the parent of the last.
+/// How many entries are kept, and the offset and the parent of the last.
 fn last_kept(alloc: Global, info: &[u8]) -> Result<[u64; 3], Fail> {
     let sections = Sections {
         info,
@@ -41,42 +47,24 @@ fn last_kept(alloc: Global, info: &[u8]) -> Result<[u64; 3], Fail> {
     Ok(seen)
 }
 
+/// How many entries stand after the first, their bytes, and what is wanted: a thousand variables in it, and a million levels.
+const UNITS: [(&str, u32, &[u8], [u64; 3]); 2] = [
+    ("children", 1000, b"\x03\x02", [1001, 11 + 2000, 0]),
+    (
+        "levels",
+        999_999,
+        b"\x01",
+        [1_000_000, 11 + 999_999, 999_998],
+    ),
+];
+
 #[test]
 fn units_give_their_entries(rt: HostRuntime) -> Result<(), Fail> {
     let alloc = rt.alloc();
-    let mut wide = vec![in alloc; 1]?;
-    for _ in 0..COUNT {
-        wide.extend_from_slice(b"\x03\x02")?;
+    for (row, count, bytes, wanted) in UNITS {
+        let body = body_of(alloc, count, bytes)?;
+        let info = unit_of(alloc, &body)?;
+        same(&rt, row, &last_kept(alloc, &info)?, &wanted);
     }
-    let info = unit_of(alloc, wide.as_slice())?;
-    expect(
-        &rt,
-        "1,000 children",
-        &last_kept(alloc, info.as_slice())?,
-        &[1001, 11 + 2000, 0],
-    );
-    let mut deep = Vec::new(alloc);
-    for _ in 0..DEPTH {
-        deep.push(1)?;
-    }
-    let info = unit_of(alloc, deep.as_slice())?;
-    expect(
-        &rt,
-        "1,000,000 levels",
-        &last_kept(alloc, info.as_slice())?,
-        &[1_000_000, 11 + 999_999, 999_998],
-    );
-    let info = unit_of(alloc, &[])?;
-    expect(
-        &rt,
-        "no entry",
-        &last_kept(alloc, info.as_slice())?,
-        &[1, 11, u64::MAX],
-    );
     Ok(())
-}
-
-#[test]
-fn an_entry_is_small(rt: HostRuntime) {
-    expect(&rt, "bytes", &[size_of::<Die<'_>>() as u64], &[112]);
 }

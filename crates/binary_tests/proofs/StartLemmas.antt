@@ -1,4 +1,4 @@
--- For the tests: every range starts at or above 0; for `expect_all`.
+-- Every range starts at or above 0.
 use Rattle.std.proofs.Common.{List, [], ◌∷◌, arith}
 use Rattle.sym_edges.specs.Addresses.{Range}
 use Rattle.range_set.specs.Starts.{AllFrom}
