@@ -1,5 +1,5 @@
 -- What a file says that was read, by what is kept of it: for the laws of this crate and for the records of a file.
-use Rattle.std.proofs.Common.{◌≡◌, List, Result, Ok, Err, refl}
+use Rattle.std.proofs.Common.{◌≡◌, Result, Ok, Err, refl}
 use Rattle.elf_sections.specs.Image.{ImageParts}
 use Rattle.debug_read.specs.DebugSays.{DebugSays, debug_says, IsKept, IsDebugRead}
 use Rattle.debug_read.specs.Each.{Match, Says}

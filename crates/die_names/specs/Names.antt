@@ -1,5 +1,5 @@
 -- The names of entries (DWARF 5, 2.15 and 3.3.8).
-use Rattle.std.specs.Prelude.{ℕ, zero, suc, ◌==◌, ◌||◌, false, if◌then◌else◌, List, [], ◌∷◌, ◌++◌, codes, Option, None, Some, unwrap_or, option_and_then}
+use Rattle.std.specs.Prelude.{ℕ, zero, suc, ◌==◌, false, if◌then◌else◌, List, [], ◌∷◌, ◌++◌, codes, Option, None, Some, unwrap_or, option_and_then}
 use Rattle.std.specs.List.{slice_get}
 use Rattle.std.specs.Option.{option_map, option_map_or}
 use Rattle.clean_names.specs.Cleaning.{cleaned}

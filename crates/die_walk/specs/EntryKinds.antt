@@ -1,5 +1,5 @@
 -- What an entry is, by its tag (DWARF 5, table 7.3).
-use Rattle.std.specs.Prelude.{ℕ, ◌==◌, ◌&&◌, ◌||◌, not, Bool}
+use Rattle.std.specs.Prelude.{◌==◌, ◌&&◌, ◌||◌, not, Bool}
 use Rattle.die_walk.specs.EntryTable.{DieFields}
 
 -- functions, unless they are only declared (DWARF 5, 3.3): DW_TAG_subprogram

@@ -1,5 +1,5 @@
 -- The records of a file are its canonical ones, and a look-up in them names the owner and the line of each address.
-use Rattle.std.proofs.Common.{◌≡◌, ℕ, zero, suc, ◌+◌, ◌≤◌, Bool, true, false, ◌&&◌, ◌||◌, nat_le, nat_lt, cond, map, take, List, [], ◌∷◌, ◌++◌, Option, None, Some, Ok, arith, refl, sym, ap, subst, ◌∙◌, append_assoc, append-nil}
+use Rattle.std.proofs.Common.{◌≡◌, ℕ, zero, suc, ◌+◌, true, map, take, List, [], ◌∷◌, ◌++◌, None, Some, Ok, arith, sym, ap, subst, ◌∙◌, append_assoc, append-nil}
 use Rattle.std.specs.List.{list_all, slice_get}
 use Rattle.std.proofs.lemmas.List.{map-append}
 use Rattle.sym_edges.specs.Addresses.{Range}
@@ -13,7 +13,6 @@ use Rattle.sym_records.specs.declared.place.Place.TheVariants.{Inside}
 use Rattle.sym_records.specs.declared.line.SymLine.{SymLine}
 use Rattle.sym_records.proofs.JoiningLemmas.{from_here, join_fits, join_behind}
 use Rattle.sym_records.proofs.SpelledLemmas.{spelled, spelled_records}
-use Rattle.sym_lookup.specs.Plain.{ArePlain}
 use Rattle.sym_lookup.specs.Findings.{are_sized}
 use Rattle.die_names.specs.declared.unit_read.UnitRead.{UnitRead}
 use Rattle.rule_postfix.specs.Written.{omitted, written, written_lines}
@@ -28,7 +27,7 @@ use Rattle.func_records.specs.TextNames.{Names}
 use Rattle.func_records.proofs.NameLemmas.{all_named}
 use Rattle.func_records.specs.Adding.{AddsFunctions}
 use Rattle.func_records.proofs.CanonLemmas.{canon_join, canon_more, canon_none, none_here}
-use Rattle.debug_read.specs.DebugSays.{DebugSays, debug_says, IsDebugRead}
+use Rattle.debug_read.specs.DebugSays.{DebugSays, IsDebugRead}
 use Rattle.debug_read.specs.declared.found.DebugRead.{DebugRead}
 use Rattle.dumpsyms_cmd.specs.Dump.{identity_lines, public_line, public_lines, frame_lines, written_of}
 use Rattle.dumpsyms_cmd.specs.internal.Spelled.{FitsInside, HasHead, DumpsRead}

@@ -1,9 +1,7 @@
 -- The lines on standard error, and what the records of a file say of its frame entries.
-use Rattle.std.proofs.Common.{◌≡◌, ℕ, ◌+◌, ◌≤◌, cond, ◌&&◌, true, false, List, [], ◌∷◌, ◌++◌, map, length, take, Option, Some, None, Result, Ok, Err, refl, sym, ◌∙◌, ap, append_assoc, subst, count_by}
-use Rattle.std.specs.List.{flat_map, fold, list_all}
-use Rattle.std.proofs.lemmas.Bool.{and_parts}
+use Rattle.std.proofs.Common.{◌≡◌, ℕ, ◌+◌, ◌≤◌, true, List, [], ◌∷◌, ◌++◌, map, length, take, Option, Some, None, refl, ◌∙◌, ap, append_assoc}
+use Rattle.std.specs.List.{flat_map, list_all}
 use Rattle.std.proofs.lemmas.List.{take_all}
-use Rattle.sym_edges.specs.Addresses.{Range}
 use Rattle.elf_sections.specs.Image.{ImageParts}
 use Rattle.abbrev_units.specs.declared.unit.Unit.{Unit}
 use Rattle.die_names.specs.declared.unit_read.UnitRead.{UnitRead}
@@ -14,7 +12,6 @@ use Rattle.inline_chain.specs.InlineRuns.{InlineParts}
 use Rattle.func_records.specs.FuncRecords.{Part, file_lines, origin_lines, inline_record, line_record, part_lines, AreFuncRecords}
 use Rattle.sym_records.specs.Canon.{spaced}
 use Rattle.sym_records.specs.declared.line.SymLine.{SymLine}
-use Rattle.sym_records.specs.declared.line.SymLine.TheVariants.{Module, Info, File, Origin, Func, Inline, Line, Public, Init, Change}
 use Rattle.rule_postfix.specs.declared.omission.Omission.{Omission}
 use Rattle.dumpsyms_cmd.specs.Refusals.{line, omitted_line, omitted_text, skipped_of, skipped_text}
 use Rattle.sym_lookup.specs.Inits.{is_frameless}

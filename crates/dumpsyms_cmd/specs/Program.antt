@@ -1,6 +1,6 @@
 -- What the program promises of its status, its two texts and the names that it asks for.
 use Rattle.std.specs.Prelude.{◌≡◌, ◌⊎◌, ℕ, ◌<◌, ◌≤◌, List, Option, None, IsSome}
-use Rattle.sym_edges.specs.Outside.{Files, Tells}
+use Rattle.sym_edges.specs.Outside.{Tells}
 use Rattle.dumpsyms_cmd.specs.Words.{Asked, command_of, files_of}
 use Rattle.dumpsyms_cmd.specs.Verdict.{Verdict, unread, IsVerdict}
 use Rattle.dumpsyms_cmd.specs.Observed.{StoreSeen, SinkSeen, StoreFailed, SinkFailed, StoreStood, SinkStood, ReceivedNothing, ReceivedWhole, ReceivedFronts, AsksFor}

@@ -1,5 +1,5 @@
 -- The lines on standard error.
-use Rattle.std.specs.Prelude.{ℕ, List, [], ◌∷◌, ◌++◌, Option, Some, None, codes, decimal}
+use Rattle.std.specs.Prelude.{ℕ, List, [], ◌∷◌, ◌++◌, codes, decimal}
 use Rattle.std.specs.List.{flat_map}
 use Rattle.sym_edges.specs.declared.part.Sect.{Sect}
 use Rattle.sym_edges.specs.PrintedWords.{section_word, reason_word}

@@ -1,10 +1,9 @@
 -- Which columns of a row an instruction may change.
-use Rattle.std.specs.Prelude.{◌≡◌, ℕ, ◌+◌, ◌<◌, ◌≤◌, nat_lt, if◌then◌else◌, Option, Some, None}
+use Rattle.std.specs.Prelude.{◌≡◌, ℕ, ◌<◌, ◌≤◌, Option, Some, None}
 use Rattle.std.specs.List.{slice_index_or}
 use Rattle.frame_rows.specs.declared.row.Rule.TheVariants as rule
 use Rattle.frame_rows.specs.declared.row.Row.{Row}
 use Rattle.frame_rows.specs.declared.columns.Columns.{Columns}
-use Rattle.frame_rows.specs.Steps.{Effect, PutsRule, TakesBack}
 use Rattle.frame_rows.specs.Standing.{Standing, GoesOn, Stays}
 
 -- two rows are alike in the columns outside of some

@@ -1,5 +1,5 @@
 -- What is collected of the functions.
-use Rattle.std.proofs.Common.{◌≡◌, ℕ, zero, suc, ◌+◌, ◌<◌, ◌≤◌, ◌^◌, Bool, true, false, if◌then◌else◌, map, length, List, [], ◌∷◌, ◌++◌, arith, refl, sym, ap, ◌∙◌, append_assoc, append-nil, length-append, subst, drop, Some, None, get_or}
+use Rattle.std.proofs.Common.{◌≡◌, ℕ, zero, suc, ◌+◌, ◌<◌, Bool, true, false, if◌then◌else◌, map, length, List, [], ◌∷◌, ◌++◌, arith, refl, sym, ap, ◌∙◌, append_assoc, append-nil, length-append, subst, drop, Some, None, get_or}
 use Rattle.std.specs.List.{slice_get}
 use Rattle.sym_edges.specs.Addresses.{Range}
 use Rattle.range_set.specs.Canonical.{IsCanonical}

@@ -1,5 +1,5 @@
 -- Stretches that are not empty and have not the last address of all (push_spans, and what is made of its stretches).
-use Rattle.std.proofs.Common.{ℕ, ◌+◌, ◌<◌, ◌≤◌, ◌^◌, List, [], ◌∷◌, ◌++◌}
+use Rattle.std.proofs.Common.{◌+◌, ◌<◌, ◌≤◌, ◌^◌, List, [], ◌∷◌, ◌++◌}
 use Rattle.step_maps.specs.declared.stretch.Stretch.{Stretch}
 use Rattle.step_maps.specs.Covers.{AreStretches}
 use Rattle.step_maps.specs.SpanStretches.{AreFit}

@@ -1,5 +1,5 @@
 -- Functions of addresses that change at a few of them: the stops.
-use Rattle.std.specs.Prelude.{◌≡◌, ℕ, ◌+◌, ◌^◌, ◌<◌, ◌≤◌, nat_le, if◌then◌else◌, List, [], ◌∷◌, length}
+use Rattle.std.specs.Prelude.{◌≡◌, ℕ, ◌^◌, ◌<◌, nat_le, if◌then◌else◌, List, [], ◌∷◌, length}
 use Rattle.sym_edges.specs.Rising.{RisesFrom}
 
 -- the stops in order, and beside each the value from there on

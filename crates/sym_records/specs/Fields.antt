@@ -1,6 +1,6 @@
 -- What stands in a line after its keyword (Breakpad's symbol_files.md): fields in the middle, and one that ends the line. One space stands in
 -- front of each.
-use Rattle.std.specs.Prelude.{ℕ, ◌-◌, ◌^◌, ◌==◌, ◌&&◌, Bool, true, false, not, nat_lt, List, [], ◌∷◌, ◌++◌, length, slice_index, codes}
+use Rattle.std.specs.Prelude.{ℕ, ◌^◌, ◌&&◌, Bool, true, false, nat_lt, List, [], ◌∷◌, ◌++◌, length, codes}
 use Rattle.std.specs.List.{list_all, flat_map}
 use Rattle.std.specs.Fmt.{decimal, digits}
 unfoldable pub use Rattle.clean_names.specs.Names.{is_name}

@@ -14,7 +14,6 @@ pub fn verdicts_are_one()
 
 /// Two runs that ask for one file, by any numbers of workers, over stores that tell the same files and sinks that held the same, and
 /// that both come to status 0, 1 or 2, answer the same status and leave the same in their sinks.
-#[tactic(auto, using(crate::proofs::OneRun::runs_end_alike))]
 pub fn judging_runs_end_alike()
     ensures { (one other : Run) → Promises one → Promises other → RunAlike one other → one.status < 3 → other.status < 3 → EndAlike one other }
 {}

@@ -1,5 +1,5 @@
 -- The functions of the units, and the stretches of their addresses.
-use Rattle.std.specs.Prelude.{◌≡◌, ℕ, ◌+◌, ◌-◌, ◌<◌, ◌≤◌, ◌^◌, Bool, Option, None, Some, if◌then◌else◌, map, length, List, [], ◌∷◌, ◌++◌}
+use Rattle.std.specs.Prelude.{◌≡◌, ℕ, ◌+◌, ◌<◌, ◌^◌, Bool, Option, None, Some, if◌then◌else◌, map, length, List, [], ◌∷◌, ◌++◌}
 use Rattle.std.specs.List.{slice_index_or}
 use Rattle.range_set.specs.Canonical.{IsCanonical}
 use Rattle.range_set.specs.Members.{holds_any}
