@@ -23,7 +23,10 @@ pub const CODE: Section<'static> = (
 );
 
 /// Code from 1000 to 1020.
-pub const LONG_CODE: Section<'static> = (".text", [1, 6, 0x1000, 0], &[0x90; 32]);
+pub const LONG_CODE: Section<'static> = (".text", [1, 6, 0x1000, 0], NOPS);
+
+/// 32 bytes of code.
+pub const NOPS: &[u8] = &[0x90; 32];
 
 /// The usual first entry of a symbol table, and the function of the name at 1 at 1000.
 pub const ENTRIES: [u8; 48] =
@@ -123,13 +126,14 @@ pub fn small_and(alloc: Global, more: Section<'_>) -> Result<Vec<u8>, AllocError
     file_with(alloc, &[(1, 0)], &ENTRIES, b"\0main\0", more)
 }
 
-/// A file with a build id, code, units over the abbreviations `FUNCTIONS`, and line tables.
+/// A file with a build id, code from 1000 on, units over the abbreviations `FUNCTIONS`, and line tables.
 pub fn with_functions<'a>(
     alloc: Global,
-    code: Section<'a>,
+    code: &'a [u8],
     units: &'a [u8],
     lines: &'a [u8],
 ) -> Result<Vec<u8>, AllocError> {
+    let code = (".text", [1, 6, 0x1000, 0], code);
     let info = (".debug_info", [1, 0, 0, 0], units);
     let abbreviations = (".debug_abbrev", [1, 0, 0, 0], FUNCTIONS);
     let table = (".debug_line", [1, 0, 0, 0], lines);
@@ -157,8 +161,7 @@ pub fn functions_of(
     let lines = line_table(alloc, A_C, THREE_ROWS)?;
     let size = count.wrapping_mul(apart) as usize % 10_000_000;
     let code = Vec::from_elem(alloc, 0x90, size.saturating_add(0x20))?;
-    let code = (".text", [1, 6, 0x1000, 0], code.as_slice());
-    with_functions(alloc, code, &unit, &lines)
+    with_functions(alloc, &code, &unit, &lines)
 }
 
 /// Says another number of section headers.

@@ -13,31 +13,29 @@ pub enum Turn {
     Fails,
 }
 
-/// A stream that gives the bytes of `source`, and takes all bytes; one turn a call, then all at once.
+/// A stream that gives the bytes of `source`, and takes all bytes: by the first call, by the second, and then all at once.
 #[derive(Drop)]
 pub struct Fake {
-    pub turns: &'static [Turn],
+    pub turns: (Turn, Turn),
     pub source: &'static [u8],
     pub held: Vec<u8>,
-    pub interrupted: u32,
+    pub calls: u32,
 }
 
 impl Fake {
     fn turn(&mut self) -> Turn {
-        match self.turns {
-            [] => Turn::Moves(usize::MAX),
-            [Turn::Interrupted(times), rest @ ..] => {
-                self.interrupted = self.interrupted.saturating_add(1);
-                if self.interrupted >= *times {
-                    self.interrupted = 0;
-                    self.turns = rest;
-                }
-                Turn::Interrupted(1)
-            }
-            [turn, rest @ ..] => {
-                self.turns = rest;
-                *turn
-            }
+        let call = self.calls;
+        self.calls = call.saturating_add(1);
+        let times = match self.turns.1 {
+            Turn::Interrupted(times) => times,
+            _ => 1,
+        };
+        if call == 0 {
+            self.turns.0
+        } else if call <= times {
+            self.turns.1
+        } else {
+            Turn::Moves(usize::MAX)
         }
     }
 }
@@ -107,7 +105,7 @@ fn unsupported<T>() -> io::Result<T> {
 #[derive(Drop)]
 pub struct FakeFiles {
     pub alloc: Global,
-    pub turns: &'static [Turn],
+    pub turns: (Turn, Turn),
     pub source: &'static [u8],
 }
 
@@ -121,7 +119,7 @@ impl Files for FakeFiles {
             turns: self.turns,
             source: self.source,
             held: Vec::new(self.alloc),
-            interrupted: 0,
+            calls: 0,
         })
     }
 

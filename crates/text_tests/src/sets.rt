@@ -14,9 +14,11 @@ const _: () = prove!(size_of::<Span>() == 16);
 fn thousand(alloc: Global, from: u64, to: u64, rising: bool) -> Result<Vec<Span>, AllocError> {
     let mut spans = Vec::new(alloc);
     for k in 0..1000 {
-        let tenth = if rising { 10 * k } else { 9990 - 10 * k };
-        if from < to && to < 10 {
-            spans.push(Span::new(tenth + from, tenth + to))?;
+        let tenth: u64 = if rising { k } else { 999 - k };
+        let start = tenth.wrapping_mul(10).wrapping_add(from);
+        let end = tenth.wrapping_mul(10).wrapping_add(to);
+        if start < end {
+            spans.push(Span::new(start, end))?;
         }
     }
     Ok(spans)

@@ -11,21 +11,21 @@ use sym_edges::{
 use test_rows::same;
 
 /// How a file of four bytes is read, and what is read of it.
-const READINGS: [(&str, &'static [Turn], &[u8]); 6] = [
-    ("a byte at once", &[Turn::Moves(1), Turn::Moves(1)], b"abcd"),
-    ("nothing more", &[Turn::Moves(2), Turn::Moves(0)], b"ab"),
-    ("an error inside", &[Turn::Moves(2), Turn::Fails], NOT_READ),
+const READINGS: [(&str, (Turn, Turn), &[u8]); 6] = [
+    ("a byte at once", (Turn::Moves(1), Turn::Moves(1)), b"abcd"),
+    ("nothing more", (Turn::Moves(2), Turn::Moves(0)), b"ab"),
+    ("an error inside", (Turn::Moves(2), Turn::Fails), NOT_READ),
     (
         "99 signals",
-        &[Turn::Moves(2), Turn::Interrupted(99)],
+        (Turn::Moves(2), Turn::Interrupted(99)),
         b"abcd",
     ),
     (
         "100 signals",
-        &[Turn::Moves(2), Turn::Interrupted(100)],
+        (Turn::Moves(2), Turn::Interrupted(100)),
         NOT_READ,
     ),
-    ("an error at once", &[Turn::Fails], NOT_READ),
+    ("an error at once", (Turn::Fails, Turn::Fails), NOT_READ),
 ];
 
 /// A name in a store over memory, the numbers of the calls that fail, and what is read.
@@ -38,34 +38,34 @@ const MEMORY: [(&str, &[u64], &[u8]); 5] = [
 ];
 
 /// How four bytes are written, what is taken of them, and whether that is all.
-const WRITINGS: [(&str, &'static [Turn], &[u8], bool); 5] = [
+const WRITINGS: [(&str, (Turn, Turn), &[u8], bool); 5] = [
     (
         "a byte at once",
-        &[Turn::Moves(1), Turn::Moves(1)],
+        (Turn::Moves(1), Turn::Moves(1)),
         b"abcd",
         true,
     ),
     (
         "nothing taken",
-        &[Turn::Moves(2), Turn::Moves(0)],
+        (Turn::Moves(2), Turn::Moves(0)),
         b"ab",
         false,
     ),
     (
         "an error inside",
-        &[Turn::Moves(1), Turn::Fails],
+        (Turn::Moves(1), Turn::Fails),
         b"a",
         false,
     ),
     (
         "99 signals",
-        &[Turn::Moves(3), Turn::Interrupted(99)],
+        (Turn::Moves(3), Turn::Interrupted(99)),
         b"abcd",
         true,
     ),
     (
         "100 signals",
-        &[Turn::Moves(3), Turn::Interrupted(100)],
+        (Turn::Moves(3), Turn::Interrupted(100)),
         b"abc",
         false,
     ),
@@ -140,7 +140,7 @@ fn streams_are_written(rt: HostRuntime) -> Result<(), Fail> {
             turns,
             source: b"",
             held: Vec::new(rt.alloc()),
-            interrupted: 0,
+            calls: 0,
         };
         let mut sink = StreamSink::new(&mut held);
         let is_whole = write_all(&mut sink, b"abcd").is_ok();
