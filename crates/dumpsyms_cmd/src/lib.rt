@@ -18,6 +18,3 @@ mod words;
 
 pub use dump::{Dumped, assemble};
 pub use program::run;
-
-#[cfg(test)]
-mod tests;

@@ -1,0 +1,132 @@
+//! The files of the rows.
+use std::alloc::{AllocError, Global};
+use test_rows::elf::{
+    A_C, EIGHT_OR_FOUR, ENTRIES, FUNCTIONS, ID, LONG_CODE, NOPS, NULL, Section, THREE_ROWS,
+    TWO_FILES, entry_of, file_of, file_with, line_table, small_and, unit_of, with_functions,
+};
+
+/// An entry: its code, its name, its first address and its length, and what stands after these.
+pub type Entry = (u8, &'static [u8], u64, u64, &'static [u8]);
+
+/// What a file is made of.
+#[derive(Clone, Copy)]
+pub enum Given {
+    Bytes(&'static [u8]),
+    /// The file of the function `main` at 1000.
+    Small,
+    /// The same with another byte at an offset.
+    Changed(usize, u8),
+    /// The same with one section more.
+    And(Section<'static>),
+    /// Code from 1000 on, without a build id.
+    Code(&'static [u8]),
+    /// Code from 1000 to 1020, these units and these frames at 2000.
+    Units(&'static [&'static [u8]], &'static [u8]),
+    /// `main` at 1000, and `b` and `a` at 1008.
+    Symbols,
+    /// A unit with these entries. The lines are 3 from 1000, 9 from 1004 and 4 from 100c on, up to 1020.
+    Entries(&'static [Entry]),
+    /// `f` with the lines of two files, and `g` in another unit with those of the same table, if so, or of one after it.
+    TwoUnits(bool),
+    /// The function `f` of eight bytes at this address, and the symbol of the small file.
+    Covered(u64),
+}
+
+/// Texts one after the other.
+pub fn joined(alloc: Global, parts: &[&[u8]]) -> Result<Vec<u8>, AllocError> {
+    let mut whole = Vec::new(alloc);
+    for part in parts {
+        whole.extend_from_slice(part)?;
+    }
+    Ok(whole)
+}
+
+/// The small file with another byte at an offset.
+fn changed(alloc: Global, offset: usize, byte: u8) -> Result<Vec<u8>, AllocError> {
+    let mut bytes = small_and(alloc, NULL)?;
+    if let Some(slot) = bytes.get_mut(offset) {
+        *slot = byte;
+    }
+    Ok(bytes)
+}
+
+/// `main` at 1000, and `b` and `a` at 1008.
+fn two_at_one_address(alloc: Global) -> Result<Vec<u8>, AllocError> {
+    let b: &[u8] = b"\x06\0\0\0\x12\0\x02\0\x08\x10\0\0\0\0\0\0\x04\0\0\0\0\0\0\0";
+    let a: &[u8] = b"\x08\0\0\0\x12\0\x02\0\x08\x10\0\0\0\0\0\0\x04\0\0\0\0\0\0\0";
+    let entries = joined(alloc, &[&ENTRIES, b, a])?;
+    file_with(alloc, &[(1, 0)], &entries, b"\0main\0b\0a\0", NULL)
+}
+
+/// A file of code from 1000 on alone.
+pub fn of_code(alloc: Global, bytes: &[u8]) -> Result<Vec<u8>, AllocError> {
+    let code = (".text", [1, 6, 0x1000, 0], bytes);
+    file_of(alloc, &[(1, 0)], &[NULL, code])
+}
+
+fn of_units<'a>(alloc: Global, units: &'a [u8], frames: &'a [u8]) -> Result<Vec<u8>, AllocError> {
+    let sections = [
+        NULL,
+        ID,
+        LONG_CODE,
+        (".debug_info", [1, 0, 0, 0], units),
+        (".debug_abbrev", [1, 0, 0, 0], EIGHT_OR_FOUR),
+        (".eh_frame", [1, 2, 0x2000, 0], frames),
+    ];
+    file_of(alloc, &[(1, 0)], &sections)
+}
+
+fn of_entries(alloc: Global, entries: &[Entry]) -> Result<Vec<u8>, AllocError> {
+    let mut bytes = Vec::new(alloc);
+    for (code, name, first, length, rest) in entries {
+        bytes.extend_from_slice(&entry_of(alloc, *code, name, *first, *length)?)?;
+        bytes.extend_from_slice(rest)?;
+    }
+    let unit = unit_of(alloc, 0, &bytes)?;
+    let lines = line_table(alloc, A_C, THREE_ROWS)?;
+    with_functions(alloc, NOPS, &unit, &lines)
+}
+
+fn of_two_units(alloc: Global, is_one_table: bool) -> Result<Vec<u8>, AllocError> {
+    let names = b"b.c\0\0\0\0a\x01.c\0\0\0\0a\x02.c\0\0\0\0\0";
+    let mut lines = line_table(alloc, names, TWO_FILES)?;
+    let second = if is_one_table { 0 } else { lines.len() as u64 };
+    lines.extend_from_slice(&line_table(alloc, A_C, THREE_ROWS)?)?;
+    let f = entry_of(alloc, 2, b"f\0", 0x1000, 0xc)?;
+    let g = entry_of(alloc, 2, b"g\0", 0x100c, 0x14)?;
+    let mut units = unit_of(alloc, 0, &f)?;
+    units.extend_from_slice(&unit_of(alloc, second, &g)?)?;
+    with_functions(alloc, NOPS, &units, &lines)
+}
+
+fn with_symbols(alloc: Global, first: u64) -> Result<Vec<u8>, AllocError> {
+    let f = entry_of(alloc, 2, b"f\0", first, 8)?;
+    let unit = unit_of(alloc, 0, &f)?;
+    let lines = line_table(alloc, b"\0", b"")?;
+    let sections = [
+        NULL,
+        ID,
+        LONG_CODE,
+        (".symtab", [2, 0, 0, 4], &ENTRIES),
+        (".strtab", [3, 0, 0, 0], b"\0main\0"),
+        (".debug_info", [1, 0, 0, 0], unit.as_slice()),
+        (".debug_abbrev", [1, 0, 0, 0], FUNCTIONS),
+        (".debug_line", [1, 0, 0, 0], lines.as_slice()),
+    ];
+    file_of(alloc, &[(1, 0)], &sections)
+}
+
+pub fn file_by(alloc: Global, given: Given) -> Result<Vec<u8>, AllocError> {
+    match given {
+        Given::Bytes(bytes) => Vec::from_slice(alloc, bytes),
+        Given::Small => small_and(alloc, NULL),
+        Given::Changed(offset, byte) => changed(alloc, offset, byte),
+        Given::And(section) => small_and(alloc, section),
+        Given::Code(bytes) => of_code(alloc, bytes),
+        Given::Units(units, frames) => of_units(alloc, &joined(alloc, units)?, frames),
+        Given::Symbols => two_at_one_address(alloc),
+        Given::Entries(entries) => of_entries(alloc, entries),
+        Given::TwoUnits(is_one_table) => of_two_units(alloc, is_one_table),
+        Given::Covered(first) => with_symbols(alloc, first),
+    }
+}

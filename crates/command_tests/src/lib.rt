@@ -1,0 +1,11 @@
+//! Tests of the commands: `run` of `dumpsyms_cmd` over stores and sinks in memory.
+//!
+//! They use public calls alone and nothing stands on them, so each of those crates is proved without them. There is no code here.
+#![tactic(auto)]
+
+#[cfg(test)]
+mod commands;
+#[cfg(test)]
+mod files;
+#[cfg(test)]
+mod rows;

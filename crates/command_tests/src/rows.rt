@@ -1,0 +1,446 @@
+//! The rows of the commands.
+use crate::files::Given;
+use test_rows::elf::{CUT_UNIT, UNIT, VERSION_3};
+
+pub const FRONT: &[u8] = b"MODULE Linux x86_64 030201000504070608090A0B0C0D0E0F0 a.out\n\
+    INFO CODE_ID 000102030405060708090A0B0C0D0E0F10111213\n";
+
+pub const MAIN: &[u8] = b"PUBLIC 1000 0 main\n";
+
+pub const USAGE: &[u8] =
+    b"usage: dumpsyms dump ELF, check SYM, lookup SYM ADDR, frame SYM ADDR STATE, sample N\n";
+
+pub const TABLE: &[u8] = b"refused elf section-table\n";
+
+pub const UNREAD: &[u8] = b"cannot read input\n";
+
+pub const NOT_ELF: &[u8] = b"refused elf not-elf\n";
+
+pub type Words = &'static [&'static str];
+
+pub const OTHER: Words = &["dump", "other"];
+
+pub const DUMP: Words = &["dump", "d/a.out"];
+
+pub const BY_TWO: Words = &["dump", "d/a.out", "--workers", "2"];
+
+/// A dump by any number of workers.
+pub const DUMPS: &[Words] = &[
+    DUMP,
+    &["dump", "d/a.out", "--workers", "1"],
+    BY_TWO,
+    &["dump", "d/a.out", "--workers", "8"],
+    &["dump", "d/a.out", "--workers", "64"],
+];
+
+/// Words that are no row.
+pub const NO_ROWS: &[Words] = &[
+    &[],
+    &["dump"],
+    &["lookup", "s", "0x10"],
+    &["dump", "d/a.out", "--workers", "0"],
+    &["dump", "d/a.out", "--workers", "08"],
+    &["dump", "d/a.out", "--workers", "65"],
+];
+
+pub const ENDS_AT_C: &[u8] = b"refused dwarf ends debug_info c\n";
+
+pub const LENGTH: &[u8] = b"refused frame length eh_frame 0\n";
+
+pub const OMITTED: &[u8] = b"omitted eh_frame 18 state\n";
+
+pub const SKIPPED: &[u8] = b"skipped debug_info 0 version 3\n";
+
+/// A CIE with the CFA at rsp + 8 and the return address at the CFA - 8, and at 18 the FDE of a function from 1000 to 1020
+/// that pushes rbp; then the zero that ends the section.
+pub const PUSH_RBP: &[u8] = &[
+    0x14, 0, 0, 0, 0, 0, 0, 0, 0x01, 0x7a, 0x52, 0, 0x01, 0x78, 0x10, 0x01, 0x1b, 0x0c, 0x07, 0x08,
+    0x90, 0x01, 0, 0, 0x1c, 0, 0, 0, 0x1c, 0, 0, 0, 0xe0, 0xef, 0xff, 0xff, 0x20, 0, 0, 0, 0, 0x41,
+    0x0e, 0x10, 0x86, 0x02, 0x43, 0x0d, 0x06, 0x4a, 0x0c, 0x07, 0x08, 0, 0, 0, 0, 0, 0, 0,
+];
+
+pub const PUSH_RBP_LINES: &[u8] = b"STACK CFI INIT 1000 20 .cfa: $rsp 8 + .ra: .cfa -8 + ^\n\
+    STACK CFI 1001 .cfa: $rsp 16 + $rbp: .cfa -16 + ^\n\
+    STACK CFI 1004 .cfa: $rbp 16 +\n\
+    STACK CFI 100e .cfa: $rsp 8 +\n";
+
+/// The same, where the entry has a `restore_state` without a row that is remembered.
+pub const BAD_RBP: &[u8] = &[
+    0x14, 0, 0, 0, 0, 0, 0, 0, 0x01, 0x7a, 0x52, 0, 0x01, 0x78, 0x10, 0x01, 0x1b, 0x0c, 0x07, 0x08,
+    0x90, 0x01, 0, 0, 0x1c, 0, 0, 0, 0x1c, 0, 0, 0, 0xe0, 0xef, 0xff, 0xff, 0x20, 0, 0, 0, 0, 0x41,
+    0x0b, 0x10, 0x86, 0x02, 0x43, 0x0d, 0x06, 0x4a, 0x0c, 0x07, 0x08, 0, 0, 0, 0, 0, 0, 0,
+];
+
+/// A command's row: its name, its words in several forms, the file `d/a.out`, and the status and both texts that are wanted.
+pub type Row = (
+    &'static str,
+    &'static [Words],
+    Given,
+    u8,
+    &'static [&'static [u8]],
+    &'static [&'static [u8]],
+);
+
+pub const ROWS: [Row; 36] = [
+    ("usage", NO_ROWS, Given::Small, 2, &[], &[USAGE]),
+    ("another file", &[OTHER], Given::Small, 3, &[], &[UNREAD]),
+    ("main", DUMPS, Given::Small, 0, &[FRONT, MAIN], &[]),
+    (
+        "b and a",
+        DUMPS,
+        Given::Symbols,
+        0,
+        &[FRONT, MAIN, b"PUBLIC m 1008 0 b\n"],
+        &[],
+    ),
+    (
+        "no build id",
+        DUMPS,
+        Given::Code(SEVENTEEN),
+        0,
+        &[b"MODULE Linux x86_64 040302FE06050807090A0B0C0D0E0F100 a.out\n"],
+        &[],
+    ),
+    (
+        "push rbp",
+        DUMPS,
+        Given::Units(&[], PUSH_RBP),
+        0,
+        &[FRONT, PUSH_RBP_LINES],
+        &[],
+    ),
+    (
+        "left out",
+        DUMPS,
+        Given::Units(&[], BAD_RBP),
+        0,
+        &[FRONT],
+        &[OMITTED],
+    ),
+    (
+        "cut frames",
+        DUMPS,
+        Given::Units(&[], CUT),
+        1,
+        &[],
+        &[LENGTH],
+    ),
+    ("empty", DUMPS, Given::Bytes(b""), 1, &[], &[NOT_ELF]),
+    (
+        "class",
+        DUMPS,
+        Given::Changed(4, 1),
+        1,
+        &[],
+        &[b"refused elf class\n"],
+    ),
+    ("size 40", DUMPS, Given::Changed(58, 40), 1, &[], &[TABLE]),
+    (
+        "compressed",
+        DUMPS,
+        Given::And((".debug_info", [1, 0x800, 0, 0], b"\x01")),
+        1,
+        &[],
+        &[b"refused elf compressed 5\n"],
+    ),
+    (
+        "cut header",
+        DUMPS,
+        Given::And((".debug_info", [1, 0, 0, 0], b"\0")),
+        1,
+        &[],
+        &[b"refused dwarf ends debug_info 0\n"],
+    ),
+    (
+        "four units",
+        DUMPS,
+        Given::Units(&[CUT_UNIT, UNIT, UNIT, CUT_UNIT], b""),
+        1,
+        &[],
+        &[ENDS_AT_C],
+    ),
+    (
+        "last unit",
+        DUMPS,
+        Given::Units(&[UNIT, UNIT, UNIT, CUT_UNIT], b""),
+        1,
+        &[],
+        &[b"refused dwarf ends debug_info 3c\n"],
+    ),
+    (
+        "unit and frames",
+        DUMPS,
+        Given::Units(&[CUT_UNIT], CUT),
+        1,
+        &[],
+        &[ENDS_AT_C],
+    ),
+    (
+        "frames",
+        DUMPS,
+        Given::Units(&[UNIT], CUT),
+        1,
+        &[],
+        &[LENGTH],
+    ),
+    (
+        "no fault",
+        DUMPS,
+        Given::Units(&[UNIT], PUSH_RBP),
+        0,
+        &[FRONT, PUSH_RBP_LINES],
+        &[],
+    ),
+    (
+        "version 3",
+        DUMPS,
+        Given::Units(&[VERSION_3], b""),
+        0,
+        &[FRONT],
+        &[SKIPPED],
+    ),
+    (
+        "both left out",
+        DUMPS,
+        Given::Units(&[VERSION_3], BAD_RBP),
+        0,
+        &[FRONT],
+        &[SKIPPED, OMITTED],
+    ),
+    (
+        "one",
+        DUMPS,
+        Given::Entries(&[(2, b"_Z1fv\0", 0x1000, 0x20, b"")]),
+        0,
+        &[
+            FRONT,
+            A,
+            b"FUNC 1000 20 0 _Z1fv\n1000 4 3 0\n1004 8 9 0\n100c 14 4 0\n",
+        ],
+        &[],
+    ),
+    (
+        "of one range",
+        DUMPS,
+        Given::Entries(&[
+            (2, b"a\0", 0x1000, 0x10, b""),
+            (2, b"b\0", 0x1000, 0x10, b""),
+        ]),
+        0,
+        &[
+            FRONT,
+            A,
+            b"FUNC m 1000 10 0 a\n1000 4 3 0\n1004 8 9 0\n100c 4 4 0\n",
+        ],
+        &[],
+    ),
+    (
+        "of one name",
+        DUMPS,
+        Given::Entries(&[
+            (2, b"a\0", 0x1000, 0x10, b""),
+            (2, b" a\0", 0x1000, 0x10, b""),
+        ]),
+        0,
+        &[
+            FRONT,
+            A,
+            b"FUNC 1000 10 0 a\n1000 4 3 0\n1004 8 9 0\n100c 4 4 0\n",
+        ],
+        &[],
+    ),
+    (
+        "overlapping",
+        DUMPS,
+        Given::Entries(&[
+            (2, b"a\0", 0x1000, 0x10, b""),
+            (2, b"b\0", 0x1008, 0x10, b""),
+        ]),
+        0,
+        &[
+            FRONT,
+            A,
+            b"FUNC 1000 10 0 a\n1000 4 3 0\n1004 8 9 0\n100c 4 4 0\nFUNC 1010 8 0 b\n1010 8 4 0\n",
+        ],
+        &[],
+    ),
+    (
+        "inside",
+        DUMPS,
+        Given::Entries(&[
+            (2, b"a\0", 0x1000, 0x10, b""),
+            (2, b"b\0", 0x1000, 0x8, b""),
+        ]),
+        0,
+        &[
+            FRONT,
+            A,
+            b"FUNC m 1000 10 0 a\n1000 4 3 0\n1004 8 9 0\n100c 4 4 0\n",
+        ],
+        &[],
+    ),
+    (
+        "the inner first",
+        DUMPS,
+        Given::Entries(&[
+            (2, b"b\0", 0x1008, 0x4, b""),
+            (2, b"a\0", 0x1004, 0x10, b""),
+        ]),
+        0,
+        &[
+            FRONT,
+            A,
+            b"FUNC 1004 4 0 a\n1004 4 9 0\nFUNC m 1008 4 0 b\n1008 4 9 0\nFUNC 100c 8 0 a\n100c 8 4 0\n",
+        ],
+        &[],
+    ),
+    (
+        "without a name",
+        DUMPS,
+        Given::Entries(&[(5, b"", 0x1018, 0x8, b"")]),
+        0,
+        &[FRONT, A, b"FUNC 1018 8 0 <name omitted>\n1018 8 4 0\n"],
+        &[],
+    ),
+    (
+        "outside of code",
+        DUMPS,
+        Given::Entries(&[(2, b"a\0", 0x1018, 0x10, b"")]),
+        0,
+        &[FRONT],
+        &[],
+    ),
+    (
+        "no address",
+        DUMPS,
+        Given::Entries(&[(2, b"a\0", 0x1008, 0, b"")]),
+        0,
+        &[FRONT],
+        &[],
+    ),
+    (
+        "a copy",
+        DUMPS,
+        Given::Entries(&[
+            (4, b"f\0", 0x1000, 0x20, b""),
+            (3, b"g\0", 0x1004, 8, b"\x01\x04\0"),
+        ]),
+        0,
+        &[
+            FRONT,
+            A,
+            b"INLINE_ORIGIN 0 g\nFUNC 1000 20 0 f\nINLINE 0 4 0 0 1004 8\n1000 4 3 0\n1004 8 9 0\n100c 14 4 0\n",
+        ],
+        &[],
+    ),
+    (
+        "a copy outside of code",
+        DUMPS,
+        Given::Entries(&[
+            (4, b"f\0", 0x1000, 0x20, b""),
+            (3, b"g\0", 0x2004, 8, b"\x01\x04\0"),
+        ]),
+        0,
+        &[
+            FRONT,
+            A,
+            b"FUNC 1000 20 0 f\n1000 4 3 0\n1004 8 9 0\n100c 14 4 0\n",
+        ],
+        &[],
+    ),
+    (
+        "a table each",
+        DUMPS,
+        Given::TwoUnits(false),
+        0,
+        &[FRONT, THREE_PATHS],
+        &[],
+    ),
+    (
+        "one table",
+        DUMPS,
+        Given::TwoUnits(true),
+        0,
+        &[FRONT, ONE_TABLE],
+        &[],
+    ),
+    (
+        "a symbol that is covered",
+        DUMPS,
+        Given::Covered(0x1000),
+        0,
+        &[FRONT, b"FUNC 1000 8 0 f\n"],
+        &[],
+    ),
+    (
+        "below a symbol",
+        DUMPS,
+        Given::Covered(0xff8),
+        0,
+        &[FRONT, MAIN],
+        &[],
+    ),
+    (
+        "after a symbol",
+        DUMPS,
+        Given::Covered(0x1001),
+        0,
+        &[FRONT, b"FUNC 1001 8 0 f\n", MAIN],
+        &[],
+    ),
+];
+
+/// The path of the lines of one file.
+pub const A: &[u8] = b"FILE 0 /s/a.c\n";
+
+/// The records of two units with a table each.
+pub const THREE_PATHS: &[u8] =
+    b"FILE 0 /s/a.c\nFILE 1 /s/a?.c\nFILE 2 /s/b.c\nFUNC 1000 c 0 f\n1000 8 1 2\n1008 4 2 1\nFUNC 100c 14 0 g\n100c 14 4 0\n";
+
+/// The records of two units with one table.
+pub const ONE_TABLE: &[u8] =
+    b"FILE 0 /s/a?.c\nFILE 1 /s/b.c\nFUNC 1000 c 0 f\n1000 8 1 1\n1008 4 2 0\nFUNC 100c 14 0 g\n100c 4 2 0\n";
+
+/// Frames whose first length is too long.
+pub const CUT: &[u8] = b"\x14\0\0";
+
+pub const SEVENTEEN: &[u8] =
+    b"\x01\x02\x03\x04\x05\x06\x07\x08\x09\x0a\x0b\x0c\x0d\x0e\x0f\x10\xff";
+
+/// The numbers of the calls of the store that fail (none, the first or the second), a row's name, its words, its file, and the status and
+/// both texts that are wanted.
+pub type Front = (
+    &'static [u64],
+    &'static str,
+    Words,
+    Given,
+    u8,
+    &'static [&'static [u8]],
+    &'static [&'static [u8]],
+);
+
+pub const FRONTS: [Front; 7] = [
+    (&[], "main", DUMP, Given::Small, 0, &[FRONT, MAIN], &[]),
+    (
+        &[],
+        "left out",
+        DUMP,
+        Given::Units(&[], BAD_RBP),
+        0,
+        &[FRONT],
+        &[OMITTED],
+    ),
+    (
+        &[],
+        "no image",
+        DUMP,
+        Given::Bytes(b"no image"),
+        1,
+        &[],
+        &[NOT_ELF],
+    ),
+    (&[], "usage", &["dump"], Given::Small, 2, &[], &[USAGE]),
+    (&[], "another file", OTHER, Given::Small, 3, &[], &[UNREAD]),
+    (&[1], "not opened", DUMP, Given::Small, 3, &[], &[UNREAD]),
+    (&[2], "not read", DUMP, Given::Small, 3, &[], &[UNREAD]),
+];
