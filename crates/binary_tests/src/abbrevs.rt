@@ -1,9 +1,9 @@
 //! Tables of a thousand abbreviations (`abbrev_units`).
+use crate::comparing::same;
 use crate::fixtures::NO_SECTIONS;
 use abbrev_units::{Sections, Unit, UnitPart, read_abbrevs};
 use std::alloc::Global;
 use std::test::Fail;
-use test_rows::same;
 
 const COUNT: usize = 1000;
 

@@ -1,11 +1,11 @@
 //! Many entries side by side and in one another, and the size of one (`die_walk`).
+use crate::comparing::same;
 use crate::fixtures::{NO_SECTIONS, unit_of};
 use abbrev_units::{Sections, read_abbrevs, units};
 use die_walk::{Die, walk};
 use std::alloc::Global;
 use std::mem::size_of;
 use std::test::Fail;
-use test_rows::same;
 
 const _: () = prove!(size_of::<Die<'_>>() == 112);
 

@@ -1,8 +1,8 @@
 //! A thousand entries of a section of frames (`frame_entries`).
+use crate::comparing::same;
 use frame_entries::{Body, Entry, entries};
 use std::test::Fail;
 use sym_edges::{Part, Reason, Sect};
-use test_rows::same;
 
 /// The offset of an entry, and its range or the reason to leave it out.
 fn see(entry: &Entry<'_>) -> (u64, Result<(u64, u64), Reason>) {

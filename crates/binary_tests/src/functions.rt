@@ -1,5 +1,6 @@
 //! Functions of a unit by address, and the copies that are inlined in them (`func_flatten`, `inline_chain`, `die_names`), read from
 //! a file (`debug_read`); a thousand functions and half a million; and the sizes of what is held by the million.
+use crate::comparing::same;
 use debug_read::read_debug;
 use die_names::{name_of, name_text};
 use elf_sections::read_image;
@@ -10,7 +11,6 @@ use std::mem::size_of;
 use std::test::Fail;
 use std::thread::Threads;
 use test_rows::elf::functions_of;
-use test_rows::same;
 use unit_workers::NoGate;
 
 const _: () = prove!(size_of::<Piece>() == 32);

@@ -1,10 +1,10 @@
 //! Images (`elf_sections`) with many functions and many notes, and the function symbols that no function covers (`func_flatten`).
+use crate::comparing::same;
 use elf_sections::read_image;
 use func_flatten::{Piece, PieceList, publics};
 use std::alloc::{AllocError, Global};
 use std::test::Fail;
 use test_rows::elf::{ID, NULL, Section, file_of, put, put_header, renumber};
-use test_rows::same;
 
 /// Two function symbols at each of a thousand addresses up to 2000, of two names, the highest address first.
 fn two_thousand(alloc: Global) -> Result<Vec<u8>, AllocError> {

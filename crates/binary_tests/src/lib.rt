@@ -10,6 +10,8 @@
 #[cfg(test)]
 mod abbrevs;
 #[cfg(test)]
+mod comparing;
+#[cfg(test)]
 mod entries;
 #[cfg(test)]
 mod fixtures;

@@ -1,4 +1,5 @@
 //! Line tables of many rows and of many files (`line_program`).
+use crate::comparing::same;
 use crate::fixtures::NO_SECTIONS;
 use abbrev_units::Sections;
 use line_program::{LineTable, read_lines};
@@ -6,7 +7,6 @@ use range_set::Enclosing;
 use std::alloc::Global;
 use std::test::Fail;
 use sym_edges::{Span, Stop};
-use test_rows::same;
 
 /// The fields of version 4 after the header's length, and the end of the directories.
 const FIELDS: &[u8] = b"\x01\x01\x01\xfd\x0c\x0d\0\x01\x01\x01\x01\0\0\0\x01\0\0\x01\0";

@@ -1,4 +1,5 @@
 //! Ranges of entries by lists of many pairs (`range_lists`).
+use crate::comparing::same;
 use crate::fixtures::NO_SECTIONS;
 use abbrev_units::{Sections, read_abbrevs, units};
 use die_walk::walk;
@@ -7,7 +8,6 @@ use range_set::Enclosing;
 use std::alloc::Global;
 use std::test::Fail;
 use sym_edges::Span;
-use test_rows::same;
 
 /// A root with a low address, and subprograms: one with a list, one with bounds.
 const ABBREVS: &[u8] =

@@ -2,6 +2,7 @@
 //! unit that takes long.
 ghost use Rattle.std.specs.Prelude.{◌≤◌};
 
+use crate::comparing::same;
 use abbrev_units::DwarfKind;
 use debug_read::{DebugFault, read_debug};
 use elf_sections::read_image;
@@ -9,8 +10,8 @@ use std::alloc::Global;
 use std::test::Fail;
 use std::thread::Threads;
 use sym_edges::{Located, Sect, Stop};
+use test_rows::Holding;
 use test_rows::elf::{LONG_CODE, NULL, file_of};
-use test_rows::{Holding, same};
 use unit_workers::{Gate, NoGate};
 
 /// At 0 an attribute of eight bytes, at 8 one of four. At 16, 1: a root with DW_AT_stmt_list. 2: a subprogram with an address and a

@@ -1,10 +1,10 @@
 //! An entry of 400,000 changes and a section of a thousand good and a thousand bad entries, as frame records (`rule_postfix`).
+use crate::comparing::same;
 use frame_entries::{Body, EntryList, FrameFault, entries};
 use rule_postfix::{Omission, translate, translate_all};
 use std::alloc::{AllocError, Global};
 use std::test::Fail;
 use sym_edges::{Part, Reason, Sect, Span, Stop};
-use test_rows::same;
 
 /// A CIE of `.eh_frame` (code alignment 1, data alignment -8, the return address in column 16) with `def_cfa rsp 8`,
 /// `offset ra 1` and nops. The first FDE stands at 18 (hexadecimal).

@@ -1,9 +1,9 @@
 //! Entries with many rows, and with many rows remembered (`frame_rows`).
+use crate::comparing::same;
 use frame_entries::Fde;
 use frame_rows::{CieState, Row, Stepper, inspect, rows};
 use std::alloc::Global;
 use std::test::Fail;
-use test_rows::same;
 
 /// An entry of 1000 after initial instructions as at a call: the CFA is rsp + 8, and the return address lies at the CFA - 8.
 #[tactic(auto, unfolding(frame_entries::specs::Pointers::is_encoding, frame_entries::specs::Pointers::is_format))]

@@ -1,5 +1,6 @@
 //! `run` over stores and sinks in memory: the commands' rows, each call that fails in turn, large files, and workers that meet. What
 //! each small file gives stands in the rows of the crate `worked` too.
+use crate::comparing::same;
 use crate::files::{Given, file_by, joined, of_code};
 use crate::rows::{A, BY_TWO, DUMP, FRONT, FRONTS, MAIN, ROWS, TABLE, THREE_PATHS, UNREAD, Words};
 use dumpsyms_cmd::run;
@@ -8,8 +9,8 @@ use std::process::Abort;
 use std::test::Fail;
 use std::thread::Threads;
 use sym_edges::{ByteRun, CallList, FileList, MemSink, MemStore, NameText, NamedFile};
+use test_rows::Holding;
 use test_rows::elf::{ENTRIES, NULL, file_with, functions_of, renumber, small_and};
-use test_rows::{Holding, same};
 use unit_workers::{Gate, NoGate};
 
 /// How many bytes a call moves, the room of out, and the numbers of the calls of the store, of out and of err that fail.

@@ -1,4 +1,5 @@
 //! A record of each kind, many records, the longest lines and names, and the size of a record (`sym_records`).
+use crate::comparing::same;
 use std::alloc::Global;
 use std::mem::size_of;
 use std::test::Fail;
@@ -7,7 +8,6 @@ use sym_records::{
     Binary, BoxedBinary, ByteText, Extent, Extents, RuleText, Rules, SymFile, SymLine, Target,
     TextPieces, Token, Tokens, add_line, clean, file_of, is_valid, render, write_file,
 };
-use test_rows::same;
 
 const _: () = prove!(size_of::<SymLine>() == 56);
 

@@ -1,4 +1,5 @@
 //! Rules of one to four words, spelled in two ways, and sizes of types (`sym_rules`).
+use crate::comparing::same;
 use std::alloc::Global;
 use std::mem::size_of;
 use std::test::Fail;
@@ -7,7 +8,6 @@ use sym_rules::{
     ByteText, RuleName, RuleText, Target, Token, Tokens, Waiting, add_rules, add_word, hand_on,
     put_rules,
 };
-use test_rows::same;
 
 const _: () = prove!(size_of::<Token>() == 16);
 

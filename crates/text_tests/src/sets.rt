@@ -1,10 +1,10 @@
 //! Sets of a thousand spans with ample memory, and the sizes of types (`range_set`).
+use crate::comparing::same;
 use range_set::{Enclosing, RangeSet, of_ranges};
 use std::alloc::{AllocError, Global};
 use std::mem::size_of;
 use std::test::Fail;
 use sym_edges::Span;
-use test_rows::same;
 
 const _: () = prove!(size_of::<RangeSet>() == 32);
 

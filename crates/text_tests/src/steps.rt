@@ -2,10 +2,10 @@
 ghost use Rattle.std.specs.Prelude.{◌≤◌, IfOk};
 ghost use Rattle.step_maps.specs.Covers.{AreStretches};
 
+use crate::comparing::same;
 use std::alloc::{AllocError, Global};
 use std::test::Fail;
 use step_maps::{Cover, StepMap, Stretch, copy_steps, covers, first_items, overlay};
-use test_rows::same;
 
 fn stretch(first: u64, last: u64, index: u32, class: u32) -> Stretch
     requires { first ≤ last }

@@ -1,5 +1,6 @@
 //! What the system's edge does with files and streams that are slow, interrupted or broken, and stores and sinks over memory
 //! (`sym_edges`).
+use crate::comparing::same;
 use crate::fakes::{Fake, FakeFiles, Turn};
 use std::alloc::{AllocError, Global};
 use std::fs::{self, Files};
@@ -8,7 +9,6 @@ use sym_edges::{
     ByteRun, CallList, FileList, FileStore, MemStore, NameText, NamedFile, ReadEnd, Stop,
     StreamSink, read_all, write_all,
 };
-use test_rows::same;
 
 /// How a file of four bytes is read, and what is read of it.
 const READINGS: [(&str, (Turn, Turn), &[u8]); 6] = [

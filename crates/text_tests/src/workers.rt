@@ -1,13 +1,14 @@
 //! Squares of numbers by one and by many workers, and a worker that is held (`unit_workers`).
 ghost use Rattle.std.specs.Prelude.{◌≡◌, ◌*◌, ◌%◌, ◌^◌};
 
+use crate::comparing::same;
 use std::alloc::Global;
 use std::sync::atomic::AtomicU64;
 use std::sync::atomic::Ordering::SeqCst;
 use std::test::Fail;
 use std::thread::Threads;
 use sym_edges::OutOfMemory;
-use test_rows::{Holding, same};
+use test_rows::Holding;
 use unit_workers::{Gate, NoGate, UnitJob, run_all};
 
 /// The square of a number. Each worker keeps a list of the numbers that it read. One number may find no memory.
