@@ -1,0 +1,4 @@
+pub mod Bytes
+pub mod Postfix
+pub mod TextRules
+pub mod TextValue
