@@ -31,11 +31,11 @@ joined : (a low mid high : ℕ) → low ≤ mid → mid ≤ high → from_to low
 unfolding from_to
 joined a low mid high le more = grind (arith, nat_tests)
 
-counts_one : (t : Bool) → 0 + cond t 1 0 ≡ cond t 1 0
+pub counts_one : (t : Bool) → 0 + cond t 1 0 ≡ cond t 1 0
 counts_one true = refl
 counts_one false = refl
 
-inits_append : (xs ys : List SymLine) (x : ℕ) → inits_at (xs ++ ys) x ≡ inits_at xs x + inits_at ys x
+pub inits_append : (xs ys : List SymLine) (x : ℕ) → inits_at (xs ++ ys) x ≡ inits_at xs x + inits_at ys x
 unfolding inits_at
 inits_append xs ys x = sum_by-append (λ s. cond (init_covers x s) 1 0) xs ys
 
@@ -91,7 +91,7 @@ inits_from row start base end x b (suc n) size le =
     ∙ ap (λ k. inits_at (records_at row start end base b) x + k) rest
     ∙ line_inits row start base end x b n (is_cut row start b) (omega (arith, size)) le refl rest
 
-first_is_start : (row : ℕ → Row) (start n : ℕ) → first_cut row start start n ≡ start
+pub first_is_start : (row : ℕ → Row) (start n : ℕ) → first_cut row start start n ≡ start
 unfolding first_cut is_cut
 first_is_start row start zero = refl
 first_is_start row start (suc n) = ap (λ t. cond (t || some_becomes_unspecified (row (start - 1)) (row start)) start (first_cut row start (start + 1) n)) (eq-eqb start start refl)

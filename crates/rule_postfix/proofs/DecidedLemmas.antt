@@ -81,11 +81,11 @@ pub lies_above : (base : ℕ) (code kept : List Range) → AllFrom base code →
 lies_above base code kept above same = record { at = λ start end is. enclosed_above base start end code above (sym (same start end) ∙ is) }
 
 -- of an entry with no reason to leave it out
-or_left : (a b : Option Reason) → option_or a b ≡ None → a ≡ None
+pub or_left : (a b : Option Reason) → option_or a b ≡ None → a ≡ None
 or_left None b is = refl
 or_left (Some why) b is = is
 
-or_right : (a b : Option Reason) → option_or a b ≡ None → b ≡ None
+pub or_right : (a b : Option Reason) → option_or a b ≡ None → b ≡ None
 or_right None b is = is
 or_right (Some why) b is = cc
 

@@ -43,6 +43,11 @@ all_kept : (base : ℕ) (code : List Range) (first second : List Entry) → AllF
 unfolding decided decided_of decided_behind
 all_kept base code first second from = entries_keep base code (first ++ second) none_decided from (record { above = above_none base; apart = tt })
 
+-- the entries that are written start at or above the base
+pub written_above : (base : ℕ) (code : List Range) (first second : List Entry) → AllFrom base code → AreAbove base (written code first second)
+unfolding written
+written_above base code first second from = (all_kept base code first second from).above
+
 -- no two entries that are written have an address in common
 pub written_apart : (base : ℕ) (code : List Range) (first second : List Entry) → AllFrom base code → AreDisjoint (written code first second)
 unfolding written

@@ -18,6 +18,10 @@ pub mod NestingLemmas
 pub mod KeptLemmas
 pub mod SayingLemmas
 pub mod OmittedLemmas
+pub mod ShownLemmas
+pub mod FoundLemmas
+pub mod ValueLemmas
+pub mod MeaningLemmas
 pub mod ComputingBelow
 pub mod Computing
 pub mod WorkedSections

@@ -38,7 +38,7 @@ nested_from row start base end b (suc n) last stop lines size le above is always
     (nested_line cut b c base last stop (row_rules (row b)) (changed_rules (row (b - 1)) (row b)) (rest ++ lines) le above (omega (arith, cut_above row start (b + 1) n)) (is ∙ first_by row start b n)
     (λ l e under at. nested_from row start base end (b + 1) n l e lines (omega (arith, size)) (omega (arith, le)) under at always))
 
-starts_cut : (row : ℕ → Row) (start : ℕ) → is_cut row start start ≡ true
+pub starts_cut : (row : ℕ → Row) (start : ℕ) → is_cut row start start ≡ true
 unfolding is_cut
 starts_cut row start = ap (λ t. t || some_becomes_unspecified (row (start - 1)) (row start)) (eq-eqb start start refl)
 

@@ -71,7 +71,7 @@ pub written_ends : (code : List Range) (first second : List Entry) → EndsBelow
 unfolding written decided decided_of decided_behind
 written_ends code first second = entries_end code (first ++ second) none_decided tt
 
-entries_more : (e : FdeFields) (entries : List FdeFields) (a : ℕ) → entries_at (e ∷ entries) a ≡ cond (holds_address a e) 1 0 + entries_at entries a
+pub entries_more : (e : FdeFields) (entries : List FdeFields) (a : ℕ) → entries_at (e ∷ entries) a ≡ cond (holds_address a e) 1 0 + entries_at entries a
 unfolding entries_at
 entries_more e entries a = sum_by-append (λ w. cond (holds_address a w) 1 0) (e ∷ []) entries ∙ ap (λ k. k + entries_at entries a) (counted (holds_address a e))
 

@@ -5,4 +5,6 @@ pub mod Overlaps
 pub mod Written
 pub mod Covering
 pub mod Decision
+pub mod RowValue
+pub mod FrameMeaning
 pub mod internal

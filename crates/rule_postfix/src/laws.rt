@@ -11,6 +11,7 @@ ghost use Rattle.sym_lookup.specs.Inits.{inits_at, is_frameless};
 ghost use Rattle.rule_postfix.specs.Written.{decided_behind, decided_of, reason_of, written, written_lines};
 ghost use Rattle.rule_postfix.specs.Covering.{SaysFrames};
 ghost use Rattle.rule_postfix.specs.Decision.{omission_for, fields_for};
+ghost use Rattle.rule_postfix.specs.FrameMeaning.{KeepsFrames};
 
 /// An entry is left out with a reason exactly where that is its reason after the entries written before it, and is written
 /// exactly where it has none: what is decided at its place depends on nothing else, and is followed by what is decided of
@@ -39,4 +40,14 @@ pub fn frames_are_said()
 pub fn frames_have_no_findings()
     ensures sized { (base : ℕ) (code : List Range) (first second : List Entry) → AllFrom base code → list_all are_sized (written_lines base (written code first second)) ≡ true }
     ensures apart { (base : ℕ) (entries : List FdeFields) (lines : List SymLine) → SaysFrames base entries lines → (x : ℕ) → inits_at lines x ≤ 1 }
+{}
+
+/// The records of the written entries, after records that say nothing of frames, mean what the rows of the entries mean: at each address of a
+/// written entry, for all registers and all memory, evaluating the rules gives the CFA, the return address and the registers that DWARF's
+/// row gives, each failure with its cause; and no rule stands at any other address. One thing no rule can say: that rbx, rbp, rsp or
+/// one of r12 to r15 is undefined.
+#[tactic(auto, using(crate::proofs::MeaningLemmas::frames_kept))]
+pub fn frames_are_kept()
+    ensures { (base : ℕ) (code : List Range) (first second : List Entry) (front : List SymLine) → AllFrom base code → list_all is_frameless front ≡ true →
+        KeepsFrames base (written code first second) (front ++ written_lines base (written code first second)) }
 {}

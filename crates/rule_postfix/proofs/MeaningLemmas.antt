@@ -1,0 +1,194 @@
+-- The records of written entries mean what DWARF's rows mean; for the law on the meaning of frames.
+use Rattle.std.proofs.Common.{◌≡◌, ℕ, ◌+◌, ◌-◌, ◌<◌, ◌≤◌, ◌^◌, ◌&&◌, nat_le, nat_lt, Bool, true, false, cond, map, List, [], ◌∷◌, ◌++◌, Option, Some, None, refl, ap, sym, ◌∙◌, subst, arith, append_assoc, append-nil, not, zero, suc, inl, inr}
+use Rattle.std.specs.List.{slice_index_or, range_with_len, list_all, list_any, AllByRecursion}
+use Rattle.std.specs.Option.{option_or, option_map}
+use Rattle.std.proofs.lemmas.Bool.{and_parts, cases_lt, ltb-true, leb-true, not-false, or_parts}
+use Rattle.std.proofs.lemmas.Bool.Decides.{nat_tests}
+use Rattle.std.proofs.lemmas.List.FromFn.{get_or-map-range_with_len}
+use Rattle.std.proofs.lemmas.List.Sums.{sum_by-append}
+use Rattle.sym_edges.specs.declared.reason.Reason.{Reason}
+use Rattle.sym_edges.specs.declared.reason.Reason.TheVariants as reason
+use Rattle.sym_edges.specs.Addresses.{Range}
+use Rattle.sym_edges.specs.Results.{unless}
+use Rattle.range_set.specs.Starts.{AllFrom}
+use Rattle.frame_entries.specs.declared.description.Body.{Body}
+use Rattle.frame_entries.specs.declared.description.Body.TheVariants.{Good, Bad}
+use Rattle.frame_entries.specs.declared.description.Entry.{Entry}
+use Rattle.frame_entries.specs.FdeFields.{FdeFields}
+use Rattle.frame_rows.specs.declared.row.Row.{Row}
+use Rattle.frame_rows.specs.Steps.{has_cfa}
+use Rattle.frame_rows.specs.Rows.{IsSound, row_at, rows_fault, instruction_fault, lacks_cfa}
+use Rattle.frame_rows.proofs.SoundLemmas.{entry_sound}
+use Rattle.sym_records.specs.declared.line.SymLine.{SymLine}
+use Rattle.sym_rules.specs.declared.rules.Target.{Target}
+use Rattle.sym_rules.specs.declared.rules.Target.TheVariants.{Cfa, Ra, Reg}
+use Rattle.sym_rules.specs.declared.rules.RuleText.{RuleText}
+use Rattle.sym_lookup.specs.Inits.{inits_at, is_frameless}
+use Rattle.sym_lookup.proofs.InitLemmas.{covers_after}
+use Rattle.cfi_eval.specs.declared.registers.Regs.{Regs}
+use Rattle.cfi_eval.specs.declared.memory.MemRun.{MemRun}
+use Rattle.cfi_eval.specs.declared.outcome.Outcome.TheVariants.{Undefined}
+use Rattle.cfi_eval.specs.declared.outcome.Frame.{Frame}
+use Rattle.cfi_eval.specs.TextRules.{text_rules}
+use Rattle.cfi_eval.specs.TextValue.{text_register, frame_of, text_frame}
+use Rattle.rule_postfix.specs.Overlaps.{meet, any_meets}
+use Rattle.rule_postfix.specs.RowValue.{value_in_row, row_frame}
+use Rattle.rule_postfix.specs.FrameMeaning.{is_lost, IsFrameOf, SaysFrame, KeepsRows, KeepsFrames}
+use Rattle.rule_postfix.specs.Written.{Decided, range_of, has_range, rows_reason, reason_among, reason_behind, is_code, body_reason, reason_of, with_fields, with_decision, with_entry, with_entries, decided_behind, decided_of, decided, written, entry_lines, written_lines}
+use Rattle.rule_postfix.specs.Covering.{holds_address, entries_at, AreDisjoint, SaysFrames}
+use Rattle.rule_postfix.proofs.DecidedLemmas.{IsFree, is_free, none_decided, or_left, or_right}
+use Rattle.rule_postfix.proofs.CoveringLemmas.{AreAbove, written_inits}
+use Rattle.rule_postfix.proofs.KeptLemmas.{written_above, written_apart, written_cover}
+use Rattle.rule_postfix.proofs.SayingLemmas.{entries_more, one_entry}
+use Rattle.rule_postfix.proofs.ShownLemmas.{IsTarget, Shows}
+use Rattle.rule_postfix.proofs.FoundLemmas.{AreSaid, HasRules, written_found, after_found, nothing_found}
+use Rattle.rule_postfix.proofs.ValueLemmas.{cfa_shown, ra_shown, register_shown}
+
+-- rules that show a row give its frame
+frame_shown : (e : FdeFields) (row : Row) (regs : Regs) (memory : List MemRun) (rules : List RuleText) → IsSound row → has_cfa row ≡ true → ((t : Target) → IsTarget t → Shows rules row t) → IsFrameOf row (row_frame e row regs memory) (frame_of regs memory rules)
+unfolding frame_of row_frame
+frame_shown e row regs memory rules sound has shows = record {
+  cfa = cfa_shown regs memory rules row (shows Cfa tt);
+  ra = ra_shown regs memory rules row sound (shows Cfa tt) (shows Ra tt);
+  registers = λ k below shown.
+      get_or-map-range_with_len (text_register regs memory rules) 0 16 k k Undefined below (omega arith)
+      ∙ register_shown regs memory rules row k has shown (shows Cfa tt) (shows (Reg k) below)
+      ∙ sym (get_or-map-range_with_len (value_in_row regs memory row) 0 16 k k Undefined below (omega arith));
+}
+
+says_by : (e : FdeFields) (row : Row) (regs : Regs) (memory : List MemRun) (lines : List SymLine) (x : ℕ) → IsSound row → has_cfa row ≡ true → HasRules lines x row → SaysFrame row (row_frame e row regs memory) (text_frame lines x regs memory)
+unfolding text_frame
+says_by e row regs memory lines x sound has rules =
+    let P : Option Frame → Type 0 = λ o. SaysFrame row (row_frame e row regs memory) o in
+    subst P (sym (ap (option_map (frame_of regs memory)) rules.found)) (frame_shown e row regs memory rules.rules sound has rules.shows)
+
+-- an entry without a reason of its rows has rows that can be said
+cfa_there : (f : ℕ → Row) (start size a : ℕ) → list_any (λ b. not (has_cfa (f b))) (range_with_len start size) ≡ false → start ≤ a → a < start + size → has_cfa (f a) ≡ true
+cfa_there f start zero a none low high = absurd (omega arith)
+cfa_there f start (suc size) a none low high =
+    let parts = or_parts (not (has_cfa (f start))) (list_any (λ b. not (has_cfa (f b))) (range_with_len (start + 1) size)) none in
+    elim (cases_lt start a) [
+      | inl up ↦ cfa_there f (start + 1) size a parts.1 (omega arith) (omega arith)
+      | inr down ↦ let same : start ≡ a = omega arith in ap (λ b. has_cfa (f b)) (sym same) ∙ not-false (has_cfa (f start)) parts.0
+    ]
+
+lacks_none : (b : Bool) → unless (not b) reason.Cfa ≡ None → b ≡ false
+lacks_none true none = cc
+lacks_none false none = refl
+
+rows_said : (e : FdeFields) → rows_fault e ≡ None → AreSaid (row_at e) e.start (e.start + e.size)
+unfolding rows_fault lacks_cfa
+rows_said e none = record {
+  sound = λ a. entry_sound e a (or_left (instruction_fault e) (unless (not (lacks_cfa e)) reason.Cfa) none);
+  cfa = λ a low high. cfa_there (row_at e) e.start e.size a (lacks_none (lacks_cfa e) (or_right (instruction_fault e) (unless (not (lacks_cfa e)) reason.Cfa) none)) low high;
+}
+
+-- entries that are written have rows
+abbrev pub HaveRows : List FdeFields → Type 0
+HaveRows [] = Unit {0}
+HaveRows (e ∷ entries) = (rows_fault e ≡ None) × HaveRows entries
+
+rows_push : (entries : List FdeFields) (e : FdeFields) → HaveRows entries → rows_fault e ≡ None → HaveRows (entries ++ e ∷ [])
+rows_push [] e have none = (none, tt)
+rows_push (f ∷ entries) e have none = (have.0, rows_push entries e have.1 none)
+
+has_range_of : (e : FdeFields) → 0 < e.size → e.start + e.size < 2 ^ 64 → has_range e ≡ true
+unfolding has_range
+has_range_of e some fits = grind (arith, nat_tests)
+
+ranged_rows : (code taken : List Range) (e : FdeFields) → reason_among code taken e ≡ None → rows_fault e ≡ None
+unfolding reason_among rows_reason
+ranged_rows code taken e none =
+    let free : IsFree code taken e = is_free code taken e none in
+    let rows : cond (has_range e) (rows_fault e) (instruction_fault e) ≡ None = or_left (cond (has_range e) (rows_fault e) (instruction_fault e)) (option_or (unless (is_code code e) reason.Outside) (unless (not (any_meets (range_of e) taken)) reason.Overlap)) none in
+    sym (ap (λ t. cond t (rows_fault e) (instruction_fault e)) (has_range_of e free.some free.fits)) ∙ rows
+
+good_rows : (code : List Range) (entry : Entry) (e : FdeFields) (o : Option Reason) (d : Decided) → entry.body ≡ Good e → reason_behind code d.written e ≡ o → HaveRows d.written → HaveRows (with_decision entry o d).written
+unfolding reason_behind
+good_rows code entry e None d body is have =
+    let P : Body → Type 0 = λ b. HaveRows (with_fields b d).written in
+    subst P (sym body) (rows_push d.written e have (ranged_rows code (map range_of d.written) e is))
+good_rows code entry e (Some why) d body is have = have
+
+body_rows : (code : List Range) (entry : Entry) (b : Body) (d : Decided) → entry.body ≡ b → HaveRows d.written → HaveRows (with_decision entry (body_reason code d.written b) d).written
+body_rows code entry (Good e) d body have = good_rows code entry e (reason_behind code d.written e) d body refl have
+body_rows code entry (Bad why) d body have = have
+
+entries_rows : (code : List Range) (entries : List Entry) (d : Decided) → HaveRows d.written → HaveRows (with_entries code entries d).written
+unfolding with_entries with_entry reason_of
+entries_rows code [] d have = have
+entries_rows code (x ∷ entries) d have = entries_rows code entries (with_entry code x d) (body_rows code x x.body d refl have)
+
+pub written_rows : (code : List Range) (first second : List Entry) → HaveRows (written code first second)
+unfolding written decided decided_of decided_behind
+written_rows code first second = entries_rows code (first ++ second) none_decided tt
+
+-- no entry before another has an address of it
+entries_append : (xs ys : List FdeFields) (a : ℕ) → entries_at (xs ++ ys) a ≡ entries_at xs a + entries_at ys a
+unfolding entries_at
+entries_append xs ys a = sum_by-append (λ w. cond (holds_address a w) 1 0) xs ys
+
+none_before : (a : ℕ) (xs : List FdeFields) (e : FdeFields) (ys : List FdeFields) → AreDisjoint (xs ++ e ∷ ys) → holds_address a e ≡ true → entries_at xs a ≡ 0
+none_before a xs e ys apart held =
+    let few : entries_at (xs ++ e ∷ ys) a ≤ 1 = one_entry a (xs ++ e ∷ ys) apart in
+    let all : entries_at (xs ++ e ∷ ys) a ≡ entries_at xs a + entries_at (e ∷ ys) a = entries_append xs (e ∷ ys) a in
+    let here : entries_at (e ∷ ys) a ≡ 1 + entries_at ys a = entries_more e ys a ∙ ap (λ t. cond t 1 0 + entries_at ys a) held in
+    omega (arith, few, all, here)
+
+above_parts : (base : ℕ) (xs : List FdeFields) (e : FdeFields) (ys : List FdeFields) → AreAbove base (xs ++ e ∷ ys) → AreAbove base xs × (base ≤ e.start)
+unfolding AreAbove
+above_parts base [] e ys above = (tt, above.0)
+above_parts base (f ∷ xs) e ys above = let rest = above_parts base xs e ys above.1 in ((above.0, rest.0), rest.1)
+
+low_held : (a : ℕ) (e : FdeFields) → holds_address a e ≡ true → e.start ≤ a
+low_held a e held = leb-true e.start a (and_parts (nat_le e.start a) (nat_lt a (e.start + e.size)) held).0
+
+high_held : (a : ℕ) (e : FdeFields) → holds_address a e ≡ true → a < e.start + e.size
+high_held a e held = ltb-true a (e.start + e.size) (and_parts (nat_le e.start a) (nat_lt a (e.start + e.size)) held).1
+
+-- what is known of the entries that are written
+pub record AreKept (base : ℕ) (entries : List FdeFields) : Type 0 where
+  pub above : AreAbove base entries
+  pub apart : AreDisjoint entries
+
+no_inits : (front : List SymLine) (x : ℕ) → list_all is_frameless front ≡ true → inits_at front x ≡ 0
+unfolding inits_at
+no_inits front x plain = ap (λ ls. inits_at ls x) (sym (append-nil front)) ∙ covers_after x front [] plain
+
+keeps_one : (base : ℕ) (front : List SymLine) (xs : List FdeFields) (e : FdeFields) (ys : List FdeFields) → list_all is_frameless front ≡ true → AreKept base (xs ++ e ∷ ys) → rows_fault e ≡ None → KeepsRows base (front ++ written_lines base (xs ++ e ∷ ys)) e
+keeps_one base front xs e ys plain kept none = record {
+  at = λ a regs memory held.
+      let lines : List SymLine = front ++ written_lines base (xs ++ e ∷ ys) in
+      let parts = above_parts base xs e ys kept.above in
+      let low : e.start ≤ a = low_held a e held in
+      let high : a < e.start + e.size = high_held a e held in
+      let same : a - base + base ≡ a = omega (arith, low, parts.1) in
+      let before : entries_at xs (a - base + base) ≡ 0 = ap (entries_at xs) same ∙ none_before a xs e ys kept.apart held in
+      let said : AreSaid (row_at e) e.start (e.start + e.size) = rows_said e none in
+      let found : HasRules lines (a - base) (row_at e (a - base + base)) =
+          after_found front (written_lines base (xs ++ e ∷ ys)) (a - base) (row_at e (a - base + base)) (no_inits front (a - base) plain)
+          (written_found base (a - base) xs e ys parts.0 parts.1 before (omega (arith, low, same)) (omega (arith, high, same)) said) in
+      let P : ℕ → Type 0 = λ k. HasRules lines (a - base) (row_at e k) in
+      says_by e (row_at e a) regs memory lines (a - base) (said.sound a) (said.cfa a low high) (subst P same found);
+}
+
+keeps_all : (base : ℕ) (front : List SymLine) (xs ys : List FdeFields) → list_all is_frameless front ≡ true → AreKept base (xs ++ ys) → HaveRows ys → AllByRecursion (KeepsRows base (front ++ written_lines base (xs ++ ys))) ys
+keeps_all base front xs [] plain kept have = tt
+keeps_all base front xs (e ∷ ys) plain kept have =
+    let same : (xs ++ e ∷ []) ++ ys ≡ xs ++ e ∷ ys = append_assoc xs (e ∷ []) ys in
+    let P : List FdeFields → Type 0 = λ es. AllByRecursion (KeepsRows base (front ++ written_lines base es)) ys in
+    (keeps_one base front xs e ys plain kept have.0, subst P same (keeps_all base front (xs ++ e ∷ []) ys plain (subst (AreKept base) (sym same) kept) have.1))
+
+none_else : (base x : ℕ) (entries : List FdeFields) (lines : List SymLine) (regs : Regs) (memory : List MemRun) → inits_at lines x ≡ entries_at entries (x + base) → entries_at entries (x + base) ≡ 0 → text_frame lines x regs memory ≡ None
+unfolding text_frame
+none_else base x entries lines regs memory cover none = ap (option_map (frame_of regs memory)) (nothing_found lines x (cover ∙ none))
+
+-- after records that say nothing of frames, those of the written entries mean what the rows of the entries mean
+pub frames_kept : (base : ℕ) (code : List Range) (first second : List Entry) (front : List SymLine) → AllFrom base code → list_all is_frameless front ≡ true → KeepsFrames base (written code first second) (front ++ written_lines base (written code first second))
+frames_kept base code first second front from plain =
+    let entries : List FdeFields = written code first second in
+    let lines : List SymLine = front ++ written_lines base entries in
+    record {
+      rows = keeps_all base front [] entries plain (record { above = written_above base code first second from; apart = written_apart base code first second from }) (written_rows code first second);
+      nothing_else = λ x regs memory none. none_else base x entries lines regs memory (covers_after x front (written_lines base entries) plain ∙ written_cover base code first second (written_lines base entries) from refl x) none;
+    }

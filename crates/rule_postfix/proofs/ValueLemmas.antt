@@ -1,0 +1,202 @@
+-- The words that say a row's rule have the value of the rule; for the lemmas of MeaningLemmas.
+use Rattle.std.proofs.Common.{◌≡◌, ℕ, ◌+◌, ◌<◌, ◌%◌, ◌^◌, ◌==◌, ◌&&◌, not, nat_lt, nat_le, ℤ, Bool, true, false, cond, List, [], ◌∷◌, map, Option, Some, None, is_some, Result, Ok, Err, refl, ap, sym, ◌∙◌, subst, arith, get_or}
+use Rattle.std.specs.Option.{option_or}
+use Rattle.std.specs.Int.{w64, cast_unsigned}
+use Rattle.std.specs.List.{slice_index_or, range_with_len}
+use Rattle.std.proofs.lemmas.Bool.{eqb-true}
+use Rattle.std.proofs.lemmas.Bool.Decides.{nat_tests}
+use Rattle.sym_edges.specs.Abi.{Default, KeepsValue, IsCfa, Unspecified, default_of, is_kept}
+use Rattle.frame_rows.specs.declared.row.Row.{Row}
+use Rattle.frame_rows.specs.declared.row.Rule.{Rule}
+use Rattle.frame_rows.specs.declared.row.Rule.TheVariants as rule
+use Rattle.frame_rows.specs.declared.row.CfaRule.{CfaRule}
+use Rattle.frame_rows.specs.Steps.{has_cfa}
+use Rattle.frame_rows.specs.Rows.{is_sound_rule, IsSound}
+use Rattle.sym_rules.specs.declared.rules.Target.{Target}
+use Rattle.sym_rules.specs.declared.rules.Target.TheVariants.{Cfa, Ra, Reg}
+use Rattle.sym_rules.specs.declared.rules.Token.{Token}
+use Rattle.sym_rules.specs.declared.rules.Token.TheVariants as token
+use Rattle.sym_rules.specs.declared.rules.RuleText.{RuleText}
+use Rattle.cfi_eval.specs.declared.registers.Regs.{Regs}
+use Rattle.cfi_eval.specs.declared.memory.MemRun.{MemRun}
+use Rattle.cfi_eval.specs.declared.outcome.Cause.{Cause}
+use Rattle.cfi_eval.specs.declared.outcome.Outcome.{Outcome}
+use Rattle.cfi_eval.specs.declared.outcome.Outcome.TheVariants.{Value, Undefined, Failed}
+use Rattle.cfi_eval.specs.Bytes.{word_at}
+use Rattle.cfi_eval.specs.Postfix.{known_or_missing, register_value, word_or_unreadable, word_value, with_token, postfix_from, rule_value}
+use Rattle.cfi_eval.specs.TextRules.{rule_for}
+use Rattle.cfi_eval.specs.TextValue.{outcome_of, cfa_by, text_cfa, ra_by, text_ra, default_value, register_by, text_register}
+use Rattle.rule_postfix.specs.declared.parts.RowPart.{RowPart}
+use Rattle.rule_postfix.specs.declared.parts.RowPart.TheVariants.{Unruled, Base, Column}
+use Rattle.rule_postfix.specs.RowParts.{own_as_same, by_group, column_part, cfa_part, rule_at, part_of, is_unspecified, leaves_unspecified}
+use Rattle.rule_postfix.specs.RowRules.{default_tokens, unruled_tokens, own_name, rule_spelled, spelled}
+use Rattle.rule_postfix.specs.RowValue.{known_value, value_now, known_word, at_cfa, cfa_value, value_at_rest, column_value, value_in_row}
+use Rattle.rule_postfix.specs.FrameMeaning.{is_undefined, is_lost}
+use Rattle.rule_postfix.proofs.ShownLemmas.{Shows}
+
+-- a register, by either side
+now_by : (register : ℕ) (o : Option ℕ) → outcome_of (known_or_missing register o) ≡ known_value register o
+now_by register None = refl
+now_by register (Some v) = refl
+
+now_is : (regs : Regs) (register : ℕ) → outcome_of (register_value regs register) ≡ value_now regs register
+unfolding register_value value_now
+now_is regs register = now_by register (slice_index_or regs.values register None)
+
+word_by : (a : ℕ) (o : Option ℕ) → outcome_of (word_or_unreadable a o) ≡ known_word a o
+word_by a None = refl
+word_by a (Some w) = refl
+
+word_is : (memory : List MemRun) (a : ℕ) → outcome_of (word_value memory a) ≡ known_word a (word_at memory a)
+unfolding word_value
+word_is memory a = word_by a (word_at memory a)
+
+-- one register
+register_by_result : (regs : Regs) (memory : List MemRun) (cfa : Option Outcome) (r : ℕ) (v : Result ℕ Cause) → register_value regs r ≡ v → rule_value regs memory cfa (token.Reg r ∷ []) ≡ outcome_of v
+unfolding rule_value postfix_from with_token
+register_by_result regs memory cfa r (Ok v) is = rw is refl
+register_by_result regs memory cfa r (Err why) is = rw is refl
+
+one_register : (regs : Regs) (memory : List MemRun) (cfa : Option Outcome) (r : ℕ) → rule_value regs memory cfa (token.Reg r ∷ []) ≡ value_now regs r
+one_register regs memory cfa r = register_by_result regs memory cfa r (register_value regs r) refl ∙ now_is regs r
+
+-- the CFA itself, where it has a value or failed
+abbrev IsTold : Outcome → Type 0
+IsTold (Value v) = Unit {0}
+IsTold Undefined = ⊥
+IsTold (Failed why) = Unit {0}
+
+one_cfa : (regs : Regs) (memory : List MemRun) (cfa : Outcome) → IsTold cfa → rule_value regs memory (Some cfa) (token.Cfa ∷ []) ≡ cfa
+unfolding rule_value postfix_from with_token
+one_cfa regs memory (Value v) told = refl
+one_cfa regs memory Undefined told = absurd told
+one_cfa regs memory (Failed why) told = refl
+
+-- the CFA plus an offset
+plus_cfa : (regs : Regs) (memory : List MemRun) (cfa : Outcome) (n : ℤ) → rule_value regs memory (Some cfa) (token.Cfa ∷ token.Number n ∷ token.Add ∷ []) ≡ at_cfa cfa n Value
+unfolding rule_value postfix_from with_token
+plus_cfa regs memory (Value v) n = refl
+plus_cfa regs memory Undefined n = refl
+plus_cfa regs memory (Failed why) n = refl
+
+-- the word there
+fetched : (regs : Regs) (memory : List MemRun) (v : ℕ) (n : ℤ) (w : Result ℕ Cause) → word_value memory ((v + cast_unsigned w64 n) % 2 ^ 64) ≡ w → rule_value regs memory (Some (Value v)) (token.Cfa ∷ token.Number n ∷ token.Add ∷ token.Fetch ∷ []) ≡ outcome_of w
+unfolding rule_value postfix_from with_token
+fetched regs memory v n (Ok w) is = rw is refl
+fetched regs memory v n (Err why) is = rw is refl
+
+word_cfa : (regs : Regs) (memory : List MemRun) (cfa : Outcome) (n : ℤ) → rule_value regs memory (Some cfa) (token.Cfa ∷ token.Number n ∷ token.Add ∷ token.Fetch ∷ []) ≡ at_cfa cfa n (λ a. known_word a (word_at memory a))
+unfolding rule_value postfix_from with_token
+word_cfa regs memory (Value v) n =
+    let a : ℕ = (v + cast_unsigned w64 n) % 2 ^ 64 in
+    fetched regs memory v n (word_value memory a) refl ∙ word_is memory a
+word_cfa regs memory Undefined n = refl
+word_cfa regs memory (Failed why) n = refl
+
+-- the CFA's own rule: a register's value plus an offset
+base_by : (regs : Regs) (memory : List MemRun) (r : ℕ) (n : ℤ) (v : Result ℕ Cause) → register_value regs r ≡ v → rule_value regs memory None (token.Reg r ∷ token.Number n ∷ token.Add ∷ []) ≡ at_cfa (outcome_of v) n Value
+unfolding rule_value postfix_from with_token
+base_by regs memory r n (Ok v) is = rw is refl
+base_by regs memory r n (Err why) is = rw is refl
+
+base_is : (regs : Regs) (memory : List MemRun) (cfa : CfaRule) → rule_value regs memory None (token.Reg cfa.register ∷ token.Number cfa.offset ∷ token.Add ∷ []) ≡ cfa_value regs (Some cfa)
+base_is regs memory cfa =
+    base_by regs memory cfa.register cfa.offset (register_value regs cfa.register) refl ∙ ap (λ v. at_cfa v cfa.offset Value) (now_is regs cfa.register)
+
+told_by : (o : Option ℕ) (r : ℕ) (n : ℤ) → IsTold (at_cfa (known_value r o) n Value)
+told_by None r n = tt
+told_by (Some v) r n = tt
+
+cfa_told : (regs : Regs) (cfa : Option CfaRule) → is_some cfa ≡ true → IsTold (cfa_value regs cfa)
+unfolding value_now
+cfa_told regs None some = cc
+cfa_told regs (Some cfa) some = told_by (slice_index_or regs.values cfa.register None) cfa.register cfa.offset
+
+-- a register without a rule has the value of the words that say so
+by_default : (regs : Regs) (memory : List MemRun) (cfa : Outcome) (k : ℕ) (d : Default) → IsTold cfa → default_of k ≡ d → default_value regs cfa d k ≡ register_by regs memory cfa k (default_tokens d k)
+by_default regs memory cfa k KeepsValue told is = now_is regs k ∙ sym (one_register regs memory (Some cfa) k)
+by_default regs memory cfa k IsCfa told is = sym (one_cfa regs memory cfa told)
+by_default regs memory cfa k Unspecified told is = sym (ap (λ d. default_value regs cfa d k) is)
+
+or_default : (regs : Regs) (memory : List MemRun) (cfa : Outcome) (k : ℕ) (o : Option (List Token)) → IsTold cfa → register_by regs memory cfa k o ≡ register_by regs memory cfa k (option_or o (default_tokens (default_of k) k))
+or_default regs memory cfa k None told = by_default regs memory cfa k (default_of k) told refl
+or_default regs memory cfa k (Some words) told = refl
+
+rest_by : (regs : Regs) (cfa : Outcome) (k : ℕ) (d : Default) → default_value regs cfa d k ≡ value_at_rest regs cfa d k
+rest_by regs cfa k KeepsValue = now_is regs k
+rest_by regs cfa k IsCfa = refl
+rest_by regs cfa k Unspecified = refl
+
+at_rest : (regs : Regs) (memory : List MemRun) (cfa : Outcome) (k : ℕ) → IsTold cfa → register_by regs memory cfa k (default_tokens (default_of k) k) ≡ value_at_rest regs cfa (default_of k) k
+at_rest regs memory cfa k told = sym (by_default regs memory cfa k (default_of k) told refl) ∙ rest_by regs cfa k (default_of k)
+
+undefined_by : (regs : Regs) (memory : List MemRun) (cfa : Outcome) (k : ℕ) (d : Default) → default_of k ≡ d → not (leaves_unspecified d) ≡ false → register_by regs memory cfa k (default_tokens d k) ≡ Undefined
+undefined_by regs memory cfa k KeepsValue is shown = cc
+undefined_by regs memory cfa k IsCfa is shown = cc
+undefined_by regs memory cfa k Unspecified is shown = ap (λ d. default_value regs cfa d k) is
+
+kept_by : (regs : Regs) (memory : List MemRun) (cfa : Outcome) (k : ℕ) (kept : Bool) → is_kept k ≡ kept → register_by regs memory cfa k (spelled (Reg k) (by_group kept rule.Same)) ≡ value_now regs k
+unfolding spelled default_of
+kept_by regs memory cfa k true is = ap (λ t. register_by regs memory cfa k (default_tokens (cond t KeepsValue (cond (k == 7) IsCfa Unspecified)) k)) is ∙ one_register regs memory (Some cfa) k
+kept_by regs memory cfa k false is = one_register regs memory (Some cfa) k
+
+other_by : (regs : Regs) (memory : List MemRun) (cfa : Outcome) (k s : ℕ) (own : Bool) → (s == k) ≡ own → register_by regs memory cfa k (spelled (Reg k) (by_group (is_kept k) (cond own rule.Same (rule.Register s)))) ≡ value_now regs s
+unfolding spelled
+other_by regs memory cfa k s true is = kept_by regs memory cfa k (is_kept k) refl ∙ ap (value_now regs) (sym (eqb-true s k is))
+other_by regs memory cfa k s false is = one_register regs memory (Some cfa) s
+
+-- a register by its rule
+register_is : (regs : Regs) (memory : List MemRun) (cfa : Outcome) (k : ℕ) (r : Rule) → IsTold cfa → (is_undefined r && not (is_unspecified k)) ≡ false → register_by regs memory cfa k (spelled (Reg k) (column_part k r)) ≡ column_value regs memory cfa k r
+unfolding spelled column_part is_unspecified
+register_is regs memory cfa k rule.Rest told shown = at_rest regs memory cfa k told
+register_is regs memory cfa k rule.Undefined told shown = undefined_by regs memory cfa k (default_of k) refl shown
+register_is regs memory cfa k rule.Same told shown = kept_by regs memory cfa k (is_kept k) refl
+register_is regs memory cfa k (rule.Offset n) told shown = word_cfa regs memory cfa n
+register_is regs memory cfa k (rule.ValOffset n) told shown = plus_cfa regs memory cfa n
+register_is regs memory cfa k (rule.Register s) told shown = other_by regs memory cfa k s (s == k) refl
+
+-- the return address by its rule
+ra_other : (regs : Regs) (memory : List MemRun) (cfa : Outcome) (s : ℕ) (own : Bool) → (s == 16) ≡ own → nat_lt s 16 ≡ true → ra_by regs memory cfa (spelled Ra (by_group (is_kept 16) (cond own rule.Same (rule.Register s)))) ≡ value_now regs s
+unfolding spelled
+ra_other regs memory cfa s true is below = let same : s ≡ 16 = eqb-true s 16 is in absurd (grind (arith, nat_tests))
+ra_other regs memory cfa s false is below = one_register regs memory (Some cfa) s
+
+ra_is : (regs : Regs) (memory : List MemRun) (cfa : Outcome) (r : Rule) → is_sound_rule 16 r ≡ true → ra_by regs memory cfa (spelled Ra (column_part 16 r)) ≡ column_value regs memory cfa 16 r
+unfolding spelled column_part default_of is_kept
+ra_is regs memory cfa rule.Rest sound = refl
+ra_is regs memory cfa rule.Undefined sound = refl
+ra_is regs memory cfa rule.Same sound = cc
+ra_is regs memory cfa (rule.Offset n) sound = word_cfa regs memory cfa n
+ra_is regs memory cfa (rule.ValOffset n) sound = plus_cfa regs memory cfa n
+ra_is regs memory cfa (rule.Register s) sound = ra_other regs memory cfa s (s == 16) refl sound
+
+or_none : {A : Type 0} (o : Option A) → option_or o None ≡ o
+or_none None = refl
+or_none (Some x) = refl
+
+-- rules that show a row have its values
+cfa_by_part : (regs : Regs) (memory : List MemRun) (cfa : Option CfaRule) → cfa_by regs memory (spelled Cfa (cfa_part cfa)) ≡ cfa_value regs cfa
+unfolding spelled
+cfa_by_part regs memory None = refl
+cfa_by_part regs memory (Some cfa) = base_is regs memory cfa
+
+pub cfa_shown : (regs : Regs) (memory : List MemRun) (rules : List RuleText) (row : Row) → Shows rules row Cfa → text_cfa regs memory rules ≡ cfa_value regs row.cfa
+unfolding text_cfa part_of
+cfa_shown regs memory rules row shows = ap (cfa_by regs memory) (sym (or_none (rule_for Cfa rules)) ∙ shows) ∙ cfa_by_part regs memory row.cfa
+
+pub ra_shown : (regs : Regs) (memory : List MemRun) (rules : List RuleText) (row : Row) → IsSound row → Shows rules row Cfa → Shows rules row Ra → text_ra regs memory rules ≡ value_in_row regs memory row 16
+unfolding text_ra part_of value_in_row
+ra_shown regs memory rules row sound first shows =
+    ap (λ cfa. ra_by regs memory cfa (rule_for Ra rules)) (cfa_shown regs memory rules row first)
+    ∙ ap (ra_by regs memory (cfa_value regs row.cfa)) (sym (or_none (rule_for Ra rules)) ∙ shows)
+    ∙ ra_is regs memory (cfa_value regs row.cfa) (rule_at row 16) (sound.columns 16)
+
+pub register_shown : (regs : Regs) (memory : List MemRun) (rules : List RuleText) (row : Row) (k : ℕ) → has_cfa row ≡ true → is_lost row k ≡ false → Shows rules row Cfa → Shows rules row (Reg k) → text_register regs memory rules k ≡ value_in_row regs memory row k
+unfolding text_register part_of value_in_row is_lost
+register_shown regs memory rules row k has shown first shows =
+    let cfa : Outcome = cfa_value regs row.cfa in
+    let told : IsTold cfa = cfa_told regs row.cfa has in
+    ap (λ c. register_by regs memory c k (rule_for (Reg k) rules)) (cfa_shown regs memory rules row first)
+    ∙ or_default regs memory cfa k (rule_for (Reg k) rules) told
+    ∙ ap (register_by regs memory cfa k) shows
+    ∙ register_is regs memory cfa k (rule_at row k) told shown

@@ -1,0 +1,69 @@
+-- What a row says of the caller's registers, over registers and memory (DWARF 5, sections 6.4.1 and 6.4.4): by the kind of each rule. Sums are
+-- modulo 2^64. Without a rule a register is what the ABI says (System V ABI for AMD64, section 3.2.1).
+use Rattle.std.specs.Prelude.{ℕ, ◌+◌, ◌%◌, ◌^◌, ℤ, List, map, Option, None, Some}
+use Rattle.std.specs.Int.{w64, cast_unsigned}
+use Rattle.std.specs.List.{range_with_len, slice_index_or}
+use Rattle.sym_edges.specs.Abi.{Default, KeepsValue, IsCfa, Unspecified, default_of, return_address}
+use Rattle.frame_entries.specs.FdeFields.{FdeFields}
+use Rattle.frame_rows.specs.declared.row.Rule.{Rule}
+use Rattle.frame_rows.specs.declared.row.Rule.TheVariants as rule
+use Rattle.frame_rows.specs.declared.row.CfaRule.{CfaRule}
+use Rattle.frame_rows.specs.declared.row.Row.{Row}
+use Rattle.cfi_eval.specs.declared.registers.Regs.{Regs}
+use Rattle.cfi_eval.specs.declared.memory.MemRun.{MemRun}
+use Rattle.cfi_eval.specs.declared.outcome.Outcome.{Outcome}
+use Rattle.cfi_eval.specs.declared.outcome.Outcome.TheVariants.{Value, Undefined, Failed}
+use Rattle.cfi_eval.specs.declared.outcome.Cause.TheVariants.{Missing, Unreadable, NoCfa}
+use Rattle.cfi_eval.specs.declared.outcome.Frame.{Frame}
+use Rattle.cfi_eval.specs.Bytes.{word_at}
+use Rattle.rule_postfix.specs.RowParts.{rule_at}
+
+-- the value that a register has now
+abbrev pub known_value : ℕ → Option ℕ → Outcome
+known_value register None = Failed (Missing register)
+known_value register (Some v) = Value v
+
+unfoldable pub value_now : Regs → ℕ → Outcome
+value_now regs register = known_value register (slice_index_or regs.values register None)
+
+-- the word at an address
+abbrev pub known_word : ℕ → Option ℕ → Outcome
+known_word a None = Failed (Unreadable a)
+known_word a (Some word) = Value word
+
+-- what stands at the CFA plus an offset, or is it: a CFA that failed fails what rests on it
+abbrev pub at_cfa : Outcome → ℤ → (ℕ → Outcome) → Outcome
+at_cfa (Value cfa) offset then = then ((cfa + cast_unsigned w64 offset) % 2 ^ 64)
+at_cfa Undefined offset then = Failed NoCfa
+at_cfa (Failed why) offset then = Failed why
+
+-- the CFA: a register's value plus an offset
+abbrev pub cfa_value : Regs → Option CfaRule → Outcome
+cfa_value regs None = Undefined
+cfa_value regs (Some cfa) = at_cfa (value_now regs cfa.register) cfa.offset Value
+
+-- a column without a rule
+abbrev pub value_at_rest : Regs → Outcome → Default → ℕ → Outcome
+value_at_rest regs cfa KeepsValue column = value_now regs column
+value_at_rest regs cfa IsCfa column = cfa
+value_at_rest regs cfa Unspecified column = Undefined
+
+-- a column by its rule
+abbrev pub column_value : Regs → List MemRun → Outcome → ℕ → Rule → Outcome
+column_value regs memory cfa column rule.Rest = value_at_rest regs cfa (default_of column) column
+column_value regs memory cfa column rule.Undefined = Undefined
+column_value regs memory cfa column rule.Same = value_now regs column
+column_value regs memory cfa column (rule.Offset n) = at_cfa cfa n (λ a. known_word a (word_at memory a))
+column_value regs memory cfa column (rule.ValOffset n) = at_cfa cfa n Value
+column_value regs memory cfa column (rule.Register register) = value_now regs register
+
+unfoldable pub value_in_row : Regs → List MemRun → Row → ℕ → Outcome
+value_in_row regs memory row column = column_value regs memory (cfa_value regs row.cfa) column (rule_at row column)
+
+-- all of a row of an entry: the CFA, the return address, and the sixteen registers
+unfoldable pub row_frame : FdeFields → Row → Regs → List MemRun → Frame
+row_frame e row regs memory = record {
+  cfa = cfa_value regs row.cfa;
+  ra = value_in_row regs memory row return_address;
+  regs = map (value_in_row regs memory row) (range_with_len 0 16);
+}
