@@ -17,7 +17,9 @@ use Rattle.sym_lookup.specs.Findings.{are_sized}
 use Rattle.die_names.specs.declared.unit_read.UnitRead.{UnitRead}
 use Rattle.rule_postfix.specs.Written.{omitted, written, written_lines}
 use Rattle.rule_postfix.specs.Covering.{SaysFrames}
+use Rattle.rule_postfix.specs.FrameMeaning.{KeepsFrames}
 use Rattle.rule_postfix.proofs.SayingLemmas.{frames_said, written_sized}
+use Rattle.rule_postfix.proofs.MeaningLemmas.{frames_kept}
 use Rattle.rule_postfix.specs.declared.omission.Omission.{Omission}
 use Rattle.func_flatten.specs.declared.piece.Piece.{Piece}
 use Rattle.func_flatten.specs.Pieces.{ArePieces}
@@ -118,6 +120,9 @@ file_dumped image name read pieces lines framed base code left head is above pie
     let frames : SaysFrames image.base (written_of image k.says) lines =
     subst (SaysFrames image.base (written_of image k.says)) (sym split)
     (frames_said image.base image.code k.says.first k.says.second front_lines above (head_frameless image name read.units pieces front.functions front.are)) in
+    let means : KeepsFrames image.base (written_of image k.says) lines =
+    subst (KeepsFrames image.base (written_of image k.says)) (sym split)
+    (frames_kept image.base image.code k.says.first k.says.second front_lines above (head_frameless image name read.units pieces front.functions front.are)) in
     let sized : list_all are_sized (frame_lines image k.says) ≡ true = written_sized image.base image.code k.says.first k.says.second above in
     record {
       found = k.says;
@@ -126,6 +131,7 @@ file_dumped image name read pieces lines framed base code left head is above pie
       left_is = left_is ∙ ap (λ first. omitted code first read.second) k.first ∙ ap (omitted code k.says.first) k.second ∙ ap (λ c. omitted c k.says.first k.says.second) ranges;
       reads = reads;
       frames = frames;
+      means = means;
       names = file_named image name k.says read.units pieces front.functions lines begin pieced front.are whole;
       clean = file_clean image name k.says read.units pieces front.functions lines pieced begin front.below front.are whole sized frames;
     }

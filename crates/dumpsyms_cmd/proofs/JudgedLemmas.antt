@@ -100,6 +100,7 @@ dumps_parts parts name text read lines left says dumps is =
       text_is = is ∙ ap (λ (us : List Unit). skipped_text us ++ omitted_text left) (k.headers ∙ ap (λ (f : DebugSays). f.headers) same) ∙ ap (λ (l : List Omission). skipped_text dumps.found.headers ++ omitted_text l) dumps.left_is;
       reads = dumps.reads;
       frames = dumps.frames;
+      means = dumps.means;
       names = dumps.names;
       clean = dumps.clean;
     }

@@ -16,6 +16,7 @@ use Rattle.debug_read.specs.DebugSays.{DebugSays, debug_says}
 use Rattle.func_records.specs.TextNames.{Names}
 use Rattle.rule_postfix.specs.Written.{omitted}
 use Rattle.rule_postfix.specs.Covering.{SaysFrames}
+use Rattle.rule_postfix.specs.FrameMeaning.{KeepsFrames}
 use Rattle.sym_lookup.specs.Findings.{HasNoFindings}
 use Rattle.dumpsyms_cmd.specs.Refusals.{too_long_line, usage_line}
 use Rattle.dumpsyms_cmd.specs.Verdict.{Verdict, refused, unread, no_memory, left_out, IsPartsVerdict, IsDumpVerdict, IsFileVerdict, IsVerdict, LIMIT}
@@ -73,8 +74,9 @@ RefusesOrGives (Bytes text) status err P Q = ⊥
 abbrev pub Judges : Judgement → (List ℕ → Type 0) → (List SymLine → List ℕ → Type 0) → Type 0
 Judges j P Q = RefusesOrGives j.out j.status (err_bytes j.err) P Q
 
--- the records of an image, and the text on what is left out; what the records say of frames; and what a look-up
--- in them names: at each address the function that owns it in the file, its inline chain and its line; a checker finds nothing in them
+-- the records of an image, and the text on what is left out; what the records say of frames, and that evaluating them gives at each address of
+-- a written entry, for all registers and all memory, what DWARF's row there gives; and what a look-up in them names: at each address the
+-- function that owns it in the file, its inline chain and its line; a checker finds nothing in them
 pub record DumpsParts (parts : ImageParts) (name : List ℕ) (lines : List SymLine) (text : List ℕ) : Type 0 where
   pub found : DebugSays
   pub found_is : debug_says parts ≡ Ok found
@@ -82,6 +84,7 @@ pub record DumpsParts (parts : ImageParts) (name : List ℕ) (lines : List SymLi
   pub text_is : text ≡ left_out parts found
   pub reads : reading (canon_text lines) ≡ Ok lines
   pub frames : SaysFrames parts.base (written_of parts found) lines
+  pub means : KeepsFrames parts.base (written_of parts found) lines
   pub names : (x : ℕ) → Names parts.base canon.units lines x
   pub clean : HasNoFindings lines
 

@@ -31,6 +31,7 @@ use Rattle.cfi_eval.specs.declared.outcome.Outcome.TheVariants.{Undefined}
 use Rattle.cfi_eval.specs.declared.outcome.Frame.{Frame}
 use Rattle.cfi_eval.specs.TextRules.{text_rules}
 use Rattle.cfi_eval.specs.TextValue.{text_register, frame_of, text_frame}
+use Rattle.rule_postfix.specs.FrameLines.{frame_lines as lines_of_rows}
 use Rattle.rule_postfix.specs.Overlaps.{meet, any_meets}
 use Rattle.rule_postfix.specs.RowValue.{value_in_row, row_frame}
 use Rattle.rule_postfix.specs.FrameMeaning.{is_lost, IsFrameOf, SaysFrame, KeepsRows, KeepsFrames}
@@ -192,3 +193,14 @@ frames_kept base code first second front from plain =
       rows = keeps_all base front [] entries plain (record { above = written_above base code first second from; apart = written_apart base code first second from }) (written_rows code first second);
       nothing_else = λ x regs memory none. none_else base x entries lines regs memory (covers_after x front (written_lines base entries) plain ∙ written_cover base code first second (written_lines base entries) from refl x) none;
     }
+
+pub entries_kept : (base : ℕ) (code : List Range) (first second : List Entry) → AllFrom base code → KeepsFrames base (written code first second) (written_lines base (written code first second))
+entries_kept base code first second from = frames_kept base code first second [] from refl
+
+-- the records of one entry
+pub entry_kept : (base : ℕ) (e : FdeFields) → base ≤ e.start → rows_fault e ≡ None → KeepsRows base (lines_of_rows (row_at e) e.start e.size base) e
+unfolding written_lines entry_lines any_meets AreAbove
+entry_kept base e le none =
+    let kept : AreKept base (e ∷ []) = record { above = (le, tt); apart = (refl, tt) } in
+    let P : List SymLine → Type 0 = λ ls. KeepsRows base ls e in
+    subst P (append-nil (lines_of_rows (row_at e) e.start e.size base)) (keeps_one base [] [] e [] refl kept none)

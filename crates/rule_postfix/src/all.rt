@@ -13,6 +13,7 @@ ghost use Rattle.sym_records.specs.Canon.{canon_text};
 ghost use Rattle.sym_records.specs.Spelled.{text_bytes};
 ghost use Rattle.sym_records.specs.declared.place.Place.{Place};
 ghost use Rattle.sym_records.specs.Validity.{first_bad_from};
+ghost use Rattle.rule_postfix.specs.FrameMeaning.{KeepsFrames};
 ghost use Rattle.rule_postfix.specs.Overlaps.{any_meets};
 ghost use Rattle.rule_postfix.specs.Written.{Decided, has_range, range_of, reason_among, left_out, with_written, with_entry, with_entries, written, omitted, written_lines};
 ghost use Rattle.rule_postfix.specs.internal.Keeping.{KeptFor, StaysKept};
@@ -277,8 +278,9 @@ fn put_entries(
 }
 
 /// The text of the frame records of all entries, those of the first list before those of the second, with addresses
-/// counted from `base`; and the entries that are left out, each with its first reason.
-#[tactic(auto, using(crate::proofs::DecidedLemmas::lies_above, crate::proofs::DecidedLemmas::shown_text, crate::proofs::DecidedLemmas::shown_omitted))]
+/// counted from `base`; and the entries that are left out, each with its first reason. Evaluating the text gives what the rows of the
+/// written entries give.
+#[tactic(auto, using(crate::proofs::DecidedLemmas::lies_above, crate::proofs::DecidedLemmas::shown_text, crate::proofs::DecidedLemmas::shown_omitted, crate::proofs::MeaningLemmas::entries_kept))]
 pub fn translate_all(
     alloc: Global,
     first: &EntryList<'_>,
@@ -288,6 +290,7 @@ pub fn translate_all(
 ) -> Result<Frames, OutOfMemory>
     requires { AllFrom base code.now }
     ensures text { IfOk result (λ frames. text_bytes frames.text ≡ canon_text (written_lines base (written code.now first.now second.now))) }
+    ensures means { IfOk result (λ _. KeepsFrames base (written code.now first.now second.now) (written_lines base (written code.now first.now second.now))) }
     ensures valid { IfOk result (λ _. first_bad_from 0 Place.Inside (written_lines base (written code.now first.now second.now)) ≡ None) }
     ensures omitted { IfOk result (λ frames. frames.omitted ≡ omitted code.now first.now second.now) }
 {

@@ -7,6 +7,7 @@ ghost use Rattle.sym_records.specs.declared.place.Place.{Place};
 ghost use Rattle.sym_records.specs.Canon.{canon_text};
 ghost use Rattle.sym_records.specs.Validity.{first_bad_from};
 ghost use Rattle.rule_postfix.specs.FrameLines.{frame_lines};
+ghost use Rattle.rule_postfix.specs.FrameMeaning.{KeepsRows};
 
 use crate::open_init::{OpenInit, spell_steps};
 use frame_entries::Fde;
@@ -55,12 +56,14 @@ pub fn spell_entry(
 }
 
 /// The text of an entry's frame records, with addresses counted from `base`, or the reason for which it has none: that of
-/// its first bad instruction, or `Cfa` where some address of its range has no CFA rule.
+/// its first bad instruction, or `Cfa` where some address of its range has no CFA rule. Evaluating the text gives what the rows give.
+#[tactic(auto, using(crate::proofs::MeaningLemmas::entry_kept))]
 pub fn translate(alloc: Global, fde: &Fde<'_>, base: u64) -> Result<ByteText, Stop<Reason>>
     requires some { 0 < fde.now.size }
     requires fits { fde.now.start + fde.now.size < 2 ^ 64 }
     requires based { base ≤ fde.now.start }
     ensures text { MatchStop result (λ text. text ≡ canon_text (frame_lines (row_at fde.now) fde.now.start fde.now.size base)) (λ _. Unit {0}) (Unit {0}) }
+    ensures means { MatchStop result (λ _. KeepsRows base (frame_lines (row_at fde.now) fde.now.start fde.now.size base) fde.now) (λ _. Unit {0}) (Unit {0}) }
     ensures valid { MatchStop result (λ _. first_bad_from 0 Place.Inside (frame_lines (row_at fde.now) fde.now.start fde.now.size base) ≡ None) (λ _. Unit {0}) (Unit {0}) }
     ensures exact { MatchStop result (λ _. rows_fault fde.now ≡ None) (λ why. rows_fault fde.now ≡ Some why) (Unit {0}) }
 {

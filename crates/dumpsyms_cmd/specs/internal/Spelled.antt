@@ -16,6 +16,7 @@ use Rattle.debug_read.specs.DebugSays.{DebugSays, debug_says}
 use Rattle.debug_read.specs.declared.found.DebugRead.{DebugRead}
 use Rattle.dumpsyms_cmd.specs.Dump.{identity_lines, public_lines, written_of, CanonFile}
 use Rattle.rule_postfix.specs.Covering.{SaysFrames}
+use Rattle.rule_postfix.specs.FrameMeaning.{KeepsFrames}
 use Rattle.sym_lookup.specs.Findings.{HasNoFindings}
 
 -- a record that may stand after the first one
@@ -38,5 +39,6 @@ pub record DumpsRead (image : ImageParts) (name : List ℕ) (read : DebugRead) (
   pub left_is : left ≡ omitted image.code found.first found.second
   pub reads : reading (canon_text lines) ≡ Ok lines
   pub frames : SaysFrames image.base (written_of image found) lines
+  pub means : KeepsFrames image.base (written_of image found) lines
   pub names : (x : ℕ) → Names image.base canon.units lines x
   pub clean : HasNoFindings lines
