@@ -9,7 +9,8 @@ use crate::place::Place;
 use crate::validity::is_valid;
 use std::marker::Model;
 
-/// A list of records that a text can spell: `MODULE` first, and each record valid. It is made by `file_of` alone.
+/// A list of records that a text can spell: `MODULE` first, and each record valid. `file_of` tests a list, and
+/// `file_of_valid` takes one that is known to be valid.
 #[derive(Debug, Drop)]
 pub struct SymFile {
     lines: Vec<SymLine>,
@@ -35,7 +36,7 @@ pub struct NotValid {
 
 /// Whether the record may stand at the place: `MODULE` first and nowhere else, lines and inlines in a function, and a change
 /// of frame rules directly after a frame record.
-fn fits(place: Place, line: &SymLine) -> bool
+pub fn fits(place: Place, line: &SymLine) -> bool
     ensures { result ≡ fits place line.now }
 {
     match (place, line) {
@@ -48,7 +49,7 @@ fn fits(place: Place, line: &SymLine) -> bool
 }
 
 /// The place after the record.
-fn leads(place: Place, line: &SymLine) -> Place
+pub fn leads(place: Place, line: &SymLine) -> Place
     ensures { result ≡ leads place line.now }
 {
     match line {
@@ -99,6 +100,14 @@ pub fn file_of(lines: Vec<SymLine>) -> Result<SymFile, NotValid>
         None => Ok(SymFile { lines }),
         Some(index) => Err(NotValid { index }),
     }
+}
+
+/// A symbol file of records that are known to be valid, as those are that a reader took from a text. Takes no memory.
+pub fn file_of_valid(lines: Vec<SymLine>) -> SymFile
+    requires { first_bad lines.items ≡ None }
+    ensures { result ≡ lines.items }
+{
+    SymFile { lines }
 }
 
 impl SymFile {

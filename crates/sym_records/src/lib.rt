@@ -3,7 +3,7 @@
 //! A symbol file is a text of lines, each a record (Breakpad's symbol_files.md): a keyword and its fields. A table says which
 //! fields stand after each keyword, and spelling, length, validity and reading go over them. A `SymFile` is a list of records
 //! that a text can spell: `file_of` makes it, or names the first record that no text can spell or that may not stand
-//! where it stands. `render` spells one record and `write_file` all of them, each with one space between its fields, and
+//! where it stands, and `file_of_valid` makes it of records that are known to be valid. `render` spells one record and `write_file` all of them, each with one space between its fields, and
 //! what is written reads back as the same records. The `add_` calls spell a record at the end of a text with no record made
 //! (`write_init` and `write_change` write the front of a frame record into a line, for a caller that writes its rules),
 //! a `SymText` is such a text, which contracts see as its records, and `clean` makes of any bytes a name that a record may carry.
@@ -44,7 +44,7 @@ pub use adding::{
 pub use clean_names::clean;
 pub use digits::HexText;
 pub use fields::{is_field, is_name};
-pub use file::{NotValid, SymFile, file_of};
+pub use file::{NotValid, SymFile, file_of, file_of_valid, fits, leads};
 pub use keyword::Keyword;
 pub use line::{Binary, BoxedBinary, Extent, Extents, SymLine, SymLines};
 pub use pieces::TextPieces;
