@@ -25,6 +25,29 @@ pub enum TextKind {
     NoModule,
 }
 
+impl TextKind {
+    ghost use Rattle.std.specs.Prelude.{◌≡◌};
+    ghost use Rattle.sym_rules.specs.FaultWords.{text_word};
+
+    /// The kind as it is printed.
+    pub fn word(self) -> &'static [u8]
+        ensures { result.now ≡ text_word self }
+    {
+        match self {
+            TextKind::Empty => b"empty",
+            TextKind::Unknown => b"unknown",
+            TextKind::Fields => b"fields",
+            TextKind::Hex => b"hex",
+            TextKind::Decimal => b"decimal",
+            TextKind::Rule => b"rule",
+            TextKind::Misplaced => b"misplaced",
+            TextKind::LongLine => b"long-line",
+            TextKind::Windows => b"windows",
+            TextKind::NoModule => b"no-module",
+        }
+    }
+}
+
 /// The first fault of a text, with its line, counted from 1.
 #[derive(Clone, Copy, Debug, PartialEq, Eq)]
 pub struct TextFault {
