@@ -23,7 +23,7 @@ mod waiting;
 mod words;
 
 pub use backward::{write_byte, write_bytes, write_decimal, write_hex, write_last, write_signed};
-pub use registers::write_register;
+pub use registers::{register_name, write_register};
 pub use rules::{ByteText, RuleName, RuleText, Rules, Target, Token, Tokens};
 pub use sink_buffer::{hand_on, put, put_word};
 pub use sink_rules::put_rules;

@@ -79,7 +79,7 @@ macro_rules! with_name {
 
 /// The name of a register; from 16 on there is none.
 #[tactic(auto, unfolding(sym_edges::specs::Abi::register_name, sym_edges::specs::Abi::register_names))]
-pub(crate) fn register_name(number: u8) -> &'static [u8]
+pub fn register_name(number: u8) -> &'static [u8]
     ensures { result.now ≡ register_name number }
 {
     with_name!(number, name => name, b"")

@@ -1,0 +1,45 @@
+-- What a command over symbol files answers, by the records of the file that it names; or why that file has none.
+use Rattle.std.specs.Prelude.{◌≡◌, ℕ, List, [], ◌∷◌, ◌++◌, codes, decimal, Option, Some, None, Result, Ok, Err}
+use Rattle.sym_edges.specs.Outside.{Files, Tells}
+use Rattle.sym_rules.specs.FaultWords.{text_word}
+use Rattle.sym_rules.specs.declared.text_fault.TextFault.{TextFault}
+use Rattle.sym_records.specs.Canon.{spaced}
+use Rattle.sym_records.specs.declared.line.SymLine.{SymLine}
+use Rattle.sym_grammar.specs.Input.{file_reading}
+use Rattle.sym_grammar.specs.declared.input.SymEnd.{SymEnd}
+use Rattle.sym_grammar.specs.declared.input.SymEnd.TheVariants.{Unread, TooLong, Text}
+use Rattle.dumpsyms_cmd.specs.Refusals.{line, too_long_line}
+use Rattle.dumpsyms_cmd.specs.Verdict.{Verdict, refused, unread, LIMIT}
+use Rattle.dumpsyms_cmd.specs.Judged.{judgement_verdict}
+use Rattle.dumpsyms_cmd.specs.declared.judgement.Judgement.{Judgement}
+
+-- a text is refused: the word of its first fault, and the number of the line
+abbrev pub text_line : TextFault → List ℕ
+text_line fault = line (spaced (codes "refused text") (text_word fault.kind ∷ codes "line" ∷ decimal fault.line ∷ []))
+
+-- a symbol file that has no records
+abbrev pub end_verdict : SymEnd → Verdict
+end_verdict Unread = unread
+end_verdict TooLong = refused too_long_line
+end_verdict (Text fault) = refused (text_line fault)
+
+-- by the reading of the file
+abbrev pub by_records : (List SymLine → Verdict) → Result (List SymLine) SymEnd → Verdict
+by_records answer (Ok lines) = answer lines
+by_records answer (Err end) = end_verdict end
+
+-- by its bytes: it may have 2^29 of them
+abbrev pub symbol_verdict : (List SymLine → Verdict) → List ℕ → Verdict
+symbol_verdict answer bytes = by_records answer (file_reading LIMIT bytes)
+
+-- by the file, which may not be there
+abbrev pub file_verdict : (List ℕ → Verdict) → Option (List ℕ) → Verdict
+file_verdict answer None = unread
+file_verdict answer (Some bytes) = answer bytes
+
+-- a judgement is what a command answers to the bytes of the file that it names; where the store tells its files these are that file's, and where
+-- it tells nothing they are some bytes
+pub record AnswersBytes (name : List ℕ) (answer : List ℕ → Verdict) (files : Option Files) (j : Judgement) : Type 0 where
+  pub bytes : List ℕ
+  pub there : Tells files (λ f. f name ≡ Some bytes)
+  pub is : judgement_verdict j ≡ answer bytes
