@@ -3,8 +3,8 @@ use Rattle.std.proofs.Common.{◌≡◌, ℕ, true, map, List, [], ◌∷◌, �
 use Rattle.std.specs.List.{list_all}
 use Rattle.elf_sections.specs.Image.{ImageParts}
 use Rattle.sym_records.specs.declared.line.SymLine.{SymLine}
-use Rattle.sym_lookup.specs.Plain.{ArePlain, HaveNoFile, HaveNoOrigin}
-use Rattle.sym_lookup.specs.Findings.{are_sized}
+use Rattle.sym_meaning.specs.Plain.{ArePlain, HaveNoFile, HaveNoOrigin}
+use Rattle.sym_meaning.specs.Findings.{are_sized}
 use Rattle.rule_postfix.proofs.SayingLemmas.{written_plain, written_no_file, written_no_origin}
 use Rattle.func_flatten.specs.declared.piece.Piece.{Piece}
 use Rattle.func_flatten.specs.Publics.{PublicParts, publics}

@@ -3,7 +3,7 @@ use Rattle.std.proofs.Common.{◌≡◌, ℕ, ◌^◌, true, List, ◌++◌, sym
 use Rattle.std.specs.List.{list_all}
 use Rattle.elf_sections.specs.Image.{ImageParts}
 use Rattle.sym_records.specs.declared.line.SymLine.{SymLine}
-use Rattle.sym_lookup.specs.Findings.{are_sized, HasNoFuncFindings, HasNoFindings}
+use Rattle.sym_meaning.specs.Findings.{are_sized, HasNoFuncFindings, HasNoFindings}
 use Rattle.rule_postfix.specs.Covering.{SaysFrames}
 use Rattle.rule_postfix.proofs.SayingLemmas.{written_once}
 use Rattle.die_names.specs.declared.unit_read.UnitRead.{UnitRead}

@@ -14,8 +14,8 @@ use Rattle.sym_records.specs.Canon.{spaced}
 use Rattle.sym_records.specs.declared.line.SymLine.{SymLine}
 use Rattle.rule_postfix.specs.declared.omission.Omission.{Omission}
 use Rattle.dumpsyms_cmd.specs.Refusals.{line, omitted_line, omitted_text, skipped_of, skipped_text}
-use Rattle.sym_lookup.specs.Inits.{is_frameless}
-use Rattle.sym_lookup.proofs.InitLemmas.{both_frameless}
+use Rattle.sym_meaning.specs.Inits.{is_frameless}
+use Rattle.sym_meaning.proofs.InitLemmas.{both_frameless}
 use Rattle.dumpsyms_cmd.specs.Dump.{module_line, info_line, info_lines, identity_lines, public_line, public_lines}
 
 -- words by what they are, and words as they are

@@ -17,7 +17,7 @@ use Rattle.func_records.specs.TextNames.{Names}
 use Rattle.rule_postfix.specs.Written.{omitted}
 use Rattle.rule_postfix.specs.Covering.{SaysFrames}
 use Rattle.rule_postfix.specs.FrameMeaning.{KeepsFrames}
-use Rattle.sym_lookup.specs.Findings.{HasNoFindings}
+use Rattle.sym_meaning.specs.Findings.{HasNoFindings}
 use Rattle.dumpsyms_cmd.specs.Refusals.{too_long_line, usage_line}
 use Rattle.dumpsyms_cmd.specs.Verdict.{Verdict, refused, unread, no_memory, left_out, IsPartsVerdict, IsDumpVerdict, IsFileVerdict, IsVerdict, LIMIT}
 use Rattle.dumpsyms_cmd.specs.declared.judgement.Output.{Output}

@@ -9,7 +9,7 @@ use Rattle.sym_edges.specs.Addresses.{Range}
 use Rattle.range_set.specs.Members.{holds, holds_any}
 use Rattle.sym_records.specs.declared.line.Extent.{Extent}
 use Rattle.sym_records.specs.declared.line.SymLine.{SymLine}
-use Rattle.sym_lookup.specs.TextNames.{is_within, is_line_at, is_inline_at, text_path, text_origin, Call, call_of, level_count, inlines_from}
+use Rattle.sym_meaning.specs.TextNames.{is_within, is_line_at, is_inline_at, text_path, text_origin, Call, call_of, level_count, inlines_from}
 use Rattle.die_names.specs.declared.unit_read.UnitRead.{UnitRead}
 use Rattle.die_names.specs.UnitEntries.{Placed}
 use Rattle.die_names.specs.Names.{entry_name}

@@ -7,9 +7,9 @@ use Rattle.std.specs.Str.{bytes_eq}
 use Rattle.std.specs.Option.{option_map}
 use Rattle.sym_records.specs.declared.line.SymLine.{SymLine}
 use Rattle.sym_records.specs.declared.line.SymLine.TheVariants.{File, Origin}
-use Rattle.sym_lookup.specs.TextNames.{is_file, file_name, text_path, is_origin, origin_name, text_origin}
-use Rattle.sym_lookup.specs.Plain.{HaveNoFile, HaveNoOrigin}
-use Rattle.sym_lookup.proofs.TextLemmas.{file_behind, origin_behind}
+use Rattle.sym_meaning.specs.TextNames.{is_file, file_name, text_path, is_origin, origin_name, text_origin}
+use Rattle.sym_meaning.specs.Plain.{HaveNoFile, HaveNoOrigin}
+use Rattle.sym_meaning.proofs.TextLemmas.{file_behind, origin_behind}
 use Rattle.func_records.specs.FuncRecords.{number_in, file_lines, origin_lines}
 
 -- the FILE of a path's number has that path

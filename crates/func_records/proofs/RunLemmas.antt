@@ -4,7 +4,7 @@ use Rattle.std.proofs.lemmas.Bool.Decides.{nat_tests}
 use Rattle.std.specs.List.{list_any}
 use Rattle.step_maps.specs.Runs.{Run, Follows, AreRuns, IsMaximal, AreMaximal, between}
 use Rattle.sym_records.specs.declared.line.Extent.{Extent}
-use Rattle.sym_lookup.specs.Findings.{run_of, meet, AreApart}
+use Rattle.sym_meaning.specs.Findings.{run_of, meet, AreApart}
 
 -- no run is empty, and each lies between the two addresses
 abbrev pub AreBetween : {V : Type 0} → ℕ → ℕ → List (Run V) → Type 0

@@ -2,7 +2,7 @@
 use Rattle.std.specs.Prelude.{◌≡◌, ℕ, ◌+◌, List, map, Option, Some}
 use Rattle.std.specs.Option.{option_map}
 use Rattle.sym_records.specs.declared.line.SymLine.{SymLine}
-use Rattle.sym_lookup.specs.TextNames.{text_owner, text_line, Call, text_chain}
+use Rattle.sym_meaning.specs.TextNames.{text_owner, text_line, Call, text_chain}
 use Rattle.die_names.specs.declared.unit_read.UnitRead.{UnitRead}
 use Rattle.die_names.specs.Names.{entry_name}
 use Rattle.die_names.specs.Owners.{Covering, owner, chain, line}

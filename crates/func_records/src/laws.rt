@@ -2,8 +2,8 @@
 ghost use Rattle.std.specs.Prelude.{◌≡◌, ℕ, ◌≤◌, ◌^◌, true, List, ◌++◌, Some};
 ghost use Rattle.std.specs.List.{list_all};
 ghost use Rattle.sym_records.specs.declared.line.SymLine.{SymLine};
-ghost use Rattle.sym_lookup.specs.Plain.{ArePlain, HaveNoFile, HaveNoOrigin};
-ghost use Rattle.sym_lookup.specs.Findings.{are_sized, HasNoFuncFindings};
+ghost use Rattle.sym_meaning.specs.Plain.{ArePlain, HaveNoFile, HaveNoOrigin};
+ghost use Rattle.sym_meaning.specs.Findings.{are_sized, HasNoFuncFindings};
 ghost use Rattle.die_names.specs.declared.unit_read.UnitRead.{UnitRead};
 ghost use Rattle.die_names.specs.Owners.{Covering, owner};
 ghost use Rattle.func_flatten.specs.declared.piece.Piece.{Piece};

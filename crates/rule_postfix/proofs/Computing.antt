@@ -1,6 +1,6 @@
 -- What a proof unfolds to compute the definitions of rule_postfix, and those under them, where the input is written out.
 use Rattle.std.specs.Prelude.{⊤}
-use Rattle.sym_lookup.specs.Inits.{inits_at}
+use Rattle.sym_meaning.specs.Inits.{inits_at}
 use Rattle.rule_postfix.specs.Covering.{entries_at}
 use Rattle.rule_postfix.specs.FrameLines.{is_cut, first_cut, records_at, frame_lines}
 use Rattle.rule_postfix.specs.Overlaps.{any_meets, ranges_by, last_end_below}

@@ -17,7 +17,7 @@ use Rattle.rule_postfix.specs.RowRules.{some_becomes_unspecified, row_rules, cha
 use Rattle.rule_postfix.specs.FrameLines.{is_cut, first_cut, change, records_at, frame_lines}
 use Rattle.rule_postfix.specs.Overlaps.{meet, any_meets}
 use Rattle.rule_postfix.specs.Written.{range_of, entry_lines, written_lines}
-use Rattle.sym_lookup.specs.Inits.{init_covers, inits_at}
+use Rattle.sym_meaning.specs.Inits.{init_covers, inits_at}
 use Rattle.rule_postfix.specs.Covering.{holds_address, entries_at, AreDisjoint}
 use Rattle.rule_postfix.proofs.LinesLemmas.{line_of}
 use Rattle.rule_postfix.proofs.ValidLemmas.{cut_within}

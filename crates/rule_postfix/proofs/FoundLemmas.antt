@@ -12,7 +12,7 @@ use Rattle.sym_records.specs.declared.line.SymLine.{SymLine}
 use Rattle.sym_records.specs.declared.line.SymLine.TheVariants.{Init, Change}
 use Rattle.sym_rules.specs.declared.rules.Target.{Target}
 use Rattle.sym_rules.specs.declared.rules.RuleText.{RuleText}
-use Rattle.sym_lookup.specs.Inits.{init_covers, inits_at, is_frameless}
+use Rattle.sym_meaning.specs.Inits.{init_covers, inits_at, is_frameless}
 use Rattle.cfi_eval.specs.TextRules.{changes_until, covers, text_rules}
 use Rattle.rule_postfix.specs.RowRules.{row_rules, changed_rules, some_becomes_unspecified}
 use Rattle.rule_postfix.specs.FrameLines.{is_cut, first_cut, change, records_at, frame_lines}

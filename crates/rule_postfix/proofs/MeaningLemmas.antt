@@ -23,8 +23,8 @@ use Rattle.sym_records.specs.declared.line.SymLine.{SymLine}
 use Rattle.sym_rules.specs.declared.rules.Target.{Target}
 use Rattle.sym_rules.specs.declared.rules.Target.TheVariants.{Cfa, Ra, Reg}
 use Rattle.sym_rules.specs.declared.rules.RuleText.{RuleText}
-use Rattle.sym_lookup.specs.Inits.{inits_at, is_frameless}
-use Rattle.sym_lookup.proofs.InitLemmas.{covers_after}
+use Rattle.sym_meaning.specs.Inits.{inits_at, is_frameless}
+use Rattle.sym_meaning.proofs.InitLemmas.{covers_after}
 use Rattle.cfi_eval.specs.declared.registers.Regs.{Regs}
 use Rattle.cfi_eval.specs.declared.memory.MemRun.{MemRun}
 use Rattle.cfi_eval.specs.declared.outcome.Outcome.TheVariants.{Undefined}

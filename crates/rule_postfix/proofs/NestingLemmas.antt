@@ -10,7 +10,7 @@ use Rattle.sym_rules.specs.declared.rules.RuleText.{RuleText}
 use Rattle.rule_postfix.specs.RowRules.{some_becomes_unspecified, row_rules, changed_rules}
 use Rattle.rule_postfix.specs.FrameLines.{is_cut, first_cut, change, records_at, frame_lines}
 use Rattle.rule_postfix.specs.Written.{entry_lines, written_lines}
-use Rattle.sym_lookup.specs.Inits.{AreNested}
+use Rattle.sym_meaning.specs.Inits.{AreNested}
 use Rattle.rule_postfix.proofs.LinesLemmas.{line_of}
 use Rattle.rule_postfix.proofs.CoveringLemmas.{AreAbove, cut_above, first_by}
 

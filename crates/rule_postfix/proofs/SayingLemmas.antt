@@ -15,10 +15,10 @@ use Rattle.frame_rows.specs.declared.row.Row.{Row}
 use Rattle.sym_rules.specs.declared.rules.RuleText.{RuleText}
 use Rattle.sym_records.specs.declared.line.SymLine.{SymLine}
 use Rattle.sym_records.specs.declared.line.SymLine.TheVariants.{Init, Change}
-use Rattle.sym_lookup.specs.Plain.{ArePlain, HaveNoFile, HaveNoOrigin}
-use Rattle.sym_lookup.specs.Findings.{are_sized}
-use Rattle.sym_lookup.specs.Inits.{inits_at, is_frameless, AreNested}
-use Rattle.sym_lookup.proofs.InitLemmas.{counted, covers_after, nested_after, lines_sized}
+use Rattle.sym_meaning.specs.Plain.{ArePlain, HaveNoFile, HaveNoOrigin}
+use Rattle.sym_meaning.specs.Findings.{are_sized}
+use Rattle.sym_meaning.specs.Inits.{inits_at, is_frameless, AreNested}
+use Rattle.sym_meaning.proofs.InitLemmas.{counted, covers_after, nested_after, lines_sized}
 use Rattle.rule_postfix.specs.RowRules.{row_rules, changed_rules}
 use Rattle.rule_postfix.specs.FrameLines.{is_cut, change, records_at, frame_lines as lines_of_rows}
 use Rattle.rule_postfix.specs.Overlaps.{meet, any_meets}

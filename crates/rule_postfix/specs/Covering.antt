@@ -2,7 +2,7 @@
 use Rattle.std.specs.Prelude.{◌≡◌, ℕ, ◌+◌, ◌&&◌, nat_lt, nat_le, Bool, true, false, List, [], ◌∷◌, ◌++◌, map, count_by}
 use Rattle.std.specs.List.{list_all}
 use Rattle.sym_records.specs.declared.line.SymLine.{SymLine}
-use Rattle.sym_lookup.specs.Inits.{inits_at, is_frameless, AreNested}
+use Rattle.sym_meaning.specs.Inits.{inits_at, is_frameless, AreNested}
 use Rattle.frame_entries.specs.FdeFields.{FdeFields}
 use Rattle.rule_postfix.specs.Overlaps.{any_meets}
 use Rattle.rule_postfix.specs.Written.{range_of, written_lines}

@@ -17,7 +17,7 @@ use Rattle.debug_read.specs.declared.found.DebugRead.{DebugRead}
 use Rattle.dumpsyms_cmd.specs.Dump.{identity_lines, public_lines, written_of, CanonFile}
 use Rattle.rule_postfix.specs.Covering.{SaysFrames}
 use Rattle.rule_postfix.specs.FrameMeaning.{KeepsFrames}
-use Rattle.sym_lookup.specs.Findings.{HasNoFindings}
+use Rattle.sym_meaning.specs.Findings.{HasNoFindings}
 
 -- a record that may stand after the first one
 abbrev pub FitsInside : SymLine → Type 0

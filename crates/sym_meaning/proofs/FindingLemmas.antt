@@ -5,9 +5,9 @@ use Rattle.std.specs.List.{list_any, list_all, flat_map}
 use Rattle.sym_records.specs.declared.line.Extent.{Extent}
 use Rattle.sym_records.specs.declared.line.SymLine.{SymLine}
 use Rattle.sym_records.specs.declared.line.SymLine.TheVariants.{Module, Info, File, Origin, Func, Inline, Line, Public, Init, Change}
-use Rattle.sym_lookup.specs.Plain.{IsPlain, ArePlain, HaveNoFile, HaveNoOrigin}
-use Rattle.sym_lookup.specs.TextNames.{is_file, is_origin}
-use Rattle.sym_lookup.specs.Findings.{func_run, AreGivenOnce, has_file, has_origin, EachFunc}
+use Rattle.sym_meaning.specs.Plain.{IsPlain, ArePlain, HaveNoFile, HaveNoOrigin}
+use Rattle.sym_meaning.specs.TextNames.{is_file, is_origin}
+use Rattle.sym_meaning.specs.Findings.{func_run, AreGivenOnce, has_file, has_origin, EachFunc}
 
 -- two lists that pass a test
 pub all_both : {X : Type 0} (q : X → Bool) (xs ys : List X) → list_all q xs ≡ true → list_all q ys ≡ true → list_all q (xs ++ ys) ≡ true

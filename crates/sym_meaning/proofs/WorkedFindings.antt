@@ -3,7 +3,7 @@ use Rattle.std.proofs.Common.{◌≡◌, List, [], ◌∷◌, codes, true, false
 use Rattle.std.specs.List.{list_all, flat_map}
 use Rattle.sym_records.specs.declared.line.SymLine.{SymLine}
 use Rattle.sym_records.specs.declared.line.SymLine.TheVariants.{File, Origin, Func, Inline, Line, Public}
-use Rattle.sym_lookup.specs.Findings.{run_of, func_run, AreGivenOnce, has_file, has_origin, are_sized, AreApart, EachFunc, LieInside, HaveLinesApart, HasNoFuncFindings}
+use Rattle.sym_meaning.specs.Findings.{run_of, func_run, AreGivenOnce, has_file, has_origin, are_sized, AreApart, EachFunc, LieInside, HaveLinesApart, HasNoFuncFindings}
 
 -- two functions that touch, with inlined copies and lines up to their ends
 abbrev clean : List SymLine

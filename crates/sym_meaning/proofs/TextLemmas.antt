@@ -3,8 +3,8 @@ use Rattle.std.proofs.Common.{◌≡◌, ℕ, List, [], ◌∷◌, ◌++◌, ref
 use Rattle.std.specs.List.{find}
 use Rattle.sym_records.specs.declared.line.SymLine.{SymLine}
 use Rattle.sym_records.specs.declared.line.SymLine.TheVariants.{Module, Info, File, Origin, Func, Inline, Line, Public, Init, Change}
-use Rattle.sym_lookup.specs.Plain.{ArePlain, HaveNoFile, HaveNoOrigin}
-use Rattle.sym_lookup.specs.TextNames.{under, text_func, is_file, is_origin}
+use Rattle.sym_meaning.specs.Plain.{ArePlain, HaveNoFile, HaveNoOrigin}
+use Rattle.sym_meaning.specs.TextNames.{under, text_func, is_file, is_origin}
 
 -- plain records in front are passed over
 pub func_behind : (front rest : List SymLine) (x : ℕ) → ArePlain front → text_func (front ++ rest) x ≡ text_func rest x

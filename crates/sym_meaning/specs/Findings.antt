@@ -5,8 +5,8 @@ use Rattle.std.specs.List.{list_any, list_all, flat_map}
 use Rattle.sym_records.specs.declared.line.Extent.{Extent}
 use Rattle.sym_records.specs.declared.line.SymLine.{SymLine}
 use Rattle.sym_records.specs.declared.line.SymLine.TheVariants.{File, Origin, Func, Inline, Line, Init}
-use Rattle.sym_lookup.specs.TextNames.{under, is_file, is_origin}
-use Rattle.sym_lookup.specs.Inits.{inits_at, AreNested}
+use Rattle.sym_meaning.specs.TextNames.{under, is_file, is_origin}
+use Rattle.sym_meaning.specs.Inits.{inits_at, AreNested}
 
 -- the addresses from a first one on, so many
 abbrev pub run_of : ℕ → ℕ → Extent

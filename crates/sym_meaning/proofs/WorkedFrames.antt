@@ -2,8 +2,8 @@
 use Rattle.std.proofs.Common.{◌≡◌, ◌+◌, ◌<◌, ◌≤◌, ◌&&◌, nat_le, nat_lt, Bool, true, false, cond, List, [], ◌∷◌, codes, refl, arith, rules}
 use Rattle.sym_records.specs.declared.line.SymLine.{SymLine}
 use Rattle.sym_records.specs.declared.line.SymLine.TheVariants.{File, Func, Line, Init, Change}
-use Rattle.sym_lookup.specs.Findings.{are_sized, HasNoFindings}
-use Rattle.sym_lookup.specs.Inits.{inits_at, AreNested}
+use Rattle.sym_meaning.specs.Findings.{are_sized, HasNoFindings}
+use Rattle.sym_meaning.specs.Inits.{inits_at, AreNested}
 
 -- a function with a line, and its frames; the rules say nothing
 abbrev clean : List SymLine

@@ -6,9 +6,9 @@ use Rattle.std.proofs.lemmas.List.Sums.{sum_by-append}
 use Rattle.std.specs.List.{fold, list_all}
 use Rattle.sym_records.specs.declared.line.SymLine.{SymLine}
 use Rattle.sym_records.specs.declared.line.SymLine.TheVariants.{Module, Info, File, Origin, Func, Inline, Line, Public, Init, Change}
-use Rattle.sym_lookup.specs.Plain.{ArePlain}
-use Rattle.sym_lookup.specs.Findings.{are_sized}
-use Rattle.sym_lookup.specs.Inits.{init_covers, inits_at, AreNested, is_frameless}
+use Rattle.sym_meaning.specs.Plain.{ArePlain}
+use Rattle.sym_meaning.specs.Findings.{are_sized}
+use Rattle.sym_meaning.specs.Inits.{init_covers, inits_at, AreNested, is_frameless}
 
 -- two lists that say nothing of frames
 pub both_frameless : (xs ys : List SymLine) → list_all is_frameless xs ≡ true → list_all is_frameless ys ≡ true → list_all is_frameless (xs ++ ys) ≡ true

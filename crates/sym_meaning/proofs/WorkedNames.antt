@@ -2,7 +2,7 @@
 use Rattle.std.proofs.Common.{◌≡◌, List, [], ◌∷◌, Some, None, codes, true, false, refl}
 use Rattle.sym_records.specs.declared.line.SymLine.{SymLine}
 use Rattle.sym_records.specs.declared.line.SymLine.TheVariants.{File, Origin, Func, Inline, Line, Public}
-use Rattle.sym_lookup.specs.TextNames.{text_owner, text_line, Call, text_chain}
+use Rattle.sym_meaning.specs.TextNames.{text_owner, text_line, Call, text_chain}
 
 -- two functions that overlap, the first with an INLINE and two line records
 unfoldable text : List SymLine

@@ -1,9 +1,0 @@
-//! What a look-up in a symbol file names (Breakpad's symbol_files.md), and what a checker finds in one: definitions alone, and no call
-//! yet.
-//!
-//! The function of an address is the first `FUNC` that covers it, and its line the first line record that covers it among those
-//! directly under that `FUNC`; the path is that of the first `FILE` with the record's number. Its inlined copies are, at each level
-//! from 0 until a level has none, the first `INLINE` of that level directly under that `FUNC` that covers it.
-//!
-//! `specs/Findings.antt` says in which lists of records a checker finds nothing of files, functions, inlined copies and lines.
-#![tactic(auto)]
