@@ -9,7 +9,7 @@ use Rattle.rule_postfix.proofs.SayingLemmas.{written_plain, written_no_file, wri
 use Rattle.func_flatten.specs.declared.piece.Piece.{Piece}
 use Rattle.func_flatten.specs.Publics.{PublicParts, publics}
 use Rattle.debug_read.specs.DebugSays.{DebugSays}
-use Rattle.dumpsyms_cmd.specs.Dump.{module_line, info_line, info_lines, identity_lines, public_line, public_lines, frame_lines, written_of}
+use Rattle.dumpsyms_cmd.specs.commands.Dump.{module_line, info_line, info_lines, identity_lines, public_line, public_lines, frame_lines, written_of}
 
 -- those of the binary
 infos_plain : (id : Option (List ℕ)) → ArePlain (info_lines id)

@@ -31,7 +31,7 @@ use Rattle.func_records.specs.Adding.{AddsFunctions}
 use Rattle.func_records.proofs.CanonLemmas.{canon_join, canon_more, canon_none, none_here}
 use Rattle.debug_read.specs.DebugSays.{DebugSays, IsDebugRead}
 use Rattle.debug_read.specs.declared.found.DebugRead.{DebugRead}
-use Rattle.dumpsyms_cmd.specs.Dump.{identity_lines, public_line, public_lines, frame_lines, written_of}
+use Rattle.dumpsyms_cmd.specs.commands.Dump.{identity_lines, public_line, public_lines, frame_lines, written_of}
 use Rattle.dumpsyms_cmd.specs.internal.Spelled.{FitsInside, HasHead, DumpsRead}
 use Rattle.func_records.proofs.AboveLemmas.{pieces_above}
 use Rattle.debug_read.proofs.KeptLemmas.{kept}

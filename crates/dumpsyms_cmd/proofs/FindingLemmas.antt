@@ -12,7 +12,7 @@ use Rattle.func_flatten.specs.Pieces.{ArePieces}
 use Rattle.func_records.specs.FuncRecords.{AreFuncRecords, BeginAbove, EndBelow}
 use Rattle.func_records.proofs.FindingLemmas.{none_found}
 use Rattle.debug_read.specs.DebugSays.{DebugSays}
-use Rattle.dumpsyms_cmd.specs.Dump.{identity_lines, public_lines, frame_lines, written_of}
+use Rattle.dumpsyms_cmd.specs.commands.Dump.{identity_lines, public_lines, frame_lines, written_of}
 use Rattle.dumpsyms_cmd.proofs.AroundLemmas.{identity_plain, identity_no_file, identity_no_origin, identity_sized, behind_plain, behind_no_file, behind_no_origin, behind_sized}
 
 -- a checker finds nothing in the records of a file

@@ -16,7 +16,7 @@ use Rattle.rule_postfix.specs.declared.omission.Omission.{Omission}
 use Rattle.dumpsyms_cmd.specs.Refusals.{line, omitted_line, omitted_text, skipped_of, skipped_text}
 use Rattle.sym_meaning.specs.Inits.{is_frameless}
 use Rattle.sym_meaning.proofs.InitLemmas.{both_frameless}
-use Rattle.dumpsyms_cmd.specs.Dump.{module_line, info_line, info_lines, identity_lines, public_line, public_lines}
+use Rattle.dumpsyms_cmd.specs.commands.Dump.{module_line, info_line, info_lines, identity_lines, public_line, public_lines}
 
 -- words by what they are, and words as they are
 fields_are : {X : Type 0} (f : X → List ℕ) (words : List X) → flat_map (λ word. 32 ∷ f word) words ≡ flat_map (λ field. 32 ∷ field) (map f words)

@@ -21,10 +21,15 @@ use Rattle.rule_postfix.specs.declared.omission.Omission.{Omission}
 use Rattle.rule_postfix.specs.Written.{omitted}
 use Rattle.dumpsyms_cmd.specs.Words.{Asked, dump, files_of, module_name}
 use Rattle.dumpsyms_cmd.specs.Refusals.{elf_line, debug_line, skipped_text, omitted_text, too_long_line, usage_line}
-use Rattle.dumpsyms_cmd.specs.Verdict.{Verdict, refused, IsDebugVerdict, IsPartsVerdict, IsImageVerdict, IsBytesVerdict, IsDumpVerdict, IsFileVerdict, IsVerdict, LIMIT}
+use Rattle.dumpsyms_cmd.specs.Verdict.{Verdict, refused, LIMIT}
+use Rattle.dumpsyms_cmd.specs.commands.Dump.{IsDebugVerdict, IsPartsVerdict, IsImageVerdict, IsBytesVerdict, IsDumpVerdict, IsFileVerdict}
+use Rattle.dumpsyms_cmd.specs.Answers.{IsVerdict}
 use Rattle.dumpsyms_cmd.specs.internal.Spelled.{DumpsRead}
 use Rattle.dumpsyms_cmd.specs.Observed.{Asks}
-use Rattle.dumpsyms_cmd.specs.Judged.{out_bytes, err_bytes, judgement_verdict, Refuses, RefusesOrGives, Judges, DumpsParts, Assembles, JudgesParts, DumpsImage, JudgesBytes, DumpsFile, DumpPromises, IsUsage, IsJudged, AnswersCommand, AnswersStop}
+use Rattle.dumpsyms_cmd.specs.Judgement.{out_bytes, err_bytes, judgement_verdict, RefusesOrGives, Judges}
+use Rattle.dumpsyms_cmd.specs.internal.Judged.{Refuses, JudgesParts, JudgesBytes, IsJudged, AnswersCommand, AnswersStop}
+use Rattle.dumpsyms_cmd.specs.commands.Dump.{DumpsParts, Assembles, DumpsImage, DumpsFile, DumpPromises}
+use Rattle.dumpsyms_cmd.specs.Answers.{IsUsage}
 use Rattle.debug_read.proofs.KeptLemmas.{kept}
 use Rattle.dumpsyms_cmd.specs.declared.judgement.Output.{Output}
 use Rattle.dumpsyms_cmd.specs.declared.judgement.Output.TheVariants.{Nothing, Text, Bytes}

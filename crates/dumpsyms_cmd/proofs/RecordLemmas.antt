@@ -11,7 +11,7 @@ use Rattle.sym_records.specs.declared.place.Place.TheVariants.{Start}
 use Rattle.sym_records.specs.declared.line.SymLine.{SymLine}
 use Rattle.sym_records.specs.declared.line.SymLine.TheVariants.{Module, Info}
 use Rattle.sym_records.proofs.MakingLemmas.{upper_digit, digits_field, module_fits, info_fits, code_id_name, first_fits}
-use Rattle.dumpsyms_cmd.specs.Dump.{module_line, info_line, info_lines}
+use Rattle.dumpsyms_cmd.specs.commands.Dump.{module_line, info_line, info_lines}
 use Rattle.dumpsyms_cmd.specs.internal.Spelled.{FitsInside}
 use Rattle.sym_records.proofs.MakingLemmas.{push_fits}
 

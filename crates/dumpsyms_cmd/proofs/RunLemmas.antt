@@ -4,7 +4,9 @@ use Rattle.sym_edges.specs.Outside.{Files, Rose}
 use Rattle.dumpsyms_cmd.specs.Words.{Asked, files_of}
 use Rattle.dumpsyms_cmd.specs.Verdict.{Verdict, unread, no_memory}
 use Rattle.dumpsyms_cmd.specs.Observed.{SinkSeen, Stood, StoreFailed, SinkFailed, SinkStood, ReceivedWhole, Asks}
-use Rattle.dumpsyms_cmd.specs.Judged.{is_some_output, has_output, judgement_verdict, answer_verdict, IsUsage, IsJudged, AnswersCommand}
+use Rattle.dumpsyms_cmd.specs.Judgement.{is_some_output, judgement_verdict}
+use Rattle.dumpsyms_cmd.specs.internal.Judged.{has_output, answer_verdict, IsJudged, AnswersCommand}
+use Rattle.dumpsyms_cmd.specs.Answers.{IsUsage}
 use Rattle.dumpsyms_cmd.specs.internal.Writes.{Writes}
 use Rattle.dumpsyms_cmd.specs.Program.{Run, command, WasWritten, WasJudged, WasNotRead, HadNoMemory, Promises}
 use Rattle.dumpsyms_cmd.specs.declared.judgement.Judgement.{Judgement}

@@ -1,8 +1,10 @@
 pub mod Words
 pub mod Refusals
-pub mod Dump
 pub mod Verdict
 pub mod Observed
-pub mod Judged
+pub mod Judgement
+pub mod SymbolInput
+pub mod commands
+pub mod Answers
 pub mod Program
 pub mod internal

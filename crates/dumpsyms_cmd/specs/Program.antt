@@ -2,9 +2,11 @@
 use Rattle.std.specs.Prelude.{◌≡◌, ◌⊎◌, ℕ, ◌<◌, ◌≤◌, List, Option, None, IsSome}
 use Rattle.sym_edges.specs.Outside.{Tells}
 use Rattle.dumpsyms_cmd.specs.Words.{Asked, command_of, files_of}
-use Rattle.dumpsyms_cmd.specs.Verdict.{Verdict, unread, IsVerdict}
+use Rattle.dumpsyms_cmd.specs.Verdict.{Verdict, unread}
+use Rattle.dumpsyms_cmd.specs.Answers.{IsVerdict}
 use Rattle.dumpsyms_cmd.specs.Observed.{StoreSeen, SinkSeen, StoreFailed, SinkFailed, StoreStood, SinkStood, ReceivedNothing, ReceivedWhole, ReceivedFronts, AsksFor}
-use Rattle.dumpsyms_cmd.specs.Judged.{judgement_verdict, CommandPromises}
+use Rattle.dumpsyms_cmd.specs.Judgement.{judgement_verdict}
+use Rattle.dumpsyms_cmd.specs.Answers.{CommandPromises}
 use Rattle.dumpsyms_cmd.specs.declared.judgement.Judgement.{Judgement}
 
 -- one run of the program: its words, the status that it answers, and what it leaves of the store and of both sinks

@@ -15,6 +15,10 @@ use Rattle.frame_entries.specs.FaultWords.{kind_word}
 use Rattle.sym_edges.specs.declared.located.Located.{Located}
 use Rattle.debug_read.specs.declared.fault.DebugFault.{DebugFault}
 use Rattle.debug_read.specs.declared.fault.DebugFault.TheVariants.{Dwarf, Frame}
+use Rattle.sym_rules.specs.FaultWords.{text_word}
+use Rattle.sym_rules.specs.declared.text_fault.TextFault.{TextFault}
+use Rattle.state_file.specs.FaultWords.{state_word}
+use Rattle.state_file.specs.declared.fault.StateFault.{StateFault}
 use Rattle.sym_records.specs.Canon.{spaced}
 use Rattle.sym_records.specs.Fields.{hex}
 use Rattle.rule_postfix.specs.declared.omission.Omission.{Omission}
@@ -79,3 +83,15 @@ skipped_of unit = skipped_by unit unit.part
 -- the units that are skipped, in order
 unfoldable pub skipped_text : List Unit → List ℕ
 skipped_text units = flat_map skipped_of units
+
+-- a text has a fault: what is refused, the word of the kind, and the number of the line
+abbrev pub fault_at : List ℕ → List ℕ → ℕ → List ℕ
+fault_at refused kind number = line (spaced refused (kind ∷ codes "line" ∷ decimal number ∷ []))
+
+-- a symbol file has a fault
+abbrev pub text_line : TextFault → List ℕ
+text_line fault = fault_at (codes "refused text") (text_word fault.kind) fault.line
+
+-- a state file has one
+abbrev pub state_line : StateFault → List ℕ
+state_line fault = fault_at (codes "refused state") (state_word fault.kind) fault.line

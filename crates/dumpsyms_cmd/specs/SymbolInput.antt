@@ -1,21 +1,14 @@
 -- What a command over symbol files answers, by the records of the file that it names; or why that file has none.
-use Rattle.std.specs.Prelude.{◌≡◌, ℕ, List, [], ◌∷◌, ◌++◌, codes, decimal, Option, Some, None, Result, Ok, Err}
+use Rattle.std.specs.Prelude.{◌≡◌, ℕ, List, Option, Some, None, Result, Ok, Err}
 use Rattle.sym_edges.specs.Outside.{Files, Tells}
-use Rattle.sym_rules.specs.FaultWords.{text_word}
-use Rattle.sym_rules.specs.declared.text_fault.TextFault.{TextFault}
-use Rattle.sym_records.specs.Canon.{spaced}
 use Rattle.sym_records.specs.declared.line.SymLine.{SymLine}
 use Rattle.sym_grammar.specs.Input.{file_reading}
 use Rattle.sym_grammar.specs.declared.input.SymEnd.{SymEnd}
 use Rattle.sym_grammar.specs.declared.input.SymEnd.TheVariants.{Unread, TooLong, Text}
-use Rattle.dumpsyms_cmd.specs.Refusals.{line, too_long_line}
+use Rattle.dumpsyms_cmd.specs.Refusals.{too_long_line, text_line}
 use Rattle.dumpsyms_cmd.specs.Verdict.{Verdict, refused, unread, LIMIT}
-use Rattle.dumpsyms_cmd.specs.Judged.{judgement_verdict}
+use Rattle.dumpsyms_cmd.specs.Judgement.{judgement_verdict}
 use Rattle.dumpsyms_cmd.specs.declared.judgement.Judgement.{Judgement}
-
--- a text is refused: the word of its first fault, and the number of the line
-abbrev pub text_line : TextFault → List ℕ
-text_line fault = line (spaced (codes "refused text") (text_word fault.kind ∷ codes "line" ∷ decimal fault.line ∷ []))
 
 -- a symbol file that has no records
 abbrev pub end_verdict : SymEnd → Verdict

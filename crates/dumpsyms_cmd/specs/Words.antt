@@ -1,22 +1,32 @@
 -- The words of the program, and what they ask for.
-use Rattle.std.specs.Prelude.{ℕ, ◌≤◌, ◌==◌, ◌&&◌, Bool, false, not, nat_le, List, [], ◌∷◌, Option, Some, None, codes, if◌then◌else◌}
+use Rattle.std.specs.Prelude.{ℕ, ◌≤◌, ◌==◌, ◌^◌, ◌&&◌, Bool, false, not, nat_le, length, List, [], ◌∷◌, Option, Some, None, Result, Ok, Err, codes, if◌then◌else◌}
 use Rattle.std.specs.List.{after_last, list_all}
 use Rattle.std.specs.Option.{option_map}
 use Rattle.std.specs.Str.{bytes_eq}
 use Rattle.std.specs.Str.Parse.{digits_value}
 use Rattle.sym_edges.specs.Outside.{Files}
 use Rattle.sym_rules.specs.RuleReading.{is_digit}
+use Rattle.sym_records.specs.FieldReading.{hex_value}
+use Rattle.sym_grammar.specs.Input.{file_reading}
+use Rattle.sym_grammar.specs.declared.input.SymEnd.{SymEnd}
+use Rattle.sym_records.specs.declared.line.SymLine.{SymLine}
 use Rattle.dumpsyms_cmd.specs.declared.words.Command.{Command}
-use Rattle.dumpsyms_cmd.specs.declared.words.Command.TheVariants.{Dump}
+use Rattle.dumpsyms_cmd.specs.declared.words.Command.TheVariants.{Dump, Check, Frame}
 
 -- what the program is asked for
 pub data Asked : Type 0 where
   -- the symbol file of an ELF file, made by some workers
   dump : (elf : List ℕ) → (workers : ℕ) → Asked
+  -- what a checker finds in a symbol file
+  check : (sym : List ℕ) → Asked
+  -- what the rules of a symbol file evaluate to at an address, over a state file
+  frame : (sym : List ℕ) → (address : ℕ) → (state : List ℕ) → Asked
 
 -- a command as it is parsed
 abbrev pub command_view : Command → Asked
 command_view (Dump elf workers) = dump elf.now workers
+command_view (Check sym) = check sym.now
+command_view (Frame sym address state) = frame sym.now address state.now
 
 -- a number is decimal digits, without a sign, the first of them not 0
 abbrev pub is_number : List ℕ → Bool
@@ -34,33 +44,59 @@ USUAL_WORKERS = 4
 abbrev pub MOST_WORKERS : ℕ
 MOST_WORKERS = 64
 
--- the row `dump ELF`
+-- the address that a word writes: 1 to 16 hexadecimal digits of either case
+unfoldable pub address_of : List ℕ → Option ℕ
+address_of word = if length word == 0 then None else hex_value word
+
+-- the rows `dump ELF` and `check SYM`
 abbrev pub two_words : List ℕ → List ℕ → Option Asked
-two_words word elf = if bytes_eq word (codes "dump") then Some (dump elf USUAL_WORKERS) else None
+two_words word name =
+    if bytes_eq word (codes "dump") then Some (dump name USUAL_WORKERS)
+    else if bytes_eq word (codes "check") then Some (check name)
+    else None
 
--- the row `dump ELF --workers N`
+-- the rows `dump ELF --workers N` and `frame SYM ADDR STATE`
 abbrev pub four_words : List ℕ → List ℕ → List ℕ → List ℕ → Option Asked
-four_words word elf option number =
-    if bytes_eq word (codes "dump") && bytes_eq option (codes "--workers") then option_map (dump elf) (number_upto MOST_WORKERS number) else None
+four_words word name third fourth =
+    if bytes_eq word (codes "dump") && bytes_eq third (codes "--workers") then option_map (dump name) (number_upto MOST_WORKERS fourth)
+    else if bytes_eq word (codes "frame") then option_map (λ address. frame name address fourth) (address_of third)
+    else None
 
--- the table of rows: these two, and no other words
+-- the table of rows: these, and no other words
 abbrev pub command_of : List (List ℕ) → Option Asked
 command_of [] = None
 command_of (word ∷ []) = None
-command_of (word ∷ elf ∷ []) = two_words word elf
-command_of (word ∷ elf ∷ option ∷ []) = None
-command_of (word ∷ elf ∷ option ∷ number ∷ []) = four_words word elf option number
-command_of (word ∷ elf ∷ option ∷ number ∷ more ∷ words) = None
+command_of (word ∷ name ∷ []) = two_words word name
+command_of (word ∷ name ∷ third ∷ []) = None
+command_of (word ∷ name ∷ third ∷ fourth ∷ []) = four_words word name third fourth
+command_of (word ∷ name ∷ third ∷ fourth ∷ more ∷ words) = None
 
--- a command has from one to 64 workers
+-- a dump has from one to 64 workers
 abbrev pub HasWorkers : Option Asked → Type 0
 HasWorkers None = Unit {0}
 HasWorkers (Some (dump elf workers)) = (1 ≤ workers) × (workers ≤ MOST_WORKERS)
+HasWorkers (Some (check sym)) = Unit {0}
+HasWorkers (Some (frame sym address state)) = Unit {0}
+
+-- the second file of a command over a symbol file is read only where that has records
+abbrev pub if_records : Result (List SymLine) SymEnd → List ℕ → List (List ℕ)
+if_records (Ok lines) name = name ∷ []
+if_records (Err end) name = []
+
+abbrev pub second_of : Option (List ℕ) → List ℕ → List (List ℕ)
+second_of None name = []
+second_of (Some bytes) name = if_records (file_reading (2 ^ 29) bytes) name
+
+abbrev pub second_told : Option Files → List ℕ → List ℕ → List (List ℕ)
+second_told None first name = name ∷ []
+second_told (Some files) first name = second_of (files first) name
 
 -- the files that a command asks for, in the order in which they are read, where the store tells its files or tells nothing
 abbrev pub files_of : Option Asked → Option Files → List (List ℕ)
 files_of None files = []
 files_of (Some (dump elf workers)) files = elf ∷ []
+files_of (Some (check sym)) files = sym ∷ []
+files_of (Some (frame sym address state)) files = sym ∷ second_told files sym state
 
 -- the byte is a slash
 abbrev pub is_slash : ℕ → Bool

@@ -1,3 +1,4 @@
--- What the commands over symbol files answer, a page each.
+-- What each command answers, and what its text means: a page each.
+pub mod Dump
 pub mod Check
 pub mod Frame

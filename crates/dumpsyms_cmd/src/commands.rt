@@ -6,10 +6,13 @@ ghost use Rattle.elf_sections.specs.Image.{image};
 ghost use Rattle.dumpsyms_cmd.specs.Words.{command_of, files_of, dump};
 ghost use Rattle.debug_read.specs.DebugSays.{IsDebugRead};
 ghost use Rattle.dumpsyms_cmd.specs.Verdict.{LIMIT};
-ghost use Rattle.dumpsyms_cmd.specs.Judged.{err_bytes, Refuses, JudgesParts, JudgesBytes, AnswersStop, AnswersCommand};
+ghost use Rattle.dumpsyms_cmd.specs.Judgement.{err_bytes};
+ghost use Rattle.dumpsyms_cmd.specs.internal.Judged.{Refuses, JudgesParts, JudgesBytes, AnswersStop, AnswersCommand};
 ghost use Rattle.dumpsyms_cmd.specs.Observed.{Asks};
 
+use crate::check::answer_check;
 use crate::dump::assemble;
+use crate::frame::answer_frame;
 use crate::judgement::{Answer, Judgement, Message, Output};
 use crate::refusals::{TOO_LONG, USAGE, debug_line, fault_line};
 use crate::words::{Command, name_of, parse_words};
@@ -21,7 +24,7 @@ use sym_edges::{FILE_LIMIT, OutOfMemory, ReadEnd, Stop, Store, read_all};
 use unit_workers::Gate;
 
 /// A refusal with a line.
-fn refuse(line: Message) -> Judgement
+pub fn refuse(line: Message) -> Judgement
     ensures { Refuses result (err_bytes line) }
 {
     Judgement {
@@ -91,7 +94,7 @@ fn judge_bytes<R: Threads + Sync, G: Gate + Sync>(
 
 /// The answer where a file could not be read whole.
 #[tactic(auto, using(crate::proofs::JudgedLemmas::too_long_judged))]
-fn answer_stop(stop: Stop<ReadEnd>) -> Answer
+pub fn answer_stop(stop: Stop<ReadEnd>) -> Answer
     ensures { AnswersStop result stop }
 {
     match stop {
@@ -162,5 +165,11 @@ pub fn answer_words<R: Threads + Sync, S: Store, G: Gate + Sync>(
     match parse_words(words) {
         None => answer_usage(),
         Some(Command::Dump { elf, workers }) => answer_dump(rt, alloc, elf, workers, store, gate),
+        Some(Command::Check { sym }) => answer_check(alloc, sym, store),
+        Some(Command::Frame {
+            sym,
+            address,
+            state,
+        }) => answer_frame(alloc, sym, address, state, store),
     }
 }

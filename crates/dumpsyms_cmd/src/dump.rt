@@ -11,9 +11,9 @@ ghost use Rattle.sym_records.specs.declared.place.Place.TheVariants.{Start, Insi
 ghost use Rattle.func_flatten.specs.Publics.{public_view};
 ghost use Rattle.die_names.specs.CleanPaths.{HaveCleanPaths};
 ghost use Rattle.debug_read.specs.DebugSays.{IsDebugRead};
-ghost use Rattle.dumpsyms_cmd.specs.Dump.{turned, module_id, module_line, info_line, info_lines, public_line};
+ghost use Rattle.dumpsyms_cmd.specs.commands.Dump.{turned, module_id, module_line, info_line, info_lines, public_line};
 ghost use Rattle.dumpsyms_cmd.specs.internal.Spelled.{FitsInside, HasHead, DumpsRead};
-ghost use Rattle.dumpsyms_cmd.specs.Judged.{Assembles};
+ghost use Rattle.dumpsyms_cmd.specs.commands.Dump.{Assembles};
 
 use crate::omissions::list_left_out;
 use debug_read::DebugRead;
@@ -38,7 +38,7 @@ fn hex_text(alloc: Global, bytes: &[u8]) -> Result<Vec<u8>, OutOfMemory>
 }
 
 /// The identity as a GUID is written.
-#[tactic(auto, unfolding(crate::specs::Dump::turned))]
+#[tactic(auto, unfolding(crate::specs::commands::Dump::turned))]
 fn turn_identity(id: [u8; 16]) -> [u8; 16]
     ensures { result ≡ turned id }
 {
@@ -49,7 +49,7 @@ fn turn_identity(id: [u8; 16]) -> [u8; 16]
 }
 
 /// The module's id.
-#[tactic(auto, using(crate::proofs::RecordLemmas::age_digit), unfolding(crate::specs::Dump::module_id))]
+#[tactic(auto, using(crate::proofs::RecordLemmas::age_digit), unfolding(crate::specs::commands::Dump::module_id))]
 fn make_id(alloc: Global, identity: [u8; 16]) -> Result<Vec<u8>, OutOfMemory>
     ensures text { IfOk result (λ v. v.items ≡ module_id identity) }
     ensures digits { IfOk result (λ v. AllDigits 16 v.items) }
@@ -62,7 +62,7 @@ fn make_id(alloc: Global, identity: [u8; 16]) -> Result<Vec<u8>, OutOfMemory>
 }
 
 /// Spells the record of the binary, under its cleaned name.
-#[tactic(auto, using(crate::proofs::RecordLemmas::module_valid), unfolding(crate::specs::Dump::module_line))]
+#[tactic(auto, using(crate::proofs::RecordLemmas::module_valid), unfolding(crate::specs::commands::Dump::module_line))]
 fn put_module(
     alloc: Global,
     text: &mut Vec<u8>,
@@ -79,7 +79,7 @@ fn put_module(
 }
 
 /// Spells the record of a build id.
-#[tactic(auto, using(crate::proofs::RecordLemmas::info_valid), unfolding(crate::specs::Dump::info_line))]
+#[tactic(auto, using(crate::proofs::RecordLemmas::info_valid), unfolding(crate::specs::commands::Dump::info_line))]
 fn put_info(alloc: Global, text: &mut Vec<u8>, id: &[u8]) -> Result<(), OutOfMemory>
     requires { length id.now ≤ 64 }
     ensures text { OnOk result (text.new.items ≡ text.old.items ++ canon (info_line id.now)) }

@@ -8,13 +8,22 @@
 //! To read: `specs/Program.antt` with `program`; `words` and `commands`; `dump`, `omissions` and `refusals`.
 #![tactic(auto)]
 
+// The program, its words, and what is found out before anything is written.
 mod commands;
-mod dump;
 mod judgement;
-mod omissions;
 mod program;
 mod refusals;
 mod words;
+
+// `dump`.
+mod dump;
+mod omissions;
+
+// The commands over symbol files.
+mod check;
+mod frame;
+mod frame_text;
+mod symbol_input;
 
 pub use dump::{Dumped, assemble};
 pub use program::run;

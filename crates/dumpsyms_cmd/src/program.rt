@@ -1,7 +1,8 @@
 ghost use Rattle.std.specs.Prelude.{◌≡◌, true, map, OnOk, OnErr};
 ghost use Rattle.std.specs.String.{string_bytes};
 ghost use Rattle.sym_edges.specs.Outside.{append_told, AddsFront, Rose};
-ghost use Rattle.dumpsyms_cmd.specs.Judged.{judgement_verdict, answer_verdict, out_bytes, err_bytes, is_some_output, has_output};
+ghost use Rattle.dumpsyms_cmd.specs.Judgement.{judgement_verdict, out_bytes, err_bytes, is_some_output};
+ghost use Rattle.dumpsyms_cmd.specs.internal.Judged.{answer_verdict, has_output};
 ghost use Rattle.dumpsyms_cmd.specs.declared.judgement.Answer.TheVariants.{NoMemory};
 ghost use Rattle.dumpsyms_cmd.specs.Program.{Promises};
 ghost use Rattle.dumpsyms_cmd.specs.internal.Writes.{Says, Writes};

@@ -1,15 +1,17 @@
 ghost use Rattle.std.specs.Prelude.{◌≡◌, ◌++◌, map, IfOk, OnOk};
 ghost use Rattle.sym_records.specs.Canon.{spaced};
-ghost use Rattle.dumpsyms_cmd.specs.Refusals.{line, elf_line, dwarf_line, frame_line, debug_line, located_line};
+ghost use Rattle.dumpsyms_cmd.specs.Refusals.{line, elf_line, dwarf_line, frame_line, debug_line, located_line, fault_at, text_line, state_line};
 
 use abbrev_units::DwarfFault;
 use debug_read::DebugFault;
 use elf_sections::ElfFault;
 use frame_entries::FrameFault;
 use itoa::Buffer;
+use state_file::StateFault;
 use std::alloc::{AllocError, Global};
 use sym_edges::Sect;
 use sym_records::{ByteText, HexText};
+use sym_rules::TextFault;
 
 /// The file passes the limit.
 pub const TOO_LONG: &[u8] = b"refused input too-long\n";
@@ -90,6 +92,36 @@ fn frame_line(alloc: Global, fault: FrameFault) -> Result<ByteText, AllocError>
         fault.section,
         fault.at,
     )
+}
+
+/// The line that names a fault of a text and the line that has it.
+fn text_fault_line(
+    alloc: Global,
+    refused: &'static [u8],
+    kind: &'static [u8],
+    line: u64,
+) -> Result<ByteText, AllocError>
+    ensures { IfOk result (λ text. text ≡ fault_at refused.now kind.now line) }
+{
+    let mut buffer = Buffer::new();
+    let words = [kind, b"line", buffer.format(line).as_bytes()];
+    let mut text = Vec::new(alloc);
+    add_line(&mut text, refused, &words)?;
+    Ok(ByteText::of(text))
+}
+
+/// The line that names the first fault of a symbol file.
+pub fn text_line(alloc: Global, fault: TextFault) -> Result<ByteText, AllocError>
+    ensures { IfOk result (λ text. text ≡ text_line fault) }
+{
+    text_fault_line(alloc, b"refused text", fault.kind.word(), fault.line)
+}
+
+/// The line that names the first fault of a state file.
+pub fn state_line(alloc: Global, fault: StateFault) -> Result<ByteText, AllocError>
+    ensures { IfOk result (λ text. text ≡ state_line fault) }
+{
+    text_fault_line(alloc, b"refused state", fault.kind.word(), fault.line)
 }
 
 /// The line that names a fault after the image.

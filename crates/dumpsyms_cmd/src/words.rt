@@ -1,9 +1,10 @@
 ghost use Rattle.std.specs.Prelude.{◌≡◌, ◌≤◌, ◌↔◌, ℕ, IsTrue, map, slice_index};
 ghost use Rattle.std.specs.String.{string_bytes};
 ghost use Rattle.std.specs.Option.{option_map};
-ghost use Rattle.dumpsyms_cmd.specs.Words.{command_view, command_of, number_upto, two_words, four_words, module_name, HasWorkers};
+ghost use Rattle.dumpsyms_cmd.specs.Words.{command_view, command_of, number_upto, address_of, two_words, four_words, module_name, HasWorkers, dump, frame, MOST_WORKERS};
 
 use memchr::memrchr;
+use sym_grammar::hex_value;
 
 /// The workers of a dump where the words name no number of them.
 const USUAL_WORKERS: usize = 4;
@@ -16,6 +17,14 @@ const MOST_WORKERS: usize = 64;
 pub enum Command<'w> {
     /// `dump ELF` and `dump ELF --workers N`
     Dump { elf: &'w str, workers: usize },
+    /// `check SYM`
+    Check { sym: &'w str },
+    /// `frame SYM ADDR STATE`
+    Frame {
+        sym: &'w str,
+        address: u64,
+        state: &'w str,
+    },
 }
 
 /// Whether a word begins with a digit from 1 to 9.
@@ -47,30 +56,68 @@ fn parse_number(word: &str, most: usize) -> Option<usize>
     }
 }
 
-/// The row `dump ELF`.
-fn parse_two<'w>(word: &str, elf: &'w str) -> Option<Command<'w>>
-    ensures { option_map command_view result ≡ two_words word.now elf.now }
+/// The address that a word writes: 1 to 16 hexadecimal digits.
+fn parse_address(word: &str) -> Option<u64>
+    ensures { result ≡ address_of word.now }
+{
+    let digits = word.as_bytes();
+    if digits.is_empty() {
+        return None;
+    }
+    hex_value(digits)
+}
+
+/// The rows `dump ELF` and `check SYM`.
+fn parse_two<'w>(word: &str, name: &'w str) -> Option<Command<'w>>
+    ensures { option_map command_view result ≡ two_words word.now name.now }
 {
     if word == "dump" {
         return Some(Command::Dump {
-            elf,
+            elf: name,
             workers: USUAL_WORKERS,
         });
+    }
+    if word == "check" {
+        return Some(Command::Check { sym: name });
     }
     None
 }
 
 /// The row `dump ELF --workers N`.
-fn parse_four<'w>(word: &str, elf: &'w str, option: &str, number: &str) -> Option<Command<'w>>
-    ensures { option_map command_view result ≡ four_words word.now elf.now option.now number.now }
+fn parse_workers<'w>(elf: &'w str, number: &str) -> Option<Command<'w>>
+    ensures { option_map command_view result ≡ option_map (dump elf.now) (number_upto MOST_WORKERS number.now) }
 {
-    if word != "dump" || option != "--workers" {
-        return None;
-    }
     match parse_number(number, MOST_WORKERS) {
         Some(workers) => Some(Command::Dump { elf, workers }),
         None => None,
     }
+}
+
+/// The row `frame SYM ADDR STATE`.
+fn parse_frame<'w>(sym: &'w str, address: &str, state: &'w str) -> Option<Command<'w>>
+    ensures { option_map command_view result ≡ option_map (λ a. frame sym.now a state.now) (address_of address.now) }
+{
+    match parse_address(address) {
+        Some(address) => Some(Command::Frame {
+            sym,
+            address,
+            state,
+        }),
+        None => None,
+    }
+}
+
+/// The rows `dump ELF --workers N` and `frame SYM ADDR STATE`.
+fn parse_four<'w>(word: &str, name: &'w str, third: &str, fourth: &'w str) -> Option<Command<'w>>
+    ensures { option_map command_view result ≡ four_words word.now name.now third.now fourth.now }
+{
+    if word == "dump" && third == "--workers" {
+        return parse_workers(name, fourth);
+    }
+    if word == "frame" {
+        return parse_frame(name, third, fourth);
+    }
+    None
 }
 
 /// The command of words that are a row, and none of other words.
@@ -80,8 +127,8 @@ pub fn parse_words(words: &[String]) -> Option<Command<'_>>
     ensures workers { HasWorkers (option_map command_view result) }
 {
     match words {
-        [word, elf] => parse_two(word, elf),
-        [word, elf, option, number] => parse_four(word, elf, option, number),
+        [word, name] => parse_two(word, name),
+        [word, name, third, fourth] => parse_four(word, name, third, fourth),
         _ => None,
     }
 }

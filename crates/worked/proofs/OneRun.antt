@@ -1,9 +1,10 @@
 -- Two runs over the same file write the same, by any numbers of workers.
 use Rattle.std.proofs.Common.{◌≡◌, ◌⊎◌, inl, inr, ◌<◌, Option, Some, sym, ap, subst, ◌∙◌, arith}
 use Rattle.sym_edges.specs.Outside.{Files, Tells, append_told}
-use Rattle.dumpsyms_cmd.specs.Verdict.{Verdict, unread, IsVerdict}
+use Rattle.dumpsyms_cmd.specs.Verdict.{Verdict, unread}
+use Rattle.dumpsyms_cmd.specs.Answers.{IsVerdict}
 use Rattle.dumpsyms_cmd.specs.Observed.{ReceivedWhole}
-use Rattle.dumpsyms_cmd.specs.Judged.{judgement_verdict}
+use Rattle.dumpsyms_cmd.specs.Judgement.{judgement_verdict}
 use Rattle.dumpsyms_cmd.specs.Program.{Run, command, WasWritten, WasJudged, WasNotRead, HadNoMemory, Promises}
 use Rattle.worked.specs.Runs.{RunAlike, EndAlike}
 use Rattle.worked.proofs.OneVerdict.{one_asked}

@@ -11,8 +11,10 @@ use Rattle.debug_read.specs.declared.fault.DebugFault.{DebugFault}
 use Rattle.debug_read.specs.DebugSays.{DebugSays, debug_says}
 use Rattle.debug_read.specs.Each.{Match}
 use Rattle.dumpsyms_cmd.specs.Words.{Asked, dump, command_of, module_name}
-use Rattle.dumpsyms_cmd.specs.Dump.{identity_lines, public_lines, frame_lines, CanonFile}
-use Rattle.dumpsyms_cmd.specs.Verdict.{Verdict, left_out, LIMIT, GivesText, IsDebugVerdict, IsImageVerdict, IsBytesVerdict, IsFileVerdict, IsVerdict}
+use Rattle.dumpsyms_cmd.specs.commands.Dump.{identity_lines, public_lines, frame_lines, CanonFile}
+use Rattle.dumpsyms_cmd.specs.Verdict.{Verdict, LIMIT}
+use Rattle.dumpsyms_cmd.specs.commands.Dump.{left_out, GivesText, IsDebugVerdict, IsImageVerdict, IsBytesVerdict, IsFileVerdict}
+use Rattle.dumpsyms_cmd.specs.Answers.{IsVerdict}
 use Rattle.worked.specs.Runs.{AskAlike}
 use Rattle.worked.proofs.OneUnits.{SameUnit, same_units, EndBelow, code_below, small_units}
 use Rattle.worked.proofs.OneRecords.{same_pieces, same_records}

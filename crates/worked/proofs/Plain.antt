@@ -17,8 +17,10 @@ use Rattle.sym_records.specs.Canon.{canon_text}
 use Rattle.sym_records.specs.declared.line.SymLine.{SymLine}
 use Rattle.dumpsyms_cmd.specs.Words.{Asked, dump, command_of, module_name}
 use Rattle.dumpsyms_cmd.specs.Refusals.{elf_line, debug_line, too_long_line}
-use Rattle.dumpsyms_cmd.specs.Dump.{identity_lines, public_lines, frame_lines, CanonFile}
-use Rattle.dumpsyms_cmd.specs.Verdict.{Verdict, refused, usage, unread, left_out, LIMIT, GivesText, IsDebugVerdict, IsImageVerdict, IsBytesVerdict, IsFileVerdict, IsVerdict}
+use Rattle.dumpsyms_cmd.specs.commands.Dump.{identity_lines, public_lines, frame_lines, CanonFile}
+use Rattle.dumpsyms_cmd.specs.Verdict.{Verdict, refused, usage, unread, LIMIT}
+use Rattle.dumpsyms_cmd.specs.commands.Dump.{left_out, GivesText, IsDebugVerdict, IsImageVerdict, IsBytesVerdict, IsFileVerdict}
+use Rattle.dumpsyms_cmd.specs.Answers.{IsVerdict}
 use Rattle.worked.proofs.OneVerdict.{one_verdict}
 
 -- the records of a file of which no unit is read

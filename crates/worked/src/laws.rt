@@ -2,7 +2,8 @@
 ghost use Rattle.std.specs.Prelude.{◌≡◌, ◌<◌, ℕ, List};
 ghost use Rattle.sym_edges.specs.Outside.{Files};
 ghost use Rattle.dumpsyms_cmd.specs.Words.{command_of};
-ghost use Rattle.dumpsyms_cmd.specs.Verdict.{Verdict, IsVerdict};
+ghost use Rattle.dumpsyms_cmd.specs.Verdict.{Verdict};
+ghost use Rattle.dumpsyms_cmd.specs.Answers.{IsVerdict};
 ghost use Rattle.dumpsyms_cmd.specs.Program.{Run, Promises};
 ghost use Rattle.worked.specs.Runs.{RunAlike, EndAlike};
 

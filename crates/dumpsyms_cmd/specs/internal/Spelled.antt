@@ -14,7 +14,7 @@ use Rattle.func_records.specs.FuncRecords.{AreFuncRecords, EndBelow}
 use Rattle.func_records.specs.TextNames.{Names}
 use Rattle.debug_read.specs.DebugSays.{DebugSays, debug_says}
 use Rattle.debug_read.specs.declared.found.DebugRead.{DebugRead}
-use Rattle.dumpsyms_cmd.specs.Dump.{identity_lines, public_lines, written_of, CanonFile}
+use Rattle.dumpsyms_cmd.specs.commands.Dump.{identity_lines, public_lines, written_of, CanonFile}
 use Rattle.rule_postfix.specs.Covering.{SaysFrames}
 use Rattle.rule_postfix.specs.FrameMeaning.{KeepsFrames}
 use Rattle.sym_meaning.specs.Findings.{HasNoFindings}

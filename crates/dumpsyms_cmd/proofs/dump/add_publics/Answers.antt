@@ -6,7 +6,7 @@ use Rattle.sym_records.specs.declared.place.Place.TheVariants.{Inside}
 use Rattle.func_flatten.specs.declared.public.PublicAt.{PublicAt}
 use Rattle.func_flatten.specs.Publics.{public_view}
 use Rattle.func_records.proofs.CanonLemmas.{nothing_added, none_here}
-use Rattle.dumpsyms_cmd.specs.Dump.{public_line}
+use Rattle.dumpsyms_cmd.specs.commands.Dump.{public_line}
 use Rattle.dumpsyms_cmd.proofs.CanonLemmas.{line_text, line_fit, mapped_at}
 use Rattle.dumpsyms_cmd.proofs.dump.add_publics.Goals as goal
 

@@ -4,7 +4,7 @@ use Rattle.sym_records.specs.Spelled.{text_bytes}
 use Rattle.sym_records.specs.Validity.{first_bad_from}
 use Rattle.sym_records.specs.declared.place.Place.TheVariants.{Inside}
 use Rattle.func_flatten.specs.Publics.{public_view}
-use Rattle.dumpsyms_cmd.specs.Dump.{public_line}
+use Rattle.dumpsyms_cmd.specs.commands.Dump.{public_line}
 use Rattle.dumpsyms_cmd.proofs.dump.add_publics.Given as goal
 
 abbrev pub invariant-addresses : goal.invariant-addresses

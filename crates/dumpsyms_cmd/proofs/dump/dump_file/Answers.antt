@@ -3,7 +3,7 @@ use Rattle.sym_records.specs.declared.line.SymLine.{SymLine}
 use Rattle.sym_records.specs.Spelled.{text_bytes}
 use Rattle.sym_records.proofs.SpelledLemmas.{spelled_reads}
 use Rattle.rule_postfix.specs.Written.{written, written_lines}
-use Rattle.dumpsyms_cmd.specs.Dump.{identity_lines, public_lines}
+use Rattle.dumpsyms_cmd.specs.commands.Dump.{identity_lines, public_lines}
 use Rattle.debug_read.proofs.PathLemmas.{read_clean}
 use Rattle.dumpsyms_cmd.proofs.CanonLemmas.{whole_spelled, whole_records, file_dumped}
 use Rattle.dumpsyms_cmd.proofs.dump.dump_file.Goals as goal

@@ -1,6 +1,6 @@
 use Rattle.std.proofs.Common.{ℕ, List, ◌++◌, ◌∙◌, ap, sym}
 use Rattle.sym_records.specs.Canon.{canon}
-use Rattle.dumpsyms_cmd.specs.Dump.{module_line}
+use Rattle.dumpsyms_cmd.specs.commands.Dump.{module_line}
 use Rattle.clean_names.specs.Cleaning.{cleaned}
 use Rattle.dumpsyms_cmd.proofs.RecordLemmas.{module_and_info}
 use Rattle.dumpsyms_cmd.proofs.dump.put_identity.Goals as goal

@@ -1,5 +1,5 @@
 use Rattle.std.proofs.Common.{refl, sym, subst}
-use Rattle.dumpsyms_cmd.specs.Judged.{answer_verdict, has_output}
+use Rattle.dumpsyms_cmd.specs.internal.Judged.{answer_verdict, has_output}
 use Rattle.dumpsyms_cmd.specs.internal.Writes.{Writes}
 use Rattle.dumpsyms_cmd.specs.declared.judgement.Answer.{Answer}
 use Rattle.dumpsyms_cmd.proofs.WriteLemmas.{line_said}

@@ -1,0 +1,91 @@
+-- What the functions that judge say of their judgements and answers.
+use Rattle.std.specs.Prelude.{◌≡◌, ℕ, ◌<◌, Bool, true, false, List, [], Option, Some, None, IsSome, Result, Ok, Err}
+use Rattle.sym_edges.specs.Outside.{Files, Tells, Rose}
+use Rattle.sym_edges.specs.declared.fault.Stop.{Stop}
+use Rattle.sym_edges.specs.declared.fault.Stop.TheVariants.{Fault}
+use Rattle.sym_edges.specs.declared.fault.Stop.TheVariants as stop
+use Rattle.sym_edges.specs.declared.reading.ReadEnd.{ReadEnd}
+use Rattle.sym_edges.specs.declared.reading.ReadEnd.TheVariants.{CantOpen, CantRead, TooLong}
+use Rattle.elf_sections.specs.Image.{ImageParts}
+use Rattle.sym_records.specs.declared.line.SymLine.{SymLine}
+use Rattle.sym_grammar.specs.declared.input.SymEnd.{SymEnd}
+use Rattle.sym_grammar.specs.declared.input.SymEnd.TheVariants as end
+use Rattle.dumpsyms_cmd.specs.Words.{Asked}
+use Rattle.dumpsyms_cmd.specs.Refusals.{too_long_line}
+use Rattle.dumpsyms_cmd.specs.Verdict.{Verdict, refused, unread, no_memory, LIMIT}
+use Rattle.dumpsyms_cmd.specs.Judgement.{err_bytes, is_some_output, judgement_verdict, Judges}
+use Rattle.dumpsyms_cmd.specs.SymbolInput.{end_verdict}
+use Rattle.dumpsyms_cmd.specs.Answers.{IsVerdict, CommandPromises}
+use Rattle.dumpsyms_cmd.specs.commands.Dump.{IsPartsVerdict, IsDumpVerdict, DumpsParts, DumpsImage}
+use Rattle.dumpsyms_cmd.specs.declared.judgement.Output.TheVariants.{Nothing}
+use Rattle.dumpsyms_cmd.specs.declared.judgement.Judgement.{Judgement}
+use Rattle.dumpsyms_cmd.specs.declared.judgement.Answer.{Answer}
+use Rattle.dumpsyms_cmd.specs.declared.judgement.Answer.TheVariants.{Judged, Unread, NoMemory}
+
+-- the verdict that an answer gives
+abbrev pub answer_verdict : Answer → Verdict
+answer_verdict (Judged j) = judgement_verdict j
+answer_verdict Unread = unread
+answer_verdict NoMemory = no_memory
+
+abbrev pub has_output : Answer → Bool
+has_output (Judged j) = is_some_output j.out
+has_output Unread = false
+has_output NoMemory = false
+
+-- a judgement that refuses with this line
+pub record Refuses (j : Judgement) (text : List ℕ) : Type 0 where
+  pub status : j.status ≡ 1
+  pub out : j.out ≡ Nothing
+  pub err : err_bytes j.err ≡ text
+
+-- a judgement on the parts of an image
+abbrev pub JudgesParts : Judgement → List ℕ → ImageParts → Type 0
+JudgesParts j name parts = Judges j (λ err. IsPartsVerdict parts name (refused err)) (DumpsParts parts name)
+
+-- a judgement on the bytes of a file
+abbrev pub JudgesBytes : Judgement → List ℕ → List ℕ → Type 0
+JudgesBytes j name bytes = Judges j (λ err. IsDumpVerdict LIMIT name bytes (refused err)) (DumpsImage bytes name)
+
+-- what is known of a judgement: it has status 0, 1 or 2, the last for invalid arguments alone; it is the verdict where the store
+-- tells its files; and it keeps the command's promises
+pub record IsJudged (j : Judgement) (command : Option Asked) (files : Option Files) : Type 0 where
+  pub low : j.status < 3
+  pub row : IsSome command → j.status < 2
+  pub told : Tells files (λ f. IsVerdict command f (judgement_verdict j))
+  pub kept : CommandPromises command files j
+
+-- what an answer says of a command, the files and the store's count of faults
+abbrev pub AnswersCommand : Answer → Option Asked → Option Files → ℕ → ℕ → Type 0
+AnswersCommand (Judged j) command files before after = IsJudged j command files
+AnswersCommand Unread command files before after = IsSome command × Rose before after
+AnswersCommand NoMemory command files before after = IsSome command
+
+-- what an answer says of a file that could not be read whole
+abbrev pub AnswersStop : Answer → Stop ReadEnd → Type 0
+AnswersStop (Judged j) (Fault CantOpen) = ⊥
+AnswersStop (Judged j) (Fault CantRead) = ⊥
+AnswersStop (Judged j) (Fault TooLong) = Judges j (λ err. err ≡ too_long_line) (λ lines err. ⊥)
+AnswersStop (Judged j) stop.NoMemory = ⊥
+AnswersStop Unread (Fault CantOpen) = Unit {0}
+AnswersStop Unread (Fault CantRead) = Unit {0}
+AnswersStop Unread (Fault TooLong) = ⊥
+AnswersStop Unread stop.NoMemory = ⊥
+AnswersStop NoMemory end = Unit {0}
+
+-- what an answer says of a symbol file that has no records
+abbrev pub AnswersEnd : Answer → Stop SymEnd → Type 0
+AnswersEnd (Judged j) (Fault end.Unread) = ⊥
+AnswersEnd (Judged j) (Fault end.TooLong) = judgement_verdict j ≡ end_verdict end.TooLong
+AnswersEnd (Judged j) (Fault (end.Text fault)) = judgement_verdict j ≡ end_verdict (end.Text fault)
+AnswersEnd (Judged j) stop.NoMemory = ⊥
+AnswersEnd Unread (Fault end.Unread) = Unit {0}
+AnswersEnd Unread (Fault end.TooLong) = ⊥
+AnswersEnd Unread (Fault (end.Text fault)) = ⊥
+AnswersEnd Unread stop.NoMemory = ⊥
+AnswersEnd NoMemory stopped = Unit {0}
+
+-- a judgement is an answer, and so is that memory ran out
+abbrev pub AnswersJudged : {F : Type 0} → Answer → Result Judgement F → Type 0
+AnswersJudged answer (Ok j) = answer ≡ Judged j
+AnswersJudged answer (Err no) = answer ≡ NoMemory

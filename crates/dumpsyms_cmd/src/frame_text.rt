@@ -1,0 +1,98 @@
+//! The lines of `frame`.
+ghost use Rattle.std.specs.Prelude.{◌≡◌, ◌++◌, ◌<◌, ◌≤◌, IfOk, OnOk};
+ghost use Rattle.dumpsyms_cmd.specs.commands.Frame.{short_name, cause_text, outcome_text, outcome_line, registers_text, frame_or_none};
+
+use cfi_eval::{Cause, Frame, Outcome};
+use std::alloc::{AllocError, Global};
+use sym_records::{ByteText, HexText};
+use sym_rules::register_name;
+
+/// The name of a register without `$`; 16 is rip.
+#[tactic(auto, unfolding(crate::specs::commands::Frame::short_name))]
+fn short_name(register: u8) -> &'static [u8]
+    ensures { result.now ≡ short_name register }
+{
+    if register == 16 {
+        return b"rip";
+    }
+    let name = register_name(register);
+    if name.is_empty() {
+        return name;
+    }
+    name.split_at(1).1
+}
+
+/// Adds why a rule has no value.
+fn add_cause(text: &mut Vec<u8>, cause: Cause) -> Result<(), AllocError>
+    ensures { OnOk result (text.new.items ≡ text.old.items ++ cause_text cause) }
+{
+    match cause {
+        Cause::Missing(register) => {
+            text.extend_from_slice(b"missing ")?;
+            text.extend_from_slice(short_name(register))
+        }
+        Cause::Unreadable(address) => {
+            text.extend_from_slice(b"unreadable ")?;
+            text.extend_from_slice(HexText::of(address).as_slice())
+        }
+        Cause::Divide => text.extend_from_slice(b"divide"),
+        Cause::Align => text.extend_from_slice(b"align"),
+        Cause::Stack => text.extend_from_slice(b"stack"),
+        Cause::UnknownName => text.extend_from_slice(b"unknown"),
+        Cause::NoCfa => text.extend_from_slice(b"no-cfa"),
+    }
+}
+
+/// Adds a value, or why there is none.
+fn add_outcome(text: &mut Vec<u8>, outcome: Outcome) -> Result<(), AllocError>
+    ensures { OnOk result (text.new.items ≡ text.old.items ++ outcome_text outcome) }
+{
+    match outcome {
+        Outcome::Value(value) => text.extend_from_slice(HexText::of(value).as_slice()),
+        Outcome::Undefined => text.extend_from_slice(b"undefined"),
+        Outcome::Failed(cause) => {
+            text.extend_from_slice(b"failed ")?;
+            add_cause(text, cause)
+        }
+    }
+}
+
+/// Adds the line of a name and an outcome.
+fn add_outcome_line(text: &mut Vec<u8>, name: &[u8], outcome: Outcome) -> Result<(), AllocError>
+    ensures { OnOk result (text.new.items ≡ text.old.items ++ outcome_line name.now outcome) }
+{
+    text.extend_from_slice(name)?;
+    text.push(b' ')?;
+    add_outcome(text, outcome)?;
+    text.push(b'\n')
+}
+
+/// Adds the lines of the registers.
+fn add_registers(text: &mut Vec<u8>, frame: &Frame) -> Result<(), AllocError>
+    ensures { OnOk result (text.new.items ≡ text.old.items ++ registers_text frame.now 16) }
+{
+    'registers: for register in 0..16u8 {
+        add_outcome_line(
+            text,
+            short_name(register),
+            frame.regs[usize::from(register)],
+        )?;
+    }
+    Ok(())
+}
+
+/// The eighteen lines, or `none`.
+pub fn spell_frame(alloc: Global, frame: Option<Frame>) -> Result<ByteText, AllocError>
+    ensures { IfOk result (λ text. text ≡ frame_or_none frame) }
+{
+    let mut text = Vec::new(alloc);
+    match frame {
+        None => text.extend_from_slice(b"none\n")?,
+        Some(frame) => {
+            add_outcome_line(&mut text, b"cfa", frame.cfa)?;
+            add_outcome_line(&mut text, b"ra", frame.ra)?;
+            add_registers(&mut text, &frame)?;
+        }
+    }
+    Ok(ByteText::of(text))
+}
