@@ -8,3 +8,6 @@ pub mod Computing
 pub mod AroundLemmas
 pub mod FindingLemmas
 pub mod CanonLemmas
+pub mod CheckLemmas
+pub mod FrameTextLemmas
+pub mod AnswerLemmas

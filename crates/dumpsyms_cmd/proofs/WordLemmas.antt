@@ -12,7 +12,7 @@ use Rattle.sym_rules.proofs.BoolLemmas.{both, and_true, if_both}
 use Rattle.std.proofs.lemmas.List.Sums.{suffix_len_is}
 use Rattle.memchr.specs.Find.{IsLastByte, is_byte}
 use Rattle.std.specs.List.{suffix_len}
-use Rattle.dumpsyms_cmd.specs.Words.{Asked, dump, is_number, number_upto, two_words, four_words, HasWorkers, is_slash, module_name}
+use Rattle.dumpsyms_cmd.specs.Words.{Asked, dump, check, frame, address_of, is_number, number_upto, two_words, four_words, HasWorkers, is_slash, module_name}
 
 passes_not : (t : Bool) → ((t ≡ true) → ⊥) → not t ≡ true
 passes_not t never = elim t as (λ v. ((v ≡ true) → ⊥) → not v ≡ true) [ true ↦ λ h. absurd (h refl) | false ↦ λ h. refl ] never
@@ -142,15 +142,23 @@ number_workers elf word =
     let few : digits_value 10 word ≤ 64 = grind (arith, nat_tests) in
     (positive word parts.0, few))
 
-two_workers : (word elf : List ℕ) → HasWorkers (two_words word elf)
-two_workers word elf = if_both HasWorkers (bytes_eq word (codes "dump")) (Some (dump elf 4)) None (omega arith, omega arith) tt
+two_workers : (word name : List ℕ) → HasWorkers (two_words word name)
+two_workers word name =
+    if_both HasWorkers (bytes_eq word (codes "dump")) (Some (dump name 4)) (cond (bytes_eq word (codes "check")) (Some (check name)) None) (omega arith, omega arith)
+    (if_both HasWorkers (bytes_eq word (codes "check")) (Some (check name)) None tt tt)
 
-four_workers : (word elf option number : List ℕ) → HasWorkers (four_words word elf option number)
-four_workers word elf option number =
-    if_both HasWorkers (bytes_eq word (codes "dump") && bytes_eq option (codes "--workers")) (option_map (dump elf) (number_upto 64 number)) None (number_workers elf number) tt
+address_workers : (name state : List ℕ) (o : Option ℕ) → HasWorkers (option_map (λ address. frame name address state) o)
+address_workers name state None = tt
+address_workers name state (Some address) = tt
 
-pub two_few : (view : Option Asked) (word elf : List ℕ) → view ≡ two_words word elf → HasWorkers view
-two_few view word elf is = subst HasWorkers (sym is) (two_workers word elf)
+four_workers : (word name third fourth : List ℕ) → HasWorkers (four_words word name third fourth)
+four_workers word name third fourth =
+    if_both HasWorkers (bytes_eq word (codes "dump") && bytes_eq third (codes "--workers")) (option_map (dump name) (number_upto 64 fourth))
+    (cond (bytes_eq word (codes "frame")) (option_map (λ address. frame name address fourth) (address_of third)) None) (number_workers name fourth)
+    (if_both HasWorkers (bytes_eq word (codes "frame")) (option_map (λ address. frame name address fourth) (address_of third)) None (address_workers name fourth (address_of third)) tt)
 
-pub four_few : (view : Option Asked) (word elf option number : List ℕ) → view ≡ four_words word elf option number → HasWorkers view
-four_few view word elf option number is = subst HasWorkers (sym is) (four_workers word elf option number)
+pub two_few : (view : Option Asked) (word name : List ℕ) → view ≡ two_words word name → HasWorkers view
+two_few view word name is = subst HasWorkers (sym is) (two_workers word name)
+
+pub four_few : (view : Option Asked) (word name third fourth : List ℕ) → view ≡ four_words word name third fourth → HasWorkers view
+four_few view word name third fourth is = subst HasWorkers (sym is) (four_workers word name third fourth)

@@ -3,23 +3,22 @@ use Rattle.std.specs.Prelude.{◌≡◌, ℕ, List, Option, Some, None, Result, 
 use Rattle.sym_edges.specs.Outside.{Files, Tells}
 use Rattle.sym_records.specs.declared.line.SymLine.{SymLine}
 use Rattle.sym_grammar.specs.Input.{file_reading}
-use Rattle.sym_grammar.specs.declared.input.SymEnd.{SymEnd}
-use Rattle.sym_grammar.specs.declared.input.SymEnd.TheVariants.{Unread, TooLong, Text}
+use Rattle.sym_grammar.specs.declared.input.SymRefusal.{SymRefusal}
+use Rattle.sym_grammar.specs.declared.input.SymRefusal.TheVariants.{TooLong, Text}
 use Rattle.dumpsyms_cmd.specs.Refusals.{too_long_line, text_line}
 use Rattle.dumpsyms_cmd.specs.Verdict.{Verdict, refused, unread, LIMIT}
 use Rattle.dumpsyms_cmd.specs.Judgement.{judgement_verdict}
 use Rattle.dumpsyms_cmd.specs.declared.judgement.Judgement.{Judgement}
 
--- a symbol file that has no records
-abbrev pub end_verdict : SymEnd → Verdict
-end_verdict Unread = unread
-end_verdict TooLong = refused too_long_line
-end_verdict (Text fault) = refused (text_line fault)
+-- a symbol file that is refused
+abbrev pub refusal_line : SymRefusal → List ℕ
+refusal_line TooLong = too_long_line
+refusal_line (Text fault) = text_line fault
 
 -- by the reading of the file
-abbrev pub by_records : (List SymLine → Verdict) → Result (List SymLine) SymEnd → Verdict
+abbrev pub by_records : (List SymLine → Verdict) → Result (List SymLine) SymRefusal → Verdict
 by_records answer (Ok lines) = answer lines
-by_records answer (Err end) = end_verdict end
+by_records answer (Err why) = refused (refusal_line why)
 
 -- by its bytes: it may have 2^29 of them
 abbrev pub symbol_verdict : (List SymLine → Verdict) → List ℕ → Verdict

@@ -8,7 +8,7 @@ use Rattle.sym_edges.specs.Outside.{Files}
 use Rattle.sym_rules.specs.RuleReading.{is_digit}
 use Rattle.sym_records.specs.FieldReading.{hex_value}
 use Rattle.sym_grammar.specs.Input.{file_reading}
-use Rattle.sym_grammar.specs.declared.input.SymEnd.{SymEnd}
+use Rattle.sym_grammar.specs.declared.input.SymRefusal.{SymRefusal}
 use Rattle.sym_records.specs.declared.line.SymLine.{SymLine}
 use Rattle.dumpsyms_cmd.specs.declared.words.Command.{Command}
 use Rattle.dumpsyms_cmd.specs.declared.words.Command.TheVariants.{Dump, Check, Frame}
@@ -79,9 +79,9 @@ HasWorkers (Some (check sym)) = Unit {0}
 HasWorkers (Some (frame sym address state)) = Unit {0}
 
 -- the second file of a command over a symbol file is read only where that has records
-abbrev pub if_records : Result (List SymLine) SymEnd → List ℕ → List (List ℕ)
+abbrev pub if_records : Result (List SymLine) SymRefusal → List ℕ → List (List ℕ)
 if_records (Ok lines) name = name ∷ []
-if_records (Err end) name = []
+if_records (Err why) name = []
 
 abbrev pub second_of : Option (List ℕ) → List ℕ → List (List ℕ)
 second_of None name = []

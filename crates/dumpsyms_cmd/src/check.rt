@@ -29,16 +29,14 @@ fn add_finding(text: &mut Vec<u8>, finding: &Finding) -> Result<(), AllocError>
     add_line(text, finding.kind.word(), &words)
 }
 
-/// The lines of findings.
-#[tactic(auto, using(crate::proofs::CheckLemmas::findings_end))]
-fn list_findings(alloc: Global, found: &[Finding]) -> Result<ByteText, AllocError>
-    ensures { IfOk result (λ text. text ≡ findings_text found.now) }
+/// Adds the lines of findings.
+fn add_findings(text: &mut Vec<u8>, found: &[Finding]) -> Result<(), AllocError>
+    ensures { OnOk result (text.new.items ≡ text.old.items ++ findings_text found.now) }
 {
-    let mut text = Vec::new(alloc);
-    'findings: for finding in found {
-        add_finding(&mut text, finding)?;
+    'lines: for finding in found {
+        add_finding(text, finding)?;
     }
-    Ok(ByteText::of(text))
+    Ok(())
 }
 
 /// What a checker finds in the records of a file.
@@ -54,9 +52,11 @@ fn judge_records(alloc: Global, file: &SymFile) -> Result<Judgement, OutOfMemory
             err: Message::Fixed(b""),
         });
     }
+    let mut text = Vec::new(alloc);
+    add_findings(&mut text, found.as_slice())?;
     Ok(Judgement {
         status: 1,
-        out: Output::Bytes(list_findings(alloc, found.as_slice())?),
+        out: Output::Bytes(ByteText::of(text)),
         err: Message::Fixed(b""),
     })
 }

@@ -1,10 +1,10 @@
 //! `frame SYM ADDR STATE`.
-ghost use Rattle.std.specs.Prelude.{◌≡◌, ◌≤◌, Some, IfOk, length};
+ghost use Rattle.std.specs.Prelude.{◌≡◌, ◌≤◌, [], ◌∷◌, Some, IfOk, length};
 ghost use Rattle.dumpsyms_cmd.specs.Words.{files_of, frame};
 ghost use Rattle.dumpsyms_cmd.specs.Judgement.{judgement_verdict};
 ghost use Rattle.dumpsyms_cmd.specs.Observed.{Asks};
 ghost use Rattle.dumpsyms_cmd.specs.commands.Frame.{frame_answer, state_answer, STATE_LIMIT};
-ghost use Rattle.dumpsyms_cmd.specs.internal.Judged.{AnswersCommand};
+ghost use Rattle.dumpsyms_cmd.specs.internal.Judged.{AnswersCommand, AnswersState};
 
 use crate::commands::{answer_stop, refuse};
 use crate::frame_text::spell_frame;
@@ -39,6 +39,7 @@ fn judge_frame(
 }
 
 /// The same over the bytes of a state file.
+#[tactic(auto, using(crate::proofs::AnswerLemmas::state_judged, crate::proofs::AnswerLemmas::state_refused))]
 fn judge_state(
     alloc: Global,
     file: &SymFile,
@@ -56,6 +57,7 @@ fn judge_state(
 }
 
 /// The same over a state file that is still to be read.
+#[tactic(auto, using(crate::proofs::AnswerLemmas::state_read, crate::proofs::AnswerLemmas::state_stopped, crate::proofs::AnswerLemmas::asks_state))]
 fn answer_state<S: Store>(
     alloc: Global,
     file: &SymFile,
@@ -63,6 +65,10 @@ fn answer_state<S: Store>(
     state: &str,
     store: &mut S,
 ) -> Answer
+    ensures asked { Asks (state.now ∷ []) (S.asked store.old) (S.asked store.new) }
+    ensures files { S.files store.new ≡ S.files store.old }
+    ensures faults { S.faults store.old ≤ S.faults store.new }
+    ensures answered { AnswersState result file.now address state.now (S.files store.old) (S.faults store.old) (S.faults store.new) }
 {
     match read_all(alloc, store, state, STATE_LIMIT) {
         Ok(bytes) => answer_judged(judge_state(alloc, file, address, bytes.as_slice())),
@@ -71,6 +77,7 @@ fn answer_state<S: Store>(
 }
 
 /// The answer to `frame SYM ADDR STATE`.
+#[tactic(auto, using(crate::proofs::AnswerLemmas::frame_read, crate::proofs::AnswerLemmas::frame_ended, crate::proofs::AnswerLemmas::asks_symbols, crate::proofs::AnswerLemmas::asks_both))]
 pub fn answer_frame<S: Store>(
     alloc: Global,
     sym: &str,

@@ -68,6 +68,7 @@ fn add_outcome_line(text: &mut Vec<u8>, name: &[u8], outcome: Outcome) -> Result
 }
 
 /// Adds the lines of the registers.
+#[tactic(auto, using(crate::proofs::FrameTextLemmas::no_registers, crate::proofs::FrameTextLemmas::one_register))]
 fn add_registers(text: &mut Vec<u8>, frame: &Frame) -> Result<(), AllocError>
     ensures { OnOk result (text.new.items ≡ text.old.items ++ registers_text frame.now 16) }
 {

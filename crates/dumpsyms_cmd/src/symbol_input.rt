@@ -6,16 +6,19 @@ use crate::judgement::{Answer, Judgement, Message};
 use crate::refusals::{TOO_LONG, text_line};
 use std::alloc::Global;
 use sym_edges::{OutOfMemory, Stop};
-use sym_grammar::SymEnd;
-use sym_rules::TextFault;
+use sym_grammar::{SymEnd, SymRefusal};
 
-/// A text is refused for its first fault.
-fn answer_fault(alloc: Global, fault: TextFault) -> Answer
-    ensures { AnswersEnd result (Stop.Fault (SymEnd.Text fault)) }
+/// The answer to a symbol file that is refused.
+#[tactic(auto, using(crate::proofs::AnswerLemmas::refuses_verdict))]
+fn answer_refusal(alloc: Global, why: SymRefusal) -> Answer
+    ensures { AnswersEnd result (Stop.Fault (SymEnd.Refused why)) }
 {
-    match text_line(alloc, fault) {
-        Ok(line) => Answer::Judged(refuse(Message::Made(line))),
-        Err(_) => Answer::NoMemory,
+    match why {
+        SymRefusal::TooLong => Answer::Judged(refuse(Message::Fixed(TOO_LONG))),
+        SymRefusal::Text(fault) => match text_line(alloc, fault) {
+            Ok(line) => Answer::Judged(refuse(Message::Made(line))),
+            Err(_) => Answer::NoMemory,
+        },
     }
 }
 
@@ -25,8 +28,7 @@ pub fn answer_end(alloc: Global, end: Stop<SymEnd>) -> Answer
 {
     match end {
         Stop::Fault(SymEnd::Unread) => Answer::Unread,
-        Stop::Fault(SymEnd::TooLong) => Answer::Judged(refuse(Message::Fixed(TOO_LONG))),
-        Stop::Fault(SymEnd::Text(fault)) => answer_fault(alloc, fault),
+        Stop::Fault(SymEnd::Refused(why)) => answer_refusal(alloc, why),
         Stop::NoMemory => Answer::NoMemory,
     }
 }

@@ -16,7 +16,7 @@ use Rattle.state_file.specs.State.{state_of}
 use Rattle.state_file.specs.declared.state.State.{State}
 use Rattle.state_file.specs.declared.fault.StateFault.{StateFault}
 use Rattle.sym_grammar.specs.Input.{file_reading}
-use Rattle.sym_grammar.specs.declared.input.SymEnd.{SymEnd}
+use Rattle.sym_grammar.specs.declared.input.SymRefusal.{SymRefusal}
 use Rattle.dumpsyms_cmd.specs.Refusals.{line, too_long_line, state_line}
 use Rattle.dumpsyms_cmd.specs.Verdict.{Verdict, refused, unread, LIMIT}
 use Rattle.dumpsyms_cmd.specs.SymbolInput.{symbol_verdict, file_verdict}
@@ -85,9 +85,9 @@ abbrev pub frame_verdict : ℕ → Option (List ℕ) → Option (List ℕ) → V
 frame_verdict address sym state = file_verdict (symbol_verdict (λ lines. file_verdict (state_answer lines address) state)) sym
 
 -- the symbol file has records
-abbrev pub HasRecords : Result (List SymLine) SymEnd → Type 0
+abbrev pub HasRecords : Result (List SymLine) SymRefusal → Type 0
 HasRecords (Ok lines) = Unit {0}
-HasRecords (Err end) = ⊥
+HasRecords (Err why) = ⊥
 
 -- a judgement is what `frame` answers to the bytes of both files; where the store tells its files these are those of the names, and where it
 -- tells nothing they are some bytes

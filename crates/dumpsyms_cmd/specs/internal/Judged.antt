@@ -14,7 +14,8 @@ use Rattle.dumpsyms_cmd.specs.Words.{Asked}
 use Rattle.dumpsyms_cmd.specs.Refusals.{too_long_line}
 use Rattle.dumpsyms_cmd.specs.Verdict.{Verdict, refused, unread, no_memory, LIMIT}
 use Rattle.dumpsyms_cmd.specs.Judgement.{err_bytes, is_some_output, judgement_verdict, Judges}
-use Rattle.dumpsyms_cmd.specs.SymbolInput.{end_verdict}
+use Rattle.dumpsyms_cmd.specs.SymbolInput.{refusal_line}
+use Rattle.dumpsyms_cmd.specs.commands.Frame.{state_answer}
 use Rattle.dumpsyms_cmd.specs.Answers.{IsVerdict, CommandPromises}
 use Rattle.dumpsyms_cmd.specs.commands.Dump.{IsPartsVerdict, IsDumpVerdict, DumpsParts, DumpsImage}
 use Rattle.dumpsyms_cmd.specs.declared.judgement.Output.TheVariants.{Nothing}
@@ -76,12 +77,10 @@ AnswersStop NoMemory end = Unit {0}
 -- what an answer says of a symbol file that has no records
 abbrev pub AnswersEnd : Answer → Stop SymEnd → Type 0
 AnswersEnd (Judged j) (Fault end.Unread) = ⊥
-AnswersEnd (Judged j) (Fault end.TooLong) = judgement_verdict j ≡ end_verdict end.TooLong
-AnswersEnd (Judged j) (Fault (end.Text fault)) = judgement_verdict j ≡ end_verdict (end.Text fault)
+AnswersEnd (Judged j) (Fault (end.Refused why)) = judgement_verdict j ≡ refused (refusal_line why)
 AnswersEnd (Judged j) stop.NoMemory = ⊥
 AnswersEnd Unread (Fault end.Unread) = Unit {0}
-AnswersEnd Unread (Fault end.TooLong) = ⊥
-AnswersEnd Unread (Fault (end.Text fault)) = ⊥
+AnswersEnd Unread (Fault (end.Refused why)) = ⊥
 AnswersEnd Unread stop.NoMemory = ⊥
 AnswersEnd NoMemory stopped = Unit {0}
 
@@ -89,3 +88,15 @@ AnswersEnd NoMemory stopped = Unit {0}
 abbrev pub AnswersJudged : {F : Type 0} → Answer → Result Judgement F → Type 0
 AnswersJudged answer (Ok j) = answer ≡ Judged j
 AnswersJudged answer (Err no) = answer ≡ NoMemory
+
+-- a judgement is what `frame` answers to the bytes of a state file, over the records of a symbol file
+pub record AnswersBytesOf (lines : List SymLine) (address : ℕ) (name : List ℕ) (files : Option Files) (j : Judgement) : Type 0 where
+  pub bytes : List ℕ
+  pub there : Tells files (λ f. f name ≡ Some bytes)
+  pub is : judgement_verdict j ≡ state_answer lines address bytes
+
+-- what an answer says of a state file
+abbrev pub AnswersState : Answer → List SymLine → ℕ → List ℕ → Option Files → ℕ → ℕ → Type 0
+AnswersState (Judged j) lines address name files before after = AnswersBytesOf lines address name files j
+AnswersState Unread lines address name files before after = Rose before after
+AnswersState NoMemory lines address name files before after = Unit {0}
