@@ -10,12 +10,12 @@ use Rattle.sym_records.specs.declared.line.SymLine.{SymLine}
 use Rattle.debug_read.specs.declared.fault.DebugFault.{DebugFault}
 use Rattle.debug_read.specs.DebugSays.{DebugSays, debug_says}
 use Rattle.debug_read.specs.Each.{Match}
-use Rattle.dumpsyms_cmd.specs.Words.{Asked, dump, command_of, module_name}
+use Rattle.dumpsyms_cmd.specs.Words.{Asked, dump, command_of, module_name, check, frame}
 use Rattle.dumpsyms_cmd.specs.commands.Dump.{identity_lines, public_lines, frame_lines, CanonFile}
 use Rattle.dumpsyms_cmd.specs.Verdict.{Verdict, LIMIT}
 use Rattle.dumpsyms_cmd.specs.commands.Dump.{left_out, GivesText, IsDebugVerdict, IsImageVerdict, IsBytesVerdict, IsFileVerdict}
 use Rattle.dumpsyms_cmd.specs.Answers.{IsVerdict}
-use Rattle.worked.specs.Runs.{AskAlike}
+use Rattle.worked.specs.Runs.{AskAlike, by_one_worker}
 use Rattle.worked.proofs.OneUnits.{SameUnit, same_units, EndBelow, code_below, small_units}
 use Rattle.worked.proofs.OneRecords.{same_pieces, same_records}
 
@@ -71,15 +71,26 @@ one_file elf (Some file) v w p q = one_bytes (nat_lt LIMIT (length file)) (modul
 -- a command asks for the same as itself
 alike : (c : Option Asked) → AskAlike c c
 alike None = tt
-alike (Some (dump elf workers)) = refl
+alike (Some c) = refl
+
+-- the number of workers does not matter
+any_workers : (c : Asked) (files : Files) (v : Verdict) → IsVerdict (Some c) files v → IsVerdict (Some (by_one_worker c)) files v
+any_workers (dump elf workers) files v is = is
+any_workers (check sym) files v is = is
+any_workers (frame sym address state) files v is = is
+
+one_command : (c : Asked) (files : Files) (v w : Verdict) → IsVerdict (Some c) files v → IsVerdict (Some c) files w → v ≡ w
+one_command (dump elf workers) files v w p q = one_file elf (files elf) v w p q
+one_command (check name) files v w p q = p ∙ sym q
+one_command (frame name address state) files v w p q = p ∙ sym q
 
 -- two commands that ask for the same have one verdict
 pub one_asked : (c d : Option Asked) (files : Files) (v w : Verdict) → AskAlike c d → IsVerdict c files v → IsVerdict d files w → v ≡ w
 one_asked None None files v w same p q = p ∙ sym q
 one_asked None (Some d) files v w same p q = absurd same
 one_asked (Some c) None files v w same p q = absurd same
-one_asked (Some (dump elf m)) (Some (dump other n)) files v w same p q =
-    one_file elf (files elf) v w p (subst (λ name. IsFileVerdict name (files name) w) (sym same) q)
+one_asked (Some c) (Some d) files v w same p q =
+    one_command (by_one_worker d) files v w (subst (λ (x : Asked). IsVerdict (Some x) files v) same (any_workers c files v p)) (any_workers d files w q)
 
 -- words and files have one verdict, whatever a run chose in keeping what it read of the units
 pub one_verdict : (words : List (List ℕ)) (files : Files) (v w : Verdict) → IsVerdict (command_of words) files v → IsVerdict (command_of words) files w → v ≡ w

@@ -1,15 +1,21 @@
--- Two runs of the program over one file, and how they end.
-use Rattle.std.specs.Prelude.{◌≡◌, Option, None, Some}
+-- Two runs of the program that ask for the same, and how they end.
+use Rattle.std.specs.Prelude.{◌≡◌, List, Option, None, Some}
 use Rattle.sym_edges.specs.Outside.{Files}
-use Rattle.dumpsyms_cmd.specs.Words.{Asked, dump}
+use Rattle.dumpsyms_cmd.specs.Words.{Asked, dump, check, frame}
 use Rattle.dumpsyms_cmd.specs.Program.{Run, command}
+
+-- what a command asks for, whatever the number of workers
+abbrev pub by_one_worker : Asked → Asked
+by_one_worker (dump elf workers) = dump elf 1
+by_one_worker (check sym) = check sym
+by_one_worker (frame sym address state) = frame sym address state
 
 -- two commands that ask for the same, by any numbers of workers
 abbrev pub AskAlike : Option Asked → Option Asked → Type 0
 AskAlike None None = Prim.Unit {0}
 AskAlike None (Some d) = ⊥
 AskAlike (Some c) None = ⊥
-AskAlike (Some (dump elf m)) (Some (dump other n)) = elf ≡ other
+AskAlike (Some c) (Some d) = by_one_worker c ≡ by_one_worker d
 
 -- two runs that ask for the same of stores with the same files, and whose sinks held the same
 pub record RunAlike (one other : Run) : Type 0 where
