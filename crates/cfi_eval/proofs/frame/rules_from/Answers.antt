@@ -1,4 +1,4 @@
-use Rattle.std.proofs.Common.{◌≡◌, ◌∙◌, ◌+◌, ◌-◌, ◌++◌, length, take, drop, Some, sym, ap}
+use Rattle.std.proofs.Common.{◌∙◌, ◌+◌, ◌-◌, ◌++◌, length, take, drop, Some, sym, ap}
 use Rattle.std.proofs.lemmas.List.{take_rest}
 use Rattle.cfi_eval.specs.TextRules.{changes_until}
 use Rattle.cfi_eval.proofs.InitLemmas.{init_rules, init_is_init}
