@@ -1,0 +1,11 @@
+pub mod Computing
+pub mod RangeLemmas
+pub mod MeetingLemmas
+pub mod NumberLemmas
+pub mod JudgedLemmas
+pub mod ListingLemmas
+pub mod PairLemmas
+pub mod UnderLemmas
+pub mod FrameLemmas
+pub mod LawLemmas
+mod WorkedFindings

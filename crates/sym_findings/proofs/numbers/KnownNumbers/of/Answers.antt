@@ -1,0 +1,5 @@
+use Rattle.std.proofs.lemmas.List.Sorted.{IsNonDecreasingBy-from_sort}
+use Rattle.sym_findings.proofs.numbers.KnownNumbers.of.Goals as goal
+
+pub invariant_of-result : goal.invariant_of-result
+invariant_of-result c = IsNonDecreasingBy-from_sort (λ x. x) _ c.in_ok-sort.ensures.sorted

@@ -1,0 +1,3 @@
+pub mod FindingWords
+pub mod Findings
+pub mod internal

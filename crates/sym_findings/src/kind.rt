@@ -1,0 +1,73 @@
+use sym_edges::ListOf;
+
+/// What a checker finds at a record, in the order of the kinds' numbers.
+#[derive(Clone, Copy, Debug, PartialEq, Eq)]
+pub enum FindingKind {
+    /// C1: the number of a `FILE`, or of an `INLINE_ORIGIN`, was given before by the same keyword.
+    GivenAgain,
+    /// C2: a line record or an `INLINE` names a `FILE` that is not in the file.
+    NoFile,
+    /// C3: an `INLINE` names an `INLINE_ORIGIN` that is not in the file.
+    NoOrigin,
+    /// C4: a `FUNC`, a line record, a range of an `INLINE` or a `STACK CFI INIT` has size 0, or an end above 2^64 - 1.
+    BadSize,
+    /// C5: a `FUNC` meets an earlier one.
+    FuncMeets,
+    /// C6: a line record or a range of an `INLINE` leaves its `FUNC`.
+    LeavesFunc,
+    /// C7: a line record meets an earlier one of its `FUNC`.
+    LineMeets,
+    /// C8: a `STACK CFI INIT` meets an earlier one.
+    InitMeets,
+    /// C9: a `STACK CFI` lies outside its `STACK CFI INIT`, or not above the address of the record before it.
+    ChangeOutside,
+}
+
+impl FindingKind {
+    ghost use Rattle.std.specs.Prelude.{◌≡◌};
+    ghost use Rattle.sym_findings.specs.FindingWords.{kind_number, kind_word};
+
+    /// From 1 to 9.
+    pub fn number(self) -> u8
+        ensures { result ≡ kind_number self }
+    {
+        match self {
+            FindingKind::GivenAgain => 1,
+            FindingKind::NoFile => 2,
+            FindingKind::NoOrigin => 3,
+            FindingKind::BadSize => 4,
+            FindingKind::FuncMeets => 5,
+            FindingKind::LeavesFunc => 6,
+            FindingKind::LineMeets => 7,
+            FindingKind::InitMeets => 8,
+            FindingKind::ChangeOutside => 9,
+        }
+    }
+
+    /// The kind as it is printed: `C` and its number.
+    pub fn word(self) -> &'static [u8]
+        ensures { result.now ≡ kind_word self }
+    {
+        match self {
+            FindingKind::GivenAgain => b"C1",
+            FindingKind::NoFile => b"C2",
+            FindingKind::NoOrigin => b"C3",
+            FindingKind::BadSize => b"C4",
+            FindingKind::FuncMeets => b"C5",
+            FindingKind::LeavesFunc => b"C6",
+            FindingKind::LineMeets => b"C7",
+            FindingKind::InitMeets => b"C8",
+            FindingKind::ChangeOutside => b"C9",
+        }
+    }
+}
+
+/// A kind that was found at the record of an index, counted from 0.
+#[derive(Clone, Copy, Debug, PartialEq, Eq)]
+pub struct Finding {
+    pub kind: FindingKind,
+    pub index: usize,
+}
+
+/// Findings by record and then kind.
+pub type FindingList = ListOf<Finding>;

@@ -1,0 +1,104 @@
+//! Addresses as ranges of which no two meet.
+ghost use Rattle.std.specs.Prelude.{◌≡◌, ℕ, ◌<◌, ◌||◌, false, [], MatchOption, OnOk};
+ghost use Rattle.sym_findings.specs.internal.Ranges.{overlap, any_overlap, range_to, ranges_by, last_below, AreApart, IsTaken};
+
+use std::alloc::Global;
+use std::collections::BTreeMap;
+use std::marker::Model;
+use sym_edges::OutOfMemory;
+
+/// Ranges of addresses by their starts, of which no two meet. Ends are whole numbers.
+#[derive(Drop)]
+pub struct RangeUnion {
+    ends: BTreeMap<u128, u128>,
+}
+
+impl Model for RangeUnion {
+    ghost use Rattle.std.specs.Prelude.{List};
+    ghost use Rattle.sym_edges.specs.Addresses.{Range};
+    ghost use Rattle.sym_findings.specs.internal.Ranges.{ranges_by, AreApart};
+
+    ghost Value = { List Range };
+
+    ghost view = { λ t. ranges_by t.ends.entries };
+
+    ghost invariant = { λ t. AreApart t.ends.entries };
+}
+
+/// The last range that starts below an address.
+fn last_before(ends: &BTreeMap<u128, u128>, below: u128) -> Option<(u128, u128)>
+    ensures { result ≡ last_below below ends.now.entries }
+{
+    match ends.range(..below).next_back() {
+        Some((start, end)) => Some((*start, *end)),
+        None => None,
+    }
+}
+
+impl RangeUnion {
+    pub fn new(alloc: Global) -> RangeUnion
+        ensures { result ≡ [] }
+    {
+        RangeUnion {
+            ends: BTreeMap::new(alloc),
+        }
+    }
+
+    /// Whether a range that is not empty meets one of them: the last that starts below its end decides.
+    pub fn meets(&self, start: u128, end: u128) -> bool
+        requires { start < end }
+        ensures { result ≡ any_overlap (range_to start end) self.now }
+    {
+        match last_before(&self.ends, end) {
+            Some((_, last)) => start < last,
+            None => false,
+        }
+    }
+
+    /// A range more, which is not empty: it takes the place of those that it meets, and grows by them. So each range is put and
+    /// taken out once.
+    pub fn put(&mut self, start: u128, end: u128) -> Result<(), OutOfMemory>
+        requires { start < end }
+        ensures more { OnOk result ((a b : ℕ) → a < b → any_overlap (range_to a b) self.new ≡ (any_overlap (range_to a b) self.old || overlap (range_to a b) (range_to start end))) }
+        ensures no_other { (a b : ℕ) → a < b → (any_overlap (range_to a b) self.old || overlap (range_to a b) (range_to start end)) ≡ false → any_overlap (range_to a b) self.new ≡ false }
+    {
+        put_range(&mut self.ends, start, end)
+    }
+}
+
+#[tactic(auto, using(crate::proofs::RangeLemmas::none_left, crate::proofs::RangeLemmas::past_none, crate::proofs::RangeLemmas::taken_apart, crate::proofs::RangeLemmas::taken))]
+/// Takes out the last range that meets one that is not empty, where one does.
+fn take_met(ends: &mut BTreeMap<u128, u128>, start: u128, end: u128) -> Option<(u128, u128)>
+    requires apart { AreApart ends.old.entries }
+    requires some { start < end }
+    ensures apart { AreApart ends.new.entries }
+    ensures taken { MatchOption result ((ends.new.entries ≡ ends.old.entries) × (any_overlap (range_to start end) (ranges_by ends.old.entries) ≡ false)) (λ r. IsTaken start end r.0 r.1 ends.old.entries ends.new.entries) }
+{
+    match last_before(ends, end) {
+        None => None,
+        Some((low, high)) => {
+            if high <= start {
+                return None;
+            }
+            ends.remove(&low);
+            Some((low, high))
+        }
+    }
+}
+
+fn put_range(ends: &mut BTreeMap<u128, u128>, start: u128, end: u128) -> Result<(), OutOfMemory>
+    requires apart { AreApart ends.old.entries }
+    requires some { start < end }
+    ensures apart { AreApart ends.new.entries }
+    ensures more { OnOk result ((a b : ℕ) → a < b → any_overlap (range_to a b) (ranges_by ends.new.entries) ≡ (any_overlap (range_to a b) (ranges_by ends.old.entries) || overlap (range_to a b) (range_to start end))) }
+    ensures no_other { (a b : ℕ) → a < b → (any_overlap (range_to a b) (ranges_by ends.old.entries) || overlap (range_to a b) (range_to start end)) ≡ false → any_overlap (range_to a b) (ranges_by ends.new.entries) ≡ false }
+{
+    let mut first = start;
+    let mut last = end;
+    'met: while let Some((low, high)) = take_met(ends, first, last) {
+        first = first.min(low);
+        last = last.max(high);
+    }
+    ends.insert(first, last)?;
+    Ok(())
+}
