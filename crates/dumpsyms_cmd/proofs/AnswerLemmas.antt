@@ -17,7 +17,7 @@ use Rattle.sym_grammar.specs.Input.{file_reading, IsReading, SymRead, AsksName}
 use Rattle.sym_grammar.specs.declared.input.SymRefusal.{SymRefusal}
 use Rattle.sym_grammar.specs.declared.input.SymEnd.{SymEnd}
 use Rattle.sym_grammar.specs.declared.input.SymEnd.TheVariants as end
-use Rattle.state_file.specs.State.{state_of}
+use Rattle.state_file.specs.StateText.{state_of}
 use Rattle.state_file.specs.declared.state.State.{State}
 use Rattle.state_file.specs.declared.fault.StateFault.{StateFault}
 use Rattle.dumpsyms_cmd.specs.Words.{Asked, check, frame, if_records, second_of, second_told, files_of}

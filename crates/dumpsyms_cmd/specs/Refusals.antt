@@ -17,7 +17,7 @@ use Rattle.debug_read.specs.declared.fault.DebugFault.{DebugFault}
 use Rattle.debug_read.specs.declared.fault.DebugFault.TheVariants.{Dwarf, Frame}
 use Rattle.sym_rules.specs.FaultWords.{text_word}
 use Rattle.sym_rules.specs.declared.text_fault.TextFault.{TextFault}
-use Rattle.state_file.specs.FaultWords.{state_word}
+use Rattle.state_file.specs.StateWords.{state_word}
 use Rattle.state_file.specs.declared.fault.StateFault.{StateFault}
 use Rattle.sym_records.specs.Canon.{spaced}
 use Rattle.sym_records.specs.Fields.{hex}

@@ -16,3 +16,5 @@ mod WorkedHeaders
 mod WorkedFaults
 mod WorkedIds
 mod WorkedDebug
+pub mod ComputingSymbols
+mod WorkedSymbolFiles

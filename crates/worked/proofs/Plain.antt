@@ -1,4 +1,5 @@
--- The verdict of words and files, computed, where nothing of a unit is dumped: no unit of the file is read, or it is refused.
+-- The verdict of words and files, computed: of a dump where nothing of a unit is dumped (no unit of the file is read, or it is refused), and of
+-- the commands over symbol files.
 use Rattle.std.specs.Prelude.{◌≡◌, ℕ, length, nat_lt, Bool, true, false, List, [], ◌∷◌, ◌++◌, Option, Some, None, Result, Ok, Err}
 use Rattle.std.proofs.Common.{refl, sym, subst}
 use Rattle.std.specs.List.Sorted.{IsStrictlySortedBy}
@@ -15,7 +16,10 @@ use Rattle.func_flatten.specs.Pieces.{owner_place, ArePieces}
 use Rattle.func_records.specs.FuncRecords.{AreFuncRecords}
 use Rattle.sym_records.specs.Canon.{canon_text}
 use Rattle.sym_records.specs.declared.line.SymLine.{SymLine}
-use Rattle.dumpsyms_cmd.specs.Words.{Asked, dump, command_of, module_name}
+use Rattle.dumpsyms_cmd.specs.Words.{Asked, dump, check, frame, command_of, module_name}
+use Rattle.dumpsyms_cmd.specs.SymbolInput.{file_verdict as checked}
+use Rattle.dumpsyms_cmd.specs.commands.Check.{check_answer}
+use Rattle.dumpsyms_cmd.specs.commands.Frame.{frame_verdict}
 use Rattle.dumpsyms_cmd.specs.Refusals.{elf_line, debug_line, too_long_line}
 use Rattle.dumpsyms_cmd.specs.commands.Dump.{identity_lines, public_lines, frame_lines, CanonFile}
 use Rattle.dumpsyms_cmd.specs.Verdict.{Verdict, refused, usage, unread, LIMIT}
@@ -51,6 +55,8 @@ file_verdict elf (Some file) = bytes_verdict (nat_lt LIMIT (length file)) (modul
 abbrev pub command_verdict : Option Asked → Files → Option Verdict
 command_verdict None files = Some usage
 command_verdict (Some (dump elf workers)) files = file_verdict elf (files elf)
+command_verdict (Some (check name)) files = Some (checked check_answer (files name))
+command_verdict (Some (frame name address state)) files = Some (frame_verdict address (files name) (files state))
 
 abbrev pub plain_verdict : List (List ℕ) → Files → Option Verdict
 plain_verdict words files = command_verdict (command_of words) files
@@ -114,6 +120,8 @@ file_is elf (Some file) v is = bytes_is (nat_lt LIMIT (length file)) (module_nam
 command_is : (command : Option Asked) (files : Files) (v : Verdict) → command_verdict command files ≡ Some v → IsVerdict command files v
 command_is None files v is = the_same is
 command_is (Some (dump elf workers)) files v is = file_is elf (files elf) v is
+command_is (Some (check name)) files v is = the_same is
+command_is (Some (frame name address state)) files v is = the_same is
 
 -- a verdict that is computed is that of the words and files
 pub plain_is_verdict : (words : List (List ℕ)) (files : Files) (v : Verdict) → plain_verdict words files ≡ Some v → IsVerdict (command_of words) files v

@@ -67,10 +67,6 @@ unfolding files both named
 hexadecimal_with_its_mark = refl
 
 -- commands that are not built yet are no row
-check : both (codes "check" ∷ codes "a" ∷ []) ≡ usage
-unfolding files both named
-check = refl
-
 lookup : both (codes "lookup" ∷ codes "a" ∷ codes "10" ∷ []) ≡ usage
 unfolding files both named
 lookup = refl

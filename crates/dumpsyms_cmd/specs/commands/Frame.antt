@@ -12,7 +12,7 @@ use Rattle.cfi_eval.specs.declared.outcome.Outcome.{Outcome}
 use Rattle.cfi_eval.specs.declared.outcome.Outcome.TheVariants.{Value, Undefined, Failed}
 use Rattle.cfi_eval.specs.declared.outcome.Frame.{Frame}
 use Rattle.cfi_eval.specs.TextValue.{text_frame}
-use Rattle.state_file.specs.State.{state_of}
+use Rattle.state_file.specs.StateText.{state_of}
 use Rattle.state_file.specs.declared.state.State.{State}
 use Rattle.state_file.specs.declared.fault.StateFault.{StateFault}
 use Rattle.sym_grammar.specs.Input.{file_reading}

@@ -1,0 +1,182 @@
+-- Worked rows: what `check` and `frame` answer, from the bytes of the files.
+use Rattle.std.proofs.Common.{◌≡◌, ℕ, List, [], ◌∷◌, codes, Option, None, Some, if◌then◌else◌, refl}
+use Rattle.std.specs.Str.{bytes_eq}
+use Rattle.worked.proofs.ComputingSymbols.{symbols_compute}
+use Rattle.worked.proofs.Plain.{plain_verdict}
+use Rattle.worked.proofs.Small.{Told, told}
+
+-- words over a symbol file `s` and a state file `t`
+unfoldable over : List (List ℕ) → Option (List ℕ) → Option (List ℕ) → Told
+over words sym state = told (plain_verdict words (λ name. if bytes_eq name (codes "s") then sym else if bytes_eq name (codes "t") then state else None))
+
+-- a checker finds that a FUNC meets an earlier one
+functions_meet : over (codes "check" ∷ codes "s" ∷ []) (Some (codes "MODULE Linux x86_64 0 a\nFUNC 1000 10 0 f\nFUNC 1008 10 0 g\n")) (None) ≡ Some (1, "C5 record 3\n", "")
+unfolding over symbols_compute
+functions_meet = refl
+
+-- and nothing where they are apart
+functions_apart : over (codes "check" ∷ codes "s" ∷ []) (Some (codes "MODULE Linux x86_64 0 a\nFUNC 1000 10 0 f\nFUNC 1010 10 0 g\n")) (None) ≡ Some (0, "no findings\n", "")
+unfolding over symbols_compute
+functions_apart = refl
+
+-- a line that is no record is refused with its number
+an_unknown_word : over (codes "check" ∷ codes "s" ∷ []) (Some (codes "MODULE Linux x86_64 0 a\nfunc 1\n")) (None) ≡ Some (1, "", "refused text unknown line 2\n")
+unfolding over symbols_compute
+an_unknown_word = refl
+
+-- a file without records
+an_empty_file : over (codes "check" ∷ codes "s" ∷ []) (Some (codes "")) (None) ≡ Some (1, "", "refused text empty line 1\n")
+unfolding over symbols_compute
+an_empty_file = refl
+
+-- findings stand by record
+two_findings : over (codes "check" ∷ codes "s" ∷ []) (Some (codes "MODULE Linux x86_64 0 a\nFILE 0 a\nFILE 0 b\nFUNC 10 0 0 f\n")) (None) ≡ Some (1, "C1 record 3\nC4 record 4\n", "")
+unfolding over symbols_compute
+two_findings = refl
+
+-- CRs at the end of a line do not count
+two_crs : over (codes "check" ∷ codes "s" ∷ []) (Some (codes "MODULE Linux x86_64 0 a\nFILE 0 a\r\r\n")) (None) ≡ Some (0, "no findings\n", "")
+unfolding over symbols_compute
+two_crs = refl
+
+-- and then by kind
+two_kinds : over (codes "check" ∷ codes "s" ∷ []) (Some (codes "MODULE Linux x86_64 0 a\nFUNC 10 8 0 f\n10 0 1 9\n")) (None) ≡ Some (1, "C2 record 3\nC4 record 3\n", "")
+unfolding over symbols_compute
+two_kinds = refl
+
+-- INITs that meet, and a change outside of its INIT
+frames_meet : over (codes "check" ∷ codes "s" ∷ []) (Some (codes "MODULE Linux x86_64 0 a\nSTACK CFI INIT 10 8 .cfa: $rsp 8 +\nSTACK CFI INIT 14 8 .cfa: $rsp 8 +\nSTACK CFI 1c .cfa: $rsp 16 +\n")) (None) ≡ Some (1, "C8 record 3\nC9 record 4\n", "")
+unfolding over symbols_compute
+frames_meet = refl
+
+-- each kind of fault, by its word
+a_line_before_a_function : over (codes "check" ∷ codes "s" ∷ []) (Some (codes "MODULE Linux x86_64 0 a\n1000 4 1 0\n")) (None) ≡ Some (1, "", "refused text misplaced line 2\n")
+unfolding over symbols_compute
+a_line_before_a_function = refl
+
+no_module : over (codes "check" ∷ codes "s" ∷ []) (Some (codes "\nFILE 0 a\n")) (None) ≡ Some (1, "", "refused text no-module line 2\n")
+unfolding over symbols_compute
+no_module = refl
+
+a_windows_record : over (codes "check" ∷ codes "s" ∷ []) (Some (codes "MODULE Linux x86_64 0 a\nSTACK WIN 4\n")) (None) ≡ Some (1, "", "refused text windows line 2\n")
+unfolding over symbols_compute
+a_windows_record = refl
+
+a_bad_number : over (codes "check" ∷ codes "s" ∷ []) (Some (codes "MODULE Linux x86_64 0 a\nFUNC  M000 1 0 f\n")) (None) ≡ Some (1, "", "refused text hex line 2\n")
+unfolding over symbols_compute
+a_bad_number = refl
+
+a_rule_without_words : over (codes "check" ∷ codes "s" ∷ []) (Some (codes "MODULE Linux x86_64 0 a\nSTACK CFI INIT 10 4 .cfa: $rsp 8 + .ra:\n")) (None) ≡ Some (1, "", "refused text rule line 2\n")
+unfolding over symbols_compute
+a_rule_without_words = refl
+
+a_number_too_large : over (codes "check" ∷ codes "s" ∷ []) (Some (codes "MODULE Linux x86_64 0 a\nFILE 4294967296 a\n")) (None) ≡ Some (1, "", "refused text decimal line 2\n")
+unfolding over symbols_compute
+a_number_too_large = refl
+
+a_name_missing : over (codes "check" ∷ codes "s" ∷ []) (Some (codes "MODULE Linux x86_64 0 a\nFUNC 10 4 0\n")) (None) ≡ Some (1, "", "refused text fields line 2\n")
+unfolding over symbols_compute
+a_name_missing = refl
+
+-- a file that is not there
+no_file : over (codes "check" ∷ codes "s" ∷ []) (None) (None) ≡ Some (3, "", "cannot read input\n")
+unfolding over symbols_compute
+no_file = refl
+
+-- after a push: the CFA, the return address and rbp by their rules, rsp is the CFA, and the registers that a call keeps have no value here
+a_pushed_register : over (codes "frame" ∷ codes "s" ∷ codes "1001" ∷ codes "t" ∷ []) (Some (codes "MODULE Linux x86_64 0 a\nSTACK CFI INIT 1000 20 .cfa: $rsp 8 + .ra: .cfa -8 + ^\nSTACK CFI 1001 .cfa: $rsp 16 + $rbp: .cfa -16 + ^\nSTACK CFI 1004 .cfa: $rbp 16 +\nSTACK CFI 100e .cfa: $rsp 8 +\n")) (Some (codes "REG rsp 7ffe0010\nMEM 7ffe0010 4000fe7f000000003412400000000000\n")) ≡ Some (0, "cfa 7ffe0020\nra 401234\nrax undefined\nrdx undefined\nrcx undefined\nrbx failed missing rbx\nrsi undefined\nrdi undefined\nrbp 7ffe0040\nrsp 7ffe0020\nr8 undefined\nr9 undefined\nr10 undefined\nr11 undefined\nr12 failed missing r12\nr13 failed missing r13\nr14 failed missing r14\nr15 failed missing r15\n", "")
+unfolding over symbols_compute
+a_pushed_register = refl
+
+-- a word of seven bytes is not there
+a_byte_short : over (codes "frame" ∷ codes "s" ∷ codes "1001" ∷ codes "t" ∷ []) (Some (codes "MODULE Linux x86_64 0 a\nSTACK CFI INIT 1000 20 .cfa: $rsp 8 + .ra: .cfa -8 + ^\nSTACK CFI 1001 .cfa: $rsp 16 + $rbp: .cfa -16 + ^\nSTACK CFI 1004 .cfa: $rbp 16 +\nSTACK CFI 100e .cfa: $rsp 8 +\n")) (Some (codes "REG rsp 7ffe0010\nMEM 7ffe0010 4000fe7f0000000034124000000000\n")) ≡ Some (0, "cfa 7ffe0020\nra failed unreadable 7ffe0018\nrax undefined\nrdx undefined\nrcx undefined\nrbx failed missing rbx\nrsi undefined\nrdi undefined\nrbp 7ffe0040\nrsp 7ffe0020\nr8 undefined\nr9 undefined\nr10 undefined\nr11 undefined\nr12 failed missing r12\nr13 failed missing r13\nr14 failed missing r14\nr15 failed missing r15\n", "")
+unfolding over symbols_compute
+a_byte_short = refl
+
+-- at the address before it the first rules count
+before_the_push : over (codes "frame" ∷ codes "s" ∷ codes "1000" ∷ codes "t" ∷ []) (Some (codes "MODULE Linux x86_64 0 a\nSTACK CFI INIT 1000 20 .cfa: $rsp 8 + .ra: .cfa -8 + ^\nSTACK CFI 1001 .cfa: $rsp 16 + $rbp: .cfa -16 + ^\nSTACK CFI 1004 .cfa: $rbp 16 +\nSTACK CFI 100e .cfa: $rsp 8 +\n")) (Some (codes "REG rsp 10\nREG rbp 5\n")) ≡ Some (0, "cfa 18\nra failed unreadable 10\nrax undefined\nrdx undefined\nrcx undefined\nrbx failed missing rbx\nrsi undefined\nrdi undefined\nrbp 5\nrsp 18\nr8 undefined\nr9 undefined\nr10 undefined\nr11 undefined\nr12 failed missing r12\nr13 failed missing r13\nr14 failed missing r14\nr15 failed missing r15\n", "")
+unfolding over symbols_compute
+before_the_push = refl
+
+-- an empty state
+no_values : over (codes "frame" ∷ codes "s" ∷ codes "1001" ∷ codes "t" ∷ []) (Some (codes "MODULE Linux x86_64 0 a\nSTACK CFI INIT 1000 20 .cfa: $rsp 8 + .ra: .cfa -8 + ^\nSTACK CFI 1001 .cfa: $rsp 16 + $rbp: .cfa -16 + ^\nSTACK CFI 1004 .cfa: $rbp 16 +\nSTACK CFI 100e .cfa: $rsp 8 +\n")) (Some (codes "")) ≡ Some (0, "cfa failed missing rsp\nra failed missing rsp\nrax undefined\nrdx undefined\nrcx undefined\nrbx failed missing rbx\nrsi undefined\nrdi undefined\nrbp failed missing rsp\nrsp failed missing rsp\nr8 undefined\nr9 undefined\nr10 undefined\nr11 undefined\nr12 failed missing r12\nr13 failed missing r13\nr14 failed missing r14\nr15 failed missing r15\n", "")
+unfolding over symbols_compute
+no_values = refl
+
+-- rip has a value, or none
+rip : over (codes "frame" ∷ codes "s" ∷ codes "0" ∷ codes "t" ∷ []) (Some (codes "MODULE Linux x86_64 0 a\nSTACK CFI INIT 0 8 .cfa: $rip 1 + .ra: $rip $rbx: $nothing\n")) (Some (codes "REG rip ff\n")) ≡ Some (0, "cfa 100\nra ff\nrax undefined\nrdx undefined\nrcx undefined\nrbx failed unknown\nrsi undefined\nrdi undefined\nrbp failed missing rbp\nrsp 100\nr8 undefined\nr9 undefined\nr10 undefined\nr11 undefined\nr12 failed missing r12\nr13 failed missing r13\nr14 failed missing r14\nr15 failed missing r15\n", "")
+unfolding over symbols_compute
+rip = refl
+
+no_rip : over (codes "frame" ∷ codes "s" ∷ codes "0" ∷ codes "t" ∷ []) (Some (codes "MODULE Linux x86_64 0 a\nSTACK CFI INIT 0 8 .cfa: 8 .ra: $rip\n")) (Some (codes "")) ≡ Some (0, "cfa 8\nra failed missing rip\nrax undefined\nrdx undefined\nrcx undefined\nrbx failed missing rbx\nrsi undefined\nrdi undefined\nrbp failed missing rbp\nrsp 8\nr8 undefined\nr9 undefined\nr10 undefined\nr11 undefined\nr12 failed missing r12\nr13 failed missing r13\nr14 failed missing r14\nr15 failed missing r15\n", "")
+unfolding over symbols_compute
+no_rip = refl
+
+-- causes by their words
+signs : over (codes "frame" ∷ codes "s" ∷ codes "7" ∷ codes "t" ∷ []) (Some (codes "MODULE Linux x86_64 0 a\nSTACK CFI INIT 0 8 .cfa: 1 .ra: 1 10 @ $rax: 7 0 / $rdx: 1 2 $rcx: 1023 16 @ $rbx: .undef\n")) (Some (codes "")) ≡ Some (0, "cfa 1\nra failed align\nrax failed divide\nrdx failed stack\nrcx 3f0\nrbx undefined\nrsi undefined\nrdi undefined\nrbp failed missing rbp\nrsp 1\nr8 undefined\nr9 undefined\nr10 undefined\nr11 undefined\nr12 failed missing r12\nr13 failed missing r13\nr14 failed missing r14\nr15 failed missing r15\n", "")
+unfolding over symbols_compute
+signs = refl
+
+-- where there is no rule for the CFA
+no_cfa : over (codes "frame" ∷ codes "s" ∷ codes "0" ∷ codes "t" ∷ []) (Some (codes "MODULE Linux x86_64 0 a\nSTACK CFI INIT 0 8 .ra: .cfa\n")) (Some (codes "")) ≡ Some (0, "cfa undefined\nra failed no-cfa\nrax undefined\nrdx undefined\nrcx undefined\nrbx failed missing rbx\nrsi undefined\nrdi undefined\nrbp failed missing rbp\nrsp undefined\nr8 undefined\nr9 undefined\nr10 undefined\nr11 undefined\nr12 failed missing r12\nr13 failed missing r13\nr14 failed missing r14\nr15 failed missing r15\n", "")
+unfolding over symbols_compute
+no_cfa = refl
+
+-- no INIT has the address
+no_rules : over (codes "frame" ∷ codes "s" ∷ codes "1020" ∷ codes "t" ∷ []) (Some (codes "MODULE Linux x86_64 0 a\nSTACK CFI INIT 1000 20 .cfa: $rsp 8 + .ra: .cfa -8 + ^\nSTACK CFI 1001 .cfa: $rsp 16 + $rbp: .cfa -16 + ^\nSTACK CFI 1004 .cfa: $rbp 16 +\nSTACK CFI 100e .cfa: $rsp 8 +\n")) (Some (codes "")) ≡ Some (0, "none\n", "")
+unfolding over symbols_compute
+no_rules = refl
+
+-- the state is judged all the same
+a_bad_state_and_no_rules : over (codes "frame" ∷ codes "s" ∷ codes "1020" ∷ codes "t" ∷ []) (Some (codes "MODULE Linux x86_64 0 a\nSTACK CFI INIT 1000 20 .cfa: $rsp 8 + .ra: .cfa -8 + ^\nSTACK CFI 1001 .cfa: $rsp 16 + $rbp: .cfa -16 + ^\nSTACK CFI 1004 .cfa: $rbp 16 +\nSTACK CFI 100e .cfa: $rsp 8 +\n")) (Some (codes "REG\n")) ≡ Some (1, "", "refused state fields line 1\n")
+unfolding over symbols_compute
+a_bad_state_and_no_rules = refl
+
+-- digits of either case
+an_address_in_capitals : over (codes "frame" ∷ codes "s" ∷ codes "101F" ∷ codes "t" ∷ []) (Some (codes "MODULE Linux x86_64 0 a\nSTACK CFI INIT 1000 20 .cfa: $rsp 8 + .ra: .cfa -8 + ^\nSTACK CFI 1001 .cfa: $rsp 16 + $rbp: .cfa -16 + ^\nSTACK CFI 1004 .cfa: $rbp 16 +\nSTACK CFI 100e .cfa: $rsp 8 +\n")) (Some (codes "")) ≡ Some (0, "cfa failed missing rsp\nra failed missing rsp\nrax undefined\nrdx undefined\nrcx undefined\nrbx failed missing rbx\nrsi undefined\nrdi undefined\nrbp failed missing rsp\nrsp failed missing rsp\nr8 undefined\nr9 undefined\nr10 undefined\nr11 undefined\nr12 failed missing r12\nr13 failed missing r13\nr14 failed missing r14\nr15 failed missing r15\n", "")
+unfolding over symbols_compute
+an_address_in_capitals = refl
+
+-- each kind of fault of a state file
+an_unknown_state_word : over (codes "frame" ∷ codes "s" ∷ codes "1001" ∷ codes "t" ∷ []) (Some (codes "MODULE Linux x86_64 0 a\nSTACK CFI INIT 1000 20 .cfa: $rsp 8 + .ra: .cfa -8 + ^\nSTACK CFI 1001 .cfa: $rsp 16 + $rbp: .cfa -16 + ^\nSTACK CFI 1004 .cfa: $rbp 16 +\nSTACK CFI 100e .cfa: $rsp 8 +\n")) (Some (codes "SET rax 1\n")) ≡ Some (1, "", "refused state keyword line 1\n")
+unfolding over symbols_compute
+an_unknown_state_word = refl
+
+a_value_missing : over (codes "frame" ∷ codes "s" ∷ codes "1001" ∷ codes "t" ∷ []) (Some (codes "MODULE Linux x86_64 0 a\nSTACK CFI INIT 1000 20 .cfa: $rsp 8 + .ra: .cfa -8 + ^\nSTACK CFI 1001 .cfa: $rsp 16 + $rbp: .cfa -16 + ^\nSTACK CFI 1004 .cfa: $rbp 16 +\nSTACK CFI 100e .cfa: $rsp 8 +\n")) (Some (codes "REG rax\n")) ≡ Some (1, "", "refused state fields line 1\n")
+unfolding over symbols_compute
+a_value_missing = refl
+
+an_unknown_register : over (codes "frame" ∷ codes "s" ∷ codes "1001" ∷ codes "t" ∷ []) (Some (codes "MODULE Linux x86_64 0 a\nSTACK CFI INIT 1000 20 .cfa: $rsp 8 + .ra: .cfa -8 + ^\nSTACK CFI 1001 .cfa: $rsp 16 + $rbp: .cfa -16 + ^\nSTACK CFI 1004 .cfa: $rbp 16 +\nSTACK CFI 100e .cfa: $rsp 8 +\n")) (Some (codes "REG foo 1\n")) ≡ Some (1, "", "refused state register line 1\n")
+unfolding over symbols_compute
+an_unknown_register = refl
+
+an_odd_run : over (codes "frame" ∷ codes "s" ∷ codes "1001" ∷ codes "t" ∷ []) (Some (codes "MODULE Linux x86_64 0 a\nSTACK CFI INIT 1000 20 .cfa: $rsp 8 + .ra: .cfa -8 + ^\nSTACK CFI 1001 .cfa: $rsp 16 + $rbp: .cfa -16 + ^\nSTACK CFI 1004 .cfa: $rbp 16 +\nSTACK CFI 100e .cfa: $rsp 8 +\n")) (Some (codes "\nMEM 0 012\n")) ≡ Some (1, "", "refused state hex line 2\n")
+unfolding over symbols_compute
+an_odd_run = refl
+
+a_run_that_wraps : over (codes "frame" ∷ codes "s" ∷ codes "1001" ∷ codes "t" ∷ []) (Some (codes "MODULE Linux x86_64 0 a\nSTACK CFI INIT 1000 20 .cfa: $rsp 8 + .ra: .cfa -8 + ^\nSTACK CFI 1001 .cfa: $rsp 16 + $rbp: .cfa -16 + ^\nSTACK CFI 1004 .cfa: $rbp 16 +\nSTACK CFI 100e .cfa: $rsp 8 +\n")) (Some (codes "MEM ffffffffffffffff 0102\n")) ≡ Some (1, "", "refused state wraps line 1\n")
+unfolding over symbols_compute
+a_run_that_wraps = refl
+
+-- the symbol file is judged first
+a_bad_text_before_a_bad_state : over (codes "frame" ∷ codes "s" ∷ codes "1001" ∷ codes "t" ∷ []) (Some (codes "MODULE Linux x86_64 0 a\nfunc\n")) (Some (codes "REG\n")) ≡ Some (1, "", "refused text unknown line 2\n")
+unfolding over symbols_compute
+a_bad_text_before_a_bad_state = refl
+
+-- a state file that is not there
+no_state_file : over (codes "frame" ∷ codes "s" ∷ codes "1001" ∷ codes "t" ∷ []) (Some (codes "MODULE Linux x86_64 0 a\nSTACK CFI INIT 1000 20 .cfa: $rsp 8 + .ra: .cfa -8 + ^\nSTACK CFI 1001 .cfa: $rsp 16 + $rbp: .cfa -16 + ^\nSTACK CFI 1004 .cfa: $rbp 16 +\nSTACK CFI 100e .cfa: $rsp 8 +\n")) (None) ≡ Some (3, "", "cannot read input\n")
+unfolding over symbols_compute
+no_state_file = refl
+
+-- words that are no address
+an_address_with_a_prefix : over (codes "frame" ∷ codes "s" ∷ codes "0x10" ∷ codes "t" ∷ []) (Some (codes "MODULE Linux x86_64 0 a\nSTACK CFI INIT 1000 20 .cfa: $rsp 8 + .ra: .cfa -8 + ^\nSTACK CFI 1001 .cfa: $rsp 16 + $rbp: .cfa -16 + ^\nSTACK CFI 1004 .cfa: $rbp 16 +\nSTACK CFI 100e .cfa: $rsp 8 +\n")) (Some (codes "")) ≡ Some (2, "", "usage: dumpsyms dump ELF, check SYM, lookup SYM ADDR, frame SYM ADDR STATE, sample N\n")
+unfolding over symbols_compute
+an_address_with_a_prefix = refl
+
+seventeen_digits : over (codes "frame" ∷ codes "s" ∷ codes "00000000000001001" ∷ codes "t" ∷ []) (Some (codes "MODULE Linux x86_64 0 a\nSTACK CFI INIT 1000 20 .cfa: $rsp 8 + .ra: .cfa -8 + ^\nSTACK CFI 1001 .cfa: $rsp 16 + $rbp: .cfa -16 + ^\nSTACK CFI 1004 .cfa: $rbp 16 +\nSTACK CFI 100e .cfa: $rsp 8 +\n")) (Some (codes "")) ≡ Some (2, "", "usage: dumpsyms dump ELF, check SYM, lookup SYM ADDR, frame SYM ADDR STATE, sample N\n")
+unfolding over symbols_compute
+seventeen_digits = refl
+
+no_digits : over (codes "frame" ∷ codes "s" ∷ codes "" ∷ codes "t" ∷ []) (Some (codes "MODULE Linux x86_64 0 a\nSTACK CFI INIT 1000 20 .cfa: $rsp 8 + .ra: .cfa -8 + ^\nSTACK CFI 1001 .cfa: $rsp 16 + $rbp: .cfa -16 + ^\nSTACK CFI 1004 .cfa: $rbp 16 +\nSTACK CFI 100e .cfa: $rsp 8 +\n")) (Some (codes "")) ≡ Some (2, "", "usage: dumpsyms dump ELF, check SYM, lookup SYM ADDR, frame SYM ADDR STATE, sample N\n")
+unfolding over symbols_compute
+no_digits = refl
