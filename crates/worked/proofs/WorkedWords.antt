@@ -71,10 +71,6 @@ lookup : both (codes "lookup" ∷ codes "a" ∷ codes "10" ∷ []) ≡ usage
 unfolding files both named
 lookup = refl
 
-frame : both (codes "frame" ∷ codes "a" ∷ codes "10" ∷ codes "a" ∷ []) ≡ usage
-unfolding files both named
-frame = refl
-
 sample : both (codes "sample" ∷ codes "3" ∷ []) ≡ usage
 unfolding files both named
 sample = refl
