@@ -1,0 +1,10 @@
+pub mod CutLemmas
+pub mod NumberLemmas
+pub mod WordLemmas
+pub mod FieldLemmas
+pub mod RunLemmas
+pub mod ShortWordLemmas
+pub mod ShortLemmas
+pub mod ProgressLemmas
+pub mod PieceLemmas
+pub mod ReaderLemmas

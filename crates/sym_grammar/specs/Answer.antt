@@ -1,0 +1,72 @@
+-- What a reader of a symbol file will answer, by what it was fed and by what may still come (Breakpad's symbol_files.md).
+use Rattle.std.specs.Prelude.{◌≡◌, ⊤, ℕ, ◌^◌, ◌≤◌, List, [], ◌∷◌, ◌++◌, length, Option, Some, None, Result, Ok, Err}
+use Rattle.sym_edges.specs.Results.{◌>>=◌}
+use Rattle.sym_edges.specs.declared.fault.Stop.{Stop}
+use Rattle.sym_edges.specs.declared.fault.Stop.TheVariants.{Fault, NoMemory}
+use Rattle.sym_rules.specs.Cuts.{split_lines}
+use Rattle.sym_records.specs.Reading.{Seen, with_lines, some_records}
+use Rattle.sym_records.specs.declared.line.SymLine.{SymLine}
+use Rattle.sym_rules.specs.declared.text_fault.TextFault.{TextFault}
+
+-- what was read: what whole lines gave, and the front of a line that has not ended
+pub record Part : Type 0 where
+  pub seen : Seen
+  pub held : List ℕ
+
+-- the reading of the text that goes on with `more` and ends
+unfoldable pub outcome : ℕ → Part → List ℕ → Result (List SymLine) TextFault
+outcome limit part more = with_lines limit part.seen (split_lines (part.held ++ more)) >>= λ after. some_records after.records
+
+-- a reader: what it read, and what stopped it
+pub record Reads : Type 0 where
+  pub part : Part
+  pub stop : Option (Stop TextFault)
+
+-- a reading as a reader answers it
+abbrev pub lifted : Result (List SymLine) TextFault → Result (List SymLine) (Stop TextFault)
+lifted (Ok lines) = Ok lines
+lifted (Err fault) = Err (Fault fault)
+
+-- a reading, unless something stopped it
+abbrev pub unless_stopped : Option (Stop TextFault) → Result (List SymLine) TextFault → Result (List SymLine) (Stop TextFault)
+unless_stopped None read = lifted read
+unless_stopped (Some stop) read = Err stop
+
+-- what a reader will answer if the text goes on with `more` and ends
+unfoldable pub answer : Reads → List ℕ → Result (List SymLine) (Stop TextFault)
+answer reads more = unless_stopped reads.stop (outcome (2 ^ 20) reads.part more)
+
+-- a piece was fed: the reader answers for what follows as it would have for the piece and what follows; a fault is the answer whatever follows
+abbrev pub Feeds : {A : Type 0} → Result A (Stop TextFault) → Reads → List ℕ → Reads → Type 0
+Feeds (Ok x) old piece new = (more : List ℕ) → answer new more ≡ answer old (piece ++ more)
+Feeds (Err (Fault fault)) old piece new = (more : List ℕ) → answer old (piece ++ more) ≡ Err (Fault fault)
+Feeds (Err NoMemory) old piece new = ⊤
+
+-- all but the last of several lines, and the last
+unfoldable pub but_last : {A : Type 0} → List A → List A
+but_last [] = []
+but_last (x ∷ []) = []
+but_last (x ∷ y ∷ ys) = x ∷ but_last (y ∷ ys)
+
+unfoldable pub last_line : List (List ℕ) → List ℕ
+last_line [] = []
+last_line (x ∷ []) = x
+last_line (x ∷ y ∷ ys) = last_line (y ∷ ys)
+
+-- the lines of bytes that have ended, and what stands behind the last LF
+unfoldable pub whole_lines : List ℕ → List (List ℕ)
+whole_lines bytes = but_last (split_lines bytes)
+
+unfoldable pub open_line : List ℕ → List ℕ
+open_line bytes = last_line (split_lines bytes)
+
+-- all that can be known of a piece is known: each line that has ended was read, and the front of the next is no longer than a line may be
+pub record IsUpToDate (limit : ℕ) (old : Part) (piece : List ℕ) (new : Part) : Type 0 where
+  pub lines : with_lines limit old.seen (whole_lines (old.held ++ piece)) ≡ Ok new.seen
+  pub held : new.held ≡ open_line (old.held ++ piece)
+  pub short : length new.held ≤ limit
+
+-- what stopped a call is kept
+abbrev pub stop_of : {A : Type 0} → Result A (Stop TextFault) → Option (Stop TextFault)
+stop_of (Ok x) = None
+stop_of (Err stop) = Some stop

@@ -1,0 +1,34 @@
+-- What the functions under a reader keep.
+use Rattle.std.specs.Prelude.{◌≡◌, ℕ, ◌≤◌, ◌^◌, true, List, ◌++◌, length, None, Result, Ok, Err}
+use Rattle.std.specs.List.{list_all}
+use Rattle.sym_rules.specs.Cuts.{is_within_line}
+use Rattle.sym_records.specs.Validity.{first_bad_from, place_behind}
+use Rattle.sym_records.specs.Reading.{Seen, with_lines}
+use Rattle.sym_records.specs.declared.line.SymLine.{SymLine}
+use Rattle.sym_records.specs.declared.place.Place.{Place}
+use Rattle.sym_records.specs.declared.place.Place.TheVariants.{Start}
+use Rattle.sym_rules.specs.declared.text_fault.TextFault.{TextFault}
+use Rattle.sym_grammar.specs.Answer.{Part, outcome, whole_lines, open_line}
+
+-- the front of a line, no longer than a line may be
+pub record IsFront (limit : ℕ) (held : List ℕ) : Type 0 where
+  pub one_line : list_all is_within_line held ≡ true
+  pub short : length held ≤ limit
+
+-- records that are valid, and the place after them
+pub record AreGood (lines : List SymLine) (place : Place) : Type 0 where
+  pub valid : first_bad_from 0 Start lines ≡ None
+  pub after : place ≡ place_behind Start lines
+
+abbrev pub part_of : Seen → List ℕ → Part
+part_of seen held = record { seen = seen; held = held }
+
+-- bytes were taken, and what is left of them
+pub record GoesOn (limit : ℕ) (old : Part) (bytes : List ℕ) (new : Part) (rest : List ℕ) : Type 0 where
+  pub same : (more : List ℕ) → outcome limit new (rest ++ more) ≡ outcome limit old (bytes ++ more)
+  pub lines : with_lines limit new.seen (whole_lines (new.held ++ rest)) ≡ with_lines limit old.seen (whole_lines (old.held ++ bytes))
+  pub held : open_line (new.held ++ rest) ≡ open_line (old.held ++ bytes)
+
+-- a fault, whatever follows
+pub record Faults (limit : ℕ) (old : Part) (bytes : List ℕ) (fault : TextFault) : Type 0 where
+  pub always : (more : List ℕ) → outcome limit old (bytes ++ more) ≡ Err fault

@@ -1,0 +1,64 @@
+-- Digits and words taken one after another, as the loops take them.
+use Rattle.std.specs.Prelude.{ℕ, ◌+◌, ◌*◌, Bool, nat_le, nat_lt, ◌&&◌, if◌then◌else◌, List, [], ◌∷◌, ◌++◌, length, Option, Some, None, Result, Ok, Err}
+use Rattle.std.specs.List.{position_from}
+use Rattle.std.specs.Char.{digit_value}
+use Rattle.std.specs.Str.{bytes_eq}
+use Rattle.sym_edges.specs.Abi.{register_names}
+use Rattle.sym_records.specs.FieldReading.{hex_at}
+use Rattle.sym_records.specs.declared.line.Extent.{Extent}
+use Rattle.sym_edges.specs.Results.{◌>>=◌}
+use Rattle.sym_rules.specs.RuleReading.{is_digit, ends_in_colon, target_at, token_at, some_of}
+use Rattle.sym_rules.specs.declared.rules.Token.{Token}
+use Rattle.sym_rules.specs.declared.rules.RuleText.{RuleText}
+use Rattle.sym_rules.specs.declared.text_fault.TextKind.{TextKind}
+use Rattle.sym_rules.specs.declared.text_fault.TextKind.TheVariants.{Rule}
+
+-- the value of a decimal digit
+abbrev pub ten_digit : ℕ → Option ℕ
+ten_digit d = if is_digit d then Some (digit_value d) else None
+
+-- a number followed by further decimal digits, where it is at most `limit`
+unfoldable pub upto : ℕ → ℕ → List ℕ → Option ℕ
+upto limit n [] = if nat_le n limit then Some n else None
+upto limit n (d ∷ ds) = if is_digit d then upto limit (n * 10 + digit_value d) ds else None
+
+-- one to 20 decimal digits, of a number that is at most `limit`
+unfoldable pub digits_upto : ℕ → List ℕ → Option ℕ
+digits_upto limit ds = if nat_lt 0 (length ds) && nat_le (length ds) 20 then upto limit 0 ds else None
+
+-- members in front of what was read
+abbrev pub behind : {A : Type 0} → List A → Result (List A) TextKind → Result (List A) TextKind
+behind xs read = read >>= λ ys. Ok (xs ++ ys)
+
+-- a token in front of a run of tokens
+abbrev pub grown : Token → Result (List Token × List (List ℕ)) TextKind → Result (List Token × List (List ℕ)) TextKind
+grown t run = run >>= λ x. Ok (t ∷ x.0, x.1)
+
+-- the tokens up to the next word that ends with `:`, and the words from there on
+unfoldable pub token_run : List (List ℕ) → Result (List Token × List (List ℕ)) TextKind
+token_run [] = Ok ([], [])
+token_run (w ∷ ws) = if ends_in_colon w then Ok ([], w ∷ ws) else token_at w >>= λ t. grown t (token_run ws)
+
+-- the first rule of words, and the words behind it
+unfoldable pub rule_run : List (List ℕ) → Result (RuleText × List (List ℕ)) TextKind
+rule_run [] = Err Rule
+rule_run (w ∷ ws) = do
+  target ← target_at w
+  run ← token_run ws
+  tokens ← some_of run.0
+  Ok (record { target = target; tokens = tokens }, run.1)
+
+-- tokens in front of a run of tokens
+abbrev pub put_before : List Token → Result (List Token × List (List ℕ)) TextKind → Result (List Token × List (List ℕ)) TextKind
+put_before ts run = run >>= λ x. Ok (ts ++ x.0, x.1)
+
+-- the number of a register by its name
+abbrev pub register_in : List ℕ → Option ℕ
+register_in name = position_from (bytes_eq name) 0 register_names
+
+-- the next range, and what stands behind it
+unfoldable pub range_run : List ℕ → Result (Extent × List ℕ) TextKind
+range_run bytes = do
+  address ← hex_at bytes
+  size ← hex_at address.1
+  Ok (record { address = address.0; size = size.0 }, size.1)

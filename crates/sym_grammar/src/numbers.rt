@@ -1,0 +1,127 @@
+//! Numbers by their digits.
+ghost use Rattle.std.specs.Prelude.{◌≡◌, ◌^◌, ◌<◌, ◌≤◌, pos, neg_ℤ, IfSome};
+ghost use Rattle.sym_rules.specs.RuleReading.{integer_of};
+ghost use Rattle.sym_records.specs.FieldReading.{hex_digit, hex_value, decimal_value};
+ghost use Rattle.sym_grammar.specs.internal.Runs.{ten_digit, digits_upto};
+
+/// The value of a hexadecimal digit, in either case.
+#[inline]
+#[tactic(auto, unfolding(sym_records::specs::FieldReading::hex_digit))]
+fn hex_digit(b: u8) -> Option<u8>
+    ensures digit { result ≡ hex_digit b }
+    ensures small { IfSome result (λ v. v < 16) }
+{
+    match b {
+        b'0'..=b'9' => Some(b - b'0'),
+        b'a'..=b'f' => Some(b - b'a' + 10),
+        b'A'..=b'F' => Some(b - b'A' + 10),
+        _ => None,
+    }
+}
+
+/// The number that at most 16 hexadecimal digits write.
+#[inline]
+#[tactic(auto, using(crate::proofs::NumberLemmas::hex_more, crate::proofs::NumberLemmas::hex_bad, crate::proofs::NumberLemmas::hex_end, crate::proofs::NumberLemmas::hex_long))]
+pub(crate) fn hex_value(word: &[u8]) -> Option<u64>
+    ensures { result ≡ hex_value word.now }
+{
+    if word.len() > 16 {
+        return None;
+    }
+    let mut n: u64 = 0;
+    for (at, b) in word.iter().enumerate() {
+        match hex_digit(*b) {
+            Some(v) => n = n * 16 + u64::from(v),
+            None => return None,
+        }
+    }
+    Some(n)
+}
+
+/// The value of a decimal digit.
+#[inline]
+fn ten_digit(b: u8) -> Option<u8>
+    ensures digit { result ≡ ten_digit b }
+    ensures small { IfSome result (λ v. v < 10) }
+{
+    match b {
+        b'0'..=b'9' => Some(b - b'0'),
+        _ => None,
+    }
+}
+
+/// The number that one to 20 decimal digits write, where it is at most `limit`.
+#[inline]
+#[tactic(auto, using(crate::proofs::NumberLemmas::upto_none, crate::proofs::NumberLemmas::upto_long, crate::proofs::NumberLemmas::upto_more, crate::proofs::NumberLemmas::upto_bad, crate::proofs::NumberLemmas::upto_passed, crate::proofs::NumberLemmas::upto_great, crate::proofs::NumberLemmas::upto_end))]
+fn digits_upto(word: &[u8], limit: u64) -> Option<u64>
+    requires { limit ≤ 2 ^ 63 }
+    ensures digits { result ≡ digits_upto limit word.now }
+    ensures small { IfSome result (λ n. n ≤ limit) }
+{
+    if word.is_empty() {
+        return None;
+    }
+    if word.len() > 20 {
+        return None;
+    }
+    let most = limit / 10;
+    let mut n: u64 = 0;
+    for (at, b) in word.iter().enumerate() {
+        if n > most {
+            return None;
+        }
+        match ten_digit(*b) {
+            Some(v) => n = n * 10 + u64::from(v),
+            None => return None,
+        }
+    }
+    if n > limit {
+        return None;
+    }
+    Some(n)
+}
+
+/// The number below 2^32 that one to 20 decimal digits write.
+#[inline]
+#[tactic(auto, using(crate::proofs::NumberLemmas::decimal_is))]
+pub(crate) fn decimal_value(word: &[u8]) -> Option<u32>
+    ensures { result ≡ decimal_value word.now }
+{
+    match digits_upto(word, 0xffff_ffff) {
+        Some(n) => Some(n as u32),
+        None => None,
+    }
+}
+
+/// The integer from -2^63 to 2^63 - 1 that digits write, perhaps with `-` in front.
+#[tactic(auto, using(crate::proofs::NumberLemmas::integer_none, crate::proofs::NumberLemmas::negative_some, crate::proofs::NumberLemmas::negative_none, crate::proofs::NumberLemmas::positive_some, crate::proofs::NumberLemmas::positive_none))]
+pub(crate) fn integer_of(word: &[u8]) -> Option<i64>
+    ensures { result ≡ integer_of word.now }
+{
+    if word.is_empty() {
+        return None;
+    }
+    if word[0] == b'-' {
+        return match digits_upto(word.split_at(1).1, 0x8000_0000_0000_0000) {
+            Some(n) => Some(negative(n)),
+            None => None,
+        };
+    }
+    match digits_upto(word, 0x7fff_ffff_ffff_ffff) {
+        Some(n) => Some(n as i64),
+        None => None,
+    }
+}
+
+/// The number below zero.
+#[inline]
+fn negative(n: u64) -> i64
+    requires { n ≤ 2 ^ 63 }
+    ensures { result ≡ neg_ℤ (pos n) }
+{
+    if n == 0x8000_0000_0000_0000 {
+        i64::MIN
+    } else {
+        -(n as i64)
+    }
+}

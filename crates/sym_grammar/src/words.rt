@@ -1,0 +1,204 @@
+//! The words of frame rules: targets and tokens.
+ghost use Rattle.std.specs.Prelude.{◌≡◌, Ok, IfOk};
+ghost use Rattle.sym_rules.specs.RuleReading.{begins_symbol, is_symbol, ends_in_colon, named_target, target_at, sign_of, named_token, token_at};
+ghost use Rattle.sym_grammar.specs.internal.Given.{Gives};
+ghost use Rattle.sym_grammar.specs.internal.Runs.{register_in};
+
+use crate::numbers::integer_of;
+use std::alloc::Global;
+use sym_edges::{OutOfMemory, Stop};
+use sym_rules::{ByteText, RuleName, Target, TextKind, Token};
+
+/// Whether the word ends with `:`.
+#[inline]
+#[tactic(auto, using(sym_rules::proofs::LastLemmas::last_some, sym_rules::proofs::LastLemmas::last_missing))]
+pub(crate) fn ends_in_colon(word: &[u8]) -> bool
+    ensures { result ≡ ends_in_colon word.now }
+{
+    match word.last() {
+        Some(b) => *b == b':',
+        None => false,
+    }
+}
+
+/// Whether a name of a rule may begin with the byte.
+#[inline]
+fn begins_symbol(b: u8) -> bool
+    ensures { result ≡ begins_symbol b }
+{
+    b == b'$' || b == b'.' || (b'A' <= b && b <= b'Z') || (b'a' <= b && b <= b'z')
+}
+
+/// Whether the word begins as a name of a rule does, and does not end with `:`.
+#[inline]
+#[tactic(auto, using(sym_rules::proofs::LastLemmas::symbol_ends, sym_rules::proofs::LastLemmas::symbol_other, sym_rules::proofs::LastLemmas::symbol_nothing))]
+fn is_symbol(word: &[u8]) -> bool
+    ensures { result ≡ is_symbol word.now }
+{
+    match word.first() {
+        Some(b) => begins_symbol(*b) && !ends_in_colon(word),
+        None => false,
+    }
+}
+
+/// A name that has no variant of its own.
+fn other_name(alloc: Global, name: &[u8]) -> Result<RuleName, OutOfMemory>
+    ensures { IfOk result (λ n. n ≡ name.now) }
+{
+    let text = ByteText::of(Vec::from_slice(alloc, name)?);
+    RuleName::of(alloc, text)
+}
+
+/// The DWARF number of a register.
+#[inline]
+#[tactic(auto, unfolding(sym_edges::specs::Abi::register_names))]
+fn register_of(name: &[u8]) -> Option<u8>
+    ensures { result ≡ register_in name.now }
+{
+    if name == b"$rax".as_slice() {
+        return Some(0);
+    }
+    if name == b"$rdx".as_slice() {
+        return Some(1);
+    }
+    if name == b"$rcx".as_slice() {
+        return Some(2);
+    }
+    if name == b"$rbx".as_slice() {
+        return Some(3);
+    }
+    if name == b"$rsi".as_slice() {
+        return Some(4);
+    }
+    if name == b"$rdi".as_slice() {
+        return Some(5);
+    }
+    if name == b"$rbp".as_slice() {
+        return Some(6);
+    }
+    if name == b"$rsp".as_slice() {
+        return Some(7);
+    }
+    if name == b"$r8".as_slice() {
+        return Some(8);
+    }
+    if name == b"$r9".as_slice() {
+        return Some(9);
+    }
+    if name == b"$r10".as_slice() {
+        return Some(10);
+    }
+    if name == b"$r11".as_slice() {
+        return Some(11);
+    }
+    if name == b"$r12".as_slice() {
+        return Some(12);
+    }
+    if name == b"$r13".as_slice() {
+        return Some(13);
+    }
+    if name == b"$r14".as_slice() {
+        return Some(14);
+    }
+    if name == b"$r15".as_slice() {
+        return Some(15);
+    }
+    None
+}
+
+/// The target of a name.
+#[tactic(auto, using(crate::proofs::WordLemmas::register_some, crate::proofs::WordLemmas::register_none), unfolding(sym_rules::specs::RuleReading::named_target))]
+fn named_target(alloc: Global, name: &[u8]) -> Result<Target, Stop<TextKind>>
+    ensures { Gives result (λ t. t) (Ok (named_target name.now)) }
+{
+    if name == b".cfa".as_slice() {
+        return Ok(Target::Cfa);
+    }
+    if name == b".ra".as_slice() {
+        return Ok(Target::Ra);
+    }
+    match register_of(name) {
+        Some(number) => Ok(Target::Reg(number)),
+        None => Ok(Target::Other(other_name(alloc, name)?)),
+    }
+}
+
+/// The target of a word that ends with `:`.
+#[tactic(auto, unfolding(sym_rules::specs::RuleReading::target_at))]
+pub(crate) fn target_at(alloc: Global, word: &[u8]) -> Result<Target, Stop<TextKind>>
+    ensures { Gives result (λ t. t) (target_at word.now) }
+{
+    if !ends_in_colon(word) {
+        return Err(Stop::Fault(TextKind::Rule));
+    }
+    let name = word.split_at(word.len().saturating_sub(1)).0;
+    if !is_symbol(name) {
+        return Err(Stop::Fault(TextKind::Rule));
+    }
+    named_target(alloc, name)
+}
+
+/// The sign of an operation.
+#[inline]
+#[tactic(auto, unfolding(sym_rules::specs::RuleReading::sign_of))]
+fn sign_of(word: &[u8]) -> Option<Token>
+    ensures { result ≡ sign_of word.now }
+{
+    if word == b"+".as_slice() {
+        return Some(Token::Add);
+    }
+    if word == b"-".as_slice() {
+        return Some(Token::Sub);
+    }
+    if word == b"*".as_slice() {
+        return Some(Token::Mul);
+    }
+    if word == b"/".as_slice() {
+        return Some(Token::Div);
+    }
+    if word == b"%".as_slice() {
+        return Some(Token::Rem);
+    }
+    if word == b"@".as_slice() {
+        return Some(Token::Align);
+    }
+    if word == b"^".as_slice() {
+        return Some(Token::Fetch);
+    }
+    None
+}
+
+/// The token of a name.
+#[tactic(auto, using(crate::proofs::WordLemmas::register_some, crate::proofs::WordLemmas::register_none), unfolding(sym_rules::specs::RuleReading::named_token))]
+fn named_token(alloc: Global, name: &[u8]) -> Result<Token, Stop<TextKind>>
+    ensures { Gives result (λ t. t) (Ok (named_token name.now)) }
+{
+    if name == b".cfa".as_slice() {
+        return Ok(Token::Cfa);
+    }
+    if name == b".undef".as_slice() {
+        return Ok(Token::Undef);
+    }
+    match register_of(name) {
+        Some(number) => Ok(Token::Reg(number)),
+        None => Ok(Token::Other(other_name(alloc, name)?)),
+    }
+}
+
+/// The token of a word: a name, an integer or a sign.
+#[tactic(auto, unfolding(sym_rules::specs::RuleReading::token_at))]
+pub(crate) fn token_at(alloc: Global, word: &[u8]) -> Result<Token, Stop<TextKind>>
+    ensures { Gives result (λ t. t) (token_at word.now) }
+{
+    if is_symbol(word) {
+        return named_token(alloc, word);
+    }
+    match integer_of(word) {
+        Some(n) => return Ok(Token::Number(n)),
+        None => {}
+    }
+    match sign_of(word) {
+        Some(sign) => Ok(sign),
+        None => Err(Stop::Fault(TextKind::Rule)),
+    }
+}
