@@ -8,3 +8,5 @@ pub mod ShortLemmas
 pub mod ProgressLemmas
 pub mod PieceLemmas
 pub mod ReaderLemmas
+pub mod DecidedLemmas
+pub mod InputLemmas

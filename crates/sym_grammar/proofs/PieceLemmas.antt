@@ -17,16 +17,17 @@ use Rattle.sym_rules.specs.declared.text_fault.TextFault.{TextFault}
 use Rattle.sym_rules.specs.declared.text_fault.TextKind.{TextKind}
 use Rattle.sym_rules.specs.declared.text_fault.TextKind.TheVariants.{LongLine, NoModule}
 use Rattle.sym_grammar.specs.Answer.{Part, outcome, but_last, last_line, whole_lines, open_line, IsUpToDate}
+use Rattle.sym_grammar.specs.Input.{with_front, decided}
 use Rattle.sym_grammar.specs.internal.Given.{Leaves}
 use Rattle.sym_grammar.specs.internal.Parts.{IsFront, part_of, GoesOn, Faults}
 
 -- Lines.
 
-split_byte : (b : ℕ) (bytes : List ℕ) → split_lines (b ∷ bytes) ≡ cond (b == 10) ([] ∷ split_lines bytes) (onto b (split_lines bytes))
+pub split_byte : (b : ℕ) (bytes : List ℕ) → split_lines (b ∷ bytes) ≡ cond (b == 10) ([] ∷ split_lines bytes) (onto b (split_lines bytes))
 unfolding split_lines
 split_byte b bytes = refl
 
-split_none : split_lines [] ≡ [] ∷ []
+pub split_none : split_lines [] ≡ [] ∷ []
 unfolding split_lines
 split_none = refl
 
@@ -54,7 +55,7 @@ split_end (x ∷ xs) ys all =
     ∙ ap (onto x) (split_end xs ys (and_true all).1)
 
 -- and go on with the first line of what follows
-split_open : (xs ys : List ℕ) (first : List ℕ) (later : List (List ℕ)) → list_all is_within_line xs ≡ true → split_lines ys ≡ first ∷ later → split_lines (xs ++ ys) ≡ (xs ++ first) ∷ later
+pub split_open : (xs ys : List ℕ) (first : List ℕ) (later : List (List ℕ)) → list_all is_within_line xs ≡ true → split_lines ys ≡ first ∷ later → split_lines (xs ++ ys) ≡ (xs ++ first) ∷ later
 split_open [] ys first later all is = is
 split_open (x ∷ xs) ys first later all is =
     split_byte x (xs ++ ys)
@@ -105,11 +106,11 @@ last_more : (x : List ℕ) (xs : List (List ℕ)) (first : List ℕ) (later : Li
 unfolding last_line
 last_more x xs first later is = ap (λ l. last_line (x ∷ l)) is ∙ ap last_line (sym is)
 
-whole_is : (bytes : List ℕ) → whole_lines bytes ≡ but_last (split_lines bytes)
+pub whole_is : (bytes : List ℕ) → whole_lines bytes ≡ but_last (split_lines bytes)
 unfolding whole_lines
 whole_is bytes = refl
 
-open_is : (bytes : List ℕ) → open_line bytes ≡ last_line (split_lines bytes)
+pub open_is : (bytes : List ℕ) → open_line bytes ≡ last_line (split_lines bytes)
 unfolding open_line
 open_is bytes = refl
 
@@ -126,6 +127,10 @@ open_behind xs ys all =
 front_line : (limit : ℕ) (held line : List ℕ) → IsFront limit held → list_all is_within_line line ≡ true → list_all is_within_line (held ++ line) ≡ true
 front_line limit held line front all = list_all-append is_within_line held line ∙ both front.one_line all
 
+pub decided_is : (limit : ℕ) (part : Part) (bytes : List ℕ) → decided limit part bytes ≡ with_front limit (with_lines limit part.seen (whole_lines (part.held ++ bytes))) (open_line (part.held ++ bytes))
+unfolding decided
+decided_is limit part bytes = refl
+
 line_goes_on : (limit : ℕ) (seen new : Seen) (held line later : List ℕ) → list_all is_within_line (held ++ line) ≡ true → read_line limit seen (held ++ line) ≡ Ok new → GoesOn limit (part_of seen held) (line ++ 10 ∷ later) (part_of new []) later
 line_goes_on limit seen new held line later all read = record {
   same = λ more. (outcome_is limit (part_of new []) (later ++ more)
@@ -138,6 +143,11 @@ line_goes_on limit seen new held line later all read = record {
 line_faults : (limit : ℕ) (seen : Seen) (held line later : List ℕ) (fault : TextFault) → list_all is_within_line (held ++ line) ≡ true → read_line limit seen (held ++ line) ≡ Err fault → Faults limit (part_of seen held) (line ++ 10 ∷ later) fault
 line_faults limit seen held line later fault all read = record {
   always = λ more. (outcome_line limit seen held line later more all ∙ ap (λ r. finished (r >>= λ after. with_lines limit after (split_lines (later ++ more)))) read);
+  decides = decided_is limit (part_of seen held) (line ++ 10 ∷ later)
+      ∙ ap (λ l. with_front limit (with_lines limit seen (whole_lines l)) (open_line l)) (front_joined held line later)
+      ∙ ap (λ ws. with_front limit (with_lines limit seen ws) (open_line ((held ++ line) ++ 10 ∷ later))) (whole_line (held ++ line) later all)
+      ∙ ap (λ r. with_front limit r (open_line ((held ++ line) ++ 10 ∷ later))) (with_cons limit seen (held ++ line) (whole_lines later))
+      ∙ ap (λ r. with_front limit (r >>= λ after. with_lines limit after (whole_lines later)) (open_line ((held ++ line) ++ 10 ∷ later))) read;
 }
 
 -- One step after another.
@@ -150,7 +160,11 @@ both_on limit a b c bytes mid rest first second = record {
 }
 
 then_faults : (limit : ℕ) (a b : Part) (bytes mid : List ℕ) (fault : TextFault) → GoesOn limit a bytes b mid → Faults limit b mid fault → Faults limit a bytes fault
-then_faults limit a b bytes mid fault first second = record { always = λ more. (sym (first.same more) ∙ second.always more) }
+then_faults limit a b bytes mid fault first second = record {
+  always = λ more. (sym (first.same more) ∙ second.always more);
+  decides = decided_is limit a bytes ∙ ap (λ r. with_front limit r (open_line (a.held ++ bytes))) (sym first.lines)
+      ∙ ap (with_front limit (with_lines limit b.seen (whole_lines (b.held ++ mid)))) (sym first.held) ∙ sym (decided_is limit b mid) ∙ second.decides;
+}
 
 then_up : (limit : ℕ) (a b c : Part) (bytes mid : List ℕ) → GoesOn limit a bytes b mid → IsUpToDate limit b mid c → IsUpToDate limit a bytes c
 then_up limit a b c bytes mid first second = record {
@@ -189,7 +203,7 @@ line_stopped B limit a seen new piece held rest line later NoMemory P on front a
 
 -- The front of a line.
 
-with_long : (limit : ℕ) (seen : Seen) (line : List ℕ) → limit < length line → with_text limit seen line ≡ Err LongLine
+pub with_long : (limit : ℕ) (seen : Seen) (line : List ℕ) → limit < length line → with_text limit seen line ≡ Err LongLine
 unfolding with_text
 with_long limit seen line long =
     ap (λ t. cond t (Err LongLine) (cond (lacks_module seen.place line) (Err NoModule) (line_read line >>= with_record seen))) (lt-ltb limit (length line) long)
@@ -201,6 +215,14 @@ pub line_long : (limit : ℕ) (seen : Seen) (held line : List ℕ) → IsFront l
 line_long limit seen held line front long =
     ap (numbered (next_number seen.number)) (with_long limit seen (held ++ line) (omega (arith, front.short, length-append held line)))
 
+whole_none : (xs : List ℕ) → list_all is_within_line xs ≡ true → whole_lines xs ≡ []
+unfolding but_last
+whole_none xs all = whole_is xs ∙ ap but_last (split_one xs all)
+
+open_all : (xs : List ℕ) → list_all is_within_line xs ≡ true → open_line xs ≡ xs
+unfolding last_line
+open_all xs all = open_is xs ∙ ap last_line (split_one xs all)
+
 pub held_long : (limit : ℕ) (seen : Seen) (held front : List ℕ) → IsFront limit held → list_all is_within_line front ≡ true → limit - length held < length front → Faults limit (part_of seen held) front (record { kind = LongLine; line = next_number seen.number })
 held_long limit seen held front is all long = record {
   always = λ more. (let rest = lines_of more in
@@ -210,6 +232,13 @@ held_long limit seen held front is all long = record {
       ∙ ap (λ ls. finished (with_lines limit seen ls)) line
       ∙ ap finished (with_cons limit seen ((held ++ front) ++ rest.first) rest.later)
       ∙ ap (λ r. finished (numbered (next_number seen.number) r >>= λ after. with_lines limit after rest.later)) (with_long limit seen ((held ++ front) ++ rest.first) (omega (arith, is.short, length-append held front, length-append (held ++ front) rest.first))));
+  decides =
+      let whole = front_line limit held front is all in
+      decided_is limit (part_of seen held) front
+      ∙ ap (λ ws. with_front limit (with_lines limit seen ws) (open_line (held ++ front))) (whole_none (held ++ front) whole)
+      ∙ ap (λ r. with_front limit r (open_line (held ++ front))) (with_none limit seen)
+      ∙ ap (with_front limit (Ok seen)) (open_all (held ++ front) whole)
+      ∙ ap (λ t. cond t (Err (long_fault seen)) (Ok (part_of seen (held ++ front)))) (lt-ltb limit (length (held ++ front)) (omega (arith, is.short, long, length-append held front)));
 }
 
 pub joined_front : (limit : ℕ) (held front new : List ℕ) → IsFront limit held → list_all is_within_line front ≡ true → length front ≤ limit - length held → new ≡ held ++ front → IsFront limit new
@@ -217,14 +246,6 @@ joined_front limit held front new is all short same = record {
   one_line = ap (list_all is_within_line) same ∙ front_line limit held front is all;
   short = omega (arith, is.short, ap length same, length-append held front);
 }
-
-whole_none : (xs : List ℕ) → list_all is_within_line xs ≡ true → whole_lines xs ≡ []
-unfolding but_last
-whole_none xs all = whole_is xs ∙ ap but_last (split_one xs all)
-
-open_all : (xs : List ℕ) → list_all is_within_line xs ≡ true → open_line xs ≡ xs
-unfolding last_line
-open_all xs all = open_is xs ∙ ap last_line (split_one xs all)
 
 pub held_up : (limit : ℕ) (seen : Seen) (held front new : List ℕ) → IsFront limit held → list_all is_within_line front ≡ true → length front ≤ limit - length held → new ≡ held ++ front → IsUpToDate limit (part_of seen held) front (part_of seen new)
 held_up limit seen held front new is all short same =

@@ -2,3 +2,4 @@
 pub mod Given
 pub mod Runs
 pub mod Parts
+pub mod Fed

@@ -4,7 +4,7 @@
 //! ended. Its contract speaks of what follows: what a reader will answer if the text goes on with some bytes and ends is the
 //! reading of all bytes, wherever they were cut. A fault comes as soon as the byte that decides it was fed, with the number
 //! of its line, and stays; so does want of memory. The reader holds the records and at most one line of 2^20 bytes: a line
-//! that lies wholly in a piece is read where it stands.
+//! that lies wholly in a piece is read where it stands. `read_file` reads a symbol file of a store by it.
 #![tactic(auto)]
 
 // Where a text is cut into lines, and a line into fields.
@@ -25,5 +25,12 @@ mod pieces;
 mod progress;
 mod reader;
 
+// The files of a store.
+mod input;
+mod refusal;
+
+pub use input::read_file;
+pub use numbers::hex_value;
 pub use reader::Reader;
+pub use refusal::{SymEnd, SymRefusal};
 pub use sym_rules::{TextFault, TextKind};

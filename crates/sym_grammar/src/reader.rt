@@ -1,9 +1,10 @@
 //! The reader.
-ghost use Rattle.std.specs.Prelude.{◌≡◌, ◌^◌, ℕ, List, [], ⊤, Ok, Err, IfSome, OnOk};
+ghost use Rattle.std.specs.Prelude.{◌≡◌, ◌^◌, ℕ, List, [], ⊤, None, Ok, Err, IfSome, OnOk};
 ghost use Rattle.sym_edges.specs.Outside.{MatchStop};
 ghost use Rattle.sym_records.specs.Reading.{reading};
 ghost use Rattle.sym_edges.specs.declared.fault.Stop.TheVariants.{Fault};
 ghost use Rattle.sym_grammar.specs.Answer.{answer, lifted, Feeds, IsUpToDate, stop_of};
+ghost use Rattle.sym_grammar.specs.Input.{decided, nothing, IfNone};
 
 use crate::pieces::take_piece;
 use crate::progress::{Progress, add_numbered, into_records, started};
@@ -40,7 +41,8 @@ impl Reader {
     /// A reader that was fed nothing. Takes no memory.
     #[tactic(auto, using(crate::proofs::ReaderLemmas::starts))]
     pub fn new(alloc: Global) -> Reader
-        ensures { (bytes : List ℕ) → answer result bytes ≡ lifted (reading bytes) }
+        ensures reads { (bytes : List ℕ) → answer result bytes ≡ lifted (reading bytes) }
+        ensures fresh { result ≡ record { part = nothing; stop = None } }
     {
         Reader {
             seen: started(alloc),
@@ -53,10 +55,11 @@ impl Reader {
     ///
     /// A fault comes as soon as the byte that decides it was fed: the LF of a line, or the byte that makes a line too long.
     /// After a fault and after want of memory each call answers the same.
-    #[tactic(auto, using(crate::proofs::ReaderLemmas::fed))]
+    #[tactic(auto, using(crate::proofs::ReaderLemmas::fed, crate::proofs::DecidedLemmas::ok_decided, crate::proofs::DecidedLemmas::stop_decided))]
     pub fn feed(&mut self, alloc: Global, piece: &[u8]) -> Result<(), Stop<TextFault>>
         ensures feeds { Feeds result self.old piece.now self.new }
         ensures eager { OnOk result (IsUpToDate (2 ^ 20) self.old.part piece.now self.new.part) }
+        ensures decides { IfNone self.old.stop (MatchStop result (λ _. decided (2 ^ 20) self.old.part piece.now ≡ Ok self.new.part) (λ fault. decided (2 ^ 20) self.old.part piece.now ≡ Err fault) ⊤) }
         ensures stopped { IfSome self.old.stop (λ stop. result ≡ Err stop) }
         ensures stop { self.new.stop ≡ stop_of result }
     {

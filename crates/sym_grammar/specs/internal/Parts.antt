@@ -9,6 +9,7 @@ use Rattle.sym_records.specs.declared.place.Place.{Place}
 use Rattle.sym_records.specs.declared.place.Place.TheVariants.{Start}
 use Rattle.sym_rules.specs.declared.text_fault.TextFault.{TextFault}
 use Rattle.sym_grammar.specs.Answer.{Part, outcome, whole_lines, open_line}
+use Rattle.sym_grammar.specs.Input.{decided}
 
 -- the front of a line, no longer than a line may be
 pub record IsFront (limit : ℕ) (held : List ℕ) : Type 0 where
@@ -32,3 +33,4 @@ pub record GoesOn (limit : ℕ) (old : Part) (bytes : List ℕ) (new : Part) (re
 -- a fault, whatever follows
 pub record Faults (limit : ℕ) (old : Part) (bytes : List ℕ) (fault : TextFault) : Type 0 where
   pub always : (more : List ℕ) → outcome limit old (bytes ++ more) ≡ Err fault
+  pub decides : decided limit old bytes ≡ Err fault
