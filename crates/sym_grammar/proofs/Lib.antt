@@ -8,3 +8,4 @@ pub mod ShortLemmas
 pub mod ProgressLemmas
 pub mod PieceLemmas
 pub mod ReaderLemmas
+pub mod CountLemmas

@@ -22,11 +22,11 @@ use Rattle.sym_grammar.specs.internal.Parts.{IsFront, part_of, GoesOn, Faults}
 
 -- Lines.
 
-split_byte : (b : ℕ) (bytes : List ℕ) → split_lines (b ∷ bytes) ≡ cond (b == 10) ([] ∷ split_lines bytes) (onto b (split_lines bytes))
+pub split_byte : (b : ℕ) (bytes : List ℕ) → split_lines (b ∷ bytes) ≡ cond (b == 10) ([] ∷ split_lines bytes) (onto b (split_lines bytes))
 unfolding split_lines
 split_byte b bytes = refl
 
-split_none : split_lines [] ≡ [] ∷ []
+pub split_none : split_lines [] ≡ [] ∷ []
 unfolding split_lines
 split_none = refl
 

@@ -25,5 +25,8 @@ mod pieces;
 mod progress;
 mod reader;
 
+// What holds of all of it.
+pub mod laws;
+
 pub use reader::Reader;
 pub use sym_rules::{TextFault, TextKind};
