@@ -9,3 +9,5 @@ pub mod ProgressLemmas
 pub mod PieceLemmas
 pub mod ReaderLemmas
 pub mod CountLemmas
+pub mod Computing
+mod WorkedAnswers
