@@ -10,3 +10,6 @@ pub mod PieceLemmas
 pub mod ReaderLemmas
 pub mod DecidedLemmas
 pub mod InputLemmas
+pub mod CountLemmas
+pub mod Computing
+mod WorkedAnswers

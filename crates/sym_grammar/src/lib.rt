@@ -29,6 +29,9 @@ mod reader;
 mod input;
 mod refusal;
 
+// What holds of all of it.
+pub mod laws;
+
 pub use input::read_file;
 pub use numbers::hex_value;
 pub use reader::Reader;

@@ -1,0 +1,10 @@
+//! Laws of the definitions, for proofs above. Each function does nothing: its contract is the law.
+ghost use Rattle.std.specs.Prelude.{◌≡◌, ◌≤◌, ℕ, List, length, Ok};
+ghost use Rattle.sym_records.specs.declared.line.SymLine.{SymLine};
+ghost use Rattle.sym_records.specs.Reading.{reading};
+
+/// A text has no more records than bytes.
+#[tactic(auto, using(crate::proofs::CountLemmas::records_within))]
+pub fn a_text_has_no_more_records_than_bytes()
+    ensures { (bytes : List ℕ) (lines : List SymLine) → reading bytes ≡ Ok lines → length lines ≤ length bytes }
+{}
