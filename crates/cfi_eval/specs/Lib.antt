@@ -2,3 +2,5 @@ pub mod Bytes
 pub mod Postfix
 pub mod TextRules
 pub mod TextValue
+pub mod Inits
+pub mod internal

@@ -1,0 +1,186 @@
+//! What the rules of a symbol file give at an address.
+ghost use Rattle.std.specs.Prelude.{◌≡◌, ◌<◌, ◌++◌, Some, length, IfOk};
+ghost use Rattle.sym_edges.specs.Abi.{is_kept, default_of};
+ghost use Rattle.cfi_eval.specs.Inits.{init_place};
+ghost use Rattle.cfi_eval.specs.TextRules.{changes_until, text_rules};
+ghost use Rattle.cfi_eval.specs.TextValue.{outcome_of, default_value, text_cfa, text_ra, text_register, frame_of, text_frame};
+
+use crate::memory::Memory;
+use crate::outcome::{Cause, Frame, Outcome};
+use crate::postfix::{eval, register_value};
+use crate::registers::Regs;
+use crate::rules::{init_at, rule_at};
+use std::alloc::Global;
+use sym_edges::OutOfMemory;
+use sym_records::{SymFile, SymLine};
+use sym_rules::{RuleText, Target};
+
+/// An INIT's rules, the records behind it, and the address whose rules are meant.
+#[derive(Clone, Copy)]
+struct RulesAt<'r> {
+    first: &'r [RuleText],
+    behind: &'r [SymLine],
+    address: u64,
+}
+
+/// The CFA.
+#[tactic(auto, unfolding(crate::specs::TextValue::text_cfa))]
+fn cfa_at(
+    alloc: Global,
+    rules: &RulesAt<'_>,
+    regs: &Regs,
+    memory: &Memory,
+) -> Result<Outcome, OutOfMemory>
+    ensures { IfOk result (λ cfa. cfa ≡ text_cfa regs.now memory.now (rules.now.first.now ++ changes_until rules.now.address rules.now.behind.now)) }
+{
+    match rule_at(rules.first, rules.behind, rules.address, &Target::Cfa) {
+        None => Ok(Outcome::Undefined),
+        Some(tokens) => eval(alloc, tokens.as_slice(), regs, None, memory),
+    }
+}
+
+/// The return address.
+#[tactic(auto, unfolding(crate::specs::TextValue::text_ra))]
+fn ra_at(
+    alloc: Global,
+    rules: &RulesAt<'_>,
+    regs: &Regs,
+    memory: &Memory,
+    cfa: Outcome,
+) -> Result<Outcome, OutOfMemory>
+    requires { cfa ≡ text_cfa regs.now memory.now (rules.now.first.now ++ changes_until rules.now.address rules.now.behind.now) }
+    ensures { IfOk result (λ ra. ra ≡ text_ra regs.now memory.now (rules.now.first.now ++ changes_until rules.now.address rules.now.behind.now)) }
+{
+    match rule_at(rules.first, rules.behind, rules.address, &Target::Ra) {
+        None => Ok(Outcome::Undefined),
+        Some(tokens) => eval(alloc, tokens.as_slice(), regs, Some(cfa), memory),
+    }
+}
+
+/// Whether a call keeps the register, beside rsp.
+#[tactic(auto, unfolding(sym_edges::specs::Abi::is_kept))]
+fn is_kept(register: u8) -> bool
+    ensures { result ≡ is_kept register }
+{
+    register == 3 || register == 6 || (12 <= register && register <= 15)
+}
+
+fn outcome_of(value: Result<u64, Cause>) -> Outcome
+    ensures { result ≡ outcome_of value }
+{
+    match value {
+        Ok(value) => Outcome::Value(value),
+        Err(why) => Outcome::Failed(why),
+    }
+}
+
+/// A register without a rule.
+#[tactic(auto, unfolding(sym_edges::specs::Abi::default_of))]
+fn default_value(regs: &Regs, cfa: Outcome, register: u8) -> Outcome
+    ensures { result ≡ default_value regs.now cfa (default_of register) register }
+{
+    if is_kept(register) {
+        outcome_of(register_value(regs, register))
+    } else if register == 7 {
+        cfa
+    } else {
+        Outcome::Undefined
+    }
+}
+
+/// A register.
+#[tactic(auto, unfolding(crate::specs::TextValue::text_register))]
+fn register_at(
+    alloc: Global,
+    rules: &RulesAt<'_>,
+    regs: &Regs,
+    memory: &Memory,
+    cfa: Outcome,
+    register: u8,
+) -> Result<Outcome, OutOfMemory>
+    requires { cfa ≡ text_cfa regs.now memory.now (rules.now.first.now ++ changes_until rules.now.address rules.now.behind.now) }
+    ensures { IfOk result (λ value. value ≡ text_register regs.now memory.now (rules.now.first.now ++ changes_until rules.now.address rules.now.behind.now) register) }
+{
+    match rule_at(
+        rules.first,
+        rules.behind,
+        rules.address,
+        &Target::Reg(register),
+    ) {
+        None => Ok(default_value(regs, cfa, register)),
+        Some(tokens) => eval(alloc, tokens.as_slice(), regs, Some(cfa), memory),
+    }
+}
+
+/// All of them.
+#[tactic(auto, unfolding(crate::specs::TextValue::frame_of))]
+fn frame_of(
+    alloc: Global,
+    rules: &RulesAt<'_>,
+    regs: &Regs,
+    memory: &Memory,
+) -> Result<Frame, OutOfMemory>
+    ensures { IfOk result (λ frame. frame ≡ frame_of regs.now memory.now (rules.now.first.now ++ changes_until rules.now.address rules.now.behind.now)) }
+{
+    let cfa = cfa_at(alloc, rules, regs, memory)?;
+    let ra = ra_at(alloc, rules, regs, memory, cfa)?;
+    let mut values = [Outcome::Undefined; 16];
+    'registers: for register in 0..16u8 {
+        values[usize::from(register)] = register_at(alloc, rules, regs, memory, cfa, register)?;
+    }
+    Ok(Frame {
+        cfa,
+        ra,
+        regs: values,
+    })
+}
+
+/// The rules of the first INIT that covers an address, and what stands behind it.
+fn rules_from(lines: &[SymLine], init: usize, address: u64) -> RulesAt<'_>
+    requires within { init < length lines.now }
+    requires first { init_place lines.now address ≡ Some init }
+    ensures { text_rules lines.now address ≡ Some (result.first.now ++ changes_until result.address result.behind.now) }
+{
+    let SymLine::Init { rules, .. } = &lines[init] else {
+        unreachable!()
+    };
+    RulesAt {
+        first: rules.as_slice(),
+        behind: &lines[init + 1..],
+        address,
+    }
+}
+
+/// What the text gives at an address that the INIT at an index covers, the first that does.
+#[tactic(auto, unfolding(crate::specs::TextValue::text_frame))]
+pub fn frame_from(
+    alloc: Global,
+    file: &SymFile,
+    init: usize,
+    address: u64,
+    regs: &Regs,
+    memory: &Memory,
+) -> Result<Frame, OutOfMemory>
+    requires { init_place file.now address ≡ Some init }
+    ensures { IfOk result (λ frame. text_frame file.now address regs.now memory.now ≡ Some frame) }
+{
+    let rules = rules_from(file.as_slice(), init, address);
+    frame_of(alloc, &rules, regs, memory)
+}
+
+/// What the text gives at an address (Breakpad's symbol_files.md, "STACK CFI"): the rules are those of the first INIT that covers it and of
+/// the changes directly behind that one, up to the address, a later rule before an earlier one. `None` where no INIT covers it.
+pub fn frame_at(
+    alloc: Global,
+    file: &SymFile,
+    address: u64,
+    regs: &Regs,
+    memory: &Memory,
+) -> Result<Option<Frame>, OutOfMemory>
+    ensures { IfOk result (λ frame. frame ≡ text_frame file.now address regs.now memory.now) }
+{
+    match init_at(file, address) {
+        None => Ok(None),
+        Some(init) => Ok(Some(frame_from(alloc, file, init, address, regs, memory)?)),
+    }
+}

@@ -1,0 +1,206 @@
+//! The values of rules: postfix expressions over a stack.
+ghost use Rattle.std.specs.Prelude.{◌≡◌, ◌∷◌, reverse, Ok, Err, MatchResult, IfOk};
+ghost use Rattle.cfi_eval.specs.Postfix.{register_value, name_value, cfa_value, word_value, quotient_of, remainder_of, multiple_of, with_token, one_value, rule_value};
+ghost use Rattle.cfi_eval.specs.internal.Stacks.{HasNoTwo, HasNone, is_undefined};
+
+use crate::memory::Memory;
+use crate::outcome::{Cause, Outcome};
+use crate::registers::Regs;
+use std::alloc::Global;
+use sym_edges::OutOfMemory;
+use sym_rules::Token;
+
+/// The value of a register by its DWARF number.
+#[tactic(auto, unfolding(crate::specs::Postfix::register_value))]
+pub(crate) fn register_value(regs: &Regs, register: u8) -> Result<u64, Cause>
+    ensures { result ≡ register_value regs.now register }
+{
+    match regs.values.get(usize::from(register)) {
+        Some(Some(value)) => Ok(*value),
+        _ => Err(Cause::Missing(register)),
+    }
+}
+
+/// The value of a name that is none of the sixteen registers.
+#[tactic(auto, unfolding(crate::specs::Postfix::name_value))]
+fn name_value(regs: &Regs, name: &[u8]) -> Result<u64, Cause>
+    ensures { result ≡ name_value regs.now name.now }
+{
+    if name != b"$rip".as_slice() {
+        return Err(Cause::UnknownName);
+    }
+    match regs.rip {
+        Some(value) => Ok(value),
+        None => Err(Cause::Missing(16)),
+    }
+}
+
+/// The value of `.cfa`: there is none inside its own rule.
+fn cfa_value(cfa: Option<Outcome>) -> Result<u64, Cause>
+    ensures { result ≡ cfa_value cfa }
+{
+    match cfa {
+        None => Err(Cause::UnknownName),
+        Some(Outcome::Value(value)) => Ok(value),
+        Some(Outcome::Undefined) => Err(Cause::NoCfa),
+        Some(Outcome::Failed(why)) => Err(why),
+    }
+}
+
+/// The word that memory has at an address.
+#[tactic(auto, unfolding(crate::specs::Postfix::word_value))]
+fn word_value(memory: &Memory, a: u64) -> Result<u64, Cause>
+    ensures { result ≡ word_value memory.now a }
+{
+    match memory.word(a) {
+        Some(word) => Ok(word),
+        None => Err(Cause::Unreadable(a)),
+    }
+}
+
+fn quotient(a: u64, b: u64) -> Result<u64, Cause>
+    ensures { result ≡ quotient_of a b }
+{
+    if b == 0 {
+        return Err(Cause::Divide);
+    }
+    Ok(a / b)
+}
+
+fn remainder(a: u64, b: u64) -> Result<u64, Cause>
+    ensures { result ≡ remainder_of a b }
+{
+    if b == 0 {
+        return Err(Cause::Divide);
+    }
+    Ok(a % b)
+}
+
+/// The greatest multiple of a power of two that is at most `a`.
+fn multiple(a: u64, b: u64) -> Result<u64, Cause>
+    ensures { result ≡ multiple_of a b }
+{
+    if !b.is_power_of_two() {
+        return Err(Cause::Align);
+    }
+    Ok(a - a % b)
+}
+
+/// The value on top of the stack is taken.
+fn pop_one(stack: &mut Vec<u64>) -> Result<u64, Cause>
+    ensures { MatchResult result
+        (λ a. reverse stack.old.items ≡ a ∷ reverse stack.new.items)
+        (λ why. (why ≡ Cause.Stack) × HasNone stack.old.items) }
+{
+    match stack.pop() {
+        Some(a) => Ok(a),
+        None => Err(Cause::Stack),
+    }
+}
+
+/// The two values on top of the stack are taken, and given in the order in which they were pushed.
+#[tactic(auto, using(crate::proofs::StackLemmas::none_no_two, crate::proofs::StackLemmas::one_no_two))]
+fn pop_two(stack: &mut Vec<u64>) -> Result<(u64, u64), Cause>
+    ensures { MatchResult result
+        (λ two. reverse stack.old.items ≡ two.1 ∷ two.0 ∷ reverse stack.new.items)
+        (λ why. (why ≡ Cause.Stack) × HasNoTwo stack.old.items) }
+{
+    let b = pop_one(stack)?;
+    let a = pop_one(stack)?;
+    Ok((a, b))
+}
+
+/// The value that a word leaves on the stack, once those that it takes are taken from it.
+#[tactic(auto, unfolding(crate::specs::Postfix::with_token))]
+fn token_value(
+    token: &Token,
+    stack: &mut Vec<u64>,
+    regs: &Regs,
+    cfa: Option<Outcome>,
+    memory: &Memory,
+) -> Result<u64, Cause>
+    ensures { MatchResult result
+        (λ value. with_token regs.now memory.now cfa token.now (reverse stack.old.items) ≡ Ok (value ∷ reverse stack.new.items))
+        (λ why. with_token regs.now memory.now cfa token.now (reverse stack.old.items) ≡ Err why) }
+{
+    match token {
+        Token::Number(n) => Ok(n.cast_unsigned()),
+        Token::Reg(register) => register_value(regs, *register),
+        Token::Cfa => cfa_value(cfa),
+        Token::Undef => Err(Cause::UnknownName),
+        Token::Other(name) => name_value(regs, name.as_slice()),
+        Token::Add => {
+            let (a, b) = pop_two(stack)?;
+            Ok(a.wrapping_add(b))
+        }
+        Token::Sub => {
+            let (a, b) = pop_two(stack)?;
+            Ok(a.wrapping_sub(b))
+        }
+        Token::Mul => {
+            let (a, b) = pop_two(stack)?;
+            Ok(a.wrapping_mul(b))
+        }
+        Token::Div => {
+            let (a, b) = pop_two(stack)?;
+            quotient(a, b)
+        }
+        Token::Rem => {
+            let (a, b) = pop_two(stack)?;
+            remainder(a, b)
+        }
+        Token::Align => {
+            let (a, b) = pop_two(stack)?;
+            multiple(a, b)
+        }
+        Token::Fetch => {
+            let a = pop_one(stack)?;
+            word_value(memory, a)
+        }
+    }
+}
+
+/// What is left at the end is one value.
+fn one_value(stack: &[u64]) -> Outcome
+    ensures { result ≡ one_value (reverse stack.now) }
+{
+    match stack {
+        [value] => Outcome::Value(*value),
+        _ => Outcome::Failed(Cause::Stack),
+    }
+}
+
+/// Whether the words are `.undef` alone.
+fn is_undefined(tokens: &[Token]) -> bool
+    ensures { result ≡ is_undefined tokens.now }
+{
+    match tokens {
+        [Token::Undef] => true,
+        _ => false,
+    }
+}
+
+/// The value of a rule's words (Breakpad's symbol_files.md, "STACK CFI"). `cfa` is what the rule of `.cfa` gave, and `None` inside that
+/// rule. A register of a number above 15 has no value. Memory is taken for the stack of values alone.
+#[tactic(auto, unfolding(crate::specs::Postfix::rule_value))]
+pub fn eval(
+    alloc: Global,
+    tokens: &[Token],
+    regs: &Regs,
+    cfa: Option<Outcome>,
+    memory: &Memory,
+) -> Result<Outcome, OutOfMemory>
+    ensures { IfOk result (λ outcome. outcome ≡ rule_value regs.now memory.now cfa tokens.now) }
+{
+    if is_undefined(tokens) {
+        return Ok(Outcome::Undefined);
+    }
+    let mut stack = Vec::new(alloc);
+    'tokens: for token in tokens {
+        match token_value(token, &mut stack, regs, cfa, memory) {
+            Ok(value) => stack.push(value)?,
+            Err(why) => return Ok(Outcome::Failed(why)),
+        }
+    }
+    Ok(one_value(stack.as_slice()))
+}
