@@ -1,0 +1,3 @@
+pub mod UnderLemmas
+pub mod PlaceLemmas
+pub mod PublicLemmas

@@ -1,0 +1,10 @@
+//! Looking addresses up in a symbol file (Breakpad's symbol_files.md).
+#![tactic(auto)]
+
+mod answers;
+mod finding;
+mod texts;
+
+pub use answers::{Answer, PlaceList};
+pub use finding::answer_at;
+pub use texts::answer_text;
