@@ -1,10 +1,11 @@
 //! The text that shows an answer.
-ghost use Rattle.std.specs.Prelude.{◌≡◌, ◌++◌, codes, reverse, IfOk, OnOk};
+ghost use Rattle.std.specs.Prelude.{◌≡◌, ◌++◌, codes, map, reverse, Some, IfOk, OnOk};
 ghost use Rattle.std.specs.Option.{option_copied, unwrap_or};
 ghost use Rattle.std.specs.Fmt.{decimal};
 ghost use Rattle.std.specs.List.{find};
-ghost use Rattle.sym_meaning.specs.TextNames.{is_file, is_origin, file_name, origin_name, text_path, text_origin, func_name};
-ghost use Rattle.sym_lookup.specs.AnswerTexts.{spot_text, spot_of, spot_at, frame_text, inlined_name, inlined_name_at, func_name_at, public_name, frames_text, public_name_at, answer_text};
+ghost use Rattle.sym_meaning.specs.TextNames.{is_file, is_origin, file_name, origin_name, text_path, text_origin, func_name, call_of, path_and_line};
+ghost use Rattle.sym_lookup.specs.AnswerTexts.{spot_text, line_spot, call_spot, call_name, frame_text, func_name_at, call_at, line_at, frames_text, public_name, public_name_at, answer_text};
+ghost use Rattle.sym_lookup.specs.internal.Spots.{spot_shown};
 
 use crate::answers::Answer;
 use itoa::Buffer;
@@ -109,12 +110,38 @@ fn add_spot(text: &mut Vec<u8>, lines: &[SymLine], file: u32, line: u32) -> Resu
     }
 }
 
-/// Adds what a line record or an `INLINE` says.
-fn add_spot_of(text: &mut Vec<u8>, lines: &[SymLine], spot: &SymLine) -> Result<(), OutOfMemory>
-    ensures { OnOk result (text.new.items ≡ text.old.items ++ spot_of lines.now spot.now) }
+/// Adds where a line record is.
+fn add_line_spot(text: &mut Vec<u8>, lines: &[SymLine], spot: &SymLine) -> Result<(), OutOfMemory>
+    ensures { OnOk result (text.new.items ≡ text.old.items ++ line_spot (Some (path_and_line lines.now spot.now))) }
 {
     match spot {
         SymLine::Line { line, file, .. } => add_spot(text, lines, *file, *line),
+        _ => add(text, b"?"),
+    }
+}
+
+/// Adds where the line record at a place is.
+fn add_line_spot_at(
+    text: &mut Vec<u8>,
+    lines: &[SymLine],
+    place: Option<usize>,
+) -> Result<(), OutOfMemory>
+    ensures { OnOk result (text.new.items ≡ text.old.items ++ line_spot (line_at lines.now place)) }
+{
+    let Some(place) = place else {
+        return add(text, b"?");
+    };
+    match lines.get(place) {
+        None => add(text, b"?"),
+        Some(spot) => add_line_spot(text, lines, spot),
+    }
+}
+
+/// Adds where the call of an `INLINE` is.
+fn add_call_spot(text: &mut Vec<u8>, lines: &[SymLine], spot: &SymLine) -> Result<(), OutOfMemory>
+    ensures { OnOk result (text.new.items ≡ text.old.items ++ call_spot (call_of lines.now spot.now)) }
+{
+    match spot {
         SymLine::Inline {
             call_line,
             call_file,
@@ -124,20 +151,36 @@ fn add_spot_of(text: &mut Vec<u8>, lines: &[SymLine], spot: &SymLine) -> Result<
     }
 }
 
-/// Adds what the record at a place says, where there is one.
-fn add_spot_at(
+/// Adds where that of the `INLINE` at a place is.
+fn add_call_spot_at(
     text: &mut Vec<u8>,
     lines: &[SymLine],
-    place: Option<usize>,
+    place: usize,
 ) -> Result<(), OutOfMemory>
-    ensures { OnOk result (text.new.items ≡ text.old.items ++ spot_at lines.now place) }
+    ensures { OnOk result (text.new.items ≡ text.old.items ++ call_spot (call_at lines.now place)) }
 {
-    let Some(place) = place else {
-        return add(text, b"?");
-    };
     match lines.get(place) {
         None => add(text, b"?"),
-        Some(spot) => add_spot_of(text, lines, spot),
+        Some(spot) => add_call_spot(text, lines, spot),
+    }
+}
+
+/// The record that says where a frame is, by its place.
+#[derive(Clone, Copy)]
+enum Spot {
+    /// The line record, where there is one.
+    OfLine(Option<usize>),
+    /// The `INLINE` of the frame inside.
+    OfCall(usize),
+}
+
+/// Adds where a frame is.
+fn add_spot_shown(text: &mut Vec<u8>, lines: &[SymLine], spot: Spot) -> Result<(), OutOfMemory>
+    ensures { OnOk result (text.new.items ≡ text.old.items ++ spot_shown lines.now spot) }
+{
+    match spot {
+        Spot::OfLine(place) => add_line_spot_at(text, lines, place),
+        Spot::OfCall(place) => add_call_spot_at(text, lines, place),
     }
 }
 
@@ -152,12 +195,12 @@ fn add_origin(text: &mut Vec<u8>, lines: &[SymLine], number: u32) -> Result<(), 
 }
 
 /// Adds the name of what an `INLINE` inlines.
-fn add_inlined_name(
+fn add_call_name(
     text: &mut Vec<u8>,
     lines: &[SymLine],
     inline: &SymLine,
 ) -> Result<(), OutOfMemory>
-    ensures { OnOk result (text.new.items ≡ text.old.items ++ inlined_name lines.now inline.now) }
+    ensures { OnOk result (text.new.items ≡ text.old.items ++ call_name (call_of lines.now inline.now)) }
 {
     match inline {
         SymLine::Inline { origin, .. } => add_origin(text, lines, *origin),
@@ -165,30 +208,26 @@ fn add_inlined_name(
     }
 }
 
-/// Adds that of the record at a place.
-fn add_inlined_name_at(
+/// Adds that of the `INLINE` at a place.
+fn add_call_name_at(
     text: &mut Vec<u8>,
     lines: &[SymLine],
     place: usize,
 ) -> Result<(), OutOfMemory>
-    ensures { OnOk result (text.new.items ≡ text.old.items ++ inlined_name_at lines.now place) }
+    ensures { OnOk result (text.new.items ≡ text.old.items ++ call_name (call_at lines.now place)) }
 {
     match lines.get(place) {
         None => add(text, b"<name omitted>"),
-        Some(inline) => add_inlined_name(text, lines, inline),
+        Some(inline) => add_call_name(text, lines, inline),
     }
 }
 
 /// Adds where a frame is, and ends its line.
-fn end_frame(
-    text: &mut Vec<u8>,
-    lines: &[SymLine],
-    spot: Option<usize>,
-) -> Result<(), OutOfMemory>
-    ensures { OnOk result (text.new.items ≡ text.old.items ++ (codes " at " ++ spot_at lines.now spot ++ codes "\n")) }
+fn end_frame(text: &mut Vec<u8>, lines: &[SymLine], spot: Spot) -> Result<(), OutOfMemory>
+    ensures { OnOk result (text.new.items ≡ text.old.items ++ (codes " at " ++ spot_shown lines.now spot ++ codes "\n")) }
 {
     add(text, b" at ")?;
-    add_spot_at(text, lines, spot)?;
+    add_spot_shown(text, lines, spot)?;
     add(text, b"\n")
 }
 
@@ -197,11 +236,11 @@ fn add_inlined_frame(
     text: &mut Vec<u8>,
     lines: &[SymLine],
     place: usize,
-    spot: Option<usize>,
+    spot: Spot,
 ) -> Result<(), OutOfMemory>
-    ensures { OnOk result (text.new.items ≡ text.old.items ++ frame_text (inlined_name_at lines.now place) (spot_at lines.now spot)) }
+    ensures { OnOk result (text.new.items ≡ text.old.items ++ frame_text (call_name (call_at lines.now place)) (spot_shown lines.now spot)) }
 {
-    add_inlined_name_at(text, lines, place)?;
+    add_call_name_at(text, lines, place)?;
     end_frame(text, lines, spot)
 }
 
@@ -220,9 +259,9 @@ fn add_func_frame(
     text: &mut Vec<u8>,
     lines: &[SymLine],
     func: usize,
-    spot: Option<usize>,
+    spot: Spot,
 ) -> Result<(), OutOfMemory>
-    ensures { OnOk result (text.new.items ≡ text.old.items ++ frame_text (func_name_at lines.now func) (spot_at lines.now spot)) }
+    ensures { OnOk result (text.new.items ≡ text.old.items ++ frame_text (func_name_at lines.now func) (spot_shown lines.now spot)) }
 {
     add_func_name(text, lines, func)?;
     end_frame(text, lines, spot)
@@ -236,13 +275,13 @@ fn add_frames(
     chain: &[usize],
     line: Option<usize>,
 ) -> Result<(), OutOfMemory>
-    ensures { OnOk result (text.new.items ≡ text.old.items ++ frames_text lines.now func line (reverse chain.now)) }
+    ensures { OnOk result (text.new.items ≡ text.old.items ++ frames_text (func_name_at lines.now func) (line_spot (line_at lines.now line)) (map (call_at lines.now) (reverse chain.now))) }
 {
-    let mut spot = line;
+    let mut spot = Spot::OfLine(line);
     let mut rest = chain;
     'frames: while let Some((place, outer)) = rest.split_last() {
         add_inlined_frame(text, lines, *place, spot)?;
-        spot = Some(*place);
+        spot = Spot::OfCall(*place);
         rest = outer;
     }
     add_func_frame(text, lines, func, spot)
