@@ -3,6 +3,7 @@
 
 mod answers;
 mod finding;
+pub mod laws;
 mod texts;
 
 pub use answers::{Answer, PlaceList};
