@@ -1,0 +1,7 @@
+pub mod UnderLemmas
+pub mod PlaceLemmas
+pub mod PublicLemmas
+pub mod NameLemmas
+pub mod ShownLemmas
+pub mod Computing
+mod WorkedAnswers

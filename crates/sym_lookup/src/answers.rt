@@ -1,0 +1,21 @@
+//! What a look-up answers.
+use sym_edges::ListOf;
+
+/// Places in a file's list of records, in order.
+pub type PlaceList = ListOf<usize>;
+
+/// Which records name an address, by their places in the file's list.
+#[derive(Debug, Drop)]
+pub enum Answer {
+    /// A `FUNC`, the `INLINE` records under it, the outermost first, and the line record under it.
+    Function {
+        func: usize,
+        chain: PlaceList,
+        line: Option<usize>,
+    },
+    /// A `PUBLIC`.
+    Public {
+        index: usize,
+    },
+    Nothing,
+}

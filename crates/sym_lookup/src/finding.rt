@@ -1,0 +1,304 @@
+//! The plain look-up, by scans.
+ghost use Rattle.std.specs.Prelude.{◌≡◌, ◌+◌, ◌<◌, ◌^◌, if◌then◌else◌, length, drop, IfOk, IfSome};
+ghost use Rattle.std.specs.List.{list_any, position, position_from};
+ghost use Rattle.sym_meaning.specs.TextNames.{is_within, under, is_func_at, is_line_at, is_inline_at, level_count};
+ghost use Rattle.sym_lookup.specs.declared.answers.Answer.TheVariants as answer;
+ghost use Rattle.sym_lookup.specs.Answers.{chain_from, chain_places, line_place, func_place, nearer, greater, nearest_public, is_public_of, begins_between, public_place, answer_of};
+ghost use Rattle.sym_lookup.specs.internal.Scans.{is_under, level_end};
+ghost use Rattle.sym_records.specs.declared.line.Extent.{Extent};
+
+use crate::answers::{Answer, PlaceList};
+use std::alloc::Global;
+use sym_edges::OutOfMemory;
+use sym_records::{Extent, SymFile, SymLine};
+
+/// Whether the address is one of `size` from a first one on.
+#[inline]
+pub(crate) fn is_within(start: u64, size: u64, address: u64) -> bool
+    ensures { result ≡ is_within start size address }
+{
+    start <= address && address - start < size
+}
+
+/// Whether the record is a `FUNC` that covers the address.
+#[inline]
+pub(crate) fn is_func_at(line: &SymLine, address: u64) -> bool
+    ensures { result ≡ is_func_at address line.now }
+{
+    match line {
+        SymLine::Func {
+            address: start,
+            size,
+            ..
+        } => is_within(*start, *size, address),
+        _ => false,
+    }
+}
+
+/// Whether it is a line record that covers it.
+#[inline]
+pub(crate) fn is_line_at(line: &SymLine, address: u64) -> bool
+    ensures { result ≡ is_line_at address line.now }
+{
+    match line {
+        SymLine::Line {
+            address: start,
+            size,
+            ..
+        } => is_within(*start, *size, address),
+        _ => false,
+    }
+}
+
+/// Whether some range has the address.
+fn has_address(ranges: &[Extent], address: u64) -> bool
+    ensures { result ≡ list_any (λ (r : Extent). is_within r.address r.size address) ranges.now }
+{
+    ranges
+        .iter()
+        .any(|range| is_within(range.address, range.size, address))
+}
+
+/// Whether it is an `INLINE` of the level that covers it.
+pub(crate) fn is_inline_at(line: &SymLine, level: u64, address: u64) -> bool
+    ensures { result ≡ is_inline_at level address line.now }
+{
+    match line {
+        SymLine::Inline {
+            level: own, ranges, ..
+        } => u64::from(*own) == level && has_address(ranges.as_slice(), address),
+        _ => false,
+    }
+}
+
+fn is_under(line: &SymLine) -> bool
+    ensures { result ≡ is_under line.now }
+{
+    matches!(line, SymLine::Inline { .. } | SymLine::Line { .. })
+}
+
+/// The records directly under a `FUNC`, of those behind it.
+#[tactic(auto, using(crate::proofs::UnderLemmas::under_begins, crate::proofs::UnderLemmas::under_more, crate::proofs::UnderLemmas::under_stops, crate::proofs::UnderLemmas::under_all))]
+pub(crate) fn under(lines: &[SymLine]) -> &[SymLine]
+    ensures { result.now ≡ under lines.now }
+{
+    'records: for at in 0..lines.len() {
+        if !is_under(&lines[at]) {
+            return lines.split_at(at).0;
+        }
+    }
+    lines
+}
+
+/// One more than the level of an `INLINE`, and 0 of another record.
+fn level_end(line: &SymLine) -> u64
+    ensures result { result ≡ level_end line.now }
+    ensures small { result < 2 ^ 33 }
+{
+    match line {
+        SymLine::Inline { level, .. } => u64::from(*level) + 1,
+        _ => 0,
+    }
+}
+
+/// One more than the highest level.
+#[tactic(auto, using(crate::proofs::UnderLemmas::levels_more))]
+fn level_count(records: &[SymLine]) -> u64
+    ensures { result ≡ level_count records.now }
+{
+    let mut count = 0;
+    let mut rest = records;
+    'records: while let Some((line, later)) = rest.split_first() {
+        count = level_end(line).max(count);
+        rest = later;
+    }
+    count
+}
+
+/// The place of the first line record that covers the address, where the first record has a place.
+#[tactic(auto, using(crate::proofs::PlaceLemmas::placed_more, crate::proofs::PlaceLemmas::placed_found, crate::proofs::PlaceLemmas::placed_none))]
+fn line_from(records: &[SymLine], first: usize, address: u64) -> Option<usize>
+    requires { first + length records.now < 2 ^ 64 }
+    ensures { result ≡ position_from (is_line_at address) first records.now }
+{
+    for (at, line) in records.iter().enumerate() {
+        if is_line_at(line, address) {
+            return Some(first + at);
+        }
+    }
+    None
+}
+
+/// The place of the first `INLINE` of the level that covers it.
+#[tactic(auto, using(crate::proofs::PlaceLemmas::placed_more, crate::proofs::PlaceLemmas::placed_found, crate::proofs::PlaceLemmas::placed_none))]
+fn inline_from(records: &[SymLine], first: usize, level: u64, address: u64) -> Option<usize>
+    requires { first + length records.now < 2 ^ 64 }
+    ensures { result ≡ position_from (is_inline_at level address) first records.now }
+{
+    for (at, line) in records.iter().enumerate() {
+        if is_inline_at(line, level, address) {
+            return Some(first + at);
+        }
+    }
+    None
+}
+
+/// The first `INLINE` at each level, until a level has none.
+#[tactic(auto, using(crate::proofs::PlaceLemmas::chain_more, crate::proofs::PlaceLemmas::chain_stops))]
+fn chain_from(
+    alloc: Global,
+    records: &[SymLine],
+    first: usize,
+    address: u64,
+) -> Result<PlaceList, OutOfMemory>
+    requires { first + length records.now < 2 ^ 64 }
+    ensures { IfOk result (λ chain. chain ≡ chain_from first address 0 (level_count records.now) records.now) }
+{
+    let count = level_count(records);
+    let mut chain = Vec::new(alloc);
+    'levels: for level in 0..count {
+        let Some(place) = inline_from(records, first, level, address) else {
+            return Ok(PlaceList::of(chain));
+        };
+        chain.push(place)?;
+    }
+    Ok(PlaceList::of(chain))
+}
+
+/// The records directly under the `FUNC` at a place.
+pub(crate) fn under_func(lines: &[SymLine], func: usize) -> &[SymLine]
+    requires { func < length lines.now }
+    ensures under { result.now ≡ under (drop (func + 1) lines.now) }
+    ensures fits { func + 1 + length result.now < 2 ^ 64 }
+{
+    under(lines.split_at(func + 1).1)
+}
+
+/// What a `FUNC` that covers the address answers.
+#[tactic(auto, unfolding(crate::specs::Answers::chain_places, crate::specs::Answers::line_place))]
+fn in_function(
+    alloc: Global,
+    lines: &[SymLine],
+    func: usize,
+    address: u64,
+) -> Result<Answer, OutOfMemory>
+    requires { func < length lines.now }
+    ensures { IfOk result (λ found. found ≡ answer.Function func (chain_places lines.now func address) (line_place lines.now func address)) }
+{
+    let records = under_func(lines, func);
+    let chain = chain_from(alloc, records, func + 1, address)?;
+    let line = line_from(records, func + 1, address);
+    Ok(Answer::Function { func, chain, line })
+}
+
+/// The first `FUNC` that covers the address.
+#[tactic(auto, unfolding(crate::specs::Answers::func_place))]
+fn func_at(lines: &[SymLine], address: u64) -> Option<usize>
+    ensures place { result ≡ func_place lines.now address }
+    ensures within { IfSome result (λ func. func < length lines.now) }
+{
+    lines.iter().position(|line| is_func_at(line, address))
+}
+
+fn greater(a: u64, other: Option<u64>) -> Option<u64>
+    ensures { result ≡ greater a other }
+{
+    match other {
+        None => Some(a),
+        Some(b) => Some(a.max(b)),
+    }
+}
+
+/// A `PUBLIC` that is not above the asked address counts.
+fn nearer(line: &SymLine, address: u64, other: Option<u64>) -> Option<u64>
+    ensures { result ≡ nearer address line.now other }
+{
+    match line {
+        SymLine::Public { address: at, .. } if *at <= address => greater(*at, other),
+        _ => other,
+    }
+}
+
+/// The greatest address of a `PUBLIC` that is not above the asked one.
+#[tactic(auto, using(crate::proofs::PublicLemmas::nearest_more, crate::proofs::PublicLemmas::nearest_end, crate::proofs::PublicLemmas::nearest_all))]
+fn nearest_public(lines: &[SymLine], address: u64) -> Option<u64>
+    ensures { result ≡ nearest_public lines.now address }
+{
+    let mut nearest = None;
+    'lines: for at in (0..lines.len()).rev() {
+        nearest = nearer(&lines[at], address, nearest);
+    }
+    nearest
+}
+
+fn is_public_of(line: &SymLine, a: u64) -> bool
+    ensures { result ≡ is_public_of a line.now }
+{
+    match line {
+        SymLine::Public { address, .. } => *address == a,
+        _ => false,
+    }
+}
+
+/// Whether it is a `FUNC` that begins from one address to another.
+fn begins_between(line: &SymLine, a: u64, last: u64) -> bool
+    ensures { result ≡ begins_between a last line.now }
+{
+    match line {
+        SymLine::Func { address, .. } => a <= *address && *address <= last,
+        _ => false,
+    }
+}
+
+/// Whether some `FUNC` does.
+fn begins(lines: &[SymLine], a: u64, last: u64) -> bool
+    ensures { result ≡ list_any (begins_between a last) lines.now }
+{
+    lines.iter().any(|line| begins_between(line, a, last))
+}
+
+/// The first `PUBLIC` of an address.
+fn first_public(lines: &[SymLine], a: u64) -> Option<usize>
+    ensures { result ≡ position (is_public_of a) lines.now }
+{
+    lines.iter().position(|line| is_public_of(line, a))
+}
+
+/// The same, unless a `FUNC` begins from there to another address.
+fn public_from(lines: &[SymLine], a: u64, address: u64) -> Option<usize>
+    ensures { result ≡ (if list_any (begins_between a address) lines.now then None else position (is_public_of a) lines.now) }
+{
+    if begins(lines, a, address) {
+        return None;
+    }
+    first_public(lines, a)
+}
+
+/// The `PUBLIC` in front of the address.
+#[tactic(auto, unfolding(crate::specs::Answers::public_place))]
+fn public_at(lines: &[SymLine], address: u64) -> Option<usize>
+    ensures { result ≡ public_place lines.now address }
+{
+    match nearest_public(lines, address) {
+        None => None,
+        Some(a) => public_from(lines, a, address),
+    }
+}
+
+/// What a look-up of the address answers.
+#[tactic(auto, unfolding(crate::specs::Answers::answer_of))]
+pub fn answer_at(alloc: Global, file: &SymFile, address: u64) -> Result<Answer, OutOfMemory>
+    ensures { IfOk result (λ found. found ≡ answer_of file.now address) }
+{
+    let lines = file.as_slice();
+    match func_at(lines, address) {
+        Some(func) => {
+            let found = in_function(alloc, lines, func, address)?;
+            Ok(found)
+        }
+        None => match public_at(lines, address) {
+            Some(index) => Ok(Answer::Public { index }),
+            None => Ok(Answer::Nothing),
+        },
+    }
+}

@@ -1,0 +1,334 @@
+//! The text that shows an answer.
+ghost use Rattle.std.specs.Prelude.{◌≡◌, ◌++◌, codes, map, reverse, Some, IfOk, OnOk};
+ghost use Rattle.std.specs.Option.{option_copied, unwrap_or};
+ghost use Rattle.std.specs.Fmt.{decimal};
+ghost use Rattle.std.specs.List.{find};
+ghost use Rattle.sym_meaning.specs.TextNames.{is_file, is_origin, file_name, origin_name, text_path, text_origin, func_name, call_of, path_and_line};
+ghost use Rattle.sym_lookup.specs.AnswerTexts.{spot_text, line_spot, call_spot, call_name, frame_text, func_name_at, call_at, line_at, frames_text, public_name, public_name_at, answer_text};
+ghost use Rattle.sym_lookup.specs.internal.Spots.{spot_shown};
+
+use crate::answers::Answer;
+use itoa::Buffer;
+use std::alloc::Global;
+use sym_edges::OutOfMemory;
+use sym_records::{SymFile, SymLine};
+use sym_rules::ByteText;
+
+fn is_file(line: &SymLine, number: u32) -> bool
+    ensures { result ≡ is_file number line.now }
+{
+    match line {
+        SymLine::File { number: own, .. } => *own == number,
+        _ => false,
+    }
+}
+
+fn is_origin(line: &SymLine, number: u32) -> bool
+    ensures { result ≡ is_origin number line.now }
+{
+    match line {
+        SymLine::Origin { number: own, .. } => *own == number,
+        _ => false,
+    }
+}
+
+/// The first `FILE` of a number.
+fn file_of(lines: &[SymLine], number: u32) -> Option<&SymLine>
+    ensures { option_copied result ≡ find (is_file number) lines.now }
+{
+    lines.iter().find(|line| is_file(line, number))
+}
+
+/// The first `INLINE_ORIGIN` of a number.
+fn origin_of(lines: &[SymLine], number: u32) -> Option<&SymLine>
+    ensures { option_copied result ≡ find (is_origin number) lines.now }
+{
+    lines.iter().find(|line| is_origin(line, number))
+}
+
+fn file_name(line: &SymLine) -> &[u8]
+    ensures { result.now ≡ file_name line.now }
+{
+    match line {
+        SymLine::File { name, .. } => name.as_slice(),
+        _ => &[],
+    }
+}
+
+fn origin_name(line: &SymLine) -> &[u8]
+    ensures { result.now ≡ origin_name line.now }
+{
+    match line {
+        SymLine::Origin { name, .. } => name.as_slice(),
+        _ => &[],
+    }
+}
+
+fn func_name(line: &SymLine) -> &[u8]
+    ensures { result.now ≡ func_name line.now }
+{
+    match line {
+        SymLine::Func { name, .. } => name.as_slice(),
+        _ => &[],
+    }
+}
+
+fn public_name(line: &SymLine) -> &[u8]
+    ensures { result.now ≡ public_name line.now }
+{
+    match line {
+        SymLine::Public { name, .. } => name.as_slice(),
+        _ => &[],
+    }
+}
+
+/// Adds some bytes.
+fn add(text: &mut Vec<u8>, bytes: &[u8]) -> Result<(), OutOfMemory>
+    ensures { OnOk result (text.new.items ≡ text.old.items ++ bytes.now) }
+{
+    text.extend_from_slice(bytes)?;
+    Ok(())
+}
+
+/// Adds the path of a `FILE` and a line.
+fn add_path_and_line(text: &mut Vec<u8>, path: &[u8], line: u32) -> Result<(), OutOfMemory>
+    ensures { OnOk result (text.new.items ≡ text.old.items ++ (path.now ++ codes ":" ++ decimal line)) }
+{
+    let mut buffer = Buffer::new();
+    add(text, path)?;
+    add(text, b":")?;
+    add(text, buffer.format(line).as_bytes())
+}
+
+/// Adds the path of the first `FILE` of a number and a line.
+fn add_spot(text: &mut Vec<u8>, lines: &[SymLine], file: u32, line: u32) -> Result<(), OutOfMemory>
+    ensures { OnOk result (text.new.items ≡ text.old.items ++ spot_text (text_path lines.now file) line) }
+{
+    match file_of(lines, file) {
+        None => add(text, b"?"),
+        Some(path) => add_path_and_line(text, file_name(path), line),
+    }
+}
+
+/// Adds where a line record is.
+fn add_line_spot(text: &mut Vec<u8>, lines: &[SymLine], spot: &SymLine) -> Result<(), OutOfMemory>
+    ensures { OnOk result (text.new.items ≡ text.old.items ++ line_spot (Some (path_and_line lines.now spot.now))) }
+{
+    match spot {
+        SymLine::Line { line, file, .. } => add_spot(text, lines, *file, *line),
+        _ => add(text, b"?"),
+    }
+}
+
+/// Adds where the line record at a place is.
+fn add_line_spot_at(
+    text: &mut Vec<u8>,
+    lines: &[SymLine],
+    place: Option<usize>,
+) -> Result<(), OutOfMemory>
+    ensures { OnOk result (text.new.items ≡ text.old.items ++ line_spot (line_at lines.now place)) }
+{
+    let Some(place) = place else {
+        return add(text, b"?");
+    };
+    match lines.get(place) {
+        None => add(text, b"?"),
+        Some(spot) => add_line_spot(text, lines, spot),
+    }
+}
+
+/// Adds where the call of an `INLINE` is.
+fn add_call_spot(text: &mut Vec<u8>, lines: &[SymLine], spot: &SymLine) -> Result<(), OutOfMemory>
+    ensures { OnOk result (text.new.items ≡ text.old.items ++ call_spot (call_of lines.now spot.now)) }
+{
+    match spot {
+        SymLine::Inline {
+            call_line,
+            call_file,
+            ..
+        } => add_spot(text, lines, *call_file, *call_line),
+        _ => add(text, b"?"),
+    }
+}
+
+/// Adds where that of the `INLINE` at a place is.
+fn add_call_spot_at(
+    text: &mut Vec<u8>,
+    lines: &[SymLine],
+    place: usize,
+) -> Result<(), OutOfMemory>
+    ensures { OnOk result (text.new.items ≡ text.old.items ++ call_spot (call_at lines.now place)) }
+{
+    match lines.get(place) {
+        None => add(text, b"?"),
+        Some(spot) => add_call_spot(text, lines, spot),
+    }
+}
+
+/// The record that says where a frame is, by its place.
+#[derive(Clone, Copy)]
+enum Spot {
+    /// The line record, where there is one.
+    OfLine(Option<usize>),
+    /// The `INLINE` of the frame inside.
+    OfCall(usize),
+}
+
+/// Adds where a frame is.
+fn add_spot_shown(text: &mut Vec<u8>, lines: &[SymLine], spot: Spot) -> Result<(), OutOfMemory>
+    ensures { OnOk result (text.new.items ≡ text.old.items ++ spot_shown lines.now spot) }
+{
+    match spot {
+        Spot::OfLine(place) => add_line_spot_at(text, lines, place),
+        Spot::OfCall(place) => add_call_spot_at(text, lines, place),
+    }
+}
+
+/// Adds the name of the first `INLINE_ORIGIN` of a number.
+fn add_origin(text: &mut Vec<u8>, lines: &[SymLine], number: u32) -> Result<(), OutOfMemory>
+    ensures { OnOk result (text.new.items ≡ text.old.items ++ unwrap_or (text_origin lines.now number) (codes "<name omitted>")) }
+{
+    match origin_of(lines, number) {
+        None => add(text, b"<name omitted>"),
+        Some(origin) => add(text, origin_name(origin)),
+    }
+}
+
+/// Adds the name of what an `INLINE` inlines.
+fn add_call_name(
+    text: &mut Vec<u8>,
+    lines: &[SymLine],
+    inline: &SymLine,
+) -> Result<(), OutOfMemory>
+    ensures { OnOk result (text.new.items ≡ text.old.items ++ call_name (call_of lines.now inline.now)) }
+{
+    match inline {
+        SymLine::Inline { origin, .. } => add_origin(text, lines, *origin),
+        _ => add(text, b"<name omitted>"),
+    }
+}
+
+/// Adds that of the `INLINE` at a place.
+fn add_call_name_at(
+    text: &mut Vec<u8>,
+    lines: &[SymLine],
+    place: usize,
+) -> Result<(), OutOfMemory>
+    ensures { OnOk result (text.new.items ≡ text.old.items ++ call_name (call_at lines.now place)) }
+{
+    match lines.get(place) {
+        None => add(text, b"<name omitted>"),
+        Some(inline) => add_call_name(text, lines, inline),
+    }
+}
+
+/// Adds where a frame is, and ends its line.
+fn end_frame(text: &mut Vec<u8>, lines: &[SymLine], spot: Spot) -> Result<(), OutOfMemory>
+    ensures { OnOk result (text.new.items ≡ text.old.items ++ (codes " at " ++ spot_shown lines.now spot ++ codes "\n")) }
+{
+    add(text, b" at ")?;
+    add_spot_shown(text, lines, spot)?;
+    add(text, b"\n")
+}
+
+/// Adds the line of an inlined frame.
+fn add_inlined_frame(
+    text: &mut Vec<u8>,
+    lines: &[SymLine],
+    place: usize,
+    spot: Spot,
+) -> Result<(), OutOfMemory>
+    ensures { OnOk result (text.new.items ≡ text.old.items ++ frame_text (call_name (call_at lines.now place)) (spot_shown lines.now spot)) }
+{
+    add_call_name_at(text, lines, place)?;
+    end_frame(text, lines, spot)
+}
+
+/// Adds the name of the `FUNC` at a place.
+fn add_func_name(text: &mut Vec<u8>, lines: &[SymLine], func: usize) -> Result<(), OutOfMemory>
+    ensures { OnOk result (text.new.items ≡ text.old.items ++ func_name_at lines.now func) }
+{
+    match lines.get(func) {
+        None => Ok(()),
+        Some(line) => add(text, func_name(line)),
+    }
+}
+
+/// Adds the line of a function's frame.
+fn add_func_frame(
+    text: &mut Vec<u8>,
+    lines: &[SymLine],
+    func: usize,
+    spot: Spot,
+) -> Result<(), OutOfMemory>
+    ensures { OnOk result (text.new.items ≡ text.old.items ++ frame_text (func_name_at lines.now func) (spot_shown lines.now spot)) }
+{
+    add_func_name(text, lines, func)?;
+    end_frame(text, lines, spot)
+}
+
+/// Adds the lines of all frames, the innermost first.
+fn add_frames(
+    text: &mut Vec<u8>,
+    lines: &[SymLine],
+    func: usize,
+    chain: &[usize],
+    line: Option<usize>,
+) -> Result<(), OutOfMemory>
+    ensures { OnOk result (text.new.items ≡ text.old.items ++ frames_text (func_name_at lines.now func) (line_spot (line_at lines.now line)) (map (call_at lines.now) (reverse chain.now))) }
+{
+    let mut spot = Spot::OfLine(line);
+    let mut rest = chain;
+    'frames: while let Some((place, outer)) = rest.split_last() {
+        add_inlined_frame(text, lines, *place, spot)?;
+        spot = Spot::OfCall(*place);
+        rest = outer;
+    }
+    add_func_frame(text, lines, func, spot)
+}
+
+/// Adds the name of the `PUBLIC` at a place.
+fn add_public_name(text: &mut Vec<u8>, lines: &[SymLine], index: usize) -> Result<(), OutOfMemory>
+    ensures { OnOk result (text.new.items ≡ text.old.items ++ public_name_at lines.now index) }
+{
+    match lines.get(index) {
+        None => Ok(()),
+        Some(line) => add(text, public_name(line)),
+    }
+}
+
+/// Adds the line of a `PUBLIC`.
+fn add_public(text: &mut Vec<u8>, lines: &[SymLine], index: usize) -> Result<(), OutOfMemory>
+    ensures { OnOk result (text.new.items ≡ text.old.items ++ (codes "public " ++ public_name_at lines.now index ++ codes "\n")) }
+{
+    add(text, b"public ")?;
+    add_public_name(text, lines, index)?;
+    add(text, b"\n")
+}
+
+/// Adds the text of an answer.
+#[tactic(auto, unfolding(crate::specs::AnswerTexts::answer_text))]
+fn add_answer(text: &mut Vec<u8>, lines: &[SymLine], answer: &Answer) -> Result<(), OutOfMemory>
+    ensures { OnOk result (text.new.items ≡ text.old.items ++ answer_text lines.now answer.now) }
+{
+    match answer {
+        Answer::Function { func, chain, line } => {
+            add_frames(text, lines, *func, chain.as_slice(), *line)
+        }
+        Answer::Public { index } => add_public(text, lines, *index),
+        Answer::Nothing => add(text, b"none\n"),
+    }
+}
+
+/// The text that shows an answer: a line `NAME at PATH:LINE` for each frame, the innermost first, `public NAME` or `none`.
+pub fn answer_text(
+    alloc: Global,
+    file: &SymFile,
+    answer: &Answer,
+) -> Result<ByteText, OutOfMemory>
+    ensures { IfOk result (λ text. text ≡ answer_text file.now answer.now) }
+{
+    let mut text = Vec::new(alloc);
+    add_answer(&mut text, file.as_slice(), answer)?;
+    Ok(ByteText::of(text))
+}
