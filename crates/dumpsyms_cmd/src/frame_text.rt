@@ -64,7 +64,8 @@ fn add_outcome_line(text: &mut Vec<u8>, name: &[u8], outcome: Outcome) -> Result
     text.extend_from_slice(name)?;
     text.push(b' ')?;
     add_outcome(text, outcome)?;
-    text.push(b'\n')
+    text.push(b'\n')?;
+    Ok(())
 }
 
 /// Adds the lines of the registers.
