@@ -10,5 +10,6 @@ pub mod ProgressLemmas
 pub mod PieceLemmas
 pub mod ReaderLemmas
 pub mod CountLemmas
+pub mod EagerLemmas
 pub mod Computing
 mod WorkedAnswers

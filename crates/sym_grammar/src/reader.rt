@@ -3,7 +3,7 @@ ghost use Rattle.std.specs.Prelude.{◌≡◌, ◌^◌, ℕ, List, [], ⊤, Ok, 
 ghost use Rattle.sym_edges.specs.Outside.{MatchStop};
 ghost use Rattle.sym_records.specs.Reading.{reading};
 ghost use Rattle.sym_edges.specs.declared.fault.Stop.TheVariants.{Fault};
-ghost use Rattle.sym_grammar.specs.Answer.{answer, lifted, Feeds, IsUpToDate, stop_of};
+ghost use Rattle.sym_grammar.specs.Answer.{answer, lifted, fed_nothing, Feeds, IsUpToDate, stop_of};
 
 use crate::pieces::take_piece;
 use crate::progress::{Progress, add_numbered, into_records, started};
@@ -40,7 +40,8 @@ impl Reader {
     /// A reader that was fed nothing. Takes no memory.
     #[tactic(auto, using(crate::proofs::ReaderLemmas::starts))]
     pub fn new(alloc: Global) -> Reader
-        ensures { (bytes : List ℕ) → answer result bytes ≡ lifted (reading bytes) }
+        ensures nothing { result ≡ fed_nothing }
+        ensures reads { (bytes : List ℕ) → answer result bytes ≡ lifted (reading bytes) }
     {
         Reader {
             seen: started(alloc),
