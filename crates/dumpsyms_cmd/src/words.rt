@@ -4,7 +4,7 @@ ghost use Rattle.std.specs.Option.{option_map};
 ghost use Rattle.dumpsyms_cmd.specs.Words.{command_view, command_of, number_upto, address_of, two_words, four_words, module_name, HasWorkers, dump, frame, MOST_WORKERS};
 
 use memchr::memrchr;
-use sym_grammar::hex_value;
+use state_file::hex_value;
 
 /// The workers of a dump where the words name no number of them.
 const USUAL_WORKERS: usize = 4;

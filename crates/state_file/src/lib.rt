@@ -17,4 +17,5 @@ mod registers;
 mod state;
 
 pub use fault::{StateFault, StateKind};
+pub use numbers::hex_value;
 pub use state::{State, read_state};

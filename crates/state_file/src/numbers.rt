@@ -24,7 +24,7 @@ fn hex_digit(b: u8) -> Option<u8>
 
 /// The number that at most 16 hexadecimal digits write.
 #[tactic(auto, using(crate::proofs::HexLemmas::hex_more, crate::proofs::HexLemmas::hex_bad, crate::proofs::HexLemmas::hex_end, crate::proofs::HexLemmas::hex_long))]
-pub(crate) fn hex_value(word: &[u8]) -> Option<u64>
+pub fn hex_value(word: &[u8]) -> Option<u64>
     ensures { result ≡ hex_value word.now }
 {
     if word.len() > 16 {

@@ -1,5 +1,5 @@
 -- Cuts at spaces, at the end of a line, and between lines (cut_word, trim_crs, trim_margin, cut_line).
-use Rattle.std.proofs.Common.{◌≡◌, ◌≢◌, ℕ, ◌+◌, ◌-◌, ◌<◌, ◌≤◌, ◌==◌, ◌&&◌, cond, suc, Bool, true, false, not, List, [], ◌∷◌, ◌++◌, length, take, drop, get_or, Some, None, refl, sym, ◌∙◌, ap, arith, append_assoc, append-nil}
+use Rattle.std.proofs.Common.{◌≡◌, ◌≢◌, ℕ, ◌+◌, ◌-◌, ◌<◌, ◌≤◌, ◌==◌, ◌&&◌, cond, suc, Bool, true, false, List, [], ◌∷◌, ◌++◌, length, take, drop, get_or, Some, None, refl, sym, ◌∙◌, ap, arith, append_assoc, append-nil}
 use Rattle.std.specs.List.{list_all}
 use Rattle.std.proofs.Math.Seq.{take-suc}
 use Rattle.std.proofs.lemmas.Grind.{common_steps}
@@ -7,9 +7,9 @@ use Rattle.std.proofs.lemmas.List.{at_drop_more, take-append-drop}
 use Rattle.std.proofs.lemmas.Bool.Decides.{nat_tests}
 use Rattle.std.proofs.lemmas.Bool.{false_from_ne_true}
 use Rattle.memchr.specs.Find.{IsFirstByte, is_byte}
-use Rattle.sym_rules.proofs.BoolLemmas.{both, elim_bool, and_true, not_false}
+use Rattle.sym_rules.proofs.BoolLemmas.{both, not_false}
 use Rattle.sym_rules.proofs.EndLemmas.{end_behind, last_one, trim_kept}
-use Rattle.sym_rules.specs.Cuts.{is_cr, is_margin, is_within_line, before, from, trim_end, last_is}
+use Rattle.sym_rules.specs.Cuts.{is_cr, is_margin, is_within_line, before, from, trim_end}
 
 pub before_go : (x : ℕ) (xs : List ℕ) → x ≢ 32 → before 32 (x ∷ xs) ≡ x ∷ before 32 xs
 unfolding before

@@ -1,5 +1,5 @@
 -- Fields one after another (word_at, name_at, last_at, ranges_at).
-use Rattle.std.proofs.Common.{◌≡◌, ◌≢◌, ℕ, ◌+◌, ◌<◌, ◌≤◌, ◌==◌, cond, zero, suc, Bool, true, false, List, [], ◌∷◌, ◌++◌, length, Some, None, ok_or, Result, Ok, Err, refl, sym, ◌∙◌, ap, arith, append_assoc, append-nil, ◌⊎◌, inl, inr}
+use Rattle.std.proofs.Common.{◌≡◌, ◌≢◌, ℕ, ◌<◌, ◌≤◌, ◌==◌, cond, zero, suc, true, false, List, [], ◌∷◌, ◌++◌, length, ok_or, Result, Ok, Err, refl, sym, ◌∙◌, ap, arith, append_assoc, append-nil, ◌⊎◌, inl, inr}
 use Rattle.sym_edges.specs.Results.{◌>>=◌}
 use Rattle.sym_rules.proofs.BoolLemmas.{elim_bool}
 use Rattle.sym_rules.proofs.EndLemmas.{Begins, begins_skip}
@@ -137,11 +137,11 @@ pub word_none : (bytes : List ℕ) → length (skip is_space bytes) ≡ 0 → wo
 unfolding word_at
 word_none bytes none = field_none (skip is_space bytes) none
 
-hex_first : (bytes : List ℕ) → length (skip is_space bytes) ≢ 0 → hex_at bytes ≡ (hex_of (before 32 (skip is_space bytes)) >>= λ n. Ok (n, from 32 (skip is_space bytes)))
+pub hex_first : (bytes : List ℕ) → length (skip is_space bytes) ≢ 0 → hex_at bytes ≡ (hex_of (before 32 (skip is_space bytes)) >>= λ n. Ok (n, from 32 (skip is_space bytes)))
 unfolding hex_at
 hex_first bytes some = ap (λ r. r >>= λ word. ok_or (hex_value word.0) fault.Hex >>= λ n. Ok (n, word.1)) (word_first bytes some)
 
-hex_none : (bytes : List ℕ) → length (skip is_space bytes) ≡ 0 → hex_at bytes ≡ Err fault.Fields
+pub hex_none : (bytes : List ℕ) → length (skip is_space bytes) ≡ 0 → hex_at bytes ≡ Err fault.Fields
 unfolding hex_at
 hex_none bytes none = ap (λ r. r >>= λ word. ok_or (hex_value word.0) fault.Hex >>= λ n. Ok (n, word.1)) (word_none bytes none)
 

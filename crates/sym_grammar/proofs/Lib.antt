@@ -1,5 +1,6 @@
 pub mod CutLemmas
 pub mod NumberLemmas
+pub mod DigitLemmas
 pub mod WordLemmas
 pub mod FieldLemmas
 pub mod RunLemmas
@@ -11,5 +12,6 @@ pub mod ReaderLemmas
 pub mod DecidedLemmas
 pub mod InputLemmas
 pub mod CountLemmas
+pub mod EagerLemmas
 pub mod Computing
 mod WorkedAnswers

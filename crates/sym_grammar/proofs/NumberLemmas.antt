@@ -1,18 +1,16 @@
--- Numbers digit by digit (hex_value, digits_upto, decimal_value, integer_of).
-use Rattle.std.proofs.Common.{◌≡◌, ◌≢◌, ℕ, ◌+◌, ◌-◌, ◌*◌, ◌/◌, ◌^◌, ◌<◌, ◌≤◌, ◌==◌, ◌&&◌, cond, zero, suc, Bool, true, false, ℤ, pos, negsuc, neg_ℤ, List, [], ◌∷◌, length, drop, get_or, Option, Some, None, nat_lt, nat_le, refl, sym, ◌∙◌, ap, arith}
+-- Numbers digit by digit (hex_field, digits_upto, decimal_value, integer_of).
+use Rattle.std.proofs.Common.{◌≡◌, ◌≢◌, ℕ, ◌+◌, ◌*◌, ◌/◌, ◌^◌, ◌<◌, ◌≤◌, ◌==◌, ◌&&◌, cond, zero, suc, Bool, true, false, ℤ, pos, negsuc, neg_ℤ, List, [], ◌∷◌, length, drop, get_or, Option, Some, None, nat_lt, nat_le, refl, sym, ◌∙◌, ap, arith}
 use Rattle.std.specs.List.{list_all}
-use Rattle.std.specs.Option.{option_map, option_and_then}
+use Rattle.std.specs.Option.{option_map}
 use Rattle.std.specs.Char.{digit_value}
 use Rattle.std.specs.Str.Parse.{digits_value, digits_value_after}
 use Rattle.std.proofs.Math.Nat.{pow-le-pow_right, pow-suc}
 use Rattle.std.proofs.lemmas.List.{at_drop_more, at_drop_all}
 use Rattle.std.proofs.lemmas.Bool.{lt-ltb, le-ltb, le-leb, lt-leb}
 use Rattle.std.proofs.lemmas.Bool.Decides.{nat_tests}
-use Rattle.std.proofs.lemmas.Grind.{common_steps}
-use Rattle.sym_edges.specs.Integers.{fits_i64}
 use Rattle.sym_rules.proofs.BoolLemmas.{elim_bool}
 use Rattle.sym_rules.specs.RuleReading.{is_digit, are_digits, in_i64, integer_of}
-use Rattle.sym_records.specs.FieldReading.{hex_digit, hex_onto, hex_value, decimal_value}
+use Rattle.sym_records.specs.FieldReading.{hex_onto, hex_value, decimal_value}
 use Rattle.sym_grammar.specs.internal.Runs.{ten_digit, upto, digits_upto}
 
 -- hexadecimal
@@ -21,30 +19,9 @@ pub hex_long : (ds : List ℕ) → 16 < length ds → hex_value ds ≡ None
 unfolding hex_value
 hex_long ds long = ap (λ t. cond t None (hex_onto 0 ds)) (lt-ltb 16 (length ds) long)
 
-hex_short : (ds : List ℕ) → length ds ≤ 16 → hex_value ds ≡ hex_onto 0 ds
+pub hex_short : (ds : List ℕ) → length ds ≤ 16 → hex_value ds ≡ hex_onto 0 ds
 unfolding hex_value
 hex_short ds short = ap (λ t. cond t None (hex_onto 0 ds)) (le-ltb 16 (length ds) short)
-
-onto_next : (n : ℕ) (d : ℕ) (ds : List ℕ) → hex_onto n (d ∷ ds) ≡ option_and_then (λ v. hex_onto (n * 16 + v) ds) (hex_digit d)
-unfolding hex_onto
-onto_next n d ds = refl
-
-onto_at : (ds : List ℕ) (i n : ℕ) → i < length ds → hex_onto n (drop i ds) ≡ option_and_then (λ v. hex_onto (n * 16 + v) (drop (i + 1) ds)) (hex_digit (get_or ds i 0))
-onto_at ds i n within = at_drop_more (hex_onto n) ds i 0 within ∙ onto_next n (get_or ds i 0) (drop (i + 1) ds)
-
-pub hex_more : (ds : List ℕ) (i n v w : ℕ) → i < length ds → Some v ≡ hex_digit (get_or ds i 0) → w ≡ v → hex_onto 0 ds ≡ hex_onto n (drop i ds) → hex_onto 0 ds ≡ hex_onto (n * 16 + w) (drop (i + 1) ds)
-hex_more ds i n v w within is same so_far = so_far ∙ onto_at ds i n within ∙ ap (option_and_then (λ x. hex_onto (n * 16 + x) (drop (i + 1) ds))) (sym is) ∙ ap (λ x. hex_onto (n * 16 + x) (drop (i + 1) ds)) (sym same)
-
-pub hex_bad : (ds : List ℕ) (i n : ℕ) → length ds ≤ 16 → i < length ds → None ≡ hex_digit (get_or ds i 0) → hex_onto 0 ds ≡ hex_onto n (drop i ds) → hex_value ds ≡ None
-hex_bad ds i n short within is so_far =
-    hex_short ds short ∙ so_far ∙ onto_at ds i n within ∙ ap (option_and_then (λ x. hex_onto (n * 16 + x) (drop (i + 1) ds))) (sym is)
-
-onto_end : (n : ℕ) → hex_onto n [] ≡ Some n
-unfolding hex_onto
-onto_end n = refl
-
-pub hex_end : (ds : List ℕ) (i n : ℕ) → length ds ≤ 16 → length ds ≤ i → hex_onto 0 ds ≡ hex_onto n (drop i ds) → hex_value ds ≡ Some n
-hex_end ds i n short past so_far = hex_short ds short ∙ so_far ∙ at_drop_all (hex_onto n) ds i past ∙ onto_end n
 
 pub hex_grows : (n v i : ℕ) → n < 16 ^ i → v < 16 → n * 16 + v < 16 ^ (i + 1)
 hex_grows n v i less small =

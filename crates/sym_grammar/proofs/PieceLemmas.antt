@@ -1,5 +1,5 @@
 -- The pieces of a text, line by line (end_line, hold, take_piece).
-use Rattle.std.proofs.Common.{◌≡◌, ◌≢◌, ℕ, ◌+◌, ◌-◌, ◌<◌, ◌≤◌, ◌==◌, cond, true, false, List, [], ◌∷◌, ◌++◌, length, Result, Ok, Err, refl, sym, ◌∙◌, ap, arith, subst, append_assoc, append-nil, length-append}
+use Rattle.std.proofs.Common.{◌≡◌, ℕ, ◌-◌, ◌<◌, ◌≤◌, ◌==◌, cond, true, List, [], ◌∷◌, ◌++◌, length, Result, Ok, Err, refl, sym, ◌∙◌, ap, arith, subst, append_assoc, append-nil, length-append}
 use Rattle.std.specs.Prelude.{⊤}
 use Rattle.std.specs.List.{list_all}
 use Rattle.std.proofs.lemmas.List.Folds.{list_all-append}
@@ -14,7 +14,6 @@ use Rattle.sym_records.specs.Text.{line_read}
 use Rattle.sym_records.specs.Reading.{Seen, next_number, lacks_module, with_record, with_text, numbered, with_lines, some_records}
 use Rattle.sym_records.specs.declared.line.SymLine.{SymLine}
 use Rattle.sym_rules.specs.declared.text_fault.TextFault.{TextFault}
-use Rattle.sym_rules.specs.declared.text_fault.TextKind.{TextKind}
 use Rattle.sym_rules.specs.declared.text_fault.TextKind.TheVariants.{LongLine, NoModule}
 use Rattle.sym_grammar.specs.Answer.{Part, outcome, but_last, last_line, whole_lines, open_line, IsUpToDate}
 use Rattle.sym_grammar.specs.Input.{with_front, decided}

@@ -1,9 +1,9 @@
 -- The canonical spelling of a record is no longer than the line that it was read from.
-use Rattle.std.proofs.Common.{◌≡◌, ◌≢◌, ℕ, ◌+◌, ◌-◌, ◌<◌, ◌≤◌, ◌==◌, ◌&&◌, cond, suc, Bool, true, false, List, [], ◌∷◌, ◌++◌, length, drop, codes, Option, Some, None, ok_or, Result, Ok, Err, nat_lt, refl, sym, ◌∙◌, ap, arith, subst, ⊎_elim, inl, inr, length-append, length-drop}
+use Rattle.std.proofs.Common.{◌≡◌, ◌≢◌, ℕ, ◌+◌, ◌<◌, ◌≤◌, ◌==◌, cond, Bool, true, false, List, [], ◌∷◌, ◌++◌, length, drop, codes, Option, Some, None, ok_or, Result, Ok, Err, nat_lt, refl, sym, ◌∙◌, ap, arith, subst, ⊎_elim, inl, inr, length-append, length-drop}
 use Rattle.std.specs.List.{list_all, flat_map}
 use Rattle.std.specs.Fmt.{decimal}
 use Rattle.std.specs.Str.{bytes_eq}
-use Rattle.std.proofs.lemmas.Bool.{lt-ltb, ltb-true}
+use Rattle.std.proofs.lemmas.Bool.{lt-ltb}
 use Rattle.std.proofs.lemmas.Slice.Eq.{bytes_eq-Decides}
 use Rattle.sym_edges.specs.Results.{◌>>=◌}
 use Rattle.sym_rules.proofs.BoolLemmas.{and_true, both, elim_bool, chosen, bind_ok, no_bytes}
@@ -18,7 +18,7 @@ use Rattle.sym_rules.specs.declared.text_fault.TextKind.TheVariants as fault
 use Rattle.sym_records.specs.Canon.{body}
 use Rattle.sym_records.specs.FieldReading.{word_at, name_at, name_of, hex_value, hex_at, hex_of, mark_at, decimal_value, decimal_at, marked_at, middle_at, pairs_of, some_ranges, ranges_at, at_end, last_at, values_at, is_end, fields_at}
 use Rattle.sym_records.specs.Fields.{Middle, Word, Hex, Marked, Decimal, Shape, Name, Rules, Ranges, Last, Then, Held, Values, hex, mark, spelled_middle, spelled_range, spelled}
-use Rattle.sym_records.specs.Records.{layout, headed, keyword, values, made}
+use Rattle.sym_records.specs.Records.{layout, headed, made}
 use Rattle.sym_records.specs.Text.{next_word, is_blank, trimmed, is_hex_digit, cfi_key, stack_key, worded_key, keyed, key_at, record_of, record_at, line_read}
 use Rattle.sym_records.specs.declared.line.Extent.{Extent}
 use Rattle.sym_records.specs.declared.line.SymLine.{SymLine}

@@ -1,5 +1,5 @@
 -- The spelling of a number, a target, a token and a rule is no longer than what it was read from.
-use Rattle.std.proofs.Common.{◌≡◌, ◌≢◌, ℕ, ◌+◌, ◌-◌, ◌*◌, ◌/◌, ◌%◌, ◌^◌, ◌<◌, ◌≤◌, ◌==◌, ◌&&◌, cond, zero, suc, Bool, true, false, ℤ, pos, negsuc, neg_ℤ, List, [], ◌∷◌, ◌++◌, length, take, drop, get_or, codes, Option, Some, None, ok_or, Result, Ok, Err, nat_lt, nat_le, refl, sym, ◌∙◌, ap, arith, subst, ⊎_elim, append-nil, length-append, length-drop}
+use Rattle.std.proofs.Common.{◌≡◌, ◌≢◌, ℕ, ◌+◌, ◌-◌, ◌*◌, ◌/◌, ◌%◌, ◌^◌, ◌<◌, ◌≤◌, ◌==◌, ◌&&◌, cond, zero, suc, Bool, true, false, ℤ, pos, negsuc, neg_ℤ, List, [], ◌∷◌, length, drop, get_or, codes, Option, Some, None, ok_or, Result, Ok, Err, nat_lt, nat_le, refl, sym, ◌∙◌, ap, arith, subst, ⊎_elim, append-nil, length-append, length-drop}
 use Rattle.std.specs.List.{list_all, flat_map}
 use Rattle.std.specs.Option.{option_or, option_map, option_map_or, option_and_then}
 use Rattle.std.specs.Char.{digit_value}
@@ -16,14 +16,13 @@ use Rattle.std.proofs.lemmas.Bool.{ltb-true}
 use Rattle.std.proofs.lemmas.Bool.Decides.{nat_tests}
 use Rattle.std.proofs.lemmas.Slice.Eq.{bytes_eq-Decides}
 use Rattle.sym_edges.specs.Abi.{register_names, register_name}
-use Rattle.sym_edges.specs.Integers.{fits_i64}
 use Rattle.sym_edges.specs.Results.{◌>>=◌}
 use Rattle.sym_rules.proofs.BoolLemmas.{and_true, elim_bool, chosen, bind_ok, no_bytes}
 use Rattle.sym_rules.proofs.DigitsLemmas.{hex_left, hex_first}
 use Rattle.sym_rules.proofs.EndLemmas.{last_nothing}
 use Rattle.sym_rules.proofs.LengthLemmas.{length_rule}
 use Rattle.sym_rules.proofs.WordLemmas.{parted, ok_same, each_cons}
-use Rattle.sym_rules.specs.Cuts.{onto, last_is}
+use Rattle.sym_rules.specs.Cuts.{onto}
 use Rattle.sym_rules.specs.RuleReading.{words, groups, begins_rule, ends_in_colon, is_symbol, register_of, named_target, but_last, target_at, is_digit, are_digits, in_i64, integer_of, sign_of, named_token, token_at, each, some_of, rule_at, rules_at}
 use Rattle.sym_rules.specs.Rules.{target_name, token_word, spelled_token, spelled_rule, spelled_rules}
 use Rattle.sym_rules.specs.declared.rules.Target.{Target}

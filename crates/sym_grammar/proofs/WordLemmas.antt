@@ -1,6 +1,6 @@
 -- Registers by their names (named_target, named_token).
-use Rattle.std.proofs.Common.{◌≡◌, ℕ, ◌+◌, cond, suc, Bool, true, false, not, List, [], ◌∷◌, length, nat_lt, Option, Some, None, refl, sym, ◌∙◌, ap, arith}
-use Rattle.std.specs.List.{position, position_from, position_or_len}
+use Rattle.std.proofs.Common.{◌≡◌, ℕ, ◌+◌, cond, suc, Bool, not, List, [], ◌∷◌, length, nat_lt, Option, Some, None, refl, sym, ◌∙◌, ap, arith}
+use Rattle.std.specs.List.{position_from, position_or_len}
 use Rattle.std.specs.Str.{bytes_eq}
 use Rattle.std.proofs.lemmas.Bool.Decides.{nat_tests}
 use Rattle.sym_edges.specs.Abi.{register_names}

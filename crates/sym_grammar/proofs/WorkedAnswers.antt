@@ -1,9 +1,9 @@
 -- Worked rows of a reader's answers, of texts that are cut, and of lines that are refused (Breakpad's symbol_files.md).
-use Rattle.std.proofs.Common.{◌≡◌, List, [], ◌∷◌, codes, Some, None, Ok, Err, refl}
+use Rattle.std.proofs.Common.{◌≡◌, [], ◌∷◌, codes, Some, None, Ok, Err, refl}
 use Rattle.sym_edges.specs.declared.fault.Stop.TheVariants.{Fault, NoMemory}
 use Rattle.sym_grammar.proofs.Computing.{sym_grammar_computes}
 use Rattle.sym_grammar.specs.Answer.{Part, Reads, outcome, answer, whole_lines, open_line}
-use Rattle.sym_records.specs.Reading.{Seen, start, reading}
+use Rattle.sym_records.specs.Reading.{start, reading}
 use Rattle.sym_records.specs.declared.line.SymLine.{SymLine}
 use Rattle.sym_records.specs.declared.line.SymLine.TheVariants as line
 use Rattle.sym_records.specs.declared.place.Place.TheVariants.{Inside}

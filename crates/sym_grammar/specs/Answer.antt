@@ -4,7 +4,7 @@ use Rattle.sym_edges.specs.Results.{◌>>=◌}
 use Rattle.sym_edges.specs.declared.fault.Stop.{Stop}
 use Rattle.sym_edges.specs.declared.fault.Stop.TheVariants.{Fault, NoMemory}
 use Rattle.sym_rules.specs.Cuts.{split_lines}
-use Rattle.sym_records.specs.Reading.{Seen, with_lines, some_records}
+use Rattle.sym_records.specs.Reading.{Seen, start, with_lines, some_records}
 use Rattle.sym_records.specs.declared.line.SymLine.{SymLine}
 use Rattle.sym_rules.specs.declared.text_fault.TextFault.{TextFault}
 
@@ -21,6 +21,10 @@ outcome limit part more = with_lines limit part.seen (split_lines (part.held ++ 
 pub record Reads : Type 0 where
   pub part : Part
   pub stop : Option (Stop TextFault)
+
+-- a reader that was fed nothing
+abbrev pub fed_nothing : Reads
+fed_nothing = record { part = record { seen = start; held = [] }; stop = None }
 
 -- a reading as a reader answers it
 abbrev pub lifted : Result (List SymLine) TextFault → Result (List SymLine) (Stop TextFault)

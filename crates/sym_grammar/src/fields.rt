@@ -6,7 +6,7 @@ ghost use Rattle.sym_grammar.specs.internal.Given.{Gives};
 ghost use Rattle.sym_grammar.specs.internal.Runs.{range_run};
 
 use crate::cuts::{cut_word, skip_spaces};
-use crate::numbers::{decimal_value, hex_value};
+use crate::numbers::{decimal_value, hex_field};
 use std::alloc::Global;
 use sym_edges::Stop;
 use sym_records::{Extent, Extents};
@@ -29,16 +29,16 @@ pub(crate) fn word_at(bytes: &[u8]) -> Result<(&[u8], &[u8]), Stop<TextKind>>
 
 /// The next field as a hexadecimal number.
 #[inline]
-#[tactic(auto, unfolding(sym_records::specs::FieldReading::hex_at))]
+#[tactic(auto, using(crate::proofs::FieldLemmas::hex_first, crate::proofs::FieldLemmas::hex_none, crate::proofs::FieldLemmas::from_shorter), unfolding(crate::specs::internal::Runs::hex_field))]
 pub(crate) fn hex_at(bytes: &[u8]) -> Result<(u64, &[u8]), Stop<TextKind>>
     ensures number { Gives result (λ x. (x.0, x.1.now)) (hex_at bytes.now) }
     ensures shorter { IfOk result (λ x. length x.1.now < length bytes.now) }
 {
-    let (word, rest) = word_at(bytes)?;
-    match hex_value(word) {
-        Some(n) => Ok((n, rest)),
-        None => Err(Stop::Fault(TextKind::Hex)),
+    let field = skip_spaces(bytes);
+    if field.is_empty() {
+        return Err(Stop::Fault(TextKind::Fields));
     }
+    hex_field(field)
 }
 
 /// The next field as a decimal number.

@@ -33,7 +33,6 @@ mod refusal;
 pub mod laws;
 
 pub use input::read_file;
-pub use numbers::hex_value;
 pub use reader::Reader;
 pub use refusal::{SymEnd, SymRefusal};
 pub use sym_rules::{TextFault, TextKind};

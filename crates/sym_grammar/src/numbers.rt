@@ -1,8 +1,13 @@
 //! Numbers by their digits.
-ghost use Rattle.std.specs.Prelude.{◌≡◌, ◌^◌, ◌<◌, ◌≤◌, pos, neg_ℤ, IfSome};
+ghost use Rattle.std.specs.Prelude.{◌≡◌, ◌^◌, ◌<◌, ◌≤◌, pos, neg_ℤ, IfSome, IfOk};
 ghost use Rattle.sym_rules.specs.RuleReading.{integer_of};
-ghost use Rattle.sym_records.specs.FieldReading.{hex_digit, hex_value, decimal_value};
-ghost use Rattle.sym_grammar.specs.internal.Runs.{ten_digit, digits_upto};
+ghost use Rattle.sym_rules.specs.Cuts.{from};
+ghost use Rattle.sym_records.specs.FieldReading.{hex_digit, decimal_value};
+ghost use Rattle.sym_grammar.specs.internal.Given.{Gives};
+ghost use Rattle.sym_grammar.specs.internal.Runs.{hex_field, ten_digit, digits_upto};
+
+use sym_edges::Stop;
+use sym_rules::TextKind;
 
 /// The value of a hexadecimal digit, in either case.
 #[inline]
@@ -19,23 +24,27 @@ fn hex_digit(b: u8) -> Option<u8>
     }
 }
 
-/// The number that at most 16 hexadecimal digits write.
+/// The hexadecimal number that a field is, and what stands behind the field: one pass over its digits.
 #[inline]
-#[tactic(auto, using(crate::proofs::NumberLemmas::hex_more, crate::proofs::NumberLemmas::hex_bad, crate::proofs::NumberLemmas::hex_end, crate::proofs::NumberLemmas::hex_long))]
-pub fn hex_value(word: &[u8]) -> Option<u64>
-    ensures { result ≡ hex_value word.now }
+#[tactic(auto, using(crate::proofs::DigitLemmas::field_done, crate::proofs::DigitLemmas::field_end, crate::proofs::DigitLemmas::field_bad, crate::proofs::DigitLemmas::field_long, crate::proofs::CutLemmas::rest_stop, crate::proofs::CutLemmas::rest_end))]
+pub(crate) fn hex_field(field: &[u8]) -> Result<(u64, &[u8]), Stop<TextKind>>
+    ensures number { Gives result (λ x. (x.0, x.1.now)) (hex_field field.now) }
+    ensures rest { IfOk result (λ x. x.1.now ≡ from 32 field.now) }
 {
-    if word.len() > 16 {
-        return None;
-    }
     let mut n: u64 = 0;
-    for (at, b) in word.iter().enumerate() {
+    for (at, b) in field.iter().enumerate() {
+        if *b == b' ' {
+            return Ok((n, field.split_at(at).1));
+        }
+        if at >= 16 {
+            return Err(Stop::Fault(TextKind::Hex));
+        }
         match hex_digit(*b) {
             Some(v) => n = n * 16 + u64::from(v),
-            None => return None,
+            None => return Err(Stop::Fault(TextKind::Hex)),
         }
     }
-    Some(n)
+    Ok((n, &[]))
 }
 
 /// The value of a decimal digit.

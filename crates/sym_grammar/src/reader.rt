@@ -3,8 +3,8 @@ ghost use Rattle.std.specs.Prelude.{◌≡◌, ◌^◌, ℕ, List, [], ⊤, None
 ghost use Rattle.sym_edges.specs.Outside.{MatchStop};
 ghost use Rattle.sym_records.specs.Reading.{reading};
 ghost use Rattle.sym_edges.specs.declared.fault.Stop.TheVariants.{Fault};
-ghost use Rattle.sym_grammar.specs.Answer.{answer, lifted, Feeds, IsUpToDate, stop_of};
-ghost use Rattle.sym_grammar.specs.Input.{decided, nothing, IfNone};
+ghost use Rattle.sym_grammar.specs.Answer.{answer, lifted, fed_nothing, Feeds, IsUpToDate, stop_of};
+ghost use Rattle.sym_grammar.specs.Input.{decided, IfNone};
 
 use crate::pieces::take_piece;
 use crate::progress::{Progress, add_numbered, into_records, started};
@@ -41,8 +41,8 @@ impl Reader {
     /// A reader that was fed nothing. Takes no memory.
     #[tactic(auto, using(crate::proofs::ReaderLemmas::starts))]
     pub fn new(alloc: Global) -> Reader
+        ensures nothing { result ≡ fed_nothing }
         ensures reads { (bytes : List ℕ) → answer result bytes ≡ lifted (reading bytes) }
-        ensures fresh { result ≡ record { part = nothing; stop = None } }
     {
         Reader {
             seen: started(alloc),

@@ -171,13 +171,12 @@ fn rule_at(alloc: Global, bytes: &[u8]) -> Result<(RuleText, &[u8]), Stop<TextKi
     Ok((RuleText { target, tokens }, later))
 }
 
-/// How many rules there may be, to take their memory at once: each has a `:`.
-fn count_colons(bytes: &[u8], most: usize) -> usize {
-    let mut count = 0;
+/// How many `:` there are. A rule has one, so the memory for the rules of a usual line is taken at once.
+#[inline]
+fn count_colons(bytes: &[u8]) -> usize {
+    let mut count: usize = 0;
     for b in bytes {
-        if *b == b':' && count < most {
-            count += 1;
-        }
+        count = count.wrapping_add(usize::from(*b == b':'));
     }
     count
 }
@@ -187,7 +186,7 @@ fn count_colons(bytes: &[u8], most: usize) -> usize {
 pub(crate) fn rules_at(alloc: Global, bytes: &[u8]) -> Result<Rules, Stop<TextKind>>
     ensures { Gives result (λ x. x) (rules_at bytes.now) }
 {
-    let mut rules = Vec::with_capacity(alloc, count_colons(bytes, 16))?;
+    let mut rules = Vec::with_capacity(alloc, count_colons(bytes).min(16))?;
     let mut rest = skip_spaces(bytes);
     'turns: while !rest.is_empty() {
         match rule_at(alloc, rest) {

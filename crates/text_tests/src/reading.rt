@@ -127,30 +127,28 @@ fn cut_at_every_byte(rt: HostRuntime) -> Result<(), Fail> {
     Ok(())
 }
 
+/// A text whose second line has so many bytes, and no LF.
+fn with_long_line(alloc: Global, length: usize) -> Result<Vec<u8>, Fail> {
+    let mut text = Vec::from_slice(alloc, MODULE)?;
+    text.extend_from_slice(b"INFO ")?;
+    text.extend_from_slice(&vec![in alloc; b'a'; length.saturating_sub(5)]?)?;
+    Ok(text)
+}
+
 #[test]
 fn the_greatest_line(rt: HostRuntime) -> Result<(), Fail> {
     let alloc = rt.alloc();
-    let mut text = Vec::from_slice(alloc, MODULE)?;
-    text.extend_from_slice(b"INFO ")?;
-    text.extend_from_slice(&vec![in alloc; b'a'; (1 << 20) - 5]?)?;
+    let text = with_long_line(alloc, 1 << 20)?;
     for size in [1 << 30, 65536, 1000] {
         assert_eq!(rt; read(alloc, (&text, b""), size)?.len(), 2);
         assert_eq!(rt; read(alloc, (&text, b"\n"), size)?.len(), 2);
     }
-    let fault = TextFault {
-        kind: TextKind::LongLine,
-        line: 2,
-    };
-    for behind in [b"\r".as_slice(), b"a\n", b"\nx"] {
-        let mut reader = Reader::new(alloc);
-        reader.feed(alloc, &text)?;
-        let answer = reader.feed(alloc, behind);
-        if behind[0] == b'\n' {
-            assert!(rt; answer.is_ok());
-        } else {
-            assert_eq!(rt; answer, Err(Stop::Fault(fault)));
-            assert_eq!(rt; reader.feed(alloc, b"\n"), Err(Stop::Fault(fault)));
-        }
+    let kind = TextKind::LongLine;
+    let fault = Stop::Fault(TextFault { kind, line: 2 });
+    let mut reader = Reader::new(alloc);
+    reader.feed(alloc, &text)?;
+    for behind in [b"\r".as_slice(), b"\n", b"x\n"] {
+        assert_eq!(rt; reader.feed(alloc, behind), Err(fault));
     }
     Ok(())
 }

@@ -1,5 +1,5 @@
 -- What the functions under a reader keep.
-use Rattle.std.specs.Prelude.{◌≡◌, ℕ, ◌≤◌, ◌^◌, true, List, ◌++◌, length, None, Result, Ok, Err}
+use Rattle.std.specs.Prelude.{◌≡◌, ℕ, ◌≤◌, true, List, ◌++◌, length, None, Err}
 use Rattle.std.specs.List.{list_all}
 use Rattle.sym_rules.specs.Cuts.{is_within_line}
 use Rattle.sym_records.specs.Validity.{first_bad_from, place_behind}

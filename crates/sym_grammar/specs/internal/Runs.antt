@@ -1,17 +1,22 @@
 -- Digits and words taken one after another, as the loops take them.
-use Rattle.std.specs.Prelude.{ℕ, ◌+◌, ◌*◌, Bool, nat_le, nat_lt, ◌&&◌, if◌then◌else◌, List, [], ◌∷◌, ◌++◌, length, Option, Some, None, Result, Ok, Err}
+use Rattle.std.specs.Prelude.{ℕ, ◌+◌, ◌*◌, nat_le, nat_lt, ◌&&◌, if◌then◌else◌, List, [], ◌∷◌, ◌++◌, length, Option, Some, None, Result, Ok, Err}
 use Rattle.std.specs.List.{position_from}
 use Rattle.std.specs.Char.{digit_value}
 use Rattle.std.specs.Str.{bytes_eq}
 use Rattle.sym_edges.specs.Abi.{register_names}
-use Rattle.sym_records.specs.FieldReading.{hex_at}
+use Rattle.sym_records.specs.FieldReading.{hex_of, hex_at}
 use Rattle.sym_records.specs.declared.line.Extent.{Extent}
 use Rattle.sym_edges.specs.Results.{◌>>=◌}
+use Rattle.sym_rules.specs.Cuts.{before, from}
 use Rattle.sym_rules.specs.RuleReading.{is_digit, ends_in_colon, target_at, token_at, some_of}
 use Rattle.sym_rules.specs.declared.rules.Token.{Token}
 use Rattle.sym_rules.specs.declared.rules.RuleText.{RuleText}
 use Rattle.sym_rules.specs.declared.text_fault.TextKind.{TextKind}
 use Rattle.sym_rules.specs.declared.text_fault.TextKind.TheVariants.{Rule}
+
+-- the number that a field is, and what stands behind it
+unfoldable pub hex_field : List ℕ → Result (ℕ × List ℕ) TextKind
+hex_field field = hex_of (before 32 field) >>= λ n. Ok (n, from 32 field)
 
 -- the value of a decimal digit
 abbrev pub ten_digit : ℕ → Option ℕ

@@ -9,7 +9,7 @@ pieces-init g c = record {
   files = refl;
   faults = omega arith;
   room = search rules;
-  read = start_read c.args.limit _ c.new-reader.result c.new-reader.ensures.reads c.new-reader.ensures.fresh;
+  read = start_read c.args.limit _ c.new-reader.result c.new-reader.ensures.reads c.new-reader.ensures.nothing;
 }
 
 pub returns-then-read-eq0-clause-read : goal.returns-then-read-eq0-clause-read
