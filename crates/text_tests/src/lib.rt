@@ -1,5 +1,5 @@
-//! Tests of the lowest crates and of those that make records: `sym_edges`, `range_set`, `step_maps`, `unit_workers`, `sym_rules` and
-//! `sym_records`.
+//! Tests of the lowest crates, of those that make records, and of those that evaluate them: `sym_edges`, `range_set`, `step_maps`,
+//! `unit_workers`, `sym_rules`, `sym_records`, `cfi_eval` and `state_file`.
 //!
 //! They use public calls alone and nothing stands on them, so each of those crates is proved without them. There is no code here. A
 //! test shows what no clause says: that calls answer with ample memory, what files and streams do that are slow, interrupted or
@@ -11,11 +11,15 @@ mod comparing;
 #[cfg(test)]
 mod fakes;
 #[cfg(test)]
+mod frames;
+#[cfg(test)]
 mod records;
 #[cfg(test)]
 mod rules;
 #[cfg(test)]
 mod sets;
+#[cfg(test)]
+mod states;
 #[cfg(test)]
 mod steps;
 #[cfg(test)]
