@@ -76,6 +76,10 @@ unfolding state_file_computes read
 lower_case = refl
 
 -- a CR before a space ends no keyword
+cr_behind_keyword : read "REG\r " ≡ Err (record { kind = Keyword; line = 1 })
+unfolding state_file_computes read
+cr_behind_keyword = refl
+
 cr_in_keyword : read "REG\r rax 1" ≡ Err (record { kind = Keyword; line = 1 })
 unfolding state_file_computes read
 cr_in_keyword = refl

@@ -1,5 +1,4 @@
-//! Tests of the lowest crates and of those that make records: `sym_edges`, `range_set`, `step_maps`, `unit_workers`, `sym_rules`,
-//! `sym_records` and `sym_grammar`.
+//! Tests of the lowest crates, of those that make, read and check records, and of those that evaluate them.
 //!
 //! They use public calls alone and nothing stands on them, so each of those crates is proved without them. There is no code here. A
 //! test shows what no clause says: that calls answer with ample memory, what files and streams do that are slow, interrupted or
@@ -12,12 +11,15 @@ mod comparing;
 mod fakes;
 #[cfg(test)]
 mod reading;
+mod frames;
 #[cfg(test)]
 mod records;
 #[cfg(test)]
 mod rules;
 #[cfg(test)]
 mod sets;
+#[cfg(test)]
+mod states;
 #[cfg(test)]
 mod steps;
 #[cfg(test)]
