@@ -10,8 +10,11 @@ mod comparing;
 #[cfg(test)]
 mod fakes;
 #[cfg(test)]
-mod reading;
+mod findings;
+#[cfg(test)]
 mod frames;
+#[cfg(test)]
+mod reading;
 #[cfg(test)]
 mod records;
 #[cfg(test)]
