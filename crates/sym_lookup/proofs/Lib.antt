@@ -5,3 +5,7 @@ pub mod NameLemmas
 pub mod ShownLemmas
 pub mod Computing
 mod WorkedAnswers
+pub mod StretchLemmas
+pub mod MarkLemmas
+pub mod PublicMarkLemmas
+pub mod IndexLemmas

@@ -1,15 +1,14 @@
 -- The places of an answer name what a look-up in the text names.
 use Rattle.std.proofs.Common.{◌≡◌, ◌+◌, ℕ, zero, suc, Bool, true, false, cond, List, [], ◌∷◌, drop, map, Option, None, Some, refl, sym, ap, subst, ◌∙◌, arith}
-use Rattle.std.specs.List.{find, position, position_from, slice_get}
+use Rattle.std.specs.List.{find, position_from, slice_get}
 use Rattle.std.specs.Option.{option_map, option_map_or, option_and_then}
 use Rattle.std.proofs.lemmas.Iterator.Adapters.{position_from-zero}
 use Rattle.sym_records.specs.declared.line.SymLine.{SymLine}
 use Rattle.sym_records.specs.declared.line.SymLine.TheVariants.{Module, Info, File, Origin, Func, Inline, Line, Public, Init, Change}
-use Rattle.sym_meaning.specs.TextNames.{under, is_func_at, is_line_at, is_inline_at, Found, text_func, func_name, text_owner, text_line, text_chain, line_under, inlines_under, inlines_from, level_count, Call, call_of, path_and_line}
-use Rattle.sym_lookup.specs.declared.answers.Answer.{Answer}
+use Rattle.sym_meaning.specs.TextNames.{under, is_func_at, is_line_at, is_inline_at, Found, text_func, func_name, text_owner, text_line, text_chain, line_under, inlines_under, inlines_from, level_count, call_of, path_and_line}
 use Rattle.sym_lookup.specs.declared.answers.Answer.TheVariants as answer
 use Rattle.sym_lookup.specs.Answers.{chain_from, chain_places, line_place, func_place, public_place, answer_of}
-use Rattle.sym_lookup.specs.AnswerTexts.{func_name_at, call_at, line_at, line_spot, frames_text, answer_text, owner_of, calls_of, line_of}
+use Rattle.sym_lookup.specs.AnswerTexts.{call_at, owner_of, calls_of, line_of}
 
 -- records that stand in a list from a place on
 abbrev pub IsPart : List SymLine → ℕ → List SymLine → Type 0
@@ -40,6 +39,7 @@ drop_step (t ∷ lines) zero s rest e = (ap head_of e, ap tail_of e)
     head_of : List SymLine → Option SymLine
     head_of [] = None
     head_of (u ∷ us) = Some u
+
     tail_of : List SymLine → List SymLine
     tail_of [] = []
     tail_of (u ∷ us) = us
@@ -160,7 +160,7 @@ calls_in : (lines : List SymLine) (first x level levels : ℕ) (records : List S
 calls_in lines first x level zero records part = refl
 calls_in lines first x level (suc levels) records part =
     calls_step lines (find (is_inline_at level x) records) (position_from (is_inline_at level x) first records) (inlines_from x (level + 1) levels records) (chain_from first x (level + 1) levels records)
-        (place_found (is_inline_at level x) lines records first part) (calls_in lines first x (level + 1) levels records part)
+    (place_found (is_inline_at level x) lines records first part) (calls_in lines first x (level + 1) levels records part)
 
 chain_in : (lines : List SymLine) (x : ℕ) (f : Found) (place : ℕ) → f.behind ≡ drop (place + 1) lines → map (call_of lines) (inlines_under x f) ≡ map (call_at lines) (chain_places lines place x)
 unfolding chain_places

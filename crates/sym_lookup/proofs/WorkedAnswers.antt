@@ -1,8 +1,7 @@
 -- Worked rows: what a look-up answers, and the text that shows it.
-use Rattle.std.proofs.Common.{◌≡◌, ℕ, List, [], ◌∷◌, Some, None, codes, true, false, refl}
+use Rattle.std.proofs.Common.{◌≡◌, ℕ, List, [], ◌∷◌, Some, None, codes, false, refl}
 use Prim.Native.String.{String}
 use Rattle.sym_edges.proofs.Shown.{shown}
-use Rattle.sym_records.specs.declared.line.Extent.{Extent}
 use Rattle.sym_records.specs.declared.line.SymLine.{SymLine}
 use Rattle.sym_records.specs.declared.line.SymLine.TheVariants.{File, Origin, Func, Inline, Line, Public}
 use Rattle.sym_lookup.specs.declared.answers.Answer.TheVariants as answer

@@ -2,7 +2,7 @@
 -- file's list. The first record of a list has the place 0.
 use Rattle.std.specs.Prelude.{ℕ, zero, suc, ◌+◌, Bool, false, ◌&&◌, ◌==◌, nat_le, max, if◌then◌else◌, List, [], ◌∷◌, drop, Option, None, Some}
 use Rattle.std.specs.List.{position, position_from, list_any}
-use Rattle.std.specs.Option.{option_map, option_map_or, option_and_then}
+use Rattle.std.specs.Option.{option_map_or, option_and_then}
 use Rattle.sym_records.specs.declared.line.SymLine.{SymLine}
 use Rattle.sym_records.specs.declared.line.SymLine.TheVariants.{Func, Public}
 use Rattle.sym_meaning.specs.TextNames.{under, is_func_at, is_line_at, is_inline_at, level_count}
@@ -58,5 +58,5 @@ public_place lines x = option_and_then (λ a. if list_any (begins_between a x) l
 unfoldable pub answer_of : List SymLine → ℕ → Answer
 answer_of lines x =
     option_map_or (λ func. answer.Function func (chain_places lines func x) (line_place lines func x))
-        (func_place lines x)
-        (option_map_or answer.Public (public_place lines x) answer.Nothing)
+    (func_place lines x)
+    (option_map_or answer.Public (public_place lines x) answer.Nothing)

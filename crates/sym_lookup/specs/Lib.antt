@@ -1,3 +1,4 @@
 pub mod Answers
 pub mod AnswerTexts
+pub mod IndexOf
 pub mod internal

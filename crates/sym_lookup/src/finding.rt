@@ -65,7 +65,9 @@ pub(crate) fn is_inline_at(line: &SymLine, level: u64, address: u64) -> bool
 {
     match line {
         SymLine::Inline {
-            level: own, ranges, ..
+            level: own,
+            ranges,
+            ..
         } => u64::from(*own) == level && has_address(ranges.as_slice(), address),
         _ => false,
     }
@@ -176,7 +178,7 @@ pub(crate) fn under_func(lines: &[SymLine], func: usize) -> &[SymLine]
 
 /// What a `FUNC` that covers the address answers.
 #[tactic(auto, unfolding(crate::specs::Answers::chain_places, crate::specs::Answers::line_place))]
-fn in_function(
+pub(crate) fn in_function(
     alloc: Global,
     lines: &[SymLine],
     func: usize,

@@ -3,9 +3,13 @@
 
 mod answers;
 mod finding;
+mod index;
 pub mod laws;
+mod marks;
+mod stretches;
 mod texts;
 
 pub use answers::{Answer, PlaceList};
 pub use finding::answer_at;
+pub use index::Index;
 pub use texts::answer_text;

@@ -152,11 +152,7 @@ fn add_call_spot(text: &mut Vec<u8>, lines: &[SymLine], spot: &SymLine) -> Resul
 }
 
 /// Adds where that of the `INLINE` at a place is.
-fn add_call_spot_at(
-    text: &mut Vec<u8>,
-    lines: &[SymLine],
-    place: usize,
-) -> Result<(), OutOfMemory>
+fn add_call_spot_at(text: &mut Vec<u8>, lines: &[SymLine], place: usize) -> Result<(), OutOfMemory>
     ensures { OnOk result (text.new.items ≡ text.old.items ++ call_spot (call_at lines.now place)) }
 {
     match lines.get(place) {
@@ -195,11 +191,7 @@ fn add_origin(text: &mut Vec<u8>, lines: &[SymLine], number: u32) -> Result<(), 
 }
 
 /// Adds the name of what an `INLINE` inlines.
-fn add_call_name(
-    text: &mut Vec<u8>,
-    lines: &[SymLine],
-    inline: &SymLine,
-) -> Result<(), OutOfMemory>
+fn add_call_name(text: &mut Vec<u8>, lines: &[SymLine], inline: &SymLine) -> Result<(), OutOfMemory>
     ensures { OnOk result (text.new.items ≡ text.old.items ++ call_name (call_of lines.now inline.now)) }
 {
     match inline {
@@ -209,11 +201,7 @@ fn add_call_name(
 }
 
 /// Adds that of the `INLINE` at a place.
-fn add_call_name_at(
-    text: &mut Vec<u8>,
-    lines: &[SymLine],
-    place: usize,
-) -> Result<(), OutOfMemory>
+fn add_call_name_at(text: &mut Vec<u8>, lines: &[SymLine], place: usize) -> Result<(), OutOfMemory>
     ensures { OnOk result (text.new.items ≡ text.old.items ++ call_name (call_at lines.now place)) }
 {
     match lines.get(place) {
@@ -321,11 +309,7 @@ fn add_answer(text: &mut Vec<u8>, lines: &[SymLine], answer: &Answer) -> Result<
 }
 
 /// The text that shows an answer: a line `NAME at PATH:LINE` for each frame, the innermost first, `public NAME` or `none`.
-pub fn answer_text(
-    alloc: Global,
-    file: &SymFile,
-    answer: &Answer,
-) -> Result<ByteText, OutOfMemory>
+pub fn answer_text(alloc: Global, file: &SymFile, answer: &Answer) -> Result<ByteText, OutOfMemory>
     ensures { IfOk result (λ text. text ≡ answer_text file.now answer.now) }
 {
     let mut text = Vec::new(alloc);

@@ -1,0 +1,114 @@
+//! The index of a symbol file.
+ghost use Rattle.std.specs.Prelude.{◌≡◌, ◌<◌, ◌^◌, List, length, IfOk, IfSome};
+ghost use Rattle.cfi_eval.specs.Inits.{init_place};
+ghost use Rattle.sym_lookup.specs.Answers.{func_place, public_place, answer_of};
+ghost use Rattle.sym_lookup.specs.IndexOf.{IsPlaceMap, IsIndexOf};
+ghost use Rattle.sym_lookup.specs.internal.Marks.{mark_at, public_of};
+ghost use Rattle.sym_lookup.specs.declared.answers.Answer.TheVariants as answer;
+ghost use Rattle.sym_records.specs.declared.line.SymLine.{SymLine};
+ghost use Rattle.std.specs.List.Sorted.{IsNonDecreasingBy};
+ghost use Rattle.std.specs.Option.{option_map_or};
+
+use crate::answers::Answer;
+use crate::finding::in_function;
+use crate::marks::{Mark, Marked, mark_at, sorted_marks};
+use crate::stretches::{Kind, PlaceMap, place_at, place_map};
+use std::alloc::Global;
+use sym_edges::OutOfMemory;
+use sym_records::{SymFile, SymLine};
+
+/// An index of a symbol file: which `FUNC` and which `INIT` is the first at each address, and where `FUNC` and `PUBLIC` records begin.
+#[derive(Drop)]
+pub struct Index {
+    funcs: PlaceMap,
+    inits: PlaceMap,
+    starts: Vec<Mark>,
+    publics: Vec<Mark>,
+}
+
+/// The `PUBLIC` in front of an address, by the nearest `PUBLIC` and the nearest `FUNC`.
+fn public_of(found: Option<Mark>, func: Option<Mark>) -> Option<usize>
+    ensures { result ≡ public_of found func }
+{
+    match (found, func) {
+        (None, _) => None,
+        (Some(mark), None) => Some(mark.place as usize),
+        (Some(mark), Some(func)) => {
+            if mark.address <= func.address {
+                return None;
+            }
+            Some(mark.place as usize)
+        }
+    }
+}
+
+/// What is answered where no `FUNC` covers the address.
+fn outside(starts: &[Mark], publics: &[Mark], address: u64) -> Answer
+    requires starts { IsNonDecreasingBy (λ m. m.address) starts.now }
+    requires publics { IsNonDecreasingBy (λ m. m.address) publics.now }
+    ensures { result ≡ option_map_or answer.Public (public_of (mark_at publics.now address) (mark_at starts.now address)) answer.Nothing }
+{
+    let found = mark_at(publics, address);
+    let func = mark_at(starts, address);
+    match public_of(found, func) {
+        Some(index) => Answer::Public { index },
+        None => Answer::Nothing,
+    }
+}
+
+/// The first `FUNC` that covers the address, by the map of them.
+#[tactic(auto, using(crate::proofs::IndexLemmas::func_within))]
+fn func_in(funcs: &PlaceMap, lines: &[SymLine], address: u64) -> Option<usize>
+    requires { IsPlaceMap (func_place lines.now) funcs.now }
+    ensures place { result ≡ func_place lines.now address }
+    ensures within { IfSome result (λ func. func < length lines.now) }
+{
+    place_at(funcs, address)
+}
+
+impl Index {
+    /// The index of a file of fewer than 2^32 records, in n log n turns for n records and ranges however they overlap.
+    pub fn of(alloc: Global, file: &SymFile) -> Result<Index, OutOfMemory>
+        requires { length file.now < 2 ^ 32 }
+        ensures { IfOk result (λ index. IsIndexOf file.now index) }
+    {
+        let lines = file.as_slice();
+        let funcs = place_map(alloc, Kind::Functions, 0, lines)?;
+        let inits = place_map(alloc, Kind::Inits, 0, lines)?;
+        let starts = sorted_marks(alloc, Marked::Functions, lines)?;
+        let publics = sorted_marks(alloc, Marked::Publics, lines)?;
+        Ok(Index {
+            funcs,
+            inits,
+            starts,
+            publics,
+        })
+    }
+
+    /// What a look-up of the address answers.
+    pub fn answer_at(
+        &self,
+        alloc: Global,
+        file: &SymFile,
+        address: u64,
+    ) -> Result<Answer, OutOfMemory>
+        requires { IsIndexOf file.now self.now }
+        ensures { IfOk result (λ found. found ≡ answer_of file.now address) }
+    {
+        let lines = file.as_slice();
+        match func_in(&self.funcs, lines, address) {
+            Some(func) => {
+                let found = in_function(alloc, lines, func, address)?;
+                Ok(found)
+            }
+            None => Ok(outside(self.starts.as_slice(), self.publics.as_slice(), address)),
+        }
+    }
+
+    /// The place of the first `INIT` that covers the address. Takes no memory.
+    pub fn init_at(&self, address: u64) -> Option<usize>
+        ensures { (lines : List SymLine) → IsIndexOf lines self.now → result ≡ init_place lines address }
+    {
+        place_at(&self.inits, address)
+    }
+}

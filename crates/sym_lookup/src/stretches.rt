@@ -1,0 +1,149 @@
+//! The addresses of records as stretches, and the first record at each address.
+ghost use Rattle.std.specs.Prelude.{◌≡◌, ℕ, ◌+◌, ◌<◌, ◌^◌, ◌++◌, [], ◌∷◌, None, length, IfOk, OnOk};
+ghost use Rattle.std.specs.List.{position_from};
+ghost use Rattle.step_maps.specs.Covers.{AreStretches, first_item};
+ghost use Rattle.step_maps.specs.Stepping.{value_at};
+ghost use Rattle.sym_lookup.specs.internal.Kinds.{is_at, extents_of, stretch_of, extent_stretches, stretches_of};
+ghost use Rattle.sym_lookup.specs.IndexOf.{place_in, IsPlaceMap};
+
+use std::alloc::Global;
+use step_maps::{FirstItem, StepMap, Stretch, first_items};
+use sym_edges::OutOfMemory;
+use sym_records::{Extent, SymLine};
+
+/// Records that have addresses.
+#[derive(Clone, Copy)]
+pub enum Kind {
+    Functions,
+    Inits,
+    Lines,
+    /// The `INLINE` records of a level.
+    Level(u64),
+}
+
+/// Which record is the first at an address.
+pub type PlaceMap = StepMap<Option<FirstItem>>;
+
+/// Adds the stretch of a range, where it is not empty.
+#[tactic(auto, using(crate::proofs::StretchLemmas::fit_joined))]
+fn push_extent(stretches: &mut Vec<Stretch>, index: u32, extent: Extent) -> Result<(), OutOfMemory>
+    requires { AreStretches stretches.old.items }
+    ensures same { OnOk result (stretches.new.items ≡ stretches.old.items ++ stretch_of index extent) }
+    ensures stretches { OnOk result (AreStretches stretches.new.items) }
+{
+    if extent.size == 0 {
+        return Ok(());
+    }
+    stretches.push(Stretch {
+        first: extent.address,
+        last: extent.address.saturating_add(extent.size - 1),
+        index,
+        class: 0,
+    })?;
+    Ok(())
+}
+
+/// Adds those of some ranges.
+fn push_extents(
+    stretches: &mut Vec<Stretch>,
+    index: u32,
+    extents: &[Extent],
+) -> Result<(), OutOfMemory>
+    requires { AreStretches stretches.old.items }
+    ensures same { OnOk result (stretches.new.items ≡ stretches.old.items ++ extent_stretches index extents.now) }
+    ensures stretches { OnOk result (AreStretches stretches.new.items) }
+{
+    let mut rest = extents;
+    'extents: while let Some((extent, later)) = rest.split_first() {
+        push_extent(stretches, index, *extent)?;
+        rest = later;
+    }
+    Ok(())
+}
+
+/// Adds that of one range.
+fn push_run(
+    stretches: &mut Vec<Stretch>,
+    index: u32,
+    address: u64,
+    size: u64,
+) -> Result<(), OutOfMemory>
+    requires { AreStretches stretches.old.items }
+    ensures same { OnOk result (stretches.new.items ≡ stretches.old.items ++ extent_stretches index (record { address = address; size = size } ∷ [])) }
+    ensures stretches { OnOk result (AreStretches stretches.new.items) }
+{
+    push_extent(stretches, index, Extent { address, size })
+}
+
+/// Adds those of a record, where it is of the kind.
+fn push_record(
+    stretches: &mut Vec<Stretch>,
+    kind: Kind,
+    index: u32,
+    line: &SymLine,
+) -> Result<(), OutOfMemory>
+    requires { AreStretches stretches.old.items }
+    ensures same { OnOk result (stretches.new.items ≡ stretches.old.items ++ extent_stretches index (extents_of kind line.now)) }
+    ensures stretches { OnOk result (AreStretches stretches.new.items) }
+{
+    match (kind, line) {
+        (Kind::Functions, SymLine::Func { address, size, .. })
+        | (Kind::Inits, SymLine::Init { address, size, .. })
+        | (Kind::Lines, SymLine::Line { address, size, .. }) => {
+            push_run(stretches, index, *address, *size)
+        }
+        (
+            Kind::Level(level),
+            SymLine::Inline {
+                level: own,
+                ranges,
+                ..
+            },
+        ) if u64::from(*own) == level => { push_extents(stretches, index, ranges.as_slice()) }
+        _ => Ok(()),
+    }
+}
+
+/// Those of some records, the first of which has a place.
+fn stretches_of(
+    alloc: Global,
+    kind: Kind,
+    first: usize,
+    records: &[SymLine],
+) -> Result<Vec<Stretch>, OutOfMemory>
+    requires { first + length records.now < 2 ^ 32 }
+    ensures same { IfOk result (λ stretches. stretches.items ≡ stretches_of kind first records.now) }
+    ensures stretches { IfOk result (λ stretches. AreStretches stretches.items) }
+{
+    let mut stretches = Vec::new(alloc);
+    'records: for at in 0..records.len() {
+        push_record(&mut stretches, kind, (first + at) as u32, &records[at])?;
+    }
+    Ok(stretches)
+}
+
+/// Which record of a kind is the first at each address, in n log n turns for n ranges however they overlap.
+#[tactic(auto, using(crate::proofs::StretchLemmas::fit_joined))]
+pub(crate) fn place_map(
+    alloc: Global,
+    kind: Kind,
+    first: usize,
+    records: &[SymLine],
+) -> Result<PlaceMap, OutOfMemory>
+    requires { first + length records.now < 2 ^ 32 }
+    ensures { IfOk result (λ map. IsPlaceMap (λ x. position_from (is_at kind x) first records.now) map) }
+{
+    let stretches = stretches_of(alloc, kind, first, records)?;
+    let map = first_items(alloc, stretches.as_slice())?;
+    Ok(map)
+}
+
+/// The place of the first record at an address.
+pub(crate) fn place_at(map: &PlaceMap, address: u64) -> Option<usize>
+    ensures { result ≡ place_in map.now address }
+{
+    match map.at(None, address) {
+        None => None,
+        Some(item) => Some(item.index as usize),
+    }
+}
