@@ -76,8 +76,8 @@ check_judged : (j : Judgement) (name : List ℕ) (files : Option Files) → Answ
 unfolding check_answer
 check_judged j name files answers =
     let low : j.status < 2 =
-        (let s = status_of j (symbol_verdict records_checked answers.bytes) answers.is in
-        let few = by_low records_checked (file_reading LIMIT answers.bytes) (λ lines. found_low (findings lines)) in omega (arith, s, few)) in
+    (let s = status_of j (symbol_verdict records_checked answers.bytes) answers.is in
+    let few = by_low records_checked (file_reading LIMIT answers.bytes) (λ lines. found_low (findings lines)) in omega (arith, s, few)) in
     record {
       low = omega (arith, low);
       row = λ some. low;
@@ -201,17 +201,23 @@ frame_told j name address state (Some f) kept =
 frame_judged : (j : Judgement) (name : List ℕ) (address : ℕ) (state : List ℕ) (files : Option Files) → FramePromises name address state files j → IsJudged j (Some (frame name address state)) files
 frame_judged j name address state files kept =
     let low : j.status < 2 =
-        (let s = status_of j (frame_bytes address kept.state_bytes kept.bytes) kept.is in
-        let few = by_low (λ lines. state_answer lines address kept.state_bytes) (file_reading LIMIT kept.bytes) (λ lines. state_low lines address kept.state_bytes) in omega (arith, s, few)) in
+    (let s = status_of j (frame_bytes address kept.state_bytes kept.bytes) kept.is in
+    let few = by_low (λ lines. state_answer lines address kept.state_bytes) (file_reading LIMIT kept.bytes) (λ lines. state_low lines address kept.state_bytes) in omega (arith, s, few)) in
     record { low = omega (arith, low); row = λ some. low; told = frame_told j name address state files kept; kept = kept }
 
 frame_kept : (files : Option Files) (name : List ℕ) (address : ℕ) (state : List ℕ) (lines : List SymLine) (j : Judgement) → HoldsFile files name (IsReading LIMIT (Ok lines)) → AnswersBytesOf lines address state files j → FramePromises name address state files j
 frame_kept None name address state lines j holds says = record {
-  bytes = holds.0; there = tt; state_bytes = says.bytes; state_there = λ has. tt;
+  bytes = holds.0;
+  there = tt;
+  state_bytes = says.bytes;
+  state_there = λ has. tt;
   is = says.is ∙ ap (by_records (λ ls. state_answer ls address says.bytes)) (sym holds.1);
 }
 frame_kept (Some f) name address state lines j holds says = record {
-  bytes = holds.0; there = holds.1; state_bytes = says.bytes; state_there = λ has. says.there;
+  bytes = holds.0;
+  there = holds.1;
+  state_bytes = says.bytes;
+  state_there = λ has. says.there;
   is = says.is ∙ ap (by_records (λ ls. state_answer ls address says.bytes)) (sym holds.2);
 }
 
@@ -221,11 +227,17 @@ no_records (Err other) why is has = has
 
 frame_refused : (files : Option Files) (name : List ℕ) (address : ℕ) (state : List ℕ) (why : SymRefusal) (j : Judgement) → HoldsFile files name (IsReading LIMIT (Err why)) → judgement_verdict j ≡ refused (refusal_line why) → FramePromises name address state files j
 frame_refused None name address state why j holds is = record {
-  bytes = holds.0; there = tt; state_bytes = []; state_there = λ has. tt;
+  bytes = holds.0;
+  there = tt;
+  state_bytes = [];
+  state_there = λ has. tt;
   is = is ∙ ap (by_records (λ ls. state_answer ls address [])) (sym holds.1);
 }
 frame_refused (Some f) name address state why j holds is = record {
-  bytes = holds.0; there = holds.1; state_bytes = []; state_there = λ has. absurd (no_records (file_reading LIMIT holds.0) why holds.2 has);
+  bytes = holds.0;
+  there = holds.1;
+  state_bytes = [];
+  state_there = λ has. absurd (no_records (file_reading LIMIT holds.0) why holds.2 has);
   is = is ∙ ap (by_records (λ ls. state_answer ls address [])) (sym holds.2);
 }
 

@@ -166,10 +166,12 @@ pub fn answer_words<R: Threads + Sync, S: Store, G: Gate + Sync>(
         None => answer_usage(),
         Some(Command::Dump { elf, workers }) => answer_dump(rt, alloc, elf, workers, store, gate),
         Some(Command::Check { sym }) => answer_check(alloc, sym, store),
-        Some(Command::Frame {
-            sym,
-            address,
-            state,
-        }) => answer_frame(alloc, sym, address, state, store),
+        Some(
+            Command::Frame {
+                sym,
+                address,
+                state,
+            },
+        ) => answer_frame(alloc, sym, address, state, store),
     }
 }

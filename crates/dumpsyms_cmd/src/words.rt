@@ -16,9 +16,14 @@ const MOST_WORKERS: usize = 64;
 #[derive(Clone, Copy, Debug)]
 pub enum Command<'w> {
     /// `dump ELF` and `dump ELF --workers N`
-    Dump { elf: &'w str, workers: usize },
+    Dump {
+        elf: &'w str,
+        workers: usize,
+    },
     /// `check SYM`
-    Check { sym: &'w str },
+    Check {
+        sym: &'w str,
+    },
     /// `frame SYM ADDR STATE`
     Frame {
         sym: &'w str,

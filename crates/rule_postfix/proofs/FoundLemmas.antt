@@ -107,7 +107,7 @@ follows row start end base b (suc n) x rules later t size le above near below sa
           let more : List RuleText = changed_rules (row (b - 1)) (row b) in
           let rest : List SymLine = RestOf row start end base (b + 1) n later in
           let heard : changes_until x (RestOf row start end base b (suc n) later) ≡ more ++ changes_until x rest =
-              ap (changes_until x) (rest_more row start end base b n later false (omega (arith, size)) none) ∙ heard_change (b - base) x more rest (omega (arith, past)) in
+          ap (changes_until x) (rest_more row start end base b n later false (omega (arith, size)) none) ∙ heard_change (b - base) x more rest (omega (arith, past)) in
           let P : List RuleText → Type 0 = λ rs. Shows rs (row (x + base)) t in
           let inside : b < end = omega (arith, size) in
           subst P (append_assoc rules more (changes_until x rest) ∙ ap (λ cs. rules ++ cs) (sym heard))
@@ -151,11 +151,11 @@ found_more row start end base b n x later true is size le from low said after re
     let above : b + 1 ≤ c = cut_above row start (b + 1) n in
     elim (cases_lt (x + base) c) [
       | inl inside ↦ record {
-          rules = row_rules (row b) ++ changes_until x rest;
-          found = ap (λ ls. text_rules ls x) lines ∙ init_found b c base x (row_rules (row b)) rest le (omega (arith, here, low)) inside;
-          shows = λ t of. follows row start end base (b + 1) n x (row_rules (row b)) later t size (omega (arith, le)) (omega (arith, from)) (omega (arith, here, low)) inside said after of
-              (shows_at (row_rules (row b)) row b (b + 1 - 1) t (omega arith) (row_shows (row b) t of));
-        }
+        rules = row_rules (row b) ++ changes_until x rest;
+        found = ap (λ ls. text_rules ls x) lines ∙ init_found b c base x (row_rules (row b)) rest le (omega (arith, here, low)) inside;
+        shows = λ t of. follows row start end base (b + 1) n x (row_rules (row b)) later t size (omega (arith, le)) (omega (arith, from)) (omega (arith, here, low)) inside said after of
+            (shows_at (row_rules (row b)) row b (b + 1 - 1) t (omega arith) (row_shows (row b) t of));
+      }
       | inr past ↦ found_as (RestOf row start end base b (suc n) later) rest x (row (x + base)) (ap (λ ls. text_rules ls x) lines ∙ init_past b c base x (row_rules (row b)) rest le (omega (arith, above)) past) (rest_found past)
     ]
 found_more row start end base b n x later false is size le from low said after rest_found =

@@ -167,8 +167,8 @@ keeps_one base front xs e ys plain kept none = record {
       let before : entries_at xs (a - base + base) ≡ 0 = ap (entries_at xs) same ∙ none_before a xs e ys kept.apart held in
       let said : AreSaid (row_at e) e.start (e.start + e.size) = rows_said e none in
       let found : HasRules lines (a - base) (row_at e (a - base + base)) =
-          after_found front (written_lines base (xs ++ e ∷ ys)) (a - base) (row_at e (a - base + base)) (no_inits front (a - base) plain)
-          (written_found base (a - base) xs e ys parts.0 parts.1 before (omega (arith, low, same)) (omega (arith, high, same)) said) in
+      after_found front (written_lines base (xs ++ e ∷ ys)) (a - base) (row_at e (a - base + base)) (no_inits front (a - base) plain)
+      (written_found base (a - base) xs e ys parts.0 parts.1 before (omega (arith, low, same)) (omega (arith, high, same)) said) in
       let P : ℕ → Type 0 = λ k. HasRules lines (a - base) (row_at e k) in
       says_by e (row_at e a) regs memory lines (a - base) (said.sound a) (said.cfa a low high) (subst P same found);
 }
