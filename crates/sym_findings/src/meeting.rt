@@ -31,8 +31,8 @@ impl Model for MetRanges {
     ghost invariant = { λ t. IsTail t.start t.end t.top × EndBy t.top t.earlier };
 }
 
-#[tactic(auto, unfolding(crate::specs::internal::Ranges::any_overlap))]
 /// Whether a range that is not empty meets the last one or an earlier one.
+#[tactic(auto, unfolding(crate::specs::internal::Ranges::any_overlap))]
 fn overlaps_any(
     earlier: &RangeUnion,
     last_start: u128,
@@ -73,8 +73,8 @@ impl MetRanges {
         }
     }
 
-    #[tactic(auto, using(crate::proofs::MeetingLemmas::ends_put, crate::proofs::MeetingLemmas::ends_more))]
     /// The addresses of a record more; whether they meet those of an earlier one.
+    #[tactic(auto, using(crate::proofs::MeetingLemmas::ends_put, crate::proofs::MeetingLemmas::ends_more))]
     pub fn put(&mut self, address: u64, size: u64) -> Result<bool, OutOfMemory>
         ensures met { IfOk result (λ met. met ≡ is_met self.old (run_of address size)) }
         ensures more { OnOk result ((e : Extent) → is_met self.new e ≡ (is_met self.old e || meet e (run_of address size))) }

@@ -34,8 +34,8 @@ impl GivenNumbers {
         }
     }
 
-    #[tactic(auto, using(crate::proofs::NumberLemmas::given_again, crate::proofs::NumberLemmas::given_more))]
     /// A number more; whether it was given before.
+    #[tactic(auto, using(crate::proofs::NumberLemmas::given_again, crate::proofs::NumberLemmas::given_more))]
     pub fn give(&mut self, number: u32) -> Result<bool, OutOfMemory>
         ensures again { IfOk result (λ again. again ≡ has_number self.old number) }
         ensures more { OnOk result ((n : ℕ) → has_number self.new n ≡ (has_number self.old n || number == n)) }
@@ -100,8 +100,8 @@ fn number_at(sorted: &[u32], place: usize) -> Option<u32>
     sorted.get(place).copied()
 }
 
-#[tactic(auto, using(crate::proofs::NumberLemmas::stands_in))]
 /// Whether a number stands at its distance from the first.
+#[tactic(auto, using(crate::proofs::NumberLemmas::stands_in))]
 #[inline]
 fn stands_apart(sorted: &[u32], number: u32) -> bool
     ensures { OnTrue result (has_number sorted.now number ≡ true) }
@@ -112,8 +112,8 @@ fn stands_apart(sorted: &[u32], number: u32) -> bool
     }
 }
 
-#[tactic(auto, using(crate::proofs::NumberLemmas::by_halves))]
 /// The search by halves.
+#[tactic(auto, using(crate::proofs::NumberLemmas::by_halves))]
 fn is_found(sorted: &[u32], number: u32) -> bool
     requires { IsNonDecreasing sorted.now }
     ensures { result ≡ has_number sorted.now number }

@@ -66,8 +66,8 @@ impl RangeUnion {
     }
 }
 
-#[tactic(auto, using(crate::proofs::RangeLemmas::none_left, crate::proofs::RangeLemmas::past_none, crate::proofs::RangeLemmas::taken_apart, crate::proofs::RangeLemmas::taken))]
 /// Takes out the last range that meets one that is not empty, where one does.
+#[tactic(auto, using(crate::proofs::RangeLemmas::none_left, crate::proofs::RangeLemmas::past_none, crate::proofs::RangeLemmas::taken_apart, crate::proofs::RangeLemmas::taken))]
 fn take_met(ends: &mut BTreeMap<u128, u128>, start: u128, end: u128) -> Option<(u128, u128)>
     requires apart { AreApart ends.old.entries }
     requires some { start < end }
