@@ -29,12 +29,12 @@ line address size = Line address size 1 0
 abbrev inlined : List Extent → SymLine
 inlined ranges = Inline 0 4 0 0 ranges
 
-abbrev module : SymLine
-module = Module (record { os = codes "Linux"; arch = codes "x86_64"; id = codes "0"; name = codes "a" })
+abbrev head : SymLine
+head = Module (record { os = codes "Linux"; arch = codes "x86_64"; id = codes "0"; name = codes "a" })
 
 -- the module, FILE 0, INLINE_ORIGIN 0, and other records from index 3 on
 abbrev file_of : List SymLine → List SymLine
-file_of lines = module ∷ file 0 ∷ origin 0 ∷ lines
+file_of lines = head ∷ file 0 ∷ origin 0 ∷ lines
 
 -- a file of functions, inlined copies, lines and frames has no finding
 nothing : findings (file_of (func 0x10 0x10 ∷ inlined (run_of 0x10 4 ∷ run_of 0x18 8 ∷ []) ∷ line 0x10 8 ∷ line 0x18 8 ∷ func 0x20 0x10 ∷ line 0x20 0x10 ∷ Public false 0x50 0 (codes "p") ∷ Init 0x10 0x10 [] ∷ Change 0x11 [] ∷ Change 0x1f [] ∷ Init 0x20 0x10 [] ∷ Change 0x21 [] ∷ [])) ≡ []
@@ -215,19 +215,19 @@ several : findings (file_of (func 0x10 0x10 ∷ line 0x18 8 ∷ Line 0x1f 2 1 7 
 unfolding sym_findings_computes
 several = refl
 
-two_records : findings (module ∷ file 0 ∷ File 0 (codes "b") ∷ func 0x10 0 ∷ []) ≡ at kind.GivenAgain 2 ∷ at kind.BadSize 3 ∷ []
+two_records : findings (head ∷ file 0 ∷ File 0 (codes "b") ∷ func 0x10 0 ∷ []) ≡ at kind.GivenAgain 2 ∷ at kind.BadSize 3 ∷ []
 unfolding sym_findings_computes
 two_records = refl
 
 -- the smallest lists: two functions that meet, two that touch, and one file
-two_funcs : findings (module ∷ func 0x1000 0x10 ∷ func 0x1008 0x10 ∷ []) ≡ at kind.FuncMeets 2 ∷ []
+two_funcs : findings (head ∷ func 0x1000 0x10 ∷ func 0x1008 0x10 ∷ []) ≡ at kind.FuncMeets 2 ∷ []
 unfolding sym_findings_computes
 two_funcs = refl
 
-two_that_touch : findings (module ∷ func 0x1000 0x10 ∷ func 0x1010 0x10 ∷ []) ≡ []
+two_that_touch : findings (head ∷ func 0x1000 0x10 ∷ func 0x1010 0x10 ∷ []) ≡ []
 unfolding sym_findings_computes
 two_that_touch = refl
 
-one_file : findings (module ∷ file 0 ∷ []) ≡ []
+one_file : findings (head ∷ file 0 ∷ []) ≡ []
 unfolding sym_findings_computes
 one_file = refl
