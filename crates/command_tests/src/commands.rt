@@ -2,7 +2,10 @@
 //! each small file gives stands in the rows of the crate `worked` too.
 use crate::comparing::same;
 use crate::files::{Given, file_by, joined, of_code};
-use crate::rows::{A, BY_TWO, DUMP, FRONT, FRONTS, MAIN, ROWS, TABLE, THREE_PATHS, UNREAD, Words};
+use crate::rows::{
+    A, BY_TWO, CHECK, DUMP, FRAME, FRONT, FRONTS, MAIN, PUSHED, ROWS, STATE, TABLE, THREE_PATHS,
+    UNREAD, Words,
+};
 use dumpsyms_cmd::run;
 use std::alloc::{AllocError, Global};
 use std::process::Abort;
@@ -35,13 +38,18 @@ fn calls(alloc: Global, numbers: &[u64]) -> Result<CallList, AllocError> {
     Ok(CallList::of(Vec::from_slice(alloc, numbers)?))
 }
 
-/// A store of the file `d/a.out`.
+fn named(alloc: Global, name: &str, bytes: &[u8]) -> Result<NamedFile, AllocError> {
+    Ok(NamedFile {
+        name: NameText::of(String::from_str(alloc, name)?),
+        bytes: ByteRun::of(Vec::from_slice(alloc, bytes)?),
+    })
+}
+
+/// A store of the file `d/a.out`, and of the state `d/state`.
 fn store_of(alloc: Global, file: &[u8], edges: Edges<'_>) -> Result<MemStore, AllocError> {
     let mut files = Vec::new(alloc);
-    files.push(NamedFile {
-        name: NameText::of(String::from_str(alloc, "d/a.out")?),
-        bytes: ByteRun::of(Vec::from_slice(alloc, file)?),
-    })?;
+    files.push(named(alloc, "d/a.out", file)?)?;
+    files.push(named(alloc, "d/state", STATE)?)?;
     let fail = calls(alloc, edges.store)?;
     Ok(MemStore::new(alloc, FileList::of(files), edges.step.max(1), fail))
 }
@@ -170,21 +178,36 @@ fn each_call_that_fails_leaves_a_front(rt: HostRuntime) -> Result<(), Fail> {
     Ok(())
 }
 
-#[test]
-fn each_call_that_fails_has_its_status(rt: HostRuntime) -> Result<(), Fail> {
-    let alloc = rt.alloc();
-    let file = small_and(alloc, NULL)?;
-    // The opening, a call for each byte, and the one that finds the end.
-    for call in 1..=(file.len() as u64).saturating_add(2) {
+/// Each of so many calls of the store that fails in turn: the status is 3.
+fn expect_unread<R: Abort + Threads + Sync>(
+    rt: &R,
+    alloc: Global,
+    words: &[&str],
+    file: &[u8],
+    calls: usize,
+) -> Result<(), Fail> {
+    for call in 1..=calls as u64 {
         let edges = Edges {
             step: 1,
             store: &[call],
             ..SMOOTH
         };
         expect(
-            &rt, &NoGate, alloc, "store", DUMP, &file, edges, 3, b"", UNREAD,
+            rt, &NoGate, alloc, "store", words, file, edges, 3, b"", UNREAD,
         )?;
     }
+    Ok(())
+}
+
+#[test]
+fn each_call_that_fails_has_its_status(rt: HostRuntime) -> Result<(), Fail> {
+    let alloc = rt.alloc();
+    let file = small_and(alloc, NULL)?;
+    // The opening, a call for each byte, and the one that finds the end; of two files twice.
+    expect_unread(&rt, alloc, DUMP, &file, file.len().saturating_add(2))?;
+    expect_unread(&rt, alloc, CHECK, PUSHED, PUSHED.len().saturating_add(2))?;
+    let both = PUSHED.len().saturating_add(STATE.len());
+    expect_unread(&rt, alloc, FRAME, PUSHED, both.saturating_add(4))?;
     let text = joined(alloc, &[FRONT, MAIN])?;
     for room in 0..text.len() {
         let edges = Edges {

@@ -33,6 +33,31 @@ pub const DUMPS: &[Words] = &[
     &["dump", "d/a.out", "--workers", "64"],
 ];
 
+pub const CHECK: Words = &["check", "d/a.out"];
+
+pub const FRAME: Words = &["frame", "d/a.out", "1001", "d/state"];
+
+/// Two functions that meet, and two that do not.
+const MEETING: &[u8] = b"MODULE Linux x86_64 0 a\nFUNC 1000 10 0 f\nFUNC 1008 10 0 g\n";
+
+const APART: &[u8] = b"MODULE Linux x86_64 0 a\nFUNC 1000 10 0 f\nFUNC 1010 10 0 g\n";
+
+const MEETS: &[u8] = b"C5 record 3\n";
+
+/// The frame records of a function that pushes rbp.
+pub const PUSHED: &[u8] = b"MODULE Linux x86_64 0 a\n\
+    STACK CFI INIT 1000 20 .cfa: $rsp 8 + .ra: .cfa -8 + ^\n\
+    STACK CFI 1001 .cfa: $rsp 16 + $rbp: .cfa -16 + ^\n";
+
+/// The state behind the push, as the file `d/state`.
+pub const STATE: &[u8] = b"REG rsp 7ffe0010\nMEM 7ffe0010 4000fe7f000000003412400000000000\n";
+
+/// What the rules give there.
+pub const VALUES: &[u8] = b"cfa 7ffe0020\nra 401234\nrax undefined\nrdx undefined\nrcx undefined\n\
+    rbx failed missing rbx\nrsi undefined\nrdi undefined\nrbp 7ffe0040\nrsp 7ffe0020\nr8 undefined\n\
+    r9 undefined\nr10 undefined\nr11 undefined\nr12 failed missing r12\nr13 failed missing r13\n\
+    r14 failed missing r14\nr15 failed missing r15\n";
+
 /// Words that are no row.
 pub const NO_ROWS: &[Words] = &[
     &[],
@@ -81,7 +106,48 @@ pub type Row = (
     &'static [&'static [u8]],
 );
 
-pub const ROWS: [Row; 36] = [
+pub const ROWS: [Row; 42] = [
+    (
+        "functions meet",
+        &[CHECK],
+        Given::Bytes(MEETING),
+        1,
+        &[MEETS],
+        &[],
+    ),
+    (
+        "functions apart",
+        &[CHECK],
+        Given::Bytes(APART),
+        0,
+        &[b"no findings\n"],
+        &[],
+    ),
+    (
+        "a bad line",
+        &[CHECK, FRAME],
+        Given::Bytes(b"MODULE Linux x86_64 0 a\nfunc 1\n"),
+        1,
+        &[],
+        &[b"refused text unknown line 2\n"],
+    ),
+    ("a frame", &[FRAME], Given::Bytes(PUSHED), 0, &[VALUES], &[]),
+    (
+        "a text as a state",
+        &[&["frame", "d/a.out", "1001", "d/a.out"]],
+        Given::Bytes(PUSHED),
+        1,
+        &[],
+        &[b"refused state keyword line 1\n"],
+    ),
+    (
+        "another state",
+        &[&["frame", "d/a.out", "1001", "other"]],
+        Given::Bytes(PUSHED),
+        3,
+        &[],
+        &[UNREAD],
+    ),
     ("usage", NO_ROWS, Given::Small, 2, &[], &[USAGE]),
     ("another file", &[OTHER], Given::Small, 3, &[], &[UNREAD]),
     ("main", DUMPS, Given::Small, 0, &[FRONT, MAIN], &[]),
@@ -419,7 +485,16 @@ pub type Front = (
     &'static [&'static [u8]],
 );
 
-pub const FRONTS: [Front; 7] = [
+pub const FRONTS: [Front; 8] = [
+    (
+        &[],
+        "findings",
+        CHECK,
+        Given::Bytes(MEETING),
+        1,
+        &[MEETS],
+        &[],
+    ),
     (&[], "main", DUMP, Given::Small, 0, &[FRONT, MAIN], &[]),
     (
         &[],
