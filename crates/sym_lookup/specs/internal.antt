@@ -3,3 +3,4 @@ pub mod Scans
 pub mod Spots
 pub mod Kinds
 pub mod Marks
+pub mod Risings

@@ -6,8 +6,10 @@ mod finding;
 mod index;
 pub mod laws;
 mod marks;
+mod rising;
 mod stretches;
 mod texts;
+mod under;
 
 pub use answers::{Answer, PlaceList};
 pub use finding::answer_at;
