@@ -17,7 +17,8 @@ use Rattle.sym_lookup.specs.declared.marks.Mark.{Mark}
 use Rattle.sym_lookup.specs.declared.marks.Marked.TheVariants as marked
 use Rattle.sym_lookup.specs.declared.stretches.Kind.TheVariants as kind
 use Rattle.sym_lookup.specs.Answers.{func_place, public_place, chain_places, line_place, answer_of}
-use Rattle.sym_lookup.specs.IndexOf.{IsPlaceMap, AreMarksOf}
+use Rattle.sym_lookup.specs.IndexOf.{AreMarksOf}
+use Rattle.sym_lookup.specs.PlaceMaps.{IsPlaceMap}
 use Rattle.sym_lookup.specs.internal.Kinds.{is_at}
 use Rattle.sym_lookup.specs.internal.Marks.{marks_of, mark_at, public_of}
 use Rattle.sym_lookup.proofs.PublicMarkLemmas.{public_by_marks}

@@ -9,3 +9,5 @@ pub mod StretchLemmas
 pub mod MarkLemmas
 pub mod PublicMarkLemmas
 pub mod IndexLemmas
+pub mod RisingLemmas
+pub mod UnderOfLemmas

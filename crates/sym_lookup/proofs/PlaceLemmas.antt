@@ -42,7 +42,7 @@ next_level first x level count place records h l =
     let one : count - level ≡ suc (count - (level + 1)) = omega arith in
     ap (λ n. chain_from first x level n records) one ∙ chain_at first x level (count - (level + 1)) place records h
 
-stops_at : (first x level levels : ℕ) (records : List SymLine) → position_from (is_inline_at level x) first records ≡ None → chain_from first x level levels records ≡ []
+pub stops_at : (first x level levels : ℕ) (records : List SymLine) → position_from (is_inline_at level x) first records ≡ None → chain_from first x level levels records ≡ []
 stops_at first x level zero records h = refl
 stops_at first x level (suc levels) records h = rw h refl
 

@@ -16,7 +16,7 @@ use Rattle.step_maps.specs.Covers.{AreStretches, reaches, first_at, index_at, fi
 use Rattle.sym_lookup.specs.declared.stretches.Kind.{Kind}
 use Rattle.sym_lookup.specs.declared.stretches.Kind.TheVariants as kind
 use Rattle.sym_lookup.specs.internal.Kinds.{is_at, init_run, level_ranges, extents_of, stretch_of, extent_stretches, stretches_of}
-use Rattle.sym_lookup.specs.IndexOf.{IsPlaceMap}
+use Rattle.sym_lookup.specs.PlaceMaps.{IsPlaceMap}
 
 pub fit_joined : (xs : List Stretch) (s : Stretch) → AreStretches xs → s.first ≤ s.last → AreStretches (xs ++ s ∷ [])
 fit_joined [] s fit some = (some, tt)

@@ -1,23 +1,14 @@
 -- An index of a list of records: at each address of 64 bits it finds what the scans find.
-use Rattle.std.specs.Prelude.{◌≡◌, ℕ, ◌<◌, ◌^◌, List, Option, None}
+use Rattle.std.specs.Prelude.{◌≡◌, ℕ, List}
 use Rattle.std.specs.List.Sorted.{IsNonDecreasingBy}
-use Rattle.std.specs.Option.{option_map}
 use Rattle.sym_records.specs.declared.line.SymLine.{SymLine}
-use Rattle.step_maps.specs.Stepping.{Stepping, value_at}
-use Rattle.step_maps.specs.declared.stretch.FirstItem.{FirstItem}
 use Rattle.cfi_eval.specs.Inits.{init_place}
 use Rattle.sym_lookup.specs.declared.marks.Mark.{Mark}
 use Rattle.sym_lookup.specs.declared.index.Index.{Index}
 use Rattle.sym_lookup.specs.Answers.{func_place, public_place}
+use Rattle.sym_lookup.specs.UnderOf.{AreUnders}
+use Rattle.sym_lookup.specs.PlaceMaps.{IsPlaceMap}
 use Rattle.sym_lookup.specs.internal.Marks.{mark_at, public_of}
-
--- the index of the first item at an address
-abbrev pub place_in : Stepping (Option FirstItem) → ℕ → Option ℕ
-place_in map x = option_map (λ (i : FirstItem). i.index) (value_at None map x)
-
--- the places that a map has at the addresses of 64 bits
-pub record IsPlaceMap (find : ℕ → Option ℕ) (map : Stepping (Option FirstItem)) : Type 0 where
-  pub places : (x : ℕ) → x < 2 ^ 64 → place_in map x ≡ find x
 
 -- marks in the order of their addresses, by which the PUBLIC in front of each address is found
 pub record AreMarksOf (lines : List SymLine) (starts publics : List Mark) : Type 0 where
@@ -29,3 +20,4 @@ pub record IsIndexOf (lines : List SymLine) (index : Index) : Type 0 where
   pub funcs : IsPlaceMap (func_place lines) index.funcs
   pub inits : IsPlaceMap (init_place lines) index.inits
   pub marks : AreMarksOf lines index.starts.items index.publics.items
+  pub unders : AreUnders lines index.unders.items

@@ -1,4 +1,6 @@
 pub mod Answers
 pub mod AnswerTexts
+pub mod PlaceMaps
+pub mod UnderOf
 pub mod IndexOf
 pub mod internal

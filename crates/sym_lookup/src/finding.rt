@@ -1,5 +1,5 @@
 //! The plain look-up, by scans.
-ghost use Rattle.std.specs.Prelude.{◌≡◌, ◌+◌, ◌<◌, ◌^◌, if◌then◌else◌, length, drop, IfOk, IfSome};
+ghost use Rattle.std.specs.Prelude.{◌≡◌, ◌+◌, ◌<◌, ◌≤◌, ◌^◌, if◌then◌else◌, length, drop, IfOk, IfSome};
 ghost use Rattle.std.specs.List.{list_any, position, position_from};
 ghost use Rattle.sym_meaning.specs.TextNames.{is_within, under, is_func_at, is_line_at, is_inline_at, level_count};
 ghost use Rattle.sym_lookup.specs.declared.answers.Answer.TheVariants as answer;
@@ -82,7 +82,8 @@ fn is_under(line: &SymLine) -> bool
 /// The records directly under a `FUNC`, of those behind it.
 #[tactic(auto, using(crate::proofs::UnderLemmas::under_begins, crate::proofs::UnderLemmas::under_more, crate::proofs::UnderLemmas::under_stops, crate::proofs::UnderLemmas::under_all))]
 pub(crate) fn under(lines: &[SymLine]) -> &[SymLine]
-    ensures { result.now ≡ under lines.now }
+    ensures under { result.now ≡ under lines.now }
+    ensures within { length result.now ≤ length lines.now }
 {
     'records: for at in 0..lines.len() {
         if !is_under(&lines[at]) {
@@ -105,7 +106,7 @@ fn level_end(line: &SymLine) -> u64
 
 /// One more than the highest level.
 #[tactic(auto, using(crate::proofs::UnderLemmas::levels_more))]
-fn level_count(records: &[SymLine]) -> u64
+pub(crate) fn level_count(records: &[SymLine]) -> u64
     ensures { result ≡ level_count records.now }
 {
     let mut count = 0;
@@ -171,6 +172,7 @@ fn chain_from(
 pub(crate) fn under_func(lines: &[SymLine], func: usize) -> &[SymLine]
     requires { func < length lines.now }
     ensures under { result.now ≡ under (drop (func + 1) lines.now) }
+    ensures within { func + 1 + length result.now ≤ length lines.now }
     ensures fits { func + 1 + length result.now < 2 ^ 64 }
 {
     under(lines.split_at(func + 1).1)

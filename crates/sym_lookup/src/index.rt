@@ -2,7 +2,8 @@
 ghost use Rattle.std.specs.Prelude.{◌≡◌, ◌<◌, ◌^◌, List, length, IfOk, IfSome};
 ghost use Rattle.cfi_eval.specs.Inits.{init_place};
 ghost use Rattle.sym_lookup.specs.Answers.{func_place, public_place, answer_of};
-ghost use Rattle.sym_lookup.specs.IndexOf.{IsPlaceMap, IsIndexOf};
+ghost use Rattle.sym_lookup.specs.IndexOf.{IsIndexOf};
+ghost use Rattle.sym_lookup.specs.PlaceMaps.{IsPlaceMap};
 ghost use Rattle.sym_lookup.specs.internal.Marks.{mark_at, public_of};
 ghost use Rattle.sym_lookup.specs.declared.answers.Answer.TheVariants as answer;
 ghost use Rattle.sym_records.specs.declared.line.SymLine.{SymLine};
@@ -10,9 +11,9 @@ ghost use Rattle.std.specs.List.Sorted.{IsNonDecreasingBy};
 ghost use Rattle.std.specs.Option.{option_map_or};
 
 use crate::answers::Answer;
-use crate::finding::in_function;
 use crate::marks::{Mark, Marked, mark_at, sorted_marks};
 use crate::stretches::{Kind, PlaceMap, place_at, place_map};
+use crate::under::{Under, held_in_function, unders_of};
 use std::alloc::Global;
 use sym_edges::OutOfMemory;
 use sym_records::{SymFile, SymLine};
@@ -24,6 +25,7 @@ pub struct Index {
     inits: PlaceMap,
     starts: Vec<Mark>,
     publics: Vec<Mark>,
+    unders: Vec<Under>,
 }
 
 /// The `PUBLIC` in front of an address, by the nearest `PUBLIC` and the nearest `FUNC`.
@@ -77,11 +79,13 @@ impl Index {
         let inits = place_map(alloc, Kind::Inits, 0, lines)?;
         let starts = sorted_marks(alloc, Marked::Functions, lines)?;
         let publics = sorted_marks(alloc, Marked::Publics, lines)?;
+        let unders = unders_of(alloc, lines)?;
         Ok(Index {
             funcs,
             inits,
             starts,
             publics,
+            unders,
         })
     }
 
@@ -98,10 +102,14 @@ impl Index {
         let lines = file.as_slice();
         match func_in(&self.funcs, lines, address) {
             Some(func) => {
-                let found = in_function(alloc, lines, func, address)?;
+                let found = held_in_function(alloc, self.unders.as_slice(), lines, func, address)?;
                 Ok(found)
             }
-            None => Ok(outside(self.starts.as_slice(), self.publics.as_slice(), address)),
+            None => {
+                let starts = self.starts.as_slice();
+                let publics = self.publics.as_slice();
+                Ok(outside(starts, publics, address))
+            }
         }
     }
 

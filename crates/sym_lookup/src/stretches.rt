@@ -4,7 +4,7 @@ ghost use Rattle.std.specs.List.{position_from};
 ghost use Rattle.step_maps.specs.Covers.{AreStretches, first_item};
 ghost use Rattle.step_maps.specs.Stepping.{value_at};
 ghost use Rattle.sym_lookup.specs.internal.Kinds.{is_at, extents_of, stretch_of, extent_stretches, stretches_of};
-ghost use Rattle.sym_lookup.specs.IndexOf.{place_in, IsPlaceMap};
+ghost use Rattle.sym_lookup.specs.PlaceMaps.{place_in, IsPlaceMap};
 
 use std::alloc::Global;
 use step_maps::{FirstItem, StepMap, Stretch, first_items};

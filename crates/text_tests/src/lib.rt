@@ -14,6 +14,8 @@ mod findings;
 #[cfg(test)]
 mod frames;
 #[cfg(test)]
+mod lookups;
+#[cfg(test)]
 mod reading;
 #[cfg(test)]
 mod records;

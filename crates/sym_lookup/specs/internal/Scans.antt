@@ -1,7 +1,7 @@
 -- Words for scans over records.
-use Rattle.std.specs.Prelude.{ℕ, ◌+◌, Bool, true, false}
+use Rattle.std.specs.Prelude.{ℕ, ◌+◌, ◌==◌, Bool, true, false}
 use Rattle.sym_records.specs.declared.line.SymLine.{SymLine}
-use Rattle.sym_records.specs.declared.line.SymLine.TheVariants.{Inline, Line}
+use Rattle.sym_records.specs.declared.line.SymLine.TheVariants.{Func, Inline, Line}
 
 -- whether a record stands under a FUNC
 abbrev pub is_under : SymLine → Bool
@@ -13,3 +13,12 @@ is_under _ = false
 abbrev pub level_end : SymLine → ℕ
 level_end (Inline level line file origin ranges) = level + 1
 level_end _ = 0
+
+-- whether it is an INLINE of a level
+abbrev pub is_of_level : ℕ → SymLine → Bool
+is_of_level level (Inline own line file origin ranges) = own == level
+is_of_level level _ = false
+
+abbrev pub is_func : SymLine → Bool
+is_func (Func many address size params name) = true
+is_func _ = false

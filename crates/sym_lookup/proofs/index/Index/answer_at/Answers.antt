@@ -7,4 +7,4 @@ returns-in_ok-found-in-Some c = function_found _ _ _ _ _ c.as_slice-lines.ensure
 
 pub returns-in-None : goal.returns-in-None
 returns-in-None c =
-    outside_found _ _ _ _ _ _ _ _ c.as_slice-lines.ensures.lines c.as_slice.ensures.value c.as_slice-in-None.ensures.value (sym c.func_in.ensures.place ∙ c.in-None.is) c.requires.marks c.outside.ensures
+    outside_found _ _ _ _ _ _ _ _ c.as_slice-lines.ensures.lines c.as_slice-starts.ensures.value c.as_slice-publics.ensures.value (sym c.func_in.ensures.place ∙ c.in-None.is) c.requires.marks c.outside.ensures

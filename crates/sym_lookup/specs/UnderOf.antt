@@ -1,0 +1,43 @@
+-- What stands under a FUNC, held so that the records at an address are found by halves.
+use Rattle.std.specs.Prelude.{◌≡◌, ℕ, ◌-◌, ◌<◌, ◌≤◌, ◌^◌, List, [], ◌∷◌, length, take, drop, Option}
+use Rattle.std.specs.List.{position_from}
+use Rattle.std.specs.Option.{option_map_or}
+use Rattle.sym_records.specs.declared.line.SymLine.{SymLine}
+use Rattle.sym_meaning.specs.TextNames.{is_line_at}
+use Rattle.step_maps.specs.Stepping.{Stepping}
+use Rattle.step_maps.specs.declared.stretch.FirstItem.{FirstItem}
+use Rattle.sym_lookup.specs.declared.under.LineFinder.{LineFinder}
+use Rattle.sym_lookup.specs.declared.under.LineFinder.TheVariants.{Rising, Map}
+use Rattle.sym_lookup.specs.declared.under.Under.{Under}
+use Rattle.sym_lookup.specs.Answers.{chain_places, line_place}
+use Rattle.sym_lookup.specs.PlaceMaps.{place_in, IsPlaceMap}
+use Rattle.sym_lookup.specs.internal.Risings.{AreRising}
+
+-- the places that maps have, one after the other until one has none
+abbrev pub chain_in : List (Stepping (Option FirstItem)) → ℕ → List ℕ
+chain_in [] x = []
+chain_in (map ∷ maps) x = option_map_or (λ place. place ∷ chain_in maps x) (place_in map x) []
+
+-- the records from a place to an end
+abbrev pub part : ℕ → ℕ → List SymLine → List SymLine
+part first end lines = take (end - first) (drop first lines)
+
+-- rising records are searched by halves: first and end bound them, and the first of them at an address is the line record there
+pub record AreSearchable (lines : List SymLine) (func first end : ℕ) : Type 0 where
+  pub ordered : first ≤ end
+  pub within : end ≤ length lines
+  pub rising : AreRising 0 (part first end lines)
+  pub line : (x : ℕ) → position_from (is_line_at x) first (part first end lines) ≡ line_place lines func x
+
+-- the line record at each address is found under the FUNC at a place
+abbrev pub IsLineFinder : List SymLine → ℕ → LineFinder → Type 0
+IsLineFinder lines func (Rising first end) = AreSearchable lines func first end
+IsLineFinder lines func (Map map) = IsPlaceMap (line_place lines func) map
+
+pub record IsUnder (lines : List SymLine) (under : Under) : Type 0 where
+  pub chain : (x : ℕ) → x < 2 ^ 64 → chain_in under.levels.items x ≡ chain_places lines under.func x
+  pub line : IsLineFinder lines under.func under.lines
+
+abbrev pub AreUnders : List SymLine → List Under → Type 0
+AreUnders lines [] = Unit {0}
+AreUnders lines (under ∷ unders) = IsUnder lines under × AreUnders lines unders

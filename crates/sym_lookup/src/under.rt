@@ -1,0 +1,227 @@
+//! What stands under a `FUNC`, so that the records at an address are found by halves.
+ghost use Rattle.std.specs.Prelude.{◌≡◌, ℕ, ◌+◌, ◌<◌, ◌^◌, List, length, IfOk, OnOk, IfSome};
+ghost use Rattle.std.specs.List.{list_any};
+ghost use Rattle.sym_records.specs.declared.line.SymLine.{SymLine};
+ghost use Rattle.sym_meaning.specs.TextNames.{level_count};
+ghost use Rattle.sym_lookup.specs.declared.answers.Answer.TheVariants as answer;
+ghost use Rattle.sym_lookup.specs.Answers.{chain_from, chain_places, line_place};
+ghost use Rattle.sym_lookup.specs.UnderOf.{chain_in, IsLineFinder, IsUnder, AreUnders};
+ghost use Rattle.sym_lookup.specs.internal.Scans.{is_of_level, is_func};
+
+use crate::answers::{Answer, PlaceList};
+use crate::finding::{in_function, level_count, under_func};
+use crate::rising::{are_rising, inlines_in_front, line_by_halves};
+use crate::stretches::{Kind, PlaceMap, place_at, place_map};
+use std::alloc::Global;
+use sym_edges::OutOfMemory;
+use sym_records::SymLine;
+
+/// How the line record at an address is found.
+#[derive(Drop)]
+pub enum LineFinder {
+    /// By halves: the line records stand from a place to an end, rise and do not meet.
+    Rising { first: u32, end: u32 },
+    /// By a map of them.
+    Map { map: PlaceMap },
+}
+
+/// What stands under the `FUNC` at a place: a map of the `INLINE` records of each level, and how its line records are found.
+#[derive(Drop)]
+pub struct Under {
+    func: u32,
+    levels: Vec<PlaceMap>,
+    lines: LineFinder,
+}
+
+fn is_of_level(line: &SymLine, level: u64) -> bool
+    ensures { result ≡ is_of_level level line.now }
+{
+    match line {
+        SymLine::Inline { level: own, .. } => u64::from(*own) == level,
+        _ => false,
+    }
+}
+
+/// Whether some `INLINE` has a level.
+fn has_level(records: &[SymLine], level: u64) -> bool
+    ensures { result ≡ list_any (is_of_level level) records.now }
+{
+    records.iter().any(|line| is_of_level(line, level))
+}
+
+/// A map of the `INLINE` records of each level, until a level has none.
+fn levels_of(alloc: Global, records: &[SymLine], first: usize) -> Result<Vec<PlaceMap>, OutOfMemory>
+    requires { first + length records.now < 2 ^ 32 }
+    ensures { IfOk result (λ levels. (x : ℕ) → x < 2 ^ 64 → chain_in levels.items x ≡ chain_from first x 0 (level_count records.now) records.now) }
+{
+    let count = level_count(records);
+    let mut levels = Vec::new(alloc);
+    'levels: for level in 0..count {
+        if !has_level(records, level) {
+            return Ok(levels);
+        }
+        let map = place_map(alloc, Kind::Level(level), first, records)?;
+        levels.push(map)?;
+    }
+    Ok(levels)
+}
+
+/// The places that maps have at an address, one after the other until one has none.
+fn chain_at(alloc: Global, levels: &[PlaceMap], address: u64) -> Result<PlaceList, OutOfMemory>
+    ensures { IfOk result (λ chain. chain ≡ chain_in levels.now address) }
+{
+    let mut chain = Vec::new(alloc);
+    'levels: for at in 0..levels.len() {
+        let Some(place) = place_at(&levels[at], address) else {
+            return Ok(PlaceList::of(chain));
+        };
+        chain.push(place)?;
+    }
+    Ok(PlaceList::of(chain))
+}
+
+/// How the line records under a `FUNC` are found: by halves where they are the last under it, rise and do not meet.
+fn line_finder(alloc: Global, lines: &[SymLine], func: usize) -> Result<LineFinder, OutOfMemory>
+    requires within { func < length lines.now }
+    requires few { length lines.now < 2 ^ 32 }
+    ensures { IfOk result (λ finder. IsLineFinder lines.now func finder) }
+{
+    let records = under_func(lines, func);
+    let skip = inlines_in_front(records);
+    if are_rising(records.split_at(skip).1) {
+        return Ok(LineFinder::Rising {
+            first: (func + 1 + skip) as u32,
+            end: (func + 1 + records.len()) as u32,
+        });
+    }
+    let map = place_map(alloc, Kind::Lines, func + 1, records)?;
+    Ok(LineFinder::Map { map })
+}
+
+/// The first line record under a `FUNC` that covers an address.
+fn line_in(under: &Under, lines: &[SymLine], address: u64) -> Option<usize>
+    requires { IsLineFinder lines.now under.now.func under.now.lines }
+    ensures { result ≡ line_place lines.now under.now.func address }
+{
+    match &under.lines {
+        LineFinder::Rising { first, end } => {
+            let first = *first as usize;
+            line_by_halves(&lines[first..*end as usize], first, address)
+        }
+        LineFinder::Map { map } => place_at(map, address),
+    }
+}
+
+/// What stands under the `FUNC` at a place.
+fn under_of(alloc: Global, lines: &[SymLine], func: usize) -> Result<Under, OutOfMemory>
+    requires within { func < length lines.now }
+    requires few { length lines.now < 2 ^ 32 }
+    ensures { IfOk result (λ under. IsUnder lines.now under) }
+{
+    let levels = levels_of(alloc, under_func(lines, func), func + 1)?;
+    let finder = line_finder(alloc, lines, func)?;
+    Ok(Under {
+        func: func as u32,
+        levels,
+        lines: finder,
+    })
+}
+
+fn is_func(line: &SymLine) -> bool
+    ensures { result ≡ is_func line.now }
+{
+    matches!(line, SymLine::Func { .. })
+}
+
+/// Adds what stands under the `FUNC` at a place.
+#[tactic(auto, using(crate::proofs::UnderOfLemmas::unders_joined))]
+fn push_under(
+    alloc: Global,
+    unders: &mut Vec<Under>,
+    lines: &[SymLine],
+    func: usize,
+) -> Result<(), OutOfMemory>
+    requires within { func < length lines.now }
+    requires few { length lines.now < 2 ^ 32 }
+    requires unders { AreUnders lines.now unders.old.items }
+    ensures { OnOk result (AreUnders lines.now unders.new.items) }
+{
+    let under = under_of(alloc, lines, func)?;
+    unders.push(under)?;
+    Ok(())
+}
+
+/// What stands under each `FUNC`, in their order.
+pub(crate) fn unders_of(alloc: Global, lines: &[SymLine]) -> Result<Vec<Under>, OutOfMemory>
+    requires { length lines.now < 2 ^ 32 }
+    ensures { IfOk result (λ unders. AreUnders lines.now unders.items) }
+{
+    let mut unders = Vec::new(alloc);
+    'lines: for at in 0..lines.len() {
+        if !is_func(&lines[at]) {
+            continue;
+        }
+        push_under(alloc, &mut unders, lines, at)?;
+    }
+    Ok(unders)
+}
+
+/// What stands under the `FUNC` at a place, by halves.
+#[tactic(auto, using(crate::proofs::UnderOfLemmas::under_there))]
+fn under_at(unders: &[Under], func: usize) -> Option<&Under>
+    ensures func { IfSome result (λ under. under.now.func ≡ func) }
+    ensures under { IfSome result (λ under. (lines : List SymLine) → AreUnders lines unders.now → IsUnder lines under.now) }
+{
+    let at = unders.partition_point(|under| (under.func as usize) < func);
+    if at >= unders.len() {
+        return None;
+    }
+    let under = &unders[at];
+    if under.func as usize != func {
+        return None;
+    }
+    Some(under)
+}
+
+/// What the `FUNC` that stands over some records answers.
+fn in_under(
+    alloc: Global,
+    under: &Under,
+    lines: &[SymLine],
+    address: u64,
+) -> Result<Answer, OutOfMemory>
+    requires { IsUnder lines.now under.now }
+    ensures { IfOk result (λ found. found ≡ answer.Function under.now.func (chain_places lines.now under.now.func address) (line_place lines.now under.now.func address)) }
+{
+    let chain = chain_at(alloc, under.levels.as_slice(), address)?;
+    let line = line_in(under, lines, address);
+    Ok(Answer::Function {
+        func: under.func as usize,
+        chain,
+        line,
+    })
+}
+
+/// What a `FUNC` that covers the address answers, by what is held of it.
+pub(crate) fn held_in_function(
+    alloc: Global,
+    unders: &[Under],
+    lines: &[SymLine],
+    func: usize,
+    address: u64,
+) -> Result<Answer, OutOfMemory>
+    requires within { func < length lines.now }
+    requires unders { AreUnders lines.now unders.now }
+    ensures { IfOk result (λ found. found ≡ answer.Function func (chain_places lines.now func address) (line_place lines.now func address)) }
+{
+    match under_at(unders, func) {
+        Some(under) => {
+            let found = in_under(alloc, under, lines, address)?;
+            Ok(found)
+        }
+        None => {
+            let found = in_function(alloc, lines, func, address)?;
+            Ok(found)
+        }
+    }
+}
