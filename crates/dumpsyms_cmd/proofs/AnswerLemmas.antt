@@ -20,7 +20,7 @@ use Rattle.sym_grammar.specs.declared.input.SymEnd.TheVariants as end
 use Rattle.state_file.specs.StateText.{state_of}
 use Rattle.state_file.specs.declared.state.State.{State}
 use Rattle.state_file.specs.declared.fault.StateFault.{StateFault}
-use Rattle.dumpsyms_cmd.specs.Words.{Asked, check, frame, if_records, second_of, second_told, files_of}
+use Rattle.dumpsyms_cmd.specs.Words.{Asked, check, lookup, frame, if_records, second_of, second_told, files_of}
 use Rattle.dumpsyms_cmd.specs.Refusals.{too_long_line, state_line}
 use Rattle.dumpsyms_cmd.specs.Verdict.{Verdict, refused, unread, LIMIT}
 use Rattle.dumpsyms_cmd.specs.Observed.{Asks}
@@ -28,6 +28,7 @@ use Rattle.dumpsyms_cmd.specs.Judgement.{out_bytes, err_bytes, judgement_verdict
 use Rattle.dumpsyms_cmd.specs.SymbolInput.{refusal_line, by_records, symbol_verdict, file_verdict, AnswersBytes}
 use Rattle.dumpsyms_cmd.specs.Answers.{IsVerdict}
 use Rattle.dumpsyms_cmd.specs.commands.Check.{findings_verdict, records_checked, check_answer}
+use Rattle.dumpsyms_cmd.specs.commands.Lookup.{records_looked_up, lookup_answer}
 use Rattle.dumpsyms_cmd.specs.commands.Frame.{frame_answer, by_state, state_answer, frame_bytes, frame_verdict, HasRecords, FramePromises, STATE_LIMIT}
 use Rattle.dumpsyms_cmd.specs.internal.Judged.{Refuses, IsJudged, AnswersCommand, AnswersStop, AnswersEnd, AnswersJudged, AnswersBytesOf, AnswersState}
 use Rattle.dumpsyms_cmd.specs.declared.judgement.Output.{Output}
@@ -98,6 +99,34 @@ check_ended Unread (Fault end.Unread) name files before after read says = (refl,
 check_ended Unread (Fault (end.Refused why)) name files before after read says = absurd says
 check_ended Unread stop.NoMemory name files before after read says = absurd says
 check_ended NoMemory stopped name files before after read says = refl
+
+-- `lookup`
+lookup_judged : (j : Judgement) (name : List ℕ) (address : ℕ) (files : Option Files) → AnswersBytes name (symbol_verdict (records_looked_up address)) files j → IsJudged j (Some (lookup name address)) files
+unfolding lookup_answer
+lookup_judged j name address files answers =
+    let low : j.status < 2 =
+    (let s = status_of j (symbol_verdict (records_looked_up address) answers.bytes) answers.is in
+    let few = by_low (records_looked_up address) (file_reading LIMIT answers.bytes) (λ lines. omega arith) in omega (arith, s, few)) in
+    record {
+      low = omega (arith, low);
+      row = λ some. low;
+      told = told (λ f. f name ≡ Some answers.bytes) (λ f. judgement_verdict j ≡ file_verdict (lookup_answer address) (f name)) files (λ f there. answers.is ∙ ap (file_verdict (lookup_answer address)) (sym there)) answers.there;
+      kept = record { bytes = answers.bytes; there = answers.there; is = answers.is };
+    }
+
+pub lookup_read : {F : Type 0} (answer : Answer) (judged : Result Judgement F) (name : List ℕ) (address : ℕ) (files : Option Files) (before after : ℕ) (lines : List SymLine) → HoldsFile files name (IsReading LIMIT (Ok lines)) → AnswersJudged answer judged → IfOk judged (λ j. judgement_verdict j ≡ records_looked_up address lines) → AnswersCommand answer (Some (lookup name address)) files before after
+lookup_read answer judged name address files before after lines holds is says =
+    answered answer judged (λ a. AnswersCommand a (Some (lookup name address)) files before after) is
+    (if_ok judged (λ j. judgement_verdict j ≡ records_looked_up address lines) (λ j. IsJudged j (Some (lookup name address)) files) (λ j same. lookup_judged j name address files (by_reading files name (records_looked_up address) (Ok lines) j holds same)) says) refl
+
+pub lookup_ended : (answer : Answer) (stopped : Stop SymEnd) (name : List ℕ) (address : ℕ) (files : Option Files) (before after : ℕ) → SymRead (Err stopped) files name LIMIT before after → AnswersEnd answer stopped → AnswersCommand answer (Some (lookup name address)) files before after
+lookup_ended (Judged j) (Fault end.Unread) name address files before after read says = absurd says
+lookup_ended (Judged j) (Fault (end.Refused why)) name address files before after read says = lookup_judged j name address files (by_reading files name (records_looked_up address) (Err why) j read says)
+lookup_ended (Judged j) stop.NoMemory name address files before after read says = absurd says
+lookup_ended Unread (Fault end.Unread) name address files before after read says = (refl, read)
+lookup_ended Unread (Fault (end.Refused why)) name address files before after read says = absurd says
+lookup_ended Unread stop.NoMemory name address files before after read says = absurd says
+lookup_ended NoMemory stopped name address files before after read says = refl
 
 -- the name of a symbol file is asked for, and then perhaps that of a second file
 pub asks_symbols : {A F : Type 0} (read : Result A (Stop F)) (name : List ℕ) (names : List (List ℕ)) (before after : List (List ℕ)) → AsksName read before name after → Asks (name ∷ names) before after
