@@ -4,3 +4,6 @@ pub mod WordLemmas
 pub mod StackLemmas
 pub mod RuleLemmas
 pub mod InitLemmas
+pub mod Computing
+pub mod WorkedValues
+pub mod WorkedFrames

@@ -1,6 +1,6 @@
 -- Lemmas on bytes of memory: in the last run that holds an address, and by halves where runs ascend.
-use Rattle.std.proofs.Common.{◌≡◌, ◌+◌, ◌-◌, ◌<◌, ◌≤◌, ℕ, zero, suc, ltb, leb, true, false, List, [], ◌∷◌, ◌++◌, length, get_or, take, drop, Option, None, Some, refl, sym, ap, ◌∙◌, arith}
-use Rattle.std.proofs.lemmas.Bool.{and_parts, and_from, and_left, and_right, leb-true, le-leb, lt-leb, le-ltb, cases_lt}
+use Rattle.std.proofs.Common.{◌≡◌, ◌+◌, ◌-◌, ◌<◌, ◌≤◌, ℕ, zero, suc, leb, true, false, List, [], ◌∷◌, ◌++◌, length, get_or, take, drop, Option, None, Some, refl, sym, ap, ◌∙◌, arith}
+use Rattle.std.proofs.lemmas.Bool.{and_parts, and_from, and_left, and_right, leb-true, le-leb, lt-leb, le-ltb}
 use Rattle.std.proofs.lemmas.List.{drop_more, take_more, take_all, at_drop_all}
 use Rattle.std.specs.Option.{option_or, option_and_then, is_some}
 use Rattle.std.specs.List.{slice_get}

@@ -1,10 +1,10 @@
 -- Lemmas on the rules of a target.
-use Rattle.std.proofs.Common.{◌≡◌, ◌+◌, ◌-◌, ◌<◌, ◌≤◌, ℕ, zero, suc, leb, cond, true, false, List, [], ◌∷◌, ◌++◌, length, get_or, take, drop, Option, None, Some, refl, sym, ap, ◌∙◌, arith, append_assoc}
+use Rattle.std.proofs.Common.{◌≡◌, ◌+◌, ◌-◌, ◌<◌, ◌≤◌, ℕ, zero, suc, cond, true, false, List, [], ◌∷◌, ◌++◌, length, get_or, take, drop, Option, None, Some, refl, sym, ap, ◌∙◌, arith}
 use Rattle.std.proofs.lemmas.Bool.{le-leb, lt-leb}
 use Rattle.std.proofs.lemmas.List.{drop_more, drop_all, take_more, take_all, get_or_default}
 use Rattle.std.specs.Option.{option_or}
 use Rattle.sym_records.specs.declared.line.SymLine.{SymLine}
-use Rattle.sym_records.specs.declared.line.SymLine.TheVariants.{Module, Info, File, Origin, Func, Inline, Line, Public, Init, Change}
+use Rattle.sym_records.specs.declared.line.SymLine.TheVariants.{Change}
 use Rattle.sym_rules.specs.declared.rules.Target.{Target}
 use Rattle.sym_rules.specs.declared.rules.Token.{Token}
 use Rattle.sym_rules.specs.declared.rules.RuleText.{RuleText}

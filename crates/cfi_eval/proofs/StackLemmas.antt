@@ -2,13 +2,13 @@
 use Rattle.std.proofs.Common.{◌≡◌, ℕ, ◌+◌, ◌<◌, ◌≤◌, true, false, List, [], ◌∷◌, ◌++◌, length, get_or, drop, reverse, Option, Result, Ok, Err, refl, sym, ap, ◌∙◌}
 use Rattle.std.proofs.lemmas.List.{drop_more, drop_all, reverse-append}
 use Rattle.sym_rules.specs.declared.rules.Token.{Token}
-use Rattle.sym_rules.specs.declared.rules.Token.TheVariants.{Number, Reg, Cfa, Undef, Other, Add, Sub, Mul, Div, Rem, Align, Fetch}
+use Rattle.sym_rules.specs.declared.rules.Token.TheVariants.{Undef}
 use Rattle.cfi_eval.specs.declared.registers.Regs.{Regs}
 use Rattle.cfi_eval.specs.declared.memory.MemRun.{MemRun}
 use Rattle.cfi_eval.specs.declared.outcome.Cause.{Cause}
 use Rattle.cfi_eval.specs.declared.outcome.Cause.TheVariants as cause
 use Rattle.cfi_eval.specs.declared.outcome.Outcome.{Outcome}
-use Rattle.cfi_eval.specs.declared.outcome.Outcome.TheVariants.{Value, Undefined, Failed}
+use Rattle.cfi_eval.specs.declared.outcome.Outcome.TheVariants.{Undefined, Failed}
 use Rattle.cfi_eval.specs.Postfix.{on_one, on_two, with_token, or_failed, postfix_from, rule_value, one_value}
 use Rattle.cfi_eval.specs.internal.Stacks.{HasNoTwo, HasNone, is_undefined}
 

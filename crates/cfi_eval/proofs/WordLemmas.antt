@@ -1,5 +1,5 @@
 -- Lemmas on words of memory, which are read from the lowest byte on.
-use Rattle.std.proofs.Common.{◌≡◌, ◌+◌, ◌-◌, ◌*◌, ◌^◌, ◌%◌, ◌<◌, ◌≤◌, ℕ, zero, suc, ltb, cond, Bool, true, false, List, Option, None, Some, refl, sym, ap, ◌∙◌, arith, add-zero, add_assoc, lit<, inl, inr, Fits, w64}
+use Rattle.std.proofs.Common.{◌≡◌, ◌+◌, ◌-◌, ◌*◌, ◌^◌, ◌%◌, ◌<◌, ◌≤◌, ℕ, suc, ltb, cond, Bool, true, false, List, Option, None, Some, refl, sym, ap, ◌∙◌, arith, add-zero, add_assoc, lit<, inl, inr, Fits, w64}
 use Rattle.std.proofs.Math.Nat.{mul-le-mul_right, pow-le-pow_right}
 use Rattle.std.proofs.lemmas.Nat.{pow-add, shl_whole}
 use Rattle.std.proofs.lemmas.Bool.{lt-ltb, le-ltb, cases_lt}

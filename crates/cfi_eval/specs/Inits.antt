@@ -2,7 +2,7 @@
 use Rattle.std.specs.Prelude.{ℕ, Bool, false, List, Option}
 use Rattle.std.specs.List.{position}
 use Rattle.sym_records.specs.declared.line.SymLine.{SymLine}
-use Rattle.sym_records.specs.declared.line.SymLine.TheVariants.{Module, Info, File, Origin, Func, Inline, Line, Public, Init, Change}
+use Rattle.sym_records.specs.declared.line.SymLine.TheVariants.{Init}
 use Rattle.cfi_eval.specs.TextRules.{covers}
 
 -- the record is an INIT that covers the address

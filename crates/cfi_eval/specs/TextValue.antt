@@ -1,6 +1,6 @@
 -- What the rules of a symbol file give at an address, over registers and memory: the CFA first, then the return address and the registers of
 -- the caller (Breakpad's symbol_files.md, "STACK CFI"; System V ABI for AMD64, section 3.2.1, for registers without a rule).
-use Rattle.std.specs.Prelude.{ℕ, List, [], map, Option, None, Some, Result, Ok, Err}
+use Rattle.std.specs.Prelude.{ℕ, List, map, Option, None, Some, Result, Ok, Err}
 use Rattle.std.specs.List.{range_with_len}
 use Rattle.std.specs.Option.{option_map}
 use Rattle.sym_edges.specs.Abi.{Default, KeepsValue, IsCfa, Unspecified, default_of}

@@ -1,27 +1,18 @@
 //! What the rules of a symbol file give at an address.
-ghost use Rattle.std.specs.Prelude.{◌≡◌, ◌<◌, ◌++◌, Some, length, IfOk};
+ghost use Rattle.std.specs.Prelude.{◌≡◌, Some, IfOk};
 ghost use Rattle.sym_edges.specs.Abi.{is_kept, default_of};
 ghost use Rattle.cfi_eval.specs.Inits.{init_place};
-ghost use Rattle.cfi_eval.specs.TextRules.{changes_until, text_rules};
 ghost use Rattle.cfi_eval.specs.TextValue.{outcome_of, default_value, text_cfa, text_ra, text_register, frame_of, text_frame};
 
 use crate::memory::Memory;
 use crate::outcome::{Cause, Frame, Outcome};
 use crate::postfix::{eval, register_value};
 use crate::registers::Regs;
-use crate::rules::{init_at, rule_at};
+use crate::rules::{RulesAt, init_at};
 use std::alloc::Global;
 use sym_edges::OutOfMemory;
-use sym_records::{SymFile, SymLine};
-use sym_rules::{RuleText, Target};
-
-/// An INIT's rules, the records behind it, and the address whose rules are meant.
-#[derive(Clone, Copy)]
-struct RulesAt<'r> {
-    first: &'r [RuleText],
-    behind: &'r [SymLine],
-    address: u64,
-}
+use sym_records::SymFile;
+use sym_rules::Target;
 
 /// The CFA.
 #[tactic(auto, unfolding(crate::specs::TextValue::text_cfa))]
@@ -31,9 +22,9 @@ fn cfa_at(
     regs: &Regs,
     memory: &Memory,
 ) -> Result<Outcome, OutOfMemory>
-    ensures { IfOk result (λ cfa. cfa ≡ text_cfa regs.now memory.now (rules.now.first.now ++ changes_until rules.now.address rules.now.behind.now)) }
+    ensures { IfOk result (λ cfa. cfa ≡ text_cfa regs.now memory.now rules.now) }
 {
-    match rule_at(rules.first, rules.behind, rules.address, &Target::Cfa) {
+    match rules.tokens(&Target::Cfa) {
         None => Ok(Outcome::Undefined),
         Some(tokens) => eval(alloc, tokens.as_slice(), regs, None, memory),
     }
@@ -48,10 +39,10 @@ fn ra_at(
     memory: &Memory,
     cfa: Outcome,
 ) -> Result<Outcome, OutOfMemory>
-    requires { cfa ≡ text_cfa regs.now memory.now (rules.now.first.now ++ changes_until rules.now.address rules.now.behind.now) }
-    ensures { IfOk result (λ ra. ra ≡ text_ra regs.now memory.now (rules.now.first.now ++ changes_until rules.now.address rules.now.behind.now)) }
+    requires { cfa ≡ text_cfa regs.now memory.now rules.now }
+    ensures { IfOk result (λ ra. ra ≡ text_ra regs.now memory.now rules.now) }
 {
-    match rule_at(rules.first, rules.behind, rules.address, &Target::Ra) {
+    match rules.tokens(&Target::Ra) {
         None => Ok(Outcome::Undefined),
         Some(tokens) => eval(alloc, tokens.as_slice(), regs, Some(cfa), memory),
     }
@@ -98,15 +89,10 @@ fn register_at(
     cfa: Outcome,
     register: u8,
 ) -> Result<Outcome, OutOfMemory>
-    requires { cfa ≡ text_cfa regs.now memory.now (rules.now.first.now ++ changes_until rules.now.address rules.now.behind.now) }
-    ensures { IfOk result (λ value. value ≡ text_register regs.now memory.now (rules.now.first.now ++ changes_until rules.now.address rules.now.behind.now) register) }
+    requires { cfa ≡ text_cfa regs.now memory.now rules.now }
+    ensures { IfOk result (λ value. value ≡ text_register regs.now memory.now rules.now register) }
 {
-    match rule_at(
-        rules.first,
-        rules.behind,
-        rules.address,
-        &Target::Reg(register),
-    ) {
+    match rules.tokens(&Target::Reg(register)) {
         None => Ok(default_value(regs, cfa, register)),
         Some(tokens) => eval(alloc, tokens.as_slice(), regs, Some(cfa), memory),
     }
@@ -120,7 +106,7 @@ fn frame_of(
     regs: &Regs,
     memory: &Memory,
 ) -> Result<Frame, OutOfMemory>
-    ensures { IfOk result (λ frame. frame ≡ frame_of regs.now memory.now (rules.now.first.now ++ changes_until rules.now.address rules.now.behind.now)) }
+    ensures { IfOk result (λ frame. frame ≡ frame_of regs.now memory.now rules.now) }
 {
     let cfa = cfa_at(alloc, rules, regs, memory)?;
     let ra = ra_at(alloc, rules, regs, memory, cfa)?;
@@ -133,22 +119,6 @@ fn frame_of(
         ra,
         regs: values,
     })
-}
-
-/// The rules of the first INIT that covers an address, and what stands behind it.
-fn rules_from(lines: &[SymLine], init: usize, address: u64) -> RulesAt<'_>
-    requires within { init < length lines.now }
-    requires first { init_place lines.now address ≡ Some init }
-    ensures { text_rules lines.now address ≡ Some (result.first.now ++ changes_until result.address result.behind.now) }
-{
-    let SymLine::Init { rules, .. } = &lines[init] else {
-        unreachable!()
-    };
-    RulesAt {
-        first: rules.as_slice(),
-        behind: &lines[init + 1..],
-        address,
-    }
 }
 
 /// What the text gives at an address that the INIT at an index covers, the first that does.
@@ -164,7 +134,7 @@ pub fn frame_from(
     requires { init_place file.now address ≡ Some init }
     ensures { IfOk result (λ frame. text_frame file.now address regs.now memory.now ≡ Some frame) }
 {
-    let rules = rules_from(file.as_slice(), init, address);
+    let rules = RulesAt::of(file.as_slice(), init, address);
     frame_of(alloc, &rules, regs, memory)
 }
 

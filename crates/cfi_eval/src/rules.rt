@@ -1,9 +1,10 @@
 //! The rules that a symbol file has at an address.
-ghost use Rattle.std.specs.Prelude.{◌≡◌, ◌++◌};
+ghost use Rattle.std.specs.Prelude.{◌≡◌, ◌<◌, ◌++◌, Some, length};
 ghost use Rattle.std.specs.Option.{option_copied, option_or};
 ghost use Rattle.cfi_eval.specs.Inits.{is_init_at, init_place};
-ghost use Rattle.cfi_eval.specs.TextRules.{same_target, rule_for, changes_until};
+ghost use Rattle.cfi_eval.specs.TextRules.{same_target, rule_for, changes_until, text_rules};
 
+use std::marker::Model;
 use sym_records::{SymFile, SymLine};
 use sym_rules::{RuleText, Target, Tokens};
 
@@ -70,7 +71,7 @@ fn later_rule<'r>(
 
 /// The words of the last rule of a target among `first` and the rules of the records of changes that stand at the front of `behind`, up
 /// to an address.
-pub(crate) fn rule_at<'r>(
+fn rule_at<'r>(
     first: &'r [RuleText],
     behind: &'r [SymLine],
     address: u64,
@@ -92,4 +93,48 @@ pub(crate) fn rule_at<'r>(
         }
     }
     found
+}
+
+/// The rules that count at an address: those of an INIT, then those of the changes that stand directly behind it, up to there. Contracts
+/// see the list of them.
+#[derive(Drop)]
+pub(crate) struct RulesAt<'r> {
+    first: &'r [RuleText],
+    behind: &'r [SymLine],
+    address: u64,
+}
+
+impl<'r> Model for RulesAt<'r> {
+    ghost use Rattle.std.specs.Prelude.{List, ◌++◌};
+    ghost use Rattle.sym_rules.specs.declared.rules.RuleText.{RuleText};
+    ghost use Rattle.cfi_eval.specs.TextRules.{changes_until};
+
+    ghost Value = { List RuleText };
+
+    ghost view = { λ r. r.first.now ++ changes_until r.address r.behind.now };
+}
+
+impl<'r> RulesAt<'r> {
+    /// The rules at an address, by the index of the first INIT that covers it.
+    pub(crate) fn of(lines: &'r [SymLine], init: usize, address: u64) -> RulesAt<'r>
+        requires within { init < length lines.now }
+        requires first { init_place lines.now address ≡ Some init }
+        ensures { text_rules lines.now address ≡ Some result }
+    {
+        let SymLine::Init { rules, .. } = &lines[init] else {
+            unreachable!()
+        };
+        RulesAt {
+            first: rules.as_slice(),
+            behind: &lines[init + 1..],
+            address,
+        }
+    }
+
+    /// The words of the last rule of a target.
+    pub(crate) fn tokens(&self, target: &Target) -> Option<&'r Tokens>
+        ensures { option_copied result ≡ rule_for target.now self.now }
+    {
+        rule_at(self.first, self.behind, self.address, target)
+    }
 }

@@ -1,5 +1,5 @@
-//! Tests of the lowest crates and of those that make records: `sym_edges`, `range_set`, `step_maps`, `unit_workers`, `sym_rules`,
-//! `sym_records` and `sym_lookup`.
+//! Tests of the lowest crates, of those that make records, and of those that evaluate them and look up in them: `sym_edges`, `range_set`,
+//! `step_maps`, `unit_workers`, `sym_rules`, `sym_records`, `cfi_eval`, `state_file` and `sym_lookup`.
 //!
 //! They use public calls alone and nothing stands on them, so each of those crates is proved without them. There is no code here. A
 //! test shows what no clause says: that calls answer with ample memory, what files and streams do that are slow, interrupted or
@@ -11,6 +11,8 @@ mod comparing;
 #[cfg(test)]
 mod fakes;
 #[cfg(test)]
+mod frames;
+#[cfg(test)]
 mod lookups;
 #[cfg(test)]
 mod records;
@@ -18,6 +20,8 @@ mod records;
 mod rules;
 #[cfg(test)]
 mod sets;
+#[cfg(test)]
+mod states;
 #[cfg(test)]
 mod steps;
 #[cfg(test)]

@@ -19,7 +19,7 @@ fn long_text(alloc: Global, length: usize) -> Result<ByteText, OutOfMemory> {
     Ok(ByteText::of(vec![in alloc; b'a'; length]?))
 }
 
-fn one_rule(alloc: Global, offset: i64) -> Result<Vec<RuleText>, OutOfMemory> {
+pub(crate) fn one_rule(alloc: Global, offset: i64) -> Result<Vec<RuleText>, OutOfMemory> {
     let tokens = Tokens::three(Token::Reg(7), Token::Number(offset), Token::Add);
     let target = Target::Cfa;
     Ok(Vec::from_array(alloc, [RuleText { target, tokens }])?)
@@ -30,7 +30,7 @@ fn two_ranges(alloc: Global) -> Result<Vec<Extent>, OutOfMemory> {
     Ok(Vec::from_array(alloc, ranges)?)
 }
 
-fn module(alloc: Global) -> Result<SymLine, OutOfMemory> {
+pub(crate) fn module(alloc: Global) -> Result<SymLine, OutOfMemory> {
     let parts = Binary {
         os: text(alloc, b"Linux")?,
         arch: text(alloc, b"x86_64")?,

@@ -1,7 +1,7 @@
 -- Stacks of values as the code keeps them, the last value at the end, and the words that need none.
-use Rattle.std.specs.Prelude.{◌≡◌, ℕ, Bool, true, false, List, [], ◌∷◌, reverse, Result, Ok, Err}
+use Rattle.std.specs.Prelude.{◌≡◌, ℕ, Bool, true, false, List, [], ◌∷◌, reverse, Result, Err}
 use Rattle.sym_rules.specs.declared.rules.Token.{Token}
-use Rattle.sym_rules.specs.declared.rules.Token.TheVariants.{Number, Reg, Cfa, Undef, Other, Add, Sub, Mul, Div, Rem, Align, Fetch}
+use Rattle.sym_rules.specs.declared.rules.Token.TheVariants.{Undef}
 use Rattle.cfi_eval.specs.declared.outcome.Cause.{Cause}
 use Rattle.cfi_eval.specs.declared.outcome.Cause.TheVariants as cause
 use Rattle.cfi_eval.specs.Postfix.{on_one, on_two}

@@ -1,11 +1,10 @@
-use Rattle.std.proofs.Common.{◌≡◌, ◌++◌, ◌<◌, ℕ, length, get_or}
+use Rattle.std.proofs.Common.{◌≡◌, ◌<◌, ℕ, length, get_or}
 use Rattle.cfi_eval.specs.declared.outcome.Outcome.TheVariants.{Undefined}
-use Rattle.cfi_eval.specs.TextRules.{changes_until}
 use Rattle.cfi_eval.specs.TextValue.{text_register}
 use Rattle.cfi_eval.proofs.frame.frame_of.Given as goal
 
 abbrev pub invariant-registers : goal.invariant-registers
 invariant-registers l = record {
   many : length l.values ≡ 16;
-  known : (k : ℕ) → k < l.register → get_or l.values k Undefined ≡ text_register l.regs l.memory (l.rules.first.now ++ changes_until l.rules.address l.rules.behind.now) k;
+  known : (k : ℕ) → k < l.register → get_or l.values k Undefined ≡ text_register l.regs l.memory l.rules k;
 }

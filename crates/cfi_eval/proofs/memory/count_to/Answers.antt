@@ -1,4 +1,4 @@
-use Rattle.std.proofs.Common.{leb, leb-true, leb-false, arith, rules, length}
+use Rattle.std.proofs.Common.{leb, leb-true, leb-false, arith, rules}
 use Rattle.std.proofs.lemmas.List.Sorted.{IsPartitionPoint-from_clause, IsPartitionedBy-leb}
 use Rattle.cfi_eval.proofs.MemoryLemmas.{byte_by_halves, rise_ordered}
 use Rattle.cfi_eval.proofs.memory.count_to.Goals as goal

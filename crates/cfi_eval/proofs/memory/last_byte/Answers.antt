@@ -1,5 +1,4 @@
-use Rattle.std.proofs.Common.{◌∙◌, sym, arith, ◌<◌, ◌≡◌, true, false}
-use Rattle.std.specs.Option.{is_some}
+use Rattle.std.proofs.Common.{◌∙◌, sym, arith}
 use Rattle.cfi_eval.proofs.MemoryLemmas.{last_start, last_some, last_more, last_none}
 use Rattle.cfi_eval.proofs.memory.last_byte.Goals as goal
 

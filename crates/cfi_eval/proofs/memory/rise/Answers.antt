@@ -1,4 +1,4 @@
-use Rattle.std.proofs.Common.{◌≡◌, ◌∙◌, sym}
+use Rattle.std.proofs.Common.{◌∙◌}
 use Rattle.cfi_eval.proofs.MemoryLemmas.{rise_not, rise_more, rise_all}
 use Rattle.cfi_eval.proofs.memory.rise.Goals as goal
 

@@ -1,6 +1,6 @@
-use Rattle.std.proofs.Common.{◌≡◌, ◌∷◌, ◌++◌, [], ◌∙◌, sym, ap, arith, List, reverse, Ok, drop}
+use Rattle.std.proofs.Common.{◌≡◌, ◌∙◌, sym, ap, reverse, Ok}
 use Rattle.cfi_eval.specs.Postfix.{postfix_from, one_value, with_token}
-use Rattle.cfi_eval.proofs.StackLemmas.{rule_undefined, rule_defined, words_more, words_fail, words_end, push_reversed}
+use Rattle.cfi_eval.proofs.StackLemmas.{rule_defined, words_more, words_fail, words_end, push_reversed}
 use Rattle.cfi_eval.proofs.postfix.eval.Goals as goal
 
 pub tokens-init : goal.tokens-init

@@ -1,4 +1,4 @@
-use Rattle.std.proofs.Common.{◌∙◌, sym, ap, arith}
+use Rattle.std.proofs.Common.{◌∙◌, sym, arith}
 use Rattle.cfi_eval.proofs.RuleLemmas.{last_start, last_found, last_more, last_none}
 use Rattle.cfi_eval.proofs.rules.last_rule.Goals as goal
 

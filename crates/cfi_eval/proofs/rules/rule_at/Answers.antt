@@ -1,4 +1,4 @@
-use Rattle.std.proofs.Common.{◌∙◌, ◌+◌, drop, sym, ap, arith}
+use Rattle.std.proofs.Common.{◌∙◌, ◌+◌, drop, sym, ap}
 use Rattle.std.specs.Option.{option_or, option_copied}
 use Rattle.cfi_eval.specs.TextRules.{rule_for, changes_until}
 use Rattle.cfi_eval.proofs.RuleLemmas.{changes_start, changes_stop, changes_end, change_counts, change_waits}

@@ -1,4 +1,4 @@
-use Rattle.std.proofs.Common.{◌∙◌, Some, sym, ap, arith, ◌<◌, ◌≤◌, ◌≡◌, ◌+◌, ◌^◌, ◌%◌, ◌*◌}
+use Rattle.std.proofs.Common.{◌∙◌, Some, sym, ap, arith, ◌<◌, ◌≡◌, ◌+◌, ◌^◌}
 use Rattle.cfi_eval.specs.Bytes.{byte_at}
 use Rattle.cfi_eval.proofs.WordLemmas.{partly_none, partly_more, partly_unknown, partly_past, partly_all, above_from, more_fits}
 use Rattle.cfi_eval.proofs.memory.Memory.word.Goals as goal

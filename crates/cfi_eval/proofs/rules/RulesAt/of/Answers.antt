@@ -1,8 +1,8 @@
-use Rattle.std.proofs.Common.{◌≡◌, ◌∙◌, ◌+◌, ◌-◌, ◌++◌, length, take, drop, Some, sym, ap}
+use Rattle.std.proofs.Common.{◌∙◌, ◌+◌, ◌-◌, ◌++◌, length, take, drop, Some, sym, ap}
 use Rattle.std.proofs.lemmas.List.{take_rest}
 use Rattle.cfi_eval.specs.TextRules.{changes_until}
 use Rattle.cfi_eval.proofs.InitLemmas.{init_rules, init_is_init}
-use Rattle.cfi_eval.proofs.frame.rules_from.Goals as goal
+use Rattle.cfi_eval.proofs.rules.RulesAt.of.Goals as goal
 
 pub unreachable-requires : goal.unreachable-requires
 unreachable-requires c = init_is_init c.args.lines.now c.args.address c.args.init c.index-lines-init.result c.requires.first c.index-lines-init.is c.in_default.not-Init

@@ -1,0 +1,3 @@
+pub mod StateWords
+pub mod StateText
+pub mod internal

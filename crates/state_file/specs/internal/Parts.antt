@@ -1,0 +1,51 @@
+-- The parts of a text as the code finds them.
+use Rattle.std.specs.Prelude.{◌≡◌, ◌<◌, ℕ, ◌==◌, List, [], ◌∷◌, Option, None, Some, Result, Ok, Err}
+use Rattle.std.specs.List.{position_or_len, position_from}
+use Rattle.std.specs.Str.{bytes_eq}
+use Rattle.sym_edges.specs.Abi.{register_names}
+use Rattle.sym_edges.specs.declared.fault.Stop.{Stop}
+use Rattle.sym_edges.specs.declared.fault.Stop.TheVariants.{Fault, NoMemory}
+use Rattle.sym_rules.specs.Cuts.{split_lines}
+use Rattle.cfi_eval.specs.declared.registers.Regs.{Regs}
+use Rattle.cfi_eval.specs.declared.memory.MemRun.{MemRun}
+use Rattle.state_file.specs.declared.line.StateLine.{StateLine}
+use Rattle.state_file.specs.declared.line.StateLine.TheVariants.{Blank, Register, Run}
+use Rattle.state_file.specs.declared.state.State.{State}
+
+-- the first place of a byte, and the length where it is not there
+abbrev pub place_of : ℕ → List ℕ → ℕ
+place_of b bytes = position_or_len (λ x. x == b) bytes
+
+-- the lines that stand behind the first one
+abbrev pub lines_behind : Option (List ℕ) → List (List ℕ)
+lines_behind None = []
+lines_behind (Some bytes) = split_lines bytes
+
+-- two words, where there are two and no more
+abbrev pub two_of : List (List ℕ) → Option (List ℕ × List ℕ)
+two_of (a ∷ b ∷ []) = Some (a, b)
+two_of _ = None
+
+-- the number of one of the sixteen registers by its name without `$`
+abbrev pub register_in : List ℕ → Option ℕ
+register_in name = position_from (bytes_eq (36 ∷ name)) 0 register_names
+
+-- a state as the code holds it
+abbrev pub state : Regs → List MemRun → State
+state regs runs = record { regs = regs; memory = runs }
+
+-- a line that gives a value to one of the sixteen registers names one of them
+abbrev pub HasPlace : Option ℕ → Type 0
+HasPlace None = Unit {0}
+HasPlace (Some register) = register < 16
+
+abbrev pub HasRegister : StateLine → Type 0
+HasRegister Blank = Unit {0}
+HasRegister (Register register value) = HasPlace register
+HasRegister (Run run) = Unit {0}
+
+-- what a call gives: the value or the fault of a reading, or memory ran out
+abbrev pub Gives : {A F : Type 0} → Result A (Stop F) → Result A F → Type 0
+Gives (Ok x) read = read ≡ Ok x
+Gives (Err (Fault f)) read = read ≡ Err f
+Gives (Err NoMemory) read = Unit {0}

@@ -1,0 +1,70 @@
+//! Numbers and bytes by their hexadecimal digits.
+ghost use Rattle.std.specs.Prelude.{◌≡◌, ◌<◌, IfSome, ok_or};
+ghost use Rattle.sym_records.specs.FieldReading.{hex_digit, hex_value};
+ghost use Rattle.state_file.specs.StateText.{byte_of, bytes_of};
+ghost use Rattle.state_file.specs.internal.Parts.{Gives};
+
+use crate::fault::StateKind;
+use std::alloc::Global;
+use sym_edges::{ByteRun, Stop};
+
+/// The value of a hexadecimal digit, in either case.
+#[tactic(auto, unfolding(sym_records::specs::FieldReading::hex_digit))]
+fn hex_digit(b: u8) -> Option<u8>
+    ensures digit { result ≡ hex_digit b }
+    ensures small { IfSome result (λ v. v < 16) }
+{
+    match b {
+        b'0'..=b'9' => Some(b - b'0'),
+        b'a'..=b'f' => Some(b - b'a' + 10),
+        b'A'..=b'F' => Some(b - b'A' + 10),
+        _ => None,
+    }
+}
+
+/// The number that at most 16 hexadecimal digits write.
+#[tactic(auto, using(crate::proofs::HexLemmas::hex_more, crate::proofs::HexLemmas::hex_bad, crate::proofs::HexLemmas::hex_end, crate::proofs::HexLemmas::hex_long))]
+pub(crate) fn hex_value(word: &[u8]) -> Option<u64>
+    ensures { result ≡ hex_value word.now }
+{
+    if word.len() > 16 {
+        return None;
+    }
+    let mut n: u64 = 0;
+    'digits: for (at, b) in word.iter().enumerate() {
+        match hex_digit(*b) {
+            Some(v) => n = n * 16 + u64::from(v),
+            None => return None,
+        }
+    }
+    Some(n)
+}
+
+/// The byte of two digits.
+fn byte_of(high: u8, low: u8) -> Option<u8>
+    ensures { result ≡ byte_of high low }
+{
+    match (hex_digit(high), hex_digit(low)) {
+        (Some(h), Some(l)) => Some(h * 16 + l),
+        _ => None,
+    }
+}
+
+/// The bytes that pairs of digits are.
+pub(crate) fn bytes_of(alloc: Global, digits: &[u8]) -> Result<ByteRun, Stop<StateKind>>
+    ensures { Gives result (ok_or (bytes_of digits.now) StateKind.Hex) }
+{
+    let mut bytes = Vec::with_capacity(alloc, digits.len() / 2)?;
+    let mut at = 0;
+    'pairs: while at + 1 < digits.len() {
+        match byte_of(digits[at], digits[at + 1]) {
+            Some(byte) => bytes.push(byte)?,
+            None => return Err(Stop::Fault(StateKind::Hex)),
+        }
+        at += 2;
+    }
+    if at < digits.len() {
+        return Err(Stop::Fault(StateKind::Hex));
+    }
+    Ok(ByteRun::of(bytes))
+}
