@@ -14,9 +14,9 @@ use Rattle.sym_records.specs.declared.line.SymLine.{SymLine}
 use Rattle.sym_findings.specs.Findings.{findings}
 use Rattle.sym_findings.specs.declared.kind.Finding.{Finding}
 use Rattle.sym_grammar.specs.Input.{file_reading, IsReading, SymRead, AsksName}
-use Rattle.sym_grammar.specs.declared.input.SymRefusal.{SymRefusal}
-use Rattle.sym_grammar.specs.declared.input.SymEnd.{SymEnd}
-use Rattle.sym_grammar.specs.declared.input.SymEnd.TheVariants as end
+use Rattle.sym_grammar.specs.declared.refusal.SymRefusal.{SymRefusal}
+use Rattle.sym_grammar.specs.declared.refusal.SymEnd.{SymEnd}
+use Rattle.sym_grammar.specs.declared.refusal.SymEnd.TheVariants as end
 use Rattle.state_file.specs.StateText.{state_of}
 use Rattle.state_file.specs.declared.state.State.{State}
 use Rattle.state_file.specs.declared.fault.StateFault.{StateFault}

@@ -8,7 +8,7 @@ use Rattle.sym_edges.specs.Outside.{Files}
 use Rattle.sym_rules.specs.RuleReading.{is_digit}
 use Rattle.sym_records.specs.FieldReading.{hex_value}
 use Rattle.sym_grammar.specs.Input.{file_reading}
-use Rattle.sym_grammar.specs.declared.input.SymRefusal.{SymRefusal}
+use Rattle.sym_grammar.specs.declared.refusal.SymRefusal.{SymRefusal}
 use Rattle.sym_records.specs.declared.line.SymLine.{SymLine}
 use Rattle.dumpsyms_cmd.specs.declared.words.Command.{Command}
 use Rattle.dumpsyms_cmd.specs.declared.words.Command.TheVariants.{Dump, Check, Lookup, Frame}

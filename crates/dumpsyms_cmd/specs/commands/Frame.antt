@@ -16,7 +16,7 @@ use Rattle.state_file.specs.StateText.{state_of}
 use Rattle.state_file.specs.declared.state.State.{State}
 use Rattle.state_file.specs.declared.fault.StateFault.{StateFault}
 use Rattle.sym_grammar.specs.Input.{file_reading}
-use Rattle.sym_grammar.specs.declared.input.SymRefusal.{SymRefusal}
+use Rattle.sym_grammar.specs.declared.refusal.SymRefusal.{SymRefusal}
 use Rattle.dumpsyms_cmd.specs.Refusals.{line, too_long_line, state_line}
 use Rattle.dumpsyms_cmd.specs.Verdict.{Verdict, refused, unread, LIMIT}
 use Rattle.dumpsyms_cmd.specs.SymbolInput.{symbol_verdict, file_verdict}

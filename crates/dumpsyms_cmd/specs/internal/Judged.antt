@@ -8,8 +8,8 @@ use Rattle.sym_edges.specs.declared.reading.ReadEnd.{ReadEnd}
 use Rattle.sym_edges.specs.declared.reading.ReadEnd.TheVariants.{CantOpen, CantRead, TooLong}
 use Rattle.elf_sections.specs.Image.{ImageParts}
 use Rattle.sym_records.specs.declared.line.SymLine.{SymLine}
-use Rattle.sym_grammar.specs.declared.input.SymEnd.{SymEnd}
-use Rattle.sym_grammar.specs.declared.input.SymEnd.TheVariants as end
+use Rattle.sym_grammar.specs.declared.refusal.SymEnd.{SymEnd}
+use Rattle.sym_grammar.specs.declared.refusal.SymEnd.TheVariants as end
 use Rattle.dumpsyms_cmd.specs.Words.{Asked}
 use Rattle.dumpsyms_cmd.specs.Refusals.{too_long_line}
 use Rattle.dumpsyms_cmd.specs.Verdict.{Verdict, refused, unread, no_memory, LIMIT}
