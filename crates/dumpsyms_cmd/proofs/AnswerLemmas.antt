@@ -1,5 +1,5 @@
 -- The answers of the commands over symbol files; for `answer_check`, `answer_frame` and what they call.
-use Rattle.std.proofs.Common.{◌≡◌, ◌⊎◌, inl, inr, ℕ, ◌+◌, ◌≤◌, ◌<◌, ◌^◌, Bool, true, false, cond, List, [], ◌∷◌, ◌++◌, take, Option, Some, None, IsSome, Ok, Err, Result, length, nat_lt, zero, suc, replicate, refl, sym, ◌∙◌, ap, arith, append-nil, append_assoc, subst, IfOk}
+use Rattle.std.proofs.Common.{◌≡◌, inl, inr, ℕ, ◌+◌, ◌≤◌, ◌<◌, ◌^◌, Bool, true, false, cond, List, [], ◌∷◌, ◌++◌, take, Option, Some, None, Ok, Err, Result, length, nat_lt, zero, suc, replicate, refl, sym, ◌∙◌, ap, arith, append-nil, append_assoc, subst, IfOk}
 use Rattle.std.proofs.lemmas.Bool.{cases_lt}
 use Rattle.std.proofs.lemmas.Bool.Decides.{nat_tests}
 use Rattle.std.proofs.lemmas.List.{length-replicate}
@@ -20,13 +20,12 @@ use Rattle.sym_grammar.specs.declared.refusal.SymEnd.TheVariants as end
 use Rattle.state_file.specs.StateText.{state_of}
 use Rattle.state_file.specs.declared.state.State.{State}
 use Rattle.state_file.specs.declared.fault.StateFault.{StateFault}
-use Rattle.dumpsyms_cmd.specs.Words.{Asked, check, lookup, frame, if_records, second_of, second_told, files_of}
+use Rattle.dumpsyms_cmd.specs.Words.{check, lookup, frame, if_records, second_of, second_told}
 use Rattle.dumpsyms_cmd.specs.Refusals.{too_long_line, state_line}
-use Rattle.dumpsyms_cmd.specs.Verdict.{Verdict, refused, unread, LIMIT}
+use Rattle.dumpsyms_cmd.specs.Verdict.{Verdict, refused, LIMIT}
 use Rattle.dumpsyms_cmd.specs.Observed.{Asks}
-use Rattle.dumpsyms_cmd.specs.Judgement.{out_bytes, err_bytes, judgement_verdict, Judges, RefusesOrGives}
+use Rattle.dumpsyms_cmd.specs.Judgement.{out_bytes, err_bytes, judgement_verdict, RefusesOrGives}
 use Rattle.dumpsyms_cmd.specs.SymbolInput.{refusal_line, by_records, symbol_verdict, file_verdict, AnswersBytes}
-use Rattle.dumpsyms_cmd.specs.Answers.{IsVerdict}
 use Rattle.dumpsyms_cmd.specs.commands.Check.{findings_verdict, records_checked, check_answer}
 use Rattle.dumpsyms_cmd.specs.commands.Lookup.{records_looked_up, lookup_answer}
 use Rattle.dumpsyms_cmd.specs.commands.Frame.{frame_answer, by_state, state_answer, frame_bytes, frame_verdict, HasRecords, FramePromises, STATE_LIMIT}
@@ -66,11 +65,11 @@ found_low (f ∷ found) = omega arith
 -- a judgement is answered, or that memory ran out
 answered : {F : Type 0} (answer : Answer) (judged : Result Judgement F) (P : Answer → Type 0) → AnswersJudged answer judged → IfOk judged (λ j. P (Judged j)) → P NoMemory → P answer
 answered answer (Ok j) P is good none = subst P (sym is) good
-answered answer (Err no) P is good none = subst P (sym is) none
+answered answer (Err e) P is good none = subst P (sym is) none
 
 if_ok : {A F : Type 0} (r : Result A F) (P Q : A → Type 0) → ((x : A) → P x → Q x) → IfOk r P → IfOk r Q
 if_ok (Ok x) P Q f is = f x is
-if_ok (Err no) P Q f is = tt
+if_ok (Err e) P Q f is = tt
 
 -- `check`
 check_judged : (j : Judgement) (name : List ℕ) (files : Option Files) → AnswersBytes name (symbol_verdict records_checked) files j → IsJudged j (Some (check name)) files
@@ -150,8 +149,8 @@ both_by zero name state before mid after few first second = (1, omega arith, sec
 both_by (suc zero) name state before mid after few first second = (2, omega arith, second ∙ ap (λ m. m ++ state ∷ []) first ∙ append_assoc before (name ∷ []) (state ∷ []))
 both_by (suc (suc n)) name state before mid after few first second = absurd (omega (arith, few))
 
-pub asks_both : {A F : Type 0} (x : A) (files : Option Files) (name state : List ℕ) (lines : List SymLine) (before mid after : List (List ℕ)) → HoldsFile files name (IsReading LIMIT (Ok lines)) → AsksName {A = A} {F = F} (Ok x) before name mid → Asks (state ∷ []) mid after → Asks (name ∷ second_told files name state) before after
-asks_both x files name state lines before mid after holds first second =
+pub asks_both : (files : Option Files) (name state : List ℕ) (lines : List SymLine) (before mid after : List (List ℕ)) → HoldsFile files name (IsReading LIMIT (Ok lines)) → AsksName {A = List SymLine} {F = SymEnd} (Ok lines) before name mid → Asks (state ∷ []) mid after → Asks (name ∷ second_told files name state) before after
+asks_both files name state lines before mid after holds first second =
     subst (λ (names : List (List ℕ)). Asks (name ∷ names) before after) (sym (second_is files name state lines holds)) (both_by second.0 name state before mid after second.1 first second.2)
 
 -- the state of `frame`
@@ -178,7 +177,7 @@ state_read answer judged lines address name files before after bytes held holds 
 
 -- a state file that is too long
 long_bytes : (limit : ℕ) → (bytes : List ℕ) × (limit < length bytes)
-long_bytes limit = (replicate (limit + 1) 0, omega (arith, length-replicate (limit + 1) 0))
+long_bytes limit = (replicate (limit + 1) 0, omega (arith, length-replicate {A = ℕ} (limit + 1) 0))
 
 judges_refused : (o : Output) (status : ℕ) (err line : List ℕ) → RefusesOrGives o status err (λ e. e ≡ line) (λ lines e. ⊥) → given status (out_bytes o) err ≡ refused line
 judges_refused Nothing status err line says = ap (λ n. given n [] err) says.0 ∙ ap (given 1 []) says.1

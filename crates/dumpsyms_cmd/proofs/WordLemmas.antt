@@ -6,6 +6,7 @@ use Rattle.std.specs.Option.{option_map}
 use Rattle.std.specs.Str.{bytes_eq}
 use Rattle.std.specs.Str.Parse.{AllDigits, IsNumeral, digits_value, digits_value_after, without_leading_plus}
 use Rattle.sym_rules.specs.RuleReading.{is_digit}
+use Rattle.sym_records.specs.FieldReading.{hex_value}
 use Rattle.std.proofs.lemmas.Str.{digit_value_digit}
 use Rattle.std.proofs.lemmas.Str.Parse.{digit_from_value}
 use Rattle.sym_rules.proofs.BoolLemmas.{both, and_true, if_both}
@@ -16,6 +17,15 @@ use Rattle.dumpsyms_cmd.specs.Words.{Asked, dump, check, lookup, frame, address_
 
 passes_not : (t : Bool) → ((t ≡ true) → ⊥) → not t ≡ true
 passes_not t never = elim t as (λ v. ((v ≡ true) → ⊥) → not v ≡ true) [ true ↦ λ h. absurd (h refl) | false ↦ λ h. refl ] never
+
+-- a word without digits writes no address, and any other what its digits do
+pub no_address : (word : List ℕ) → (length word == 0) ≡ true → None ≡ address_of word
+unfolding address_of
+no_address word none = sym (ap (λ t. cond t None (hex_value word)) none)
+
+pub some_address : (word : List ℕ) (o : Option ℕ) → (length word == 0) ≡ false → o ≡ hex_value word → o ≡ address_of word
+unfolding address_of
+some_address word o some is = is ∙ sym (ap (λ t. cond t None (hex_value word)) some)
 
 -- what follows the last slash
 pub last_slash : (path : List ℕ) (last : ℕ) → IsLastByte (is_byte 47) path (Some last) → module_name path ≡ drop (last + 1) path

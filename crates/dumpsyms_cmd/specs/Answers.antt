@@ -1,5 +1,5 @@
 -- What the commands answer, and what each promises of its judgement: by the words and the files.
-use Rattle.std.specs.Prelude.{◌≡◌, ℕ, List, Option, Some, None}
+use Rattle.std.specs.Prelude.{◌≡◌, Option, Some, None}
 use Rattle.sym_edges.specs.Outside.{Files}
 use Rattle.dumpsyms_cmd.specs.Words.{Asked, dump, check, lookup, frame}
 use Rattle.dumpsyms_cmd.specs.Refusals.{usage_line}

@@ -67,6 +67,7 @@ fn parse_number(word: &str, most: usize) -> Option<usize>
 }
 
 /// The address that a word writes: 1 to 16 hexadecimal digits.
+#[tactic(auto, using(crate::proofs::WordLemmas::no_address, crate::proofs::WordLemmas::some_address))]
 fn parse_address(word: &str) -> Option<u64>
     ensures { result ≡ address_of word.now }
 {
