@@ -1,13 +1,13 @@
 #!/usr/bin/env python3
-"""What a dump names at addresses, beside what a tool names there: llvm-symbolizer or addr2line.
+"""What `lookup` answers on a dump at addresses, beside what a tool names there: llvm-symbolizer or addr2line.
 
-    expected_chains.py TOOL FILE TEXT   asks for some 2,000 addresses, spread over the code of FILE; TEXT is a dump of it. Prints how many
-                                        of them have one frame, two, and so on, and ends with status 0, or with 1 and the first difference
+    expected_chains.py TOOL PROGRAM FILE TEXT   asks for some 200 addresses, spread over the code of FILE; TEXT is what PROGRAM dumped of it.
+                                                Prints how many of them have one frame, two, and so on, and ends with status 0, or with 1
+                                                and the first difference
 
 Functions are compared by their linkage names, files and lines level by level, the innermost first. What may differ is said by `Rules`.
 """
 
-import bisect
 import collections
 import json
 import os
@@ -22,61 +22,27 @@ from expected_debug import is_named, last_part, read_symbols  # noqa: E402
 # A frame: the name of its function, and path and line of the place in it; these are None where nothing says them.
 Frame = collections.namedtuple("Frame", "name path line")
 OMITTED = clean(b"")
-ADDRESSES = 2000
+ADDRESSES = 200
 
 
-# ---- the look-up in a text (Breakpad's symbol_files.md)
+# ---- what `lookup` answers
 
-class Func:
-    def __init__(self, words, name):
-        self.start, size = (int(word, 16) for word in words)
-        self.end, self.name, self.inlines, self.lines = self.start + size, name, [], []
+def place_of(text):
+    if text == b"?":
+        return None, None
+    path, _, line = text.rpartition(b":")
+    return path, int(line)
 
 
-class Text:
-    """The records of a text that a look-up needs."""
-
-    def __init__(self, text):
-        self.files, self.origins, self.functions = {}, {}, []
-        for line in text.splitlines():
-            word, _, rest = line.partition(b" ")
-            if word in (b"FILE", b"INLINE_ORIGIN"):
-                number, _, name = rest.partition(b" ")
-                {b"FILE": self.files, b"INLINE_ORIGIN": self.origins}[word].setdefault(int(number), name)
-            elif word == b"FUNC":
-                start, size, _, name = rest.removeprefix(b"m ").split(b" ", 3)
-                self.functions.append(Func((start, size), name))
-            elif word == b"INLINE":
-                level, call, file, origin, *pairs = rest.split()
-                ranges = [(int(start, 16), int(start, 16) + int(size, 16)) for start, size in zip(pairs[::2], pairs[1::2])]
-                self.functions[-1].inlines.append((int(level), int(call), int(file), int(origin), ranges))
-            elif re.fullmatch(rb"[0-9a-f]+", word):
-                size, row, file = rest.split()
-                self.functions[-1].lines.append((int(word, 16), int(word, 16) + int(size, 16), int(row), int(file)))
-        # No two of them share addresses, so the first one that covers an address is the only one.
-        self.functions.sort(key=lambda function: function.start)
-        self.starts = [function.start for function in self.functions]
-        for one, other in zip(self.functions, self.functions[1:]):
-            if one.end > other.start:
-                raise ValueError("two FUNC records cover %x" % other.start)
-
-    def function_at(self, address):
-        """The FUNC that covers the address, or None."""
-        k = bisect.bisect(self.starts, address) - 1
-        return self.functions[k] if k >= 0 and address < self.functions[k].end else None
-
-    def frames_at(self, address):
-        """The frames at an address, the innermost first; none where no FUNC covers it."""
-        function = self.function_at(address)
-        if not function:
-            return []
-        chain = []
-        while found := next((inline for inline in function.inlines if inline[0] == len(chain) and any(a <= address < b for a, b in inline[4])), None):
-            chain.append(found)
-        line = next(((row, file) for start, end, row, file in function.lines if start <= address < end), None)
-        names = [self.origins[inline[3]] for inline in reversed(chain)] + [function.name]
-        places = [(self.files[line[1]], line[0]) if line else (None, None)] + [(self.files[inline[2]], inline[1]) for inline in reversed(chain)]
-        return [Frame(name, *place) for name, place in zip(names, places)]
+def by_lookup(program, text, address):
+    """The frames that `lookup` prints, the innermost first; none where it prints a PUBLIC or nothing."""
+    run = subprocess.run([program, "lookup", text, "%x" % address], stdout=subprocess.PIPE, stderr=subprocess.PIPE)
+    if run.returncode or run.stderr or not run.stdout.endswith(b"\n"):
+        raise ValueError("lookup at %x: status %d, <%s>" % (address, run.returncode, os.fsdecode(run.stderr.strip())))
+    lines = run.stdout[:-1].split(b"\n")
+    if lines == [b"none"] or len(lines) == 1 and lines[0].startswith(b"public "):
+        return []
+    return [Frame(name, *place_of(place)) for name, _, place in (line.rpartition(b" at ") for line in lines)]
 
 
 # ---- what the tools answer
@@ -190,12 +156,10 @@ def spread(code):
 
 
 def main():
-    if len(sys.argv) != 4 or sys.argv[1] not in TOOLS:
-        print("usage: expected_chains.py llvm-symbolizer|addr2line FILE TEXT", file=sys.stderr)
+    if len(sys.argv) != 5 or sys.argv[1] not in TOOLS:
+        print("usage: expected_chains.py llvm-symbolizer|addr2line PROGRAM FILE TEXT", file=sys.stderr)
         return 9
-    tool, path = sys.argv[1], os.fsencode(sys.argv[2])
-    with open(sys.argv[3], "rb") as file:
-        text = Text(file.read())
+    tool, program, path, text = sys.argv[1], sys.argv[2], os.fsencode(sys.argv[3]), sys.argv[4]
     base = read_base(path)
     addresses = list(spread(read_code(read_sections(path), base)))
     answers = list(TOOLS[tool](path, addresses))
@@ -204,7 +168,7 @@ def main():
         return 1
     rules, depths = Rules(read_symbols(path, base)), collections.Counter()
     for address, theirs in zip(addresses, answers):
-        ours = text.frames_at(address - base)
+        ours = by_lookup(program, text, address - base)
         depths[len(ours)] += 1
         if what := rules.difference(ours, theirs):
             print("%x: %s: the text has <%s>, %s <%s>" % (address, what, shown(ours), tool, shown(theirs)))

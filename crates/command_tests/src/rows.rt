@@ -35,6 +35,8 @@ pub const DUMPS: &[Words] = &[
 
 pub const CHECK: Words = &["check", "d/a.out"];
 
+pub const LOOKUP: Words = &["lookup", "d/a.out", "1005"];
+
 pub const FRAME: Words = &["frame", "d/a.out", "1001", "d/state"];
 
 /// Two functions that meet, and two that do not.
@@ -43,6 +45,10 @@ const MEETING: &[u8] = b"MODULE Linux x86_64 0 a\nFUNC 1000 10 0 f\nFUNC 1008 10
 const APART: &[u8] = b"MODULE Linux x86_64 0 a\nFUNC 1000 10 0 f\nFUNC 1010 10 0 g\n";
 
 const MEETS: &[u8] = b"C5 record 3\n";
+
+/// A function with a copy that is inlined in it.
+const INLINED: &[u8] = b"MODULE Linux x86_64 0 a\nFILE 0 /s/a.c\nINLINE_ORIGIN 0 g\n\
+    FUNC 1000 20 0 _Z1fv\nINLINE 0 4 0 0 1004 8\n1000 4 3 0\n1004 8 9 0\n100c 14 4 0\n";
 
 /// The frame records of a function that pushes rbp.
 pub const PUSHED: &[u8] = b"MODULE Linux x86_64 0 a\n\
@@ -125,11 +131,27 @@ pub const ROWS: [Row; 42] = [
     ),
     (
         "a bad line",
-        &[CHECK, FRAME],
+        &[CHECK, LOOKUP, FRAME],
         Given::Bytes(b"MODULE Linux x86_64 0 a\nfunc 1\n"),
         1,
         &[],
         &[b"refused text unknown line 2\n"],
+    ),
+    (
+        "two frames",
+        &[LOOKUP],
+        Given::Bytes(INLINED),
+        0,
+        &[b"g at /s/a.c:9\n_Z1fv at /s/a.c:4\n"],
+        &[],
+    ),
+    (
+        "no function",
+        &[&["lookup", "d/a.out", "FFFF"]],
+        Given::Bytes(INLINED),
+        0,
+        &[b"none\n"],
+        &[],
     ),
     ("a frame", &[FRAME], Given::Bytes(PUSHED), 0, &[VALUES], &[]),
     (

@@ -1,5 +1,5 @@
 -- The answers of the commands over symbol files; for `answer_check`, `answer_frame` and what they call.
-use Rattle.std.proofs.Common.{◌≡◌, ◌⊎◌, inl, inr, ℕ, ◌+◌, ◌≤◌, ◌<◌, ◌^◌, Bool, true, false, cond, List, [], ◌∷◌, ◌++◌, take, Option, Some, None, IsSome, Ok, Err, Result, length, nat_lt, zero, suc, replicate, refl, sym, ◌∙◌, ap, arith, append-nil, append_assoc, subst, IfOk}
+use Rattle.std.proofs.Common.{◌≡◌, inl, inr, ℕ, ◌+◌, ◌≤◌, ◌<◌, ◌^◌, Bool, true, false, cond, List, [], ◌∷◌, ◌++◌, take, Option, Some, None, Ok, Err, Result, length, nat_lt, zero, suc, replicate, refl, sym, ◌∙◌, ap, arith, append-nil, append_assoc, subst, IfOk}
 use Rattle.std.proofs.lemmas.Bool.{cases_lt}
 use Rattle.std.proofs.lemmas.Bool.Decides.{nat_tests}
 use Rattle.std.proofs.lemmas.List.{length-replicate}
@@ -14,20 +14,20 @@ use Rattle.sym_records.specs.declared.line.SymLine.{SymLine}
 use Rattle.sym_findings.specs.Findings.{findings}
 use Rattle.sym_findings.specs.declared.kind.Finding.{Finding}
 use Rattle.sym_grammar.specs.Input.{file_reading, IsReading, SymRead, AsksName}
-use Rattle.sym_grammar.specs.declared.input.SymRefusal.{SymRefusal}
-use Rattle.sym_grammar.specs.declared.input.SymEnd.{SymEnd}
-use Rattle.sym_grammar.specs.declared.input.SymEnd.TheVariants as end
+use Rattle.sym_grammar.specs.declared.refusal.SymRefusal.{SymRefusal}
+use Rattle.sym_grammar.specs.declared.refusal.SymEnd.{SymEnd}
+use Rattle.sym_grammar.specs.declared.refusal.SymEnd.TheVariants as end
 use Rattle.state_file.specs.StateText.{state_of}
 use Rattle.state_file.specs.declared.state.State.{State}
 use Rattle.state_file.specs.declared.fault.StateFault.{StateFault}
-use Rattle.dumpsyms_cmd.specs.Words.{Asked, check, frame, if_records, second_of, second_told, files_of}
+use Rattle.dumpsyms_cmd.specs.Words.{check, lookup, frame, if_records, second_of, second_told}
 use Rattle.dumpsyms_cmd.specs.Refusals.{too_long_line, state_line}
-use Rattle.dumpsyms_cmd.specs.Verdict.{Verdict, refused, unread, LIMIT}
+use Rattle.dumpsyms_cmd.specs.Verdict.{Verdict, refused, LIMIT}
 use Rattle.dumpsyms_cmd.specs.Observed.{Asks}
-use Rattle.dumpsyms_cmd.specs.Judgement.{out_bytes, err_bytes, judgement_verdict, Judges, RefusesOrGives}
+use Rattle.dumpsyms_cmd.specs.Judgement.{out_bytes, err_bytes, judgement_verdict, RefusesOrGives}
 use Rattle.dumpsyms_cmd.specs.SymbolInput.{refusal_line, by_records, symbol_verdict, file_verdict, AnswersBytes}
-use Rattle.dumpsyms_cmd.specs.Answers.{IsVerdict}
 use Rattle.dumpsyms_cmd.specs.commands.Check.{findings_verdict, records_checked, check_answer}
+use Rattle.dumpsyms_cmd.specs.commands.Lookup.{records_looked_up, lookup_answer}
 use Rattle.dumpsyms_cmd.specs.commands.Frame.{frame_answer, by_state, state_answer, frame_bytes, frame_verdict, HasRecords, FramePromises, STATE_LIMIT}
 use Rattle.dumpsyms_cmd.specs.internal.Judged.{Refuses, IsJudged, AnswersCommand, AnswersStop, AnswersEnd, AnswersJudged, AnswersBytesOf, AnswersState}
 use Rattle.dumpsyms_cmd.specs.declared.judgement.Output.{Output}
@@ -65,11 +65,11 @@ found_low (f ∷ found) = omega arith
 -- a judgement is answered, or that memory ran out
 answered : {F : Type 0} (answer : Answer) (judged : Result Judgement F) (P : Answer → Type 0) → AnswersJudged answer judged → IfOk judged (λ j. P (Judged j)) → P NoMemory → P answer
 answered answer (Ok j) P is good none = subst P (sym is) good
-answered answer (Err no) P is good none = subst P (sym is) none
+answered answer (Err e) P is good none = subst P (sym is) none
 
 if_ok : {A F : Type 0} (r : Result A F) (P Q : A → Type 0) → ((x : A) → P x → Q x) → IfOk r P → IfOk r Q
 if_ok (Ok x) P Q f is = f x is
-if_ok (Err no) P Q f is = tt
+if_ok (Err e) P Q f is = tt
 
 -- `check`
 check_judged : (j : Judgement) (name : List ℕ) (files : Option Files) → AnswersBytes name (symbol_verdict records_checked) files j → IsJudged j (Some (check name)) files
@@ -99,6 +99,34 @@ check_ended Unread (Fault (end.Refused why)) name files before after read says =
 check_ended Unread stop.NoMemory name files before after read says = absurd says
 check_ended NoMemory stopped name files before after read says = refl
 
+-- `lookup`
+lookup_judged : (j : Judgement) (name : List ℕ) (address : ℕ) (files : Option Files) → AnswersBytes name (symbol_verdict (records_looked_up address)) files j → IsJudged j (Some (lookup name address)) files
+unfolding lookup_answer
+lookup_judged j name address files answers =
+    let low : j.status < 2 =
+    (let s = status_of j (symbol_verdict (records_looked_up address) answers.bytes) answers.is in
+    let few = by_low (records_looked_up address) (file_reading LIMIT answers.bytes) (λ lines. omega arith) in omega (arith, s, few)) in
+    record {
+      low = omega (arith, low);
+      row = λ some. low;
+      told = told (λ f. f name ≡ Some answers.bytes) (λ f. judgement_verdict j ≡ file_verdict (lookup_answer address) (f name)) files (λ f there. answers.is ∙ ap (file_verdict (lookup_answer address)) (sym there)) answers.there;
+      kept = record { bytes = answers.bytes; there = answers.there; is = answers.is };
+    }
+
+pub lookup_read : {F : Type 0} (answer : Answer) (judged : Result Judgement F) (name : List ℕ) (address : ℕ) (files : Option Files) (before after : ℕ) (lines : List SymLine) → HoldsFile files name (IsReading LIMIT (Ok lines)) → AnswersJudged answer judged → IfOk judged (λ j. judgement_verdict j ≡ records_looked_up address lines) → AnswersCommand answer (Some (lookup name address)) files before after
+lookup_read answer judged name address files before after lines holds is says =
+    answered answer judged (λ a. AnswersCommand a (Some (lookup name address)) files before after) is
+    (if_ok judged (λ j. judgement_verdict j ≡ records_looked_up address lines) (λ j. IsJudged j (Some (lookup name address)) files) (λ j same. lookup_judged j name address files (by_reading files name (records_looked_up address) (Ok lines) j holds same)) says) refl
+
+pub lookup_ended : (answer : Answer) (stopped : Stop SymEnd) (name : List ℕ) (address : ℕ) (files : Option Files) (before after : ℕ) → SymRead (Err stopped) files name LIMIT before after → AnswersEnd answer stopped → AnswersCommand answer (Some (lookup name address)) files before after
+lookup_ended (Judged j) (Fault end.Unread) name address files before after read says = absurd says
+lookup_ended (Judged j) (Fault (end.Refused why)) name address files before after read says = lookup_judged j name address files (by_reading files name (records_looked_up address) (Err why) j read says)
+lookup_ended (Judged j) stop.NoMemory name address files before after read says = absurd says
+lookup_ended Unread (Fault end.Unread) name address files before after read says = (refl, read)
+lookup_ended Unread (Fault (end.Refused why)) name address files before after read says = absurd says
+lookup_ended Unread stop.NoMemory name address files before after read says = absurd says
+lookup_ended NoMemory stopped name address files before after read says = refl
+
 -- the name of a symbol file is asked for, and then perhaps that of a second file
 pub asks_symbols : {A F : Type 0} (read : Result A (Stop F)) (name : List ℕ) (names : List (List ℕ)) (before after : List (List ℕ)) → AsksName read before name after → Asks (name ∷ names) before after
 asks_symbols (Ok x) name names before after asked = (1, omega arith, asked)
@@ -121,8 +149,8 @@ both_by zero name state before mid after few first second = (1, omega arith, sec
 both_by (suc zero) name state before mid after few first second = (2, omega arith, second ∙ ap (λ m. m ++ state ∷ []) first ∙ append_assoc before (name ∷ []) (state ∷ []))
 both_by (suc (suc n)) name state before mid after few first second = absurd (omega (arith, few))
 
-pub asks_both : {A F : Type 0} (x : A) (files : Option Files) (name state : List ℕ) (lines : List SymLine) (before mid after : List (List ℕ)) → HoldsFile files name (IsReading LIMIT (Ok lines)) → AsksName {A = A} {F = F} (Ok x) before name mid → Asks (state ∷ []) mid after → Asks (name ∷ second_told files name state) before after
-asks_both x files name state lines before mid after holds first second =
+pub asks_both : (files : Option Files) (name state : List ℕ) (lines : List SymLine) (before mid after : List (List ℕ)) → HoldsFile files name (IsReading LIMIT (Ok lines)) → AsksName {A = List SymLine} {F = SymEnd} (Ok lines) before name mid → Asks (state ∷ []) mid after → Asks (name ∷ second_told files name state) before after
+asks_both files name state lines before mid after holds first second =
     subst (λ (names : List (List ℕ)). Asks (name ∷ names) before after) (sym (second_is files name state lines holds)) (both_by second.0 name state before mid after second.1 first second.2)
 
 -- the state of `frame`
@@ -149,7 +177,7 @@ state_read answer judged lines address name files before after bytes held holds 
 
 -- a state file that is too long
 long_bytes : (limit : ℕ) → (bytes : List ℕ) × (limit < length bytes)
-long_bytes limit = (replicate (limit + 1) 0, omega (arith, length-replicate (limit + 1) 0))
+long_bytes limit = (replicate (limit + 1) 0, omega (arith, length-replicate {A = ℕ} (limit + 1) 0))
 
 judges_refused : (o : Output) (status : ℕ) (err line : List ℕ) → RefusesOrGives o status err (λ e. e ≡ line) (λ lines e. ⊥) → given status (out_bytes o) err ≡ refused line
 judges_refused Nothing status err line says = ap (λ n. given n [] err) says.0 ∙ ap (given 1 []) says.1

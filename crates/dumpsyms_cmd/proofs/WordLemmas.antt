@@ -6,16 +6,26 @@ use Rattle.std.specs.Option.{option_map}
 use Rattle.std.specs.Str.{bytes_eq}
 use Rattle.std.specs.Str.Parse.{AllDigits, IsNumeral, digits_value, digits_value_after, without_leading_plus}
 use Rattle.sym_rules.specs.RuleReading.{is_digit}
+use Rattle.sym_records.specs.FieldReading.{hex_value}
 use Rattle.std.proofs.lemmas.Str.{digit_value_digit}
 use Rattle.std.proofs.lemmas.Str.Parse.{digit_from_value}
 use Rattle.sym_rules.proofs.BoolLemmas.{both, and_true, if_both}
 use Rattle.std.proofs.lemmas.List.Sums.{suffix_len_is}
 use Rattle.memchr.specs.Find.{IsLastByte, is_byte}
 use Rattle.std.specs.List.{suffix_len}
-use Rattle.dumpsyms_cmd.specs.Words.{Asked, dump, check, frame, address_of, is_number, number_upto, two_words, four_words, HasWorkers, is_slash, module_name}
+use Rattle.dumpsyms_cmd.specs.Words.{Asked, dump, check, lookup, frame, address_of, is_number, number_upto, two_words, three_words, four_words, HasWorkers, is_slash, module_name}
 
 passes_not : (t : Bool) → ((t ≡ true) → ⊥) → not t ≡ true
 passes_not t never = elim t as (λ v. ((v ≡ true) → ⊥) → not v ≡ true) [ true ↦ λ h. absurd (h refl) | false ↦ λ h. refl ] never
+
+-- a word without digits writes no address, and any other what its digits do
+pub no_address : (word : List ℕ) → (length word == 0) ≡ true → None ≡ address_of word
+unfolding address_of
+no_address word none = sym (ap (λ t. cond t None (hex_value word)) none)
+
+pub some_address : (word : List ℕ) (o : Option ℕ) → (length word == 0) ≡ false → o ≡ hex_value word → o ≡ address_of word
+unfolding address_of
+some_address word o some is = is ∙ sym (ap (λ t. cond t None (hex_value word)) some)
 
 -- what follows the last slash
 pub last_slash : (path : List ℕ) (last : ℕ) → IsLastByte (is_byte 47) path (Some last) → module_name path ≡ drop (last + 1) path
@@ -147,6 +157,13 @@ two_workers word name =
     if_both HasWorkers (bytes_eq word (codes "dump")) (Some (dump name 4)) (cond (bytes_eq word (codes "check")) (Some (check name)) None) (omega arith, omega arith)
     (if_both HasWorkers (bytes_eq word (codes "check")) (Some (check name)) None tt tt)
 
+lookup_workers : (name : List ℕ) (o : Option ℕ) → HasWorkers (option_map (lookup name) o)
+lookup_workers name None = tt
+lookup_workers name (Some address) = tt
+
+three_workers : (word name third : List ℕ) → HasWorkers (three_words word name third)
+three_workers word name third = if_both HasWorkers (bytes_eq word (codes "lookup")) (option_map (lookup name) (address_of third)) None (lookup_workers name (address_of third)) tt
+
 address_workers : (name state : List ℕ) (o : Option ℕ) → HasWorkers (option_map (λ address. frame name address state) o)
 address_workers name state None = tt
 address_workers name state (Some address) = tt
@@ -159,6 +176,9 @@ four_workers word name third fourth =
 
 pub two_few : (view : Option Asked) (word name : List ℕ) → view ≡ two_words word name → HasWorkers view
 two_few view word name is = subst HasWorkers (sym is) (two_workers word name)
+
+pub three_few : (view : Option Asked) (word name third : List ℕ) → view ≡ three_words word name third → HasWorkers view
+three_few view word name third is = subst HasWorkers (sym is) (three_workers word name third)
 
 pub four_few : (view : Option Asked) (word name third fourth : List ℕ) → view ≡ four_words word name third fourth → HasWorkers view
 four_few view word name third fourth is = subst HasWorkers (sym is) (four_workers word name third fourth)

@@ -1,13 +1,14 @@
 -- What the commands answer, and what each promises of its judgement: by the words and the files.
-use Rattle.std.specs.Prelude.{◌≡◌, ℕ, List, Option, Some, None}
+use Rattle.std.specs.Prelude.{◌≡◌, Option, Some, None}
 use Rattle.sym_edges.specs.Outside.{Files}
-use Rattle.dumpsyms_cmd.specs.Words.{Asked, dump, check, frame}
+use Rattle.dumpsyms_cmd.specs.Words.{Asked, dump, check, lookup, frame}
 use Rattle.dumpsyms_cmd.specs.Refusals.{usage_line}
 use Rattle.dumpsyms_cmd.specs.Verdict.{Verdict, usage}
 use Rattle.dumpsyms_cmd.specs.Judgement.{err_bytes}
 use Rattle.dumpsyms_cmd.specs.SymbolInput.{file_verdict, AnswersBytes}
 use Rattle.dumpsyms_cmd.specs.commands.Dump.{IsFileVerdict, DumpPromises}
 use Rattle.dumpsyms_cmd.specs.commands.Check.{check_answer}
+use Rattle.dumpsyms_cmd.specs.commands.Lookup.{lookup_answer}
 use Rattle.dumpsyms_cmd.specs.commands.Frame.{frame_verdict, FramePromises}
 use Rattle.dumpsyms_cmd.specs.declared.judgement.Output.TheVariants.{Nothing}
 use Rattle.dumpsyms_cmd.specs.declared.judgement.Judgement.{Judgement}
@@ -17,6 +18,7 @@ abbrev pub IsVerdict : Option Asked → Files → Verdict → Type 0
 IsVerdict None files v = v ≡ usage
 IsVerdict (Some (dump elf workers)) files v = IsFileVerdict elf (files elf) v
 IsVerdict (Some (check sym)) files v = v ≡ file_verdict check_answer (files sym)
+IsVerdict (Some (lookup sym address)) files v = v ≡ file_verdict (lookup_answer address) (files sym)
 IsVerdict (Some (frame sym address state)) files v = v ≡ frame_verdict address (files sym) (files state)
 
 -- invalid arguments are answered with the usage line
@@ -30,4 +32,5 @@ abbrev pub CommandPromises : Option Asked → Option Files → Judgement → Typ
 CommandPromises None files j = IsUsage j
 CommandPromises (Some (dump elf workers)) files j = DumpPromises elf files j
 CommandPromises (Some (check sym)) files j = AnswersBytes sym check_answer files j
+CommandPromises (Some (lookup sym address)) files j = AnswersBytes sym (lookup_answer address) files j
 CommandPromises (Some (frame sym address state)) files j = FramePromises sym address state files j

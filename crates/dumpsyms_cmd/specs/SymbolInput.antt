@@ -3,8 +3,8 @@ use Rattle.std.specs.Prelude.{◌≡◌, ℕ, List, Option, Some, None, Result, 
 use Rattle.sym_edges.specs.Outside.{Files, Tells}
 use Rattle.sym_records.specs.declared.line.SymLine.{SymLine}
 use Rattle.sym_grammar.specs.Input.{file_reading}
-use Rattle.sym_grammar.specs.declared.input.SymRefusal.{SymRefusal}
-use Rattle.sym_grammar.specs.declared.input.SymRefusal.TheVariants.{TooLong, Text}
+use Rattle.sym_grammar.specs.declared.refusal.SymRefusal.{SymRefusal}
+use Rattle.sym_grammar.specs.declared.refusal.SymRefusal.TheVariants.{TooLong, Text}
 use Rattle.dumpsyms_cmd.specs.Refusals.{too_long_line, text_line}
 use Rattle.dumpsyms_cmd.specs.Verdict.{Verdict, refused, unread, LIMIT}
 use Rattle.dumpsyms_cmd.specs.Judgement.{judgement_verdict}

@@ -8,10 +8,10 @@ use Rattle.sym_edges.specs.Outside.{Files}
 use Rattle.sym_rules.specs.RuleReading.{is_digit}
 use Rattle.sym_records.specs.FieldReading.{hex_value}
 use Rattle.sym_grammar.specs.Input.{file_reading}
-use Rattle.sym_grammar.specs.declared.input.SymRefusal.{SymRefusal}
+use Rattle.sym_grammar.specs.declared.refusal.SymRefusal.{SymRefusal}
 use Rattle.sym_records.specs.declared.line.SymLine.{SymLine}
 use Rattle.dumpsyms_cmd.specs.declared.words.Command.{Command}
-use Rattle.dumpsyms_cmd.specs.declared.words.Command.TheVariants.{Dump, Check, Frame}
+use Rattle.dumpsyms_cmd.specs.declared.words.Command.TheVariants.{Dump, Check, Lookup, Frame}
 
 -- what the program is asked for
 pub data Asked : Type 0 where
@@ -19,6 +19,8 @@ pub data Asked : Type 0 where
   dump : (elf : List ℕ) → (workers : ℕ) → Asked
   -- what a checker finds in a symbol file
   check : (sym : List ℕ) → Asked
+  -- what a symbol file names at an address
+  lookup : (sym : List ℕ) → (address : ℕ) → Asked
   -- what the rules of a symbol file evaluate to at an address, over a state file
   frame : (sym : List ℕ) → (address : ℕ) → (state : List ℕ) → Asked
 
@@ -26,6 +28,7 @@ pub data Asked : Type 0 where
 abbrev pub command_view : Command → Asked
 command_view (Dump elf workers) = dump elf.now workers
 command_view (Check sym) = check sym.now
+command_view (Lookup sym address) = lookup sym.now address
 command_view (Frame sym address state) = frame sym.now address state.now
 
 -- a number is decimal digits, without a sign, the first of them not 0
@@ -55,6 +58,10 @@ two_words word name =
     else if bytes_eq word (codes "check") then Some (check name)
     else None
 
+-- the row `lookup SYM ADDR`
+abbrev pub three_words : List ℕ → List ℕ → List ℕ → Option Asked
+three_words word name third = if bytes_eq word (codes "lookup") then option_map (lookup name) (address_of third) else None
+
 -- the rows `dump ELF --workers N` and `frame SYM ADDR STATE`
 abbrev pub four_words : List ℕ → List ℕ → List ℕ → List ℕ → Option Asked
 four_words word name third fourth =
@@ -67,7 +74,7 @@ abbrev pub command_of : List (List ℕ) → Option Asked
 command_of [] = None
 command_of (word ∷ []) = None
 command_of (word ∷ name ∷ []) = two_words word name
-command_of (word ∷ name ∷ third ∷ []) = None
+command_of (word ∷ name ∷ third ∷ []) = three_words word name third
 command_of (word ∷ name ∷ third ∷ fourth ∷ []) = four_words word name third fourth
 command_of (word ∷ name ∷ third ∷ fourth ∷ more ∷ words) = None
 
@@ -76,6 +83,7 @@ abbrev pub HasWorkers : Option Asked → Type 0
 HasWorkers None = Unit {0}
 HasWorkers (Some (dump elf workers)) = (1 ≤ workers) × (workers ≤ MOST_WORKERS)
 HasWorkers (Some (check sym)) = Unit {0}
+HasWorkers (Some (lookup sym address)) = Unit {0}
 HasWorkers (Some (frame sym address state)) = Unit {0}
 
 -- the second file of a command over a symbol file is read only where that has records
@@ -96,6 +104,7 @@ abbrev pub files_of : Option Asked → Option Files → List (List ℕ)
 files_of None files = []
 files_of (Some (dump elf workers)) files = elf ∷ []
 files_of (Some (check sym)) files = sym ∷ []
+files_of (Some (lookup sym address)) files = sym ∷ []
 files_of (Some (frame sym address state)) files = sym ∷ second_told files sym state
 
 -- the byte is a slash

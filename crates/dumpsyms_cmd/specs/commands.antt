@@ -1,4 +1,5 @@
 -- What each command answers, and what its text means: a page each.
 pub mod Dump
 pub mod Check
+pub mod Lookup
 pub mod Frame

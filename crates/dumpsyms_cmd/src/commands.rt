@@ -14,6 +14,7 @@ use crate::check::answer_check;
 use crate::dump::assemble;
 use crate::frame::answer_frame;
 use crate::judgement::{Answer, Judgement, Message, Output};
+use crate::lookup::answer_lookup;
 use crate::refusals::{TOO_LONG, USAGE, debug_line, fault_line};
 use crate::words::{Command, name_of, parse_words};
 use debug_read::{DebugRead, read_debug};
@@ -166,6 +167,7 @@ pub fn answer_words<R: Threads + Sync, S: Store, G: Gate + Sync>(
         None => answer_usage(),
         Some(Command::Dump { elf, workers }) => answer_dump(rt, alloc, elf, workers, store, gate),
         Some(Command::Check { sym }) => answer_check(alloc, sym, store),
+        Some(Command::Lookup { sym, address }) => answer_lookup(alloc, sym, address, store),
         Some(
             Command::Frame {
                 sym,

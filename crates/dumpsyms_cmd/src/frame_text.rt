@@ -1,5 +1,8 @@
 //! The lines of `frame`.
-ghost use Rattle.std.specs.Prelude.{◌≡◌, ◌++◌, ◌<◌, ◌≤◌, IfOk, OnOk};
+ghost use Rattle.std.specs.Prelude.{◌≡◌, ◌++◌, ◌<◌, IfOk, OnOk};
+ghost use Rattle.std.specs.List.{slice_index_or};
+ghost use Rattle.sym_records.specs.Fields.{hex};
+ghost use Rattle.cfi_eval.specs.declared.outcome.Outcome.TheVariants.{Undefined};
 ghost use Rattle.dumpsyms_cmd.specs.commands.Frame.{short_name, cause_text, outcome_text, outcome_line, registers_text, frame_or_none};
 
 use cfi_eval::{Cause, Frame, Outcome};
@@ -22,6 +25,14 @@ fn short_name(register: u8) -> &'static [u8]
     name.split_at(1).1
 }
 
+/// Adds a number in hexadecimal.
+fn add_hex(text: &mut Vec<u8>, number: u64) -> Result<(), AllocError>
+    ensures { OnOk result (text.new.items ≡ text.old.items ++ hex number) }
+{
+    let digits = HexText::of(number);
+    text.extend_from_slice(digits.as_slice())
+}
+
 /// Adds why a rule has no value.
 fn add_cause(text: &mut Vec<u8>, cause: Cause) -> Result<(), AllocError>
     ensures { OnOk result (text.new.items ≡ text.old.items ++ cause_text cause) }
@@ -33,7 +44,7 @@ fn add_cause(text: &mut Vec<u8>, cause: Cause) -> Result<(), AllocError>
         }
         Cause::Unreadable(address) => {
             text.extend_from_slice(b"unreadable ")?;
-            text.extend_from_slice(HexText::of(address).as_slice())
+            add_hex(text, address)
         }
         Cause::Divide => text.extend_from_slice(b"divide"),
         Cause::Align => text.extend_from_slice(b"align"),
@@ -48,7 +59,7 @@ fn add_outcome(text: &mut Vec<u8>, outcome: Outcome) -> Result<(), AllocError>
     ensures { OnOk result (text.new.items ≡ text.old.items ++ outcome_text outcome) }
 {
     match outcome {
-        Outcome::Value(value) => text.extend_from_slice(HexText::of(value).as_slice()),
+        Outcome::Value(value) => add_hex(text, value),
         Outcome::Undefined => text.extend_from_slice(b"undefined"),
         Outcome::Failed(cause) => {
             text.extend_from_slice(b"failed ")?;
@@ -68,17 +79,23 @@ fn add_outcome_line(text: &mut Vec<u8>, name: &[u8], outcome: Outcome) -> Result
     Ok(())
 }
 
+/// What a register evaluates to.
+fn outcome_of(frame: &Frame, register: u8) -> Outcome
+    requires { register < 16 }
+    ensures { result ≡ slice_index_or frame.now.regs register Undefined }
+{
+    frame.regs[usize::from(register)]
+}
+
 /// Adds the lines of the registers.
 #[tactic(auto, using(crate::proofs::FrameTextLemmas::no_registers, crate::proofs::FrameTextLemmas::one_register))]
 fn add_registers(text: &mut Vec<u8>, frame: &Frame) -> Result<(), AllocError>
     ensures { OnOk result (text.new.items ≡ text.old.items ++ registers_text frame.now 16) }
 {
     'registers: for register in 0..16u8 {
-        add_outcome_line(
-            text,
-            short_name(register),
-            frame.regs[usize::from(register)],
-        )?;
+        let name = short_name(register);
+        let outcome = outcome_of(frame, register);
+        add_outcome_line(text, name, outcome)?;
     }
     Ok(())
 }

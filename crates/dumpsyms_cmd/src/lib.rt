@@ -23,6 +23,7 @@ mod omissions;
 mod check;
 mod frame;
 mod frame_text;
+mod lookup;
 mod symbol_input;
 
 pub use dump::{Dumped, assemble};

@@ -1,7 +1,7 @@
 ghost use Rattle.std.specs.Prelude.{◌≡◌, ◌≤◌, ◌↔◌, ℕ, IsTrue, map, slice_index};
 ghost use Rattle.std.specs.String.{string_bytes};
 ghost use Rattle.std.specs.Option.{option_map};
-ghost use Rattle.dumpsyms_cmd.specs.Words.{command_view, command_of, number_upto, address_of, two_words, four_words, module_name, HasWorkers, dump, frame, MOST_WORKERS};
+ghost use Rattle.dumpsyms_cmd.specs.Words.{command_view, command_of, number_upto, address_of, two_words, three_words, four_words, module_name, HasWorkers, dump, lookup, frame, MOST_WORKERS};
 
 use memchr::memrchr;
 use state_file::hex_value;
@@ -23,6 +23,11 @@ pub enum Command<'w> {
     /// `check SYM`
     Check {
         sym: &'w str,
+    },
+    /// `lookup SYM ADDR`
+    Lookup {
+        sym: &'w str,
+        address: u64,
     },
     /// `frame SYM ADDR STATE`
     Frame {
@@ -62,6 +67,7 @@ fn parse_number(word: &str, most: usize) -> Option<usize>
 }
 
 /// The address that a word writes: 1 to 16 hexadecimal digits.
+#[tactic(auto, using(crate::proofs::WordLemmas::no_address, crate::proofs::WordLemmas::some_address))]
 fn parse_address(word: &str) -> Option<u64>
     ensures { result ≡ address_of word.now }
 {
@@ -88,12 +94,32 @@ fn parse_two<'w>(word: &str, name: &'w str) -> Option<Command<'w>>
     None
 }
 
+/// The row `lookup SYM ADDR`.
+fn parse_three<'w>(word: &str, sym: &'w str, address: &str) -> Option<Command<'w>>
+    ensures { option_map command_view result ≡ three_words word.now sym.now address.now }
+{
+    if word == "lookup" {
+        return parse_lookup(sym, address);
+    }
+    None
+}
+
 /// The row `dump ELF --workers N`.
 fn parse_workers<'w>(elf: &'w str, number: &str) -> Option<Command<'w>>
     ensures { option_map command_view result ≡ option_map (dump elf.now) (number_upto MOST_WORKERS number.now) }
 {
     match parse_number(number, MOST_WORKERS) {
         Some(workers) => Some(Command::Dump { elf, workers }),
+        None => None,
+    }
+}
+
+/// The address of the row `lookup SYM ADDR`.
+fn parse_lookup<'w>(sym: &'w str, address: &str) -> Option<Command<'w>>
+    ensures { option_map command_view result ≡ option_map (lookup sym.now) (address_of address.now) }
+{
+    match parse_address(address) {
+        Some(address) => Some(Command::Lookup { sym, address }),
         None => None,
     }
 }
@@ -126,13 +152,14 @@ fn parse_four<'w>(word: &str, name: &'w str, third: &str, fourth: &'w str) -> Op
 }
 
 /// The command of words that are a row, and none of other words.
-#[tactic(auto, using(crate::proofs::WordLemmas::two_few, crate::proofs::WordLemmas::four_few))]
+#[tactic(auto, using(crate::proofs::WordLemmas::two_few, crate::proofs::WordLemmas::three_few, crate::proofs::WordLemmas::four_few))]
 pub fn parse_words(words: &[String]) -> Option<Command<'_>>
     ensures command { option_map command_view result ≡ command_of (map string_bytes words.now) }
     ensures workers { HasWorkers (option_map command_view result) }
 {
     match words {
         [word, name] => parse_two(word, name),
+        [word, name, third] => parse_three(word, name, third),
         [word, name, third, fourth] => parse_four(word, name, third, fourth),
         _ => None,
     }

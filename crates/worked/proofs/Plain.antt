@@ -16,9 +16,10 @@ use Rattle.func_flatten.specs.Pieces.{owner_place, ArePieces}
 use Rattle.func_records.specs.FuncRecords.{AreFuncRecords}
 use Rattle.sym_records.specs.Canon.{canon_text}
 use Rattle.sym_records.specs.declared.line.SymLine.{SymLine}
-use Rattle.dumpsyms_cmd.specs.Words.{Asked, dump, check, frame, command_of, module_name}
+use Rattle.dumpsyms_cmd.specs.Words.{Asked, dump, check, lookup, frame, command_of, module_name}
 use Rattle.dumpsyms_cmd.specs.SymbolInput.{file_verdict as checked}
 use Rattle.dumpsyms_cmd.specs.commands.Check.{check_answer}
+use Rattle.dumpsyms_cmd.specs.commands.Lookup.{lookup_answer}
 use Rattle.dumpsyms_cmd.specs.commands.Frame.{frame_verdict}
 use Rattle.dumpsyms_cmd.specs.Refusals.{elf_line, debug_line, too_long_line}
 use Rattle.dumpsyms_cmd.specs.commands.Dump.{identity_lines, public_lines, frame_lines, CanonFile}
@@ -56,6 +57,7 @@ abbrev pub command_verdict : Option Asked → Files → Option Verdict
 command_verdict None files = Some usage
 command_verdict (Some (dump elf workers)) files = file_verdict elf (files elf)
 command_verdict (Some (check name)) files = Some (checked check_answer (files name))
+command_verdict (Some (lookup name address)) files = Some (checked (lookup_answer address) (files name))
 command_verdict (Some (frame name address state)) files = Some (frame_verdict address (files name) (files state))
 
 abbrev pub plain_verdict : List (List ℕ) → Files → Option Verdict
@@ -121,6 +123,7 @@ command_is : (command : Option Asked) (files : Files) (v : Verdict) → command_
 command_is None files v is = the_same is
 command_is (Some (dump elf workers)) files v is = file_is elf (files elf) v is
 command_is (Some (check name)) files v is = the_same is
+command_is (Some (lookup name address)) files v is = the_same is
 command_is (Some (frame name address state)) files v is = the_same is
 
 -- a verdict that is computed is that of the words and files

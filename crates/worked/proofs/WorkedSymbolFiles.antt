@@ -1,4 +1,4 @@
--- Worked rows: what `check` and `frame` answer, from the bytes of the files.
+-- Worked rows: what `check`, `lookup` and `frame` answer, from the bytes of the files.
 use Rattle.std.proofs.Common.{◌≡◌, ℕ, List, [], ◌∷◌, codes, Option, None, Some, if◌then◌else◌, refl}
 use Rattle.std.specs.Str.{bytes_eq}
 use Rattle.worked.proofs.ComputingSymbols.{symbols_compute}
@@ -180,3 +180,71 @@ seventeen_digits = refl
 no_digits : over (codes "frame" ∷ codes "s" ∷ codes "" ∷ codes "t" ∷ []) (Some (codes "MODULE Linux x86_64 0 a\nSTACK CFI INIT 1000 20 .cfa: $rsp 8 + .ra: .cfa -8 + ^\nSTACK CFI 1001 .cfa: $rsp 16 + $rbp: .cfa -16 + ^\nSTACK CFI 1004 .cfa: $rbp 16 +\nSTACK CFI 100e .cfa: $rsp 8 +\n")) (Some (codes "")) ≡ Some (2, "", "usage: dumpsyms dump ELF, check SYM, lookup SYM ADDR, frame SYM ADDR STATE, sample N\n")
 unfolding over symbols_compute
 no_digits = refl
+
+-- a function and a copy that is inlined in it
+an_inlined_call : over (codes "lookup" ∷ codes "s" ∷ codes "1005" ∷ []) (Some (codes "MODULE Linux x86_64 0 a\nFILE 0 /s/a.c\nINLINE_ORIGIN 0 g\nFUNC 1000 20 0 _Z1fv\nINLINE 0 4 0 0 1004 8\n1000 4 3 0\n1004 8 9 0\n100c 14 4 0\n")) (None) ≡ Some (0, "g at /s/a.c:9\n_Z1fv at /s/a.c:4\n", "")
+unfolding over symbols_compute
+an_inlined_call = refl
+
+behind_the_function : over (codes "lookup" ∷ codes "s" ∷ codes "1020" ∷ []) (Some (codes "MODULE Linux x86_64 0 a\nFILE 0 /s/a.c\nINLINE_ORIGIN 0 g\nFUNC 1000 20 0 _Z1fv\nINLINE 0 4 0 0 1004 8\n1000 4 3 0\n1004 8 9 0\n100c 14 4 0\n")) (None) ≡ Some (0, "none\n", "")
+unfolding over symbols_compute
+behind_the_function = refl
+
+-- a symbol in front of the address
+between_symbols : over (codes "lookup" ∷ codes "s" ∷ codes "1045" ∷ []) (Some (codes "MODULE Linux x86_64 0 hello\nFILE 0 /home/u/hello.c\nFUNC 1139 17 0 main\n1139 4 3 0\n113d f 4 0\n114c 4 5 0\nPUBLIC 1000 0 _init\nPUBLIC 1040 0 _start\n")) (None) ≡ Some (0, "public _start\n", "")
+unfolding over symbols_compute
+between_symbols = refl
+
+-- a copy of level 1 where there is none of level 0
+a_level_without_the_one_before : over (codes "lookup" ∷ codes "s" ∷ codes "1005" ∷ []) (Some (codes "MODULE Linux x86_64 0 a\nFILE 0 /s/a.c\nINLINE_ORIGIN 0 g\nFUNC 1000 20 0 f\nINLINE 1 4 0 0 1004 8\n")) (None) ≡ Some (0, "f at ?\n", "")
+unfolding over symbols_compute
+a_level_without_the_one_before = refl
+
+-- a symbol, a function behind it, and its end
+in_front_of_a_function : over (codes "lookup" ∷ codes "s" ∷ codes "100f" ∷ []) (Some (codes "MODULE Linux x86_64 0 a\nPUBLIC 1000 0 p\nFUNC 1010 4 0 f\n")) (None) ≡ Some (0, "public p\n", "")
+unfolding over symbols_compute
+in_front_of_a_function = refl
+
+in_a_function : over (codes "lookup" ∷ codes "s" ∷ codes "1012" ∷ []) (Some (codes "MODULE Linux x86_64 0 a\nPUBLIC 1000 0 p\nFUNC 1010 4 0 f\n")) (None) ≡ Some (0, "f at ?\n", "")
+unfolding over symbols_compute
+in_a_function = refl
+
+a_function_begins_between : over (codes "lookup" ∷ codes "s" ∷ codes "1014" ∷ []) (Some (codes "MODULE Linux x86_64 0 a\nPUBLIC 1000 0 p\nFUNC 1010 4 0 f\n")) (None) ≡ Some (0, "none\n", "")
+unfolding over symbols_compute
+a_function_begins_between = refl
+
+-- of two functions the first counts
+the_first_of_two_functions : over (codes "lookup" ∷ codes "s" ∷ codes "1018" ∷ []) (Some (codes "MODULE Linux x86_64 0 a\nFUNC 1000 20 0 f\nFUNC 1010 20 0 g\n")) (None) ≡ Some (0, "f at ?\n", "")
+unfolding over symbols_compute
+the_first_of_two_functions = refl
+
+behind_the_first : over (codes "lookup" ∷ codes "s" ∷ codes "1028" ∷ []) (Some (codes "MODULE Linux x86_64 0 a\nFUNC 1000 20 0 f\nFUNC 1010 20 0 g\n")) (None) ≡ Some (0, "g at ?\n", "")
+unfolding over symbols_compute
+behind_the_first = refl
+
+-- in capitals
+the_last_address : over (codes "lookup" ∷ codes "s" ∷ codes "FFFFFFFFFFFFFFFF" ∷ []) (Some (codes "MODULE Linux x86_64 0 a\nFUNC ffffffffffffffff 1 0 e\n")) (None) ≡ Some (0, "e at ?\n", "")
+unfolding over symbols_compute
+the_last_address = refl
+
+an_origin_missing : over (codes "lookup" ∷ codes "s" ∷ codes "1004" ∷ []) (Some (codes "MODULE Linux x86_64 0 a\nFUNC 1000 20 0 f\nINLINE 0 4 7 7 1004 8\n1004 4 9 7\n")) (None) ≡ Some (0, "<name omitted> at ?\nf at ?\n", "")
+unfolding over symbols_compute
+an_origin_missing = refl
+
+-- the file is judged as `check` judges it
+a_file_that_is_refused : over (codes "lookup" ∷ codes "s" ∷ codes "1004" ∷ []) (Some (codes "MODULE Linux x86_64 0 a\nfunc 1\n")) (None) ≡ Some (1, "", "refused text unknown line 2\n")
+unfolding over symbols_compute
+a_file_that_is_refused = refl
+
+no_symbol_file : over (codes "lookup" ∷ codes "s" ∷ codes "1004" ∷ []) (None) (None) ≡ Some (3, "", "cannot read input\n")
+unfolding over symbols_compute
+no_symbol_file = refl
+
+-- words that are no address
+a_prefix : over (codes "lookup" ∷ codes "s" ∷ codes "0x10" ∷ []) (Some (codes "MODULE Linux x86_64 0 a\n")) (None) ≡ Some (2, "", "usage: dumpsyms dump ELF, check SYM, lookup SYM ADDR, frame SYM ADDR STATE, sample N\n")
+unfolding over symbols_compute
+a_prefix = refl
+
+seventeen_address_digits : over (codes "lookup" ∷ codes "s" ∷ codes "00000000000001005" ∷ []) (Some (codes "MODULE Linux x86_64 0 a\n")) (None) ≡ Some (2, "", "usage: dumpsyms dump ELF, check SYM, lookup SYM ADDR, frame SYM ADDR STATE, sample N\n")
+unfolding over symbols_compute
+seventeen_address_digits = refl

@@ -62,15 +62,7 @@ an_empty_third_word : both (codes "dump" ∷ codes "a" ∷ codes "" ∷ []) ≡ 
 unfolding files both named
 an_empty_third_word = refl
 
-hexadecimal_with_its_mark : both (codes "lookup" ∷ codes "s" ∷ codes "0x10" ∷ []) ≡ usage
-unfolding files both named
-hexadecimal_with_its_mark = refl
-
--- commands that are not built yet are no row
-lookup : both (codes "lookup" ∷ codes "a" ∷ codes "10" ∷ []) ≡ usage
-unfolding files both named
-lookup = refl
-
+-- a command that is not built yet is no row
 sample : both (codes "sample" ∷ codes "3" ∷ []) ≡ usage
 unfolding files both named
 sample = refl

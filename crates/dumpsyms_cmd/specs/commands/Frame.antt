@@ -1,6 +1,6 @@
 -- `frame SYM ADDR STATE`: what the rules at an address of a symbol file evaluate to, over the registers and the memory of a state file: the CFA,
 -- the return address and the sixteen registers, a line each, or `none` where the file has no rules there.
-use Rattle.std.specs.Prelude.{◌≡◌, ℕ, ◌^◌, ◌==◌, Bool, true, false, if◌then◌else◌, nat_lt, List, [], ◌∷◌, ◌++◌, drop, length, codes, Option, Some, None, Result, Ok, Err}
+use Rattle.std.specs.Prelude.{◌≡◌, ℕ, ◌^◌, ◌==◌, if◌then◌else◌, nat_lt, List, [], ◌∷◌, ◌++◌, drop, length, codes, Option, Some, None, Result, Ok, Err}
 use Rattle.std.specs.List.{flat_map, range_with_len, slice_index_or}
 use Rattle.sym_edges.specs.Abi.{register_name}
 use Rattle.sym_edges.specs.Outside.{Files, Tells}
@@ -16,9 +16,9 @@ use Rattle.state_file.specs.StateText.{state_of}
 use Rattle.state_file.specs.declared.state.State.{State}
 use Rattle.state_file.specs.declared.fault.StateFault.{StateFault}
 use Rattle.sym_grammar.specs.Input.{file_reading}
-use Rattle.sym_grammar.specs.declared.input.SymRefusal.{SymRefusal}
+use Rattle.sym_grammar.specs.declared.refusal.SymRefusal.{SymRefusal}
 use Rattle.dumpsyms_cmd.specs.Refusals.{line, too_long_line, state_line}
-use Rattle.dumpsyms_cmd.specs.Verdict.{Verdict, refused, unread, LIMIT}
+use Rattle.dumpsyms_cmd.specs.Verdict.{Verdict, refused, LIMIT}
 use Rattle.dumpsyms_cmd.specs.SymbolInput.{symbol_verdict, file_verdict}
 use Rattle.dumpsyms_cmd.specs.Judgement.{judgement_verdict}
 use Rattle.dumpsyms_cmd.specs.declared.judgement.Judgement.{Judgement}

@@ -1,5 +1,5 @@
 -- What the functions that judge say of their judgements and answers.
-use Rattle.std.specs.Prelude.{◌≡◌, ℕ, ◌<◌, Bool, true, false, List, [], Option, Some, None, IsSome, Result, Ok, Err}
+use Rattle.std.specs.Prelude.{◌≡◌, ℕ, ◌<◌, Bool, false, List, Option, Some, IsSome, Result, Ok, Err}
 use Rattle.sym_edges.specs.Outside.{Files, Tells, Rose}
 use Rattle.sym_edges.specs.declared.fault.Stop.{Stop}
 use Rattle.sym_edges.specs.declared.fault.Stop.TheVariants.{Fault}
@@ -8,8 +8,8 @@ use Rattle.sym_edges.specs.declared.reading.ReadEnd.{ReadEnd}
 use Rattle.sym_edges.specs.declared.reading.ReadEnd.TheVariants.{CantOpen, CantRead, TooLong}
 use Rattle.elf_sections.specs.Image.{ImageParts}
 use Rattle.sym_records.specs.declared.line.SymLine.{SymLine}
-use Rattle.sym_grammar.specs.declared.input.SymEnd.{SymEnd}
-use Rattle.sym_grammar.specs.declared.input.SymEnd.TheVariants as end
+use Rattle.sym_grammar.specs.declared.refusal.SymEnd.{SymEnd}
+use Rattle.sym_grammar.specs.declared.refusal.SymEnd.TheVariants as end
 use Rattle.dumpsyms_cmd.specs.Words.{Asked}
 use Rattle.dumpsyms_cmd.specs.Refusals.{too_long_line}
 use Rattle.dumpsyms_cmd.specs.Verdict.{Verdict, refused, unread, no_memory, LIMIT}
@@ -87,7 +87,7 @@ AnswersEnd NoMemory stopped = Unit {0}
 -- a judgement is an answer, and so is that memory ran out
 abbrev pub AnswersJudged : {F : Type 0} → Answer → Result Judgement F → Type 0
 AnswersJudged answer (Ok j) = answer ≡ Judged j
-AnswersJudged answer (Err no) = answer ≡ NoMemory
+AnswersJudged answer (Err e) = answer ≡ NoMemory
 
 -- a judgement is what `frame` answers to the bytes of a state file, over the records of a symbol file
 pub record AnswersBytesOf (lines : List SymLine) (address : ℕ) (name : List ℕ) (files : Option Files) (j : Judgement) : Type 0 where
