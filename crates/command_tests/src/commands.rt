@@ -3,8 +3,8 @@
 use crate::comparing::same;
 use crate::files::{Given, file_by, joined, of_code};
 use crate::rows::{
-    A, BY_TWO, CHECK, DUMP, FRAME, FRONT, FRONTS, MAIN, PUSHED, ROWS, STATE, TABLE, THREE_PATHS,
-    UNREAD, Words,
+    A, BY_TWO, CHECK, DUMP, FRAME, FRONT, FRONTS, MAIN, PUSHED, ROWS, Row, STATE, TABLE, TEXT_ROWS,
+    THREE_PATHS, UNREAD, Words,
 };
 use dumpsyms_cmd::run;
 use std::alloc::{AllocError, Global};
@@ -121,14 +121,27 @@ fn expect_forms<R: Abort + Threads + Sync>(
     Ok(())
 }
 
+/// The row's status and texts, by each of its forms.
+fn expect_row<R: Abort + Threads + Sync>(rt: &R, alloc: Global, row: Row) -> Result<(), Fail> {
+    let (label, forms, given, status, out, err) = row;
+    let file = file_by(alloc, given)?;
+    let out = joined(alloc, out)?;
+    let err = joined(alloc, err)?;
+    expect_forms(rt, alloc, label, forms, &file, status, &out, &err)
+}
+
 #[test]
-fn commands_have_their_rows(rt: HostRuntime) -> Result<(), Fail> {
-    let alloc = rt.alloc();
-    for (label, forms, given, status, out, err) in ROWS {
-        let file = file_by(alloc, given)?;
-        let out = joined(alloc, out)?;
-        let err = joined(alloc, err)?;
-        expect_forms(&rt, alloc, label, forms, &file, status, &out, &err)?;
+fn symbol_files_have_their_rows(rt: HostRuntime) -> Result<(), Fail> {
+    for row in TEXT_ROWS {
+        expect_row(&rt, rt.alloc(), row)?;
+    }
+    Ok(())
+}
+
+#[test]
+fn elf_files_have_their_rows(rt: HostRuntime) -> Result<(), Fail> {
+    for row in ROWS {
+        expect_row(&rt, rt.alloc(), row)?;
     }
     Ok(())
 }

@@ -112,7 +112,8 @@ pub type Row = (
     &'static [&'static [u8]],
 );
 
-pub const ROWS: [Row; 42] = [
+/// Symbol files.
+pub const TEXT_ROWS: [Row; 8] = [
     (
         "functions meet",
         &[CHECK],
@@ -170,6 +171,10 @@ pub const ROWS: [Row; 42] = [
         &[],
         &[UNREAD],
     ),
+];
+
+/// Words, and ELF files.
+pub const ROWS: [Row; 36] = [
     ("usage", NO_ROWS, Given::Small, 2, &[], &[USAGE]),
     ("another file", &[OTHER], Given::Small, 3, &[], &[UNREAD]),
     ("main", DUMPS, Given::Small, 0, &[FRONT, MAIN], &[]),

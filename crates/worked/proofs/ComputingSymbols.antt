@@ -5,7 +5,6 @@ use Rattle.sym_lookup.proofs.Computing.{sym_lookup_computes}
 use Rattle.sym_findings.proofs.Computing.{sym_findings_computes}
 use Rattle.cfi_eval.proofs.Computing.{cfi_eval_computes}
 use Rattle.state_file.proofs.Computing.{state_file_computes}
-use Rattle.sym_grammar.specs.Answer.{whole_lines, open_line}
 use Rattle.sym_grammar.specs.Input.{decided, file_reading}
 use Rattle.dumpsyms_cmd.specs.Words.{number_upto, address_of}
 use Rattle.dumpsyms_cmd.specs.commands.Check.{findings_text, check_answer}

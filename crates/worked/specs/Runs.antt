@@ -1,5 +1,5 @@
 -- Two runs of the program that ask for the same, and how they end.
-use Rattle.std.specs.Prelude.{◌≡◌, List, Option, None, Some}
+use Rattle.std.specs.Prelude.{◌≡◌, Option, None, Some}
 use Rattle.sym_edges.specs.Outside.{Files}
 use Rattle.dumpsyms_cmd.specs.Words.{Asked, dump, check, lookup, frame}
 use Rattle.dumpsyms_cmd.specs.Program.{Run, command}
