@@ -50,10 +50,12 @@ const MEETS: &[u8] = b"C5 record 3\n";
 const INLINED: &[u8] = b"MODULE Linux x86_64 0 a\nFILE 0 /s/a.c\nINLINE_ORIGIN 0 g\n\
     FUNC 1000 20 0 _Z1fv\nINLINE 0 4 0 0 1004 8\n1000 4 3 0\n1004 8 9 0\n100c 14 4 0\n";
 
-/// The frame records of a function that pushes rbp.
+/// The frame records of a function that pushes rbp, has it as its frame's base, and returns.
 pub const PUSHED: &[u8] = b"MODULE Linux x86_64 0 a\n\
     STACK CFI INIT 1000 20 .cfa: $rsp 8 + .ra: .cfa -8 + ^\n\
-    STACK CFI 1001 .cfa: $rsp 16 + $rbp: .cfa -16 + ^\n";
+    STACK CFI 1001 .cfa: $rsp 16 + $rbp: .cfa -16 + ^\n\
+    STACK CFI 1004 .cfa: $rbp 16 +\n\
+    STACK CFI 100e .cfa: $rsp 8 +\n";
 
 /// The state behind the push, as the file `d/state`.
 pub const STATE: &[u8] = b"REG rsp 7ffe0010\nMEM 7ffe0010 4000fe7f000000003412400000000000\n";
@@ -63,6 +65,23 @@ pub const VALUES: &[u8] = b"cfa 7ffe0020\nra 401234\nrax undefined\nrdx undefine
     rbx failed missing rbx\nrsi undefined\nrdi undefined\nrbp 7ffe0040\nrsp 7ffe0020\nr8 undefined\n\
     r9 undefined\nr10 undefined\nr11 undefined\nr12 failed missing r12\nr13 failed missing r13\n\
     r14 failed missing r14\nr15 failed missing r15\n";
+
+/// The values in front of the push, where rbp is the base, and behind the last change.
+const AT_ENTRY: &[u8] = b"cfa 7ffe0018\nra 7ffe0040\nrax undefined\nrdx undefined\nrcx undefined\n\
+    rbx failed missing rbx\nrsi undefined\nrdi undefined\nrbp failed missing rbp\nrsp 7ffe0018\n\
+    r8 undefined\nr9 undefined\nr10 undefined\nr11 undefined\nr12 failed missing r12\n\
+    r13 failed missing r13\nr14 failed missing r14\nr15 failed missing r15\n";
+
+const BY_BASE: &[u8] =
+    b"cfa failed missing rbp\nra failed missing rbp\nrax undefined\nrdx undefined\n\
+    rcx undefined\nrbx failed missing rbx\nrsi undefined\nrdi undefined\nrbp failed missing rbp\n\
+    rsp failed missing rbp\nr8 undefined\nr9 undefined\nr10 undefined\nr11 undefined\n\
+    r12 failed missing r12\nr13 failed missing r13\nr14 failed missing r14\nr15 failed missing r15\n";
+
+const AT_END: &[u8] = b"cfa 7ffe0018\nra 7ffe0040\nrax undefined\nrdx undefined\nrcx undefined\n\
+    rbx failed missing rbx\nrsi undefined\nrdi undefined\nrbp failed unreadable 7ffe0008\n\
+    rsp 7ffe0018\nr8 undefined\nr9 undefined\nr10 undefined\nr11 undefined\n\
+    r12 failed missing r12\nr13 failed missing r13\nr14 failed missing r14\nr15 failed missing r15\n";
 
 /// Words that are no row.
 pub const NO_ROWS: &[Words] = &[
@@ -113,7 +132,7 @@ pub type Row = (
 );
 
 /// Symbol files.
-pub const TEXT_ROWS: [Row; 8] = [
+pub const TEXT_ROWS: [Row; 12] = [
     (
         "functions meet",
         &[CHECK],
@@ -154,7 +173,55 @@ pub const TEXT_ROWS: [Row; 8] = [
         &[b"none\n"],
         &[],
     ),
-    ("a frame", &[FRAME], Given::Bytes(PUSHED), 0, &[VALUES], &[]),
+    (
+        "no frame",
+        &[
+            &["frame", "d/a.out", "fff", "d/state"],
+            &["frame", "d/a.out", "1020", "d/state"],
+        ],
+        Given::Bytes(PUSHED),
+        0,
+        &[b"none\n"],
+        &[],
+    ),
+    (
+        "a frame at its entry",
+        &[&["frame", "d/a.out", "1000", "d/state"]],
+        Given::Bytes(PUSHED),
+        0,
+        &[AT_ENTRY],
+        &[],
+    ),
+    (
+        "a frame behind a push",
+        &[FRAME, &["frame", "d/a.out", "1003", "d/state"]],
+        Given::Bytes(PUSHED),
+        0,
+        &[VALUES],
+        &[],
+    ),
+    (
+        "a frame by its base",
+        &[
+            &["frame", "d/a.out", "1004", "d/state"],
+            &["frame", "d/a.out", "100D", "d/state"],
+        ],
+        Given::Bytes(PUSHED),
+        0,
+        &[BY_BASE],
+        &[],
+    ),
+    (
+        "a frame at its end",
+        &[
+            &["frame", "d/a.out", "100e", "d/state"],
+            &["frame", "d/a.out", "101f", "d/state"],
+        ],
+        Given::Bytes(PUSHED),
+        0,
+        &[AT_END],
+        &[],
+    ),
     (
         "a text as a state",
         &[&["frame", "d/a.out", "1001", "d/a.out"]],
