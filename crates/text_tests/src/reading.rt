@@ -67,42 +67,54 @@ const BAD_TEXTS: [(&[u8], TextKind, u64); 7] = [
     (b"MODULE x", TextKind::Fields, 1),
 ];
 
-/// The records of a text that is fed in two parts, and each of these in pieces of a size.
-fn read(
-    alloc: Global,
-    (front, back): (&[u8], &[u8]),
-    size: usize,
-) -> Result<SymFile, Stop<TextFault>> {
+/// The records of a text that is fed in parts, and each of these in pieces of a size.
+fn read(alloc: Global, parts: &[&[u8]], size: usize) -> Result<SymFile, Stop<TextFault>> {
     let mut reader = Reader::new(alloc);
-    for piece in front.chunks(size.max(1)) {
-        reader.feed(alloc, piece)?;
-    }
-    for piece in back.chunks(size.max(1)) {
-        reader.feed(alloc, piece)?;
+    for part in parts {
+        for piece in part.chunks(size.max(1)) {
+            reader.feed(alloc, piece)?;
+        }
     }
     reader.finish(alloc)
 }
 
-/// The fault of a text, whole and in pieces of some sizes.
-fn refuses(rt: &impl Abort, alloc: Global, text: (&[u8], &[u8]), kind: TextKind, line: u64) {
+/// The fault of parts in pieces of a size.
+fn expect_fault(rt: &impl Abort, alloc: Global, parts: &[&[u8]], size: usize, fault: TextFault) {
+    match read(alloc, parts, size) {
+        Err(stop) => assert_eq!(rt; stop, Stop::Fault(fault)),
+        Ok(_) => assert!(rt; false, "a bad text was read"),
+    }
+}
+
+/// The fault of a text behind a front, whole, in pieces of some sizes, and cut in two at every place.
+fn refuses(rt: &impl Abort, alloc: Global, front: &[u8], text: &[u8], kind: TextKind, line: u64) {
+    let fault = TextFault { kind, line };
     for size in [usize::MAX, 1, 2, 3, 7] {
-        match read(alloc, text, size) {
-            Err(stop) => assert_eq!(rt; stop, Stop::Fault(TextFault { kind, line })),
-            Ok(_) => assert!(rt; false, "a bad text was read"),
-        }
+        expect_fault(rt, alloc, &[front, text], size, fault);
+    }
+    for at in 0..text.len() {
+        let (one, other) = text.split_at(at);
+        expect_fault(rt, alloc, &[front, one, other], usize::MAX, fault);
     }
 }
 
 #[test]
 fn bad_texts(rt: HostRuntime) {
     for (line, kind) in BAD_LINES {
-        refuses(&rt, rt.alloc(), (MODULE, line), kind, 2);
+        refuses(&rt, rt.alloc(), MODULE, line, kind, 2);
     }
     for (text, kind, line) in BAD_TEXTS {
-        refuses(&rt, rt.alloc(), (text, b"\n"), kind, line);
+        refuses(&rt, rt.alloc(), b"", text, kind, line);
+        expect_fault(
+            &rt,
+            rt.alloc(),
+            &[text, b"\n"],
+            usize::MAX,
+            TextFault { kind, line },
+        );
     }
     let behind = b"FUNC 1 1 0 f\n\r\n1 x 1 0\n1 1 1 0\nFILE 0 a\n";
-    refuses(&rt, rt.alloc(), (MODULE, behind), TextKind::Hex, 4);
+    refuses(&rt, rt.alloc(), MODULE, behind, TextKind::Hex, 4);
 }
 
 /// The canonical text of a file.
@@ -115,12 +127,13 @@ fn spelled(alloc: Global, file: &SymFile, room: usize) -> Result<MemSink, Fail> 
 #[test]
 fn cut_at_every_byte(rt: HostRuntime) -> Result<(), Fail> {
     for at in 0..LENIENT.len() {
-        let file = read(rt.alloc(), LENIENT.split_at(at), usize::MAX)?;
+        let (one, other) = LENIENT.split_at(at);
+        let file = read(rt.alloc(), &[one, other], usize::MAX)?;
         let sink = spelled(rt.alloc(), &file, 65536)?;
         same(&rt, "cut", sink.written(), CANONICAL);
     }
     for size in [1, 2, 3, 7] {
-        let file = read(rt.alloc(), (LENIENT, b""), size)?;
+        let file = read(rt.alloc(), &[LENIENT], size)?;
         let sink = spelled(rt.alloc(), &file, 65536)?;
         same(&rt, "pieces", sink.written(), CANONICAL);
     }
@@ -140,8 +153,8 @@ fn the_greatest_line(rt: HostRuntime) -> Result<(), Fail> {
     let alloc = rt.alloc();
     let text = with_long_line(alloc, 1 << 20)?;
     for size in [1 << 30, 65536, 1000] {
-        assert_eq!(rt; read(alloc, (&text, b""), size)?.len(), 2);
-        assert_eq!(rt; read(alloc, (&text, b"\n"), size)?.len(), 2);
+        assert_eq!(rt; read(alloc, &[&text], size)?.len(), 2);
+        assert_eq!(rt; read(alloc, &[&text, b"\n"], size)?.len(), 2);
     }
     let kind = TextKind::LongLine;
     let fault = Stop::Fault(TextFault { kind, line: 2 });
@@ -160,7 +173,7 @@ fn many_records(rt: HostRuntime) -> Result<(), Fail> {
     for _ in 0..5000 {
         text.extend_from_slice(b"FUNC 10 4 0 f\n10 4 1 0\nSTACK CFI INIT 10 4 .cfa: $rsp 8 +\n")?;
     }
-    let file = read(alloc, (&text, b""), 65536)?;
+    let file = read(alloc, &[&text], 65536)?;
     assert_eq!(rt; file.len(), 15001);
     let sink = spelled(alloc, &file, text.len())?;
     same(&rt, "many", sink.written(), text.as_slice());
