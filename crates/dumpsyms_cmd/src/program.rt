@@ -82,8 +82,8 @@ fn write_answer<O: Sink, E: Sink>(answer: &Answer, out: &mut O, err: &mut E) -> 
 
 /// Does all that the program does: reads the files that the words name, writes the two texts, and answers the status.
 ///
-/// 0: the file was dumped. 1: it was refused. 2: the arguments are invalid. 3: a file could not be read. 4: a text could not be
-/// written. 5: memory ran out. Out is written before err, and nothing before all is known. What holds of each status,
+/// 0: the command answered. 1: a file was refused, or a checker found something. 2: the arguments are invalid. 3: a file could not be
+/// read. 4: a text could not be written. 5: memory ran out. Out is written before err, and nothing before all is known. What holds of each status,
 /// `specs/Program.antt` says; it does not depend on how many workers there are. `rt` starts their threads, and `gate` is told
 /// of each unit that they read.
 #[tactic(auto, using(crate::proofs::RunLemmas::promises))]
