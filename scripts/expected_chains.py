@@ -1,9 +1,9 @@
 #!/usr/bin/env python3
 """What `lookup` answers on a dump at addresses, beside what a tool names there: llvm-symbolizer or addr2line.
 
-    expected_chains.py TOOL PROGRAM FILE TEXT   asks for some 200 addresses, spread over the code of FILE; TEXT is what PROGRAM dumped of it.
-                                                Prints how many of them have one frame, two, and so on, and ends with status 0, or with 1
-                                                and the first difference
+    expected_chains.py TOOL PROGRAM FILE TEXT COUNT   asks for some COUNT addresses, spread over the code of FILE; TEXT is what PROGRAM dumped
+                                                      of it. Prints how many of them have one frame, two, and so on, and ends with status 0,
+                                                      or with 1 and the first difference
 
 Functions are compared by their linkage names, files and lines level by level, the innermost first. What may differ is said by `Rules`.
 """
@@ -22,7 +22,6 @@ from expected_debug import is_named, last_part, read_symbols  # noqa: E402
 # A frame: the name of its function, and path and line of the place in it; these are None where nothing says them.
 Frame = collections.namedtuple("Frame", "name path line")
 OMITTED = clean(b"")
-ADDRESSES = 200
 
 
 # ---- what `lookup` answers
@@ -147,21 +146,21 @@ def shown(frames):
     return " < ".join("%s %s:%s" % (os.fsdecode(name or b"??")[:60], os.fsdecode(path or b"??"), line) for name, path, line in frames)
 
 
-def spread(code):
-    """Addresses at equal distances over all code."""
-    step, passed = max(sum(end - start for start, end in code) // ADDRESSES, 1), 0
+def spread(code, count):
+    """Some `count` addresses at equal distances over all code."""
+    step, passed = max(sum(end - start for start, end in code) // count, 1), 0
     for start, end in sorted(code):
         yield from range(start + -passed % step, end, step)
         passed += end - start
 
 
 def main():
-    if len(sys.argv) != 5 or sys.argv[1] not in TOOLS:
-        print("usage: expected_chains.py llvm-symbolizer|addr2line PROGRAM FILE TEXT", file=sys.stderr)
+    if len(sys.argv) != 6 or sys.argv[1] not in TOOLS:
+        print("usage: expected_chains.py llvm-symbolizer|addr2line PROGRAM FILE TEXT COUNT", file=sys.stderr)
         return 9
     tool, program, path, text = sys.argv[1], sys.argv[2], os.fsencode(sys.argv[3]), sys.argv[4]
     base = read_base(path)
-    addresses = list(spread(read_code(read_sections(path), base)))
+    addresses = list(spread(read_code(read_sections(path), base), int(sys.argv[5])))
     answers = list(TOOLS[tool](path, addresses))
     if len(answers) != len(addresses):
         print("%s answers %d times for %d addresses" % (tool, len(answers), len(addresses)))
