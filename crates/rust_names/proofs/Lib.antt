@@ -1,0 +1,9 @@
+mod FrontLemmas
+mod PieceLemmas
+mod DigitLemmas
+mod PartLemmas
+mod NameLemmas
+mod ShownLemmas
+mod WholeLemmas
+mod VisibleLemmas
+mod RecordLemmas

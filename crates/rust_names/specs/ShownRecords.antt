@@ -1,0 +1,22 @@
+-- Records with the names that they show: those of FUNC, INLINE_ORIGIN and PUBLIC (Breakpad's symbol_files.md); all else stays.
+use Rattle.std.specs.Prelude.{◌≡◌, ◌⊎◌, ℕ, List, map}
+use Rattle.sym_records.specs.declared.line.SymLine.{SymLine}
+use Rattle.sym_records.specs.declared.line.SymLine.TheVariants.{Origin, Func, Public}
+use Rattle.rust_names.specs.Shown.{IsShown, IsPlainName}
+
+-- a record with another name
+abbrev pub renamed : (List ℕ → List ℕ) → SymLine → SymLine
+renamed f (Func many address size params name) = Func many address size params (f name)
+renamed f (Origin number name) = Origin number (f name)
+renamed f (Public many address params name) = Public many address params (f name)
+renamed f s = s
+
+-- the name for a name: what it shows, or itself where it shows nothing else
+abbrev pub IsNameFor : List ℕ → List ℕ → Type 0
+IsNameFor name new = IsShown name new ⊎ (IsPlainName name × (new ≡ name))
+
+-- each record has the name for its name
+pub record HaveShownNames (lines new : List SymLine) : Type 0 where
+  pub names : List ℕ → List ℕ
+  pub shown : (name : List ℕ) → IsNameFor name (names name)
+  pub all : new ≡ map (renamed names) lines

@@ -1,0 +1,2 @@
+-- Definitions that serve this crate's own functions.
+pub mod Reading

@@ -1,0 +1,25 @@
+//! Names in Rust's legacy mangling, in readable form.
+//!
+//! A legacy name is `_ZN`, the parts of a path, each with its length in front, a hash as the last part, and `E`. [`shown`] gives its path with
+//! `::` between the parts, escapes shown as the signs that they stand for, and without the hash: `_ZN3foo3bar17h0123456789abcdefE` is
+//! `foo::bar`. A name of another form has no such text, and stays as it is. [`show_all`] gives each function, inlined function and public
+//! symbol of a symbol file the name that it shows.
+//!
+//! A name has at most one shown text. With their names shown the records of a file say what they said: the file is valid, a checker
+//! finds the same in it, and look-ups and frame rules give the same at every address, but for the names ([`laws`]).
+#![tactic(auto)]
+
+// One name, from left to right.
+mod piece;
+mod part;
+mod name;
+
+// All names of a file.
+mod records;
+
+// What holds of them.
+pub mod laws;
+
+pub use name::shown;
+pub use piece::Piece;
+pub use records::show_all;

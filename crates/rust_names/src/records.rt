@@ -1,0 +1,35 @@
+//! The names of all records of a file.
+ghost use Rattle.std.specs.Prelude.{◌≡◌, IfOk, OnOk};
+ghost use Rattle.rust_names.specs.ShownRecords.{renamed, HaveShownNames};
+ghost use Rattle.rust_names.specs.internal.Reading.{named};
+
+use crate::name::show_name;
+use std::alloc::Global;
+use sym_edges::OutOfMemory;
+use sym_records::{SymFile, SymLine, file_of_valid};
+
+/// Gives a record the name that its name shows.
+fn show_record(alloc: Global, line: &mut SymLine) -> Result<(), OutOfMemory>
+    ensures { OnOk result (line.new ≡ renamed named line.old) }
+{
+    match line {
+        SymLine::Func { name, .. } => show_name(alloc, name),
+        SymLine::Origin { name, .. } => show_name(alloc, name),
+        SymLine::Public { name, .. } => show_name(alloc, name),
+        _ => Ok(()),
+    }
+}
+
+/// The file with each `FUNC`, `INLINE_ORIGIN` and `PUBLIC` under the name that its name shows, where there is one. All else stays, and so
+/// does the order. Takes memory for the names alone.
+pub fn show_all(alloc: Global, file: SymFile) -> Result<SymFile, OutOfMemory>
+    ensures { IfOk result (λ new. HaveShownNames file new) }
+{
+    // `as_slice` says that the records are valid.
+    let count = file.as_slice().len();
+    let mut lines = file.into_vec();
+    for at in 0..count {
+        show_record(alloc, &mut lines[at])?;
+    }
+    Ok(file_of_valid(lines))
+}
