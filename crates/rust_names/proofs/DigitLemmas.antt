@@ -1,7 +1,6 @@
 -- The length in front of a part (count_digits, number_upto, cut_of).
-use Rattle.std.proofs.Common.{◌≡◌, ◌≢◌, ℕ, ◌+◌, ◌-◌, ◌*◌, ◌<◌, ◌≤◌, ◌==◌, ◌&&◌, cond, zero, suc, Bool, true, false, not, List, [], ◌∷◌, ◌++◌, length, take, drop, get_or, Option, Some, None, nat_lt, nat_le, refl, sym, ◌∙◌, ap, arith, length-drop}
+use Rattle.std.proofs.Common.{◌≡◌, ◌≢◌, ℕ, ◌+◌, ◌-◌, ◌*◌, ◌<◌, ◌≤◌, ◌==◌, ◌&&◌, cond, zero, suc, true, false, not, List, [], ◌∷◌, length, take, drop, get_or, Option, Some, None, nat_lt, nat_le, refl, sym, ◌∙◌, ap, arith}
 use Rattle.std.specs.List.{list_all}
-use Rattle.std.specs.Option.{option_map}
 use Rattle.std.specs.Char.{digit_value}
 use Rattle.std.specs.Str.Parse.{digits_value}
 use Rattle.std.proofs.lemmas.Bool.{le-leb, lt-leb, leb-true}
@@ -9,7 +8,7 @@ use Rattle.std.proofs.lemmas.Bool.Decides.{nat_tests}
 use Rattle.std.proofs.lemmas.Int.Digits.{digits_value_more}
 use Rattle.std.proofs.lemmas.Str.Parse.{digits_value-take-le}
 use Rattle.std.proofs.lemmas.List.{at_drop_more, at_drop_all, take_all}
-use Rattle.sym_rules.proofs.BoolLemmas.{and_true, both, not_true, not_false, elim_bool}
+use Rattle.sym_rules.proofs.BoolLemmas.{and_true, both, not_false, elim_bool}
 use Rattle.rust_names.specs.Shown.{is_digit, is_number}
 use Rattle.rust_names.specs.internal.Reading.{digits_in_front, number_upto, cut_by, cut_of}
 
@@ -133,7 +132,7 @@ unfolding number_upto
 number_known most n digits is =
     elim_bool (is_number digits && nat_le (digits_value 10 digits) most) (λ t. (is_number digits && nat_le (digits_value 10 digits) most) ≡ t → cond t (Some (digits_value 10 digits)) None ≡ Some n → (is_number digits ≡ true) × (digits_value 10 digits ≡ n) × (n ≤ most))
     (λ whole _ found.
-        let parts = and_true {a = is_number digits} {b = nat_le (digits_value 10 digits) most} whole in
-        let same : digits_value 10 digits ≡ n = some_is found in
-        (parts.0, same, omega (arith, same, leb-true (digits_value 10 digits) most parts.1)))
+    let parts = and_true {a = is_number digits} {b = nat_le (digits_value 10 digits) most} whole in
+    let same : digits_value 10 digits ≡ n = some_is found in
+    (parts.0, same, omega (arith, same, leb-true (digits_value 10 digits) most parts.1)))
     (λ _ _ found. cc) refl is

@@ -1,5 +1,5 @@
 -- The piece that bytes begin with, and its bytes (sign_of, code_of, piece_of).
-use Rattle.std.proofs.Common.{◌≡◌, ◌≢◌, ℕ, ◌+◌, ◌-◌, ◌*◌, ◌/◌, ◌%◌, ◌<◌, ◌≤◌, ◌==◌, ◌&&◌, cond, zero, suc, Bool, true, false, not, List, [], ◌∷◌, ◌++◌, length, take, drop, get_or, codes, Option, Some, None, nat_lt, nat_le, nat_eq, refl, sym, ◌∙◌, ap, arith, subst}
+use Rattle.std.proofs.Common.{◌≡◌, ◌≢◌, ℕ, ◌+◌, ◌*◌, ◌/◌, ◌%◌, ◌<◌, ◌==◌, ◌&&◌, cond, Bool, true, false, not, List, [], ◌∷◌, ◌++◌, length, drop, get_or, codes, Option, Some, None, nat_lt, nat_le, nat_eq, refl, sym, ◌∙◌, ap, arith, subst}
 use Rattle.std.specs.List.{starts_with}
 use Rattle.std.proofs.lemmas.Bool.{leb-true}
 use Rattle.std.proofs.lemmas.Bool.Decides.{nat_tests, Decides-eqb}
@@ -58,7 +58,7 @@ byte_front bytes after h l (Some high) (Some low) p is is_high is_low found =
     let second = hex_is l low is_low in
     let both_are = parts_of_byte high low second.1 in
     let well : bytes ≡ written (Code (high * 16 + low)) ++ after =
-        is ∙ ap (λ x. 36 ∷ 117 ∷ x ∷ l ∷ 36 ∷ after) (sym (ap low_hex both_are.0 ∙ first.0)) ∙ ap (λ x. 36 ∷ 117 ∷ low_hex ((high * 16 + low) / 16) ∷ x ∷ 36 ∷ after) (sym (ap low_hex both_are.1 ∙ second.0)) in
+    is ∙ ap (λ x. 36 ∷ 117 ∷ x ∷ l ∷ 36 ∷ after) (sym (ap low_hex both_are.0 ∙ first.0)) ∙ ap (λ x. 36 ∷ 117 ∷ low_hex ((high * 16 + low) / 16) ∷ x ∷ 36 ∷ after) (sym (ap low_hex both_are.1 ∙ second.0)) in
     chosen_is (IsFront bytes) (nat_le 32 (high * 16 + low) && nat_le (high * 16 + low) 126) (Code (high * 16 + low)) p None
     (λ t. (subst (λ (xs : List ℕ). xs ≡ written (Code (high * 16 + low)) ++ drop 5 xs) (sym well) refl, t)) (λ none. cc) found
 
@@ -69,16 +69,16 @@ code_front (a ∷ []) p dollar is = cc
 code_front (a ∷ b ∷ []) p dollar is = cc
 code_front (a ∷ b ∷ c ∷ []) p dollar is = cc
 code_front (a ∷ b ∷ c ∷ d ∷ []) p dollar is = cc
-code_front (a ∷ b ∷ c ∷ d ∷ e ∷ after) p dollar is = 
+code_front (a ∷ b ∷ c ∷ d ∷ e ∷ after) p dollar is =
     let long : nat_lt (length (a ∷ b ∷ c ∷ d ∷ e ∷ after)) 5 ≡ false = grind (arith, nat_tests) in
     let inner : cond (b == 117 && e == 36) (byte_of (low_value c) (low_value d)) None ≡ Some p = ap (λ t. cond t None (cond (b == 117 && e == 36) (byte_of (low_value c) (low_value d)) None)) (sym long) ∙ is in
     elim_bool (b == 117 && e == 36) (λ t. cond t (byte_of (low_value c) (low_value d)) None ≡ Some p → IsFront (a ∷ b ∷ c ∷ d ∷ e ∷ after) p)
     (λ t found.
-        let marks = and_true {a = b == 117} {b = e == 36} t in
-        let first : b ≡ 117 = grind (arith, nat_tests) in
-        let last : e ≡ 36 = grind (arith, nat_tests) in
-        let same : (a ∷ b ∷ c ∷ d ∷ e ∷ after) ≡ (36 ∷ 117 ∷ c ∷ d ∷ 36 ∷ after) = cc in
-        byte_front (a ∷ b ∷ c ∷ d ∷ e ∷ after) after c d (low_value c) (low_value d) p same refl refl found)
+    let marks = and_true {a = b == 117} {b = e == 36} t in
+    let first : b ≡ 117 = grind (arith, nat_tests) in
+    let last : e ≡ 36 = grind (arith, nat_tests) in
+    let same : (a ∷ b ∷ c ∷ d ∷ e ∷ after) ≡ (36 ∷ 117 ∷ c ∷ d ∷ 36 ∷ after) = cc in
+    byte_front (a ∷ b ∷ c ∷ d ∷ e ∷ after) after c d (low_value c) (low_value d) p same refl refl found)
     (λ t none. cc) inner
 
 or_front : (bytes : List ℕ) (p : Piece) (sign : Option Piece) → sign_of bytes ≡ sign → get_or bytes 0 0 ≡ 36 → or_code sign bytes ≡ Some p → IsFront bytes p
@@ -101,11 +101,11 @@ piece_front (b ∷ bytes) p is =
     elim_bool (b == 36) (λ t. cond t (or_code (sign_of (b ∷ bytes)) (b ∷ bytes)) (cond (b == 46 && begins_with_dot bytes) (Some Scope) (cond (nat_le 33 b && nat_le b 126) (Some (Plain b)) None)) ≡ Some p → IsFront (b ∷ bytes) p)
     (λ dollar found. or_front (b ∷ bytes) p (sign_of (b ∷ bytes)) refl (let same : b ≡ 36 = grind (arith, nat_tests) in same) found)
     (λ other found.
-        elim_bool (b == 46 && begins_with_dot bytes) (λ t. cond t (Some Scope) (cond (nat_le 33 b && nat_le b 126) (Some (Plain b)) None) ≡ Some p → IsFront (b ∷ bytes) p)
-        (λ dots is. let same : Scope ≡ p = cc in subst (IsFront (b ∷ bytes)) same (dots_are b bytes dots, refl))
-        (λ none is. chosen_is (IsFront (b ∷ bytes)) (nat_le 33 b && nat_le b 126) (Plain b) p None
-            (λ shown. (refl, both (both shown (not_false other)) (not_false none))) (λ none. cc) is)
-        found)
+    elim_bool (b == 46 && begins_with_dot bytes) (λ t. cond t (Some Scope) (cond (nat_le 33 b && nat_le b 126) (Some (Plain b)) None) ≡ Some p → IsFront (b ∷ bytes) p)
+    (λ dots is. let same : Scope ≡ p = cc in subst (IsFront (b ∷ bytes)) same (dots_are b bytes dots, refl))
+    (λ none is. chosen_is (IsFront (b ∷ bytes)) (nat_le 33 b && nat_le b 126) (Plain b) p None
+    (λ shown. (refl, both (both shown (not_false other)) (not_false none))) (λ none. cc) is)
+    found)
     is
 
 -- for piece_of

@@ -7,3 +7,7 @@ mod ShownLemmas
 mod WholeLemmas
 mod VisibleLemmas
 mod RecordLemmas
+mod LookupLemmas
+mod FindingLemmas
+mod Computing
+mod WorkedNames

@@ -1,9 +1,8 @@
 -- What stands between `_ZN` and the hash, and what it shows (text_of).
-use Rattle.std.proofs.Common.{◌≡◌, ◌≢◌, ℕ, Bool, true, false, cond, List, [], ◌∷◌, ◌++◌, Option, Some, None, refl, sym, ◌∙◌, ap}
+use Rattle.std.proofs.Common.{◌≡◌, ℕ, Bool, true, false, cond, List, [], ◌++◌, Option, Some, None, refl, sym, ◌∙◌, ap}
 use Rattle.std.specs.Option.{option_map, option_and_then}
 use Rattle.rust_names.specs.Shown.{is_shown_text}
 use Rattle.rust_names.specs.internal.Reading.{middle_of, parts_of, parts_text, some_joined, text_if, shown_of, kept}
-use Rattle.rust_names.proofs.DigitLemmas.{some_is}
 
 pub no_middle : (name : List ℕ) → middle_of name ≡ None → None ≡ shown_of name
 unfolding shown_of

@@ -1,11 +1,10 @@
 -- Bytes as parts, and what they show (add_later_parts, add_parts).
-use Rattle.std.proofs.Common.{◌≡◌, ◌≢◌, ℕ, ◌+◌, ◌-◌, ◌<◌, ◌≤◌, cond, zero, suc, Bool, true, false, List, [], ◌∷◌, ◌++◌, length, take, drop, codes, Option, Some, None, refl, sym, ◌∙◌, ap, arith, length-append, length-take, length-drop, append-nil}
+use Rattle.std.proofs.Common.{◌≡◌, ◌≢◌, ℕ, ◌+◌, ◌-◌, ◌<◌, ◌≤◌, zero, suc, Bool, true, List, [], ◌∷◌, ◌++◌, length, take, drop, codes, Option, Some, None, refl, sym, ◌∙◌, ap, arith, length-take, length-drop, append-nil}
 use Rattle.std.specs.List.{flat_map}
 use Rattle.std.specs.Option.{option_map, option_and_then}
-use Rattle.std.specs.Str.Parse.{digits_value}
-use Rattle.std.proofs.lemmas.List.{append_assoc, take-append-drop, drop-drop}
+use Rattle.std.proofs.lemmas.List.{append_assoc, drop-drop}
 use Rattle.rust_names.specs.declared.piece.Piece.{Piece}
-use Rattle.rust_names.specs.Shown.{shown, undashed, joined, is_number, part_written, Part}
+use Rattle.rust_names.specs.Shown.{shown, undashed, is_number, Part}
 use Rattle.rust_names.specs.internal.Reading.{digits_in_front, number_upto, cut_by, cut_of, part_by, part_of, part_length, parts_from, parts_of, some_joined, pieces_of, pieces_text, parts_text, later_text, kept}
 use Rattle.rust_names.proofs.DigitLemmas.{front_digits, number_known, some_is}
 use Rattle.rust_names.proofs.PieceLemmas.{dropped}
@@ -71,7 +70,7 @@ parts_step (b ∷ bytes) part later is =
     let size = cut_size (b ∷ bytes) part later cut in
     let n : ℕ = length (digits_in_front (b ∷ bytes)) + length part in
     let next : parts_from (n - 1) bytes ≡ parts_of later =
-        skipped (n - 1) bytes (omega (arith, size)) ∙ ap parts_of (sym (dropped n b bytes (omega (arith, size))) ∙ cut_later (b ∷ bytes) part later cut) in
+    skipped (n - 1) bytes (omega (arith, size)) ∙ ap parts_of (sym (dropped n b bytes (omega (arith, size))) ∙ cut_later (b ∷ bytes) part later cut) in
     ap (λ o. option_and_then (λ (p : Part). option_map (λ ps. p ∷ ps) (parts_from (part_length p - 1) bytes)) (part_by (digits_in_front (b ∷ bytes)) o)) is
     ∙ step_by (b ∷ bytes) part (λ (p : Part). parts_from (part_length p - 1) bytes) (parts_of later) (pieces_of (undashed part)) (λ ps. next)
 

@@ -1,13 +1,13 @@
 -- Bytes as pieces (piece_of, add_pieces).
-use Rattle.std.proofs.Common.{◌≡◌, ◌≢◌, ℕ, ◌+◌, ◌-◌, ◌<◌, ◌≤◌, zero, suc, Bool, true, false, List, [], ◌∷◌, ◌++◌, length, take, drop, Option, Some, None, refl, sym, ◌∙◌, ap, arith, length-append, length-drop, append-nil}
+use Rattle.std.proofs.Common.{◌≡◌, ◌≢◌, ℕ, ◌-◌, ◌<◌, ◌≤◌, zero, suc, true, false, List, [], ◌∷◌, ◌++◌, length, drop, Option, Some, None, refl, sym, ◌∙◌, ap, arith, length-append, append-nil}
 use Rattle.std.specs.List.{flat_map}
 use Rattle.std.specs.Option.{option_map, option_and_then}
 use Rattle.std.proofs.lemmas.List.{append_assoc}
 use Rattle.rust_names.specs.declared.piece.Piece.{Piece}
 use Rattle.rust_names.specs.declared.piece.Piece.TheVariants.{At, Star, And, Less, Greater, Opening, Closing, Comma, Code, Scope, Plain}
-use Rattle.rust_names.specs.Shown.{written, shown, is_piece, ArePieces}
+use Rattle.rust_names.specs.Shown.{written, shown}
 use Rattle.rust_names.specs.internal.Reading.{piece_of, pieces_from, pieces_of, pieces_text, kept}
-use Rattle.rust_names.proofs.FrontLemmas.{IsFront, piece_front, found_piece}
+use Rattle.rust_names.proofs.FrontLemmas.{piece_front}
 
 pub piece_within : (bytes : List ℕ) (p : Piece) → piece_of bytes ≡ Some p → length (written p) ≤ length bytes
 piece_within bytes p is = omega (arith, ap length (piece_front bytes p is).0, length-append (written p) (drop (length (written p)) bytes))
@@ -69,13 +69,3 @@ pub pieces_more : (bytes text : List ℕ) (p : Piece) (whole : Option (List ℕ)
 unfolding pieces_text
 pieces_more bytes text p whole found is =
     is ∙ ap (λ o. option_map (λ t. text ++ t) (option_map (flat_map shown) o)) (pieces_step bytes p (sym found)) ∙ shown_first text p (pieces_of (drop (length (written p)) bytes))
-
--- pieces are the bytes
-
-map_some : {A B : Type 0} (f : A → B) (o : Option A) (y : B) → option_map f o ≡ Some y → (x : A) × (o ≡ Some x) × (f x ≡ y)
-map_some f None y is = cc
-map_some f (Some x) y is = (x, refl, cc)
-
-first_some : (p : Piece) (ps : List Piece) (o : Option Piece) (f : Piece → Option (List Piece)) → option_and_then f o ≡ Some ps → (q : Piece) × (o ≡ Some q) × (f q ≡ Some ps)
-first_some p ps None f is = cc
-first_some p ps (Some q) f is = (q, refl, is)

@@ -1,5 +1,5 @@
 -- Records with other names are as valid as before (show_all).
-use Rattle.std.proofs.Common.{◌≡◌, ℕ, ◌+◌, ◌^◌, ◌<◌, ◌≤◌, ◌&&◌, ◌⊎◌, inl, inr, cond, Bool, true, false, List, [], ◌∷◌, ◌++◌, length, map, take, drop, append-nil, Option, Some, None, nat_lt, refl, sym, ◌∙◌, ap, arith}
+use Rattle.std.proofs.Common.{◌≡◌, ℕ, ◌+◌, ◌^◌, ◌≤◌, ◌&&◌, inl, inr, cond, Bool, true, List, [], ◌∷◌, ◌++◌, length, map, take, drop, append-nil, Option, Some, None, nat_lt, refl, sym, ◌∙◌, ap, arith}
 use Rattle.std.specs.Option.{option_map_or}
 use Rattle.std.proofs.lemmas.Bool.{ltb-true}
 use Rattle.std.proofs.lemmas.List.{take_all, drop_all}
@@ -13,10 +13,9 @@ use Rattle.sym_records.specs.Reading.{fits, leads}
 use Rattle.sym_records.specs.Validity.{has_fields, fields_fit, first_bad_from, first_bad, AreValid}
 use Rattle.sym_records.proofs.MakingLemmas.{func_fits, origin_fits, public_fits}
 use Rattle.sym_records.proofs.ValidityLemmas.{valid_none}
-use Rattle.rust_names.specs.Shown.{IsShown, IsPlainName}
 use Rattle.rust_names.specs.ShownRecords.{renamed, IsNameFor, HaveShownNames}
 use Rattle.rust_names.specs.internal.Reading.{shown_of, named}
-use Rattle.rust_names.proofs.WholeLemmas.{shown_found, shown_none}
+use Rattle.rust_names.proofs.WholeLemmas.{shown_found, shown_none, one_text}
 use Rattle.rust_names.proofs.VisibleLemmas.{is_named, is_short}
 
 name_by : (name : List ℕ) (o : Option (List ℕ)) → o ≡ shown_of name → IsNameFor name (option_map_or (λ text. text) o name)
@@ -82,11 +81,11 @@ good_from f i place [] names none = refl
 good_from f i place (s ∷ lines) names none =
     elim_bool (fits place s && fields_fit s) (λ t. (fits place s && fields_fit s) ≡ t → cond t (first_bad_from (i + 1) (leads place s) lines) (Some i) ≡ None → cond (fits place (renamed f s) && fields_fit (renamed f s)) (first_bad_from (i + 1) (leads place (renamed f s)) (map (renamed f) lines)) (Some i) ≡ None)
     (λ well _ later.
-        let two = and_true {a = fits place s} {b = fields_fit s} well in
-        let stands = still_stands f place s in
-        ap (λ t. cond t (first_bad_from (i + 1) (leads place (renamed f s)) (map (renamed f) lines)) (Some i)) (both (stands.0 ∙ two.0) (still_fits f s names two.1))
-        ∙ ap (λ p. first_bad_from (i + 1) p (map (renamed f) lines)) stands.1
-        ∙ good_from f (i + 1) (leads place s) lines names later)
+    let two = and_true {a = fits place s} {b = fields_fit s} well in
+    let stands = still_stands f place s in
+    ap (λ t. cond t (first_bad_from (i + 1) (leads place (renamed f s)) (map (renamed f) lines)) (Some i)) (both (stands.0 ∙ two.0) (still_fits f s names two.1))
+    ∙ ap (λ p. first_bad_from (i + 1) p (map (renamed f) lines)) stands.1
+    ∙ good_from f (i + 1) (leads place s) lines names later)
     (λ _ _ bad. cc) refl none
 
 pub still_good : (f : List ℕ → List ℕ) (lines : List SymLine) → ((name : List ℕ) → IsNameFor name (f name)) → first_bad lines ≡ None → first_bad (map (renamed f) lines) ≡ None
@@ -104,3 +103,31 @@ shown_all lines new is = record { names = named; shown = name_for; all = is }
 pub all_written : (lines new : List SymLine) (i : ℕ) → length lines ≤ i → new ≡ map (renamed named) (take i lines) ++ drop i lines → new ≡ map (renamed named) lines
 all_written lines new i past is =
     is ∙ ap (λ xs. map (renamed named) (take i lines) ++ xs) (drop_all i lines past) ∙ append-nil (map (renamed named) (take i lines)) ∙ ap (map (renamed named)) (take_all i lines past)
+
+-- a name has one name
+
+same_name : (name a b : List ℕ) → IsNameFor name a → IsNameFor name b → a ≡ b
+same_name name a b (inl first) (inl second) = one_text name a b first second
+same_name name a b (inl first) (inr second) = absurd (second.0 a first)
+same_name name a b (inr first) (inl second) = absurd (first.0 b second)
+same_name name a b (inr first) (inr second) = first.1 ∙ sym second.1
+
+same_record : (f g : List ℕ → List ℕ) (s : SymLine) → ((name : List ℕ) → f name ≡ g name) → renamed f s ≡ renamed g s
+same_record f g (Module binary) same = refl
+same_record f g (Info text) same = refl
+same_record f g (File number name) same = refl
+same_record f g (Origin number name) same = ap (λ n. Origin number n) (same name)
+same_record f g (Func many address size params name) same = ap (λ n. Func many address size params n) (same name)
+same_record f g (Inline level line file origin ranges) same = refl
+same_record f g (Line address size line file) same = refl
+same_record f g (Public many address params name) same = ap (λ n. Public many address params n) (same name)
+same_record f g (Init address size rules) same = refl
+same_record f g (Change address rules) same = refl
+
+same_records : (f g : List ℕ → List ℕ) (lines : List SymLine) → ((name : List ℕ) → f name ≡ g name) → map (renamed f) lines ≡ map (renamed g) lines
+same_records f g [] same = refl
+same_records f g (s ∷ lines) same = ap (λ t. t ∷ map (renamed f) lines) (same_record f g s same) ∙ ap (λ rest. renamed g s ∷ rest) (same_records f g lines same)
+
+pub one_list : (lines a b : List SymLine) → HaveShownNames lines a → HaveShownNames lines b → a ≡ b
+one_list lines a b first second =
+    first.all ∙ same_records first.names second.names lines (λ name. same_name name (first.names name) (second.names name) (first.shown name) (second.shown name)) ∙ sym second.all

@@ -1,22 +1,20 @@
 -- The reading of a name finds what the name shows, and nothing else (shown, shown_texts_are_one).
-use Rattle.std.proofs.Common.{◌≡◌, ◌≢◌, ℕ, ◌+◌, ◌-◌, ◌*◌, ◌<◌, ◌≤◌, ◌==◌, ◌&&◌, cond, zero, suc, Bool, true, false, not, List, [], ◌∷◌, ◌++◌, length, take, drop, get_or, codes, Option, Some, None, nat_lt, nat_le, nat_eq, refl, sym, ◌∙◌, ap, arith, subst, length-append, length-take, length-drop, append-nil}
-use Rattle.std.specs.List.{flat_map, list_all, starts_with}
+use Rattle.std.proofs.Common.{◌≡◌, ℕ, ◌+◌, ◌-◌, ◌<◌, ◌≤◌, ◌==◌, cond, zero, suc, true, false, not, List, [], ◌∷◌, ◌++◌, length, take, drop, Option, Some, None, refl, sym, ◌∙◌, ap, arith, subst, length-append}
+use Rattle.std.specs.List.{flat_map, list_all}
 use Rattle.std.specs.Option.{option_map, option_and_then}
-use Rattle.std.specs.Char.{digit_value}
 use Rattle.std.specs.Str.Parse.{digits_value}
-use Rattle.std.proofs.Math.Seq.{drop-append_seam, take-append_seam, get_or-append_seam}
-use Rattle.std.proofs.lemmas.Bool.{le-leb, leb-true}
+use Rattle.std.proofs.Math.Seq.{drop-append_seam, take-append_seam}
 use Rattle.std.proofs.lemmas.Bool.Decides.{nat_tests}
-use Rattle.std.proofs.lemmas.List.{append_assoc, take-append-drop, take_all, drop-drop, drop_all, at_drop_more}
+use Rattle.std.proofs.lemmas.List.{append_assoc, take-append-drop}
 use Rattle.std.proofs.lemmas.Str.Parse.{digits_value-take-le}
-use Rattle.sym_rules.proofs.BoolLemmas.{and_true, both, not_true, not_false, elim_bool}
+use Rattle.sym_rules.proofs.BoolLemmas.{and_true, not_true, elim_bool}
 use Rattle.rust_names.specs.declared.piece.Piece.{Piece}
-use Rattle.rust_names.specs.Shown.{written, shown, is_piece, ArePieces, Part, IsPart, AreParts, is_digit, is_number, begins_with_digit, undashed, part_written, joined, is_low_hex, is_shown_text, IsShown, IsPlainName}
-use Rattle.rust_names.specs.internal.Reading.{piece_of, pieces_from, pieces_of, digits_in_front, number_upto, cut_by, cut_of, part_by, part_of, part_length, parts_from, parts_of, is_tail, middle_of, some_joined, text_if, shown_of}
-use Rattle.rust_names.proofs.FrontLemmas.{begins, IsFront, piece_front, found_piece}
+use Rattle.rust_names.specs.Shown.{written, is_piece, ArePieces, Part, IsPart, AreParts, is_digit, is_number, begins_with_digit, undashed, part_written}
+use Rattle.rust_names.specs.internal.Reading.{piece_of, pieces_from, pieces_of, digits_in_front, number_upto, cut_by, cut_of, part_by, part_of, part_length, parts_from, parts_of}
+use Rattle.rust_names.proofs.FrontLemmas.{IsFront, piece_front, found_piece}
 use Rattle.rust_names.proofs.PieceLemmas.{some_written, dropped, pieces_step}
 use Rattle.rust_names.proofs.DigitLemmas.{some_is, front_digits, number_by, number_known, digit_is, cut_at}
-use Rattle.rust_names.proofs.PartLemmas.{Cut, cut_is, cut_size, cut_later, part_at, parts_step, parts_stop}
+use Rattle.rust_names.proofs.PartLemmas.{Cut, cut_is, cut_size, cut_later, part_at, parts_step}
 
 map_some : {A B : Type 0} (f : A → B) (o : Option A) (y : B) → option_map f o ≡ Some y → (x : A) × (o ≡ Some x) × (f x ≡ y)
 map_some f None y is = cc
@@ -123,7 +121,7 @@ front_part b bytes p qs parts f read is =
     let n : ℕ = length (digits_in_front (b ∷ bytes)) + length f.part in
     let same : part_length p ≡ n = ap part_length f.is in
     let rest : f.later ≡ flat_map part_written qs =
-        sym (cut_later (b ∷ bytes) f.part f.later f.cut) ∙ dropped n b bytes (omega (arith, size.2)) ∙ ap (λ k. drop (k - 1) bytes) (sym same) ∙ read.are in
+    sym (cut_later (b ∷ bytes) f.part f.later f.cut) ∙ dropped n b bytes (omega (arith, size.2)) ∙ ap (λ k. drop (k - 1) bytes) (sym same) ∙ read.are in
     let good : IsPart p = subst IsPart (sym f.is) (cut_part (b ∷ bytes) f.part f.later f.pieces f.cut f.read) in
     subst (ReadParts 0 (b ∷ bytes)) is (record {
       within = omega arith;
@@ -179,13 +177,14 @@ part_cut p after is =
     let back : drop (length p.number) bytes ≡ p.bytes ++ after = ap (drop (length p.number)) whole ∙ drop-append_seam p.number (p.bytes ++ after) in
     let front : take (length p.number) bytes ≡ p.number = ap (take (length p.number)) whole ∙ take-append_seam p.number (p.bytes ++ after) in
     let number : number_upto (length (p.bytes ++ after)) p.number ≡ Some (length p.bytes) =
-        number_by (length (p.bytes ++ after)) p.number is.number (omega (arith, is.length, length-append p.bytes after)) ∙ ap Some is.length in
-    (digits,
-     cut_at bytes (length p.number) (ap length (sym digits))
-     ∙ ap (λ xs. cut_by xs (number_upto (length xs) (take (length p.number) bytes))) back
-     ∙ ap (λ ds. cut_by (p.bytes ++ after) (number_upto (length (p.bytes ++ after)) ds)) front
-     ∙ ap (cut_by (p.bytes ++ after)) number
-     ∙ both_are (take-append_seam p.bytes after) (drop-append_seam p.bytes after))
+    number_by (length (p.bytes ++ after)) p.number is.number (omega (arith, is.length, length-append p.bytes after)) ∙ ap Some is.length in (
+      digits,
+      cut_at bytes (length p.number) (ap length (sym digits))
+          ∙ ap (λ xs. cut_by xs (number_upto (length xs) (take (length p.number) bytes))) back
+          ∙ ap (λ ds. cut_by (p.bytes ++ after) (number_upto (length (p.bytes ++ after)) ds)) front
+          ∙ ap (cut_by (p.bytes ++ after)) number
+          ∙ both_are (take-append_seam p.bytes after) (drop-append_seam p.bytes after),
+    )
 
 pub parts_found : (parts : List Part) → AreParts parts → parts_of (flat_map part_written parts) ≡ Some parts
 unfolding parts_of parts_from

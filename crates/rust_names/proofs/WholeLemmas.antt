@@ -1,13 +1,13 @@
 -- A whole name: what stands between `_ZN` and the hash, and what it shows (shown, shown_texts_are_one).
-use Rattle.std.proofs.Common.{◌≡◌, ◌≢◌, ℕ, ◌+◌, ◌-◌, ◌<◌, ◌≤◌, ◌==◌, ◌&&◌, cond, zero, suc, Bool, true, false, List, [], ◌∷◌, ◌++◌, length, take, drop, get_or, codes, Option, Some, None, MatchOption, nat_le, nat_eq, refl, sym, ◌∙◌, ap, arith, length-append, length-take, length-drop}
+use Rattle.std.proofs.Common.{◌≡◌, ℕ, ◌+◌, ◌-◌, ◌<◌, ◌≤◌, ◌==◌, ◌&&◌, cond, zero, suc, Bool, true, List, [], ◌∷◌, ◌++◌, length, take, drop, get_or, codes, Option, Some, None, MatchOption, nat_le, nat_eq, refl, sym, ◌∙◌, ap, arith, length-append, length-take, length-drop}
 use Rattle.std.specs.List.{flat_map, list_all, starts_with}
-use Rattle.std.specs.Option.{option_map, option_and_then}
+use Rattle.std.specs.Option.{option_and_then}
 use Rattle.std.proofs.Math.Seq.{drop-append_seam, take-append_seam, get_or-append_seam}
 use Rattle.std.proofs.lemmas.Bool.{le-leb, leb-true}
 use Rattle.std.proofs.lemmas.Bool.Decides.{nat_tests}
-use Rattle.std.proofs.lemmas.List.{append_assoc, take-append-drop, take_all, drop-drop, drop_all, at_drop_more}
+use Rattle.std.proofs.lemmas.List.{append_assoc, take-append-drop, drop-drop, drop_all, at_drop_more}
 use Rattle.sym_rules.proofs.BoolLemmas.{and_true, both, elim_bool}
-use Rattle.rust_names.specs.Shown.{Part, AreParts, part_written, joined, is_low_hex, is_shown_text, IsShown, IsPlainName}
+use Rattle.rust_names.specs.Shown.{Part, part_written, joined, is_low_hex, is_shown_text, IsShown, IsPlainName}
 use Rattle.rust_names.specs.internal.Reading.{parts_of, is_tail, middle_of, some_joined, text_if, shown_of}
 use Rattle.rust_names.proofs.FrontLemmas.{begins}
 use Rattle.rust_names.proofs.DigitLemmas.{some_is}
@@ -35,7 +35,7 @@ tail_known bytes size is =
     let rest : List ℕ = drop 3 bytes in
     let last : get_or bytes 19 0 ≡ 69 = grind (arith, nat_tests) in
     let ends : drop 16 rest ≡ codes "E" =
-        drop-drop 16 3 bytes ∙ at_drop_more (λ xs. xs) bytes 19 0 (omega arith) ∙ ap (λ xs. get_or bytes 19 0 ∷ xs) (drop_all 20 bytes (omega arith)) ∙ ap (λ b. b ∷ []) last in
+    drop-drop 16 3 bytes ∙ at_drop_more (λ xs. xs) bytes 19 0 (omega arith) ∙ ap (λ xs. get_or bytes 19 0 ∷ xs) (drop_all 20 bytes (omega arith)) ∙ ap (λ b. b ∷ []) last in
     record {
       hash = take 16 rest;
       whole = begins bytes (codes "17h") one.0 ∙ ap (λ xs. codes "17h" ++ xs) (sym (take-append-drop 16 rest) ∙ ap (λ xs. take 16 rest ++ xs) ends) ∙ sym (append_assoc (codes "17h") (take 16 rest) (codes "E"));
@@ -69,7 +69,7 @@ middle_by name middle front long tail is =
     let last = tail_known (drop n name) (omega (arith, length-drop n name)) tail in
     let whole : name ≡ codes "_ZN" ++ drop 3 name = begins name (codes "_ZN") front in
     let first : take n name ≡ codes "_ZN" ++ middle =
-        ap (take n) whole ∙ front_of n (drop 3 name) (omega arith) ∙ ap (λ xs. codes "_ZN" ++ drop 3 (take n xs)) (sym whole) ∙ ap (λ xs. codes "_ZN" ++ xs) is in
+    ap (take n) whole ∙ front_of n (drop 3 name) (omega arith) ∙ ap (λ xs. codes "_ZN" ++ drop 3 (take n xs)) (sym whole) ∙ ap (λ xs. codes "_ZN" ++ xs) is in
     record {
       hash = last.hash;
       whole = sym (take-append-drop n name) ∙ ap (λ xs. xs ++ drop n name) first ∙ ap (λ xs. (codes "_ZN" ++ middle) ++ xs) last.whole ∙ assembled (codes "_ZN") middle (codes "17h") last.hash (codes "E");
@@ -83,9 +83,9 @@ middle_known name middle is =
     let test : Bool = starts_with nat_eq name (codes "_ZN") && nat_le 23 (length name) && is_tail (drop (length name - 20) name) in
     elim_bool test (λ t. test ≡ t → cond t (Some (drop 3 (take (length name - 20) name))) None ≡ Some middle → Middle name middle)
     (λ whole _ found.
-        let two = and_true {a = starts_with nat_eq name (codes "_ZN") && nat_le 23 (length name)} {b = is_tail (drop (length name - 20) name)} whole in
-        let one = and_true {a = starts_with nat_eq name (codes "_ZN")} {b = nat_le 23 (length name)} two.0 in
-        middle_by name middle one.0 (leb-true 23 (length name) one.1) two.1 (some_is found))
+    let two = and_true {a = starts_with nat_eq name (codes "_ZN") && nat_le 23 (length name)} {b = is_tail (drop (length name - 20) name)} whole in
+    let one = and_true {a = starts_with nat_eq name (codes "_ZN")} {b = nat_le 23 (length name)} two.0 in
+    middle_by name middle one.0 (leb-true 23 (length name) one.1) two.1 (some_is found))
     (λ _ _ found. cc) refl is
 
 middle_found : (middle hash : List ℕ) → length hash ≡ 16 → list_all is_low_hex hash ≡ true → middle_of ((codes "_ZN" ++ middle) ++ (codes "17h" ++ hash ++ codes "E")) ≡ Some middle
@@ -100,7 +100,7 @@ middle_found middle hash size all =
     let ends : drop (length name - 20) name ≡ tail = ap (λ n. drop n name) at ∙ drop-append_seam front tail in
     let begins : take (length name - 20) name ≡ front = ap (λ n. take n name) at ∙ take-append_seam front tail in
     let test : (starts_with nat_eq name (codes "_ZN") && nat_le 23 (length name) && is_tail (drop (length name - 20) name)) ≡ true =
-        both (both refl (le-leb 23 (length name) (omega (arith, long, length-append (codes "_ZN") middle)))) (ap is_tail ends ∙ last.1) in
+    both (both refl (le-leb 23 (length name) (omega (arith, long, length-append (codes "_ZN") middle)))) (ap is_tail ends ∙ last.1) in
     ap (λ t. cond t (Some (drop 3 (take (length name - 20) name))) None) test ∙ ap (λ xs. Some (drop 3 xs)) begins
 
 -- what is found is what the name shows
@@ -116,6 +116,9 @@ parts_some (p ∷ parts) some = refl
 text_is : (text new : List ℕ) → text_if text ≡ Some new → (is_shown_text text ≡ true) × (text ≡ new)
 text_is text new is = elim_bool (is_shown_text text) (λ t. is_shown_text text ≡ t → cond t (Some text) None ≡ Some new → (is_shown_text text ≡ true) × (text ≡ new)) (λ fits _ found. (fits, some_is found)) (λ _ _ found. cc) refl is
 
+whole_is : (name middle hash : List ℕ) (parts : List Part) → name ≡ codes "_ZN" ++ middle ++ codes "17h" ++ hash ++ codes "E" → middle ≡ flat_map part_written parts → name ≡ codes "_ZN" ++ flat_map part_written parts ++ codes "17h" ++ hash ++ codes "E"
+whole_is name middle hash parts is are = is ∙ ap (λ xs. codes "_ZN" ++ xs ++ codes "17h" ++ hash ++ codes "E") are
+
 found_is : (name text : List ℕ) → shown_of name ≡ Some text → IsShown name text
 unfolding shown_of parts_of
 found_is name text is =
@@ -129,7 +132,7 @@ found_is name text is =
     record {
       parts = parts.0;
       hash = known.hash;
-      whole = known.whole ∙ ap (λ xs. codes "_ZN" ++ xs ++ codes "17h" ++ known.hash ++ codes "E") read.are;
+      whole = whole_is name middle.0 known.hash parts.0 known.whole read.are;
       some = shows.0;
       read = read.good;
       digits = known.digits;
@@ -142,7 +145,7 @@ pub is_found : (name text : List ℕ) → IsShown name text → shown_of name �
 unfolding shown_of
 is_found name text is =
     let middle : middle_of name ≡ Some (flat_map part_written is.parts) =
-        ap middle_of (is.whole ∙ sym (assembled (codes "_ZN") (flat_map part_written is.parts) (codes "17h") is.hash (codes "E"))) ∙ middle_found (flat_map part_written is.parts) is.hash is.digits is.hexadecimal in
+    ap middle_of (is.whole ∙ sym (assembled (codes "_ZN") (flat_map part_written is.parts) (codes "17h") is.hash (codes "E"))) ∙ middle_found (flat_map part_written is.parts) is.hash is.digits is.hexadecimal in
     ap (λ o. option_and_then text_if (option_and_then some_joined (option_and_then parts_of o))) middle
     ∙ ap (λ o. option_and_then text_if (option_and_then some_joined o)) (parts_found is.parts is.read)
     ∙ ap (option_and_then text_if) (parts_some is.parts is.some)

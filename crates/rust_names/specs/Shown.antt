@@ -1,6 +1,6 @@
 -- The readable form of a name in Rust's legacy mangling (rustc, `compiler/rustc_symbol_mangling/src/legacy.rs`): `_ZN`, the parts of a path, each
 -- with its length in front, a hash as the last part, and `E`. The parts are shown with `::` between them, and the hash is not shown.
-use Rattle.std.specs.Prelude.{◌≡◌, ℕ, ◌+◌, ◌/◌, ◌%◌, ◌<◌, ◌==◌, ◌&&◌, ◌||◌, nat_le, nat_lt, nat_eq, Bool, true, false, not, if◌then◌else◌, map, List, [], ◌∷◌, ◌++◌, length, drop, codes}
+use Rattle.std.specs.Prelude.{◌≡◌, ℕ, ◌+◌, ◌/◌, ◌%◌, ◌<◌, ◌==◌, ◌&&◌, ◌||◌, nat_le, nat_lt, nat_eq, Bool, true, false, not, if◌then◌else◌, List, [], ◌∷◌, ◌++◌, length, drop, codes}
 use Rattle.std.specs.List.{flat_map, list_all, starts_with}
 use Rattle.std.specs.Str.Parse.{digits_value}
 use Rattle.rust_names.specs.declared.piece.Piece.{Piece}

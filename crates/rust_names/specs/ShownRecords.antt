@@ -1,7 +1,9 @@
 -- Records with the names that they show: those of FUNC, INLINE_ORIGIN and PUBLIC (Breakpad's symbol_files.md); all else stays.
 use Rattle.std.specs.Prelude.{◌≡◌, ◌⊎◌, ℕ, List, map}
+use Rattle.std.specs.Option.{option_map}
 use Rattle.sym_records.specs.declared.line.SymLine.{SymLine}
 use Rattle.sym_records.specs.declared.line.SymLine.TheVariants.{Origin, Func, Public}
+use Rattle.sym_meaning.specs.TextNames.{Found, Call}
 use Rattle.rust_names.specs.Shown.{IsShown, IsPlainName}
 
 -- a record with another name
@@ -20,3 +22,10 @@ pub record HaveShownNames (lines new : List SymLine) : Type 0 where
   pub names : List ℕ → List ℕ
   pub shown : (name : List ℕ) → IsNameFor name (names name)
   pub all : new ≡ map (renamed names) lines
+
+-- what a look-up finds, with another name: a FUNC and the records after it, and a call that was inlined
+abbrev pub renamed_found : (List ℕ → List ℕ) → Found → Found
+renamed_found f found = record { func = renamed f found.func; behind = map (renamed f) found.behind }
+
+abbrev pub renamed_call : (List ℕ → List ℕ) → Call → Call
+renamed_call f call = record call { name = option_map f call.name }

@@ -10,9 +10,9 @@
 #![tactic(auto)]
 
 // One name, from left to right.
-mod piece;
-mod part;
 mod name;
+mod part;
+mod piece;
 
 // All names of a file.
 mod records;

@@ -17,9 +17,7 @@ const NAME_LIMIT: usize = 65_536;
 fn are_low_hex(bytes: &[u8]) -> bool
     ensures { result ≡ list_all is_low_hex bytes.now }
 {
-    bytes
-        .iter()
-        .all(|b| (b'0' <= *b && *b <= b'9') || (b'a' <= *b && *b <= b'f'))
+    bytes.iter().all(|b| (b'0' <= *b && *b <= b'9') || (b'a' <= *b && *b <= b'f'))
 }
 
 /// Whether the 20 bytes are a hash with its length, and `E`.

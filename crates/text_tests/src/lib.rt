@@ -16,6 +16,8 @@ mod frames;
 #[cfg(test)]
 mod lookups;
 #[cfg(test)]
+mod names;
+#[cfg(test)]
 mod reading;
 #[cfg(test)]
 mod records;

@@ -1,5 +1,4 @@
-use Rattle.std.proofs.Common.{◌≡◌, ◌++◌, Bool, true, false, List, ℕ, Option, None, Some, refl, sym, ◌∙◌, ap}
-use Rattle.std.specs.Option.{option_map}
+use Rattle.std.proofs.Common.{true, false, Some, sym, ◌∙◌, ap}
 use Rattle.rust_names.specs.Shown.{is_shown_text}
 use Rattle.rust_names.proofs.NameLemmas.{no_parts, no_text, some_text, filled}
 use Rattle.rust_names.proofs.name.text_of.Goals as goal

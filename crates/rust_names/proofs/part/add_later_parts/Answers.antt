@@ -1,6 +1,4 @@
-use Rattle.std.proofs.Common.{◌≡◌, ◌++◌, Bool, true, false, List, ℕ, Option, sym, ◌∙◌, ap}
-use Rattle.std.specs.Option.{option_map}
-use Rattle.rust_names.specs.internal.Reading.{pieces_text, kept}
+use Rattle.std.proofs.Common.{true, false, sym}
 use Rattle.rust_names.proofs.FrontLemmas.{not_empty, is_empty}
 use Rattle.rust_names.proofs.PartLemmas.{later_end, later_none, later_bad, later_more, added}
 use Rattle.rust_names.proofs.part.add_later_parts.Goals as goal

@@ -1,5 +1,4 @@
-use Rattle.std.proofs.Common.{◌≡◌, ◌++◌, Bool, true, false, List, ℕ, Option, refl, sym, ◌∙◌, ap}
-use Rattle.std.specs.Option.{option_map}
+use Rattle.std.proofs.Common.{true, false, refl, sym, ◌∙◌}
 use Rattle.rust_names.proofs.PartLemmas.{parts_none, parts_bad, parts_some, added}
 use Rattle.rust_names.proofs.part.add_parts.Goals as goal
 

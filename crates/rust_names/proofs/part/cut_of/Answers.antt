@@ -1,4 +1,4 @@
-use Rattle.std.proofs.Common.{◌≡◌, ◌≢◌, ◌<◌, ◌≤◌, length, arith, length-drop, ap}
+use Rattle.std.proofs.Common.{arith}
 use Rattle.rust_names.proofs.part.cut_of.Goals as goal
 
 pub returns-in-Some-clause-shorter : goal.returns-in-Some-clause-shorter

@@ -1,5 +1,4 @@
-use Rattle.std.proofs.Common.{◌≡◌, ◌≢◌, ◌<◌, ◌≤◌, length, get_or, Bool, true, false, not, arith, sym, ◌∙◌, ap}
-use Rattle.std.proofs.lemmas.Bool.Decides.{nat_tests}
+use Rattle.std.proofs.Common.{arith, sym, ◌∙◌}
 use Rattle.rust_names.proofs.FrontLemmas.{not_empty}
 use Rattle.rust_names.proofs.DigitLemmas.{number_other, number_past, number_is}
 use Rattle.rust_names.proofs.part.number_upto.Goals as goal
@@ -8,8 +7,9 @@ use Rattle.rust_names.proofs.part.number_upto.Goals.{then-not-is_digit-via-then-
 pub returns-then-not-is_digit-clause-number : goal.returns-then-not-is_digit-clause-number
 returns-then-not-is_digit-clause-number c =
     elim c.then-not-is_digit.branch [
-      then-not-is_digit-via-then-not-is_digit w ↦ number_other c.args.most c.loop-b.b-index c.args.digits.now c.loop-b-test.true (sym c.is_digit.ensures ∙ w.if-not-is_digit.true)
-    | then-not-is_digit-via-else-not-is_digit+then-number-most w ↦ number_past c.args.most c.loop-b.b-index c.loop-b.number c.args.digits.now c.loop-b.invariant.0 w.if-number-most.true ]
+      | then-not-is_digit-via-then-not-is_digit w ↦ number_other c.args.most c.loop-b.b-index c.args.digits.now c.loop-b-test.true (sym c.is_digit.ensures ∙ w.if-not-is_digit.true)
+      | then-not-is_digit-via-else-not-is_digit+then-number-most w ↦ number_past c.args.most c.loop-b.b-index c.loop-b.number c.args.digits.now c.loop-b.invariant.0 w.if-number-most.true
+    ]
 
 pub returns-then-number-most-2-clause-number : goal.returns-then-number-most-2-clause-number
 returns-then-number-most-2-clause-number c = number_past c.args.most c.loop-b.b-index c.loop-b.number c.args.digits.now c.loop-b.invariant.0 c.if-number-most-2.true

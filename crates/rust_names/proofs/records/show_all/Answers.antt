@@ -1,6 +1,5 @@
-use Rattle.std.proofs.Common.{◌≡◌, ◌≤◌, ◌++◌, map, take, drop, length, set, refl, sym, ◌∙◌, ap, arith}
+use Rattle.std.proofs.Common.{map, length, set, ◌∙◌, ap, arith}
 use Rattle.std.proofs.lemmas.List.Edits.{map_over_more}
-use Rattle.sym_records.specs.declared.line.SymLine.{SymLine}
 use Rattle.sym_records.specs.Validity.{first_bad}
 use Rattle.rust_names.specs.ShownRecords.{renamed}
 use Rattle.rust_names.specs.internal.Reading.{named}
