@@ -3,8 +3,8 @@
 use crate::comparing::same;
 use crate::files::{Given, file_by, joined, of_code};
 use crate::rows::{
-    A, BY_TWO, CHECK, DUMP, FRAME, FRONT, FRONTS, MAIN, PUSHED, ROWS, Row, STATE, TABLE, TEXT_ROWS,
-    THREE_PATHS, UNREAD, Words,
+    A, BY_TWO, CHECK, DUMP, FRAME, FRONT, FRONTS, MAIN, PUSHED, ROWS, Row, STACK, STATE, TABLE,
+    TEXT_ROWS, THREE_PATHS, UNREAD, WALK, Words,
 };
 use dumpsyms_cmd::run;
 use std::alloc::{AllocError, Global};
@@ -45,11 +45,12 @@ fn named(alloc: Global, name: &str, bytes: &[u8]) -> Result<NamedFile, AllocErro
     })
 }
 
-/// A store of the file `d/a.out`, and of the state `d/state`.
+/// A store of the file `d/a.out`, and of the states `d/state` and `d/stack`.
 fn store_of(alloc: Global, file: &[u8], edges: Edges<'_>) -> Result<MemStore, AllocError> {
     let mut files = Vec::new(alloc);
     files.push(named(alloc, "d/a.out", file)?)?;
     files.push(named(alloc, "d/state", STATE)?)?;
+    files.push(named(alloc, "d/stack", STACK)?)?;
     let fail = calls(alloc, edges.store)?;
     Ok(MemStore::new(alloc, FileList::of(files), edges.step.max(1), fail))
 }
@@ -221,6 +222,8 @@ fn each_call_that_fails_has_its_status(rt: HostRuntime) -> Result<(), Fail> {
     expect_unread(&rt, alloc, CHECK, PUSHED, PUSHED.len().saturating_add(2))?;
     let both = PUSHED.len().saturating_add(STATE.len());
     expect_unread(&rt, alloc, FRAME, PUSHED, both.saturating_add(4))?;
+    let both = PUSHED.len().saturating_add(STACK.len());
+    expect_unread(&rt, alloc, WALK, PUSHED, both.saturating_add(4))?;
     let text = joined(alloc, &[FRONT, MAIN])?;
     for room in 0..text.len() {
         let edges = Edges {

@@ -8,7 +8,7 @@ pub const FRONT: &[u8] = b"MODULE Linux x86_64 030201000504070608090A0B0C0D0E0F0
 pub const MAIN: &[u8] = b"PUBLIC 1000 0 main\n";
 
 pub const USAGE: &[u8] =
-    b"usage: dumpsyms dump ELF, check SYM, lookup SYM ADDR, frame SYM ADDR STATE, sample N\n";
+    b"usage: dumpsyms dump ELF, check SYM, lookup SYM ADDR, frame SYM ADDR STATE, sample N, walk SYM STATE\n";
 
 pub const TABLE: &[u8] = b"refused elf section-table\n";
 
@@ -38,6 +38,15 @@ pub const CHECK: Words = &["check", "d/a.out"];
 pub const LOOKUP: Words = &["lookup", "d/a.out", "1005"];
 
 pub const FRAME: Words = &["frame", "d/a.out", "1001", "d/state"];
+
+pub const WALK: Words = &["walk", "d/a.out", "d/stack"];
+
+/// A function that another one calls, of which no rule gives the return address.
+const CALLED: &[u8] = b"MODULE Linux x86_64 0 a\nFUNC 1000 20 0 f\nFUNC 2000 10 0 g\n\
+    STACK CFI INIT 1000 20 .cfa: $rsp 8 + .ra: .cfa -8 + ^\nSTACK CFI INIT 2000 10 .cfa: $rsp 8 +\n";
+
+/// The state in it, as the file `d/stack`.
+pub const STACK: &[u8] = b"REG rip 1005\nREG rsp 7000\nMEM 7000 0520000000000000\n";
 
 /// Two functions that meet, and two that do not.
 const MEETING: &[u8] = b"MODULE Linux x86_64 0 a\nFUNC 1000 10 0 f\nFUNC 1008 10 0 g\n";
@@ -88,6 +97,7 @@ pub const NO_ROWS: &[Words] = &[
     &[],
     &["dump"],
     &["lookup", "s", "0x10"],
+    &["walk", "s"],
     &["dump", "d/a.out", "--workers", "0"],
     &["dump", "d/a.out", "--workers", "08"],
     &["dump", "d/a.out", "--workers", "65"],
@@ -132,7 +142,7 @@ pub type Row = (
 );
 
 /// Symbol files.
-pub const TEXT_ROWS: [Row; 12] = [
+pub const TEXT_ROWS: [Row; 15] = [
     (
         "functions meet",
         &[CHECK],
@@ -151,7 +161,7 @@ pub const TEXT_ROWS: [Row; 12] = [
     ),
     (
         "a bad line",
-        &[CHECK, LOOKUP, FRAME],
+        &[CHECK, LOOKUP, FRAME, WALK],
         Given::Bytes(b"MODULE Linux x86_64 0 a\nfunc 1\n"),
         1,
         &[],
@@ -224,7 +234,10 @@ pub const TEXT_ROWS: [Row; 12] = [
     ),
     (
         "a text as a state",
-        &[&["frame", "d/a.out", "1001", "d/a.out"]],
+        &[
+            &["frame", "d/a.out", "1001", "d/a.out"],
+            &["walk", "d/a.out", "d/a.out"],
+        ],
         Given::Bytes(PUSHED),
         1,
         &[],
@@ -232,11 +245,38 @@ pub const TEXT_ROWS: [Row; 12] = [
     ),
     (
         "another state",
-        &[&["frame", "d/a.out", "1001", "other"]],
+        &[
+            &["frame", "d/a.out", "1001", "other"],
+            &["walk", "d/a.out", "other"],
+        ],
         Given::Bytes(PUSHED),
         3,
         &[],
         &[UNREAD],
+    ),
+    (
+        "a stack",
+        &[WALK],
+        Given::Bytes(CALLED),
+        0,
+        &[b"0 1005\nf at ?\n1 2005\ng at ?\nend ra-undefined\n"],
+        &[],
+    ),
+    (
+        "a stack without rules",
+        &[WALK],
+        Given::Bytes(APART),
+        0,
+        &[b"0 1005\nf at ?\nend no-rules\n"],
+        &[],
+    ),
+    (
+        "no rip",
+        &[&["walk", "d/a.out", "d/state"]],
+        Given::Bytes(CALLED),
+        1,
+        &[],
+        &[b"refused walk no-rip\n"],
     ),
 ];
 

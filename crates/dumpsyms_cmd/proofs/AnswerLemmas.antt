@@ -1,4 +1,4 @@
--- The answers of the commands over symbol files; for `answer_check`, `answer_frame` and what they call.
+-- The answers of the commands over symbol files; for `answer_check`, `answer_lookup`, `answer_query` and what they call.
 use Rattle.std.proofs.Common.{◌≡◌, inl, inr, ℕ, ◌+◌, ◌≤◌, ◌<◌, ◌^◌, Bool, true, false, cond, List, [], ◌∷◌, ◌++◌, take, Option, Some, None, Ok, Err, Result, length, nat_lt, zero, suc, replicate, refl, sym, ◌∙◌, ap, arith, append-nil, append_assoc, subst, IfOk}
 use Rattle.std.proofs.lemmas.Bool.{cases_lt}
 use Rattle.std.proofs.lemmas.Bool.Decides.{nat_tests}
@@ -20,7 +20,7 @@ use Rattle.sym_grammar.specs.declared.refusal.SymEnd.TheVariants as end
 use Rattle.state_file.specs.StateText.{state_of}
 use Rattle.state_file.specs.declared.state.State.{State}
 use Rattle.state_file.specs.declared.fault.StateFault.{StateFault}
-use Rattle.dumpsyms_cmd.specs.Words.{check, lookup, frame, if_records, second_of, second_told}
+use Rattle.dumpsyms_cmd.specs.Words.{check, lookup, if_records, second_of, second_told}
 use Rattle.dumpsyms_cmd.specs.Refusals.{too_long_line, state_line}
 use Rattle.dumpsyms_cmd.specs.Verdict.{Verdict, refused, LIMIT}
 use Rattle.dumpsyms_cmd.specs.Observed.{Asks}
@@ -28,8 +28,14 @@ use Rattle.dumpsyms_cmd.specs.Judgement.{out_bytes, err_bytes, judgement_verdict
 use Rattle.dumpsyms_cmd.specs.SymbolInput.{refusal_line, by_records, symbol_verdict, file_verdict, AnswersBytes}
 use Rattle.dumpsyms_cmd.specs.commands.Check.{findings_verdict, records_checked, check_answer}
 use Rattle.dumpsyms_cmd.specs.commands.Lookup.{records_looked_up, lookup_answer}
-use Rattle.dumpsyms_cmd.specs.commands.Frame.{frame_answer, by_state, state_answer, frame_bytes, frame_verdict, HasRecords, FramePromises, STATE_LIMIT}
-use Rattle.dumpsyms_cmd.specs.internal.Judged.{Refuses, IsJudged, AnswersCommand, AnswersStop, AnswersEnd, AnswersJudged, AnswersBytesOf, AnswersState}
+use Rattle.dumpsyms_cmd.specs.StateInput.{by_state, state_answer, both_answer, both_verdict, HasRecords, AnswersBoth, STATE_LIMIT}
+use Rattle.dumpsyms_cmd.specs.commands.Frame.{frame_answer}
+use Rattle.dumpsyms_cmd.specs.commands.Walk.{walk_or_refused, walk_answer}
+use Rattle.dumpsyms_cmd.specs.internal.Judged.{Refuses, IsJudged, AnswersCommand, AnswersStop, AnswersEnd, AnswersJudged, AnswersBytesOf, AnswersState, query_command, query_answer}
+use Rattle.stack_walk.specs.declared.steps.Walk.{Walk}
+use Rattle.stack_walk.specs.Walk.{walk_of}
+use Rattle.dumpsyms_cmd.specs.declared.state_input.Query.{Query}
+use Rattle.dumpsyms_cmd.specs.declared.state_input.Query.TheVariants as query
 use Rattle.dumpsyms_cmd.specs.declared.judgement.Output.{Output}
 use Rattle.dumpsyms_cmd.specs.declared.judgement.Output.TheVariants.{Nothing, Text, Bytes}
 use Rattle.dumpsyms_cmd.specs.declared.judgement.Judgement.{Judgement}
@@ -153,27 +159,27 @@ pub asks_both : (files : Option Files) (name state : List ℕ) (lines : List Sym
 asks_both files name state lines before mid after holds first second =
     subst (λ (names : List (List ℕ)). Asks (name ∷ names) before after) (sym (second_is files name state lines holds)) (both_by second.0 name state before mid after second.1 first second.2)
 
--- the state of `frame`
-within_state : (lines : List SymLine) (address : ℕ) (bytes : List ℕ) → length bytes ≤ STATE_LIMIT → state_answer lines address bytes ≡ by_state lines address (state_of bytes)
-within_state lines address bytes few =
+-- a state file, whatever is asked of the state
+within_state : (lines : List SymLine) (ask : List SymLine → State → Verdict) (bytes : List ℕ) → length bytes ≤ STATE_LIMIT → state_answer ask lines bytes ≡ by_state ask lines (state_of bytes)
+within_state lines ask bytes few =
     let no : nat_lt STATE_LIMIT (length bytes) ≡ false = grind (arith, nat_tests) in
-    ap (λ b. cond b (refused too_long_line) (by_state lines address (state_of bytes))) no
+    ap (λ b. cond b (refused too_long_line) (by_state ask lines (state_of bytes))) no
 
-pub state_judged : (lines : List SymLine) (address : ℕ) (bytes : List ℕ) (state : State) (j : Judgement) → length bytes ≤ STATE_LIMIT → state_of bytes ≡ Ok state → judgement_verdict j ≡ frame_answer lines address state → judgement_verdict j ≡ state_answer lines address bytes
-state_judged lines address bytes state j few is says = says ∙ ap (by_state lines address) (sym is) ∙ sym (within_state lines address bytes few)
+pub state_judged : (lines : List SymLine) (ask : List SymLine → State → Verdict) (bytes : List ℕ) (state : State) (j : Judgement) → length bytes ≤ STATE_LIMIT → state_of bytes ≡ Ok state → judgement_verdict j ≡ ask lines state → judgement_verdict j ≡ state_answer ask lines bytes
+state_judged lines ask bytes state j few is says = says ∙ ap (by_state ask lines) (sym is) ∙ sym (within_state lines ask bytes few)
 
-pub state_refused : (lines : List SymLine) (address : ℕ) (bytes text : List ℕ) (fault : StateFault) (j : Judgement) → length bytes ≤ STATE_LIMIT → state_of bytes ≡ Err fault → text ≡ state_line fault → Refuses j text → judgement_verdict j ≡ state_answer lines address bytes
-state_refused lines address bytes text fault j few is line refuses =
-    refuses_verdict j text (state_line fault) line refuses ∙ ap (by_state lines address) (sym is) ∙ sym (within_state lines address bytes few)
+pub state_refused : (lines : List SymLine) (ask : List SymLine → State → Verdict) (bytes text : List ℕ) (fault : StateFault) (j : Judgement) → length bytes ≤ STATE_LIMIT → state_of bytes ≡ Err fault → text ≡ state_line fault → Refuses j text → judgement_verdict j ≡ state_answer ask lines bytes
+state_refused lines ask bytes text fault j few is line refuses =
+    refuses_verdict j text (state_line fault) line refuses ∙ ap (by_state ask lines) (sym is) ∙ sym (within_state lines ask bytes few)
 
-state_held : (files : Option Files) (name : List ℕ) (lines : List SymLine) (address : ℕ) (bytes : List ℕ) (j : Judgement) → HoldsFile files name (λ whole. IsWhole whole bytes STATE_LIMIT) → judgement_verdict j ≡ state_answer lines address bytes → AnswersBytesOf lines address name files j
-state_held None name lines address bytes j holds is = record { bytes = bytes; there = tt; is = is }
-state_held (Some files) name lines address bytes j holds is = record { bytes = bytes; there = holds.1 ∙ ap Some holds.2.0; is = is }
+state_held : (files : Option Files) (name : List ℕ) (lines : List SymLine) (ask : List SymLine → State → Verdict) (bytes : List ℕ) (j : Judgement) → HoldsFile files name (λ whole. IsWhole whole bytes STATE_LIMIT) → judgement_verdict j ≡ state_answer ask lines bytes → AnswersBytesOf lines ask name files j
+state_held None name lines ask bytes j holds is = record { bytes = bytes; there = tt; is = is }
+state_held (Some files) name lines ask bytes j holds is = record { bytes = bytes; there = holds.1 ∙ ap Some holds.2.0; is = is }
 
-pub state_read : {F : Type 0} (answer : Answer) (judged : Result Judgement F) (lines : List SymLine) (address : ℕ) (name : List ℕ) (files : Option Files) (before after : ℕ) (bytes held : List ℕ) → HoldsFile files name (λ whole. IsWhole whole bytes STATE_LIMIT) → held ≡ bytes → AnswersJudged answer judged → IfOk judged (λ j. judgement_verdict j ≡ state_answer lines address held) → AnswersState answer lines address name files before after
-state_read answer judged lines address name files before after bytes held holds same is says =
-    answered answer judged (λ a. AnswersState a lines address name files before after) is
-    (if_ok judged (λ j. judgement_verdict j ≡ state_answer lines address held) (λ j. AnswersBytesOf lines address name files j) (λ j v. state_held files name lines address bytes j holds (v ∙ ap (state_answer lines address) same)) says) tt
+pub state_read : {F : Type 0} (answer : Answer) (judged : Result Judgement F) (lines : List SymLine) (ask : List SymLine → State → Verdict) (name : List ℕ) (files : Option Files) (before after : ℕ) (bytes held : List ℕ) → HoldsFile files name (λ whole. IsWhole whole bytes STATE_LIMIT) → held ≡ bytes → AnswersJudged answer judged → IfOk judged (λ j. judgement_verdict j ≡ state_answer ask lines held) → AnswersState answer lines ask name files before after
+state_read answer judged lines ask name files before after bytes held holds same is says =
+    answered answer judged (λ a. AnswersState a lines ask name files before after) is
+    (if_ok judged (λ j. judgement_verdict j ≡ state_answer ask lines held) (λ j. AnswersBytesOf lines ask name files j) (λ j v. state_held files name lines ask bytes j holds (v ∙ ap (state_answer ask lines) same)) says) tt
 
 -- a state file that is too long
 long_bytes : (limit : ℕ) → (bytes : List ℕ) × (limit < length bytes)
@@ -184,89 +190,107 @@ judges_refused Nothing status err line says = ap (λ n. given n [] err) says.0 �
 judges_refused (Text lines) status err line says = absurd says.1
 judges_refused (Bytes text) status err line says = absurd says
 
-longer_answer : (lines : List SymLine) (address : ℕ) (bytes : List ℕ) → STATE_LIMIT < length bytes → refused too_long_line ≡ state_answer lines address bytes
-longer_answer lines address bytes more =
+longer_answer : (lines : List SymLine) (ask : List SymLine → State → Verdict) (bytes : List ℕ) → STATE_LIMIT < length bytes → refused too_long_line ≡ state_answer ask lines bytes
+longer_answer lines ask bytes more =
     let yes : nat_lt STATE_LIMIT (length bytes) ≡ true = grind (arith, nat_tests) in
-    sym (ap (λ b. cond b (refused too_long_line) (by_state lines address (state_of bytes))) yes)
+    sym (ap (λ b. cond b (refused too_long_line) (by_state ask lines (state_of bytes))) yes)
 
-state_longer : (files : Option Files) (name : List ℕ) (lines : List SymLine) (address : ℕ) (j : Judgement) → HoldsFile files name (λ whole. IsLonger whole STATE_LIMIT) → judgement_verdict j ≡ refused too_long_line → AnswersBytesOf lines address name files j
-state_longer None name lines address j holds is =
+state_longer : (files : Option Files) (name : List ℕ) (lines : List SymLine) (ask : List SymLine → State → Verdict) (j : Judgement) → HoldsFile files name (λ whole. IsLonger whole STATE_LIMIT) → judgement_verdict j ≡ refused too_long_line → AnswersBytesOf lines ask name files j
+state_longer None name lines ask j holds is =
     let long = long_bytes STATE_LIMIT in
-    record { bytes = long.0; there = tt; is = is ∙ longer_answer lines address long.0 long.1 }
-state_longer (Some files) name lines address j holds is = record { bytes = holds.0; there = holds.1; is = is ∙ longer_answer lines address holds.0 holds.2 }
+    record { bytes = long.0; there = tt; is = is ∙ longer_answer lines ask long.0 long.1 }
+state_longer (Some files) name lines ask j holds is = record { bytes = holds.0; there = holds.1; is = is ∙ longer_answer lines ask holds.0 holds.2 }
 
-pub state_stopped : (answer : Answer) (stopped : Stop ReadEnd) (lines : List SymLine) (address : ℕ) (name : List ℕ) (files : Option Files) (left left_after : Option (List ℕ)) (before after : ℕ) → ReadAll (Err stopped) files name STATE_LIMIT left left_after before after → AnswersStop answer stopped → AnswersState answer lines address name files before after
-state_stopped (Judged j) (Fault CantOpen) lines address name files left left_after before after read says = absurd says
-state_stopped (Judged j) (Fault CantRead) lines address name files left left_after before after read says = absurd says
-state_stopped (Judged j) (Fault TooLong) lines address name files left left_after before after read says =
-    state_longer files name lines address j read (judges_refused j.out j.status (err_bytes j.err) too_long_line says)
-state_stopped (Judged j) stop.NoMemory lines address name files left left_after before after read says = absurd says
-state_stopped Unread (Fault CantOpen) lines address name files left left_after before after read says = read.0
-state_stopped Unread (Fault CantRead) lines address name files left left_after before after read says = read.0
-state_stopped Unread (Fault TooLong) lines address name files left left_after before after read says = absurd says
-state_stopped Unread stop.NoMemory lines address name files left left_after before after read says = absurd says
-state_stopped NoMemory stopped lines address name files left left_after before after read says = tt
+pub state_stopped : (answer : Answer) (stopped : Stop ReadEnd) (lines : List SymLine) (ask : List SymLine → State → Verdict) (name : List ℕ) (files : Option Files) (left left_after : Option (List ℕ)) (before after : ℕ) → ReadAll (Err stopped) files name STATE_LIMIT left left_after before after → AnswersStop answer stopped → AnswersState answer lines ask name files before after
+state_stopped (Judged j) (Fault CantOpen) lines ask name files left left_after before after read says = absurd says
+state_stopped (Judged j) (Fault CantRead) lines ask name files left left_after before after read says = absurd says
+state_stopped (Judged j) (Fault TooLong) lines ask name files left left_after before after read says =
+    state_longer files name lines ask j read (judges_refused j.out j.status (err_bytes j.err) too_long_line says)
+state_stopped (Judged j) stop.NoMemory lines ask name files left left_after before after read says = absurd says
+state_stopped Unread (Fault CantOpen) lines ask name files left left_after before after read says = read.0
+state_stopped Unread (Fault CantRead) lines ask name files left left_after before after read says = read.0
+state_stopped Unread (Fault TooLong) lines ask name files left left_after before after read says = absurd says
+state_stopped Unread stop.NoMemory lines ask name files left left_after before after read says = absurd says
+state_stopped NoMemory stopped lines ask name files left left_after before after read says = tt
 
--- `frame`
-state_low : (lines : List SymLine) (address : ℕ) (bytes : List ℕ) → (state_answer lines address bytes).status < 2
-state_low lines address bytes = go (nat_lt STATE_LIMIT (length bytes)) (state_of bytes)
+-- both files
+state_low : (ask : List SymLine → State → Verdict) (lines : List SymLine) (bytes : List ℕ) → ((state : State) → (ask lines state).status < 2) → (state_answer ask lines bytes).status < 2
+state_low ask lines bytes low = go (nat_lt STATE_LIMIT (length bytes)) (state_of bytes)
   where
-    go : (long : Bool) (read : Result State StateFault) → (cond long (refused too_long_line) (by_state lines address read)).status < 2
+    go : (long : Bool) (read : Result State StateFault) → (cond long (refused too_long_line) (by_state ask lines read)).status < 2
     go true read = omega arith
-    go false (Ok state) = omega arith
+    go false (Ok state) = low state
     go false (Err fault) = omega arith
 
-second_same : (read : Result (List SymLine) SymRefusal) (address : ℕ) (o : Option (List ℕ)) (bytes : List ℕ) → (HasRecords read → o ≡ Some bytes) → by_records (λ lines. state_answer lines address bytes) read ≡ by_records (λ lines. file_verdict (state_answer lines address) o) read
-second_same (Ok lines) address o bytes is = ap (file_verdict (state_answer lines address)) (sym (is tt))
-second_same (Err why) address o bytes is = refl
+second_same : (read : Result (List SymLine) SymRefusal) (ask : List SymLine → State → Verdict) (o : Option (List ℕ)) (bytes : List ℕ) → (HasRecords read → o ≡ Some bytes) → by_records (λ lines. state_answer ask lines bytes) read ≡ by_records (λ lines. file_verdict (state_answer ask lines) o) read
+second_same (Ok lines) ask o bytes is = ap (file_verdict (state_answer ask lines)) (sym (is tt))
+second_same (Err why) ask o bytes is = refl
 
-frame_told : (j : Judgement) (name : List ℕ) (address : ℕ) (state : List ℕ) (files : Option Files) → FramePromises name address state files j → Tells files (λ f. judgement_verdict j ≡ frame_verdict address (f name) (f state))
-frame_told j name address state None kept = tt
-frame_told j name address state (Some f) kept =
-    kept.is ∙ second_same (file_reading LIMIT kept.bytes) address (f state) kept.state_bytes kept.state_there
-    ∙ ap (file_verdict (symbol_verdict (λ lines. file_verdict (state_answer lines address) (f state)))) (sym kept.there)
+both_told : (j : Judgement) (name state : List ℕ) (ask : List SymLine → State → Verdict) (files : Option Files) → AnswersBoth name state ask files j → Tells files (λ f. judgement_verdict j ≡ both_verdict ask (f name) (f state))
+both_told j name state ask None kept = tt
+both_told j name state ask (Some f) kept =
+    kept.is ∙ second_same (file_reading LIMIT kept.bytes) ask (f state) kept.state_bytes kept.state_there
+    ∙ ap (file_verdict (symbol_verdict (λ lines. file_verdict (state_answer ask lines) (f state)))) (sym kept.there)
 
-frame_judged : (j : Judgement) (name : List ℕ) (address : ℕ) (state : List ℕ) (files : Option Files) → FramePromises name address state files j → IsJudged j (Some (frame name address state)) files
-frame_judged j name address state files kept =
-    let low : j.status < 2 =
-    (let s = status_of j (frame_bytes address kept.state_bytes kept.bytes) kept.is in
-    let few = by_low (λ lines. state_answer lines address kept.state_bytes) (file_reading LIMIT kept.bytes) (λ lines. state_low lines address kept.state_bytes) in omega (arith, s, few)) in
-    record { low = omega (arith, low); row = λ some. low; told = frame_told j name address state files kept; kept = kept }
+walk_low : (lines : List SymLine) (walk : Option Walk) → (walk_or_refused lines walk).status < 2
+walk_low lines None = omega arith
+walk_low lines (Some walk) = omega arith
 
-frame_kept : (files : Option Files) (name : List ℕ) (address : ℕ) (state : List ℕ) (lines : List SymLine) (j : Judgement) → HoldsFile files name (IsReading LIMIT (Ok lines)) → AnswersBytesOf lines address state files j → FramePromises name address state files j
-frame_kept None name address state lines j holds says = record {
+query_low : (q : Query) (lines : List SymLine) (state : State) → (query_answer q lines state).status < 2
+query_low (query.Frame address) lines state = omega arith
+query_low query.Walk lines state = walk_low lines (walk_of lines state)
+
+both_low : (q : Query) (j : Judgement) (name state : List ℕ) (files : Option Files) → AnswersBoth name state (query_answer q) files j → j.status < 2
+both_low q j name state files kept =
+    let s = status_of j (both_answer (query_answer q) kept.state_bytes kept.bytes) kept.is in
+    let few = by_low (λ lines. state_answer (query_answer q) lines kept.state_bytes) (file_reading LIMIT kept.bytes) (λ lines. state_low (query_answer q) lines kept.state_bytes (query_low q lines)) in
+    omega (arith, s, few)
+
+below_three : (n : ℕ) → n < 2 → n < 3
+below_three n low = omega arith
+
+query_judged : (q : Query) (j : Judgement) (name state : List ℕ) (files : Option Files) → AnswersBoth name state (query_answer q) files j → IsJudged j (Some (query_command q name state)) files
+query_judged (query.Frame address) j name state files kept =
+    let low = both_low (query.Frame address) j name state files kept in
+    record { low = below_three j.status low; row = λ some. low; told = both_told j name state (frame_answer address) files kept; kept = kept }
+query_judged query.Walk j name state files kept =
+    let low = both_low query.Walk j name state files kept in
+    record { low = below_three j.status low; row = λ some. low; told = both_told j name state walk_answer files kept; kept = kept }
+
+both_kept : (files : Option Files) (name state : List ℕ) (ask : List SymLine → State → Verdict) (lines : List SymLine) (j : Judgement) → HoldsFile files name (IsReading LIMIT (Ok lines)) → AnswersBytesOf lines ask state files j → AnswersBoth name state ask files j
+both_kept None name state ask lines j holds says = record {
   bytes = holds.0;
   there = tt;
   state_bytes = says.bytes;
   state_there = λ has. tt;
-  is = says.is ∙ ap (by_records (λ ls. state_answer ls address says.bytes)) (sym holds.1);
+  is = says.is ∙ ap (by_records (λ ls. state_answer ask ls says.bytes)) (sym holds.1);
 }
-frame_kept (Some f) name address state lines j holds says = record {
+both_kept (Some f) name state ask lines j holds says = record {
   bytes = holds.0;
   there = holds.1;
   state_bytes = says.bytes;
   state_there = λ has. says.there;
-  is = says.is ∙ ap (by_records (λ ls. state_answer ls address says.bytes)) (sym holds.2);
+  is = says.is ∙ ap (by_records (λ ls. state_answer ask ls says.bytes)) (sym holds.2);
 }
 
 no_records : (read : Result (List SymLine) SymRefusal) (why : SymRefusal) → read ≡ Err why → HasRecords read → ⊥
 no_records (Ok lines) why is has = cc
 no_records (Err other) why is has = has
 
-frame_refused : (files : Option Files) (name : List ℕ) (address : ℕ) (state : List ℕ) (why : SymRefusal) (j : Judgement) → HoldsFile files name (IsReading LIMIT (Err why)) → judgement_verdict j ≡ refused (refusal_line why) → FramePromises name address state files j
-frame_refused None name address state why j holds is = record {
+both_refused : (files : Option Files) (name state : List ℕ) (ask : List SymLine → State → Verdict) (why : SymRefusal) (j : Judgement) → HoldsFile files name (IsReading LIMIT (Err why)) → judgement_verdict j ≡ refused (refusal_line why) → AnswersBoth name state ask files j
+both_refused None name state ask why j holds is = record {
   bytes = holds.0;
   there = tt;
   state_bytes = [];
   state_there = λ has. tt;
-  is = is ∙ ap (by_records (λ ls. state_answer ls address [])) (sym holds.1);
+  is = is ∙ ap (by_records (λ ls. state_answer ask ls [])) (sym holds.1);
 }
-frame_refused (Some f) name address state why j holds is = record {
+both_refused (Some f) name state ask why j holds is = record {
   bytes = holds.0;
   there = holds.1;
   state_bytes = [];
   state_there = λ has. absurd (no_records (file_reading LIMIT holds.0) why holds.2 has);
-  is = is ∙ ap (by_records (λ ls. state_answer ls address [])) (sym holds.2);
+  is = is ∙ ap (by_records (λ ls. state_answer ask ls [])) (sym holds.2);
 }
 
 rose_later : (before mid after : ℕ) → before ≤ mid → mid ≤ after → Rose mid after → Rose before after
@@ -275,20 +299,20 @@ rose_later before mid after first second rose = λ small. elim (cases_lt (mid + 
   | inr high ↦ omega (arith, high, small, second)
 ]
 
-pub frame_read : (answer : Answer) (name : List ℕ) (address : ℕ) (state : List ℕ) (files files_mid : Option Files) (before mid after : ℕ) (lines : List SymLine) → HoldsFile files name (IsReading LIMIT (Ok lines)) → files_mid ≡ files → before ≤ mid → mid ≤ after → AnswersState answer lines address state files_mid mid after → AnswersCommand answer (Some (frame name address state)) files before after
-frame_read answer name address state files files_mid before mid after lines holds same first second says =
-    go answer (subst (λ (f : Option Files). AnswersState answer lines address state f mid after) same says)
+pub query_read : (answer : Answer) (q : Query) (name state : List ℕ) (files files_mid : Option Files) (before mid after : ℕ) (lines : List SymLine) → HoldsFile files name (IsReading LIMIT (Ok lines)) → files_mid ≡ files → before ≤ mid → mid ≤ after → AnswersState answer lines (query_answer q) state files_mid mid after → AnswersCommand answer (Some (query_command q name state)) files before after
+query_read answer q name state files files_mid before mid after lines holds same first second says =
+    go answer (subst (λ (f : Option Files). AnswersState answer lines (query_answer q) state f mid after) same says)
   where
-    go : (answer : Answer) → AnswersState answer lines address state files mid after → AnswersCommand answer (Some (frame name address state)) files before after
-    go (Judged j) says = frame_judged j name address state files (frame_kept files name address state lines j holds says)
+    go : (answer : Answer) → AnswersState answer lines (query_answer q) state files mid after → AnswersCommand answer (Some (query_command q name state)) files before after
+    go (Judged j) says = query_judged q j name state files (both_kept files name state (query_answer q) lines j holds says)
     go Unread says = (refl, rose_later before mid after first second says)
     go NoMemory says = refl
 
-pub frame_ended : (answer : Answer) (stopped : Stop SymEnd) (name : List ℕ) (address : ℕ) (state : List ℕ) (files : Option Files) (before after : ℕ) → SymRead (Err stopped) files name LIMIT before after → AnswersEnd answer stopped → AnswersCommand answer (Some (frame name address state)) files before after
-frame_ended (Judged j) (Fault end.Unread) name address state files before after read says = absurd says
-frame_ended (Judged j) (Fault (end.Refused why)) name address state files before after read says = frame_judged j name address state files (frame_refused files name address state why j read says)
-frame_ended (Judged j) stop.NoMemory name address state files before after read says = absurd says
-frame_ended Unread (Fault end.Unread) name address state files before after read says = (refl, read)
-frame_ended Unread (Fault (end.Refused why)) name address state files before after read says = absurd says
-frame_ended Unread stop.NoMemory name address state files before after read says = absurd says
-frame_ended NoMemory stopped name address state files before after read says = refl
+pub query_ended : (answer : Answer) (stopped : Stop SymEnd) (q : Query) (name state : List ℕ) (files : Option Files) (before after : ℕ) → SymRead (Err stopped) files name LIMIT before after → AnswersEnd answer stopped → AnswersCommand answer (Some (query_command q name state)) files before after
+query_ended (Judged j) (Fault end.Unread) q name state files before after read says = absurd says
+query_ended (Judged j) (Fault (end.Refused why)) q name state files before after read says = query_judged q j name state files (both_refused files name state (query_answer q) why j read says)
+query_ended (Judged j) stop.NoMemory q name state files before after read says = absurd says
+query_ended Unread (Fault end.Unread) q name state files before after read says = (refl, read)
+query_ended Unread (Fault (end.Refused why)) q name state files before after read says = absurd says
+query_ended Unread stop.NoMemory q name state files before after read says = absurd says
+query_ended NoMemory stopped q name state files before after read says = refl

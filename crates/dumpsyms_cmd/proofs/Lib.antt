@@ -11,3 +11,4 @@ pub mod CanonLemmas
 pub mod CheckLemmas
 pub mod FrameTextLemmas
 pub mod AnswerLemmas
+pub mod WalkLemmas

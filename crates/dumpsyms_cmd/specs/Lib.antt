@@ -4,6 +4,7 @@ pub mod Verdict
 pub mod Observed
 pub mod Judgement
 pub mod SymbolInput
+pub mod StateInput
 pub mod commands
 pub mod Answers
 pub mod Program

@@ -11,7 +11,7 @@ use Rattle.sym_grammar.specs.Input.{file_reading}
 use Rattle.sym_grammar.specs.declared.refusal.SymRefusal.{SymRefusal}
 use Rattle.sym_records.specs.declared.line.SymLine.{SymLine}
 use Rattle.dumpsyms_cmd.specs.declared.words.Command.{Command}
-use Rattle.dumpsyms_cmd.specs.declared.words.Command.TheVariants.{Dump, Check, Lookup, Frame}
+use Rattle.dumpsyms_cmd.specs.declared.words.Command.TheVariants.{Dump, Check, Lookup, Frame, Walk}
 
 -- what the program is asked for
 pub data Asked : Type 0 where
@@ -23,6 +23,8 @@ pub data Asked : Type 0 where
   lookup : (sym : List ℕ) → (address : ℕ) → Asked
   -- what the rules of a symbol file evaluate to at an address, over a state file
   frame : (sym : List ℕ) → (address : ℕ) → (state : List ℕ) → Asked
+  -- the frames of a stack by the rules of a symbol file, from a state file
+  walk : (sym : List ℕ) → (state : List ℕ) → Asked
 
 -- a command as it is parsed
 abbrev pub command_view : Command → Asked
@@ -30,6 +32,7 @@ command_view (Dump elf workers) = dump elf.now workers
 command_view (Check sym) = check sym.now
 command_view (Lookup sym address) = lookup sym.now address
 command_view (Frame sym address state) = frame sym.now address state.now
+command_view (Walk sym state) = walk sym.now state.now
 
 -- a number is decimal digits, without a sign, the first of them not 0
 abbrev pub is_number : List ℕ → Bool
@@ -58,9 +61,12 @@ two_words word name =
     else if bytes_eq word (codes "check") then Some (check name)
     else None
 
--- the row `lookup SYM ADDR`
+-- the rows `lookup SYM ADDR` and `walk SYM STATE`
 abbrev pub three_words : List ℕ → List ℕ → List ℕ → Option Asked
-three_words word name third = if bytes_eq word (codes "lookup") then option_map (lookup name) (address_of third) else None
+three_words word name third =
+    if bytes_eq word (codes "lookup") then option_map (lookup name) (address_of third)
+    else if bytes_eq word (codes "walk") then Some (walk name third)
+    else None
 
 -- the rows `dump ELF --workers N` and `frame SYM ADDR STATE`
 abbrev pub four_words : List ℕ → List ℕ → List ℕ → List ℕ → Option Asked
@@ -85,6 +91,7 @@ HasWorkers (Some (dump elf workers)) = (1 ≤ workers) × (workers ≤ MOST_WORK
 HasWorkers (Some (check sym)) = Unit {0}
 HasWorkers (Some (lookup sym address)) = Unit {0}
 HasWorkers (Some (frame sym address state)) = Unit {0}
+HasWorkers (Some (walk sym state)) = Unit {0}
 
 -- the second file of a command over a symbol file is read only where that has records
 abbrev pub if_records : Result (List SymLine) SymRefusal → List ℕ → List (List ℕ)
@@ -106,6 +113,7 @@ files_of (Some (dump elf workers)) files = elf ∷ []
 files_of (Some (check sym)) files = sym ∷ []
 files_of (Some (lookup sym address)) files = sym ∷ []
 files_of (Some (frame sym address state)) files = sym ∷ second_told files sym state
+files_of (Some (walk sym state)) files = sym ∷ second_told files sym state
 
 -- the byte is a slash
 abbrev pub is_slash : ℕ → Bool

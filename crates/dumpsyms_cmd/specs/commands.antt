@@ -3,3 +3,4 @@ pub mod Dump
 pub mod Check
 pub mod Lookup
 pub mod Frame
+pub mod Walk

@@ -12,10 +12,10 @@ ghost use Rattle.dumpsyms_cmd.specs.Observed.{Asks};
 
 use crate::check::answer_check;
 use crate::dump::assemble;
-use crate::frame::answer_frame;
 use crate::judgement::{Answer, Judgement, Message, Output};
 use crate::lookup::answer_lookup;
 use crate::refusals::{TOO_LONG, USAGE, debug_line, fault_line};
+use crate::state_input::{Query, answer_query};
 use crate::words::{Command, name_of, parse_words};
 use debug_read::{DebugRead, read_debug};
 use elf_sections::{Image, read_image};
@@ -174,6 +174,7 @@ pub fn answer_words<R: Threads + Sync, S: Store, G: Gate + Sync>(
                 address,
                 state,
             },
-        ) => answer_frame(alloc, sym, address, state, store),
+        ) => answer_query(alloc, sym, Query::Frame { address }, state, store),
+        Some(Command::Walk { sym, state }) => answer_query(alloc, sym, Query::Walk, state, store),
     }
 }

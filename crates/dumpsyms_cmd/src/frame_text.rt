@@ -26,7 +26,7 @@ fn short_name(register: u8) -> &'static [u8]
 }
 
 /// Adds a number in hexadecimal.
-fn add_hex(text: &mut Vec<u8>, number: u64) -> Result<(), AllocError>
+pub(crate) fn add_hex(text: &mut Vec<u8>, number: u64) -> Result<(), AllocError>
     ensures { OnOk result (text.new.items ≡ text.old.items ++ hex number) }
 {
     let digits = HexText::of(number);
@@ -34,7 +34,7 @@ fn add_hex(text: &mut Vec<u8>, number: u64) -> Result<(), AllocError>
 }
 
 /// Adds why a rule has no value.
-fn add_cause(text: &mut Vec<u8>, cause: Cause) -> Result<(), AllocError>
+pub(crate) fn add_cause(text: &mut Vec<u8>, cause: Cause) -> Result<(), AllocError>
     ensures { OnOk result (text.new.items ≡ text.old.items ++ cause_text cause) }
 {
     match cause {

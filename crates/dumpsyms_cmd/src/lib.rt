@@ -1,15 +1,16 @@
 //! The program: words and files in, a status and two texts out.
 //!
 //! `dump ELF` reads a file and its debugging information, by as many workers as the words say, makes the records of its symbol file
-//! (Breakpad's symbol_files.md) and writes them, or names the first fault. `check SYM`, `lookup SYM ADDR` and `frame SYM ADDR STATE` read a
-//! symbol file of any tool, and print what a checker finds in it, what it names at an address, and what its frame rules evaluate to there.
+//! (Breakpad's symbol_files.md) and writes them, or names the first fault. `check SYM`, `lookup SYM ADDR`, `frame SYM ADDR STATE` and
+//! `walk SYM STATE` read a symbol file of any tool, and print what a checker finds in it, what it names at an address, what its frame rules
+//! evaluate to there, and the frames of a stack by these rules.
 //!
 //! The contract of `run` says which status comes, what each text holds, and which names are asked for. Of a dump it says that at every
 //! address of the units that are read the text names DWARF's function, inline chain and line; that evaluating the rules of each written frame
 //! entry gives DWARF's CFA, return address and registers, for all registers and memory; and that the text reads back as the file's records.
 //!
 //! To read: `specs/Program.antt` with `program`, and a page for each command in `specs/commands/`; `words` and `commands`; `dump`, `omissions`
-//! and `refusals`; `symbol_input` with `check`, `lookup` and `frame`.
+//! and `refusals`; `symbol_input` with `check` and `lookup`, and `state_input` with `frame` and `walk`.
 #![tactic(auto)]
 
 // The program, its words, and what is found out before anything is written.
@@ -28,7 +29,10 @@ mod check;
 mod frame;
 mod frame_text;
 mod lookup;
+mod state_input;
 mod symbol_input;
+mod walk;
+mod walk_text;
 
 pub use dump::{Dumped, assemble};
 pub use program::run;

@@ -19,9 +19,12 @@ pub const TOO_LONG: &[u8] = b"refused input too-long\n";
 /// A file could not be read.
 pub const UNREAD: &[u8] = b"cannot read input\n";
 
+/// A state has no rip, at which a walk begins.
+pub const NO_RIP: &[u8] = b"refused walk no-rip\n";
+
 /// The arguments are invalid.
 pub const USAGE: &[u8] =
-    b"usage: dumpsyms dump ELF, check SYM, lookup SYM ADDR, frame SYM ADDR STATE, sample N\n";
+    b"usage: dumpsyms dump ELF, check SYM, lookup SYM ADDR, frame SYM ADDR STATE, sample N, walk SYM STATE\n";
 
 /// The line that names an image fault.
 pub fn fault_line(alloc: Global, fault: ElfFault) -> Result<ByteText, AllocError>

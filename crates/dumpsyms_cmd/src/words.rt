@@ -35,6 +35,11 @@ pub enum Command<'w> {
         address: u64,
         state: &'w str,
     },
+    /// `walk SYM STATE`
+    Walk {
+        sym: &'w str,
+        state: &'w str,
+    },
 }
 
 /// Whether a word begins with a digit from 1 to 9.
@@ -94,12 +99,15 @@ fn parse_two<'w>(word: &str, name: &'w str) -> Option<Command<'w>>
     None
 }
 
-/// The row `lookup SYM ADDR`.
-fn parse_three<'w>(word: &str, sym: &'w str, address: &str) -> Option<Command<'w>>
-    ensures { option_map command_view result ≡ three_words word.now sym.now address.now }
+/// The rows `lookup SYM ADDR` and `walk SYM STATE`.
+fn parse_three<'w>(word: &str, sym: &'w str, third: &'w str) -> Option<Command<'w>>
+    ensures { option_map command_view result ≡ three_words word.now sym.now third.now }
 {
     if word == "lookup" {
-        return parse_lookup(sym, address);
+        return parse_lookup(sym, third);
+    }
+    if word == "walk" {
+        return Some(Command::Walk { sym, state: third });
     }
     None
 }

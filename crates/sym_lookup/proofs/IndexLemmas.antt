@@ -36,7 +36,7 @@ pub inits_map : (lines : List SymLine) (map : Stepping (Option FirstItem)) → I
 unfolding init_place
 inits_map lines map h = record { places = λ x l. h.places x l ∙ sym (position_from-zero (is_init_at x) lines) }
 
-pub marks_found : (lines : List SymLine) (starts publics : List Mark) → IsNonDecreasingBy (λ m. m.address) starts → IsNonDecreasingBy (λ m. m.address) publics → ((x : ℕ) → mark_at starts x ≡ mark_at (marks_of marked.Functions 0 lines) x)
+pub marks_found : (lines : List SymLine) (starts publics : List Mark) → IsNonDecreasingBy (λ m. m.key) starts → IsNonDecreasingBy (λ m. m.key) publics → ((x : ℕ) → mark_at starts x ≡ mark_at (marks_of marked.Functions 0 lines) x)
     → ((x : ℕ) → mark_at publics x ≡ mark_at (marks_of marked.Publics 0 lines) x) → AreMarksOf lines starts publics
 marks_found lines starts publics s p f g = record {
   starts_sorted = s;

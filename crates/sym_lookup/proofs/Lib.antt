@@ -7,6 +7,7 @@ pub mod Computing
 mod WorkedAnswers
 pub mod StretchLemmas
 pub mod MarkLemmas
+pub mod NumberLemmas
 pub mod PublicMarkLemmas
 pub mod IndexLemmas
 pub mod RisingLemmas

@@ -16,20 +16,20 @@ use Rattle.sym_lookup.proofs.MarkLemmas.{IsUpTo, bounded}
 max_is : (a b : ℕ) → max a b ≡ cond (nat_lt a b) b a
 max_is a b = grind (arith, nat_tests)
 
-address_of : (b : Bool) (m t : Mark) → Some (cond b t.address m.address) ≡ option_map (λ (s : Mark). s.address) (cond b (Some t) (Some m))
+address_of : (b : Bool) (m t : Mark) → Some (cond b t.key m.key) ≡ option_map (λ (s : Mark). s.key) (cond b (Some t) (Some m))
 address_of true m t = refl
 address_of false m t = refl
 
-nearest_step : (b : Bool) (m : Mark) (later : Option Mark) → cond b (greater m.address (option_map (λ (s : Mark). s.address) later)) (option_map (λ (s : Mark). s.address) later) ≡ option_map (λ (s : Mark). s.address) (nearer_mark (cond b (Some m) None) later)
+nearest_step : (b : Bool) (m : Mark) (later : Option Mark) → cond b (greater m.key (option_map (λ (s : Mark). s.key) later)) (option_map (λ (s : Mark). s.key) later) ≡ option_map (λ (s : Mark). s.key) (nearer_mark (cond b (Some m) None) later)
 nearest_step true m None = refl
-nearest_step true m (Some t) = ap Some (max_is m.address t.address) ∙ address_of (nat_lt m.address t.address) m t
+nearest_step true m (Some t) = ap Some (max_is m.key t.key) ∙ address_of (nat_lt m.key t.key) m t
 nearest_step false m later = refl
 
-nearest_is : (n : ℕ) (lines : List SymLine) (x : ℕ) → nearest_public lines x ≡ option_map (λ (s : Mark). s.address) (mark_at (marks_of marked.Publics n lines) x)
+nearest_is : (n : ℕ) (lines : List SymLine) (x : ℕ) → nearest_public lines x ≡ option_map (λ (s : Mark). s.key) (mark_at (marks_of marked.Publics n lines) x)
 unfolding nearest_public mark_at
 nearest_is n [] x = refl
 nearest_is n (Public many address params name ∷ lines) x =
-    ap (λ o. cond (nat_le address x) (greater address o) o) (nearest_is (n + 1) lines x) ∙ nearest_step (nat_le address x) (record { address = address; place = n }) (mark_at (marks_of marked.Publics (n + 1) lines) x)
+    ap (λ o. cond (nat_le address x) (greater address o) o) (nearest_is (n + 1) lines x) ∙ nearest_step (nat_le address x) (record { key = address; place = n }) (mark_at (marks_of marked.Publics (n + 1) lines) x)
 nearest_is n (_ ∷ lines) x = nearest_is (n + 1) lines x
 
 -- whether a FUNC begins from an address on
@@ -48,20 +48,20 @@ and_none : (b : Bool) → (b && false) ≡ false
 and_none true = refl
 and_none false = refl
 
-begins_of : (a : ℕ) (b : Bool) (m t : Mark) → cond b (nat_le a t.address) (nat_le a m.address) ≡ option_map_or (λ (s : Mark). nat_le a s.address) (cond b (Some t) (Some m)) false
+begins_of : (a : ℕ) (b : Bool) (m t : Mark) → cond b (nat_le a t.key) (nat_le a m.key) ≡ option_map_or (λ (s : Mark). nat_le a s.key) (cond b (Some t) (Some m)) false
 begins_of a true m t = refl
 begins_of a false m t = refl
 
-begins_step : (a : ℕ) (b : Bool) (m : Mark) (later : Option Mark) → ((nat_le a m.address && b) || option_map_or (λ (s : Mark). nat_le a s.address) later false) ≡ option_map_or (λ (s : Mark). nat_le a s.address) (nearer_mark (cond b (Some m) None) later) false
-begins_step a true m None = or_none (nat_le a m.address && true) ∙ and_all (nat_le a m.address)
-begins_step a true m (Some t) = ap (λ c. c || nat_le a t.address) (and_all (nat_le a m.address)) ∙ either_le a m.address t.address ∙ begins_of a (nat_lt m.address t.address) m t
-begins_step a false m later = ap (λ c. c || option_map_or (λ (s : Mark). nat_le a s.address) later false) (and_none (nat_le a m.address))
+begins_step : (a : ℕ) (b : Bool) (m : Mark) (later : Option Mark) → ((nat_le a m.key && b) || option_map_or (λ (s : Mark). nat_le a s.key) later false) ≡ option_map_or (λ (s : Mark). nat_le a s.key) (nearer_mark (cond b (Some m) None) later) false
+begins_step a true m None = or_none (nat_le a m.key && true) ∙ and_all (nat_le a m.key)
+begins_step a true m (Some t) = ap (λ c. c || nat_le a t.key) (and_all (nat_le a m.key)) ∙ either_le a m.key t.key ∙ begins_of a (nat_lt m.key t.key) m t
+begins_step a false m later = ap (λ c. c || option_map_or (λ (s : Mark). nat_le a s.key) later false) (and_none (nat_le a m.key))
 
-begins_is : (n : ℕ) (lines : List SymLine) (a x : ℕ) → list_any (begins_between a x) lines ≡ option_map_or (λ (s : Mark). nat_le a s.address) (mark_at (marks_of marked.Functions n lines) x) false
+begins_is : (n : ℕ) (lines : List SymLine) (a x : ℕ) → list_any (begins_between a x) lines ≡ option_map_or (λ (s : Mark). nat_le a s.key) (mark_at (marks_of marked.Functions n lines) x) false
 unfolding mark_at
 begins_is n [] a x = refl
 begins_is n (Func many address size params name ∷ lines) a x =
-    ap (λ c. (nat_le a address && nat_le address x) || c) (begins_is (n + 1) lines a x) ∙ begins_step a (nat_le address x) (record { address = address; place = n }) (mark_at (marks_of marked.Functions (n + 1) lines) x)
+    ap (λ c. (nat_le a address && nat_le address x) || c) (begins_is (n + 1) lines a x) ∙ begins_step a (nat_le address x) (record { key = address; place = n }) (mark_at (marks_of marked.Functions (n + 1) lines) x)
 begins_is n (_ ∷ lines) a x = begins_is (n + 1) lines a x
 
 -- the first PUBLIC of the nearest one's address
@@ -91,24 +91,24 @@ unfolding value_in
 some_same s t e = ap (value_in s) e
 
 -- the step at a PUBLIC: `at` is the test of an address
-place_step : (x address n : ℕ) (b : Bool) (later : Option Mark) (m : Mark) (rest : ℕ → Option ℕ) → nat_le address x ≡ b → IsUpTo x later → ((t : Mark) → later ≡ Some t → rest t.address ≡ Some t.place)
-    → nearer_mark (cond b (Some (record { address = address; place = n })) None) later ≡ Some m → cond (address == m.address) (Some n) (rest m.address) ≡ Some m.place
+place_step : (x address n : ℕ) (b : Bool) (later : Option Mark) (m : Mark) (rest : ℕ → Option ℕ) → nat_le address x ≡ b → IsUpTo x later → ((t : Mark) → later ≡ Some t → rest t.key ≡ Some t.place)
+    → nearer_mark (cond b (Some (record { key = address; place = n })) None) later ≡ Some m → cond (address == m.key) (Some n) (rest m.key) ≡ Some m.place
 place_step x address n true None m rest test up go e =
-    let one : Mark = record { address = address; place = n } in
-    subst (λ (s : Mark). cond (address == s.address) (Some n) (rest s.address) ≡ Some s.place) (some_same one m e) (first_is (address == address) n (rest address) (same_number address))
-place_step x address n true (Some t) m rest test up go e = by_test (nat_lt address t.address) refl e
+    let one : Mark = record { key = address; place = n } in
+    subst (λ (s : Mark). cond (address == s.key) (Some n) (rest s.key) ≡ Some s.place) (some_same one m e) (first_is (address == address) n (rest address) (same_number address))
+place_step x address n true (Some t) m rest test up go e = by_test (nat_lt address t.key) refl e
   where
-    by_test : (c : Bool) → nat_lt address t.address ≡ c → cond c (Some t) (Some (record { address = address; place = n })) ≡ Some m → cond (address == m.address) (Some n) (rest m.address) ≡ Some m.place
+    by_test : (c : Bool) → nat_lt address t.key ≡ c → cond c (Some t) (Some (record { key = address; place = n })) ≡ Some m → cond (address == m.key) (Some n) (rest m.key) ≡ Some m.place
     by_test true less f =
-        subst (λ (s : Mark). cond (address == s.address) (Some n) (rest s.address) ≡ Some s.place) (some_same t m f) (later_is (address == t.address) n (rest t.address) (less_other address t.address less) ∙ go t refl)
+        subst (λ (s : Mark). cond (address == s.key) (Some n) (rest s.key) ≡ Some s.place) (some_same t m f) (later_is (address == t.key) n (rest t.key) (less_other address t.key less) ∙ go t refl)
     by_test false less f =
-        let one : Mark = record { address = address; place = n } in
-        subst (λ (s : Mark). cond (address == s.address) (Some n) (rest s.address) ≡ Some s.place) (some_same one m f) (first_is (address == address) n (rest address) (same_number address))
+        let one : Mark = record { key = address; place = n } in
+        subst (λ (s : Mark). cond (address == s.key) (Some n) (rest s.key) ≡ Some s.place) (some_same one m f) (first_is (address == address) n (rest address) (same_number address))
 place_step x address n false None m rest test up go e = cc
 place_step x address n false (Some t) m rest test up go e =
-    subst (λ (s : Mark). cond (address == s.address) (Some n) (rest s.address) ≡ Some s.place) (some_same t m e) (later_is (address == t.address) n (rest t.address) (past_other address t.address x test up) ∙ go t refl)
+    subst (λ (s : Mark). cond (address == s.key) (Some n) (rest s.key) ≡ Some s.place) (some_same t m e) (later_is (address == t.key) n (rest t.key) (past_other address t.key x test up) ∙ go t refl)
 
-place_is : (n : ℕ) (lines : List SymLine) (x : ℕ) (m : Mark) → mark_at (marks_of marked.Publics n lines) x ≡ Some m → position_from (is_public_of m.address) n lines ≡ Some m.place
+place_is : (n : ℕ) (lines : List SymLine) (x : ℕ) (m : Mark) → mark_at (marks_of marked.Publics n lines) x ≡ Some m → position_from (is_public_of m.key) n lines ≡ Some m.place
 unfolding mark_at
 place_is n [] x m e = cc
 place_is n (Public many address params name ∷ lines) x m e =
@@ -116,20 +116,20 @@ place_is n (Public many address params name ∷ lines) x m e =
     (bounded (marks_of marked.Publics (n + 1) lines) x x (λ k d l h. h)) (λ t f. place_is (n + 1) lines x t f) e
 place_is n (_ ∷ lines) x m e = place_is (n + 1) lines x m e
 
-place_first : (lines : List SymLine) (x : ℕ) (m : Mark) → mark_at (marks_of marked.Publics 0 lines) x ≡ Some m → position (is_public_of m.address) lines ≡ Some m.place
-place_first lines x m e = position_from-zero (is_public_of m.address) lines ∙ place_is 0 lines x m e
+place_first : (lines : List SymLine) (x : ℕ) (m : Mark) → mark_at (marks_of marked.Publics 0 lines) x ≡ Some m → position (is_public_of m.key) lines ≡ Some m.place
+place_first lines x m e = position_from-zero (is_public_of m.key) lines ∙ place_is 0 lines x m e
 
 -- all together
-by_func : (lines : List SymLine) (x : ℕ) (m : Mark) (func : Option Mark) → position (is_public_of m.address) lines ≡ Some m.place
-    → cond (option_map_or (λ (s : Mark). nat_le m.address s.address) func false) None (position (is_public_of m.address) lines) ≡ public_of (Some m) func
+by_func : (lines : List SymLine) (x : ℕ) (m : Mark) (func : Option Mark) → position (is_public_of m.key) lines ≡ Some m.place
+    → cond (option_map_or (λ (s : Mark). nat_le m.key s.key) func false) None (position (is_public_of m.key) lines) ≡ public_of (Some m) func
 by_func lines x m None e = e
-by_func lines x m (Some func) e = ap (λ o. cond (nat_le m.address func.address) None o) e
+by_func lines x m (Some func) e = ap (λ o. cond (nat_le m.key func.key) None o) e
 
 pub public_by_marks : (lines : List SymLine) (x : ℕ) (found func : Option Mark) → mark_at (marks_of marked.Publics 0 lines) x ≡ found → mark_at (marks_of marked.Functions 0 lines) x ≡ func → public_place lines x ≡ public_of found func
 unfolding public_place
 public_by_marks lines x None func e f =
-    ap (option_and_then (λ a. cond (list_any (begins_between a x) lines) None (position (is_public_of a) lines))) (nearest_is 0 lines x ∙ ap (option_map (λ (s : Mark). s.address)) e)
+    ap (option_and_then (λ a. cond (list_any (begins_between a x) lines) None (position (is_public_of a) lines))) (nearest_is 0 lines x ∙ ap (option_map (λ (s : Mark). s.key)) e)
 public_by_marks lines x (Some m) func e f =
-    ap (option_and_then (λ a. cond (list_any (begins_between a x) lines) None (position (is_public_of a) lines))) (nearest_is 0 lines x ∙ ap (option_map (λ (s : Mark). s.address)) e)
-    ∙ ap (λ b. cond b None (position (is_public_of m.address) lines)) (begins_is 0 lines m.address x ∙ ap (λ o. option_map_or (λ (s : Mark). nat_le m.address s.address) o false) f)
+    ap (option_and_then (λ a. cond (list_any (begins_between a x) lines) None (position (is_public_of a) lines))) (nearest_is 0 lines x ∙ ap (option_map (λ (s : Mark). s.key)) e)
+    ∙ ap (λ b. cond b None (position (is_public_of m.key) lines)) (begins_is 0 lines m.key x ∙ ap (λ o. option_map_or (λ (s : Mark). nat_le m.key s.key) o false) f)
     ∙ by_func lines x m func (place_first lines x m e)

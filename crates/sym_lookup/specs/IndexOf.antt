@@ -1,23 +1,34 @@
 -- An index of a list of records: at each address of 64 bits it finds what the scans find.
 use Rattle.std.specs.Prelude.{◌≡◌, ℕ, List}
+use Rattle.std.specs.List.{position}
 use Rattle.std.specs.List.Sorted.{IsNonDecreasingBy}
 use Rattle.sym_records.specs.declared.line.SymLine.{SymLine}
 use Rattle.cfi_eval.specs.Inits.{init_place}
 use Rattle.sym_lookup.specs.declared.marks.Mark.{Mark}
 use Rattle.sym_lookup.specs.declared.index.Index.{Index}
+use Rattle.sym_meaning.specs.TextNames.{is_file, is_origin}
+use Rattle.sym_lookup.specs.declared.numbers.Numbers.{Numbers}
 use Rattle.sym_lookup.specs.Answers.{func_place, public_place}
 use Rattle.sym_lookup.specs.UnderOf.{AreUnders}
 use Rattle.sym_lookup.specs.PlaceMaps.{IsPlaceMap}
-use Rattle.sym_lookup.specs.internal.Marks.{mark_at, public_of}
+use Rattle.sym_lookup.specs.internal.Marks.{mark_at, public_of, numbered}
 
--- marks in the order of their addresses, by which the PUBLIC in front of each address is found
+-- marks in the order of their keys, by which the PUBLIC in front of each address is found
 pub record AreMarksOf (lines : List SymLine) (starts publics : List Mark) : Type 0 where
-  pub starts_sorted : IsNonDecreasingBy (λ m. m.address) starts
-  pub publics_sorted : IsNonDecreasingBy (λ m. m.address) publics
+  pub starts_sorted : IsNonDecreasingBy (λ m. m.key) starts
+  pub publics_sorted : IsNonDecreasingBy (λ m. m.key) publics
   pub public : (x : ℕ) → public_of (mark_at publics x) (mark_at starts x) ≡ public_place lines x
+
+-- marks in the order of their keys, by which the first FILE and the first INLINE_ORIGIN of each number are found
+pub record AreNumbersOf (lines : List SymLine) (numbers : Numbers) : Type 0 where
+  pub files_sorted : IsNonDecreasingBy (λ m. m.key) numbers.files.items
+  pub origins_sorted : IsNonDecreasingBy (λ m. m.key) numbers.origins.items
+  pub file : (n : ℕ) → numbered n (mark_at numbers.files.items n) ≡ position (is_file n) lines
+  pub origin : (n : ℕ) → numbered n (mark_at numbers.origins.items n) ≡ position (is_origin n) lines
 
 pub record IsIndexOf (lines : List SymLine) (index : Index) : Type 0 where
   pub funcs : IsPlaceMap (func_place lines) index.funcs
   pub inits : IsPlaceMap (init_place lines) index.inits
   pub marks : AreMarksOf lines index.starts.items index.publics.items
   pub unders : AreUnders lines index.unders.items
+  pub numbers : AreNumbersOf lines index.numbers

@@ -2,6 +2,7 @@
 ghost use Rattle.std.specs.Prelude.{◌≡◌, ◌<◌, ◌^◌, List, length, IfOk, IfSome};
 ghost use Rattle.cfi_eval.specs.Inits.{init_place};
 ghost use Rattle.sym_lookup.specs.Answers.{func_place, public_place, answer_of};
+ghost use Rattle.sym_lookup.specs.AnswerTexts.{answer_text};
 ghost use Rattle.sym_lookup.specs.IndexOf.{IsIndexOf};
 ghost use Rattle.sym_lookup.specs.PlaceMaps.{IsPlaceMap};
 ghost use Rattle.sym_lookup.specs.internal.Marks.{mark_at, public_of};
@@ -12,13 +13,18 @@ ghost use Rattle.std.specs.Option.{option_map_or};
 
 use crate::answers::Answer;
 use crate::marks::{Mark, Marked, mark_at, sorted_marks};
+use crate::named::Records;
+use crate::numbers::{Numbers, numbers_of};
 use crate::stretches::{Kind, PlaceMap, place_at, place_map};
+use crate::texts::shown_text;
 use crate::under::{Under, held_in_function, unders_of};
 use std::alloc::Global;
 use sym_edges::OutOfMemory;
 use sym_records::{SymFile, SymLine};
+use sym_rules::ByteText;
 
-/// An index of a symbol file: which `FUNC` and which `INIT` is the first at each address, and where `FUNC` and `PUBLIC` records begin.
+/// An index of a symbol file: which `FUNC` and which `INIT` is the first at each address, where `FUNC` and `PUBLIC` records begin, and which
+/// `FILE` and which `INLINE_ORIGIN` is the first of each number.
 #[derive(Drop)]
 pub struct Index {
     funcs: PlaceMap,
@@ -26,6 +32,7 @@ pub struct Index {
     starts: Vec<Mark>,
     publics: Vec<Mark>,
     unders: Vec<Under>,
+    numbers: Numbers,
 }
 
 /// The `PUBLIC` in front of an address, by the nearest `PUBLIC` and the nearest `FUNC`.
@@ -36,7 +43,7 @@ fn public_of(found: Option<Mark>, func: Option<Mark>) -> Option<usize>
         (None, _) => None,
         (Some(mark), None) => Some(mark.place as usize),
         (Some(mark), Some(func)) => {
-            if mark.address <= func.address {
+            if mark.key <= func.key {
                 return None;
             }
             Some(mark.place as usize)
@@ -46,8 +53,8 @@ fn public_of(found: Option<Mark>, func: Option<Mark>) -> Option<usize>
 
 /// What is answered where no `FUNC` covers the address.
 fn outside(starts: &[Mark], publics: &[Mark], address: u64) -> Answer
-    requires starts { IsNonDecreasingBy (λ m. m.address) starts.now }
-    requires publics { IsNonDecreasingBy (λ m. m.address) publics.now }
+    requires starts { IsNonDecreasingBy (λ m. m.key) starts.now }
+    requires publics { IsNonDecreasingBy (λ m. m.key) publics.now }
     ensures { result ≡ option_map_or answer.Public (public_of (mark_at publics.now address) (mark_at starts.now address)) answer.Nothing }
 {
     let found = mark_at(publics, address);
@@ -80,12 +87,14 @@ impl Index {
         let starts = sorted_marks(alloc, Marked::Functions, lines)?;
         let publics = sorted_marks(alloc, Marked::Publics, lines)?;
         let unders = unders_of(alloc, lines)?;
+        let numbers = numbers_of(alloc, lines)?;
         Ok(Index {
             funcs,
             inits,
             starts,
             publics,
             unders,
+            numbers,
         })
     }
 
@@ -118,5 +127,19 @@ impl Index {
         ensures { (lines : List SymLine) → IsIndexOf lines self.now → result ≡ init_place lines address }
     {
         place_at(&self.inits, address)
+    }
+
+    /// The text that shows an answer, as [`crate::answer_text`] gives it, without a pass over the file.
+    pub fn answer_text(
+        &self,
+        alloc: Global,
+        file: &SymFile,
+        answer: &Answer,
+    ) -> Result<ByteText, OutOfMemory>
+        requires { IsIndexOf file.now self.now }
+        ensures { IfOk result (λ text. text ≡ answer_text file.now answer.now) }
+    {
+        let records = Records::numbered(file.as_slice(), &self.numbers);
+        shown_text(alloc, &records, answer)
     }
 }

@@ -3,11 +3,12 @@
 //! [`answer_at`] says which records name an address, by their places in the file: the first `FUNC` that covers it with the first
 //! `INLINE` of each level and the first line record under it, or else the `PUBLIC` in front of it. It scans the file. [`Index::of`] makes an
 //! index of a file, and [`Index::answer_at`] answers the same by halves; [`Index::init_at`] finds the first `INIT` that covers an address, for
-//! `cfi_eval::frame_from`. [`answer_text`] shows an answer, a line for each frame. What an answer names is what `sym_meaning` says that a
-//! look-up in the text names ([`laws`]).
+//! `cfi_eval::frame_from`. [`answer_text`] shows an answer, a line for each frame, and [`Index::answer_text`] does so by halves. What an answer
+//! names is what `sym_meaning` says that a look-up in the text names ([`laws`]).
 //!
-//! To read: `answers`, `finding`, `texts` and `laws`; then `index`, on `stretches` (step maps of records), `marks` (where `FUNC` and `PUBLIC`
-//! records begin) and `under` (what stands under a `FUNC`), with `rising` (its line records, where they rise).
+//! To read: `answers`, `finding`, `texts` (on `named`, the records that others name by a number) and `laws`; then `index`, on `stretches` (step
+//! maps of records), `marks` (records in the order of a key), `numbers` and `under` (what stands under a `FUNC`), with `rising` (its line
+//! records, where they rise).
 #![tactic(auto)]
 
 mod answers;
@@ -15,6 +16,8 @@ mod finding;
 mod index;
 pub mod laws;
 mod marks;
+mod named;
+mod numbers;
 mod rising;
 mod stretches;
 mod texts;

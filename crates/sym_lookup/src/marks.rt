@@ -1,16 +1,17 @@
-//! Where `FUNC` and `PUBLIC` records begin, in the order of their addresses.
+//! Records by a key, in the order of their keys: `FUNC` and `PUBLIC` records by the address at which they begin, `FILE` and `INLINE_ORIGIN`
+//! records by their number.
 ghost use Rattle.std.specs.Prelude.{◌≡◌, ℕ, ◌+◌, ◌<◌, ◌≤◌, ◌^◌, ◌++◌, length, IfOk, OnOk};
 ghost use Rattle.std.specs.List.Sorted.{IsNonDecreasingBy};
-ghost use Rattle.sym_lookup.specs.internal.Marks.{start_of, mark_of, marks_of, mark_at};
+ghost use Rattle.sym_lookup.specs.internal.Marks.{key_of, mark_of, marks_of, mark_at};
 
 use std::alloc::Global;
 use sym_edges::OutOfMemory;
 use sym_records::SymLine;
 
-/// The address at which a record begins, and the record's place.
+/// The address at which a record begins, or its number, and the record's place.
 #[derive(Clone, Copy)]
 pub struct Mark {
-    pub address: u64,
+    pub key: u64,
     pub place: u32,
 }
 
@@ -19,27 +20,31 @@ pub struct Mark {
 pub enum Marked {
     Functions,
     Publics,
+    Files,
+    Origins,
 }
 
-/// The address at which a record begins that is marked.
-fn start_of(marked: Marked, line: &SymLine) -> Option<u64>
-    ensures { result ≡ start_of marked line.now }
+/// The key of a record that is marked.
+fn key_of(marked: Marked, line: &SymLine) -> Option<u64>
+    ensures { result ≡ key_of marked line.now }
 {
     match (marked, line) {
         (Marked::Functions, SymLine::Func { address, .. })
         | (Marked::Publics, SymLine::Public { address, .. }) => Some(*address),
+        (Marked::Files, SymLine::File { number, .. })
+        | (Marked::Origins, SymLine::Origin { number, .. }) => Some(u64::from(*number)),
         _ => None,
     }
 }
 
 /// Adds the mark of a record.
-fn push_mark(marks: &mut Vec<Mark>, place: u32, start: Option<u64>) -> Result<(), OutOfMemory>
-    ensures { OnOk result (marks.new.items ≡ marks.old.items ++ mark_of place start) }
+fn push_mark(marks: &mut Vec<Mark>, place: u32, key: Option<u64>) -> Result<(), OutOfMemory>
+    ensures { OnOk result (marks.new.items ≡ marks.old.items ++ mark_of place key) }
 {
-    let Some(address) = start else {
+    let Some(key) = key else {
         return Ok(());
     };
-    marks.push(Mark { address, place })?;
+    marks.push(Mark { key, place })?;
     Ok(())
 }
 
@@ -50,12 +55,12 @@ fn marks_in(alloc: Global, marked: Marked, lines: &[SymLine]) -> Result<Vec<Mark
 {
     let mut marks = Vec::new(alloc);
     'lines: for at in 0..lines.len() {
-        push_mark(&mut marks, at as u32, start_of(marked, &lines[at]))?;
+        push_mark(&mut marks, at as u32, key_of(marked, &lines[at]))?;
     }
     Ok(marks)
 }
 
-/// The marks of records in the order of their addresses; those of one address stay in their order.
+/// The marks of records in the order of their keys; those of one key stay in their order.
 pub(crate) fn sorted_marks(
     alloc: Global,
     marked: Marked,
@@ -63,23 +68,23 @@ pub(crate) fn sorted_marks(
 ) -> Result<Vec<Mark>, OutOfMemory>
     requires { length lines.now < 2 ^ 32 }
     ensures same { IfOk result (λ marks. (x : ℕ) → mark_at marks.items x ≡ mark_at (marks_of marked 0 lines.now) x) }
-    ensures sorted { IfOk result (λ marks. IsNonDecreasingBy (λ m. m.address) marks.items) }
+    ensures sorted { IfOk result (λ marks. IsNonDecreasingBy (λ m. m.key) marks.items) }
 {
     let mut marks = marks_in(alloc, marked, lines)?;
-    marks.sort_by_key(|mark| mark.address)?;
+    marks.sort_by_key(|mark| mark.key)?;
     Ok(marks)
 }
 
-/// The mark at or below an address that is the nearest, the first of equals, by halves.
-pub(crate) fn mark_at(marks: &[Mark], address: u64) -> Option<Mark>
-    requires { IsNonDecreasingBy (λ m. m.address) marks.now }
-    ensures { result ≡ mark_at marks.now address }
+/// The mark at or below a key that is the nearest, the first of equals, by halves.
+pub(crate) fn mark_at(marks: &[Mark], key: u64) -> Option<Mark>
+    requires { IsNonDecreasingBy (λ m. m.key) marks.now }
+    ensures { result ≡ mark_at marks.now key }
 {
-    let count = marks.partition_point(|mark| mark.address <= address);
+    let count = marks.partition_point(|mark| mark.key <= key);
     if count == 0 {
         return None;
     }
-    let nearest = marks[count - 1].address;
-    let first = marks.partition_point(|mark| mark.address < nearest);
+    let nearest = marks[count - 1].key;
+    let first = marks.partition_point(|mark| mark.key < nearest);
     Some(marks[first])
 }

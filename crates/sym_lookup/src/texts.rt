@@ -1,50 +1,18 @@
 //! The text that shows an answer.
 ghost use Rattle.std.specs.Prelude.{◌≡◌, ◌++◌, codes, map, reverse, Some, IfOk, OnOk};
-ghost use Rattle.std.specs.Option.{option_copied, unwrap_or};
+ghost use Rattle.std.specs.Option.{unwrap_or};
 ghost use Rattle.std.specs.Fmt.{decimal};
-ghost use Rattle.std.specs.List.{find};
-ghost use Rattle.sym_meaning.specs.TextNames.{is_file, is_origin, file_name, origin_name, text_path, text_origin, func_name, call_of, path_and_line};
+ghost use Rattle.sym_meaning.specs.TextNames.{file_name, origin_name, text_path, text_origin, func_name, call_of, path_and_line};
 ghost use Rattle.sym_lookup.specs.AnswerTexts.{spot_text, line_spot, call_spot, call_name, frame_text, func_name_at, call_at, line_at, frames_text, public_name, public_name_at, answer_text};
 ghost use Rattle.sym_lookup.specs.internal.Spots.{spot_shown};
 
 use crate::answers::Answer;
+use crate::named::Records;
 use itoa::Buffer;
 use std::alloc::Global;
 use sym_edges::OutOfMemory;
 use sym_records::{SymFile, SymLine};
 use sym_rules::ByteText;
-
-fn is_file(line: &SymLine, number: u32) -> bool
-    ensures { result ≡ is_file number line.now }
-{
-    match line {
-        SymLine::File { number: own, .. } => *own == number,
-        _ => false,
-    }
-}
-
-fn is_origin(line: &SymLine, number: u32) -> bool
-    ensures { result ≡ is_origin number line.now }
-{
-    match line {
-        SymLine::Origin { number: own, .. } => *own == number,
-        _ => false,
-    }
-}
-
-/// The first `FILE` of a number.
-fn file_of(lines: &[SymLine], number: u32) -> Option<&SymLine>
-    ensures { option_copied result ≡ find (is_file number) lines.now }
-{
-    lines.iter().find(|line| is_file(line, number))
-}
-
-/// The first `INLINE_ORIGIN` of a number.
-fn origin_of(lines: &[SymLine], number: u32) -> Option<&SymLine>
-    ensures { option_copied result ≡ find (is_origin number) lines.now }
-{
-    lines.iter().find(|line| is_origin(line, number))
-}
 
 fn file_name(line: &SymLine) -> &[u8]
     ensures { result.now ≡ file_name line.now }
@@ -101,17 +69,22 @@ fn add_path_and_line(text: &mut Vec<u8>, path: &[u8], line: u32) -> Result<(), O
 }
 
 /// Adds the path of the first `FILE` of a number and a line.
-fn add_spot(text: &mut Vec<u8>, lines: &[SymLine], file: u32, line: u32) -> Result<(), OutOfMemory>
+fn add_spot(
+    text: &mut Vec<u8>,
+    lines: &Records<'_>,
+    file: u32,
+    line: u32,
+) -> Result<(), OutOfMemory>
     ensures { OnOk result (text.new.items ≡ text.old.items ++ spot_text (text_path lines.now file) line) }
 {
-    match file_of(lines, file) {
+    match lines.file(file) {
         None => add(text, b"?"),
         Some(path) => add_path_and_line(text, file_name(path), line),
     }
 }
 
 /// Adds where a line record is.
-fn add_line_spot(text: &mut Vec<u8>, lines: &[SymLine], spot: &SymLine) -> Result<(), OutOfMemory>
+fn add_line_spot(text: &mut Vec<u8>, lines: &Records<'_>, spot: &SymLine) -> Result<(), OutOfMemory>
     ensures { OnOk result (text.new.items ≡ text.old.items ++ line_spot (Some (path_and_line lines.now spot.now))) }
 {
     match spot {
@@ -123,7 +96,7 @@ fn add_line_spot(text: &mut Vec<u8>, lines: &[SymLine], spot: &SymLine) -> Resul
 /// Adds where the line record at a place is.
 fn add_line_spot_at(
     text: &mut Vec<u8>,
-    lines: &[SymLine],
+    lines: &Records<'_>,
     place: Option<usize>,
 ) -> Result<(), OutOfMemory>
     ensures { OnOk result (text.new.items ≡ text.old.items ++ line_spot (line_at lines.now place)) }
@@ -138,7 +111,7 @@ fn add_line_spot_at(
 }
 
 /// Adds where the call of an `INLINE` is.
-fn add_call_spot(text: &mut Vec<u8>, lines: &[SymLine], spot: &SymLine) -> Result<(), OutOfMemory>
+fn add_call_spot(text: &mut Vec<u8>, lines: &Records<'_>, spot: &SymLine) -> Result<(), OutOfMemory>
     ensures { OnOk result (text.new.items ≡ text.old.items ++ call_spot (call_of lines.now spot.now)) }
 {
     match spot {
@@ -152,7 +125,11 @@ fn add_call_spot(text: &mut Vec<u8>, lines: &[SymLine], spot: &SymLine) -> Resul
 }
 
 /// Adds where that of the `INLINE` at a place is.
-fn add_call_spot_at(text: &mut Vec<u8>, lines: &[SymLine], place: usize) -> Result<(), OutOfMemory>
+fn add_call_spot_at(
+    text: &mut Vec<u8>,
+    lines: &Records<'_>,
+    place: usize,
+) -> Result<(), OutOfMemory>
     ensures { OnOk result (text.new.items ≡ text.old.items ++ call_spot (call_at lines.now place)) }
 {
     match lines.get(place) {
@@ -171,7 +148,7 @@ enum Spot {
 }
 
 /// Adds where a frame is.
-fn add_spot_shown(text: &mut Vec<u8>, lines: &[SymLine], spot: Spot) -> Result<(), OutOfMemory>
+fn add_spot_shown(text: &mut Vec<u8>, lines: &Records<'_>, spot: Spot) -> Result<(), OutOfMemory>
     ensures { OnOk result (text.new.items ≡ text.old.items ++ spot_shown lines.now spot) }
 {
     match spot {
@@ -181,17 +158,21 @@ fn add_spot_shown(text: &mut Vec<u8>, lines: &[SymLine], spot: Spot) -> Result<(
 }
 
 /// Adds the name of the first `INLINE_ORIGIN` of a number.
-fn add_origin(text: &mut Vec<u8>, lines: &[SymLine], number: u32) -> Result<(), OutOfMemory>
+fn add_origin(text: &mut Vec<u8>, lines: &Records<'_>, number: u32) -> Result<(), OutOfMemory>
     ensures { OnOk result (text.new.items ≡ text.old.items ++ unwrap_or (text_origin lines.now number) (codes "<name omitted>")) }
 {
-    match origin_of(lines, number) {
+    match lines.origin(number) {
         None => add(text, b"<name omitted>"),
         Some(origin) => add(text, origin_name(origin)),
     }
 }
 
 /// Adds the name of what an `INLINE` inlines.
-fn add_call_name(text: &mut Vec<u8>, lines: &[SymLine], inline: &SymLine) -> Result<(), OutOfMemory>
+fn add_call_name(
+    text: &mut Vec<u8>,
+    lines: &Records<'_>,
+    inline: &SymLine,
+) -> Result<(), OutOfMemory>
     ensures { OnOk result (text.new.items ≡ text.old.items ++ call_name (call_of lines.now inline.now)) }
 {
     match inline {
@@ -201,7 +182,11 @@ fn add_call_name(text: &mut Vec<u8>, lines: &[SymLine], inline: &SymLine) -> Res
 }
 
 /// Adds that of the `INLINE` at a place.
-fn add_call_name_at(text: &mut Vec<u8>, lines: &[SymLine], place: usize) -> Result<(), OutOfMemory>
+fn add_call_name_at(
+    text: &mut Vec<u8>,
+    lines: &Records<'_>,
+    place: usize,
+) -> Result<(), OutOfMemory>
     ensures { OnOk result (text.new.items ≡ text.old.items ++ call_name (call_at lines.now place)) }
 {
     match lines.get(place) {
@@ -211,7 +196,7 @@ fn add_call_name_at(text: &mut Vec<u8>, lines: &[SymLine], place: usize) -> Resu
 }
 
 /// Adds where a frame is, and ends its line.
-fn end_frame(text: &mut Vec<u8>, lines: &[SymLine], spot: Spot) -> Result<(), OutOfMemory>
+fn end_frame(text: &mut Vec<u8>, lines: &Records<'_>, spot: Spot) -> Result<(), OutOfMemory>
     ensures { OnOk result (text.new.items ≡ text.old.items ++ (codes " at " ++ spot_shown lines.now spot ++ codes "\n")) }
 {
     add(text, b" at ")?;
@@ -222,7 +207,7 @@ fn end_frame(text: &mut Vec<u8>, lines: &[SymLine], spot: Spot) -> Result<(), Ou
 /// Adds the line of an inlined frame.
 fn add_inlined_frame(
     text: &mut Vec<u8>,
-    lines: &[SymLine],
+    lines: &Records<'_>,
     place: usize,
     spot: Spot,
 ) -> Result<(), OutOfMemory>
@@ -233,7 +218,7 @@ fn add_inlined_frame(
 }
 
 /// Adds the name of the `FUNC` at a place.
-fn add_func_name(text: &mut Vec<u8>, lines: &[SymLine], func: usize) -> Result<(), OutOfMemory>
+fn add_func_name(text: &mut Vec<u8>, lines: &Records<'_>, func: usize) -> Result<(), OutOfMemory>
     ensures { OnOk result (text.new.items ≡ text.old.items ++ func_name_at lines.now func) }
 {
     match lines.get(func) {
@@ -245,7 +230,7 @@ fn add_func_name(text: &mut Vec<u8>, lines: &[SymLine], func: usize) -> Result<(
 /// Adds the line of a function's frame.
 fn add_func_frame(
     text: &mut Vec<u8>,
-    lines: &[SymLine],
+    lines: &Records<'_>,
     func: usize,
     spot: Spot,
 ) -> Result<(), OutOfMemory>
@@ -258,7 +243,7 @@ fn add_func_frame(
 /// Adds the lines of all frames, the innermost first.
 fn add_frames(
     text: &mut Vec<u8>,
-    lines: &[SymLine],
+    lines: &Records<'_>,
     func: usize,
     chain: &[usize],
     line: Option<usize>,
@@ -276,7 +261,7 @@ fn add_frames(
 }
 
 /// Adds the name of the `PUBLIC` at a place.
-fn add_public_name(text: &mut Vec<u8>, lines: &[SymLine], index: usize) -> Result<(), OutOfMemory>
+fn add_public_name(text: &mut Vec<u8>, lines: &Records<'_>, index: usize) -> Result<(), OutOfMemory>
     ensures { OnOk result (text.new.items ≡ text.old.items ++ public_name_at lines.now index) }
 {
     match lines.get(index) {
@@ -286,7 +271,7 @@ fn add_public_name(text: &mut Vec<u8>, lines: &[SymLine], index: usize) -> Resul
 }
 
 /// Adds the line of a `PUBLIC`.
-fn add_public(text: &mut Vec<u8>, lines: &[SymLine], index: usize) -> Result<(), OutOfMemory>
+fn add_public(text: &mut Vec<u8>, lines: &Records<'_>, index: usize) -> Result<(), OutOfMemory>
     ensures { OnOk result (text.new.items ≡ text.old.items ++ (codes "public " ++ public_name_at lines.now index ++ codes "\n")) }
 {
     add(text, b"public ")?;
@@ -296,7 +281,7 @@ fn add_public(text: &mut Vec<u8>, lines: &[SymLine], index: usize) -> Result<(),
 
 /// Adds the text of an answer.
 #[tactic(auto, unfolding(crate::specs::AnswerTexts::answer_text))]
-fn add_answer(text: &mut Vec<u8>, lines: &[SymLine], answer: &Answer) -> Result<(), OutOfMemory>
+fn add_answer(text: &mut Vec<u8>, lines: &Records<'_>, answer: &Answer) -> Result<(), OutOfMemory>
     ensures { OnOk result (text.new.items ≡ text.old.items ++ answer_text lines.now answer.now) }
 {
     match answer {
@@ -308,11 +293,22 @@ fn add_answer(text: &mut Vec<u8>, lines: &[SymLine], answer: &Answer) -> Result<
     }
 }
 
+/// The text of an answer.
+pub(crate) fn shown_text(
+    alloc: Global,
+    lines: &Records<'_>,
+    answer: &Answer,
+) -> Result<ByteText, OutOfMemory>
+    ensures { IfOk result (λ text. text ≡ answer_text lines.now answer.now) }
+{
+    let mut text = Vec::new(alloc);
+    add_answer(&mut text, lines, answer)?;
+    Ok(ByteText::of(text))
+}
+
 /// The text that shows an answer: a line `NAME at PATH:LINE` for each frame, the innermost first, `public NAME` or `none`.
 pub fn answer_text(alloc: Global, file: &SymFile, answer: &Answer) -> Result<ByteText, OutOfMemory>
     ensures { IfOk result (λ text. text ≡ answer_text file.now answer.now) }
 {
-    let mut text = Vec::new(alloc);
-    add_answer(&mut text, file.as_slice(), answer)?;
-    Ok(ByteText::of(text))
+    shown_text(alloc, &Records::of(file.as_slice()), answer)
 }

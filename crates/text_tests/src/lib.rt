@@ -32,4 +32,6 @@ mod steps;
 #[cfg(test)]
 mod streams;
 #[cfg(test)]
+mod walks;
+#[cfg(test)]
 mod workers;

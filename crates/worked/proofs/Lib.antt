@@ -6,6 +6,7 @@ mod BareLemmas
 mod OneRecords
 mod OneVerdict
 mod OneRun
+pub mod RowStepLemmas
 mod Plain
 mod Small
 mod WorkedWords
@@ -18,3 +19,4 @@ mod WorkedIds
 mod WorkedDebug
 pub mod ComputingSymbols
 mod WorkedSymbolFiles
+mod WorkedStacks

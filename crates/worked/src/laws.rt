@@ -1,11 +1,18 @@
-//! What holds of all runs of the program. Each function does nothing: its contract is the law.
-ghost use Rattle.std.specs.Prelude.{◌≡◌, ◌<◌, ℕ, List};
+//! What holds of all runs of the program, and of what its commands say of each other's texts. Each function does nothing: its contract is the law.
+ghost use Rattle.std.specs.Prelude.{◌≡◌, ◌<◌, ℕ, List, Some};
 ghost use Rattle.sym_edges.specs.Outside.{Files};
+ghost use Rattle.elf_sections.specs.Image.{ImageParts};
+ghost use Rattle.sym_records.specs.declared.line.SymLine.{SymLine};
+ghost use Rattle.state_file.specs.declared.state.State.{State};
+ghost use Rattle.stack_walk.specs.declared.steps.Walk.{Walk};
+ghost use Rattle.stack_walk.specs.Walk.{walk_of};
+ghost use Rattle.dumpsyms_cmd.specs.commands.Dump.{DumpsParts, written_of};
 ghost use Rattle.dumpsyms_cmd.specs.Words.{command_of};
 ghost use Rattle.dumpsyms_cmd.specs.Verdict.{Verdict};
 ghost use Rattle.dumpsyms_cmd.specs.Answers.{IsVerdict};
 ghost use Rattle.dumpsyms_cmd.specs.Program.{Run, Promises};
 ghost use Rattle.worked.specs.Runs.{RunAlike, EndAlike};
+ghost use Rattle.worked.specs.RowSteps.{AreRowSteps};
 
 /// Words and files have at most one verdict: the definitions say of a text what each address has in it, and leave one text.
 #[tactic(auto, using(crate::proofs::OneVerdict::one_verdict))]
@@ -17,4 +24,11 @@ pub fn verdicts_are_one()
 /// that both come to status 0, 1 or 2, answer the same status and leave the same in their sinks.
 pub fn judging_runs_end_alike()
     ensures { (one other : Run) → Promises one → Promises other → RunAlike one other → one.status < 3 → other.status < 3 → EndAlike one other }
+{}
+
+/// A walk over the records that `dump` writes, from any state, unwinds as DWARF says: at each step inside a written frame entry it has the CFA, the
+/// return address and the registers of the entry's row, over the registers that the row before gave, and at any other step it ends.
+pub fn walks_go_by_the_rows()
+    ensures { (parts : ImageParts) (name : List ℕ) (lines : List SymLine) (text : List ℕ) (dumped : DumpsParts parts name lines text) (state : State) (walk : Walk) →
+        walk_of lines state ≡ Some walk → AreRowSteps parts.base (written_of parts dumped.found) state.memory state.regs walk.steps }
 {}

@@ -10,14 +10,19 @@ use Rattle.elf_sections.specs.Image.{ImageParts}
 use Rattle.sym_records.specs.declared.line.SymLine.{SymLine}
 use Rattle.sym_grammar.specs.declared.refusal.SymEnd.{SymEnd}
 use Rattle.sym_grammar.specs.declared.refusal.SymEnd.TheVariants as end
-use Rattle.dumpsyms_cmd.specs.Words.{Asked}
+use Rattle.state_file.specs.declared.state.State.{State}
+use Rattle.dumpsyms_cmd.specs.Words.{Asked, frame, walk}
 use Rattle.dumpsyms_cmd.specs.Refusals.{too_long_line}
 use Rattle.dumpsyms_cmd.specs.Verdict.{Verdict, refused, unread, no_memory, LIMIT}
 use Rattle.dumpsyms_cmd.specs.Judgement.{err_bytes, is_some_output, judgement_verdict, Judges}
 use Rattle.dumpsyms_cmd.specs.SymbolInput.{refusal_line}
-use Rattle.dumpsyms_cmd.specs.commands.Frame.{state_answer}
+use Rattle.dumpsyms_cmd.specs.StateInput.{state_answer}
+use Rattle.dumpsyms_cmd.specs.commands.Frame.{frame_answer}
+use Rattle.dumpsyms_cmd.specs.commands.Walk.{walk_answer}
 use Rattle.dumpsyms_cmd.specs.Answers.{IsVerdict, CommandPromises}
 use Rattle.dumpsyms_cmd.specs.commands.Dump.{IsPartsVerdict, IsDumpVerdict, DumpsParts, DumpsImage}
+use Rattle.dumpsyms_cmd.specs.declared.state_input.Query.{Query}
+use Rattle.dumpsyms_cmd.specs.declared.state_input.Query.TheVariants as query
 use Rattle.dumpsyms_cmd.specs.declared.judgement.Output.TheVariants.{Nothing}
 use Rattle.dumpsyms_cmd.specs.declared.judgement.Judgement.{Judgement}
 use Rattle.dumpsyms_cmd.specs.declared.judgement.Answer.{Answer}
@@ -89,14 +94,23 @@ abbrev pub AnswersJudged : {F : Type 0} → Answer → Result Judgement F → Ty
 AnswersJudged answer (Ok j) = answer ≡ Judged j
 AnswersJudged answer (Err e) = answer ≡ NoMemory
 
--- a judgement is what `frame` answers to the bytes of a state file, over the records of a symbol file
-pub record AnswersBytesOf (lines : List SymLine) (address : ℕ) (name : List ℕ) (files : Option Files) (j : Judgement) : Type 0 where
+-- what is asked of a symbol file and a state, as a command, and what answers it
+abbrev pub query_command : Query → List ℕ → List ℕ → Asked
+query_command (query.Frame address) sym state = frame sym address state
+query_command query.Walk sym state = walk sym state
+
+abbrev pub query_answer : Query → List SymLine → State → Verdict
+query_answer (query.Frame address) = frame_answer address
+query_answer query.Walk = walk_answer
+
+-- a judgement is what the command answers to the bytes of a state file, over the records of a symbol file
+pub record AnswersBytesOf (lines : List SymLine) (answer : List SymLine → State → Verdict) (name : List ℕ) (files : Option Files) (j : Judgement) : Type 0 where
   pub bytes : List ℕ
   pub there : Tells files (λ f. f name ≡ Some bytes)
-  pub is : judgement_verdict j ≡ state_answer lines address bytes
+  pub is : judgement_verdict j ≡ state_answer answer lines bytes
 
 -- what an answer says of a state file
-abbrev pub AnswersState : Answer → List SymLine → ℕ → List ℕ → Option Files → ℕ → ℕ → Type 0
-AnswersState (Judged j) lines address name files before after = AnswersBytesOf lines address name files j
-AnswersState Unread lines address name files before after = Rose before after
-AnswersState NoMemory lines address name files before after = Unit {0}
+abbrev pub AnswersState : Answer → List SymLine → (List SymLine → State → Verdict) → List ℕ → Option Files → ℕ → ℕ → Type 0
+AnswersState (Judged j) lines answer name files before after = AnswersBytesOf lines answer name files j
+AnswersState Unread lines answer name files before after = Rose before after
+AnswersState NoMemory lines answer name files before after = Unit {0}

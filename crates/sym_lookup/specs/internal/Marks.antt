@@ -1,7 +1,7 @@
--- Marks: the addresses at which records begin.
-use Rattle.std.specs.Prelude.{ℕ, ◌+◌, nat_le, nat_lt, if◌then◌else◌, List, [], ◌∷◌, ◌++◌, Option, None, Some}
+-- Marks: records by a key, the address at which they begin or their number.
+use Rattle.std.specs.Prelude.{ℕ, ◌+◌, ◌==◌, nat_le, nat_lt, if◌then◌else◌, List, [], ◌∷◌, ◌++◌, Option, None, Some}
 use Rattle.sym_records.specs.declared.line.SymLine.{SymLine}
-use Rattle.sym_records.specs.declared.line.SymLine.TheVariants.{Func, Public}
+use Rattle.sym_records.specs.declared.line.SymLine.TheVariants.{File, Origin, Func, Public}
 use Rattle.sym_lookup.specs.declared.marks.Mark.{Mark}
 use Rattle.sym_lookup.specs.declared.marks.Marked.{Marked}
 use Rattle.sym_lookup.specs.declared.marks.Marked.TheVariants as marked
@@ -14,32 +14,47 @@ abbrev pub public_start : SymLine → Option ℕ
 public_start (Public many address params name) = Some address
 public_start _ = None
 
-abbrev pub start_of : Marked → SymLine → Option ℕ
-start_of marked.Functions s = func_start s
-start_of marked.Publics s = public_start s
+abbrev pub file_number : SymLine → Option ℕ
+file_number (File number name) = Some number
+file_number _ = None
+
+abbrev pub origin_number : SymLine → Option ℕ
+origin_number (Origin number name) = Some number
+origin_number _ = None
+
+abbrev pub key_of : Marked → SymLine → Option ℕ
+key_of marked.Functions s = func_start s
+key_of marked.Publics s = public_start s
+key_of marked.Files s = file_number s
+key_of marked.Origins s = origin_number s
 
 abbrev pub mark_of : ℕ → Option ℕ → List Mark
 mark_of place None = []
-mark_of place (Some address) = record { address = address; place = place } ∷ []
+mark_of place (Some key) = record { key = key; place = place } ∷ []
 
 -- the marks of records, the first of which has a place
 abbrev pub marks_of : Marked → ℕ → List SymLine → List Mark
 marks_of kind place [] = []
-marks_of kind place (s ∷ lines) = mark_of place (start_of kind s) ++ marks_of kind (place + 1) lines
+marks_of kind place (s ∷ lines) = mark_of place (key_of kind s) ++ marks_of kind (place + 1) lines
 
--- of two marks the one at the greater address, and of equals the first
+-- of two marks the one with the greater key, and of equals the first
 abbrev pub nearer_mark : Option Mark → Option Mark → Option Mark
 nearer_mark None other = other
 nearer_mark (Some m) None = Some m
-nearer_mark (Some m) (Some other) = if nat_lt m.address other.address then Some other else Some m
+nearer_mark (Some m) (Some other) = if nat_lt m.key other.key then Some other else Some m
 
--- the nearest mark at or below an address, and of equals the first
+-- the nearest mark at or below a key, and of equals the first
 unfoldable pub mark_at : List Mark → ℕ → Option Mark
 mark_at [] x = None
-mark_at (m ∷ marks) x = nearer_mark (if nat_le m.address x then Some m else None) (mark_at marks x)
+mark_at (m ∷ marks) x = nearer_mark (if nat_le m.key x then Some m else None) (mark_at marks x)
 
 -- the PUBLIC in front of an address by the nearest PUBLIC and the nearest FUNC: unless the FUNC begins at or behind it
 abbrev pub public_of : Option Mark → Option Mark → Option ℕ
 public_of None func = None
 public_of (Some m) None = Some m.place
-public_of (Some m) (Some func) = if nat_le m.address func.address then None else Some m.place
+public_of (Some m) (Some func) = if nat_le m.key func.key then None else Some m.place
+
+-- the place of the nearest mark, where its key is the number that was asked for
+abbrev pub numbered : ℕ → Option Mark → Option ℕ
+numbered n None = None
+numbered n (Some m) = if m.key == n then Some m.place else None

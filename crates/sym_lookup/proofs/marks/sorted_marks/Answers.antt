@@ -6,7 +6,7 @@ use Rattle.sym_lookup.proofs.marks.sorted_marks.Goals as goal
 
 pub returns-clause-same : goal.returns-clause-same
 returns-clause-same c =
-    λ x. mark_same _ _ (same_sorted _ _ (c.in_ok-sort_by_key.ensures.stable (λ m. m.address) (answers_always _ _ _ (λ f a r g h. search rules)))) x ∙ ap (λ ms. mark_at ms x) c.in_ok-marks.ensures
+    λ x. mark_same _ _ (same_sorted _ _ (c.in_ok-sort_by_key.ensures.stable (λ m. m.key) (answers_always _ _ _ (λ f a r g h. search rules)))) x ∙ ap (λ ms. mark_at ms x) c.in_ok-marks.ensures
 
 pub returns-clause-sorted : goal.returns-clause-sorted
-returns-clause-sorted c = IsNonDecreasingBy-from_sort_by_key (λ m. m.address) _ c.in_ok-sort_by_key.ensures.sorted (λ a r q k. search rules)
+returns-clause-sorted c = IsNonDecreasingBy-from_sort_by_key (λ m. m.key) _ c.in_ok-sort_by_key.ensures.sorted (λ a r q k. search rules)

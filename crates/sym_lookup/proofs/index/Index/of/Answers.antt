@@ -8,4 +8,5 @@ returns c = rw (sym c.as_slice-lines.ensures.lines) (record {
   inits = inits_map _ _ c.in_ok-inits.ensures;
   marks = marks_found _ _ _ c.in_ok-starts.ensures.sorted c.in_ok-publics.ensures.sorted c.in_ok-starts.ensures.same c.in_ok-publics.ensures.same;
   unders = c.in_ok-unders.ensures;
+  numbers = c.in_ok-numbers.ensures;
 })

@@ -1,5 +1,5 @@
 use Rattle.dumpsyms_cmd.proofs.AnswerLemmas.{asks_both}
-use Rattle.dumpsyms_cmd.proofs.frame.answer_frame.Goals as goal
+use Rattle.dumpsyms_cmd.proofs.state_input.answer_query.Goals as goal
 
 pub returns-in-Ok-clause-asked : goal.returns-in-Ok-clause-asked
 returns-in-Ok-clause-asked g c = asks_both _ _ _ _ _ _ _ c.in-Ok.ensures.read c.in-Ok.ensures.asked c.answer_state.ensures.asked

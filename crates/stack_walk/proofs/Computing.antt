@@ -1,0 +1,9 @@
+-- What a proof unfolds to compute the definitions of this crate where the input is written out.
+use Rattle.std.specs.Prelude.{⊤}
+use Rattle.state_file.proofs.Computing.{state_file_computes}
+use Rattle.sym_lookup.proofs.Computing.{sym_lookup_computes}
+use Rattle.stack_walk.specs.Walk.{walk_from, walk_of}
+
+unfoldable pub stack_walk_computes : ⊤
+unfolding state_file_computes sym_lookup_computes walk_from walk_of
+stack_walk_computes = tt

@@ -1,0 +1,161 @@
+-- Worked walks: the address of each step and the one that is looked up, and why the walk ends.
+use Rattle.std.proofs.Common.{◌≡◌, ℕ, List, [], ◌∷◌, ◌++◌, codes, length, map, slice_index, Option, Some, None, Result, Ok, Err, refl}
+use Prim.Native.String.{String}
+use Rattle.std.specs.Option.{option_map}
+use Rattle.sym_records.specs.Reading.{reading}
+use Rattle.sym_records.specs.declared.line.SymLine.{SymLine}
+use Rattle.cfi_eval.specs.declared.outcome.Cause.TheVariants.{Missing, Unreadable, Divide}
+use Rattle.state_file.specs.StateText.{no_state, state_of}
+use Rattle.state_file.specs.declared.state.State.{State}
+use Rattle.stack_walk.specs.declared.steps.Walk.{Walk}
+use Rattle.stack_walk.specs.declared.steps.WalkStep.{WalkStep}
+use Rattle.stack_walk.specs.declared.steps.WalkEnd.{WalkEnd}
+use Rattle.stack_walk.specs.declared.steps.WalkEnd.TheVariants.{NoRules, CfaUndefined, CfaFailed, CfaLow, RaUndefined, RaFailed, RaZero, Limit}
+use Rattle.stack_walk.specs.Walk.{walk_upto}
+use Rattle.stack_walk.proofs.Computing.{stack_walk_computes}
+
+-- the records of a text behind its MODULE, and the state of a state file
+abbrev records_in : {F : Type 0} → Result (List SymLine) F → List SymLine
+records_in (Ok records) = records
+records_in (Err fault) = []
+
+abbrev state_in : {F : Type 0} → Result State F → State
+state_in (Ok state) = state
+state_in (Err fault) = no_state
+
+abbrev spots : Walk → List (ℕ × ℕ) × WalkEnd
+spots walk = (map {B = ℕ × ℕ} (λ (s : WalkStep). (s.rip, s.at)) walk.steps, walk.end)
+
+unfoldable upto : ℕ → String → String → Option (List (ℕ × ℕ) × WalkEnd)
+upto most text state = option_map spots (walk_upto most (records_in (reading (codes "MODULE a b c d\n" ++ codes text))) (state_in (state_of (codes state))))
+
+unfoldable over : String → String → Option (List (ℕ × ℕ) × WalkEnd)
+unfolding upto
+over text state = upto 1024 text state
+
+-- f returns to g, which has no rule for its return address; the third INIT calls nothing
+abbrev two_calls : String
+two_calls = "FUNC 1000 20 0 f\nFUNC 2000 10 0 g\nSTACK CFI INIT 1000 20 .cfa: $rsp 8 + .ra: .cfa -8 + ^\nSTACK CFI INIT 2000 10 .cfa: $rsp 8 +\nSTACK CFI INIT 3000 10 .cfa: $rsp .ra: .cfa -8 + ^\n"
+
+a_caller : over two_calls "REG rip 1005\nREG rsp 7000\nMEM 7000 0520000000000000\n" ≡ Some ((0x1005, 0x1005) ∷ (0x2005, 0x2004) ∷ [], RaUndefined)
+unfolding over stack_walk_computes
+a_caller = refl
+
+-- a CFA equal to the one before
+a_loop : over two_calls "REG rip 1005\nREG rsp 7000\nMEM 7000 0530000000000000\n" ≡ Some ((0x1005, 0x1005) ∷ (0x3005, 0x3004) ∷ [], CfaLow 0x7008 0x7008)
+unfolding over stack_walk_computes
+a_loop = refl
+
+no_memory : over two_calls "REG rip 1005\nREG rsp 7000\n" ≡ Some ((0x1005, 0x1005) ∷ [], RaFailed (Unreadable 0x7000))
+unfolding over stack_walk_computes
+no_memory = refl
+
+no_rip : over two_calls "REG rsp 7000\n" ≡ None
+unfolding over stack_walk_computes
+no_rip = refl
+
+-- an address in no function has no rules
+nowhere : over two_calls "REG rip 4000\nREG rsp 7000\n" ≡ Some ((0x4000, 0x4000) ∷ [], NoRules)
+unfolding over stack_walk_computes
+nowhere = refl
+
+-- and so has a return address that leads there
+to_nowhere : over two_calls "REG rip 1005\nREG rsp 7000\nMEM 7000 0540000000000000\n" ≡ Some ((0x1005, 0x1005) ∷ (0x4005, 0x4004) ∷ [], NoRules)
+unfolding over stack_walk_computes
+to_nowhere = refl
+
+-- a return address at the very end of a range is in it
+returns_to_the_end : over two_calls "REG rip 1005\nREG rsp 7000\nMEM 7000 2010000000000000\n" ≡ Some ((0x1005, 0x1005) ∷ (0x1020, 0x101f) ∷ [], RaFailed (Unreadable 0x7008))
+unfolding over stack_walk_computes
+returns_to_the_end = refl
+
+-- while the state's own rip there is not
+begins_at_the_end : over two_calls "REG rip 1020\nREG rsp 7000\n" ≡ Some ((0x1020, 0x1020) ∷ [], NoRules)
+unfolding over stack_walk_computes
+begins_at_the_end = refl
+
+-- and 0 is no return address
+returns_to_zero : over two_calls "REG rip 1005\nREG rsp 7000\nMEM 7000 0000000000000000\n" ≡ Some ((0x1005, 0x1005) ∷ [], RaZero)
+unfolding over stack_walk_computes
+returns_to_zero = refl
+
+-- each other end
+no_cfa : over "STACK CFI INIT 1000 20 .ra: .cfa\n" "REG rip 1000\n" ≡ Some ((0x1000, 0x1000) ∷ [], CfaUndefined)
+unfolding over stack_walk_computes
+no_cfa = refl
+
+a_failed_cfa : over "STACK CFI INIT 1000 20 .cfa: $rsp 8 + .ra: .cfa -8 + ^\n" "REG rip 1000\n" ≡ Some ((0x1000, 0x1000) ∷ [], CfaFailed (Missing 7))
+unfolding over stack_walk_computes
+a_failed_cfa = refl
+
+a_failed_return_address : over "STACK CFI INIT 1000 20 .cfa: $rip .ra: .cfa 0 /\n" "REG rip 1000\n" ≡ Some ((0x1000, 0x1000) ∷ [], RaFailed Divide)
+unfolding over stack_walk_computes
+a_failed_return_address = refl
+
+-- of two causes the CFA's counts, and a CFA that is low before the return address
+the_cfa_first : over "STACK CFI INIT 1000 20 .cfa: $rsp 8 + .ra: .undef\n" "REG rip 1000\n" ≡ Some ((0x1000, 0x1000) ∷ [], CfaFailed (Missing 7))
+unfolding over stack_walk_computes
+the_cfa_first = refl
+
+a_low_cfa_first : over "STACK CFI INIT 1000 20 .cfa: $rsp .ra: 8200\nSTACK CFI INIT 2000 20 .cfa: $rsp .ra: .undef\n" "REG rip 1000\nREG rsp 7000\n" ≡ Some ((0x1000, 0x1000) ∷ (0x2008, 0x2007) ∷ [], CfaLow 0x7000 0x7000)
+unfolding over stack_walk_computes
+a_low_cfa_first = refl
+
+-- below the one before
+a_lower_cfa : over "STACK CFI INIT 1000 20 .cfa: $rsp 8 - .ra: 4104\n" "REG rip 1000\nREG rsp 7000\n" ≡ Some ((0x1000, 0x1000) ∷ (0x1008, 0x1007) ∷ [], CfaLow 0x6ff8 0x6ff0)
+unfolding over stack_walk_computes
+a_lower_cfa = refl
+
+-- the outcomes that are values are handed on: rbp by its rule, rbx since a call keeps it; rax is not, and rcx is what a rule gives it
+abbrev handing_on : String
+handing_on = "STACK CFI INIT 1000 20 .cfa: $rsp 16 + .ra: 8193 $rbp: .cfa -16 + ^ $rcx: 9\nSTACK CFI INIT 2000 1 .cfa: $rbp $rcx + .ra: $rbx\nSTACK CFI INIT 3000 1 .cfa: $rax .ra: $rbx\n"
+
+handed_on : over handing_on "REG rip 1000\nREG rsp 7000\nREG rax 1001\nREG rbx 3001\nMEM 7000 1170000000000000\n" ≡ Some ((0x1000, 0x1000) ∷ (0x2001, 0x2000) ∷ (0x3001, 0x3000) ∷ [], CfaFailed (Missing 0))
+unfolding over stack_walk_computes
+handed_on = refl
+
+-- a register that failed has no value in the caller, not even the one that it had
+a_register_that_failed : over "STACK CFI INIT 1000 20 .cfa: $rsp 8 + .ra: 8193 $rbx: .cfa ^\nSTACK CFI INIT 2000 1 .cfa: $rbx .ra: .undef\n" "REG rip 1000\nREG rsp 7000\nREG rbx 8000\n" ≡ Some ((0x1000, 0x1000) ∷ (0x2001, 0x2000) ∷ [], CfaFailed (Missing 3))
+unfolding over stack_walk_computes
+a_register_that_failed = refl
+
+-- rip is each step's own: in a procedure linkage table the CFA rests on how far the entry has come
+abbrev linkage : String
+linkage = "STACK CFI INIT 1020 20 .cfa: $rsp 8 + $rip 16 % 11 / 8 * + .ra: .cfa -8 + ^\n"
+
+before_its_push : over linkage "REG rip 1036\nREG rsp 7000\nMEM 7000 00400000000000000050000000000000\n" ≡ Some ((0x1036, 0x1036) ∷ (0x4000, 0x3fff) ∷ [], NoRules)
+unfolding over stack_walk_computes
+before_its_push = refl
+
+behind_its_push : over linkage "REG rip 103b\nREG rsp 7000\nMEM 7000 00400000000000000050000000000000\n" ≡ Some ((0x103b, 0x103b) ∷ (0x5000, 0x4fff) ∷ [], NoRules)
+unfolding over stack_walk_computes
+behind_its_push = refl
+
+a_callers_rip : over "STACK CFI INIT 1000 20 .cfa: $rip .ra: 8193\nSTACK CFI INIT 2000 1 .cfa: $rip .ra: .undef\n" "REG rip 1000\n" ≡ Some ((0x1000, 0x1000) ∷ (0x2001, 0x2000) ∷ [], RaUndefined)
+unfolding over stack_walk_computes
+a_callers_rip = refl
+
+-- the last step that may be: another cause counts before the limit
+abbrev downwards : String
+downwards = "STACK CFI INIT 0 2000 .cfa: $rsp 8 + .ra: $rip 1 -\n"
+
+three_steps : upto 3 downwards "REG rip 4\nREG rsp 7000\n" ≡ Some ((4, 4) ∷ (3, 2) ∷ (2, 1) ∷ [], Limit)
+unfolding upto stack_walk_computes
+three_steps = refl
+
+three_steps_and_none_left : upto 3 downwards "REG rip 3\nREG rsp 7000\n" ≡ Some ((3, 3) ∷ (2, 1) ∷ (1, 0) ∷ [], RaZero)
+unfolding upto stack_walk_computes
+three_steps_and_none_left = refl
+
+-- of 1,024 steps: how many there are, the first and the last, and the end
+abbrev counted : Option (List (ℕ × ℕ) × WalkEnd) → Option (ℕ × ℕ × ℕ × WalkEnd)
+counted None = None
+counted (Some found) = Some (length found.0, slice_index (map {B = ℕ} (λ (s : ℕ × ℕ). s.0) found.0) 0, slice_index (map {B = ℕ} (λ (s : ℕ × ℕ). s.0) found.0) 1023, found.1)
+
+the_limit : counted (over downwards "REG rip 401\nREG rsp 7000\n") ≡ Some (1024, 0x401, 2, Limit)
+unfolding over stack_walk_computes
+the_limit = refl
+
+as_many_as_may_be : counted (over downwards "REG rip 400\nREG rsp 7000\n") ≡ Some (1024, 0x400, 1, RaZero)
+unfolding over stack_walk_computes
+as_many_as_may_be = refl

@@ -1,0 +1,119 @@
+//! How one step leads to the next.
+ghost use Rattle.std.specs.Prelude.{◌≡◌, map};
+ghost use Rattle.stack_walk.specs.Walk.{value_of, caller_regs, first_place, cfa_from, cfa_of, return_address, caller_of, place_after};
+
+use crate::steps::WalkEnd;
+use cfi_eval::{Frame, Outcome, Regs};
+
+/// Where a step stands, with the registers there and the CFA of the step before.
+#[derive(Clone, Copy)]
+pub struct Place {
+    pub rip: u64,
+    pub at: u64,
+    pub regs: Regs,
+    pub before: Option<u64>,
+}
+
+/// The first step, by its address.
+pub(crate) fn first_place(regs: &Regs, rip: u64) -> Place
+    ensures { result ≡ first_place regs.now rip }
+{
+    Place {
+        rip,
+        at: rip,
+        regs: *regs,
+        before: None,
+    }
+}
+
+fn value_of(outcome: Outcome) -> Option<u64>
+    ensures { result ≡ value_of outcome }
+{
+    match outcome {
+        Outcome::Value(value) => Some(value),
+        Outcome::Undefined | Outcome::Failed(_) => None,
+    }
+}
+
+/// The outcomes that are values.
+fn values_of(outcomes: &[Outcome; 16]) -> [Option<u64>; 16]
+    ensures { result ≡ map value_of outcomes.now }
+{
+    let mut values = [None; 16];
+    'registers: for register in 0..16 {
+        values[register] = value_of(outcomes[register]);
+    }
+    values
+}
+
+/// The registers of the caller.
+fn caller_regs(frame: &Frame) -> Regs
+    ensures { result ≡ caller_regs frame.now }
+{
+    Regs {
+        values: values_of(&frame.regs),
+        rip: value_of(frame.ra),
+    }
+}
+
+/// The CFA, where it lies above that of the step before.
+fn cfa_from(before: Option<u64>, cfa: u64) -> Result<u64, WalkEnd>
+    ensures { result ≡ cfa_from before cfa }
+{
+    match before {
+        None => Ok(cfa),
+        Some(before) => {
+            if before < cfa {
+                return Ok(cfa);
+            }
+            Err(WalkEnd::CfaLow { before, cfa })
+        }
+    }
+}
+
+/// The value of the CFA, or the end of the walk.
+fn cfa_of(before: Option<u64>, cfa: Outcome) -> Result<u64, WalkEnd>
+    ensures { result ≡ cfa_of before cfa }
+{
+    match cfa {
+        Outcome::Undefined => Err(WalkEnd::CfaUndefined),
+        Outcome::Failed(why) => Err(WalkEnd::CfaFailed(why)),
+        Outcome::Value(cfa) => cfa_from(before, cfa),
+    }
+}
+
+/// The return address, or the end of the walk.
+fn return_address(ra: Outcome) -> Result<u64, WalkEnd>
+    ensures { result ≡ return_address ra }
+{
+    match ra {
+        Outcome::Undefined => Err(WalkEnd::RaUndefined),
+        Outcome::Failed(why) => Err(WalkEnd::RaFailed(why)),
+        Outcome::Value(0) => Err(WalkEnd::RaZero),
+        Outcome::Value(ra) => Ok(ra),
+    }
+}
+
+/// The step of the caller.
+fn caller_of(here: &Place, frame: &Frame) -> Result<Place, WalkEnd>
+    ensures { result ≡ caller_of here.now.before frame.now }
+{
+    let cfa = cfa_of(here.before, frame.cfa)?;
+    let ra = return_address(frame.ra)?;
+    Ok(Place {
+        rip: ra,
+        at: ra - 1,
+        regs: caller_regs(frame),
+        before: Some(cfa),
+    })
+}
+
+/// The step after one, by its frame.
+pub(crate) fn place_after(here: &Place, frame: &Option<Frame>) -> Result<Place, WalkEnd>
+    ensures { result ≡ place_after here.now.before frame.now }
+{
+    match frame {
+        None => Err(WalkEnd::NoRules),
+        Some(frame) => caller_of(here, frame),
+    }
+}

@@ -1,0 +1,47 @@
+//! What a walk gives.
+use cfi_eval::{Cause, Frame};
+use sym_edges::ListOf;
+use sym_lookup::Answer;
+
+/// The state has no rip, at which a walk begins.
+#[derive(Clone, Copy, Debug, PartialEq, Eq)]
+pub struct NoRip;
+
+/// A step of a walk.
+#[derive(Debug, Drop)]
+pub struct WalkStep {
+    /// The state's rip, or the return address of the step before.
+    pub rip: u64,
+    /// The address that is looked up: in the first step rip, and then the one below it, which is in the call.
+    pub at: u64,
+    /// What the rules evaluate to, where there are rules.
+    pub frame: Option<Frame>,
+    /// Which records name the address.
+    pub answer: Answer,
+}
+
+/// The steps of a walk, the innermost first.
+pub type WalkSteps = ListOf<WalkStep>;
+
+/// Why a walk ends at its last step.
+#[derive(Clone, Copy, Debug, PartialEq, Eq)]
+pub enum WalkEnd {
+    /// No INIT covers the address.
+    NoRules,
+    CfaUndefined,
+    CfaFailed(Cause),
+    /// The CFA does not lie above that of the step before.
+    CfaLow { before: u64, cfa: u64 },
+    RaUndefined,
+    RaFailed(Cause),
+    RaZero,
+    /// It is the last step that a walk may have.
+    Limit,
+}
+
+/// The steps of a walk, and why there are no more.
+#[derive(Debug, Drop)]
+pub struct Walk {
+    pub steps: WalkSteps,
+    pub end: WalkEnd,
+}
