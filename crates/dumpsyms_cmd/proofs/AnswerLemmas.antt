@@ -1,4 +1,4 @@
--- The answers of the commands over symbol files; for `answer_check`, `answer_lookup`, `answer_query` and what they call.
+-- The answers of the commands over symbol files; for `answer_symbols`, `answer_query` and what they call.
 use Rattle.std.proofs.Common.{◌≡◌, inl, inr, ℕ, ◌+◌, ◌≤◌, ◌<◌, ◌^◌, Bool, true, false, cond, List, [], ◌∷◌, ◌++◌, take, Option, Some, None, Ok, Err, Result, length, nat_lt, zero, suc, replicate, refl, sym, ◌∙◌, ap, arith, append-nil, append_assoc, subst, IfOk}
 use Rattle.std.proofs.lemmas.Bool.{cases_lt}
 use Rattle.std.proofs.lemmas.Bool.Decides.{nat_tests}
@@ -20,24 +20,28 @@ use Rattle.sym_grammar.specs.declared.refusal.SymEnd.TheVariants as end
 use Rattle.state_file.specs.StateText.{state_of}
 use Rattle.state_file.specs.declared.state.State.{State}
 use Rattle.state_file.specs.declared.fault.StateFault.{StateFault}
-use Rattle.dumpsyms_cmd.specs.Words.{check, lookup, if_records, second_of, second_told}
+use Rattle.dumpsyms_cmd.specs.Words.{Asked, check, lookup, names, if_records, second_of, second_told}
 use Rattle.dumpsyms_cmd.specs.Refusals.{too_long_line, state_line}
 use Rattle.dumpsyms_cmd.specs.Verdict.{Verdict, refused, LIMIT}
 use Rattle.dumpsyms_cmd.specs.Observed.{Asks}
 use Rattle.dumpsyms_cmd.specs.Judgement.{out_bytes, err_bytes, judgement_verdict, RefusesOrGives}
 use Rattle.dumpsyms_cmd.specs.SymbolInput.{refusal_line, by_records, symbol_verdict, file_verdict, AnswersBytes}
-use Rattle.dumpsyms_cmd.specs.commands.Check.{findings_verdict, records_checked, check_answer}
-use Rattle.dumpsyms_cmd.specs.commands.Lookup.{records_looked_up, lookup_answer}
+use Rattle.dumpsyms_cmd.specs.Answers.{IsVerdict, CommandPromises}
+use Rattle.dumpsyms_cmd.specs.commands.Check.{findings_verdict, check_answer}
+use Rattle.dumpsyms_cmd.specs.commands.Lookup.{lookup_answer}
+use Rattle.dumpsyms_cmd.specs.commands.Names.{names_answer}
 use Rattle.dumpsyms_cmd.specs.StateInput.{by_state, state_answer, both_answer, both_verdict, HasRecords, AnswersBoth, STATE_LIMIT}
 use Rattle.dumpsyms_cmd.specs.commands.Frame.{frame_answer}
 use Rattle.dumpsyms_cmd.specs.commands.Walk.{walk_or_refused, walk_answer}
-use Rattle.dumpsyms_cmd.specs.internal.Judged.{Refuses, IsJudged, AnswersCommand, AnswersStop, AnswersEnd, AnswersJudged, AnswersBytesOf, AnswersState, query_command, query_answer}
+use Rattle.dumpsyms_cmd.specs.internal.Judged.{Refuses, IsJudged, AnswersCommand, AnswersStop, AnswersEnd, AnswersJudged, AnswersBytesOf, AnswersState, sym_command, sym_answer, query_command, query_answer}
 use Rattle.stack_walk.specs.declared.steps.Walk.{Walk}
 use Rattle.stack_walk.specs.Walk.{walk_of}
+use Rattle.dumpsyms_cmd.specs.declared.symbol_input.SymQuery.{SymQuery}
+use Rattle.dumpsyms_cmd.specs.declared.symbol_input.SymQuery.TheVariants.{Check, Lookup, Names}
 use Rattle.dumpsyms_cmd.specs.declared.state_input.Query.{Query}
 use Rattle.dumpsyms_cmd.specs.declared.state_input.Query.TheVariants as query
 use Rattle.dumpsyms_cmd.specs.declared.judgement.Output.{Output}
-use Rattle.dumpsyms_cmd.specs.declared.judgement.Output.TheVariants.{Nothing, Text, Bytes}
+use Rattle.dumpsyms_cmd.specs.declared.judgement.Output.TheVariants.{Nothing, Text, Bytes, Records}
 use Rattle.dumpsyms_cmd.specs.declared.judgement.Judgement.{Judgement}
 use Rattle.dumpsyms_cmd.specs.declared.judgement.Answer.{Answer}
 use Rattle.dumpsyms_cmd.specs.declared.judgement.Answer.TheVariants.{Judged, Unread, NoMemory}
@@ -77,68 +81,50 @@ if_ok : {A F : Type 0} (r : Result A F) (P Q : A → Type 0) → ((x : A) → P 
 if_ok (Ok x) P Q f is = f x is
 if_ok (Err e) P Q f is = tt
 
--- `check`
-check_judged : (j : Judgement) (name : List ℕ) (files : Option Files) → AnswersBytes name (symbol_verdict records_checked) files j → IsJudged j (Some (check name)) files
-unfolding check_answer
-check_judged j name files answers =
-    let low : j.status < 2 =
-    (let s = status_of j (symbol_verdict records_checked answers.bytes) answers.is in
-    let few = by_low records_checked (file_reading LIMIT answers.bytes) (λ lines. found_low (findings lines)) in omega (arith, s, few)) in
-    record {
-      low = omega (arith, low);
-      row = λ some. low;
-      told = told (λ f. f name ≡ Some answers.bytes) (λ f. judgement_verdict j ≡ file_verdict check_answer (f name)) files (λ f there. answers.is ∙ ap (file_verdict check_answer) (sym there)) answers.there;
-      kept = record { bytes = answers.bytes; there = answers.there; is = answers.is };
-    }
+-- a command over a symbol file alone
+sym_low : (q : SymQuery) (lines : List SymLine) → (sym_answer q lines).status < 2
+sym_low Check lines = found_low (findings lines)
+sym_low (Lookup address) lines = omega arith
+sym_low Names lines = omega arith
 
-pub check_read : {F : Type 0} (answer : Answer) (judged : Result Judgement F) (name : List ℕ) (files : Option Files) (before after : ℕ) (lines : List SymLine) → HoldsFile files name (IsReading LIMIT (Ok lines)) → AnswersJudged answer judged → IfOk judged (λ j. judgement_verdict j ≡ records_checked lines) → AnswersCommand answer (Some (check name)) files before after
-check_read answer judged name files before after lines holds is says =
-    answered answer judged (λ a. AnswersCommand a (Some (check name)) files before after) is
-    (if_ok judged (λ j. judgement_verdict j ≡ records_checked lines) (λ j. IsJudged j (Some (check name)) files) (λ j same. check_judged j name files (by_reading files name records_checked (Ok lines) j holds same)) says) refl
+one_low : (q : SymQuery) (j : Judgement) (name : List ℕ) (files : Option Files) → AnswersBytes name (symbol_verdict (sym_answer q)) files j → j.status < 2
+one_low q j name files kept =
+    let s = status_of j (symbol_verdict (sym_answer q) kept.bytes) kept.is in
+    let few = by_low (sym_answer q) (file_reading LIMIT kept.bytes) (sym_low q) in omega (arith, s, few)
 
-pub check_ended : (answer : Answer) (stopped : Stop SymEnd) (name : List ℕ) (files : Option Files) (before after : ℕ) → SymRead (Err stopped) files name LIMIT before after → AnswersEnd answer stopped → AnswersCommand answer (Some (check name)) files before after
-check_ended (Judged j) (Fault end.Unread) name files before after read says = absurd says
-check_ended (Judged j) (Fault (end.Refused why)) name files before after read says = check_judged j name files (by_reading files name records_checked (Err why) j read says)
-check_ended (Judged j) stop.NoMemory name files before after read says = absurd says
-check_ended Unread (Fault end.Unread) name files before after read says = (refl, read)
-check_ended Unread (Fault (end.Refused why)) name files before after read says = absurd says
-check_ended Unread stop.NoMemory name files before after read says = absurd says
-check_ended NoMemory stopped name files before after read says = refl
+one_told : (j : Judgement) (name : List ℕ) (answer : List ℕ → Verdict) (files : Option Files) → AnswersBytes name answer files j → Tells files (λ f. judgement_verdict j ≡ file_verdict answer (f name))
+one_told j name answer files kept =
+    told (λ f. f name ≡ Some kept.bytes) (λ f. judgement_verdict j ≡ file_verdict answer (f name)) files (λ f there. kept.is ∙ ap (file_verdict answer) (sym there)) kept.there
 
--- `lookup`
-lookup_judged : (j : Judgement) (name : List ℕ) (address : ℕ) (files : Option Files) → AnswersBytes name (symbol_verdict (records_looked_up address)) files j → IsJudged j (Some (lookup name address)) files
-unfolding lookup_answer
-lookup_judged j name address files answers =
-    let low : j.status < 2 =
-    (let s = status_of j (symbol_verdict (records_looked_up address) answers.bytes) answers.is in
-    let few = by_low (records_looked_up address) (file_reading LIMIT answers.bytes) (λ lines. omega arith) in omega (arith, s, few)) in
-    record {
-      low = omega (arith, low);
-      row = λ some. low;
-      told = told (λ f. f name ≡ Some answers.bytes) (λ f. judgement_verdict j ≡ file_verdict (lookup_answer address) (f name)) files (λ f there. answers.is ∙ ap (file_verdict (lookup_answer address)) (sym there)) answers.there;
-      kept = record { bytes = answers.bytes; there = answers.there; is = answers.is };
-    }
+one_judged : (j : Judgement) (command : Asked) (files : Option Files) → j.status < 2 → Tells files (λ f. IsVerdict (Some command) f (judgement_verdict j)) → CommandPromises (Some command) files j → IsJudged j (Some command) files
+one_judged j command files low said kept = record { low = omega (arith, low); row = λ some. low; told = said; kept = kept }
 
-pub lookup_read : {F : Type 0} (answer : Answer) (judged : Result Judgement F) (name : List ℕ) (address : ℕ) (files : Option Files) (before after : ℕ) (lines : List SymLine) → HoldsFile files name (IsReading LIMIT (Ok lines)) → AnswersJudged answer judged → IfOk judged (λ j. judgement_verdict j ≡ records_looked_up address lines) → AnswersCommand answer (Some (lookup name address)) files before after
-lookup_read answer judged name address files before after lines holds is says =
-    answered answer judged (λ a. AnswersCommand a (Some (lookup name address)) files before after) is
-    (if_ok judged (λ j. judgement_verdict j ≡ records_looked_up address lines) (λ j. IsJudged j (Some (lookup name address)) files) (λ j same. lookup_judged j name address files (by_reading files name (records_looked_up address) (Ok lines) j holds same)) says) refl
+sym_judged : (q : SymQuery) (j : Judgement) (name : List ℕ) (files : Option Files) → AnswersBytes name (symbol_verdict (sym_answer q)) files j → IsJudged j (Some (sym_command q name)) files
+unfolding check_answer lookup_answer names_answer
+sym_judged Check j name files kept = one_judged j (check name) files (one_low Check j name files kept) (one_told j name check_answer files kept) kept
+sym_judged (Lookup address) j name files kept = one_judged j (lookup name address) files (one_low (Lookup address) j name files kept) (one_told j name (lookup_answer address) files kept) kept
+sym_judged Names j name files kept = one_judged j (names name) files (one_low Names j name files kept) (one_told j name names_answer files kept) kept
 
-pub lookup_ended : (answer : Answer) (stopped : Stop SymEnd) (name : List ℕ) (address : ℕ) (files : Option Files) (before after : ℕ) → SymRead (Err stopped) files name LIMIT before after → AnswersEnd answer stopped → AnswersCommand answer (Some (lookup name address)) files before after
-lookup_ended (Judged j) (Fault end.Unread) name address files before after read says = absurd says
-lookup_ended (Judged j) (Fault (end.Refused why)) name address files before after read says = lookup_judged j name address files (by_reading files name (records_looked_up address) (Err why) j read says)
-lookup_ended (Judged j) stop.NoMemory name address files before after read says = absurd says
-lookup_ended Unread (Fault end.Unread) name address files before after read says = (refl, read)
-lookup_ended Unread (Fault (end.Refused why)) name address files before after read says = absurd says
-lookup_ended Unread stop.NoMemory name address files before after read says = absurd says
-lookup_ended NoMemory stopped name address files before after read says = refl
+pub sym_read : {F : Type 0} (answer : Answer) (judged : Result Judgement F) (q : SymQuery) (name : List ℕ) (files : Option Files) (before after : ℕ) (lines : List SymLine) → HoldsFile files name (IsReading LIMIT (Ok lines)) → AnswersJudged answer judged → IfOk judged (λ j. judgement_verdict j ≡ sym_answer q lines) → AnswersCommand answer (Some (sym_command q name)) files before after
+sym_read answer judged q name files before after lines holds is says =
+    answered answer judged (λ a. AnswersCommand a (Some (sym_command q name)) files before after) is
+    (if_ok judged (λ j. judgement_verdict j ≡ sym_answer q lines) (λ j. IsJudged j (Some (sym_command q name)) files) (λ j same. sym_judged q j name files (by_reading files name (sym_answer q) (Ok lines) j holds same)) says) refl
+
+pub sym_ended : (answer : Answer) (stopped : Stop SymEnd) (q : SymQuery) (name : List ℕ) (files : Option Files) (before after : ℕ) → SymRead (Err stopped) files name LIMIT before after → AnswersEnd answer stopped → AnswersCommand answer (Some (sym_command q name)) files before after
+sym_ended (Judged j) (Fault end.Unread) q name files before after read says = absurd says
+sym_ended (Judged j) (Fault (end.Refused why)) q name files before after read says = sym_judged q j name files (by_reading files name (sym_answer q) (Err why) j read says)
+sym_ended (Judged j) stop.NoMemory q name files before after read says = absurd says
+sym_ended Unread (Fault end.Unread) q name files before after read says = (refl, read)
+sym_ended Unread (Fault (end.Refused why)) q name files before after read says = absurd says
+sym_ended Unread stop.NoMemory q name files before after read says = absurd says
+sym_ended NoMemory stopped q name files before after read says = refl
 
 -- the name of a symbol file is asked for, and then perhaps that of a second file
-pub asks_symbols : {A F : Type 0} (read : Result A (Stop F)) (name : List ℕ) (names : List (List ℕ)) (before after : List (List ℕ)) → AsksName read before name after → Asks (name ∷ names) before after
-asks_symbols (Ok x) name names before after asked = (1, omega arith, asked)
-asks_symbols (Err (Fault f)) name names before after asked = (1, omega arith, asked)
-asks_symbols (Err stop.NoMemory) name names before after (inl asked) = (1, omega arith, asked)
-asks_symbols (Err stop.NoMemory) name names before after (inr same) = (0, omega arith, same ∙ sym (append-nil before))
+pub asks_symbols : {A F : Type 0} (read : Result A (Stop F)) (name : List ℕ) (later : List (List ℕ)) (before after : List (List ℕ)) → AsksName read before name after → Asks (name ∷ later) before after
+asks_symbols (Ok x) name later before after asked = (1, omega arith, asked)
+asks_symbols (Err (Fault f)) name later before after asked = (1, omega arith, asked)
+asks_symbols (Err stop.NoMemory) name later before after (inl asked) = (1, omega arith, asked)
+asks_symbols (Err stop.NoMemory) name later before after (inr same) = (0, omega arith, same ∙ sym (append-nil before))
 
 pub asks_state : (read : Result (List ℕ) (Stop ReadEnd)) (name : List ℕ) (before after : List (List ℕ)) → AsksOnce read before name after → Asks (name ∷ []) before after
 asks_state (Ok bytes) name before after asked = (1, omega arith, asked)
@@ -157,7 +143,7 @@ both_by (suc (suc n)) name state before mid after few first second = absurd (ome
 
 pub asks_both : (files : Option Files) (name state : List ℕ) (lines : List SymLine) (before mid after : List (List ℕ)) → HoldsFile files name (IsReading LIMIT (Ok lines)) → AsksName {A = List SymLine} {F = SymEnd} (Ok lines) before name mid → Asks (state ∷ []) mid after → Asks (name ∷ second_told files name state) before after
 asks_both files name state lines before mid after holds first second =
-    subst (λ (names : List (List ℕ)). Asks (name ∷ names) before after) (sym (second_is files name state lines holds)) (both_by second.0 name state before mid after second.1 first second.2)
+    subst (λ (later : List (List ℕ)). Asks (name ∷ later) before after) (sym (second_is files name state lines holds)) (both_by second.0 name state before mid after second.1 first second.2)
 
 -- a state file, whatever is asked of the state
 within_state : (lines : List SymLine) (ask : List SymLine → State → Verdict) (bytes : List ℕ) → length bytes ≤ STATE_LIMIT → state_answer ask lines bytes ≡ by_state ask lines (state_of bytes)
@@ -189,6 +175,7 @@ judges_refused : (o : Output) (status : ℕ) (err line : List ℕ) → RefusesOr
 judges_refused Nothing status err line says = ap (λ n. given n [] err) says.0 ∙ ap (given 1 []) says.1
 judges_refused (Text lines) status err line says = absurd says.1
 judges_refused (Bytes text) status err line says = absurd says
+judges_refused (Records lines) status err line says = absurd says
 
 longer_answer : (lines : List SymLine) (ask : List SymLine → State → Verdict) (bytes : List ℕ) → STATE_LIMIT < length bytes → refused too_long_line ≡ state_answer ask lines bytes
 longer_answer lines ask bytes more =

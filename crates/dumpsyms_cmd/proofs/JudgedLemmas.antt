@@ -32,7 +32,7 @@ use Rattle.dumpsyms_cmd.specs.commands.Dump.{DumpsParts, Assembles, DumpsImage, 
 use Rattle.dumpsyms_cmd.specs.Answers.{IsUsage}
 use Rattle.debug_read.proofs.KeptLemmas.{kept}
 use Rattle.dumpsyms_cmd.specs.declared.judgement.Output.{Output}
-use Rattle.dumpsyms_cmd.specs.declared.judgement.Output.TheVariants.{Nothing, Text, Bytes}
+use Rattle.dumpsyms_cmd.specs.declared.judgement.Output.TheVariants.{Nothing, Text, Bytes, Records}
 use Rattle.dumpsyms_cmd.specs.declared.judgement.Judgement.{Judgement}
 use Rattle.dumpsyms_cmd.specs.declared.judgement.Answer.{Answer}
 use Rattle.dumpsyms_cmd.specs.declared.judgement.Answer.TheVariants.{Judged, Unread, NoMemory}
@@ -57,6 +57,7 @@ judging : (o : Output) (status : ℕ) (err : List ℕ) (P P' : List ℕ → Type
 judging Nothing status err P P' Q Q' f g says = (says.0, f err says.1)
 judging (Text lines) status err P P' Q Q' f g says = (says.0, g lines err says.1)
 judging (Bytes text) status err P P' Q Q' f g says = absurd says
+judging (Records lines) status err P P' Q Q' f g says = absurd says
 
 -- a file within the limit has the verdict of its image
 within : (name bytes : List ℕ) (v : Verdict) → length bytes ≤ LIMIT → IsImageVerdict (image bytes) name v → IsDumpVerdict LIMIT name bytes v
@@ -154,6 +155,7 @@ promised_low : (o : Output) (status : ℕ) (err : List ℕ) (P : List ℕ → Ty
 promised_low Nothing status err P Q says = let is = says.0 in omega arith
 promised_low (Text lines) status err P Q says = let is = says.0 in omega arith
 promised_low (Bytes text) status err P Q says = absurd says
+promised_low (Records lines) status err P Q says = absurd says
 
 promised_told : (o : Output) (status : ℕ) (err elf : List ℕ) (files : Option Files) → RefusesOrGives o status err (λ e. Tells files (λ f. IsFileVerdict elf (f elf) (refused e))) (λ lines e. (reading (canon_text lines) ≡ Ok lines) × Tells files (λ f. DumpsFile elf f lines e)) →
     Tells files (λ f. IsFileVerdict elf (f elf) (given status (out_bytes o) err))
@@ -164,6 +166,7 @@ promised_told (Text lines) status err elf files says =
     told (λ f. DumpsFile elf f lines err) (λ f. IsFileVerdict elf (f elf) (given status (out_bytes (Text lines)) err)) files
     (λ f dumps. subst (λ (n : ℕ). IsFileVerdict elf (f elf) (given n (out_bytes (Text lines)) err)) (sym says.0) (dumped_verdict elf f lines err dumps)) says.1.1
 promised_told (Bytes text) status err elf files says = absurd says
+promised_told (Records lines) status err elf files says = absurd says
 
 dump_judged : (j : Judgement) (elf : List ℕ) (workers : ℕ) (files : Option Files) → DumpPromises elf files j → IsJudged j (Some (dump elf workers)) files
 dump_judged j elf workers files kept =

@@ -13,7 +13,7 @@ use Rattle.sym_rules.proofs.BoolLemmas.{both, and_true, if_both}
 use Rattle.std.proofs.lemmas.List.Sums.{suffix_len_is}
 use Rattle.memchr.specs.Find.{IsLastByte, is_byte}
 use Rattle.std.specs.List.{suffix_len}
-use Rattle.dumpsyms_cmd.specs.Words.{Asked, dump, check, lookup, frame, walk, address_of, is_number, number_upto, two_words, three_words, four_words, HasWorkers, is_slash, module_name}
+use Rattle.dumpsyms_cmd.specs.Words.{Asked, dump, check, lookup, frame, walk, names, address_of, is_number, number_upto, two_words, three_words, four_words, HasWorkers, is_slash, module_name}
 
 passes_not : (t : Bool) → ((t ≡ true) → ⊥) → not t ≡ true
 passes_not t never = elim t as (λ v. ((v ≡ true) → ⊥) → not v ≡ true) [ true ↦ λ h. absurd (h refl) | false ↦ λ h. refl ] never
@@ -154,8 +154,9 @@ number_workers elf word =
 
 two_workers : (word name : List ℕ) → HasWorkers (two_words word name)
 two_workers word name =
-    if_both HasWorkers (bytes_eq word (codes "dump")) (Some (dump name 4)) (cond (bytes_eq word (codes "check")) (Some (check name)) None) (omega arith, omega arith)
-    (if_both HasWorkers (bytes_eq word (codes "check")) (Some (check name)) None tt tt)
+    if_both HasWorkers (bytes_eq word (codes "dump")) (Some (dump name 4)) (cond (bytes_eq word (codes "check")) (Some (check name)) (cond (bytes_eq word (codes "names")) (Some (names name)) None)) (omega arith, omega arith)
+    (if_both HasWorkers (bytes_eq word (codes "check")) (Some (check name)) (cond (bytes_eq word (codes "names")) (Some (names name)) None) tt
+    (if_both HasWorkers (bytes_eq word (codes "names")) (Some (names name)) None tt tt))
 
 lookup_workers : (name : List ℕ) (o : Option ℕ) → HasWorkers (option_map (lookup name) o)
 lookup_workers name None = tt

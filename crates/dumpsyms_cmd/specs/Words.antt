@@ -11,7 +11,7 @@ use Rattle.sym_grammar.specs.Input.{file_reading}
 use Rattle.sym_grammar.specs.declared.refusal.SymRefusal.{SymRefusal}
 use Rattle.sym_records.specs.declared.line.SymLine.{SymLine}
 use Rattle.dumpsyms_cmd.specs.declared.words.Command.{Command}
-use Rattle.dumpsyms_cmd.specs.declared.words.Command.TheVariants.{Dump, Check, Lookup, Frame, Walk}
+use Rattle.dumpsyms_cmd.specs.declared.words.Command.TheVariants.{Dump, Check, Lookup, Frame, Walk, Names}
 
 -- what the program is asked for
 pub data Asked : Type 0 where
@@ -25,6 +25,8 @@ pub data Asked : Type 0 where
   frame : (sym : List ℕ) → (address : ℕ) → (state : List ℕ) → Asked
   -- the frames of a stack by the rules of a symbol file, from a state file
   walk : (sym : List ℕ) → (state : List ℕ) → Asked
+  -- a symbol file with its legacy Rust names in readable form
+  names : (sym : List ℕ) → Asked
 
 -- a command as it is parsed
 abbrev pub command_view : Command → Asked
@@ -33,6 +35,7 @@ command_view (Check sym) = check sym.now
 command_view (Lookup sym address) = lookup sym.now address
 command_view (Frame sym address state) = frame sym.now address state.now
 command_view (Walk sym state) = walk sym.now state.now
+command_view (Names sym) = names sym.now
 
 -- a number is decimal digits, without a sign, the first of them not 0
 abbrev pub is_number : List ℕ → Bool
@@ -54,11 +57,12 @@ MOST_WORKERS = 64
 unfoldable pub address_of : List ℕ → Option ℕ
 address_of word = if length word == 0 then None else hex_value word
 
--- the rows `dump ELF` and `check SYM`
+-- the rows `dump ELF`, `check SYM` and `names SYM`
 abbrev pub two_words : List ℕ → List ℕ → Option Asked
 two_words word name =
     if bytes_eq word (codes "dump") then Some (dump name USUAL_WORKERS)
     else if bytes_eq word (codes "check") then Some (check name)
+    else if bytes_eq word (codes "names") then Some (names name)
     else None
 
 -- the rows `lookup SYM ADDR` and `walk SYM STATE`
@@ -92,6 +96,7 @@ HasWorkers (Some (check sym)) = Unit {0}
 HasWorkers (Some (lookup sym address)) = Unit {0}
 HasWorkers (Some (frame sym address state)) = Unit {0}
 HasWorkers (Some (walk sym state)) = Unit {0}
+HasWorkers (Some (names sym)) = Unit {0}
 
 -- the second file of a command over a symbol file is read only where that has records
 abbrev pub if_records : Result (List SymLine) SymRefusal → List ℕ → List (List ℕ)
@@ -114,6 +119,7 @@ files_of (Some (check sym)) files = sym ∷ []
 files_of (Some (lookup sym address)) files = sym ∷ []
 files_of (Some (frame sym address state)) files = sym ∷ second_told files sym state
 files_of (Some (walk sym state)) files = sym ∷ second_told files sym state
+files_of (Some (names sym)) files = sym ∷ []
 
 -- the byte is a slash
 abbrev pub is_slash : ℕ → Bool

@@ -4,3 +4,4 @@ pub mod Check
 pub mod Lookup
 pub mod Frame
 pub mod Walk
+pub mod Names

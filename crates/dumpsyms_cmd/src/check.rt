@@ -1,19 +1,14 @@
 //! `check SYM`.
-ghost use Rattle.std.specs.Prelude.{◌≡◌, ◌≤◌, ◌++◌, Some, IfOk, OnOk};
-ghost use Rattle.dumpsyms_cmd.specs.Words.{files_of, check};
+ghost use Rattle.std.specs.Prelude.{◌≡◌, ◌++◌, IfOk, OnOk};
 ghost use Rattle.dumpsyms_cmd.specs.Judgement.{judgement_verdict};
-ghost use Rattle.dumpsyms_cmd.specs.Observed.{Asks};
 ghost use Rattle.dumpsyms_cmd.specs.commands.Check.{finding_line, findings_text, records_checked};
-ghost use Rattle.dumpsyms_cmd.specs.internal.Judged.{AnswersCommand};
 
-use crate::judgement::{Answer, Judgement, Message, Output};
+use crate::judgement::{Judgement, Message, Output};
 use crate::refusals::add_line;
-use crate::symbol_input::{answer_end, answer_judged};
 use itoa::Buffer;
 use std::alloc::{AllocError, Global};
-use sym_edges::{FILE_LIMIT, OutOfMemory, Store};
+use sym_edges::OutOfMemory;
 use sym_findings::{Finding, findings};
-use sym_grammar::read_file;
 use sym_records::{ByteText, SymFile};
 
 /// Nothing was found.
@@ -41,7 +36,7 @@ fn add_findings(text: &mut Vec<u8>, found: &[Finding]) -> Result<(), AllocError>
 
 /// What a checker finds in the records of a file.
 #[tactic(auto, using(crate::proofs::CheckLemmas::none_found, crate::proofs::CheckLemmas::some_found))]
-fn judge_records(alloc: Global, file: &SymFile) -> Result<Judgement, OutOfMemory>
+pub(crate) fn judge_records(alloc: Global, file: &SymFile) -> Result<Judgement, OutOfMemory>
     ensures { IfOk result (λ j. judgement_verdict j ≡ records_checked file.now) }
 {
     let found = findings(alloc, file)?;
@@ -59,18 +54,4 @@ fn judge_records(alloc: Global, file: &SymFile) -> Result<Judgement, OutOfMemory
         out: Output::Bytes(ByteText::of(text)),
         err: Message::Fixed(b""),
     })
-}
-
-/// The answer to `check SYM`.
-#[tactic(auto, using(crate::proofs::AnswerLemmas::check_read, crate::proofs::AnswerLemmas::check_ended, crate::proofs::AnswerLemmas::asks_symbols))]
-pub fn answer_check<S: Store>(alloc: Global, sym: &str, store: &mut S) -> Answer
-    ensures asked { Asks (files_of (Some (check sym.now)) (S.files store.old)) (S.asked store.old) (S.asked store.new) }
-    ensures files { S.files store.new ≡ S.files store.old }
-    ensures faults { S.faults store.old ≤ S.faults store.new }
-    ensures answered { AnswersCommand result (Some (check sym.now)) (S.files store.old) (S.faults store.old) (S.faults store.new) }
-{
-    match read_file(alloc, store, sym, FILE_LIMIT) {
-        Ok(file) => answer_judged(judge_records(alloc, &file)),
-        Err(end) => answer_end(alloc, end),
-    }
 }

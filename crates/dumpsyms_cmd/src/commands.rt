@@ -10,12 +10,11 @@ ghost use Rattle.dumpsyms_cmd.specs.Judgement.{err_bytes};
 ghost use Rattle.dumpsyms_cmd.specs.internal.Judged.{Refuses, JudgesParts, JudgesBytes, AnswersStop, AnswersCommand};
 ghost use Rattle.dumpsyms_cmd.specs.Observed.{Asks};
 
-use crate::check::answer_check;
 use crate::dump::assemble;
 use crate::judgement::{Answer, Judgement, Message, Output};
-use crate::lookup::answer_lookup;
 use crate::refusals::{TOO_LONG, USAGE, debug_line, fault_line};
 use crate::state_input::{Query, answer_query};
+use crate::symbol_input::{SymQuery, answer_symbols};
 use crate::words::{Command, name_of, parse_words};
 use debug_read::{DebugRead, read_debug};
 use elf_sections::{Image, read_image};
@@ -166,8 +165,11 @@ pub fn answer_words<R: Threads + Sync, S: Store, G: Gate + Sync>(
     match parse_words(words) {
         None => answer_usage(),
         Some(Command::Dump { elf, workers }) => answer_dump(rt, alloc, elf, workers, store, gate),
-        Some(Command::Check { sym }) => answer_check(alloc, sym, store),
-        Some(Command::Lookup { sym, address }) => answer_lookup(alloc, sym, address, store),
+        Some(Command::Check { sym }) => answer_symbols(alloc, sym, SymQuery::Check, store),
+        Some(Command::Lookup { sym, address }) => {
+            answer_symbols(alloc, sym, SymQuery::Lookup { address }, store)
+        }
+        Some(Command::Names { sym }) => answer_symbols(alloc, sym, SymQuery::Names, store),
         Some(
             Command::Frame {
                 sym,

@@ -1,5 +1,5 @@
 //! What is found out before anything is written.
-use sym_records::{ByteText, SymText};
+use sym_records::{ByteText, SymFile, SymText};
 
 /// What standard output gets.
 #[derive(Debug, Drop)]
@@ -8,6 +8,8 @@ pub enum Output {
     /// The canonical text of these records.
     Text(SymText),
     Bytes(ByteText),
+    /// The canonical text of these records, which are spelled when they are written.
+    Records(SymFile),
 }
 
 /// What standard error gets.

@@ -10,7 +10,7 @@
 //! entry gives DWARF's CFA, return address and registers, for all registers and memory; and that the text reads back as the file's records.
 //!
 //! To read: `specs/Program.antt` with `program`, and a page for each command in `specs/commands/`; `words` and `commands`; `dump`, `omissions`
-//! and `refusals`; `symbol_input` with `check` and `lookup`, and `state_input` with `frame` and `walk`.
+//! and `refusals`; `symbol_input` with `check`, `lookup` and `names`, and `state_input` with `frame` and `walk`.
 #![tactic(auto)]
 
 // The program, its words, and what is found out before anything is written.
@@ -29,6 +29,7 @@ mod check;
 mod frame;
 mod frame_text;
 mod lookup;
+mod names;
 mod state_input;
 mod symbol_input;
 mod walk;

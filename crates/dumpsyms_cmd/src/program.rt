@@ -13,6 +13,7 @@ use crate::refusals::UNREAD;
 use std::alloc::Global;
 use std::thread::Threads;
 use sym_edges::{Failed, Sink, Store, write_all};
+use sym_records::write_file;
 use unit_workers::Gate;
 
 /// The status where a write failed.
@@ -49,6 +50,7 @@ fn write_output<O: Sink>(output: &Output, out: &mut O) -> Result<(), Failed>
         Output::Nothing => Ok(()),
         Output::Text(file) => file.write(out),
         Output::Bytes(text) => write_all(out, text.as_slice()),
+        Output::Records(file) => write_file(file, out),
     }
 }
 

@@ -1,12 +1,30 @@
-//! What is answered where a symbol file has no records, and by a judgement.
-ghost use Rattle.dumpsyms_cmd.specs.internal.Judged.{AnswersEnd, AnswersJudged};
+//! What is answered over a symbol file.
+ghost use Rattle.std.specs.Prelude.{◌≡◌, ◌≤◌, [], ◌∷◌, Some, IfOk};
+ghost use Rattle.dumpsyms_cmd.specs.Judgement.{judgement_verdict};
+ghost use Rattle.dumpsyms_cmd.specs.Observed.{Asks};
+ghost use Rattle.dumpsyms_cmd.specs.internal.Judged.{AnswersCommand, AnswersEnd, AnswersJudged, sym_answer, sym_command};
 
+use crate::check::judge_records;
 use crate::commands::refuse;
 use crate::judgement::{Answer, Judgement, Message};
+use crate::lookup::judge_address;
+use crate::names::judge_names;
 use crate::refusals::{TOO_LONG, text_line};
 use std::alloc::Global;
-use sym_edges::{OutOfMemory, Stop};
-use sym_grammar::{SymEnd, SymRefusal};
+use sym_edges::{FILE_LIMIT, OutOfMemory, Stop, Store};
+use sym_grammar::{SymEnd, SymRefusal, read_file};
+use sym_records::SymFile;
+
+/// What is asked of a symbol file.
+#[derive(Clone, Copy, Debug)]
+pub enum SymQuery {
+    /// `check`: what a checker finds.
+    Check,
+    /// `lookup`: what it names at an address.
+    Lookup { address: u64 },
+    /// `names`: the file with its names shown.
+    Names,
+}
 
 /// The answer to a symbol file that is refused.
 #[tactic(auto, using(crate::proofs::AnswerLemmas::refuses_verdict))]
@@ -40,5 +58,30 @@ pub fn answer_judged(judged: Result<Judgement, OutOfMemory>) -> Answer
     match judged {
         Ok(judgement) => Answer::Judged(judgement),
         Err(OutOfMemory) => Answer::NoMemory,
+    }
+}
+
+/// The answer of the records.
+fn judge_symbols(alloc: Global, file: SymFile, query: SymQuery) -> Result<Judgement, OutOfMemory>
+    ensures { IfOk result (λ j. judgement_verdict j ≡ sym_answer query file) }
+{
+    match query {
+        SymQuery::Check => judge_records(alloc, &file),
+        SymQuery::Lookup { address } => judge_address(alloc, &file, address),
+        SymQuery::Names => judge_names(alloc, file),
+    }
+}
+
+/// The answer to a command over a symbol file alone.
+#[tactic(auto, using(crate::proofs::AnswerLemmas::sym_read, crate::proofs::AnswerLemmas::sym_ended, crate::proofs::AnswerLemmas::asks_symbols))]
+pub fn answer_symbols<S: Store>(alloc: Global, sym: &str, query: SymQuery, store: &mut S) -> Answer
+    ensures asked { Asks (sym.now ∷ []) (S.asked store.old) (S.asked store.new) }
+    ensures files { S.files store.new ≡ S.files store.old }
+    ensures faults { S.faults store.old ≤ S.faults store.new }
+    ensures answered { AnswersCommand result (Some (sym_command query sym.now)) (S.files store.old) (S.faults store.old) (S.faults store.new) }
+{
+    match read_file(alloc, store, sym, FILE_LIMIT) {
+        Ok(file) => answer_judged(judge_symbols(alloc, file, query)),
+        Err(end) => answer_end(alloc, end),
     }
 }

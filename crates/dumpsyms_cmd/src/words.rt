@@ -40,6 +40,10 @@ pub enum Command<'w> {
         sym: &'w str,
         state: &'w str,
     },
+    /// `names SYM`
+    Names {
+        sym: &'w str,
+    },
 }
 
 /// Whether a word begins with a digit from 1 to 9.
@@ -83,7 +87,7 @@ fn parse_address(word: &str) -> Option<u64>
     hex_value(digits)
 }
 
-/// The rows `dump ELF` and `check SYM`.
+/// The rows `dump ELF`, `check SYM` and `names SYM`.
 fn parse_two<'w>(word: &str, name: &'w str) -> Option<Command<'w>>
     ensures { option_map command_view result ≡ two_words word.now name.now }
 {
@@ -95,6 +99,9 @@ fn parse_two<'w>(word: &str, name: &'w str) -> Option<Command<'w>>
     }
     if word == "check" {
         return Some(Command::Check { sym: name });
+    }
+    if word == "names" {
+        return Some(Command::Names { sym: name });
     }
     None
 }

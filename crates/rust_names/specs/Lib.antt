@@ -1,3 +1,4 @@
 pub mod Shown
 pub mod ShownRecords
 pub mod internal
+pub mod Named

@@ -8,12 +8,18 @@ ghost use Rattle.sym_findings.specs.Findings.{findings};
 ghost use Rattle.sym_meaning.specs.TextNames.{text_func, text_owner, text_line, text_chain};
 ghost use Rattle.sym_records.specs.declared.line.SymLine.{SymLine};
 ghost use Rattle.rust_names.specs.Shown.{IsShown};
-ghost use Rattle.rust_names.specs.ShownRecords.{renamed, renamed_found, renamed_call, HaveShownNames};
+ghost use Rattle.rust_names.specs.ShownRecords.{renamed, renamed_found, renamed_call, IsNameFor, HaveShownNames};
+ghost use Rattle.rust_names.specs.Named.{named};
 
 /// A name has at most one shown text, and records have one list with the names that they show.
 pub fn shown_texts_are_one()
     ensures text { (name a b : List ℕ) → IsShown name a → IsShown name b → a ≡ b }
     ensures records { (lines a b : List SymLine) → HaveShownNames lines a → HaveShownNames lines b → a ≡ b }
+{}
+
+/// The function `named` gives the name for a name.
+pub fn names_are_shown()
+    ensures { (name : List ℕ) → IsNameFor name (named name) }
 {}
 
 /// Records with other names say what they said, but for the names: at each address a look-up finds the same `FUNC`, the same inlined

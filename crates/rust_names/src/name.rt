@@ -4,7 +4,8 @@ ghost use Rattle.std.specs.List.{list_all};
 ghost use Rattle.std.specs.Option.{option_copied};
 ghost use Rattle.clean_names.specs.Names.{is_name};
 ghost use Rattle.rust_names.specs.Shown.{is_low_hex, is_shown_text, IsShown, IsPlainName};
-ghost use Rattle.rust_names.specs.internal.Reading.{is_tail, middle_of, shown_of, named};
+ghost use Rattle.rust_names.specs.internal.Reading.{is_tail, middle_of, shown_of};
+ghost use Rattle.rust_names.specs.Named.{named};
 
 use crate::part::add_parts;
 use std::alloc::Global;
@@ -85,7 +86,7 @@ pub fn shown(alloc: Global, name: &[u8]) -> Result<Option<ByteText>, OutOfMemory
 }
 
 /// Puts what a name shows in its place.
-#[tactic(auto, unfolding(crate::specs::internal::Reading::named))]
+#[tactic(auto, unfolding(crate::specs::Named::named))]
 pub(crate) fn show_name(alloc: Global, name: &mut ByteText) -> Result<(), OutOfMemory>
     ensures { OnOk result (name.new ≡ named name.old) }
 {

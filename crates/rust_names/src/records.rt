@@ -1,7 +1,7 @@
 //! The names of all records of a file.
-ghost use Rattle.std.specs.Prelude.{◌≡◌, IfOk, OnOk};
+ghost use Rattle.std.specs.Prelude.{◌≡◌, map, IfOk, OnOk};
 ghost use Rattle.rust_names.specs.ShownRecords.{renamed, HaveShownNames};
-ghost use Rattle.rust_names.specs.internal.Reading.{named};
+ghost use Rattle.rust_names.specs.Named.{named};
 
 use crate::name::show_name;
 use std::alloc::Global;
@@ -23,7 +23,8 @@ fn show_record(alloc: Global, line: &mut SymLine) -> Result<(), OutOfMemory>
 /// The file with each `FUNC`, `INLINE_ORIGIN` and `PUBLIC` under the name that its name shows, where there is one. All else stays, and so
 /// does the order. Takes memory for the names alone.
 pub fn show_all(alloc: Global, file: SymFile) -> Result<SymFile, OutOfMemory>
-    ensures { IfOk result (λ new. HaveShownNames file new) }
+    ensures shown { IfOk result (λ new. HaveShownNames file new) }
+    ensures named { IfOk result (λ new. new ≡ map (renamed named) file) }
 {
     // `as_slice` says that the records are valid.
     let count = file.as_slice().len();

@@ -11,16 +11,21 @@ use Rattle.sym_records.specs.declared.line.SymLine.{SymLine}
 use Rattle.sym_grammar.specs.declared.refusal.SymEnd.{SymEnd}
 use Rattle.sym_grammar.specs.declared.refusal.SymEnd.TheVariants as end
 use Rattle.state_file.specs.declared.state.State.{State}
-use Rattle.dumpsyms_cmd.specs.Words.{Asked, frame, walk}
+use Rattle.dumpsyms_cmd.specs.Words.{Asked, check, lookup, frame, walk, names}
 use Rattle.dumpsyms_cmd.specs.Refusals.{too_long_line}
 use Rattle.dumpsyms_cmd.specs.Verdict.{Verdict, refused, unread, no_memory, LIMIT}
 use Rattle.dumpsyms_cmd.specs.Judgement.{err_bytes, is_some_output, judgement_verdict, Judges}
 use Rattle.dumpsyms_cmd.specs.SymbolInput.{refusal_line}
 use Rattle.dumpsyms_cmd.specs.StateInput.{state_answer}
+use Rattle.dumpsyms_cmd.specs.commands.Check.{records_checked}
+use Rattle.dumpsyms_cmd.specs.commands.Lookup.{records_looked_up}
+use Rattle.dumpsyms_cmd.specs.commands.Names.{records_named}
 use Rattle.dumpsyms_cmd.specs.commands.Frame.{frame_answer}
 use Rattle.dumpsyms_cmd.specs.commands.Walk.{walk_answer}
 use Rattle.dumpsyms_cmd.specs.Answers.{IsVerdict, CommandPromises}
 use Rattle.dumpsyms_cmd.specs.commands.Dump.{IsPartsVerdict, IsDumpVerdict, DumpsParts, DumpsImage}
+use Rattle.dumpsyms_cmd.specs.declared.symbol_input.SymQuery.{SymQuery}
+use Rattle.dumpsyms_cmd.specs.declared.symbol_input.SymQuery.TheVariants.{Check, Lookup, Names}
 use Rattle.dumpsyms_cmd.specs.declared.state_input.Query.{Query}
 use Rattle.dumpsyms_cmd.specs.declared.state_input.Query.TheVariants as query
 use Rattle.dumpsyms_cmd.specs.declared.judgement.Output.TheVariants.{Nothing}
@@ -93,6 +98,17 @@ AnswersEnd NoMemory stopped = Unit {0}
 abbrev pub AnswersJudged : {F : Type 0} → Answer → Result Judgement F → Type 0
 AnswersJudged answer (Ok j) = answer ≡ Judged j
 AnswersJudged answer (Err e) = answer ≡ NoMemory
+
+-- what is asked of a symbol file, as a command, and what answers it
+abbrev pub sym_command : SymQuery → List ℕ → Asked
+sym_command Check sym = check sym
+sym_command (Lookup address) sym = lookup sym address
+sym_command Names sym = names sym
+
+abbrev pub sym_answer : SymQuery → List SymLine → Verdict
+sym_answer Check = records_checked
+sym_answer (Lookup address) = records_looked_up address
+sym_answer Names = records_named
 
 -- what is asked of a symbol file and a state, as a command, and what answers it
 abbrev pub query_command : Query → List ℕ → List ℕ → Asked

@@ -2,7 +2,7 @@
 -- belong to the one before.
 use Rattle.std.specs.Prelude.{ℕ, zero, suc, ◌+◌, ◌-◌, ◌*◌, ◌==◌, ◌&&◌, nat_le, nat_lt, nat_eq, Bool, true, false, if◌then◌else◌, List, [], ◌∷◌, ◌++◌, length, take, drop, codes, slice_index, Option, None, Some}
 use Rattle.std.specs.List.{flat_map, list_all, starts_with}
-use Rattle.std.specs.Option.{option_map, option_map_or, option_and_then}
+use Rattle.std.specs.Option.{option_map, option_and_then}
 use Rattle.std.specs.Str.Parse.{digits_value}
 use Rattle.rust_names.specs.declared.piece.Piece.{Piece}
 use Rattle.rust_names.specs.declared.piece.Piece.TheVariants.{At, Star, And, Less, Greater, Opening, Closing, Comma, Code, Scope, Plain}
@@ -129,10 +129,6 @@ text_if text = if is_shown_text text then Some text else None
 -- what the name shows
 unfoldable pub shown_of : List ℕ → Option (List ℕ)
 shown_of name = option_and_then text_if (option_and_then some_joined (option_and_then parts_of (middle_of name)))
-
--- the name for a name
-unfoldable pub named : List ℕ → List ℕ
-named name = option_map_or (λ text. text) (shown_of name) name
 
 -- what bytes show as pieces, as one or more parts, and as parts after others
 unfoldable pub pieces_text : List ℕ → Option (List ℕ)
