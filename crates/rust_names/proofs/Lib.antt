@@ -9,5 +9,5 @@ mod VisibleLemmas
 mod RecordLemmas
 mod LookupLemmas
 mod FindingLemmas
-mod Computing
+pub mod Computing
 mod WorkedNames

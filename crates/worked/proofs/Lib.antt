@@ -20,3 +20,4 @@ mod WorkedDebug
 pub mod ComputingSymbols
 mod WorkedSymbolFiles
 mod WorkedStacks
+mod WorkedNames

@@ -16,13 +16,14 @@ use Rattle.func_flatten.specs.Pieces.{owner_place, ArePieces}
 use Rattle.func_records.specs.FuncRecords.{AreFuncRecords}
 use Rattle.sym_records.specs.Canon.{canon_text}
 use Rattle.sym_records.specs.declared.line.SymLine.{SymLine}
-use Rattle.dumpsyms_cmd.specs.Words.{Asked, dump, check, lookup, frame, walk, command_of, module_name}
+use Rattle.dumpsyms_cmd.specs.Words.{Asked, dump, check, lookup, frame, walk, names, command_of, module_name}
 use Rattle.dumpsyms_cmd.specs.SymbolInput.{file_verdict as checked}
 use Rattle.dumpsyms_cmd.specs.commands.Check.{check_answer}
 use Rattle.dumpsyms_cmd.specs.commands.Lookup.{lookup_answer}
 use Rattle.dumpsyms_cmd.specs.StateInput.{both_verdict}
 use Rattle.dumpsyms_cmd.specs.commands.Frame.{frame_answer}
 use Rattle.dumpsyms_cmd.specs.commands.Walk.{walk_answer}
+use Rattle.dumpsyms_cmd.specs.commands.Names.{names_answer}
 use Rattle.dumpsyms_cmd.specs.Refusals.{elf_line, debug_line, too_long_line}
 use Rattle.dumpsyms_cmd.specs.commands.Dump.{identity_lines, public_lines, frame_lines, CanonFile}
 use Rattle.dumpsyms_cmd.specs.Verdict.{Verdict, refused, usage, unread, LIMIT}
@@ -62,6 +63,7 @@ command_verdict (Some (check name)) files = Some (checked check_answer (files na
 command_verdict (Some (lookup name address)) files = Some (checked (lookup_answer address) (files name))
 command_verdict (Some (frame name address state)) files = Some (both_verdict (frame_answer address) (files name) (files state))
 command_verdict (Some (walk name state)) files = Some (both_verdict walk_answer (files name) (files state))
+command_verdict (Some (names name)) files = Some (checked names_answer (files name))
 
 abbrev pub plain_verdict : List (List ℕ) → Files → Option Verdict
 plain_verdict words files = command_verdict (command_of words) files
@@ -129,6 +131,7 @@ command_is (Some (check name)) files v is = the_same is
 command_is (Some (lookup name address)) files v is = the_same is
 command_is (Some (frame name address state)) files v is = the_same is
 command_is (Some (walk name state)) files v is = the_same is
+command_is (Some (names name)) files v is = the_same is
 
 -- a verdict that is computed is that of the words and files
 pub plain_is_verdict : (words : List (List ℕ)) (files : Files) (v : Verdict) → plain_verdict words files ≡ Some v → IsVerdict (command_of words) files v
