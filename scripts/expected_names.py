@@ -1,0 +1,67 @@
+#!/usr/bin/env python3
+"""What `names` writes, beside what c++filt shows.
+
+    expected_names.py PROGRAM TEXT MOST
+
+Runs `names` on a symbol file, and compares each line with the one that the file has. The name of a FUNC, an INLINE_ORIGIN or a PUBLIC that has
+the form of Rust's legacy mangling is the one that `c++filt -s rust` shows of it, without the hash at its end; every other name, and all else,
+stays. Where c++filt knows an escape that docs/RULES.md does not list, or shows no name, the name stays; at most MOST names may be so. Prints the
+first line that differs and ends with status 1, or prints how many names were compared.
+"""
+import re
+import subprocess
+import sys
+
+LEGACY = re.compile(rb"_ZN.*17h[0-9a-f]{16}E")
+HASH = re.compile(rb"::h[0-9a-f]{16}$")
+FIELDS = {b"FUNC": 4, b"INLINE_ORIGIN": 2, b"PUBLIC": 3}
+
+
+def split(line):
+    """The line up to its name, and the name; None where the record has none."""
+    words = line.split(b" ")
+    count = FIELDS.get(words[0])
+    if count is None:
+        return line, None
+    if words[0] != b"INLINE_ORIGIN" and words[1] == b"m":
+        count += 1
+    return b" ".join(words[:count]) + b" ", b" ".join(words[count:])
+
+
+def shown(names):
+    """What c++filt shows of each name."""
+    text = subprocess.run(["c++filt", "-s", "rust"], input=b"".join(n + b"\n" for n in names), stdout=subprocess.PIPE, check=True).stdout
+    return dict(zip(names, text.split(b"\n")))
+
+
+def main():
+    program, text, most = sys.argv[1], sys.argv[2], int(sys.argv[3])
+    with open(text, "rb") as file:
+        before = file.read().split(b"\n")
+    run = subprocess.run([program, "names", text], stdout=subprocess.PIPE, stderr=subprocess.PIPE, stdin=subprocess.DEVNULL)
+    if run.returncode != 0 or run.stderr:
+        sys.exit(f"status {run.returncode}, {run.stderr[:200]!r}")
+    after = run.stdout.split(b"\n")
+    if len(before) != len(after):
+        sys.exit(f"{len(after)} lines in place of {len(before)}")
+    names = sorted({name for _, name in map(split, before) if name is not None and LEGACY.fullmatch(name)})
+    wanted = shown(names)
+    other = 0
+    for old, new in zip(before, after):
+        front, name = split(old)
+        if name not in wanted:
+            if new != old:
+                sys.exit(f"<{old.decode()}> became <{new.decode()}>")
+            continue
+        expected = HASH.sub(b"", wanted[name])
+        if new == old:
+            other += 1
+        elif new != front + expected:
+            sys.exit(f"expected <{(front + expected).decode()}>, found <{new.decode()}>")
+    if other > most:
+        sys.exit(f"{other} names of {len(names)} stay")
+    print(f"{len(names)} names")
+
+
+if __name__ == "__main__":
+    main()
