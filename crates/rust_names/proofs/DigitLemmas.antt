@@ -9,6 +9,7 @@ use Rattle.std.proofs.lemmas.Int.Digits.{digits_value_more}
 use Rattle.std.proofs.lemmas.Str.Parse.{digits_value-take-le}
 use Rattle.std.proofs.lemmas.List.{at_drop_more, at_drop_all, take_all}
 use Rattle.sym_rules.proofs.BoolLemmas.{and_true, both, not_false, elim_bool}
+use Rattle.rust_names.proofs.FrontLemmas.{every_more}
 use Rattle.rust_names.specs.Shown.{is_digit, is_number}
 use Rattle.rust_names.specs.internal.Reading.{digits_in_front, number_upto, cut_by, cut_of}
 
@@ -79,15 +80,8 @@ digit_is d is =
 pub number_more : (i n : ℕ) (digits : List ℕ) → i < length digits → is_digit (get_or digits i 0) ≡ true → n ≡ digits_value 10 (take i digits) → n * 10 + (get_or digits i 0 - 48) ≡ digits_value 10 (take (i + 1) digits)
 number_more i n digits within digit is = omega (arith, is, digits_value_more 10 digits i within, digit_is (get_or digits i 0) digit)
 
-plus : (i : ℕ) → suc i + 1 ≡ suc (i + 1)
-plus i = omega arith
-
 pub all_more : (digits : List ℕ) (i : ℕ) → i < length digits → list_all is_digit (take i digits) ≡ true → is_digit (get_or digits i 0) ≡ true → list_all is_digit (take (i + 1) digits) ≡ true
-all_more [] i within all digit = absurd (omega arith)
-all_more (d ∷ digits) zero within all digit = both digit refl
-all_more (d ∷ digits) (suc i) within all digit =
-    let parts = and_true {a = is_digit d} {b = list_all is_digit (take i digits)} all in
-    ap (λ k. list_all is_digit (take k (d ∷ digits))) (plus i) ∙ both parts.0 (all_more digits i (omega arith) parts.1 digit)
+all_more = every_more is_digit
 
 first_some : (digits : List ℕ) → list_all is_digit digits ≡ true → length digits ≢ 0 → get_or digits 0 0 ≢ 48 → is_number digits ≡ true
 first_some [] all some first = absurd (some refl)

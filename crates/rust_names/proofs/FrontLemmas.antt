@@ -1,6 +1,6 @@
 -- The piece that bytes begin with, and its bytes (sign_of, code_of, piece_of).
-use Rattle.std.proofs.Common.{◌≡◌, ◌≢◌, ℕ, ◌+◌, ◌*◌, ◌/◌, ◌%◌, ◌<◌, ◌==◌, ◌&&◌, cond, Bool, true, false, not, List, [], ◌∷◌, ◌++◌, length, drop, get_or, codes, Option, Some, None, nat_lt, nat_le, nat_eq, refl, sym, ◌∙◌, ap, arith, subst}
-use Rattle.std.specs.List.{starts_with}
+use Rattle.std.proofs.Common.{◌≡◌, ◌≢◌, ℕ, ◌+◌, ◌*◌, ◌/◌, ◌%◌, ◌<◌, ◌==◌, ◌&&◌, cond, Bool, true, false, not, List, [], ◌∷◌, ◌++◌, length, drop, get_or, codes, Option, Some, None, nat_lt, nat_le, nat_eq, refl, sym, ◌∙◌, ap, arith, subst, zero, suc, take}
+use Rattle.std.specs.List.{list_all, starts_with}
 use Rattle.std.proofs.lemmas.Bool.{leb-true}
 use Rattle.std.proofs.lemmas.Bool.Decides.{nat_tests, Decides-eqb}
 use Rattle.std.proofs.lemmas.Slice.Eq.{starts_is}
@@ -173,3 +173,14 @@ no_dots false b none = refl
 
 pub no_dot : (a : ℕ) (b : Bool) → a ≢ 46 → (a == 46 && b) ≡ false
 no_dot a b other = let none : (a == 46) ≡ false = grind (arith, nat_tests) in ap (λ t. t && b) none
+
+-- one more of those that pass a test
+plus : (i : ℕ) → suc i + 1 ≡ suc (i + 1)
+plus i = omega arith
+
+pub every_more : (p : ℕ → Bool) (xs : List ℕ) (i : ℕ) → i < length xs → list_all p (take i xs) ≡ true → p (get_or xs i 0) ≡ true → list_all p (take (i + 1) xs) ≡ true
+every_more p [] i within all passes = absurd (omega arith)
+every_more p (x ∷ xs) zero within all passes = both passes refl
+every_more p (x ∷ xs) (suc i) within all passes =
+    let two = and_true {a = p x} {b = list_all p (take i xs)} all in
+    ap (λ k. list_all p (take k (x ∷ xs))) (plus i) ∙ both two.0 (every_more p xs i (omega arith) two.1 passes)

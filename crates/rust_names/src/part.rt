@@ -1,8 +1,9 @@
 //! The parts of a path.
-ghost use Rattle.std.specs.Prelude.{◌≡◌, ◌+◌, ◌<◌, ◌≤◌, ◌++◌, length, drop, IfOk, IfSome};
+ghost use Rattle.std.specs.Prelude.{◌≡◌, ◌<◌, ◌≤◌, ◌++◌, length, take, true, IfOk, IfSome};
+ghost use Rattle.std.specs.List.{list_all};
 ghost use Rattle.std.specs.Option.{option_map};
 ghost use Rattle.rust_names.specs.Shown.{is_digit, undashed};
-ghost use Rattle.rust_names.specs.internal.Reading.{digits_in_front, number_upto, cut_of, pieces_text, parts_text, later_text, kept};
+ghost use Rattle.rust_names.specs.internal.Reading.{digits_in_front, number_upto, cut_of, is_plain, pieces_text, parts_text, later_text, kept};
 
 use crate::piece::{add_shown, piece_of, written_length};
 use sym_edges::OutOfMemory;
@@ -73,16 +74,43 @@ fn undashed(bytes: &[u8]) -> &[u8]
     bytes
 }
 
+/// A byte that stands for itself whatever follows.
+#[inline]
+fn is_plain(b: u8) -> bool
+    ensures { result ≡ is_plain b }
+{
+    b'!' <= b && b <= b'~' && b != b'$' && b != b'.'
+}
+
+/// How many such bytes stand in front.
+#[tactic(auto, using(crate::proofs::PieceLemmas::plain_front))]
+fn count_plain(bytes: &[u8]) -> usize
+    ensures within { result ≤ length bytes.now }
+    ensures plain { list_all is_plain (take result bytes.now) ≡ true }
+{
+    for (at, b) in bytes.iter().enumerate() {
+        if !is_plain(*b) {
+            return at;
+        }
+    }
+    bytes.len()
+}
+
 /// Adds what bytes show; false where they are no pieces.
 fn add_pieces(text: &mut Vec<u8>, bytes: &[u8]) -> Result<bool, OutOfMemory>
     ensures { IfOk result (λ added. option_map (λ t. text.old.items ++ t) (pieces_text bytes.now) ≡ kept added text.new.items) }
 {
     let mut rest = bytes;
     'pieces: while !rest.is_empty() {
-        match piece_of(rest) {
+        let (plain, after) = rest.split_at(count_plain(rest));
+        text.extend_from_slice(plain)?;
+        if after.is_empty() {
+            return Ok(true);
+        }
+        match piece_of(after) {
             Some(piece) => {
                 add_shown(text, piece)?;
-                rest = rest.split_at(written_length(piece)).1;
+                rest = after.split_at(written_length(piece)).1;
             }
             None => return Ok(false),
         }

@@ -1,6 +1,6 @@
 -- The reading of a name from left to right, as the functions do it: the piece or the part that bytes begin with, and all of them. `k` bytes
 -- belong to the one before.
-use Rattle.std.specs.Prelude.{ℕ, zero, suc, ◌+◌, ◌-◌, ◌*◌, ◌==◌, ◌&&◌, nat_le, nat_lt, nat_eq, Bool, true, false, if◌then◌else◌, List, [], ◌∷◌, ◌++◌, length, take, drop, codes, slice_index, Option, None, Some}
+use Rattle.std.specs.Prelude.{ℕ, zero, suc, ◌+◌, ◌-◌, ◌*◌, ◌==◌, ◌&&◌, nat_le, nat_lt, nat_eq, Bool, true, false, if◌then◌else◌, List, [], ◌∷◌, ◌++◌, length, take, drop, codes, slice_index, Option, None, Some, not}
 use Rattle.std.specs.List.{flat_map, list_all, starts_with}
 use Rattle.std.specs.Option.{option_map, option_and_then}
 use Rattle.std.specs.Str.Parse.{digits_value}
@@ -56,6 +56,10 @@ front_piece b bytes =
 unfoldable pub piece_of : List ℕ → Option Piece
 piece_of [] = None
 piece_of (b ∷ bytes) = front_piece b (b ∷ bytes)
+
+-- a byte that stands for itself whatever follows
+abbrev pub is_plain : ℕ → Bool
+is_plain b = nat_le 33 b && nat_le b 126 && not (b == 36) && not (b == 46)
 
 -- bytes as pieces
 unfoldable pub pieces_from : ℕ → List ℕ → Option (List Piece)
