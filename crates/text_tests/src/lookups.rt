@@ -104,7 +104,7 @@ fn count_found(
 #[test]
 fn half_a_million_functions(rt: HostRuntime) -> Result<(), Fail> {
     let alloc = rt.alloc();
-    for (count, under) in [(500_000, 2), (10_000, 50)] {
+    for (count, under) in [(500_000, 2), (1_000, 50)] {
         let Ok(file) = file_of(many(alloc, count, under)?) else {
             return Err("the records are no file".into());
         };
