@@ -1,3 +1,4 @@
 pub mod Walk
 pub mod Rising
+pub mod Callers
 pub mod internal

@@ -151,14 +151,17 @@ fn push_under(
     Ok(())
 }
 
-/// What stands under each `FUNC`, in their order.
+/// So many records under a `FUNC` are scanned, and nothing is held of them.
+const FEW: usize = 32;
+
+/// What stands under each `FUNC` that has more than a few records under it, in their order.
 pub(crate) fn unders_of(alloc: Global, lines: &[SymLine]) -> Result<Vec<Under>, OutOfMemory>
     requires { length lines.now < 2 ^ 32 }
     ensures { IfOk result (λ unders. AreUnders lines.now unders.items) }
 {
     let mut unders = Vec::new(alloc);
     'lines: for at in 0..lines.len() {
-        if !is_func(&lines[at]) {
+        if !is_func(&lines[at]) || under_func(lines, at).len() <= FEW {
             continue;
         }
         push_under(alloc, &mut unders, lines, at)?;

@@ -34,21 +34,24 @@ fn line(address: u64) -> SymLine {
     }
 }
 
-/// `MODULE` and so many functions of eight addresses, 16 apart, with two line records each.
-fn many(alloc: Global, count: u32) -> Result<Vec<SymLine>, OutOfMemory> {
+/// `MODULE` and so many functions, as far apart as they are long, with so many line records of four addresses each.
+fn many(alloc: Global, count: u32, under: u32) -> Result<Vec<SymLine>, OutOfMemory> {
     let mut lines = Vec::new(alloc);
     lines.push(module(alloc)?)?;
-    for k in 0..count {
-        let address = k as u64 * 16;
+    let size = u64::from(under).saturating_mul(4);
+    let mut address = 0u64;
+    for _ in 0..count {
         lines.push(SymLine::Func {
             many: false,
             address,
-            size: 8,
+            size,
             params: 0,
             name: text(alloc, b"f")?,
         })?;
-        lines.push(line(address))?;
-        lines.push(line(address + 4))?;
+        for k in 0..under {
+            lines.push(line(address.saturating_add(u64::from(k) * 4)))?;
+        }
+        address = address.saturating_add(size).saturating_add(size);
     }
     Ok(lines)
 }
@@ -75,15 +78,25 @@ fn is_function(answer: &Answer, place: u64, line: u64) -> bool {
     }
 }
 
-/// How many of the functions' second line records are found.
-fn count_found(alloc: Global, index: &Index, file: &SymFile, count: u32) -> Result<u32, OutOfMemory>
+/// How many of the functions' last line records are found.
+fn count_found(
+    alloc: Global,
+    index: &Index,
+    file: &SymFile,
+    count: u32,
+    under: u32,
+) -> Result<u32, OutOfMemory>
     requires { IsIndexOf file.now index.now }
 {
     let mut found = 0u32;
-    for k in 0..count {
-        let answer = index.answer_at(alloc, file, k as u64 * 16 + 5)?;
-        let place = k as u64 * 3 + 1;
-        found = found.saturating_add(is_function(&answer, place, place + 2) as u32);
+    let mut place = 1u64;
+    let mut last = u64::from(under).saturating_mul(4).saturating_sub(1);
+    for _ in 0..count {
+        let answer = index.answer_at(alloc, file, last)?;
+        let line = place.saturating_add(u64::from(under));
+        found = found.saturating_add(is_function(&answer, place, line) as u32);
+        place = line.saturating_add(1);
+        last = last.saturating_add(u64::from(under).saturating_mul(8));
     }
     Ok(found)
 }
@@ -91,25 +104,22 @@ fn count_found(alloc: Global, index: &Index, file: &SymFile, count: u32) -> Resu
 #[test]
 fn half_a_million_functions(rt: HostRuntime) -> Result<(), Fail> {
     let alloc = rt.alloc();
-    let Ok(file) = file_of(many(alloc, 500_000)?) else {
-        return Err("the records are no file".into());
-    };
-    let index = index_of(alloc, &file)?;
-    let found = count_found(alloc, &index, &file, 500_000)?;
-    same(
-        &rt,
-        "the functions that are found",
-        &[found as u64],
-        &[500_000],
-    );
-    let answer = answer_at(alloc, &file, 21)?;
-    let shown = answer_text(alloc, &file, &answer)?;
-    same(&rt, "a frame", shown.as_slice(), b"f at ?\n");
-    same(
-        &rt,
-        "no frame rules",
-        &[index.init_at(21).is_some() as u64],
-        &[0],
-    );
+    for (count, under) in [(500_000, 2), (1_000, 50)] {
+        let Ok(file) = file_of(many(alloc, count, under)?) else {
+            return Err("the records are no file".into());
+        };
+        let index = index_of(alloc, &file)?;
+        let found = count_found(alloc, &index, &file, count, under)?;
+        same(&rt, "the functions that are found", &[found], &[count]);
+        let answer = answer_at(alloc, &file, 5)?;
+        let shown = answer_text(alloc, &file, &answer)?;
+        same(&rt, "a frame", shown.as_slice(), b"f at ?\n");
+        same(
+            &rt,
+            "no frame rules",
+            &[index.init_at(5).is_some()],
+            &[false],
+        );
+    }
     Ok(())
 }
