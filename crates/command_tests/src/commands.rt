@@ -3,8 +3,8 @@
 use crate::comparing::same;
 use crate::files::{Given, file_by, joined, of_code};
 use crate::rows::{
-    A, BY_TWO, CHECK, DUMP, FRAME, FRONT, FRONTS, MAIN, PUSHED, ROWS, Row, STACK, STATE, TABLE,
-    TEXT_ROWS, THREE_PATHS, UNREAD, WALK, Words,
+    A, BY_TWO, CHECK, DUMP, FRAME, FRONT, FRONTS, MAIN, PUSHED, ROWS, Row, SHOW, STACK, STATE,
+    TABLE, TEXT_ROWS, THREE_PATHS, UNREAD, WALK, Words,
 };
 use dumpsyms_cmd::run;
 use std::alloc::{AllocError, Global};
@@ -220,6 +220,7 @@ fn each_call_that_fails_has_its_status(rt: HostRuntime) -> Result<(), Fail> {
     // The opening, a call for each byte, and the one that finds the end; of two files twice.
     expect_unread(&rt, alloc, DUMP, &file, file.len().saturating_add(2))?;
     expect_unread(&rt, alloc, CHECK, PUSHED, PUSHED.len().saturating_add(2))?;
+    expect_unread(&rt, alloc, SHOW, PUSHED, PUSHED.len().saturating_add(2))?;
     let both = PUSHED.len().saturating_add(STATE.len());
     expect_unread(&rt, alloc, FRAME, PUSHED, both.saturating_add(4))?;
     let both = PUSHED.len().saturating_add(STACK.len());

@@ -35,6 +35,8 @@ pub const DUMPS: &[Words] = &[
 
 pub const CHECK: Words = &["check", "d/a.out"];
 
+pub const SHOW: Words = &["names", "d/a.out"];
+
 pub const LOOKUP: Words = &["lookup", "d/a.out", "1005"];
 
 pub const FRAME: Words = &["frame", "d/a.out", "1001", "d/state"];
@@ -58,6 +60,12 @@ const MEETS: &[u8] = b"C5 record 3\n";
 /// A function with a copy that is inlined in it.
 const INLINED: &[u8] = b"MODULE Linux x86_64 0 a\nFILE 0 /s/a.c\nINLINE_ORIGIN 0 g\n\
     FUNC 1000 20 0 _Z1fv\nINLINE 0 4 0 0 1004 8\n1000 4 3 0\n1004 8 9 0\n100c 14 4 0\n";
+
+/// Rust's legacy names of a function and of a symbol, and how they are shown.
+const MANGLED: &[u8] = b"MODULE Linux x86_64 0 a\nFUNC 1000 20 0 _ZN1a1b17h0123456789abcdefE\n\
+    PUBLIC 2000 0 _ZN10_$LT$T$GT$1f17h0123456789abcdefE\n";
+
+const SHOWN: &[u8] = b"MODULE Linux x86_64 0 a\nFUNC 1000 20 0 a::b\nPUBLIC 2000 0 <T>::f\n";
 
 /// The frame records of a function that pushes rbp, has it as its frame's base, and returns.
 pub const PUSHED: &[u8] = b"MODULE Linux x86_64 0 a\n\
@@ -142,7 +150,7 @@ pub type Row = (
 );
 
 /// Symbol files.
-pub const TEXT_ROWS: [Row; 15] = [
+pub const TEXT_ROWS: [Row; 17] = [
     (
         "functions meet",
         &[CHECK],
@@ -161,11 +169,27 @@ pub const TEXT_ROWS: [Row; 15] = [
     ),
     (
         "a bad line",
-        &[CHECK, LOOKUP, FRAME, WALK],
+        &[CHECK, SHOW, LOOKUP, FRAME, WALK],
         Given::Bytes(b"MODULE Linux x86_64 0 a\nfunc 1\n"),
         1,
         &[],
         &[b"refused text unknown line 2\n"],
+    ),
+    (
+        "names are shown",
+        &[SHOW],
+        Given::Bytes(MANGLED),
+        0,
+        &[SHOWN],
+        &[],
+    ),
+    (
+        "other names stay",
+        &[SHOW],
+        Given::Bytes(INLINED),
+        0,
+        &[INLINED],
+        &[],
     ),
     (
         "two frames",
