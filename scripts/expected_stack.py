@@ -35,8 +35,12 @@ def run_gdb(path, place, folder):
     for _, name in stacks:
         if os.path.exists(name):
             os.remove(name)
-    done = subprocess.run(words + [path], stdin=subprocess.DEVNULL, stdout=subprocess.PIPE, stderr=subprocess.PIPE,
-                          env={**os.environ, "LC_ALL": "C"}, timeout=60)
+    try:
+        done = subprocess.run(words + [path], stdin=subprocess.DEVNULL, stdout=subprocess.PIPE, stderr=subprocess.PIPE,
+                              env={**os.environ, "LC_ALL": "C"}, timeout=60)
+    except subprocess.TimeoutExpired:
+        print("gdb did not end")
+        sys.exit(2)
     text = done.stdout.decode("utf-8", "replace")
     for _, name in stacks:
         if os.path.exists(name):
