@@ -1,6 +1,7 @@
 -- What a proof unfolds to compute the definitions of code_table and of leb_cursor where the input is written out.
 use Rattle.std.specs.Prelude.{⊤}
 use Rattle.leb_cursor.proofs.Computing.{leb_cursor_computes}
+use Rattle.code_table.specs.ExprOps.{expr_opcodes}
 use Rattle.code_table.specs.Forms.{forms, form_row, form_layouts}
 use Rattle.code_table.specs.FrameOps.{frame_opcodes}
 use Rattle.code_table.specs.LineOps.{line_opcodes}
@@ -8,5 +9,5 @@ use Rattle.code_table.specs.Layouts.{run_at, kind_at, shape_at}
 use Rattle.code_table.specs.Rows.{shape_of}
 
 unfoldable pub code_table_computes : ⊤
-unfolding forms form_row form_layouts frame_opcodes line_opcodes run_at kind_at shape_at shape_of leb_cursor_computes
+unfolding forms form_row form_layouts frame_opcodes line_opcodes expr_opcodes run_at kind_at shape_at shape_of leb_cursor_computes
 code_table_computes = tt

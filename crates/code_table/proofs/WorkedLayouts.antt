@@ -10,6 +10,7 @@ use Rattle.code_table.specs.declared.kind.Operand.{Operand}
 use Rattle.code_table.specs.declared.kind.Operand.TheVariants.{Nothing as NoOperand, Num, Signed, Run}
 use Rattle.code_table.specs.Layouts.{kind_at, shape_at}
 use Rattle.code_table.specs.Rows.{shape_of}
+use Rattle.code_table.specs.ExprOps.{expr_opcodes}
 use Rattle.code_table.specs.FrameOps.{frame_opcodes}
 use Rattle.sym_edges.proofs.Hex.{hex}
 use Rattle.code_table.proofs.Computing.{code_table_computes}
@@ -193,3 +194,40 @@ row_of_remember_state = refl
 row_of_args_size : shape_of 0x2e frame_opcodes ≡ Some (record { first = Uleb; second = Nothing })
 unfolding code_table_computes
 row_of_args_size = refl
+
+-- of the opcodes of expressions: codes between and after those of the table, and rows at the ends of its runs
+no_expression_opcode_03 : shape_of 0x03 expr_opcodes ≡ None
+unfolding code_table_computes
+no_expression_opcode_03 = refl
+
+no_expression_opcode_07 : shape_of 0x07 expr_opcodes ≡ None
+unfolding code_table_computes
+no_expression_opcode_07 = refl
+
+no_expression_opcode_12 : shape_of 0x12 expr_opcodes ≡ None
+unfolding code_table_computes
+no_expression_opcode_12 = refl
+
+no_expression_opcode_50 : shape_of 0x50 expr_opcodes ≡ None
+unfolding code_table_computes
+no_expression_opcode_50 = refl
+
+no_expression_opcode_6f : shape_of 0x6f expr_opcodes ≡ None
+unfolding code_table_computes
+no_expression_opcode_6f = refl
+
+no_expression_opcode_90 : shape_of 0x90 expr_opcodes ≡ None
+unfolding code_table_computes
+no_expression_opcode_90 = refl
+
+row_of_plus_uconst : shape_of 0x23 expr_opcodes ≡ Some (record { first = Uleb; second = Nothing })
+unfolding code_table_computes
+row_of_plus_uconst = refl
+
+row_of_lit31 : shape_of 0x4f expr_opcodes ≡ Some (record { first = Nothing; second = Nothing })
+unfolding code_table_computes
+row_of_lit31 = refl
+
+row_of_breg31 : shape_of 0x8f expr_opcodes ≡ Some (record { first = Sleb; second = Nothing })
+unfolding code_table_computes
+row_of_breg31 = refl

@@ -2,4 +2,5 @@ pub mod Rows
 pub mod Layouts
 pub mod FrameOps
 pub mod LineOps
+pub mod ExprOps
 pub mod Forms

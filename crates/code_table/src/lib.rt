@@ -1,6 +1,6 @@
 //! Tables of codes with the layouts of their operands, and the reading of operands by layout: the
-//! opcodes of call frame instructions (DWARF 5, 6.4.2 and table 7.29), and the forms of attribute
-//! values (7.5.6 and table 7.6). Beside them stand the names of the tags and attributes of entries (tables 7.3 and 7.5).
+//! opcodes of call frame instructions (DWARF 5, 6.4.2 and table 7.29), those of DWARF expressions that
+//! frame entries have (2.5 and table 7.9), and the forms of attribute values (7.5.6 and table 7.6). Beside them stand the names of the tags and attributes of entries (tables 7.3 and 7.5).
 //!
 //! A layout is a [`Kind`]; a code has two, its [`Shape`]. [`Table::find`] gives the shape of a code
 //! exactly where the table has it, and [`read_shape`] reads its operands from a cursor: what it
@@ -13,6 +13,7 @@
 
 mod attributes;
 mod code_row;
+mod expr_ops;
 mod forms;
 mod frame_ops;
 mod kind;
@@ -39,6 +40,89 @@ pub use crate::attributes::DW_AT_specification;
 pub use crate::attributes::DW_AT_stmt_list;
 pub use crate::attributes::DW_AT_str_offsets_base;
 pub use crate::code_row::CodeRow;
+pub use crate::expr_ops::DW_OP_and;
+pub use crate::expr_ops::DW_OP_breg0;
+pub use crate::expr_ops::DW_OP_breg1;
+pub use crate::expr_ops::DW_OP_breg2;
+pub use crate::expr_ops::DW_OP_breg3;
+pub use crate::expr_ops::DW_OP_breg4;
+pub use crate::expr_ops::DW_OP_breg5;
+pub use crate::expr_ops::DW_OP_breg6;
+pub use crate::expr_ops::DW_OP_breg7;
+pub use crate::expr_ops::DW_OP_breg8;
+pub use crate::expr_ops::DW_OP_breg9;
+pub use crate::expr_ops::DW_OP_breg10;
+pub use crate::expr_ops::DW_OP_breg11;
+pub use crate::expr_ops::DW_OP_breg12;
+pub use crate::expr_ops::DW_OP_breg13;
+pub use crate::expr_ops::DW_OP_breg14;
+pub use crate::expr_ops::DW_OP_breg15;
+pub use crate::expr_ops::DW_OP_breg16;
+pub use crate::expr_ops::DW_OP_breg17;
+pub use crate::expr_ops::DW_OP_breg18;
+pub use crate::expr_ops::DW_OP_breg19;
+pub use crate::expr_ops::DW_OP_breg20;
+pub use crate::expr_ops::DW_OP_breg21;
+pub use crate::expr_ops::DW_OP_breg22;
+pub use crate::expr_ops::DW_OP_breg23;
+pub use crate::expr_ops::DW_OP_breg24;
+pub use crate::expr_ops::DW_OP_breg25;
+pub use crate::expr_ops::DW_OP_breg26;
+pub use crate::expr_ops::DW_OP_breg27;
+pub use crate::expr_ops::DW_OP_breg28;
+pub use crate::expr_ops::DW_OP_breg29;
+pub use crate::expr_ops::DW_OP_breg30;
+pub use crate::expr_ops::DW_OP_breg31;
+pub use crate::expr_ops::DW_OP_const1s;
+pub use crate::expr_ops::DW_OP_const1u;
+pub use crate::expr_ops::DW_OP_const2s;
+pub use crate::expr_ops::DW_OP_const2u;
+pub use crate::expr_ops::DW_OP_const4s;
+pub use crate::expr_ops::DW_OP_const4u;
+pub use crate::expr_ops::DW_OP_const8s;
+pub use crate::expr_ops::DW_OP_const8u;
+pub use crate::expr_ops::DW_OP_consts;
+pub use crate::expr_ops::DW_OP_constu;
+pub use crate::expr_ops::DW_OP_deref;
+pub use crate::expr_ops::DW_OP_ge;
+pub use crate::expr_ops::DW_OP_lit0;
+pub use crate::expr_ops::DW_OP_lit1;
+pub use crate::expr_ops::DW_OP_lit2;
+pub use crate::expr_ops::DW_OP_lit3;
+pub use crate::expr_ops::DW_OP_lit4;
+pub use crate::expr_ops::DW_OP_lit5;
+pub use crate::expr_ops::DW_OP_lit6;
+pub use crate::expr_ops::DW_OP_lit7;
+pub use crate::expr_ops::DW_OP_lit8;
+pub use crate::expr_ops::DW_OP_lit9;
+pub use crate::expr_ops::DW_OP_lit10;
+pub use crate::expr_ops::DW_OP_lit11;
+pub use crate::expr_ops::DW_OP_lit12;
+pub use crate::expr_ops::DW_OP_lit13;
+pub use crate::expr_ops::DW_OP_lit14;
+pub use crate::expr_ops::DW_OP_lit15;
+pub use crate::expr_ops::DW_OP_lit16;
+pub use crate::expr_ops::DW_OP_lit17;
+pub use crate::expr_ops::DW_OP_lit18;
+pub use crate::expr_ops::DW_OP_lit19;
+pub use crate::expr_ops::DW_OP_lit20;
+pub use crate::expr_ops::DW_OP_lit21;
+pub use crate::expr_ops::DW_OP_lit22;
+pub use crate::expr_ops::DW_OP_lit23;
+pub use crate::expr_ops::DW_OP_lit24;
+pub use crate::expr_ops::DW_OP_lit25;
+pub use crate::expr_ops::DW_OP_lit26;
+pub use crate::expr_ops::DW_OP_lit27;
+pub use crate::expr_ops::DW_OP_lit28;
+pub use crate::expr_ops::DW_OP_lit29;
+pub use crate::expr_ops::DW_OP_lit30;
+pub use crate::expr_ops::DW_OP_lit31;
+pub use crate::expr_ops::DW_OP_minus;
+pub use crate::expr_ops::DW_OP_mul;
+pub use crate::expr_ops::DW_OP_plus;
+pub use crate::expr_ops::DW_OP_plus_uconst;
+pub use crate::expr_ops::DW_OP_shl;
+pub use crate::expr_ops::EXPR_OPS;
 pub use crate::forms::DW_FORM_GNU_ref_alt;
 pub use crate::forms::DW_FORM_GNU_strp_alt;
 pub use crate::forms::DW_FORM_addr;

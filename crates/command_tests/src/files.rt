@@ -1,8 +1,8 @@
 //! The files of the rows.
 use std::alloc::{AllocError, Global};
 use test_rows::elf::{
-    A_C, EIGHT_OR_FOUR, ENTRIES, FUNCTIONS, ID, LONG_CODE, NOPS, NULL, Section, THREE_ROWS,
-    TWO_FILES, entry_of, file_of, file_with, line_table, small_and, unit_of, with_functions,
+    A_C, EIGHT_OR_FOUR, ENTRIES, FUNCTIONS, ID, LINES, LONG_CODE, NOPS, NULL, Section, THREE_ROWS,
+    TWO_FILES, entry_of, file_of, file_with, line_table, put, small_and, unit_of, with_functions,
 };
 
 /// An entry: its code, its name, its first address and its length, and what stands after these.
@@ -26,6 +26,8 @@ pub enum Given {
     Symbols,
     /// A unit with these entries. The lines are 3 from 1000, 9 from 1004 and 4 from 100c on, up to 1020.
     Entries(&'static [Entry]),
+    /// The same in the 64-bit format.
+    WideEntries(&'static [Entry]),
     /// `f` with the lines of two files, and `g` in another unit with those of the same table, if so, or of one after it.
     TwoUnits(bool),
     /// The function `f` of eight bytes at this address, and the symbol of the small file.
@@ -76,12 +78,42 @@ fn of_units<'a>(alloc: Global, units: &'a [u8], frames: &'a [u8]) -> Result<Vec<
     file_of(alloc, &[(1, 0)], &sections)
 }
 
-fn of_entries(alloc: Global, entries: &[Entry]) -> Result<Vec<u8>, AllocError> {
+fn bytes_of(alloc: Global, entries: &[Entry]) -> Result<Vec<u8>, AllocError> {
     let mut bytes = Vec::new(alloc);
     for (code, name, first, length, rest) in entries {
         bytes.extend_from_slice(&entry_of(alloc, *code, name, *first, *length)?)?;
         bytes.extend_from_slice(rest)?;
     }
+    Ok(bytes)
+}
+
+/// The length of the 64-bit format, and the bytes after it.
+fn wide(alloc: Global, parts: &[&[u8]]) -> Result<Vec<u8>, AllocError> {
+    let bytes = joined(alloc, parts)?;
+    let mut whole = Vec::new(alloc);
+    put(&mut whole, 4, &[0xffff_ffff])?;
+    put(&mut whole, 8, &[bytes.len() as u64])?;
+    whole.extend_from_slice(&bytes)?;
+    Ok(whole)
+}
+
+fn of_wide_entries(alloc: Global, entries: &[Entry]) -> Result<Vec<u8>, AllocError> {
+    let bytes = bytes_of(alloc, entries)?;
+    let header = b"\x04\0\0\0\0\0\0\0\0\0\x08\x01\0\0\0\0\0\0\0\0/s\0".as_slice();
+    let unit = wide(alloc, &[header, &bytes, b"\0"])?;
+    let mut header = Vec::new(alloc);
+    put(&mut header, 2, &[4])?;
+    put(
+        &mut header,
+        8,
+        &[LINES.len().saturating_add(A_C.len()) as u64],
+    )?;
+    let lines = wide(alloc, &[&header, LINES, A_C, THREE_ROWS])?;
+    with_functions(alloc, NOPS, &unit, &lines)
+}
+
+fn of_entries(alloc: Global, entries: &[Entry]) -> Result<Vec<u8>, AllocError> {
+    let bytes = bytes_of(alloc, entries)?;
     let unit = unit_of(alloc, 0, &bytes)?;
     let lines = line_table(alloc, A_C, THREE_ROWS)?;
     with_functions(alloc, NOPS, &unit, &lines)
@@ -126,6 +158,7 @@ pub fn file_by(alloc: Global, given: Given) -> Result<Vec<u8>, AllocError> {
         Given::Units(units, frames) => of_units(alloc, &joined(alloc, units)?, frames),
         Given::Symbols => two_at_one_address(alloc),
         Given::Entries(entries) => of_entries(alloc, entries),
+        Given::WideEntries(entries) => of_wide_entries(alloc, entries),
         Given::TwoUnits(is_one_table) => of_two_units(alloc, is_one_table),
         Given::Covered(first) => with_symbols(alloc, first),
     }

@@ -305,7 +305,7 @@ pub const TEXT_ROWS: [Row; 17] = [
 ];
 
 /// Words, and ELF files.
-pub const ROWS: [Row; 36] = [
+pub const ROWS: [Row; 37] = [
     ("usage", NO_ROWS, Given::Small, 2, &[], &[USAGE]),
     ("another file", &[OTHER], Given::Small, 3, &[], &[UNREAD]),
     ("main", DUMPS, Given::Small, 0, &[FRONT, MAIN], &[]),
@@ -546,6 +546,21 @@ pub const ROWS: [Row; 36] = [
         "a copy",
         DUMPS,
         Given::Entries(&[
+            (4, b"f\0", 0x1000, 0x20, b""),
+            (3, b"g\0", 0x1004, 8, b"\x01\x04\0"),
+        ]),
+        0,
+        &[
+            FRONT,
+            A,
+            b"INLINE_ORIGIN 0 g\nFUNC 1000 20 0 f\nINLINE 0 4 0 0 1004 8\n1000 4 3 0\n1004 8 9 0\n100c 14 4 0\n",
+        ],
+        &[],
+    ),
+    (
+        "a copy, in the 64-bit format",
+        DUMPS,
+        Given::WideEntries(&[
             (4, b"f\0", 0x1000, 0x20, b""),
             (3, b"g\0", 0x1004, 8, b"\x01\x04\0"),
         ]),

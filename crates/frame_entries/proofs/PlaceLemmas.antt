@@ -1,13 +1,14 @@
--- The places of a section's entries rise, and its list does not depend on how many turns are allowed; for `entries`, `entries_follow`, `read_entry`, `read_listing`, `read_mark`.
-use Rattle.std.proofs.Common.{◌≡◌, ◌≤◌, ◌+◌, ◌-◌, ℕ, zero, suc, Bool, true, false, ◌||◌, nat_eq, nat_lt, nat_le, cond, eq-eqb, List, [], ◌∷◌, length, map, Result, Ok, Err, refl, sym, ap, ◌∙◌, subst, arith}
+-- The places of a section's entries rise, and its list does not depend on how many turns are allowed; for `entries`, `entries_follow`, `read_entry`, `front_id`, `read_listing`, `read_mark`.
+use Rattle.std.proofs.Common.{◌≡◌, ◌≤◌, ◌+◌, ℕ, zero, suc, Bool, true, false, nat_eq, nat_lt, nat_le, cond, eq-eqb, List, [], ◌∷◌, length, take, map, Result, Ok, Err, refl, sym, ap, ◌∙◌, subst, arith}
 use Rattle.std.specs.List.{filter}
-use Rattle.std.proofs.lemmas.Bool.{cond-true}
+use Rattle.std.proofs.lemmas.Bool.{cond-true, cond-false, le-ltb, ltb-false}
+use Rattle.std.proofs.lemmas.List.{length-take-le}
 use Rattle.sym_edges.specs.declared.part.Sect.{Sect}
 use Rattle.leb_cursor.specs.declared.fault.CursorFault.{CursorFault}
 use Rattle.sym_edges.specs.Results.{◌>>=◌}
 use Rattle.leb_cursor.specs.Ahead.{Ahead, passed}
 use Rattle.leb_cursor.specs.Passes.{Passes}
-use Rattle.leb_cursor.specs.Readings.{fixed_at, take_at}
+use Rattle.leb_cursor.specs.Readings.{fixed_sum, fixed_at, take_at}
 use Rattle.leb_cursor.proofs.PassLemmas.{fixed_passes, take_passes, passes_then}
 use Rattle.leb_cursor.proofs.ListLemmas.{weaker, either_passes}
 use Rattle.frame_entries.specs.declared.fault.FrameKind.TheVariants.{Length, Format64}
@@ -16,8 +17,8 @@ use Rattle.frame_entries.specs.declared.fault.FrameKind.{FrameKind}
 use Rattle.frame_entries.specs.declared.raw_entries.Mark.{Mark}
 use Rattle.frame_entries.specs.declared.raw_entries.Mark.TheVariants.{Terminator, Padding, Listed}
 use Rattle.frame_entries.specs.declared.cie.Cie.{Cie}
-use Rattle.frame_entries.specs.Raw.{Raw}
-use Rattle.frame_entries.specs.Listing.{or_length, is_eh, entry_at, mark_behind, mark_at, listed_from, listed_in, listed_at, listed_by}
+use Rattle.frame_entries.specs.Raw.{id_width, Raw}
+use Rattle.frame_entries.specs.Listing.{or_length, is_eh, from_start, entry_at, wide_behind, mark_behind, mark_at, listed_from, listed_in, listed_at, listed_by}
 use Rattle.frame_entries.specs.internal.CiePlaces.{places_of}
 use Rattle.sym_edges.specs.Rising.{RisesFrom}
 use Rattle.sym_edges.proofs.RisingLemmas.{rises_lower}
@@ -28,24 +29,31 @@ or_passes : {A : Type 0} (which : Sect) (at : ℕ) (reading : Result (A × Ahead
 or_passes which at (Ok x) least c goes = goes
 or_passes which at (Err fault) least c goes = tt
 
-entry_passes : (which : Sect) (at count : ℕ) (c : Ahead) → Passes 0 c (entry_at which at count c)
+made_passes : {A B E : Type 0} (make : A × Ahead → B) (reading : Result (A × Ahead) E) (c : Ahead) → Passes 0 c reading → Passes 0 c (reading >>= λ x. Ok (make x, x.1))
+made_passes make (Ok x) c goes = goes
+made_passes make (Err fault) c goes = tt
+
+entry_passes : (which : Sect) (at : ℕ) (wide : Bool) (count : ℕ) (c : Ahead) → Passes 0 c (entry_at which at wide count c)
 unfolding entry_at
-entry_passes which at count c =
-    weaker (entry_at which at count c) (4 + (count - 4 + 0)) 0 c (omega arith)
-    (passes_then (or_length which at (fixed_at 4 c))
-    (λ id. or_length which at (take_at (count - 4) id.1) >>= λ body. Ok (Listed (record { at = at; id_at = c.at; id = id.0; body_at = id.1.at; body = body.0 }), body.1))
-    4 (count - 4 + 0) c (or_passes which at (fixed_at 4 c) 4 c (fixed_passes 4 c))
-    (λ id. passes_then (or_length which at (take_at (count - 4) id.1))
-    (λ body. Ok (Listed (record { at = at; id_at = c.at; id = id.0; body_at = id.1.at; body = body.0 }), body.1))
-    (count - 4) 0 id.1 (or_passes which at (take_at (count - 4) id.1) (count - 4) id.1 (take_passes (count - 4) id.1))
-    (λ body. (omega arith, refl))))
+entry_passes which at wide count c =
+    either_passes (nat_lt count (id_width wide)) (Err (record { kind = Length; section = which; at = at })) _ 0 c tt
+    (made_passes _ (or_length which at (take_at count c)) c
+    (weaker (or_length which at (take_at count c)) count 0 c (omega arith) (or_passes which at (take_at count c) count c (take_passes count c))))
+
+wide_passes : (which : Sect) (at : ℕ) (c : Ahead) → Passes 0 c (wide_behind which at c)
+unfolding wide_behind
+wide_passes which at c =
+    either_passes (is_eh which) (Err (record { kind = Format64; section = which; at = at })) _ 0 c tt
+    (weaker _ (8 + 0) 0 c (omega arith)
+    (passes_then (or_length which at (fixed_at 8 c)) (λ count. entry_at which at true count.0 count.1) 8 0 c
+    (or_passes which at (fixed_at 8 c) 8 c (fixed_passes 8 c)) (λ count. entry_passes which at true count.0 count.1)))
 
 behind_passes : (which : Sect) (at count : ℕ) (c : Ahead) → Passes 0 c (mark_behind which at count c)
 unfolding mark_behind
 behind_passes which at count c =
     either_passes (nat_eq count 0) _ _ 0 c (omega arith, refl)
-    (either_passes (nat_eq count 0xffffffff) (Err (record { kind = Format64; section = which; at = at })) _ 0 c tt
-    (either_passes (nat_lt count 4 || nat_le 0xfffffff0 count) (Err (record { kind = Length; section = which; at = at })) (entry_at which at count c) 0 c tt (entry_passes which at count c)))
+    (either_passes (nat_eq count 0xffffffff) (wide_behind which at c) _ 0 c (wide_passes which at c)
+    (either_passes (nat_le 0xfffffff0 count) (Err (record { kind = Length; section = which; at = at })) (entry_at which at false count c) 0 c tt (entry_passes which at false count c)))
 
 mark_passes : (which : Sect) (c : Ahead) → Passes 4 c (mark_at which c)
 unfolding mark_at
@@ -66,6 +74,33 @@ ends_by false fault sum width c x is = ap (place_behind c.at) is
 pub fixed_ends : (width n : ℕ) (c d : Ahead) → Ok (n, d) ≡ fixed_at width c → d.at ≡ c.at + width
 unfolding fixed_at
 fixed_ends width n c d is = ends_by (nat_lt (length c.bytes) width) _ _ width c (n, d) is
+
+-- what a number at the front is, and that it is there
+number_by : (test : Bool) (fault : CursorFault) (sum : ℕ) (d : Ahead) (x : ℕ × Ahead) → Ok x ≡ cond test (Err fault) (Ok (sum, d)) → x.0 ≡ sum
+number_by true fault sum d x is = cc
+number_by false fault sum d x is = cc
+
+pub front_number : (width n : ℕ) (bytes : List ℕ) (d : Ahead) → Ok (n, d) ≡ fixed_at width (from_start bytes) → n ≡ fixed_sum width bytes
+unfolding fixed_at
+front_number width n bytes d is = number_by (nat_lt (length bytes) width) _ _ _ (n, d) is
+
+pub front_there : (width n : ℕ) (bytes : List ℕ) (fault : CursorFault) → Err fault ≡ fixed_at width (from_start bytes) → width ≤ length bytes → n ≡ fixed_sum width bytes
+unfolding fixed_at
+front_there width n bytes fault is there =
+    let enough : nat_lt (length bytes) width ≡ false = le-ltb (length bytes) width there in
+    let never : ◌≡◌ {A = Result (ℕ × Ahead) CursorFault} (Err fault) (Ok (fixed_sum width bytes, passed width (from_start bytes))) = is ∙ cond-false _ _ _ enough in
+    cc
+
+-- how many bytes are taken
+taken_by : (test : Bool) (fault : CursorFault) (n : ℕ) (c : Ahead) (x : List ℕ × Ahead) → nat_lt (length c.bytes) n ≡ test → Ok x ≡ cond test (Err fault) (Ok (take n c.bytes, passed n c)) → length x.0 ≡ n
+taken_by true fault n c x is took = cc
+taken_by false fault n c x is took =
+    let same : x.0 ≡ take n c.bytes = cc in
+    ap length same ∙ length-take-le n c.bytes (ltb-false (length c.bytes) n is)
+
+pub taken_length : (n : ℕ) (c d : Ahead) (bytes : List ℕ) → Ok (bytes, d) ≡ take_at n c → length bytes ≡ n
+unfolding take_at
+taken_length n c d bytes is = taken_by (nat_lt (length c.bytes) n) _ n c (bytes, d) refl is
 
 -- the end after a mark
 pub mark_ends : (which : Sect) (c d : Ahead) (mark : Mark) → Ok (mark, d) ≡ mark_at which c → d.at + length d.bytes ≡ c.at + length c.bytes
@@ -96,21 +131,24 @@ zero_starts : (at : ℕ) (test : Bool) → MarkStarts at (cond test Terminator P
 zero_starts at true = tt
 zero_starts at false = tt
 
-entry_starts : (which : Sect) (at count : ℕ) (c : Ahead) → Starts at (entry_at which at count c)
+entry_starts : (which : Sect) (at : ℕ) (wide : Bool) (count : ℕ) (c : Ahead) → Starts at (entry_at which at wide count c)
 unfolding entry_at
-entry_starts which at count c =
-    starts_then at (or_length which at (fixed_at 4 c))
-    (λ id. or_length which at (take_at (count - 4) id.1) >>= λ body. Ok (Listed (record { at = at; id_at = c.at; id = id.0; body_at = id.1.at; body = body.0 }), body.1))
-    (λ id. starts_then at (or_length which at (take_at (count - 4) id.1))
-    (λ body. Ok (Listed (record { at = at; id_at = c.at; id = id.0; body_at = id.1.at; body = body.0 }), body.1))
-    (λ body. refl))
+entry_starts which at wide count c =
+    either_starts at (nat_lt count (id_width wide)) (Err (record { kind = Length; section = which; at = at })) _ tt
+    (starts_then at (or_length which at (take_at count c)) _ (λ bytes. refl))
+
+wide_starts : (which : Sect) (at : ℕ) (c : Ahead) → Starts at (wide_behind which at c)
+unfolding wide_behind
+wide_starts which at c =
+    either_starts at (is_eh which) (Err (record { kind = Format64; section = which; at = at })) _ tt
+    (starts_then at (or_length which at (fixed_at 8 c)) (λ count. entry_at which at true count.0 count.1) (λ count. entry_starts which at true count.0 count.1))
 
 behind_starts : (which : Sect) (at count : ℕ) (c : Ahead) → Starts at (mark_behind which at count c)
 unfolding mark_behind
 behind_starts which at count c =
     either_starts at (nat_eq count 0) _ _ (zero_starts at (is_eh which))
-    (either_starts at (nat_eq count 0xffffffff) (Err (record { kind = Format64; section = which; at = at })) _ tt
-    (either_starts at (nat_lt count 4 || nat_le 0xfffffff0 count) (Err (record { kind = Length; section = which; at = at })) (entry_at which at count c) tt (entry_starts which at count c)))
+    (either_starts at (nat_eq count 0xffffffff) (wide_behind which at c) _ (wide_starts which at c)
+    (either_starts at (nat_le 0xfffffff0 count) (Err (record { kind = Length; section = which; at = at })) (entry_at which at false count c) tt (entry_starts which at false count c)))
 
 mark_starts : (which : Sect) (c : Ahead) → Starts c.at (mark_at which c)
 unfolding mark_at

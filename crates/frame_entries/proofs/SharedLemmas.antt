@@ -126,7 +126,7 @@ both_under cies e f first second one =
     }
 
 abbrev no_raw : Raw
-no_raw = record { at = 0; id_at = 0; id = 0; body_at = 0; body = [] }
+no_raw = record { at = 0; wide = false; id_at = 0; id = 0; body_at = 0; body = [] }
 
 listed_fields : (which : Sect) (address : ℕ) (cies : List Cie) (raws : List Raw) (i : ℕ) (d : Entry) (e : FdeFields) → i < length (map (entry_of which address cies) raws) → (get_or (map (entry_of which address cies) raws) i d).body ≡ Good e → IsUnder e.cie (fields_at cies e.cie) e
 listed_fields which address cies raws i d e there is =

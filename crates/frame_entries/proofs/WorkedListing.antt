@@ -102,13 +102,9 @@ three_bytes_left_in_eh_frame : lists EhFrame "000000" ≡ Err (record { kind = L
 unfolding sections lists
 three_bytes_left_in_eh_frame = refl
 
-format_64_in_debug_frame : lists DebugFrame "ffffffff" ≡ Err (record { kind = Format64; section = DebugFrame; at = 0 })
+no_length_of_format_64_in_debug_frame : lists DebugFrame "ffffffff" ≡ Err (record { kind = Length; section = DebugFrame; at = 0 })
 unfolding sections lists
-format_64_in_debug_frame = refl
-
-format_64_with_bytes_in_debug_frame : lists DebugFrame "ffffffff 04000000 00000000 00000000" ≡ Err (record { kind = Format64; section = DebugFrame; at = 0 })
-unfolding sections lists
-format_64_with_bytes_in_debug_frame = refl
+no_length_of_format_64_in_debug_frame = refl
 
 the_last_reserved_length_in_debug_frame : lists DebugFrame "feffffff" ≡ Err (record { kind = Length; section = DebugFrame; at = 0 })
 unfolding sections lists
@@ -137,6 +133,83 @@ one_byte_left_in_debug_frame = refl
 three_bytes_left_in_debug_frame : lists DebugFrame "000000" ≡ Err (record { kind = Length; section = DebugFrame; at = 0 })
 unfolding sections lists
 three_bytes_left_in_debug_frame = refl
+
+-- the 64-bit format in `.debug_frame`: lengths and ids of eight bytes, and entries of both formats beside each other
+format_64 : lists DebugFrame "ffffffff 1800000000000000 ffffffffffffffff 01 00 01 78 10 0c0708 9001 000000000000 ffffffff 2000000000000000 0000000000000000 0010000000000000 2000000000000000 41 0e10 8602 000000" ≡ Ok ((0x24, Ok (0x1000, 0x20)) ∷ [])
+unfolding sections lists
+format_64 = refl
+
+a_whole_entry_of_format_64 : frame_entries (hex "ffffffff 1800000000000000 ffffffffffffffff 01 00 01 78 10 0c0708 9001 000000000000 ffffffff 2000000000000000 0000000000000000 0010000000000000 2000000000000000 41 0e10 8602 000000") 0x3000 DebugFrame ≡ Ok (record {
+  section = DebugFrame;
+  at = 0x24;
+  body = Good (record {
+    cie = 0;
+    start = 0x1000;
+    size = 0x20;
+    code_align = 1;
+    data_align = negsuc 7;
+    encoding = 0;
+    initial_instructions = hex "0c0708 9001 000000000000";
+    instructions = hex "41 0e10 8602 000000";
+    instructions_address = 0x3048;
+  });
+} ∷ [])
+unfolding sections
+a_whole_entry_of_format_64 = refl
+
+format_64_in_eh_frame_alone : lists EhFrame "ffffffff 1800000000000000 ffffffffffffffff 01 00 01 78 10 0c0708 9001 000000000000" ≡ Err (record { kind = Format64; section = EhFrame; at = 0 })
+unfolding sections lists
+format_64_in_eh_frame_alone = refl
+
+an_fde_of_32_bits_with_a_cie_of_64 : lists DebugFrame "ffffffff 1800000000000000 ffffffffffffffff 01 00 01 78 10 0c0708 9001 000000000000 1c000000 00000000 0010000000000000 2000000000000000 41 0e10 8602 000000" ≡ Ok ((0x24, Ok (0x1000, 0x20)) ∷ [])
+unfolding sections lists
+an_fde_of_32_bits_with_a_cie_of_64 = refl
+
+an_fde_of_64_bits_with_a_cie_of_32 : lists DebugFrame "14000000 ffffffff 01 00 01 78 10 0c0708 9001 000000000000 ffffffff 2000000000000000 0000000000000000 0010000000000000 2000000000000000 41 0e10 8602 000000" ≡ Ok ((0x18, Ok (0x1000, 0x20)) ∷ [])
+unfolding sections lists
+an_fde_of_64_bits_with_a_cie_of_32 = refl
+
+an_fde_of_64_bits_in_front_of_its_cie : lists DebugFrame "ffffffff 2000000000000000 2c00000000000000 0010000000000000 2000000000000000 41 0e10 8602 000000 ffffffff 1800000000000000 ffffffffffffffff 01 00 01 78 10 0c0708 9001 000000000000" ≡ Ok ((0, Ok (0x1000, 0x20)) ∷ [])
+unfolding sections lists
+an_fde_of_64_bits_in_front_of_its_cie = refl
+
+-- the greatest id of four bytes is a place like others where an id has eight, and no place is counted modulo 2^32
+the_id_ffffffff_in_format_64 : lists DebugFrame "ffffffff 1800000000000000 ffffffffffffffff 01 00 01 78 10 0c0708 9001 000000000000 ffffffff 2000000000000000 ffffffff00000000 0010000000000000 2000000000000000 41 0e10 8602 000000" ≡ Ok ((0x24, Err reason.Cie) ∷ [])
+unfolding sections lists
+the_id_ffffffff_in_format_64 = refl
+
+an_id_of_2_to_the_32 : lists DebugFrame "ffffffff 1800000000000000 ffffffffffffffff 01 00 01 78 10 0c0708 9001 000000000000 ffffffff 2000000000000000 0000000001000000 0010000000000000 2000000000000000 41 0e10 8602 000000" ≡ Ok ((0x24, Err reason.Cie) ∷ [])
+unfolding sections lists
+an_id_of_2_to_the_32 = refl
+
+-- lengths below 8, one that leaves the section, one whose end leaves 64 bits, and one that is cut; a length of fffffff0 is none
+no_room_for_the_id_0_in_format_64 : lists DebugFrame "ffffffff 0000000000000000 0000000000000000" ≡ Err (record { kind = Length; section = DebugFrame; at = 0 })
+unfolding sections lists
+no_room_for_the_id_0_in_format_64 = refl
+
+no_room_for_the_id_7_in_format_64 : lists DebugFrame "ffffffff 0700000000000000 0000000000000000" ≡ Err (record { kind = Length; section = DebugFrame; at = 0 })
+unfolding sections lists
+no_room_for_the_id_7_in_format_64 = refl
+
+room_for_the_id_alone_in_format_64 : lists DebugFrame "ffffffff 0800000000000000 0000000000000000" ≡ Ok ((0, Err reason.Cie) ∷ [])
+unfolding sections lists
+room_for_the_id_alone_in_format_64 = refl
+
+one_byte_too_many_in_format_64 : lists DebugFrame "00000000 ffffffff 0900000000000000 0000000000000000" ≡ Err (record { kind = Length; section = DebugFrame; at = 4 })
+unfolding sections lists
+one_byte_too_many_in_format_64 = refl
+
+a_reserved_length_in_format_64 : lists DebugFrame "ffffffff f0ffffff00000000 0000000000000000" ≡ Err (record { kind = Length; section = DebugFrame; at = 0 })
+unfolding sections lists
+a_reserved_length_in_format_64 = refl
+
+the_greatest_length_in_format_64 : lists DebugFrame "ffffffff ffffffffffffffff 0000000000000000" ≡ Err (record { kind = Length; section = DebugFrame; at = 0 })
+unfolding sections lists
+the_greatest_length_in_format_64 = refl
+
+a_cut_length_in_format_64 : lists DebugFrame "ffffffff 18000000000000" ≡ Err (record { kind = Length; section = DebugFrame; at = 0 })
+unfolding sections lists
+a_cut_length_in_format_64 = refl
 
 -- a length of 0 ends `.eh_frame`, and `.debug_frame` goes on after it
 ended_by_zero : lists EhFrame "00000000 01000000" ≡ Ok []

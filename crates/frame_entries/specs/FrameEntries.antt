@@ -26,9 +26,12 @@ IsFrameSection EhFrame = Unit {0}
 IsFrameSection DebugFrame = Unit {0}
 IsFrameSection _ = ⊥
 
--- the id of a CIE; every other entry is an FDE
+-- the id of a CIE: 0 in `.eh_frame`, in `.debug_frame` the greatest that its format has; every other entry is an FDE
+unfoldable pub cie_id : Sect → Bool → ℕ
+cie_id which wide = if is_eh which then 0 else (if wide then 0xffffffffffffffff else 0xffffffff)
+
 unfoldable pub is_cie : Sect → Raw → Bool
-is_cie which raw = raw.id == (if is_eh which then 0 else 0xffffffff)
+is_cie which raw = raw.id == cie_id which raw.wide
 
 -- the CIEs of a section, each with its place
 abbrev pub cie_at : Raw → Cie

@@ -1,17 +1,17 @@
 -- The entries of a section of frame entries, one after the other (DWARF 5, 6.4.1; LSB Core, ".eh_frame").
-use Rattle.std.specs.Prelude.{ℕ, zero, suc, ◌-◌, ◌==◌, ◌||◌, nat_lt, nat_le, Bool, true, false, if◌then◌else◌, List, [], ◌∷◌, length, Result, Ok, Err}
+use Rattle.std.specs.Prelude.{ℕ, zero, suc, ◌+◌, ◌==◌, nat_lt, nat_le, Bool, true, false, if◌then◌else◌, List, [], ◌∷◌, length, drop, Result, Ok, Err}
 use Rattle.sym_edges.specs.declared.part.Sect.{Sect}
 use Rattle.sym_edges.specs.declared.part.Sect.TheVariants.{EhFrame}
 use Rattle.leb_cursor.specs.declared.fault.CursorFault.{CursorFault}
 use Rattle.sym_edges.specs.Results.{◌>>=◌}
 use Rattle.leb_cursor.specs.Ahead.{Ahead}
-use Rattle.leb_cursor.specs.Readings.{fixed_at, take_at}
+use Rattle.leb_cursor.specs.Readings.{fixed_sum, fixed_at, take_at}
 use Rattle.frame_entries.specs.declared.fault.FrameKind.TheVariants.{Length, Format64}
 use Rattle.sym_edges.specs.declared.located.Located.{Located}
 use Rattle.frame_entries.specs.declared.fault.FrameKind.{FrameKind}
 use Rattle.frame_entries.specs.declared.raw_entries.Mark.{Mark}
 use Rattle.frame_entries.specs.declared.raw_entries.Mark.TheVariants.{Terminator, Padding, Listed}
-use Rattle.frame_entries.specs.Raw.{Raw}
+use Rattle.frame_entries.specs.Raw.{id_width, Raw}
 
 -- `.eh_frame` and not `.debug_frame`
 unfoldable pub is_eh : Sect → Bool
@@ -27,20 +27,36 @@ abbrev pub or_length : {A : Type 0} → Sect → ℕ → Result A CursorFault �
 or_length which at (Ok x) = Ok x
 or_length which at (Err fault) = Err (record { kind = Length; section = which; at = at })
 
--- after a length of four at least: the id, and the body, which has the bytes that are left of the length
-unfoldable pub entry_at : Sect → ℕ → ℕ → Ahead → Result (Mark × Ahead) (Located FrameKind)
-entry_at which at count c =
-    or_length which at (fixed_at 4 c) >>= λ id.
-    or_length which at (take_at (count - 4) id.1) >>= λ body.
-    Ok (Listed (record { at = at; id_at = c.at; id = id.0; body_at = id.1.at; body = body.0 }), body.1)
+-- after a length in either format: as many bytes, which have room for the id, and of which the rest is the body
+unfoldable pub entry_at : Sect → ℕ → Bool → ℕ → Ahead → Result (Mark × Ahead) (Located FrameKind)
+entry_at which at wide count c =
+    if nat_lt count (id_width wide) then Err (record { kind = Length; section = which; at = at }) else
+    (or_length which at (take_at count c) >>= λ bytes.
+    Ok (
+      Listed (record {
+        at = at;
+        wide = wide;
+        id_at = c.at;
+        id = fixed_sum (id_width wide) bytes.0;
+        body_at = c.at + id_width wide;
+        body = drop (id_width wide) bytes.0;
+      }),
+      bytes.1,
+    ))
+
+-- after ffffffff: a length of eight bytes in `.debug_frame`; `.eh_frame` has no 64-bit format
+unfoldable pub wide_behind : Sect → ℕ → Ahead → Result (Mark × Ahead) (Located FrameKind)
+wide_behind which at c =
+    if is_eh which then Err (record { kind = Format64; section = which; at = at }) else
+    (or_length which at (fixed_at 8 c) >>= λ count. entry_at which at true count.0 count.1)
 
 -- after a length: a zero is no entry, and ends `.eh_frame`
 unfoldable pub mark_behind : Sect → ℕ → ℕ → Ahead → Result (Mark × Ahead) (Located FrameKind)
 mark_behind which at count c =
     if count == 0 then Ok (if is_eh which then Terminator else Padding, c) else
-    if count == 0xffffffff then Err (record { kind = Format64; section = which; at = at }) else
-    if nat_lt count 4 || nat_le 0xfffffff0 count then Err (record { kind = Length; section = which; at = at }) else
-    entry_at which at count c
+    if count == 0xffffffff then wide_behind which at c else
+    if nat_le 0xfffffff0 count then Err (record { kind = Length; section = which; at = at }) else
+    entry_at which at false count c
 
 -- what stands next: its length comes first
 unfoldable pub mark_at : Sect → Ahead → Result (Mark × Ahead) (Located FrameKind)

@@ -1,9 +1,18 @@
 -- Entries as they lie in their section.
-use Rattle.std.specs.Prelude.{ℕ, List}
+use Rattle.std.specs.Prelude.{ℕ, Bool, if◌then◌else◌, List}
 
--- an entry as it lies in its section: the places of its first byte, of its id and of its body, and the bytes of the body
+-- how many bytes a length has with what tells the 64-bit format, and how many an id has (DWARF 5, 7.4)
+abbrev pub length_width : Bool → ℕ
+length_width wide = if wide then 12 else 4
+
+abbrev pub id_width : Bool → ℕ
+id_width wide = if wide then 8 else 4
+
+-- an entry as it lies in its section: the place of its first byte, whether it has the 64-bit format, the places of its id and of its body,
+-- and the bytes of the body
 pub record Raw : Type 0 where
   pub at : ℕ
+  pub wide : Bool
   pub id_at : ℕ
   pub id : ℕ
   pub body_at : ℕ

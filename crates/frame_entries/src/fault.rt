@@ -7,7 +7,7 @@ pub enum FrameKind {
     /// The length is reserved, has no room for the id, or leaves the section; or its own bytes are cut.
     Length,
 
-    /// The length begins the 64-bit format.
+    /// The length begins the 64-bit format, which `.eh_frame` does not have.
     Format64,
 }
 

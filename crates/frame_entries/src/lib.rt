@@ -1,7 +1,7 @@
 //! The frame description entries of `.eh_frame` and `.debug_frame` (DWARF 5, 6.4.1; LSB Core,
 //! ".eh_frame"), and pointers by their encoding.
 //!
-//! [`entries`] gives the FDEs of a section in their order. Each has its range, the factors of its
+//! [`entries`] gives the FDEs of a section in their order, in `.debug_frame` those of the 64-bit format too. Each has its range, the factors of its
 //! CIE, the encoding of pointers, the CIE's instructions and its own, or the first reason to leave it
 //! out: its CIE (none starts at the place that it names, or a field of it cannot be), an augmentation
 //! that is not understood, an encoding that is not read, a return address column that is not that of

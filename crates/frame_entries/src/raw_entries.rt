@@ -1,8 +1,10 @@
 //! The entries of a section as they lie one after the other.
-ghost use Rattle.std.specs.Prelude.{◌≡◌, ◌+◌, ◌^◌, ◌<◌, ◌≤◌, Ok, Err};
+ghost use Rattle.std.specs.Prelude.{◌≡◌, ◌+◌, ◌^◌, ◌<◌, ◌≤◌, length, Ok, Err};
 ghost use Rattle.sym_edges.specs.Outside.{MatchStop};
 ghost use Rattle.leb_cursor.specs.Ahead.{gave};
-ghost use Rattle.frame_entries.specs.Listing.{is_eh, from_start, entry_at, mark_behind, mark_at, listed_at};
+ghost use Rattle.leb_cursor.specs.Readings.{fixed_sum};
+ghost use Rattle.frame_entries.specs.Raw.{length_width, id_width};
+ghost use Rattle.frame_entries.specs.Listing.{is_eh, from_start, entry_at, wide_behind, mark_behind, mark_at, listed_at};
 
 use crate::fault::{FrameFault, FrameKind};
 use leb_cursor::Cursor;
@@ -11,30 +13,135 @@ use std::marker::Model;
 use std::mem::size_of;
 use sym_edges::{FILE_LIMIT, Located, Sect, Stop};
 
-/// An entry as it lies in its section: the place of its first byte, its id, and its body. The id stands four bytes after that
-/// place, and the body eight.
+/// An entry as it lies in its section: the place of its first byte, whether it has the 64-bit format, and the bytes after its length,
+/// which are its id and its body.
 #[derive(Debug, Drop)]
 pub struct RawEntry<'a> {
-    pub at: u32,
-    pub id: u32,
-    pub body: &'a [u8],
+    at: u32,
+    wide: bool,
+    bytes: &'a [u8],
 }
 
 const _: () = prove!(size_of::<RawEntry<'_>>() == 24);
 
 impl<'a> Model for RawEntry<'a> {
-    ghost use Rattle.std.specs.Prelude.{◌+◌};
-    ghost use Rattle.frame_entries.specs.Raw.{Raw};
+    ghost use Rattle.std.specs.Prelude.{◌+◌, ◌≤◌, drop, length};
+    ghost use Rattle.leb_cursor.specs.Readings.{fixed_sum};
+    ghost use Rattle.frame_entries.specs.Raw.{length_width, id_width, Raw};
 
     ghost Value = { Raw };
 
     ghost view = { λ r. record {
       at = r.at;
-      id_at = r.at + 4;
-      id = r.id;
-      body_at = r.at + 8;
-      body = r.body.now;
+      wide = r.wide;
+      id_at = r.at + length_width r.wide;
+      id = fixed_sum (id_width r.wide) r.bytes.now;
+      body_at = r.at + length_width r.wide + id_width r.wide;
+      body = drop (id_width r.wide) r.bytes.now;
     } };
+
+    ghost invariant = { λ r. id_width r.wide ≤ length r.bytes.now };
+}
+
+/// How many bytes a length has, with what tells the 64-bit format.
+#[inline]
+fn length_width(wide: bool) -> u32
+    ensures { result ≡ length_width wide }
+{
+    if wide { 12 } else { 4 }
+}
+
+#[inline]
+fn id_width(wide: bool) -> u32
+    ensures { result ≡ id_width wide }
+{
+    if wide { 8 } else { 4 }
+}
+
+/// The number at the front of bytes.
+#[inline]
+#[tactic(auto, using(crate::proofs::PlaceLemmas::front_number))]
+fn front_u64(bytes: &[u8]) -> u64
+    requires { 8 ≤ length bytes.now }
+    ensures { result ≡ fixed_sum 8 bytes.now }
+{
+    match cursor_over(bytes).u64() {
+        Ok(number) => number,
+        Err(_) => 0,
+    }
+}
+
+#[inline]
+#[tactic(auto, using(crate::proofs::PlaceLemmas::front_number))]
+fn front_u32(bytes: &[u8]) -> u32
+    requires { 4 ≤ length bytes.now }
+    ensures { result ≡ fixed_sum 4 bytes.now }
+{
+    match cursor_over(bytes).u32() {
+        Ok(number) => number,
+        Err(_) => 0,
+    }
+}
+
+/// The id at the front of an entry's bytes.
+#[inline]
+fn front_id(bytes: &[u8], wide: bool) -> u64
+    requires { id_width wide ≤ length bytes.now }
+    ensures { result ≡ fixed_sum (id_width wide) bytes.now }
+{
+    if wide {
+        front_u64(bytes)
+    } else {
+        u64::from(front_u32(bytes))
+    }
+}
+
+impl<'a> RawEntry<'a> {
+    /// The place of its first byte.
+    #[inline]
+    pub fn at(&self) -> u32
+        ensures { result ≡ self.now.at }
+    {
+        self.at
+    }
+
+    /// Whether it has the 64-bit format.
+    #[inline]
+    pub fn wide(&self) -> bool
+        ensures { result ≡ self.now.wide }
+    {
+        self.wide
+    }
+
+    #[inline]
+    pub fn id(&self) -> u64
+        ensures { result ≡ self.now.id }
+    {
+        front_id(self.bytes, self.wide)
+    }
+
+    /// The place of its id.
+    #[inline]
+    pub fn id_at(&self) -> u64
+        ensures { result ≡ self.now.id_at }
+    {
+        u64::from(self.at) + u64::from(length_width(self.wide))
+    }
+
+    /// The place of its body.
+    #[inline]
+    pub fn body_at(&self) -> u64
+        ensures { result ≡ self.now.body_at }
+    {
+        u64::from(self.at) + u64::from(length_width(self.wide)) + u64::from(id_width(self.wide))
+    }
+
+    #[inline]
+    pub fn body(&self) -> &'a [u8]
+        ensures { result.now ≡ self.now.body }
+    {
+        &self.bytes[id_width(self.wide) as usize..]
+    }
 }
 
 /// What stands at a place of a section: the zero that ends `.eh_frame`, the zero that `.debug_frame`
@@ -73,25 +180,40 @@ fn fault_at(kind: FrameKind, which: Sect, at: u32) -> FrameFault
     }
 }
 
-/// Reads an entry after its length.
-#[tactic(auto, using(crate::proofs::PlaceLemmas::fixed_ends), unfolding(crate::specs::Listing::entry_at))]
+/// Reads an entry after its length, in either format.
+#[tactic(auto, using(crate::proofs::PlaceLemmas::taken_length), unfolding(crate::specs::Listing::entry_at))]
 fn read_entry<'a>(
     cursor: &mut Cursor<'a>,
     which: Sect,
     at: u32,
-    count: u32,
+    wide: bool,
+    count: u64,
 ) -> Result<Mark<'a>, FrameFault>
-    requires some { 4 ≤ count }
-    requires behind { cursor.old.at ≡ at + 4 }
-    ensures { gave result cursor.new ≡ entry_at which at count cursor.old }
+    requires { cursor.old.at ≡ at + length_width wide }
+    ensures { gave result cursor.new ≡ entry_at which at wide count cursor.old }
 {
-    let Ok(id) = cursor.u32() else {
+    if count < u64::from(id_width(wide)) {
+        return Err(fault_at(FrameKind::Length, which, at));
+    }
+    let Ok(bytes) = cursor.take(count) else {
         return Err(fault_at(FrameKind::Length, which, at));
     };
-    let Ok(body) = cursor.take(u64::from(count - 4)) else {
+    Ok(Mark::Listed(RawEntry { at, wide, bytes }))
+}
+
+/// Reads what stands after ffffffff: in `.debug_frame` an entry of the 64-bit format.
+#[tactic(auto, using(crate::proofs::PlaceLemmas::fixed_ends), unfolding(crate::specs::Listing::wide_behind))]
+fn read_wide<'a>(cursor: &mut Cursor<'a>, which: Sect, at: u32) -> Result<Mark<'a>, FrameFault>
+    requires { cursor.old.at ≡ at + 4 }
+    ensures { gave result cursor.new ≡ wide_behind which at cursor.old }
+{
+    if is_eh(which) {
+        return Err(fault_at(FrameKind::Format64, which, at));
+    }
+    let Ok(count) = cursor.u64() else {
         return Err(fault_at(FrameKind::Length, which, at));
     };
-    Ok(Mark::Listed(RawEntry { at, id, body }))
+    read_entry(cursor, which, at, true, count)
 }
 
 /// Reads what a length stands in front of.
@@ -112,12 +234,12 @@ fn read_behind<'a>(
         return Ok(Mark::Padding);
     }
     if count == 0xffff_ffff {
-        return Err(fault_at(FrameKind::Format64, which, at));
+        return read_wide(cursor, which, at);
     }
-    if count < 4 || count >= 0xffff_fff0 {
+    if count >= 0xffff_fff0 {
         return Err(fault_at(FrameKind::Length, which, at));
     }
-    read_entry(cursor, which, at, count)
+    read_entry(cursor, which, at, false, u64::from(count))
 }
 
 /// Reads what stands next in a section.

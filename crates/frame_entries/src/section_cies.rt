@@ -1,7 +1,7 @@
 //! The CIEs of a section, and what an FDE says under its CIE.
 ghost use Rattle.std.specs.Prelude.{◌≡◌, IfOk};
 ghost use Rattle.std.specs.Option.{option_copied};
-ghost use Rattle.frame_entries.specs.FrameEntries.{is_cie, cie_at, cies_of, cie_place, cie_from, cie_named, entry_of};
+ghost use Rattle.frame_entries.specs.FrameEntries.{cie_id, is_cie, cie_at, cies_of, cie_place, cie_from, cie_named, entry_of};
 ghost use Rattle.sym_edges.specs.Rising.{RisesFrom, StandBelow};
 ghost use Rattle.frame_entries.specs.internal.CiePlaces.{places_of};
 
@@ -11,20 +11,32 @@ use crate::raw_entries::{RawEntry, is_eh};
 use std::alloc::{AllocError, Global};
 use sym_edges::{Reason, Sect};
 
+/// The id of a CIE.
+#[inline]
+#[tactic(auto, unfolding(crate::specs::FrameEntries::cie_id))]
+fn cie_id(which: Sect, wide: bool) -> u64
+    ensures { result ≡ cie_id which wide }
+{
+    if is_eh(which) {
+        return 0;
+    }
+    if wide { u64::MAX } else { 0xffff_ffff }
+}
+
 #[inline]
 #[tactic(auto, unfolding(crate::specs::FrameEntries::is_cie))]
 pub fn is_cie(which: Sect, raw: &RawEntry<'_>) -> bool
     ensures { result ≡ is_cie which raw.now }
 {
-    raw.id == if is_eh(which) { 0 } else { 0xffff_ffff }
+    raw.id() == cie_id(which, raw.wide())
 }
 
 fn cie_at<'a>(raw: &RawEntry<'a>) -> Cie<'a>
     ensures { result ≡ cie_at raw.now }
 {
     Cie {
-        at: raw.at as usize,
-        parts: read_cie(raw.body),
+        at: raw.at() as usize,
+        parts: read_cie(raw.body()),
     }
 }
 
@@ -49,12 +61,16 @@ pub fn read_cies<'a>(
 fn cie_place(which: Sect, raw: &RawEntry<'_>) -> Option<usize>
     ensures { result ≡ cie_place which raw.now }
 {
-    let id = raw.id as usize;
+    let id = raw.id();
     if !is_eh(which) {
-        return Some(id);
+        return Some(id as usize);
     }
-    let id_at = raw.at as usize + 4;
-    if id <= id_at { Some(id_at - id) } else { None }
+    let id_at = raw.id_at();
+    if id <= id_at {
+        Some((id_at - id) as usize)
+    } else {
+        None
+    }
 }
 
 /// How many CIEs start before a place, by halves.
@@ -100,14 +116,14 @@ pub fn read_entry<'a>(which: Sect, address: u64, cies: &[Cie<'a>], raw: &RawEntr
     requires { RisesFrom 0 (places_of cies.now) }
     ensures { result ≡ entry_of which address cies.now raw.now }
 {
-    let base = address.wrapping_add(u64::from(raw.at) + 8);
+    let base = address.wrapping_add(raw.body_at());
     let body = match name_cie(which, cies, raw) {
-        Some(cie) => read_body(cie.at, &cie.parts, base, raw.body),
+        Some(cie) => read_body(cie.at, &cie.parts, base, raw.body()),
         None => Body::Bad(Reason::Cie),
     };
     Entry {
         section: which,
-        at: u64::from(raw.at),
+        at: u64::from(raw.at()),
         body,
     }
 }

@@ -8,6 +8,8 @@
 #[cfg(test)]
 mod comparing;
 #[cfg(test)]
+mod expressions;
+#[cfg(test)]
 mod fakes;
 #[cfg(test)]
 mod findings;

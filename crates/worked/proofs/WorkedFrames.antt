@@ -190,6 +190,21 @@ cut_in_the_zero : list_all (λ n. refuses "refused frame length eh_frame 38\n" (
 unfolding files own framed_at framed with_eh
 cut_in_the_zero = refl
 
+-- the 64-bit format in `.debug_frame`, an FDE of 32 bits under its CIE, and the same CIE in `.eh_frame`, which has no such format
+wide_frames : dump (framed (progbits ".debug_frame" (hex "ffffffff 1800000000000000 ffffffffffffffff 01 00 01 78 10 0c0708 9001 000000000000 ffffffff 2000000000000000 0000000000000000 0010000000000000 2000000000000000 41 0e10 8602 000000") ∷ []))
+    ≡ gives "STACK CFI INIT 1000 20 .cfa: $rsp 8 + .ra: .cfa -8 + ^\nSTACK CFI 1001 .cfa: $rsp 16 + $rbp: .cfa -16 + ^\n"
+unfolding files own framed_at framed with_eh
+wide_frames = refl
+
+both_formats : dump (framed (progbits ".debug_frame" (hex "ffffffff 1800000000000000 ffffffffffffffff 01 00 01 78 10 0c0708 9001 000000000000 1c000000 00000000 0010000000000000 2000000000000000 41 0e10 8602 000000") ∷ []))
+    ≡ gives "STACK CFI INIT 1000 20 .cfa: $rsp 8 + .ra: .cfa -8 + ^\nSTACK CFI 1001 .cfa: $rsp 16 + $rbp: .cfa -16 + ^\n"
+unfolding files own framed_at framed with_eh
+both_formats = refl
+
+a_wide_cie_in_eh_frame : dump (with_eh (hex "ffffffff 1800000000000000 ffffffffffffffff 01 00 01 78 10 0c0708 9001 000000000000")) ≡ refused "refused frame format64 eh_frame 0\n"
+unfolding files own framed_at framed with_eh
+a_wide_cie_in_eh_frame = refl
+
 -- faults of sections come in their order: debug entries before frames, `.eh_frame` before `.debug_frame`
 a_length_of_64_bits : dump (framed (wide ∷ eh_frame [] ∷ [])) ≡ refused "refused frame format64 eh_frame 0\n"
 unfolding files own framed_at framed with_eh

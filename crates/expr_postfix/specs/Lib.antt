@@ -1,0 +1,3 @@
+pub mod ExprTokens
+pub mod ExprValue
+pub mod internal

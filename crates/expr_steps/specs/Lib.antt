@@ -1,0 +1,6 @@
+pub mod Operations
+pub mod Steps
+pub mod Standing
+pub mod Places
+pub mod Operands
+pub mod internal

@@ -1,0 +1,12 @@
+-- Where the bytes of an expression stand: in an entry's own instructions or in those of its CIE.
+use Rattle.std.specs.Prelude.{ℕ, ◌^◌, ◌&&◌, nat_lt, Bool, if◌then◌else◌, List, take, drop, Option, None, Some}
+use Rattle.expr_steps.specs.declared.place.Place.{Place}
+
+-- a place has its start and its length in four bytes each
+unfoldable pub place_of : Bool → ℕ → ℕ → Option Place
+place_of own start len =
+    if nat_lt start (2 ^ 32) && nat_lt len (2 ^ 32) then Some (record { own = own; start = start; len = len }) else None
+
+-- the bytes at a place, as far as they are there
+unfoldable pub bytes_at : Place → List ℕ → List ℕ → List ℕ
+bytes_at place first own = take place.len (drop place.start (if place.own then own else first))
