@@ -1,5 +1,5 @@
 -- For `make_takes` and `Spec::row`: a short way to the values that are asked for grows from its end.
-use Rattle.std.proofs.Common.{◌≡◌, ◌<◌, ◌≤◌, ◌+◌, ℕ, ℤ, pos, nat_eq, Bool, true, false, cond, List, [], ◌∷◌, ◌++◌, length, drop, get_or, reverse, Option, None, Some, Result, Ok, Err, refl, sym, ap, ◌∙◌, arith, subst}
+use Rattle.std.proofs.Common.{◌≡◌, ◌<◌, ◌≤◌, ◌+◌, ℕ, ℤ, pos, nat_eq, Bool, true, false, cond, List, [], ◌∷◌, ◌++◌, length, drop, get_or, reverse, Option, None, Some, Result, Ok, Err, refl, sym, ap, ◌∙◌, arith, subst, unwrap_or}
 use Rattle.std.proofs.lemmas.Bool.{cond-false, le-ltb}
 use Rattle.std.proofs.lemmas.List.{drop_more, reverse-append}
 use Rattle.std.proofs.Math.ListN.{drop_of_length-le}
@@ -24,7 +24,7 @@ use Rattle.abbrev_units.specs.FormValue.{value_of, value_by, direct_at, form_at}
 use Rattle.abbrev_units.specs.SpecFields.{SpecFields}
 use Rattle.abbrev_units.specs.Values.{value_at, values_at, only_ahead}
 use Rattle.abbrev_units.specs.Takes.{is_asked, asked_of, with_asked, taken_at, takes_at, AreTakes}
-use Rattle.abbrev_units.specs.internal.Plans.{HasRow, HasSize, IsPassed}
+use Rattle.abbrev_units.specs.internal.Plans.{HasRow, HasSize, IsPassed, no_take, in_front}
 use Rattle.abbrev_units.proofs.PlanLemmas.{take_passed, take_fits, passed_none, passed_two, long_enough}
 
 pub direct_row : (spec : SpecFields) (row : FormRow) → nat_eq spec.form 0x16 ≡ false → Some row ≡ form_row spec.form (forms spec.wide) → HasRow spec row
@@ -126,32 +126,38 @@ unasked_alone : (given : Given) → is_asked given.attribute ≡ false → asked
 unfolding asked_of
 unasked_alone given none = cond-false _ _ _ none
 
-no_takes : (c d : Ahead) (given : List Given) → takes_at [] c ≡ Ok (given, d) → (given ≡ []) × (d ≡ c)
+none_at : (c : Ahead) → takes_at [] c ≡ Ok ([], c)
 unfolding takes_at
-no_takes c d given is = (sym (ap (given_or []) is), sym (ap (ahead_or c) is))
+none_at c = refl
 
-abbrev no_take : Take
-no_take = record { bytes = 0; attribute = 0; implicit = pos 0; kind = kind.Nothing; class = class.Other }
-
-begun : AreTakes (no_take ∷ []) []
+begun : AreTakes [] []
+unfolding asked_of
 begun c d given is =
-    let one = first_take no_take [] c d given is in
+    let same : Ok ([], c) ≡ Ok (given, d) = sym (none_at c) ∙ is in
+    let none : given ≡ [] = sym (ap (given_or []) same) in
+    none_asked c ∙ ap (λ (l : List Given). Ok (l, c)) (sym (ap asked_of none)) ∙ ap (λ (e : Ahead). Ok (asked_of given, e)) (ap (ahead_or c) same)
+
+-- a take of nothing in front
+unasked_first : (given : Given) (later : List Given) → is_asked given.attribute ≡ false → asked_of (given ∷ later) ≡ asked_of later
+unfolding asked_of
+unasked_first given later none = cond-false _ _ _ none
+
+nothing_first : (takes : List Take) (specs : List SpecFields) → AreTakes takes specs → AreTakes (no_take ∷ takes) specs
+nothing_first takes specs so_far c d given is =
+    let one = first_take no_take takes c d given is in
     let inner = taken_is no_take c one.middle one.value one.first in
-    let last = no_takes one.middle d one.later one.others in
-    let there : d ≡ c = last.1 ∙ nothing_by (passed 0 c) one.middle inner.operand inner.reads ∙ passed_none c in
-    let alone : given ≡ record { attribute = 0; value = one.value } ∷ [] = one.is ∙ ap (λ (l : List Given). record { attribute = 0; value = one.value } ∷ l) last.0 in
-    none_asked c
-    ∙ ap (λ (l : List Given). Ok (l, c)) (sym (ap asked_of alone ∙ unasked_alone (record { attribute = 0; value = one.value }) refl))
-    ∙ ap (λ (e : Ahead). Ok (asked_of given, e)) (sym there)
+    let there : one.middle ≡ c = nothing_by (passed 0 c) one.middle inner.operand inner.reads ∙ passed_none c in
+    let rest : takes_at takes c ≡ Ok (one.later, d) = ap (takes_at takes) (sym there) ∙ one.others in
+    so_far c d one.later rest
+    ∙ ap (λ (l : List Given). Ok (l, d)) (sym (ap asked_of one.is ∙ unasked_first (record { attribute = 0; value = one.value }) one.later refl))
 
-pub takes_begin : (first : Take) (later : List Take) (specs : List SpecFields) (place : ℕ) → first ≡ no_take → later ≡ [] → length specs ≤ place → AreTakes (first ∷ reverse later) (drop place specs)
+pub takes_begin : (first : Option Take) (later : List Take) (specs : List SpecFields) (place : ℕ) → first ≡ None → later ≡ [] → length specs ≤ place → AreTakes (in_front first (reverse later)) (drop place specs)
 takes_begin first later specs place is none all =
-    subst (λ (s : List SpecFields). AreTakes (first ∷ reverse later) s) (sym (drop_of_length-le specs all))
-    (subst (λ (l : List Take). AreTakes (first ∷ reverse l) []) (sym none) (subst (λ (t : Take). AreTakes (t ∷ []) []) (sym is) begun))
+    subst (λ (s : List SpecFields). AreTakes (in_front first (reverse later)) s) (sym (drop_of_length-le specs all))
+    (subst (λ (l : List Take). AreTakes (in_front first (reverse l)) []) (sym none) (subst (λ (t : Option Take). AreTakes (in_front t []) []) (sym is) begun))
 
-pub takes_end : (whole later : List Take) (first : Take) (specs : List SpecFields) → AreTakes (first ∷ reverse later) specs → whole ≡ later ++ first ∷ [] → AreTakes (reverse whole) specs
-takes_end whole later first specs so_far is =
-    subst (λ (l : List Take). AreTakes l specs) (sym (ap reverse is ∙ reverse-append later (first ∷ []))) so_far
+pub put_front : (whole later : List Take) (first : Take) → whole ≡ later ++ first ∷ [] → reverse whole ≡ first ∷ reverse later
+put_front whole later first is = ap reverse is ∙ reverse-append later (first ∷ [])
 
 -- the value of an attribute by the row of its form
 abbrev row_value : FormRow → ℤ → Operand × Ahead → Result (Value × Ahead) FormFault
@@ -161,14 +167,14 @@ row_reads : (row : FormRow) (implicit : ℤ) (c d : Ahead) (operand : Operand) �
 row_reads row implicit c d operand is = ap (λ r. as_value r >>= row_value row implicit) is
 
 -- one value in front of those of the other attributes
-abbrev in_front : ℕ → Value → Result (List Given × Ahead) FormFault → Result (List Given × Ahead) FormFault
-in_front attribute value later = later >>= λ l. Ok (record { attribute = attribute; value = value } ∷ l.0, l.1)
+abbrev value_front : ℕ → Value → Result (List Given × Ahead) FormFault → Result (List Given × Ahead) FormFault
+value_front attribute value later = later >>= λ l. Ok (record { attribute = attribute; value = value } ∷ l.0, l.1)
 
-values_first : (x : SpecFields) (specs : List SpecFields) (c e : Ahead) (value : Value) → value_at x c ≡ Ok (value, e) → values_at (x ∷ specs) c ≡ in_front x.attribute value (values_at specs e)
+values_first : (x : SpecFields) (specs : List SpecFields) (c e : Ahead) (value : Value) → value_at x c ≡ Ok (value, e) → values_at (x ∷ specs) c ≡ value_front x.attribute value (values_at specs e)
 unfolding values_at
-values_first x specs c e value is = ap (λ r. r >>= λ first. in_front x.attribute first.0 (values_at specs first.1)) is
+values_first x specs c e value is = ap (λ r. r >>= λ first. value_front x.attribute first.0 (values_at specs first.1)) is
 
-asked_parts : (attribute : ℕ) (value : Value) (later : Result (List Given × Ahead) FormFault) (given : List Given) (d : Ahead) → with_asked later ≡ Ok (asked_of given, d) → with_asked (in_front attribute value later) ≡ Ok (asked_of (record { attribute = attribute; value = value } ∷ given), d)
+asked_parts : (attribute : ℕ) (value : Value) (later : Result (List Given × Ahead) FormFault) (given : List Given) (d : Ahead) → with_asked later ≡ Ok (asked_of given, d) → with_asked (value_front attribute value later) ≡ Ok (asked_of (record { attribute = attribute; value = value } ∷ given), d)
 unfolding asked_of
 asked_parts attribute value (Ok l) given d is =
     let same : asked_of l.0 ≡ asked_of given = ap (given_or []) is in
@@ -192,10 +198,10 @@ at_place : (i j : ℕ) (specs : List SpecFields) (x : SpecFields) → j ≡ i + 
 at_place i j specs x next there is =
     drop_more specs i x there ∙ ap (λ (y : SpecFields). y ∷ drop (i + 1) specs) (sym is) ∙ ap (λ (n : ℕ). x ∷ drop n specs) (sym next)
 
-pub takes_next : (next first : Take) (later more : List Take) (specs : List SpecFields) (x : SpecFields) (row : FormRow) (i j : ℕ) → AreTakes (first ∷ reverse later) (drop j specs) → j ≡ i + 1 → i < length specs → x ≡ get_or specs i x → HasRow x row → more ≡ later ++ first ∷ [] → next ≡ record { bytes = 0; attribute = x.attribute; implicit = x.implicit; kind = row.layout; class = row.class } → AreTakes (next ∷ reverse more) (drop i specs)
+pub takes_next : (next : Take) (first : Option Take) (later more : List Take) (specs : List SpecFields) (x : SpecFields) (row : FormRow) (i j : ℕ) → AreTakes (in_front first (reverse later)) (drop j specs) → j ≡ i + 1 → i < length specs → x ≡ get_or specs i x → HasRow x row → reverse more ≡ in_front first (reverse later) → next ≡ record { bytes = 0; attribute = x.attribute; implicit = x.implicit; kind = row.layout; class = row.class } → AreTakes (next ∷ reverse more) (drop i specs)
 takes_next next first later more specs x row i j so_far follows there at has added is =
     subst (λ (s : List SpecFields). AreTakes (next ∷ reverse more) s) (sym (at_place i j specs x follows there at))
-    (next_takes next (reverse more) (drop j specs) x row (takes_end more later first (drop j specs) so_far added) has is)
+    (next_takes next (reverse more) (drop j specs) x row (subst (λ (l : List Take). AreTakes l (drop j specs)) (sym added) so_far) has is)
 
 -- an attribute more, whose value is passed
 skipped_by : (row : FormRow) (implicit : ℤ) (reading : Result (Operand × Ahead) CursorFault) (d : Ahead) → only_ahead reading ≡ Ok d → (v : Value) × ((as_value reading >>= row_value row implicit) ≡ Ok (v, d))
@@ -204,7 +210,7 @@ skipped_by row implicit (Ok x) d is =
     (value_of row.class implicit x.0, ap (λ (e : Ahead). Ok (value_of row.class implicit x.0, e)) there)
 skipped_by row implicit (Err fault) d is = absurd (grind (arith, is))
 
-unasked_front : (attribute : ℕ) (value : Value) (later : Result (List Given × Ahead) FormFault) → is_asked attribute ≡ false → with_asked (in_front attribute value later) ≡ with_asked later
+unasked_front : (attribute : ℕ) (value : Value) (later : Result (List Given × Ahead) FormFault) → is_asked attribute ≡ false → with_asked (value_front attribute value later) ≡ with_asked later
 unfolding asked_of
 unasked_front attribute value (Ok l) none = ap (λ (a : List Given). Ok (a, l.1)) (cond-false _ _ _ none)
 unasked_front attribute value (Err fault) none = refl
@@ -235,7 +241,11 @@ wider_takes first takes specs x row size so_far has passed_over c d given reads 
     ∙ unasked_front x.attribute value.0 (values_at specs (passed size c)) passed_over.unasked
     ∙ so_far (passed size c) d given (narrower first takes size c d given inner.fits reads)
 
-pub takes_wider : (next first : Take) (later : List Take) (specs : List SpecFields) (x : SpecFields) (row : FormRow) (size i j : ℕ) → AreTakes (first ∷ reverse later) (drop j specs) → j ≡ i + 1 → i < length specs → x ≡ get_or specs i x → HasRow x row → IsPassed x row size → next ≡ record first { bytes = size + first.bytes } → AreTakes (next ∷ reverse later) (drop i specs)
+wider_by : (first : Option Take) (takes : List Take) (specs : List SpecFields) (x : SpecFields) (row : FormRow) (size : ℕ) → AreTakes (in_front first takes) specs → HasRow x row → IsPassed x row size → AreTakes (record (unwrap_or first no_take) { bytes = size + (unwrap_or first no_take).bytes } ∷ takes) (x ∷ specs)
+wider_by (Some first) takes specs x row size so_far has over = wider_takes first takes specs x row size so_far has over
+wider_by None takes specs x row size so_far has over = wider_takes no_take takes specs x row size (nothing_first takes specs so_far) has over
+
+pub takes_wider : (next : Take) (first : Option Take) (later : List Take) (specs : List SpecFields) (x : SpecFields) (row : FormRow) (size i j : ℕ) → AreTakes (in_front first (reverse later)) (drop j specs) → j ≡ i + 1 → i < length specs → x ≡ get_or specs i x → HasRow x row → IsPassed x row size → next ≡ record (unwrap_or first no_take) { bytes = size + (unwrap_or first no_take).bytes } → AreTakes (next ∷ reverse later) (drop i specs)
 takes_wider next first later specs x row size i j so_far follows there at has over is =
     subst (λ (s : List SpecFields). AreTakes (next ∷ reverse later) s) (sym (at_place i j specs x follows there at))
-    (subst (λ (t : Take). AreTakes (t ∷ reverse later) (x ∷ drop j specs)) (sym is) (wider_takes first (reverse later) (drop j specs) x row size so_far has over))
+    (subst (λ (t : Take). AreTakes (t ∷ reverse later) (x ∷ drop j specs)) (sym is) (wider_by first (reverse later) (drop j specs) x row size so_far has over))

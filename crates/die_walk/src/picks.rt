@@ -67,7 +67,7 @@ fn note_first(place: &mut Option<Value>, value: Value)
 }
 
 /// Notes a value, where it is the first of its attribute.
-#[inline]
+#[inline(always)]
 fn note(picks: &mut Picks, attribute: u64, value: Value)
     ensures { picks.new ≡ noted picks.old attribute value }
 {
@@ -108,7 +108,6 @@ fn note_takes(picks: &mut Picks, cursor: &mut Cursor<'_>, takes: &[Take]) -> boo
 }
 
 /// Reads the values of an entry one by one.
-#[inline(never)]
 #[tactic(auto, using(crate::proofs::PickLemmas::picks_more, crate::proofs::PickLemmas::picks_end, crate::proofs::PickLemmas::picks_refused))]
 fn read_each(cursor: &mut Cursor<'_>, specs: &[Spec]) -> Result<Picks, FormFault>
     ensures { gave result cursor.new ≡ picks_at no_picks specs.now cursor.old }
@@ -121,6 +120,24 @@ fn read_each(cursor: &mut Cursor<'_>, specs: &[Spec]) -> Result<Picks, FormFault
         }
     }
     Ok(picks)
+}
+
+/// Reads the values of an entry one by one, into places that may hold something.
+#[inline(never)]
+fn read_again(
+    picks: &mut Picks,
+    cursor: &mut Cursor<'_>,
+    specs: &[Spec],
+) -> Result<(), FormFault>
+    ensures { picked_by result picks.new cursor.new ≡ picks_at no_picks specs.now cursor.old }
+{
+    match read_each(cursor, specs) {
+        Ok(read) => {
+            *picks = read;
+            Ok(())
+        }
+        Err(fault) => Err(fault),
+    }
 }
 
 /// Reads the values of an entry.
@@ -141,11 +158,5 @@ pub fn read_picks(
             return Ok(());
         }
     }
-    match read_each(cursor, specs.as_slice()) {
-        Ok(read) => {
-            *picks = read;
-            Ok(())
-        }
-        Err(fault) => Err(fault),
-    }
+    read_again(picks, cursor, specs.as_slice())
 }

@@ -1,5 +1,5 @@
 //! Texts of entries, whose ends are looked for when somebody asks for them.
-ghost use Rattle.std.specs.Prelude.{◌≡◌};
+ghost use Rattle.std.specs.Prelude.{◌≡◌, Some};
 ghost use Rattle.std.specs.Option.{option_copied};
 ghost use Rattle.abbrev_units.specs.Texts.{text_in};
 ghost use Rattle.die_walk.specs.Picking.{text_by};
@@ -69,6 +69,23 @@ fn text_at(bytes: &[u8], place: u64) -> Held<'_>
 /// The text of a value; `base` is the unit's str_offsets_base.
 #[inline]
 #[tactic(auto, unfolding(abbrev_units::specs::Texts::text_of))]
+fn text_of_value<'a>(
+    sections: &Sections<'a>,
+    unit: &Unit,
+    base: Option<u64>,
+    value: Value,
+) -> Held<'a>
+    ensures { text_said result.ending result.bytes.now ≡ text_by sections.now unit.now base (Some value) }
+{
+    match value {
+        Value::StrAt(place) => text_at(sections.strs, place),
+        Value::LineStrAt(place) => text_at(sections.line_str, place),
+        _ => whole(read_text(sections, sections.info, unit.wide, base, value)),
+    }
+}
+
+/// The text of a value, where there is one; `base` is the unit's str_offsets_base.
+#[inline(always)]
 pub fn hold_text<'a>(
     sections: &Sections<'a>,
     unit: &Unit,
@@ -78,10 +95,11 @@ pub fn hold_text<'a>(
     ensures { text_said result.ending result.bytes.now ≡ text_by sections.now unit.now base value }
 {
     match value {
-        Some(Value::StrAt(place)) => text_at(sections.strs, place),
-        Some(Value::LineStrAt(place)) => text_at(sections.line_str, place),
-        Some(value) => whole(read_text(sections, sections.info, unit.wide, base, value)),
-        None => whole(None),
+        Some(value) => text_of_value(sections, unit, base, value),
+        None => Held {
+            ending: Ending::Missing,
+            bytes: &[],
+        },
     }
 }
 
