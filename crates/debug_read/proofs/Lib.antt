@@ -2,6 +2,7 @@ pub mod EachLemmas
 pub mod SetLemmas
 pub mod LineLemmas
 pub mod UnitLemmas
+mod OwingLemmas
 pub mod PickLemmas
 pub mod JobLemmas
 pub mod Computing

@@ -28,6 +28,7 @@ mod fault;
 mod found;
 pub mod laws;
 mod lines;
+mod owing;
 mod ranges;
 mod reading;
 mod sections;

@@ -1,5 +1,6 @@
 //! The units that are read, each by a worker, and joined in their order.
 ghost use Rattle.std.specs.Prelude.{◌≡◌, [], ◌++◌, OnOk, IfOk, ◌≤◌, ◌^◌, length, List, slice_get, Err, Ok};
+ghost use Rattle.std.specs.Option.{option_copied};
 ghost use Rattle.die_names.specs.UnitPlaces.{with_read, read_units};
 ghost use Rattle.sym_edges.specs.Addresses.{Range};
 ghost use Rattle.sym_edges.specs.Outside.{MatchStop};
@@ -7,10 +8,12 @@ ghost use Rattle.line_program.specs.LineMaps.{EncloseAlike};
 ghost use Rattle.debug_read.specs.Each.{Says, each_of, Match};
 ghost use Rattle.debug_read.specs.UnitSays.{unit_says};
 ghost use Rattle.debug_read.specs.UnitsRead.{IsUnitRead};
-ghost use Rattle.debug_read.specs.internal.Jobs.{IsInside, IsReader, ReaderGives, IsFound};
+ghost use Rattle.debug_read.specs.internal.Jobs.{IsInside, IsReader};
+ghost use Rattle.debug_read.specs.internal.Owing.{HoldsUnit, IsOwing, ReaderGives};
 ghost use Rattle.abbrev_units.specs.Units.{units_in};
 
-use crate::lines::read_unit_lines;
+use crate::lines::{LinesFound, read_unit_lines};
+use crate::owing::{UnitFound, settle_units};
 use crate::ranges::read_sets;
 use abbrev_units::{DwarfFault, Sections, Unit, UnitPart, read_abbrevs};
 use die_names::{UnitRead, Units};
@@ -53,11 +56,11 @@ fn read_unit<'a>(
     sections: &Sections<'a>,
     unit: &Unit,
     code: &Enclosing,
-) -> Result<UnitRead<'a>, Stop<DwarfFault>>
+) -> Result<UnitFound<'a>, Stop<DwarfFault>>
     requires inside { IsInside (length sections.now.info) unit.now }
     requires small { length sections.now.info ≤ 2 ^ 29 }
     ensures { MatchStop result
-        (λ part. (spans : List Range) → EncloseAlike code.now spans → Says (IsUnitRead spans) (unit_says sections.now unit.now) part)
+        (λ found. (spans : List Range) → EncloseAlike code.now spans → HoldsUnit spans sections.now unit.now found.part found.table)
         (λ fault. unit_says sections.now unit.now ≡ Err fault)
         (Prim.Unit {0}) }
 {
@@ -78,11 +81,21 @@ fn read_unit<'a>(
         Ok(spans) => spans,
         Err(stop) => return Err(stop),
     };
-    let lines = match read_unit_lines(alloc, sections, &die, code) {
-        Ok(lines) => lines,
+    let LinesFound { lines, table } = match read_unit_lines(alloc, sections, &die, code) {
+        Ok(found) => found,
         Err(stop) => return Err(stop),
     };
-    Ok(UnitRead { die, spans, lines })
+    Ok(UnitFound {
+        part: UnitRead { die, spans, lines },
+        table,
+    })
+}
+
+#[inline]
+fn unit_at(units: &[Unit], k: usize) -> Option<&Unit>
+    ensures { option_copied result ≡ slice_get units.now k }
+{
+    units.get(k)
 }
 
 /// The units that are to be read, of these sections; ranges that `code` encloses are code.
@@ -117,7 +130,7 @@ impl<'s, 'a> UnitReader<'s, 'a> {
 }
 
 impl<'s, 'a> UnitJob for UnitReader<'s, 'a> {
-    type Out = Result<UnitRead<'a>, DwarfFault>;
+    type Out = Result<UnitFound<'a>, DwarfFault>;
 
     type Scratch = ();
 
@@ -133,12 +146,12 @@ impl<'s, 'a> UnitJob for UnitReader<'s, 'a> {
         alloc: Global,
         k: usize,
         _scratch: &mut (),
-    ) -> Result<Result<UnitRead<'a>, DwarfFault>, OutOfMemory> {
-        let Some(unit) = self.units.get(k) else {
+    ) -> Result<Result<UnitFound<'a>, DwarfFault>, OutOfMemory> {
+        let Some(unit) = unit_at(self.units, k) else {
             return Err(OutOfMemory);
         };
         match read_unit(alloc, self.sections, unit, self.code) {
-            Ok(part) => Ok(Ok(part)),
+            Ok(found) => Ok(Ok(found)),
             Err(Stop::Fault(fault)) => Ok(Err(fault)),
             Err(Stop::NoMemory) => Err(OutOfMemory),
         }
@@ -176,11 +189,11 @@ fn find_all<'a, R: Threads + Sync, G: Gate + Sync>(
     code: &[Span],
     gate: &G,
     workers: usize,
-) -> Result<Vec<Result<UnitRead<'a>, DwarfFault>>, OutOfMemory>
+) -> Result<Vec<Result<UnitFound<'a>, DwarfFault>>, OutOfMemory>
     requires workers { (1 ≤ workers) × (workers ≤ 64) }
     requires small { length sections.now.info ≤ 2 ^ 29 }
     requires headers { units_in sections.now.info ≡ Ok headers.now }
-    ensures { IfOk result (λ found. Match (IsFound code.now sections.now) (read_units headers.now) found.items) }
+    ensures { IfOk result (λ found. Match (IsOwing code.now sections.now) (read_units headers.now) found.items) }
 {
     let code = Enclosing::of_spans(alloc, code)?;
     let read = pick_read(alloc, headers)?;
@@ -208,7 +221,8 @@ pub fn read_all_units<'a, R: Threads + Sync, G: Gate + Sync>(
         (Prim.Unit {0}) }
 {
     let found = find_all(rt, alloc, sections, headers, code, gate, workers)?;
-    match join_units(alloc, found) {
+    let settled = settle_units(rt, alloc, sections, code, found, workers)?;
+    match join_units(alloc, settled) {
         Ok(parts) => Ok(Units::of(parts)),
         Err(stop) => Err(stop),
     }

@@ -31,8 +31,3 @@ pub record IsReader (reader : ReaderParts) : Type 0 where
 abbrev pub IsFound : List Range → DebugSections → Unit → Result UnitRead (Located DwarfKind) → Type 0
 IsFound code sections unit (Ok part) = Says (IsUnitRead code) (unit_says sections unit) part
 IsFound code sections unit (Err fault) = unit_says sections unit ≡ Err fault
-
--- the result that stands for a unit; there is none after the last
-abbrev pub ReaderGives : ReaderParts → Option Unit → Result UnitRead (Located DwarfKind) → Type 0
-ReaderGives reader None found = ⊥
-ReaderGives reader (Some unit) found = (spans : List Range) → EncloseAlike reader.code spans → IsFound spans reader.sections unit found

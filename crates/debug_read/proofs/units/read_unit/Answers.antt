@@ -1,4 +1,4 @@
-use Rattle.debug_read.proofs.UnitLemmas.{few_dies, unit_kept}
+use Rattle.debug_read.proofs.UnitLemmas.{few_dies, unit_held}
 use Rattle.debug_read.proofs.units.read_unit.Goals as goal
 
 pub read_sets-requires : goal.read_sets-requires
@@ -6,5 +6,5 @@ read_sets-requires c = few_dies c.args.sections.now c.args.unit.now c.in-Ok.abbr
 
 pub returns : goal.returns
 returns c = λ spans same.
-    unit_kept c.args.sections.now c.args.unit.now c.args.code.now spans c.in-Ok.abbrevs c.in-Ok-walk.die c.in-Ok-unit_base.base c.in-Ok-read_sets.spans c.in-Ok-read_unit_lines.lines
+    unit_held c.args.sections.now c.args.unit.now c.args.code.now spans c.in-Ok.abbrevs c.in-Ok-walk.die c.in-Ok-unit_base.base c.in-Ok-read_sets.spans c.in-Ok-read_unit_lines.found.lines c.in-Ok-read_unit_lines.found.table
     c.in-Ok.ensures c.in-Ok-walk.ensures c.in-Ok-unit_base.ensures (c.code_by_what_it_encloses.ensures c.args.code.now spans same) c.in-Ok-read_sets.ensures (c.in-Ok-read_unit_lines.ensures spans same)
