@@ -16,6 +16,7 @@ use Rattle.debug_read.specs.Each.{each_of, Match, Says}
 use Rattle.debug_read.specs.UnitSays.{UnitSays, unit_says}
 use Rattle.debug_read.specs.UnitsRead.{IsUnitRead}
 use Rattle.debug_read.specs.declared.owing.UnitFound.{UnitFound}
+use Rattle.debug_read.specs.internal.Sharing.{SharedParts}
 use Rattle.debug_read.specs.internal.Jobs.{ReaderParts, IsFound}
 use Rattle.debug_read.specs.internal.Owing.{IsOwing, ReaderGives}
 use Rattle.debug_read.proofs.EachLemmas.{says_first, first_says, match_in_order}
@@ -57,9 +58,9 @@ fault_behind : (spans : List Range) (sections : DebugSections) (says : Result Un
 fault_behind spans sections (Ok one) part later fault found is = ap (λ (r : Result (List UnitSays) (Located DwarfKind)). r >>= λ rest. Ok (one ∷ rest)) is
 fault_behind spans sections (Err other) part later fault found is = absurd found
 
-pub found_in : (reading : ReaderParts) (sections : DebugSections) (read units : List Unit) (code spans : List Range) (found : List Owing) → reading ≡ record { sections = sections; units = read; code = code } → read ≡ units → EncloseAlike code spans → length found ≡ length read → ((k : ℕ) (d : Owing) → k < length found → ReaderGives reading (slice_get reading.units k) (get_or found k d)) → Match (IsOwing spans sections) units found
-found_in reading sections read units code spans found is picked same long each =
-    let made : ReaderParts = record { sections = sections; units = read; code = code } in
+pub found_in : (reading : ReaderParts) (sections : DebugSections) (read units : List Unit) (code spans : List Range) (shared : SharedParts) (found : List Owing) → reading ≡ record { sections = sections; units = read; code = code; shared = shared } → read ≡ units → EncloseAlike code spans → length found ≡ length read → ((k : ℕ) (d : Owing) → k < length found → ReaderGives reading (slice_get reading.units k) (get_or found k d)) → Match (IsOwing spans sections) units found
+found_in reading sections read units code spans shared found is picked same long each =
+    let made : ReaderParts = record { sections = sections; units = read; code = code; shared = shared } in
     subst (λ (us : List Unit). Match (IsOwing spans sections) us found) picked
     (found_all made spans found same long
     (λ k d inside. subst (λ (r : ReaderParts). ReaderGives r (slice_get r.units k) (get_or found k d)) is (each k d inside)))

@@ -3,6 +3,7 @@ pub mod SetLemmas
 pub mod LineLemmas
 pub mod UnitLemmas
 mod OwingLemmas
+mod SharingLemmas
 pub mod PickLemmas
 pub mod JobLemmas
 pub mod Computing

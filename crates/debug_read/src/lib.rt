@@ -32,6 +32,7 @@ mod owing;
 mod ranges;
 mod reading;
 mod sections;
+mod sharing;
 mod units;
 
 pub use crate::fault::DebugFault;

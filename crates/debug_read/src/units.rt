@@ -1,6 +1,5 @@
 //! The units that are read, each by a worker, and joined in their order.
 ghost use Rattle.std.specs.Prelude.{◌≡◌, [], ◌++◌, OnOk, IfOk, ◌≤◌, ◌^◌, length, List, slice_get, Err, Ok};
-ghost use Rattle.std.specs.Option.{option_copied};
 ghost use Rattle.die_names.specs.UnitPlaces.{with_read, read_units};
 ghost use Rattle.sym_edges.specs.Addresses.{Range};
 ghost use Rattle.sym_edges.specs.Outside.{MatchStop};
@@ -9,13 +8,16 @@ ghost use Rattle.debug_read.specs.Each.{Says, each_of, Match};
 ghost use Rattle.debug_read.specs.UnitSays.{unit_says};
 ghost use Rattle.debug_read.specs.UnitsRead.{IsUnitRead};
 ghost use Rattle.debug_read.specs.internal.Jobs.{IsInside, IsReader};
+ghost use Rattle.debug_read.specs.internal.Sharing.{IsRead};
+ghost use Rattle.abbrev_units.specs.Abbreviations.{abbrevs_of};
 ghost use Rattle.debug_read.specs.internal.Owing.{HoldsUnit, IsOwing, ReaderGives};
 ghost use Rattle.abbrev_units.specs.Units.{units_in};
 
 use crate::lines::{LinesFound, read_unit_lines};
 use crate::owing::{UnitFound, settle_units};
 use crate::ranges::read_sets;
-use abbrev_units::{DwarfFault, Sections, Unit, UnitPart, read_abbrevs};
+use crate::sharing::{SharedAbbrevs, read_shared, unit_at};
+use abbrev_units::{Abbrevs, DwarfFault, Sections, Unit, UnitPart, read_abbrevs};
 use die_names::{UnitRead, Units};
 use die_walk::walk;
 use range_lists::laws::code_by_what_it_encloses;
@@ -49,27 +51,25 @@ fn pick_read(alloc: Global, units: &[Unit]) -> Result<Vec<Unit>, OutOfMemory>
     Ok(read)
 }
 
-/// Reads a unit: its abbreviations, its entries, the base of its range lists, the ranges entry by entry, its line table.
+/// Reads a unit by its abbreviations: its entries, the base of its range lists, the ranges entry by entry, its line table.
 #[tactic(auto, unfolding(crate::specs::UnitSays::unit_says))]
-fn read_unit<'a>(
+fn read_entries<'a>(
     alloc: Global,
     sections: &Sections<'a>,
     unit: &Unit,
     code: &Enclosing,
+    abbrevs: &Abbrevs,
 ) -> Result<UnitFound<'a>, Stop<DwarfFault>>
     requires inside { IsInside (length sections.now.info) unit.now }
     requires small { length sections.now.info ≤ 2 ^ 29 }
+    requires abbrevs { abbrevs_of sections.now unit.now ≡ Ok abbrevs.now }
     ensures { MatchStop result
         (λ found. (spans : List Range) → EncloseAlike code.now spans → HoldsUnit spans sections.now unit.now found.part found.table)
         (λ fault. unit_says sections.now unit.now ≡ Err fault)
         (Prim.Unit {0}) }
 {
     code_by_what_it_encloses();
-    let abbrevs = match read_abbrevs(alloc, sections, unit) {
-        Ok(abbrevs) => abbrevs,
-        Err(stop) => return Err(stop),
-    };
-    let die = match walk(alloc, sections, unit, &abbrevs) {
+    let die = match walk(alloc, sections, unit, abbrevs) {
         Ok(die) => die,
         Err(stop) => return Err(stop),
     };
@@ -91,11 +91,52 @@ fn read_unit<'a>(
     })
 }
 
-#[inline]
-fn unit_at(units: &[Unit], k: usize) -> Option<&Unit>
-    ensures { option_copied result ≡ slice_get units.now k }
+/// Reads a unit whose abbreviations no other names.
+#[tactic(auto, unfolding(crate::specs::UnitSays::unit_says))]
+fn read_alone<'a>(
+    alloc: Global,
+    sections: &Sections<'a>,
+    unit: &Unit,
+    code: &Enclosing,
+) -> Result<UnitFound<'a>, Stop<DwarfFault>>
+    requires inside { IsInside (length sections.now.info) unit.now }
+    requires small { length sections.now.info ≤ 2 ^ 29 }
+    ensures { MatchStop result
+        (λ found. (spans : List Range) → EncloseAlike code.now spans → HoldsUnit spans sections.now unit.now found.part found.table)
+        (λ fault. unit_says sections.now unit.now ≡ Err fault)
+        (Prim.Unit {0}) }
 {
-    units.get(k)
+    match read_abbrevs(alloc, sections, unit) {
+        Ok(abbrevs) => read_entries(alloc, sections, unit, code, &abbrevs),
+        Err(stop) => Err(stop),
+    }
+}
+
+/// Reads unit `k`: its abbreviations, if they are not among the shared ones, and what follows.
+#[tactic(auto, unfolding(crate::specs::UnitSays::unit_says))]
+fn read_unit<'a>(
+    alloc: Global,
+    sections: &Sections<'a>,
+    unit: &Unit,
+    code: &Enclosing,
+    shared: &SharedAbbrevs,
+    k: usize,
+) -> Result<UnitFound<'a>, Stop<DwarfFault>>
+    requires inside { IsInside (length sections.now.info) unit.now }
+    requires small { length sections.now.info ≤ 2 ^ 29 }
+    requires shared { Match (IsRead sections.now) shared.now.firsts shared.now.tables }
+    ensures { MatchStop result
+        (λ found. (spans : List Range) → EncloseAlike code.now spans → HoldsUnit spans sections.now unit.now found.part found.table)
+        (λ fault. unit_says sections.now unit.now ≡ Err fault)
+        (Prim.Unit {0}) }
+{
+    let Some(table) = shared.table(sections, unit, k) else {
+        return read_alone(alloc, sections, unit, code);
+    };
+    match table {
+        Ok(abbrevs) => read_entries(alloc, sections, unit, code, abbrevs),
+        Err(fault) => Err(Stop::Fault(*fault)),
+    }
 }
 
 /// The units that are to be read, of these sections; ranges that `code` encloses are code.
@@ -104,6 +145,7 @@ struct UnitReader<'s, 'a> {
     sections: &'s Sections<'a>,
     units: &'s [Unit],
     code: &'s Enclosing,
+    shared: &'s SharedAbbrevs,
 }
 
 impl<'s, 'a> Model for UnitReader<'s, 'a> {
@@ -111,20 +153,26 @@ impl<'s, 'a> Model for UnitReader<'s, 'a> {
 
     ghost Value = { ReaderParts };
 
-    ghost view = { λ r. record { sections = r.sections.now; units = r.units.now; code = r.code.now } };
+    ghost view = { λ r. record { sections = r.sections.now; units = r.units.now; code = r.code.now; shared = r.shared.now } };
 
-    ghost invariant = { λ r. IsReader (record { sections = r.sections.now; units = r.units.now; code = r.code.now }) };
+    ghost invariant = { λ r. IsReader (record { sections = r.sections.now; units = r.units.now; code = r.code.now; shared = r.shared.now }) };
 }
 
 impl<'s, 'a> UnitReader<'s, 'a> {
-    fn of(sections: &'s Sections<'a>, units: &'s [Unit], code: &'s Enclosing) -> UnitReader<'s, 'a>
-        requires { IsReader (record { sections = sections.now; units = units.now; code = code.now }) }
-        ensures { result ≡ record { sections = sections.now; units = units.now; code = code.now } }
+    fn of(
+        sections: &'s Sections<'a>,
+        units: &'s [Unit],
+        code: &'s Enclosing,
+        shared: &'s SharedAbbrevs,
+    ) -> UnitReader<'s, 'a>
+        requires { IsReader (record { sections = sections.now; units = units.now; code = code.now; shared = shared.now }) }
+        ensures { result ≡ record { sections = sections.now; units = units.now; code = code.now; shared = shared.now } }
     {
         UnitReader {
             sections,
             units,
             code,
+            shared,
         }
     }
 }
@@ -150,7 +198,7 @@ impl<'s, 'a> UnitJob for UnitReader<'s, 'a> {
         let Some(unit) = unit_at(self.units, k) else {
             return Err(OutOfMemory);
         };
-        match read_unit(alloc, self.sections, unit, self.code) {
+        match read_unit(alloc, self.sections, unit, self.code, self.shared, k) {
             Ok(found) => Ok(Ok(found)),
             Err(Stop::Fault(fault)) => Ok(Err(fault)),
             Err(Stop::NoMemory) => Err(OutOfMemory),
@@ -197,7 +245,8 @@ fn find_all<'a, R: Threads + Sync, G: Gate + Sync>(
 {
     let code = Enclosing::of_spans(alloc, code)?;
     let read = pick_read(alloc, headers)?;
-    let job = UnitReader::of(sections, read.as_slice(), &code);
+    let shared = read_shared(rt, alloc, sections, read.as_slice(), workers)?;
+    let job = UnitReader::of(sections, read.as_slice(), &code, &shared);
     let found = run_all(rt, alloc, &job, gate, read.len(), workers)?;
     Ok(found)
 }
