@@ -1,5 +1,5 @@
 -- For `make_takes` and `Spec::row`: a short way to the values that are asked for grows from its end.
-use Rattle.std.proofs.Common.{◌≡◌, ◌<◌, ◌≤◌, ◌+◌, ℕ, ℤ, pos, nat_eq, Bool, true, false, cond, List, [], ◌∷◌, ◌++◌, length, drop, get_or, reverse, Option, None, Some, Result, Ok, Err, refl, sym, ap, ◌∙◌, arith, subst, unwrap_or}
+use Rattle.std.proofs.Common.{◌≡◌, ◌<◌, ◌≤◌, ◌+◌, ℕ, ℤ, nat_eq, false, cond, List, [], ◌∷◌, ◌++◌, length, drop, get_or, reverse, Option, None, Some, Result, Ok, Err, refl, sym, ap, ◌∙◌, arith, subst, unwrap_or}
 use Rattle.std.proofs.lemmas.Bool.{cond-false, le-ltb}
 use Rattle.std.proofs.lemmas.List.{drop_more, reverse-append}
 use Rattle.std.proofs.Math.ListN.{drop_of_length-le}
@@ -7,11 +7,8 @@ use Rattle.sym_edges.specs.Results.{◌>>=◌}
 use Rattle.leb_cursor.specs.declared.fault.CursorFault.{CursorFault}
 use Rattle.leb_cursor.specs.Ahead.{Ahead, passed}
 use Rattle.leb_cursor.specs.Readings.{take_at}
-use Rattle.code_table.specs.declared.kind.Kind.{Kind}
 use Rattle.code_table.specs.declared.kind.Kind.TheVariants as kind
 use Rattle.code_table.specs.declared.kind.Operand.{Operand}
-use Rattle.code_table.specs.declared.forms.FormClass.{FormClass}
-use Rattle.code_table.specs.declared.forms.FormClass.TheVariants as class
 use Rattle.code_table.specs.declared.forms.FormRow.{FormRow}
 use Rattle.code_table.specs.Forms.{forms, form_row}
 use Rattle.code_table.specs.Layouts.{kind_at}
@@ -24,7 +21,7 @@ use Rattle.abbrev_units.specs.FormValue.{value_of, value_by, direct_at, form_at}
 use Rattle.abbrev_units.specs.SpecFields.{SpecFields}
 use Rattle.abbrev_units.specs.Values.{value_at, values_at, only_ahead}
 use Rattle.abbrev_units.specs.Takes.{is_asked, asked_of, with_asked, taken_at, takes_at, AreTakes}
-use Rattle.abbrev_units.specs.internal.Plans.{HasRow, HasSize, IsPassed, no_take, in_front}
+use Rattle.abbrev_units.specs.internal.Plans.{HasRow, IsPassed, no_take, in_front}
 use Rattle.abbrev_units.proofs.PlanLemmas.{take_passed, take_fits, passed_none, passed_two, long_enough}
 
 pub direct_row : (spec : SpecFields) (row : FormRow) → nat_eq spec.form 0x16 ≡ false → Some row ≡ form_row spec.form (forms spec.wide) → HasRow spec row
@@ -71,7 +68,8 @@ read_by take (Ok x) c d e value fits there reads is =
       fits = fits;
       operand = x.0;
       reads = ap (kind_at take.kind) (sym there) ∙ reads ∙ ap (λ y. Ok (x.0, y)) same;
-      gives = sym (ap (value_or value) is) }
+      gives = sym (ap (value_or value) is);
+    }
 read_by take (Err fault) c d e value fits there reads is = absurd (grind (arith, is))
 
 run_by : (take : Take) (run : Result (List ℕ × Ahead) CursorFault) (c d : Ahead) (value : Value) → take_at take.bytes c ≡ run → (run >>= read_on take) ≡ Ok (value, d) → Taken take c d value
@@ -102,7 +100,8 @@ later_by take takes c d given x (Ok later) one two is =
       later = later.0;
       first = one;
       others = two ∙ ap (λ y. Ok (later.0, y)) same;
-      is = sym (ap (given_or given) is) }
+      is = sym (ap (given_or given) is);
+    }
 later_by take takes c d given x (Err fault) one two is = absurd (grind (arith, is))
 
 first_by : (take : Take) (takes : List Take) (c d : Ahead) (given : List Given) (first : Result (Value × Ahead) CursorFault) → taken_at take c ≡ first → (first >>= behind_first take takes) ≡ Ok (given, d) → FirstTake take takes c d given
@@ -225,9 +224,9 @@ unfolding takes_at taken_at
 narrower first takes size c d given fits is =
     let long : first.bytes ≤ length (passed size c).bytes = long_enough size first.bytes (size + first.bytes) c refl fits in
     let same : taken_at first (passed size c) ≡ taken_at (record first { bytes = size + first.bytes }) c =
-        same_run first first.bytes (passed size c) long
-        ∙ ap (λ (e : Ahead). kind_at first.kind e >>= valued first) (passed_two size first.bytes c)
-        ∙ sym (same_run first (size + first.bytes) c fits) in
+    same_run first first.bytes (passed size c) long
+    ∙ ap (λ (e : Ahead). kind_at first.kind e >>= valued first) (passed_two size first.bytes c)
+    ∙ sym (same_run first (size + first.bytes) c fits) in
     ap (λ (r : Result (Value × Ahead) CursorFault). r >>= behind_first first takes) same ∙ is
 
 wider_takes : (first : Take) (takes : List Take) (specs : List SpecFields) (x : SpecFields) (row : FormRow) (size : ℕ) → AreTakes (first ∷ takes) specs → HasRow x row → IsPassed x row size → AreTakes (record first { bytes = size + first.bytes } ∷ takes) (x ∷ specs)

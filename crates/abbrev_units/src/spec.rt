@@ -170,11 +170,7 @@ impl Model for SpecList {
 
 impl SpecList {
     /// The short way to values is made where they are `asked` for.
-    pub(crate) fn of(
-        alloc: Global,
-        items: Vec<Spec>,
-        asked: bool,
-    ) -> Result<SpecList, OutOfMemory>
+    pub(crate) fn of(alloc: Global, items: Vec<Spec>, asked: bool) -> Result<SpecList, OutOfMemory>
         ensures { IfOk result (λ list. list ≡ items.items) }
     {
         let steps = make_plan(alloc, items.as_slice())?;

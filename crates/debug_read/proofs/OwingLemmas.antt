@@ -1,9 +1,9 @@
 -- For src/owing.rt and `read_unit_lines`: a line table has the same faults whichever unit names it.
-use Rattle.std.proofs.Common.{◌≡◌, ◌<◌, ◌≤◌, ◌+◌, ℕ, zero, suc, nat_lt, Bool, true, false, cond, List, [], ◌∷◌, ◌++◌, drop, length, reverse, get_or, Option, None, Some, unwrap_or, Result, Ok, Err, refl, sym, ap, subst, ◌∙◌, append_assoc, append-nil, arith}
+use Rattle.std.proofs.Common.{◌≡◌, ◌<◌, ◌≤◌, ℕ, zero, suc, nat_lt, Bool, true, false, cond, List, [], ◌∷◌, ◌++◌, drop, length, reverse, get_or, Option, None, Some, Result, Ok, Err, refl, sym, ap, subst, ◌∙◌, append_assoc, append-nil, arith}
 use Rattle.std.specs.List.{All}
 use Rattle.std.proofs.lemmas.Bool.{cond-false, le-ltb}
 use Rattle.std.proofs.lemmas.List.{reverse-append, reverse-reverse}
-use Rattle.std.proofs.lemmas.List.Elements.{All-push, All-get_or}
+use Rattle.std.proofs.lemmas.List.Elements.{All-get_or}
 use Rattle.sym_edges.specs.Addresses.{Range}
 use Rattle.sym_edges.specs.Results.{◌>>=◌}
 use Rattle.sym_edges.specs.declared.located.Located.{Located}
@@ -206,16 +206,16 @@ pub record Settling (sections : DebugSections) (found left : List (Result UnitFo
 pub settling_begins : (sections : DebugSections) (found left : List (Result UnitFound LineFault)) (made : List (Result UnitRead LineFault)) → left ≡ reverse found → made ≡ [] → Settling sections found left made
 settling_begins sections found left made is none = record {
   rest = λ later match.
-    subst (λ (m : List (Result UnitRead LineFault)). Match (Settles sections) found (m ++ later)) (sym none)
-    (subst (λ (l : List (Result UnitFound LineFault)). Match (Settles sections) l later) (ap reverse is ∙ reverse-reverse found) match);
+      subst (λ (m : List (Result UnitRead LineFault)). Match (Settles sections) found (m ++ later)) (sym none)
+      (subst (λ (l : List (Result UnitFound LineFault)). Match (Settles sections) l later) (ap reverse is ∙ reverse-reverse found) match);
 }
 
 pub settling_more : (sections : DebugSections) (found left less : List (Result UnitFound LineFault)) (made more : List (Result UnitRead LineFault)) (one : Result UnitFound LineFault) (out : Result UnitRead LineFault) → Settling sections found left made → left ≡ less ++ one ∷ [] → Settles sections one out → more ≡ made ++ out ∷ [] → Settling sections found less more
 settling_more sections found left less made more one out so_far is settles grown = record {
   rest = λ later match.
-    subst (λ (m : List (Result UnitRead LineFault)). Match (Settles sections) found m) (sym (ap (λ (m : List (Result UnitRead LineFault)). m ++ later) grown ∙ append_assoc made (out ∷ []) later))
-    (so_far.rest (out ∷ later)
-    (subst (λ (l : List (Result UnitFound LineFault)). Match (Settles sections) l (out ∷ later)) (sym (ap reverse is ∙ reverse-append less (one ∷ []))) (settles, match)));
+      subst (λ (m : List (Result UnitRead LineFault)). Match (Settles sections) found m) (sym (ap (λ (m : List (Result UnitRead LineFault)). m ++ later) grown ∙ append_assoc made (out ∷ []) later))
+      (so_far.rest (out ∷ later)
+      (subst (λ (l : List (Result UnitFound LineFault)). Match (Settles sections) l (out ∷ later)) (sym (ap reverse is ∙ reverse-append less (one ∷ []))) (settles, match)));
 }
 
 pub settling_ends : (sections : DebugSections) (found left : List (Result UnitFound LineFault)) (made : List (Result UnitRead LineFault)) → Settling sections found left made → left ≡ [] → Match (Settles sections) found made

@@ -1,5 +1,5 @@
 -- For `text_at` and `text_where`: a text whose end is not looked for yet.
-use Rattle.std.proofs.Common.{◌≡◌, ◌<◌, ◌≤◌, ◌+◌, ◌-◌, ℕ, nat_eq, nat_lt, Bool, true, false, cond, List, [], ◌∷◌, length, drop, get_or, Option, None, Some, unwrap_or, refl, sym, ap, ◌∙◌, arith, position, not, take, length-drop}
+use Rattle.std.proofs.Common.{◌≡◌, ◌<◌, ◌≤◌, ◌+◌, ◌-◌, ℕ, nat_eq, nat_lt, Bool, true, false, cond, List, length, drop, get_or, Option, None, Some, unwrap_or, refl, sym, ap, ◌∙◌, arith, position, not, take, length-drop}
 use Rattle.std.specs.Option.{option_map}
 use Rattle.std.specs.List.{position_or_len}
 use Rattle.std.proofs.lemmas.List.Sums.{prefix_len_passes}

@@ -124,11 +124,7 @@ fn read_each(cursor: &mut Cursor<'_>, specs: &[Spec]) -> Result<Picks, FormFault
 
 /// Reads the values of an entry one by one, into places that may hold something.
 #[inline(never)]
-fn read_again(
-    picks: &mut Picks,
-    cursor: &mut Cursor<'_>,
-    specs: &[Spec],
-) -> Result<(), FormFault>
+fn read_again(picks: &mut Picks, cursor: &mut Cursor<'_>, specs: &[Spec]) -> Result<(), FormFault>
     ensures { picked_by result picks.new cursor.new ≡ picks_at no_picks specs.now cursor.old }
 {
     match read_each(cursor, specs) {

@@ -1,5 +1,5 @@
 -- How a kept entry holds its attributes.
-use Rattle.std.specs.Prelude.{◌≡◌, ℕ, ◌<◌, Bool, true, false, List, length, Option, None, Some, unwrap_or, get_or, ◌-◌}
+use Rattle.std.specs.Prelude.{◌≡◌, ℕ, Bool, true, false, List, length, Option, None, Some, unwrap_or, get_or, ◌-◌}
 use Rattle.std.specs.Int.{w64, cast_signed}
 use Rattle.abbrev_units.specs.declared.value.Value.{Value}
 use Rattle.abbrev_units.specs.declared.value.Value.TheVariants as value

@@ -1,4 +1,4 @@
-use Rattle.std.proofs.Common.{None, refl, ◌≡◌, ◌<◌, ◌-◌, ◌+◌, length, arith}
+use Rattle.std.proofs.Common.{None, refl, ◌≡◌, ◌-◌, ◌+◌, length, arith}
 use Rattle.abbrev_units.proofs.TakeLemmas.{takes_begin, takes_wider, takes_next}
 use Rattle.abbrev_units.proofs.take.make_takes.Goals as goal
 

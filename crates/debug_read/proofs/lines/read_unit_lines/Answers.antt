@@ -12,6 +12,7 @@ returns-then-not-has_function c = λ spans same.
     table_owed c.args.sections.now c.args.table.now.root c.in-Some.offset spans _ c.empty-then-not-has_function.result (search rules) (search rules) c.empty-then-not-has_function.ensures
 
 pub returns-in-Ok : goal.returns-in-Ok
-returns-in-Ok c = λ spans same.
-    (table_whole c.args.sections.now c.args.table.now.root c.in-Some.offset spans _ c.in-Ok.lines (search rules) (search rules) (search rules),
-    table_sound c.args.sections.now (encloses spans) c.in-Some.offset c.args.table.now.root.at (unwrap_or c.args.table.now.root.comp_dir []) c.in-Ok.lines (search rules))
+returns-in-Ok c = λ spans same. (
+  table_whole c.args.sections.now c.args.table.now.root c.in-Some.offset spans _ c.in-Ok.lines (search rules) (search rules) (search rules),
+  table_sound c.args.sections.now (encloses spans) c.in-Some.offset c.args.table.now.root.at (unwrap_or c.args.table.now.root.comp_dir []) c.in-Ok.lines (search rules),
+)

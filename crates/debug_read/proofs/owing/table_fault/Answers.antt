@@ -1,6 +1,6 @@
-use Rattle.std.proofs.Common.{refl, rules}
+use Rattle.std.proofs.Common.{refl}
 use Rattle.range_set.specs.Enclosing.{encloses}
-use Rattle.debug_read.proofs.OwingLemmas.{outcome_is, table_ok}
+use Rattle.debug_read.proofs.OwingLemmas.{table_ok}
 use Rattle.debug_read.proofs.owing.table_fault.Goals as goal
 
 pub returns-in-Ok : goal.returns-in-Ok

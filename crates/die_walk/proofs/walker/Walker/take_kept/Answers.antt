@@ -1,4 +1,3 @@
-use Rattle.std.proofs.Common.{sym, ap, ◌∙◌}
 use Rattle.die_walk.proofs.StepLemmas.{taken}
 use Rattle.die_walk.proofs.walker.Walker.take_kept.Goals as goal
 
