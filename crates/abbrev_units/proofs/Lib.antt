@@ -5,6 +5,7 @@ mod PlaceLemmas
 pub mod ValueLemmas
 pub mod FormLemmas
 mod PlanLemmas
+mod TakeLemmas
 pub mod Computing
 mod WorkedForms
 mod WorkedUnits

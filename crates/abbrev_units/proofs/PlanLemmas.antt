@@ -52,7 +52,7 @@ unfolding run_at
 run_ahead n c = run_by c.at (take_at n c)
 
 -- no bytes, and nothing more
-passed_none : (c : Ahead) → passed 0 c ≡ c
+pub passed_none : (c : Ahead) → passed 0 c ≡ c
 unfolding passed
 passed_none c =
     let same : c.at + 0 ≡ c.at = omega arith in
@@ -63,13 +63,13 @@ run_passed : (short : Bool) (fault : CursorFault) (run : List ℕ) (n : ℕ) (c 
 run_passed true fault run n c d is = absurd (grind (arith, is))
 run_passed false fault run n c d is = let same : passed n c ≡ d = cc in (refl, sym same)
 
-take_passed : (n : ℕ) (c d : Ahead) → only_ahead (take_at n c) ≡ Ok d → (n ≤ length c.bytes) × (d ≡ passed n c)
+pub take_passed : (n : ℕ) (c d : Ahead) → only_ahead (take_at n c) ≡ Ok d → (n ≤ length c.bytes) × (d ≡ passed n c)
 unfolding take_at
 take_passed n c d is =
     let both = run_passed (nat_lt (length c.bytes) n) (Ends c.at) (take n c.bytes) n c d is in
     (ltb-false _ _ both.0, both.1)
 
-take_fits : (n : ℕ) (c : Ahead) → n ≤ length c.bytes → only_ahead (take_at n c) ≡ Ok (passed n c)
+pub take_fits : (n : ℕ) (c : Ahead) → n ≤ length c.bytes → only_ahead (take_at n c) ≡ Ok (passed n c)
 unfolding take_at
 take_fits n c there = ap only_ahead (cond-false _ _ _ (le-ltb (length c.bytes) n there))
 
@@ -202,14 +202,14 @@ front_is steps specs bytes c e f plan front run =
     ∙ one_step (record { bytes = bytes; kind = kind.Nothing }) e ∙ ap (λ r. r >>= λ d. only_ahead (kind_at kind.Nothing d)) run)
 
 -- a run of two parts
-passed_two : (m n : ℕ) (c : Ahead) → passed n (passed m c) ≡ passed (m + n) c
+pub passed_two : (m n : ℕ) (c : Ahead) → passed n (passed m c) ≡ passed (m + n) c
 unfolding passed
 passed_two m n c =
     let place : (c.at + m) + n ≡ c.at + (m + n) = omega arith in
     ap (λ (rest : List ℕ). record { bytes = rest; at = (c.at + m) + n }) (drop-drop n m c.bytes)
     ∙ ap (λ (p : ℕ). record { bytes = drop (m + n) c.bytes; at = p }) place
 
-long_enough : (m n sum : ℕ) (c : Ahead) → sum ≡ m + n → sum ≤ length c.bytes → n ≤ length (passed m c).bytes
+pub long_enough : (m n sum : ℕ) (c : Ahead) → sum ≡ m + n → sum ≤ length c.bytes → n ≤ length (passed m c).bytes
 unfolding passed
 long_enough m n sum c is there = omega (arith, is, there, length-drop m c.bytes)
 

@@ -9,5 +9,6 @@ pub mod SpecFields
 pub mod Abbreviations
 pub mod Places
 pub mod Values
+pub mod Takes
 pub mod FaultWords
 pub mod internal

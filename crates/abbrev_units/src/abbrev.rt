@@ -6,7 +6,10 @@ ghost use Rattle.abbrev_units.specs.Faults.{GivesAt};
 ghost use Rattle.abbrev_units.specs.Abbreviations.{implicit_at, spec_at, abbrev_by, abbrev_at};
 
 use crate::spec::{Spec, SpecList};
-use code_table::DW_FORM_implicit_const;
+use code_table::{
+    DW_FORM_implicit_const, DW_TAG_class_type, DW_TAG_inlined_subroutine, DW_TAG_namespace,
+    DW_TAG_structure_type, DW_TAG_subprogram, DW_TAG_union_type,
+};
 use leb_cursor::{Cursor, CursorFault};
 use std::alloc::Global;
 use sym_edges::{ListOf, Stop};
@@ -65,6 +68,20 @@ fn read_specs(
     }
 }
 
+/// Whether the values of entries of a tag are mostly asked for.
+#[inline]
+fn is_asked_tag(tag: u64) -> bool {
+    matches!(
+        tag,
+        DW_TAG_class_type
+            | DW_TAG_structure_type
+            | DW_TAG_union_type
+            | DW_TAG_inlined_subroutine
+            | DW_TAG_subprogram
+            | DW_TAG_namespace
+    )
+}
+
 /// Reads an abbreviation after its code.
 #[tactic(auto, unfolding(crate::specs::Abbreviations::abbrev_by))]
 fn read_behind(
@@ -87,7 +104,7 @@ fn read_behind(
         Ok(specs) => specs.into_vec(),
         Err(stop) => return Err(stop),
     };
-    let specs = SpecList::of(alloc, specs)?;
+    let specs = SpecList::of(alloc, specs, is_asked_tag(tag))?;
     Ok(Some(Abbrev {
         code,
         tag,

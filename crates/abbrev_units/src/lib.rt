@@ -4,8 +4,8 @@
 //! [`units`] gives the units of `.debug_info`: where each begins and ends, where its entries begin, its
 //! version, and where its abbreviations stand; or the first fault of their headers. [`read_abbrevs`] gives the
 //! abbreviations of a unit, and [`Abbrevs::find`] the first of a code. [`read_form`] reads the value of a form,
-//! [`Spec::read`] that of an attribute, whose form was looked up once, and [`SpecList::skip`] passes the
-//! values that nobody asks for. [`read_text`] gives the text of a value, as a slice of the file.
+//! [`Spec::read`] that of an attribute, whose form was looked up once, [`SpecList::skip`] passes the
+//! values that nobody asks for, and [`SpecList::takes`] is a short way to those that are. [`read_text`] gives the text of a value, as a slice of the file.
 //!
 //! Each contract is an equation with a definition: `specs/Units.antt` has the headers field by field,
 //! `specs/Abbreviations.antt` the lists of attributes, `specs/FormValue.antt` the value of a form over the
@@ -22,6 +22,7 @@ mod length;
 mod plan;
 mod sections;
 mod spec;
+mod take;
 mod text;
 mod unit;
 mod value;
@@ -33,6 +34,7 @@ pub use crate::form::read_form;
 pub use crate::length::{Contents, read_contents};
 pub use crate::sections::Sections;
 pub use crate::spec::{Spec, SpecList};
+pub use crate::take::Take;
 pub use crate::text::{cursor_from, place_by_index, read_place, read_text, text_in};
 pub use crate::unit::{Unit, UnitList, UnitPart, units};
 pub use crate::value::{Given, Value};

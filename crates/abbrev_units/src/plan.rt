@@ -1,7 +1,9 @@
 //! A short way over the values of an entry: those of fixed size that stand together are passed at once.
 ghost use Rattle.std.specs.Prelude.{◌≡◌, true, Ok, Some, IfSome, IfOk, MatchOption};
 ghost use Rattle.leb_cursor.specs.Ahead.{Ahead};
+ghost use Rattle.code_table.specs.Layouts.{kind_at};
 ghost use Rattle.abbrev_units.specs.Faults.{left_by};
+ghost use Rattle.abbrev_units.specs.Values.{only_ahead};
 ghost use Rattle.abbrev_units.specs.internal.Plans.{step_at, steps_at, IsPlan, HasLayout, HasSize, SizeOf};
 
 use crate::spec::Spec;
@@ -18,7 +20,7 @@ pub struct Step {
 }
 
 /// The bytes of an operand, where they are as many for each.
-fn size_of(kind: Kind) -> Option<u8>
+pub fn size_of(kind: Kind) -> Option<u8>
     ensures { IfSome result (λ size. HasSize kind size) }
 {
     match kind {
@@ -74,13 +76,42 @@ pub fn make_plan(alloc: Global, specs: &[Spec]) -> Result<Option<Vec<Step>>, Out
     Ok(Some(steps))
 }
 
+/// Passes an operand of any layout.
+#[inline(never)]
+fn pass_any(cursor: &mut Cursor<'_>, kind: Kind) -> Result<(), CursorFault>
+    ensures { left_by result cursor.new ≡ only_ahead (kind_at kind cursor.old) }
+{
+    let _operand = read_kind(cursor, kind)?;
+    Ok(())
+}
+
+/// Passes an operand: the usual layouts are read here.
+#[inline]
+#[tactic(auto, unfolding(code_table::specs::Layouts::kind_at, code_table::specs::Layouts::run_at))]
+fn pass_kind(cursor: &mut Cursor<'_>, kind: Kind) -> Result<(), CursorFault>
+    ensures { left_by result cursor.new ≡ only_ahead (kind_at kind cursor.old) }
+{
+    match kind {
+        Kind::Nothing => Ok(()),
+        Kind::Uleb => {
+            let _number = cursor.uleb()?;
+            Ok(())
+        }
+        Kind::BlockUleb => {
+            let count = cursor.uleb()?;
+            let _run = cursor.take(count)?;
+            Ok(())
+        }
+        _ => pass_any(cursor, kind),
+    }
+}
+
 #[inline]
 fn pass_step(cursor: &mut Cursor<'_>, step: Step) -> Result<(), CursorFault>
     ensures { left_by result cursor.new ≡ step_at step cursor.old }
 {
     let _run = cursor.take(step.bytes)?;
-    let _operand = read_kind(cursor, step.kind)?;
-    Ok(())
+    pass_kind(cursor, step.kind)
 }
 
 /// Goes the steps. Where one fails, nothing is said.

@@ -5,11 +5,13 @@ ghost use Rattle.leb_cursor.specs.Readings.{take_at};
 ghost use Rattle.abbrev_units.specs.Faults.{left_by, as_value};
 ghost use Rattle.abbrev_units.specs.FormValue.{form_at};
 ghost use Rattle.abbrev_units.specs.Values.{value_at, only_ahead, behind_values};
-ghost use Rattle.abbrev_units.specs.internal.Plans.{HasLayout};
+ghost use Rattle.abbrev_units.specs.internal.Plans.{HasLayout, HasRow};
+ghost use Rattle.abbrev_units.specs.Takes.{AreTakes};
 
 use crate::fault::FormFault;
 use crate::form::{read_indirect, read_known};
 use crate::plan::{Step, form_size, make_plan, pass_steps};
+use crate::take::{Take, takes_of};
 use crate::value::Value;
 use code_table::{DW_FORM_indirect, FormRow, Kind, find_form};
 use leb_cursor::Cursor;
@@ -116,6 +118,20 @@ impl Spec {
         }
     }
 
+    /// The row of the form, where it is the same for each value and known.
+    #[tactic(auto, using(crate::proofs::TakeLemmas::direct_row))]
+    pub(crate) fn row(&self) -> Option<FormRow>
+        ensures { IfSome result (λ row. HasRow self.now row) }
+    {
+        if self.form == DW_FORM_indirect {
+            return None;
+        }
+        match self.row {
+            Some(row) => Some(row),
+            None => None,
+        }
+    }
+
     /// Passes a value of the attribute. A refused call may leave the cursor inside the value.
     #[inline]
     #[tactic(auto, using(crate::proofs::PlanLemmas::sized_value))]
@@ -130,37 +146,61 @@ impl Spec {
     }
 }
 
-/// The attributes of an abbreviation, with a short way over their values.
+/// The attributes of an abbreviation, with a short way over their values, and one to those that are asked
+/// for.
 #[derive(Drop)]
 pub struct SpecList {
     items: Vec<Spec>,
     steps: Option<Vec<Step>>,
+    takes: Option<Vec<Take>>,
 }
 
 impl Model for SpecList {
     ghost use Rattle.std.specs.Prelude.{List, IfSome};
     ghost use Rattle.abbrev_units.specs.SpecFields.{SpecFields};
     ghost use Rattle.abbrev_units.specs.internal.Plans.{IsPlan};
+    ghost use Rattle.abbrev_units.specs.Takes.{AreTakes};
 
     ghost Value = { List SpecFields };
 
     ghost view = { λ l. l.items.items };
 
-    ghost invariant = { λ l. IfSome l.steps (λ steps. IsPlan steps.items l.items.items) };
+    ghost invariant = { λ l. IfSome l.steps (λ steps. IsPlan steps.items l.items.items) × IfSome l.takes (λ takes. AreTakes takes.items l.items.items) };
 }
 
 impl SpecList {
-    pub(crate) fn of(alloc: Global, items: Vec<Spec>) -> Result<SpecList, OutOfMemory>
+    /// The short way to values is made where they are `asked` for.
+    pub(crate) fn of(alloc: Global, items: Vec<Spec>, asked: bool) -> Result<SpecList, OutOfMemory>
         ensures { IfOk result (λ list. list ≡ items.items) }
     {
         let steps = make_plan(alloc, items.as_slice())?;
-        Ok(SpecList { items, steps })
+        let takes = if asked {
+            takes_of(alloc, items.as_slice())?
+        } else {
+            None
+        };
+        Ok(SpecList {
+            items,
+            steps,
+            takes,
+        })
     }
 
     pub fn as_slice(&self) -> &[Spec]
         ensures { result.now ≡ self.now }
     {
         self.items.as_slice()
+    }
+
+    /// A short way to the values that are asked for, where there is one.
+    #[inline]
+    pub fn takes(&self) -> Option<&[Take]>
+        ensures { IfSome result (λ takes. AreTakes takes.now self.now) }
+    {
+        match &self.takes {
+            Some(takes) => Some(takes.as_slice()),
+            None => None,
+        }
     }
 
     /// Passes the values of the attributes, one after the other. A refused call may leave the cursor among

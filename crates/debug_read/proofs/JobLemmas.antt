@@ -1,5 +1,5 @@
 -- What the workers found, unit by unit.
-use Rattle.std.proofs.Common.{◌≡◌, ◌<◌, ℕ, List, [], ◌∷◌, get_or, length, Option, Result, Ok, Err, ap, subst, ◌∙◌, arith}
+use Rattle.std.proofs.Common.{◌≡◌, ◌<◌, ℕ, List, [], ◌∷◌, get_or, length, Option, Some, Result, Ok, Err, sym, ap, subst, ◌∙◌, arith}
 use Rattle.std.specs.List.{slice_get}
 use Rattle.sym_edges.specs.Addresses.{Range}
 use Rattle.sym_edges.specs.Results.{◌>>=◌}
@@ -15,7 +15,10 @@ use Rattle.die_names.specs.declared.unit_read.UnitRead.{UnitRead}
 use Rattle.debug_read.specs.Each.{each_of, Match, Says}
 use Rattle.debug_read.specs.UnitSays.{UnitSays, unit_says}
 use Rattle.debug_read.specs.UnitsRead.{IsUnitRead}
-use Rattle.debug_read.specs.internal.Jobs.{ReaderParts, IsFound, ReaderGives}
+use Rattle.debug_read.specs.declared.owing.UnitFound.{UnitFound}
+use Rattle.debug_read.specs.internal.Sharing.{SharedParts}
+use Rattle.debug_read.specs.internal.Jobs.{ReaderParts, IsFound}
+use Rattle.debug_read.specs.internal.Owing.{IsOwing, ReaderGives}
 use Rattle.debug_read.proofs.EachLemmas.{says_first, first_says, match_in_order}
 
 abbrev fault_or : {A F : Type 0} → F → Result A F → F
@@ -25,10 +28,18 @@ fault_or other (Err f) = f
 abbrev Found : Type 0
 Found = Result UnitRead (Located DwarfKind)
 
-pub found_all : (reading : ReaderParts) (spans : List Range) (found : List Found) → EncloseAlike reading.code spans → length found ≡ length reading.units → ((k : ℕ) (d : Found) → k < length found → ReaderGives reading (slice_get reading.units k) (get_or found k d)) → Match (IsFound spans reading.sections) reading.units found
+abbrev Owing : Type 0
+Owing = Result UnitFound (Located DwarfKind)
+
+pub found_all : (reading : ReaderParts) (spans : List Range) (found : List Owing) → EncloseAlike reading.code spans → length found ≡ length reading.units → ((k : ℕ) (d : Owing) → k < length found → ReaderGives reading (slice_get reading.units k) (get_or found k d)) → Match (IsOwing spans reading.sections) reading.units found
 found_all reading spans found same long each =
-    match_in_order (IsFound spans reading.sections) reading.units found long
+    match_in_order (IsOwing spans reading.sections) reading.units found long
     (λ k d inside unit there. subst (λ (o : Option Unit). ReaderGives reading o (get_or found k d)) there (each k d inside) spans same)
+
+-- the reader's result of a number
+pub reader_found : (reader made : ReaderParts) (k : ℕ) (unit : Unit) (found : Owing) → reader ≡ made → slice_get made.units k ≡ Some unit → ((spans : List Range) → EncloseAlike made.code spans → IsOwing spans made.sections unit found) → ReaderGives reader (slice_get reader.units k) found
+reader_found reader made k unit found is there each =
+    subst (λ (r : ReaderParts). ReaderGives r (slice_get r.units k) found) (sym is) (subst (λ (o : Option Unit). ReaderGives made o found) (sym there) each)
 
 -- small facts of results
 ok_is_no_fault : {A F : Type 0} {x : A} {f : F} → Ok x ≡ Err f → ⊥
@@ -47,10 +58,10 @@ fault_behind : (spans : List Range) (sections : DebugSections) (says : Result Un
 fault_behind spans sections (Ok one) part later fault found is = ap (λ (r : Result (List UnitSays) (Located DwarfKind)). r >>= λ rest. Ok (one ∷ rest)) is
 fault_behind spans sections (Err other) part later fault found is = absurd found
 
-pub found_in : (reading : ReaderParts) (sections : DebugSections) (read units : List Unit) (code spans : List Range) (found : List Found) → reading ≡ record { sections = sections; units = read; code = code } → read ≡ units → EncloseAlike code spans → length found ≡ length read → ((k : ℕ) (d : Found) → k < length found → ReaderGives reading (slice_get reading.units k) (get_or found k d)) → Match (IsFound spans sections) units found
-found_in reading sections read units code spans found is picked same long each =
-    let made : ReaderParts = record { sections = sections; units = read; code = code } in
-    subst (λ (us : List Unit). Match (IsFound spans sections) us found) picked
+pub found_in : (reading : ReaderParts) (sections : DebugSections) (read units : List Unit) (code spans : List Range) (shared : SharedParts) (found : List Owing) → reading ≡ record { sections = sections; units = read; code = code; shared = shared } → read ≡ units → EncloseAlike code spans → length found ≡ length read → ((k : ℕ) (d : Owing) → k < length found → ReaderGives reading (slice_get reading.units k) (get_or found k d)) → Match (IsOwing spans sections) units found
+found_in reading sections read units code spans shared found is picked same long each =
+    let made : ReaderParts = record { sections = sections; units = read; code = code; shared = shared } in
+    subst (λ (us : List Unit). Match (IsOwing spans sections) us found) picked
     (found_all made spans found same long
     (λ k d inside. subst (λ (r : ReaderParts). ReaderGives r (slice_get r.units k) (get_or found k d)) is (each k d inside)))
 

@@ -2,6 +2,8 @@ pub mod EachLemmas
 pub mod SetLemmas
 pub mod LineLemmas
 pub mod UnitLemmas
+mod OwingLemmas
+mod SharingLemmas
 pub mod PickLemmas
 pub mod JobLemmas
 pub mod Computing

@@ -15,22 +15,26 @@
 //!
 //! A unit's line table is kept only where the unit has a function that is not merely declared, since lines are asked of
 //! the units of functions alone; the table of another unit is read for its faults, and the empty one stands in its place.
+//! A table's faults are the same whichever unit names it, so these tables are looked at after the units, each offset once,
+//! and not where a unit with a function kept the same.
 //!
 //! Each worker reads the units that it draws, one at a time, by a function of the file and the unit's number
 //! (`unit_workers`); what they found is then joined in the order of the units. All units are read, also after one that is
-//! refused.
+//! refused. Abbreviations that several units name are read before, once.
 //!
-//! To read: `specs/UnitSays.antt`, `UnitsRead.antt` and `DebugSays.antt`; then `units` with `ranges` and `lines`, and
-//! `reading`.
+//! To read: `specs/UnitSays.antt`, `UnitsRead.antt` and `DebugSays.antt`; then `units` with `sharing`, `ranges` and `lines`,
+//! `owing`, and `reading`.
 #![tactic(auto)]
 
 mod fault;
 mod found;
 pub mod laws;
 mod lines;
+mod owing;
 mod ranges;
 mod reading;
 mod sections;
+mod sharing;
 mod units;
 
 pub use crate::fault::DebugFault;

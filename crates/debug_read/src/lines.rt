@@ -6,10 +6,11 @@ ghost use Rattle.sym_edges.specs.Outside.{MatchStop};
 ghost use Rattle.range_set.specs.Enclosing.{encloses};
 ghost use Rattle.line_program.specs.LineMaps.{EncloseAlike};
 ghost use Rattle.line_program.specs.LineTables.{unit_lines, Says as SaysTable};
-ghost use Rattle.debug_read.specs.Each.{Says};
 ghost use Rattle.debug_read.specs.UnitSays.{root_lines};
-ghost use Rattle.debug_read.specs.UnitsRead.{has_function, no_lines, KeepsLines};
+ghost use Rattle.debug_read.specs.UnitsRead.{has_function};
+ghost use Rattle.debug_read.specs.internal.Owing.{HoldsLines};
 
+use crate::owing::TableRead;
 use abbrev_units::{DwarfFault, Sections};
 use die_walk::{Die, DieTable, Root};
 use line_program::{LineTable, read_lines};
@@ -35,7 +36,7 @@ fn comp_dir_of<'a>(root: &Root<'a>) -> &'a [u8]
 }
 
 /// Reads the line table at the offset that a root has.
-fn read_table(
+pub fn read_table(
     alloc: Global,
     sections: &Sections<'_>,
     root: &Root<'_>,
@@ -57,36 +58,44 @@ fn read_table(
     )
 }
 
-/// A line table where it is asked for, else the empty one.
-fn keep(alloc: Global, asked: bool, lines: LineTable) -> LineTable
-    ensures { result ≡ if asked then lines else no_lines }
-{
-    if asked {
-        lines
-    } else {
-        LineTable::empty(alloc)
-    }
+/// The lines that are kept of a unit, and which table they come from.
+#[derive(Drop)]
+pub struct LinesFound {
+    pub lines: LineTable,
+    pub table: TableRead,
 }
 
-/// Reads the line table of a unit, also where nothing of it is kept: its faults count.
+/// Reads the line table of a unit, where the unit has a function; the faults of another are still to be looked for.
 #[tactic(auto, using(crate::proofs::LineLemmas::no_table, crate::proofs::LineLemmas::table_refused))]
 pub fn read_unit_lines(
     alloc: Global,
     sections: &Sections<'_>,
     table: &DieTable<'_>,
     code: &Enclosing,
-) -> Result<LineTable, Stop<DwarfFault>>
+) -> Result<LinesFound, Stop<DwarfFault>>
     ensures { MatchStop result
-        (λ kept. (spans : List Range) → EncloseAlike code.now spans → Says (KeepsLines spans (has_function table.now.dies)) (root_lines sections.now table.now.root) kept)
+        (λ found. (spans : List Range) → EncloseAlike code.now spans → HoldsLines spans sections.now table.now.root (has_function table.now.dies) found.lines found.table)
         (λ fault. root_lines sections.now table.now.root ≡ Err fault)
         (Prim.Unit {0}) }
 {
     let root = table.root();
     let Some(offset) = root.stmt_list else {
-        return Ok(LineTable::empty(alloc));
+        return Ok(LinesFound {
+            lines: LineTable::empty(alloc),
+            table: TableRead::Missing,
+        });
     };
+    if !has_function(table.dies()) {
+        return Ok(LinesFound {
+            lines: LineTable::empty(alloc),
+            table: TableRead::Owed(offset),
+        });
+    }
     match read_table(alloc, sections, root, offset, code) {
-        Ok(lines) => Ok(keep(alloc, has_function(table.dies()), lines)),
+        Ok(lines) => Ok(LinesFound {
+            lines,
+            table: TableRead::Whole(offset),
+        }),
         Err(stop) => Err(stop),
     }
 }

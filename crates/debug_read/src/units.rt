@@ -7,12 +7,17 @@ ghost use Rattle.line_program.specs.LineMaps.{EncloseAlike};
 ghost use Rattle.debug_read.specs.Each.{Says, each_of, Match};
 ghost use Rattle.debug_read.specs.UnitSays.{unit_says};
 ghost use Rattle.debug_read.specs.UnitsRead.{IsUnitRead};
-ghost use Rattle.debug_read.specs.internal.Jobs.{IsInside, IsReader, ReaderGives, IsFound};
+ghost use Rattle.debug_read.specs.internal.Jobs.{IsInside, IsReader};
+ghost use Rattle.debug_read.specs.internal.Sharing.{IsRead};
+ghost use Rattle.abbrev_units.specs.Abbreviations.{abbrevs_of};
+ghost use Rattle.debug_read.specs.internal.Owing.{HoldsUnit, IsOwing, ReaderGives};
 ghost use Rattle.abbrev_units.specs.Units.{units_in};
 
-use crate::lines::read_unit_lines;
+use crate::lines::{LinesFound, read_unit_lines};
+use crate::owing::{UnitFound, settle_units};
 use crate::ranges::read_sets;
-use abbrev_units::{DwarfFault, Sections, Unit, UnitPart, read_abbrevs};
+use crate::sharing::{SharedAbbrevs, read_shared, unit_at};
+use abbrev_units::{Abbrevs, DwarfFault, Sections, Unit, UnitPart, read_abbrevs};
 use die_names::{UnitRead, Units};
 use die_walk::walk;
 use range_lists::laws::code_by_what_it_encloses;
@@ -46,27 +51,25 @@ fn pick_read(alloc: Global, units: &[Unit]) -> Result<Vec<Unit>, OutOfMemory>
     Ok(read)
 }
 
-/// Reads a unit: its abbreviations, its entries, the base of its range lists, the ranges entry by entry, its line table.
+/// Reads a unit by its abbreviations: its entries, the base of its range lists, the ranges entry by entry, its line table.
 #[tactic(auto, unfolding(crate::specs::UnitSays::unit_says))]
-fn read_unit<'a>(
+fn read_entries<'a>(
     alloc: Global,
     sections: &Sections<'a>,
     unit: &Unit,
     code: &Enclosing,
-) -> Result<UnitRead<'a>, Stop<DwarfFault>>
+    abbrevs: &Abbrevs,
+) -> Result<UnitFound<'a>, Stop<DwarfFault>>
     requires inside { IsInside (length sections.now.info) unit.now }
     requires small { length sections.now.info ≤ 2 ^ 29 }
+    requires abbrevs { abbrevs_of sections.now unit.now ≡ Ok abbrevs.now }
     ensures { MatchStop result
-        (λ part. (spans : List Range) → EncloseAlike code.now spans → Says (IsUnitRead spans) (unit_says sections.now unit.now) part)
+        (λ found. (spans : List Range) → EncloseAlike code.now spans → HoldsUnit spans sections.now unit.now found.part found.table)
         (λ fault. unit_says sections.now unit.now ≡ Err fault)
         (Prim.Unit {0}) }
 {
     code_by_what_it_encloses();
-    let abbrevs = match read_abbrevs(alloc, sections, unit) {
-        Ok(abbrevs) => abbrevs,
-        Err(stop) => return Err(stop),
-    };
-    let die = match walk(alloc, sections, unit, &abbrevs) {
+    let die = match walk(alloc, sections, unit, abbrevs) {
         Ok(die) => die,
         Err(stop) => return Err(stop),
     };
@@ -78,11 +81,62 @@ fn read_unit<'a>(
         Ok(spans) => spans,
         Err(stop) => return Err(stop),
     };
-    let lines = match read_unit_lines(alloc, sections, &die, code) {
-        Ok(lines) => lines,
+    let LinesFound { lines, table } = match read_unit_lines(alloc, sections, &die, code) {
+        Ok(found) => found,
         Err(stop) => return Err(stop),
     };
-    Ok(UnitRead { die, spans, lines })
+    Ok(UnitFound {
+        part: UnitRead { die, spans, lines },
+        table,
+    })
+}
+
+/// Reads a unit whose abbreviations no other names.
+#[tactic(auto, unfolding(crate::specs::UnitSays::unit_says))]
+fn read_alone<'a>(
+    alloc: Global,
+    sections: &Sections<'a>,
+    unit: &Unit,
+    code: &Enclosing,
+) -> Result<UnitFound<'a>, Stop<DwarfFault>>
+    requires inside { IsInside (length sections.now.info) unit.now }
+    requires small { length sections.now.info ≤ 2 ^ 29 }
+    ensures { MatchStop result
+        (λ found. (spans : List Range) → EncloseAlike code.now spans → HoldsUnit spans sections.now unit.now found.part found.table)
+        (λ fault. unit_says sections.now unit.now ≡ Err fault)
+        (Prim.Unit {0}) }
+{
+    match read_abbrevs(alloc, sections, unit) {
+        Ok(abbrevs) => read_entries(alloc, sections, unit, code, &abbrevs),
+        Err(stop) => Err(stop),
+    }
+}
+
+/// Reads unit `k`: its abbreviations, if they are not among the shared ones, and what follows.
+#[tactic(auto, unfolding(crate::specs::UnitSays::unit_says))]
+fn read_unit<'a>(
+    alloc: Global,
+    sections: &Sections<'a>,
+    unit: &Unit,
+    code: &Enclosing,
+    shared: &SharedAbbrevs,
+    k: usize,
+) -> Result<UnitFound<'a>, Stop<DwarfFault>>
+    requires inside { IsInside (length sections.now.info) unit.now }
+    requires small { length sections.now.info ≤ 2 ^ 29 }
+    requires shared { Match (IsRead sections.now) shared.now.firsts shared.now.tables }
+    ensures { MatchStop result
+        (λ found. (spans : List Range) → EncloseAlike code.now spans → HoldsUnit spans sections.now unit.now found.part found.table)
+        (λ fault. unit_says sections.now unit.now ≡ Err fault)
+        (Prim.Unit {0}) }
+{
+    let Some(table) = shared.table(sections, unit, k) else {
+        return read_alone(alloc, sections, unit, code);
+    };
+    match table {
+        Ok(abbrevs) => read_entries(alloc, sections, unit, code, abbrevs),
+        Err(fault) => Err(Stop::Fault(*fault)),
+    }
 }
 
 /// The units that are to be read, of these sections; ranges that `code` encloses are code.
@@ -91,6 +145,7 @@ struct UnitReader<'s, 'a> {
     sections: &'s Sections<'a>,
     units: &'s [Unit],
     code: &'s Enclosing,
+    shared: &'s SharedAbbrevs,
 }
 
 impl<'s, 'a> Model for UnitReader<'s, 'a> {
@@ -98,26 +153,32 @@ impl<'s, 'a> Model for UnitReader<'s, 'a> {
 
     ghost Value = { ReaderParts };
 
-    ghost view = { λ r. record { sections = r.sections.now; units = r.units.now; code = r.code.now } };
+    ghost view = { λ r. record { sections = r.sections.now; units = r.units.now; code = r.code.now; shared = r.shared.now } };
 
-    ghost invariant = { λ r. IsReader (record { sections = r.sections.now; units = r.units.now; code = r.code.now }) };
+    ghost invariant = { λ r. IsReader (record { sections = r.sections.now; units = r.units.now; code = r.code.now; shared = r.shared.now }) };
 }
 
 impl<'s, 'a> UnitReader<'s, 'a> {
-    fn of(sections: &'s Sections<'a>, units: &'s [Unit], code: &'s Enclosing) -> UnitReader<'s, 'a>
-        requires { IsReader (record { sections = sections.now; units = units.now; code = code.now }) }
-        ensures { result ≡ record { sections = sections.now; units = units.now; code = code.now } }
+    fn of(
+        sections: &'s Sections<'a>,
+        units: &'s [Unit],
+        code: &'s Enclosing,
+        shared: &'s SharedAbbrevs,
+    ) -> UnitReader<'s, 'a>
+        requires { IsReader (record { sections = sections.now; units = units.now; code = code.now; shared = shared.now }) }
+        ensures { result ≡ record { sections = sections.now; units = units.now; code = code.now; shared = shared.now } }
     {
         UnitReader {
             sections,
             units,
             code,
+            shared,
         }
     }
 }
 
 impl<'s, 'a> UnitJob for UnitReader<'s, 'a> {
-    type Out = Result<UnitRead<'a>, DwarfFault>;
+    type Out = Result<UnitFound<'a>, DwarfFault>;
 
     type Scratch = ();
 
@@ -133,12 +194,12 @@ impl<'s, 'a> UnitJob for UnitReader<'s, 'a> {
         alloc: Global,
         k: usize,
         _scratch: &mut (),
-    ) -> Result<Result<UnitRead<'a>, DwarfFault>, OutOfMemory> {
-        let Some(unit) = self.units.get(k) else {
+    ) -> Result<Result<UnitFound<'a>, DwarfFault>, OutOfMemory> {
+        let Some(unit) = unit_at(self.units, k) else {
             return Err(OutOfMemory);
         };
-        match read_unit(alloc, self.sections, unit, self.code) {
-            Ok(part) => Ok(Ok(part)),
+        match read_unit(alloc, self.sections, unit, self.code, self.shared, k) {
+            Ok(found) => Ok(Ok(found)),
             Err(Stop::Fault(fault)) => Ok(Err(fault)),
             Err(Stop::NoMemory) => Err(OutOfMemory),
         }
@@ -176,15 +237,16 @@ fn find_all<'a, R: Threads + Sync, G: Gate + Sync>(
     code: &[Span],
     gate: &G,
     workers: usize,
-) -> Result<Vec<Result<UnitRead<'a>, DwarfFault>>, OutOfMemory>
+) -> Result<Vec<Result<UnitFound<'a>, DwarfFault>>, OutOfMemory>
     requires workers { (1 ≤ workers) × (workers ≤ 64) }
     requires small { length sections.now.info ≤ 2 ^ 29 }
     requires headers { units_in sections.now.info ≡ Ok headers.now }
-    ensures { IfOk result (λ found. Match (IsFound code.now sections.now) (read_units headers.now) found.items) }
+    ensures { IfOk result (λ found. Match (IsOwing code.now sections.now) (read_units headers.now) found.items) }
 {
     let code = Enclosing::of_spans(alloc, code)?;
     let read = pick_read(alloc, headers)?;
-    let job = UnitReader::of(sections, read.as_slice(), &code);
+    let shared = read_shared(rt, alloc, sections, read.as_slice(), workers)?;
+    let job = UnitReader::of(sections, read.as_slice(), &code, &shared);
     let found = run_all(rt, alloc, &job, gate, read.len(), workers)?;
     Ok(found)
 }
@@ -208,7 +270,8 @@ pub fn read_all_units<'a, R: Threads + Sync, G: Gate + Sync>(
         (Prim.Unit {0}) }
 {
     let found = find_all(rt, alloc, sections, headers, code, gate, workers)?;
-    match join_units(alloc, found) {
+    let settled = settle_units(rt, alloc, sections, code, found, workers)?;
+    match join_units(alloc, settled) {
         Ok(parts) => Ok(Units::of(parts)),
         Err(stop) => Err(stop),
     }

@@ -1,3 +1,5 @@
+mod HeldLemmas
+mod TakeLemmas
 mod PickLemmas
 mod StepLemmas
 mod TreeLemmas

@@ -9,10 +9,11 @@ use Rattle.abbrev_units.specs.declared.fault.FormFault.{FormFault}
 use Rattle.abbrev_units.specs.declared.value.Value.{Value}
 use Rattle.abbrev_units.specs.declared.value.Given.{Given}
 use Rattle.abbrev_units.specs.SpecFields.{SpecFields}
-use Rattle.abbrev_units.specs.Values.{value_at, values_at, only_ahead}
+use Rattle.abbrev_units.specs.Values.{value_at, values_at}
+use Rattle.abbrev_units.specs.Takes.{is_asked}
 use Rattle.die_walk.specs.declared.picks.Picks.{Picks}
 use Rattle.die_walk.specs.Attributes.{first_of}
-use Rattle.die_walk.specs.Picking.{note_if, noted, picks_at, picks_of, is_picked}
+use Rattle.die_walk.specs.Picking.{note_if, noted, picks_at, picks_of}
 
 abbrev pub given : ℕ → Value → Given
 given attribute value = record { attribute = attribute; value = value }
@@ -108,7 +109,7 @@ not_noted : (same : Bool) (old : Option Value) (value : Value) → same ≡ fals
 not_noted true old value is = absurd (grind (arith, is))
 not_noted false old value is = refl
 
-unpicked : (picks : Picks) (attribute : ℕ) (value : Value) → is_picked attribute ≡ false → noted picks attribute value ≡ picks
+pub unpicked : (picks : Picks) (attribute : ℕ) (value : Value) → is_asked attribute ≡ false → noted picks attribute value ≡ picks
 unpicked picks attribute value none =
     let both0 = or_parts (nat_eq attribute 0x11) _ none in
     let both1 = or_parts (nat_eq attribute 0x12) _ both0.1 in
@@ -141,21 +142,3 @@ unpicked picks attribute value none =
     ∙ ap (λ (x : Option Value). record { low = picks.low; high = picks.high; ranges = picks.ranges; origin = picks.origin; spec = picks.spec; name = picks.name; linkage = picks.linkage; old_linkage = picks.old_linkage; declaration = picks.declaration; call_file = picks.call_file; call_line = picks.call_line; stmt_list = picks.stmt_list; comp_dir = picks.comp_dir; str_offsets_base = x; addr_base = note_if (nat_eq attribute 0x73) picks.addr_base value; rnglists_base = note_if (nat_eq attribute 0x74) picks.rnglists_base value }) (not_noted (nat_eq attribute 0x72) picks.str_offsets_base value (both13.0))
     ∙ ap (λ (x : Option Value). record { low = picks.low; high = picks.high; ranges = picks.ranges; origin = picks.origin; spec = picks.spec; name = picks.name; linkage = picks.linkage; old_linkage = picks.old_linkage; declaration = picks.declaration; call_file = picks.call_file; call_line = picks.call_line; stmt_list = picks.stmt_list; comp_dir = picks.comp_dir; str_offsets_base = picks.str_offsets_base; addr_base = x; rnglists_base = note_if (nat_eq attribute 0x74) picks.rnglists_base value }) (not_noted (nat_eq attribute 0x73) picks.addr_base value (both14.0))
     ∙ ap (λ (x : Option Value). record { low = picks.low; high = picks.high; ranges = picks.ranges; origin = picks.origin; spec = picks.spec; name = picks.name; linkage = picks.linkage; old_linkage = picks.old_linkage; declaration = picks.declaration; call_file = picks.call_file; call_line = picks.call_line; stmt_list = picks.stmt_list; comp_dir = picks.comp_dir; str_offsets_base = picks.str_offsets_base; addr_base = picks.addr_base; rnglists_base = x }) (not_noted (nat_eq attribute 0x74) picks.rnglists_base value (both14.1))
-
-passed_by : (picks : Picks) (specs : List SpecFields) (attribute : ℕ) (reading : Result (Value × Ahead) FormFault) (d : Ahead) → is_picked attribute ≡ false → Ok d ≡ only_ahead reading → (reading >>= λ first. picks_at (noted picks attribute first.0) specs first.1) ≡ picks_at picks specs d
-passed_by picks specs attribute (Ok x) d none is =
-    let there : d ≡ x.1 = cc in
-    ap (λ (p : Picks). picks_at p specs x.1) (unpicked picks attribute x.0 none) ∙ ap (λ (c : Ahead). picks_at picks specs c) (sym there)
-passed_by picks specs attribute (Err fault) d none is = absurd (grind (arith, is))
-
-pub picks_passed : (specs : List SpecFields) (i : ℕ) (x : SpecFields) (picks : Picks) (c d : Ahead) (want : Result (Picks × Ahead) FormFault) → picks_at picks (drop i specs) c ≡ want → i < length specs → x ≡ get_or specs i x → is_picked x.attribute ≡ false → Ok d ≡ only_ahead (value_at x c) → picks_at picks (drop (i + 1) specs) d ≡ want
-picks_passed specs i x picks c d want so_far there is none passes =
-    sym (step picks specs i x c there is ∙ passed_by picks (drop (i + 1) specs) x.attribute (value_at x c) d none passes) ∙ so_far
-
-unread_by : (picks : Picks) (specs : List SpecFields) (attribute : ℕ) (reading : Result (Value × Ahead) FormFault) (fault : FormFault) → Err fault ≡ only_ahead reading → (reading >>= λ first. picks_at (noted picks attribute first.0) specs first.1) ≡ Err fault
-unread_by picks specs attribute (Ok x) fault is = absurd (grind (arith, is))
-unread_by picks specs attribute (Err other) fault is = let same : fault ≡ other = cc in ap Err (sym same)
-
-pub picks_unread : (specs : List SpecFields) (i : ℕ) (x : SpecFields) (picks : Picks) (c : Ahead) (fault : FormFault) (want : Result (Picks × Ahead) FormFault) → picks_at picks (drop i specs) c ≡ want → i < length specs → x ≡ get_or specs i x → Err fault ≡ only_ahead (value_at x c) → Err fault ≡ want
-picks_unread specs i x picks c fault want so_far there is refused =
-    sym (step picks specs i x c there is ∙ unread_by picks (drop (i + 1) specs) x.attribute (value_at x c) fault refused) ∙ so_far

@@ -1,5 +1,5 @@
 -- No public clause cites this: the values of an entry as one pass picks them.
-use Rattle.std.specs.Prelude.{ℕ, ◌==◌, ◌||◌, Bool, true, false, List, [], ◌∷◌, Option, None, Some, option_and_then, Result, Ok}
+use Rattle.std.specs.Prelude.{ℕ, ◌==◌, Bool, true, false, List, [], ◌∷◌, Option, None, Some, option_and_then, Result, Ok, Err}
 use Rattle.sym_edges.specs.Results.{◌>>=◌}
 use Rattle.leb_cursor.specs.Ahead.{Ahead}
 use Rattle.abbrev_units.specs.declared.fault.FormFault.{FormFault}
@@ -7,6 +7,9 @@ use Rattle.abbrev_units.specs.declared.value.Value.{Value}
 use Rattle.abbrev_units.specs.declared.value.Given.{Given}
 use Rattle.abbrev_units.specs.SpecFields.{SpecFields}
 use Rattle.abbrev_units.specs.Values.{value_at}
+use Rattle.abbrev_units.specs.declared.take.Take.{Take}
+use Rattle.abbrev_units.specs.Takes.{taken_at}
+use Rattle.leb_cursor.specs.declared.fault.CursorFault.{CursorFault}
 use Rattle.die_walk.specs.declared.picks.Picks.{Picks}
 use Rattle.abbrev_units.specs.declared.unit.Unit.{Unit}
 use Rattle.abbrev_units.specs.DebugSections.{DebugSections}
@@ -64,14 +67,20 @@ noted picks attribute value = record {
   rnglists_base = note_if (attribute == 0x74) picks.rnglists_base value;
 }
 
--- an attribute that matters
-abbrev pub is_picked : ℕ → Bool
-is_picked attribute = attribute == 0x11 || (attribute == 0x12 || (attribute == 0x55 || (attribute == 0x31 || (attribute == 0x47 || (attribute == 0x03 || (attribute == 0x6e || (attribute == 0x2007 || (attribute == 0x3c || (attribute == 0x58 || (attribute == 0x59 || (attribute == 0x10 || (attribute == 0x1b || (attribute == 0x72 || (attribute == 0x73 || (attribute == 0x74)))))))))))))))
-
 -- the values of attributes, noted one by one
 unfoldable pub picks_at : Picks → List SpecFields → Ahead → Result (Picks × Ahead) FormFault
 picks_at picks [] c = Ok (picks, c)
 picks_at picks (spec ∷ specs) c = value_at spec c >>= λ first. picks_at (noted picks spec.attribute first.0) specs first.1
+
+-- the same by a short way
+unfoldable pub noted_at : Picks → List Take → Ahead → Result (Picks × Ahead) CursorFault
+noted_at picks [] c = Ok (picks, c)
+noted_at picks (take ∷ takes) c = taken_at take c >>= λ first. noted_at (noted picks take.attribute first.0) takes first.1
+
+-- what a call that picks values left, and what it picked
+abbrev pub picked_by : {U F : Type 0} → Result U F → Picks → Ahead → Result (Picks × Ahead) F
+picked_by (Ok x) picks c = Ok (picks, c)
+picked_by (Err fault) picks c = Err fault
 
 -- the first values of a list
 abbrev pub picks_of : List Given → Picks

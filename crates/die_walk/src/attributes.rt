@@ -6,6 +6,7 @@ ghost use Rattle.die_walk.specs.Attributes.{as_place, as_reference, as_flag, as_
 
 use abbrev_units::{Sections, Unit, Value, read_text};
 
+#[inline]
 pub fn place_of(value: Option<Value>) -> Option<u64>
     ensures { result ≡ option_and_then as_place value }
 {
@@ -16,6 +17,7 @@ pub fn place_of(value: Option<Value>) -> Option<u64>
     }
 }
 
+#[inline]
 pub fn reference_of(unit: &Unit, value: Option<Value>) -> Option<u64>
     ensures { result ≡ option_and_then (as_reference unit.now) value }
 {
@@ -27,12 +29,14 @@ pub fn reference_of(unit: &Unit, value: Option<Value>) -> Option<u64>
 }
 
 /// Whether an attribute says yes.
+#[inline]
 pub fn says_yes(value: Option<Value>) -> bool
     ensures { result ≡ is_yes (option_and_then as_flag value) }
 {
     matches!(value, Some(Value::Flag(true)))
 }
 
+#[inline]
 pub fn number_of(value: Option<Value>) -> Option<u64>
     ensures { result ≡ option_and_then as_number value }
 {
@@ -44,6 +48,7 @@ pub fn number_of(value: Option<Value>) -> Option<u64>
 }
 
 /// A line number.
+#[inline]
 pub fn line_of(number: Option<u64>) -> u32
     ensures { result ≡ line_of number }
 {

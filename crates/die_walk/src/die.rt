@@ -3,12 +3,13 @@ ghost use Rattle.std.specs.Prelude.{◌≡◌};
 ghost use Rattle.std.specs.Option.{option_copied};
 ghost use Rattle.die_walk.specs.Attributes.{or_else};
 ghost use Rattle.die_walk.specs.EntryKinds.{is_function, is_inlined, is_scope};
-ghost use Rattle.die_walk.specs.internal.Packing.{where_said};
+ghost use Rattle.die_walk.specs.internal.Packing.{where_said, text_said};
 ghost use Rattle.die_walk.specs.Picking.{text_by, base_by, die_by, root_by};
 
 use crate::attributes::{line_of, number_of, place_of, reference_of, says_yes, text_of};
 use crate::packed::{Class, Packed, pack_high, pack_low, pack_ranges, unpack};
 use crate::picks::Picks;
+use crate::texts::{Ending, Held, hold_text, text_where};
 use abbrev_units::{Sections, Unit, Value};
 use code_table::{
     DW_TAG_class_type, DW_TAG_inlined_subroutine, DW_TAG_namespace, DW_TAG_structure_type,
@@ -40,13 +41,13 @@ pub struct Die<'a> {
     has_origin: bool,
     has_spec: bool,
     has_call_file: bool,
-    has_name: bool,
-    has_linkage: bool,
+    name_ending: Ending,
+    linkage_ending: Ending,
 }
 
 impl<'a> Model for Die<'a> {
     ghost use Rattle.die_walk.specs.EntryTable.{DieFields};
-    ghost use Rattle.die_walk.specs.internal.Packing.{value_in, where_said};
+    ghost use Rattle.die_walk.specs.internal.Packing.{value_in, where_said, text_said};
 
     ghost Value = { DieFields };
 
@@ -60,8 +61,8 @@ impl<'a> Model for Die<'a> {
       ranges = value_in d.ranges_class d.ranges;
       origin = where_said d.has_origin d.origin;
       spec = where_said d.has_spec d.spec;
-      name = where_said d.has_name d.name.now;
-      linkage = where_said d.has_linkage d.linkage.now;
+      name = text_said d.name_ending d.name.now;
+      linkage = text_said d.linkage_ending d.linkage.now;
       call_file = where_said d.has_call_file d.call_file;
       call_line = d.call_line;
     } };
@@ -72,13 +73,6 @@ fn number_where(there: bool, number: u64) -> Option<u64>
     ensures { result ≡ where_said there number }
 {
     if there { Some(number) } else { None }
-}
-
-#[inline]
-fn text_where(there: bool, text: &[u8]) -> Option<&[u8]>
-    ensures { option_copied result ≡ where_said there text.now }
-{
-    if there { Some(text) } else { None }
 }
 
 impl<'a> Die<'a> {
@@ -203,14 +197,14 @@ impl<'a> Die<'a> {
     pub fn name(&self) -> Option<&'a [u8]>
         ensures { option_copied result ≡ self.now.name }
     {
-        text_where(self.has_name, self.name)
+        text_where(self.name_ending, self.name)
     }
 
     #[inline]
     pub fn linkage(&self) -> Option<&'a [u8]>
         ensures { option_copied result ≡ self.now.linkage }
     {
-        text_where(self.has_linkage, self.linkage)
+        text_where(self.linkage_ending, self.linkage)
     }
 
     #[inline]
@@ -260,28 +254,19 @@ impl<'a> Model for Root<'a> {
 }
 
 /// The linkage name of an entry, also by the name that it had before the standard had one.
+#[inline]
 fn linkage_of<'a>(
     sections: &Sections<'a>,
     unit: &Unit,
     base: Option<u64>,
     picks: &Picks,
-) -> Option<&'a [u8]>
-    ensures { option_copied result ≡ or_else (text_by sections.now unit.now base picks.now.linkage) (text_by sections.now unit.now base picks.now.old_linkage) }
+) -> Held<'a>
+    ensures { text_said result.ending result.bytes.now ≡ or_else (text_by sections.now unit.now base picks.now.linkage) (text_by sections.now unit.now base picks.now.old_linkage) }
 {
-    match text_of(sections, unit, base, picks.linkage) {
-        Some(name) => Some(name),
-        None => text_of(sections, unit, base, picks.old_linkage),
-    }
-}
-
-/// The bytes of a text, or none, and whether it is there.
-#[inline]
-fn bytes_of(text: Option<&[u8]>) -> (bool, &[u8])
-    ensures { where_said result.0 result.1.now ≡ option_copied text.entry }
-{
-    match text {
-        Some(bytes) => (true, bytes),
-        None => (false, &[]),
+    let linkage = hold_text(sections, unit, base, picks.linkage);
+    match linkage.ending {
+        Ending::Missing => hold_text(sections, unit, base, picks.old_linkage),
+        Ending::Whole | Ending::Open => linkage,
     }
 }
 
@@ -309,6 +294,7 @@ fn parent_parts(parent: Option<u32>) -> (bool, u32)
 
 /// A kept entry from its place, its parent, its tag and its values; `base` is the unit's
 /// str_offsets_base.
+#[inline]
 #[tactic(auto, unfolding(crate::specs::Picking::die_by, crate::specs::internal::Packing::unpacked))]
 pub fn make_die<'a>(
     sections: &Sections<'a>,
@@ -329,8 +315,8 @@ pub fn make_die<'a>(
     let (has_origin, origin) = parts_of(origin);
     let (has_spec, spec) = parts_of(reference_of(unit, picks.spec));
     let (has_call_file, call_file) = parts_of(number_of(picks.call_file));
-    let (has_name, name) = bytes_of(text_of(sections, unit, base, picks.name));
-    let (has_linkage, linkage) = bytes_of(linkage_of(sections, unit, base, picks));
+    let name = hold_text(sections, unit, base, picks.name);
+    let linkage = linkage_of(sections, unit, base, picks);
     Die {
         at,
         parent,
@@ -341,8 +327,8 @@ pub fn make_die<'a>(
         origin,
         spec,
         call_file,
-        name,
-        linkage,
+        name: name.bytes,
+        linkage: linkage.bytes,
         call_line: line_of(number_of(picks.call_line)),
         low_class: low.class,
         high_class: high.class,
@@ -352,8 +338,8 @@ pub fn make_die<'a>(
         has_origin,
         has_spec,
         has_call_file,
-        has_name,
-        has_linkage,
+        name_ending: name.ending,
+        linkage_ending: linkage.ending,
     }
 }
 

@@ -20,6 +20,7 @@ mod die;
 mod packed;
 mod picks;
 mod table;
+mod texts;
 mod walker;
 
 pub use crate::die::{Die, Root};

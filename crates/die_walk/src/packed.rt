@@ -36,6 +36,7 @@ fn pack(class: Class, number: u64) -> Packed
     Packed { class, number }
 }
 
+#[inline]
 #[tactic(auto, unfolding(crate::specs::internal::Packing::unpacked))]
 pub fn pack_low(value: Option<Value>) -> Packed
     ensures { unpacked result ≡ option_and_then as_low value }
@@ -47,6 +48,7 @@ pub fn pack_low(value: Option<Value>) -> Packed
     }
 }
 
+#[inline]
 #[tactic(auto, unfolding(crate::specs::internal::Packing::unpacked))]
 pub fn pack_high(value: Option<Value>) -> Packed
     ensures { unpacked result ≡ option_and_then as_high value }
@@ -60,6 +62,7 @@ pub fn pack_high(value: Option<Value>) -> Packed
     }
 }
 
+#[inline]
 #[tactic(auto, unfolding(crate::specs::internal::Packing::unpacked))]
 pub fn pack_ranges(value: Option<Value>) -> Packed
     ensures { unpacked result ≡ option_and_then as_ranges value }

@@ -177,8 +177,32 @@ impl<'a> Walker<'a> {
         let _level = self.open_levels.pop();
     }
 
+    /// Takes a kept entry in, without its children. It stands alone, so that entries that are not kept need no places for values.
+    #[inline(never)]
+    #[tactic(auto, using(crate::proofs::StepLemmas::taken, crate::proofs::StepLemmas::taken_refused))]
+    fn take_kept(
+        &mut self,
+        sections: &Sections<'a>,
+        unit: &Unit,
+        cursor: &mut Cursor<'a>,
+        at: u32,
+        found: &Abbrev,
+    ) -> Result<(), Stop<DwarfFault>>
+        requires { keeps self.old found.now.tag ≡ true }
+        ensures { Moves result self.new cursor.new (entered_at sections.now unit.now self.old at found.now cursor.old) }
+    {
+        let mut picks = no_picks();
+        match read_picks(&mut picks, cursor, &found.specs) {
+            Ok(()) => {}
+            Err(fault) => return Err(Stop::Fault(value_fault(fault))),
+        }
+        self.add(sections, unit, at, found.tag, &picks)?;
+        Ok(())
+    }
+
     /// Takes an entry in, without its children.
-    #[tactic(auto, using(crate::proofs::StepLemmas::passed_over, crate::proofs::StepLemmas::passed_refused, crate::proofs::StepLemmas::taken, crate::proofs::StepLemmas::taken_refused))]
+    #[inline]
+    #[tactic(auto, using(crate::proofs::StepLemmas::passed_over, crate::proofs::StepLemmas::passed_refused))]
     fn take_entry(
         &mut self,
         sections: &Sections<'a>,
@@ -189,18 +213,13 @@ impl<'a> Walker<'a> {
     ) -> Result<(), Stop<DwarfFault>>
         ensures { Moves result self.new cursor.new (entered_at sections.now unit.now self.old at found.now cursor.old) }
     {
-        if !self.keeps(found.tag) {
-            return match found.specs.skip(cursor) {
-                Ok(()) => Ok(()),
-                Err(fault) => Err(Stop::Fault(value_fault(fault))),
-            };
+        if self.keeps(found.tag) {
+            return self.take_kept(sections, unit, cursor, at, found);
         }
-        let picks = match read_picks(cursor, found.specs.as_slice()) {
-            Ok(picks) => picks,
-            Err(fault) => return Err(Stop::Fault(value_fault(fault))),
-        };
-        self.add(sections, unit, at, found.tag, &picks)?;
-        Ok(())
+        match found.specs.skip(cursor) {
+            Ok(()) => Ok(()),
+            Err(fault) => Err(Stop::Fault(value_fault(fault))),
+        }
     }
 
     /// The number of the nearest kept entry around an entry's children.

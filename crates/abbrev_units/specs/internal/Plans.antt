@@ -1,15 +1,20 @@
 -- A short way over the values of an entry.
-use Rattle.std.specs.Prelude.{◌≡◌, ℕ, ◌==◌, false, List, [], ◌∷◌, Option, None, Some, Result, Ok}
+use Rattle.std.specs.Prelude.{◌≡◌, ℕ, pos, ◌==◌, false, List, [], ◌∷◌, Option, None, Some, Result, Ok}
 use Rattle.code_table.specs.declared.forms.FormRow.{FormRow}
 use Rattle.sym_edges.specs.Results.{◌>>=◌}
 use Rattle.leb_cursor.specs.declared.fault.CursorFault.{CursorFault}
 use Rattle.leb_cursor.specs.Ahead.{Ahead}
 use Rattle.leb_cursor.specs.Readings.{take_at}
 use Rattle.code_table.specs.declared.kind.Kind.{Kind}
+use Rattle.code_table.specs.declared.kind.Kind.TheVariants as kind
+use Rattle.code_table.specs.declared.forms.FormClass.TheVariants as class
 use Rattle.code_table.specs.Layouts.{kind_at}
 use Rattle.abbrev_units.specs.declared.plan.Step.{Step}
+use Rattle.abbrev_units.specs.declared.take.Take.{Take}
 use Rattle.abbrev_units.specs.SpecFields.{SpecFields}
+use Rattle.abbrev_units.specs.FormValue.{value_by}
 use Rattle.abbrev_units.specs.Values.{value_at, only_ahead, behind_values}
+use Rattle.abbrev_units.specs.Takes.{is_asked}
 
 -- a step passes so many bytes, and then one operand
 abbrev pub step_at : Step → Ahead → Result Ahead CursorFault
@@ -36,3 +41,20 @@ abbrev pub SizeOf : ℕ → Option FormRow → Option ℕ → Type 0
 SizeOf form row None = Prim.Unit {0}
 SizeOf form None (Some size) = ⊥
 SizeOf form (Some row) (Some size) = ((form == 0x16) ≡ false) × HasSize row.layout size
+
+-- the values of an attribute are read by a row
+abbrev pub HasRow : SpecFields → FormRow → Type 0
+HasRow spec row = (c : Ahead) → value_at spec c ≡ value_by (Some row) spec.implicit c
+
+-- nobody asks for the values of an attribute, which are so many bytes
+pub record IsPassed (spec : SpecFields) (row : FormRow) (size : ℕ) : Type 0 where
+  pub unasked : is_asked spec.attribute ≡ false
+  pub sized : HasSize row.layout size
+
+-- a take of nothing, and one in front of others, where it is there
+abbrev pub no_take : Take
+no_take = record { bytes = 0; attribute = 0; implicit = pos 0; kind = kind.Nothing; class = class.Other }
+
+abbrev pub in_front : Option Take → List Take → List Take
+in_front None takes = takes
+in_front (Some take) takes = take ∷ takes

@@ -1,14 +1,14 @@
 -- The reader of units by their numbers.
-use Rattle.std.specs.Prelude.{◌≡◌, ℕ, ◌≤◌, ◌^◌, List, length, Option, None, Some, Result, Ok, Err}
+use Rattle.std.specs.Prelude.{◌≡◌, ℕ, ◌≤◌, ◌^◌, List, length, Result, Ok, Err}
 use Rattle.std.specs.List.{AllByRecursion}
 use Rattle.sym_edges.specs.Addresses.{Range}
 use Rattle.sym_edges.specs.declared.located.Located.{Located}
 use Rattle.abbrev_units.specs.declared.fault.DwarfKind.{DwarfKind}
 use Rattle.abbrev_units.specs.declared.unit.Unit.{Unit}
 use Rattle.abbrev_units.specs.DebugSections.{DebugSections}
-use Rattle.line_program.specs.LineMaps.{EncloseAlike}
 use Rattle.die_names.specs.declared.unit_read.UnitRead.{UnitRead}
-use Rattle.debug_read.specs.Each.{Says}
+use Rattle.debug_read.specs.Each.{Says, Match}
+use Rattle.debug_read.specs.internal.Sharing.{SharedParts, IsRead}
 use Rattle.debug_read.specs.UnitSays.{unit_says}
 use Rattle.debug_read.specs.UnitsRead.{IsUnitRead}
 
@@ -17,22 +17,20 @@ pub record IsInside (end : ℕ) (unit : Unit) : Type 0 where
   pub ordered : unit.body ≤ unit.end
   pub inside : unit.end ≤ end
 
--- the units that are to be read, of these sections, where ranges of these spans are code
+-- the units that are to be read, of these sections, where ranges of these spans are code, with the abbreviations that several of them
+-- name
 pub record ReaderParts : Type 0 where
   pub sections : DebugSections
   pub units : List Unit
   pub code : List Range
+  pub shared : SharedParts
 
 pub record IsReader (reader : ReaderParts) : Type 0 where
   pub inside : AllByRecursion (IsInside (length reader.sections.info)) reader.units
   pub small : length reader.sections.info ≤ 2 ^ 29
+  pub shared : Match (IsRead reader.sections) reader.shared.firsts reader.shared.tables
 
 -- a unit's result is what is kept of it, or its first fault
 abbrev pub IsFound : List Range → DebugSections → Unit → Result UnitRead (Located DwarfKind) → Type 0
 IsFound code sections unit (Ok part) = Says (IsUnitRead code) (unit_says sections unit) part
 IsFound code sections unit (Err fault) = unit_says sections unit ≡ Err fault
-
--- the result that stands for a unit; there is none after the last
-abbrev pub ReaderGives : ReaderParts → Option Unit → Result UnitRead (Located DwarfKind) → Type 0
-ReaderGives reader None found = ⊥
-ReaderGives reader (Some unit) found = (spans : List Range) → EncloseAlike reader.code spans → IsFound spans reader.sections unit found

@@ -1,11 +1,14 @@
 -- How a kept entry holds its attributes.
-use Rattle.std.specs.Prelude.{ℕ, Bool, true, false, Option, None, Some}
+use Rattle.std.specs.Prelude.{◌≡◌, ℕ, Bool, true, false, List, length, Option, None, Some, unwrap_or, get_or, ◌-◌}
 use Rattle.std.specs.Int.{w64, cast_signed}
 use Rattle.abbrev_units.specs.declared.value.Value.{Value}
 use Rattle.abbrev_units.specs.declared.value.Value.TheVariants as value
 use Rattle.die_walk.specs.declared.packed.Class.{Class}
 use Rattle.die_walk.specs.declared.packed.Class.TheVariants as class
 use Rattle.die_walk.specs.declared.packed.Packed.{Packed}
+use Rattle.die_walk.specs.declared.texts.Ending.{Ending}
+use Rattle.die_walk.specs.declared.texts.Ending.TheVariants as ending
+use Rattle.leb_cursor.specs.Texts.{front_text}
 
 -- a number of a class, as a value
 abbrev pub value_in : Class → ℕ → Option Value
@@ -24,3 +27,14 @@ unpacked packed = value_in packed.class packed.number
 abbrev pub where_said : {A : Type 0} → Bool → A → Option A
 where_said true x = Some x
 where_said false x = None
+
+-- a text by how its end is known: an open one ends before the first zero byte of what is held
+abbrev pub text_said : Ending → List ℕ → Option (List ℕ)
+text_said ending.Missing bytes = None
+text_said ending.Whole bytes = Some bytes
+text_said ending.Open bytes = Some (unwrap_or (front_text bytes) bytes)
+
+-- where it is said, the last byte is zero
+abbrev pub IsClosed : Bool → List ℕ → Type 0
+IsClosed true bytes = get_or bytes (length bytes - 1) 1 ≡ 0
+IsClosed false bytes = Prim.Unit {0}

@@ -8,10 +8,11 @@ use Rattle.debug_read.proofs.units.find_all.Goals as goal
 
 pub of-job-requires : goal.of-job-requires
 of-job-requires g c =
-    let is : c.as_slice.result.now ≡ read_units c.args.headers.now = c.as_slice.ensures.value ∙ c.in_ok-read.ensures in
+    let is : c.as_slice-2.result.now ≡ read_units c.args.headers.now = c.as_slice-2.ensures.value ∙ c.in_ok-read.ensures in
     record {
       inside = subst (λ us. AllByRecursion (IsInside (length c.args.sections.now.info)) us) (sym is) (units_inside c.args.sections.now.info c.args.headers.now c.requires.headers);
       small = c.requires.small;
+      shared = c.in_ok-shared.ensures;
     }
 
 pub run_all-requires-clause-count : goal.run_all-requires-clause-count
@@ -21,8 +22,8 @@ run_all-requires-clause-count g c κs within =
 
 pub returns : goal.returns
 returns g c =
-    let is : c.as_slice.result.now ≡ read_units c.args.headers.now = c.as_slice.ensures.value ∙ c.in_ok-read.ensures in
-    found_in c.of-job.result c.args.sections.now c.as_slice.result.now (read_units c.args.headers.now) c.in_ok-code.code c.args.code.now c.in_ok-found.found.items
+    let is : c.as_slice-2.result.now ≡ read_units c.args.headers.now = c.as_slice-2.ensures.value ∙ c.in_ok-read.ensures in
+    found_in c.of-job.result c.args.sections.now c.as_slice-2.result.now (read_units c.args.headers.now) c.in_ok-code.code c.args.code.now c.in_ok-shared.shared c.in_ok-found.found.items
     c.of-job.ensures is c.in_ok-code.ensures.same
-    (omega (arith, c.in_ok-found.ensures.count, c.in_ok-found.found.ok.0, c.len.ensures, ap length c.as_slice.ensures.value))
+    (omega (arith, c.in_ok-found.ensures.count, c.in_ok-found.found.ok.0, c.len.ensures, ap length c.as_slice-2.ensures.value))
     c.in_ok-found.ensures.each

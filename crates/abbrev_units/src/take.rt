@@ -1,0 +1,182 @@
+//! A short way to those values of an entry that are asked for: what stands between them is passed.
+ghost use Rattle.std.specs.Prelude.{◌≡◌, ◌+◌, IfSome, IfOk, OnOk, reverse, unwrap_or};
+ghost use Rattle.leb_cursor.specs.Ahead.{gave};
+ghost use Rattle.code_table.specs.Layouts.{kind_at};
+ghost use Rattle.abbrev_units.specs.Takes.{taken_at, is_asked, AreTakes};
+ghost use Rattle.abbrev_units.specs.internal.Plans.{IsPassed, no_take, in_front};
+
+use crate::plan::size_of;
+use crate::spec::Spec;
+use crate::value::{Value, value_of};
+use code_table::{
+    DW_AT_MIPS_linkage_name, DW_AT_abstract_origin, DW_AT_addr_base, DW_AT_call_file,
+    DW_AT_call_line, DW_AT_comp_dir, DW_AT_declaration, DW_AT_high_pc, DW_AT_linkage_name,
+    DW_AT_low_pc, DW_AT_name, DW_AT_ranges, DW_AT_rnglists_base, DW_AT_specification,
+    DW_AT_stmt_list, DW_AT_str_offsets_base, FormClass, FormRow, Kind, Operand, read_kind,
+};
+use leb_cursor::{Cursor, CursorFault};
+use std::alloc::Global;
+use sym_edges::OutOfMemory;
+
+/// So many bytes, which are passed, and then the value of an attribute.
+#[derive(Clone, Copy)]
+pub struct Take {
+    pub bytes: u64,
+    pub attribute: u64,
+    pub implicit: i64,
+    pub kind: Kind,
+    pub class: FormClass,
+}
+
+/// Passes nothing, and has the value of no attribute.
+const NO_TAKE: Take = Take {
+    bytes: 0,
+    attribute: 0,
+    implicit: 0,
+    kind: Kind::Nothing,
+    class: FormClass::Other,
+};
+
+/// Reads an operand: the usual numbers are read here.
+#[inline(always)]
+#[tactic(auto, unfolding(code_table::specs::Layouts::kind_at))]
+fn read_usual(cursor: &mut Cursor<'_>, kind: Kind) -> Result<Operand, CursorFault>
+    ensures { gave result cursor.new ≡ kind_at kind cursor.old }
+{
+    match kind {
+        Kind::Nothing => Ok(Operand::Nothing),
+        Kind::U8 => Ok(Operand::Num(u64::from(cursor.u8()?))),
+        Kind::U16 => Ok(Operand::Num(u64::from(cursor.u16()?))),
+        Kind::U32 => Ok(Operand::Num(u64::from(cursor.u32()?))),
+        Kind::U64 => Ok(Operand::Num(cursor.u64()?)),
+        _ => read_kind(cursor, kind),
+    }
+}
+
+impl Take {
+    /// Passes the bytes, and reads the value. A refused call may leave the cursor among them.
+    #[inline]
+    #[tactic(auto, unfolding(crate::specs::Takes::taken_at))]
+    pub fn read(&self, cursor: &mut Cursor<'_>) -> Result<Value, CursorFault>
+        ensures { gave result cursor.new ≡ taken_at self.now cursor.old }
+    {
+        let _run = cursor.take(self.bytes)?;
+        let operand = read_usual(cursor, self.kind)?;
+        Ok(value_of(self.class, self.implicit, operand))
+    }
+}
+
+/// Whether an attribute is asked for.
+#[inline]
+pub fn is_asked(attribute: u64) -> bool
+    ensures { result ≡ is_asked attribute }
+{
+    matches!(
+        attribute,
+        DW_AT_low_pc
+            | DW_AT_high_pc
+            | DW_AT_ranges
+            | DW_AT_abstract_origin
+            | DW_AT_specification
+            | DW_AT_name
+            | DW_AT_linkage_name
+            | DW_AT_MIPS_linkage_name
+            | DW_AT_declaration
+            | DW_AT_call_file
+            | DW_AT_call_line
+            | DW_AT_stmt_list
+            | DW_AT_comp_dir
+            | DW_AT_str_offsets_base
+            | DW_AT_addr_base
+            | DW_AT_rnglists_base
+    )
+}
+
+/// The take of an attribute whose form has this row.
+#[inline]
+fn take_of(spec: &Spec, row: FormRow) -> Take
+    ensures { result ≡ record { bytes = 0; attribute = spec.now.attribute; implicit = spec.now.implicit; kind = row.layout; class = row.class } }
+{
+    Take {
+        bytes: 0,
+        attribute: spec.attribute(),
+        implicit: spec.implicit(),
+        kind: row.layout,
+        class: row.class,
+    }
+}
+
+/// The size of the values that are passed with those behind them: nobody asks for them, and each has as many bytes.
+#[inline]
+fn passed_size(spec: &Spec, row: FormRow) -> Option<u8>
+    ensures { IfSome result (λ size. IsPassed spec.now row size) }
+{
+    if is_asked(spec.attribute()) {
+        return None;
+    }
+    size_of(row.layout)
+}
+
+/// A take that passes so many bytes more; one alone passes nothing before.
+#[inline]
+fn wider(first: Option<Take>, size: u8) -> Option<Take>
+    ensures { IfSome result (λ wide. wide ≡ record (unwrap_or first no_take) { bytes = size + (unwrap_or first no_take).bytes }) }
+{
+    let take = first.unwrap_or(NO_TAKE);
+    match take.bytes.checked_add(u64::from(size)) {
+        Some(bytes) => Some(Take { bytes, ..take }),
+        None => None,
+    }
+}
+
+/// Puts a take to those behind it, which stand from the last to the first.
+#[tactic(auto, using(crate::proofs::TakeLemmas::put_front))]
+fn put(later: &mut Vec<Take>, first: Option<Take>) -> Result<(), OutOfMemory>
+    ensures { OnOk result (reverse later.new.items ≡ in_front first (reverse later.old.items)) }
+{
+    if let Some(take) = first {
+        later.push(take)?;
+    }
+    Ok(())
+}
+
+/// The takes of attributes, where the form of each is known, from the last to the first.
+fn make_takes(alloc: Global, specs: &[Spec]) -> Result<Option<Vec<Take>>, OutOfMemory>
+    ensures { IfOk result (λ made. IfSome made (λ takes. AreTakes (reverse takes.items) specs.now)) }
+{
+    let mut later = Vec::new(alloc);
+    let mut first = None;
+    'specs: for place in (0..specs.len()).rev() {
+        let spec = &specs[place];
+        let Some(row) = spec.row() else {
+            return Ok(None);
+        };
+        match passed_size(spec, row) {
+            Some(size) => {
+                let Some(wide) = wider(first, size) else {
+                    return Ok(None);
+                };
+                first = Some(wide);
+            }
+            None => {
+                put(&mut later, first)?;
+                first = Some(take_of(spec, row));
+            }
+        }
+    }
+    put(&mut later, first)?;
+    Ok(Some(later))
+}
+
+/// The takes of attributes, where the form of each is known.
+pub fn takes_of(alloc: Global, specs: &[Spec]) -> Result<Option<Vec<Take>>, OutOfMemory>
+    ensures { IfOk result (λ made. IfSome made (λ takes. AreTakes takes.items specs.now)) }
+{
+    match make_takes(alloc, specs)? {
+        Some(mut takes) => {
+            takes.reverse();
+            Ok(Some(takes))
+        }
+        None => Ok(None),
+    }
+}

@@ -1,0 +1,67 @@
+-- For `text_at` and `text_where`: a text whose end is not looked for yet.
+use Rattle.std.proofs.Common.{◌≡◌, ◌<◌, ◌≤◌, ◌+◌, ◌-◌, ℕ, nat_eq, nat_lt, Bool, true, false, cond, List, length, drop, get_or, Option, None, Some, unwrap_or, refl, sym, ap, ◌∙◌, arith, position, not, take, length-drop}
+use Rattle.std.specs.Option.{option_map}
+use Rattle.std.specs.List.{position_or_len}
+use Rattle.std.proofs.lemmas.List.Sums.{prefix_len_passes}
+use Rattle.std.proofs.lemmas.Bool.{ltb-false}
+use Rattle.std.proofs.lemmas.Bool.Decides.{nat_tests}
+use Rattle.std.proofs.lemmas.List.{get_or-drop}
+use Rattle.leb_cursor.specs.Ahead.{Ahead}
+use Rattle.leb_cursor.specs.Texts.{front_text}
+use Rattle.leb_cursor.specs.Readings.{text_at, text_by}
+use Rattle.abbrev_units.specs.Texts.{ahead_from, read_or_none, text_in}
+use Rattle.die_walk.specs.internal.Packing.{IsClosed}
+
+-- the text at a place is the one in front of what stands there
+read_by : (c : Ahead) (text : Option (List ℕ)) → read_or_none (text_by c text) ≡ text
+read_by c (Some text) = refl
+read_by c None = refl
+
+text_is : (bytes : List ℕ) (place : ℕ) → text_in bytes place ≡ front_text (drop place bytes)
+unfolding text_in text_at
+text_is bytes place = read_by (ahead_from place bytes) (front_text (drop place bytes))
+
+pub front_of : (bytes : List ℕ) → text_in bytes 0 ≡ front_text bytes
+front_of bytes = text_is bytes 0
+
+-- a zero byte ends a text
+abbrev is_there : {A : Type 0} → Option A → Bool
+is_there (Some x) = true
+is_there None = false
+
+said : {A : Type 0} (x : Option A) (other : A) → is_there x ≡ true → x ≡ Some (unwrap_or x other)
+said (Some y) other there = refl
+said None other there = absurd (grind (arith, there))
+
+mapped : {A B : Type 0} (f : A → B) (x : Option A) → is_there x ≡ true → is_there (option_map f x) ≡ true
+mapped f (Some y) there = refl
+mapped f None there = absurd (grind (arith, there))
+
+found_by : (bytes : List ℕ) (place k : ℕ) (below : Bool) → nat_lt place (length bytes) ≡ below → place ≡ position_or_len (λ byte. nat_eq byte 0) bytes → k < length bytes → get_or bytes k 1 ≡ 0 → is_there (cond below (Some place) None) ≡ true
+found_by bytes place k true is at there null = refl
+found_by bytes place k false is at there null =
+    let far : length bytes ≤ place = ltb-false _ _ is in
+    let passes : not (nat_eq (get_or bytes k 1) 0) ≡ true = prefix_len_passes (λ byte. not (nat_eq byte 0)) bytes k 1 (omega (arith, far, at, there)) in
+    absurd (grind (arith, nat_tests, passes, null))
+
+closed : (bytes : List ℕ) (k : ℕ) → k < length bytes → get_or bytes k 1 ≡ 0 → is_there (position (λ byte. nat_eq byte 0) bytes) ≡ true
+closed bytes k there null = found_by bytes (position_or_len (λ byte. nat_eq byte 0) bytes) k (nat_lt (position_or_len (λ byte. nat_eq byte 0) bytes) (length bytes)) refl refl there null
+
+ended : (bytes : List ℕ) (k : ℕ) → k < length bytes → get_or bytes k 1 ≡ 0 → is_there (front_text bytes) ≡ true
+unfolding front_text
+ended bytes k there null = mapped (λ n. take n bytes) (position (λ byte. nat_eq byte 0) bytes) (closed bytes k there null)
+
+behind : (bytes : List ℕ) (place : ℕ) → get_or bytes (length bytes - 1) 1 ≡ 0 → place < length bytes → is_there (front_text (drop place bytes)) ≡ true
+behind bytes place last there =
+    let long : length (drop place bytes) ≡ length bytes - place = length-drop place bytes in
+    let same : place + (length bytes - 1 - place) ≡ length bytes - 1 = omega (arith, there) in
+    ended (drop place bytes) (length bytes - 1 - place) (omega (arith, long, there))
+    (get_or-drop place bytes (length bytes - 1 - place) 1 ∙ ap (λ (k : ℕ). get_or bytes k 1) same ∙ last)
+
+open_by : (bytes : List ℕ) (place : ℕ) (said_so : Bool) → IsClosed said_so bytes → said_so ≡ true → place < length bytes → is_there (front_text (drop place bytes)) ≡ true
+open_by bytes place true last is there = behind bytes place last there
+open_by bytes place false last is there = absurd (grind (arith, is))
+
+pub open_text : (bytes : List ℕ) (place : ℕ) (said_so : Bool) → IsClosed said_so bytes → said_so ≡ true → place < length bytes → Some (unwrap_or (front_text (drop place bytes)) (drop place bytes)) ≡ text_in bytes place
+open_text bytes place said_so last is there =
+    sym (text_is bytes place ∙ said (front_text (drop place bytes)) (drop place bytes) (open_by bytes place said_so last is there))
