@@ -39,7 +39,12 @@ fn names_are_shown(rt: HostRuntime) -> Result<(), Fail> {
     same(&rt, "another name", &told(alloc, b"main")?, b"?");
     let greatest = told(alloc, &long_name(alloc, b"65536", 65_536)?)?;
     same(&rt, "65,536 bytes", &[greatest.len()], &[65_536]);
-    same(&rt, "one more", &told(alloc, &long_name(alloc, b"65537", 65_537)?)?, b"?");
+    same(
+        &rt,
+        "one more",
+        &told(alloc, &long_name(alloc, b"65537", 65_537)?)?,
+        b"?",
+    );
     let huge = b"_ZN99999999999999999999999999999999999999991a17h0123456789abcdefE";
     same(&rt, "a length above any", &told(alloc, huge)?, b"?");
     Ok(())
@@ -103,14 +108,22 @@ fn counted(file: &SymFile, wanted: &[u8]) -> [usize; 2] {
 fn files_are_shown(rt: HostRuntime) -> Result<(), Fail> {
     let alloc = rt.alloc();
     for (name, wanted) in [
-        (b"_ZN1a1b17h0123456789abcdefE".as_slice(), b"a::b".as_slice()),
+        (
+            b"_ZN1a1b17h0123456789abcdefE".as_slice(),
+            b"a::b".as_slice(),
+        ),
         (b"main".as_slice(), b"main".as_slice()),
     ] {
         let Some(file) = many(alloc, 100_000, name)? else {
             return Err(Fail::new("the list is not valid"));
         };
         let all = show_all(alloc, file)?;
-        same(&rt, "all names", &counted(&all, wanted), &[300_000, 300_000]);
+        same(
+            &rt,
+            "all names",
+            &counted(&all, wanted),
+            &[300_000, 300_000],
+        );
     }
     Ok(())
 }
