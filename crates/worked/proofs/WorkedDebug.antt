@@ -54,6 +54,16 @@ entry_and_copy = abbreviations "01 11 01 00 00   02 1d 00 11 01 12 0b 00 00   00
 abbrev copy : List ℕ
 copy = unit_5 "01 02 0010000000000000 04 00"
 
+-- compile units with a line table at 0, one without entries below it and one with a function from 1000 to 1010; and a table that is refused
+abbrev with_tables : Section
+with_tables = abbreviations "01 11 00 10 17 00 00   02 11 01 10 17 00 00   03 2e 00 11 01 12 0b 00 00   00"
+
+abbrev unit_with_function : List ℕ
+unit_with_function = unit_4 0 "02 00000000 03 0010000000000000 10 00"
+
+abbrev bad_table : Section
+bad_table = progbits ".debug_line" (hex "02000000 0600")
+
 -- a type unit of 28 bytes
 abbrev type_unit : List ℕ
 type_unit = hex "18000000 0500 02 08 00000000 0000000000000000 00000000 00000000"
@@ -175,3 +185,39 @@ a_line_table_of_other_addresses = refl
 an_opcode_of_no_bytes : says (info (unit_4 0 "01 00000000") ∷ abbreviations "01 11 00 10 17 00 00   00" ∷ progbits ".debug_line" (hex "1d000000 0400 14000000 010101fb0e0d 000101010100000001000001 00 00 010000") ∷ []) ≡ refused "refused dwarf line-opcode debug_line 1f\n"
 unfolding files unit_4 unit_5 file says says_by
 an_opcode_of_no_bytes = refl
+
+-- what units share: of abbreviations with a fault the first unit's place counts, where the fault has one of the unit
+shared_abbreviations : says (info (of_16 0 ++ of_16 0) ∷ abbreviations "80808080808080808080 00" ∷ []) ≡ refused "refused dwarf leb-long debug_abbrev 0\n"
+unfolding files unit_4 unit_5 file says says_by
+shared_abbreviations = refl
+
+shared_abbreviations_outside : says (info (of_16 8 ++ of_16 17 ++ of_16 17) ∷ eight_or_four ∷ []) ≡ refused "refused dwarf offset-outside debug_info 10\n"
+unfolding files unit_4 unit_5 file says says_by
+shared_abbreviations_outside = refl
+
+-- a line table with a fault, of a unit without functions and one with; it is looked at where no unit has one, too
+a_shared_line_table : says (info (unit_4 0 "01 00000000" ++ unit_with_function) ∷ with_tables ∷ bad_table ∷ []) ≡ refused "refused dwarf line-version debug_line 0\n"
+unfolding files unit_4 unit_5 file says says_by
+a_shared_line_table = refl
+
+a_shared_line_table_the_other_way : says (info (unit_with_function ++ unit_4 0 "01 00000000") ∷ with_tables ∷ bad_table ∷ []) ≡ refused "refused dwarf line-version debug_line 0\n"
+unfolding files unit_4 unit_5 file says says_by
+a_shared_line_table_the_other_way = refl
+
+a_line_table_of_units_without_functions : says (info (unit_4 0 "01 00000000" ++ unit_4 0 "01 00000000") ∷ with_tables ∷ bad_table ∷ []) ≡ refused "refused dwarf line-version debug_line 0\n"
+unfolding files unit_4 unit_5 file says says_by
+a_line_table_of_units_without_functions = refl
+
+-- it comes in the place of its first unit: before a fault of a later one, and after one of an earlier
+a_line_table_before_a_cut_unit : says (info (unit_4 0 "01 00000000" ++ unit_4 0 "01 0000") ∷ with_tables ∷ bad_table ∷ []) ≡ refused "refused dwarf line-version debug_line 0\n"
+unfolding files unit_4 unit_5 file says says_by
+a_line_table_before_a_cut_unit = refl
+
+a_line_table_behind_a_cut_unit : says (info (unit_4 0 "01 0000" ++ unit_4 0 "01 00000000") ∷ with_tables ∷ bad_table ∷ []) ≡ refused "refused dwarf ends debug_info c\n"
+unfolding files unit_4 unit_5 file says says_by
+a_line_table_behind_a_cut_unit = refl
+
+-- an entry counts by its tag alone: a root that is a function has its ranges followed
+a_root_that_is_a_function : says (info (unit_4 0 "01 00000000") ∷ abbreviations "01 2e 00 55 17 00 00   00" ∷ progbits ".debug_ranges" (hex "ff") ∷ []) ≡ refused "refused dwarf ends debug_ranges 0\n"
+unfolding files unit_4 unit_5 file says says_by
+a_root_that_is_a_function = refl
