@@ -13,7 +13,7 @@ use Rattle.sym_findings.specs.declared.preceding.OpenInit.{OpenInit}
 use Rattle.sym_findings.specs.FindingWords.{kinds}
 use Rattle.sym_findings.specs.Findings.{meets_any, is_given_before, meets_func, OpenFunc, with_line, open_func, leave, leaves_func, meets_line, init_run, meets_init, open_init, goes_on, is_outside, is_found, finding_if, findings_at, findings_from, findings}
 use Rattle.rust_names.specs.ShownRecords.{renamed}
-use Rattle.rust_names.proofs.LookupLemmas.{file_at, origin_at}
+use Rattle.rust_names.proofs.LookupLemmas.{each_record, file_at, origin_at}
 
 any_same : (f : List ℕ → List ℕ) (p : SymLine → Bool) (lines : List SymLine) → ((s : SymLine) → p (renamed f s) ≡ p s) → list_any p (map (renamed f) lines) ≡ list_any p lines
 any_same f p [] same = refl
@@ -24,40 +24,13 @@ runs_same f runs [] same = refl
 runs_same f runs (s ∷ lines) same = ap (λ xs. xs ++ flat_map runs (map (renamed f) lines)) (same s) ∙ ap (λ xs. runs s ++ xs) (runs_same f runs lines same)
 
 func_same : (f : List ℕ → List ℕ) (s : SymLine) → func_run (renamed f s) ≡ func_run s
-func_same f (Module binary) = refl
-func_same f (Info text) = refl
-func_same f (File number name) = refl
-func_same f (Origin number name) = refl
-func_same f (Func many address size params name) = refl
-func_same f (Inline level line file origin ranges) = refl
-func_same f (Line address size line file) = refl
-func_same f (Public many address params name) = refl
-func_same f (Init address size rules) = refl
-func_same f (Change address rules) = refl
+func_same f s = each_record f s (λ a b. func_run a ≡ func_run b) (λ _ _ _ _ _. refl) (λ _ _. refl) (λ _ _ _ _. refl) (λ _. refl)
 
 init_same : (f : List ℕ → List ℕ) (s : SymLine) → init_run (renamed f s) ≡ init_run s
-init_same f (Module binary) = refl
-init_same f (Info text) = refl
-init_same f (File number name) = refl
-init_same f (Origin number name) = refl
-init_same f (Func many address size params name) = refl
-init_same f (Inline level line file origin ranges) = refl
-init_same f (Line address size line file) = refl
-init_same f (Public many address params name) = refl
-init_same f (Init address size rules) = refl
-init_same f (Change address rules) = refl
+init_same f s = each_record f s (λ a b. init_run a ≡ init_run b) (λ _ _ _ _ _. refl) (λ _ _. refl) (λ _ _ _ _. refl) (λ _. refl)
 
 size_same : (f : List ℕ → List ℕ) (s : SymLine) → are_sized (renamed f s) ≡ are_sized s
-size_same f (Module binary) = refl
-size_same f (Info text) = refl
-size_same f (File number name) = refl
-size_same f (Origin number name) = refl
-size_same f (Func many address size params name) = refl
-size_same f (Inline level line file origin ranges) = refl
-size_same f (Line address size line file) = refl
-size_same f (Public many address params name) = refl
-size_same f (Init address size rules) = refl
-size_same f (Change address rules) = refl
+size_same f s = each_record f s (λ a b. are_sized a ≡ are_sized b) (λ _ _ _ _ _. refl) (λ _ _. refl) (λ _ _ _ _. refl) (λ _. refl)
 
 given_same : (f : List ℕ → List ℕ) (before : List SymLine) (s : SymLine) → is_given_before (map (renamed f) before) (renamed f s) ≡ is_given_before before s
 given_same f before (Module binary) = refl

@@ -12,19 +12,27 @@ use Rattle.cfi_eval.specs.TextValue.{frame_of, text_frame}
 use Rattle.sym_meaning.specs.TextNames.{Found, is_func_at, text_func, func_name, text_owner, under, is_file, file_name, text_path, path_and_line, line_under, text_line, is_line_at, is_origin, origin_name, text_origin, call_of, level_count, inlines_from, inlines_under, text_chain}
 use Rattle.rust_names.specs.ShownRecords.{renamed, renamed_found, renamed_call}
 
+-- what holds of each record with another name and itself: of a FUNC, of an INLINE_ORIGIN, of a PUBLIC, and of any other, which stays
+pub each_record : (f : List ℕ → List ℕ) (s : SymLine) (P : SymLine → SymLine → Type 0)
+    → ((many : Bool) (address size params : ℕ) (name : List ℕ) → P (Func many address size params (f name)) (Func many address size params name))
+    → ((number : ℕ) (name : List ℕ) → P (Origin number (f name)) (Origin number name))
+    → ((many : Bool) (address params : ℕ) (name : List ℕ) → P (Public many address params (f name)) (Public many address params name))
+    → ((other : SymLine) → P other other) → P (renamed f s) s
+each_record f (Module binary) P func origin public stays = stays (Module binary)
+each_record f (Info text) P func origin public stays = stays (Info text)
+each_record f (File number name) P func origin public stays = stays (File number name)
+each_record f (Origin number name) P func origin public stays = origin number name
+each_record f (Func many address size params name) P func origin public stays = func many address size params name
+each_record f (Inline level line file number ranges) P func origin public stays = stays (Inline level line file number ranges)
+each_record f (Line address size line file) P func origin public stays = stays (Line address size line file)
+each_record f (Public many address params name) P func origin public stays = public many address params name
+each_record f (Init address size rules) P func origin public stays = stays (Init address size rules)
+each_record f (Change address rules) P func origin public stays = stays (Change address rules)
+
 -- the FUNC at an address
 
 func_at : (f : List ℕ → List ℕ) (x : ℕ) (s : SymLine) → is_func_at x (renamed f s) ≡ is_func_at x s
-func_at f x (Module binary) = refl
-func_at f x (Info text) = refl
-func_at f x (File number name) = refl
-func_at f x (Origin number name) = refl
-func_at f x (Func many address size params name) = refl
-func_at f x (Inline level line file origin ranges) = refl
-func_at f x (Line address size line file) = refl
-func_at f x (Public many address params name) = refl
-func_at f x (Init address size rules) = refl
-func_at f x (Change address rules) = refl
+func_at f x s = each_record f s (λ a b. is_func_at x a ≡ is_func_at x b) (λ _ _ _ _ _. refl) (λ _ _. refl) (λ _ _ _ _. refl) (λ _. refl)
 
 found_by : (f : List ℕ → List ℕ) (test : Bool) (a : Found) (r : Option Found) → cond test (Some (renamed_found f a)) (option_map (renamed_found f) r) ≡ option_map (renamed_found f) (cond test (Some a) r)
 found_by f true a r = refl
@@ -100,28 +108,10 @@ same_owner f lines x = ap (option_map (λ (a : Found). func_name a.func)) (same_
 -- the path of a FILE, and the name of an INLINE_ORIGIN
 
 pub file_at : (f : List ℕ → List ℕ) (n : ℕ) (s : SymLine) → is_file n (renamed f s) ≡ is_file n s
-file_at f n (Module binary) = refl
-file_at f n (Info text) = refl
-file_at f n (File number name) = refl
-file_at f n (Origin number name) = refl
-file_at f n (Func many address size params name) = refl
-file_at f n (Inline level line file origin ranges) = refl
-file_at f n (Line address size line file) = refl
-file_at f n (Public many address params name) = refl
-file_at f n (Init address size rules) = refl
-file_at f n (Change address rules) = refl
+file_at f n s = each_record f s (λ a b. is_file n a ≡ is_file n b) (λ _ _ _ _ _. refl) (λ _ _. refl) (λ _ _ _ _. refl) (λ _. refl)
 
 pub origin_at : (f : List ℕ → List ℕ) (n : ℕ) (s : SymLine) → is_origin n (renamed f s) ≡ is_origin n s
-origin_at f n (Module binary) = refl
-origin_at f n (Info text) = refl
-origin_at f n (File number name) = refl
-origin_at f n (Origin number name) = refl
-origin_at f n (Func many address size params name) = refl
-origin_at f n (Inline level line file origin ranges) = refl
-origin_at f n (Line address size line file) = refl
-origin_at f n (Public many address params name) = refl
-origin_at f n (Init address size rules) = refl
-origin_at f n (Change address rules) = refl
+origin_at f n s = each_record f s (λ a b. is_origin n a ≡ is_origin n b) (λ _ _ _ _ _. refl) (λ _ _. refl) (λ _ _ _ _. refl) (λ _. refl)
 
 path_is : (f : List ℕ → List ℕ) (n : ℕ) (s : SymLine) → is_file n s ≡ true → file_name (renamed f s) ≡ file_name s
 path_is f n (Module binary) is = cc
