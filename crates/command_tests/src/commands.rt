@@ -3,8 +3,8 @@
 use crate::comparing::same;
 use crate::files::{Given, file_by, joined, of_code};
 use crate::rows::{
-    A, BY_TWO, CHECK, DUMP, FRAME, FRONT, FRONTS, MAIN, PUSHED, ROWS, Row, SHOW, STACK, STATE,
-    TABLE, TEXT_ROWS, THREE_PATHS, UNREAD, WALK, Words,
+    A, BY_TWO, CHECK, DUMP, FRAME, FRONT, FRONTS, MAIN, PUSHED, ROWS, Row, SAMPLE_ROWS, SHOW,
+    STACK, STATE, TABLE, TEXT_ROWS, THOUSAND, THREE_PATHS, UNREAD, WALK, Words,
 };
 use dumpsyms_cmd::run;
 use std::alloc::{AllocError, Global};
@@ -147,6 +147,14 @@ fn elf_files_have_their_rows(rt: HostRuntime) -> Result<(), Fail> {
     Ok(())
 }
 
+#[test]
+fn samples_have_their_rows(rt: HostRuntime) -> Result<(), Fail> {
+    for row in SAMPLE_ROWS {
+        expect_row(&rt, rt.alloc(), row)?;
+    }
+    Ok(())
+}
+
 /// Each write of one byte that fails in turn, those to out before those to err: the status is 4, and the sinks hold what was
 /// written before.
 fn expect_fronts<R: Abort + Threads + Sync>(
@@ -249,6 +257,12 @@ fn two_workers_meet(rt: HostRuntime) -> Result<(), Fail> {
         &rt, &gate, alloc, "held", BY_TWO, &file, SMOOTH, 0, &text, b"",
     )?;
     same(&rt, "the other is reached", &gate.seen(), &[1, 0]);
+    let gate = Holding::new(0, 999);
+    let words = &["sample", "1000", "--workers", "2"];
+    expect(
+        &rt, &gate, alloc, "held", words, &file, SMOOTH, 0, THOUSAND, b"",
+    )?;
+    same(&rt, "all are reached", &gate.seen(), &[999, 0]);
     Ok(())
 }
 

@@ -109,6 +109,9 @@ pub const NO_ROWS: &[Words] = &[
     &["dump", "d/a.out", "--workers", "0"],
     &["dump", "d/a.out", "--workers", "08"],
     &["dump", "d/a.out", "--workers", "65"],
+    &["sample", "0"],
+    &["sample", "20001"],
+    &["sample", "5", "--workers", "65"],
 ];
 
 pub const ENDS_AT_C: &[u8] = b"refused dwarf ends debug_info c\n";
@@ -301,6 +304,58 @@ pub const TEXT_ROWS: [Row; 17] = [
         1,
         &[],
         &[b"refused walk no-rip\n"],
+    ),
+];
+
+/// The counts of a thousand units.
+pub const THOUSAND: &[u8] =
+    b"units 1000 funcs 2000 inlines 1000 lines 4000 inits 1900 omitted 100\n";
+
+/// Samples, which read no file.
+pub const SAMPLE_ROWS: [Row; 5] = [
+    (
+        "a sample",
+        &[&["sample", "1"]],
+        Given::Small,
+        0,
+        &[b"units 1 funcs 2 inlines 1 lines 4 inits 2 omitted 0\n"],
+        &[],
+    ),
+    (
+        "nine units",
+        &[&["sample", "9"]],
+        Given::Small,
+        0,
+        &[b"units 9 funcs 18 inlines 9 lines 36 inits 18 omitted 0\n"],
+        &[],
+    ),
+    (
+        "ten units",
+        &[&["sample", "10"]],
+        Given::Small,
+        0,
+        &[b"units 10 funcs 20 inlines 10 lines 40 inits 19 omitted 1\n"],
+        &[],
+    ),
+    (
+        "128 units",
+        &[&["sample", "128"]],
+        Given::Small,
+        0,
+        &[b"units 128 funcs 256 inlines 128 lines 512 inits 244 omitted 12\n"],
+        &[],
+    ),
+    (
+        "a thousand units",
+        &[
+            &["sample", "1000"],
+            &["sample", "1000", "--workers", "1"],
+            &["sample", "1000", "--workers", "8"],
+        ],
+        Given::Small,
+        0,
+        &[THOUSAND],
+        &[],
     ),
 ];
 

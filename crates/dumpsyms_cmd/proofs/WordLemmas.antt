@@ -13,7 +13,7 @@ use Rattle.sym_rules.proofs.BoolLemmas.{both, and_true, if_both}
 use Rattle.std.proofs.lemmas.List.Sums.{suffix_len_is}
 use Rattle.memchr.specs.Find.{IsLastByte, is_byte}
 use Rattle.std.specs.List.{suffix_len}
-use Rattle.dumpsyms_cmd.specs.Words.{Asked, dump, check, lookup, frame, walk, names, address_of, is_number, number_upto, two_words, three_words, four_words, HasWorkers, is_slash, module_name}
+use Rattle.dumpsyms_cmd.specs.Words.{Asked, dump, check, lookup, frame, sample, walk, names, sample_of, address_of, is_number, number_upto, two_words, three_words, four_words, HasWorkers, is_slash, module_name}
 
 passes_not : (t : Bool) → ((t ≡ true) → ⊥) → not t ≡ true
 passes_not t never = elim t as (λ v. ((v ≡ true) → ⊥) → not v ≡ true) [ true ↦ λ h. absurd (h refl) | false ↦ λ h. refl ] never
@@ -143,6 +143,15 @@ workers_by : (t : Bool) (elf : List ℕ) (n : ℕ) → (t ≡ true → (1 ≤ n)
 workers_by true elf n has = has refl
 workers_by false elf n has = tt
 
+-- a number is at least 1 and at most `most`
+abbrev Within : ℕ → Option ℕ → Type 0
+Within most None = Prim.Unit {0}
+Within most (Some n) = (1 ≤ n) × (n ≤ most)
+
+within_by : (t : Bool) (most n : ℕ) → (t ≡ true → (1 ≤ n) × (n ≤ most)) → Within most (cond t (Some n) None)
+within_by true most n has = has refl
+within_by false most n has = tt
+
 number_workers : (elf word : List ℕ) → HasWorkers (option_map (dump elf) (number_upto 64 word))
 unfolding number_upto
 number_workers elf word =
@@ -152,11 +161,29 @@ number_workers elf word =
     let few : digits_value 10 word ≤ 64 = grind (arith, nat_tests) in
     (positive word parts.0, few))
 
+-- and so has a sample, whose units are no more than they may be
+number_within : (most : ℕ) (word : List ℕ) → Within most (number_upto most word)
+unfolding number_upto
+number_within most word =
+    within_by (is_number word && nat_le (digits_value 10 word) most) most (digits_value 10 word) (λ t.
+    let parts = and_true {a = is_number word} t in
+    let le = parts.1 in
+    let few : digits_value 10 word ≤ most = grind (arith, nat_tests) in
+    (positive word parts.0, few))
+
+sample_workers : (units workers : Option ℕ) → Within 20000 units → Within 64 workers → HasWorkers (sample_of units workers)
+sample_workers None workers few some = tt
+sample_workers (Some units) None few some = tt
+sample_workers (Some units) (Some workers) few some = (few.1, some)
+
 two_workers : (word name : List ℕ) → HasWorkers (two_words word name)
 two_workers word name =
-    if_both HasWorkers (bytes_eq word (codes "dump")) (Some (dump name 4)) (cond (bytes_eq word (codes "check")) (Some (check name)) (cond (bytes_eq word (codes "names")) (Some (names name)) None)) (omega arith, omega arith)
-    (if_both HasWorkers (bytes_eq word (codes "check")) (Some (check name)) (cond (bytes_eq word (codes "names")) (Some (names name)) None) tt
-    (if_both HasWorkers (bytes_eq word (codes "names")) (Some (names name)) None tt tt))
+    let more : Option Asked = cond (bytes_eq word (codes "names")) (Some (names name)) None in
+    let sampled : Option Asked = sample_of (number_upto 20000 name) (Some 4) in
+    if_both HasWorkers (bytes_eq word (codes "dump")) (Some (dump name 4)) (cond (bytes_eq word (codes "check")) (Some (check name)) (cond (bytes_eq word (codes "sample")) sampled more)) (omega arith, omega arith)
+    (if_both HasWorkers (bytes_eq word (codes "check")) (Some (check name)) (cond (bytes_eq word (codes "sample")) sampled more) tt
+    (if_both HasWorkers (bytes_eq word (codes "sample")) sampled more (sample_workers (number_upto 20000 name) (Some 4) (number_within 20000 name) (omega arith, omega arith))
+    (if_both HasWorkers (bytes_eq word (codes "names")) (Some (names name)) None tt tt)))
 
 lookup_workers : (name : List ℕ) (o : Option ℕ) → HasWorkers (option_map (lookup name) o)
 lookup_workers name None = tt
@@ -173,9 +200,13 @@ address_workers name state (Some address) = tt
 
 four_workers : (word name third fourth : List ℕ) → HasWorkers (four_words word name third fourth)
 four_workers word name third fourth =
+    let framed : Option Asked = option_map (λ address. frame name address fourth) (address_of third) in
+    let sampled : Option Asked = sample_of (number_upto 20000 name) (number_upto 64 fourth) in
+    let more : Option Asked = cond (bytes_eq word (codes "frame")) framed None in
     if_both HasWorkers (bytes_eq word (codes "dump") && bytes_eq third (codes "--workers")) (option_map (dump name) (number_upto 64 fourth))
-    (cond (bytes_eq word (codes "frame")) (option_map (λ address. frame name address fourth) (address_of third)) None) (number_workers name fourth)
-    (if_both HasWorkers (bytes_eq word (codes "frame")) (option_map (λ address. frame name address fourth) (address_of third)) None (address_workers name fourth (address_of third)) tt)
+    (cond (bytes_eq word (codes "sample") && bytes_eq third (codes "--workers")) sampled more) (number_workers name fourth)
+    (if_both HasWorkers (bytes_eq word (codes "sample") && bytes_eq third (codes "--workers")) sampled more (sample_workers (number_upto 20000 name) (number_upto 64 fourth) (number_within 20000 name) (number_within 64 fourth))
+    (if_both HasWorkers (bytes_eq word (codes "frame")) framed None (address_workers name fourth (address_of third)) tt))
 
 pub two_few : (view : Option Asked) (word name : List ℕ) → view ≡ two_words word name → HasWorkers view
 two_few view word name is = subst HasWorkers (sym is) (two_workers word name)

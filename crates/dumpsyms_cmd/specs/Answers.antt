@@ -1,16 +1,17 @@
 -- What the commands answer, and what each promises of its judgement: by the words and the files.
 use Rattle.std.specs.Prelude.{◌≡◌, Option, Some, None}
 use Rattle.sym_edges.specs.Outside.{Files}
-use Rattle.dumpsyms_cmd.specs.Words.{Asked, dump, check, lookup, frame, walk, names}
+use Rattle.dumpsyms_cmd.specs.Words.{Asked, dump, check, lookup, frame, sample, walk, names}
 use Rattle.dumpsyms_cmd.specs.Refusals.{usage_line}
 use Rattle.dumpsyms_cmd.specs.Verdict.{Verdict, usage}
-use Rattle.dumpsyms_cmd.specs.Judgement.{err_bytes}
+use Rattle.dumpsyms_cmd.specs.Judgement.{err_bytes, judgement_verdict}
 use Rattle.dumpsyms_cmd.specs.SymbolInput.{file_verdict, AnswersBytes}
 use Rattle.dumpsyms_cmd.specs.commands.Dump.{IsFileVerdict, DumpPromises}
 use Rattle.dumpsyms_cmd.specs.commands.Check.{check_answer}
 use Rattle.dumpsyms_cmd.specs.commands.Lookup.{lookup_answer}
 use Rattle.dumpsyms_cmd.specs.StateInput.{both_verdict, AnswersBoth}
 use Rattle.dumpsyms_cmd.specs.commands.Frame.{frame_answer}
+use Rattle.dumpsyms_cmd.specs.commands.Sample.{IsSampleVerdict}
 use Rattle.dumpsyms_cmd.specs.commands.Walk.{walk_answer}
 use Rattle.dumpsyms_cmd.specs.commands.Names.{names_answer}
 use Rattle.dumpsyms_cmd.specs.declared.judgement.Output.TheVariants.{Nothing}
@@ -23,6 +24,7 @@ IsVerdict (Some (dump elf workers)) files v = IsFileVerdict elf (files elf) v
 IsVerdict (Some (check sym)) files v = v ≡ file_verdict check_answer (files sym)
 IsVerdict (Some (lookup sym address)) files v = v ≡ file_verdict (lookup_answer address) (files sym)
 IsVerdict (Some (frame sym address state)) files v = v ≡ both_verdict (frame_answer address) (files sym) (files state)
+IsVerdict (Some (sample units workers)) files v = IsSampleVerdict units v
 IsVerdict (Some (walk sym state)) files v = v ≡ both_verdict walk_answer (files sym) (files state)
 IsVerdict (Some (names sym)) files v = v ≡ file_verdict names_answer (files sym)
 
@@ -39,5 +41,6 @@ CommandPromises (Some (dump elf workers)) files j = DumpPromises elf files j
 CommandPromises (Some (check sym)) files j = AnswersBytes sym check_answer files j
 CommandPromises (Some (lookup sym address)) files j = AnswersBytes sym (lookup_answer address) files j
 CommandPromises (Some (frame sym address state)) files j = AnswersBoth sym state (frame_answer address) files j
+CommandPromises (Some (sample units workers)) files j = IsSampleVerdict units (judgement_verdict j)
 CommandPromises (Some (walk sym state)) files j = AnswersBoth sym state walk_answer files j
 CommandPromises (Some (names sym)) files j = AnswersBytes sym names_answer files j

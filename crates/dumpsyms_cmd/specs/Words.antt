@@ -11,7 +11,7 @@ use Rattle.sym_grammar.specs.Input.{file_reading}
 use Rattle.sym_grammar.specs.declared.refusal.SymRefusal.{SymRefusal}
 use Rattle.sym_records.specs.declared.line.SymLine.{SymLine}
 use Rattle.dumpsyms_cmd.specs.declared.words.Command.{Command}
-use Rattle.dumpsyms_cmd.specs.declared.words.Command.TheVariants.{Dump, Check, Lookup, Frame, Walk, Names}
+use Rattle.dumpsyms_cmd.specs.declared.words.Command.TheVariants.{Dump, Check, Lookup, Frame, Sample, Walk, Names}
 
 -- what the program is asked for
 pub data Asked : Type 0 where
@@ -23,6 +23,8 @@ pub data Asked : Type 0 where
   lookup : (sym : List ℕ) → (address : ℕ) → Asked
   -- what the rules of a symbol file evaluate to at an address, over a state file
   frame : (sym : List ℕ) → (address : ℕ) → (state : List ℕ) → Asked
+  -- the counts of a dump, by some workers, of the made ELF file of so many units
+  sample : (units : ℕ) → (workers : ℕ) → Asked
   -- the frames of a stack by the rules of a symbol file, from a state file
   walk : (sym : List ℕ) → (state : List ℕ) → Asked
   -- a symbol file with its legacy Rust names in readable form
@@ -34,6 +36,7 @@ command_view (Dump elf workers) = dump elf.now workers
 command_view (Check sym) = check sym.now
 command_view (Lookup sym address) = lookup sym.now address
 command_view (Frame sym address state) = frame sym.now address state.now
+command_view (Sample units workers) = sample units workers
 command_view (Walk sym state) = walk sym.now state.now
 command_view (Names sym) = names sym.now
 
@@ -53,15 +56,26 @@ USUAL_WORKERS = 4
 abbrev pub MOST_WORKERS : ℕ
 MOST_WORKERS = 64
 
+-- how many units a made file may have
+abbrev pub MOST_UNITS : ℕ
+MOST_UNITS = 20000
+
+-- the row of a sample, where both numbers are there
+abbrev pub sample_of : Option ℕ → Option ℕ → Option Asked
+sample_of (Some units) (Some workers) = Some (sample units workers)
+sample_of None workers = None
+sample_of (Some units) None = None
+
 -- the address that a word writes: 1 to 16 hexadecimal digits of either case
 unfoldable pub address_of : List ℕ → Option ℕ
 address_of word = if length word == 0 then None else hex_value word
 
--- the rows `dump ELF`, `check SYM` and `names SYM`
+-- the rows `dump ELF`, `check SYM`, `sample N` and `names SYM`
 abbrev pub two_words : List ℕ → List ℕ → Option Asked
 two_words word name =
     if bytes_eq word (codes "dump") then Some (dump name USUAL_WORKERS)
     else if bytes_eq word (codes "check") then Some (check name)
+    else if bytes_eq word (codes "sample") then sample_of (number_upto MOST_UNITS name) (Some USUAL_WORKERS)
     else if bytes_eq word (codes "names") then Some (names name)
     else None
 
@@ -72,10 +86,11 @@ three_words word name third =
     else if bytes_eq word (codes "walk") then Some (walk name third)
     else None
 
--- the rows `dump ELF --workers N` and `frame SYM ADDR STATE`
+-- the rows `dump ELF --workers N`, `sample N --workers W` and `frame SYM ADDR STATE`
 abbrev pub four_words : List ℕ → List ℕ → List ℕ → List ℕ → Option Asked
 four_words word name third fourth =
     if bytes_eq word (codes "dump") && bytes_eq third (codes "--workers") then option_map (dump name) (number_upto MOST_WORKERS fourth)
+    else if bytes_eq word (codes "sample") && bytes_eq third (codes "--workers") then sample_of (number_upto MOST_UNITS name) (number_upto MOST_WORKERS fourth)
     else if bytes_eq word (codes "frame") then option_map (λ address. frame name address fourth) (address_of third)
     else None
 
@@ -88,13 +103,14 @@ command_of (word ∷ name ∷ third ∷ []) = three_words word name third
 command_of (word ∷ name ∷ third ∷ fourth ∷ []) = four_words word name third fourth
 command_of (word ∷ name ∷ third ∷ fourth ∷ more ∷ words) = None
 
--- a dump has from one to 64 workers
+-- a dump has from one to 64 workers, and so has a sample, which has no more units than it may have
 abbrev pub HasWorkers : Option Asked → Type 0
 HasWorkers None = Unit {0}
 HasWorkers (Some (dump elf workers)) = (1 ≤ workers) × (workers ≤ MOST_WORKERS)
 HasWorkers (Some (check sym)) = Unit {0}
 HasWorkers (Some (lookup sym address)) = Unit {0}
 HasWorkers (Some (frame sym address state)) = Unit {0}
+HasWorkers (Some (sample units workers)) = (units ≤ MOST_UNITS) × ((1 ≤ workers) × (workers ≤ MOST_WORKERS))
 HasWorkers (Some (walk sym state)) = Unit {0}
 HasWorkers (Some (names sym)) = Unit {0}
 
@@ -118,6 +134,7 @@ files_of (Some (dump elf workers)) files = elf ∷ []
 files_of (Some (check sym)) files = sym ∷ []
 files_of (Some (lookup sym address)) files = sym ∷ []
 files_of (Some (frame sym address state)) files = sym ∷ second_told files sym state
+files_of (Some (sample units workers)) files = []
 files_of (Some (walk sym state)) files = sym ∷ second_told files sym state
 files_of (Some (names sym)) files = sym ∷ []
 

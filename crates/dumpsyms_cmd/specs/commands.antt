@@ -1,5 +1,6 @@
 -- What each command answers, and what its text means: a page each.
 pub mod Dump
+pub mod Sample
 pub mod Check
 pub mod Lookup
 pub mod Frame

@@ -2,3 +2,4 @@
 pub mod Spelled
 pub mod Writes
 pub mod Judged
+pub mod Counting

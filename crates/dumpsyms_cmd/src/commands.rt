@@ -3,7 +3,7 @@ ghost use Rattle.std.specs.Prelude.{◌≡◌, ◌≤◌, ℕ, Option, Some, Non
 ghost use Rattle.sym_edges.specs.Outside.{Files};
 ghost use Rattle.std.specs.String.{string_bytes};
 ghost use Rattle.elf_sections.specs.Image.{image};
-ghost use Rattle.dumpsyms_cmd.specs.Words.{command_of, files_of, dump};
+ghost use Rattle.dumpsyms_cmd.specs.Words.{command_of, files_of, dump, sample};
 ghost use Rattle.debug_read.specs.DebugSays.{IsDebugRead};
 ghost use Rattle.dumpsyms_cmd.specs.Verdict.{LIMIT};
 ghost use Rattle.dumpsyms_cmd.specs.Judgement.{err_bytes};
@@ -13,8 +13,9 @@ ghost use Rattle.dumpsyms_cmd.specs.Observed.{Asks};
 use crate::dump::assemble;
 use crate::judgement::{Answer, Judgement, Message, Output};
 use crate::refusals::{TOO_LONG, USAGE, debug_line, fault_line};
+use crate::sample::judge_sample;
 use crate::state_input::{Query, answer_query};
-use crate::symbol_input::{SymQuery, answer_symbols};
+use crate::symbol_input::{SymQuery, answer_judged, answer_symbols};
 use crate::words::{Command, name_of, parse_words};
 use debug_read::{DebugRead, read_debug};
 use elf_sections::{Image, read_image};
@@ -136,6 +137,22 @@ fn answer_dump<R: Threads + Sync, S: Store, G: Gate + Sync>(
     }
 }
 
+/// The answer to `sample N`, by some workers.
+#[tactic(auto, using(crate::proofs::SampleLemmas::sample_answered))]
+fn answer_sample<R: Threads + Sync, G: Gate + Sync>(
+    rt: &R,
+    alloc: Global,
+    units: usize,
+    workers: usize,
+    gate: &G,
+) -> Answer
+    requires few { units ≤ 20000 }
+    requires workers { (1 ≤ workers) × (workers ≤ 64) }
+    ensures { (files : Option Files) (before after : ℕ) → AnswersCommand result (Some (sample units workers)) files before after }
+{
+    answer_judged(judge_sample(rt, alloc, units as u32, gate, workers))
+}
+
 /// The answer to invalid arguments.
 #[tactic(auto, using(crate::proofs::JudgedLemmas::usage_judged))]
 fn answer_usage() -> Answer
@@ -149,7 +166,7 @@ fn answer_usage() -> Answer
 }
 
 /// The answer to the words, over the files of the store. All memory that the program needs is taken here.
-#[tactic(auto, using(crate::proofs::JudgedLemmas::asks_none))]
+#[tactic(auto, using(crate::proofs::JudgedLemmas::asks_none, crate::proofs::SampleLemmas::asks_nothing))]
 pub fn answer_words<R: Threads + Sync, S: Store, G: Gate + Sync>(
     rt: &R,
     alloc: Global,
@@ -165,6 +182,7 @@ pub fn answer_words<R: Threads + Sync, S: Store, G: Gate + Sync>(
     match parse_words(words) {
         None => answer_usage(),
         Some(Command::Dump { elf, workers }) => answer_dump(rt, alloc, elf, workers, store, gate),
+        Some(Command::Sample { units, workers }) => answer_sample(rt, alloc, units, workers, gate),
         Some(Command::Check { sym }) => answer_symbols(alloc, sym, SymQuery::Check, store),
         Some(Command::Lookup { sym, address }) => {
             answer_symbols(alloc, sym, SymQuery::Lookup { address }, store)

@@ -3,7 +3,7 @@
 //! `dump ELF` reads a file and its debugging information, by as many workers as the words say, makes the records of its symbol file
 //! (Breakpad's symbol_files.md) and writes them, or names the first fault. `check SYM`, `lookup SYM ADDR`, `frame SYM ADDR STATE` and
 //! `walk SYM STATE` read a symbol file of any tool, and print what a checker finds in it, what it names at an address, what its frame rules
-//! evaluate to there, and the frames of a stack by these rules.
+//! evaluate to there, and the frames of a stack by these rules. `sample N` counts what a dump of a made file of N units has.
 //!
 //! The contract of `run` says which status comes, what each text holds, and which names are asked for. Of a dump it says that at every
 //! address of the units that are read the text names DWARF's function, inline chain and line; that evaluating the rules of each written frame
@@ -20,9 +20,11 @@ mod program;
 mod refusals;
 mod words;
 
-// `dump`.
+// `dump`, and `sample`.
 mod dump;
 mod omissions;
+mod read_back;
+mod sample;
 
 // The commands over symbol files.
 mod check;

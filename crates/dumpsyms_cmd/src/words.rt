@@ -1,7 +1,7 @@
 ghost use Rattle.std.specs.Prelude.{◌≡◌, ◌≤◌, ◌↔◌, ℕ, IsTrue, map, slice_index};
 ghost use Rattle.std.specs.String.{string_bytes};
 ghost use Rattle.std.specs.Option.{option_map};
-ghost use Rattle.dumpsyms_cmd.specs.Words.{command_view, command_of, number_upto, address_of, two_words, three_words, four_words, module_name, HasWorkers, dump, lookup, frame, MOST_WORKERS};
+ghost use Rattle.dumpsyms_cmd.specs.Words.{command_view, command_of, number_upto, address_of, sample_of, two_words, three_words, four_words, module_name, HasWorkers, dump, lookup, frame, MOST_WORKERS, MOST_UNITS};
 
 use memchr::memrchr;
 use state_file::hex_value;
@@ -11,6 +11,9 @@ const USUAL_WORKERS: usize = 4;
 
 /// The most workers that words may name.
 const MOST_WORKERS: usize = 64;
+
+/// The most units of a made file.
+const MOST_UNITS: usize = 20000;
 
 /// What the words ask for, one variant a command.
 #[derive(Clone, Copy, Debug)]
@@ -34,6 +37,11 @@ pub enum Command<'w> {
         sym: &'w str,
         address: u64,
         state: &'w str,
+    },
+    /// `sample N` and `sample N --workers W`
+    Sample {
+        units: usize,
+        workers: usize,
     },
     /// `walk SYM STATE`
     Walk {
@@ -87,7 +95,20 @@ fn parse_address(word: &str) -> Option<u64>
     hex_value(digits)
 }
 
-/// The rows `dump ELF`, `check SYM` and `names SYM`.
+/// The rows of a sample, by both numbers.
+fn parse_sample<'w>(units: &str, workers: Option<usize>) -> Option<Command<'w>>
+    ensures { option_map command_view result ≡ sample_of (number_upto MOST_UNITS units.now) workers }
+{
+    match parse_number(units, MOST_UNITS) {
+        Some(units) => match workers {
+            Some(workers) => Some(Command::Sample { units, workers }),
+            None => None,
+        },
+        None => None,
+    }
+}
+
+/// The rows `dump ELF`, `check SYM`, `sample N` and `names SYM`.
 fn parse_two<'w>(word: &str, name: &'w str) -> Option<Command<'w>>
     ensures { option_map command_view result ≡ two_words word.now name.now }
 {
@@ -99,6 +120,9 @@ fn parse_two<'w>(word: &str, name: &'w str) -> Option<Command<'w>>
     }
     if word == "check" {
         return Some(Command::Check { sym: name });
+    }
+    if word == "sample" {
+        return parse_sample(name, Some(USUAL_WORKERS));
     }
     if word == "names" {
         return Some(Command::Names { sym: name });
@@ -153,12 +177,15 @@ fn parse_frame<'w>(sym: &'w str, address: &str, state: &'w str) -> Option<Comman
     }
 }
 
-/// The rows `dump ELF --workers N` and `frame SYM ADDR STATE`.
+/// The rows `dump ELF --workers N`, `sample N --workers W` and `frame SYM ADDR STATE`.
 fn parse_four<'w>(word: &str, name: &'w str, third: &str, fourth: &'w str) -> Option<Command<'w>>
     ensures { option_map command_view result ≡ four_words word.now name.now third.now fourth.now }
 {
     if word == "dump" && third == "--workers" {
         return parse_workers(name, fourth);
+    }
+    if word == "sample" && third == "--workers" {
+        return parse_sample(name, parse_number(fourth, MOST_WORKERS));
     }
     if word == "frame" {
         return parse_frame(name, third, fourth);

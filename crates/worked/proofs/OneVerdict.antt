@@ -1,5 +1,5 @@
 -- Words and files have one verdict.
-use Rattle.std.proofs.Common.{◌≡◌, ℕ, Bool, true, false, List, ◌++◌, Option, None, Some, Result, Ok, Err, length, nat_lt, refl, sym, ap, subst, ◌∙◌}
+use Rattle.std.proofs.Common.{◌≡◌, ℕ, Bool, true, false, List, [], ◌++◌, Option, None, Some, Result, Ok, Err, length, nat_lt, refl, sym, ap, subst, ◌∙◌}
 use Rattle.sym_edges.specs.Outside.{Files}
 use Rattle.elf_sections.specs.Image.{ImageParts, parts_of, image_fault, image_by, image}
 use Rattle.elf_sections.specs.Programs.{base, code}
@@ -10,11 +10,14 @@ use Rattle.sym_records.specs.declared.line.SymLine.{SymLine}
 use Rattle.debug_read.specs.declared.fault.DebugFault.{DebugFault}
 use Rattle.debug_read.specs.DebugSays.{DebugSays, debug_says}
 use Rattle.debug_read.specs.Each.{Match}
-use Rattle.dumpsyms_cmd.specs.Words.{Asked, dump, command_of, module_name, check, lookup, frame, walk, names}
+use Rattle.dumpsyms_cmd.specs.Words.{Asked, dump, command_of, module_name, check, lookup, frame, sample, walk, names}
 use Rattle.dumpsyms_cmd.specs.commands.Dump.{identity_lines, public_lines, frame_lines, CanonFile}
 use Rattle.dumpsyms_cmd.specs.Verdict.{Verdict, LIMIT}
 use Rattle.dumpsyms_cmd.specs.commands.Dump.{left_out, GivesText, IsDebugVerdict, IsImageVerdict, IsBytesVerdict, IsFileVerdict}
+use Rattle.dumpsyms_cmd.specs.commands.Sample.{counts_line, IsCountsVerdict, IsImageCounts}
 use Rattle.dumpsyms_cmd.specs.Answers.{IsVerdict}
+use Rattle.rule_postfix.specs.Written.{omitted}
+use Rattle.sample_elf.specs.Made.{made}
 use Rattle.worked.specs.Runs.{AskAlike, by_one_worker}
 use Rattle.worked.proofs.OneUnits.{SameUnit, same_units, EndBelow, code_below, small_units}
 use Rattle.worked.proofs.OneRecords.{same_pieces, same_records}
@@ -68,6 +71,18 @@ one_file : (elf : List ℕ) (file : Option (List ℕ)) (v w : Verdict) → IsFil
 one_file elf None v w p q = p ∙ sym q
 one_file elf (Some file) v w p q = one_bytes (nat_lt LIMIT (length file)) (module_name elf) file v w p q
 
+-- the counts of a made file
+counted : ImageParts → DebugSays → List SymLine → Verdict
+counted parts found lines = record { status = 0; out = counts_line (length found.units) lines (length (omitted parts.code found.first found.second)); err = [] }
+
+one_counts : (says : Result DebugSays DebugFault) (parts : ImageParts) (v w : Verdict) → EndBelow parts.code → IsCountsVerdict says parts v → IsCountsVerdict says parts w → v ≡ w
+one_counts (Err fault) parts v w below p q = p ∙ sym q
+one_counts (Ok found) parts v w below p q = p.is ∙ ap (counted parts found) (one_canon parts [] found p.lines q.lines below p.canon q.canon) ∙ sym q.is
+
+one_sample : (read : Result ImageParts ElfFault) (v w : Verdict) → ((parts : ImageParts) → read ≡ Ok parts → EndBelow parts.code) → IsImageCounts read v → IsImageCounts read w → v ≡ w
+one_sample (Err fault) v w below p q = p ∙ sym q
+one_sample (Ok parts) v w below p q = one_counts (debug_says parts) parts v w (below parts refl) p q
+
 -- a command asks for the same as itself
 alike : (c : Option Asked) → AskAlike c c
 alike None = tt
@@ -79,6 +94,7 @@ any_workers (dump elf workers) files v is = is
 any_workers (check sym) files v is = is
 any_workers (lookup sym address) files v is = is
 any_workers (frame sym address state) files v is = is
+any_workers (sample units workers) files v is = is
 any_workers (walk sym state) files v is = is
 any_workers (names sym) files v is = is
 
@@ -87,6 +103,7 @@ one_command (dump elf workers) files v w p q = one_file elf (files elf) v w p q
 one_command (check name) files v w p q = p ∙ sym q
 one_command (lookup name address) files v w p q = p ∙ sym q
 one_command (frame name address state) files v w p q = p ∙ sym q
+one_command (sample units workers) files v w p q = one_sample (image (made units)) v w (image_ends (made units)) p q
 one_command (walk name state) files v w p q = p ∙ sym q
 one_command (names name) files v w p q = p ∙ sym q
 

@@ -16,7 +16,7 @@ use Rattle.func_flatten.specs.Pieces.{owner_place, ArePieces}
 use Rattle.func_records.specs.FuncRecords.{AreFuncRecords}
 use Rattle.sym_records.specs.Canon.{canon_text}
 use Rattle.sym_records.specs.declared.line.SymLine.{SymLine}
-use Rattle.dumpsyms_cmd.specs.Words.{Asked, dump, check, lookup, frame, walk, names, command_of, module_name}
+use Rattle.dumpsyms_cmd.specs.Words.{Asked, dump, check, lookup, frame, sample, walk, names, command_of, module_name}
 use Rattle.dumpsyms_cmd.specs.SymbolInput.{file_verdict as checked}
 use Rattle.dumpsyms_cmd.specs.commands.Check.{check_answer}
 use Rattle.dumpsyms_cmd.specs.commands.Lookup.{lookup_answer}
@@ -62,6 +62,7 @@ command_verdict (Some (dump elf workers)) files = file_verdict elf (files elf)
 command_verdict (Some (check name)) files = Some (checked check_answer (files name))
 command_verdict (Some (lookup name address)) files = Some (checked (lookup_answer address) (files name))
 command_verdict (Some (frame name address state)) files = Some (both_verdict (frame_answer address) (files name) (files state))
+command_verdict (Some (sample units workers)) files = None
 command_verdict (Some (walk name state)) files = Some (both_verdict walk_answer (files name) (files state))
 command_verdict (Some (names name)) files = Some (checked names_answer (files name))
 
@@ -130,6 +131,7 @@ command_is (Some (dump elf workers)) files v is = file_is elf (files elf) v is
 command_is (Some (check name)) files v is = the_same is
 command_is (Some (lookup name address)) files v is = the_same is
 command_is (Some (frame name address state)) files v is = the_same is
+command_is (Some (sample units workers)) files v is = absurd (not_told is)
 command_is (Some (walk name state)) files v is = the_same is
 command_is (Some (names name)) files v is = the_same is
 

@@ -63,9 +63,9 @@ unfolding files both named
 an_empty_third_word = refl
 
 -- a command that is not built yet is no row
-sample : both (codes "sample" ∷ codes "3" ∷ []) ≡ usage
+no_units : both (codes "sample" ∷ codes "0" ∷ []) ≡ usage
 unfolding files both named
-sample = refl
+no_units = refl
 
 -- what a dump of `a` says with no file, and of the file `a`
 abbrev dumped : List Told

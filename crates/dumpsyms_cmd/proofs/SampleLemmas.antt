@@ -1,0 +1,148 @@
+-- The counts of a made file; for `sample` and `read_back`.
+use Rattle.std.proofs.Common.{◌≡◌, ℕ, ◌+◌, ◌<◌, ◌≤◌, ◌^◌, Bool, true, false, cond, List, [], ◌∷◌, ◌++◌, Option, Some, None, Result, Ok, Err, IfOk, length, take, get_or, refl, sym, ap, subst, ◌∙◌, arith, append-nil, length-append}
+use Rattle.std.specs.List.{filter}
+use Rattle.std.proofs.lemmas.List.{take_more, take_all}
+use Rattle.sym_edges.specs.Outside.{Files, Tells, MatchStop}
+use Rattle.sym_edges.specs.declared.fault.Stop.{Stop}
+use Rattle.sym_edges.specs.declared.fault.Stop.TheVariants.{Fault}
+use Rattle.elf_sections.specs.Image.{ImageParts, image}
+use Rattle.elf_sections.specs.declared.fault.ElfFault.{ElfFault}
+use Rattle.debug_read.specs.DebugSays.{DebugSays, debug_says, IsDebugRead}
+use Rattle.debug_read.specs.Each.{Match}
+use Rattle.debug_read.specs.declared.fault.DebugFault.{DebugFault}
+use Rattle.debug_read.specs.declared.found.DebugRead.{DebugRead}
+use Rattle.debug_read.proofs.KeptLemmas.{kept}
+use Rattle.rule_postfix.specs.Written.{omitted}
+use Rattle.sample_elf.specs.Made.{made}
+use Rattle.sym_rules.specs.declared.text_fault.TextFault.{TextFault}
+use Rattle.sym_records.specs.Reading.{reading}
+use Rattle.sym_records.specs.declared.line.SymLine.{SymLine}
+use Rattle.sym_grammar.specs.Answer.{Reads, answer, lifted}
+use Rattle.dumpsyms_cmd.specs.Words.{sample, files_of}
+use Rattle.dumpsyms_cmd.specs.Refusals.{elf_line, debug_line}
+use Rattle.dumpsyms_cmd.specs.Verdict.{Verdict, refused}
+use Rattle.dumpsyms_cmd.specs.Observed.{Asks}
+use Rattle.dumpsyms_cmd.specs.Judgement.{judgement_verdict}
+use Rattle.dumpsyms_cmd.specs.Answers.{IsVerdict}
+use Rattle.dumpsyms_cmd.specs.commands.Dump.{Assembles}
+use Rattle.dumpsyms_cmd.specs.commands.Sample.{is_counted, count_of, counts_line, IsCountsVerdict, IsImageCounts, IsSampleVerdict}
+use Rattle.dumpsyms_cmd.specs.internal.Judged.{Refuses, AnswersCommand, AnswersJudged}
+use Rattle.dumpsyms_cmd.specs.internal.Counting.{CountsParts, CountsBytes, CountsSample}
+use Rattle.dumpsyms_cmd.proofs.JudgedLemmas.{always}
+use Rattle.dumpsyms_cmd.proofs.AnswerLemmas.{refuses_verdict}
+use Rattle.dumpsyms_cmd.specs.declared.sample.Counted.{Counted}
+use Rattle.dumpsyms_cmd.specs.declared.judgement.Judgement.{Judgement}
+use Rattle.dumpsyms_cmd.specs.declared.judgement.Answer.{Answer}
+use Rattle.dumpsyms_cmd.specs.declared.judgement.Answer.TheVariants.{Judged, NoMemory}
+
+-- records of a kind, up to a place
+filter_more : (p : SymLine → Bool) (xs ys : List SymLine) → length (filter p (xs ++ ys)) ≡ length (filter p xs) + length (filter p ys)
+filter_more p [] ys = omega arith
+filter_more p (x ∷ xs) ys = go (p x)
+  where
+    go : (b : Bool) → length (cond b (x ∷ filter p (xs ++ ys)) (filter p (xs ++ ys))) ≡ length (cond b (x ∷ filter p xs) (filter p xs)) + length (filter p ys)
+    go true = omega (arith, filter_more p xs ys)
+    go false = omega (arith, filter_more p xs ys)
+
+filter_few : (p : SymLine → Bool) (xs : List SymLine) → length (filter p xs) ≤ length xs
+filter_few p [] = omega arith
+filter_few p (x ∷ xs) = go (p x)
+  where
+    go : (b : Bool) → length (cond b (x ∷ filter p xs) (filter p xs)) ≤ length (x ∷ xs)
+    go true = omega (arith, filter_few p xs)
+    go false = omega (arith, filter_few p xs)
+
+one_counted : (kind : Counted) (x : SymLine) (b : Bool) → b ≡ is_counted kind x → count_of kind (x ∷ []) ≡ cond b 1 0
+unfolding count_of
+one_counted kind x b is = go b (is_counted kind x) is
+  where
+    go : (b c : Bool) → b ≡ c → length (cond c (x ∷ []) []) ≡ cond b 1 0
+    go true true same = refl
+    go true false same = cc
+    go false true same = cc
+    go false false same = refl
+
+pub count_few : (kind : Counted) (lines : List SymLine) (k : ℕ) → count_of kind (take k lines) ≤ length lines
+unfolding count_of
+count_few kind lines k = omega (arith, filter_few (is_counted kind) (take k lines), length-take-le k lines)
+
+pub count_more : (kind : Counted) (lines : List SymLine) (k count : ℕ) (x : SymLine) (b : Bool) → k < length lines → x ≡ get_or lines k x → b ≡ is_counted kind x → count ≡ count_of kind (take k lines) → count + cond b 1 0 ≡ count_of kind (take (k + 1) lines)
+unfolding count_of
+count_more kind lines k count x b inside there is before =
+    let more : take (k + 1) lines ≡ take k lines ++ x ∷ [] = take_more lines k x inside ∙ ap (λ y. take k lines ++ y ∷ []) (sym there) in
+    let both = filter_more (is_counted kind) (take k lines) (x ∷ []) in
+    let one : length (filter (is_counted kind) (x ∷ [])) ≡ cond b 1 0 = one_counted kind x b is in
+    let all : length (filter (is_counted kind) (take (k + 1) lines)) ≡ length (filter (is_counted kind) (take k lines ++ x ∷ [])) = ap (λ l. length (filter (is_counted kind) l)) more in
+    omega arith
+
+pub counted_end : (kind : Counted) (lines : List SymLine) (k count : ℕ) → length lines ≤ k → count ≡ count_of kind (take k lines) → count ≡ count_of kind lines
+counted_end kind lines k count past is = is ∙ ap (count_of kind) (take_all k lines past)
+
+-- a reader that was fed all of a text that reads as records answers these
+ok_same : {F : Type 0} (x y : List SymLine) (why : Result (List SymLine) F) → why ≡ Ok x → why ≡ Ok y → x ≡ y
+ok_same x y why one other = (let e : ◌≡◌ {A = Result (List SymLine) _} (Ok x) (Ok y) = sym one ∙ other in cc)
+
+pub reads_back : (start fed : Reads) (text : List ℕ) (lines file : List SymLine) → ((bytes : List ℕ) → answer start bytes ≡ lifted (reading bytes)) → ((more : List ℕ) → answer fed more ≡ answer start (text ++ more)) → reading text ≡ Ok lines → answer fed [] ≡ Ok file → file ≡ lines
+reads_back start fed text lines file starts feeds reads ends =
+    ok_same file lines (answer fed []) ends (feeds [] ∙ ap (answer start) (append-nil text) ∙ starts text ∙ ap lifted reads)
+
+-- the counts of what was assembled
+given : ℕ → List ℕ → List ℕ → Verdict
+given status out err = record { status = status; out = out; err = err }
+
+match_length : {A B : Type 0} (R : A → B → Type 0) (xs : List A) (ys : List B) → Match R xs ys → length ys ≡ length xs
+match_length R [] [] same = refl
+match_length R [] (y ∷ ys) same = absurd same
+match_length R (x ∷ xs) [] same = absurd same
+match_length R (x ∷ xs) (y ∷ ys) same = omega (arith, match_length R xs ys same.1)
+
+said : {x y : DebugSays} → ◌≡◌ {A = Result DebugSays DebugFault} (Ok x) (Ok y) → x ≡ y
+said is = cc
+
+pub records_counted : (j : Judgement) (parts : ImageParts) (read : DebugRead) (lines : List SymLine) (err text : List ℕ) (left units : ℕ) → IsDebugRead parts read → Assembles parts [] lines err left → units ≡ length read.units → text ≡ counts_line units lines left → judgement_verdict j ≡ record { status = 0; out = text; err = [] } → CountsParts j parts
+records_counted j parts read lines err text left units says dumps number line is =
+    let k = kept parts read says in
+    let d = dumps.dumps in
+    let same : k.says ≡ d.found = said (sym k.says_is ∙ d.found_is) in
+    let many : units ≡ length d.found.units = number ∙ match_length _ k.says.units read.units k.units ∙ ap (λ (f : DebugSays). length f.units) same in
+    let gone : left ≡ length (omitted parts.code d.found.first d.found.second) = dumps.counted d.found d.found_is in
+    let V : List ℕ → Verdict = λ t. record { status = 0; out = t; err = [] } in
+    subst (λ (r : Result DebugSays DebugFault). IsCountsVerdict r parts (judgement_verdict j)) (sym d.found_is)
+    (record { lines = lines; canon = d.canon; is = is ∙ ap V (line ∙ ap (λ n. counts_line n lines left) many ∙ ap (counts_line (length d.found.units) lines) gone) })
+
+-- a fault after the image
+pub stop_counted : {A : Type 0} (j : Judgement) (parts : ImageParts) (text : List ℕ) (P : A → Type 0) (read : Result A (Stop DebugFault)) (end : Stop DebugFault) (fault : DebugFault) → MatchStop read P (λ f. debug_says parts ≡ Err f) (Prim.Unit {0}) → read ≡ Err end → end ≡ Fault fault → text ≡ debug_line fault → Refuses j text → CountsParts j parts
+stop_counted {A = A} j parts text P read end fault says is ends line refuses =
+    let R : Result A (Stop DebugFault) → Type 0 = λ r. MatchStop r P (λ f. debug_says parts ≡ Err f) (Prim.Unit {0}) in
+    let S : Stop DebugFault → Type 0 = λ e. MatchStop {A = A} (Err e) P (λ f. debug_says parts ≡ Err f) (Prim.Unit {0}) in
+    let faulty : debug_says parts ≡ Err fault = subst S ends (subst R is says) in
+    subst (λ (r : Result DebugSays DebugFault). IsCountsVerdict r parts (judgement_verdict j)) (sym faulty) (refuses_verdict j text (debug_line fault) line refuses)
+
+-- and of the image
+pub parts_counted : (j : Judgement) (bytes : List ℕ) (parts : ImageParts) → image bytes ≡ Ok parts → CountsParts j parts → CountsBytes j bytes
+parts_counted j bytes parts is says = subst (λ (i : Result ImageParts ElfFault). IsImageCounts i (judgement_verdict j)) (sym is) says
+
+pub fault_counted : (j : Judgement) (bytes text : List ℕ) (fault : ElfFault) → image bytes ≡ Err fault → text ≡ elf_line fault → Refuses j text → CountsBytes j bytes
+fault_counted j bytes text fault is line refuses = subst (λ (i : Result ImageParts ElfFault). IsImageCounts i (judgement_verdict j)) (sym is) (refuses_verdict j text (elf_line fault) line refuses)
+
+pub sample_counted : (j : Judgement) (bytes : List ℕ) (units : ℕ) → bytes ≡ made units → CountsBytes j bytes → CountsSample j units
+sample_counted j bytes units is says = subst (CountsBytes j) is says
+
+-- so it is a judgement of the command
+counts_low : (says : Result DebugSays DebugFault) (parts : ImageParts) (v : Verdict) → IsCountsVerdict says parts v → v.status < 2
+counts_low (Err fault) parts v is = subst (λ (w : Verdict). w.status < 2) (sym is) (omega arith)
+counts_low (Ok found) parts v is = subst (λ (w : Verdict). w.status < 2) (sym is.is) (omega arith)
+
+image_low : (read : Result ImageParts ElfFault) (v : Verdict) → IsImageCounts read v → v.status < 2
+image_low (Err fault) v is = subst (λ (w : Verdict). w.status < 2) (sym is) (omega arith)
+image_low (Ok parts) v is = counts_low (debug_says parts) parts v is
+
+pub sample_answered : {F : Type 0} (answer : Answer) (judged : Result Judgement F) (units workers : ℕ) → AnswersJudged answer judged → IfOk judged (λ j. CountsSample j units) → (files : Option Files) (before after : ℕ) → AnswersCommand answer (Some (sample units workers)) files before after
+sample_answered answer (Err e) units workers is says files before after = subst (λ (a : Answer). AnswersCommand a (Some (sample units workers)) files before after) (sym is) refl
+sample_answered answer (Ok j) units workers is says files before after =
+    let low : j.status < 2 = image_low (image (made units)) (judgement_verdict j) says in
+    subst (λ (a : Answer). AnswersCommand a (Some (sample units workers)) files before after) (sym is)
+    (record { low = omega arith; row = λ some. low; told = always (λ f. IsVerdict (Some (sample units workers)) f (judgement_verdict j)) files (λ f. says); kept = says })
+
+pub asks_nothing : (units workers : ℕ) (files : Option Files) (before after : List (List ℕ)) → after ≡ before → Asks (files_of (Some (sample units workers)) files) before after
+asks_nothing units workers files before after same = (0, omega arith, same ∙ sym (append-nil before))

@@ -1,0 +1,163 @@
+//! `sample N`: a dump of a made file, counted.
+ghost use Rattle.std.specs.Prelude.{◌≡◌, ◌≤◌, ◌++◌, length, decimal, IfOk, OnOk};
+ghost use Rattle.debug_read.specs.DebugSays.{IsDebugRead};
+ghost use Rattle.dumpsyms_cmd.specs.Verdict.{LIMIT};
+ghost use Rattle.dumpsyms_cmd.specs.commands.Sample.{is_counted, count_of, counts_line};
+ghost use Rattle.dumpsyms_cmd.specs.internal.Counting.{CountsParts, CountsBytes, CountsSample};
+
+use crate::commands::refuse;
+use crate::dump::assemble;
+use crate::judgement::{Judgement, Message, Output};
+use crate::read_back::read_back;
+use crate::refusals::{debug_line, fault_line};
+use debug_read::{DebugRead, read_debug};
+use elf_sections::{Image, read_image};
+use itoa::Buffer;
+use sample_elf::make;
+use std::alloc::{AllocError, Global};
+use std::thread::Threads;
+use sym_edges::{OutOfMemory, Stop};
+use sym_records::{ByteText, SymFile, SymLine};
+use unit_workers::Gate;
+
+/// The records that are counted.
+#[derive(Clone, Copy, Debug)]
+pub enum Counted {
+    Funcs,
+    Inlines,
+    Lines,
+    Inits,
+}
+
+/// Whether a record is of a kind.
+fn is_counted(kind: Counted, line: &SymLine) -> bool
+    ensures { result ≡ is_counted kind line.now }
+{
+    match (kind, line) {
+        (Counted::Funcs, SymLine::Func { .. }) => true,
+        (Counted::Inlines, SymLine::Inline { .. }) => true,
+        (Counted::Lines, SymLine::Line { .. }) => true,
+        (Counted::Inits, SymLine::Init { .. }) => true,
+        _ => false,
+    }
+}
+
+/// How many records are of a kind.
+#[tactic(auto, using(crate::proofs::SampleLemmas::counted_end))]
+fn count(kind: Counted, lines: &[SymLine]) -> usize
+    ensures { result ≡ count_of kind lines.now }
+{
+    let mut count = 0;
+    'lines: for k in 0..lines.len() {
+        if is_counted(kind, &lines[k]) {
+            count += 1;
+        }
+    }
+    count
+}
+
+/// Adds a word and a number.
+fn add_count(text: &mut Vec<u8>, word: &[u8], count: usize) -> Result<(), AllocError>
+    ensures { OnOk result (text.new.items ≡ text.old.items ++ word.now ++ decimal count) }
+{
+    let mut buffer = Buffer::new();
+    text.extend_from_slice(word)?;
+    text.extend_from_slice(buffer.format(count).as_bytes())
+}
+
+/// The line of counts.
+#[tactic(auto, unfolding(crate::specs::commands::Sample::counts_line))]
+fn counts_line(
+    alloc: Global,
+    units: usize,
+    file: &SymFile,
+    omitted: usize,
+) -> Result<Vec<u8>, AllocError>
+    ensures { IfOk result (λ text. text.items ≡ counts_line units file.now omitted) }
+{
+    let lines = file.as_slice();
+    let mut text = Vec::new(alloc);
+    add_count(&mut text, b"units ", units)?;
+    add_count(&mut text, b" funcs ", count(Counted::Funcs, lines))?;
+    add_count(&mut text, b" inlines ", count(Counted::Inlines, lines))?;
+    add_count(&mut text, b" lines ", count(Counted::Lines, lines))?;
+    add_count(&mut text, b" inits ", count(Counted::Inits, lines))?;
+    add_count(&mut text, b" omitted ", omitted)?;
+    text.push(b'\n')?;
+    Ok(text)
+}
+
+/// The counts of an image without faults after it.
+fn count_records(
+    alloc: Global,
+    image: &Image<'_>,
+    debug: &DebugRead<'_>,
+) -> Result<Judgement, OutOfMemory>
+    requires found { IsDebugRead image.now debug.now }
+    ensures { IfOk result (λ j. CountsParts j image.now) }
+{
+    let dumped = assemble(alloc, image, debug, b"")?;
+    let file = read_back(alloc, dumped.file)?;
+    let units = debug.units.as_slice().len();
+    let text = counts_line(alloc, units, &file, dumped.omitted)?;
+    Ok(Judgement {
+        status: 0,
+        out: Output::Bytes(ByteText::of(text)),
+        err: Message::Fixed(b""),
+    })
+}
+
+/// The counts of an image.
+fn count_image<R: Threads + Sync, G: Gate + Sync>(
+    rt: &R,
+    alloc: Global,
+    image: &Image<'_>,
+    gate: &G,
+    workers: usize,
+) -> Result<Judgement, OutOfMemory>
+    requires workers { (1 ≤ workers) × (workers ≤ 64) }
+    ensures { IfOk result (λ j. CountsParts j image.now) }
+{
+    match read_debug(rt, alloc, image, gate, workers) {
+        Ok(debug) => count_records(alloc, image, &debug),
+        Err(Stop::Fault(fault)) => Ok(refuse(Message::Made(debug_line(alloc, fault)?))),
+        Err(Stop::NoMemory) => Err(OutOfMemory),
+    }
+}
+
+/// The counts of a file's bytes.
+#[tactic(auto, using(crate::proofs::SampleLemmas::parts_counted, crate::proofs::SampleLemmas::fault_counted))]
+fn count_bytes<R: Threads + Sync, G: Gate + Sync>(
+    rt: &R,
+    alloc: Global,
+    bytes: &[u8],
+    gate: &G,
+    workers: usize,
+) -> Result<Judgement, OutOfMemory>
+    requires few { length bytes.now ≤ LIMIT }
+    requires workers { (1 ≤ workers) × (workers ≤ 64) }
+    ensures { IfOk result (λ j. CountsBytes j bytes.now) }
+{
+    match read_image(alloc, bytes) {
+        Ok(image) => count_image(rt, alloc, &image, gate, workers),
+        Err(Stop::Fault(fault)) => Ok(refuse(Message::Made(fault_line(alloc, fault)?))),
+        Err(Stop::NoMemory) => Err(OutOfMemory),
+    }
+}
+
+/// The counts of a made file of so many units.
+#[tactic(auto, using(crate::proofs::SampleLemmas::sample_counted))]
+pub fn judge_sample<R: Threads + Sync, G: Gate + Sync>(
+    rt: &R,
+    alloc: Global,
+    units: u32,
+    gate: &G,
+    workers: usize,
+) -> Result<Judgement, OutOfMemory>
+    requires few { units ≤ 20000 }
+    requires workers { (1 ≤ workers) × (workers ≤ 64) }
+    ensures { IfOk result (λ j. CountsSample j units) }
+{
+    let file = make(alloc, units)?;
+    count_bytes(rt, alloc, file.as_slice(), gate, workers)
+}
