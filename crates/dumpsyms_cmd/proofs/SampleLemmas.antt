@@ -35,49 +35,6 @@ use Rattle.dumpsyms_cmd.specs.declared.judgement.Judgement.{Judgement}
 use Rattle.dumpsyms_cmd.specs.declared.judgement.Answer.{Answer}
 use Rattle.dumpsyms_cmd.specs.declared.judgement.Answer.TheVariants.{Judged, NoMemory}
 
--- records of a kind, up to a place
-filter_more : (p : SymLine → Bool) (xs ys : List SymLine) → length (filter p (xs ++ ys)) ≡ length (filter p xs) + length (filter p ys)
-filter_more p [] ys = omega arith
-filter_more p (x ∷ xs) ys = go (p x)
-  where
-    go : (b : Bool) → length (cond b (x ∷ filter p (xs ++ ys)) (filter p (xs ++ ys))) ≡ length (cond b (x ∷ filter p xs) (filter p xs)) + length (filter p ys)
-    go true = omega (arith, filter_more p xs ys)
-    go false = omega (arith, filter_more p xs ys)
-
-filter_few : (p : SymLine → Bool) (xs : List SymLine) → length (filter p xs) ≤ length xs
-filter_few p [] = omega arith
-filter_few p (x ∷ xs) = go (p x)
-  where
-    go : (b : Bool) → length (cond b (x ∷ filter p xs) (filter p xs)) ≤ length (x ∷ xs)
-    go true = omega (arith, filter_few p xs)
-    go false = omega (arith, filter_few p xs)
-
-one_counted : (kind : Counted) (x : SymLine) (b : Bool) → b ≡ is_counted kind x → count_of kind (x ∷ []) ≡ cond b 1 0
-unfolding count_of
-one_counted kind x b is = go b (is_counted kind x) is
-  where
-    go : (b c : Bool) → b ≡ c → length (cond c (x ∷ []) []) ≡ cond b 1 0
-    go true true same = refl
-    go true false same = cc
-    go false true same = cc
-    go false false same = refl
-
-pub count_few : (kind : Counted) (lines : List SymLine) (k : ℕ) → count_of kind (take k lines) ≤ length lines
-unfolding count_of
-count_few kind lines k = omega (arith, filter_few (is_counted kind) (take k lines), length-take-le k lines)
-
-pub count_more : (kind : Counted) (lines : List SymLine) (k count : ℕ) (x : SymLine) (b : Bool) → k < length lines → x ≡ get_or lines k x → b ≡ is_counted kind x → count ≡ count_of kind (take k lines) → count + cond b 1 0 ≡ count_of kind (take (k + 1) lines)
-unfolding count_of
-count_more kind lines k count x b inside there is before =
-    let more : take (k + 1) lines ≡ take k lines ++ x ∷ [] = take_more lines k x inside ∙ ap (λ y. take k lines ++ y ∷ []) (sym there) in
-    let both = filter_more (is_counted kind) (take k lines) (x ∷ []) in
-    let one : length (filter (is_counted kind) (x ∷ [])) ≡ cond b 1 0 = one_counted kind x b is in
-    let all : length (filter (is_counted kind) (take (k + 1) lines)) ≡ length (filter (is_counted kind) (take k lines ++ x ∷ [])) = ap (λ l. length (filter (is_counted kind) l)) more in
-    omega arith
-
-pub counted_end : (kind : Counted) (lines : List SymLine) (k count : ℕ) → length lines ≤ k → count ≡ count_of kind (take k lines) → count ≡ count_of kind lines
-counted_end kind lines k count past is = is ∙ ap (count_of kind) (take_all k lines past)
-
 -- a reader that was fed all of a text that reads as records answers these
 ok_same : {F : Type 0} (x y : List SymLine) (why : Result (List SymLine) F) → why ≡ Ok x → why ≡ Ok y → x ≡ y
 ok_same x y why one other = (let e : ◌≡◌ {A = Result (List SymLine) _} (Ok x) (Ok y) = sym one ∙ other in cc)
@@ -87,7 +44,7 @@ reads_back start fed text lines file starts feeds reads ends =
     ok_same file lines (answer fed []) ends (feeds [] ∙ ap (answer start) (append-nil text) ∙ starts text ∙ ap lifted reads)
 
 -- the counts of what was assembled
-given : ℕ → List ℕ → List ℕ → Verdict
+abbrev pub given : ℕ → List ℕ → List ℕ → Verdict
 given status out err = record { status = status; out = out; err = err }
 
 match_length : {A B : Type 0} (R : A → B → Type 0) (xs : List A) (ys : List B) → Match R xs ys → length ys ≡ length xs
@@ -99,15 +56,15 @@ match_length R (x ∷ xs) (y ∷ ys) same = omega (arith, match_length R xs ys s
 said : {x y : DebugSays} → ◌≡◌ {A = Result DebugSays DebugFault} (Ok x) (Ok y) → x ≡ y
 said is = cc
 
-pub records_counted : (j : Judgement) (parts : ImageParts) (read : DebugRead) (lines : List SymLine) (err text : List ℕ) (left units : ℕ) → IsDebugRead parts read → Assembles parts [] lines err left → units ≡ length read.units → text ≡ counts_line units lines left → judgement_verdict j ≡ record { status = 0; out = text; err = [] } → CountsParts j parts
-records_counted j parts read lines err text left units says dumps number line is =
+pub records_counted : (v : Verdict) (parts : ImageParts) (read : DebugRead) (lines : List SymLine) (err text : List ℕ) (left units : ℕ) → IsDebugRead parts read → Assembles parts [] lines err left → units ≡ length read.units → text ≡ counts_line units lines left → v ≡ given 0 text [] → IsCountsVerdict (debug_says parts) parts v
+records_counted v parts read lines err text left units says dumps number line is =
     let k = kept parts read says in
     let d = dumps.dumps in
     let same : k.says ≡ d.found = said (sym k.says_is ∙ d.found_is) in
     let many : units ≡ length d.found.units = number ∙ match_length _ k.says.units read.units k.units ∙ ap (λ (f : DebugSays). length f.units) same in
     let gone : left ≡ length (omitted parts.code d.found.first d.found.second) = dumps.counted d.found d.found_is in
     let V : List ℕ → Verdict = λ t. record { status = 0; out = t; err = [] } in
-    subst (λ (r : Result DebugSays DebugFault). IsCountsVerdict r parts (judgement_verdict j)) (sym d.found_is)
+    subst (λ (r : Result DebugSays DebugFault). IsCountsVerdict r parts v) (sym d.found_is)
     (record { lines = lines; canon = d.canon; is = is ∙ ap V (line ∙ ap (λ n. counts_line n lines left) many ∙ ap (counts_line (length d.found.units) lines) gone) })
 
 -- a fault after the image

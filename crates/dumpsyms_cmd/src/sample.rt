@@ -43,17 +43,11 @@ fn is_counted(kind: Counted, line: &SymLine) -> bool
 }
 
 /// How many records are of a kind.
-#[tactic(auto, using(crate::proofs::SampleLemmas::counted_end))]
+#[tactic(auto, unfolding(crate::specs::commands::Sample::count_of))]
 fn count(kind: Counted, lines: &[SymLine]) -> usize
     ensures { result ≡ count_of kind lines.now }
 {
-    let mut count = 0;
-    'lines: for k in 0..lines.len() {
-        if is_counted(kind, &lines[k]) {
-            count += 1;
-        }
-    }
-    count
+    lines.iter().filter(|line| is_counted(kind, line)).count()
 }
 
 /// Adds a word and a number.
