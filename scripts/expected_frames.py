@@ -11,7 +11,7 @@ each address where readelf or the text has a row, the rules of the first record 
 readelf's row. And the spelling: the records are, byte for byte, those that the rows lead to.
 
 readelf shows no row where a rule is overwritten at the same address, and 32 bits of an offset: a file where that matters counts
-as different.
+as different. Where a row has an expression it shows only that; what it is stands in the instructions (expected_expressions.py).
 """
 
 import bisect
@@ -21,6 +21,7 @@ import re
 import sys
 
 sys.dont_write_bytecode = True
+from expected_expressions import Expressions  # noqa: E402
 from read_elf import read_base, read_code, read_sections, readelf  # noqa: E402
 
 NAMES = [b"rax", b"rdx", b"rcx", b"rbx", b"rsi", b"rdi", b"rbp", b"rsp"] + [b"r%d" % k for k in range(8, 16)]
@@ -51,6 +52,7 @@ class Entry:
         self.section, self.place, self.cie, self.start, self.end = section, place, cie, start, end
         self.column, self.augmentation = (cie.column, cie.augmentation) if cie else (RETURN, b"")
         self.own_rows, self.is_mismatched = [], False
+        self.expressions, self.states = [], None
 
     def rows(self):
         """Of an FDE without instructions readelf shows no row: the CIE's row holds in all of it."""
@@ -61,11 +63,11 @@ class Entry:
     def all_rows(self):
         return self.rows() + (self.cie.own_rows if self.cie else [])
 
-    def has_expression(self):
-        return any(cfa is None or ("expression", 0) in rules.values() for _, cfa, rules in self.all_rows())
+    def has_unsaid_expression(self):
+        return any(expression.words() is None for expression in self.expressions)
 
     def has_other_register(self):
-        return any((cfa and cfa[0] not in COLUMNS) or rules.get(RETURN) == SAME
+        return any((cfa and cfa[0] not in COLUMNS and cfa[0] != "expression") or rules.get(RETURN) == SAME
                    or any(rule and rule[0] == "other" for rule in rules.values()) for _, cfa, rules in self.all_rows())
 
     def lacks_cfa(self):
@@ -138,22 +140,30 @@ def read_entries(path):
             columns = [RETURN if name == b"ra" else COLUMNS.get(name) for name in line.split()[2:]]
         elif entry and line.startswith(b"Mismatched DW_CFA_restore_state"):
             entry.is_mismatched = True
-    return of_section["eh_frame"] + of_section["debug_frame"]
+    entries = of_section["eh_frame"] + of_section["debug_frame"]
+    put_expressions(path, entries)
+    return entries
 
 
-def with_expressions(path):
-    """The places of the CIEs and FDEs of each section that have an instruction with an expression, overwritten ones too."""
-    section, place, found = None, None, set()
-    for line in readelf(["--debug-dump=no-follow-links", "--debug-dump=frames"], path).splitlines():
-        title = re.match(rb"^Contents of the \.(eh_frame|debug_frame) section", line)
-        head = re.match(rb"^([0-9a-f]+) [0-9a-f]+ [0-9a-f]+ (?:CIE|FDE)", line)
-        if title:
-            section = title.group(1).decode()
-        elif head:
-            place = int(head.group(1), 16)
-        elif re.match(rb"^  DW_CFA_(def_cfa_expression|expression|val_expression)\b", line):
-            found.add((section, place))
-    return found
+def put_expressions(path, entries):
+    """The rows have the expressions that stand in the instructions in place of readelf's words for them."""
+    expressions = Expressions(path)
+    if not expressions.some:
+        return
+    for entry in entries:
+        if not entry.cie:
+            continue
+        states, entry.expressions, mismatched = expressions.of((entry.section, entry.place), entry.start)
+        if not entry.expressions:
+            continue
+        entry.is_mismatched = entry.is_mismatched or mismatched
+        rows = []
+        for address, cfa, rules in entry.rows():
+            state = expressions.at(states, address)
+            rules = {column: rule for column, rule in rules.items() if not (rule and rule[0] == "expression")}
+            rules.update({column: ("expression", expression) for column, expression in state.columns.items()})
+            rows.append((address, ("expression", state.cfa) if state.cfa else cfa, rules))
+        entry.own_rows = rows
 
 
 # ---- which entries are left out
@@ -193,7 +203,7 @@ def reasons_shown(entry, spans, written):
         yield b"augmentation"
     if entry.column != RETURN:
         yield b"column"
-    if entry.has_expression():
+    if entry.has_unsaid_expression():
         yield b"expression"
     if entry.has_other_register():
         yield b"register"
@@ -207,12 +217,7 @@ def reasons_shown(entry, spans, written):
         yield b"overlap"
 
 
-def has_hidden_expression(entry, path):
-    cie = (entry.section, entry.cie.place if entry.cie else None)
-    return bool({(entry.section, entry.place), cie} & with_expressions(path))
-
-
-def check_reason(entry, reason, shown, path):
+def check_reason(entry, reason, shown):
     """That an entry is left out for the first reason shown or for one before it, and for none that is not shown."""
     if reason is None:
         if shown:
@@ -220,7 +225,7 @@ def check_reason(entry, reason, shown, path):
         return
     if reason not in REASONS:
         raise Differs("%s is omitted for <%s>" % (entry.label(), reason.decode()))
-    if reason in SHOWN and reason not in shown and not (reason == b"expression" and has_hidden_expression(entry, path)):
+    if reason in SHOWN and reason not in shown:
         raise Differs("%s is omitted for <%s>, which readelf does not show" % (entry.label(), reason.decode()))
     if shown and REASONS.index(reason) > REASONS.index(shown[0]) and not {reason, shown[0]} <= OF_AN_INSTRUCTION:
         raise Differs("%s is to be omitted for <%s>, and is for <%s>" % (entry.label(), shown[0].decode(), reason.decode()))
@@ -237,7 +242,7 @@ def choose_written(path, entries, omitted, allowed=frozenset(REASONS)):
     spans, written, chosen = read_code(read_sections(path), read_base(path)), Written(), []
     for entry in entries:
         reason = omitted.get((entry.section, entry.place))
-        check_reason(entry, reason, list(reasons_shown(entry, spans, written)), path)
+        check_reason(entry, reason, list(reasons_shown(entry, spans, written)))
         if reason and reason not in allowed:
             raise Differs("%s is omitted for <%s>" % (entry.label(), reason.decode()))
         if reason is None:
@@ -255,12 +260,22 @@ def rows_within(entry):
     return sorted(rows.items())
 
 
+def said(expression):
+    return " ".join(expression.words()).encode()
+
+
+def spell_cfa(cfa):
+    return said(cfa[1]) if cfa[0] == "expression" else b"$%s %d +" % cfa
+
+
 @functools.lru_cache(None)
 def spell(column, rule):
     name = b".ra" if column == RETURN else b"$" + NAMES[column]
     if rule is None:
         return name + b": " + (b".cfa" if column == STACK_POINTER else name)
     kind, value = rule
+    if kind == "expression":
+        return name + b": " + said(value)
     if kind == "register":
         return name + b": $" + value
     if kind == "same":
@@ -271,7 +286,7 @@ def spell(column, rule):
 def spell_rules(cfa, rules):
     """Rules in their order: the CFA where it is given, the return address, then by register."""
     order = sorted(rules, key=lambda column: (column != RETURN, column))
-    return b" ".join(([b".cfa: $%s %d +" % cfa] if cfa else []) + [spell(column, rules[column]) for column in order])
+    return b" ".join(([b".cfa: " + spell_cfa(cfa)] if cfa else []) + [spell(column, rules[column]) for column in order])
 
 
 def lines_of(entry, rows, base):
@@ -381,9 +396,11 @@ def compare_rules(place, row, rules):
     if rules is None:
         raise Differs("%s: no INIT covers it" % place)
     cfa, columns = row
-    wanted = {b".ra" if column == RETURN else b"$" + NAMES[column]: rule for column, rule in columns.items()}
+    wanted = {target: meaning(target, said(rule[1])) if rule[0] == "expression" else rule
+              for target, rule in ((b".ra" if column == RETURN else b"$" + NAMES[column], rule) for column, rule in columns.items())}
+    wanted = {target: rule for target, rule in wanted.items() if rule is not None}
     if cfa is not None:
-        wanted[b".cfa"] = ("cfa", b"$%s %d +" % cfa)
+        wanted[b".cfa"] = ("cfa", spell_cfa(cfa))
     found = {target: meaning(target, tokens) for target, tokens in rules.items() if target != b".cfa"}
     found = {target: rule for target, rule in found.items() if rule is not None}
     if b".cfa" in rules:

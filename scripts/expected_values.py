@@ -16,6 +16,7 @@ import tempfile
 sys.dont_write_bytecode = True
 from expected_frames import (KEPT, NAMES, RETURN, SAME, STACK_POINTER, choose_written, read_entries, read_omitted,  # noqa: E402
                              rows_within)
+from expected_expressions import Failed  # noqa: E402
 from read_elf import read_base  # noqa: E402
 
 WORD = 1 << 64
@@ -26,6 +27,8 @@ VALUES = {column: 0x1111111111111111 * (column + 1) % WORD for column in range(1
 VALUES[7] = STACK + 0x1000
 VALUES[6] = STACK + 0x1800
 VALUES[10] = STACK + 0x2000
+# In a procedure linkage table the CFA rests on the low four bits.
+RIP = 0x40100B
 
 
 def memory():
@@ -49,15 +52,37 @@ def value_of(stack, rule, column, cfa):
     if rule == SAME:
         return "%x" % VALUES[column]
     kind, value = rule
+    if kind == "expression":
+        return expression_value(stack, value, cfa)
     if kind == "register":
         return "%x" % VALUES[NAMES.index(value)]
     address = (cfa + value) % WORD
     return word_at(stack, address) if kind == "offset" else "%x" % address
 
 
+def expression_value(stack, expression, cfa):
+    """The line of an expression: its value, or the first failure."""
+    def word(address):
+        text = word_at(stack, address)
+        if text.startswith("failed"):
+            raise Failed(text)
+        return int(text, 16)
+
+    try:
+        return "%x" % expression.value(lambda register: RIP if register == 16 else VALUES[register], word, cfa)
+    except Failed as failed:
+        return str(failed)
+
+
 def lines_of_row(stack, cfa, rules):
-    register, offset = cfa
-    at = (VALUES[NAMES.index(register)] + offset) % WORD
+    if cfa[0] == "expression":
+        line = expression_value(stack, cfa[1], None)
+        at = line if line.startswith("failed") else int(line, 16)
+    else:
+        register, offset = cfa
+        at = (VALUES[NAMES.index(register)] + offset) % WORD
+    if isinstance(at, str):
+        return ["cfa " + at]
     lines = ["cfa %x" % at, "ra %s" % value_of(stack, rules.get(RETURN), RETURN, at)]
     return lines + ["%s %s" % (NAMES[column].decode(), value_of(stack, rules.get(column), column, at)) for column in range(16)]
 
@@ -86,12 +111,15 @@ def main():
         with open(state, "w") as file:
             for column, value in VALUES.items():
                 file.write("REG %s %x\n" % (NAMES[column].decode(), value))
+            file.write("REG rip %x\n" % RIP)
             file.write("MEM %x %s\n" % (STACK, stack.hex()))
         step = max(len(asked) // count, 1)
         for turn, (first, last, (cfa, rules)) in enumerate(asked[::step][:count]):
             address = last if turn % 2 else first
             wanted = (0, "".join(line + "\n" for line in lines_of_row(stack, cfa, rules)), "")
             found = answer(program, text, address - base, state)
+            if wanted[1].startswith("cfa failed"):
+                found = (found[0], found[1].splitlines()[0] + "\n", found[2])
             if found != wanted:
                 different = [pair for pair in zip(wanted[1].splitlines(), found[1].splitlines()) if pair[0] != pair[1]][:1]
                 print("at %x: expected %s, found status %d, %s, err <%s>" % (

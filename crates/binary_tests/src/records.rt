@@ -60,6 +60,42 @@ fn an_entry_has_many_records(rt: HostRuntime) -> Result<(), Fail> {
     Ok(())
 }
 
+/// The targets of rules in their order.
+const TARGETS: [&str; 18] = [
+    ".cfa", ".ra", "$rax", "$rdx", "$rcx", "$rbx", "$rsi", "$rdi", "$rbp", "$rsp", "$r8", "$r9",
+    "$r10", "$r11", "$r12", "$r13", "$r14", "$r15",
+];
+
+#[test]
+fn an_entry_has_long_rules(rt: HostRuntime) -> Result<(), Fail> {
+    let alloc = rt.alloc();
+    // breg7 8, then 510 times lit1 and plus: 1,023 words.
+    let mut block = Vec::from_slice(alloc, b"\xfe\x07\x77\x08")?;
+    let mut words = Vec::from_slice(alloc, b" $rsp 8 +")?;
+    for _ in 0..510 {
+        block.extend_from_slice(b"\x31\x22")?;
+        words.extend_from_slice(b" 1 +")?;
+    }
+    let mut own = Vec::from_slice(alloc, b"\x0f")?;
+    own.extend_from_slice(&block)?;
+    for column in 0..17u8 {
+        own.extend_from_slice(&[0x10, column])?;
+        own.extend_from_slice(&block)?;
+    }
+    let mut wanted = Vec::from_slice(alloc, b"STACK CFI INIT 1000 10")?;
+    for target in TARGETS {
+        let fetch = if target == ".cfa" { "" } else { " ^" };
+        wanted.extend_from_slice(format!(in alloc; " {target}:")?.as_bytes())?;
+        wanted.extend_from_slice(&words)?;
+        wanted.extend_from_slice(fetch.as_bytes())?;
+    }
+    wanted.push(b'\n')?;
+    let mut bytes = Vec::from_slice(alloc, CIE)?;
+    put_fde(&mut bytes, 0x1000, 16, &own)?;
+    same(&rt, "long rules", &translated(alloc, &bytes)?, &wanted);
+    Ok(())
+}
+
 #[test]
 #[tactic(auto, using(crate::proofs::StartLemmas::from_zero))]
 fn entries_have_their_records_or_are_left_out(rt: HostRuntime) -> Result<(), Fail> {

@@ -1,7 +1,7 @@
 //! Entries with many rows, and with many rows remembered (`frame_rows`).
 use crate::comparing::same;
 use frame_entries::Fde;
-use frame_rows::{CieState, Row, Stepper, inspect, rows};
+use frame_rows::{CfaRule, CieState, Row, Rule, Stepper, inspect, rows};
 use std::alloc::Global;
 use std::test::Fail;
 
@@ -21,9 +21,17 @@ fn called(size: u64, instructions: &[u8]) -> Fde<'_> {
     }
 }
 
+// A rule with the place of an expression is as small as one with an offset.
+const _: () = prove!(size_of::<Rule>() == 16);
+
+const _: () = prove!(size_of::<Row>() == 296);
+
 /// An address and the offset of the CFA there.
 fn see(address: u64, row: &Row) -> (u64, i64) {
-    (address, row.cfa.map_or(0, |cfa| cfa.offset))
+    match row.cfa {
+        Some(CfaRule::Base { offset, .. }) => (address, offset),
+        _ => (address, 0),
+    }
 }
 
 /// The rows that a stepper goes over.

@@ -5,10 +5,10 @@ use Rattle.frame_rows.specs.declared.row.Rule.{Rule}
 use Rattle.frame_rows.specs.declared.row.Rule.TheVariants as rule
 use Rattle.frame_rows.specs.declared.row.Row.{Row}
 use Rattle.frame_rows.specs.declared.columns.Columns.{Columns}
-use Rattle.frame_rows.specs.declared.machine.CieContext.{CieContext}
+use Rattle.frame_rows.specs.Context.{Context}
 use Rattle.frame_rows.specs.declared.instruction.Instruction.{Instruction}
 use Rattle.frame_rows.specs.Machine.{Machine}
-use Rattle.frame_rows.specs.Steps.{Effect, MovesTo, MovesBy, DefinesCfa, ChangesRegister, ChangesOffset, PutsRule, Remembers, TakesBack, DoesNothing, effect, done, stepped, put_rule, put_cfa, put_register, put_offset}
+use Rattle.frame_rows.specs.Steps.{Effect, MovesTo, MovesBy, DefinesCfa, DefinesCfaExpr, ChangesRegister, ChangesOffset, PutsRule, Remembers, TakesBack, DoesNothing, effect, done, stepped, put_rule, put_cfa, put_cfa_expr, put_register, put_offset}
 use Rattle.frame_rows.specs.Columns.{StayOutside}
 use Rattle.frame_rows.specs.internal.Touched.{no_columns, one_column, touched}
 
@@ -35,10 +35,11 @@ one_stays column new row =
     ]
 
 effect_stays : (e : Effect) (m : Machine) → StayOutside (touched e) m.row (done e m).row
-unfolding put_cfa put_register put_offset
+unfolding put_cfa put_cfa_expr put_register put_offset
 effect_stays (MovesTo address) m = alike no_columns m.row m.row refl
 effect_stays (MovesBy distance) m = alike no_columns m.row m.row refl
 effect_stays (DefinesCfa register offset) m = alike no_columns m.row (put_cfa register offset m.row) refl
+effect_stays (DefinesCfaExpr place why) m = alike no_columns m.row (put_cfa_expr place m.row) refl
 effect_stays (ChangesRegister register) m = alike no_columns m.row (put_register register m.row) refl
 effect_stays (ChangesOffset offset) m = alike no_columns m.row (put_offset offset m.row) refl
 effect_stays (PutsRule column new why) m = one_stays column new m.row
@@ -46,7 +47,7 @@ effect_stays Remembers m = alike no_columns m.row m.row refl
 effect_stays TakesBack m = record { below = λ k low. absurd (omega arith); above = λ k past low. absurd (omega arith) }
 effect_stays DoesNothing m = alike no_columns m.row m.row refl
 
-touched_stay : (s : CieContext) (i : Instruction) (m : Machine) → StayOutside (touched (effect s i)) m.row (stepped s i m).row
+touched_stay : (s : Context) (i : Instruction) (m : Machine) → StayOutside (touched (effect s i)) m.row (stepped s i m).row
 unfolding stepped
 touched_stay s i m = effect_stays (effect s i) m
 
@@ -57,7 +58,7 @@ stay_both first second a b c one two = record {
   above = λ k past low. one.above k (omega arith) low ∙ two.above k (omega arith) low;
 }
 
-pub stay_on : (begin : Row) (m n : Machine) (s : CieContext) (i : Instruction) (columns more other : Columns) → StayOutside columns begin m.row → other ≡ touched (effect s i) → n ≡ stepped s i m → more ≡ record { first = min columns.first other.first; end = max columns.end other.end } → StayOutside more begin n.row
+pub stay_on : (begin : Row) (m n : Machine) (s : Context) (i : Instruction) (columns more other : Columns) → StayOutside columns begin m.row → other ≡ touched (effect s i) → n ≡ stepped s i m → more ≡ record { first = min columns.first other.first; end = max columns.end other.end } → StayOutside more begin n.row
 stay_on begin m n s i columns more other so which is both =
     let P : Columns → Type 0 = λ c. StayOutside c begin n.row in
     let Q : Row → Type 0 = λ r. StayOutside (record { first = min columns.first (touched (effect s i)).first; end = max columns.end (touched (effect s i)).end }) begin r in

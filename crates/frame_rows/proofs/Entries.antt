@@ -1,12 +1,14 @@
 -- Entries and rows for worked rows.
-use Rattle.std.proofs.Common.{ℕ, ◌-◌, ℤ, negsuc, List, [], ◌∷◌, map, replicate, Option, None, Some, Result, Ok, Err}
+use Rattle.std.proofs.Common.{ℕ, ◌-◌, ℤ, negsuc, true, false, List, [], ◌∷◌, map, replicate, Option, None, Some, Result, Ok, Err}
 use Prim.Native.String.{String}
 use Rattle.std.specs.Prelude.{⊤, slice_set}
 use Rattle.sym_edges.specs.declared.reason.Reason.{Reason}
 use Rattle.frame_entries.specs.FdeFields.{FdeFields}
 use Rattle.frame_rows.specs.declared.row.Rule.{Rule}
 use Rattle.frame_rows.specs.declared.row.Rule.TheVariants as rule
+use Rattle.frame_rows.specs.declared.row.CfaRule.TheVariants as cfa
 use Rattle.frame_rows.specs.declared.row.Row.{Row}
+use Rattle.expr_steps.specs.declared.place.Place.{Place}
 use Rattle.frame_rows.specs.Rows.{stops, row_at, rows_fault}
 use Rattle.sym_edges.proofs.Hex.{hex}
 use Rattle.frame_rows.proofs.Computing.{frame_rows_computes}
@@ -21,7 +23,18 @@ put (given ∷ rules) = slice_set (put rules) given.0 given.1
 
 unfoldable pub row : ℕ → ℤ → List (ℕ × Rule) → Row
 unfolding put
-row register offset rules = record { cfa = Some (record { register = register; offset = offset }); rules = put rules }
+row register offset rules = record { cfa = Some (cfa.Base register offset); rules = put rules }
+
+-- a row with a CFA rule of an expression; and where an expression stands: in the entry's own instructions, and in those of its CIE
+unfoldable pub row_by : Place → List (ℕ × Rule) → Row
+unfolding put
+row_by place rules = record { cfa = Some (cfa.Expr place); rules = put rules }
+
+abbrev pub in_own : ℕ → ℕ → Place
+in_own start len = record { own = true; start = start; len = len }
+
+abbrev pub in_cie : ℕ → ℕ → Place
+in_cie start len = record { own = false; start = start; len = len }
 
 -- an entry with data alignment factor -8, whose pointers have four bytes and are relative to their place; its own instructions
 -- lie at 2029
@@ -58,5 +71,5 @@ unfoldable pub rows : FdeFields → Result (List (ℕ × Row)) Reason
 rows e = unless_fault (rows_fault e) (map {B = ℕ × Row} (λ a. (a, row_at e a)) (stops e))
 
 unfoldable pub entries : ⊤
-unfolding frame_rows_computes put row factored rows
+unfolding frame_rows_computes put row row_by factored rows
 entries = tt

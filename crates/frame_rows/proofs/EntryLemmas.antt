@@ -47,7 +47,7 @@ unfolding rows_fault
 rows_lack e rows b w some is =
     ap (λ o. option_or o (unless (not (lacks_cfa e)) reason.Cfa)) (fine e rows w) ∙ ap (λ t. unless (not t) reason.Cfa) (some_lacks e rows w.are (sym is ∙ some))
 
-pub rows_sound : (e : FdeFields) (rows : List RowAt) → Walked e rows → (a : ℕ) → IsSound (row_at e a)
+pub rows_sound : (e : FdeFields) (rows : List RowAt) → Walked e rows → (a : ℕ) → IsSound e (row_at e a)
 rows_sound e rows w a = entry_sound e a (fine e rows w)
 
 -- an instruction of the CIE, or of the entry, is bad

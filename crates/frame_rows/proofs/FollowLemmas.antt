@@ -6,14 +6,15 @@ use Rattle.sym_edges.specs.Results.{◌>>=◌}
 use Rattle.leb_cursor.specs.declared.fault.CursorFault.{CursorFault}
 use Rattle.leb_cursor.specs.Ahead.{Ahead}
 use Rattle.leb_cursor.specs.Passes.{Passes}
-use Rattle.leb_cursor.specs.Readings.{fixed_at, uleb_at, sleb_at}
-use Rattle.leb_cursor.proofs.PassLemmas.{fixed_passes, uleb_passes, sleb_passes, passes_then}
+use Rattle.leb_cursor.specs.Readings.{fixed_at, uleb_at, sleb_at, take_at}
+use Rattle.leb_cursor.proofs.PassLemmas.{fixed_passes, take_passes, uleb_passes, sleb_passes, passes_then}
 use Rattle.frame_entries.specs.declared.pointer.Format.{Format}
 use Rattle.frame_entries.specs.declared.pointer.Format.TheVariants.{U64, Uleb, U16, U32, Sleb, I16, I32}
 use Rattle.frame_entries.specs.Pointers.{format_of, number_at, pointer_at}
 use Rattle.frame_entries.specs.FrameEntries.{address_at}
+use Rattle.frame_rows.specs.declared.instruction.Block.{Block}
 use Rattle.frame_rows.specs.declared.instruction.Instruction.{Instruction}
-use Rattle.frame_rows.specs.Instructions.{Item, or_instruction, one, two, extended_at, behind_opcode, instruction_at, onto_later, listed_in, listed_at, listed_by}
+use Rattle.frame_rows.specs.Instructions.{Item, or_instruction, one, two, block_at, with_block, column_with_block, extended_at, behind_opcode, instruction_at, onto_later, listed_in, listed_at, listed_by}
 
 -- how far a reading goes
 any : {A E : Type 0} (reading : Result (A × Ahead) E) (least : ℕ) (c : Ahead) → Passes least c reading → Passes 0 c reading
@@ -64,6 +65,19 @@ two_passes first second make c goes further =
     (or_passes (first c) 0 c (goes c))
     (λ x. made_passes (λ y. make x.0 y.0) (or_instruction (second x.1)) x.1 (or_passes (second x.1) 0 x.1 (further x.1)))
 
+block_passes : (c : Ahead) → Passes 0 c (block_at c)
+unfolding block_at
+block_passes c =
+    passes_then (or_instruction (uleb_at c)) _ 0 0 c (or_passes (uleb_at c) 0 c (uleb_any c))
+    (λ len. made_passes (λ run. (let b : Block = record { start = len.1.at; len = len.0 } in b)) (or_instruction (take_at len.0 len.1)) len.1 (or_passes (take_at len.0 len.1) 0 len.1 (any (take_at len.0 len.1) len.0 len.1 (take_passes len.0 len.1))))
+
+with_block_passes : (make : Block → Instruction) (c : Ahead) → Passes 0 c (with_block make c)
+with_block_passes make c = made_passes (λ x. make x.0) (block_at c) c (block_passes c)
+
+column_with_block_passes : (make : ℕ → Block → Instruction) (c : Ahead) → Passes 0 c (column_with_block make c)
+column_with_block_passes make c =
+    passes_then (or_instruction (uleb_at c)) (λ column. with_block (make column.0) column.1) 0 0 c (or_passes (uleb_at c) 0 c (uleb_any c)) (λ column. with_block_passes (make column.0) column.1)
+
 extended_passes : (encoding base opcode : ℕ) (c : Ahead) → Passes 0 c (extended_at encoding base opcode c)
 unfolding extended_at
 extended_passes encoding base opcode c =
@@ -82,14 +96,14 @@ extended_passes encoding base opcode c =
     (either (nat_eq opcode 0x0c) _ _ c (two_passes uleb_at uleb_at _ c uleb_any uleb_any)
     (either (nat_eq opcode 0x0d) _ _ c (one_passes uleb_at _ c (uleb_any c))
     (either (nat_eq opcode 0x0e) _ _ c (one_passes uleb_at _ c (uleb_any c))
-    (either (nat_eq opcode 0x0f) _ _ c tt
-    (either (nat_eq opcode 0x10) _ _ c tt
+    (either (nat_eq opcode 0x0f) _ _ c (with_block_passes _ c)
+    (either (nat_eq opcode 0x10) _ _ c (column_with_block_passes _ c)
     (either (nat_eq opcode 0x11) _ _ c (two_passes uleb_at sleb_at _ c uleb_any sleb_any)
     (either (nat_eq opcode 0x12) _ _ c (two_passes uleb_at sleb_at _ c uleb_any sleb_any)
     (either (nat_eq opcode 0x13) _ _ c (one_passes sleb_at _ c (sleb_any c))
     (either (nat_eq opcode 0x14) _ _ c (two_passes uleb_at uleb_at _ c uleb_any uleb_any)
     (either (nat_eq opcode 0x15) _ _ c (two_passes uleb_at sleb_at _ c uleb_any sleb_any)
-    (either (nat_eq opcode 0x16) _ _ c tt
+    (either (nat_eq opcode 0x16) _ _ c (column_with_block_passes _ c)
     (either (nat_eq opcode 0x2e) _ _ c (one_passes uleb_at _ c (uleb_any c))
     tt)))))))))))))))))))))))
 

@@ -2,7 +2,7 @@
 use Rattle.std.proofs.Common.{◌≡◌, ◌≢◌, ℕ, ◌==◌, true, false, List, [], ◌∷◌, Some, None, refl, ap, arith}
 use Rattle.std.proofs.lemmas.Bool.Decides.{nat_tests}
 use Rattle.sym_edges.specs.declared.reason.Reason.{Reason}
-use Rattle.frame_rows.specs.declared.machine.CieContext.{CieContext}
+use Rattle.frame_rows.specs.Context.{Context}
 use Rattle.frame_rows.specs.Instructions.{Item}
 use Rattle.frame_rows.specs.Machine.{Machine}
 use Rattle.std.specs.Option.{option_or}
@@ -16,22 +16,22 @@ some_left n is = grind (arith, nat_tests)
 pub none_left : (n : ℕ) → true ≡ (n == 0) → n ≡ 0
 none_left n is = grind (arith, nat_tests)
 
-pub fault_none : (s : CieContext) (m : Machine) → first_fault s [] m ≡ None
+pub fault_none : (s : Context) (m : Machine) → first_fault s [] m ≡ None
 unfolding first_fault
 fault_none s m = refl
 
-pub fault_more : (s : CieContext) (i : Item) (items : List Item) (m : Machine) → item_fault s i m ≡ None → first_fault s (i ∷ items) m ≡ first_fault s items (item_stepped s i m)
+pub fault_more : (s : Context) (i : Item) (items : List Item) (m : Machine) → item_fault s i m ≡ None → first_fault s (i ∷ items) m ≡ first_fault s items (item_stepped s i m)
 unfolding first_fault
 fault_more s i items m good = ap (λ o. option_or o (first_fault s items (item_stepped s i m))) good
 
-pub fault_here : (s : CieContext) (i : Item) (items : List Item) (m : Machine) (why : Reason) → item_fault s i m ≡ Some why → first_fault s (i ∷ items) m ≡ Some why
+pub fault_here : (s : Context) (i : Item) (items : List Item) (m : Machine) (why : Reason) → item_fault s i m ≡ Some why → first_fault s (i ∷ items) m ≡ Some why
 unfolding first_fault
 fault_here s i items m why bad = ap (λ o. option_or o (first_fault s items (item_stepped s i m))) bad
 
-pub stepped_none : (s : CieContext) (m : Machine) → all_stepped s [] m ≡ m
+pub stepped_none : (s : Context) (m : Machine) → all_stepped s [] m ≡ m
 unfolding all_stepped
 stepped_none s m = refl
 
-pub stepped_more : (s : CieContext) (i : Item) (items : List Item) (m : Machine) → all_stepped s (i ∷ items) m ≡ all_stepped s items (item_stepped s i m)
+pub stepped_more : (s : Context) (i : Item) (items : List Item) (m : Machine) → all_stepped s (i ∷ items) m ≡ all_stepped s items (item_stepped s i m)
 unfolding all_stepped
 stepped_more s i items m = refl

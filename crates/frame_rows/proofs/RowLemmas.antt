@@ -4,7 +4,7 @@ use Rattle.std.proofs.lemmas.Bool.{and_parts, cases_lt, le-leb, le-ltb, lt-leb, 
 use Rattle.frame_entries.specs.FdeFields.{FdeFields}
 use Rattle.frame_rows.specs.declared.row.Row.{Row}
 use Rattle.frame_rows.specs.declared.row.RowAt.{RowAt}
-use Rattle.frame_rows.specs.declared.machine.CieContext.{CieContext}
+use Rattle.frame_rows.specs.Context.{Context}
 use Rattle.frame_rows.specs.Instructions.{Item}
 use Rattle.frame_rows.specs.Machine.{Machine}
 use Rattle.std.specs.Option.{option_or}
@@ -14,18 +14,18 @@ use Rattle.frame_rows.proofs.TestLemmas.{elim_bool, neither}
 use Rattle.frame_rows.proofs.StepLemmas.{location, grows, keeps}
 
 -- where no instruction is bad, the first is not, and none after it
-pub parted : (s : CieContext) (i : Item) (items : List Item) (m : Machine) → first_fault s (i ∷ items) m ≡ None → (item_fault s i m ≡ None) × (first_fault s items (item_stepped s i m) ≡ None)
+pub parted : (s : Context) (i : Item) (items : List Item) (m : Machine) → first_fault s (i ∷ items) m ≡ None → (item_fault s i m ≡ None) × (first_fault s items (item_stepped s i m) ≡ None)
 unfolding first_fault
 parted s i items m good = neither (item_fault s i m) (first_fault s items (item_stepped s i m)) good
 
 -- the replay waits at a state that lies above the address
-waits : (s : CieContext) (items : List Item) (m : Machine) (a : ℕ) → a < m.address → replay s items m a ≡ m
+waits : (s : Context) (items : List Item) (m : Machine) (a : ℕ) → a < m.address → replay s items m a ≡ m
 unfolding replay
 waits s [] m a above = refl
 waits s (i ∷ items) m a above = ap (λ t. cond t (replay s items (item_stepped s i m) a) m) (lt-leb m.address a above)
 
 -- and goes on from one that does not
-pub goes_on : (s : CieContext) (i : Item) (items : List Item) (m : Machine) (a : ℕ) → m.address ≤ a → replay s (i ∷ items) m a ≡ replay s items (item_stepped s i m) a
+pub goes_on : (s : Context) (i : Item) (items : List Item) (m : Machine) (a : ℕ) → m.address ≤ a → replay s (i ∷ items) m a ≡ replay s items (item_stepped s i m) a
 unfolding replay
 goes_on s i items m a below = ap (λ t. cond t (replay s items (item_stepped s i m) a) m) (le-leb m.address a below)
 
@@ -66,17 +66,17 @@ ended_either end m next P some none =
 pub ended_no : (end : ℕ) (m : Machine) (next : ℕ) → next ≤ m.address → ended_row end m next ≡ []
 ended_no end m next stays = ap (λ t. cond (t && nat_lt m.address end) (row_here m ∷ []) []) (le-ltb m.address next stays)
 
-last_row : (end : ℕ) (s : CieContext) (m : Machine) (P : List RowAt → Type 0) → (m.address < end → P (row_here m ∷ [])) → P [] → P (rows_from end s [] m)
+last_row : (end : ℕ) (s : Context) (m : Machine) (P : List RowAt → Type 0) → (m.address < end → P (row_here m ∷ [])) → P [] → P (rows_from end s [] m)
 unfolding rows_from
 last_row end s m P some none =
     elim_bool (nat_lt m.address end) (λ t. P (cond t (row_here m ∷ []) [])) (λ is. some (ltb-true m.address end is)) (λ is. none)
 
-pub from_more : (end : ℕ) (s : CieContext) (i : Item) (items : List Item) (m : Machine) → rows_from end s (i ∷ items) m ≡ ended_row end m (item_stepped s i m).address ++ rows_from end s items (item_stepped s i m)
+pub from_more : (end : ℕ) (s : Context) (i : Item) (items : List Item) (m : Machine) → rows_from end s (i ∷ items) m ≡ ended_row end m (item_stepped s i m).address ++ rows_from end s items (item_stepped s i m)
 unfolding rows_from
 from_more end s i items m = refl
 
 -- the rows from a state on say nothing below it
-later : (end : ℕ) (s : CieContext) (items : List Item) (m : Machine) (a : ℕ) → first_fault s items m ≡ None → a < m.address → last_at (rows_from end s items m) a ≡ None
+later : (end : ℕ) (s : Context) (items : List Item) (m : Machine) (a : ℕ) → first_fault s items m ≡ None → a < m.address → last_at (rows_from end s items m) a ≡ None
 later end s [] m a good above =
     last_row end s m (λ rows. last_at rows a ≡ None) (λ low. above_said (row_here m) [] a above (none_said a)) (none_said a)
 later end s (i ∷ items) m a good above =
@@ -87,7 +87,7 @@ later end s (i ∷ items) m a good above =
     (λ up low. above_said (row_here m) (rows_from end s items (item_stepped s i m)) a above rest) rest
 
 -- the last row says what its address says, where none is after it
-last_says : (end : ℕ) (s : CieContext) (m : Machine) (a : ℕ) → m.address ≤ a → a < end → last_at (rows_from end s [] m) a ≡ Some m.row
+last_says : (end : ℕ) (s : Context) (m : Machine) (a : ℕ) → m.address ≤ a → a < end → last_at (rows_from end s [] m) a ≡ Some m.row
 unfolding rows_from
 last_says end s m a below inside =
     ap (λ t. last_at (cond t (row_here m ∷ []) []) a) (lt-ltb m.address end (omega arith)) ∙ here_said (row_here m) [] a below (none_said a)
@@ -101,19 +101,19 @@ says_later : (end : ℕ) (m n : Machine) (rest : List RowAt) (a : ℕ) (row : Ro
 says_later end m n rest a row some =
     ended_either end m n.address (λ rows. last_at (rows ++ rest) a ≡ Some row) (λ up low. later_said (row_here m) rest a row some) some
 
-says_by : (end : ℕ) (s : CieContext) (items : List Item) (m n : Machine) (a : ℕ) → first_fault s items n ≡ None → (m.address < n.address → n.row ≡ m.row) → m.address ≤ a → a < end → (n.address ≤ a → last_at (rows_from end s items n) a ≡ Some (replay s items n a).row) → (a < n.address) ⊎ (n.address ≤ a) → last_at (ended_row end m n.address ++ rows_from end s items n) a ≡ Some (replay s items n a).row
+says_by : (end : ℕ) (s : Context) (items : List Item) (m n : Machine) (a : ℕ) → first_fault s items n ≡ None → (m.address < n.address → n.row ≡ m.row) → m.address ≤ a → a < end → (n.address ≤ a → last_at (rows_from end s items n) a ≡ Some (replay s items n a).row) → (a < n.address) ⊎ (n.address ≤ a) → last_at (ended_row end m n.address ++ rows_from end s items n) a ≡ Some (replay s items n a).row
 says_by end s items m n a good kept below inside rest (inl above) =
     says_here end m n (rows_from end s items n) a (omega arith) below inside (later end s items n a good above)
     ∙ ap Some (sym (ap (λ (k : Machine). k.row) (waits s items n a above) ∙ kept (omega arith)))
 says_by end s items m n a good kept below inside rest (inr reached) =
     says_later end m n (rows_from end s items n) a (replay s items n a).row (rest reached)
 
-replay_none : (s : CieContext) (m : Machine) (a : ℕ) → replay s [] m a ≡ m
+replay_none : (s : Context) (m : Machine) (a : ℕ) → replay s [] m a ≡ m
 unfolding replay
 replay_none s m a = refl
 
 -- at each address from it on up to the end they say the replay's row
-pub says : (end : ℕ) (s : CieContext) (items : List Item) (m : Machine) (a : ℕ) → first_fault s items m ≡ None → m.address ≤ a → a < end → last_at (rows_from end s items m) a ≡ Some (replay s items m a).row
+pub says : (end : ℕ) (s : Context) (items : List Item) (m : Machine) (a : ℕ) → first_fault s items m ≡ None → m.address ≤ a → a < end → last_at (rows_from end s items m) a ≡ Some (replay s items m a).row
 says end s [] m a good below inside = last_says end s m a below inside ∙ ap Some (sym (ap (λ (k : Machine). k.row) (replay_none s m a)))
 says end s (i ∷ items) m a good below inside =
     let parts = parted s i items m good in
@@ -123,7 +123,7 @@ says end s (i ∷ items) m a good below inside =
     ∙ ap Some (sym (ap (λ (k : Machine). k.row) (goes_on s i items m a below)))
 
 -- nothing stands from the end on
-pub past : (end : ℕ) (s : CieContext) (items : List Item) (m : Machine) → first_fault s items m ≡ None → end ≤ m.address → rows_from end s items m ≡ []
+pub past : (end : ℕ) (s : Context) (items : List Item) (m : Machine) → first_fault s items m ≡ None → end ≤ m.address → rows_from end s items m ≡ []
 past end s [] m good over = last_row end s m (λ rows. end ≤ m.address → rows ≡ []) (λ low over. absurd (omega arith)) (λ over. refl) over
 past end s (i ∷ items) m good over =
     let parts = parted s i items m good in
@@ -131,29 +131,29 @@ past end s (i ∷ items) m good over =
     ∙ ended_either end m (item_stepped s i m).address (λ rows. end ≤ m.address → rows ++ rows_from end s items (item_stepped s i m) ≡ rows_from end s items (item_stepped s i m)) (λ up low over. absurd (omega arith)) (λ over. refl) over
     ∙ past end s items (item_stepped s i m) parts.1 (omega (arith, grows s i m parts.0))
 
-moves_none : (s : CieContext) (end at : ℕ) → moves s end [] at ≡ []
+moves_none : (s : Context) (end at : ℕ) → moves s end [] at ≡ []
 unfolding moves
 moves_none s end at = refl
 
-moves_on : (s : CieContext) (end : ℕ) (i : Item) (items : List Item) (at : ℕ) → at < next_location s i at → next_location s i at < end → moves s end (i ∷ items) at ≡ next_location s i at ∷ moves s end items (next_location s i at)
+moves_on : (s : Context) (end : ℕ) (i : Item) (items : List Item) (at : ℕ) → at < next_location s i at → next_location s i at < end → moves s end (i ∷ items) at ≡ next_location s i at ∷ moves s end items (next_location s i at)
 unfolding moves
 moves_on s end i items at up low =
     ap (λ t. cond (t && nat_lt (next_location s i at) end) (next_location s i at ∷ moves s end items (next_location s i at)) (moves s end items (next_location s i at))) (lt-ltb at (next_location s i at) up)
     ∙ ap (λ t. cond t (next_location s i at ∷ moves s end items (next_location s i at)) (moves s end items (next_location s i at))) (lt-ltb (next_location s i at) end low)
 
-moves_stay : (s : CieContext) (end : ℕ) (i : Item) (items : List Item) (at : ℕ) → next_location s i at ≤ at → moves s end (i ∷ items) at ≡ moves s end items (next_location s i at)
+moves_stay : (s : Context) (end : ℕ) (i : Item) (items : List Item) (at : ℕ) → next_location s i at ≤ at → moves s end (i ∷ items) at ≡ moves s end items (next_location s i at)
 unfolding moves
 moves_stay s end i items at stays =
     ap (λ t. cond (t && nat_lt (next_location s i at) end) (next_location s i at ∷ moves s end items (next_location s i at)) (moves s end items (next_location s i at))) (le-ltb at (next_location s i at) stays)
 
-moves_out : (s : CieContext) (end : ℕ) (i : Item) (items : List Item) (at : ℕ) → end ≤ next_location s i at → moves s end (i ∷ items) at ≡ moves s end items (next_location s i at)
+moves_out : (s : Context) (end : ℕ) (i : Item) (items : List Item) (at : ℕ) → end ≤ next_location s i at → moves s end (i ∷ items) at ≡ moves s end items (next_location s i at)
 unfolding moves
 moves_out s end i items at over =
     ap (λ t. cond (nat_lt at (next_location s i at) && t) (next_location s i at ∷ moves s end items (next_location s i at)) (moves s end items (next_location s i at))) (le-ltb (next_location s i at) end over)
     ∙ and_no (nat_lt at (next_location s i at)) (next_location s i at ∷ moves s end items (next_location s i at)) (moves s end items (next_location s i at))
 
 -- nothing moves from the end on
-moves_past : (end : ℕ) (s : CieContext) (items : List Item) (m : Machine) → first_fault s items m ≡ None → end ≤ m.address → moves s end items m.address ≡ []
+moves_past : (end : ℕ) (s : Context) (items : List Item) (m : Machine) → first_fault s items m ≡ None → end ≤ m.address → moves s end items m.address ≡ []
 moves_past end s [] m good over = moves_none s end m.address
 moves_past end s (i ∷ items) m good over =
     let parts = parted s i items m good in
@@ -162,7 +162,7 @@ moves_past end s (i ∷ items) m good over =
     ∙ ap (moves s end items) next ∙ moves_past end s items (item_stepped s i m) parts.1 (omega (arith, grows s i m parts.0))
 
 -- where a state's rows stand, by those after the next step
-stands_by : (end : ℕ) (s : CieContext) (i : Item) (items : List Item) (m n : Machine) → m.address < end → m.address ≤ n.address → next_location s i m.address ≡ n.address → (end ≤ n.address → rows_from end s items n ≡ []) → (end ≤ n.address → moves s end items n.address ≡ []) → (n.address < end → map (λ r. r.address) (rows_from end s items n) ≡ n.address ∷ moves s end items n.address) → (m.address < n.address) ⊎ (n.address ≤ m.address) → (n.address < end) ⊎ (end ≤ n.address) → map (λ r. r.address) (ended_row end m n.address ++ rows_from end s items n) ≡ m.address ∷ moves s end (i ∷ items) m.address
+stands_by : (end : ℕ) (s : Context) (i : Item) (items : List Item) (m n : Machine) → m.address < end → m.address ≤ n.address → next_location s i m.address ≡ n.address → (end ≤ n.address → rows_from end s items n ≡ []) → (end ≤ n.address → moves s end items n.address ≡ []) → (n.address < end → map (λ r. r.address) (rows_from end s items n) ≡ n.address ∷ moves s end items n.address) → (m.address < n.address) ⊎ (n.address ≤ m.address) → (n.address < end) ⊎ (end ≤ n.address) → map (λ r. r.address) (ended_row end m n.address ++ rows_from end s items n) ≡ m.address ∷ moves s end (i ∷ items) m.address
 stands_by end s i items m n low up next over_rows over_moves rest (inl moved) (inl inside) =
     ap (λ rows. map (λ r. r.address) (rows ++ rows_from end s items n)) (ended_yes end m n.address moved low)
     ∙ ap (λ l. m.address ∷ l) (rest inside ∙ sym (moves_on s end i items m.address (omega (arith, next)) (omega (arith, next)) ∙ ap (λ a. a ∷ moves s end items a) next))
@@ -176,12 +176,12 @@ stands_by end s i items m n low up next over_rows over_moves rest (inr stays) in
     ∙ ap (λ a. a ∷ moves s end items a) same
     ∙ ap (λ l. m.address ∷ l) (sym (moves_stay s end i items m.address (omega (arith, next)) ∙ ap (moves s end items) (next ∙ same)))
 
-last_stands : (end : ℕ) (s : CieContext) (m : Machine) → m.address < end → map (λ r. r.address) (rows_from end s [] m) ≡ m.address ∷ []
+last_stands : (end : ℕ) (s : Context) (m : Machine) → m.address < end → map (λ r. r.address) (rows_from end s [] m) ≡ m.address ∷ []
 unfolding rows_from
 last_stands end s m low = ap (λ t. map (λ r. r.address) (cond t (row_here m ∷ []) [])) (lt-ltb m.address end low)
 
 -- the rows from a state on stand at its address, and where the location moves
-pub stands : (end : ℕ) (s : CieContext) (items : List Item) (m : Machine) → first_fault s items m ≡ None → m.address < end → map (λ r. r.address) (rows_from end s items m) ≡ m.address ∷ moves s end items m.address
+pub stands : (end : ℕ) (s : Context) (items : List Item) (m : Machine) → first_fault s items m ≡ None → m.address < end → map (λ r. r.address) (rows_from end s items m) ≡ m.address ∷ moves s end items m.address
 stands end s [] m good low =
     last_stands end s m low ∙ ap (λ l. m.address ∷ l) (sym (moves_none s end m.address))
 stands end s (i ∷ items) m good low =
@@ -198,7 +198,7 @@ lower : (low lower end : ℕ) (rows : List RowAt) → lower ≤ low → Ascendin
 lower low lower' end [] less up = tt
 lower low lower' end (r ∷ rows) less up = (omega (arith, up.0), up.1, up.2)
 
-pub ascends : (end : ℕ) (s : CieContext) (items : List Item) (m : Machine) → first_fault s items m ≡ None → Ascending m.address end (rows_from end s items m)
+pub ascends : (end : ℕ) (s : Context) (items : List Item) (m : Machine) → first_fault s items m ≡ None → Ascending m.address end (rows_from end s items m)
 ascends end s [] m good = last_row end s m (λ rows. Ascending m.address end rows) (λ low. (omega arith, low, tt)) tt
 ascends end s (i ∷ items) m good =
     let parts = parted s i items m good in

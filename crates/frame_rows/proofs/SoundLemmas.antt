@@ -1,6 +1,6 @@
 -- The rows of an entry without a bad instruction are sound; for the lemmas of EntryLemmas.
-use Rattle.std.proofs.Common.{◌≡◌, ℕ, ℤ, pos, negsuc, zero, suc, ◌-◌, ◌*◌, ◌%◌, ◌^◌, ◌<◌, ◌==◌, ◌||◌, not, cond, true, List, [], ◌∷◌, set, get_or, replicate, nat_lt, nat_le, Option, Some, None, Ok, Err, refl, ap, arith}
-use Rattle.std.proofs.lemmas.Bool.{and_from, and_parts, lt-ltb, ltb-false, ltb-true}
+use Rattle.std.proofs.Common.{◌≡◌, ℕ, ℤ, pos, negsuc, zero, suc, ◌-◌, ◌*◌, ◌%◌, ◌^◌, ◌<◌, ◌==◌, ◌||◌, not, cond, Bool, true, false, List, [], ◌∷◌, take, drop, set, get_or, replicate, nat_lt, nat_le, Option, Some, None, is_some, Ok, Err, refl, ap, sym, ◌∙◌, arith}
+use Rattle.std.proofs.lemmas.Bool.{and_from, and_parts, le-ltb, lt-ltb, ltb-false, ltb-true}
 use Rattle.std.proofs.lemmas.Bool.Decides.{nat_tests}
 use Rattle.std.specs.Int.{w64, cast_signed, cast_unsigned}
 use Rattle.sym_edges.specs.declared.reason.Reason.TheVariants as reason
@@ -9,30 +9,40 @@ use Rattle.frame_entries.specs.FdeFields.{FdeFields}
 use Rattle.frame_rows.specs.declared.row.Rule.{Rule}
 use Rattle.frame_rows.specs.declared.row.Rule.TheVariants as rule
 use Rattle.frame_rows.specs.declared.row.CfaRule.{CfaRule}
+use Rattle.frame_rows.specs.declared.row.CfaRule.TheVariants as cfa
+use Rattle.expr_steps.specs.declared.place.Place.{Place}
+use Rattle.expr_steps.specs.Places.{bytes_at}
+use Rattle.expr_steps.specs.Standing.{standing}
+use Rattle.frame_rows.specs.declared.instruction.Block.{Block}
 use Rattle.frame_rows.specs.declared.row.Row.{Row}
-use Rattle.frame_rows.specs.declared.machine.CieContext.{CieContext}
+use Rattle.frame_rows.specs.Context.{Context}
 use Rattle.frame_rows.specs.declared.instruction.Instruction.{Instruction}
-use Rattle.frame_rows.specs.declared.instruction.Instruction.TheVariants.{SetLoc, AdvanceLoc, DefCfa, DefCfaSf, DefCfaRegister, DefCfaOffset, DefCfaOffsetSf, Undefined, SameValue, Offset, OffsetExtendedSf, ValOffset, ValOffsetSf, Register, Restore, RememberState, RestoreState, Nop}
+use Rattle.frame_rows.specs.declared.instruction.Instruction.TheVariants.{SetLoc, AdvanceLoc, DefCfa, DefCfaSf, DefCfaRegister, DefCfaOffset, DefCfaOffsetSf, DefCfaExpression, Undefined, SameValue, Offset, OffsetExtendedSf, ValOffset, ValOffsetSf, Register, Expression, ValExpression, Restore, RememberState, RestoreState, Nop}
 use Rattle.frame_rows.specs.Instructions.{Item}
 use Rattle.frame_rows.specs.Machine.{Machine}
-use Rattle.frame_rows.specs.Steps.{Effect, MovesTo, MovesBy, DefinesCfa, ChangesRegister, ChangesOffset, PutsRule, Remembers, TakesBack, DoesNothing, effect, done, effect_fault, plain, scaled, stepped, step_fault, register_fault, part_fault, put_cfa, put_register, put_offset, put_rule, cfa_register, cfa_offset, rule_behind, top_or, under}
-use Rattle.frame_rows.specs.Rows.{item_stepped, item_fault, first_fault, all_stepped, replay, empty_row, cie_context, cie_items, cie_begin, cie_end, own_context, own_items, own_begin, row_at, instruction_fault, is_sound_rule, is_sound_cfa, IsSound}
+use Rattle.frame_rows.specs.Steps.{Effect, MovesTo, MovesBy, DefinesCfa, DefinesCfaExpr, ChangesRegister, ChangesOffset, PutsRule, Remembers, TakesBack, DoesNothing, effect, done, effect_fault, plain, scaled, stepped, step_fault, register_fault, part_fault, put_cfa, put_cfa_expr, put_register, put_offset, put_rule, cfa_register, cfa_offset, place_of_block, can_say, expr_fault, column_expr_fault, rule_behind, top_or, under}
+use Rattle.frame_rows.specs.Rows.{item_stepped, item_fault, first_fault, all_stepped, replay, empty_row, cie_context, cie_items, cie_begin, cie_end, left_context, own_context, own_items, own_begin, row_at, instruction_fault, expr_bytes, is_sound_rule, is_sound_cfa, IsSound}
 use Rattle.frame_rows.proofs.TestLemmas.{elim_bool, neither}
 use Rattle.frame_rows.proofs.StepLemmas.{unless_none}
 use Rattle.frame_rows.proofs.RowLemmas.{parted}
 
 -- each remembered row, and each row of a state and of what it is carried out with
-abbrev pub AllSound : List Row → Type 0
-AllSound [] = Unit {0}
-AllSound (row ∷ rows) = IsSound row × AllSound rows
+abbrev pub AllSound : FdeFields → List Row → Type 0
+AllSound e [] = Unit {0}
+AllSound e (row ∷ rows) = IsSound e row × AllSound e rows
 
-abbrev pub InitialSound : Option Row → Type 0
-InitialSound None = Unit {0}
-InitialSound (Some row) = IsSound row
+abbrev pub InitialSound : FdeFields → Option Row → Type 0
+InitialSound e None = Unit {0}
+InitialSound e (Some row) = IsSound e row
 
-pub record IsSoundState (m : Machine) : Type 0 where
-  pub row : IsSound m.row
-  pub stack : AllSound m.stack
+pub record IsSoundState (e : FdeFields) (m : Machine) : Type 0 where
+  pub row : IsSound e m.row
+  pub stack : AllSound e m.stack
+
+-- instructions are carried out with the row that the CIE left, and in the run of the entry's own or in that of its CIE's
+pub record IsOf (e : FdeFields) (s : Context) : Type 0 where
+  pub initial : InitialSound e s.initial
+  pub run : s.run ≡ cond (is_some s.initial) e.instructions e.initial_instructions
 
 -- a rule is put into its column
 put_column : (P : ℕ → Rule → Type 0) (rules : List Rule) (column : ℕ) (new d : Rule) → P column new → ((c : ℕ) → P c (get_or rules c d)) → (c : ℕ) → P c (get_or (set rules column new) c d)
@@ -42,11 +52,11 @@ put_column P (r ∷ rules) zero new d here all (suc c) = all (suc c)
 put_column P (r ∷ rules) (suc k) new d here all zero = all zero
 put_column P (r ∷ rules) (suc k) new d here all (suc c) = put_column (λ n. P (suc n)) rules k new d here (λ n. all (suc n)) c
 
-put_sound : (column : ℕ) (new : Rule) (row : Row) → (column < 17 → is_sound_rule column new ≡ true) → IsSound row → IsSound (put_rule column new row)
+put_sound : (e : FdeFields) (column : ℕ) (new : Rule) (row : Row) → (column < 17 → is_sound_rule e column new ≡ true) → IsSound e row → IsSound e (put_rule column new row)
 unfolding put_rule
-put_sound column new row here names =
-    elim_bool (nat_lt column 17) (λ t. IsSound (cond t (record { cfa = row.cfa; rules = set row.rules column new }) row))
-    (λ is. record { cfa = names.cfa; columns = put_column (λ c r. is_sound_rule c r ≡ true) row.rules column new rule.Rest (here (ltb-true column 17 is)) names.columns })
+put_sound e column new row here names =
+    elim_bool (nat_lt column 17) (λ t. IsSound e (cond t (record { cfa = row.cfa; rules = set row.rules column new }) row))
+    (λ is. record { cfa = names.cfa; columns = put_column (λ c r. is_sound_rule e c r ≡ true) row.rules column new rule.Rest (here (ltb-true column 17 is)) names.columns })
     (λ is. names)
 
 -- what is read as an i64 is one
@@ -58,40 +68,46 @@ fits_cast n =
 plain_fits : (offset : ℕ) → fits_i64 (plain offset) ≡ true
 plain_fits offset = fits_cast offset
 
-scaled_fits : (s : CieContext) (factored : ℤ) → fits_i64 (scaled s factored) ≡ true
+scaled_fits : (s : Context) (factored : ℤ) → fits_i64 (scaled s factored) ≡ true
 scaled_fits s factored = fits_cast ((cast_unsigned w64 factored * cast_unsigned w64 s.data_align) % 2 ^ 64)
 
-cfa_sound : (register : ℕ) (offset : ℤ) (row : Row) → register_fault register ≡ None → fits_i64 offset ≡ true → IsSound row → IsSound (put_cfa register offset row)
+cfa_sound : (e : FdeFields) (register : ℕ) (offset : ℤ) (row : Row) → register_fault register ≡ None → fits_i64 offset ≡ true → IsSound e row → IsSound e (put_cfa register offset row)
 unfolding put_cfa
-cfa_sound register offset row good fits names = record { cfa = and_from _ _ (unless_none (nat_lt register 16) reason.Register good) fits; columns = names.columns }
+cfa_sound e register offset row good fits names = record { cfa = and_from _ _ (unless_none (nat_lt register 16) reason.Register good) fits; columns = names.columns }
 
-changed_register : (register : ℕ) (cfa : Option CfaRule) → nat_lt register 16 ≡ true → is_sound_cfa cfa ≡ true → is_sound_cfa (cfa_register register cfa) ≡ true
-changed_register register None is sound = refl
-changed_register register (Some cfa) is sound = and_from _ _ is (and_parts (nat_lt cfa.register 16) _ sound).1
+cfa_expr_sound : (e : FdeFields) (place : Place) (row : Row) → is_some (standing false (expr_bytes e place)) ≡ true → IsSound e row → IsSound e (put_cfa_expr place row)
+unfolding put_cfa_expr
+cfa_expr_sound e place row said names = record { cfa = said; columns = names.columns }
 
-changed_offset : (offset : ℤ) (cfa : Option CfaRule) → fits_i64 offset ≡ true → is_sound_cfa cfa ≡ true → is_sound_cfa (cfa_offset offset cfa) ≡ true
-changed_offset offset None fits sound = refl
-changed_offset offset (Some cfa) fits sound = and_from _ _ (and_parts _ _ sound).0 fits
+changed_register : (e : FdeFields) (register : ℕ) (cfa : Option CfaRule) → nat_lt register 16 ≡ true → is_sound_cfa e cfa ≡ true → is_sound_cfa e (cfa_register register cfa) ≡ true
+changed_register e register None is sound = refl
+changed_register e register (Some (cfa.Base old offset)) is sound = and_from _ _ is (and_parts (nat_lt old 16) _ sound).1
+changed_register e register (Some (cfa.Expr place)) is sound = sound
 
-register_sound : (register : ℕ) (row : Row) → register_fault register ≡ None → IsSound row → IsSound (put_register register row)
+changed_offset : (e : FdeFields) (offset : ℤ) (cfa : Option CfaRule) → fits_i64 offset ≡ true → is_sound_cfa e cfa ≡ true → is_sound_cfa e (cfa_offset offset cfa) ≡ true
+changed_offset e offset None fits sound = refl
+changed_offset e offset (Some (cfa.Base register old)) fits sound = and_from _ _ (and_parts _ _ sound).0 fits
+changed_offset e offset (Some (cfa.Expr place)) fits sound = sound
+
+register_sound : (e : FdeFields) (register : ℕ) (row : Row) → register_fault register ≡ None → IsSound e row → IsSound e (put_register register row)
 unfolding put_register
-register_sound register row good names = record { cfa = changed_register register row.cfa (unless_none (nat_lt register 16) reason.Register good) names.cfa; columns = names.columns }
+register_sound e register row good names = record { cfa = changed_register e register row.cfa (unless_none (nat_lt register 16) reason.Register good) names.cfa; columns = names.columns }
 
-offset_sound : (offset : ℤ) (row : Row) → fits_i64 offset ≡ true → IsSound row → IsSound (put_offset offset row)
+offset_sound : (e : FdeFields) (offset : ℤ) (row : Row) → fits_i64 offset ≡ true → IsSound e row → IsSound e (put_offset offset row)
 unfolding put_offset
-offset_sound offset row fits names = record { cfa = changed_offset offset row.cfa fits names.cfa; columns = names.columns }
+offset_sound e offset row fits names = record { cfa = changed_offset e offset row.cfa fits names.cfa; columns = names.columns }
 
-behind_sound : (initial : Option Row) (column : ℕ) → InitialSound initial → is_sound_rule column (rule_behind initial column) ≡ true
-behind_sound None column names = refl
-behind_sound (Some row) column names = names.columns column
+behind_sound : (e : FdeFields) (initial : Option Row) (column : ℕ) → InitialSound e initial → is_sound_rule e column (rule_behind initial column) ≡ true
+behind_sound e None column names = refl
+behind_sound e (Some row) column names = names.columns column
 
-top_sound : (row : Row) (stack : List Row) → IsSound row → AllSound stack → IsSound (top_or row stack)
-top_sound row [] names all = names
-top_sound row (top ∷ rows) names all = all.0
+top_sound : (e : FdeFields) (row : Row) (stack : List Row) → IsSound e row → AllSound e stack → IsSound e (top_or row stack)
+top_sound e row [] names all = names
+top_sound e row (top ∷ rows) names all = all.0
 
-under_sound : (stack : List Row) → AllSound stack → AllSound (under stack)
-under_sound [] all = tt
-under_sound (top ∷ rows) all = all.1
+under_sound : (e : FdeFields) (stack : List Row) → AllSound e stack → AllSound e (under stack)
+under_sound e [] all = tt
+under_sound e (top ∷ rows) all = all.1
 
 same_named : (column : ℕ) → not (column == 16) ≡ true → column < 17 → nat_lt column 16 ≡ true
 same_named column other low = grind (arith, nat_tests)
@@ -99,91 +115,114 @@ same_named column other low = grind (arith, nat_tests)
 source_named : (column register : ℕ) → (nat_lt 16 column || nat_lt register 16) ≡ true → column < 17 → nat_lt register 16 ≡ true
 source_named column register either low = grind (arith, nat_tests)
 
+-- an expression that is carried out can be said: its bytes are those of the run
+either_run : (own : Bool) (run : List ℕ) → cond own run run ≡ run
+either_run true run = refl
+either_run false run = refl
+
+bytes_here : (e : FdeFields) (s : Context) (block : Block) → IsOf e s → bytes_at (place_of_block s block) s.run s.run ≡ expr_bytes e (place_of_block s block)
+unfolding bytes_at
+bytes_here e s block of = ap (λ l. take block.len (drop block.start l)) (either_run (is_some s.initial) s.run ∙ of.run)
+
+said : (e : FdeFields) (s : Context) (over_cfa : Bool) (block : Block) → IsOf e s → can_say over_cfa s block ≡ true → is_some (standing over_cfa (expr_bytes e (place_of_block s block))) ≡ true
+unfolding can_say
+said e s over_cfa block of can =
+    sym (ap (λ bytes. is_some (standing over_cfa bytes)) (bytes_here e s block of))
+    ∙ (and_parts (nat_lt block.len (2 ^ 32)) _ (and_parts (nat_lt block.start (2 ^ 32)) _ can).1).1
+
+column_said : (column : ℕ) (can : Bool) → (nat_lt 16 column || can) ≡ true → column < 17 → can ≡ true
+column_said column can either low = sym (ap (λ t. t || can) (le-ltb 16 column (omega arith))) ∙ either
+
 -- what an effect puts into a row is sound, unless there is a reason against it
-abbrev Puts : Effect → Type 0
-Puts (DefinesCfa register offset) = fits_i64 offset ≡ true
-Puts (ChangesOffset offset) = fits_i64 offset ≡ true
-Puts (PutsRule column new why) = why ≡ None → column < 17 → is_sound_rule column new ≡ true
-Puts _ = Unit {0}
+abbrev Puts : FdeFields → Effect → Type 0
+Puts e (DefinesCfa register offset) = fits_i64 offset ≡ true
+Puts e (DefinesCfaExpr place why) = why ≡ None → is_some (standing false (expr_bytes e place)) ≡ true
+Puts e (ChangesOffset offset) = fits_i64 offset ≡ true
+Puts e (PutsRule column new why) = why ≡ None → column < 17 → is_sound_rule e column new ≡ true
+Puts e _ = Unit {0}
 
-puts : (s : CieContext) (i : Instruction) → InitialSound s.initial → Puts (effect s i)
-puts s (SetLoc address) initial = tt
-puts s (AdvanceLoc delta) initial = tt
-puts s (DefCfa register offset) initial = plain_fits offset
-puts s (DefCfaSf register factored) initial = scaled_fits s factored
-puts s (DefCfaRegister register) initial = tt
-puts s (DefCfaOffset offset) initial = plain_fits offset
-puts s (DefCfaOffsetSf factored) initial = scaled_fits s factored
-puts s (Undefined column) initial = λ good low. refl
-puts s (SameValue column) initial = λ good low. same_named column (unless_none (not (column == 16)) reason.Register good) low
-puts s (Offset column factored) initial = λ good low. scaled_fits s (plain factored)
-puts s (OffsetExtendedSf column factored) initial = λ good low. scaled_fits s factored
-puts s (ValOffset column factored) initial = λ good low. scaled_fits s (plain factored)
-puts s (ValOffsetSf column factored) initial = λ good low. scaled_fits s factored
-puts s (Register column register) initial = λ good low. source_named column register (unless_none (nat_lt 16 column || nat_lt register 16) reason.Register good) low
-puts s (Restore column) initial = λ good low. behind_sound s.initial column initial
-puts s RememberState initial = tt
-puts s RestoreState initial = tt
-puts s Nop initial = tt
+puts : (e : FdeFields) (s : Context) (i : Instruction) → IsOf e s → Puts e (effect s i)
+puts e s (SetLoc address) of = tt
+puts e s (AdvanceLoc delta) of = tt
+puts e s (DefCfa register offset) of = plain_fits offset
+puts e s (DefCfaSf register factored) of = scaled_fits s factored
+puts e s (DefCfaRegister register) of = tt
+puts e s (DefCfaOffset offset) of = plain_fits offset
+puts e s (DefCfaOffsetSf factored) of = scaled_fits s factored
+puts e s (DefCfaExpression block) of = λ good. said e s false block of (unless_none (can_say false s block) reason.Expression good)
+puts e s (Undefined column) of = λ good low. refl
+puts e s (SameValue column) of = λ good low. same_named column (unless_none (not (column == 16)) reason.Register good) low
+puts e s (Offset column factored) of = λ good low. scaled_fits s (plain factored)
+puts e s (OffsetExtendedSf column factored) of = λ good low. scaled_fits s factored
+puts e s (ValOffset column factored) of = λ good low. scaled_fits s (plain factored)
+puts e s (ValOffsetSf column factored) of = λ good low. scaled_fits s factored
+puts e s (Register column register) of = λ good low. source_named column register (unless_none (nat_lt 16 column || nat_lt register 16) reason.Register good) low
+puts e s (Expression column block) of = λ good low. said e s true block of (column_said column (can_say true s block) (unless_none (nat_lt 16 column || can_say true s block) reason.Expression good) low)
+puts e s (ValExpression column block) of = λ good low. said e s true block of (column_said column (can_say true s block) (unless_none (nat_lt 16 column || can_say true s block) reason.Expression good) low)
+puts e s (Restore column) of = λ good low. behind_sound e s.initial column of.initial
+puts e s RememberState of = tt
+puts e s RestoreState of = tt
+puts e s Nop of = tt
 
-effect_sound : (s : CieContext) (e : Effect) (m : Machine) → effect_fault s e m ≡ None → Puts e → IsSoundState m → IsSoundState (done e m)
-effect_sound s (MovesTo address) m good what names = record { row = names.row; stack = names.stack }
-effect_sound s (MovesBy distance) m good what names = record { row = names.row; stack = names.stack }
-effect_sound s (DefinesCfa register offset) m good what names = record { row = cfa_sound register offset m.row good what names.row; stack = names.stack }
-effect_sound s (ChangesRegister register) m good what names = record { row = register_sound register m.row (neither (register_fault register) (part_fault m) good).0 names.row; stack = names.stack }
-effect_sound s (ChangesOffset offset) m good what names = record { row = offset_sound offset m.row what names.row; stack = names.stack }
-effect_sound s (PutsRule column new why) m good what names = record { row = put_sound column new m.row (what good) names.row; stack = names.stack }
-effect_sound s Remembers m good what names = record { row = names.row; stack = (names.row, names.stack) }
-effect_sound s TakesBack m good what names = record { row = top_sound m.row m.stack names.row names.stack; stack = under_sound m.stack names.stack }
-effect_sound s DoesNothing m good what names = names
+effect_sound : (e : FdeFields) (s : Context) (x : Effect) (m : Machine) → effect_fault s x m ≡ None → Puts e x → IsSoundState e m → IsSoundState e (done x m)
+effect_sound e s (MovesTo address) m good what names = record { row = names.row; stack = names.stack }
+effect_sound e s (MovesBy distance) m good what names = record { row = names.row; stack = names.stack }
+effect_sound e s (DefinesCfa register offset) m good what names = record { row = cfa_sound e register offset m.row good what names.row; stack = names.stack }
+effect_sound e s (DefinesCfaExpr place why) m good what names = record { row = cfa_expr_sound e place m.row (what good) names.row; stack = names.stack }
+effect_sound e s (ChangesRegister register) m good what names = record { row = register_sound e register m.row (neither (register_fault register) (part_fault m) good).0 names.row; stack = names.stack }
+effect_sound e s (ChangesOffset offset) m good what names = record { row = offset_sound e offset m.row what names.row; stack = names.stack }
+effect_sound e s (PutsRule column new why) m good what names = record { row = put_sound e column new m.row (what good) names.row; stack = names.stack }
+effect_sound e s Remembers m good what names = record { row = names.row; stack = (names.row, names.stack) }
+effect_sound e s TakesBack m good what names = record { row = top_sound e m.row m.stack names.row names.stack; stack = under_sound e m.stack names.stack }
+effect_sound e s DoesNothing m good what names = names
 
-step_sound : (s : CieContext) (i : Instruction) (m : Machine) → step_fault s i m ≡ None → InitialSound s.initial → IsSoundState m → IsSoundState (stepped s i m)
+step_sound : (e : FdeFields) (s : Context) (i : Instruction) (m : Machine) → step_fault s i m ≡ None → IsOf e s → IsSoundState e m → IsSoundState e (stepped s i m)
 unfolding stepped step_fault
-step_sound s i m good initial names = effect_sound s (effect s i) m good (puts s i initial) names
+step_sound e s i m good of names = effect_sound e s (effect s i) m good (puts e s i of) names
 
-item_sound : (s : CieContext) (i : Item) (m : Machine) → item_fault s i m ≡ None → InitialSound s.initial → IsSoundState m → IsSoundState (item_stepped s i m)
-item_sound s (Ok i) m good initial names = step_sound s i m good initial names
-item_sound s (Err why) m good initial names = names
+item_sound : (e : FdeFields) (s : Context) (i : Item) (m : Machine) → item_fault s i m ≡ None → IsOf e s → IsSoundState e m → IsSoundState e (item_stepped s i m)
+item_sound e s (Ok i) m good of names = step_sound e s i m good of names
+item_sound e s (Err why) m good of names = names
 
-all_sound : (s : CieContext) (items : List Item) (m : Machine) → first_fault s items m ≡ None → InitialSound s.initial → IsSoundState m → IsSoundState (all_stepped s items m)
+all_sound : (e : FdeFields) (s : Context) (items : List Item) (m : Machine) → first_fault s items m ≡ None → IsOf e s → IsSoundState e m → IsSoundState e (all_stepped s items m)
 unfolding all_stepped
-all_sound s [] m good initial names = names
-all_sound s (i ∷ items) m good initial names =
+all_sound e s [] m good of names = names
+all_sound e s (i ∷ items) m good of names =
     let parts = parted s i items m good in
-    all_sound s items (item_stepped s i m) parts.1 initial (item_sound s i m parts.0 initial names)
+    all_sound e s items (item_stepped s i m) parts.1 of (item_sound e s i m parts.0 of names)
 
-replay_sound : (s : CieContext) (items : List Item) (m : Machine) (a : ℕ) → first_fault s items m ≡ None → InitialSound s.initial → IsSoundState m → IsSoundState (replay s items m a)
+replay_sound : (e : FdeFields) (s : Context) (items : List Item) (m : Machine) (a : ℕ) → first_fault s items m ≡ None → IsOf e s → IsSoundState e m → IsSoundState e (replay s items m a)
 unfolding replay
-replay_sound s [] m a good initial names = names
-replay_sound s (i ∷ items) m a good initial names =
+replay_sound e s [] m a good of names = names
+replay_sound e s (i ∷ items) m a good of names =
     let parts = parted s i items m good in
-    elim_bool (nat_le m.address a) (λ t. IsSoundState (cond t (replay s items (item_stepped s i m) a) m))
-    (λ _. replay_sound s items (item_stepped s i m) a parts.1 initial (item_sound s i m parts.0 initial names)) (λ _. names)
+    elim_bool (nat_le m.address a) (λ t. IsSoundState e (cond t (replay s items (item_stepped s i m) a) m))
+    (λ _. replay_sound e s items (item_stepped s i m) a parts.1 of (item_sound e s i m parts.0 of names)) (λ _. names)
 
 all_rest : (n c : ℕ) → get_or (replicate n rule.Rest) c rule.Rest ≡ rule.Rest
 all_rest zero c = refl
 all_rest (suc n) zero = refl
 all_rest (suc n) (suc c) = all_rest n c
 
-rest_sound : (n c : ℕ) → is_sound_rule c (get_or (replicate n rule.Rest) c rule.Rest) ≡ true
-rest_sound n c = ap (is_sound_rule c) (all_rest n c)
+rest_sound : (e : FdeFields) (n c : ℕ) → is_sound_rule e c (get_or (replicate n rule.Rest) c rule.Rest) ≡ true
+rest_sound e n c = ap (is_sound_rule e c) (all_rest n c)
 
-empty_sound : IsSound empty_row
+empty_sound : (e : FdeFields) → IsSound e empty_row
 unfolding empty_row
-empty_sound = record { cfa = refl; columns = λ c. rest_sound 17 c }
+empty_sound e = record { cfa = refl; columns = λ c. rest_sound e 17 c }
 
-begin_sound : (e : FdeFields) → IsSoundState (cie_begin e)
+begin_sound : (e : FdeFields) → IsSoundState e (cie_begin e)
 unfolding cie_begin
-begin_sound e = record { row = empty_sound; stack = tt }
+begin_sound e = record { row = empty_sound e; stack = tt }
 
-end_sound : (e : FdeFields) → first_fault (cie_context e) (cie_items e) (cie_begin e) ≡ None → IsSoundState (cie_end e)
+end_sound : (e : FdeFields) → first_fault (cie_context e) (cie_items e) (cie_begin e) ≡ None → IsSoundState e (cie_end e)
 unfolding cie_end cie_context
-end_sound e good = all_sound (cie_context e) (cie_items e) (cie_begin e) good tt (begin_sound e)
+end_sound e good = all_sound e (cie_context e) (cie_items e) (cie_begin e) good (record { initial = tt; run = refl }) (begin_sound e)
 
 -- each row of an entry without a bad instruction
-pub entry_sound : (e : FdeFields) (a : ℕ) → instruction_fault e ≡ None → IsSound (row_at e a)
-unfolding instruction_fault row_at own_begin own_context
+pub entry_sound : (e : FdeFields) (a : ℕ) → instruction_fault e ≡ None → IsSound e (row_at e a)
+unfolding instruction_fault row_at own_begin own_context left_context
 entry_sound e a good =
     let parts = neither (first_fault (cie_context e) (cie_items e) (cie_begin e)) (first_fault (own_context e) (own_items e) (own_begin e)) good in
     let names = end_sound e parts.0 in
-    (replay_sound (own_context e) (own_items e) (own_begin e) a parts.1 names.row (record { row = names.row; stack = names.stack })).row
+    (replay_sound e (own_context e) (own_items e) (own_begin e) a parts.1 (record { initial = names.row; run = refl }) (record { row = names.row; stack = names.stack })).row

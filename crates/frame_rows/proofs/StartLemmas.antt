@@ -10,9 +10,10 @@ use Rattle.leb_cursor.specs.Ahead.{Ahead}
 use Rattle.frame_entries.specs.FdeFields.{FdeFields}
 use Rattle.frame_rows.specs.declared.row.RowAt.{RowAt}
 use Rattle.frame_rows.specs.declared.machine.CieContext.{CieContext}
+use Rattle.frame_rows.specs.Context.{Context, with_run}
 use Rattle.frame_rows.specs.Instructions.{listed_at, instructions}
 use Rattle.frame_rows.specs.Machine.{Machine}
-use Rattle.frame_rows.specs.Rows.{first_fault, cie_context, cie_items, cie_begin, own_context, own_items, own_begin, instruction_fault, rows_fault, AreRows}
+use Rattle.frame_rows.specs.Rows.{first_fault, cie_context, cie_items, cie_begin, left_context, own_context, own_items, own_begin, instruction_fault, rows_fault, AreRows}
 use Rattle.frame_rows.specs.Standing.{Standing, Begins}
 use Rattle.frame_rows.specs.internal.Walk.{rows_from, rows_past, row_with}
 use Rattle.frame_rows.proofs.TestLemmas.{neither}
@@ -34,18 +35,23 @@ both_good : (e : FdeFields) → instruction_fault e ≡ None → (first_fault (c
 unfolding instruction_fault
 both_good e good = neither (first_fault (cie_context e) (cie_items e) (cie_begin e)) (first_fault (own_context e) (own_items e) (own_begin e)) good
 
-own_whole : (v e : FdeFields) (s : CieContext) (m : Machine) (c : Ahead) → v ≡ e → s ≡ own_context e → m ≡ own_begin e → c ≡ record { bytes = take (length v.instructions) v.instructions; at = 0 } → first_fault s (listed_at v.encoding v.instructions_address c) m ≡ first_fault (own_context e) (own_items e) (own_begin e)
+-- what the CIE left, with the entry's own instructions
+pub own_is : (v e : FdeFields) (cie : CieContext) → v ≡ e → cie ≡ left_context e → with_run cie v.instructions ≡ own_context e
+unfolding own_context
+own_is v e cie view context = ap (λ (k : FdeFields). with_run cie k.instructions) view ∙ ap (λ k. with_run k e.instructions) context
+
+own_whole : (v e : FdeFields) (s : Context) (m : Machine) (c : Ahead) → v ≡ e → s ≡ own_context e → m ≡ own_begin e → c ≡ record { bytes = take (length v.instructions) v.instructions; at = 0 } → first_fault s (listed_at v.encoding v.instructions_address c) m ≡ first_fault (own_context e) (own_items e) (own_begin e)
 own_whole v e s m c view context machine over =
     ap (λ l. first_fault s l m) (own_ahead v e c view over)
     ∙ ap (λ k. first_fault k (own_items e) m) context ∙ ap (first_fault (own_context e) (own_items e)) machine
 
 -- the reason of the first bad instruction of the entry's own, after those up to the first row
-pub start_fault : (v e : FdeFields) (s held : CieContext) (m n : Machine) (c later : Ahead) → v ≡ e → s ≡ held → held ≡ own_context e → m ≡ own_begin e → c ≡ record { bytes = take (length v.instructions) v.instructions; at = 0 } →
+pub start_fault : (v e : FdeFields) (s held : Context) (m n : Machine) (c later : Ahead) → v ≡ e → s ≡ held → held ≡ own_context e → m ≡ own_begin e → c ≡ record { bytes = take (length v.instructions) v.instructions; at = 0 } →
     first_fault s (listed_at v.encoding v.instructions_address later) n ≡ first_fault s (listed_at v.encoding v.instructions_address c) m → first_fault held (listed_at v.encoding v.instructions_address later) n ≡ first_fault (own_context e) (own_items e) (own_begin e)
 start_fault v e s held m n c later view same context machine over kept =
     ap (λ k. first_fault k (listed_at v.encoding v.instructions_address later) n) (sym same) ∙ kept ∙ own_whole v e s m c view (same ∙ context) machine over
 
-pub start_refused : (A B : Type 0) (stop : Stop Reason) (v e : FdeFields) (s held : CieContext) (m : Machine) (c : Ahead) (P : A → Type 0) (Q : B → Type 0) → v ≡ e → s ≡ held → held ≡ own_context e → m ≡ own_begin e → c ≡ record { bytes = take (length v.instructions) v.instructions; at = 0 } →
+pub start_refused : (A B : Type 0) (stop : Stop Reason) (v e : FdeFields) (s held : Context) (m : Machine) (c : Ahead) (P : A → Type 0) (Q : B → Type 0) → v ≡ e → s ≡ held → held ≡ own_context e → m ≡ own_begin e → c ≡ record { bytes = take (length v.instructions) v.instructions; at = 0 } →
     MatchStop {A = A} {F = Reason} (Err stop) P (λ why. first_fault s (listed_at v.encoding v.instructions_address c) m ≡ Some why) (Unit {0}) → MatchStop {A = B} {F = Reason} (Err stop) Q (λ why. first_fault (own_context e) (own_items e) (own_begin e) ≡ Some why) (Unit {0})
 start_refused A B (Fault why) v e s held m c P Q view same context machine over bad = sym (own_whole v e s m c view (same ∙ context) machine over) ∙ bad
 start_refused A B NoMemory v e s held m c P Q view same context machine over bad = tt
@@ -54,7 +60,7 @@ begins_at : (e : FdeFields) (m : Machine) → m ≡ own_begin e → m.address �
 unfolding own_begin
 begins_at e m is = ap (λ (k : Machine). k.address) is
 
-pub start_rows : (v e : FdeFields) (s held : CieContext) (m n : Machine) (c later : Ahead) (end : ℕ) → v ≡ e → s ≡ held → held ≡ own_context e → m ≡ own_begin e → c ≡ record { bytes = take (length v.instructions) v.instructions; at = 0 } → e.start < end →
+pub start_rows : (v e : FdeFields) (s held : Context) (m n : Machine) (c later : Ahead) (end : ℕ) → v ≡ e → s ≡ held → held ≡ own_context e → m ≡ own_begin e → c ≡ record { bytes = take (length v.instructions) v.instructions; at = 0 } → e.start < end →
     ((end : ℕ) → m.address < end → rows_from end s (listed_at v.encoding v.instructions_address c) m ≡ row_with m.address n.row ∷ rows_past end s (listed_at v.encoding v.instructions_address later) n m.address) →
     row_with v.start n.row ∷ rows_past end held (listed_at v.encoding v.instructions_address later) n v.start ≡ rows_from end (own_context e) (own_items e) (own_begin e)
 start_rows v e s held m n c later end view same context machine over some settled =

@@ -7,7 +7,7 @@ use Rattle.sym_edges.specs.declared.reason.Reason.TheVariants as reason
 use Rattle.frame_rows.specs.declared.row.Rule.{Rule}
 use Rattle.frame_rows.specs.declared.row.Rule.TheVariants as rule
 use Rattle.frame_rows.specs.declared.row.Row.{Row}
-use Rattle.frame_rows.specs.declared.machine.CieContext.{CieContext}
+use Rattle.frame_rows.specs.Context.{Context}
 use Rattle.frame_rows.specs.Machine.{Machine}
 use Rattle.frame_rows.specs.Instructions.{instructions}
 use Rattle.frame_rows.specs.Rows.{all_stepped, first_fault}
@@ -19,12 +19,13 @@ unfoldable before : List (ℕ × Rule)
 before = (0, rule.Same) ∷ (6, rule.Offset (minus 16)) ∷ (16, rule.Offset (minus 8)) ∷ []
 
 -- factors 4 and -8; the initial instructions left r5 for rbp, and for r13 to r15 a place
-unfoldable context : CieContext
+unfoldable context : Context
 unfolding row
 context = record {
   code_align = 4;
   data_align = minus 8;
   initial = Some (row 7 (pos 8) ((6, rule.Register 5) ∷ (13, rule.Offset (minus 24)) ∷ (14, rule.Offset (minus 32)) ∷ (15, rule.Offset (minus 40)) ∷ []));
+  run = [];
 }
 
 unfoldable machine : Machine

@@ -1,9 +1,9 @@
 -- Worked rows: the rows of small entries.
-use Rattle.std.proofs.Common.{◌≡◌, pos, [], ◌∷◌, None, Some, Ok, refl}
+use Rattle.std.proofs.Common.{◌≡◌, pos, true, false, [], ◌∷◌, None, Some, Ok, refl}
 use Rattle.sym_edges.specs.declared.reason.Reason.TheVariants as reason
 use Rattle.frame_rows.specs.declared.row.Rule.TheVariants as rule
 use Rattle.frame_rows.specs.Rows.{instruction_fault}
-use Rattle.frame_rows.proofs.Entries.{minus, row, factored, entry, called, saved_return, rows, entries}
+use Rattle.frame_rows.proofs.Entries.{minus, row, row_by, in_own, in_cie, factored, entry, called, saved_return, rows, entries}
 
 a_frame_pointer : rows (called 0x20 "41 0e10 8602 43 0d06 4a 0c0708 000000") ≡ Ok (
     (0x1000, row 7 (pos 8) (saved_return ∷ []))
@@ -140,3 +140,28 @@ past_the_last_address = refl
 past_the_last_address_and_bad : instruction_fault (entry 0xffffffffffffffff 0x20 "0c0708 9001 0000" "41 0e10") ≡ Some reason.Range
 unfolding entries
 past_the_last_address_and_bad = refl
+
+-- an expression is kept as the place of its bytes
+expressions_of_a_column : rows (called 0x10 "44 1006027778 44 1606022310") ≡ Ok (
+    (0x1000, row 7 (pos 8) (saved_return ∷ []))
+    ∷ (0x1004, row 7 (pos 8) (saved_return ∷ (6, rule.Expr true (in_own 4 2)) ∷ []))
+    ∷ (0x1008, row 7 (pos 8) (saved_return ∷ (6, rule.Expr false (in_own 10 2)) ∷ []))
+    ∷ [])
+unfolding entries
+expressions_of_a_column = refl
+
+an_expression_of_the_cfa_is_taken_back : rows (called 0x10 "0a 44 0f027708 44 0b") ≡ Ok (
+    (0x1000, row 7 (pos 8) (saved_return ∷ []))
+    ∷ (0x1004, row_by (in_own 4 2) (saved_return ∷ []))
+    ∷ (0x1008, row 7 (pos 8) (saved_return ∷ []))
+    ∷ [])
+unfolding entries
+an_expression_of_the_cfa_is_taken_back = refl
+
+expressions_of_the_cie_and_of_the_entry : rows (entry 0x1000 0x10 "0f027708 9001 1006027778" "44 1606022308 44 0c0708 c6") ≡ Ok (
+    (0x1000, row_by (in_cie 2 2) (saved_return ∷ (6, rule.Expr true (in_cie 9 2)) ∷ []))
+    ∷ (0x1004, row_by (in_cie 2 2) (saved_return ∷ (6, rule.Expr false (in_own 4 2)) ∷ []))
+    ∷ (0x1008, row 7 (pos 8) (saved_return ∷ (6, rule.Expr true (in_cie 9 2)) ∷ []))
+    ∷ [])
+unfolding entries
+expressions_of_the_cie_and_of_the_entry = refl

@@ -1,8 +1,9 @@
 -- Worked rows: each opcode of the standard with its operands, read.
-use Rattle.std.proofs.Common.{◌≡◌, negsuc, List, [], ◌∷◌, Ok, Err, refl}
+use Rattle.std.proofs.Common.{◌≡◌, ℕ, negsuc, List, [], ◌∷◌, Ok, Err, refl}
 use Prim.Native.String.{String}
 use Rattle.sym_edges.specs.declared.reason.Reason.TheVariants as reason
-use Rattle.frame_rows.specs.declared.instruction.Instruction.TheVariants.{SetLoc, AdvanceLoc, DefCfa, DefCfaSf, DefCfaRegister, DefCfaOffset, DefCfaOffsetSf, Undefined, SameValue, Offset, OffsetExtendedSf, ValOffset, ValOffsetSf, Register, Restore, RememberState, RestoreState, Nop}
+use Rattle.frame_rows.specs.declared.instruction.Block.{Block}
+use Rattle.frame_rows.specs.declared.instruction.Instruction.TheVariants.{SetLoc, AdvanceLoc, DefCfa, DefCfaSf, DefCfaRegister, DefCfaOffset, DefCfaOffsetSf, DefCfaExpression, Undefined, SameValue, Offset, OffsetExtendedSf, ValOffset, ValOffsetSf, Register, Expression, ValExpression, Restore, RememberState, RestoreState, Nop}
 use Rattle.frame_rows.specs.Instructions.{Item, instructions}
 use Rattle.sym_edges.proofs.Hex.{hex}
 use Rattle.frame_rows.proofs.Computing.{frame_rows_computes}
@@ -182,17 +183,37 @@ none : reads "" ≡ []
 unfolding frame_rows_computes reads
 none = refl
 
-def_cfa_expression : reads "00 0f" ≡ Ok Nop ∷ Err reason.Expression ∷ []
+-- a DWARF expression is where its bytes stand
+abbrev at : ℕ → ℕ → Block
+at start len = record { start = start; len = len }
+
+def_cfa_expression : reads "00 0f 02 7708" ≡ Ok Nop ∷ Ok (DefCfaExpression (at 3 2)) ∷ []
 unfolding frame_rows_computes reads
 def_cfa_expression = refl
 
-expression : reads "00 10" ≡ Ok Nop ∷ Err reason.Expression ∷ []
+expression : reads "00 10 06 02 7778 41" ≡ Ok Nop ∷ Ok (Expression 6 (at 4 2)) ∷ Ok (AdvanceLoc 1) ∷ []
 unfolding frame_rows_computes reads
 expression = refl
 
-val_expression : reads "00 16" ≡ Ok Nop ∷ Err reason.Expression ∷ []
+val_expression : reads "16 9101 00 41" ≡ Ok (ValExpression 145 (at 4 0)) ∷ Ok (AdvanceLoc 1) ∷ []
 unfolding frame_rows_computes reads
 val_expression = refl
+
+no_block : reads "00 0f" ≡ Ok Nop ∷ Err reason.Instruction ∷ []
+unfolding frame_rows_computes reads
+no_block = refl
+
+no_column : reads "00 10" ≡ Ok Nop ∷ Err reason.Instruction ∷ []
+unfolding frame_rows_computes reads
+no_column = refl
+
+a_cut_block : reads "00 0f 02 77" ≡ Ok Nop ∷ Err reason.Instruction ∷ []
+unfolding frame_rows_computes reads
+a_cut_block = refl
+
+a_cut_block_of_a_column : reads "00 16 06 03 2310" ≡ Ok Nop ∷ Err reason.Instruction ∷ []
+unfolding frame_rows_computes reads
+a_cut_block_of_a_column = refl
 
 no_opcode_17 : reads "00 17" ≡ Ok Nop ∷ Err reason.Instruction ∷ []
 unfolding frame_rows_computes reads

@@ -4,9 +4,56 @@ use Rattle.sym_edges.specs.declared.reason.Reason.TheVariants as reason
 use Rattle.frame_rows.specs.Rows.{instruction_fault}
 use Rattle.frame_rows.proofs.Entries.{entry, called, rows, entries}
 
-an_expression : rows (called 0x20 "0f") ≡ Err reason.Expression
+-- expressions that rule text cannot say: one that adds without values, one that leaves two, and one with an operation that has no words
+an_expression_without_values : rows (called 0x20 "0f0122") ≡ Err reason.Expression
 unfolding entries
-an_expression = refl
+an_expression_without_values = refl
+
+an_expression_with_two_values : rows (called 0x20 "0f03770830") ≡ Err reason.Expression
+unfolding entries
+an_expression_with_two_values = refl
+
+an_expression_of_a_nop : rows (called 0x20 "0f0196") ≡ Err reason.Expression
+unfolding entries
+an_expression_of_a_nop = refl
+
+an_expression_for_a_column : rows (called 0x20 "10060196") ≡ Err reason.Expression
+unfolding entries
+an_expression_for_a_column = refl
+
+an_expression_of_the_cie : rows (entry 0x1000 0x20 "0c0708 9001 1610019d" "00") ≡ Err reason.Expression
+unfolding entries
+an_expression_of_the_cie = refl
+
+-- above column 16 none is looked at, but its block is read
+an_expression_for_column_17 : instruction_fault (called 0x20 "10110196 16110196") ≡ None
+unfolding entries
+an_expression_for_column_17 = refl
+
+a_cut_expression_for_column_17 : rows (called 0x20 "10110296") ≡ Err reason.Instruction
+unfolding entries
+a_cut_expression_for_column_17 = refl
+
+no_block : rows (called 0x20 "0f") ≡ Err reason.Instruction
+unfolding entries
+no_block = refl
+
+a_block_that_leaves_the_entry : rows (called 0x20 "0f037708") ≡ Err reason.Instruction
+unfolding entries
+a_block_that_leaves_the_entry = refl
+
+-- an expression has no offset, and no register
+no_offset_of_an_expression : rows (called 0x20 "0f027708 0e10") ≡ Err reason.State
+unfolding entries
+no_offset_of_an_expression = refl
+
+no_signed_offset_of_an_expression : rows (called 0x20 "0f027708 137e") ≡ Err reason.State
+unfolding entries
+no_signed_offset_of_an_expression = refl
+
+no_register_of_an_expression : rows (called 0x20 "0f027708 0d06") ≡ Err reason.State
+unfolding entries
+no_register_of_an_expression = refl
 
 no_such_opcode : rows (called 0x20 "3f") ≡ Err reason.Instruction
 unfolding entries

@@ -3,7 +3,7 @@ use Rattle.std.specs.Prelude.{Option, Some, None, Result, Ok, Err}
 use Rattle.sym_edges.specs.declared.reason.Reason.{Reason}
 use Rattle.frame_entries.specs.FdeFields.{FdeFields}
 use Rattle.frame_rows.specs.Left.{Left}
-use Rattle.frame_rows.specs.Rows.{first_fault, cie_context, cie_items, cie_begin, cie_end, own_context}
+use Rattle.frame_rows.specs.Rows.{first_fault, cie_context, cie_items, cie_begin, cie_end, left_context}
 
 -- what is left, unless there is a reason
 abbrev pub left_unless : Option Reason → Left → Result Left Reason
@@ -14,4 +14,4 @@ left_unless (Some why) left = Err why
 unfoldable pub cie_left : FdeFields → Result Left Reason
 cie_left e =
     left_unless (first_fault (cie_context e) (cie_items e) (cie_begin e))
-    (record { context = own_context e; stack = (cie_end e).stack })
+    (record { context = left_context e; stack = (cie_end e).stack })

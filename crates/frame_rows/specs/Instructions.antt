@@ -5,12 +5,13 @@ use Rattle.sym_edges.specs.declared.reason.Reason.TheVariants as reason
 use Rattle.leb_cursor.specs.declared.fault.CursorFault.{CursorFault}
 use Rattle.sym_edges.specs.Results.{◌>>=◌}
 use Rattle.leb_cursor.specs.Ahead.{Ahead}
-use Rattle.leb_cursor.specs.Readings.{fixed_at, uleb_at, sleb_at}
+use Rattle.leb_cursor.specs.Readings.{fixed_at, uleb_at, sleb_at, take_at}
 use Rattle.frame_entries.specs.Pointers.{pointer_at}
 use Rattle.frame_entries.specs.Listing.{from_start}
 use Rattle.frame_entries.specs.FrameEntries.{address_at}
+use Rattle.frame_rows.specs.declared.instruction.Block.{Block}
 use Rattle.frame_rows.specs.declared.instruction.Instruction.{Instruction}
-use Rattle.frame_rows.specs.declared.instruction.Instruction.TheVariants.{SetLoc, AdvanceLoc, DefCfa, DefCfaSf, DefCfaRegister, DefCfaOffset, DefCfaOffsetSf, Undefined, SameValue, Offset, OffsetExtendedSf, ValOffset, ValOffsetSf, Register, Restore, RememberState, RestoreState, Nop}
+use Rattle.frame_rows.specs.declared.instruction.Instruction.TheVariants.{SetLoc, AdvanceLoc, DefCfa, DefCfaSf, DefCfaRegister, DefCfaOffset, DefCfaOffsetSf, DefCfaExpression, Undefined, SameValue, Offset, OffsetExtendedSf, ValOffset, ValOffsetSf, Register, Expression, ValExpression, Restore, RememberState, RestoreState, Nop}
 
 -- an opcode or an operand that cannot be read
 abbrev pub or_instruction : {A : Type 0} → Result A CursorFault → Result A Reason
@@ -27,8 +28,18 @@ one operand make c = or_instruction (operand c) >>= λ x. Ok (make x.0, x.1)
 abbrev pub two : {A B : Type 0} → (Ahead → Result (A × Ahead) CursorFault) → (Ahead → Result (B × Ahead) CursorFault) → (A → B → Instruction) → Ahead → Result (Instruction × Ahead) Reason
 two first second make c = or_instruction (first c) >>= λ x. or_instruction (second x.1) >>= λ y. Ok (make x.0 y.0, y.1)
 
+-- a block, which a DWARF expression is: its length, then so many bytes; what is kept is where it starts, and its length
+unfoldable pub block_at : Ahead → Result (Block × Ahead) Reason
+block_at c = or_instruction (uleb_at c) >>= λ len. or_instruction (take_at len.0 len.1) >>= λ run. Ok (record { start = len.1.at; len = len.0 }, run.1)
+
+abbrev pub with_block : (Block → Instruction) → Ahead → Result (Instruction × Ahead) Reason
+with_block make c = block_at c >>= λ x. Ok (make x.0, x.1)
+
+abbrev pub column_with_block : (ℕ → Block → Instruction) → Ahead → Result (Instruction × Ahead) Reason
+column_with_block make c = or_instruction (uleb_at c) >>= λ column. with_block (make column.0) column.1
+
 -- after an opcode without an operand in it: its operands, and what it means (DWARF 5, table 7.29); the operand of
--- DW_CFA_set_loc is a pointer in the entry's encoding, and an instruction with a DWARF expression is refused
+-- DW_CFA_set_loc is a pointer in the entry's encoding
 unfoldable pub extended_at : ℕ → ℕ → ℕ → Ahead → Result (Instruction × Ahead) Reason
 extended_at encoding base opcode c =
     if opcode == 0x00 then alone Nop c else  -- DW_CFA_nop
@@ -46,14 +57,14 @@ extended_at encoding base opcode c =
     if opcode == 0x0c then two uleb_at uleb_at DefCfa c else  -- DW_CFA_def_cfa
     if opcode == 0x0d then one uleb_at DefCfaRegister c else  -- DW_CFA_def_cfa_register
     if opcode == 0x0e then one uleb_at DefCfaOffset c else  -- DW_CFA_def_cfa_offset
-    if opcode == 0x0f then Err reason.Expression else  -- DW_CFA_def_cfa_expression
-    if opcode == 0x10 then Err reason.Expression else  -- DW_CFA_expression
+    if opcode == 0x0f then with_block DefCfaExpression c else  -- DW_CFA_def_cfa_expression
+    if opcode == 0x10 then column_with_block Expression c else  -- DW_CFA_expression
     if opcode == 0x11 then two uleb_at sleb_at OffsetExtendedSf c else  -- DW_CFA_offset_extended_sf
     if opcode == 0x12 then two uleb_at sleb_at DefCfaSf c else  -- DW_CFA_def_cfa_sf
     if opcode == 0x13 then one sleb_at DefCfaOffsetSf c else  -- DW_CFA_def_cfa_offset_sf
     if opcode == 0x14 then two uleb_at uleb_at ValOffset c else  -- DW_CFA_val_offset
     if opcode == 0x15 then two uleb_at sleb_at ValOffsetSf c else  -- DW_CFA_val_offset_sf
-    if opcode == 0x16 then Err reason.Expression else  -- DW_CFA_val_expression
+    if opcode == 0x16 then column_with_block ValExpression c else  -- DW_CFA_val_expression
     if opcode == 0x2e then one uleb_at (λ size. Nop) c else  -- DW_CFA_GNU_args_size
     Err reason.Instruction
 

@@ -1,6 +1,7 @@
 pub mod Instructions
 pub mod Operands
 pub mod Machine
+pub mod Context
 pub mod Steps
 pub mod Rows
 pub mod Left

@@ -1,5 +1,5 @@
 -- Which operands an instruction takes.
-use Rattle.std.specs.Prelude.{◌≡◌, ℕ, ◌==◌, ◌||◌, not, Bool, List, filter, Option, Some, None, Result, Ok, Err}
+use Rattle.std.specs.Prelude.{◌≡◌, ℕ, ◌==◌, not, List, filter, Option, Some, None, Result, Ok, Err}
 use Rattle.leb_cursor.specs.Ahead.{Ahead}
 use Rattle.code_table.specs.declared.code_row.CodeRow.{CodeRow}
 use Rattle.code_table.specs.FrameOps.{frame_opcodes}
@@ -11,14 +11,9 @@ abbrev pub left : {A E : Type 0} → Result (A × Ahead) E → Option Ahead
 left (Ok x) = Some x.1
 left (Err fault) = None
 
--- DW_CFA_set_loc, whose operand is a pointer, and those with a DWARF expression: DW_CFA_def_cfa_expression, DW_CFA_expression,
--- DW_CFA_val_expression
-unfoldable pub has_no_plain_operands : ℕ → Bool
-has_no_plain_operands opcode = opcode == 0x01 || opcode == 0x0f || opcode == 0x10 || opcode == 0x16
-
--- the other opcodes of the standard's table
+-- the opcodes of the standard's table but DW_CFA_set_loc, whose operand is a pointer
 unfoldable pub plain_opcodes : List CodeRow
-plain_opcodes = filter (λ row. not (has_no_plain_operands row.code)) frame_opcodes
+plain_opcodes = filter (λ row. not (row.code == 0x01)) frame_opcodes
 
 -- the instruction of a row takes the operands that the row has
 abbrev pub TakesOperands : CodeRow → Type 0

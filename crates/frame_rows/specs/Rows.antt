@@ -1,6 +1,6 @@
 -- The row at an address of an entry, the addresses at which rows begin, and the reason for which an entry has no rows
 -- (DWARF 5, sections 6.4.2 and 6.4.3).
-use Rattle.std.specs.Prelude.{◌≡◌, ℕ, ◌+◌, ◌<◌, ◌≤◌, ◌&&◌, not, nat_lt, nat_le, Bool, true, if◌then◌else◌, List, [], ◌∷◌, map, replicate, Option, Some, None, Ok, Err}
+use Rattle.std.specs.Prelude.{◌≡◌, ℕ, ◌+◌, ◌<◌, ◌≤◌, ◌&&◌, not, nat_lt, nat_le, Bool, true, false, if◌then◌else◌, List, [], ◌∷◌, map, replicate, Option, Some, None, is_some, Ok, Err}
 use Rattle.std.specs.List.{list_any, range_with_len, slice_index_or}
 use Rattle.sym_edges.specs.declared.reason.Reason.{Reason}
 use Rattle.sym_edges.specs.declared.reason.Reason.TheVariants as reason
@@ -9,37 +9,42 @@ use Rattle.frame_entries.specs.FdeFields.{FdeFields}
 use Rattle.frame_rows.specs.declared.row.Rule.{Rule}
 use Rattle.frame_rows.specs.declared.row.Rule.TheVariants as rule
 use Rattle.frame_rows.specs.declared.row.CfaRule.{CfaRule}
+use Rattle.frame_rows.specs.declared.row.CfaRule.TheVariants as cfa
 use Rattle.frame_rows.specs.declared.row.Row.{Row}
 use Rattle.frame_rows.specs.declared.row.RowAt.{RowAt}
 use Rattle.frame_rows.specs.declared.machine.CieContext.{CieContext}
 use Rattle.frame_rows.specs.Instructions.{Item, instructions}
 use Rattle.frame_rows.specs.Machine.{Machine}
+use Rattle.frame_rows.specs.Context.{Context, with_run}
+use Rattle.expr_steps.specs.declared.place.Place.{Place}
+use Rattle.expr_steps.specs.Places.{bytes_at}
+use Rattle.expr_steps.specs.Standing.{standing}
 use Rattle.sym_edges.specs.Results.{unless}
 use Rattle.std.specs.Option.{option_or}
 use Rattle.frame_rows.specs.Steps.{Effect, MovesTo, MovesBy, effect, has_cfa, stepped, step_fault}
 
 -- an instruction that cannot be read changes nothing, and is refused for its own reason
-abbrev pub item_stepped : CieContext → Item → Machine → Machine
+abbrev pub item_stepped : Context → Item → Machine → Machine
 item_stepped s (Ok instruction) m = stepped s instruction m
 item_stepped s (Err why) m = m
 
-abbrev pub item_fault : CieContext → Item → Machine → Option Reason
+abbrev pub item_fault : Context → Item → Machine → Option Reason
 item_fault s (Ok instruction) m = step_fault s instruction m
 item_fault s (Err why) m = Some why
 
 -- the state after all instructions
-unfoldable pub all_stepped : CieContext → List Item → Machine → Machine
+unfoldable pub all_stepped : Context → List Item → Machine → Machine
 all_stepped s [] m = m
 all_stepped s (i ∷ items) m = all_stepped s items (item_stepped s i m)
 
 -- the reason of the first bad instruction
-unfoldable pub first_fault : CieContext → List Item → Machine → Option Reason
+unfoldable pub first_fault : Context → List Item → Machine → Option Reason
 first_fault s [] m = None
 first_fault s (i ∷ items) m = option_or (item_fault s i m) (first_fault s items (item_stepped s i m))
 
 -- the state after the longest prefix of instructions whose locations are at most an address: each has the location that
 -- those before it left
-unfoldable pub replay : CieContext → List Item → Machine → ℕ → Machine
+unfoldable pub replay : Context → List Item → Machine → ℕ → Machine
 replay s [] m a = m
 replay s (i ∷ items) m a = if nat_le m.address a then replay s items (item_stepped s i m) a else m
 
@@ -49,8 +54,8 @@ empty_row = record { cfa = None; rules = replicate 17 rule.Rest }
 
 -- the initial instructions, those of the entry's CIE, from the start of the entry's address range; no location instruction may stand there, so
 -- the address of a pointer among them does not count
-unfoldable pub cie_context : FdeFields → CieContext
-cie_context e = record { code_align = e.code_align; data_align = e.data_align; initial = None }
+unfoldable pub cie_context : FdeFields → Context
+cie_context e = with_run (record { code_align = e.code_align; data_align = e.data_align; initial = None }) e.initial_instructions
 
 unfoldable pub cie_items : FdeFields → List Item
 cie_items e = instructions e.encoding 0 e.initial_instructions
@@ -62,8 +67,11 @@ unfoldable pub cie_end : FdeFields → Machine
 cie_end e = all_stepped (cie_context e) (cie_items e) (cie_begin e)
 
 -- the entry's own instructions, after the initial ones: the row and the row stack go on
-unfoldable pub own_context : FdeFields → CieContext
-own_context e = record { code_align = e.code_align; data_align = e.data_align; initial = Some (cie_end e).row }
+unfoldable pub left_context : FdeFields → CieContext
+left_context e = record { code_align = e.code_align; data_align = e.data_align; initial = Some (cie_end e).row }
+
+unfoldable pub own_context : FdeFields → Context
+own_context e = with_run (left_context e) e.instructions
 
 unfoldable pub own_items : FdeFields → List Item
 own_items e = instructions e.encoding e.instructions_address e.instructions
@@ -81,12 +89,12 @@ location_after (MovesTo address) at = address
 location_after (MovesBy distance) at = at + distance
 location_after _ at = at
 
-abbrev pub next_location : CieContext → Item → ℕ → ℕ
+abbrev pub next_location : Context → Item → ℕ → ℕ
 next_location s (Ok i) at = location_after (effect s i) at
 next_location s (Err why) at = at
 
 -- the addresses below an end to which location instructions move the location, each once
-unfoldable pub moves : CieContext → ℕ → List Item → ℕ → List ℕ
+unfoldable pub moves : Context → ℕ → List Item → ℕ → List ℕ
 moves s end [] at = []
 moves s end (i ∷ items) at =
     if nat_lt at (next_location s i at) && nat_lt (next_location s i at) end
@@ -130,21 +138,27 @@ pub record AreRows (e : FdeFields) (rows : List RowAt) : Type 0 where
 pub record HasCfa (e : FdeFields) : Type 0 where
   pub everywhere : (a : ℕ) → e.start ≤ a → a < e.start + e.size → has_cfa (row_at e a) ≡ true
 
--- a rule of a column is sound where it names one of the sixteen registers, if it names one, and its offset is that of an i64:
--- the return address is no register
-abbrev pub is_sound_rule : ℕ → Rule → Bool
-is_sound_rule column rule.Rest = true
-is_sound_rule column rule.Undefined = true
-is_sound_rule column rule.Same = nat_lt column 16
-is_sound_rule column (rule.Offset n) = fits_i64 n
-is_sound_rule column (rule.ValOffset n) = fits_i64 n
-is_sound_rule column (rule.Register register) = nat_lt register 16
+-- the bytes of an expression of an entry
+abbrev pub expr_bytes : FdeFields → Place → List ℕ
+expr_bytes e place = bytes_at place e.initial_instructions e.instructions
 
-abbrev pub is_sound_cfa : Option CfaRule → Bool
-is_sound_cfa None = true
-is_sound_cfa (Some cfa) = nat_lt cfa.register 16 && fits_i64 cfa.offset
+-- a rule of a column is sound where it names one of the sixteen registers, if it names one, its offset is that of an i64, and rule text
+-- can say its expression: the return address is no register
+abbrev pub is_sound_rule : FdeFields → ℕ → Rule → Bool
+is_sound_rule e column rule.Rest = true
+is_sound_rule e column rule.Undefined = true
+is_sound_rule e column rule.Same = nat_lt column 16
+is_sound_rule e column (rule.Offset n) = fits_i64 n
+is_sound_rule e column (rule.ValOffset n) = fits_i64 n
+is_sound_rule e column (rule.Register register) = nat_lt register 16
+is_sound_rule e column (rule.Expr fetch place) = is_some (standing true (expr_bytes e place))
 
--- a row whose rules are sound
-pub record IsSound (row : Row) : Type 0 where
-  pub cfa : is_sound_cfa row.cfa ≡ true
-  pub columns : (column : ℕ) → is_sound_rule column (slice_index_or row.rules column rule.Rest) ≡ true
+abbrev pub is_sound_cfa : FdeFields → Option CfaRule → Bool
+is_sound_cfa e None = true
+is_sound_cfa e (Some (cfa.Base register offset)) = nat_lt register 16 && fits_i64 offset
+is_sound_cfa e (Some (cfa.Expr place)) = is_some (standing false (expr_bytes e place))
+
+-- a row of an entry whose rules are sound
+pub record IsSound (e : FdeFields) (row : Row) : Type 0 where
+  pub cfa : is_sound_cfa e row.cfa ≡ true
+  pub columns : (column : ℕ) → is_sound_rule e column (slice_index_or row.rules column rule.Rest) ≡ true

@@ -9,11 +9,16 @@ use Rattle.sym_edges.specs.declared.reason.Reason.TheVariants as reason
 use Rattle.frame_rows.specs.declared.row.Rule.{Rule}
 use Rattle.frame_rows.specs.declared.row.Rule.TheVariants as rule
 use Rattle.frame_rows.specs.declared.row.CfaRule.{CfaRule}
+use Rattle.frame_rows.specs.declared.row.CfaRule.TheVariants as cfa
 use Rattle.frame_rows.specs.declared.row.Row.{Row}
-use Rattle.frame_rows.specs.declared.machine.CieContext.{CieContext}
+use Rattle.expr_steps.specs.declared.place.Place.{Place}
+use Rattle.expr_steps.specs.Places.{bytes_at}
+use Rattle.expr_steps.specs.Standing.{standing}
+use Rattle.frame_rows.specs.declared.instruction.Block.{Block}
 use Rattle.frame_rows.specs.declared.instruction.Instruction.{Instruction}
-use Rattle.frame_rows.specs.declared.instruction.Instruction.TheVariants.{SetLoc, AdvanceLoc, DefCfa, DefCfaSf, DefCfaRegister, DefCfaOffset, DefCfaOffsetSf, Undefined, SameValue, Offset, OffsetExtendedSf, ValOffset, ValOffsetSf, Register, Restore, RememberState, RestoreState, Nop}
+use Rattle.frame_rows.specs.declared.instruction.Instruction.TheVariants.{SetLoc, AdvanceLoc, DefCfa, DefCfaSf, DefCfaRegister, DefCfaOffset, DefCfaOffsetSf, DefCfaExpression, Undefined, SameValue, Offset, OffsetExtendedSf, ValOffset, ValOffsetSf, Register, Expression, ValExpression, Restore, RememberState, RestoreState, Nop}
 use Rattle.frame_rows.specs.Machine.{Machine}
+use Rattle.frame_rows.specs.Context.{Context}
 
 -- the row has a CFA rule
 abbrev pub has_cfa : Row → Bool
@@ -21,16 +26,27 @@ has_cfa row = is_some row.cfa
 
 -- the row with another CFA rule
 unfoldable pub put_cfa : ℕ → ℤ → Row → Row
-put_cfa register offset row = record { cfa = Some (record { register = register; offset = offset }); rules = row.rules }
+put_cfa register offset row = record { cfa = Some (cfa.Base register offset); rules = row.rules }
 
--- the row with another register in its CFA rule, and with another offset in it
+unfoldable pub put_cfa_expr : Place → Row → Row
+put_cfa_expr place row = record { cfa = Some (cfa.Expr place); rules = row.rules }
+
+-- the row with another register in its CFA rule, and with another offset in it, where it is a register and an offset
 abbrev pub cfa_register : ℕ → Option CfaRule → Option CfaRule
 cfa_register register None = None
-cfa_register register (Some cfa) = Some (record { register = register; offset = cfa.offset })
+cfa_register register (Some (cfa.Base old offset)) = Some (cfa.Base register offset)
+cfa_register register (Some (cfa.Expr place)) = Some (cfa.Expr place)
 
 abbrev pub cfa_offset : ℤ → Option CfaRule → Option CfaRule
 cfa_offset offset None = None
-cfa_offset offset (Some cfa) = Some (record { register = cfa.register; offset = offset })
+cfa_offset offset (Some (cfa.Base register old)) = Some (cfa.Base register offset)
+cfa_offset offset (Some (cfa.Expr place)) = Some (cfa.Expr place)
+
+-- the CFA rule is a register and an offset
+abbrev pub is_base : Option CfaRule → Bool
+is_base None = false
+is_base (Some (cfa.Base register offset)) = true
+is_base (Some (cfa.Expr place)) = false
 
 unfoldable pub put_register : ℕ → Row → Row
 put_register register row = record { cfa = cfa_register register row.cfa; rules = row.rules }
@@ -46,8 +62,25 @@ put_rule column new row = if nat_lt column 17 then record { cfa = row.cfa; rules
 abbrev pub plain : ℕ → ℤ
 plain offset = cast_signed w64 offset
 
-abbrev pub scaled : CieContext → ℤ → ℤ
+abbrev pub scaled : Context → ℤ → ℤ
 scaled s factored = int_wrapping_mul w64 factored s.data_align
+
+-- the place of an expression in the run of instructions: the entry's own, or those of its CIE
+abbrev pub place_of_block : Context → Block → Place
+place_of_block s block = record { own = is_some s.initial; start = block.start; len = block.len }
+
+-- rule text can say the expression at a place of the run, where `over_cfa` says that the CFA may be on the stack (DWARF 5, 6.4.2.2 and
+-- 6.4.2.3); a place has its start and its length in four bytes each
+unfoldable pub can_say : Bool → Context → Block → Bool
+can_say over_cfa s block =
+    nat_lt block.start (2 ^ 32) && (nat_lt block.len (2 ^ 32) && is_some (standing over_cfa (bytes_at (place_of_block s block) s.run s.run)))
+
+abbrev pub expr_fault : Bool → Context → Block → Option Reason
+expr_fault over_cfa s block = unless (can_say over_cfa s block) reason.Expression
+
+-- columns above 16 are passed over
+abbrev pub column_expr_fault : Context → ℕ → Block → Option Reason
+column_expr_fault s column block = unless (nat_lt 16 column || can_say true s block) reason.Expression
 
 -- the rule that the initial instructions gave a column
 abbrev pub rule_behind : Option Row → ℕ → Rule
@@ -80,8 +113,10 @@ pub data Effect : Type 0 where
   -- the location moves to an address, or by a distance
   MovesTo : ℕ → Effect
   MovesBy : ℕ → Effect
-  -- the CFA has a rule of a register and an offset, or another register in its rule, or another offset
+  -- the CFA has a rule of a register and an offset, or of an expression, unless there is a reason against it, or another register in its
+  -- rule, or another offset
   DefinesCfa : ℕ → ℤ → Effect
+  DefinesCfaExpr : Place → Option Reason → Effect
   ChangesRegister : ℕ → Effect
   ChangesOffset : ℤ → Effect
   -- a column has a rule, unless there is a reason against it
@@ -91,7 +126,7 @@ pub data Effect : Type 0 where
   TakesBack : Effect
   DoesNothing : Effect
 
-abbrev pub effect : CieContext → Instruction → Effect
+abbrev pub effect : Context → Instruction → Effect
 -- row creation (6.4.2.1)
 effect s (SetLoc address) = MovesTo address
 effect s (AdvanceLoc delta) = MovesBy (delta * s.code_align)
@@ -101,6 +136,7 @@ effect s (DefCfaSf register factored) = DefinesCfa register (scaled s factored)
 effect s (DefCfaRegister register) = ChangesRegister register
 effect s (DefCfaOffset offset) = ChangesOffset (plain offset)
 effect s (DefCfaOffsetSf factored) = ChangesOffset (scaled s factored)
+effect s (DefCfaExpression block) = DefinesCfaExpr (place_of_block s block) (expr_fault false s block)
 -- register rules (6.4.2.3); the return address is no register, and the one that has a column's value is one of the sixteen
 effect s (Undefined column) = PutsRule column rule.Undefined None
 effect s (SameValue column) = PutsRule column rule.Same (unless (not (column == 16)) reason.Register)
@@ -109,6 +145,8 @@ effect s (OffsetExtendedSf column factored) = PutsRule column (rule.Offset (scal
 effect s (ValOffset column factored) = PutsRule column (rule.ValOffset (scaled s (plain factored))) None
 effect s (ValOffsetSf column factored) = PutsRule column (rule.ValOffset (scaled s factored)) None
 effect s (Register column register) = PutsRule column (rule.Register register) (unless (nat_lt 16 column || nat_lt register 16) reason.Register)
+effect s (Expression column block) = PutsRule column (rule.Expr true (place_of_block s block)) (column_expr_fault s column block)
+effect s (ValExpression column block) = PutsRule column (rule.Expr false (place_of_block s block)) (column_expr_fault s column block)
 effect s (Restore column) = PutsRule column (rule_behind s.initial column) (unless (is_some s.initial) reason.State)
 -- row state (6.4.2.4)
 effect s RememberState = Remembers
@@ -121,6 +159,7 @@ abbrev pub done : Effect → Machine → Machine
 done (MovesTo address) m = moved address m
 done (MovesBy distance) m = moved (m.address + distance) m
 done (DefinesCfa register offset) m = on_row (put_cfa register offset) m
+done (DefinesCfaExpr place why) m = on_row (put_cfa_expr place) m
 done (ChangesRegister register) m = on_row (put_register register) m
 done (ChangesOffset offset) m = on_row (put_offset offset) m
 done (PutsRule column new why) m = on_row (put_rule column new) m
@@ -129,21 +168,22 @@ done TakesBack m = record { address = m.address; row = top_or m.row m.stack; sta
 done DoesNothing m = m
 
 -- a location instruction: none may stand in a CIE, and the location rises and stays below 2^64
-abbrev pub move_fault : CieContext → ℕ → ℕ → Option Reason
+abbrev pub move_fault : Context → ℕ → ℕ → Option Reason
 move_fault s before after = unless (is_some s.initial && (nat_le before after && nat_lt after (2 ^ 64))) reason.Range
 
--- the CFA's register is one of the sixteen, and only where there is a CFA rule may a part of it be changed
+-- the CFA's register is one of the sixteen, and only where the CFA rule is a register and an offset may one of the two be changed
 abbrev pub register_fault : ℕ → Option Reason
 register_fault register = unless (nat_lt register 16) reason.Register
 
 abbrev pub part_fault : Machine → Option Reason
-part_fault m = unless (has_cfa m.row) reason.State
+part_fault m = unless (is_base m.row.cfa) reason.State
 
 -- why an effect is refused; of several reasons the first in their order
-abbrev pub effect_fault : CieContext → Effect → Machine → Option Reason
+abbrev pub effect_fault : Context → Effect → Machine → Option Reason
 effect_fault s (MovesTo address) m = move_fault s m.address address
 effect_fault s (MovesBy distance) m = move_fault s m.address (m.address + distance)
 effect_fault s (DefinesCfa register offset) m = register_fault register
+effect_fault s (DefinesCfaExpr place why) m = why
 effect_fault s (ChangesRegister register) m = option_or (register_fault register) (part_fault m)
 effect_fault s (ChangesOffset offset) m = part_fault m
 effect_fault s (PutsRule column new why) m = why
@@ -152,8 +192,8 @@ effect_fault s TakesBack m = unless (has_remembered m.stack) reason.State
 effect_fault s DoesNothing m = None
 
 -- the state after an instruction, and why it may not stand where it stands
-unfoldable pub stepped : CieContext → Instruction → Machine → Machine
+unfoldable pub stepped : Context → Instruction → Machine → Machine
 stepped s i m = done (effect s i) m
 
-unfoldable pub step_fault : CieContext → Instruction → Machine → Option Reason
+unfoldable pub step_fault : Context → Instruction → Machine → Option Reason
 step_fault s i m = effect_fault s (effect s i) m

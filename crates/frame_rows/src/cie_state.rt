@@ -1,12 +1,12 @@
 //! The state after the instructions of a CIE, which are carried out once for all of its entries.
 ghost use Rattle.std.specs.Prelude.{◌≡◌, Ok, Err, Some, None, reverse, MatchResult, IfOk};
 ghost use Rattle.sym_edges.specs.Outside.{MatchStop};
-ghost use Rattle.frame_rows.specs.Rows.{empty_row, first_fault, cie_context, cie_items, cie_begin, cie_end, own_context, own_begin};
+ghost use Rattle.frame_rows.specs.Rows.{empty_row, first_fault, cie_context, cie_items, cie_begin, cie_end, left_context, own_begin};
 ghost use Rattle.frame_rows.specs.CieLeft.{cie_left};
 ghost use Rattle.frame_rows.specs.internal.Held.{context_in};
 
 use crate::held_context::HeldContext;
-use crate::machine::{CieContext, Machine};
+use crate::machine::{CieContext, Context, Machine};
 use crate::row::{COLUMNS, Row, Rule};
 use crate::run::run_all;
 use frame_entries::Fde;
@@ -77,7 +77,11 @@ fn run_cie<'c>(alloc: Global, fde: &Fde<'_>) -> Result<Machine<'c>, Stop<Reason>
         (Unit {0}) }
     ensures machine { IfOk result (λ machine. machine ≡ cie_end fde.now) }
 {
-    let context = context_of(fde, None);
+    let cie = context_of(fde, None);
+    let context = Context {
+        cie: &cie,
+        run: fde.initial_instructions,
+    };
     let mut machine = Machine::new(alloc, fde.start, &empty_row(), &[]);
     run_all(
         &mut machine,
@@ -130,7 +134,7 @@ impl CieState {
             (λ _. first_fault (cie_context fde.now) (cie_items fde.now) (cie_begin fde.now) ≡ None)
             (λ why. first_fault (cie_context fde.now) (cie_items fde.now) (cie_begin fde.now) ≡ Some why) }
         ensures machine { IfOk result (λ begun. begun.machine ≡ own_begin fde.now) }
-        ensures context { IfOk result (λ begun. context_in begun.context ≡ own_context fde.now) }
+        ensures context { IfOk result (λ begun. context_in begun.context ≡ left_context fde.now) }
     {
         match &self.left {
             Ok(left) => match &left.context.initial {
@@ -152,7 +156,7 @@ impl CieState {
             (λ why. first_fault (cie_context fde.now) (cie_items fde.now) (cie_begin fde.now) ≡ Some why)
             (Unit {0}) }
         ensures machine { IfOk result (λ begun. begun.machine ≡ own_begin fde.now) }
-        ensures context { IfOk result (λ begun. context_in begun.context ≡ own_context fde.now) }
+        ensures context { IfOk result (λ begun. context_in begun.context ≡ left_context fde.now) }
     {
         let CieState { left } = self;
         match left {

@@ -1,13 +1,13 @@
 //! Reading an instruction.
-ghost use Rattle.std.specs.Prelude.{◌≡◌, IsTrue};
+ghost use Rattle.std.specs.Prelude.{◌≡◌, IsTrue, if◌then◌else◌};
 ghost use Rattle.leb_cursor.specs.Ahead.{gave};
 ghost use Rattle.frame_entries.specs.Pointers.{is_encoding, pointer_at};
 ghost use Rattle.frame_entries.specs.FrameEntries.{address_at};
 ghost use Rattle.leb_cursor.specs.Readings.{uleb_at};
-ghost use Rattle.frame_rows.specs.declared.instruction.Instruction.TheVariants.{SetLoc, Nop};
-ghost use Rattle.frame_rows.specs.Instructions.{one, extended_at, behind_opcode, instruction_at};
+ghost use Rattle.frame_rows.specs.declared.instruction.Instruction.TheVariants.{SetLoc, DefCfaExpression, Expression, ValExpression, Nop};
+ghost use Rattle.frame_rows.specs.Instructions.{one, block_at, with_block, column_with_block, extended_at, behind_opcode, instruction_at};
 
-use crate::instruction::Instruction;
+use crate::instruction::{Block, Instruction};
 use code_table::{
     DW_CFA_GNU_args_size, DW_CFA_advance_loc1, DW_CFA_advance_loc2, DW_CFA_advance_loc4,
     DW_CFA_def_cfa, DW_CFA_def_cfa_expression, DW_CFA_def_cfa_offset, DW_CFA_def_cfa_offset_sf,
@@ -54,6 +54,48 @@ fn read_args_size(cursor: &mut Cursor<'_>) -> Result<Instruction, Reason>
     Ok(Instruction::Nop)
 }
 
+/// Reads a block: passes over it, and says where it starts and how long it is.
+#[tactic(auto, unfolding(crate::specs::Instructions::block_at))]
+fn read_block(cursor: &mut Cursor<'_>) -> Result<Block, Reason>
+    ensures { gave result cursor.new ≡ block_at cursor.old }
+{
+    let Ok(len) = cursor.uleb() else {
+        return Err(Reason::Instruction);
+    };
+    let start = cursor.at();
+    let Ok(_) = cursor.take(len) else {
+        return Err(Reason::Instruction);
+    };
+    Ok(Block {
+        start,
+        len: len as usize,
+    })
+}
+
+/// Reads the operand of `DW_CFA_def_cfa_expression`.
+#[inline(never)]
+fn read_cfa_expression(cursor: &mut Cursor<'_>) -> Result<Instruction, Reason>
+    ensures { gave result cursor.new ≡ with_block DefCfaExpression cursor.old }
+{
+    let block = read_block(cursor)?;
+    Ok(Instruction::DefCfaExpression { block })
+}
+
+/// Reads the operands of `DW_CFA_expression`, which fetches, or of `DW_CFA_val_expression`.
+#[inline(never)]
+fn read_expression(cursor: &mut Cursor<'_>, fetches: bool) -> Result<Instruction, Reason>
+    ensures { gave result cursor.new ≡ column_with_block (if fetches then Expression else ValExpression) cursor.old }
+{
+    let Ok(column) = cursor.uleb() else {
+        return Err(Reason::Instruction);
+    };
+    let block = read_block(cursor)?;
+    if fetches {
+        return Ok(Instruction::Expression { column, block });
+    }
+    Ok(Instruction::ValExpression { column, block })
+}
+
 /// Reads the operands of an opcode that has none in itself.
 #[inline(always)]
 #[tactic(auto, unfolding(crate::specs::Instructions::extended_at))]
@@ -82,9 +124,9 @@ fn read_extended(
         DW_CFA_def_cfa => read!(cursor; DefCfa { register: uleb, offset: uleb }),
         DW_CFA_def_cfa_register => read!(cursor; DefCfaRegister { register: uleb }),
         DW_CFA_def_cfa_offset => read!(cursor; DefCfaOffset { offset: uleb }),
-        DW_CFA_def_cfa_expression | DW_CFA_expression | DW_CFA_val_expression => {
-            Err(Reason::Expression)
-        }
+        DW_CFA_def_cfa_expression => read_cfa_expression(cursor),
+        DW_CFA_expression => read_expression(cursor, true),
+        DW_CFA_val_expression => read_expression(cursor, false),
         DW_CFA_offset_extended_sf =>
             read!(cursor; OffsetExtendedSf { column: uleb, factored: sleb }),
         DW_CFA_def_cfa_sf => read!(cursor; DefCfaSf { register: uleb, factored: sleb }),

@@ -3,12 +3,12 @@ ghost use Rattle.std.specs.Prelude.{◌≡◌, Some, None};
 ghost use Rattle.sym_edges.specs.Outside.{MatchStop};
 ghost use Rattle.sym_edges.specs.Results.{unless};
 ghost use Rattle.frame_rows.specs.internal.Touched.{touched};
-ghost use Rattle.frame_rows.specs.declared.machine.CieContext.{CieContext};
+ghost use Rattle.frame_rows.specs.Context.{Context};
 ghost use Rattle.frame_rows.specs.Steps.{effect, stepped, step_fault, on_row, put_rule};
 
 use crate::columns::Columns;
 use crate::instruction::Instruction;
-use crate::machine::{CieContext, Machine};
+use crate::machine::{Context, Machine};
 use crate::row::Rule;
 use sym_edges::{Reason, Stop};
 
@@ -16,7 +16,7 @@ impl Instruction {
     /// The columns that the instruction may change.
     #[inline(always)]
     pub fn touched(&self) -> Columns
-        ensures { (s : CieContext) → result ≡ touched (effect s self.now) }
+        ensures { (s : Context) → result ≡ touched (effect s self.now) }
     {
         match self {
             Instruction::Undefined { column } => Columns::one(*column),
@@ -26,6 +26,8 @@ impl Instruction {
             Instruction::ValOffset { column, .. } => Columns::one(*column),
             Instruction::ValOffsetSf { column, .. } => Columns::one(*column),
             Instruction::Register { column, .. } => Columns::one(*column),
+            Instruction::Expression { column, .. } => Columns::one(*column),
+            Instruction::ValExpression { column, .. } => Columns::one(*column),
             Instruction::Restore { column } => Columns::one(*column),
             Instruction::RestoreState => Columns::all(),
             _ => Columns::none(),
@@ -35,7 +37,7 @@ impl Instruction {
     /// Carries out the instruction, or says why it may not stand there.
     #[inline(always)]
     #[tactic(auto, unfolding(crate::specs::Steps::stepped, crate::specs::Steps::step_fault))]
-    pub fn step(self, machine: &mut Machine<'_>, context: &CieContext) -> Result<(), Stop<Reason>>
+    pub fn step(self, machine: &mut Machine<'_>, context: &Context<'_>) -> Result<(), Stop<Reason>>
         ensures { MatchStop result
             (λ _. (step_fault context.now self machine.old ≡ None) × (machine.new ≡ stepped context.now self machine.old))
             (λ why. step_fault context.now self machine.old ≡ Some why)
@@ -76,6 +78,15 @@ impl Instruction {
             }
             Instruction::Register { column, register } => {
                 return machine.in_register(column, register);
+            }
+            Instruction::DefCfaExpression { block } => {
+                return machine.define_cfa_by(context, block);
+            }
+            Instruction::Expression { column, block } => {
+                return machine.by_expression(context, column, true, block);
+            }
+            Instruction::ValExpression { column, block } => {
+                return machine.by_expression(context, column, false, block);
             }
             Instruction::Restore { column } => return machine.restore(context, column),
             Instruction::RememberState => machine.remember()?,

@@ -64,7 +64,7 @@ pub fn check_rows_behind(alloc: Global, state: &CieState, fde: &Fde<'_>) -> Resu
     requires fits { fde.now.start + fde.now.size < 2 ^ 64 }
     ensures good { MatchStop result (λ _. instruction_fault fde.now ≡ None) (λ _. Unit {0}) (Unit {0}) }
     ensures cfa { MatchStop result (λ _. HasCfa fde.now) (λ _. Unit {0}) (Unit {0}) }
-    ensures sound { MatchStop result (λ _. (a : ℕ) → IsSound (row_at fde.now a)) (λ _. Unit {0}) (Unit {0}) }
+    ensures sound { MatchStop result (λ _. (a : ℕ) → IsSound fde.now (row_at fde.now a)) (λ _. Unit {0}) (Unit {0}) }
     ensures exact { MatchStop result (λ _. rows_fault fde.now ≡ None) (λ why. rows_fault fde.now ≡ Some why) (Unit {0}) }
 {
     let mut stepper = Stepper::begin(alloc, state, fde)?;
@@ -86,7 +86,7 @@ pub fn rows_behind(alloc: Global, state: &CieState, fde: &Fde<'_>) -> Result<Row
     requires fits { fde.now.start + fde.now.size < 2 ^ 64 }
     ensures rows { MatchStop result (λ rows. AreRows fde.now rows) (λ _. Unit {0}) (Unit {0}) }
     ensures cfa { MatchStop result (λ _. HasCfa fde.now) (λ _. Unit {0}) (Unit {0}) }
-    ensures sound { MatchStop result (λ _. (a : ℕ) → IsSound (row_at fde.now a)) (λ _. Unit {0}) (Unit {0}) }
+    ensures sound { MatchStop result (λ _. (a : ℕ) → IsSound fde.now (row_at fde.now a)) (λ _. Unit {0}) (Unit {0}) }
     ensures exact { MatchStop result (λ _. rows_fault fde.now ≡ None) (λ why. rows_fault fde.now ≡ Some why) (Unit {0}) }
 {
     check_rows_behind(alloc, state, fde)?;
@@ -102,7 +102,7 @@ pub fn rows(alloc: Global, fde: &Fde<'_>) -> Result<RowList, Stop<Reason>>
     requires fits { fde.now.start + fde.now.size < 2 ^ 64 }
     ensures rows { MatchStop result (λ rows. AreRows fde.now rows) (λ _. Unit {0}) (Unit {0}) }
     ensures cfa { MatchStop result (λ _. HasCfa fde.now) (λ _. Unit {0}) (Unit {0}) }
-    ensures sound { MatchStop result (λ _. (a : ℕ) → IsSound (row_at fde.now a)) (λ _. Unit {0}) (Unit {0}) }
+    ensures sound { MatchStop result (λ _. (a : ℕ) → IsSound fde.now (row_at fde.now a)) (λ _. Unit {0}) (Unit {0}) }
     ensures exact { MatchStop result (λ _. rows_fault fde.now ≡ None) (λ why. rows_fault fde.now ≡ Some why) (Unit {0}) }
 {
     let state = CieState::of(alloc, fde)?;

@@ -4,6 +4,7 @@ ghost use Rattle.frame_rows.specs.Rows.{instruction_fault};
 ghost use Rattle.frame_rows.specs.CieLeft.{cie_left};
 
 use crate::cie_state::{Begun, CieState};
+use crate::machine::Context;
 use crate::run::run_all;
 use frame_entries::Fde;
 use std::alloc::Global;
@@ -11,7 +12,7 @@ use sym_edges::{OutOfMemory, Reason, Stop};
 
 /// The reason of the first bad instruction of an entry, that of its CIE, after which the state is given, before those of its
 /// own, for any range.
-#[tactic(auto, unfolding(crate::specs::Rows::instruction_fault, crate::specs::Rows::own_items))]
+#[tactic(auto, unfolding(crate::specs::Rows::instruction_fault, crate::specs::Rows::own_items, crate::specs::Rows::own_context))]
 pub fn inspect_behind(
     alloc: Global,
     state: &CieState,
@@ -28,9 +29,13 @@ pub fn inspect_behind(
         mut machine,
         context,
     } = begun;
+    let context = Context {
+        cie: context.get(),
+        run: fde.instructions,
+    };
     match run_all(
         &mut machine,
-        context.get(),
+        &context,
         fde.encoding,
         fde.instructions_address,
         fde.instructions,

@@ -16,8 +16,9 @@
 //! before: it meets the first bad one as it goes, and from then on each step answers its reason.
 //!
 //! An entry is refused exactly with the reason of its first bad instruction, the CIE's before its own, or else with
-//! `Cfa` where some address of the range has no CFA rule. Instructions with a DWARF expression are refused as
-//! `Expression`.
+//! `Cfa` where some address of the range has no CFA rule. A row keeps the place of a DWARF expression's bytes; whether rule text can
+//! say the expression is asked where its instruction is carried out, once for all entries of a CIE, and one that it cannot say is refused
+//! as `Expression`.
 #![tactic(auto)]
 
 // The rows, and the instructions that make them.

@@ -1,13 +1,15 @@
 //! The state that instructions change, and each change.
-ghost use Rattle.std.specs.Prelude.{◌≡◌, ◌+◌, ◌*◌, [], ◌∷◌, Some, None, not, false, nat_lt, ◌==◌, ◌||◌, is_some, reverse, MatchOption, MatchResult, IfOk, OnOk};
+ghost use Rattle.std.specs.Prelude.{◌≡◌, ◌+◌, ◌*◌, [], ◌∷◌, Some, None, not, true, false, nat_lt, ◌==◌, ◌||◌, is_some, reverse, MatchOption, MatchResult, IfOk, OnOk};
 ghost use Rattle.sym_edges.specs.declared.reason.Reason.TheVariants as reason;
 ghost use Rattle.frame_rows.specs.declared.row.Rule.TheVariants as rule;
 ghost use Rattle.sym_edges.specs.Outside.{MatchStop};
 ghost use Rattle.sym_edges.specs.Results.{unless};
 ghost use Rattle.std.specs.Option.{option_or};
-ghost use Rattle.frame_rows.specs.Steps.{scaled, moved, on_row, put_rule, put_cfa, put_register, put_offset, move_fault, register_fault, part_fault, rule_behind, has_remembered, top_or, under};
+ghost use Rattle.frame_rows.specs.Steps.{scaled, moved, on_row, put_rule, put_cfa, put_cfa_expr, place_of_block, can_say, expr_fault, column_expr_fault, put_register, put_offset, move_fault, register_fault, part_fault, rule_behind, has_remembered, top_or, under};
 
+use crate::instruction::Block;
 use crate::row::{COLUMNS, CfaRule, Row, Rule};
+use expr_steps::{Place, find_standing};
 use std::alloc::{AllocError, Global};
 use std::marker::Model;
 use sym_edges::{Reason, Stop};
@@ -21,12 +23,38 @@ pub struct CieContext {
     pub initial: Option<Row>,
 }
 
-impl CieContext {
+/// What the instructions of a run are carried out with: what the CIE gives, and the run, in which their expressions stand.
+#[derive(Drop)]
+pub struct Context<'c> {
+    pub cie: &'c CieContext,
+    pub run: &'c [u8],
+}
+
+impl<'c> Model for Context<'c> {
+    ghost use Rattle.frame_rows.specs.Context.{Context, with_run};
+
+    ghost Value = { Context };
+
+    ghost view = { λ c. with_run c.cie.now c.run.now };
+}
+
+impl<'c> Context<'c> {
     /// A factored offset, modulo 2^64.
     pub fn scale(&self, factored: i64) -> i64
         ensures { result ≡ scaled self.now factored }
     {
-        factored.wrapping_mul(self.data_align)
+        factored.wrapping_mul(self.cie.data_align)
+    }
+
+    /// The place of an expression of the run that rule text can say. `over_cfa`: the CFA may be on the stack.
+    #[inline(never)]
+    #[tactic(auto, unfolding(crate::specs::Steps::can_say, expr_steps::specs::Places::place_of))]
+    fn find_expression(&self, block: Block, over_cfa: bool) -> Option<Place>
+        ensures { MatchOption result (can_say over_cfa self.now block ≡ false) (λ place. (can_say over_cfa self.now block ≡ true) × (place ≡ place_of_block self.now block)) }
+    {
+        let place = Place::of(self.cie.initial.is_some(), block.start, block.len)?;
+        find_standing(place.bytes(self.run, self.run), over_cfa)?;
+        Some(place)
     }
 }
 
@@ -130,8 +158,25 @@ impl<'c> Machine<'c> {
             Ok(register) => register,
             Err(why) => return Err(Stop::Fault(why)),
         };
-        self.row.cfa = Some(CfaRule { register, offset });
+        self.row.cfa = Some(CfaRule::Base { register, offset });
         Ok(())
+    }
+
+    /// A CFA rule of an expression.
+    #[tactic(auto, unfolding(crate::specs::Steps::put_cfa_expr))]
+    pub fn define_cfa_by(&mut self, context: &Context<'_>, block: Block) -> Result<(), Stop<Reason>>
+        ensures { MatchStop result
+            (λ _. (expr_fault false context.now block ≡ None) × (self.new ≡ on_row (put_cfa_expr (place_of_block context.now block)) self.old))
+            (λ why. expr_fault false context.now block ≡ Some why)
+            (Unit {0}) }
+    {
+        match context.find_expression(block, false) {
+            Some(place) => {
+                self.row.cfa = Some(CfaRule::Expr { place });
+                Ok(())
+            }
+            None => Err(Stop::Fault(Reason::Expression)),
+        }
     }
 
     /// Another register in the CFA rule.
@@ -147,14 +192,11 @@ impl<'c> Machine<'c> {
             Err(why) => return Err(Stop::Fault(why)),
         };
         match self.row.cfa {
-            Some(cfa) => {
-                self.row.cfa = Some(CfaRule {
-                    register,
-                    offset: cfa.offset,
-                });
+            Some(CfaRule::Base { offset, .. }) => {
+                self.row.cfa = Some(CfaRule::Base { register, offset });
                 Ok(())
             }
-            None => Err(Stop::Fault(Reason::State)),
+            _ => Err(Stop::Fault(Reason::State)),
         }
     }
 
@@ -167,29 +209,26 @@ impl<'c> Machine<'c> {
             (Unit {0}) }
     {
         match self.row.cfa {
-            Some(cfa) => {
-                self.row.cfa = Some(CfaRule {
-                    register: cfa.register,
-                    offset,
-                });
+            Some(CfaRule::Base { register, .. }) => {
+                self.row.cfa = Some(CfaRule::Base { register, offset });
                 Ok(())
             }
-            None => Err(Stop::Fault(Reason::State)),
+            _ => Err(Stop::Fault(Reason::State)),
         }
     }
 
     /// A location instruction that moves by so many units of code.
-    pub fn advance(&mut self, context: &CieContext, delta: u64) -> Result<(), Stop<Reason>>
+    pub fn advance(&mut self, context: &Context<'_>, delta: u64) -> Result<(), Stop<Reason>>
         ensures { MatchStop result
             (λ _. (move_fault context.now self.old.address (self.old.address + delta * context.now.code_align) ≡ None)
             × (self.new ≡ moved (self.old.address + delta * context.now.code_align) self.old))
             (λ why. move_fault context.now self.old.address (self.old.address + delta * context.now.code_align) ≡ Some why)
             (Unit {0}) }
     {
-        if context.initial.is_none() {
+        if context.cie.initial.is_none() {
             return Err(Stop::Fault(Reason::Range));
         }
-        match delta.checked_mul(context.code_align) {
+        match delta.checked_mul(context.cie.code_align) {
             Some(bytes) => match self.address.checked_add(bytes) {
                 Some(address) => {
                     self.address = address;
@@ -202,13 +241,13 @@ impl<'c> Machine<'c> {
     }
 
     /// A location instruction that names an address.
-    pub fn set_location(&mut self, context: &CieContext, address: u64) -> Result<(), Stop<Reason>>
+    pub fn set_location(&mut self, context: &Context<'_>, address: u64) -> Result<(), Stop<Reason>>
         ensures { MatchStop result
             (λ _. (move_fault context.now self.old.address address ≡ None) × (self.new ≡ moved address self.old))
             (λ why. move_fault context.now self.old.address address ≡ Some why)
             (Unit {0}) }
     {
-        if context.initial.is_none() || address < self.address {
+        if context.cie.initial.is_none() || address < self.address {
             return Err(Stop::Fault(Reason::Range));
         }
         self.address = address;
@@ -247,15 +286,41 @@ impl<'c> Machine<'c> {
         Ok(())
     }
 
+    /// A column's value is that of an expression, or the word that it is the address of; columns above 16 are passed over.
+    #[tactic(auto, unfolding(crate::specs::Steps::put_rule))]
+    pub fn by_expression(
+        &mut self,
+        context: &Context<'_>,
+        column: u64,
+        fetch: bool,
+        block: Block,
+    ) -> Result<(), Stop<Reason>>
+        ensures { MatchStop result
+            (λ _. (column_expr_fault context.now column block ≡ None) × (self.new ≡ on_row (put_rule column (rule.Expr fetch (place_of_block context.now block))) self.old))
+            (λ why. column_expr_fault context.now column block ≡ Some why)
+            (Unit {0}) }
+    {
+        if column > 16 {
+            return Ok(());
+        }
+        match context.find_expression(block, true) {
+            Some(place) => {
+                self.put_rule(column, Rule::Expr { fetch, place });
+                Ok(())
+            }
+            None => Err(Stop::Fault(Reason::Expression)),
+        }
+    }
+
     /// The rule that the CIE left.
     #[tactic(auto, unfolding(crate::specs::Steps::put_rule))]
-    pub fn restore(&mut self, context: &CieContext, column: u64) -> Result<(), Stop<Reason>>
+    pub fn restore(&mut self, context: &Context<'_>, column: u64) -> Result<(), Stop<Reason>>
         ensures { MatchStop result
             (λ _. (unless (is_some context.now.initial) reason.State ≡ None) × (self.new ≡ on_row (put_rule column (rule_behind context.now.initial column)) self.old))
             (λ why. unless (is_some context.now.initial) reason.State ≡ Some why)
             (Unit {0}) }
     {
-        match &context.initial {
+        match &context.cie.initial {
             Some(initial) => {
                 if column < COLUMNS as u64 {
                     self.put_rule(column, initial.rules[column as usize]);

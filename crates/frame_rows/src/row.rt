@@ -1,4 +1,5 @@
 //! Rows of the table that call frame instructions describe (DWARF 5, 6.4.1).
+use expr_steps::Place;
 use sym_edges::ListOf;
 
 /// How many columns a row has: the sixteen registers of x86-64 by their DWARF numbers, and the return address.
@@ -19,13 +20,17 @@ pub enum Rule {
     ValOffset(i64),
     /// Another register has it.
     Register(u8),
+    /// It is the value of the expression that stands at a place, or the word in memory that this is the address of.
+    Expr { fetch: bool, place: Place },
 }
 
-/// How the CFA is found: the value of a register, and what is added to it, modulo 2^64.
+/// How the CFA is found.
 #[derive(Clone, Copy, PartialEq, Eq, Debug)]
-pub struct CfaRule {
-    pub register: u8,
-    pub offset: i64,
+pub enum CfaRule {
+    /// The value of a register, and what is added to it, modulo 2^64.
+    Base { register: u8, offset: i64 },
+    /// The value of the expression that stands at a place.
+    Expr { place: Place },
 }
 
 /// The rules at an address: for the CFA, where there is one, and for each column.

@@ -9,7 +9,7 @@ ghost use Rattle.frame_rows.specs.internal.Walk.{rows_from, rows_past, row_with}
 
 use crate::columns::Columns;
 use crate::instruction::Instruction;
-use crate::machine::{CieContext, Machine};
+use crate::machine::{Context, Machine};
 use leb_cursor::Cursor;
 use sym_edges::{Reason, Stop};
 
@@ -17,7 +17,7 @@ use sym_edges::{Reason, Stop};
 pub fn run_to_next_row(
     machine: &mut Machine<'_>,
     cursor: &mut Cursor<'_>,
-    context: &CieContext,
+    context: &Context<'_>,
     encoding: u8,
     base: u64,
 ) -> Result<Columns, Stop<Reason>>
@@ -56,7 +56,7 @@ pub fn run_to_next_row(
 pub fn run_to_end(
     machine: &mut Machine<'_>,
     cursor: &mut Cursor<'_>,
-    context: &CieContext,
+    context: &Context<'_>,
     encoding: u8,
     base: u64,
 ) -> Result<(), Stop<Reason>>
@@ -77,7 +77,7 @@ pub fn run_to_end(
 /// Carries out the instructions of a run of bytes; `base` is the address of its first byte.
 pub fn run_all(
     machine: &mut Machine<'_>,
-    context: &CieContext,
+    context: &Context<'_>,
     encoding: u8,
     base: u64,
     bytes: &[u8],

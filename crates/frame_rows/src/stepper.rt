@@ -4,7 +4,7 @@ ghost use Rattle.sym_edges.specs.Outside.{MatchStop};
 ghost use Rattle.sym_edges.specs.declared.fault.Stop.TheVariants as stop;
 ghost use Rattle.frame_entries.specs.Pointers.{is_encoding};
 ghost use Rattle.frame_rows.specs.Instructions.{listed_at};
-ghost use Rattle.frame_rows.specs.Rows.{first_fault, own_context, own_items, own_begin, row_at, rows_fault, AreRows, HasCfa, IsSound};
+ghost use Rattle.frame_rows.specs.Rows.{first_fault, left_context, own_context, own_items, own_begin, row_at, rows_fault, AreRows, HasCfa, IsSound};
 ghost use Rattle.frame_rows.specs.CieLeft.{cie_left};
 ghost use Rattle.frame_rows.specs.Columns.{StayOutside, IsNext};
 ghost use Rattle.frame_rows.specs.internal.Held.{context_in};
@@ -15,7 +15,7 @@ use crate::cie_state::{Begun, CieState};
 use crate::columns::Columns;
 use crate::entry_rows::check_rows_behind;
 use crate::held_context::HeldContext;
-use crate::machine::Machine;
+use crate::machine::{Context, Machine};
 use crate::row::Row;
 use crate::run::{run_to_end, run_to_next_row};
 use frame_entries::Fde;
@@ -31,6 +31,7 @@ pub struct Stepper<'c, 'a> {
     machine: Machine<'c>,
     context: HeldContext<'c>,
     cursor: Cursor<'a>,
+    run: &'a [u8],
     encoding: u8,
     base: u64,
     address: u64,
@@ -48,16 +49,17 @@ impl<'c, 'a> Model for Stepper<'c, 'a> {
     ghost use Rattle.frame_rows.specs.internal.Held.{context_in};
     ghost use Rattle.frame_rows.specs.Standing.{Standing};
     ghost use Rattle.frame_rows.specs.internal.Walk.{rows_past, row_with};
+    ghost use Rattle.frame_rows.specs.Context.{with_run};
 
     ghost Value = { Standing };
 
     ghost view = { λ s. record {
       failed = s.failed;
       refused = s.refused;
-      fault = option_or s.refused (first_fault (context_in s.context) (listed_at s.encoding s.base s.cursor) s.machine);
+      fault = option_or s.refused (first_fault (with_run (context_in s.context) s.run.now) (listed_at s.encoding s.base s.cursor) s.machine);
       end = s.end;
       here = row_with s.address s.machine.row;
-      later = rows_past s.end (context_in s.context) (listed_at s.encoding s.base s.cursor) s.machine s.address;
+      later = rows_past s.end (with_run (context_in s.context) s.run.now) (listed_at s.encoding s.base s.cursor) s.machine s.address;
     } };
 
     ghost invariant = { λ s. IsTrue (is_encoding s.encoding) };
@@ -67,7 +69,7 @@ impl<'c, 'a> Model for Stepper<'c, 'a> {
 #[inline]
 fn start<'c, 'a>(begun: Begun<'c>, fde: &Fde<'a>, end: u64) -> Result<Stepper<'c, 'a>, Stop<Reason>>
     requires machine { begun.machine ≡ own_begin fde.now }
-    requires context { context_in begun.context ≡ own_context fde.now }
+    requires context { context_in begun.context ≡ left_context fde.now }
     requires some { fde.now.start < end }
     ensures fresh { IfOk result (λ s. (s.failed ≡ false) × (s.refused ≡ None)) }
     ensures place { IfOk result (λ s. (s.here.address ≡ fde.now.start) × (s.end ≡ end)) }
@@ -82,10 +84,14 @@ fn start<'c, 'a>(begun: Begun<'c>, fde: &Fde<'a>, end: u64) -> Result<Stepper<'c
         context,
     } = begun;
     let mut cursor = Cursor::new(fde.instructions, 0, fde.instructions.len());
+    let with_run = Context {
+        cie: context.get(),
+        run: fde.instructions,
+    };
     match run_to_next_row(
         &mut machine,
         &mut cursor,
-        context.get(),
+        &with_run,
         fde.encoding,
         fde.instructions_address,
     ) {
@@ -93,6 +99,7 @@ fn start<'c, 'a>(begun: Begun<'c>, fde: &Fde<'a>, end: u64) -> Result<Stepper<'c
             machine,
             context,
             cursor,
+            run: fde.instructions,
             encoding: fde.encoding,
             base: fde.instructions_address,
             address: fde.start,
@@ -114,7 +121,7 @@ impl<'c, 'a> Stepper<'c, 'a> {
         ensures good { IfOk result (λ s. (s.refused ≡ None) × (s.fault ≡ None)) }
         ensures rows { MatchStop result (λ s. AreRows fde.now (s.here ∷ s.later)) (λ _. Unit {0}) (Unit {0}) }
         ensures cfa { MatchStop result (λ _. HasCfa fde.now) (λ _. Unit {0}) (Unit {0}) }
-        ensures sound { MatchStop result (λ _. (a : ℕ) → IsSound (row_at fde.now a)) (λ _. Unit {0}) (Unit {0}) }
+        ensures sound { MatchStop result (λ _. (a : ℕ) → IsSound fde.now (row_at fde.now a)) (λ _. Unit {0}) (Unit {0}) }
         ensures exact { MatchStop result (λ _. rows_fault fde.now ≡ None) (λ why. rows_fault fde.now ≡ Some why) (Unit {0}) }
     {
         let state = CieState::of(alloc, fde)?;
@@ -191,10 +198,14 @@ impl<'c, 'a> Stepper<'c, 'a> {
             return Ok(None);
         }
         self.address = next;
+        let context = Context {
+            cie: self.context.get(),
+            run: self.run,
+        };
         match run_to_next_row(
             &mut self.machine,
             &mut self.cursor,
-            self.context.get(),
+            &context,
             self.encoding,
             self.base,
         ) {
@@ -232,10 +243,14 @@ impl<'c, 'a> Stepper<'c, 'a> {
         requires going { self.old.refused ≡ None }
         ensures { MatchStop result (λ _. Ends self.old self.new) (λ why. Refuses why self.old self.new) (self.new.failed ≡ true) }
     {
+        let context = Context {
+            cie: self.context.get(),
+            run: self.run,
+        };
         match run_to_end(
             &mut self.machine,
             &mut self.cursor,
-            self.context.get(),
+            &context,
             self.encoding,
             self.base,
         ) {

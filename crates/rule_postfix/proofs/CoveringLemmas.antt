@@ -65,31 +65,31 @@ unfolding first_cut
 cut_above row start b zero = omega arith
 cut_above row start b (suc n) = least (is_cut row start b) b (first_cut row start (b + 1) n) (omega (arith, cut_above row start (b + 1) n))
 
-line_inits : (row : ℕ → Row) (start base end x b n : ℕ) (cut : Bool) → end ≡ b + 1 + n → base ≤ b → is_cut row start b ≡ cut → inits_at (flat_map (records_at row start end base) (range_with_len (b + 1) n)) x ≡ from_to (first_cut row start (b + 1) n) end (x + base) →
-    inits_at (records_at row start end base b) x + from_to (first_cut row start (b + 1) n) end (x + base) ≡ from_to (cond cut b (first_cut row start (b + 1) n)) end (x + base)
-line_inits row start base end x b n true size le is rest =
+line_inits : (fde : FdeFields) (row : ℕ → Row) (start base end x b n : ℕ) (cut : Bool) → end ≡ b + 1 + n → base ≤ b → is_cut row start b ≡ cut → inits_at (flat_map (records_at fde row start end base) (range_with_len (b + 1) n)) x ≡ from_to (first_cut row start (b + 1) n) end (x + base) →
+    inits_at (records_at fde row start end base b) x + from_to (first_cut row start (b + 1) n) end (x + base) ≡ from_to (cond cut b (first_cut row start (b + 1) n)) end (x + base)
+line_inits fde row start base end x b n true size le is rest =
     let c : ℕ = first_cut row start (b + 1) n in
-    ap (λ xs. inits_at xs x + from_to c end (x + base)) (line_of row start end base b n (row (b - 1)) (row b) true size refl refl is)
-    ∙ ap (λ k. k + from_to c end (x + base)) (one_init b c base x (row_rules (row b)) le (omega (arith, cut_above row start (b + 1) n)))
+    ap (λ xs. inits_at xs x + from_to c end (x + base)) (line_of fde row start end base b n (row (b - 1)) (row b) true size refl refl is)
+    ∙ ap (λ k. k + from_to c end (x + base)) (one_init b c base x (row_rules fde (row b)) le (omega (arith, cut_above row start (b + 1) n)))
     ∙ joined (x + base) b c end (omega (arith, cut_above row start (b + 1) n)) (omega (arith, size, cut_within row start (b + 1) n))
-line_inits row start base end x b n false size le is rest =
+line_inits fde row start base end x b n false size le is rest =
     let c : ℕ = first_cut row start (b + 1) n in
-    ap (λ xs. inits_at xs x + from_to c end (x + base)) (line_of row start end base b n (row (b - 1)) (row b) false size refl refl is)
-    ∙ ap (λ k. k + from_to c end (x + base)) (no_init (b - base) x (changed_rules (row (b - 1)) (row b)))
+    ap (λ xs. inits_at xs x + from_to c end (x + base)) (line_of fde row start end base b n (row (b - 1)) (row b) false size refl refl is)
+    ∙ ap (λ k. k + from_to c end (x + base)) (no_init (b - base) x (changed_rules fde (row (b - 1)) (row b)))
     ∙ (omega arith)
 
 pub first_by : (row : ℕ → Row) (start b n : ℕ) → first_cut row start b (suc n) ≡ cond (is_cut row start b) b (first_cut row start (b + 1) n)
 unfolding first_cut
 first_by row start b n = refl
 
-inits_from : (row : ℕ → Row) (start base end x b n : ℕ) → end ≡ b + n → base ≤ b → inits_at (flat_map (records_at row start end base) (range_with_len b n)) x ≡ from_to (first_cut row start b n) end (x + base)
+inits_from : (fde : FdeFields) (row : ℕ → Row) (start base end x b n : ℕ) → end ≡ b + n → base ≤ b → inits_at (flat_map (records_at fde row start end base) (range_with_len b n)) x ≡ from_to (first_cut row start b n) end (x + base)
 unfolding first_cut inits_at
-inits_from row start base end x b zero size le = sym (empty (x + base) b) ∙ ap (λ k. from_to b k (x + base)) (let same : b ≡ end = omega (arith, size) in same)
-inits_from row start base end x b (suc n) size le =
-    let rest : inits_at (flat_map (records_at row start end base) (range_with_len (b + 1) n)) x ≡ from_to (first_cut row start (b + 1) n) end (x + base) = inits_from row start base end x (b + 1) n (omega (arith, size)) (omega (arith, le)) in
-    inits_append (records_at row start end base b) (flat_map (records_at row start end base) (range_with_len (b + 1) n)) x
-    ∙ ap (λ k. inits_at (records_at row start end base b) x + k) rest
-    ∙ line_inits row start base end x b n (is_cut row start b) (omega (arith, size)) le refl rest
+inits_from fde row start base end x b zero size le = sym (empty (x + base) b) ∙ ap (λ k. from_to b k (x + base)) (let same : b ≡ end = omega (arith, size) in same)
+inits_from fde row start base end x b (suc n) size le =
+    let rest : inits_at (flat_map (records_at fde row start end base) (range_with_len (b + 1) n)) x ≡ from_to (first_cut row start (b + 1) n) end (x + base) = inits_from fde row start base end x (b + 1) n (omega (arith, size)) (omega (arith, le)) in
+    inits_append (records_at fde row start end base b) (flat_map (records_at fde row start end base) (range_with_len (b + 1) n)) x
+    ∙ ap (λ k. inits_at (records_at fde row start end base b) x + k) rest
+    ∙ line_inits fde row start base end x b n (is_cut row start b) (omega (arith, size)) le refl rest
 
 pub first_is_start : (row : ℕ → Row) (start n : ℕ) → first_cut row start start n ≡ start
 unfolding first_cut is_cut
@@ -97,9 +97,9 @@ first_is_start row start zero = refl
 first_is_start row start (suc n) = ap (λ t. cond (t || some_becomes_unspecified (row (start - 1)) (row start)) start (first_cut row start (start + 1) n)) (eq-eqb start start refl)
 
 -- the INITs of a range cover its addresses once
-range_inits : (row : ℕ → Row) (start size base x : ℕ) → base ≤ start → inits_at (frame_lines row start size base) x ≡ from_to start (start + size) (x + base)
+range_inits : (fde : FdeFields) (row : ℕ → Row) (start size base x : ℕ) → base ≤ start → inits_at (frame_lines fde row start size base) x ≡ from_to start (start + size) (x + base)
 unfolding frame_lines
-range_inits row start size base x le = inits_from row start base (start + size) x start size refl le ∙ ap (λ k. from_to k (start + size) (x + base)) (first_is_start row start size)
+range_inits fde row start size base x le = inits_from fde row start base (start + size) x start size refl le ∙ ap (λ k. from_to k (start + size) (x + base)) (first_is_start row start size)
 
 -- entries that start at or above a base
 unfoldable pub AreAbove : ℕ → List FdeFields → Type 0
@@ -116,7 +116,7 @@ unfolding written_lines inits_at entries_at entry_lines AreAbove
 written_inits base x [] above = refl
 written_inits base x (e ∷ entries) above =
     inits_append (entry_lines base e) (written_lines base entries) x
-    ∙ ap (λ k. k + inits_at (written_lines base entries) x) (range_inits (row_at e) e.start e.size base x above.0)
+    ∙ ap (λ k. k + inits_at (written_lines base entries) x) (range_inits e (row_at e) e.start e.size base x above.0)
     ∙ ap (λ k. from_to e.start (e.start + e.size) (x + base) + k) (written_inits base x entries above.1)
     ∙ sym (entries_cons e entries (x + base))
 

@@ -21,11 +21,11 @@ use Rattle.rule_postfix.proofs.LinesLemmas.{lines_are}
 use Rattle.rule_postfix.proofs.ValidLemmas.{RecordLaws, lines_valid}
 
 -- the pass over the rows of an entry gives its records
-rows_lines : (base : ℕ) (e : FdeFields) (rows : List RowAt) → AreRows e rows → 0 < e.size → lines_of base (e.start + e.size) rows ≡ frame_lines (row_at e) e.start e.size base
-rows_lines base e rows are some = lines_are (row_at e) e.start e.size base rows some are.in_order are.each
+rows_lines : (base : ℕ) (e : FdeFields) (rows : List RowAt) → AreRows e rows → 0 < e.size → lines_of e base (e.start + e.size) rows ≡ frame_lines e (row_at e) e.start e.size base
+rows_lines base e rows are some = lines_are e (row_at e) e.start e.size base rows some are.in_order are.each
 
-pub entry_text : (base end : ℕ) (e : FdeFields) (rows : List RowAt) (old text : List ℕ) → AreRows e rows → 0 < e.size → end ≡ e.start + e.size → text ≡ old ++ canon_text (lines_of base end rows) → text ≡ old ++ canon_text (frame_lines (row_at e) e.start e.size base)
-entry_text base end e rows old text are some sum made = made ∙ ap (λ k. old ++ canon_text (lines_of base k rows)) sum ∙ ap (λ lines. old ++ canon_text lines) (rows_lines base e rows are some)
+pub entry_text : (base end : ℕ) (e : FdeFields) (rows : List RowAt) (old text : List ℕ) → AreRows e rows → 0 < e.size → end ≡ e.start + e.size → text ≡ old ++ canon_text (lines_of e base end rows) → text ≡ old ++ canon_text (frame_lines e (row_at e) e.start e.size base)
+entry_text base end e rows old text are some sum made = made ∙ ap (λ k. old ++ canon_text (lines_of e base k rows)) sum ∙ ap (λ lines. old ++ canon_text lines) (rows_lines base e rows are some)
 
 -- what the pass over the rows of an entry that begins tells of it
 pass_walked : (e : FdeFields) (s : Standing) → Begins e s → s.fault ≡ None → Walked e (s.here ∷ s.later)
@@ -42,10 +42,10 @@ pass_bad A B (Fault why) e s P Q begun bad = bad_instruction e why (sym begun.fa
 pass_bad A B NoMemory e s P Q begun bad = tt
 
 -- the records of an entry are valid after any record
-pub entry_valid : RecordLaws → (base : ℕ) (e : FdeFields) → HasCfa e → ((a : ℕ) → IsSound (row_at e a)) → 0 < e.size → e.start + e.size < 2 ^ 64 → first_bad_from 0 Inside (frame_lines (row_at e) e.start e.size base) ≡ None
-entry_valid laws base e cfa sound some inside = lines_valid laws (row_at e) e.start e.size base (record { sound = sound; cfa = cfa.everywhere; inside = inside }) some
+pub entry_valid : RecordLaws → (base : ℕ) (e : FdeFields) → HasCfa e → ((a : ℕ) → IsSound e (row_at e a)) → 0 < e.size → e.start + e.size < 2 ^ 64 → first_bad_from 0 Inside (frame_lines e (row_at e) e.start e.size base) ≡ None
+entry_valid laws base e cfa sound some inside = lines_valid e laws (row_at e) e.start e.size base (record { sound = sound; cfa = cfa.everywhere; inside = inside }) some
 
-pub pass_valid : RecordLaws → (base : ℕ) (e : FdeFields) (s : Standing) (lacking : Bool) → Begins e s → s.fault ≡ None → lacking ≡ list_any lacks_rule (s.here ∷ s.later) → lacking ≡ false → 0 < e.size → e.start + e.size < 2 ^ 64 → first_bad_from 0 Inside (frame_lines (row_at e) e.start e.size base) ≡ None
+pub pass_valid : RecordLaws → (base : ℕ) (e : FdeFields) (s : Standing) (lacking : Bool) → Begins e s → s.fault ≡ None → lacking ≡ list_any lacks_rule (s.here ∷ s.later) → lacking ≡ false → 0 < e.size → e.start + e.size < 2 ^ 64 → first_bad_from 0 Inside (frame_lines e (row_at e) e.start e.size base) ≡ None
 pass_valid laws base e s lacking begun good is none some inside =
     let walked = pass_walked e s begun good in
     entry_valid laws base e (rows_have e (s.here ∷ s.later) lacking walked none is) (rows_sound e (s.here ∷ s.later) walked) some inside

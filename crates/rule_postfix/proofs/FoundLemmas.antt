@@ -28,10 +28,10 @@ pub record IsQuiet (lines : List SymLine) : Type 0 where
   pub at : (x : ℕ) → changes_until x lines ≡ []
 
 -- the rules at an address show a row
-pub record HasRules (lines : List SymLine) (x : ℕ) (row : Row) : Type 0 where
+pub record HasRules (fde : FdeFields) (lines : List SymLine) (x : ℕ) (row : Row) : Type 0 where
   pub rules : List RuleText
   pub found : text_rules lines x ≡ Some rules
-  pub shows : (t : Target) → IsTarget t → Shows rules row t
+  pub shows : (t : Target) → IsTarget t → Shows fde rules row t
 
 -- a record of changes above the address, and one at or below it
 quiet_change : (address x : ℕ) (rules : List RuleText) (rest : List SymLine) → x < address → changes_until x rest ≡ [] → changes_until x (change address rules ++ rest) ≡ []
@@ -45,15 +45,15 @@ heard_change address x [] rest low = refl
 heard_change address x (r ∷ rules) rest low = ap (λ t. cond t (r ∷ rules) [] ++ changes_until x rest) (le-leb address x low)
 
 -- the records of a range from an address on, and those after it
-RestOf : (ℕ → Row) → ℕ → ℕ → ℕ → ℕ → ℕ → List SymLine → List SymLine
-RestOf row start end base b n later = flat_map (records_at row start end base) (range_with_len b n) ++ later
+RestOf : FdeFields → (ℕ → Row) → ℕ → ℕ → ℕ → ℕ → ℕ → List SymLine → List SymLine
+RestOf fde row start end base b n later = flat_map (records_at fde row start end base) (range_with_len b n) ++ later
 
-rest_more : (row : ℕ → Row) (start end base b n : ℕ) (later : List SymLine) (cut : Bool) → end ≡ b + 1 + n → is_cut row start b ≡ cut →
-    RestOf row start end base b (suc n) later ≡ cond cut (Init (b - base) (first_cut row start (b + 1) n - b) (row_rules (row b)) ∷ []) (change (b - base) (changed_rules (row (b - 1)) (row b))) ++ RestOf row start end base (b + 1) n later
+rest_more : (fde : FdeFields) (row : ℕ → Row) (start end base b n : ℕ) (later : List SymLine) (cut : Bool) → end ≡ b + 1 + n → is_cut row start b ≡ cut →
+    RestOf fde row start end base b (suc n) later ≡ cond cut (Init (b - base) (first_cut row start (b + 1) n - b) (row_rules fde (row b)) ∷ []) (change (b - base) (changed_rules fde (row (b - 1)) (row b))) ++ RestOf fde row start end base (b + 1) n later
 unfolding RestOf
-rest_more row start end base b n later cut size is =
-    append_assoc (records_at row start end base b) (flat_map (records_at row start end base) (range_with_len (b + 1) n)) later
-    ∙ ap (λ xs. xs ++ (flat_map (records_at row start end base) (range_with_len (b + 1) n) ++ later)) (line_of row start end base b n (row (b - 1)) (row b) cut size refl refl is)
+rest_more fde row start end base b n later cut size is =
+    append_assoc (records_at fde row start end base b) (flat_map (records_at fde row start end base) (range_with_len (b + 1) n)) later
+    ∙ ap (λ xs. xs ++ (flat_map (records_at fde row start end base) (range_with_len (b + 1) n) ++ later)) (line_of fde row start end base b n (row (b - 1)) (row b) cut size refl refl is)
 
 -- above the address no change is heard
 quiet_by : (cut : Bool) (b c base x : ℕ) (row rules : List RuleText) (rest : List SymLine) → base ≤ b → x + base < b → changes_until x rest ≡ [] → changes_until x (cond cut (Init (b - base) (c - b) row ∷ []) (change (b - base) rules) ++ rest) ≡ []
@@ -61,17 +61,17 @@ unfolding changes_until
 quiet_by true b c base x row rules rest le above none = refl
 quiet_by false b c base x row rules rest le above none = quiet_change (b - base) x rules rest (omega arith) none
 
-quiet : (row : ℕ → Row) (start end base b n x : ℕ) (later : List SymLine) → end ≡ b + n → base ≤ b → x + base < b → IsQuiet later → changes_until x (RestOf row start end base b n later) ≡ []
+quiet : (fde : FdeFields) (row : ℕ → Row) (start end base b n x : ℕ) (later : List SymLine) → end ≡ b + n → base ≤ b → x + base < b → IsQuiet later → changes_until x (RestOf fde row start end base b n later) ≡ []
 unfolding RestOf
-quiet row start end base b zero x later size le above after = after.at x
-quiet row start end base b (suc n) x later size le above after =
-    ap (changes_until x) (rest_more row start end base b n later (is_cut row start b) (omega (arith, size)) refl)
-    ∙ quiet_by (is_cut row start b) b (first_cut row start (b + 1) n) base x (row_rules (row b)) (changed_rules (row (b - 1)) (row b)) (RestOf row start end base (b + 1) n later) le above
-    (quiet row start end base (b + 1) n x later (omega (arith, size)) (omega (arith, le)) (omega (arith, above)) after)
+quiet fde row start end base b zero x later size le above after = after.at x
+quiet fde row start end base b (suc n) x later size le above after =
+    ap (changes_until x) (rest_more fde row start end base b n later (is_cut row start b) (omega (arith, size)) refl)
+    ∙ quiet_by (is_cut row start b) b (first_cut row start (b + 1) n) base x (row_rules fde (row b)) (changed_rules fde (row (b - 1)) (row b)) (RestOf fde row start end base (b + 1) n later) le above
+    (quiet fde row start end base (b + 1) n x later (omega (arith, size)) (omega (arith, le)) (omega (arith, above)) after)
 
 -- rows whose rules can be said
-pub record AreSaid (row : ℕ → Row) (start end : ℕ) : Type 0 where
-  pub sound : (a : ℕ) → IsSound (row a)
+pub record AreSaid (fde : FdeFields) (row : ℕ → Row) (start end : ℕ) : Type 0 where
+  pub sound : (a : ℕ) → IsSound fde (row a)
   pub cfa : (a : ℕ) → start ≤ a → a < end → has_cfa (row a) ≡ true
 
 no_cut : (row : ℕ → Row) (start b a n : ℕ) (cut : Bool) → is_cut row start b ≡ cut → b ≤ a → a < first_cut row start b (suc n) → cut ≡ false
@@ -87,32 +87,32 @@ stays : (row : ℕ → Row) (start b : ℕ) → is_cut row start b ≡ false →
 unfolding is_cut
 stays row start b none = (or_parts (b == start) (some_becomes_unspecified (row (b - 1)) (row b)) none).1
 
-shows_at : (rules : List RuleText) (row : ℕ → Row) (a b : ℕ) (t : Target) → a ≡ b → Shows rules (row a) t → Shows rules (row b) t
-shows_at rules row a b t same shows = let P : ℕ → Type 0 = λ k. Shows rules (row k) t in subst P same shows
+shows_at : (fde : FdeFields) (rules : List RuleText) (row : ℕ → Row) (a b : ℕ) (t : Target) → a ≡ b → Shows fde rules (row a) t → Shows fde rules (row b) t
+shows_at fde rules row a b t same shows = let P : ℕ → Type 0 = λ k. Shows fde rules (row k) t in subst P same shows
 
 -- from rules that show the row before an address, the changes up to another lead to rules that show the row there
-follows : (row : ℕ → Row) (start end base b n x : ℕ) (rules : List RuleText) (later : List SymLine) (t : Target) → end ≡ b + n → base ≤ b → start < b → b ≤ x + base + 1 → x + base < first_cut row start b n →
-    AreSaid row start end → IsQuiet later → IsTarget t → Shows rules (row (b - 1)) t → Shows (rules ++ changes_until x (RestOf row start end base b n later)) (row (x + base)) t
+follows : (fde : FdeFields) (row : ℕ → Row) (start end base b n x : ℕ) (rules : List RuleText) (later : List SymLine) (t : Target) → end ≡ b + n → base ≤ b → start < b → b ≤ x + base + 1 → x + base < first_cut row start b n →
+    AreSaid fde row start end → IsQuiet later → IsTarget t → Shows fde rules (row (b - 1)) t → Shows fde (rules ++ changes_until x (RestOf fde row start end base b n later)) (row (x + base)) t
 unfolding first_cut RestOf
-follows row start end base b zero x rules later t size le above near below said after is shows =
-    let P : List RuleText → Type 0 = λ rs. Shows rs (row (x + base)) t in
-    subst P (sym (ap (λ cs. rules ++ cs) (after.at x) ∙ append-nil rules)) (shows_at rules row (b - 1) (x + base) t (omega (arith, near, below)) shows)
-follows row start end base b (suc n) x rules later t size le above near below said after is shows =
+follows fde row start end base b zero x rules later t size le above near below said after is shows =
+    let P : List RuleText → Type 0 = λ rs. Shows fde rs (row (x + base)) t in
+    subst P (sym (ap (λ cs. rules ++ cs) (after.at x) ∙ append-nil rules)) (shows_at fde rules row (b - 1) (x + base) t (omega (arith, near, below)) shows)
+follows fde row start end base b (suc n) x rules later t size le above near below said after is shows =
     elim (cases_lt (x + base) b) [
       | inl under ↦
-          let P : List RuleText → Type 0 = λ rs. Shows rs (row (x + base)) t in
-          subst P (sym (ap (λ cs. rules ++ cs) (quiet row start end base b (suc n) x later size le under after) ∙ append-nil rules)) (shows_at rules row (b - 1) (x + base) t (omega (arith, near, under)) shows)
+          let P : List RuleText → Type 0 = λ rs. Shows fde rs (row (x + base)) t in
+          subst P (sym (ap (λ cs. rules ++ cs) (quiet fde row start end base b (suc n) x later size le under after) ∙ append-nil rules)) (shows_at fde rules row (b - 1) (x + base) t (omega (arith, near, under)) shows)
       | inr past ↦
           let none : is_cut row start b ≡ false = no_cut row start b (x + base) n (is_cut row start b) refl past below in
-          let more : List RuleText = changed_rules (row (b - 1)) (row b) in
-          let rest : List SymLine = RestOf row start end base (b + 1) n later in
-          let heard : changes_until x (RestOf row start end base b (suc n) later) ≡ more ++ changes_until x rest =
-          ap (changes_until x) (rest_more row start end base b n later false (omega (arith, size)) none) ∙ heard_change (b - base) x more rest (omega (arith, past)) in
-          let P : List RuleText → Type 0 = λ rs. Shows rs (row (x + base)) t in
+          let more : List RuleText = changed_rules fde (row (b - 1)) (row b) in
+          let rest : List SymLine = RestOf fde row start end base (b + 1) n later in
+          let heard : changes_until x (RestOf fde row start end base b (suc n) later) ≡ more ++ changes_until x rest =
+          ap (changes_until x) (rest_more fde row start end base b n later false (omega (arith, size)) none) ∙ heard_change (b - base) x more rest (omega (arith, past)) in
+          let P : List RuleText → Type 0 = λ rs. Shows fde rs (row (x + base)) t in
           let inside : b < end = omega (arith, size) in
           subst P (append_assoc rules more (changes_until x rest) ∙ ap (λ cs. rules ++ cs) (sym heard))
-          (follows row start end base (b + 1) n x (rules ++ more) later t (omega (arith, size)) (omega (arith, le)) (omega (arith, above)) (omega (arith, past)) (let c : first_cut row start b (suc n) ≡ first_cut row start (b + 1) n = later_cut row start b n none in omega (arith, c, below)) said after is
-          (shows_at (rules ++ more) row b (b + 1 - 1) t (omega arith) (next_shows rules (row (b - 1)) (row b) t (said.sound b) (said.cfa b (omega (arith, above)) inside) (stays row start b none) is shows)))
+          (follows fde row start end base (b + 1) n x (rules ++ more) later t (omega (arith, size)) (omega (arith, le)) (omega (arith, above)) (omega (arith, past)) (let c : first_cut row start b (suc n) ≡ first_cut row start (b + 1) n = later_cut row start b n none in omega (arith, c, below)) said after is
+          (shows_at fde (rules ++ more) row b (b + 1 - 1) t (omega arith) (next_shows fde rules (row (b - 1)) (row b) t (said.sound b) (said.cfa b (omega (arith, above)) inside) (stays row start b none) is shows)))
     ]
 
 -- records of changes are passed over where an INIT is sought
@@ -133,49 +133,49 @@ init_past b c base x rules rest le up past =
     let no : covers x (b - base) (c - b) ≡ false = grind (arith, nat_tests) in
     ap (λ t. cond t (Some (rules ++ changes_until x rest)) (text_rules rest x)) no
 
-found_as : (lines more : List SymLine) (x : ℕ) (row : Row) → text_rules lines x ≡ text_rules more x → HasRules more x row → HasRules lines x row
-found_as lines more x row same has = record { rules = has.rules; found = same ∙ has.found; shows = has.shows }
+found_as : (fde : FdeFields) (lines more : List SymLine) (x : ℕ) (row : Row) → text_rules lines x ≡ text_rules more x → HasRules fde more x row → HasRules fde lines x row
+found_as fde lines more x row same has = record { rules = has.rules; found = same ∙ has.found; shows = has.shows }
 
 -- an address at or above the first cut: the INIT there has it, or a later one
-FoundFrom : (ℕ → Row) → ℕ → ℕ → ℕ → ℕ → ℕ → ℕ → List SymLine → Type 0
-FoundFrom row start end base b n x later = HasRules (RestOf row start end base b n later) x (row (x + base))
+FoundFrom : (fde : FdeFields) → (ℕ → Row) → ℕ → ℕ → ℕ → ℕ → ℕ → ℕ → List SymLine → Type 0
+FoundFrom fde row start end base b n x later = HasRules fde (RestOf fde row start end base b n later) x (row (x + base))
 
-found_more : (row : ℕ → Row) (start end base b n x : ℕ) (later : List SymLine) (cut : Bool) → is_cut row start b ≡ cut → end ≡ b + 1 + n → base ≤ b → start ≤ b → first_cut row start b (suc n) ≤ x + base → AreSaid row start end → IsQuiet later →
-    (first_cut row start (b + 1) n ≤ x + base → FoundFrom row start end base (b + 1) n x later) → FoundFrom row start end base b (suc n) x later
+found_more : (fde : FdeFields) (row : ℕ → Row) (start end base b n x : ℕ) (later : List SymLine) (cut : Bool) → is_cut row start b ≡ cut → end ≡ b + 1 + n → base ≤ b → start ≤ b → first_cut row start b (suc n) ≤ x + base → AreSaid fde row start end → IsQuiet later →
+    (first_cut row start (b + 1) n ≤ x + base → FoundFrom fde row start end base (b + 1) n x later) → FoundFrom fde row start end base b (suc n) x later
 unfolding FoundFrom
-found_more row start end base b n x later true is size le from low said after rest_found =
-    let rest : List SymLine = RestOf row start end base (b + 1) n later in
+found_more fde row start end base b n x later true is size le from low said after rest_found =
+    let rest : List SymLine = RestOf fde row start end base (b + 1) n later in
     let c : ℕ = first_cut row start (b + 1) n in
-    let lines : RestOf row start end base b (suc n) later ≡ Init (b - base) (c - b) (row_rules (row b)) ∷ rest = rest_more row start end base b n later true size is in
+    let lines : RestOf fde row start end base b (suc n) later ≡ Init (b - base) (c - b) (row_rules fde (row b)) ∷ rest = rest_more fde row start end base b n later true size is in
     let here : first_cut row start b (suc n) ≡ b = first_by row start b n ∙ ap (λ t. cond t b c) is in
     let above : b + 1 ≤ c = cut_above row start (b + 1) n in
     elim (cases_lt (x + base) c) [
       | inl inside ↦ record {
-        rules = row_rules (row b) ++ changes_until x rest;
-        found = ap (λ ls. text_rules ls x) lines ∙ init_found b c base x (row_rules (row b)) rest le (omega (arith, here, low)) inside;
-        shows = λ t of. follows row start end base (b + 1) n x (row_rules (row b)) later t size (omega (arith, le)) (omega (arith, from)) (omega (arith, here, low)) inside said after of
-            (shows_at (row_rules (row b)) row b (b + 1 - 1) t (omega arith) (row_shows (row b) t of));
+        rules = row_rules fde (row b) ++ changes_until x rest;
+        found = ap (λ ls. text_rules ls x) lines ∙ init_found b c base x (row_rules fde (row b)) rest le (omega (arith, here, low)) inside;
+        shows = λ t of. follows fde row start end base (b + 1) n x (row_rules fde (row b)) later t size (omega (arith, le)) (omega (arith, from)) (omega (arith, here, low)) inside said after of
+            (shows_at fde (row_rules fde (row b)) row b (b + 1 - 1) t (omega arith) (row_shows fde (row b) t (said.sound b) of));
       }
-      | inr past ↦ found_as (RestOf row start end base b (suc n) later) rest x (row (x + base)) (ap (λ ls. text_rules ls x) lines ∙ init_past b c base x (row_rules (row b)) rest le (omega (arith, above)) past) (rest_found past)
+      | inr past ↦ found_as fde (RestOf fde row start end base b (suc n) later) rest x (row (x + base)) (ap (λ ls. text_rules ls x) lines ∙ init_past b c base x (row_rules fde (row b)) rest le (omega (arith, above)) past) (rest_found past)
     ]
-found_more row start end base b n x later false is size le from low said after rest_found =
-    let rest : List SymLine = RestOf row start end base (b + 1) n later in
-    let lines : RestOf row start end base b (suc n) later ≡ change (b - base) (changed_rules (row (b - 1)) (row b)) ++ rest = rest_more row start end base b n later false size is in
+found_more fde row start end base b n x later false is size le from low said after rest_found =
+    let rest : List SymLine = RestOf fde row start end base (b + 1) n later in
+    let lines : RestOf fde row start end base b (suc n) later ≡ change (b - base) (changed_rules fde (row (b - 1)) (row b)) ++ rest = rest_more fde row start end base b n later false size is in
     let same : first_cut row start b (suc n) ≡ first_cut row start (b + 1) n = later_cut row start b n is in
-    found_as (RestOf row start end base b (suc n) later) rest x (row (x + base)) (ap (λ ls. text_rules ls x) lines ∙ pass_change (b - base) x (changed_rules (row (b - 1)) (row b)) rest) (rest_found (omega (arith, same, low)))
+    found_as fde (RestOf fde row start end base b (suc n) later) rest x (row (x + base)) (ap (λ ls. text_rules ls x) lines ∙ pass_change (b - base) x (changed_rules fde (row (b - 1)) (row b)) rest) (rest_found (omega (arith, same, low)))
 
-found_from : (row : ℕ → Row) (start end base b n x : ℕ) (later : List SymLine) → end ≡ b + n → base ≤ b → start ≤ b → first_cut row start b n ≤ x + base → x + base < end → AreSaid row start end → IsQuiet later → FoundFrom row start end base b n x later
+found_from : (fde : FdeFields) (row : ℕ → Row) (start end base b n x : ℕ) (later : List SymLine) → end ≡ b + n → base ≤ b → start ≤ b → first_cut row start b n ≤ x + base → x + base < end → AreSaid fde row start end → IsQuiet later → FoundFrom fde row start end base b n x later
 unfolding first_cut
-found_from row start end base b zero x later size le from low high said after = absurd (omega (arith, size, low, high))
-found_from row start end base b (suc n) x later size le from low high said after =
-    found_more row start end base b n x later (is_cut row start b) refl (omega (arith, size)) le from low said after
-    (λ past. found_from row start end base (b + 1) n x later (omega (arith, size)) (omega (arith, le)) (omega (arith, from)) past high said after)
+found_from fde row start end base b zero x later size le from low high said after = absurd (omega (arith, size, low, high))
+found_from fde row start end base b (suc n) x later size le from low high said after =
+    found_more fde row start end base b n x later (is_cut row start b) refl (omega (arith, size)) le from low said after
+    (λ past. found_from fde row start end base (b + 1) n x later (omega (arith, size)) (omega (arith, le)) (omega (arith, from)) past high said after)
 
 -- the records of an entry
-entry_found : (row : ℕ → Row) (start size base x : ℕ) (later : List SymLine) → base ≤ start → start ≤ x + base → x + base < start + size → AreSaid row start (start + size) → IsQuiet later → HasRules (frame_lines row start size base ++ later) x (row (x + base))
+entry_found : (fde : FdeFields) (row : ℕ → Row) (start size base x : ℕ) (later : List SymLine) → base ≤ start → start ≤ x + base → x + base < start + size → AreSaid fde row start (start + size) → IsQuiet later → HasRules fde (frame_lines fde row start size base ++ later) x (row (x + base))
 unfolding frame_lines RestOf FoundFrom
-entry_found row start size base x later le low high said after =
-    found_from row start (start + size) base start size x later refl le (omega arith) (let at : first_cut row start start size ≡ start = first_is_start row start size in omega (arith, at, low)) high said after
+entry_found fde row start size base x later le low high said after =
+    found_from fde row start (start + size) base start size x later refl le (omega arith) (let at : first_cut row start start size ≡ start = first_is_start row start size in omega (arith, at, low)) high said after
 
 -- records whose INITs do not cover the address are passed over
 skip_one : (s : SymLine) (rest : List SymLine) (x : ℕ) → init_covers x s ≡ false → text_rules (s ∷ rest) x ≡ text_rules rest x
@@ -202,27 +202,27 @@ unfolding text_rules
 nothing_found lines x none = ap (λ ls. text_rules ls x) (sym (append-nil lines)) ∙ skipped lines [] x none
 
 -- the records of written entries begin with an INIT, or there are none
-quiet_entry : (row : ℕ → Row) (start n base : ℕ) (later : List SymLine) → IsQuiet later → IsQuiet (frame_lines row start n base ++ later)
+quiet_entry : (fde : FdeFields) (row : ℕ → Row) (start n base : ℕ) (later : List SymLine) → IsQuiet later → IsQuiet (frame_lines fde row start n base ++ later)
 unfolding frame_lines changes_until records_at RestOf
-quiet_entry row start zero base later after = after
-quiet_entry row start (suc n) base later after = record {
-  at = λ x. ap (changes_until x) (rest_more row start (start + suc n) base start n later true (omega arith) (starts_cut row start));
+quiet_entry fde row start zero base later after = after
+quiet_entry fde row start (suc n) base later after = record {
+  at = λ x. ap (changes_until x) (rest_more fde row start (start + suc n) base start n later true (omega arith) (starts_cut row start));
 }
 
 pub written_quiet : (base : ℕ) (entries : List FdeFields) → IsQuiet (written_lines base entries)
 unfolding written_lines entry_lines changes_until
 written_quiet base [] = record { at = λ x. refl }
-written_quiet base (e ∷ entries) = quiet_entry (row_at e) e.start e.size base (written_lines base entries) (written_quiet base entries)
+written_quiet base (e ∷ entries) = quiet_entry e (row_at e) e.start e.size base (written_lines base entries) (written_quiet base entries)
 
 -- among all of them, where no entry before it has the address
-pub written_found : (base x : ℕ) (xs : List FdeFields) (e : FdeFields) (ys : List FdeFields) → AreAbove base xs → base ≤ e.start → entries_at xs (x + base) ≡ 0 → e.start ≤ x + base → x + base < e.start + e.size → AreSaid (row_at e) e.start (e.start + e.size) →
-    HasRules (written_lines base (xs ++ e ∷ ys)) x (row_at e (x + base))
+pub written_found : (base x : ℕ) (xs : List FdeFields) (e : FdeFields) (ys : List FdeFields) → AreAbove base xs → base ≤ e.start → entries_at xs (x + base) ≡ 0 → e.start ≤ x + base → x + base < e.start + e.size → AreSaid e (row_at e) e.start (e.start + e.size) →
+    HasRules e (written_lines base (xs ++ e ∷ ys)) x (row_at e (x + base))
 unfolding written_lines entry_lines
 written_found base x xs e ys above le none low high said =
     let lines : written_lines base (xs ++ e ∷ ys) ≡ written_lines base xs ++ written_lines base (e ∷ ys) = flat_map-append (entry_lines base) xs (e ∷ ys) in
-    found_as (written_lines base (xs ++ e ∷ ys)) (written_lines base (e ∷ ys)) x (row_at e (x + base))
+    found_as e (written_lines base (xs ++ e ∷ ys)) (written_lines base (e ∷ ys)) x (row_at e (x + base))
     (ap (λ ls. text_rules ls x) lines ∙ skipped (written_lines base xs) (written_lines base (e ∷ ys)) x (written_inits base x xs above ∙ none))
-    (entry_found (row_at e) e.start e.size base x (written_lines base ys) le low high said (written_quiet base ys))
+    (entry_found e (row_at e) e.start e.size base x (written_lines base ys) le low high said (written_quiet base ys))
 
-pub after_found : (front lines : List SymLine) (x : ℕ) (row : Row) → inits_at front x ≡ 0 → HasRules lines x row → HasRules (front ++ lines) x row
-after_found front lines x row none has = found_as (front ++ lines) lines x row (skipped front lines x none) has
+pub after_found : (fde : FdeFields) (front lines : List SymLine) (x : ℕ) (row : Row) → inits_at front x ≡ 0 → HasRules fde lines x row → HasRules fde (front ++ lines) x row
+after_found fde front lines x row none has = found_as fde (front ++ lines) lines x row (skipped front lines x none) has

@@ -12,6 +12,9 @@ pub mod ReasonLemmas
 pub mod DecidedLemmas
 pub mod KeepingLemmas
 pub mod PlainLemmas
+pub mod ExprLemmas
+pub mod WideLemmas
+pub mod LongLemmas
 pub mod ValidLemmas
 pub mod CoveringLemmas
 pub mod NestingLemmas

@@ -3,6 +3,7 @@ use Rattle.std.proofs.Common.{◌≡◌, ℕ, zero, suc, ◌+◌, ◌-◌, ◌<�
 use Rattle.std.specs.List.{flat_map, range_with_len, list_any, cons_option}
 use Rattle.std.proofs.lemmas.Bool.{cases_lt, ne_eqb, le-leb, lt-leb, and_right, or_from}
 use Rattle.std.proofs.lemmas.List.{append-nil}
+use Rattle.frame_entries.specs.FdeFields.{FdeFields}
 use Rattle.frame_rows.specs.declared.row.Row.{Row}
 use Rattle.frame_rows.specs.declared.row.RowAt.{RowAt}
 use Rattle.std.specs.Option.{option_or}
@@ -35,18 +36,18 @@ never_rests : (x : Row) → some_becomes_unspecified x x ≡ false
 unfolding some_becomes_unspecified some_unspecified_below
 never_rests x = any_rests x (range_with_len 0 17)
 
-no_change : (x : Row) (t : Target) → if_changed x x t ≡ None
+no_change : (fde : FdeFields) (x : Row) (t : Target) → if_changed fde x x t ≡ None
 unfolding if_changed
-no_change x t = no_other t (part_of x t)
+no_change fde x t = no_other fde t (part_of x t)
 
-no_rules : (x : Row) (ts : List Target) → rules_of (if_changed x x) ts ≡ []
+no_rules : (fde : FdeFields) (x : Row) (ts : List Target) → rules_of (if_changed fde x x) ts ≡ []
 unfolding rules_of
-no_rules x [] = refl
-no_rules x (t ∷ ts) = ap (λ o. cons_option (rule_of t o) (rules_of (if_changed x x) ts)) (no_change x t) ∙ no_rules x ts
+no_rules fde x [] = refl
+no_rules fde x (t ∷ ts) = ap (λ o. cons_option (rule_of t o) (rules_of (if_changed fde x x) ts)) (no_change fde x t) ∙ no_rules fde x ts
 
-never_changes : (x : Row) → changed_rules x x ≡ []
+never_changes : (fde : FdeFields) (x : Row) → changed_rules fde x x ≡ []
 unfolding changed_rules rules_by
-never_changes x = no_rules x targets
+never_changes fde x = no_rules fde x targets
 
 -- rows from an address on say nothing below it
 past_all : (low end a : ℕ) (rows : List RowAt) → Ascending low end rows → a < low → last_at rows a ≡ None
@@ -101,85 +102,85 @@ cut_of : (row : ℕ → Row) (start b n : ℕ) (cut : Bool) → is_cut row start
 unfolding first_cut
 cut_of row start b n cut e = ap (λ t. cond t b (first_cut row start (b + 1) n)) e
 
-pub line_of : (row : ℕ → Row) (start end base b n : ℕ) (before after : Row) (cut : Bool) → end ≡ b + 1 + n → before ≡ row (b - 1) → after ≡ row b → is_cut row start b ≡ cut → records_at row start end base b ≡ cond cut (Init (b - base) (first_cut row start (b + 1) n - b) (row_rules after) ∷ []) (change (b - base) (changed_rules before after))
+pub line_of : (fde : FdeFields) (row : ℕ → Row) (start end base b n : ℕ) (before after : Row) (cut : Bool) → end ≡ b + 1 + n → before ≡ row (b - 1) → after ≡ row b → is_cut row start b ≡ cut → records_at fde row start end base b ≡ cond cut (Init (b - base) (first_cut row start (b + 1) n - b) (row_rules fde after) ∷ []) (change (b - base) (changed_rules fde before after))
 unfolding records_at
-line_of row start end base b n before after cut size e f is =
+line_of fde row start end base b n before after cut size e f is =
     let left : end - (b + 1) ≡ n = omega (arith, size) in
-    ap (λ t. cond t (Init (b - base) (first_cut row start (b + 1) (end - (b + 1)) - b) (row_rules (row b)) ∷ []) (change (b - base) (changed_rules (row (b - 1)) (row b)))) is
-    ∙ ap (λ m. cond cut (Init (b - base) (first_cut row start (b + 1) m - b) (row_rules (row b)) ∷ []) (change (b - base) (changed_rules (row (b - 1)) (row b)))) left
-    ∙ ap (λ x. cond cut (Init (b - base) (first_cut row start (b + 1) n - b) (row_rules (row b)) ∷ []) (change (b - base) (changed_rules x (row b)))) (sym e)
-    ∙ ap (λ x. cond cut (Init (b - base) (first_cut row start (b + 1) n - b) (row_rules x) ∷ []) (change (b - base) (changed_rules before x))) (sym f)
+    ap (λ t. cond t (Init (b - base) (first_cut row start (b + 1) (end - (b + 1)) - b) (row_rules fde (row b)) ∷ []) (change (b - base) (changed_rules fde (row (b - 1)) (row b)))) is
+    ∙ ap (λ m. cond cut (Init (b - base) (first_cut row start (b + 1) m - b) (row_rules fde (row b)) ∷ []) (change (b - base) (changed_rules fde (row (b - 1)) (row b)))) left
+    ∙ ap (λ x. cond cut (Init (b - base) (first_cut row start (b + 1) n - b) (row_rules fde (row b)) ∷ []) (change (b - base) (changed_rules fde x (row b)))) (sym e)
+    ∙ ap (λ x. cond cut (Init (b - base) (first_cut row start (b + 1) n - b) (row_rules fde x) ∷ []) (change (b - base) (changed_rules fde before x))) (sym f)
 
 -- what is written with a row more, and what is written then
-ended_by : (cut : Bool) (b c : ℕ) (after : Row) (rules : List RuleText) (o : Open) (rest : List SymLine) →
-    closed (cond cut (opened o.base (closed o b) b after) (with_changes b rules o)) c ++ rest
-    ≡ closed o (cond cut b c) ++ (cond cut (Init (b - o.base) (c - b) (row_rules after) ∷ []) (change (b - o.base) rules) ++ rest)
-ended_by true b c after rules o rest = append_assoc (closed o b) (Init (b - o.base) (c - b) (row_rules after) ∷ []) rest
-ended_by false b c after rules o rest =
+ended_by : (fde : FdeFields) (cut : Bool) (b c : ℕ) (after : Row) (rules : List RuleText) (o : Open) (rest : List SymLine) →
+    closed (cond cut (opened fde o.base (closed o b) b after) (with_changes b rules o)) c ++ rest
+    ≡ closed o (cond cut b c) ++ (cond cut (Init (b - o.base) (c - b) (row_rules fde after) ∷ []) (change (b - o.base) rules) ++ rest)
+ended_by fde true b c after rules o rest = append_assoc (closed o b) (Init (b - o.base) (c - b) (row_rules fde after) ∷ []) rest
+ended_by fde false b c after rules o rest =
     ap (λ xs. xs ++ rest) (sym (append_assoc o.lines (Init (o.start - o.base) (c - o.start) o.rules ∷ o.changes) (change (b - o.base) rules)))
     ∙ append_assoc (closed o c) (change (b - o.base) rules) rest
 
-base_by : (cut : Bool) (b : ℕ) (after : Row) (rules : List RuleText) (o : Open) → (cond cut (opened o.base (closed o b) b after) (with_changes b rules o)).base ≡ o.base
-base_by true b after rules o = refl
-base_by false b after rules o = refl
+base_by : (fde : FdeFields) (cut : Bool) (b : ℕ) (after : Row) (rules : List RuleText) (o : Open) → (cond cut (opened fde o.base (closed o b) b after) (with_changes b rules o)).base ≡ o.base
+base_by fde true b after rules o = refl
+base_by fde false b after rules o = refl
 
 -- the records from an address on, after those that are written
-Rests : (ℕ → Row) → ℕ → ℕ → ℕ → ℕ → Row → List RowAt → Open → Type 0
-Rests row start end b n before rows o =
-    closed (with_rows before rows o) end ≡ closed o (first_cut row start b n) ++ flat_map (records_at row start end o.base) (range_with_len b n)
+Rests : (fde : FdeFields) → (ℕ → Row) → ℕ → ℕ → ℕ → ℕ → Row → List RowAt → Open → Type 0
+Rests fde row start end b n before rows o =
+    closed (with_rows fde before rows o) end ≡ closed o (first_cut row start b n) ++ flat_map (records_at fde row start end o.base) (range_with_len b n)
 
-stay : (row : ℕ → Row) (start end b n : ℕ) (before : Row) (rows : List RowAt) (o : Open) → end ≡ b + 1 + n → start < b → before ≡ row (b - 1) → before ≡ row b → Rests row start end (b + 1) n before rows o → Rests row start end b (suc n) before rows o
+stay : (fde : FdeFields) (row : ℕ → Row) (start end b n : ℕ) (before : Row) (rows : List RowAt) (o : Open) → end ≡ b + 1 + n → start < b → before ≡ row (b - 1) → before ≡ row b → Rests fde row start end (b + 1) n before rows o → Rests fde row start end b (suc n) before rows o
 unfolding Rests
-stay row start end b n before rows o size above e f rest =
+stay fde row start end b n before rows o size above e f rest =
     let cut : is_cut row start b ≡ false = cut_at row start b before before above e f ∙ never_rests before in
-    let none : records_at row start end o.base b ≡ [] = line_of row start end o.base b n before before false size e f cut ∙ ap (change (b - o.base)) (never_changes before) in
-    rest ∙ ap (λ c. closed o c ++ flat_map (records_at row start end o.base) (range_with_len (b + 1) n)) (sym (cut_of row start b n false cut))
-    ∙ ap (λ xs. closed o (first_cut row start b (suc n)) ++ (xs ++ flat_map (records_at row start end o.base) (range_with_len (b + 1) n))) (sym none)
+    let none : records_at fde row start end o.base b ≡ [] = line_of fde row start end o.base b n before before false size e f cut ∙ ap (change (b - o.base)) (never_changes fde before) in
+    rest ∙ ap (λ c. closed o c ++ flat_map (records_at fde row start end o.base) (range_with_len (b + 1) n)) (sym (cut_of row start b n false cut))
+    ∙ ap (λ xs. closed o (first_cut row start b (suc n)) ++ (xs ++ flat_map (records_at fde row start end o.base) (range_with_len (b + 1) n))) (sym none)
 
-move : (row : ℕ → Row) (start end b n : ℕ) (before : Row) (r : RowAt) (rows : List RowAt) (o : Open) → end ≡ b + 1 + n → start < b → before ≡ row (b - 1) → r.row ≡ row b → r.address ≡ b → Rests row start end (b + 1) n r.row rows (with_row b before r.row o) → Rests row start end b (suc n) before (r ∷ rows) o
+move : (fde : FdeFields) (row : ℕ → Row) (start end b n : ℕ) (before : Row) (r : RowAt) (rows : List RowAt) (o : Open) → end ≡ b + 1 + n → start < b → before ≡ row (b - 1) → r.row ≡ row b → r.address ≡ b → Rests fde row start end (b + 1) n r.row rows (with_row fde b before r.row o) → Rests fde row start end b (suc n) before (r ∷ rows) o
 unfolding Rests with_rows with_row
-move row start end b n before r rows o size above e f at rest =
+move fde row start end b n before r rows o size above e f at rest =
     let cut : Bool = some_becomes_unspecified before r.row in
-    let rules : List RuleText = changed_rules before r.row in
+    let rules : List RuleText = changed_rules fde before r.row in
     let is : is_cut row start b ≡ cut = cut_at row start b before r.row above e f in
     let c : ℕ = first_cut row start (b + 1) n in
-    let lines : ℕ → List SymLine = λ k. flat_map (records_at row start end k) (range_with_len (b + 1) n) in
-    let next : Open = cond cut (opened o.base (closed o b) b r.row) (with_changes b rules o) in
-    ap (λ k. closed (with_rows r.row rows (with_row k before r.row o)) end) at
+    let lines : ℕ → List SymLine = λ k. flat_map (records_at fde row start end k) (range_with_len (b + 1) n) in
+    let next : Open = cond cut (opened fde o.base (closed o b) b r.row) (with_changes b rules o) in
+    ap (λ k. closed (with_rows fde r.row rows (with_row fde k before r.row o)) end) at
     ∙ rest
-    ∙ ap (λ k. closed next c ++ lines k) (base_by cut b r.row rules o)
-    ∙ ended_by cut b c r.row rules o (lines o.base)
-    ∙ ap (λ k. closed o k ++ (cond cut (Init (b - o.base) (c - b) (row_rules r.row) ∷ []) (change (b - o.base) rules) ++ lines o.base)) (sym (cut_of row start b n cut is))
-    ∙ ap (λ xs. closed o (first_cut row start b (suc n)) ++ (xs ++ lines o.base)) (sym (line_of row start end o.base b n before r.row cut size e f is))
+    ∙ ap (λ k. closed next c ++ lines k) (base_by fde cut b r.row rules o)
+    ∙ ended_by fde cut b c r.row rules o (lines o.base)
+    ∙ ap (λ k. closed o k ++ (cond cut (Init (b - o.base) (c - b) (row_rules fde r.row) ∷ []) (change (b - o.base) rules) ++ lines o.base)) (sym (cut_of row start b n cut is))
+    ∙ ap (λ xs. closed o (first_cut row start b (suc n)) ++ (xs ++ lines o.base)) (sym (line_of fde row start end o.base b n before r.row cut size e f is))
 
-stays_more : (row : ℕ → Row) (start end b n : ℕ) (before : Row) (rows : List RowAt) (o : Open) → end ≡ b + 1 + n → start < b → before ≡ row (b - 1) → Ascending (b + 1) end rows → Follows row b end before rows →
-    (before ≡ row (b + 1 - 1) → Ascending (b + 1) end rows → Follows row (b + 1) end before rows → Rests row start end (b + 1) n before rows o) → Rests row start end b (suc n) before rows o
-stays_more row start end b n before rows o size above e rising follows rest =
+stays_more : (fde : FdeFields) (row : ℕ → Row) (start end b n : ℕ) (before : Row) (rows : List RowAt) (o : Open) → end ≡ b + 1 + n → start < b → before ≡ row (b - 1) → Ascending (b + 1) end rows → Follows row b end before rows →
+    (before ≡ row (b + 1 - 1) → Ascending (b + 1) end rows → Follows row (b + 1) end before rows → Rests fde row start end (b + 1) n before rows o) → Rests fde row start end b (suc n) before rows o
+stays_more fde row start end b n before rows o size above e rising follows rest =
     let f : before ≡ row b = stands row b end before rows follows (omega (arith, size)) rising in
     let back : b + 1 - 1 ≡ b = omega arith in
-    stay row start end b n before rows o size above e f (rest (f ∙ ap row (sym back)) rising (follows_same row b end before rows follows))
+    stay fde row start end b n before rows o size above e f (rest (f ∙ ap row (sym back)) rising (follows_same row b end before rows follows))
 
-moves_more : (row : ℕ → Row) (start end b n : ℕ) (before : Row) (r : RowAt) (rows : List RowAt) (o : Open) → end ≡ b + 1 + n → start < b → before ≡ row (b - 1) → Ascending b end (r ∷ rows) → Follows row b end before (r ∷ rows) → r.address ≡ b →
-    (r.row ≡ row (b + 1 - 1) → Ascending (b + 1) end rows → Follows row (b + 1) end r.row rows → Rests row start end (b + 1) n r.row rows (with_row b before r.row o)) → Rests row start end b (suc n) before (r ∷ rows) o
-moves_more row start end b n before r rows o size above e rising follows at rest =
+moves_more : (fde : FdeFields) (row : ℕ → Row) (start end b n : ℕ) (before : Row) (r : RowAt) (rows : List RowAt) (o : Open) → end ≡ b + 1 + n → start < b → before ≡ row (b - 1) → Ascending b end (r ∷ rows) → Follows row b end before (r ∷ rows) → r.address ≡ b →
+    (r.row ≡ row (b + 1 - 1) → Ascending (b + 1) end rows → Follows row (b + 1) end r.row rows → Rests fde row start end (b + 1) n r.row rows (with_row fde b before r.row o)) → Rests fde row start end b (suc n) before (r ∷ rows) o
+moves_more fde row start end b n before r rows o size above e rising follows at rest =
     let f : r.row ≡ row b = begins row b end before r rows follows at (omega (arith, size)) rising.2 in
     let back : b + 1 - 1 ≡ b = omega arith in
     let P : ℕ → Type 0 = λ k. Ascending (k + 1) end rows in
-    move row start end b n before r rows o size above e f at (rest (f ∙ ap row (sym back)) (subst P at rising.2) (follows_on row b end before r rows follows at))
+    move fde row start end b n before r rows o size above e f at (rest (f ∙ ap row (sym back)) (subst P at rising.2) (follows_on row b end before r rows follows at))
 
-rests : (row : ℕ → Row) (start end b n : ℕ) (before : Row) (rows : List RowAt) (o : Open) → end ≡ b + n → start < b → before ≡ row (b - 1) → Ascending b end rows → Follows row b end before rows → Rests row start end b n before rows o
+rests : (fde : FdeFields) (row : ℕ → Row) (start end b n : ℕ) (before : Row) (rows : List RowAt) (o : Open) → end ≡ b + n → start < b → before ≡ row (b - 1) → Ascending b end rows → Follows row b end before rows → Rests fde row start end b n before rows o
 unfolding Rests first_cut with_rows
-rests row start end b zero before [] o size above e rising follows =
+rests fde row start end b zero before [] o size above e rising follows =
     ap (closed o) (let same : end ≡ b = omega (arith, size) in same) ∙ sym (append-nil (closed o b))
-rests row start end b zero before (r ∷ rows) o size above e rising follows = absurd (omega (arith, size, rising.0, rising.1))
-rests row start end b (suc n) before [] o size above e rising follows =
+rests fde row start end b zero before (r ∷ rows) o size above e rising follows = absurd (omega (arith, size, rising.0, rising.1))
+rests fde row start end b (suc n) before [] o size above e rising follows =
     let size : end ≡ b + 1 + n = omega (arith, size) in
-    stays_more row start end b n before [] o size above e tt follows (λ back up on. rests row start end (b + 1) n before [] o size (omega arith) back up on)
-rests row start end b (suc n) before (r ∷ rows) o size above e rising follows =
+    stays_more fde row start end b n before [] o size above e tt follows (λ back up on. rests fde row start end (b + 1) n before [] o size (omega arith) back up on)
+rests fde row start end b (suc n) before (r ∷ rows) o size above e rising follows =
     let size : end ≡ b + 1 + n = omega (arith, size) in
     elim (cases_lt b r.address) [
-      | inl below ↦ stays_more row start end b n before (r ∷ rows) o size above e (omega (arith, below), rising.1, rising.2) follows (λ back up on. rests row start end (b + 1) n before (r ∷ rows) o size (omega arith) back up on)
-      | inr past ↦ moves_more row start end b n before r rows o size above e rising follows (omega (arith, past, rising.0)) (λ back up on. rests row start end (b + 1) n r.row rows (with_row b before r.row o) size (omega arith) back up on)
+      | inl below ↦ stays_more fde row start end b n before (r ∷ rows) o size above e (omega (arith, below), rising.1, rising.2) follows (λ back up on. rests fde row start end (b + 1) n before (r ∷ rows) o size (omega arith) back up on)
+      | inr past ↦ moves_more fde row start end b n before r rows o size above e rising follows (omega (arith, past, rising.0)) (λ back up on. rests fde row start end (b + 1) n r.row rows (with_row fde b before r.row o) size (omega arith) back up on)
     ]
 
 -- the first row stands at the start
@@ -198,33 +199,33 @@ first_row : (row : ℕ → Row) (start end : ℕ) (r : RowAt) (rows : List RowAt
 first_row row start end r rows rising says at =
     some_same r.row (row start) (ap (λ o. option_or o (Some r.row)) (sym (past_all (r.address + 1) end start rows rising.2 (omega (arith, at)))) ∙ sym (last_on r rows start (omega (arith, at))) ∙ says)
 
-first_line : (row : ℕ → Row) (start base n end : ℕ) → end ≡ start + 1 + n → records_at row start end base start ≡ Init (start - base) (first_cut row start (start + 1) n - start) (row_rules (row start)) ∷ []
+first_line : (fde : FdeFields) (row : ℕ → Row) (start base n end : ℕ) → end ≡ start + 1 + n → records_at fde row start end base start ≡ Init (start - base) (first_cut row start (start + 1) n - start) (row_rules fde (row start)) ∷ []
 unfolding records_at is_cut
-first_line row start base n end size =
+first_line fde row start base n end size =
     let left : end - (start + 1) ≡ n = omega (arith, size) in
-    ap (λ t. cond (t || some_becomes_unspecified (row (start - 1)) (row start)) (Init (start - base) (first_cut row start (start + 1) (end - (start + 1)) - start) (row_rules (row start)) ∷ []) (change (start - base) (changed_rules (row (start - 1)) (row start)))) (eq-eqb start start refl)
-    ∙ ap (λ m. Init (start - base) (first_cut row start (start + 1) m - start) (row_rules (row start)) ∷ []) left
+    ap (λ t. cond (t || some_becomes_unspecified (row (start - 1)) (row start)) (Init (start - base) (first_cut row start (start + 1) (end - (start + 1)) - start) (row_rules fde (row start)) ∷ []) (change (start - base) (changed_rules fde (row (start - 1)) (row start)))) (eq-eqb start start refl)
+    ∙ ap (λ m. Init (start - base) (first_cut row start (start + 1) m - start) (row_rules fde (row start)) ∷ []) left
 
-from_first : (row : ℕ → Row) (start base n end : ℕ) (r : RowAt) (rows : List RowAt) → end ≡ start + 1 + n → Ascending start end (r ∷ rows) → r.address ≡ start → r.row ≡ row start → Follows row (start + 1) end r.row rows →
-    lines_of base end (r ∷ rows) ≡ flat_map (records_at row start end base) (start ∷ range_with_len (start + 1) n)
+from_first : (fde : FdeFields) (row : ℕ → Row) (start base n end : ℕ) (r : RowAt) (rows : List RowAt) → end ≡ start + 1 + n → Ascending start end (r ∷ rows) → r.address ≡ start → r.row ≡ row start → Follows row (start + 1) end r.row rows →
+    lines_of fde base end (r ∷ rows) ≡ flat_map (records_at fde row start end base) (start ∷ range_with_len (start + 1) n)
 unfolding lines_of Rests
-from_first row start base n end r rows size rising at e follows =
+from_first fde row start base n end r rows size rising at e follows =
     let back : start + 1 - 1 ≡ start = omega arith in
     let P : ℕ → Type 0 = λ k. Ascending (k + 1) end rows in
-    let tail : List SymLine = flat_map (records_at row start end base) (range_with_len (start + 1) n) in
-    rests row start end (start + 1) n r.row rows (opened base [] r.address r.row) size (omega arith) (e ∙ ap row (sym back)) (subst P at rising.2) follows
-    ∙ ap (λ k. (Init (k - base) (first_cut row start (start + 1) n - k) (row_rules r.row) ∷ []) ++ tail) at
-    ∙ ap (λ x. (Init (start - base) (first_cut row start (start + 1) n - start) (row_rules x) ∷ []) ++ tail) e
-    ∙ ap (λ xs. xs ++ tail) (sym (first_line row start base n end size))
+    let tail : List SymLine = flat_map (records_at fde row start end base) (range_with_len (start + 1) n) in
+    rests fde row start end (start + 1) n r.row rows (opened fde base [] r.address r.row) size (omega arith) (e ∙ ap row (sym back)) (subst P at rising.2) follows
+    ∙ ap (λ k. (Init (k - base) (first_cut row start (start + 1) n - k) (row_rules fde r.row) ∷ []) ++ tail) at
+    ∙ ap (λ x. (Init (start - base) (first_cut row start (start + 1) n - start) (row_rules fde x) ∷ []) ++ tail) e
+    ∙ ap (λ xs. xs ++ tail) (sym (first_line fde row start base n end size))
 
 -- the pass over the rows of a range gives the records of the range
-pub lines_are : (row : ℕ → Row) (start size base : ℕ) (rows : List RowAt) → 0 < size → Ascending start (start + size) rows → ((a : ℕ) → start ≤ a → a < start + size → last_at rows a ≡ Some (row a)) → lines_of base (start + size) rows ≡ frame_lines row start size base
+pub lines_are : (fde : FdeFields) (row : ℕ → Row) (start size base : ℕ) (rows : List RowAt) → 0 < size → Ascending start (start + size) rows → ((a : ℕ) → start ≤ a → a < start + size → last_at rows a ≡ Some (row a)) → lines_of fde base (start + size) rows ≡ frame_lines fde row start size base
 unfolding last_at frame_lines
-lines_are row start zero base rows some rising each = absurd (omega (arith, some))
-lines_are row start (suc n) base [] some rising each = absurd (none_some (row start) (each start (omega arith) (omega arith)))
-lines_are row start (suc n) base (r ∷ rows) some rising each =
+lines_are fde row start zero base rows some rising each = absurd (omega (arith, some))
+lines_are fde row start (suc n) base [] some rising each = absurd (none_some (row start) (each start (omega arith) (omega arith)))
+lines_are fde row start (suc n) base (r ∷ rows) some rising each =
     let end : ℕ = start + suc n in
     let size : end ≡ start + 1 + n = omega arith in
     let says : last_at (r ∷ rows) start ≡ Some (row start) = each start (omega arith) (omega arith) in
     let at : r.address ≡ start = first_at row start end r rows rising says in
-    from_first row start base n end r rows size rising at (first_row row start end r rows rising says at) (follows_first row start end r rows each at)
+    from_first fde row start base n end r rows size rising at (first_row row start end r rows rising says at) (follows_first row start end r rows each at)

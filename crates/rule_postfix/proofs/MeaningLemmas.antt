@@ -46,18 +46,18 @@ use Rattle.rule_postfix.proofs.FoundLemmas.{AreSaid, HasRules, written_found, af
 use Rattle.rule_postfix.proofs.ValueLemmas.{cfa_shown, ra_shown, register_shown}
 
 -- rules that show a row give its frame
-frame_shown : (e : FdeFields) (row : Row) (regs : Regs) (memory : List MemRun) (rules : List RuleText) → IsSound row → has_cfa row ≡ true → ((t : Target) → IsTarget t → Shows rules row t) → IsFrameOf row (row_frame e row regs memory) (frame_of regs memory rules)
+frame_shown : (e : FdeFields) (row : Row) (regs : Regs) (memory : List MemRun) (rules : List RuleText) → IsSound e row → has_cfa row ≡ true → ((t : Target) → IsTarget t → Shows e rules row t) → IsFrameOf row (row_frame e row regs memory) (frame_of regs memory rules)
 unfolding frame_of row_frame
 frame_shown e row regs memory rules sound has shows = record {
-  cfa = cfa_shown regs memory rules row (shows Cfa tt);
-  ra = ra_shown regs memory rules row sound (shows Cfa tt) (shows Ra tt);
+  cfa = cfa_shown e regs memory rules row sound (shows Cfa tt);
+  ra = ra_shown e regs memory rules row sound (shows Cfa tt) (shows Ra tt);
   registers = λ k below shown.
       get_or-map-range_with_len (text_register regs memory rules) 0 16 k k Undefined below (omega arith)
-      ∙ register_shown regs memory rules row k has shown (shows Cfa tt) (shows (Reg k) below)
-      ∙ sym (get_or-map-range_with_len (value_in_row regs memory row) 0 16 k k Undefined below (omega arith));
+      ∙ register_shown e regs memory rules row k sound has shown (shows Cfa tt) (shows (Reg k) below)
+      ∙ sym (get_or-map-range_with_len (value_in_row e regs memory row) 0 16 k k Undefined below (omega arith));
 }
 
-says_by : (e : FdeFields) (row : Row) (regs : Regs) (memory : List MemRun) (lines : List SymLine) (x : ℕ) → IsSound row → has_cfa row ≡ true → HasRules lines x row → SaysFrame row (row_frame e row regs memory) (text_frame lines x regs memory)
+says_by : (e : FdeFields) (row : Row) (regs : Regs) (memory : List MemRun) (lines : List SymLine) (x : ℕ) → IsSound e row → has_cfa row ≡ true → HasRules e lines x row → SaysFrame row (row_frame e row regs memory) (text_frame lines x regs memory)
 unfolding text_frame
 says_by e row regs memory lines x sound has rules =
     let P : Option Frame → Type 0 = λ o. SaysFrame row (row_frame e row regs memory) o in
@@ -77,7 +77,7 @@ lacks_none : (b : Bool) → unless (not b) reason.Cfa ≡ None → b ≡ false
 lacks_none true none = cc
 lacks_none false none = refl
 
-rows_said : (e : FdeFields) → rows_fault e ≡ None → AreSaid (row_at e) e.start (e.start + e.size)
+rows_said : (e : FdeFields) → rows_fault e ≡ None → AreSaid e (row_at e) e.start (e.start + e.size)
 unfolding rows_fault lacks_cfa
 rows_said e none = record {
   sound = λ a. entry_sound e a (or_left (instruction_fault e) (unless (not (lacks_cfa e)) reason.Cfa) none);
@@ -165,11 +165,11 @@ keeps_one base front xs e ys plain kept none = record {
       let high : a < e.start + e.size = high_held a e held in
       let same : a - base + base ≡ a = omega (arith, low, parts.1) in
       let before : entries_at xs (a - base + base) ≡ 0 = ap (entries_at xs) same ∙ none_before a xs e ys kept.apart held in
-      let said : AreSaid (row_at e) e.start (e.start + e.size) = rows_said e none in
-      let found : HasRules lines (a - base) (row_at e (a - base + base)) =
-      after_found front (written_lines base (xs ++ e ∷ ys)) (a - base) (row_at e (a - base + base)) (no_inits front (a - base) plain)
+      let said : AreSaid e (row_at e) e.start (e.start + e.size) = rows_said e none in
+      let found : HasRules e lines (a - base) (row_at e (a - base + base)) =
+      after_found e front (written_lines base (xs ++ e ∷ ys)) (a - base) (row_at e (a - base + base)) (no_inits front (a - base) plain)
       (written_found base (a - base) xs e ys parts.0 parts.1 before (omega (arith, low, same)) (omega (arith, high, same)) said) in
-      let P : ℕ → Type 0 = λ k. HasRules lines (a - base) (row_at e k) in
+      let P : ℕ → Type 0 = λ k. HasRules e lines (a - base) (row_at e k) in
       says_by e (row_at e a) regs memory lines (a - base) (said.sound a) (said.cfa a low high) (subst P same found);
 }
 
@@ -198,9 +198,9 @@ pub entries_kept : (base : ℕ) (code : List Range) (first second : List Entry) 
 entries_kept base code first second from = frames_kept base code first second [] from refl
 
 -- the records of one entry
-pub entry_kept : (base : ℕ) (e : FdeFields) → base ≤ e.start → rows_fault e ≡ None → KeepsRows base (lines_of_rows (row_at e) e.start e.size base) e
+pub entry_kept : (base : ℕ) (e : FdeFields) → base ≤ e.start → rows_fault e ≡ None → KeepsRows base (lines_of_rows e (row_at e) e.start e.size base) e
 unfolding written_lines entry_lines any_meets AreAbove
 entry_kept base e le none =
     let kept : AreKept base (e ∷ []) = record { above = (le, tt); apart = (refl, tt) } in
     let P : List SymLine → Type 0 = λ ls. KeepsRows base ls e in
-    subst P (append-nil (lines_of_rows (row_at e) e.start e.size base)) (keeps_one base [] [] e [] refl kept none)
+    subst P (append-nil (lines_of_rows e (row_at e) e.start e.size base)) (keeps_one base [] [] e [] refl kept none)

@@ -26,36 +26,36 @@ nested_line false b c base last end row [] lines le above below is more = more l
 nested_line false b c base last end row (r ∷ rules) lines le above below is more = (omega (arith, above), (omega (arith, is, below, le), more (b - base) end (omega (arith, le)) is))
 
 -- the records from an address on
-nested_from : (row : ℕ → Row) (start base end b n last stop : ℕ) (lines : List SymLine) → end ≡ b + n → base ≤ b → last + base < b → stop + base ≡ first_cut row start b n → NestedAlways lines → AreNested last stop (flat_map (records_at row start end base) (range_with_len b n) ++ lines)
-nested_from row start base end b zero last stop lines size le above is always = always.at last stop
-nested_from row start base end b (suc n) last stop lines size le above is always =
+nested_from : (fde : FdeFields) (row : ℕ → Row) (start base end b n last stop : ℕ) (lines : List SymLine) → end ≡ b + n → base ≤ b → last + base < b → stop + base ≡ first_cut row start b n → NestedAlways lines → AreNested last stop (flat_map (records_at fde row start end base) (range_with_len b n) ++ lines)
+nested_from fde row start base end b zero last stop lines size le above is always = always.at last stop
+nested_from fde row start base end b (suc n) last stop lines size le above is always =
     let c : ℕ = first_cut row start (b + 1) n in
     let cut : Bool = is_cut row start b in
-    let rest : List SymLine = flat_map (records_at row start end base) (range_with_len (b + 1) n) in
-    let line : records_at row start end base b ≡ cond cut (Init (b - base) (c - b) (row_rules (row b)) ∷ []) (change (b - base) (changed_rules (row (b - 1)) (row b))) = line_of row start end base b n (row (b - 1)) (row b) cut (omega (arith, size)) refl refl refl in
+    let rest : List SymLine = flat_map (records_at fde row start end base) (range_with_len (b + 1) n) in
+    let line : records_at fde row start end base b ≡ cond cut (Init (b - base) (c - b) (row_rules fde (row b)) ∷ []) (change (b - base) (changed_rules fde (row (b - 1)) (row b))) = line_of fde row start end base b n (row (b - 1)) (row b) cut (omega (arith, size)) refl refl refl in
     let P : List SymLine → Type 0 = λ ls. AreNested last stop ls in
-    subst P (sym (ap (λ ls. (ls ++ rest) ++ lines) line ∙ append_assoc (cond cut (Init (b - base) (c - b) (row_rules (row b)) ∷ []) (change (b - base) (changed_rules (row (b - 1)) (row b)))) rest lines))
-    (nested_line cut b c base last stop (row_rules (row b)) (changed_rules (row (b - 1)) (row b)) (rest ++ lines) le above (omega (arith, cut_above row start (b + 1) n)) (is ∙ first_by row start b n)
-    (λ l e under at. nested_from row start base end (b + 1) n l e lines (omega (arith, size)) (omega (arith, le)) under at always))
+    subst P (sym (ap (λ ls. (ls ++ rest) ++ lines) line ∙ append_assoc (cond cut (Init (b - base) (c - b) (row_rules fde (row b)) ∷ []) (change (b - base) (changed_rules fde (row (b - 1)) (row b)))) rest lines))
+    (nested_line cut b c base last stop (row_rules fde (row b)) (changed_rules fde (row (b - 1)) (row b)) (rest ++ lines) le above (omega (arith, cut_above row start (b + 1) n)) (is ∙ first_by row start b n)
+    (λ l e under at. nested_from fde row start base end (b + 1) n l e lines (omega (arith, size)) (omega (arith, le)) under at always))
 
 pub starts_cut : (row : ℕ → Row) (start : ℕ) → is_cut row start start ≡ true
 unfolding is_cut
 starts_cut row start = ap (λ t. t || some_becomes_unspecified (row (start - 1)) (row start)) (eq-eqb start start refl)
 
 -- the records of a range begin with an INIT
-nested_range : (row : ℕ → Row) (start base n : ℕ) (lines : List SymLine) → base ≤ start → NestedAlways lines → NestedAlways (frame_lines row start n base ++ lines)
+nested_range : (fde : FdeFields) (row : ℕ → Row) (start base n : ℕ) (lines : List SymLine) → base ≤ start → NestedAlways lines → NestedAlways (frame_lines fde row start n base ++ lines)
 unfolding frame_lines
-nested_range row start base zero lines le always = always
-nested_range row start base (suc n) lines le always = record {
+nested_range fde row start base zero lines le always = always
+nested_range fde row start base (suc n) lines le always = record {
   at = λ last stop.
       let end : ℕ = start + suc n in
       let c : ℕ = first_cut row start (start + 1) n in
-      let rest : List SymLine = flat_map (records_at row start end base) (range_with_len (start + 1) n) in
-      let line : records_at row start end base start ≡ Init (start - base) (c - start) (row_rules (row start)) ∷ [] = line_of row start end base start n (row (start - 1)) (row start) true (omega arith) refl refl (starts_cut row start) in
+      let rest : List SymLine = flat_map (records_at fde row start end base) (range_with_len (start + 1) n) in
+      let line : records_at fde row start end base start ≡ Init (start - base) (c - start) (row_rules fde (row start)) ∷ [] = line_of fde row start end base start n (row (start - 1)) (row start) true (omega arith) refl refl (starts_cut row start) in
       let P : List SymLine → Type 0 = λ ls. AreNested last stop ls in
-      subst P (sym (ap (λ ls. (ls ++ rest) ++ lines) line ∙ append_assoc (Init (start - base) (c - start) (row_rules (row start)) ∷ []) rest lines)) (
+      subst P (sym (ap (λ ls. (ls ++ rest) ++ lines) line ∙ append_assoc (Init (start - base) (c - start) (row_rules fde (row start)) ∷ []) rest lines)) (
         omega (arith, cut_above row start (start + 1) n),
-        nested_from row start base end (start + 1) n (start - base) (start - base + (c - start)) lines (omega arith) (omega (arith, le)) (omega (arith, le)) (omega (arith, le, cut_above row start (start + 1) n)) always,
+        nested_from fde row start base end (start + 1) n (start - base) (start - base + (c - start)) lines (omega arith) (omega (arith, le)) (omega (arith, le)) (omega (arith, le, cut_above row start (start + 1) n)) always,
       );
 }
 
@@ -66,4 +66,4 @@ nested_none = record { at = λ last end. tt }
 pub written_nested : (base : ℕ) (entries : List FdeFields) → AreAbove base entries → NestedAlways (written_lines base entries)
 unfolding written_lines entry_lines AreAbove
 written_nested base [] above = nested_none
-written_nested base (e ∷ entries) above = nested_range (row_at e) e.start base e.size (written_lines base entries) above.0 (written_nested base entries above.1)
+written_nested base (e ∷ entries) above = nested_range e (row_at e) e.start base e.size (written_lines base entries) above.0 (written_nested base entries above.1)

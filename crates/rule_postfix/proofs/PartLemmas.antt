@@ -1,18 +1,35 @@
 -- Parts that are the same; for the lemmas of LinesLemmas, RulesLemmas.
-use Rattle.std.proofs.Common.{◌≡◌, ℕ, ℤ, ◌==◌, true, cond, None, refl, ap, sym, ◌∙◌, eq-eqb}
+use Rattle.std.proofs.Common.{◌≡◌, ℕ, ℤ, ◌==◌, ◌&&◌, Bool, true, false, cond, None, refl, ap, sym, ◌∙◌, eq-eqb}
 use Rattle.std.specs.Ordering.{int_eq}
 use Rattle.std.proofs.lemmas.Bool.{and_from}
 use Rattle.std.proofs.lemmas.Cmp.{int_eq_equiv}
+use Rattle.frame_entries.specs.FdeFields.{FdeFields}
 use Rattle.frame_rows.specs.declared.row.Rule.{Rule}
 use Rattle.frame_rows.specs.declared.row.Rule.TheVariants as rule
+use Rattle.frame_rows.specs.declared.row.CfaRule.{CfaRule}
+use Rattle.frame_rows.specs.declared.row.CfaRule.TheVariants as cfa
+use Rattle.expr_steps.specs.declared.place.Place.{Place}
+use Rattle.sym_edges.specs.Abi.{is_kept}
+use Rattle.rule_postfix.specs.internal.Backward.{is_expression, is_plain_part}
 use Rattle.sym_rules.specs.declared.rules.Target.{Target}
 use Rattle.rule_postfix.specs.declared.parts.RowPart.{RowPart}
 use Rattle.rule_postfix.specs.declared.parts.RowPart.TheVariants.{Unruled, Base, Column}
-use Rattle.rule_postfix.specs.RowParts.{same_rule, same_part, column_part}
+use Rattle.rule_postfix.specs.RowParts.{own_as_same, by_group, same_bool, same_place, same_rule, same_cfa, same_part, column_part}
 use Rattle.rule_postfix.specs.RowRules.{if_other, spelled}
 
 int_same : (n : ℤ) → int_eq n n ≡ true
 int_same n = int_eq_equiv.refl n
+
+bool_same : (b : Bool) → same_bool b b ≡ true
+bool_same true = refl
+bool_same false = refl
+
+place_same : (p : Place) → same_place p p ≡ true
+place_same p = and_from (same_bool p.own p.own) (p.start == p.start && p.len == p.len) (bool_same p.own) (and_from (p.start == p.start) (p.len == p.len) (eq-eqb p.start p.start refl) (eq-eqb p.len p.len refl))
+
+cfa_same : (c : CfaRule) → same_cfa c c ≡ true
+cfa_same (cfa.Base register offset) = and_from (register == register) (int_eq offset offset) (eq-eqb register register refl) (int_same offset)
+cfa_same (cfa.Expr place) = place_same place
 
 rule_same : (r : Rule) → same_rule r r ≡ true
 rule_same rule.Rest = refl
@@ -21,17 +38,38 @@ rule_same rule.Same = refl
 rule_same (rule.Offset n) = int_same n
 rule_same (rule.ValOffset n) = int_same n
 rule_same (rule.Register r) = eq-eqb r r refl
+rule_same (rule.Expr fetch place) = and_from (same_bool fetch fetch) (same_place place place) (bool_same fetch) (place_same place)
 
 -- a part is the same as itself
 pub part_same : (p : RowPart) → same_part p p ≡ true
 part_same Unruled = refl
-part_same (Base cfa) = and_from (cfa.register == cfa.register) (int_eq cfa.offset cfa.offset) (eq-eqb cfa.register cfa.register refl) (int_same cfa.offset)
+part_same (Base cfa) = cfa_same cfa
 part_same (Column r) = rule_same r
 
 -- what stays is not another
-pub no_other : (t : Target) (p : RowPart) → if_other t p p ≡ None
-no_other t p = ap (λ b. cond b None (spelled t p)) (part_same p)
+pub no_other : (fde : FdeFields) (t : Target) (p : RowPart) → if_other fde t p p ≡ None
+no_other fde t p = ap (λ b. cond b None (spelled fde t p)) (part_same p)
 
 -- equal rules give no change
-pub same_rules : (t : Target) (column : ℕ) (before after : Rule) → before ≡ after → None ≡ if_other t (column_part column before) (column_part column after)
-same_rules t column before after e = sym (ap (λ r. if_other t (column_part column before) (column_part column r)) (sym e) ∙ no_other t (column_part column before))
+pub same_rules : (fde : FdeFields) (t : Target) (column : ℕ) (before after : Rule) → before ≡ after → None ≡ if_other fde t (column_part column before) (column_part column after)
+same_rules fde t column before after e = sym (ap (λ r. if_other fde t (column_part column before) (column_part column r)) (sym e) ∙ no_other fde t (column_part column before))
+
+-- a column without an expression has a part without one
+plain_own : (kept own : Bool) (s : ℕ) → is_plain_part (by_group kept (cond own rule.Same (rule.Register s))) ≡ true
+plain_own true true s = refl
+plain_own false true s = refl
+plain_own kept false s = refl
+
+plain_by : (kept : Bool) (column : ℕ) (r : Rule) → is_expression r ≡ false → is_plain_part (by_group kept (own_as_same column r)) ≡ true
+plain_by kept column rule.Rest plain = refl
+plain_by kept column rule.Undefined plain = refl
+plain_by true column rule.Same plain = refl
+plain_by false column rule.Same plain = refl
+plain_by kept column (rule.Offset n) plain = refl
+plain_by kept column (rule.ValOffset n) plain = refl
+plain_by kept column (rule.Register s) plain = plain_own kept (s == column) s
+plain_by kept column (rule.Expr fetch place) plain = cc
+
+pub plain_column : (column : ℕ) (r : Rule) → is_expression r ≡ false → is_plain_part (column_part column r) ≡ true
+unfolding column_part
+plain_column column r plain = plain_by (is_kept column) column r plain

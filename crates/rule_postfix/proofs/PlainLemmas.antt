@@ -1,35 +1,42 @@
 -- The rules of sound rows can be spelled; for the lemmas of ValidLemmas.
-use Rattle.std.proofs.Common.{◌≡◌, ℕ, ◌+◌, ◌<◌, ◌≤◌, ◌==◌, ◌&&◌, nat_lt, nat_le, Bool, true, false, cond, List, [], ◌∷◌, length, Option, None, Some, is_some, refl, ap, ◌∙◌, arith}
+use Rattle.std.proofs.Common.{◌≡◌, ℕ, ◌+◌, ◌<◌, ◌≤◌, ◌==◌, ◌&&◌, nat_lt, nat_le, Bool, true, false, cond, List, [], ◌∷◌, ◌++◌, length, Option, None, Some, is_some, refl, ap, sym, ◌∙◌, arith, append-nil, length-append}
 use Rattle.std.specs.List.{list_all, cons_option}
-use Rattle.std.proofs.lemmas.Bool.{and_from, and_parts}
+use Rattle.std.proofs.lemmas.List.Folds.{list_all-append}
+use Rattle.std.proofs.lemmas.Bool.{and_from, and_parts, lt-ltb, le-leb}
+use Rattle.frame_entries.specs.FdeFields.{FdeFields}
 use Rattle.frame_rows.specs.declared.row.Rule.{Rule}
 use Rattle.frame_rows.specs.declared.row.Rule.TheVariants as rule
 use Rattle.frame_rows.specs.declared.row.CfaRule.{CfaRule}
+use Rattle.frame_rows.specs.declared.row.CfaRule.TheVariants as cfa
 use Rattle.frame_rows.specs.declared.row.Row.{Row}
 use Rattle.frame_rows.specs.Steps.{has_cfa}
-use Rattle.frame_rows.specs.Rows.{is_sound_rule, is_sound_cfa, IsSound}
+use Rattle.frame_rows.specs.Rows.{expr_bytes, is_sound_rule, is_sound_cfa, IsSound}
 use Rattle.sym_rules.specs.declared.rules.Target.{Target}
 use Rattle.sym_rules.specs.declared.rules.Target.TheVariants.{Cfa, Ra, Reg, Other}
 use Rattle.sym_rules.specs.declared.rules.Token.{Token}
 use Rattle.sym_rules.specs.declared.rules.Token.TheVariants as token
 use Rattle.sym_rules.specs.declared.rules.RuleText.{RuleText}
 use Rattle.sym_edges.specs.Integers.{fits_i64}
-use Rattle.sym_rules.specs.RuleValidity.{is_plain_target, is_plain_token, is_plain_rule}
+use Rattle.sym_rules.specs.RuleValidity.{is_plain_target}
+use Rattle.expr_postfix.specs.ExprTokens.{expr_tokens, with_fetch, rule_tokens, is_expr_word}
+use Rattle.expr_postfix.proofs.FitLemmas.{words_some, words_few, words_plain}
+use Rattle.rule_postfix.specs.LongRules.{is_long_rule}
+use Rattle.rule_postfix.proofs.ExprLemmas.{words_there}
 use Rattle.rule_postfix.specs.declared.parts.RowPart.{RowPart}
 use Rattle.rule_postfix.specs.declared.parts.RowPart.TheVariants.{Unruled, Base, Column}
 use Rattle.sym_edges.specs.Abi.{Default, KeepsValue, IsCfa, Unspecified, default_of, is_kept}
 use Rattle.rule_postfix.specs.RowParts.{own_as_same, by_group, column_part, cfa_part, rule_at, part_of, is_unruled, same_part}
-use Rattle.rule_postfix.specs.RowRules.{default_tokens, unruled_tokens, own_name, rule_spelled, spelled, registers, targets, rule_of, rules_of, rules_by, if_ruled, if_changed, row_rules, changed_rules}
+use Rattle.rule_postfix.specs.RowRules.{default_tokens, unruled_tokens, own_name, rule_spelled, cfa_tokens, spelled, registers, targets, rule_of, rules_of, rules_by, if_ruled, if_changed, row_rules, changed_rules}
 
--- a part whose registers are the sixteen, and whose offsets are those of an i64
-sound_part : RowPart → Bool
-sound_part Unruled = true
-sound_part (Base cfa) = is_sound_cfa (Some cfa)
-sound_part (Column r) = is_sound_rule 0 r
+-- a part whose registers are the sixteen, whose offsets are those of an i64, and whose expression can be said
+sound_part : (fde : FdeFields) → RowPart → Bool
+sound_part fde Unruled = true
+sound_part fde (Base cfa) = is_sound_cfa fde (Some cfa)
+sound_part fde (Column r) = is_sound_rule fde 0 r
 
--- one to four tokens without names of their own, or none at all
+-- one to 1,025 words of expressions, or none at all
 are_plain : List Token → Bool
-are_plain words = nat_lt 0 (length words) && nat_le (length words) 4 && list_all is_plain_token words
+are_plain words = nat_lt 0 (length words) && (nat_le (length words) 1025 && list_all is_expr_word words)
 
 plain_or_none : Option (List Token) → Bool
 plain_or_none None = true
@@ -55,65 +62,90 @@ own_plain Ra plain = refl
 own_plain (Reg k) plain = ap (λ t. t && true) plain
 own_plain (Other name) plain = refl
 
-rule_plain : (t : Target) (r : Rule) → is_plain_target t ≡ true → is_sound_rule 0 r ≡ true → plain_or_none (rule_spelled t r) ≡ true
+-- the words of an expression, and those with `^` behind them
+words_by : (start : Bool) (bytes : List ℕ) (words : List Token) (more : List Token) → expr_tokens start bytes ≡ Some words → length more ≤ 1 → list_all is_expr_word more ≡ true → are_plain (words ++ more) ≡ true
+unfolding are_plain
+words_by start bytes words more are few plain =
+    let some : 0 < length words = words_some start bytes words are in
+    let most : length words ≤ 1024 = words_few start bytes words are in
+    and_from (nat_lt 0 (length (words ++ more))) _ (lt-ltb 0 (length (words ++ more)) (omega (arith, length-append words more)))
+    (and_from (nat_le (length (words ++ more)) 1025) _ (le-leb (length (words ++ more)) 1025 (omega (arith, length-append words more)))
+    (list_all-append is_expr_word words more ∙ and_from (list_all is_expr_word words) (list_all is_expr_word more) (words_plain start bytes words are) plain))
+
+expr_by : (start : Bool) (bytes : List ℕ) (o : Option (List Token)) → expr_tokens start bytes ≡ o → plain_or_none o ≡ true
+unfolding plain_or_none
+expr_by start bytes None are = refl
+expr_by start bytes (Some words) are = ap are_plain (sym (append-nil words)) ∙ words_by start bytes words [] are (omega arith) refl
+
+fetch_by : (start : Bool) (bytes : List ℕ) (fetch : Bool) (o : Option (List Token)) → expr_tokens start bytes ≡ o → plain_or_none (with_fetch fetch o) ≡ true
+unfolding plain_or_none
+fetch_by start bytes fetch None are = refl
+fetch_by start bytes true (Some words) are = words_by start bytes words (token.Fetch ∷ []) are (omega arith) refl
+fetch_by start bytes false (Some words) are = expr_by start bytes (Some words) are
+
+expr_plain : (start fetch : Bool) (bytes : List ℕ) → plain_or_none (rule_tokens start fetch bytes) ≡ true
+unfolding rule_tokens
+expr_plain start fetch bytes = fetch_by start bytes fetch (expr_tokens start bytes) refl
+
+rule_plain : (fde : FdeFields) (t : Target) (r : Rule) → is_plain_target t ≡ true → is_sound_rule fde 0 r ≡ true → plain_or_none (rule_spelled fde t r) ≡ true
 unfolding plain_or_none are_plain
-rule_plain t rule.Rest plain sound = refl
-rule_plain t rule.Undefined plain sound = refl
-rule_plain t rule.Same plain sound = own_plain t plain
-rule_plain t (rule.Offset n) plain sound = ap (λ t. t && true) sound
-rule_plain t (rule.ValOffset n) plain sound = ap (λ t. t && true) sound
-rule_plain t (rule.Register s) plain sound = ap (λ t. t && true) sound
+rule_plain fde t rule.Rest plain sound = refl
+rule_plain fde t rule.Undefined plain sound = refl
+rule_plain fde t rule.Same plain sound = own_plain t plain
+rule_plain fde t (rule.Offset n) plain sound = ap (λ t. t && true) sound
+rule_plain fde t (rule.ValOffset n) plain sound = ap (λ t. t && true) sound
+rule_plain fde t (rule.Register s) plain sound = ap (λ t. t && true) sound
+rule_plain fde t (rule.Expr fetch place) plain sound = expr_plain true fetch (expr_bytes fde place)
 
 trail : (a b : Bool) → (a && b) ≡ true → (a && (b && true)) ≡ true
 trail true true is = refl
 trail true false is = is
 trail false b is = is
 
-base_plain : (t : Target) (cfa : CfaRule) → is_sound_cfa (Some cfa) ≡ true → are_plain (token.Reg cfa.register ∷ token.Number cfa.offset ∷ token.Add ∷ []) ≡ true
-unfolding are_plain
-base_plain t cfa sound = trail (nat_lt cfa.register 16) (fits_i64 cfa.offset) sound
+base_plain : (fde : FdeFields) (cfa : CfaRule) → is_sound_cfa fde (Some cfa) ≡ true → plain_or_none (cfa_tokens fde cfa) ≡ true
+unfolding plain_or_none are_plain
+base_plain fde (cfa.Base register offset) sound = trail (nat_lt register 16) (fits_i64 offset) sound
+base_plain fde (cfa.Expr place) sound = expr_by false (expr_bytes fde place) (expr_tokens false (expr_bytes fde place)) refl
 
-spelled_plain : (t : Target) (p : RowPart) → is_plain_target t ≡ true → sound_part p ≡ true → plain_or_none (spelled t p) ≡ true
-unfolding spelled plain_or_none sound_part
-spelled_plain t Unruled plain sound = unruled_plain t plain
-spelled_plain t (Base cfa) plain sound = base_plain t cfa sound
-spelled_plain t (Column r) plain sound = rule_plain t r plain sound
+spelled_plain : (fde : FdeFields) (t : Target) (p : RowPart) → is_plain_target t ≡ true → sound_part fde p ≡ true → plain_or_none (spelled fde t p) ≡ true
+unfolding spelled sound_part
+spelled_plain fde t Unruled plain sound = unruled_plain t plain
+spelled_plain fde t (Base cfa) plain sound = base_plain fde cfa sound
+spelled_plain fde t (Column r) plain sound = rule_plain fde t r plain sound
 
 -- the parts of a sound row are sound
-register_sound : (own kept : Bool) (s : ℕ) → nat_lt s 16 ≡ true → sound_part (by_group kept (cond own rule.Same (rule.Register s))) ≡ true
+register_sound : (fde : FdeFields) (own kept : Bool) (s : ℕ) → nat_lt s 16 ≡ true → sound_part fde (by_group kept (cond own rule.Same (rule.Register s))) ≡ true
 unfolding sound_part
-register_sound true true s below = refl
-register_sound true false s below = refl
-register_sound false kept s below = below
+register_sound fde true true s below = refl
+register_sound fde true false s below = refl
+register_sound fde false kept s below = below
 
-group_sound : (k : ℕ) (kept : Bool) (r : Rule) → is_sound_rule k r ≡ true → sound_part (by_group kept (own_as_same k r)) ≡ true
+group_sound : (fde : FdeFields) (k : ℕ) (kept : Bool) (r : Rule) → is_sound_rule fde k r ≡ true → sound_part fde (by_group kept (own_as_same k r)) ≡ true
 unfolding sound_part
-group_sound k kept rule.Rest sound = refl
-group_sound k kept rule.Undefined sound = refl
-group_sound k true rule.Same sound = refl
-group_sound k false rule.Same sound = refl
-group_sound k kept (rule.Offset n) sound = sound
-group_sound k kept (rule.ValOffset n) sound = sound
-group_sound k kept (rule.Register s) sound = register_sound (s == k) kept s sound
+group_sound fde k kept rule.Rest sound = refl
+group_sound fde k kept rule.Undefined sound = refl
+group_sound fde k true rule.Same sound = refl
+group_sound fde k false rule.Same sound = refl
+group_sound fde k kept (rule.Offset n) sound = sound
+group_sound fde k kept (rule.ValOffset n) sound = sound
+group_sound fde k kept (rule.Expr fetch place) sound = sound
+group_sound fde k kept (rule.Register s) sound = register_sound fde (s == k) kept s sound
 
-column_sound : (row : Row) (k : ℕ) → IsSound row → sound_part (column_part k (rule_at row k)) ≡ true
+column_sound : (fde : FdeFields) (row : Row) (k : ℕ) → IsSound fde row → sound_part fde (column_part k (rule_at row k)) ≡ true
 unfolding column_part
-column_sound row k sound = group_sound k (is_kept k) (rule_at row k) (sound.columns k)
+column_sound fde row k sound = group_sound fde k (is_kept k) (rule_at row k) (sound.columns k)
 
-cfa_sound : (cfa : Option CfaRule) → is_sound_cfa cfa ≡ true → sound_part (cfa_part cfa) ≡ true
+cfa_sound : (fde : FdeFields) (cfa : Option CfaRule) → is_sound_cfa fde cfa ≡ true → sound_part fde (cfa_part cfa) ≡ true
 unfolding sound_part
-cfa_sound None sound = refl
-cfa_sound (Some cfa) sound = sound
+cfa_sound fde None sound = refl
+cfa_sound fde (Some cfa) sound = sound
 
-part_sound : (row : Row) (t : Target) → IsSound row → sound_part (part_of row t) ≡ true
+part_sound : (fde : FdeFields) (row : Row) (t : Target) → IsSound fde row → sound_part fde (part_of row t) ≡ true
 unfolding part_of sound_part
-part_sound row Cfa sound = cfa_sound row.cfa sound.cfa
-part_sound row Ra sound = column_sound row 16 sound
-part_sound row (Reg k) sound = column_sound row k sound
-part_sound row (Other name) sound = refl
-
-four : (a b c d : Bool) → a ≡ true → (b && c && d) ≡ true → (a && b && c && d) ≡ true
-four a b c d first rest = ap (λ t. t && b && c && d) first ∙ rest
+part_sound fde row Cfa sound = cfa_sound fde row.cfa sound.cfa
+part_sound fde row Ra sound = column_sound fde row 16 sound
+part_sound fde row (Reg k) sound = column_sound fde row k sound
+part_sound fde row (Other name) sound = refl
 
 -- so what is said of each target can be spelled
 unless_plain : (t : Bool) (words : Option (List Token)) → plain_or_none words ≡ true → plain_or_none (cond t None words) ≡ true
@@ -121,20 +153,21 @@ unfolding plain_or_none
 unless_plain true words plain = refl
 unless_plain false words plain = plain
 
-kept_plain : (row : Row) (t : Target) → IsSound row → is_plain_target t ≡ true → plain_or_none (if_ruled row t) ≡ true
+kept_plain : (fde : FdeFields) (row : Row) (t : Target) → IsSound fde row → is_plain_target t ≡ true → plain_or_none (if_ruled fde row t) ≡ true
 unfolding if_ruled
-kept_plain row t sound plain = unless_plain (is_unruled (part_of row t)) (spelled t (part_of row t)) (spelled_plain t (part_of row t) plain (part_sound row t sound))
+kept_plain fde row t sound plain = unless_plain (is_unruled (part_of row t)) (spelled fde t (part_of row t)) (spelled_plain fde t (part_of row t) plain (part_sound fde row t sound))
 
-changed_plain : (before after : Row) (t : Target) → IsSound after → is_plain_target t ≡ true → plain_or_none (if_changed before after t) ≡ true
+changed_plain : (fde : FdeFields) (before after : Row) (t : Target) → IsSound fde after → is_plain_target t ≡ true → plain_or_none (if_changed fde before after t) ≡ true
 unfolding if_changed
-changed_plain before after t sound plain = unless_plain (same_part (part_of before t) (part_of after t)) (spelled t (part_of after t)) (spelled_plain t (part_of after t) plain (part_sound after t sound))
+changed_plain fde before after t sound plain = unless_plain (same_part (part_of before t) (part_of after t)) (spelled fde t (part_of after t)) (spelled_plain fde t (part_of after t) plain (part_sound fde after t sound))
 
-one_plain : (t : Target) (words : Option (List Token)) (rules : List RuleText) → is_plain_target t ≡ true → plain_or_none words ≡ true → list_all is_plain_rule rules ≡ true → list_all is_plain_rule (cons_option (rule_of t words) rules) ≡ true
-unfolding is_plain_rule plain_or_none are_plain
+one_plain : (t : Target) (words : Option (List Token)) (rules : List RuleText) → is_plain_target t ≡ true → plain_or_none words ≡ true → list_all is_long_rule rules ≡ true → list_all is_long_rule (cons_option (rule_of t words) rules) ≡ true
+unfolding is_long_rule plain_or_none are_plain
 one_plain t None rules plain good rest = rest
-one_plain t (Some words) rules plain good rest = and_from (is_plain_rule (record { target = t; tokens = words })) (list_all is_plain_rule rules) (four (is_plain_target t) (nat_lt 0 (length words)) (nat_le (length words) 4) (list_all is_plain_token words) plain good) rest
+one_plain t (Some words) rules plain good rest =
+    and_from (is_long_rule (record { target = t; tokens = words })) (list_all is_long_rule rules) (and_from (is_plain_target t) (nat_lt 0 (length words) && (nat_le (length words) 1025 && list_all is_expr_word words)) plain good) rest
 
-rules_plain : (tokens : Target → Option (List Token)) (ts : List Target) → ((t : Target) → is_plain_target t ≡ true → plain_or_none (tokens t) ≡ true) → list_all is_plain_target ts ≡ true → list_all is_plain_rule (rules_of tokens ts) ≡ true
+rules_plain : (tokens : Target → Option (List Token)) (ts : List Target) → ((t : Target) → is_plain_target t ≡ true → plain_or_none (tokens t) ≡ true) → list_all is_plain_target ts ≡ true → list_all is_long_rule (rules_of tokens ts) ≡ true
 unfolding rules_of
 rules_plain tokens [] good plain = refl
 rules_plain tokens (t ∷ ts) good plain =
@@ -145,13 +178,13 @@ targets_plain : list_all is_plain_target targets ≡ true
 unfolding registers
 targets_plain = refl
 
-pub row_plain : (row : Row) → IsSound row → list_all is_plain_rule (row_rules row) ≡ true
+pub row_plain : (fde : FdeFields) (row : Row) → IsSound fde row → list_all is_long_rule (row_rules fde row) ≡ true
 unfolding row_rules rules_by
-row_plain row sound = rules_plain (if_ruled row) targets (λ t plain. kept_plain row t sound plain) targets_plain
+row_plain fde row sound = rules_plain (if_ruled fde row) targets (λ t plain. kept_plain fde row t sound plain) targets_plain
 
-pub changes_plain : (before after : Row) → IsSound after → list_all is_plain_rule (changed_rules before after) ≡ true
+pub changes_plain : (fde : FdeFields) (before after : Row) → IsSound fde after → list_all is_long_rule (changed_rules fde before after) ≡ true
 unfolding changed_rules rules_by
-changes_plain before after sound = rules_plain (if_changed before after) targets (λ t plain. changed_plain before after t sound plain) targets_plain
+changes_plain fde before after sound = rules_plain (if_changed fde before after) targets (λ t plain. changed_plain fde before after t sound plain) targets_plain
 
 -- at most one rule a target
 one_at_most : (t : Target) (words : Option (List Token)) (rules : List RuleText) → length (cons_option (rule_of t words) rules) ≤ length rules + 1
@@ -167,20 +200,25 @@ eighteen : length targets ≡ 18
 unfolding registers
 eighteen = refl
 
-pub row_most : (row : Row) → length (row_rules row) ≤ 18
+pub row_most : (fde : FdeFields) (row : Row) → length (row_rules fde row) ≤ 18
 unfolding row_rules rules_by
-row_most row = omega (arith, rules_most (if_ruled row) targets, eighteen)
+row_most fde row = omega (arith, rules_most (if_ruled fde row) targets, eighteen)
 
-pub changes_most : (before after : Row) → length (changed_rules before after) ≤ 18
+pub changes_most : (fde : FdeFields) (before after : Row) → length (changed_rules fde before after) ≤ 18
 unfolding changed_rules rules_by
-changes_most before after = omega (arith, rules_most (if_changed before after) targets, eighteen)
+changes_most fde before after = omega (arith, rules_most (if_changed fde before after) targets, eighteen)
 
 -- a row with a CFA rule has a rule
-cfa_first : (cfa : Option CfaRule) (rules : List RuleText) → is_some cfa ≡ true → 0 < length (cons_option (rule_of Cfa (cond (is_unruled (cfa_part cfa)) None (spelled Cfa (cfa_part cfa)))) rules)
-unfolding spelled
-cfa_first None rules some = cc
-cfa_first (Some cfa) rules some = omega arith
+some_first : (o : Option (List Token)) (rules : List RuleText) → is_some o ≡ true → 0 < length (cons_option (rule_of Cfa o) rules)
+some_first None rules some = cc
+some_first (Some words) rules some = omega arith
 
-pub row_some : (row : Row) → has_cfa row ≡ true → 0 < length (row_rules row)
+cfa_first : (fde : FdeFields) (cfa : Option CfaRule) (rules : List RuleText) → is_sound_cfa fde cfa ≡ true → is_some cfa ≡ true → 0 < length (cons_option (rule_of Cfa (cond (is_unruled (cfa_part cfa)) None (spelled fde Cfa (cfa_part cfa)))) rules)
+unfolding spelled
+cfa_first fde None rules sound some = cc
+cfa_first fde (Some (cfa.Base register offset)) rules sound some = omega arith
+cfa_first fde (Some (cfa.Expr place)) rules sound some = some_first (expr_tokens false (expr_bytes fde place)) rules (words_there false (expr_bytes fde place) sound)
+
+pub row_some : (fde : FdeFields) (row : Row) → IsSound fde row → has_cfa row ≡ true → 0 < length (row_rules fde row)
 unfolding row_rules rules_by rules_of if_ruled part_of
-row_some row some = cfa_first row.cfa (rules_of (if_ruled row) (Ra ∷ registers 16)) some
+row_some fde row sound some = cfa_first fde row.cfa (rules_of (if_ruled fde row) (Ra ∷ registers 16)) sound.cfa some

@@ -8,6 +8,7 @@ use Rattle.std.proofs.lemmas.List.Concat.{flat_map-append}
 use Rattle.std.proofs.lemmas.List.Elements.{filter_map-append}
 use Rattle.std.proofs.lemmas.List.FromFn.{map-range_with_len_more, get_or-range_with_len, length-range_with_len}
 use Rattle.std.proofs.lemmas.List.Folds.{list_any-append, list_any_at}
+use Rattle.frame_entries.specs.FdeFields.{FdeFields}
 use Rattle.frame_rows.specs.declared.row.Row.{Row}
 use Rattle.frame_rows.specs.declared.row.Rule.{Rule}
 use Rattle.sym_rules.specs.declared.rules.Target.{Target}
@@ -27,25 +28,25 @@ use Rattle.rule_postfix.specs.internal.Backward.{rule_text, registers_from, some
 use Rattle.rule_postfix.specs.RowRules.{rule_of, rule_by, rules_of, rules_by, registers, targets, if_other, spelled, if_ruled, row_rules, if_changed, changed_rules, some_unspecified_below, some_becomes_unspecified}
 
 -- the rules of a list of targets
-one_rule : (tokens : Target → Option (List Token)) (t : Target) → rules_of tokens (t ∷ []) ≡ option_to_list (rule_of t (tokens t))
+pub one_rule : (tokens : Target → Option (List Token)) (t : Target) → rules_of tokens (t ∷ []) ≡ option_to_list (rule_of t (tokens t))
 unfolding rules_of
 one_rule tokens t = elim (tokens t) as (λ o. filter_map (λ (u : Target). rule_of t o) (t ∷ []) ≡ option_to_list (rule_of t o)) [ None ↦ refl | Some words ↦ refl ]
 
-rules_append : (tokens : Target → Option (List Token)) (xs ys : List Target) → rules_of tokens (xs ++ ys) ≡ rules_of tokens xs ++ rules_of tokens ys
+pub rules_append : (tokens : Target → Option (List Token)) (xs ys : List Target) → rules_of tokens (xs ++ ys) ≡ rules_of tokens xs ++ rules_of tokens ys
 unfolding rules_of
 rules_append tokens xs ys = filter_map-append (rule_by tokens) xs ys
 
 rules_cons : (tokens : Target → Option (List Token)) (t : Target) (ts : List Target) → rules_of tokens (t ∷ ts) ≡ option_to_list (rule_of t (tokens t)) ++ rules_of tokens ts
 rules_cons tokens t ts = rules_append tokens (t ∷ []) ts ∙ ap (λ xs. xs ++ rules_of tokens ts) (one_rule tokens t)
 
-rules_front : (tokens : Target → Option (List Token)) (t : Target) (ts : List Target) → spelled_rules (rules_of tokens (t ∷ ts)) ≡ rule_text t (tokens t) ++ spelled_rules (rules_of tokens ts)
+pub rules_front : (tokens : Target → Option (List Token)) (t : Target) (ts : List Target) → spelled_rules (rules_of tokens (t ∷ ts)) ≡ rule_text t (tokens t) ++ spelled_rules (rules_of tokens ts)
 unfolding rule_text spelled_rules
 rules_front tokens t ts = ap (λ rules. flat_map spelled_rule rules) (rules_cons tokens t ts) ∙ flat_map-append spelled_rule (option_to_list (rule_of t (tokens t))) (rules_of tokens ts)
 
 -- a column that stays has no rule
-no_text : (t : Target) (column : ℕ) (before after : Rule) → before ≡ after → rule_text t (if_other t (column_part column before) (column_part column after)) ≡ []
+no_text : (fde : FdeFields) (t : Target) (column : ℕ) (before after : Rule) → before ≡ after → rule_text t (if_other fde t (column_part column before) (column_part column after)) ≡ []
 unfolding rule_text spelled_rules
-no_text t column before after e = ap (λ o. rule_text t o) (sym (same_rules t column before after e))
+no_text fde t column before after e = ap (λ o. rule_text t o) (sym (same_rules fde t column before after e))
 
 -- the registers from one on, where it is followed by others
 registers_more : (n : ℕ) → n < 16 → registers_from n ≡ Reg n ∷ registers_from (n + 1)
@@ -54,76 +55,75 @@ registers_more n below =
     let more : 16 - n ≡ suc (16 - (n + 1)) = omega arith in
     ap (λ k. map Reg (range_with_len n k)) more
 
-text_more : (before after : Row) (n : ℕ) → n < 16 → spelled_rules (rules_of (if_changed before after) (registers_from n)) ≡ rule_text (Reg n) (if_other (Reg n) (column_part n (rule_at before n)) (column_part n (rule_at after n))) ++ spelled_rules (rules_of (if_changed before after) (registers_from (n + 1)))
+text_more : (fde : FdeFields) (before after : Row) (n : ℕ) → n < 16 → spelled_rules (rules_of (if_changed fde before after) (registers_from n)) ≡ rule_text (Reg n) (if_other fde (Reg n) (column_part n (rule_at before n)) (column_part n (rule_at after n))) ++ spelled_rules (rules_of (if_changed fde before after) (registers_from (n + 1)))
 unfolding if_changed part_of
-text_more before after n below =
-    let tokens : Target → Option (List Token) = if_changed before after in
+text_more fde before after n below =
+    let tokens : Target → Option (List Token) = if_changed fde before after in
     ap (λ ts. spelled_rules (rules_of tokens ts)) (registers_more n below) ∙ rules_front tokens (Reg n) (registers_from (n + 1))
 
-text_stays : (before after : Row) (n : ℕ) → n < 16 → rule_at before n ≡ rule_at after n → spelled_rules (rules_of (if_changed before after) (registers_from n)) ≡ spelled_rules (rules_of (if_changed before after) (registers_from (n + 1)))
-text_stays before after n below stays =
-    text_more before after n below ∙ ap (λ l. l ++ spelled_rules (rules_of (if_changed before after) (registers_from (n + 1)))) (no_text (Reg n) n (rule_at before n) (rule_at after n) stays)
+text_stays : (fde : FdeFields) (before after : Row) (n : ℕ) → n < 16 → rule_at before n ≡ rule_at after n → spelled_rules (rules_of (if_changed fde before after) (registers_from n)) ≡ spelled_rules (rules_of (if_changed fde before after) (registers_from (n + 1)))
+text_stays fde before after n below stays =
+    text_more fde before after n below ∙ ap (λ l. l ++ spelled_rules (rules_of (if_changed fde before after) (registers_from (n + 1)))) (no_text fde (Reg n) n (rule_at before n) (rule_at after n) stays)
 
 -- from a column on all stay
-text_none : (before after : Row) (m n : ℕ) → n + m ≡ 16 → ((k : ℕ) → n ≤ k → k < 16 → rule_at before k ≡ rule_at after k) → spelled_rules (rules_of (if_changed before after) (registers_from n)) ≡ []
+text_none : (fde : FdeFields) (before after : Row) (m n : ℕ) → n + m ≡ 16 → ((k : ℕ) → n ≤ k → k < 16 → rule_at before k ≡ rule_at after k) → spelled_rules (rules_of (if_changed fde before after) (registers_from n)) ≡ []
 unfolding rules_of registers_from spelled_rules
-text_none before after zero n is stays =
+text_none fde before after zero n is stays =
     let all : n ≡ 16 = omega arith in
-    ap (λ k. spelled_rules (rules_of (if_changed before after) (registers_from k))) all
-text_none before after (suc m) n is stays =
+    ap (λ k. spelled_rules (rules_of (if_changed fde before after) (registers_from k))) all
+text_none fde before after (suc m) n is stays =
     let below : n < 16 = omega arith in
-    text_stays before after n below (stays n (omega arith) below) ∙ text_none before after m (n + 1) (omega arith) (λ k past low. stays k (omega arith) low)
+    text_stays fde before after n below (stays n (omega arith) below) ∙ text_none fde before after m (n + 1) (omega arith) (λ k past low. stays k (omega arith) low)
 
 -- up to a column all stay
-text_all : (before after : Row) (n : ℕ) → n ≤ 16 → ((k : ℕ) → k < n → rule_at before k ≡ rule_at after k) → spelled_rules (rules_of (if_changed before after) (registers_from n)) ≡ spelled_rules (rules_of (if_changed before after) (registers_from 0))
-text_all before after zero small stays = refl
-text_all before after (suc n) small stays =
+text_all : (fde : FdeFields) (before after : Row) (n : ℕ) → n ≤ 16 → ((k : ℕ) → k < n → rule_at before k ≡ rule_at after k) → spelled_rules (rules_of (if_changed fde before after) (registers_from n)) ≡ spelled_rules (rules_of (if_changed fde before after) (registers_from 0))
+text_all fde before after zero small stays = refl
+text_all fde before after (suc n) small stays =
     let below : n < 16 = omega arith in
     let next : suc n ≡ n + 1 = omega arith in
-    ap (λ k. spelled_rules (rules_of (if_changed before after) (registers_from k))) next ∙ sym (text_stays before after n below (stays n (omega arith)))
-    ∙ text_all before after n (omega arith) (λ k low. stays k (omega arith))
+    ap (λ k. spelled_rules (rules_of (if_changed fde before after) (registers_from k))) next ∙ sym (text_stays fde before after n below (stays n (omega arith)))
+    ∙ text_all fde before after n (omega arith) (λ k low. stays k (omega arith))
 
 -- outside of some columns all stay
 rest_stays : (columns : Columns) (before after : Row) (n k : ℕ) → StayOutside columns before after → n ≡ min columns.end 16 → n ≤ k → k < 16 → rule_at before k ≡ rule_at after k
 rest_stays columns before after n k alike is past low = alike.above k (omega arith) (omega arith)
 
 -- no register yet
-pub no_register : (columns : Columns) (before after : Row) (n : ℕ) (old : List ℕ) → StayOutside columns before after → n ≡ min columns.end 16 → old ≡ spelled_rules (rules_of (if_changed before after) (registers_from n)) ++ old
-no_register columns before after n old alike is =
-    sym (ap (λ l. l ++ old) (text_none before after (16 - n) n (omega arith) (λ k past low. rest_stays columns before after n k alike is past low)))
+pub no_register : (fde : FdeFields) (columns : Columns) (before after : Row) (n : ℕ) (old : List ℕ) → StayOutside columns before after → n ≡ min columns.end 16 → old ≡ spelled_rules (rules_of (if_changed fde before after) (registers_from n)) ++ old
+no_register fde columns before after n old alike is =
+    sym (ap (λ l. l ++ old) (text_none fde before after (16 - n) n (omega arith) (λ k past low. rest_stays columns before after n k alike is past low)))
 
 -- one more in front
-pub one_register_more : (before after : Row) (n less : ℕ) (old behind now : List ℕ) → less + 1 ≡ n → n ≤ 16 → behind ≡ spelled_rules (rules_of (if_changed before after) (registers_from n)) ++ old → now ≡ rule_text (Reg less) (if_other (Reg less) (column_part less (rule_at before less)) (column_part less (rule_at after less))) ++ behind → now ≡ spelled_rules (rules_of (if_changed before after) (registers_from less)) ++ old
-one_register_more before after n less old behind now at small was is =
-    let text : List ℕ = rule_text (Reg less) (if_other (Reg less) (column_part less (rule_at before less)) (column_part less (rule_at after less))) in
-    is ∙ ap (λ l. text ++ l) was ∙ sym (append_assoc text (spelled_rules (rules_of (if_changed before after) (registers_from n))) old)
-    ∙ ap (λ k. (text ++ spelled_rules (rules_of (if_changed before after) (registers_from k))) ++ old) (sym at)
-    ∙ ap (λ l. l ++ old) (sym (text_more before after less (omega arith)))
+pub one_register_more : (fde : FdeFields) (before after : Row) (n less : ℕ) (old behind now : List ℕ) → less + 1 ≡ n → n ≤ 16 → behind ≡ spelled_rules (rules_of (if_changed fde before after) (registers_from n)) ++ old → now ≡ rule_text (Reg less) (if_other fde (Reg less) (column_part less (rule_at before less)) (column_part less (rule_at after less))) ++ behind → now ≡ spelled_rules (rules_of (if_changed fde before after) (registers_from less)) ++ old
+one_register_more fde before after n less old behind now at small was is =
+    let text : List ℕ = rule_text (Reg less) (if_other fde (Reg less) (column_part less (rule_at before less)) (column_part less (rule_at after less))) in
+    is ∙ ap (λ l. text ++ l) was ∙ sym (append_assoc text (spelled_rules (rules_of (if_changed fde before after) (registers_from n))) old)
+    ∙ ap (λ k. (text ++ spelled_rules (rules_of (if_changed fde before after) (registers_from k))) ++ old) (sym at)
+    ∙ ap (λ l. l ++ old) (sym (text_more fde before after less (omega arith)))
 
-pub register_stays : (before after : Row) (n less : ℕ) (old behind : List ℕ) → less + 1 ≡ n → n ≤ 16 → behind ≡ spelled_rules (rules_of (if_changed before after) (registers_from n)) ++ old → rule_at before less ≡ rule_at after less → behind ≡ spelled_rules (rules_of (if_changed before after) (registers_from less)) ++ old
-register_stays before after n less old behind at small was stays =
-    was ∙ ap (λ k. spelled_rules (rules_of (if_changed before after) (registers_from k)) ++ old) (sym at) ∙ ap (λ l. l ++ old) (sym (text_stays before after less (omega arith) stays))
+pub register_stays : (fde : FdeFields) (before after : Row) (n less : ℕ) (old behind : List ℕ) → less + 1 ≡ n → n ≤ 16 → behind ≡ spelled_rules (rules_of (if_changed fde before after) (registers_from n)) ++ old → rule_at before less ≡ rule_at after less → behind ≡ spelled_rules (rules_of (if_changed fde before after) (registers_from less)) ++ old
+register_stays fde before after n less old behind at small was stays =
+    was ∙ ap (λ k. spelled_rules (rules_of (if_changed fde before after) (registers_from k)) ++ old) (sym at) ∙ ap (λ l. l ++ old) (sym (text_stays fde before after less (omega arith) stays))
 
 -- all registers
-pub all_registers : (columns : Columns) (before after : Row) (n : ℕ) (old now : List ℕ) → StayOutside columns before after → n ≤ columns.first → n ≤ 16 → now ≡ spelled_rules (rules_of (if_changed before after) (registers_from n)) ++ old → now ≡ spelled_rules (rules_of (if_changed before after) (registers 16)) ++ old
+pub all_registers : (fde : FdeFields) (columns : Columns) (before after : Row) (n : ℕ) (old now : List ℕ) → StayOutside columns before after → n ≤ columns.first → n ≤ 16 → now ≡ spelled_rules (rules_of (if_changed fde before after) (registers_from n)) ++ old → now ≡ spelled_rules (rules_of (if_changed fde before after) (registers 16)) ++ old
 unfolding registers registers_from
-all_registers columns before after n old now alike past small is =
-    is ∙ ap (λ l. l ++ old) (text_all before after n small (λ k low. alike.below k (omega arith)))
+all_registers fde columns before after n old now alike past small is =
+    is ∙ ap (λ l. l ++ old) (text_all fde before after n small (λ k low. alike.below k (omega arith)))
 
 -- the three parts of a record's rules
-pub all_rules : (before after : Row) (old first second third : List ℕ) → first ≡ spelled_rules (rules_of (if_changed before after) (registers 16)) ++ old → second ≡ rule_text Ra (if_other Ra (column_part 16 (rule_at before 16)) (column_part 16 (rule_at after 16))) ++ first → third ≡ rule_text Cfa (if_other Cfa (cfa_part before.cfa) (cfa_part after.cfa)) ++ second → third ≡ spelled_rules (changed_rules before after) ++ old
+pub all_rules : (fde : FdeFields) (before after : Row) (old first second third : List ℕ) → first ≡ spelled_rules (rules_of (if_changed fde before after) (registers 16)) ++ old → second ≡ rule_text Ra (if_other fde Ra (column_part 16 (rule_at before 16)) (column_part 16 (rule_at after 16))) ++ first → third ≡ rule_text Cfa (if_other fde Cfa (cfa_part before.cfa) (cfa_part after.cfa)) ++ second → third ≡ spelled_rules (changed_rules fde before after) ++ old
 unfolding changed_rules rules_by if_changed part_of
-all_rules before after old first second third a b c =
-    let tokens : Target → Option (List Token) = if_changed before after in
+all_rules fde before after old first second third a b c =
+    let tokens : Target → Option (List Token) = if_changed fde before after in
     let last : List ℕ = spelled_rules (rules_of tokens (registers 16)) in
     c ∙ ap (λ l. rule_text Cfa (tokens Cfa) ++ l) (b ∙ ap (λ l. rule_text Ra (tokens Ra) ++ l) a ∙ sym (append_assoc (rule_text Ra (tokens Ra)) last old))
     ∙ sym (append_assoc (rule_text Cfa (tokens Cfa)) (rule_text Ra (tokens Ra) ++ last) old)
     ∙ ap (λ l. l ++ old) (sym (rules_front tokens Cfa (Ra ∷ registers 16) ∙ ap (λ l. rule_text Cfa (tokens Cfa) ++ l) (rules_front tokens Ra (registers 16))))
 
--- the same where the return address stays
-pub other_rules : (before after : Row) (old first third : List ℕ) → first ≡ spelled_rules (rules_of (if_changed before after) (registers 16)) ++ old → rule_at before 16 ≡ rule_at after 16 → third ≡ rule_text Cfa (if_other Cfa (cfa_part before.cfa) (cfa_part after.cfa)) ++ first → third ≡ spelled_rules (changed_rules before after) ++ old
-other_rules before after old first third a stays c =
-    all_rules before after old first first third a (sym (ap (λ l. l ++ first) (no_text Ra 16 (rule_at before 16) (rule_at after 16) stays))) c
+-- a return address that stays has no rule
+pub no_ra_text : (fde : FdeFields) (before after : Row) (old : List ℕ) → rule_at before 16 ≡ rule_at after 16 → old ≡ rule_text Ra (if_other fde Ra (column_part 16 (rule_at before 16)) (column_part 16 (rule_at after 16))) ++ old
+no_ra_text fde before after old stays = sym (ap (λ l. l ++ old) (no_text fde Ra 16 (rule_at before 16) (rule_at after 16) stays))
 
 map_same : (xs : List ℕ) → map (λ k. k) xs ≡ xs
 map_same [] = refl
@@ -132,11 +132,11 @@ map_same (x ∷ xs) = ap (λ ys. x ∷ ys) (map_same xs)
 pub range_from_more : (a n : ℕ) → range_with_len a (n + 1) ≡ range_with_len a n ++ (a + n) ∷ []
 range_from_more a n = sym (map_same (range_with_len a (n + 1))) ∙ map-range_with_len_more (λ k. k) a n (a + n) refl ∙ ap (λ xs. xs ++ (a + n) ∷ []) (map_same (range_with_len a n))
 
-range_more : (n : ℕ) → range_with_len 0 (n + 1) ≡ range_with_len 0 n ++ n ∷ []
+pub range_more : (n : ℕ) → range_with_len 0 (n + 1) ≡ range_with_len 0 n ++ n ∷ []
 range_more n = let from : 0 + n ≡ n = omega arith in range_from_more 0 n ∙ ap (λ k. range_with_len 0 n ++ k ∷ []) from
 
 -- columns that become unspecified
-no_more_rests : (before after : Row) (n : ℕ) → some_unspecified_below before after n ≡ false → becomes_unspecified before after n ≡ false → some_unspecified_below before after (n + 1) ≡ false
+pub no_more_rests : (before after : Row) (n : ℕ) → some_unspecified_below before after n ≡ false → becomes_unspecified before after n ≡ false → some_unspecified_below before after (n + 1) ≡ false
 unfolding some_unspecified_below
 no_more_rests before after n none stays =
     ap (list_any (becomes_unspecified before after)) (range_more n) ∙ list_any-append (becomes_unspecified before after) (range_with_len 0 n) (n ∷ [])
@@ -216,10 +216,10 @@ alike_outside columns before after all =
     record { below = λ k low. absurd (omega arith); above = λ k past low. absurd (omega arith) }
 
 -- beside a row that says nothing, what differs is what is not at rest
-if_from_rest : (t : Target) (p : RowPart) → if_other t Unruled p ≡ cond (is_unruled p) None (spelled t p)
-if_from_rest t Unruled = refl
-if_from_rest t (Base cfa) = refl
-if_from_rest t (Column given) = refl
+if_from_rest : (fde : FdeFields) (t : Target) (p : RowPart) → if_other fde t Unruled p ≡ cond (is_unruled p) None (spelled fde t p)
+if_from_rest fde t Unruled = refl
+if_from_rest fde t (Base cfa) = refl
+if_from_rest fde t (Column given) = refl
 
 rest_at : (column : ℕ) → rule_at empty_row column ≡ rule.Rest
 unfolding empty_row
@@ -236,24 +236,24 @@ resting_part column = refl
 empty_part : (column : ℕ) → column_part column (rule_at empty_row column) ≡ Unruled
 empty_part column = ap (column_part column) (rest_at column) ∙ resting_part column
 
-if_from_empty : (row : Row) (t : Target) → if_changed empty_row row t ≡ if_ruled row t
+if_from_empty : (fde : FdeFields) (row : Row) (t : Target) → if_changed fde empty_row row t ≡ if_ruled fde row t
 unfolding if_changed if_ruled part_of empty_row
-if_from_empty row Cfa = if_from_rest Cfa (cfa_part row.cfa)
-if_from_empty row Ra = ap (λ p. if_other Ra p (column_part 16 (rule_at row 16))) (empty_part 16) ∙ if_from_rest Ra (column_part 16 (rule_at row 16))
-if_from_empty row (Reg k) = ap (λ p. if_other (Reg k) p (column_part k (rule_at row k))) (empty_part k) ∙ if_from_rest (Reg k) (column_part k (rule_at row k))
-if_from_empty row (Other name) = refl
+if_from_empty fde row Cfa = if_from_rest fde Cfa (cfa_part row.cfa)
+if_from_empty fde row Ra = ap (λ p. if_other fde Ra p (column_part 16 (rule_at row 16))) (empty_part 16) ∙ if_from_rest fde Ra (column_part 16 (rule_at row 16))
+if_from_empty fde row (Reg k) = ap (λ p. if_other fde (Reg k) p (column_part k (rule_at row k))) (empty_part k) ∙ if_from_rest fde (Reg k) (column_part k (rule_at row k))
+if_from_empty fde row (Other name) = refl
 
 rules_same : (f g : Target → Option (List Token)) → ((t : Target) → f t ≡ g t) → (ts : List Target) → rules_of f ts ≡ rules_of g ts
 unfolding rules_of
 rules_same f g same [] = refl
 rules_same f g same (t ∷ ts) = ap (λ o. cons_option (rule_of t o) (rules_of f ts)) (same t) ∙ ap (cons_option (rule_of t (g t))) (rules_same f g same ts)
 
-rules_from_empty : (row : Row) → changed_rules empty_row row ≡ row_rules row
+pub rules_from_empty : (fde : FdeFields) (row : Row) → changed_rules fde empty_row row ≡ row_rules fde row
 unfolding changed_rules row_rules rules_by
-rules_from_empty row = rules_same (if_changed empty_row row) (if_ruled row) (if_from_empty row) targets
+rules_from_empty fde row = rules_same (if_changed fde empty_row row) (if_ruled fde row) (if_from_empty fde row) targets
 
-pub from_empty : (empty row : Row) (old now : List ℕ) → empty ≡ empty_row → now ≡ spelled_rules (changed_rules empty row) ++ old → now ≡ spelled_rules (row_rules row) ++ old
-from_empty empty row old now e made = made ∙ ap (λ r. spelled_rules (changed_rules r row) ++ old) e ∙ ap (λ rules. spelled_rules rules ++ old) (rules_from_empty row)
+pub from_empty : (fde : FdeFields) (empty row : Row) (old now : List ℕ) → empty ≡ empty_row → now ≡ spelled_rules (changed_rules fde empty row) ++ old → now ≡ spelled_rules (row_rules fde row) ++ old
+from_empty fde empty row old now e made = made ∙ ap (λ r. spelled_rules (changed_rules fde r row) ++ old) e ∙ ap (λ rules. spelled_rules rules ++ old) (rules_from_empty fde row)
 
 -- and no column becomes unspecified after it
 never : (is_so unruled : Bool) → (is_so && (unruled && false)) ≡ false

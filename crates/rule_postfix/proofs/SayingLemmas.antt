@@ -137,14 +137,14 @@ record_over : (P : List SymLine → Type 0) → GrowsByFrames P → (cut : Bool)
 record_over P grows true address size rules changed rest is = grows.init address size rules rest is
 record_over P grows false address size rules changed rest is = change_over P grows address changed rest is
 
-records_over : (P : List SymLine → Type 0) → GrowsByFrames P → (row : ℕ → Row) (start end base b : ℕ) (rest : List SymLine) → P rest → P (records_at row start end base b ++ rest)
+records_over : (fde : FdeFields) (P : List SymLine → Type 0) → GrowsByFrames P → (row : ℕ → Row) (start end base b : ℕ) (rest : List SymLine) → P rest → P (records_at fde row start end base b ++ rest)
 unfolding records_at
-records_over P grows row start end base b rest is = record_over P grows (is_cut row start b) (b - base) _ (row_rules (row b)) (changed_rules (row (b - 1)) (row b)) rest is
+records_over fde P grows row start end base b rest is = record_over P grows (is_cut row start b) (b - base) _ (row_rules fde (row b)) (changed_rules fde (row (b - 1)) (row b)) rest is
 
 entry_over : (P : List SymLine → Type 0) → GrowsByFrames P → (base : ℕ) (e : FdeFields) (rest : List SymLine) → P rest → P (entry_lines base e ++ rest)
 unfolding entry_lines lines_of_rows
 entry_over P grows base e rest is =
-    flat_over P (records_at (row_at e) e.start (e.start + e.size) base) (range_with_len e.start e.size) rest (λ b later so. records_over P grows (row_at e) e.start (e.start + e.size) base b later so) is
+    flat_over P (records_at e (row_at e) e.start (e.start + e.size) base) (range_with_len e.start e.size) rest (λ b later so. records_over e P grows (row_at e) e.start (e.start + e.size) base b later so) is
 
 pub written_over : (P : List SymLine → Type 0) → GrowsByFrames P → P [] → (base : ℕ) (entries : List FdeFields) → P (written_lines base entries)
 unfolding written_lines

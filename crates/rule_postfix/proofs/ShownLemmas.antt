@@ -6,12 +6,15 @@ use Rattle.std.specs.Ordering.{int_eq}
 use Rattle.std.proofs.lemmas.Bool.{ne_eqb, cases_lt, and_parts, eqb-true}
 use Rattle.std.proofs.lemmas.Bool.Decides.{nat_tests, Decides-int_eq}
 use Rattle.sym_edges.specs.Abi.{Default, KeepsValue, IsCfa, Unspecified, default_of, is_kept}
+use Rattle.frame_entries.specs.FdeFields.{FdeFields}
 use Rattle.frame_rows.specs.declared.row.Row.{Row}
 use Rattle.frame_rows.specs.declared.row.Rule.{Rule}
 use Rattle.frame_rows.specs.declared.row.Rule.TheVariants as rule
 use Rattle.frame_rows.specs.declared.row.CfaRule.{CfaRule}
+use Rattle.frame_rows.specs.declared.row.CfaRule.TheVariants as cfa
+use Rattle.expr_steps.specs.declared.place.Place.{Place}
 use Rattle.frame_rows.specs.Steps.{has_cfa}
-use Rattle.frame_rows.specs.Rows.{is_sound_rule, IsSound}
+use Rattle.frame_rows.specs.Rows.{expr_bytes, is_sound_rule, is_sound_cfa, IsSound}
 use Rattle.sym_rules.specs.declared.rules.Target.{Target}
 use Rattle.sym_rules.specs.declared.rules.Target.TheVariants.{Cfa, Ra, Reg, Other}
 use Rattle.sym_rules.specs.declared.rules.Token.{Token}
@@ -19,9 +22,10 @@ use Rattle.sym_rules.specs.declared.rules.RuleText.{RuleText}
 use Rattle.rule_postfix.specs.declared.parts.RowPart.{RowPart}
 use Rattle.rule_postfix.specs.declared.parts.RowPart.TheVariants.{Unruled, Base, Column}
 use Rattle.cfi_eval.specs.TextRules.{same_target, rule_for}
-use Rattle.rule_postfix.specs.RowParts.{own_as_same, by_group, column_part, cfa_part, rule_at, part_of, is_unruled, same_rule, same_part, is_unspecified, leaves_unspecified, becomes_unspecified}
+use Rattle.rule_postfix.specs.RowParts.{own_as_same, by_group, column_part, cfa_part, rule_at, part_of, is_unruled, same_bool, same_place, same_rule, same_cfa, same_part, is_unspecified, leaves_unspecified, becomes_unspecified}
 use Rattle.rule_postfix.specs.RowRules.{default_tokens, unruled_tokens, own_name, rule_spelled, spelled, registers, targets, rule_of, rule_by, rules_of, rules_by, if_ruled, if_other, if_changed, row_rules, changed_rules, some_becomes_unspecified}
 use Rattle.rule_postfix.proofs.RulesLemmas.{one_lost}
+use Rattle.rule_postfix.proofs.ExprLemmas.{words_there, rule_there}
 
 -- a target of the rules that are written
 abbrev pub IsTarget : Target → Type 0
@@ -31,8 +35,8 @@ IsTarget (Reg k) = k < 16
 IsTarget (Other name) = ⊥
 
 -- what rules say of a target is what a row says of it
-abbrev pub Shows : List RuleText → Row → Target → Type 0
-Shows rules row t = option_or (rule_for t rules) (unruled_tokens t) ≡ spelled t (part_of row t)
+abbrev pub Shows : FdeFields → List RuleText → Row → Target → Type 0
+Shows fde rules row t = option_or (rule_for t rules) (unruled_tokens t) ≡ spelled fde t (part_of row t)
 
 or_none : {A : Type 0} (o : Option A) → option_or o None ≡ o
 or_none None = refl
@@ -122,75 +126,43 @@ rule_is g (Reg k) is =
     ∙ for_more (Reg k) Ra (g Ra) regs ∙ or_none (rule_for (Reg k) regs) ∙ register_for g k 0 16 (omega arith) (omega arith)
 rule_is g (Other name) is = absurd is
 
--- a part as rows give it: no column is ruled by what leaves it unruled
-is_proper : RowPart → Bool
-is_proper Unruled = true
-is_proper (Base cfa) = true
-is_proper (Column rule.Rest) = false
-is_proper (Column rule.Undefined) = false
-is_proper (Column rule.Same) = true
-is_proper (Column (rule.Offset n)) = true
-is_proper (Column (rule.ValOffset n)) = true
-is_proper (Column (rule.Register register)) = true
+-- what is not at rest, if it is spelled, counts before what says that it is unruled
+unruled_is : (p : RowPart) → is_unruled p ≡ true → p ≡ Unruled
+unruled_is Unruled is = refl
+unruled_is (Base cfa) is = cc
+unruled_is (Column r) is = cc
 
-own_proper : (own kept : Bool) (s : ℕ) → is_proper (by_group kept (cond own rule.Same (rule.Register s))) ≡ true
-unfolding is_proper
-own_proper true true s = refl
-own_proper true false s = refl
-own_proper false kept s = refl
+or_here : {A : Type 0} (o rest : Option A) → is_some o ≡ true → option_or o rest ≡ o
+or_here None rest some = cc
+or_here (Some x) rest some = refl
 
-group_proper : (k : ℕ) (kept : Bool) (r : Rule) → is_proper (by_group kept (own_as_same k r)) ≡ true
-unfolding is_proper
-group_proper k kept rule.Rest = refl
-group_proper k kept rule.Undefined = refl
-group_proper k true rule.Same = refl
-group_proper k false rule.Same = refl
-group_proper k kept (rule.Offset n) = refl
-group_proper k kept (rule.ValOffset n) = refl
-group_proper k kept (rule.Register s) = own_proper (s == k) kept s
-
-cfa_proper : (cfa : Option CfaRule) → is_proper (cfa_part cfa) ≡ true
-unfolding is_proper
-cfa_proper None = refl
-cfa_proper (Some cfa) = refl
-
-part_proper : (row : Row) (t : Target) → is_proper (part_of row t) ≡ true
-unfolding part_of column_part is_proper
-part_proper row Cfa = cfa_proper row.cfa
-part_proper row Ra = group_proper 16 (is_kept 16) (rule_at row 16)
-part_proper row (Reg k) = group_proper k (is_kept k) (rule_at row k)
-part_proper row (Other name) = refl
-
--- its spelling counts before what says that it is unruled
-own_or : (t : Target) → option_or (own_name t) (unruled_tokens t) ≡ own_name t
-own_or Cfa = refl
-own_or Ra = refl
-own_or (Reg k) = refl
-own_or (Other name) = refl
-
-spelled_or : (t : Target) (p : RowPart) → is_proper p ≡ true → option_or (spelled t p) (unruled_tokens t) ≡ spelled t p
-unfolding spelled is_proper
-spelled_or t Unruled proper = or_same (unruled_tokens t)
-spelled_or t (Base cfa) proper = refl
-spelled_or t (Column rule.Rest) proper = cc
-spelled_or t (Column rule.Undefined) proper = cc
-spelled_or t (Column rule.Same) proper = own_or t
-spelled_or t (Column (rule.Offset n)) proper = refl
-spelled_or t (Column (rule.ValOffset n)) proper = refl
-spelled_or t (Column (rule.Register register)) proper = refl
-
-ruled_or : (t : Target) (p : RowPart) → is_proper p ≡ true → option_or (cond (is_unruled p) None (spelled t p)) (unruled_tokens t) ≡ spelled t p
+ruled_or : (fde : FdeFields) (t : Target) (p : RowPart) (unruled : Bool) → is_unruled p ≡ unruled → (unruled ≡ false → is_some (spelled fde t p) ≡ true) → option_or (cond unruled None (spelled fde t p)) (unruled_tokens t) ≡ spelled fde t p
 unfolding spelled
-ruled_or t Unruled proper = refl
-ruled_or t (Base cfa) proper = refl
-ruled_or t (Column r) proper = spelled_or t (Column r) proper
-
--- the rules of a row show it
-pub row_shows : (row : Row) (t : Target) → IsTarget t → Shows (row_rules row) row t
-unfolding row_rules if_ruled
-row_shows row t is = ap (λ o. option_or o (unruled_tokens t)) (rule_is (if_ruled row) t is) ∙ ruled_or t (part_of row t) (part_proper row t)
+ruled_or fde t p true is there = sym (ap (spelled fde t) (unruled_is p is))
+ruled_or fde t p false is there = or_here (spelled fde t p) (unruled_tokens t) (there refl)
 
 -- parts that are the same are one
+bool_one : (a b : Bool) → same_bool a b ≡ true → a ≡ b
+bool_one true true same = refl
+bool_one true false same = cc
+bool_one false true same = cc
+bool_one false false same = refl
+
+place_one : (p q : Place) → same_place p q ≡ true → p ≡ q
+place_one p q same =
+    let parts : (same_bool p.own q.own ≡ true) × ((p.start == q.start && p.len == q.len) ≡ true) = and_parts (same_bool p.own q.own) (p.start == q.start && p.len == q.len) same in
+    let later : ((p.start == q.start) ≡ true) × ((p.len == q.len) ≡ true) = and_parts (p.start == q.start) (p.len == q.len) parts.1 in
+    ap (λ b. (let r : Place = record { own = b; start = p.start; len = p.len } in r)) (bool_one p.own q.own parts.0)
+    ∙ ap (λ n. (let r : Place = record { own = q.own; start = n; len = p.len } in r)) (eqb-true p.start q.start later.0)
+    ∙ ap (λ n. (let r : Place = record { own = q.own; start = q.start; len = n } in r)) (eqb-true p.len q.len later.1)
+
+cfa_one : (a b : CfaRule) → same_cfa a b ≡ true → a ≡ b
+cfa_one (cfa.Base r m) (cfa.Base t n) same =
+    let parts : ((r == t) ≡ true) × (int_eq m n ≡ true) = and_parts (r == t) (int_eq m n) same in
+    ap (λ k. cfa.Base k m) (eqb-true r t parts.0) ∙ ap (cfa.Base t) ((Decides-int_eq m n).0 parts.1)
+cfa_one (cfa.Expr p) (cfa.Expr q) same = ap cfa.Expr (place_one p q same)
+cfa_one _ _ same = cc
+
 rule_one : (a b : Rule) → same_rule a b ≡ true → a ≡ b
 rule_one rule.Rest rule.Rest same = refl
 rule_one rule.Undefined rule.Undefined same = refl
@@ -198,67 +170,71 @@ rule_one rule.Same rule.Same same = refl
 rule_one (rule.Offset m) (rule.Offset n) same = ap rule.Offset ((Decides-int_eq m n).0 same)
 rule_one (rule.ValOffset m) (rule.ValOffset n) same = ap rule.ValOffset ((Decides-int_eq m n).0 same)
 rule_one (rule.Register r) (rule.Register s) same = ap rule.Register (eqb-true r s same)
+rule_one (rule.Expr f p) (rule.Expr g q) same =
+    let parts : (same_bool f g ≡ true) × (same_place p q ≡ true) = and_parts (same_bool f g) (same_place p q) same in
+    ap (λ b. rule.Expr b p) (bool_one f g parts.0) ∙ ap (rule.Expr g) (place_one p q parts.1)
 rule_one _ _ same = cc
 
 part_one : (a b : RowPart) → same_part a b ≡ true → a ≡ b
 part_one Unruled Unruled same = refl
-part_one (Base a) (Base b) same =
-    let parts : ((a.register == b.register) ≡ true) × (int_eq a.offset b.offset ≡ true) = and_parts (a.register == b.register) (int_eq a.offset b.offset) same in
-    let first : a.register ≡ b.register = eqb-true a.register b.register parts.0 in
-    let second : a.offset ≡ b.offset = (Decides-int_eq a.offset b.offset).0 parts.1 in
-    ap (λ r. Base (record { register = r; offset = a.offset })) first ∙ ap (λ n. Base (record { register = b.register; offset = n })) second
+part_one (Base a) (Base b) same = ap Base (cfa_one a b same)
 part_one (Column a) (Column b) same = ap Column (rule_one a b same)
 part_one _ _ same = cc
 
 -- a ruled part of a sound row is spelled
-own_ra : (own kept : Bool) (s : ℕ) → (s == 16) ≡ own → nat_lt s 16 ≡ true → is_some (spelled Ra (by_group kept (cond own rule.Same (rule.Register s)))) ≡ true
+own_ra : (fde : FdeFields) (own kept : Bool) (s : ℕ) → (s == 16) ≡ own → nat_lt s 16 ≡ true → is_some (spelled fde Ra (by_group kept (cond own rule.Same (rule.Register s)))) ≡ true
 unfolding spelled
-own_ra true kept s is below = let same : s ≡ 16 = eqb-true s 16 is in absurd (grind (arith, nat_tests))
-own_ra false kept s is below = refl
+own_ra fde true kept s is below = let same : s ≡ 16 = eqb-true s 16 is in absurd (grind (arith, nat_tests))
+own_ra fde false kept s is below = refl
 
-ra_spelled : (kept : Bool) (r : Rule) → is_sound_rule 16 r ≡ true → is_unruled (by_group kept (own_as_same 16 r)) ≡ false → is_some (spelled Ra (by_group kept (own_as_same 16 r))) ≡ true
+ra_spelled : (fde : FdeFields) (kept : Bool) (r : Rule) → is_sound_rule fde 16 r ≡ true → is_unruled (by_group kept (own_as_same 16 r)) ≡ false → is_some (spelled fde Ra (by_group kept (own_as_same 16 r))) ≡ true
 unfolding spelled
-ra_spelled kept rule.Rest sound ruled = cc
-ra_spelled kept rule.Undefined sound ruled = cc
-ra_spelled kept rule.Same sound ruled = cc
-ra_spelled kept (rule.Offset n) sound ruled = refl
-ra_spelled kept (rule.ValOffset n) sound ruled = refl
-ra_spelled kept (rule.Register s) sound ruled = own_ra (s == 16) kept s refl sound
+ra_spelled fde kept rule.Rest sound ruled = cc
+ra_spelled fde kept rule.Undefined sound ruled = cc
+ra_spelled fde kept rule.Same sound ruled = cc
+ra_spelled fde kept (rule.Offset n) sound ruled = refl
+ra_spelled fde kept (rule.ValOffset n) sound ruled = refl
+ra_spelled fde kept (rule.Expr fetch place) sound ruled = rule_there true fetch (expr_bytes fde place) sound
+ra_spelled fde kept (rule.Register s) sound ruled = own_ra fde (s == 16) kept s refl sound
 
-own_register : (own kept : Bool) (k s : ℕ) → is_unruled (by_group kept (cond own rule.Same (rule.Register s))) ≡ false → is_some (spelled (Reg k) (by_group kept (cond own rule.Same (rule.Register s)))) ≡ true
+own_register : (fde : FdeFields) (own kept : Bool) (k s : ℕ) → is_unruled (by_group kept (cond own rule.Same (rule.Register s))) ≡ false → is_some (spelled fde (Reg k) (by_group kept (cond own rule.Same (rule.Register s)))) ≡ true
 unfolding spelled
-own_register true true k s ruled = cc
-own_register true false k s ruled = refl
-own_register false kept k s ruled = refl
+own_register fde true true k s ruled = cc
+own_register fde true false k s ruled = refl
+own_register fde false kept k s ruled = refl
 
-register_spelled : (k : ℕ) (kept : Bool) (r : Rule) → is_unruled (by_group kept (own_as_same k r)) ≡ false → is_some (spelled (Reg k) (by_group kept (own_as_same k r))) ≡ true
+register_spelled : (fde : FdeFields) (k : ℕ) (kept : Bool) (r : Rule) → is_sound_rule fde k r ≡ true → is_unruled (by_group kept (own_as_same k r)) ≡ false → is_some (spelled fde (Reg k) (by_group kept (own_as_same k r))) ≡ true
 unfolding spelled
-register_spelled k kept rule.Rest ruled = cc
-register_spelled k kept rule.Undefined ruled = cc
-register_spelled k true rule.Same ruled = cc
-register_spelled k false rule.Same ruled = refl
-register_spelled k kept (rule.Offset n) ruled = refl
-register_spelled k kept (rule.ValOffset n) ruled = refl
-register_spelled k kept (rule.Register s) ruled = own_register (s == k) kept k s ruled
+register_spelled fde k kept rule.Rest sound ruled = cc
+register_spelled fde k kept rule.Undefined sound ruled = cc
+register_spelled fde k true rule.Same sound ruled = cc
+register_spelled fde k false rule.Same sound ruled = refl
+register_spelled fde k kept (rule.Offset n) sound ruled = refl
+register_spelled fde k kept (rule.ValOffset n) sound ruled = refl
+register_spelled fde k kept (rule.Expr fetch place) sound ruled = rule_there true fetch (expr_bytes fde place) sound
+register_spelled fde k kept (rule.Register s) sound ruled = own_register fde (s == k) kept k s ruled
 
-cfa_spelled : (cfa : Option CfaRule) → is_unruled (cfa_part cfa) ≡ false → is_some (spelled Cfa (cfa_part cfa)) ≡ true
+cfa_spelled : (fde : FdeFields) (cfa : Option CfaRule) → is_sound_cfa fde cfa ≡ true → is_unruled (cfa_part cfa) ≡ false → is_some (spelled fde Cfa (cfa_part cfa)) ≡ true
 unfolding spelled
-cfa_spelled None ruled = cc
-cfa_spelled (Some cfa) ruled = refl
+cfa_spelled fde None sound ruled = cc
+cfa_spelled fde (Some (cfa.Base register offset)) sound ruled = refl
+cfa_spelled fde (Some (cfa.Expr place)) sound ruled = words_there false (expr_bytes fde place) sound
 
-ruled_spelled : (row : Row) (t : Target) → IsSound row → IsTarget t → is_unruled (part_of row t) ≡ false → is_some (spelled t (part_of row t)) ≡ true
+ruled_spelled : (fde : FdeFields) (row : Row) (t : Target) → IsSound fde row → IsTarget t → is_unruled (part_of row t) ≡ false → is_some (spelled fde t (part_of row t)) ≡ true
 unfolding part_of column_part
-ruled_spelled row Cfa sound is ruled = cfa_spelled row.cfa ruled
-ruled_spelled row Ra sound is ruled = ra_spelled (is_kept 16) (rule_at row 16) (sound.columns 16) ruled
-ruled_spelled row (Reg k) sound is ruled = register_spelled k (is_kept k) (rule_at row k) ruled
-ruled_spelled row (Other name) sound is ruled = absurd is
+ruled_spelled fde row Cfa sound is ruled = cfa_spelled fde row.cfa sound.cfa ruled
+ruled_spelled fde row Ra sound is ruled = ra_spelled fde (is_kept 16) (rule_at row 16) (sound.columns 16) ruled
+ruled_spelled fde row (Reg k) sound is ruled = register_spelled fde k (is_kept k) (rule_at row k) (sound.columns k) ruled
+ruled_spelled fde row (Other name) sound is ruled = absurd is
+
+-- the rules of a row show it
+pub row_shows : (fde : FdeFields) (row : Row) (t : Target) → IsSound fde row → IsTarget t → Shows fde (row_rules fde row) row t
+unfolding row_rules if_ruled
+row_shows fde row t sound is =
+    ap (λ o. option_or o (unruled_tokens t)) (rule_is (if_ruled fde row) t is)
+    ∙ ruled_or fde t (part_of row t) (is_unruled (part_of row t)) refl (λ ruled. ruled_spelled fde row t sound is ruled)
 
 -- one that comes to be unruled is too, unless it becomes unspecified
-unruled_is : (p : RowPart) → is_unruled p ≡ true → p ≡ Unruled
-unruled_is Unruled is = refl
-unruled_is (Base cfa) is = cc
-unruled_is (Column r) is = cc
-
 both_unruled : (a b : RowPart) → is_unruled a ≡ true → is_unruled b ≡ true → same_part a b ≡ true
 both_unruled a b first second = ap (λ p. same_part p b) (unruled_is a first) ∙ ap (same_part Unruled) (unruled_is b second)
 
@@ -287,9 +263,9 @@ default_spelled before after k Unspecified is stays unruled other =
     let same : same_part p q ≡ true = both_unruled p q was unruled in
     absurd (cc)
 
-unruled_some : (t : Target) (p : RowPart) → is_unruled p ≡ true → is_some (unruled_tokens t) ≡ true → is_some (spelled t p) ≡ true
+unruled_some : (fde : FdeFields) (t : Target) (p : RowPart) → is_unruled p ≡ true → is_some (unruled_tokens t) ≡ true → is_some (spelled fde t p) ≡ true
 unfolding spelled
-unruled_some t p is some = ap (λ q. is_some (spelled t q)) (unruled_is p is) ∙ some
+unruled_some fde t p is some = ap (λ q. is_some (spelled fde t q)) (unruled_is p is) ∙ some
 
 stays_of : (before after : Row) (k : ℕ) → some_becomes_unspecified before after ≡ false → k < 17 → becomes_unspecified before after k ≡ false
 stays_of before after k none below = go (becomes_unspecified before after k) refl
@@ -298,27 +274,27 @@ stays_of before after k none below = go (becomes_unspecified before after k) ref
     go true is = let some : some_becomes_unspecified before after ≡ true = one_lost before after k below is in cc
     go false is = refl
 
-unruled_spelled : (before after : Row) (t : Target) → has_cfa after ≡ true → some_becomes_unspecified before after ≡ false → IsTarget t → is_unruled (part_of after t) ≡ true → same_part (part_of before t) (part_of after t) ≡ false → is_some (spelled t (part_of after t)) ≡ true
+unruled_spelled : (fde : FdeFields) (before after : Row) (t : Target) → has_cfa after ≡ true → some_becomes_unspecified before after ≡ false → IsTarget t → is_unruled (part_of after t) ≡ true → same_part (part_of before t) (part_of after t) ≡ false → is_some (spelled fde t (part_of after t)) ≡ true
 unfolding part_of default_of is_kept
-unruled_spelled before after Cfa has none is unruled other = absurd (cfa_has after has unruled)
-unruled_spelled before after Ra has none is unruled other =
+unruled_spelled fde before after Cfa has none is unruled other = absurd (cfa_has after has unruled)
+unruled_spelled fde before after Ra has none is unruled other =
     let some : is_some (default_tokens Unspecified 16) ≡ true = default_spelled before after 16 Unspecified refl (stays_of before after 16 none (omega arith)) unruled other in
     cc
-unruled_spelled before after (Reg k) has none is unruled other =
-    unruled_some (Reg k) (column_part k (rule_at after k)) unruled (default_spelled before after k (default_of k) refl (stays_of before after k none (omega arith)) unruled other)
-unruled_spelled before after (Other name) has none is unruled other = absurd is
+unruled_spelled fde before after (Reg k) has none is unruled other =
+    unruled_some fde (Reg k) (column_part k (rule_at after k)) unruled (default_spelled before after k (default_of k) refl (stays_of before after k none (omega arith)) unruled other)
+unruled_spelled fde before after (Other name) has none is unruled other = absurd is
 
 -- a record of changes takes rules that show a row to rules that show the next
-pub next_shows : (rules : List RuleText) (before after : Row) (t : Target) → IsSound after → has_cfa after ≡ true → some_becomes_unspecified before after ≡ false → IsTarget t → Shows rules before t → Shows (rules ++ changed_rules before after) after t
+pub next_shows : (fde : FdeFields) (rules : List RuleText) (before after : Row) (t : Target) → IsSound fde after → has_cfa after ≡ true → some_becomes_unspecified before after ≡ false → IsTarget t → Shows fde rules before t → Shows fde (rules ++ changed_rules fde before after) after t
 unfolding changed_rules if_changed
-next_shows rules before after t sound has none is shows =
-    ap (λ o. option_or o (unruled_tokens t)) (for_append t rules (rules_by (if_changed before after)) ∙ ap (λ o. option_or o (rule_for t rules)) (rule_is (if_changed before after) t is))
+next_shows fde rules before after t sound has none is shows =
+    ap (λ o. option_or o (unruled_tokens t)) (for_append t rules (rules_by (if_changed fde before after)) ∙ ap (λ o. option_or o (rule_for t rules)) (rule_is (if_changed fde before after) t is))
     ∙ step (same_part (part_of before t) (part_of after t)) refl
   where
-    told : (b : Bool) → is_unruled (part_of after t) ≡ b → same_part (part_of before t) (part_of after t) ≡ false → is_some (spelled t (part_of after t)) ≡ true
-    told true unruled other = unruled_spelled before after t has none is unruled other
-    told false ruled other = ruled_spelled after t sound is ruled
+    told : (b : Bool) → is_unruled (part_of after t) ≡ b → same_part (part_of before t) (part_of after t) ≡ false → is_some (spelled fde t (part_of after t)) ≡ true
+    told true unruled other = unruled_spelled fde before after t has none is unruled other
+    told false ruled other = ruled_spelled fde after t sound is ruled
 
-    step : (same : Bool) → same_part (part_of before t) (part_of after t) ≡ same → option_or (option_or (cond same None (spelled t (part_of after t))) (rule_for t rules)) (unruled_tokens t) ≡ spelled t (part_of after t)
-    step true same = shows ∙ ap (spelled t) (part_one (part_of before t) (part_of after t) same)
-    step false other = or_some (spelled t (part_of after t)) (rule_for t rules) (unruled_tokens t) (told (is_unruled (part_of after t)) refl other)
+    step : (same : Bool) → same_part (part_of before t) (part_of after t) ≡ same → option_or (option_or (cond same None (spelled fde t (part_of after t))) (rule_for t rules)) (unruled_tokens t) ≡ spelled fde t (part_of after t)
+    step true same = shows ∙ ap (spelled fde t) (part_one (part_of before t) (part_of after t) same)
+    step false other = or_some (spelled fde t (part_of after t)) (rule_for t rules) (unruled_tokens t) (told (is_unruled (part_of after t)) refl other)

@@ -16,7 +16,7 @@ pub canon_append : (xs ys : List SymLine) → canon_text (xs ++ ys) ≡ canon_te
 unfolding canon_text
 canon_append xs ys = flat_map-append canon xs ys
 
-canon_one : (s : SymLine) → canon_text (s ∷ []) ≡ canon s
+pub canon_one : (s : SymLine) → canon_text (s ∷ []) ≡ canon s
 unfolding canon_text
 canon_one s = append-nil (canon s)
 

@@ -7,6 +7,7 @@ use Rattle.sym_edges.specs.declared.reason.Reason.{Reason}
 use Rattle.sym_edges.specs.Outside.{MatchStop}
 use Rattle.sym_edges.specs.declared.fault.Stop.{Stop}
 use Rattle.sym_edges.specs.declared.fault.Stop.TheVariants.{Fault, NoMemory}
+use Rattle.frame_entries.specs.FdeFields.{FdeFields}
 use Rattle.frame_rows.specs.declared.row.Row.{Row}
 use Rattle.frame_rows.specs.Steps.{has_cfa}
 use Rattle.frame_rows.specs.Standing.{Standing, GoesOn, Refuses}
@@ -49,35 +50,35 @@ closed_spelled front old new base end p o so is =
     ∙ sym (canon_more (Init (o.start - o.base) (end - o.start) o.rules) o.changes)))
 
 -- a row after another
-pub cut_spelled : (front old new : List ℕ) (base a : ℕ) (before after : Row) (p q : OpenInit) (o : Open) → some_becomes_unspecified before after ≡ true → new ≡ old ++ (init_front (p.start - base) (a - p.start) ++ p.body.items) → q.start ≡ a → q.body.items ≡ spelled_rules (row_rules after) ++ 10 ∷ [] → IsSpelled front base old p o → IsSpelled front base new q (with_row a before after o)
+pub cut_spelled : (fde : FdeFields) (front old new : List ℕ) (base a : ℕ) (before after : Row) (p q : OpenInit) (o : Open) → some_becomes_unspecified before after ≡ true → new ≡ old ++ (init_front (p.start - base) (a - p.start) ++ p.body.items) → q.start ≡ a → q.body.items ≡ spelled_rules (row_rules fde after) ++ 10 ∷ [] → IsSpelled front base old p o → IsSpelled front base new q (with_row fde a before after o)
 unfolding with_row
-cut_spelled front old new base a before after p q o cut is start body so =
+cut_spelled fde front old new base a before after p q o cut is start body so =
     let P : Open → Type 0 = λ k. IsSpelled front base new q k in
-    subst P (ap (λ t. cond t (opened o.base (closed o a) a after) (with_changes a (changed_rules before after) o)) (sym cut))
+    subst P (ap (λ t. cond t (opened fde o.base (closed o a) a after) (with_changes a (changed_rules fde before after) o)) (sym cut))
     (record {
       based = so.based;
       start = start;
-      body = body ∙ canon_none (spelled_rules (row_rules after) ++ 10 ∷ []);
+      body = body ∙ canon_none (spelled_rules (row_rules fde after) ++ 10 ∷ []);
       lines = closed_spelled front old new base a p o so is;
     })
 
-pub change_spelled : (front text : List ℕ) (base a : ℕ) (before after : Row) (p q : OpenInit) (o : Open) → some_becomes_unspecified before after ≡ false → q.start ≡ p.start → q.body.items ≡ p.body.items ++ canon_text (change (a - base) (changed_rules before after)) → IsSpelled front base text p o → IsSpelled front base text q (with_row a before after o)
+pub change_spelled : (fde : FdeFields) (front text : List ℕ) (base a : ℕ) (before after : Row) (p q : OpenInit) (o : Open) → some_becomes_unspecified before after ≡ false → q.start ≡ p.start → q.body.items ≡ p.body.items ++ canon_text (change (a - base) (changed_rules fde before after)) → IsSpelled front base text p o → IsSpelled front base text q (with_row fde a before after o)
 unfolding with_row
-change_spelled front text base a before after p q o stays start body so =
+change_spelled fde front text base a before after p q o stays start body so =
     let P : Open → Type 0 = λ k. IsSpelled front base text q k in
-    subst P (ap (λ t. cond t (opened o.base (closed o a) a after) (with_changes a (changed_rules before after) o)) (sym stays))
+    subst P (ap (λ t. cond t (opened fde o.base (closed o a) a after) (with_changes a (changed_rules fde before after) o)) (sym stays))
     (record {
       based = so.based;
       start = start ∙ so.start;
-      body = body ∙ ap (λ t. t ++ canon_text (change (a - base) (changed_rules before after))) so.body
-          ∙ append_assoc (spelled_rules o.rules ++ 10 ∷ []) (canon_text o.changes) (canon_text (change (a - base) (changed_rules before after)))
-          ∙ ap (λ b. (spelled_rules o.rules ++ 10 ∷ []) ++ (canon_text o.changes ++ canon_text (change (a - b) (changed_rules before after)))) (sym so.based)
-          ∙ ap (λ t. (spelled_rules o.rules ++ 10 ∷ []) ++ t) (sym (canon_append o.changes (change (a - o.base) (changed_rules before after))));
+      body = body ∙ ap (λ t. t ++ canon_text (change (a - base) (changed_rules fde before after))) so.body
+          ∙ append_assoc (spelled_rules o.rules ++ 10 ∷ []) (canon_text o.changes) (canon_text (change (a - base) (changed_rules fde before after)))
+          ∙ ap (λ b. (spelled_rules o.rules ++ 10 ∷ []) ++ (canon_text o.changes ++ canon_text (change (a - b) (changed_rules fde before after)))) (sym so.based)
+          ∙ ap (λ t. (spelled_rules o.rules ++ 10 ∷ []) ++ t) (sym (canon_append o.changes (change (a - o.base) (changed_rules fde before after))));
       lines = so.lines;
     })
 
 -- what is spelled where a stepper stands, after its first row
-pub record Passing (base end : ℕ) (front text : List ℕ) (p : OpenInit) (before : Row) (lacking : Bool) (s first : Standing) : Type 0 where
+pub record Passing (fde : FdeFields) (base end : ℕ) (front text : List ℕ) (p : OpenInit) (before : Row) (lacking : Bool) (s first : Standing) : Type 0 where
   pub fresh : s.failed ≡ false
   pub going : s.refused ≡ None
   pub fault : s.fault ≡ first.fault
@@ -85,21 +86,21 @@ pub record Passing (base end : ℕ) (front text : List ℕ) (p : OpenInit) (befo
   pub here : before ≡ s.here.row
   pub o : Open
   pub spelled : IsSpelled front base text p o
-  pub same : with_rows s.here.row s.later o ≡ with_rows first.here.row first.later (opened base [] first.here.address first.here.row)
+  pub same : with_rows fde s.here.row s.later o ≡ with_rows fde first.here.row first.later (opened fde base [] first.here.address first.here.row)
   pub above : base ≤ o.start
   pub below : o.start ≤ s.here.address
   pub low : s.here.address < end
   pub lack : (lacking || list_any lacks_rule s.later) ≡ list_any lacks_rule (first.here ∷ first.later)
 
-pub pass_begins : (base end : ℕ) (text : List ℕ) (p : OpenInit) (before : Row) (lacking : Bool) (s : Standing) → s.failed ≡ false → s.refused ≡ None → s.end ≡ end → base ≤ s.here.address → s.here.address < end → before ≡ s.here.row → lacking ≡ not (has_cfa before) → p.start ≡ s.here.address → p.body.items ≡ spelled_rules (row_rules before) ++ 10 ∷ [] → Passing base end text text p before lacking s s
-pass_begins base end text p before lacking s fresh going ends above low here lack start body = record {
+pub pass_begins : (fde : FdeFields) (base end : ℕ) (text : List ℕ) (p : OpenInit) (before : Row) (lacking : Bool) (s : Standing) → s.failed ≡ false → s.refused ≡ None → s.end ≡ end → base ≤ s.here.address → s.here.address < end → before ≡ s.here.row → lacking ≡ not (has_cfa before) → p.start ≡ s.here.address → p.body.items ≡ spelled_rules (row_rules fde before) ++ 10 ∷ [] → Passing fde base end text text p before lacking s s
+pass_begins fde base end text p before lacking s fresh going ends above low here lack start body = record {
   fresh = fresh;
   going = going;
   fault = refl;
   ends = ends;
   here = here;
-  o = opened base [] s.here.address s.here.row;
-  spelled = record { based = refl; start = start; body = body ∙ ap (λ row. spelled_rules (row_rules row) ++ 10 ∷ []) here ∙ canon_none (spelled_rules (row_rules s.here.row) ++ 10 ∷ []); lines = canon_none text };
+  o = opened fde base [] s.here.address s.here.row;
+  spelled = record { based = refl; start = start; body = body ∙ ap (λ row. spelled_rules (row_rules fde row) ++ 10 ∷ []) here ∙ canon_none (spelled_rules (row_rules fde s.here.row) ++ 10 ∷ []); lines = canon_none text };
   same = refl;
   above = above;
   below = omega arith;
@@ -107,58 +108,58 @@ pass_begins base end text p before lacking s fresh going ends above low here lac
   lack = ap (λ t. t || list_any lacks_rule s.later) (lack ∙ ap (λ row. not (has_cfa row)) here);
 }
 
-pub pass_on : (base end : ℕ) (front old new : List ℕ) (p q : OpenInit) (before after : Row) (lacking more : Bool) (s t first : Standing) → Passing base end front old p before lacking s first → GoesOn s t →
-    ((front : List ℕ) (o : Open) → IsSpelled front base old p o → IsSpelled front base new q (with_row t.here.address before t.here.row o)) → after ≡ t.here.row → more ≡ (lacking || not (has_cfa t.here.row)) → Passing base end front new q after more t first
+pub pass_on : (fde : FdeFields) (base end : ℕ) (front old new : List ℕ) (p q : OpenInit) (before after : Row) (lacking more : Bool) (s t first : Standing) → Passing fde base end front old p before lacking s first → GoesOn s t →
+    ((front : List ℕ) (o : Open) → IsSpelled front base old p o → IsSpelled front base new q (with_row fde t.here.address before t.here.row o)) → after ≡ t.here.row → more ≡ (lacking || not (has_cfa t.here.row)) → Passing fde base end front new q after more t first
 unfolding with_rows
-pass_on base end front old new p q before after lacking more s t first so step one here lack =
-    let P : Row → Type 0 = λ row. IsSpelled front base new q (with_row t.here.address row t.here.row so.o) in
+pass_on fde base end front old new p q before after lacking more s t first so step one here lack =
+    let P : Row → Type 0 = λ row. IsSpelled front base new q (with_row fde t.here.address row t.here.row so.o) in
     record {
       fresh = step.failed;
       going = step.refused;
       fault = step.fault ∙ so.fault;
       ends = step.end ∙ so.ends;
       here = here;
-      o = with_row t.here.address s.here.row t.here.row so.o;
+      o = with_row fde t.here.address s.here.row t.here.row so.o;
       spelled = subst P so.here (one front so.o so.spelled);
-      same = ap (λ rows. with_rows s.here.row rows so.o) (sym step.later) ∙ so.same;
-      above = aboves t.here.address s.here.row t.here.row so.o base so.above (omega (arith, so.above, so.below, step.rises));
-      below = starts t.here.address s.here.row t.here.row so.o t.here.address (omega (arith, so.below, step.rises)) (omega arith);
+      same = ap (λ rows. with_rows fde s.here.row rows so.o) (sym step.later) ∙ so.same;
+      above = aboves fde t.here.address s.here.row t.here.row so.o base so.above (omega (arith, so.above, so.below, step.rises));
+      below = starts fde t.here.address s.here.row t.here.row so.o t.here.address (omega (arith, so.below, step.rises)) (omega arith);
       low = omega (arith, step.below, so.ends);
       lack = ap (λ b. b || list_any lacks_rule t.later) lack
           ∙ or_assoc_by lacking (not (has_cfa t.here.row)) (list_any lacks_rule t.later)
           ∙ ap (λ rows. lacking || list_any lacks_rule rows) (sym step.later) ∙ so.lack;
     }
 
-pub pass_ends : (base end : ℕ) (front old new : List ℕ) (p : OpenInit) (before : Row) (lacking : Bool) (s first : Standing) → Passing base end front old p before lacking s first → s.later ≡ [] → new ≡ old ++ (init_front (p.start - base) (end - p.start) ++ p.body.items) → new ≡ front ++ canon_text (lines_of base end (first.here ∷ first.later))
+pub pass_ends : (fde : FdeFields) (base end : ℕ) (front old new : List ℕ) (p : OpenInit) (before : Row) (lacking : Bool) (s first : Standing) → Passing fde base end front old p before lacking s first → s.later ≡ [] → new ≡ old ++ (init_front (p.start - base) (end - p.start) ++ p.body.items) → new ≡ front ++ canon_text (lines_of fde base end (first.here ∷ first.later))
 unfolding lines_of with_rows
-pass_ends base end front old new p before lacking s first so none is =
+pass_ends fde base end front old new p before lacking s first so none is =
     closed_spelled front old new base end p so.o so.spelled is
-    ∙ ap (λ o. front ++ canon_text (closed o end)) (sym (ap (λ rows. with_rows s.here.row rows so.o) none) ∙ so.same)
+    ∙ ap (λ o. front ++ canon_text (closed o end)) (sym (ap (λ rows. with_rows fde s.here.row rows so.o) none) ∙ so.same)
 
-pub pass_lacks : (base end : ℕ) (front old : List ℕ) (p : OpenInit) (before : Row) (lacking : Bool) (s first : Standing) → Passing base end front old p before lacking s first → s.later ≡ [] → lacking ≡ list_any lacks_rule (first.here ∷ first.later)
-pass_lacks base end front old p before lacking s first so none =
+pub pass_lacks : (fde : FdeFields) (base end : ℕ) (front old : List ℕ) (p : OpenInit) (before : Row) (lacking : Bool) (s first : Standing) → Passing fde base end front old p before lacking s first → s.later ≡ [] → lacking ≡ list_any lacks_rule (first.here ∷ first.later)
+pass_lacks fde base end front old p before lacking s first so none =
     sym (or_comm lacking false) ∙ ap (λ rows. lacking || list_any lacks_rule rows) (sym none) ∙ so.lack
 
 -- where a stepper stays, all stays
-pub pass_same : (base end : ℕ) (front text : List ℕ) (p : OpenInit) (before : Row) (lacking : Bool) (s t first : Standing) → Passing base end front text p before lacking s first → t ≡ s → Passing base end front text p before lacking t first
-pass_same base end front text p before lacking s t first so same = let P : Standing → Type 0 = λ k. Passing base end front text p before lacking k first in subst P (sym same) so
+pub pass_same : (fde : FdeFields) (base end : ℕ) (front text : List ℕ) (p : OpenInit) (before : Row) (lacking : Bool) (s t first : Standing) → Passing fde base end front text p before lacking s first → t ≡ s → Passing fde base end front text p before lacking t first
+pass_same fde base end front text p before lacking s t first so same = let P : Standing → Type 0 = λ k. Passing fde base end front text p before lacking k first in subst P (sym same) so
 
 -- the open INIT lies between the base and the end, and below the next row
-pub pass_above : (base end : ℕ) (front text : List ℕ) (p : OpenInit) (before : Row) (lacking : Bool) (s first : Standing) → Passing base end front text p before lacking s first → base ≤ p.start
-pass_above base end front text p before lacking s first so = omega (arith, so.above, so.spelled.start)
+pub pass_above : (fde : FdeFields) (base end : ℕ) (front text : List ℕ) (p : OpenInit) (before : Row) (lacking : Bool) (s first : Standing) → Passing fde base end front text p before lacking s first → base ≤ p.start
+pass_above fde base end front text p before lacking s first so = omega (arith, so.above, so.spelled.start)
 
-pub pass_below : (base end : ℕ) (front text : List ℕ) (p : OpenInit) (before : Row) (lacking : Bool) (s first : Standing) → Passing base end front text p before lacking s first → p.start ≤ end
-pass_below base end front text p before lacking s first so = omega (arith, so.below, so.low, so.spelled.start)
+pub pass_below : (fde : FdeFields) (base end : ℕ) (front text : List ℕ) (p : OpenInit) (before : Row) (lacking : Bool) (s first : Standing) → Passing fde base end front text p before lacking s first → p.start ≤ end
+pass_below fde base end front text p before lacking s first so = omega (arith, so.below, so.low, so.spelled.start)
 
-pub pass_rises : (base end : ℕ) (front text : List ℕ) (p : OpenInit) (before : Row) (lacking : Bool) (s t first : Standing) → Passing base end front text p before lacking s first → GoesOn s t → p.start ≤ t.here.address
-pass_rises base end front text p before lacking s t first so step = omega (arith, so.below, so.spelled.start, step.rises)
+pub pass_rises : (fde : FdeFields) (base end : ℕ) (front text : List ℕ) (p : OpenInit) (before : Row) (lacking : Bool) (s t first : Standing) → Passing fde base end front text p before lacking s first → GoesOn s t → p.start ≤ t.here.address
+pass_rises fde base end front text p before lacking s t first so step = omega (arith, so.below, so.spelled.start, step.rises)
 
 -- what is spelled so far stands after what stood in front
 pub front_stays : (front text more : List ℕ) → text ≡ front ++ more → take (length front) text ≡ front
 front_stays front text more is = ap (take (length front)) is ∙ take-append_seam front more
 
-pub pass_front : (base end : ℕ) (front text : List ℕ) (p : OpenInit) (before : Row) (lacking : Bool) (s first : Standing) → Passing base end front text p before lacking s first → take (length front) text ≡ front
-pass_front base end front text p before lacking s first so = front_stays front text (canon_text so.o.lines) so.spelled.lines
+pub pass_front : (fde : FdeFields) (base end : ℕ) (front text : List ℕ) (p : OpenInit) (before : Row) (lacking : Bool) (s first : Standing) → Passing fde base end front text p before lacking s first → take (length front) text ≡ front
+pass_front fde base end front text p before lacking s first so = front_stays front text (canon_text so.o.lines) so.spelled.lines
 
 -- the reason of a refusal
 pub pass_refused : (A B : Type 0) (stop : Stop Reason) (s t first : Standing) (P : A → Type 0) (Q : Type 0) (R : B → Type 0) → s.fault ≡ first.fault → MatchStop {A = A} {F = Reason} (Err stop) P (λ why. Refuses why s t) Q → MatchStop {A = B} {F = Reason} (Err stop) R (λ why. first.fault ≡ Some why) (Unit {0})
@@ -187,16 +188,16 @@ on_both (Ok x) then first second = then first second
 on_both (Err e) then first second = tt
 
 -- the next row differs from this one in some columns alone
-pub pass_alike : (base end : ℕ) (front text : List ℕ) (p : OpenInit) (before after : Row) (lacking : Bool) (s t first : Standing) (columns : Columns) → Passing base end front text p before lacking s first → StayOutside columns s.here.row t.here.row → after ≡ t.here.row → StayOutside columns before after
-pass_alike base end front text p before after lacking s t first columns so alike is =
+pub pass_alike : (fde : FdeFields) (base end : ℕ) (front text : List ℕ) (p : OpenInit) (before after : Row) (lacking : Bool) (s t first : Standing) (columns : Columns) → Passing fde base end front text p before lacking s first → StayOutside columns s.here.row t.here.row → after ≡ t.here.row → StayOutside columns before after
+pass_alike fde base end front text p before after lacking s t first columns so alike is =
     let P : Row → Type 0 = λ row. StayOutside columns row after in
     let Q : Row → Type 0 = λ row. StayOutside columns s.here.row row in
     subst P (sym so.here) (subst Q (sym is) alike)
 
 -- one row, by where it stands
-pub by_row : (base address : ℕ) (before row : Row) (old new : List ℕ) (p q : OpenInit) (t : Standing) → address ≡ t.here.address → row ≡ t.here.row → ((front : List ℕ) (o : Open) → IsSpelled front base old p o → IsSpelled front base new q (with_row address before row o)) →
-    (front : List ℕ) (o : Open) → IsSpelled front base old p o → IsSpelled front base new q (with_row t.here.address before t.here.row o)
-by_row base address before row old new p q t at is one front o so =
-    let P : ℕ → Type 0 = λ a. IsSpelled front base new q (with_row a before t.here.row o) in
-    let Q : Row → Type 0 = λ r. IsSpelled front base new q (with_row address before r o) in
+pub by_row : (fde : FdeFields) (base address : ℕ) (before row : Row) (old new : List ℕ) (p q : OpenInit) (t : Standing) → address ≡ t.here.address → row ≡ t.here.row → ((front : List ℕ) (o : Open) → IsSpelled front base old p o → IsSpelled front base new q (with_row fde address before row o)) →
+    (front : List ℕ) (o : Open) → IsSpelled front base old p o → IsSpelled front base new q (with_row fde t.here.address before t.here.row o)
+by_row fde base address before row old new p q t at is one front o so =
+    let P : ℕ → Type 0 = λ a. IsSpelled front base new q (with_row fde a before t.here.row o) in
+    let Q : Row → Type 0 = λ r. IsSpelled front base new q (with_row fde address before r o) in
     subst P at (subst Q is (one front o so))

@@ -6,12 +6,17 @@ use Rattle.std.specs.List.{slice_index_or, range_with_len}
 use Rattle.std.proofs.lemmas.Bool.{eqb-true}
 use Rattle.std.proofs.lemmas.Bool.Decides.{nat_tests}
 use Rattle.sym_edges.specs.Abi.{Default, KeepsValue, IsCfa, Unspecified, default_of, is_kept}
+use Rattle.frame_entries.specs.FdeFields.{FdeFields}
 use Rattle.frame_rows.specs.declared.row.Row.{Row}
 use Rattle.frame_rows.specs.declared.row.Rule.{Rule}
 use Rattle.frame_rows.specs.declared.row.Rule.TheVariants as rule
 use Rattle.frame_rows.specs.declared.row.CfaRule.{CfaRule}
+use Rattle.frame_rows.specs.declared.row.CfaRule.TheVariants as cfa
+use Rattle.expr_postfix.specs.ExprTokens.{expr_tokens, with_fetch, rule_tokens}
+use Rattle.expr_postfix.specs.ExprValue.{expr_value, word_of}
+use Rattle.expr_postfix.proofs.WholeLemmas.{value_with_cfa, value_free, value_in_memory}
 use Rattle.frame_rows.specs.Steps.{has_cfa}
-use Rattle.frame_rows.specs.Rows.{is_sound_rule, IsSound}
+use Rattle.frame_rows.specs.Rows.{expr_bytes, is_sound_rule, is_sound_cfa, IsSound}
 use Rattle.sym_rules.specs.declared.rules.Target.{Target}
 use Rattle.sym_rules.specs.declared.rules.Target.TheVariants.{Cfa, Ra, Reg}
 use Rattle.sym_rules.specs.declared.rules.Token.{Token}
@@ -30,9 +35,10 @@ use Rattle.rule_postfix.specs.declared.parts.RowPart.{RowPart}
 use Rattle.rule_postfix.specs.declared.parts.RowPart.TheVariants.{Unruled, Base, Column}
 use Rattle.rule_postfix.specs.RowParts.{own_as_same, by_group, column_part, cfa_part, rule_at, part_of, is_unspecified, leaves_unspecified}
 use Rattle.rule_postfix.specs.RowRules.{default_tokens, unruled_tokens, own_name, rule_spelled, spelled}
-use Rattle.rule_postfix.specs.RowValue.{known_value, value_now, known_word, at_cfa, cfa_value, value_at_rest, column_value, value_in_row}
+use Rattle.rule_postfix.specs.RowValue.{known_value, value_now, known_word, at_cfa, cfa_value, value_at_rest, value_or_word, column_value, value_in_row}
 use Rattle.rule_postfix.specs.FrameMeaning.{is_undefined, is_lost}
 use Rattle.rule_postfix.proofs.ShownLemmas.{Shows}
+use Rattle.rule_postfix.proofs.ExprLemmas.{IsTold, words_there, rule_there, expr_told}
 
 -- a register, by either side
 now_by : (register : ℕ) (o : Option ℕ) → outcome_of (known_or_missing register o) ≡ known_value register o
@@ -61,11 +67,6 @@ one_register : (regs : Regs) (memory : List MemRun) (cfa : Option Outcome) (r : 
 one_register regs memory cfa r = register_by_result regs memory cfa r (register_value regs r) refl ∙ now_is regs r
 
 -- the CFA itself, where it has a value or failed
-abbrev IsTold : Outcome → Type 0
-IsTold (Value v) = Unit {0}
-IsTold Undefined = ⊥
-IsTold (Failed why) = Unit {0}
-
 one_cfa : (regs : Regs) (memory : List MemRun) (cfa : Outcome) → IsTold cfa → rule_value regs memory (Some cfa) (token.Cfa ∷ []) ≡ cfa
 unfolding rule_value postfix_from with_token
 one_cfa regs memory (Value v) told = refl
@@ -99,18 +100,41 @@ unfolding rule_value postfix_from with_token
 base_by regs memory r n (Ok v) is = rw is refl
 base_by regs memory r n (Err why) is = rw is refl
 
-base_is : (regs : Regs) (memory : List MemRun) (cfa : CfaRule) → rule_value regs memory None (token.Reg cfa.register ∷ token.Number cfa.offset ∷ token.Add ∷ []) ≡ cfa_value regs (Some cfa)
-base_is regs memory cfa =
-    base_by regs memory cfa.register cfa.offset (register_value regs cfa.register) refl ∙ ap (λ v. at_cfa v cfa.offset Value) (now_is regs cfa.register)
+base_is : (regs : Regs) (memory : List MemRun) (register : ℕ) (offset : ℤ) → rule_value regs memory None (token.Reg register ∷ token.Number offset ∷ token.Add ∷ []) ≡ at_cfa (value_now regs register) offset Value
+base_is regs memory register offset =
+    base_by regs memory register offset (register_value regs register) refl ∙ ap (λ v. at_cfa v offset Value) (now_is regs register)
 
 told_by : (o : Option ℕ) (r : ℕ) (n : ℤ) → IsTold (at_cfa (known_value r o) n Value)
 told_by None r n = tt
 told_by (Some v) r n = tt
 
-cfa_told : (regs : Regs) (cfa : Option CfaRule) → is_some cfa ≡ true → IsTold (cfa_value regs cfa)
+cfa_told : (fde : FdeFields) (regs : Regs) (memory : List MemRun) (c : Option CfaRule) → is_some c ≡ true → IsTold (cfa_value fde regs memory c)
 unfolding value_now
-cfa_told regs None some = cc
-cfa_told regs (Some cfa) some = told_by (slice_index_or regs.values cfa.register None) cfa.register cfa.offset
+cfa_told fde regs memory None some = cc
+cfa_told fde regs memory (Some (cfa.Base register offset)) some = told_by (slice_index_or regs.values register None) register offset
+cfa_told fde regs memory (Some (cfa.Expr place)) some = expr_told regs memory Undefined false (expr_bytes fde place)
+
+-- an expression that can be said has the value of its words, or of the word at it
+expr_words : (regs : Regs) (memory : List MemRun) (cfa : Outcome) (fetch : Bool) (bytes : List ℕ) (words : List Token) → rule_tokens true fetch bytes ≡ Some words → rule_value regs memory (Some cfa) words ≡ value_or_word fetch memory (expr_value regs memory cfa true bytes)
+unfolding rule_tokens
+expr_words regs memory cfa true bytes words are = value_in_memory true bytes words regs memory cfa are
+expr_words regs memory cfa false bytes words are = value_with_cfa true bytes words regs memory cfa (unfetched (expr_tokens true bytes) words are)
+  where
+    unfetched : (o : Option (List Token)) (ws : List Token) → with_fetch false o ≡ Some ws → o ≡ Some ws
+    unfetched None ws is = cc
+    unfetched (Some given) ws is = is
+
+by_words : (regs : Regs) (memory : List MemRun) (cfa v : Outcome) (k : ℕ) (o : Option (List Token)) → is_some o ≡ true → ((words : List Token) → o ≡ Some words → rule_value regs memory (Some cfa) words ≡ v) → register_by regs memory cfa k o ≡ v
+by_words regs memory cfa v k None some gives = cc
+by_words regs memory cfa v k (Some words) some gives = gives words refl
+
+ra_by_words : (regs : Regs) (memory : List MemRun) (cfa v : Outcome) (o : Option (List Token)) → is_some o ≡ true → ((words : List Token) → o ≡ Some words → rule_value regs memory (Some cfa) words ≡ v) → ra_by regs memory cfa o ≡ v
+ra_by_words regs memory cfa v None some gives = cc
+ra_by_words regs memory cfa v (Some words) some gives = gives words refl
+
+cfa_by_words : (regs : Regs) (memory : List MemRun) (v : Outcome) (o : Option (List Token)) → is_some o ≡ true → ((words : List Token) → o ≡ Some words → rule_value regs memory None words ≡ v) → cfa_by regs memory o ≡ v
+cfa_by_words regs memory v None some gives = cc
+cfa_by_words regs memory v (Some words) some gives = gives words refl
 
 -- a register without a rule has the value of the words that say so
 by_default : (regs : Regs) (memory : List MemRun) (cfa : Outcome) (k : ℕ) (d : Default) → IsTold cfa → default_of k ≡ d → default_value regs cfa d k ≡ register_by regs memory cfa k (default_tokens d k)
@@ -135,68 +159,74 @@ undefined_by regs memory cfa k KeepsValue is shown = cc
 undefined_by regs memory cfa k IsCfa is shown = cc
 undefined_by regs memory cfa k Unspecified is shown = ap (λ d. default_value regs cfa d k) is
 
-kept_by : (regs : Regs) (memory : List MemRun) (cfa : Outcome) (k : ℕ) (kept : Bool) → is_kept k ≡ kept → register_by regs memory cfa k (spelled (Reg k) (by_group kept rule.Same)) ≡ value_now regs k
+kept_by : (fde : FdeFields) (regs : Regs) (memory : List MemRun) (cfa : Outcome) (k : ℕ) (kept : Bool) → is_kept k ≡ kept → register_by regs memory cfa k (spelled fde (Reg k) (by_group kept rule.Same)) ≡ value_now regs k
 unfolding spelled default_of
-kept_by regs memory cfa k true is = ap (λ t. register_by regs memory cfa k (default_tokens (cond t KeepsValue (cond (k == 7) IsCfa Unspecified)) k)) is ∙ one_register regs memory (Some cfa) k
-kept_by regs memory cfa k false is = one_register regs memory (Some cfa) k
+kept_by fde regs memory cfa k true is = ap (λ t. register_by regs memory cfa k (default_tokens (cond t KeepsValue (cond (k == 7) IsCfa Unspecified)) k)) is ∙ one_register regs memory (Some cfa) k
+kept_by fde regs memory cfa k false is = one_register regs memory (Some cfa) k
 
-other_by : (regs : Regs) (memory : List MemRun) (cfa : Outcome) (k s : ℕ) (own : Bool) → (s == k) ≡ own → register_by regs memory cfa k (spelled (Reg k) (by_group (is_kept k) (cond own rule.Same (rule.Register s)))) ≡ value_now regs s
+other_by : (fde : FdeFields) (regs : Regs) (memory : List MemRun) (cfa : Outcome) (k s : ℕ) (own : Bool) → (s == k) ≡ own → register_by regs memory cfa k (spelled fde (Reg k) (by_group (is_kept k) (cond own rule.Same (rule.Register s)))) ≡ value_now regs s
 unfolding spelled
-other_by regs memory cfa k s true is = kept_by regs memory cfa k (is_kept k) refl ∙ ap (value_now regs) (sym (eqb-true s k is))
-other_by regs memory cfa k s false is = one_register regs memory (Some cfa) s
+other_by fde regs memory cfa k s true is = kept_by fde regs memory cfa k (is_kept k) refl ∙ ap (value_now regs) (sym (eqb-true s k is))
+other_by fde regs memory cfa k s false is = one_register regs memory (Some cfa) s
 
 -- a register by its rule
-register_is : (regs : Regs) (memory : List MemRun) (cfa : Outcome) (k : ℕ) (r : Rule) → IsTold cfa → (is_undefined r && not (is_unspecified k)) ≡ false → register_by regs memory cfa k (spelled (Reg k) (column_part k r)) ≡ column_value regs memory cfa k r
+register_is : (fde : FdeFields) (regs : Regs) (memory : List MemRun) (cfa : Outcome) (k : ℕ) (r : Rule) → is_sound_rule fde k r ≡ true → IsTold cfa → (is_undefined r && not (is_unspecified k)) ≡ false → register_by regs memory cfa k (spelled fde (Reg k) (column_part k r)) ≡ column_value fde regs memory cfa k r
 unfolding spelled column_part is_unspecified
-register_is regs memory cfa k rule.Rest told shown = at_rest regs memory cfa k told
-register_is regs memory cfa k rule.Undefined told shown = undefined_by regs memory cfa k (default_of k) refl shown
-register_is regs memory cfa k rule.Same told shown = kept_by regs memory cfa k (is_kept k) refl
-register_is regs memory cfa k (rule.Offset n) told shown = word_cfa regs memory cfa n
-register_is regs memory cfa k (rule.ValOffset n) told shown = plus_cfa regs memory cfa n
-register_is regs memory cfa k (rule.Register s) told shown = other_by regs memory cfa k s (s == k) refl
+register_is fde regs memory cfa k rule.Rest sound told shown = at_rest regs memory cfa k told
+register_is fde regs memory cfa k rule.Undefined sound told shown = undefined_by regs memory cfa k (default_of k) refl shown
+register_is fde regs memory cfa k rule.Same sound told shown = kept_by fde regs memory cfa k (is_kept k) refl
+register_is fde regs memory cfa k (rule.Offset n) sound told shown = word_cfa regs memory cfa n
+register_is fde regs memory cfa k (rule.ValOffset n) sound told shown = plus_cfa regs memory cfa n
+register_is fde regs memory cfa k (rule.Expr fetch place) sound told shown =
+    by_words regs memory cfa _ k (rule_tokens true fetch (expr_bytes fde place)) (rule_there true fetch (expr_bytes fde place) sound) (expr_words regs memory cfa fetch (expr_bytes fde place))
+register_is fde regs memory cfa k (rule.Register s) sound told shown = other_by fde regs memory cfa k s (s == k) refl
 
 -- the return address by its rule
-ra_other : (regs : Regs) (memory : List MemRun) (cfa : Outcome) (s : ℕ) (own : Bool) → (s == 16) ≡ own → nat_lt s 16 ≡ true → ra_by regs memory cfa (spelled Ra (by_group (is_kept 16) (cond own rule.Same (rule.Register s)))) ≡ value_now regs s
+ra_other : (fde : FdeFields) (regs : Regs) (memory : List MemRun) (cfa : Outcome) (s : ℕ) (own : Bool) → (s == 16) ≡ own → nat_lt s 16 ≡ true → ra_by regs memory cfa (spelled fde Ra (by_group (is_kept 16) (cond own rule.Same (rule.Register s)))) ≡ value_now regs s
 unfolding spelled
-ra_other regs memory cfa s true is below = let same : s ≡ 16 = eqb-true s 16 is in absurd (grind (arith, nat_tests))
-ra_other regs memory cfa s false is below = one_register regs memory (Some cfa) s
+ra_other fde regs memory cfa s true is below = let same : s ≡ 16 = eqb-true s 16 is in absurd (grind (arith, nat_tests))
+ra_other fde regs memory cfa s false is below = one_register regs memory (Some cfa) s
 
-ra_is : (regs : Regs) (memory : List MemRun) (cfa : Outcome) (r : Rule) → is_sound_rule 16 r ≡ true → ra_by regs memory cfa (spelled Ra (column_part 16 r)) ≡ column_value regs memory cfa 16 r
+ra_is : (fde : FdeFields) (regs : Regs) (memory : List MemRun) (cfa : Outcome) (r : Rule) → is_sound_rule fde 16 r ≡ true → ra_by regs memory cfa (spelled fde Ra (column_part 16 r)) ≡ column_value fde regs memory cfa 16 r
 unfolding spelled column_part default_of is_kept
-ra_is regs memory cfa rule.Rest sound = refl
-ra_is regs memory cfa rule.Undefined sound = refl
-ra_is regs memory cfa rule.Same sound = cc
-ra_is regs memory cfa (rule.Offset n) sound = word_cfa regs memory cfa n
-ra_is regs memory cfa (rule.ValOffset n) sound = plus_cfa regs memory cfa n
-ra_is regs memory cfa (rule.Register s) sound = ra_other regs memory cfa s (s == 16) refl sound
+ra_is fde regs memory cfa rule.Rest sound = refl
+ra_is fde regs memory cfa rule.Undefined sound = refl
+ra_is fde regs memory cfa rule.Same sound = cc
+ra_is fde regs memory cfa (rule.Offset n) sound = word_cfa regs memory cfa n
+ra_is fde regs memory cfa (rule.ValOffset n) sound = plus_cfa regs memory cfa n
+ra_is fde regs memory cfa (rule.Expr fetch place) sound =
+    ra_by_words regs memory cfa _ (rule_tokens true fetch (expr_bytes fde place)) (rule_there true fetch (expr_bytes fde place) sound) (expr_words regs memory cfa fetch (expr_bytes fde place))
+ra_is fde regs memory cfa (rule.Register s) sound = ra_other fde regs memory cfa s (s == 16) refl sound
 
 or_none : {A : Type 0} (o : Option A) → option_or o None ≡ o
 or_none None = refl
 or_none (Some x) = refl
 
 -- rules that show a row have its values
-cfa_by_part : (regs : Regs) (memory : List MemRun) (cfa : Option CfaRule) → cfa_by regs memory (spelled Cfa (cfa_part cfa)) ≡ cfa_value regs cfa
+cfa_by_part : (fde : FdeFields) (regs : Regs) (memory : List MemRun) (c : Option CfaRule) → is_sound_cfa fde c ≡ true → cfa_by regs memory (spelled fde Cfa (cfa_part c)) ≡ cfa_value fde regs memory c
 unfolding spelled
-cfa_by_part regs memory None = refl
-cfa_by_part regs memory (Some cfa) = base_is regs memory cfa
+cfa_by_part fde regs memory None sound = refl
+cfa_by_part fde regs memory (Some (cfa.Base register offset)) sound = base_is regs memory register offset
+cfa_by_part fde regs memory (Some (cfa.Expr place)) sound =
+    cfa_by_words regs memory _ (expr_tokens false (expr_bytes fde place)) (words_there false (expr_bytes fde place) sound) (λ words are. value_free (expr_bytes fde place) words regs memory None Undefined are)
 
-pub cfa_shown : (regs : Regs) (memory : List MemRun) (rules : List RuleText) (row : Row) → Shows rules row Cfa → text_cfa regs memory rules ≡ cfa_value regs row.cfa
+pub cfa_shown : (fde : FdeFields) (regs : Regs) (memory : List MemRun) (rules : List RuleText) (row : Row) → IsSound fde row → Shows fde rules row Cfa → text_cfa regs memory rules ≡ cfa_value fde regs memory row.cfa
 unfolding text_cfa part_of
-cfa_shown regs memory rules row shows = ap (cfa_by regs memory) (sym (or_none (rule_for Cfa rules)) ∙ shows) ∙ cfa_by_part regs memory row.cfa
+cfa_shown fde regs memory rules row sound shows = ap (cfa_by regs memory) (sym (or_none (rule_for Cfa rules)) ∙ shows) ∙ cfa_by_part fde regs memory row.cfa sound.cfa
 
-pub ra_shown : (regs : Regs) (memory : List MemRun) (rules : List RuleText) (row : Row) → IsSound row → Shows rules row Cfa → Shows rules row Ra → text_ra regs memory rules ≡ value_in_row regs memory row 16
+pub ra_shown : (fde : FdeFields) (regs : Regs) (memory : List MemRun) (rules : List RuleText) (row : Row) → IsSound fde row → Shows fde rules row Cfa → Shows fde rules row Ra → text_ra regs memory rules ≡ value_in_row fde regs memory row 16
 unfolding text_ra part_of value_in_row
-ra_shown regs memory rules row sound first shows =
-    ap (λ cfa. ra_by regs memory cfa (rule_for Ra rules)) (cfa_shown regs memory rules row first)
-    ∙ ap (ra_by regs memory (cfa_value regs row.cfa)) (sym (or_none (rule_for Ra rules)) ∙ shows)
-    ∙ ra_is regs memory (cfa_value regs row.cfa) (rule_at row 16) (sound.columns 16)
+ra_shown fde regs memory rules row sound first shows =
+    ap (λ cfa. ra_by regs memory cfa (rule_for Ra rules)) (cfa_shown fde regs memory rules row sound first)
+    ∙ ap (ra_by regs memory (cfa_value fde regs memory row.cfa)) (sym (or_none (rule_for Ra rules)) ∙ shows)
+    ∙ ra_is fde regs memory (cfa_value fde regs memory row.cfa) (rule_at row 16) (sound.columns 16)
 
-pub register_shown : (regs : Regs) (memory : List MemRun) (rules : List RuleText) (row : Row) (k : ℕ) → has_cfa row ≡ true → is_lost row k ≡ false → Shows rules row Cfa → Shows rules row (Reg k) → text_register regs memory rules k ≡ value_in_row regs memory row k
+pub register_shown : (fde : FdeFields) (regs : Regs) (memory : List MemRun) (rules : List RuleText) (row : Row) (k : ℕ) → IsSound fde row → has_cfa row ≡ true → is_lost row k ≡ false → Shows fde rules row Cfa → Shows fde rules row (Reg k) → text_register regs memory rules k ≡ value_in_row fde regs memory row k
 unfolding text_register part_of value_in_row is_lost
-register_shown regs memory rules row k has shown first shows =
-    let cfa : Outcome = cfa_value regs row.cfa in
-    let told : IsTold cfa = cfa_told regs row.cfa has in
-    ap (λ c. register_by regs memory c k (rule_for (Reg k) rules)) (cfa_shown regs memory rules row first)
+register_shown fde regs memory rules row k sound has shown first shows =
+    let cfa : Outcome = cfa_value fde regs memory row.cfa in
+    let told : IsTold cfa = cfa_told fde regs memory row.cfa has in
+    ap (λ c. register_by regs memory c k (rule_for (Reg k) rules)) (cfa_shown fde regs memory rules row sound first)
     ∙ or_default regs memory cfa k (rule_for (Reg k) rules) told
     ∙ ap (register_by regs memory cfa k) shows
-    ∙ register_is regs memory cfa k (rule_at row k) told shown
+    ∙ register_is fde regs memory cfa k (rule_at row k) (sound.columns k) told shown

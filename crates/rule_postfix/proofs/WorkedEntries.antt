@@ -1,8 +1,11 @@
 -- Worked rows: the text of an entry, by its instructions.
-use Rattle.std.proofs.Common.{◌≡◌, [], ◌∷◌, Ok, Err, refl}
+use Rattle.std.proofs.Common.{◌≡◌, negsuc, [], ◌∷◌, Ok, Err, refl}
+use Prim.Native.String.{String}
 use Rattle.sym_edges.specs.declared.part.Sect.TheVariants.{EhFrame}
 use Rattle.sym_edges.specs.declared.reason.Reason.TheVariants as reason
-use Rattle.rule_postfix.proofs.WorkedSections.{hex, framed, fde, section, translated, says, sections}
+use Rattle.frame_entries.specs.declared.description.Body.TheVariants.{Good}
+use Rattle.frame_entries.specs.FdeFields.{FdeFields}
+use Rattle.rule_postfix.proofs.WorkedSections.{hex, framed, fde, section, body_text, translated, says, sections}
 
 -- a function with a frame pointer has an INIT and three records of changes; addresses are counted from the base
 a_frame_pointer : translated 0 framed
@@ -241,3 +244,109 @@ no_rule_for_the_cfa : translated 0 (hex "14000000 00000000 01 7a5200 01 78 10 01
     ≡ Err reason.Cfa
 unfolding sections
 no_rule_for_the_cfa = refl
+
+-- expressions: the word at one, and the value of one over the CFA
+expressions_of_rbp : says "44 1006027778 44 1606022310"
+    ≡ Ok "STACK CFI INIT 1000 20 .cfa: $rsp 8 + .ra: .cfa -8 + ^\nSTACK CFI 1004 $rbp: $rsp -8 + ^\nSTACK CFI 1008 $rbp: .cfa 16 +\n"
+unfolding sections
+expressions_of_rbp = refl
+
+-- a procedure linkage table, as linkers write it
+a_linkage_table : says "0e10 46 0e18 4a 0f0b 7708 8000 3f1a3b2a332422"
+    ≡ Ok "STACK CFI INIT 1000 20 .cfa: $rsp 16 + .ra: .cfa -8 + ^\nSTACK CFI 1006 .cfa: $rsp 24 +\nSTACK CFI 1010 .cfa: $rsp 8 + $rip 0 + 16 % 5 + 16 / 8 * +\n"
+unfolding sections
+a_linkage_table = refl
+
+-- an expression is the same where it stands at the same place, and not where it is written again
+an_expression_twice : says "1006027778 44 1006027778"
+    ≡ Ok "STACK CFI INIT 1000 20 .cfa: $rsp 8 + .ra: .cfa -8 + ^ $rbp: $rsp -8 + ^\nSTACK CFI 1004 $rbp: $rsp -8 + ^\n"
+unfolding sections
+an_expression_twice = refl
+
+an_expression_remembered : says "1006027778 0a 44 0b"
+    ≡ Ok "STACK CFI INIT 1000 20 .cfa: $rsp 8 + .ra: .cfa -8 + ^ $rbp: $rsp -8 + ^\n"
+unfolding sections
+an_expression_remembered = refl
+
+a_cfa_expression_remembered : says "0a 44 0f027708 44 0b"
+    ≡ Ok "STACK CFI INIT 1000 20 .cfa: $rsp 8 + .ra: .cfa -8 + ^\nSTACK CFI 1004 .cfa: $rsp 8 +\nSTACK CFI 1008 .cfa: $rsp 8 +\n"
+unfolding sections
+a_cfa_expression_remembered = refl
+
+-- on a kept register, on rsp, on the return address, and on a register that a call may change, which makes a cut where it is at rest again
+an_expression_of_rbx : says "44 1603027308 44 c3"
+    ≡ Ok "STACK CFI INIT 1000 20 .cfa: $rsp 8 + .ra: .cfa -8 + ^\nSTACK CFI 1004 $rbx: $rbx 8 +\nSTACK CFI 1008 $rbx: $rbx\n"
+unfolding sections
+an_expression_of_rbx = refl
+
+an_expression_of_rsp : says "44 1607022308 44 c7"
+    ≡ Ok "STACK CFI INIT 1000 20 .cfa: $rsp 8 + .ra: .cfa -8 + ^\nSTACK CFI 1004 $rsp: .cfa 8 +\nSTACK CFI 1008 $rsp: .cfa\n"
+unfolding sections
+an_expression_of_rsp = refl
+
+an_expression_of_the_return_address : says "44 1610028000 44 d0"
+    ≡ Ok "STACK CFI INIT 1000 20 .cfa: $rsp 8 + .ra: .cfa -8 + ^\nSTACK CFI 1004 .ra: $rip 0 +\nSTACK CFI 1008 .ra: .cfa -8 + ^\n"
+unfolding sections
+an_expression_of_the_return_address = refl
+
+an_expression_of_rax : says "44 1000027708 44 c0"
+    ≡ Ok "STACK CFI INIT 1000 8 .cfa: $rsp 8 + .ra: .cfa -8 + ^\nSTACK CFI 1004 $rax: $rsp 8 + ^\nSTACK CFI INIT 1008 18 .cfa: $rsp 8 + .ra: .cfa -8 + ^\n"
+unfolding sections
+an_expression_of_rax = refl
+
+-- an expression beside the loss of a register that a call may change
+an_expression_in_a_cut : says "44 1000027708 44 c0 1606022310"
+    ≡ Ok "STACK CFI INIT 1000 8 .cfa: $rsp 8 + .ra: .cfa -8 + ^\nSTACK CFI 1004 $rax: $rsp 8 + ^\nSTACK CFI INIT 1008 18 .cfa: $rsp 8 + .ra: .cfa -8 + ^ $rbp: .cfa 16 +\n"
+unfolding sections
+an_expression_in_a_cut = refl
+
+-- the empty expression leaves the CFA, or is the address of the word there; above column 16 none is looked at
+empty_expressions : says "160600 44 100300"
+    ≡ Ok "STACK CFI INIT 1000 20 .cfa: $rsp 8 + .ra: .cfa -8 + ^ $rbp: .cfa\nSTACK CFI 1004 $rbx: .cfa ^\n"
+unfolding sections
+empty_expressions = refl
+
+expressions_above_the_columns : says "44 10110196 16110196" ≡ Ok "STACK CFI INIT 1000 20 .cfa: $rsp 8 + .ra: .cfa -8 + ^\n"
+unfolding sections
+expressions_above_the_columns = refl
+
+-- expressions of the CIE, which the entry changes and takes back
+unfoldable behind_cie : String → String → FdeFields
+unfolding hex
+behind_cie initial own = record {
+  cie = 0;
+  start = 0x1000;
+  size = 0x10;
+  code_align = 1;
+  data_align = negsuc 7;
+  encoding = 0x1b;
+  initial_instructions = hex initial;
+  instructions = hex own;
+  instructions_address = 0x2029;
+}
+
+expressions_of_the_cie : body_text 0 (Good (behind_cie "0f027708 9001 1006027778" "44 1606022308 44 0c0708 c6"))
+    ≡ Ok "STACK CFI INIT 1000 10 .cfa: $rsp 8 + .ra: .cfa -8 + ^ $rbp: $rsp -8 + ^\nSTACK CFI 1004 $rbp: .cfa 8 +\nSTACK CFI 1008 .cfa: $rsp 8 + $rbp: $rsp -8 + ^\n"
+unfolding sections behind_cie
+expressions_of_the_cie = refl
+
+-- what rule text cannot say
+an_expression_of_a_nop : says "0f0196" ≡ Err reason.Expression
+unfolding sections
+an_expression_of_a_nop = refl
+
+an_expression_without_values : says "0f0122" ≡ Err reason.Expression
+unfolding sections
+an_expression_without_values = refl
+
+an_expression_with_two_values : says "0f03770830" ≡ Err reason.Expression
+unfolding sections
+an_expression_with_two_values = refl
+
+an_expression_that_leaves_the_entry : says "0f7f7708" ≡ Err reason.Instruction
+unfolding sections
+an_expression_that_leaves_the_entry = refl
+
+no_offset_of_an_expression : says "0f027708 0e10" ≡ Err reason.State
+unfolding sections
+no_offset_of_an_expression = refl

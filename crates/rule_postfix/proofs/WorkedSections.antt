@@ -62,7 +62,7 @@ unless_reason None text = Ok text
 unless_reason (Some why) text = Err why
 
 abbrev pub body_text : ℕ → Body → Result String Reason
-body_text base (Good e) = unless_reason (rows_fault e) (shown (canon_text (frame_lines (row_at e) e.start e.size base)))
+body_text base (Good e) = unless_reason (rows_fault e) (shown (canon_text (frame_lines e (row_at e) e.start e.size base)))
 body_text base (Bad why) = Err why
 
 abbrev pub first_text : ℕ → Result (List Entry) (Located FrameKind) → Result String Reason

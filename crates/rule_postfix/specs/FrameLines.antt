@@ -2,6 +2,7 @@
 -- neighbouring addresses are compared, whatever made the rows.
 use Rattle.std.specs.Prelude.{ℕ, ◌+◌, ◌-◌, ◌==◌, ◌||◌, Bool, zero, suc, if◌then◌else◌, List, [], ◌∷◌}
 use Rattle.std.specs.List.{flat_map, range_with_len}
+use Rattle.frame_entries.specs.FdeFields.{FdeFields}
 use Rattle.frame_rows.specs.declared.row.Row.{Row}
 use Rattle.sym_records.specs.declared.line.SymLine.{SymLine}
 use Rattle.sym_records.specs.declared.line.SymLine.TheVariants.{Init, Change}
@@ -23,12 +24,12 @@ change address [] = []
 change address (r ∷ rules) = Change address (r ∷ rules) ∷ []
 
 -- the record at an address: at a cut an INIT with the whole row, up to the next cut or the end of the range; else the changes
-unfoldable pub records_at : (ℕ → Row) → ℕ → ℕ → ℕ → ℕ → List SymLine
-records_at row start end base b =
+unfoldable pub records_at : FdeFields → (ℕ → Row) → ℕ → ℕ → ℕ → ℕ → List SymLine
+records_at e row start end base b =
     if is_cut row start b
-    then Init (b - base) (first_cut row start (b + 1) (end - (b + 1)) - b) (row_rules (row b)) ∷ []
-    else change (b - base) (changed_rules (row (b - 1)) (row b))
+    then Init (b - base) (first_cut row start (b + 1) (end - (b + 1)) - b) (row_rules e (row b)) ∷ []
+    else change (b - base) (changed_rules e (row (b - 1)) (row b))
 
--- the records of a range, with addresses counted from the base
-unfoldable pub frame_lines : (ℕ → Row) → ℕ → ℕ → ℕ → List SymLine
-frame_lines row start size base = flat_map (records_at row start (start + size) base) (range_with_len start size)
+-- the records of a range of an entry, with addresses counted from the base
+unfoldable pub frame_lines : FdeFields → (ℕ → Row) → ℕ → ℕ → ℕ → List SymLine
+frame_lines e row start size base = flat_map (records_at e row start (start + size) base) (range_with_len start size)

@@ -23,6 +23,7 @@ is_undefined rule.Same = false
 is_undefined (rule.Offset n) = false
 is_undefined (rule.ValOffset n) = false
 is_undefined (rule.Register register) = false
+is_undefined (rule.Expr fetch place) = false
 
 -- the one exception: the row says that rbx, rbp, rsp or one of r12 to r15 is undefined. The text has no rule for it, and so it has the
 -- value that these have without a rule

@@ -7,6 +7,8 @@ use Rattle.std.specs.Ordering.{int_eq}
 use Rattle.frame_rows.specs.declared.row.Rule.{Rule}
 use Rattle.frame_rows.specs.declared.row.Rule.TheVariants as rule
 use Rattle.frame_rows.specs.declared.row.CfaRule.{CfaRule}
+use Rattle.frame_rows.specs.declared.row.CfaRule.TheVariants as cfa
+use Rattle.expr_steps.specs.declared.place.Place.{Place}
 use Rattle.frame_rows.specs.declared.row.Row.{Row}
 use Rattle.sym_rules.specs.declared.rules.Target.{Target}
 use Rattle.sym_rules.specs.declared.rules.Target.TheVariants.{Cfa, Ra, Reg, Other}
@@ -20,6 +22,7 @@ own_as_same column rule.Undefined = rule.Undefined
 own_as_same column rule.Same = rule.Same
 own_as_same column (rule.Offset n) = rule.Offset n
 own_as_same column (rule.ValOffset n) = rule.ValOffset n
+own_as_same column (rule.Expr fetch place) = rule.Expr fetch place
 own_as_same column (rule.Register register) = if register == column then rule.Same else rule.Register register
 
 -- a column without a rule is unruled, and so is one that is undefined; a kept register that still has its value is too
@@ -30,6 +33,7 @@ by_group kept rule.Same = if kept then Unruled else Column rule.Same
 by_group kept (rule.Offset n) = Column (rule.Offset n)
 by_group kept (rule.ValOffset n) = Column (rule.ValOffset n)
 by_group kept (rule.Register register) = Column (rule.Register register)
+by_group kept (rule.Expr fetch place) = Column (rule.Expr fetch place)
 
 unfoldable pub column_part : ℕ → Rule → RowPart
 column_part column given = by_group (is_kept column) (own_as_same column given)
@@ -53,7 +57,14 @@ is_unruled Unruled = true
 is_unruled (Base cfa) = false
 is_unruled (Column given) = false
 
--- the same part
+abbrev pub same_bool : Bool → Bool → Bool
+same_bool true b = b
+same_bool false b = not b
+
+-- the same part: expressions are the same where they stand at the same place, whatever their bytes are
+abbrev pub same_place : Place → Place → Bool
+same_place a b = same_bool a.own b.own && (a.start == b.start && a.len == b.len)
+
 abbrev pub same_rule : Rule → Rule → Bool
 same_rule rule.Rest rule.Rest = true
 same_rule rule.Undefined rule.Undefined = true
@@ -61,11 +72,17 @@ same_rule rule.Same rule.Same = true
 same_rule (rule.Offset m) (rule.Offset n) = int_eq m n
 same_rule (rule.ValOffset m) (rule.ValOffset n) = int_eq m n
 same_rule (rule.Register r) (rule.Register s) = r == s
+same_rule (rule.Expr f p) (rule.Expr g q) = same_bool f g && same_place p q
 same_rule _ _ = false
+
+abbrev pub same_cfa : CfaRule → CfaRule → Bool
+same_cfa (cfa.Base r m) (cfa.Base s n) = r == s && int_eq m n
+same_cfa (cfa.Expr p) (cfa.Expr q) = same_place p q
+same_cfa _ _ = false
 
 abbrev pub same_part : RowPart → RowPart → Bool
 same_part Unruled Unruled = true
-same_part (Base a) (Base b) = a.register == b.register && int_eq a.offset b.offset
+same_part (Base a) (Base b) = same_cfa a b
 same_part (Column a) (Column b) = same_rule a b
 same_part _ _ = false
 

@@ -1,9 +1,14 @@
 -- The rules of frame records (Breakpad's symbol_files.md, "STACK CFI"): how a part is spelled, and which rules a record has.
-use Rattle.std.specs.Prelude.{ℕ, Bool, if◌then◌else◌, List, [], ◌∷◌, map, Option, Some, None}
+use Rattle.std.specs.Prelude.{ℕ, Bool, true, false, if◌then◌else◌, List, [], ◌∷◌, map, Option, Some, None}
 use Rattle.std.specs.List.{list_any, range_with_len, filter_map}
 use Rattle.frame_rows.specs.declared.row.Rule.{Rule}
 use Rattle.frame_rows.specs.declared.row.Rule.TheVariants as rule
+use Rattle.frame_rows.specs.declared.row.CfaRule.{CfaRule}
+use Rattle.frame_rows.specs.declared.row.CfaRule.TheVariants as cfa
 use Rattle.frame_rows.specs.declared.row.Row.{Row}
+use Rattle.frame_rows.specs.Rows.{expr_bytes}
+use Rattle.frame_entries.specs.FdeFields.{FdeFields}
+use Rattle.expr_postfix.specs.ExprTokens.{expr_tokens, rule_tokens}
 use Rattle.sym_rules.specs.declared.rules.Target.{Target}
 use Rattle.sym_rules.specs.declared.rules.Target.TheVariants.{Cfa, Ra, Reg, Other}
 use Rattle.sym_rules.specs.declared.rules.Token.{Token}
@@ -34,20 +39,27 @@ own_name Ra = None
 own_name (Reg column) = Some (token.Reg column ∷ [])
 own_name (Other name) = None
 
--- a column's rule: the word at the CFA plus an offset, the CFA plus an offset, or a register
-abbrev pub rule_spelled : Target → Rule → Option (List Token)
-rule_spelled t rule.Rest = None
-rule_spelled t rule.Undefined = None
-rule_spelled t rule.Same = own_name t
-rule_spelled t (rule.Offset n) = Some (token.Cfa ∷ token.Number n ∷ token.Add ∷ token.Fetch ∷ [])
-rule_spelled t (rule.ValOffset n) = Some (token.Cfa ∷ token.Number n ∷ token.Add ∷ [])
-rule_spelled t (rule.Register register) = Some (token.Reg register ∷ [])
+-- a column's rule: the word at the CFA plus an offset, the CFA plus an offset, a register, or the words of an expression of the entry, for which
+-- the CFA may be on the stack, with `^` behind them where it fetches
+abbrev pub rule_spelled : FdeFields → Target → Rule → Option (List Token)
+rule_spelled e t rule.Rest = None
+rule_spelled e t rule.Undefined = None
+rule_spelled e t rule.Same = own_name t
+rule_spelled e t (rule.Offset n) = Some (token.Cfa ∷ token.Number n ∷ token.Add ∷ token.Fetch ∷ [])
+rule_spelled e t (rule.ValOffset n) = Some (token.Cfa ∷ token.Number n ∷ token.Add ∷ [])
+rule_spelled e t (rule.Register register) = Some (token.Reg register ∷ [])
+rule_spelled e t (rule.Expr fetch place) = rule_tokens true fetch (expr_bytes e place)
 
--- the tokens of a part, where it has a spelling; the CFA is a register plus an offset
-unfoldable pub spelled : Target → RowPart → Option (List Token)
-spelled t Unruled = unruled_tokens t
-spelled t (Base cfa) = Some (token.Reg cfa.register ∷ token.Number cfa.offset ∷ token.Add ∷ [])
-spelled t (Column given) = rule_spelled t given
+-- the CFA's rule: a register plus an offset, or the words of an expression of the entry
+abbrev pub cfa_tokens : FdeFields → CfaRule → Option (List Token)
+cfa_tokens e (cfa.Base register offset) = Some (token.Reg register ∷ token.Number offset ∷ token.Add ∷ [])
+cfa_tokens e (cfa.Expr place) = expr_tokens false (expr_bytes e place)
+
+-- the tokens of a part of an entry's row, where it has a spelling
+unfoldable pub spelled : FdeFields → Target → RowPart → Option (List Token)
+spelled e t Unruled = unruled_tokens t
+spelled e t (Base cfa) = cfa_tokens e cfa
+spelled e t (Column given) = rule_spelled e t given
 
 -- the targets in the order of rules: `.cfa`, `.ra`, then the registers by number
 unfoldable pub registers : ℕ → List Target
@@ -72,22 +84,22 @@ unfoldable pub rules_by : (Target → Option (List Token)) → List RuleText
 rules_by tokens = rules_of tokens targets
 
 -- what has a rule at a row
-unfoldable pub if_ruled : Row → Target → Option (List Token)
-if_ruled row t = if is_unruled (part_of row t) then None else spelled t (part_of row t)
+unfoldable pub if_ruled : FdeFields → Row → Target → Option (List Token)
+if_ruled e row t = if is_unruled (part_of row t) then None else spelled e t (part_of row t)
 
 -- what differs between two rows, as it is at the second
-abbrev pub if_other : Target → RowPart → RowPart → Option (List Token)
-if_other t before after = if same_part before after then None else spelled t after
+abbrev pub if_other : FdeFields → Target → RowPart → RowPart → Option (List Token)
+if_other e t before after = if same_part before after then None else spelled e t after
 
-unfoldable pub if_changed : Row → Row → Target → Option (List Token)
-if_changed before after t = if_other t (part_of before t) (part_of after t)
+unfoldable pub if_changed : FdeFields → Row → Row → Target → Option (List Token)
+if_changed e before after t = if_other e t (part_of before t) (part_of after t)
 
--- the rules of a row, and the changes between two
-unfoldable pub row_rules : Row → List RuleText
-row_rules row = rules_by (if_ruled row)
+-- the rules of a row of an entry, and the changes between two
+unfoldable pub row_rules : FdeFields → Row → List RuleText
+row_rules e row = rules_by (if_ruled e row)
 
-unfoldable pub changed_rules : Row → Row → List RuleText
-changed_rules before after = rules_by (if_changed before after)
+unfoldable pub changed_rules : FdeFields → Row → Row → List RuleText
+changed_rules e before after = rules_by (if_changed e before after)
 
 -- some column becomes unspecified, of which no line can say so
 unfoldable pub some_unspecified_below : Row → Row → ℕ → Bool

@@ -100,7 +100,7 @@ omitted code first second = (decided code first second).omitted
 
 -- the records of entries
 unfoldable pub entry_lines : ℕ → FdeFields → List SymLine
-entry_lines base e = frame_lines (row_at e) e.start e.size base
+entry_lines base e = frame_lines e (row_at e) e.start e.size base
 
 unfoldable pub written_lines : ℕ → List FdeFields → List SymLine
 written_lines base entries = flat_map (entry_lines base) entries

@@ -9,13 +9,14 @@ ghost use Rattle.sym_records.specs.Validity.{first_bad_from};
 ghost use Rattle.rule_postfix.specs.FrameLines.{frame_lines};
 ghost use Rattle.rule_postfix.specs.FrameMeaning.{KeepsRows};
 
+use crate::laws::rules_of_rows_fit;
 use crate::open_init::{OpenInit, spell_steps};
 use frame_entries::Fde;
 use frame_rows::{CieState, Stepper};
 use std::alloc::Global;
 use sym_edges::{Reason, Stop};
 use sym_records::ByteText;
-use sym_records::laws::{good_lists_are_joined, plain_rules_fit};
+use sym_records::laws::good_lists_are_joined;
 
 /// Adds the text of an entry's frame records, with addresses counted from `base`, where the state after its CIE is given; or
 /// the reason for which it has none, which is met after some of the text.
@@ -32,20 +33,20 @@ pub fn spell_entry(
     requires fits { fde.now.start + fde.now.size < 2 ^ 64 }
     requires based { base ≤ fde.now.start }
     ensures text { MatchStop result
-        (λ _. text.new.items ≡ text.old.items ++ canon_text (frame_lines (row_at fde.now) fde.now.start fde.now.size base))
+        (λ _. text.new.items ≡ text.old.items ++ canon_text (frame_lines fde.now (row_at fde.now) fde.now.start fde.now.size base))
         (λ _. take (length text.old.items) text.new.items ≡ text.old.items)
         (Unit {0}) }
-    ensures valid { MatchStop result (λ _. first_bad_from 0 Place.Inside (frame_lines (row_at fde.now) fde.now.start fde.now.size base) ≡ None) (λ _. Unit {0}) (Unit {0}) }
+    ensures valid { MatchStop result (λ _. first_bad_from 0 Place.Inside (frame_lines fde.now (row_at fde.now) fde.now.start fde.now.size base) ≡ None) (λ _. Unit {0}) (Unit {0}) }
     ensures exact { MatchStop result (λ _. rows_fault fde.now ≡ None) (λ why. rows_fault fde.now ≡ Some why) (Unit {0}) }
 {
-    plain_rules_fit();
+    rules_of_rows_fit();
     good_lists_are_joined();
     let mut stepper = match Stepper::begin(alloc, state, fde) {
         Ok(stepper) => stepper,
         Err(stop) => return Err(stop),
     };
     let end = fde.start + fde.size;
-    let lacking = match spell_steps(text, open, &mut stepper, end, base) {
+    let lacking = match spell_steps(alloc, fde, text, open, &mut stepper, end, base) {
         Ok(lacking) => lacking,
         Err(stop) => return Err(stop),
     };
@@ -62,9 +63,9 @@ pub fn translate(alloc: Global, fde: &Fde<'_>, base: u64) -> Result<ByteText, St
     requires some { 0 < fde.now.size }
     requires fits { fde.now.start + fde.now.size < 2 ^ 64 }
     requires based { base ≤ fde.now.start }
-    ensures text { MatchStop result (λ text. text ≡ canon_text (frame_lines (row_at fde.now) fde.now.start fde.now.size base)) (λ _. Unit {0}) (Unit {0}) }
-    ensures means { MatchStop result (λ _. KeepsRows base (frame_lines (row_at fde.now) fde.now.start fde.now.size base) fde.now) (λ _. Unit {0}) (Unit {0}) }
-    ensures valid { MatchStop result (λ _. first_bad_from 0 Place.Inside (frame_lines (row_at fde.now) fde.now.start fde.now.size base) ≡ None) (λ _. Unit {0}) (Unit {0}) }
+    ensures text { MatchStop result (λ text. text ≡ canon_text (frame_lines fde.now (row_at fde.now) fde.now.start fde.now.size base)) (λ _. Unit {0}) (Unit {0}) }
+    ensures means { MatchStop result (λ _. KeepsRows base (frame_lines fde.now (row_at fde.now) fde.now.start fde.now.size base) fde.now) (λ _. Unit {0}) (Unit {0}) }
+    ensures valid { MatchStop result (λ _. first_bad_from 0 Place.Inside (frame_lines fde.now (row_at fde.now) fde.now.start fde.now.size base) ≡ None) (λ _. Unit {0}) (Unit {0}) }
     ensures exact { MatchStop result (λ _. rows_fault fde.now ≡ None) (λ why. rows_fault fde.now ≡ Some why) (Unit {0}) }
 {
     let state = CieState::of(alloc, fde)?;

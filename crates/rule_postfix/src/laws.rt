@@ -1,11 +1,14 @@
 //! Laws of the definitions, for readers and for proofs above. Each function does nothing: its contract is the law.
-ghost use Rattle.std.specs.Prelude.{◌≡◌, ℕ, ◌≤◌, true, List, [], ◌∷◌, ◌++◌};
+ghost use Rattle.std.specs.Prelude.{◌≡◌, ℕ, ◌<◌, ◌≤◌, ◌^◌, true, List, [], ◌∷◌, ◌++◌, length};
 ghost use Rattle.std.specs.List.{list_all};
 ghost use Rattle.sym_edges.specs.Addresses.{Range};
 ghost use Rattle.frame_entries.specs.declared.description.Entry.{Entry};
 ghost use Rattle.frame_entries.specs.FdeFields.{FdeFields};
 ghost use Rattle.range_set.specs.Starts.{AllFrom};
 ghost use Rattle.sym_records.specs.declared.line.SymLine.{SymLine};
+ghost use Rattle.sym_rules.specs.declared.rules.RuleText.{RuleText};
+ghost use Rattle.sym_records.specs.Validity.{fields_fit};
+ghost use Rattle.rule_postfix.specs.LongRules.{is_long_rule};
 ghost use Rattle.sym_meaning.specs.Findings.{are_sized};
 ghost use Rattle.sym_meaning.specs.Inits.{inits_at, is_frameless};
 ghost use Rattle.rule_postfix.specs.Written.{decided_behind, decided_of, reason_of, written, written_lines};
@@ -25,6 +28,14 @@ pub fn entries_are_decided_by_their_reasons()
     ensures written { (code : List Range) (xs : List Entry) (entry : Entry) →
         (decided_of code (xs ++ entry ∷ [])).written
         ≡ (decided_of code xs).written ++ fields_for entry (reason_of code (decided_of code xs).written entry) }
+{}
+
+/// A frame record of at most 18 rules of at most 1,025 words fits, where their words have no names of their own but rip's: a line of these
+/// has less than 400,000 bytes.
+#[tactic(auto, using(crate::proofs::WideLemmas::init_fits, crate::proofs::WideLemmas::change_fits))]
+pub fn rules_of_rows_fit()
+    ensures init { (address size : ℕ) (rules : List RuleText) → address < 2 ^ 64 → size < 2 ^ 64 → list_all is_long_rule rules ≡ true → 0 < length rules → length rules ≤ 18 → fields_fit (SymLine.Init address size rules) ≡ true }
+    ensures change { (address : ℕ) (rules : List RuleText) → address < 2 ^ 64 → list_all is_long_rule rules ≡ true → 0 < length rules → length rules ≤ 18 → fields_fit (SymLine.Change address rules) ≡ true }
 {}
 
 /// The records of the written entries, after records that say nothing of frames: no two entries have an address in common, as many

@@ -14,7 +14,10 @@
 //!
 //! The instructions of a CIE are carried out once for all of its entries: `cie_states` has the states that they leave.
 //!
-//! To read: `parts`, `column_target`, `rules`, `change_record`, `open_init`, `entry_records`, then `omission`, `written_ranges`, `cie_states` and
+//! A rule of a DWARF expression is spelled by `expr_postfix` from the bytes at its place. Its words may be longer than the line in which the
+//! other rules are made, so a record with such a rule is spelled by `long_rules`, at the end of a text that grows.
+//!
+//! To read: `parts`, `column_target`, `rules`, `change_record`, `long_rules`, `open_init`, `entry_records`, then `omission`, `written_ranges`, `cie_states` and
 //! `all`.
 #![tactic(auto)]
 
@@ -24,6 +27,7 @@ mod cie_states;
 mod column_target;
 mod entry_records;
 pub mod laws;
+mod long_rules;
 mod omission;
 mod open_init;
 mod parts;

@@ -1,17 +1,20 @@
 //! The records of an entry, spelled row after row: an INIT is written when its end is known.
-ghost use Rattle.std.specs.Prelude.{◌≡◌, ◌<◌, ◌≤◌, ◌++◌, ◌∷◌, ◌-◌, ◌||◌, [], ℕ, List, false, not, None, Some, length, take, drop, IfOk, OnOk};
+ghost use Rattle.std.specs.Prelude.{◌≡◌, ◌<◌, ◌≤◌, ◌++◌, ◌∷◌, ◌-◌, ◌||◌, [], ℕ, List, true, false, not, None, Some, length, take, drop, IfOk, OnOk};
 ghost use Rattle.std.specs.List.{list_any};
 ghost use Rattle.sym_edges.specs.Outside.{MatchStop};
 ghost use Rattle.frame_rows.specs.Columns.{StayOutside};
 ghost use Rattle.frame_rows.specs.Steps.{has_cfa};
 ghost use Rattle.sym_rules.specs.Rules.{spelled_rules};
 ghost use Rattle.sym_records.specs.Canon.{canon_text, init_front};
-ghost use Rattle.rule_postfix.specs.RowRules.{row_rules};
+ghost use Rattle.rule_postfix.specs.RowRules.{row_rules, some_becomes_unspecified};
+ghost use Rattle.frame_rows.specs.declared.row.Row.{Row};
 ghost use Rattle.rule_postfix.specs.internal.Writing.{Open, with_row, lines_of};
 ghost use Rattle.rule_postfix.specs.internal.Spelling.{IsSpelled, lacks_rule};
 
 use crate::change_record::write_change_line;
-use crate::rules::{LINE, write_row_rules};
+use crate::long_rules::{add_change_record, add_end, add_row_rules, lose_column};
+use crate::rules::{LINE, Unwritten, write_row_rules};
+use frame_entries::Fde;
 use frame_rows::{Columns, Row, Stepper};
 use std::alloc::Global;
 use sym_edges::{OutOfMemory, Reason, Stop};
@@ -40,24 +43,23 @@ impl OpenInit {
     }
 }
 
-/// Adds what stands in a line from a place on.
-fn add_end(text: &mut Vec<u8>, line: &[u8], at: usize) -> Result<(), OutOfMemory>
-    requires { at ≤ length line.now }
-    ensures { OnOk result (text.new.items ≡ text.old.items ++ drop at line.now) }
-{
-    text.extend_from_slice(line.split_at(at).1)?;
-    Ok(())
-}
-
-/// An INIT begins at a row.
-fn begin(open: &mut OpenInit, address: u64, row: &Row) -> Result<(), OutOfMemory>
+/// An INIT begins at a row of an entry.
+fn begin(
+    alloc: Global,
+    fde: &Fde<'_>,
+    open: &mut OpenInit,
+    address: u64,
+    row: &Row,
+) -> Result<(), OutOfMemory>
     ensures start { OnOk result (open.new.start ≡ address) }
-    ensures body { OnOk result (open.new.body.items ≡ spelled_rules (row_rules row.now) ++ 10 ∷ []) }
+    ensures body { OnOk result (open.new.body.items ≡ spelled_rules (row_rules fde.now row.now) ++ 10 ∷ []) }
 {
-    let at = write_row_rules(row, &mut open.line);
     open.start = address;
     open.body.clear();
-    add_end(&mut open.body, &open.line, at)
+    match write_row_rules(fde, row, &mut open.line) {
+        Some(at) => add_end(&mut open.body, &open.line, at),
+        None => add_row_rules(alloc, fde, &mut open.body, row),
+    }
 }
 
 /// The INIT ends: it is spelled, and the changes in it.
@@ -74,9 +76,50 @@ fn close(text: &mut Vec<u8>, open: &OpenInit, end: u64, base: u64) -> Result<(),
     Ok(())
 }
 
-/// A row after another: where a column becomes unspecified, another INIT begins, else the changes are spelled. The two rows
+/// The INIT ends, and another begins at a row.
+fn cut(
+    alloc: Global,
+    fde: &Fde<'_>,
+    text: &mut Vec<u8>,
+    open: &mut OpenInit,
+    address: u64,
+    row: &Row,
+    base: u64,
+) -> Result<(), OutOfMemory>
+    requires above { base ≤ open.old.start }
+    requires rises { open.old.start ≤ address }
+    ensures { OnOk result ((front : List ℕ) (before : Row) (o : Open) → some_becomes_unspecified before row.now ≡ true → IsSpelled front base text.old.items open.old o → IsSpelled front base text.new.items open.new (with_row fde.now address before row.now o)) }
+{
+    close(text, open, address, base)?;
+    begin(alloc, fde, open, address, row)
+}
+
+/// A row after another, where a rule may have more words than a line has room for.
+fn put_long_row(
+    alloc: Global,
+    fde: &Fde<'_>,
+    text: &mut Vec<u8>,
+    open: &mut OpenInit,
+    before: &Row,
+    address: u64,
+    after: &Row,
+    base: u64,
+) -> Result<(), OutOfMemory>
+    requires above { base ≤ open.old.start }
+    requires rises { open.old.start ≤ address }
+    ensures { OnOk result ((front : List ℕ) (o : Open) → IsSpelled front base text.old.items open.old o → IsSpelled front base text.new.items open.new (with_row fde.now address before.now after.now o)) }
+{
+    if lose_column(before, after) {
+        return cut(alloc, fde, text, open, address, after, base);
+    }
+    add_change_record(alloc, fde, &mut open.body, address - base, before, after)
+}
+
+/// A row of an entry after another: where a column becomes unspecified, another INIT begins, else the changes are spelled. The two rows
 /// differ in no column outside of those that are given.
 fn put_row(
+    alloc: Global,
+    fde: &Fde<'_>,
     text: &mut Vec<u8>,
     open: &mut OpenInit,
     columns: Columns,
@@ -88,13 +131,13 @@ fn put_row(
     requires alike { StayOutside columns before.now after.now }
     requires above { base ≤ open.old.start }
     requires rises { open.old.start ≤ address }
-    ensures { OnOk result ((front : List ℕ) (o : Open) → IsSpelled front base text.old.items open.old o → IsSpelled front base text.new.items open.new (with_row address before.now after.now o)) }
+    ensures { OnOk result ((front : List ℕ) (o : Open) → IsSpelled front base text.old.items open.old o → IsSpelled front base text.new.items open.new (with_row fde.now address before.now after.now o)) }
 {
-    match write_change_line(address - base, columns, before, after, &mut open.line) {
-        Some(at) => add_end(&mut open.body, &open.line, at),
-        None => {
-            close(text, open, address, base)?;
-            begin(open, address, after)
+    match write_change_line(fde, address - base, columns, before, after, &mut open.line) {
+        Ok(at) => add_end(&mut open.body, &open.line, at),
+        Err(Unwritten::Unspecified) => cut(alloc, fde, text, open, address, after, base),
+        Err(Unwritten::Expression) => {
+            put_long_row(alloc, fde, text, open, before, address, after, base)
         }
     }
 }
@@ -132,9 +175,11 @@ fn lack_rule(lacking: bool, row: &Row) -> bool
     lacking || row.cfa.is_none()
 }
 
-/// Spells the records of the rows from where a stepper stands, each row compared with the one before it, and says whether some
+/// Spells the records of the rows of an entry from where a stepper stands, each row compared with the one before it, and says whether some
 /// row lacks a rule for the CFA; or the reason of the first bad instruction, which is met after some of the text.
 pub fn spell_steps(
+    alloc: Global,
+    fde: &Fde<'_>,
     text: &mut Vec<u8>,
     open: &mut OpenInit,
     stepper: &mut Stepper<'_, '_>,
@@ -149,13 +194,13 @@ pub fn spell_steps(
     ensures fault { MatchStop result (λ _. stepper.old.fault ≡ None) (λ why. stepper.old.fault ≡ Some why) (Unit {0}) }
     ensures lacking { IfOk result (λ lacking. lacking ≡ list_any lacks_rule (stepper.old.here ∷ stepper.old.later)) }
     ensures text { MatchStop result
-        (λ _. text.new.items ≡ text.old.items ++ canon_text (lines_of base end (stepper.old.here ∷ stepper.old.later)))
+        (λ _. text.new.items ≡ text.old.items ++ canon_text (lines_of fde.now base end (stepper.old.here ∷ stepper.old.later)))
         (λ _. take (length text.old.items) text.new.items ≡ text.old.items)
         (Unit {0}) }
 {
     let mut before = *stepper.row();
     let mut lacking = lack_rule(false, &before);
-    begin(open, stepper.address(), &before)?;
+    begin(alloc, fde, open, stepper.address(), &before)?;
     'rows: loop {
         let next = match stepper.next() {
             Ok(next) => next,
@@ -169,7 +214,7 @@ pub fn spell_steps(
         };
         let address = stepper.address();
         let row = stepper.row();
-        put_row(text, open, columns, &before, address, row, base)?;
+        put_row(alloc, fde, text, open, columns, &before, address, row, base)?;
         before.follow(columns, row);
         lacking = lack_rule(lacking, row);
     }

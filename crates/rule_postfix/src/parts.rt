@@ -1,8 +1,10 @@
 //! What a row says of each target, in one form.
 ghost use Rattle.std.specs.Prelude.{◌≡◌};
 ghost use Rattle.sym_edges.specs.Abi.{is_kept};
-ghost use Rattle.rule_postfix.specs.RowParts.{own_as_same, by_group, column_part, cfa_part, part_of, is_unruled, rule_at, becomes_unspecified, same_rule, same_part, is_unspecified};
+ghost use Rattle.rule_postfix.specs.internal.Backward.{is_expression};
+ghost use Rattle.rule_postfix.specs.RowParts.{own_as_same, by_group, column_part, cfa_part, part_of, is_unruled, rule_at, becomes_unspecified, same_bool, same_place, same_rule, same_cfa, same_part, is_unspecified};
 
+use expr_steps::Place;
 use frame_rows::{CfaRule, Row, Rule};
 
 /// What a row says of a target: nothing that a line has to say, the CFA's rule, or a column's.
@@ -88,6 +90,18 @@ pub fn is_unruled(part: RowPart) -> bool
     }
 }
 
+fn same_bool(a: bool, b: bool) -> bool
+    ensures { result ≡ same_bool a b }
+{
+    if a { b } else { !b }
+}
+
+fn same_place(a: Place, b: Place) -> bool
+    ensures { result ≡ same_place a b }
+{
+    same_bool(a.own, b.own) && (a.start == b.start && a.len == b.len)
+}
+
 fn same_rule(a: Rule, b: Rule) -> bool
     ensures { result ≡ same_rule a b }
 {
@@ -98,6 +112,29 @@ fn same_rule(a: Rule, b: Rule) -> bool
         (Rule::Offset(m), Rule::Offset(n)) => m == n,
         (Rule::ValOffset(m), Rule::ValOffset(n)) => m == n,
         (Rule::Register(r), Rule::Register(s)) => r == s,
+        (
+            Rule::Expr { fetch, place },
+            Rule::Expr {
+                fetch: other_fetch,
+                place: other,
+            },
+        ) => same_bool(fetch, other_fetch) && same_place(place, other),
+        _ => false,
+    }
+}
+
+fn same_cfa(a: CfaRule, b: CfaRule) -> bool
+    ensures { result ≡ same_cfa a b }
+{
+    match (a, b) {
+        (
+            CfaRule::Base { register, offset },
+            CfaRule::Base {
+                register: other_register,
+                offset: other_offset,
+            },
+        ) => register == other_register && offset == other_offset,
+        (CfaRule::Expr { place }, CfaRule::Expr { place: other }) => same_place(place, other),
         _ => false,
     }
 }
@@ -107,7 +144,7 @@ pub fn same_part(a: RowPart, b: RowPart) -> bool
 {
     match (a, b) {
         (RowPart::Unruled, RowPart::Unruled) => true,
-        (RowPart::Base(x), RowPart::Base(y)) => x.register == y.register && x.offset == y.offset,
+        (RowPart::Base(x), RowPart::Base(y)) => same_cfa(x, y),
         (RowPart::Column(x), RowPart::Column(y)) => same_rule(x, y),
         _ => false,
     }
@@ -120,6 +157,15 @@ pub fn rule_at(row: &Row, column: u8) -> Rule
     match row.rules.get(column as usize) {
         Some(given) => *given,
         None => Rule::Rest,
+    }
+}
+
+pub fn is_expression(given: Rule) -> bool
+    ensures { result ≡ is_expression given }
+{
+    match given {
+        Rule::Expr { .. } => true,
+        _ => false,
     }
 }
 

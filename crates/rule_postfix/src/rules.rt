@@ -1,20 +1,22 @@
 //! The rules of a record: those that a row has, and those that differ between two rows. They are written from the last to the
 //! first into the line of the record, in front of what stands there from `end` on.
-ghost use Rattle.std.specs.Prelude.{◌≡◌, ◌+◌, ◌≤◌, ◌∷◌, [], ◌++◌, true, false, None, Some, length, drop, codes, IfSome, MatchOption};
+ghost use Rattle.std.specs.Prelude.{◌≡◌, ◌+◌, ◌≤◌, ◌∷◌, [], ◌++◌, true, false, None, Some, length, drop, codes, IfSome, MatchOption, MatchResult, IfOk, OnErr, Err};
 ghost use Rattle.std.specs.List.{flat_map};
 ghost use Rattle.sym_rules.specs.Rules.{spelled_token, spelled_rules, target_word};
-ghost use Rattle.sym_rules.specs.declared.rules.Target.TheVariants.{Cfa};
+ghost use Rattle.sym_rules.specs.declared.rules.Target.TheVariants.{Cfa, Ra};
 ghost use Rattle.sym_rules.specs.declared.rules.Token.TheVariants as token;
 ghost use Rattle.frame_rows.specs.Columns.{StayOutside};
 ghost use Rattle.frame_rows.specs.Rows.{empty_row};
-ghost use Rattle.rule_postfix.specs.RowParts.{cfa_part, column_part};
+ghost use Rattle.rule_postfix.specs.RowParts.{cfa_part, column_part, rule_at};
 ghost use Rattle.rule_postfix.specs.RowRules.{own_name, unruled_tokens, rule_spelled, spelled, rules_of, registers, if_other, if_changed, row_rules, changed_rules, some_unspecified_below, some_becomes_unspecified};
-ghost use Rattle.rule_postfix.specs.internal.Backward.{column_of, target_of, rule_text};
+ghost use Rattle.rule_postfix.specs.internal.Backward.{column_of, target_of, rule_text, is_expression, is_plain_part, IfLost};
+ghost use Rattle.rule_postfix.specs.declared.rules.Unwritten.TheVariants.{Expression};
 
 use crate::column_target::ColumnTarget;
 use crate::parts::{
-    RowPart, becomes_unspecified, cfa_part, column_part, is_kept, rule_at, same_part,
+    RowPart, becomes_unspecified, cfa_part, column_part, is_expression, is_kept, rule_at, same_part,
 };
+use frame_entries::Fde;
 use frame_rows::{CfaRule, Columns, Row, Rule};
 use sym_rules::{write_byte, write_bytes, write_last, write_register, write_signed};
 
@@ -68,17 +70,17 @@ fn write_value(number: u8, line: &mut [u8], end: usize) -> usize
 /// A register plus so much.
 #[inline]
 #[tactic(auto, using(crate::proofs::TokenLemmas::base_written))]
-fn write_base(cfa: CfaRule, line: &mut [u8], end: usize) -> usize
+fn write_base(register: u8, offset: i64, line: &mut [u8], end: usize) -> usize
     requires room { 29 ≤ end }
     requires within { end ≤ length line.old }
     ensures below { result ≤ end }
     ensures short { end ≤ result + 29 }
-    ensures written { drop result line.new ≡ flat_map spelled_token (token.Reg cfa.register ∷ token.Number cfa.offset ∷ token.Add ∷ []) ++ drop end line.old }
+    ensures written { drop result line.new ≡ flat_map spelled_token (token.Reg register ∷ token.Number offset ∷ token.Add ∷ []) ++ drop end line.old }
 {
     let at = write_bytes(b" +", line, end);
-    let at = write_signed(cfa.offset, line, at);
+    let at = write_signed(offset, line, at);
     let at = write_byte(b' ', line, at);
-    let at = write_register(cfa.register, line, at);
+    let at = write_register(register, line, at);
     write_byte(b' ', line, at)
 }
 
@@ -145,14 +147,21 @@ fn write_unruled(target: ColumnTarget, line: &mut [u8], end: usize) -> usize
     }
 }
 
-/// A rule of a column, where it has a spelling.
+/// A rule of a column that is no expression, where it has a spelling.
 #[tactic(auto, using(crate::proofs::TokenLemmas::rule_written, crate::proofs::TokenLemmas::no_rule))]
-fn write_rule(target: ColumnTarget, given: Rule, line: &mut [u8], end: usize) -> usize
+fn write_rule(
+    fde: &Fde<'_>,
+    target: ColumnTarget,
+    given: Rule,
+    line: &mut [u8],
+    end: usize,
+) -> usize
+    requires plain { is_expression given ≡ false }
     requires room { 40 ≤ end }
     requires within { end ≤ length line.old }
     ensures below { result ≤ end }
     ensures short { end ≤ result + 40 }
-    ensures written { drop result line.new ≡ rule_text (target_of target) (rule_spelled (target_of target) given) ++ drop end line.old }
+    ensures written { drop result line.new ≡ rule_text (target_of target) (rule_spelled fde.now (target_of target) given) ++ drop end line.old }
 {
     match given {
         Rule::Rest => end,
@@ -170,89 +179,114 @@ fn write_rule(target: ColumnTarget, given: Rule, line: &mut [u8], end: usize) ->
             let at = write_value(register, line, end);
             write_target(target, line, at)
         }
+        Rule::Expr { .. } => unreachable!(),
     }
 }
 
-/// A part of a column, where it has a spelling.
-#[tactic(auto, using(crate::proofs::TokenLemmas::rule_written), unfolding(crate::specs::RowRules::spelled))]
-fn write_part(target: ColumnTarget, part: RowPart, line: &mut [u8], end: usize) -> usize
+/// A part of a column that is no expression, where it has a spelling.
+#[tactic(auto, unfolding(crate::specs::RowRules::spelled))]
+fn write_part(
+    fde: &Fde<'_>,
+    target: ColumnTarget,
+    part: RowPart,
+    line: &mut [u8],
+    end: usize,
+) -> usize
+    requires plain { is_plain_part part ≡ true }
     requires room { 40 ≤ end }
     requires within { end ≤ length line.old }
     ensures below { result ≤ end }
     ensures short { end ≤ result + 40 }
-    ensures written { drop result line.new ≡ rule_text (target_of target) (spelled (target_of target) part) ++ drop end line.old }
+    ensures written { drop result line.new ≡ rule_text (target_of target) (spelled fde.now (target_of target) part) ++ drop end line.old }
 {
     match part {
         RowPart::Unruled => write_unruled(target, line, end),
-        RowPart::Base(cfa) => {
-            let at = write_base(cfa, line, end);
-            write_target(target, line, at)
-        }
-        RowPart::Column(given) => write_rule(target, given, line, end),
+        RowPart::Base(_) => unreachable!(),
+        RowPart::Column(given) => write_rule(fde, target, given, line, end),
     }
 }
 
-/// The rule of a column, where two rows differ in it.
-#[tactic(auto, using(crate::proofs::TokenLemmas::no_rule))]
+/// The rule of a column, where two rows differ in it, and the second has no expression there.
+#[tactic(auto, using(crate::proofs::TokenLemmas::no_rule, crate::proofs::PartLemmas::plain_column))]
 fn write_column(
+    fde: &Fde<'_>,
     target: ColumnTarget,
     before: Rule,
     after: Rule,
     line: &mut [u8],
     end: usize,
 ) -> usize
+    requires plain { is_expression after ≡ false }
     requires room { 40 ≤ end }
     requires within { end ≤ length line.old }
     ensures below { result ≤ end }
     ensures short { end ≤ result + 40 }
-    ensures written { drop result line.new ≡ rule_text (target_of target) (if_other (target_of target) (column_part (column_of target) before) (column_part (column_of target) after)) ++ drop end line.old }
+    ensures written { drop result line.new ≡ rule_text (target_of target) (if_other fde.now (target_of target) (column_part (column_of target) before) (column_part (column_of target) after)) ++ drop end line.old }
 {
     let column = target.column();
     let part = column_part(column, after);
     if same_part(column_part(column, before), part) {
         return end;
     }
-    write_part(target, part, line, end)
+    write_part(fde, target, part, line, end)
+}
+
+/// Why the changes between two rows are not written into a line.
+#[derive(Clone, Copy)]
+pub enum Unwritten {
+    /// A column becomes unspecified, of which no line can say so.
+    Unspecified,
+    /// A rule is an expression, whose words may not have room there.
+    Expression,
 }
 
 /// The rule of the CFA, where two rows differ in it.
 #[tactic(auto, using(crate::proofs::TokenLemmas::cfa_written, crate::proofs::TokenLemmas::no_rule), unfolding(crate::specs::RowRules::spelled))]
-fn write_cfa(before: Option<CfaRule>, after: Option<CfaRule>, line: &mut [u8], end: usize) -> usize
+fn write_cfa(
+    fde: &Fde<'_>,
+    before: Option<CfaRule>,
+    after: Option<CfaRule>,
+    line: &mut [u8],
+    end: usize,
+) -> Result<usize, Unwritten>
     requires room { 40 ≤ end }
     requires within { end ≤ length line.old }
-    ensures below { result ≤ end }
-    ensures short { end ≤ result + 40 }
-    ensures written { drop result line.new ≡ rule_text Cfa (if_other Cfa (cfa_part before) (cfa_part after)) ++ drop end line.old }
+    ensures why { OnErr result (result ≡ Err Expression) }
+    ensures below { IfOk result (λ start. start ≤ end) }
+    ensures short { IfOk result (λ start. end ≤ start + 40) }
+    ensures written { IfOk result (λ start. drop start line.new ≡ rule_text Cfa (if_other fde.now Cfa (cfa_part before) (cfa_part after)) ++ drop end line.old) }
 {
     if same_part(cfa_part(before), cfa_part(after)) {
-        return end;
+        return Ok(end);
     }
     match after {
-        None => end,
-        Some(cfa) => {
-            let at = write_base(cfa, line, end);
-            write_bytes(b" .cfa:", line, at)
+        None => Ok(end),
+        Some(CfaRule::Base { register, offset }) => {
+            let at = write_base(register, offset, line, end);
+            Ok(write_bytes(b" .cfa:", line, at))
         }
+        Some(CfaRule::Expr { .. }) => Err(Unwritten::Expression),
     }
 }
 
-/// The rules of the registers in which two rows differ, by number; nothing where one of them becomes unspecified. The two
-/// differ in no column outside of those that are given. Most of these stay too, so that is asked first.
+/// The rules of the registers in which two rows differ, by number. The two differ in no column outside of those that are given. Most of
+/// these stay too, so that is asked first.
 #[tactic(auto, using(crate::proofs::RulesLemmas::no_register, crate::proofs::RulesLemmas::register_stays, crate::proofs::RulesLemmas::one_register_more, crate::proofs::RulesLemmas::none_lost, crate::proofs::RulesLemmas::stays_kept, crate::proofs::RulesLemmas::one_kept, crate::proofs::RulesLemmas::one_lost, crate::proofs::RulesLemmas::all_kept, crate::proofs::RulesLemmas::all_registers))]
 fn write_registers(
+    fde: &Fde<'_>,
     columns: Columns,
     before: &Row,
     after: &Row,
     line: &mut [u8],
     end: usize,
-) -> Option<usize>
+) -> Result<usize, Unwritten>
     requires alike { StayOutside columns before.now after.now }
     requires room { 640 ≤ end }
     requires within { end ≤ length line.old }
-    ensures kept { MatchOption result (some_becomes_unspecified before.now after.now ≡ true) (λ _. some_unspecified_below before.now after.now 16 ≡ false) }
-    ensures below { IfSome result (λ start. start ≤ end) }
-    ensures short { IfSome result (λ start. end ≤ start + 640) }
-    ensures written { IfSome result (λ start. drop start line.new ≡ spelled_rules (rules_of (if_changed before.now after.now) (registers 16)) ++ drop end line.old) }
+    ensures kept { MatchResult result (λ _. some_unspecified_below before.now after.now 16 ≡ false) (IfLost before.now after.now) }
+    ensures below { IfOk result (λ start. start ≤ end) }
+    ensures short { IfOk result (λ start. end ≤ start + 640) }
+    ensures written { IfOk result (λ start. drop start line.new ≡ spelled_rules (rules_of (if_changed fde.now before.now after.now) (registers 16)) ++ drop end line.old) }
 {
     let mut at = end;
     let mut number = columns.end.min(16);
@@ -262,50 +296,84 @@ fn write_registers(
         let is = rule_at(after, number);
         if was != is {
             if becomes_unspecified(before, after, number) {
-                return None;
+                return Err(Unwritten::Unspecified);
             }
-            at = write_column(ColumnTarget::Reg(number), was, is, line, at);
+            if is_expression(is) {
+                return Err(Unwritten::Expression);
+            }
+            at = write_column(fde, ColumnTarget::Reg(number), was, is, line, at);
         }
     }
-    Some(at)
+    Ok(at)
 }
 
-/// The rules of the targets in which two rows differ; nothing where a column becomes unspecified, of which no line can say so.
-/// The two differ in no column outside of those that are given.
-#[tactic(auto, using(crate::proofs::RulesLemmas::one_lost, crate::proofs::RulesLemmas::ra_kept, crate::proofs::RulesLemmas::ra_stays, crate::proofs::RulesLemmas::all_rules, crate::proofs::RulesLemmas::other_rules))]
+/// The rule of the return address, where two rows differ in it.
+#[tactic(auto, using(crate::proofs::RulesLemmas::one_lost, crate::proofs::RulesLemmas::ra_kept, crate::proofs::RulesLemmas::ra_stays, crate::proofs::RulesLemmas::no_ra_text))]
+fn write_ra(
+    fde: &Fde<'_>,
+    before: &Row,
+    after: &Row,
+    line: &mut [u8],
+    end: usize,
+) -> Result<usize, Unwritten>
+    requires kept { some_unspecified_below before.now after.now 16 ≡ false }
+    requires room { 40 ≤ end }
+    requires within { end ≤ length line.old }
+    ensures kept { MatchResult result (λ _. some_becomes_unspecified before.now after.now ≡ false) (IfLost before.now after.now) }
+    ensures below { IfOk result (λ start. start ≤ end) }
+    ensures short { IfOk result (λ start. end ≤ start + 40) }
+    ensures written { IfOk result (λ start. drop start line.new ≡ rule_text Ra (if_other fde.now Ra (column_part 16 (rule_at before.now 16)) (column_part 16 (rule_at after.now 16))) ++ drop end line.old) }
+{
+    let was = rule_at(before, 16);
+    let is = rule_at(after, 16);
+    if was == is {
+        return Ok(end);
+    }
+    if becomes_unspecified(before, after, 16) {
+        return Err(Unwritten::Unspecified);
+    }
+    if is_expression(is) {
+        return Err(Unwritten::Expression);
+    }
+    Ok(write_column(fde, ColumnTarget::Ra, was, is, line, end))
+}
+
+/// The rules of the targets in which two rows of an entry differ, where no column becomes unspecified and none of these rules is an
+/// expression. The two differ in no column outside of those that are given.
+#[tactic(auto, using(crate::proofs::RulesLemmas::all_rules))]
 pub fn write_changes(
+    fde: &Fde<'_>,
     columns: Columns,
     before: &Row,
     after: &Row,
     line: &mut [u8],
     end: usize,
-) -> Option<usize>
+) -> Result<usize, Unwritten>
     requires alike { StayOutside columns before.now after.now }
     requires room { 720 ≤ end }
     requires within { end ≤ length line.old }
-    ensures kept { MatchOption result (some_becomes_unspecified before.now after.now ≡ true) (λ _. some_becomes_unspecified before.now after.now ≡ false) }
-    ensures below { IfSome result (λ start. start ≤ end) }
-    ensures short { IfSome result (λ start. end ≤ start + 720) }
-    ensures written { IfSome result (λ start. drop start line.new ≡ spelled_rules (changed_rules before.now after.now) ++ drop end line.old) }
+    ensures kept { MatchResult result (λ _. some_becomes_unspecified before.now after.now ≡ false) (IfLost before.now after.now) }
+    ensures below { IfOk result (λ start. start ≤ end) }
+    ensures short { IfOk result (λ start. end ≤ start + 720) }
+    ensures written { IfOk result (λ start. drop start line.new ≡ spelled_rules (changed_rules fde.now before.now after.now) ++ drop end line.old) }
 {
-    let Some(at) = write_registers(columns, before, after, line, end) else {
-        return None;
+    let at = match write_registers(fde, columns, before, after, line, end) {
+        Ok(at) => at,
+        Err(why) => return Err(why),
     };
-    let was = rule_at(before, 16);
-    let is = rule_at(after, 16);
-    if was == is {
-        return Some(write_cfa(before.cfa, after.cfa, line, at));
+    let at = match write_ra(fde, before, after, line, at) {
+        Ok(at) => at,
+        Err(why) => return Err(why),
+    };
+    match write_cfa(fde, before.cfa, after.cfa, line, at) {
+        Ok(at) => Ok(at),
+        Err(_) => Err(Unwritten::Expression),
     }
-    if becomes_unspecified(before, after, 16) {
-        return None;
-    }
-    let at = write_column(ColumnTarget::Ra, was, is, line, at);
-    Some(write_cfa(before.cfa, after.cfa, line, at))
 }
 
 /// The row that says nothing: seventeen columns, those of the registers and that of the return address.
 #[tactic(auto, unfolding(frame_rows::specs::Rows::empty_row))]
-fn empty_row() -> Row
+pub fn empty_row() -> Row
     ensures { result ≡ empty_row }
 {
     Row {
@@ -314,16 +382,16 @@ fn empty_row() -> Row
     }
 }
 
-/// The rules that a row has, and the end of their line: where they start.
+/// The rules that a row of an entry has, and the end of their line: where they start; nothing where a rule is an expression.
 #[tactic(auto, using(crate::proofs::RulesLemmas::from_empty, crate::proofs::RulesLemmas::alike_outside))]
-pub fn write_row_rules(row: &Row, line: &mut [u8]) -> usize
+pub fn write_row_rules(fde: &Fde<'_>, row: &Row, line: &mut [u8]) -> Option<usize>
     requires { 768 ≤ length line.old }
-    ensures below { result ≤ length line.old }
-    ensures written { drop result line.new ≡ spelled_rules (row_rules row.now) ++ 10 ∷ [] }
+    ensures below { IfSome result (λ start. start ≤ length line.old) }
+    ensures written { IfSome result (λ start. drop start line.new ≡ spelled_rules (row_rules fde.now row.now) ++ 10 ∷ []) }
 {
     let end = write_last(b'\n', line);
-    let Some(at) = write_changes(Columns::all(), &empty_row(), row, line, end) else {
-        unreachable!()
-    };
-    at
+    match write_changes(fde, Columns::all(), &empty_row(), row, line, end) {
+        Ok(at) => Some(at),
+        Err(_) => None,
+    }
 }

@@ -95,9 +95,19 @@ augmentation_bytes_past_the_entry : dump (with_eh (slice_set push_rbp 40 0x7f)) 
 unfolding files own framed_at framed with_eh
 augmentation_bytes_past_the_entry = refl
 
-an_expression : dump (with_eh (slice_set push_rbp 41 0x16)) ≡ gives_and_omits "" "omitted eh_frame 18 expression\n"
+-- a block that leaves the entry, an expression of a nop, and those of a procedure linkage table
+a_block_that_leaves_the_entry : dump (with_eh (slice_set push_rbp 41 0x16)) ≡ gives_and_omits "" "omitted eh_frame 18 instruction\n"
+unfolding files own framed_at framed with_eh
+a_block_that_leaves_the_entry = refl
+
+an_expression : dump (with_eh (own 0x20 "0f0196")) ≡ gives_and_omits "" "omitted eh_frame 18 expression\n"
 unfolding files own framed_at framed with_eh
 an_expression = refl
+
+a_linkage_table : dump (with_eh (own 0x20 "0e10 46 0e18 4a 0f0b 7708 8000 3f1a3b2a332422"))
+    ≡ gives "STACK CFI INIT 1000 20 .cfa: $rsp 16 + .ra: .cfa -8 + ^\nSTACK CFI 1006 .cfa: $rsp 24 +\nSTACK CFI 1010 .cfa: $rsp 8 + $rip 0 + 16 % 5 + 16 / 8 * +\n"
+unfolding files own framed_at framed with_eh
+a_linkage_table = refl
 
 no_such_opcode : dump (with_eh (slice_set push_rbp 41 0x3f)) ≡ gives_and_omits "" "omitted eh_frame 18 instruction\n"
 unfolding files own framed_at framed with_eh

@@ -103,6 +103,19 @@ no_values : over (codes "frame" ∷ codes "s" ∷ codes "1001" ∷ codes "t" ∷
 unfolding over symbols_compute
 no_values = refl
 
+-- in a procedure linkage table the CFA rests on rip, by a DWARF expression
+a_call_of_a_linkage_table : over (codes "frame" ∷ codes "s" ∷ codes "103b" ∷ codes "t" ∷ []) (Some (codes "MODULE Linux x86_64 0 a\nSTACK CFI INIT 1020 20 .cfa: $rsp 16 + .ra: .cfa -8 + ^\nSTACK CFI 1026 .cfa: $rsp 24 +\nSTACK CFI 1030 .cfa: $rsp 8 + $rip 0 + 16 % 5 + 16 / 8 * +\n")) (Some (codes "REG rsp 7ffe0000\nREG rip 103b\n")) ≡ Some (0, "cfa 7ffe0010\nra failed unreadable 7ffe0008\nrax undefined\nrdx undefined\nrcx undefined\nrbx failed missing rbx\nrsi undefined\nrdi undefined\nrbp failed missing rbp\nrsp 7ffe0010\nr8 undefined\nr9 undefined\nr10 undefined\nr11 undefined\nr12 failed missing r12\nr13 failed missing r13\nr14 failed missing r14\nr15 failed missing r15\n", "")
+unfolding over symbols_compute
+a_call_of_a_linkage_table = refl
+
+a_call_of_a_linkage_table_before_its_push : over (codes "frame" ∷ codes "s" ∷ codes "1036" ∷ codes "t" ∷ []) (Some (codes "MODULE Linux x86_64 0 a\nSTACK CFI INIT 1020 20 .cfa: $rsp 16 + .ra: .cfa -8 + ^\nSTACK CFI 1026 .cfa: $rsp 24 +\nSTACK CFI 1030 .cfa: $rsp 8 + $rip 0 + 16 % 5 + 16 / 8 * +\n")) (Some (codes "REG rsp 7ffe0000\nREG rip 1036\n")) ≡ Some (0, "cfa 7ffe0008\nra failed unreadable 7ffe0000\nrax undefined\nrdx undefined\nrcx undefined\nrbx failed missing rbx\nrsi undefined\nrdi undefined\nrbp failed missing rbp\nrsp 7ffe0008\nr8 undefined\nr9 undefined\nr10 undefined\nr11 undefined\nr12 failed missing r12\nr13 failed missing r13\nr14 failed missing r14\nr15 failed missing r15\n", "")
+unfolding over symbols_compute
+a_call_of_a_linkage_table_before_its_push = refl
+
+a_call_of_a_linkage_table_without_rip : over (codes "frame" ∷ codes "s" ∷ codes "1036" ∷ codes "t" ∷ []) (Some (codes "MODULE Linux x86_64 0 a\nSTACK CFI INIT 1020 20 .cfa: $rsp 16 + .ra: .cfa -8 + ^\nSTACK CFI 1026 .cfa: $rsp 24 +\nSTACK CFI 1030 .cfa: $rsp 8 + $rip 0 + 16 % 5 + 16 / 8 * +\n")) (Some (codes "REG rsp 7ffe0000\n")) ≡ Some (0, "cfa failed missing rip\nra failed missing rip\nrax undefined\nrdx undefined\nrcx undefined\nrbx failed missing rbx\nrsi undefined\nrdi undefined\nrbp failed missing rbp\nrsp failed missing rip\nr8 undefined\nr9 undefined\nr10 undefined\nr11 undefined\nr12 failed missing r12\nr13 failed missing r13\nr14 failed missing r14\nr15 failed missing r15\n", "")
+unfolding over symbols_compute
+a_call_of_a_linkage_table_without_rip = refl
+
 -- rip has a value, or none
 rip : over (codes "frame" ∷ codes "s" ∷ codes "0" ∷ codes "t" ∷ []) (Some (codes "MODULE Linux x86_64 0 a\nSTACK CFI INIT 0 8 .cfa: $rip 1 + .ra: $rip $rbx: $nothing\n")) (Some (codes "REG rip ff\n")) ≡ Some (0, "cfa 100\nra ff\nrax undefined\nrdx undefined\nrcx undefined\nrbx failed unknown\nrsi undefined\nrdi undefined\nrbp failed missing rbp\nrsp 100\nr8 undefined\nr9 undefined\nr10 undefined\nr11 undefined\nr12 failed missing r12\nr13 failed missing r13\nr14 failed missing r14\nr15 failed missing r15\n", "")
 unfolding over symbols_compute

@@ -2,9 +2,9 @@
 use Rattle.std.specs.Prelude.{ℕ, ◌&&◌, nat_lt, if◌then◌else◌, List, [], ◌∷◌, ◌++◌}
 use Rattle.frame_rows.specs.declared.row.Row.{Row}
 use Rattle.frame_rows.specs.declared.row.RowAt.{RowAt}
-use Rattle.frame_rows.specs.declared.machine.CieContext.{CieContext}
 use Rattle.frame_rows.specs.Instructions.{Item}
 use Rattle.frame_rows.specs.Machine.{Machine}
+use Rattle.frame_rows.specs.Context.{Context}
 use Rattle.frame_rows.specs.Rows.{item_stepped}
 
 -- the row at the location
@@ -20,7 +20,7 @@ abbrev pub last_row : ℕ → Machine → List RowAt
 last_row end m = if nat_lt m.address end then row_here m ∷ [] else []
 
 -- the rows from a state on
-unfoldable pub rows_from : ℕ → CieContext → List Item → Machine → List RowAt
+unfoldable pub rows_from : ℕ → Context → List Item → Machine → List RowAt
 rows_from end s [] m = last_row end m
 rows_from end s (i ∷ items) m = ended_row end m (item_stepped s i m).address ++ rows_from end s items (item_stepped s i m)
 
@@ -29,5 +29,5 @@ abbrev pub row_with : ℕ → Row → RowAt
 row_with address row = record { address = address; row = row }
 
 -- the rows from a state on, where it lies above an address
-unfoldable pub rows_past : ℕ → CieContext → List Item → Machine → ℕ → List RowAt
+unfoldable pub rows_past : ℕ → Context → List Item → Machine → ℕ → List RowAt
 rows_past end s items m at = if nat_lt at m.address then rows_from end s items m else []

@@ -1,7 +1,9 @@
 -- The rules of a record, one after another, as they are written from the last to the first.
-use Rattle.std.specs.Prelude.{ℕ, ◌-◌, Bool, List, map, Option}
+use Rattle.std.specs.Prelude.{◌≡◌, ℕ, ◌-◌, Bool, true, false, not, List, map, Option}
 use Rattle.std.specs.List.{list_any, range_with_len}
 use Rattle.std.specs.Option.{option_to_list}
+use Rattle.frame_rows.specs.declared.row.Rule.{Rule}
+use Rattle.frame_rows.specs.declared.row.Rule.TheVariants as rule
 use Rattle.frame_rows.specs.declared.row.Row.{Row}
 use Rattle.sym_rules.specs.declared.rules.Target.{Target}
 use Rattle.sym_rules.specs.declared.rules.Target.TheVariants as target
@@ -10,7 +12,11 @@ use Rattle.sym_rules.specs.Rules.{spelled_rules}
 use Rattle.rule_postfix.specs.declared.column_target.ColumnTarget.{ColumnTarget}
 use Rattle.rule_postfix.specs.declared.column_target.ColumnTarget.TheVariants.{Ra, Reg}
 use Rattle.rule_postfix.specs.RowParts.{becomes_unspecified}
-use Rattle.rule_postfix.specs.RowRules.{rule_of}
+use Rattle.rule_postfix.specs.RowRules.{rule_of, some_becomes_unspecified}
+use Rattle.rule_postfix.specs.declared.parts.RowPart.{RowPart}
+use Rattle.rule_postfix.specs.declared.parts.RowPart.TheVariants.{Unruled, Base, Column}
+use Rattle.rule_postfix.specs.declared.rules.Unwritten.{Unwritten}
+use Rattle.rule_postfix.specs.declared.rules.Unwritten.TheVariants.{Unspecified, Expression}
 
 -- the column of a target, and the target as rules have it
 abbrev pub column_of : ColumnTarget → ℕ
@@ -20,6 +26,27 @@ column_of (Reg number) = number
 abbrev pub target_of : ColumnTarget → Target
 target_of Ra = target.Ra
 target_of (Reg number) = target.Reg number
+
+-- a rule whose words may not have room in a line
+abbrev pub is_expression : Rule → Bool
+is_expression rule.Rest = false
+is_expression rule.Undefined = false
+is_expression rule.Same = false
+is_expression (rule.Offset n) = false
+is_expression (rule.ValOffset n) = false
+is_expression (rule.Register register) = false
+is_expression (rule.Expr fetch place) = true
+
+-- a part of a column that has no expression
+abbrev pub is_plain_part : RowPart → Bool
+is_plain_part Unruled = true
+is_plain_part (Base cfa) = false
+is_plain_part (Column given) = not (is_expression given)
+
+-- where changes are not written for a column that becomes unspecified, there is one
+abbrev pub IfLost : Row → Row → Unwritten → Type 0
+IfLost before after Unspecified = some_becomes_unspecified before after ≡ true
+IfLost before after Expression = Unit {0}
 
 -- the rule of a target, where it has tokens
 unfoldable pub rule_text : Target → Option (List Token) → List ℕ

@@ -1,5 +1,6 @@
 -- The pass over the rows, as a recursion.
 use Rattle.std.specs.Prelude.{ℕ, ◌-◌, if◌then◌else◌, List, [], ◌∷◌, ◌++◌}
+use Rattle.frame_entries.specs.FdeFields.{FdeFields}
 use Rattle.frame_rows.specs.declared.row.Row.{Row}
 use Rattle.frame_rows.specs.declared.row.RowAt.{RowAt}
 use Rattle.sym_records.specs.declared.line.SymLine.{SymLine}
@@ -17,8 +18,8 @@ pub record Open : Type 0 where
   pub changes : List SymLine
 
 -- an INIT begins at a row
-abbrev pub opened : ℕ → List SymLine → ℕ → Row → Open
-opened base lines start row = record { base = base; lines = lines; start = start; rules = row_rules row; changes = [] }
+abbrev pub opened : FdeFields → ℕ → List SymLine → ℕ → Row → Open
+opened e base lines start row = record { base = base; lines = lines; start = start; rules = row_rules e row; changes = [] }
 
 -- the INIT ends
 abbrev pub closed : Open → ℕ → List SymLine
@@ -35,17 +36,17 @@ with_changes b rules o = record {
 }
 
 -- one row more, after another
-unfoldable pub with_row : ℕ → Row → Row → Open → Open
-with_row b before after o =
-    if some_becomes_unspecified before after then opened o.base (closed o b) b after
-    else with_changes b (changed_rules before after) o
+unfoldable pub with_row : FdeFields → ℕ → Row → Row → Open → Open
+with_row e b before after o =
+    if some_becomes_unspecified before after then opened e o.base (closed o b) b after
+    else with_changes b (changed_rules e before after) o
 
 -- rows, after another
-unfoldable pub with_rows : Row → List RowAt → Open → Open
-with_rows before [] o = o
-with_rows before (r ∷ rows) o = with_rows r.row rows (with_row r.address before r.row o)
+unfoldable pub with_rows : FdeFields → Row → List RowAt → Open → Open
+with_rows e before [] o = o
+with_rows e before (r ∷ rows) o = with_rows e r.row rows (with_row e r.address before r.row o)
 
 -- the records of rows up to an end
-unfoldable pub lines_of : ℕ → ℕ → List RowAt → List SymLine
-lines_of base end [] = []
-lines_of base end (r ∷ rows) = closed (with_rows r.row rows (opened base [] r.address r.row)) end
+unfoldable pub lines_of : FdeFields → ℕ → ℕ → List RowAt → List SymLine
+lines_of e base end [] = []
+lines_of e base end (r ∷ rows) = closed (with_rows e r.row rows (opened e base [] r.address r.row)) end

@@ -18,7 +18,7 @@ returns-clause-text c =
 pub returns-clause-valid : goal.returns-clause-valid
 returns-clause-valid c =
     pass_valid
-    (record { init = c.plain_rules_fit.ensures.init; change = c.plain_rules_fit.ensures.change; pushed = c.good_lists_are_joined.ensures.pushed; place = c.good_lists_are_joined.ensures.place })
+    (record { init = c.rules_of_rows_fit.ensures.init; change = c.rules_of_rows_fit.ensures.change; pushed = c.good_lists_are_joined.ensures.pushed; place = c.good_lists_are_joined.ensures.place })
     c.args.base c.args.fde.now c.in-Ok.stepper c.in-Ok-spell_steps.lacking c.in-Ok.ensures.begins c.in-Ok-spell_steps.ensures.fault c.in-Ok-spell_steps.ensures.lacking c.if-lacking.false c.requires.some c.requires.fits
 
 pub returns-clause-exact : goal.returns-clause-exact

@@ -13,7 +13,7 @@ turns-preserved c =
       low = c.turns.invariant.low;
       near = omega arith;
       kept = stays_kept c.args.before.now c.args.after.now c.turns.number (c.turns.number - 1) (omega arith) (omega arith) c.turns.invariant.kept same;
-      written = register_stays c.args.before.now c.args.after.now c.turns.number (c.turns.number - 1) (drop c.args.end c.args.line.now) (drop c.turns.at c.turns.line) (omega arith) (omega arith) c.turns.invariant.written same;
+      written = register_stays c.args.fde.now c.args.before.now c.args.after.now c.turns.number (c.turns.number - 1) (drop c.args.end c.args.line.now) (drop c.turns.at c.turns.line) (omega arith) (omega arith) c.turns.invariant.written same;
     }
 
 pub returns-clause-kept : goal.returns-clause-kept
@@ -21,4 +21,4 @@ returns-clause-kept c = all_kept c.args.columns c.args.before.now c.args.after.n
 
 pub returns-clause-written : goal.returns-clause-written
 returns-clause-written c =
-    all_registers c.args.columns c.args.before.now c.args.after.now c.turns.number (drop c.args.end c.args.line.now) (drop c.turns.at c.turns.line) c.requires.alike (omega arith) c.turns.invariant.small c.turns.invariant.written
+    all_registers c.args.fde.now c.args.columns c.args.before.now c.args.after.now c.turns.number (drop c.args.end c.args.line.now) (drop c.turns.at c.turns.line) c.requires.alike (omega arith) c.turns.invariant.small c.turns.invariant.written

@@ -10,7 +10,7 @@ invariant-turns l = record {
   low : l.at ≤ l.end;
   near : l.end ≤ l.at + 40 * (16 - l.number);
   kept : some_unspecified_from l.before l.after l.number ≡ false;
-  written : drop l.at l.line ≡ spelled_rules (rules_of (if_changed l.before l.after) (registers_from l.number)) ++ drop l.end l.fn.line;
+  written : drop l.at l.line ≡ spelled_rules (rules_of (if_changed l.fde l.before l.after) (registers_from l.number)) ++ drop l.end l.fn.line;
 }
 
 abbrev pub decreases-turns : goal.decreases-turns
