@@ -1,0 +1,5 @@
+pub mod Computing
+pub mod FormLemmas
+pub mod SameLemmas
+mod WorkedForms
+mod WorkedAlike

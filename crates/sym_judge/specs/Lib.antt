@@ -1,0 +1,4 @@
+pub mod Forms
+pub mod FormValues
+pub mod Alike
+pub mod Rulings
