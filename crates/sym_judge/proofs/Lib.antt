@@ -1,5 +1,11 @@
 pub mod Computing
 pub mod FormLemmas
 pub mod SameLemmas
+pub mod TableLemmas
+pub mod StackLemmas
+pub mod SideLemmas
+pub mod FrameLemmas
+pub mod NameLemmas
+pub mod SteadyLemmas
 mod WorkedForms
 mod WorkedAlike

@@ -53,8 +53,11 @@ agrees own other x (Reg register) = same_option (same_rules (target.Reg register
 abbrev pub name_aspects : List Aspect
 name_aspects = Func ∷ Chain ∷ Line ∷ []
 
+unfoldable pub rule_aspects : List Aspect
+rule_aspects = Cfa ∷ Ra ∷ map Reg (range_with_len 0 16)
+
 unfoldable pub frame_aspects : List Aspect
-frame_aspects = Init ∷ Cfa ∷ Ra ∷ map Reg (range_with_len 0 16)
+frame_aspects = Init ∷ rule_aspects
 
 abbrev pub differs : List SymLine → List SymLine → ℕ → Aspect → Bool
 differs own other x aspect = not (agrees own other x aspect)

@@ -2,3 +2,4 @@ pub mod Forms
 pub mod FormValues
 pub mod Alike
 pub mod Rulings
+pub mod internal

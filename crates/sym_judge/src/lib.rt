@@ -2,7 +2,12 @@
 #![tactic(auto)]
 
 pub mod laws;
+mod forms;
+mod frames;
+mod names;
 mod ruling;
+mod sides;
+mod tables;
 mod terms;
 
 pub use ruling::{Aspect, Ruling};

@@ -25,3 +25,12 @@ pub enum Ruling {
     Yes,
     No { address: u64, aspect: Aspect },
 }
+
+/// What a ruling is about.
+#[derive(Clone, Copy, Debug, PartialEq, Eq)]
+pub(crate) enum Half {
+    /// Functions, inlined copies and lines.
+    Names,
+    /// Frame rules.
+    Frames,
+}
