@@ -99,13 +99,13 @@ pub registers_behind : (own other : List SymLine) (x : ℕ) (a b : RuleTable) (s
 registers_behind own other x a b same then p q is holds e also = sym (cfa_passed own other x a b same p q is holds ∙ passed own other x Ra (map Reg (range_with_len 0 16)) then (ra_agree own other x a b p q ∙ sym e) also)
 
 -- whether an INIT covers the address
-abbrev IsOfFrames : Aspect → Type 0
+abbrev pub IsOfFrames : Aspect → Type 0
 IsOfFrames Func = ⊥
 IsOfFrames Chain = ⊥
 IsOfFrames Line = ⊥
 IsOfFrames _ = Unit {0}
 
-abbrev AreOfFrames : List Aspect → Type 0
+abbrev pub AreOfFrames : List Aspect → Type 0
 AreOfFrames [] = Unit {0}
 AreOfFrames (aspect ∷ aspects) = IsOfFrames aspect × AreOfFrames aspects
 
@@ -126,7 +126,7 @@ none_agree : (own other : List SymLine) (x : ℕ) → text_rules own x ≡ None 
 none_agree own other x p q [] all = refl
 none_agree own other x p q (aspect ∷ aspects) all = passed own other x aspect aspects true (of_frames own other x p q aspect all.0) refl ∙ none_agree own other x p q aspects all.1
 
-registers_of_frames : (k n : ℕ) → AreOfFrames (map Reg (range_with_len k n))
+pub registers_of_frames : (k n : ℕ) → AreOfFrames (map Reg (range_with_len k n))
 registers_of_frames k zero = tt
 registers_of_frames k (suc n) = (tt, registers_of_frames (k + 1) n)
 

@@ -7,5 +7,6 @@ pub mod SideLemmas
 pub mod FrameLemmas
 pub mod NameLemmas
 pub mod SteadyLemmas
+pub mod StopLemmas
 mod WorkedForms
 mod WorkedAlike

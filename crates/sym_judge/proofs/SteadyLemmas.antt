@@ -10,7 +10,11 @@ use Rattle.sym_records.specs.declared.line.SymLine.TheVariants as record_line
 use Rattle.sym_rules.specs.declared.rules.Target.TheVariants as target
 use Rattle.sym_meaning.specs.TextNames.{is_within, is_func_at, is_line_at, is_inline_at, under, Found, text_func, line_under, inlines_under, inlines_from, level_count, text_owner, text_chain, text_line, func_name, call_of, path_and_line}
 use Rattle.cfi_eval.specs.TextRules.{covers, changes_until, text_rules}
-use Rattle.sym_judge.specs.Alike.{agrees, differs, name_aspects, frame_aspects, rule_aspects}
+use Rattle.sym_rules.specs.declared.rules.RuleText.{RuleText}
+use Rattle.std.specs.Str.{bytes_eq}
+use Rattle.sym_judge.specs.Alike.{same_option, same_list, same_line, same_call, same_rules, both, agrees, differs, name_aspects, frame_aspects, rule_aspects}
+use Rattle.sym_judge.proofs.NameLemmas.{same_both}
+use Rattle.sym_judge.proofs.FrameLemmas.{IsOfFrames, AreOfFrames, registers_of_frames}
 use Rattle.sym_judge.specs.declared.ruling.Aspect.{Aspect}
 use Rattle.sym_judge.specs.declared.ruling.Aspect.TheVariants.{Func, Chain, Line, Init, Cfa, Ra, Reg}
 use Rattle.sym_judge.specs.declared.ruling.Half.{Half}
@@ -160,3 +164,43 @@ rules_steady s x up fits (record_line.Init address size rules ∷ lines) out =
     ∙ ap (cond (covers x address size) (Some (rules ++ changes_until x lines))) (rules_steady s x up fits lines back)
 rules_steady s x up fits (record_line.Change address rules ∷ lines) out = rules_steady s x up fits lines out.1
 rules_steady s x up fits (_ ∷ lines) out = rules_steady s x up fits lines out
+
+-- the aspects
+names_steady : (own other : List SymLine) (s x : ℕ) → s ≤ x → x < 2 ^ 64 → AreOutside s x (stops_of Names own) → AreOutside s x (stops_of Names other) → first_in Names own other s ≡ first_in Names own other x
+unfolding first_in agrees
+names_steady own other s x up fits p q =
+    let owner = same_both (same_option bytes_eq) (text_owner own s) (text_owner other s) (text_owner own x) (text_owner other x) (owner_steady s x up fits own p) (owner_steady s x up fits other q) in
+    let chain = same_both (same_list same_call) (text_chain own s) (text_chain other s) (text_chain own x) (text_chain other x) (chain_steady s x up fits own p) (chain_steady s x up fits other q) in
+    let line = same_both (same_option same_line) (text_line own s) (text_line other s) (text_line own x) (text_line other x) (line_steady s x up fits own p) (line_steady s x up fits other q) in
+    rw (owner, chain, line) refl
+
+rules_of_both : (own other : List SymLine) (s x : ℕ) → s ≤ x → x < 2 ^ 64 → AreOutside s x (stops_of Frames own) → AreOutside s x (stops_of Frames other) → (same : List RuleText → List RuleText → Bool)
+    → same_option same (text_rules own s) (text_rules other s) ≡ same_option same (text_rules own x) (text_rules other x)
+rules_of_both own other s x up fits p q same = same_both (same_option same) (text_rules own s) (text_rules other s) (text_rules own x) (text_rules other x) (rules_steady s x up fits own p) (rules_steady s x up fits other q)
+
+aspect_steady : (own other : List SymLine) (s x : ℕ) → s ≤ x → x < 2 ^ 64 → AreOutside s x (stops_of Frames own) → AreOutside s x (stops_of Frames other) → (aspect : Aspect) → IsOfFrames aspect → differs own other s aspect ≡ differs own other x aspect
+unfolding agrees
+aspect_steady own other s x up fits p q Func is = absurd is
+aspect_steady own other s x up fits p q Chain is = absurd is
+aspect_steady own other s x up fits p q Line is = absurd is
+aspect_steady own other s x up fits p q Init is = ap not (rules_of_both own other s x up fits p q both)
+aspect_steady own other s x up fits p q Cfa is = ap not (rules_of_both own other s x up fits p q (same_rules target.Cfa))
+aspect_steady own other s x up fits p q Ra is = ap not (rules_of_both own other s x up fits p q (same_rules target.Ra))
+aspect_steady own other s x up fits p q (Reg k) is = ap not (rules_of_both own other s x up fits p q (same_rules (target.Reg k)))
+
+aspects_steady : (own other : List SymLine) (s x : ℕ) → s ≤ x → x < 2 ^ 64 → AreOutside s x (stops_of Frames own) → AreOutside s x (stops_of Frames other) → (aspects : List Aspect) → AreOfFrames aspects
+    → find (differs own other s) aspects ≡ find (differs own other x) aspects
+aspects_steady own other s x up fits p q [] all = refl
+aspects_steady own other s x up fits p q (aspect ∷ aspects) all =
+    ap (λ b. cond b (Some aspect) (find (differs own other s) aspects)) (aspect_steady own other s x up fits p q aspect all.0) ∙ ap (cond (differs own other x aspect) (Some aspect)) (aspects_steady own other s x up fits p q aspects all.1)
+
+frames_steady : (own other : List SymLine) (s x : ℕ) → s ≤ x → x < 2 ^ 64 → AreOutside s x (stops_of Frames own) → AreOutside s x (stops_of Frames other) → first_in Frames own other s ≡ first_in Frames own other x
+unfolding first_in frame_aspects rule_aspects
+frames_steady own other s x up fits p q = aspects_steady own other s x up fits p q (Init ∷ Cfa ∷ Ra ∷ map Reg (range_with_len 0 16)) (tt, (tt, (tt, registers_of_frames 0 16)))
+
+pub steady : (half : Half) (own other : List SymLine) (s x : ℕ) → s ≤ x → x < 2 ^ 64 → AreOutside s x (stops_of half own) → AreOutside s x (stops_of half other) → first_in half own other s ≡ first_in half own other x
+steady Names own other s x up fits p q = names_steady own other s x up fits p q
+steady Frames own other s x up fits p q = frames_steady own other s x up fits p q
+
+pub outside_both : (s x : ℕ) (front back : List ℕ) → AreOutside s x (front ++ back) → AreOutside s x front × AreOutside s x back
+outside_both s x front back all = (outside_front s x front back all, outside_back s x front back all)

@@ -1,5 +1,5 @@
 -- The addresses at which records begin and end: between two of them nothing changes.
-use Rattle.std.specs.Prelude.{◌≡◌, ℕ, ◌+◌, ◌^◌, Bool, false, nat_lt, nat_le, if◌then◌else◌, List, [], ◌∷◌, ◌++◌, Option, None, Some}
+use Rattle.std.specs.Prelude.{◌≡◌, ◌<◌, ℕ, ◌+◌, ◌^◌, Bool, false, nat_lt, nat_le, if◌then◌else◌, List, [], ◌∷◌, ◌++◌, Option, None, Some}
 use Rattle.std.specs.List.{find, flat_map}
 use Rattle.sym_records.specs.declared.line.Extent.{Extent}
 use Rattle.sym_records.specs.declared.line.SymLine.{SymLine}
@@ -67,3 +67,13 @@ abbrev pub sooner : Ruling → Ruling → Ruling
 sooner Yes b = b
 sooner (No x p) Yes = No x p
 sooner (No x p) (No y q) = if nat_le x y then No x p else No y q
+
+-- the address of a ruling has 64 bits
+abbrev pub Fits : Ruling → Type 0
+Fits Yes = Unit {0}
+Fits (No address aspect) = address < 2 ^ 64
+
+-- a ruling of one half
+abbrev pub IsHalfRuling : Half → List SymLine → List SymLine → Ruling → Type 0
+IsHalfRuling half own other Yes = (x : ℕ) → x < 2 ^ 64 → first_in half own other x ≡ None
+IsHalfRuling half own other (No address aspect) = (address < 2 ^ 64) × ((first_in half own other address ≡ Some aspect) × ((x : ℕ) → x < address → first_in half own other x ≡ None))
