@@ -1,6 +1,5 @@
 -- What a proof unfolds to compute the definitions of this crate where the input is written out.
 use Rattle.std.specs.Prelude.{⊤}
-use Rattle.std.specs.Int.{int_wrap}
 use Rattle.cfi_eval.proofs.Computing.{cfi_eval_computes}
 use Rattle.sym_lookup.proofs.Computing.{sym_lookup_computes}
 use Rattle.sym_judge.specs.Forms.{with_word, terms_after, term_of, form_of, rule_form}

@@ -20,7 +20,7 @@ use Rattle.sym_judge.specs.declared.terms.Base.TheVariants as base
 use Rattle.sym_judge.specs.declared.terms.Sum.{Sum}
 use Rattle.sym_judge.specs.declared.terms.Term.{Term}
 use Rattle.sym_judge.specs.declared.terms.Term.TheVariants.{Plain, Fetched}
-use Rattle.sym_judge.specs.Forms.{sum, joined_base, taken_base, with_word, terms_after, one_term, term_of, Form, of_term, no_value, of_words, or_words, form_of, default_form, form_by}
+use Rattle.sym_judge.specs.Forms.{sum, joined_base, taken_base, with_word, terms_after, one_term, term_of, or_words, form_of, default_form, form_by}
 use Rattle.sym_judge.specs.FormValues.{moved, sum_value, term_value, form_value, AreWords, IsKnown}
 
 -- the CFA that a word names, where it has a value, is a number of 64 bits

@@ -8,5 +8,6 @@ pub mod FrameLemmas
 pub mod NameLemmas
 pub mod SteadyLemmas
 pub mod StopLemmas
+pub mod LawLemmas
 mod WorkedForms
 mod WorkedAlike

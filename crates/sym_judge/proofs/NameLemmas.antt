@@ -1,9 +1,8 @@
 -- What two answers name differently is what the files do.
-use Rattle.std.proofs.Common.{◌≡◌, ℕ, Bool, true, false, cond, List, [], ◌∷◌, Option, None, Some, refl, sym, ap, ◌∙◌}
+use Rattle.std.proofs.Common.{◌≡◌, ℕ, Bool, true, false, cond, List, Option, None, Some, refl, ap, ◌∙◌}
 use Rattle.std.specs.List.{find}
 use Rattle.std.specs.Str.{bytes_eq}
 use Rattle.sym_records.specs.declared.line.SymLine.{SymLine}
-use Rattle.sym_meaning.specs.TextNames.{text_owner, text_chain, text_line}
 use Rattle.sym_lookup.specs.declared.answers.Answer.{Answer}
 use Rattle.sym_lookup.specs.Answers.{answer_of}
 use Rattle.sym_lookup.specs.AnswerTexts.{owner_of, calls_of, line_of}
@@ -30,9 +29,9 @@ named : (own other : List SymLine) (x : ℕ) → first_named own (answer_of own 
 unfolding first_named first_in agrees
 named own other x =
     in_turn own other x (same_option bytes_eq (owner_of own (answer_of own x)) (owner_of other (answer_of other x))) (same_list same_call (calls_of own (answer_of own x)) (calls_of other (answer_of other x))) (same_option same_line (line_of own (answer_of own x)) (line_of other (answer_of other x)))
-        (same_both (same_option bytes_eq) _ _ _ _ (owner_named own x) (owner_named other x))
-        (same_both (same_list same_call) _ _ _ _ (chain_named own x) (chain_named other x))
-        (same_both (same_option same_line) _ _ _ _ (line_named own x) (line_named other x))
+    (same_both (same_option bytes_eq) _ _ _ _ (owner_named own x) (owner_named other x))
+    (same_both (same_list same_call) _ _ _ _ (chain_named own x) (chain_named other x))
+    (same_both (same_option same_line) _ _ _ _ (line_named own x) (line_named other x))
 
 pub names_differ : (own other : List SymLine) (x : ℕ) (a b : Answer) (found : Option Aspect) → a ≡ answer_of own x → b ≡ answer_of other x → found ≡ first_named own a other b → found ≡ first_in Names own other x
 names_differ own other x a b found p q is = is ∙ ap (λ c. first_named own c other b) p ∙ ap (first_named own (answer_of own x) other) q ∙ named own other x

@@ -1,36 +1,32 @@
 -- The tests of equality tell what is equal.
-use Rattle.std.proofs.Common.{◌≡◌, ℕ, ◌==◌, ◌&&◌, Bool, true, false, List, [], ◌∷◌, Option, None, Some, refl, sym, ap, ◌∙◌}
-use Rattle.std.specs.Bool.{Decides}
-use Rattle.std.specs.Ordering.{int_eq}
+use Rattle.std.proofs.Common.{◌≡◌, ℕ, ◌==◌, ◌&&◌, Bool, true, false, List, [], ◌∷◌, Option, None, Some, refl, ap, ◌∙◌}
 use Rattle.std.specs.Str.{bytes_eq}
 use Rattle.std.proofs.lemmas.Bool.Decides.{Decides-eqb, Decides-int_eq}
 use Rattle.std.proofs.lemmas.Slice.Eq.{bytes_eq-Decides}
 use Rattle.sym_rules.specs.declared.rules.Token.{Token}
 use Rattle.sym_rules.specs.declared.rules.Token.TheVariants as token
-use Rattle.sym_meaning.specs.TextNames.{Call}
-use Rattle.sym_lookup.specs.AnswerTexts.{call_name}
 use Rattle.sym_judge.specs.declared.terms.Base.{Base}
 use Rattle.sym_judge.specs.declared.terms.Base.TheVariants as base
 use Rattle.sym_judge.specs.declared.terms.Sum.{Sum}
 use Rattle.sym_judge.specs.declared.terms.Term.{Term}
 use Rattle.sym_judge.specs.declared.terms.Term.TheVariants.{Plain, Fetched}
 use Rattle.sym_judge.specs.Forms.{Form, of_term, no_value, of_words, same_base, same_sum, same_term, same_token, same_words, same_form}
-use Rattle.sym_judge.specs.Alike.{same_option, same_list, same_line, same_call}
+use Rattle.sym_judge.specs.Alike.{same_option, same_line}
 
 -- a test that holds tells that two values are equal, and it holds of each value and itself
 pub record Tells {A : Type 0} (same : A → A → Bool) : Type 0 where
   pub true_is : (a b : A) → same a b ≡ true → a ≡ b
   pub self : (a : A) → same a a ≡ true
 
-and_left : (a b : Bool) → (a && b) ≡ true → a ≡ true
+pub and_left : (a b : Bool) → (a && b) ≡ true → a ≡ true
 and_left true b is = refl
 and_left false b is = cc
 
-and_right : (a b : Bool) → (a && b) ≡ true → b ≡ true
+pub and_right : (a b : Bool) → (a && b) ≡ true → b ≡ true
 and_right true b is = is
 and_right false b is = cc
 
-and_both : (a b : Bool) → a ≡ true → b ≡ true → (a && b) ≡ true
+pub and_both : (a b : Bool) → a ≡ true → b ≡ true → (a && b) ≡ true
 and_both a b p q = ap (λ c. c && b) p ∙ q
 
 numbers : (a b : ℕ) → (a == b) ≡ true → a ≡ b

@@ -8,7 +8,7 @@ use Rattle.sym_judge.specs.declared.terms.Sum.{Sum}
 use Rattle.sym_judge.specs.declared.terms.Term.{Term}
 use Rattle.sym_judge.specs.declared.terms.Term.TheVariants.{Plain, Fetched}
 use Rattle.sym_judge.specs.Forms.{fetched, of_two, with_word, terms_after, one_term, term_of, no_value, or_words, form_of}
-use Rattle.sym_judge.specs.internal.Stacks.{HasNoSum, HasNoTwo, one_of, is_undefined}
+use Rattle.sym_judge.specs.internal.Stacks.{HasNoSum, HasNoTwo, is_undefined}
 
 pub no_sum_none : (stack : List Term) → stack ≡ [] → HasNoSum stack
 no_sum_none stack e = rw e refl

@@ -12,14 +12,14 @@ use Rattle.sym_meaning.specs.TextNames.{is_within, is_func_at, is_line_at, is_in
 use Rattle.cfi_eval.specs.TextRules.{covers, changes_until, text_rules}
 use Rattle.sym_rules.specs.declared.rules.RuleText.{RuleText}
 use Rattle.std.specs.Str.{bytes_eq}
-use Rattle.sym_judge.specs.Alike.{same_option, same_list, same_line, same_call, same_rules, both, agrees, differs, name_aspects, frame_aspects, rule_aspects}
+use Rattle.sym_judge.specs.Alike.{same_option, same_list, same_line, same_call, same_rules, both, agrees, differs, frame_aspects, rule_aspects}
 use Rattle.sym_judge.proofs.NameLemmas.{same_both}
 use Rattle.sym_judge.proofs.FrameLemmas.{IsOfFrames, AreOfFrames, registers_of_frames}
 use Rattle.sym_judge.specs.declared.ruling.Aspect.{Aspect}
 use Rattle.sym_judge.specs.declared.ruling.Aspect.TheVariants.{Func, Chain, Line, Init, Cfa, Ra, Reg}
 use Rattle.sym_judge.specs.declared.ruling.Half.{Half}
 use Rattle.sym_judge.specs.declared.ruling.Half.TheVariants.{Names, Frames}
-use Rattle.sym_judge.specs.internal.Stops.{run_stops, extent_stops, line_stops, stops_of, half_aspects, first_in}
+use Rattle.sym_judge.specs.internal.Stops.{run_stops, extent_stops, line_stops, stops_of, first_in}
 
 -- no stop lies above the first address and not above the second
 abbrev pub AreOutside : ℕ → ℕ → List ℕ → Type 0

@@ -1,19 +1,19 @@
 -- The least stop at which two files differ is the least address at which they do.
-use Rattle.std.proofs.Common.{◌≡◌, ℕ, ◌+◌, ◌^◌, ◌<◌, ◌≤◌, leb, Bool, true, false, cond, List, [], ◌∷◌, ◌++◌, length, Option, None, Some, refl, sym, ap, ◌∙◌, arith, inl, inr}
-use Rattle.std.proofs.lemmas.Bool.{cases_lt, lt-leb, le-leb}
+use Rattle.std.proofs.Common.{◌≡◌, ℕ, ◌^◌, ◌<◌, ◌≤◌, leb, Bool, true, false, cond, List, [], ◌∷◌, ◌++◌, length, Option, None, Some, refl, sym, ap, ◌∙◌, arith, inl, inr}
+use Rattle.std.proofs.lemmas.Bool.{cases_lt}
 use Rattle.std.proofs.lemmas.Bool.Decides.{nat_tests}
-use Rattle.std.specs.List.{flat_map, find}
+use Rattle.std.specs.List.{find}
 use Rattle.std.specs.Option.{option_or}
 use Rattle.std.proofs.lemmas.List.Folds.{find-append}
 use Rattle.sym_records.specs.declared.line.SymLine.{SymLine}
 use Rattle.sym_judge.specs.Alike.{first_unlike, name_aspects, frame_aspects, differs}
-use Rattle.sym_judge.specs.Rulings.{AreAlikeBelow, IsFirstUnlike, IsRuling}
+use Rattle.sym_judge.specs.Rulings.{IsRuling}
 use Rattle.sym_judge.specs.declared.ruling.Aspect.{Aspect}
 use Rattle.sym_judge.specs.declared.ruling.Ruling.{Ruling}
 use Rattle.sym_judge.specs.declared.ruling.Ruling.TheVariants.{Yes, No}
 use Rattle.sym_judge.specs.declared.ruling.Half.{Half}
 use Rattle.sym_judge.specs.declared.ruling.Half.TheVariants.{Names, Frames}
-use Rattle.sym_judge.specs.internal.Stops.{line_stops, stops_of, first_in, is_settled, with_found, with_stop, with_stops, all_stops, half_ruling, sooner, Fits, IsHalfRuling}
+use Rattle.sym_judge.specs.internal.Stops.{stops_of, first_in, is_settled, with_found, with_stop, with_stops, all_stops, half_ruling, sooner, Fits, IsHalfRuling}
 use Rattle.sym_judge.proofs.SteadyLemmas.{AreOutside, steady, outside_both}
 
 -- the addresses below that of a ruling
@@ -108,15 +108,15 @@ below_too (No a p) b x l h = omega arith
 latest : (half : Half) (own other : List SymLine) (ruling : Ruling) (x : ℕ) → IsBelow ruling x → (stops : List ℕ) → AreClear half own other ruling stops → (low : ℕ) → low ≤ x → first_in half own other low ≡ None → Latest half own other x low stops
 latest half own other ruling x below [] clear low up none = record { stop = low; above = omega arith; upto = up; clear = none; outside = tt }
 latest half own other ruling x below (b ∷ stops) clear low up none = elim (cases_lt x b) [
-    | inl over ↦ let later : Latest half own other x low stops = latest half own other ruling x below stops clear.1 low up none in
-        record { stop = later.stop; above = later.above; upto = later.upto; clear = later.clear; outside = (λ l. over, later.outside) }
-    | inr under ↦ elim (cases_lt b low) [
-        | inl less ↦ let later : Latest half own other x low stops = latest half own other ruling x below stops clear.1 low up none in
-            record { stop = later.stop; above = later.above; upto = later.upto; clear = later.clear; outside = (λ l. let lower : low ≤ later.stop = later.above in absurd (omega arith), later.outside) }
-        | inr more ↦ let later : Latest half own other x b stops = latest half own other ruling x below stops clear.1 b under (clear.0 (below_too ruling b x under below)) in
-            record { stop = later.stop; above = let lower : b ≤ later.stop = later.above in omega arith; upto = later.upto; clear = later.clear; outside = (λ l. let lower : b ≤ later.stop = later.above in absurd (omega arith), later.outside) }
-      ]
+  | inl over ↦ let later : Latest half own other x low stops = latest half own other ruling x below stops clear.1 low up none in
+      record { stop = later.stop; above = later.above; upto = later.upto; clear = later.clear; outside = (λ l. over, later.outside) }
+  | inr under ↦ elim (cases_lt b low) [
+    | inl less ↦ let later : Latest half own other x low stops = latest half own other ruling x below stops clear.1 low up none in
+        record { stop = later.stop; above = later.above; upto = later.upto; clear = later.clear; outside = (λ l. let lower : low ≤ later.stop = later.above in absurd (omega arith), later.outside) }
+    | inr more ↦ let later : Latest half own other x b stops = latest half own other ruling x below stops clear.1 b under (clear.0 (below_too ruling b x under below)) in
+        record { stop = later.stop; above = let lower : b ≤ later.stop = later.above in omega arith; upto = later.upto; clear = later.clear; outside = (λ l. let lower : b ≤ later.stop = later.above in absurd (omega arith), later.outside) }
   ]
+]
 
 clear_below : (half : Half) (own other : List SymLine) (x : ℕ) → x < 2 ^ 64 → IsBelow (half_ruling half own other) x → first_in half own other x ≡ None
 unfolding half_ruling

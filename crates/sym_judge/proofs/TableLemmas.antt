@@ -1,24 +1,22 @@
 -- Lemmas on the last rule of each target.
-use Rattle.std.proofs.Common.{◌≡◌, ◌≢◌, ◌+◌, ◌<◌, ◌≤◌, ℕ, cond, Bool, true, false, List, [], ◌∷◌, ◌++◌, length, get_or, set, drop, take, Option, None, Some, refl, sym, ap, subst, ◌∙◌, ◌==◌, arith, length-set, replicate, zero, suc, append_assoc, append-nil}
+use Rattle.std.proofs.Common.{◌≡◌, ◌≢◌, ◌+◌, ◌<◌, ◌≤◌, ℕ, Bool, true, false, List, [], ◌∷◌, ◌++◌, length, get_or, set, drop, take, Option, None, Some, refl, sym, ap, subst, ◌∙◌, ◌==◌, arith, length-set, replicate, zero, suc, append_assoc, append-nil}
 use Rattle.std.proofs.lemmas.Bool.{lt-leb, le-leb}
 use Rattle.std.proofs.lemmas.Bool.Decides.{nat_tests}
-use Rattle.std.proofs.lemmas.List.{drop_more, drop_all, take_more, take_all, get_or-set_same, get_or-set_other}
-use Rattle.std.proofs.lemmas.Bool.{cases_lt}
+use Rattle.std.proofs.lemmas.List.{drop_more, drop_all, take_more, get_or-set_same, get_or-set_other}
 use Rattle.std.specs.List.{slice_get}
 use Rattle.std.proofs.lemmas.Option.{slice_get-get_or}
 use Rattle.sym_records.specs.declared.line.SymLine.{SymLine}
 use Rattle.sym_records.specs.declared.line.SymLine.TheVariants.{Init, Change}
 use Rattle.sym_rules.specs.declared.rules.Target.{Target}
 use Rattle.sym_rules.specs.declared.rules.Target.TheVariants as target
-use Rattle.sym_rules.specs.declared.rules.Token.{Token}
 use Rattle.sym_rules.specs.declared.rules.RuleText.{RuleText}
 use Rattle.cfi_eval.specs.Inits.{init_place}
-use Rattle.cfi_eval.specs.TextRules.{same_target, rule_for, changes_until, text_rules}
+use Rattle.cfi_eval.specs.TextRules.{same_target, rule_for, changes_until}
 use Rattle.cfi_eval.proofs.RuleLemmas.{rule_push}
 use Rattle.cfi_eval.proofs.InitLemmas.{init_rules}
 use Rattle.sym_judge.specs.declared.tables.RulePlace.{RulePlace}
 use Rattle.sym_judge.specs.declared.tables.RuleTable.{RuleTable}
-use Rattle.sym_judge.specs.internal.Tables.{rules_of, rules_or, rules_at, words_at, words_in, IsTable, IsTableAt, IsTableUpTo}
+use Rattle.sym_judge.specs.internal.Tables.{rules_or, rules_at, words_at, words_in, IsTable, IsTableAt, IsTableUpTo}
 
 -- a target's rule is at a place
 abbrev StandsAt : List SymLine → List RuleText → Target → Option RulePlace → Type 0

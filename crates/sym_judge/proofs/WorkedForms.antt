@@ -1,7 +1,6 @@
 -- Worked forms: what the words of a rule say, and which rules have one form.
-use Rattle.std.proofs.Common.{◌≡◌, ℕ, Bool, true, false, List, [], ◌∷◌, ◌++◌, ◌-◌, ◌^◌, codes, Option, None, Some, Result, Ok, Err, refl}
+use Rattle.std.proofs.Common.{◌≡◌, Bool, true, false, List, [], ◌∷◌, ◌++◌, ◌-◌, ◌^◌, codes, Result, Ok, Err, refl}
 use Prim.Native.String.{String}
-use Rattle.sym_rules.specs.declared.rules.Target.{Target}
 use Rattle.sym_rules.specs.declared.rules.Target.TheVariants as target
 use Rattle.sym_rules.specs.declared.rules.RuleText.{RuleText}
 use Rattle.sym_records.specs.declared.line.SymLine.{SymLine}
@@ -9,7 +8,7 @@ use Rattle.sym_records.specs.declared.line.SymLine.TheVariants.{Init}
 use Rattle.sym_records.specs.Reading.{reading}
 use Rattle.sym_judge.specs.declared.terms.Base.TheVariants as base
 use Rattle.sym_judge.specs.declared.terms.Term.TheVariants.{Plain, Fetched}
-use Rattle.sym_judge.specs.Forms.{sum, Form, of_term, no_value, of_words, rule_form, same_form}
+use Rattle.sym_judge.specs.Forms.{sum, Form, of_term, rule_form, same_form}
 use Rattle.sym_judge.proofs.Computing.{sym_judge_computes}
 
 -- the rules of the one INIT of a text

@@ -1,5 +1,5 @@
 -- What a form gives, over registers, memory and the CFA of its frame.
-use Rattle.std.specs.Prelude.{◌≡◌, ℕ, ◌+◌, ◌%◌, ◌^◌, ◌<◌, List, [], ◌∷◌, Option, None, Some, Result, Ok, Err}
+use Rattle.std.specs.Prelude.{◌≡◌, ℕ, ◌+◌, ◌%◌, ◌^◌, ◌<◌, List, Option, Result, Ok, Err}
 use Rattle.sym_edges.specs.Results.{◌>>=◌}
 use Rattle.cfi_eval.specs.declared.registers.Regs.{Regs}
 use Rattle.cfi_eval.specs.declared.memory.MemRun.{MemRun}

@@ -1,5 +1,5 @@
 -- Whether two symbol files say the same at every address of 64 bits.
-use Rattle.std.specs.Prelude.{◌≡◌, ℕ, ◌<◌, ◌^◌, List, Option, None, Some}
+use Rattle.std.specs.Prelude.{◌≡◌, ℕ, ◌<◌, ◌^◌, List, None, Some}
 use Rattle.sym_records.specs.declared.line.SymLine.{SymLine}
 use Rattle.sym_judge.specs.Alike.{first_unlike}
 use Rattle.sym_judge.specs.declared.ruling.Aspect.{Aspect}

@@ -168,11 +168,7 @@ fn is_undefined(words: &[Token]) -> bool
 
 /// The form of a rule's words. `inside` says that it is the CFA's rule.
 #[tactic(auto, using(crate::proofs::StackLemmas::form_undefined, crate::proofs::StackLemmas::form_defined))]
-fn form_of<'r>(
-    alloc: Global,
-    inside: bool,
-    words: &'r [Token],
-) -> Result<Form<'r>, OutOfMemory>
+fn form_of<'r>(alloc: Global, inside: bool, words: &'r [Token]) -> Result<Form<'r>, OutOfMemory>
     ensures { IfOk result (λ f. form_view f ≡ form_of inside words.now) }
 {
     if is_undefined(words) {

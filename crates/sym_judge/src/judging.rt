@@ -186,7 +186,13 @@ fn sooner(a: Ruling, b: Ruling) -> Ruling
     match (a, b) {
         (Ruling::Yes, b) => b,
         (a, Ruling::Yes) => a,
-        (Ruling::No { address: first, .. }, Ruling::No { address: second, .. }) => {
+        (
+            Ruling::No { address: first, .. },
+            Ruling::No {
+                address: second,
+                ..
+            },
+        ) => {
             if first <= second {
                 return a;
             }

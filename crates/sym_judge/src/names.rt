@@ -200,12 +200,7 @@ fn are_same_calls(own: &Side<'_>, a: &[usize], other: &Side<'_>, b: &[usize]) ->
 
 /// What two answers name differently.
 #[tactic(auto, using(crate::proofs::NameLemmas::func_met, crate::proofs::NameLemmas::chain_met, crate::proofs::NameLemmas::line_met, crate::proofs::NameLemmas::none_met))]
-fn first_named(
-    own: &Side<'_>,
-    a: &Answer,
-    other: &Side<'_>,
-    b: &Answer,
-) -> Option<Aspect>
+fn first_named(own: &Side<'_>, a: &Answer, other: &Side<'_>, b: &Answer) -> Option<Aspect>
     ensures { result ≡ first_named own.now a.now other.now b.now }
 {
     if !is_same_text(owner_of(own.lines(), a), owner_of(other.lines(), b)) {

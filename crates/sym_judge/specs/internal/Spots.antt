@@ -21,7 +21,7 @@ call_spot_of call = (call.path, call.line)
 unfoldable pub first_named : List SymLine → Answer → List SymLine → Answer → Option Aspect
 first_named own a other b =
     if same_option bytes_eq (owner_of own a) (owner_of other b) then
-        if same_list same_call (calls_of own a) (calls_of other b) then
-            if same_option same_line (line_of own a) (line_of other b) then None else Some Line
-        else Some Chain
+    if same_list same_call (calls_of own a) (calls_of other b) then
+    if same_option same_line (line_of own a) (line_of other b) then None else Some Line
+    else Some Chain
     else Some Func

@@ -1,4 +1,4 @@
-use Rattle.std.proofs.Common.{◌≡◌, ◌∙◌, ◌∷◌, sym, ap, reverse, Some}
+use Rattle.std.proofs.Common.{◌≡◌, ◌∙◌, sym, ap, reverse, Some}
 use Rattle.sym_judge.specs.Forms.{one_term, with_word}
 use Rattle.sym_judge.proofs.StackLemmas.{terms_more, terms_fail, terms_end, term_is, term_pushed}
 use Rattle.sym_judge.proofs.forms.term_of.Goals as goal

@@ -1,5 +1,3 @@
-use Rattle.std.proofs.Common.{◌∙◌, sym, Ok, Err}
-use Rattle.std.specs.Result.{IfOk}
 use Rattle.sym_judge.proofs.FrameLemmas.{cfa_met, ra_met, registers_behind, then_behind}
 use Rattle.sym_judge.proofs.frames.first_rule.Goals as goal
 
@@ -12,4 +10,4 @@ returns-then-not-branch-2 c = λ x p q. ra_met c.args.own.now c.args.other.now x
 pub returns : goal.returns
 returns c = λ x p q.
     then_behind c.first_register.result (c.first_register.ensures x p q)
-        (registers_behind c.args.own.now c.args.other.now x c.args.a.now c.args.b.now c.in_ok-agree.field-0 c.in_ok-agree-2.field-0 p q c.in_ok-agree.ensures c.if-not-branch.false c.in_ok-agree-2.ensures c.if-not-branch-2.false)
+    (registers_behind c.args.own.now c.args.other.now x c.args.a.now c.args.b.now c.in_ok-agree.field-0 c.in_ok-agree-2.field-0 p q c.in_ok-agree.ensures c.if-not-branch.false c.in_ok-agree-2.ensures c.if-not-branch-2.false)

@@ -1,4 +1,3 @@
-use Rattle.std.proofs.Common.{arith}
 use Rattle.sym_judge.proofs.TableLemmas.{put_cfa, put_ra, put_register, put_no_register, put_name}
 use Rattle.sym_judge.proofs.tables.put_rule.Goals as goal
 

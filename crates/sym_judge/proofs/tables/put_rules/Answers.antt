@@ -1,4 +1,4 @@
-use Rattle.std.proofs.Common.{◌≡◌, ◌++◌, length, take, arith, ap, refl, subst, sym}
+use Rattle.std.proofs.Common.{◌++◌, arith, subst}
 use Rattle.std.proofs.lemmas.List.{take_all}
 use Rattle.sym_judge.specs.internal.Tables.{IsTable}
 use Rattle.sym_judge.proofs.TableLemmas.{rules_more}
