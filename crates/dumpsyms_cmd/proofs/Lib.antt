@@ -12,3 +12,4 @@ pub mod CheckLemmas
 pub mod FrameTextLemmas
 pub mod AnswerLemmas
 pub mod WalkLemmas
+pub mod JudgeLemmas
