@@ -4,7 +4,7 @@ use crate::comparing::same;
 use crate::files::{Given, file_by, joined, of_code};
 use crate::rows::{
     A, BY_TWO, CHECK, DUMP, FRAME, FRONT, FRONTS, MAIN, PUSHED, ROWS, Row, SAMPLE_ROWS, SHOW,
-    STACK, STATE, TABLE, TEXT_ROWS, THOUSAND, THREE_PATHS, UNREAD, WALK, Words,
+    STACK, STATE, TABLE, TEXT, TEXT_ROWS, THOUSAND, THREE_PATHS, UNREAD, WALK, Words,
 };
 use dumpsyms_cmd::run;
 use std::alloc::{AllocError, Global};
@@ -45,12 +45,13 @@ fn named(alloc: Global, name: &str, bytes: &[u8]) -> Result<NamedFile, AllocErro
     })
 }
 
-/// A store of the file `d/a.out`, and of the states `d/state` and `d/stack`.
+/// A store of the file `d/a.out`, of the states `d/state` and `d/stack`, and of the symbol file `d/text`.
 fn store_of(alloc: Global, file: &[u8], edges: Edges<'_>) -> Result<MemStore, AllocError> {
     let mut files = Vec::new(alloc);
     files.push(named(alloc, "d/a.out", file)?)?;
     files.push(named(alloc, "d/state", STATE)?)?;
     files.push(named(alloc, "d/stack", STACK)?)?;
+    files.push(named(alloc, "d/text", TEXT)?)?;
     let fail = calls(alloc, edges.store)?;
     Ok(MemStore::new(alloc, FileList::of(files), edges.step.max(1), fail))
 }

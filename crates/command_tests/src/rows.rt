@@ -8,7 +8,7 @@ pub const FRONT: &[u8] = b"MODULE Linux x86_64 030201000504070608090A0B0C0D0E0F0
 pub const MAIN: &[u8] = b"PUBLIC 1000 0 main\n";
 
 pub const USAGE: &[u8] =
-    b"usage: dumpsyms dump ELF, check SYM, lookup SYM ADDR, frame SYM ADDR STATE, sample N, walk SYM STATE, names SYM\n";
+    b"usage: dumpsyms dump ELF, check SYM, lookup SYM ADDR, frame SYM ADDR STATE, sample N, walk SYM STATE, judge ELF SYM, names SYM\n";
 
 pub const TABLE: &[u8] = b"refused elf section-table\n";
 
@@ -42,6 +42,15 @@ pub const LOOKUP: Words = &["lookup", "d/a.out", "1005"];
 pub const FRAME: Words = &["frame", "d/a.out", "1001", "d/state"];
 
 pub const WALK: Words = &["walk", "d/a.out", "d/stack"];
+
+pub const JUDGE: Words = &["judge", "d/a.out", "d/text"];
+
+/// The frame records of a function that pushes rbp, in other words, as the file `d/text`.
+pub const TEXT: &[u8] = b"MODULE Linux x86_64 0 a\n\
+    STACK CFI INIT 1000 20 .cfa: 8 $rsp + .ra: .cfa 8 - ^\n\
+    STACK CFI 1001 .cfa: 16 $rsp + $rbp: .cfa 16 - ^\n\
+    STACK CFI 1004 .cfa: $rbp 16 +\n\
+    STACK CFI 100e .cfa: $rsp 8 +\n";
 
 /// A function that another one calls, of which no rule gives the return address.
 const CALLED: &[u8] = b"MODULE Linux x86_64 0 a\nFUNC 1000 20 0 f\nFUNC 2000 10 0 g\n\
@@ -360,9 +369,16 @@ pub const SAMPLE_ROWS: [Row; 5] = [
 ];
 
 /// Words, and ELF files.
-pub const ROWS: [Row; 37] = [
+pub const ROWS: [Row; 41] = [
     ("usage", NO_ROWS, Given::Small, 2, &[], &[USAGE]),
-    ("another file", &[OTHER], Given::Small, 3, &[], &[UNREAD]),
+    (
+        "another file",
+        &[OTHER, &["judge", "d/a.out", "other"]],
+        Given::Small,
+        3,
+        &[],
+        &[UNREAD],
+    ),
     ("main", DUMPS, Given::Small, 0, &[FRONT, MAIN], &[]),
     (
         "b and a",
@@ -387,6 +403,38 @@ pub const ROWS: [Row; 37] = [
         0,
         &[FRONT, PUSH_RBP_LINES],
         &[],
+    ),
+    (
+        "the same rules",
+        &[JUDGE],
+        Given::Units(&[], PUSH_RBP),
+        0,
+        &[b"yes\n"],
+        &[],
+    ),
+    (
+        "no rules",
+        &[JUDGE],
+        Given::Small,
+        1,
+        &[b"no 1000 init\n"],
+        &[],
+    ),
+    (
+        "no ELF file",
+        &[JUDGE],
+        Given::Bytes(b""),
+        1,
+        &[],
+        &[NOT_ELF],
+    ),
+    (
+        "a state as a text",
+        &[&["judge", "d/a.out", "d/state"]],
+        Given::Small,
+        1,
+        &[],
+        &[b"refused text no-module line 1\n"],
     ),
     (
         "left out",

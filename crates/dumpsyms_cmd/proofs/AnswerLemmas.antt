@@ -73,11 +73,11 @@ found_low [] = omega arith
 found_low (f ∷ found) = omega arith
 
 -- a judgement is answered, or that memory ran out
-answered : {F : Type 0} (answer : Answer) (judged : Result Judgement F) (P : Answer → Type 0) → AnswersJudged answer judged → IfOk judged (λ j. P (Judged j)) → P NoMemory → P answer
+pub answered : {F : Type 0} (answer : Answer) (judged : Result Judgement F) (P : Answer → Type 0) → AnswersJudged answer judged → IfOk judged (λ j. P (Judged j)) → P NoMemory → P answer
 answered answer (Ok j) P is good none = subst P (sym is) good
 answered answer (Err e) P is good none = subst P (sym is) none
 
-if_ok : {A F : Type 0} (r : Result A F) (P Q : A → Type 0) → ((x : A) → P x → Q x) → IfOk r P → IfOk r Q
+pub if_ok : {A F : Type 0} (r : Result A F) (P Q : A → Type 0) → ((x : A) → P x → Q x) → IfOk r P → IfOk r Q
 if_ok (Ok x) P Q f is = f x is
 if_ok (Err e) P Q f is = tt
 
@@ -280,7 +280,7 @@ both_refused (Some f) name state ask why j holds is = record {
   is = is ∙ ap (by_records (λ ls. state_answer ask ls [])) (sym holds.2);
 }
 
-rose_later : (before mid after : ℕ) → before ≤ mid → mid ≤ after → Rose mid after → Rose before after
+pub rose_later : (before mid after : ℕ) → before ≤ mid → mid ≤ after → Rose mid after → Rose before after
 rose_later before mid after first second rose = λ small. elim (cases_lt (mid + 1) (2 ^ 64)) [
   | inl low ↦ (let up = rose low in omega (arith, up, first))
   | inr high ↦ omega (arith, high, small, second)

@@ -142,7 +142,7 @@ fault_judged j name bytes text fault few is line refuses =
     (within name bytes (refused text) few (subst (λ (i : Result ImageParts ElfFault). IsImageVerdict i name (refused text)) (sym is) (ap refused line)))
 
 -- the verdict of a file that was dumped
-dumped_verdict : (elf : List ℕ) (files : Files) (lines : List SymLine) (text : List ℕ) → DumpsFile elf files lines text → IsFileVerdict elf (files elf) (given 0 (canon_text lines) text)
+pub dumped_verdict : (elf : List ℕ) (files : Files) (lines : List SymLine) (text : List ℕ) → DumpsFile elf files lines text → IsFileVerdict elf (files elf) (given 0 (canon_text lines) text)
 dumped_verdict elf files lines text dumps =
     let v : Verdict = given 0 (canon_text lines) text in
     subst (λ (f : Option (List ℕ)). IsFileVerdict elf f v) (sym dumps.there)

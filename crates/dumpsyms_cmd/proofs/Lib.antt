@@ -13,3 +13,4 @@ pub mod FrameTextLemmas
 pub mod AnswerLemmas
 pub mod WalkLemmas
 pub mod SampleLemmas
+pub mod JudgeLemmas

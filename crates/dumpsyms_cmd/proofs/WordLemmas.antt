@@ -13,7 +13,7 @@ use Rattle.sym_rules.proofs.BoolLemmas.{both, and_true, if_both}
 use Rattle.std.proofs.lemmas.List.Sums.{suffix_len_is}
 use Rattle.memchr.specs.Find.{IsLastByte, is_byte}
 use Rattle.std.specs.List.{suffix_len}
-use Rattle.dumpsyms_cmd.specs.Words.{Asked, dump, check, lookup, frame, sample, walk, names, sample_of, address_of, is_number, number_upto, two_words, three_words, four_words, HasWorkers, is_slash, module_name}
+use Rattle.dumpsyms_cmd.specs.Words.{Asked, dump, check, lookup, frame, sample, walk, names, sample_of, address_of, is_number, number_upto, two_words, three_words, four_words, HasWorkers, is_slash, module_name, judge}
 
 passes_not : (t : Bool) → ((t ≡ true) → ⊥) → not t ≡ true
 passes_not t never = elim t as (λ v. ((v ≡ true) → ⊥) → not v ≡ true) [ true ↦ λ h. absurd (h refl) | false ↦ λ h. refl ] never
@@ -191,8 +191,9 @@ lookup_workers name (Some address) = tt
 
 three_workers : (word name third : List ℕ) → HasWorkers (three_words word name third)
 three_workers word name third =
-    if_both HasWorkers (bytes_eq word (codes "lookup")) (option_map (lookup name) (address_of third)) (cond (bytes_eq word (codes "walk")) (Some (walk name third)) None) (lookup_workers name (address_of third))
-    (if_both HasWorkers (bytes_eq word (codes "walk")) (Some (walk name third)) None tt tt)
+    if_both HasWorkers (bytes_eq word (codes "lookup")) (option_map (lookup name) (address_of third)) (cond (bytes_eq word (codes "walk")) (Some (walk name third)) (cond (bytes_eq word (codes "judge")) (Some (judge name third)) None)) (lookup_workers name (address_of third))
+    (if_both HasWorkers (bytes_eq word (codes "walk")) (Some (walk name third)) (cond (bytes_eq word (codes "judge")) (Some (judge name third)) None) tt
+    (if_both HasWorkers (bytes_eq word (codes "judge")) (Some (judge name third)) None tt tt))
 
 address_workers : (name state : List ℕ) (o : Option ℕ) → HasWorkers (option_map (λ address. frame name address state) o)
 address_workers name state None = tt

@@ -1,7 +1,7 @@
 -- What the commands answer, and what each promises of its judgement: by the words and the files.
 use Rattle.std.specs.Prelude.{◌≡◌, Option, Some, None}
 use Rattle.sym_edges.specs.Outside.{Files}
-use Rattle.dumpsyms_cmd.specs.Words.{Asked, dump, check, lookup, frame, sample, walk, names}
+use Rattle.dumpsyms_cmd.specs.Words.{Asked, dump, check, lookup, frame, sample, walk, names, judge}
 use Rattle.dumpsyms_cmd.specs.Refusals.{usage_line}
 use Rattle.dumpsyms_cmd.specs.Verdict.{Verdict, usage}
 use Rattle.dumpsyms_cmd.specs.Judgement.{err_bytes, judgement_verdict}
@@ -13,6 +13,7 @@ use Rattle.dumpsyms_cmd.specs.StateInput.{both_verdict, AnswersBoth}
 use Rattle.dumpsyms_cmd.specs.commands.Frame.{frame_answer}
 use Rattle.dumpsyms_cmd.specs.commands.Sample.{IsSampleVerdict}
 use Rattle.dumpsyms_cmd.specs.commands.Walk.{walk_answer}
+use Rattle.dumpsyms_cmd.specs.commands.Judge.{IsJudgeVerdict, JudgePromises}
 use Rattle.dumpsyms_cmd.specs.commands.Names.{names_answer}
 use Rattle.dumpsyms_cmd.specs.declared.judgement.Output.TheVariants.{Nothing}
 use Rattle.dumpsyms_cmd.specs.declared.judgement.Judgement.{Judgement}
@@ -26,6 +27,7 @@ IsVerdict (Some (lookup sym address)) files v = v ≡ file_verdict (lookup_answe
 IsVerdict (Some (frame sym address state)) files v = v ≡ both_verdict (frame_answer address) (files sym) (files state)
 IsVerdict (Some (sample units workers)) files v = IsSampleVerdict units v
 IsVerdict (Some (walk sym state)) files v = v ≡ both_verdict walk_answer (files sym) (files state)
+IsVerdict (Some (judge elf sym)) files v = IsJudgeVerdict elf (files elf) (files sym) v
 IsVerdict (Some (names sym)) files v = v ≡ file_verdict names_answer (files sym)
 
 -- invalid arguments are answered with the usage line
@@ -43,4 +45,5 @@ CommandPromises (Some (lookup sym address)) files j = AnswersBytes sym (lookup_a
 CommandPromises (Some (frame sym address state)) files j = AnswersBoth sym state (frame_answer address) files j
 CommandPromises (Some (sample units workers)) files j = IsSampleVerdict units (judgement_verdict j)
 CommandPromises (Some (walk sym state)) files j = AnswersBoth sym state walk_answer files j
+CommandPromises (Some (judge elf sym)) files j = JudgePromises elf sym files j
 CommandPromises (Some (names sym)) files j = AnswersBytes sym names_answer files j

@@ -1,17 +1,21 @@
 -- The words of the program, and what they ask for.
-use Rattle.std.specs.Prelude.{ℕ, ◌≤◌, ◌==◌, ◌^◌, ◌&&◌, Bool, false, not, nat_le, length, List, [], ◌∷◌, Option, Some, None, Result, Ok, Err, codes, if◌then◌else◌}
+use Rattle.std.specs.Prelude.{ℕ, ◌≤◌, ◌==◌, ◌^◌, ◌&&◌, Bool, false, not, nat_le, nat_lt, length, List, [], ◌∷◌, Option, Some, None, Result, Ok, Err, codes, if◌then◌else◌}
 use Rattle.std.specs.List.{after_last, list_all}
 use Rattle.std.specs.Option.{option_map}
 use Rattle.std.specs.Str.{bytes_eq}
 use Rattle.std.specs.Str.Parse.{digits_value}
 use Rattle.sym_edges.specs.Outside.{Files}
+use Rattle.elf_sections.specs.Image.{ImageParts, image}
+use Rattle.elf_sections.specs.declared.fault.ElfFault.{ElfFault}
+use Rattle.debug_read.specs.DebugSays.{DebugSays, debug_says}
+use Rattle.debug_read.specs.declared.fault.DebugFault.{DebugFault}
 use Rattle.sym_rules.specs.RuleReading.{is_digit}
 use Rattle.sym_records.specs.FieldReading.{hex_value}
 use Rattle.sym_grammar.specs.Input.{file_reading}
 use Rattle.sym_grammar.specs.declared.refusal.SymRefusal.{SymRefusal}
 use Rattle.sym_records.specs.declared.line.SymLine.{SymLine}
 use Rattle.dumpsyms_cmd.specs.declared.words.Command.{Command}
-use Rattle.dumpsyms_cmd.specs.declared.words.Command.TheVariants.{Dump, Check, Lookup, Frame, Sample, Walk, Names}
+use Rattle.dumpsyms_cmd.specs.declared.words.Command.TheVariants.{Dump, Check, Lookup, Frame, Sample, Walk, Names, Judge}
 
 -- what the program is asked for
 pub data Asked : Type 0 where
@@ -27,6 +31,8 @@ pub data Asked : Type 0 where
   sample : (units : ℕ) → (workers : ℕ) → Asked
   -- the frames of a stack by the rules of a symbol file, from a state file
   walk : (sym : List ℕ) → (state : List ℕ) → Asked
+  -- whether a symbol file says what `dump` writes for an ELF file
+  judge : (elf : List ℕ) → (sym : List ℕ) → Asked
   -- a symbol file with its legacy Rust names in readable form
   names : (sym : List ℕ) → Asked
 
@@ -38,6 +44,7 @@ command_view (Lookup sym address) = lookup sym.now address
 command_view (Frame sym address state) = frame sym.now address state.now
 command_view (Sample units workers) = sample units workers
 command_view (Walk sym state) = walk sym.now state.now
+command_view (Judge elf sym) = judge elf.now sym.now
 command_view (Names sym) = names sym.now
 
 -- a number is decimal digits, without a sign, the first of them not 0
@@ -79,11 +86,12 @@ two_words word name =
     else if bytes_eq word (codes "names") then Some (names name)
     else None
 
--- the rows `lookup SYM ADDR` and `walk SYM STATE`
+-- the rows `lookup SYM ADDR`, `walk SYM STATE` and `judge ELF SYM`
 abbrev pub three_words : List ℕ → List ℕ → List ℕ → Option Asked
 three_words word name third =
     if bytes_eq word (codes "lookup") then option_map (lookup name) (address_of third)
     else if bytes_eq word (codes "walk") then Some (walk name third)
+    else if bytes_eq word (codes "judge") then Some (judge name third)
     else None
 
 -- the rows `dump ELF --workers N`, `sample N --workers W` and `frame SYM ADDR STATE`
@@ -112,6 +120,7 @@ HasWorkers (Some (lookup sym address)) = Unit {0}
 HasWorkers (Some (frame sym address state)) = Unit {0}
 HasWorkers (Some (sample units workers)) = (units ≤ MOST_UNITS) × ((1 ≤ workers) × (workers ≤ MOST_WORKERS))
 HasWorkers (Some (walk sym state)) = Unit {0}
+HasWorkers (Some (judge elf sym)) = Unit {0}
 HasWorkers (Some (names sym)) = Unit {0}
 
 -- the second file of a command over a symbol file is read only where that has records
@@ -127,6 +136,23 @@ abbrev pub second_told : Option Files → List ℕ → List ℕ → List (List �
 second_told None first name = name ∷ []
 second_told (Some files) first name = second_of (files first) name
 
+-- the second file of a command over an ELF file is read only where that is dumped
+abbrev pub if_dumped : Result DebugSays DebugFault → List ℕ → List (List ℕ)
+if_dumped (Ok found) name = name ∷ []
+if_dumped (Err fault) name = []
+
+abbrev pub if_image : Result ImageParts ElfFault → List ℕ → List (List ℕ)
+if_image (Ok parts) name = if_dumped (debug_says parts) name
+if_image (Err fault) name = []
+
+abbrev pub behind_dump : Option (List ℕ) → List ℕ → List (List ℕ)
+behind_dump None name = []
+behind_dump (Some bytes) name = if nat_lt (2 ^ 29) (length bytes) then [] else if_image (image bytes) name
+
+abbrev pub dumped_told : Option Files → List ℕ → List ℕ → List (List ℕ)
+dumped_told None first name = name ∷ []
+dumped_told (Some files) first name = behind_dump (files first) name
+
 -- the files that a command asks for, in the order in which they are read, where the store tells its files or tells nothing
 abbrev pub files_of : Option Asked → Option Files → List (List ℕ)
 files_of None files = []
@@ -136,6 +162,7 @@ files_of (Some (lookup sym address)) files = sym ∷ []
 files_of (Some (frame sym address state)) files = sym ∷ second_told files sym state
 files_of (Some (sample units workers)) files = []
 files_of (Some (walk sym state)) files = sym ∷ second_told files sym state
+files_of (Some (judge elf sym)) files = elf ∷ dumped_told files elf sym
 files_of (Some (names sym)) files = sym ∷ []
 
 -- the byte is a slash

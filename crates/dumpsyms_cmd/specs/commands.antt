@@ -5,4 +5,5 @@ pub mod Check
 pub mod Lookup
 pub mod Frame
 pub mod Walk
+pub mod Judge
 pub mod Names

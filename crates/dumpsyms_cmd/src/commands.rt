@@ -11,6 +11,7 @@ ghost use Rattle.dumpsyms_cmd.specs.internal.Judged.{Refuses, JudgesParts, Judge
 ghost use Rattle.dumpsyms_cmd.specs.Observed.{Asks};
 
 use crate::dump::assemble;
+use crate::judge_input::answer_judge;
 use crate::judgement::{Answer, Judgement, Message, Output};
 use crate::refusals::{TOO_LONG, USAGE, debug_line, fault_line};
 use crate::sample::judge_sample;
@@ -74,7 +75,7 @@ fn judge_image<R: Threads + Sync, G: Gate + Sync>(
 
 /// A dump of a file's bytes.
 #[tactic(auto, using(crate::proofs::JudgedLemmas::parts_judged, crate::proofs::JudgedLemmas::fault_judged))]
-fn judge_bytes<R: Threads + Sync, G: Gate + Sync>(
+pub(crate) fn judge_bytes<R: Threads + Sync, G: Gate + Sync>(
     rt: &R,
     alloc: Global,
     bytes: &[u8],
@@ -195,6 +196,7 @@ pub fn answer_words<R: Threads + Sync, S: Store, G: Gate + Sync>(
                 state,
             },
         ) => answer_query(alloc, sym, Query::Frame { address }, state, store),
+        Some(Command::Judge { elf, sym }) => answer_judge(rt, alloc, elf, sym, store, gate),
         Some(Command::Walk { sym, state }) => answer_query(alloc, sym, Query::Walk, state, store),
     }
 }

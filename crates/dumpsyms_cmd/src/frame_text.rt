@@ -12,7 +12,7 @@ use sym_rules::register_name;
 
 /// The name of a register without `$`; 16 is rip.
 #[tactic(auto, unfolding(crate::specs::commands::Frame::short_name))]
-fn short_name(register: u8) -> &'static [u8]
+pub(crate) fn short_name(register: u8) -> &'static [u8]
     ensures { result.now ≡ short_name register }
 {
     if register == 16 {

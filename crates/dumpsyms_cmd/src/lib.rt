@@ -10,7 +10,8 @@
 //! entry gives DWARF's CFA, return address and registers, for all registers and memory; and that the text reads back as the file's records.
 //!
 //! To read: `specs/Program.antt` with `program`, and a page for each command in `specs/commands/`; `words` and `commands`; `dump`, `omissions`
-//! and `refusals`; `symbol_input` with `check`, `lookup` and `names`, and `state_input` with `frame` and `walk`.
+//! and `refusals`; `symbol_input` with `check`, `lookup` and `names`, and `state_input` with `frame` and
+//! `walk`; `judge_input` with `judge`.
 #![tactic(auto)]
 
 // The program, its words, and what is found out before anything is written.
@@ -25,6 +26,10 @@ mod dump;
 mod omissions;
 mod read_back;
 mod sample;
+
+// `judge`.
+mod judge;
+mod judge_input;
 
 // The commands over symbol files.
 mod check;

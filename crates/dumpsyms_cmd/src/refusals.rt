@@ -24,7 +24,7 @@ pub const NO_RIP: &[u8] = b"refused walk no-rip\n";
 
 /// The arguments are invalid.
 pub const USAGE: &[u8] =
-    b"usage: dumpsyms dump ELF, check SYM, lookup SYM ADDR, frame SYM ADDR STATE, sample N, walk SYM STATE, names SYM\n";
+    b"usage: dumpsyms dump ELF, check SYM, lookup SYM ADDR, frame SYM ADDR STATE, sample N, walk SYM STATE, judge ELF SYM, names SYM\n";
 
 /// The line that names an image fault.
 pub fn fault_line(alloc: Global, fault: ElfFault) -> Result<ByteText, AllocError>

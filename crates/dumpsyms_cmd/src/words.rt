@@ -48,6 +48,11 @@ pub enum Command<'w> {
         sym: &'w str,
         state: &'w str,
     },
+    /// `judge ELF SYM`
+    Judge {
+        elf: &'w str,
+        sym: &'w str,
+    },
     /// `names SYM`
     Names {
         sym: &'w str,
@@ -130,15 +135,24 @@ fn parse_two<'w>(word: &str, name: &'w str) -> Option<Command<'w>>
     None
 }
 
-/// The rows `lookup SYM ADDR` and `walk SYM STATE`.
-fn parse_three<'w>(word: &str, sym: &'w str, third: &'w str) -> Option<Command<'w>>
-    ensures { option_map command_view result ≡ three_words word.now sym.now third.now }
+/// The rows `lookup SYM ADDR`, `walk SYM STATE` and `judge ELF SYM`.
+fn parse_three<'w>(word: &str, name: &'w str, third: &'w str) -> Option<Command<'w>>
+    ensures { option_map command_view result ≡ three_words word.now name.now third.now }
 {
     if word == "lookup" {
-        return parse_lookup(sym, third);
+        return parse_lookup(name, third);
     }
     if word == "walk" {
-        return Some(Command::Walk { sym, state: third });
+        return Some(Command::Walk {
+            sym: name,
+            state: third,
+        });
+    }
+    if word == "judge" {
+        return Some(Command::Judge {
+            elf: name,
+            sym: third,
+        });
     }
     None
 }

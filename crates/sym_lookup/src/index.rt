@@ -9,7 +9,8 @@ ghost use Rattle.sym_lookup.specs.internal.Marks.{mark_at, public_of};
 ghost use Rattle.sym_lookup.specs.declared.answers.Answer.TheVariants as answer;
 ghost use Rattle.sym_records.specs.declared.line.SymLine.{SymLine};
 ghost use Rattle.std.specs.List.Sorted.{IsNonDecreasingBy};
-ghost use Rattle.std.specs.Option.{option_map_or};
+ghost use Rattle.std.specs.Option.{option_map_or, option_copied};
+ghost use Rattle.sym_meaning.specs.TextNames.{text_path, text_origin};
 
 use crate::answers::Answer;
 use crate::marks::{Mark, Marked, mark_at, sorted_marks};
@@ -141,5 +142,21 @@ impl Index {
     {
         let records = Records::numbered(file.as_slice(), &self.numbers);
         shown_text(alloc, &records, answer)
+    }
+
+    /// The name of the first `FILE` of a number.
+    pub fn path<'f>(&'f self, file: &'f SymFile, number: u32) -> Option<&'f [u8]>
+        requires { IsIndexOf file.now self.now }
+        ensures { option_copied result ≡ text_path file.now number }
+    {
+        Records::numbered(file.as_slice(), &self.numbers).path(number)
+    }
+
+    /// The name of the first `INLINE_ORIGIN` of a number.
+    pub fn origin<'f>(&'f self, file: &'f SymFile, number: u32) -> Option<&'f [u8]>
+        requires { IsIndexOf file.now self.now }
+        ensures { option_copied result ≡ text_origin file.now number }
+    {
+        Records::numbered(file.as_slice(), &self.numbers).origin_text(number)
     }
 }

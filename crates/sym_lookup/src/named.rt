@@ -2,7 +2,7 @@
 ghost use Rattle.std.specs.Prelude.{◌≡◌, slice_get};
 ghost use Rattle.std.specs.List.{find};
 ghost use Rattle.std.specs.Option.{option_copied, option_and_then};
-ghost use Rattle.sym_meaning.specs.TextNames.{is_file, is_origin};
+ghost use Rattle.sym_meaning.specs.TextNames.{is_file, is_origin, file_name, origin_name, text_path, text_origin};
 ghost use Rattle.sym_lookup.specs.IndexOf.{AreNumbersOf};
 
 use crate::numbers::{Numbers, place_of};
@@ -86,6 +86,26 @@ fn numbered_origin<'f>(lines: &'f [SymLine], numbers: &Numbers, number: u32) -> 
     line_at(lines, place_of(numbers.origins.as_slice(), number))
 }
 
+/// The name of a `FILE`.
+pub(crate) fn file_name(line: &SymLine) -> &[u8]
+    ensures { result.now ≡ file_name line.now }
+{
+    match line {
+        SymLine::File { name, .. } => name.as_slice(),
+        _ => &[],
+    }
+}
+
+/// The name of an `INLINE_ORIGIN`.
+pub(crate) fn origin_name(line: &SymLine) -> &[u8]
+    ensures { result.now ≡ origin_name line.now }
+{
+    match line {
+        SymLine::Origin { name, .. } => name.as_slice(),
+        _ => &[],
+    }
+}
+
 impl<'f> Records<'f> {
     /// Records whose numbers are not known.
     pub(crate) fn of(lines: &'f [SymLine]) -> Records<'f>
@@ -116,7 +136,7 @@ impl<'f> Records<'f> {
     }
 
     /// The first `FILE` of a number.
-    pub(crate) fn file(&self, number: u32) -> Option<&SymLine>
+    pub(crate) fn file(&self, number: u32) -> Option<&'f SymLine>
         ensures { option_copied result ≡ find (is_file number) self.now }
     {
         match self.numbers {
@@ -126,12 +146,32 @@ impl<'f> Records<'f> {
     }
 
     /// The first `INLINE_ORIGIN` of a number.
-    pub(crate) fn origin(&self, number: u32) -> Option<&SymLine>
+    pub(crate) fn origin(&self, number: u32) -> Option<&'f SymLine>
         ensures { option_copied result ≡ find (is_origin number) self.now }
     {
         match self.numbers {
             None => first_origin(self.lines, number),
             Some(numbers) => numbered_origin(self.lines, numbers, number),
+        }
+    }
+
+    /// The name of the first `FILE` of a number.
+    pub(crate) fn path(&self, number: u32) -> Option<&'f [u8]>
+        ensures { option_copied result ≡ text_path self.now number }
+    {
+        match self.file(number) {
+            None => None,
+            Some(line) => Some(file_name(line)),
+        }
+    }
+
+    /// The name of the first `INLINE_ORIGIN` of a number.
+    pub(crate) fn origin_text(&self, number: u32) -> Option<&'f [u8]>
+        ensures { option_copied result ≡ text_origin self.now number }
+    {
+        match self.origin(number) {
+            None => None,
+            Some(line) => Some(origin_name(line)),
         }
     }
 }

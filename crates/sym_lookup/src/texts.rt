@@ -7,30 +7,12 @@ ghost use Rattle.sym_lookup.specs.AnswerTexts.{spot_text, line_spot, call_spot, 
 ghost use Rattle.sym_lookup.specs.internal.Spots.{spot_shown};
 
 use crate::answers::Answer;
-use crate::named::Records;
+use crate::named::{Records, file_name, origin_name};
 use itoa::Buffer;
 use std::alloc::Global;
 use sym_edges::OutOfMemory;
 use sym_records::{SymFile, SymLine};
 use sym_rules::ByteText;
-
-fn file_name(line: &SymLine) -> &[u8]
-    ensures { result.now ≡ file_name line.now }
-{
-    match line {
-        SymLine::File { name, .. } => name.as_slice(),
-        _ => &[],
-    }
-}
-
-fn origin_name(line: &SymLine) -> &[u8]
-    ensures { result.now ≡ origin_name line.now }
-{
-    match line {
-        SymLine::Origin { name, .. } => name.as_slice(),
-        _ => &[],
-    }
-}
 
 fn func_name(line: &SymLine) -> &[u8]
     ensures { result.now ≡ func_name line.now }

@@ -6,6 +6,8 @@ use Rattle.sym_findings.proofs.Computing.{sym_findings_computes}
 use Rattle.cfi_eval.proofs.Computing.{cfi_eval_computes}
 use Rattle.state_file.proofs.Computing.{state_file_computes}
 use Rattle.stack_walk.proofs.Computing.{stack_walk_computes}
+use Rattle.sym_judge.proofs.Computing.{sym_judge_computes}
+use Rattle.sym_judge.specs.internal.Stops.{run_stops, first_in, with_stop, with_stops, half_ruling}
 use Rattle.rust_names.proofs.Computing.{rust_names_computes}
 use Rattle.sym_grammar.specs.Input.{decided, file_reading}
 use Rattle.dumpsyms_cmd.specs.Words.{number_upto, address_of}
@@ -16,5 +18,5 @@ use Rattle.dumpsyms_cmd.specs.commands.Walk.{steps_text}
 use Rattle.dumpsyms_cmd.specs.commands.Names.{names_answer}
 
 unfoldable pub symbols_compute : ⊤
-unfolding shown sym_findings_computes sym_lookup_computes cfi_eval_computes state_file_computes stack_walk_computes rust_names_computes decided file_reading number_upto address_of findings_text check_answer lookup_answer short_name registers_text steps_text names_answer
+unfolding sym_judge_computes run_stops first_in with_stop with_stops half_ruling shown sym_findings_computes sym_lookup_computes cfi_eval_computes state_file_computes stack_walk_computes rust_names_computes decided file_reading number_upto address_of findings_text check_answer lookup_answer short_name registers_text steps_text names_answer
 symbols_compute = tt

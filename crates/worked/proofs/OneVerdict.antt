@@ -1,5 +1,5 @@
 -- Words and files have one verdict.
-use Rattle.std.proofs.Common.{◌≡◌, ℕ, Bool, true, false, List, [], ◌++◌, Option, None, Some, Result, Ok, Err, length, nat_lt, refl, sym, ap, subst, ◌∙◌}
+use Rattle.std.proofs.Common.{◌≡◌, ℕ, Bool, true, false, List, [], ◌++◌, Option, None, Some, Result, Ok, Err, length, nat_lt, refl, sym, ap, subst, ◌∙◌, zero, suc, inl, inr, arith}
 use Rattle.sym_edges.specs.Outside.{Files}
 use Rattle.elf_sections.specs.Image.{ImageParts, parts_of, image_fault, image_by, image}
 use Rattle.elf_sections.specs.Programs.{base, code}
@@ -10,11 +10,22 @@ use Rattle.sym_records.specs.declared.line.SymLine.{SymLine}
 use Rattle.debug_read.specs.declared.fault.DebugFault.{DebugFault}
 use Rattle.debug_read.specs.DebugSays.{DebugSays, debug_says}
 use Rattle.debug_read.specs.Each.{Match}
-use Rattle.dumpsyms_cmd.specs.Words.{Asked, dump, command_of, module_name, check, lookup, frame, sample, walk, names}
+use Rattle.dumpsyms_cmd.specs.Words.{Asked, dump, command_of, module_name, check, lookup, frame, sample, walk, names, judge}
 use Rattle.dumpsyms_cmd.specs.commands.Dump.{identity_lines, public_lines, frame_lines, CanonFile}
 use Rattle.dumpsyms_cmd.specs.Verdict.{Verdict, LIMIT}
 use Rattle.dumpsyms_cmd.specs.commands.Dump.{left_out, GivesText, IsDebugVerdict, IsImageVerdict, IsBytesVerdict, IsFileVerdict}
 use Rattle.dumpsyms_cmd.specs.commands.Sample.{counts_line, IsCountsVerdict, IsImageCounts}
+use Rattle.dumpsyms_cmd.specs.commands.Judge.{ruling_verdict, IsReadVerdict, IsSymVerdict, IsTextVerdict, IsDumpedVerdict, IsJudgeVerdict}
+use Rattle.sym_rules.specs.declared.text_fault.TextFault.{TextFault}
+use Rattle.sym_records.specs.Reading.{reading}
+use Rattle.sym_grammar.specs.Input.{file_reading}
+use Rattle.sym_grammar.specs.declared.refusal.SymRefusal.{SymRefusal}
+use Rattle.sym_judge.specs.Alike.{first_unlike}
+use Rattle.sym_judge.specs.Rulings.{IsRuling}
+use Rattle.sym_judge.specs.declared.ruling.Aspect.{Aspect}
+use Rattle.sym_judge.specs.declared.ruling.Ruling.{Ruling}
+use Rattle.sym_judge.specs.declared.ruling.Ruling.TheVariants.{Yes, No}
+use Rattle.std.proofs.lemmas.Bool.{cases_lt}
 use Rattle.dumpsyms_cmd.specs.Answers.{IsVerdict}
 use Rattle.rule_postfix.specs.Written.{omitted}
 use Rattle.sample_elf.specs.Made.{made}
@@ -83,6 +94,51 @@ one_sample : (read : Result ImageParts ElfFault) (v w : Verdict) → ((parts : I
 one_sample (Err fault) v w below p q = p ∙ sym q
 one_sample (Ok parts) v w below p q = one_counts (debug_says parts) parts v w (below parts refl) p q
 
+-- two lists of records have one ruling
+clash : {P : Type 0} {p : Aspect} → ◌≡◌ {A = Option Aspect} None (Some p) → P
+clash is = absurd (cc)
+
+same_address : (own other : List SymLine) (x y : ℕ) (f g : Aspect) → x ≡ y → first_unlike own other x ≡ Some f → first_unlike own other y ≡ Some g → No x f ≡ No y g
+same_address own other x y f g same p q =
+    let aspects : f ≡ g = some_is (sym p ∙ ap (first_unlike own other) same ∙ q) in
+    ap (λ a. No a f) same ∙ ap (λ h. No y h) aspects
+  where
+    some_is : {a b : Aspect} → ◌≡◌ {A = Option Aspect} (Some a) (Some b) → a ≡ b
+    some_is is = cc
+
+one_ruling : (own other : List SymLine) (a b : Ruling) → IsRuling own other a → IsRuling own other b → a ≡ b
+one_ruling own other Yes Yes p q = refl
+one_ruling own other Yes (No x f) p q = clash (sym (p x q.address_fits) ∙ q.differ)
+one_ruling own other (No x f) Yes p q = clash (sym (q x p.address_fits) ∙ p.differ)
+one_ruling own other (No x f) (No y g) p q = elim (cases_lt x y) [
+  | inl below ↦ clash (sym (q.alike_below x below) ∙ p.differ)
+  | inr upto ↦ elim (cases_lt y x) [
+      | inl above ↦ clash (sym (p.alike_below y above) ∙ q.differ)
+      | inr down ↦ same_address own other x y f g (omega arith) p.differ q.differ
+    ]
+]
+
+one_read : (own : List SymLine) (read : Result (List SymLine) SymRefusal) (v w : Verdict) → IsReadVerdict own read v → IsReadVerdict own read w → v ≡ w
+one_read own (Ok other) v w p q = p.is ∙ ap ruling_verdict (one_ruling own other p.ruling q.ruling p.ruling_is q.ruling_is) ∙ sym q.is
+one_read own (Err why) v w p q = p ∙ sym q
+
+one_sym : (own : List SymLine) (bytes : Option (List ℕ)) (v w : Verdict) → IsSymVerdict own bytes v → IsSymVerdict own bytes w → v ≡ w
+one_sym own None v w p q = p ∙ sym q
+one_sym own (Some bytes) v w p q = one_read own (file_reading LIMIT bytes) v w p q
+
+one_own : (read : Result (List SymLine) TextFault) (bytes : Option (List ℕ)) (v w : Verdict) → IsTextVerdict read bytes v → IsTextVerdict read bytes w → v ≡ w
+one_own (Ok own) bytes v w p q = one_sym own bytes v w p q
+one_own (Err fault) bytes v w p q = absurd p
+
+one_dumped : (status : ℕ) (dumped : Verdict) (bytes : Option (List ℕ)) (v w : Verdict) → IsDumpedVerdict status dumped bytes v → IsDumpedVerdict status dumped bytes w → v ≡ w
+one_dumped zero dumped bytes v w p q = one_own (reading dumped.out) bytes v w p q
+one_dumped (suc status) dumped bytes v w p q = p ∙ sym q
+
+one_judged : (elf : List ℕ) (file bytes : Option (List ℕ)) (v w : Verdict) → IsJudgeVerdict elf file bytes v → IsJudgeVerdict elf file bytes w → v ≡ w
+one_judged elf file bytes v w p q =
+    let same : p.dumped ≡ q.dumped = one_file elf file p.dumped q.dumped p.dumped_is q.dumped_is in
+    one_dumped q.dumped.status q.dumped bytes v w (subst (λ (d : Verdict). IsDumpedVerdict d.status d bytes v) same p.is) q.is
+
 -- a command asks for the same as itself
 alike : (c : Option Asked) → AskAlike c c
 alike None = tt
@@ -96,6 +152,7 @@ any_workers (lookup sym address) files v is = is
 any_workers (frame sym address state) files v is = is
 any_workers (sample units workers) files v is = is
 any_workers (walk sym state) files v is = is
+any_workers (judge elf sym) files v is = is
 any_workers (names sym) files v is = is
 
 one_command : (c : Asked) (files : Files) (v w : Verdict) → IsVerdict (Some c) files v → IsVerdict (Some c) files w → v ≡ w
@@ -105,6 +162,7 @@ one_command (lookup name address) files v w p q = p ∙ sym q
 one_command (frame name address state) files v w p q = p ∙ sym q
 one_command (sample units workers) files v w p q = one_sample (image (made units)) v w (image_ends (made units)) p q
 one_command (walk name state) files v w p q = p ∙ sym q
+one_command (judge elf name) files v w p q = one_judged elf (files elf) (files name) v w p q
 one_command (names name) files v w p q = p ∙ sym q
 
 -- two commands that ask for the same have one verdict

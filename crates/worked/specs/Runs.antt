@@ -1,7 +1,7 @@
 -- Two runs of the program that ask for the same, and how they end.
 use Rattle.std.specs.Prelude.{◌≡◌, Option, None, Some}
 use Rattle.sym_edges.specs.Outside.{Files}
-use Rattle.dumpsyms_cmd.specs.Words.{Asked, dump, check, lookup, frame, sample, walk, names}
+use Rattle.dumpsyms_cmd.specs.Words.{Asked, dump, check, lookup, frame, sample, walk, names, judge}
 use Rattle.dumpsyms_cmd.specs.Program.{Run, command}
 
 -- what a command asks for, whatever the number of workers
@@ -12,6 +12,7 @@ by_one_worker (lookup sym address) = lookup sym address
 by_one_worker (frame sym address state) = frame sym address state
 by_one_worker (sample units workers) = sample units 1
 by_one_worker (walk sym state) = walk sym state
+by_one_worker (judge elf sym) = judge elf sym
 by_one_worker (names sym) = names sym
 
 -- two commands that ask for the same, by any numbers of workers

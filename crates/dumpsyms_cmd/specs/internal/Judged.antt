@@ -22,6 +22,7 @@ use Rattle.dumpsyms_cmd.specs.commands.Lookup.{records_looked_up}
 use Rattle.dumpsyms_cmd.specs.commands.Names.{records_named}
 use Rattle.dumpsyms_cmd.specs.commands.Frame.{frame_answer}
 use Rattle.dumpsyms_cmd.specs.commands.Walk.{walk_answer}
+use Rattle.dumpsyms_cmd.specs.commands.Judge.{JudgesSym}
 use Rattle.dumpsyms_cmd.specs.Answers.{IsVerdict, CommandPromises}
 use Rattle.dumpsyms_cmd.specs.commands.Dump.{IsPartsVerdict, IsDumpVerdict, DumpsParts, DumpsImage}
 use Rattle.dumpsyms_cmd.specs.declared.symbol_input.SymQuery.{SymQuery}
@@ -130,3 +131,9 @@ abbrev pub AnswersState : Answer → List SymLine → (List SymLine → State �
 AnswersState (Judged j) lines answer name files before after = AnswersBytesOf lines answer name files j
 AnswersState Unread lines answer name files before after = Rose before after
 AnswersState NoMemory lines answer name files before after = Unit {0}
+
+-- what an answer says of a symbol file that is judged against records
+abbrev pub AnswersSym : Answer → List SymLine → List ℕ → Option Files → ℕ → ℕ → Type 0
+AnswersSym (Judged j) own sym files before after = JudgesSym own sym files j
+AnswersSym Unread own sym files before after = Rose before after
+AnswersSym NoMemory own sym files before after = Unit {0}

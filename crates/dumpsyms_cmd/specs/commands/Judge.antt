@@ -1,0 +1,92 @@
+-- `judge ELF SYM`: whether a symbol file says what `dump` writes for an ELF file: `yes`; or `no`, the least address at which they differ, and what
+-- differs there first: `func`, `chain`, `line`, `init`, `cfa`, `ra` or a register's name. Where `dump` refuses the ELF file so does `judge`, and
+-- then the symbol file is not asked for.
+use Rattle.std.specs.Prelude.{◌≡◌, ◌⊎◌, ℕ, zero, suc, List, [], ◌∷◌, ◌++◌, codes, Option, Some, None, Result, Ok, Err}
+use Rattle.sym_edges.specs.Outside.{Files, Tells}
+use Rattle.sym_rules.specs.declared.text_fault.TextFault.{TextFault}
+use Rattle.sym_records.specs.Canon.{canon_text}
+use Rattle.sym_records.specs.Fields.{hex}
+use Rattle.sym_records.specs.Reading.{reading}
+use Rattle.sym_records.specs.declared.line.SymLine.{SymLine}
+use Rattle.sym_grammar.specs.Input.{file_reading}
+use Rattle.sym_grammar.specs.declared.refusal.SymRefusal.{SymRefusal}
+use Rattle.sym_judge.specs.Rulings.{IsRuling}
+use Rattle.sym_judge.specs.declared.ruling.Aspect.{Aspect}
+use Rattle.sym_judge.specs.declared.ruling.Aspect.TheVariants.{Func, Chain, Line, Init, Cfa, Ra, Reg}
+use Rattle.sym_judge.specs.declared.ruling.Ruling.{Ruling}
+use Rattle.sym_judge.specs.declared.ruling.Ruling.TheVariants.{Yes, No}
+use Rattle.dumpsyms_cmd.specs.Refusals.{line}
+use Rattle.dumpsyms_cmd.specs.Verdict.{Verdict, refused, unread, LIMIT}
+use Rattle.dumpsyms_cmd.specs.SymbolInput.{refusal_line}
+use Rattle.dumpsyms_cmd.specs.Judgement.{judgement_verdict}
+use Rattle.dumpsyms_cmd.specs.commands.Dump.{IsFileVerdict, DumpsFile}
+use Rattle.dumpsyms_cmd.specs.commands.Frame.{short_name}
+use Rattle.dumpsyms_cmd.specs.declared.judgement.Judgement.{Judgement}
+
+abbrev pub aspect_word : Aspect → List ℕ
+aspect_word Func = codes "func"
+aspect_word Chain = codes "chain"
+aspect_word Line = codes "line"
+aspect_word Init = codes "init"
+aspect_word Cfa = codes "cfa"
+aspect_word Ra = codes "ra"
+aspect_word (Reg register) = short_name register
+
+abbrev pub ruling_verdict : Ruling → Verdict
+ruling_verdict Yes = record { status = 0; out = line (codes "yes"); err = [] }
+ruling_verdict (No address aspect) = record { status = 1; out = line (codes "no " ++ (hex address ++ 32 ∷ aspect_word aspect)); err = [] }
+
+-- the verdict on two lists of records
+pub record IsRuled (own other : List SymLine) (v : Verdict) : Type 0 where
+  pub ruling : Ruling
+  pub ruling_is : IsRuling own other ruling
+  pub is : v ≡ ruling_verdict ruling
+
+-- on records and a symbol file, by its reading and by the file, which may not be there
+abbrev pub IsReadVerdict : List SymLine → Result (List SymLine) SymRefusal → Verdict → Type 0
+IsReadVerdict own (Ok other) v = IsRuled own other v
+IsReadVerdict own (Err why) v = v ≡ refused (refusal_line why)
+
+abbrev pub IsSymVerdict : List SymLine → Option (List ℕ) → Verdict → Type 0
+IsSymVerdict own None v = v ≡ unread
+IsSymVerdict own (Some bytes) v = IsReadVerdict own (file_reading LIMIT bytes) v
+
+-- on the text that `dump` writes, which always reads
+abbrev pub IsTextVerdict : Result (List SymLine) TextFault → Option (List ℕ) → Verdict → Type 0
+IsTextVerdict (Ok own) sym v = IsSymVerdict own sym v
+IsTextVerdict (Err fault) sym v = ⊥
+
+-- by the verdict of `dump`: one of another status than 0 is that of `judge`
+abbrev pub IsDumpedVerdict : ℕ → Verdict → Option (List ℕ) → Verdict → Type 0
+IsDumpedVerdict zero dumped sym v = IsTextVerdict (reading dumped.out) sym v
+IsDumpedVerdict (suc status) dumped sym v = v ≡ dumped
+
+-- the verdict of `judge`, by the files
+pub record IsJudgeVerdict (elf : List ℕ) (file sym : Option (List ℕ)) (v : Verdict) : Type 0 where
+  pub dumped : Verdict
+  pub dumped_is : IsFileVerdict elf file dumped
+  pub is : IsDumpedVerdict dumped.status dumped sym v
+
+-- a judgement on records and the bytes of a symbol file; where the store tells its files these are that file's
+pub record JudgesSym (own : List SymLine) (sym : List ℕ) (files : Option Files) (j : Judgement) : Type 0 where
+  pub bytes : List ℕ
+  pub there : Tells files (λ f. f sym ≡ Some bytes)
+  pub is : IsReadVerdict own (file_reading LIMIT bytes) (judgement_verdict j)
+
+-- a judgement by which `dump` refuses the ELF file
+pub record RefusesElf (elf : List ℕ) (files : Option Files) (j : Judgement) : Type 0 where
+  pub err : List ℕ
+  pub is : judgement_verdict j ≡ refused err
+  pub told : Tells files (λ f. IsFileVerdict elf (f elf) (refused err))
+
+-- a judgement on the symbol file, by the records of the ELF file: these are what `dump` writes for it, and mean what it promises
+pub record JudgesBoth (elf sym : List ℕ) (files : Option Files) (j : Judgement) : Type 0 where
+  pub own : List SymLine
+  pub err : List ℕ
+  pub reads : reading (canon_text own) ≡ Ok own
+  pub dumps : Tells files (λ f. DumpsFile elf f own err)
+  pub judged : JudgesSym own sym files j
+
+-- what `judge` promises of its judgement
+abbrev pub JudgePromises : List ℕ → List ℕ → Option Files → Judgement → Type 0
+JudgePromises elf sym files j = RefusesElf elf files j ⊎ JudgesBoth elf sym files j

@@ -1,0 +1,129 @@
+//! `judge ELF SYM`, by the records of both.
+ghost use Rattle.std.specs.Prelude.{◌≡◌, Some, Ok, IfOk};
+ghost use Rattle.sym_records.specs.Reading.{reading};
+ghost use Rattle.dumpsyms_cmd.specs.Judgement.{judgement_verdict};
+ghost use Rattle.dumpsyms_cmd.specs.commands.Judge.{aspect_word, ruling_verdict, IsRuled};
+
+use crate::frame_text::{add_hex, short_name};
+use crate::judgement::{Judgement, Message, Output};
+use std::alloc::Global;
+use sym_edges::{Failed, OutOfMemory, Sink};
+use sym_grammar::Reader;
+use sym_judge::{Aspect, Ruling, judge};
+use sym_records::{ByteText, SymFile, SymText};
+
+/// A sink that keeps what it takes. It fails where memory runs out.
+#[derive(Drop)]
+struct Kept {
+    bytes: Vec<u8>,
+    faults: u64,
+}
+
+impl Sink for Kept {
+    ghost taken = { λ s. Some s.bytes.items };
+
+    ghost faults = { λ s. s.faults };
+
+    fn write(&mut self, piece: &[u8]) -> Result<usize, Failed> {
+        if piece.is_empty() {
+            return Ok(0);
+        }
+        match self.bytes.extend_from_slice(piece) {
+            Ok(()) => Ok(piece.len()),
+            Err(_) => {
+                self.faults = self.faults.saturating_add(1);
+                Err(Failed)
+            }
+        }
+    }
+}
+
+/// The bytes of a text, which read as its records.
+fn bytes_of(alloc: Global, text: &SymText) -> Result<Vec<u8>, OutOfMemory>
+    ensures { IfOk result (λ bytes. reading bytes.items ≡ Ok text.now) }
+{
+    let mut sink = Kept {
+        bytes: Vec::new(alloc),
+        faults: 0,
+    };
+    match text.write(&mut sink) {
+        Ok(()) => {}
+        Err(Failed) => return Err(OutOfMemory),
+    }
+    let Kept { bytes, .. } = sink;
+    Ok(bytes)
+}
+
+/// The records of a text. It reads, so that only want of memory can stop the reader.
+pub(crate) fn records_of(alloc: Global, text: &SymText) -> Result<SymFile, OutOfMemory>
+    ensures { IfOk result (λ file. file ≡ text.now) }
+{
+    let bytes = bytes_of(alloc, text)?;
+    let mut reader = Reader::new(alloc);
+    match reader.feed(alloc, bytes.as_slice()) {
+        Ok(()) => {}
+        Err(_) => return Err(OutOfMemory),
+    }
+    match reader.finish(alloc) {
+        Ok(file) => Ok(file),
+        Err(_) => Err(OutOfMemory),
+    }
+}
+
+/// The word of what two files say differently.
+fn aspect_word(aspect: Aspect) -> &'static [u8]
+    ensures { result.now ≡ aspect_word aspect }
+{
+    match aspect {
+        Aspect::Func => b"func",
+        Aspect::Chain => b"chain",
+        Aspect::Line => b"line",
+        Aspect::Init => b"init",
+        Aspect::Cfa => b"cfa",
+        Aspect::Ra => b"ra",
+        Aspect::Reg(register) => short_name(register),
+    }
+}
+
+/// The line of an address and what differs there.
+fn unlike_line(alloc: Global, address: u64, aspect: Aspect) -> Result<ByteText, OutOfMemory>
+    ensures { IfOk result (λ text. text ≡ (ruling_verdict (Ruling.No address aspect)).out) }
+{
+    let mut text = Vec::from_slice(alloc, b"no ")?;
+    add_hex(&mut text, address)?;
+    text.push(b' ')?;
+    text.extend_from_slice(aspect_word(aspect))?;
+    text.push(b'\n')?;
+    Ok(ByteText::of(text))
+}
+
+/// The judgement of a ruling.
+fn ruled(alloc: Global, ruling: Ruling) -> Result<Judgement, OutOfMemory>
+    ensures { IfOk result (λ j. judgement_verdict j ≡ ruling_verdict ruling) }
+{
+    match ruling {
+        Ruling::Yes => Ok(Judgement {
+            status: 0,
+            out: Output::Bytes(ByteText::of(Vec::from_slice(alloc, b"yes\n")?)),
+            err: Message::Fixed(b""),
+        }),
+        Ruling::No { address, aspect } => Ok(Judgement {
+            status: 1,
+            out: Output::Bytes(unlike_line(alloc, address, aspect)?),
+            err: Message::Fixed(b""),
+        }),
+    }
+}
+
+/// The judgement on two files.
+#[tactic(auto, using(crate::proofs::JudgeLemmas::ruled_by))]
+pub(crate) fn judge_files(
+    alloc: Global,
+    own: &SymFile,
+    other: &SymFile,
+) -> Result<Judgement, OutOfMemory>
+    ensures { IfOk result (λ j. IsRuled own.now other.now (judgement_verdict j)) }
+{
+    let ruling = judge(alloc, own, other)?;
+    ruled(alloc, ruling)
+}

@@ -1,0 +1,13 @@
+pub mod Computing
+pub mod FormLemmas
+pub mod SameLemmas
+pub mod TableLemmas
+pub mod StackLemmas
+pub mod SideLemmas
+pub mod FrameLemmas
+pub mod NameLemmas
+pub mod SteadyLemmas
+pub mod StopLemmas
+pub mod LawLemmas
+mod WorkedForms
+mod WorkedAlike

@@ -1,0 +1,167 @@
+-- The least stop at which two files differ is the least address at which they do.
+use Rattle.std.proofs.Common.{◌≡◌, ℕ, ◌^◌, ◌<◌, ◌≤◌, leb, Bool, true, false, cond, List, [], ◌∷◌, ◌++◌, length, Option, None, Some, refl, sym, ap, ◌∙◌, arith, inl, inr}
+use Rattle.std.proofs.lemmas.Bool.{cases_lt}
+use Rattle.std.proofs.lemmas.Bool.Decides.{nat_tests}
+use Rattle.std.specs.List.{find}
+use Rattle.std.specs.Option.{option_or}
+use Rattle.std.proofs.lemmas.List.Folds.{find-append}
+use Rattle.sym_records.specs.declared.line.SymLine.{SymLine}
+use Rattle.sym_judge.specs.Alike.{first_unlike, name_aspects, frame_aspects, differs}
+use Rattle.sym_judge.specs.Rulings.{IsRuling}
+use Rattle.sym_judge.specs.declared.ruling.Aspect.{Aspect}
+use Rattle.sym_judge.specs.declared.ruling.Ruling.{Ruling}
+use Rattle.sym_judge.specs.declared.ruling.Ruling.TheVariants.{Yes, No}
+use Rattle.sym_judge.specs.declared.ruling.Half.{Half}
+use Rattle.sym_judge.specs.declared.ruling.Half.TheVariants.{Names, Frames}
+use Rattle.sym_judge.specs.internal.Stops.{stops_of, first_in, is_settled, with_found, with_stop, with_stops, all_stops, half_ruling, sooner, Fits, IsHalfRuling}
+use Rattle.sym_judge.proofs.SteadyLemmas.{AreOutside, steady, outside_both}
+
+-- the addresses below that of a ruling
+abbrev IsBelow : Ruling → ℕ → Type 0
+IsBelow Yes x = Unit {0}
+IsBelow (No address aspect) x = x < address
+
+-- at each of some stops that are below it the files do not differ
+abbrev AreClear : Half → List SymLine → List SymLine → Ruling → List ℕ → Type 0
+AreClear half own other ruling [] = Unit {0}
+AreClear half own other ruling (x ∷ stops) = (IsBelow ruling x → first_in half own other x ≡ None) × AreClear half own other ruling stops
+
+-- what a ruling that is not yes says is so
+abbrev IsTrueOf : Half → List SymLine → List SymLine → Ruling → Type 0
+IsTrueOf half own other Yes = Unit {0}
+IsTrueOf half own other (No address aspect) = first_in half own other address ≡ Some aspect
+
+not_settled : (a x : ℕ) → leb a x ≡ false → x < a
+not_settled a x is = grind (arith, nat_tests)
+
+settled : (a x : ℕ) → leb a x ≡ true → a ≤ x
+settled a x is = grind (arith, nat_tests)
+
+-- one stop: the address does not grow
+abbrev Falls : Ruling → Ruling → Type 0
+Falls old new = (b : ℕ) → IsBelow new b → IsBelow old b
+
+falls_by : (ruling : Ruling) (x : ℕ) (b : Bool) (found : Option Aspect) → is_settled ruling x ≡ b → Falls ruling (cond b ruling (with_found ruling x found))
+falls_by ruling x true found is = λ c h. h
+falls_by ruling x false None is = λ c h. h
+falls_by Yes x false (Some aspect) is = λ c h. tt
+falls_by (No a p) x false (Some aspect) is = λ c h. let above : x < a = not_settled a x is in omega arith
+
+stop_falls : (half : Half) (own other : List SymLine) (ruling : Ruling) (x : ℕ) → Falls ruling (with_stop half own other ruling x)
+unfolding with_stop
+stop_falls half own other ruling x = falls_by ruling x (is_settled ruling x) (first_in half own other x) refl
+
+-- and there the files do not differ below it
+clear_by : (half : Half) (own other : List SymLine) (ruling : Ruling) (x : ℕ) (b : Bool) (found : Option Aspect) → is_settled ruling x ≡ b → first_in half own other x ≡ found → IsBelow (cond b ruling (with_found ruling x found)) x → found ≡ None
+clear_by half own other Yes x true found is e h = absurd (cc)
+clear_by half own other (No a p) x true found is e h = let above : a ≤ x = settled a x is in absurd (omega arith)
+clear_by half own other ruling x false None is e h = refl
+clear_by half own other ruling x false (Some aspect) is e h = absurd (omega arith)
+
+stop_clear : (half : Half) (own other : List SymLine) (ruling : Ruling) (x : ℕ) → IsBelow (with_stop half own other ruling x) x → first_in half own other x ≡ None
+unfolding with_stop
+stop_clear half own other ruling x h = clear_by half own other ruling x (is_settled ruling x) (first_in half own other x) refl refl h
+
+true_by : (half : Half) (own other : List SymLine) (ruling : Ruling) (x : ℕ) (b : Bool) (found : Option Aspect) → first_in half own other x ≡ found → IsTrueOf half own other ruling → IsTrueOf half own other (cond b ruling (with_found ruling x found))
+true_by half own other ruling x true found e h = h
+true_by half own other ruling x false None e h = h
+true_by half own other ruling x false (Some aspect) e h = e
+
+stop_true : (half : Half) (own other : List SymLine) (ruling : Ruling) (x : ℕ) → IsTrueOf half own other ruling → IsTrueOf half own other (with_stop half own other ruling x)
+unfolding with_stop
+stop_true half own other ruling x h = true_by half own other ruling x (is_settled ruling x) (first_in half own other x) refl h
+
+-- all stops
+stops_fall : (half : Half) (own other : List SymLine) (ruling : Ruling) (stops : List ℕ) → Falls ruling (with_stops half own other ruling stops)
+unfolding with_stops
+stops_fall half own other ruling [] = λ b h. h
+stops_fall half own other ruling (x ∷ stops) = λ b h. stop_falls half own other ruling x b (stops_fall half own other (with_stop half own other ruling x) stops b h)
+
+stops_clear : (half : Half) (own other : List SymLine) (ruling : Ruling) (stops : List ℕ) → AreClear half own other (with_stops half own other ruling stops) stops
+unfolding with_stops
+stops_clear half own other ruling [] = tt
+stops_clear half own other ruling (x ∷ stops) =
+    (λ h. stop_clear half own other ruling x (stops_fall half own other (with_stop half own other ruling x) stops x h), stops_clear half own other (with_stop half own other ruling x) stops)
+
+stops_true : (half : Half) (own other : List SymLine) (ruling : Ruling) (stops : List ℕ) → IsTrueOf half own other ruling → IsTrueOf half own other (with_stops half own other ruling stops)
+unfolding with_stops
+stops_true half own other ruling [] h = h
+stops_true half own other ruling (x ∷ stops) h = stops_true half own other (with_stop half own other ruling x) stops (stop_true half own other ruling x h)
+
+pub stops_append : (half : Half) (own other : List SymLine) (ruling : Ruling) (front back : List ℕ) → with_stops half own other ruling (front ++ back) ≡ with_stops half own other (with_stops half own other ruling front) back
+unfolding with_stops
+stops_append half own other ruling [] back = refl
+stops_append half own other ruling (x ∷ front) back = stops_append half own other (with_stop half own other ruling x) front back
+
+-- the last stop that is not above an address
+record Latest (half : Half) (own other : List SymLine) (x low : ℕ) (stops : List ℕ) : Type 0 where
+  stop : ℕ
+  above : low ≤ stop
+  upto : stop ≤ x
+  clear : first_in half own other stop ≡ None
+  outside : AreOutside stop x stops
+
+below_too : (ruling : Ruling) (b x : ℕ) → b ≤ x → IsBelow ruling x → IsBelow ruling b
+below_too Yes b x l h = tt
+below_too (No a p) b x l h = omega arith
+
+latest : (half : Half) (own other : List SymLine) (ruling : Ruling) (x : ℕ) → IsBelow ruling x → (stops : List ℕ) → AreClear half own other ruling stops → (low : ℕ) → low ≤ x → first_in half own other low ≡ None → Latest half own other x low stops
+latest half own other ruling x below [] clear low up none = record { stop = low; above = omega arith; upto = up; clear = none; outside = tt }
+latest half own other ruling x below (b ∷ stops) clear low up none = elim (cases_lt x b) [
+  | inl over ↦ let later : Latest half own other x low stops = latest half own other ruling x below stops clear.1 low up none in
+      record { stop = later.stop; above = later.above; upto = later.upto; clear = later.clear; outside = (λ l. over, later.outside) }
+  | inr under ↦ elim (cases_lt b low) [
+    | inl less ↦ let later : Latest half own other x low stops = latest half own other ruling x below stops clear.1 low up none in
+        record { stop = later.stop; above = later.above; upto = later.upto; clear = later.clear; outside = (λ l. let lower : low ≤ later.stop = later.above in absurd (omega arith), later.outside) }
+    | inr more ↦ let later : Latest half own other x b stops = latest half own other ruling x below stops clear.1 b under (clear.0 (below_too ruling b x under below)) in
+        record { stop = later.stop; above = let lower : b ≤ later.stop = later.above in omega arith; upto = later.upto; clear = later.clear; outside = (λ l. let lower : b ≤ later.stop = later.above in absurd (omega arith), later.outside) }
+  ]
+]
+
+clear_below : (half : Half) (own other : List SymLine) (x : ℕ) → x < 2 ^ 64 → IsBelow (half_ruling half own other) x → first_in half own other x ≡ None
+unfolding half_ruling
+clear_below half own other x fits below =
+    let ruling : Ruling = half_ruling half own other in
+    let clear = stops_clear half own other Yes (all_stops half own other) in
+    let last : Latest half own other x 0 (stops_of half own ++ stops_of half other) = latest half own other ruling x below (stops_of half own ++ stops_of half other) clear.1 0 (omega arith) (clear.0 (below_too ruling 0 x (omega arith) below)) in
+    let out = outside_both last.stop x (stops_of half own) (stops_of half other) last.outside in
+    sym (steady half own other last.stop x last.upto fits out.0 out.1) ∙ last.clear
+
+half_by : (half : Half) (own other : List SymLine) (ruling : Ruling) → Fits ruling → IsTrueOf half own other ruling → ((x : ℕ) → x < 2 ^ 64 → IsBelow ruling x → first_in half own other x ≡ None) → IsHalfRuling half own other ruling
+half_by half own other Yes fits is clear = λ x l. clear x l tt
+half_by half own other (No a p) fits is clear = (fits, (is, λ x l. clear x (omega arith) l))
+
+pub half_is : (half : Half) (own other : List SymLine) → Fits (half_ruling half own other) → IsHalfRuling half own other (half_ruling half own other)
+unfolding half_ruling
+half_is half own other fits = half_by half own other (half_ruling half own other) fits (stops_true half own other Yes (all_stops half own other) tt) (clear_below half own other)
+
+-- both halves
+first_of_both : (own other : List SymLine) (x : ℕ) (a b : Option Aspect) → first_in Names own other x ≡ a → first_in Frames own other x ≡ b → first_unlike own other x ≡ option_or a b
+unfolding first_in first_unlike
+first_of_both own other x a b p q = find-append (differs own other x) name_aspects frame_aspects ∙ ap (λ o. option_or o (find (differs own other x) frame_aspects)) p ∙ ap (option_or a) q
+
+pub rulings_join : (own other : List SymLine) (names frames : Ruling) → IsHalfRuling Names own other names → IsHalfRuling Frames own other frames → IsRuling own other (sooner names frames)
+rulings_join own other Yes Yes p q = λ x l. first_of_both own other x None None (p x l) (q x l)
+rulings_join own other Yes (No a f) p q = record { address_fits = q.0; differ = first_of_both own other a None (Some f) (p a q.0) q.1.0; alike_below = λ x l. first_of_both own other x None None (p x (omega (arith, q.0))) (q.1.1 x l) }
+rulings_join own other (No a n) Yes p q = record { address_fits = p.0; differ = first_of_both own other a (Some n) None p.1.0 (q a p.0); alike_below = λ x l. first_of_both own other x None None (p.1.1 x l) (q x (omega (arith, p.0))) }
+rulings_join own other (No a n) (No b f) p q = by (leb a b) refl
+  where
+    by : (c : Bool) → leb a b ≡ c → IsRuling own other (cond c (No a n) (No b f))
+    by true is = let l : a ≤ b = settled a b is in record { address_fits = p.0; differ = first_of_both own other a (Some n) (first_in Frames own other a) p.1.0 refl; alike_below = λ x m. first_of_both own other x None None (p.1.1 x m) (q.1.1 x (omega arith)) }
+    by false is = let l : b < a = not_settled a b is in record { address_fits = q.0; differ = first_of_both own other b None (Some f) (p.1.1 b l) q.1.0; alike_below = λ x m. first_of_both own other x None None (p.1.1 x (omega arith)) (q.1.1 x m) }
+
+pub no_stops : (half : Half) (own other : List SymLine) (ruling : Ruling) → with_stops half own other ruling [] ≡ ruling
+unfolding with_stops
+no_stops half own other ruling = refl
+
+-- the stops of both files, one file after the other
+pub half_told : (half : Half) (own other first second : List SymLine) (a b r : Ruling) → a ≡ with_stop half own other Yes 0 → first ≡ own → b ≡ with_stops half own other a (stops_of half first) → second ≡ other → r ≡ with_stops half own other b (stops_of half second)
+    → r ≡ half_ruling half own other
+unfolding half_ruling with_stops
+half_told half own other first second a b r p e q f is =
+    is ∙ ap (λ lines. with_stops half own other b (stops_of half lines)) f ∙ ap (λ ruling. with_stops half own other ruling (stops_of half other)) (q ∙ ap (λ lines. with_stops half own other a (stops_of half lines)) e ∙ ap (λ ruling. with_stops half own other ruling (stops_of half own)) p)
+    ∙ sym (stops_append half own other (with_stop half own other Yes 0) (stops_of half own) (stops_of half other))
+
+pub none_left : {A : Type 0} (xs : List A) → length xs ≡ 0 → xs ≡ []
+none_left [] is = refl
+none_left (x ∷ xs) is = absurd (omega arith)

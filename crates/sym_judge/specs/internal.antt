@@ -1,0 +1,5 @@
+-- What serves the functions and loops of the crate alone: no public clause cites it.
+pub mod Stops
+pub mod Tables
+pub mod Stacks
+pub mod Spots

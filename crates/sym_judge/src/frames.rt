@@ -1,0 +1,142 @@
+//! Whether two files have the same frame rules at an address.
+ghost use Rattle.std.specs.Prelude.{◌≡◌, ℕ, List, map, Some, None, IfOk, MatchOption};
+ghost use Rattle.std.specs.List.{find, range_with_len};
+ghost use Rattle.std.specs.Option.{option_copied};
+ghost use Rattle.sym_judge.specs.Alike.{differs, rule_aspects};
+ghost use Rattle.sym_judge.specs.Forms.{form_by, same_form};
+ghost use Rattle.sym_judge.specs.declared.ruling.Aspect.TheVariants.{Reg};
+ghost use Rattle.sym_judge.specs.declared.ruling.Half.TheVariants.{Frames};
+ghost use Rattle.sym_judge.specs.internal.Stops.{first_in};
+ghost use Rattle.sym_judge.specs.internal.Tables.{rules_of, words_in, IsTableAt};
+
+use crate::forms::{are_same_words, have_same_form};
+use crate::ruling::Aspect;
+use crate::sides::Side;
+use crate::tables::{RulePlace, RuleTable, table_at};
+use std::alloc::Global;
+use sym_edges::OutOfMemory;
+use sym_records::SymLine;
+use sym_rules::{RuleText, Target, Token};
+
+fn rules_of(line: &SymLine) -> &[RuleText]
+    ensures { result.now ≡ rules_of line.now }
+{
+    match line {
+        SymLine::Init { rules, .. } | SymLine::Change { rules, .. } => rules.as_slice(),
+        _ => &[],
+    }
+}
+
+/// The words of the rule at a place.
+fn words_at(lines: &[SymLine], place: Option<RulePlace>) -> Option<&[Token]>
+    ensures { option_copied result ≡ words_in lines.now place }
+{
+    let place = place?;
+    let line = lines.get(place.line)?;
+    let rule = rules_of(line).get(place.rule)?;
+    Some(rule.tokens.as_slice())
+}
+
+/// Whether words, or missing ones, have one form as the rule of a target. Of equal words it takes no memory.
+#[tactic(auto, using(crate::proofs::FrameLemmas::same_words_same_form))]
+fn is_same_rule(
+    alloc: Global,
+    target: &Target,
+    a: Option<&[Token]>,
+    b: Option<&[Token]>,
+) -> Result<bool, OutOfMemory>
+    ensures { IfOk result (λ same. same ≡ same_form (form_by target.now (option_copied a.entry)) (form_by target.now (option_copied b.entry))) }
+{
+    if let Some(first) = a {
+        if let Some(second) = b {
+            if are_same_words(first, second) {
+                return Ok(true);
+            }
+        }
+    }
+    have_same_form(alloc, target, a, b)
+}
+
+/// Whether the rules at two places have one form.
+fn agree(
+    alloc: Global,
+    target: &Target,
+    own: &[SymLine],
+    a: Option<RulePlace>,
+    other: &[SymLine],
+    b: Option<RulePlace>,
+) -> Result<bool, OutOfMemory>
+    ensures { IfOk result (λ same. same ≡ same_form (form_by target.now (words_in own.now a)) (form_by target.now (words_in other.now b))) }
+{
+    is_same_rule(alloc, target, words_at(own, a), words_at(other, b))
+}
+
+/// The first register whose rules differ.
+fn first_register(
+    alloc: Global,
+    own: &[SymLine],
+    a: &RuleTable,
+    other: &[SymLine],
+    b: &RuleTable,
+) -> Result<Option<Aspect>, OutOfMemory>
+    ensures { (x : ℕ) → IsTableAt own.now x a.now → IsTableAt other.now x b.now → IfOk result (λ found. found ≡ find (differs own.now other.now x) (map Reg (range_with_len 0 16))) }
+{
+    'registers: for register in 0..16usize {
+        let target = Target::Reg(register as u8);
+        let first = a.registers[register];
+        let second = b.registers[register];
+        if !agree(alloc, &target, own, first, other, second)? {
+            return Ok(Some(Aspect::Reg(register as u8)));
+        }
+    }
+    Ok(None)
+}
+
+/// The first target whose rules differ.
+fn first_rule(
+    alloc: Global,
+    own: &[SymLine],
+    a: &RuleTable,
+    other: &[SymLine],
+    b: &RuleTable,
+) -> Result<Option<Aspect>, OutOfMemory>
+    ensures { (x : ℕ) → IsTableAt own.now x a.now → IsTableAt other.now x b.now → IfOk result (λ found. found ≡ find (differs own.now other.now x) rule_aspects) }
+{
+    if !agree(alloc, &Target::Cfa, own, a.cfa, other, b.cfa)? {
+        return Ok(Some(Aspect::Cfa));
+    }
+    if !agree(alloc, &Target::Ra, own, a.ra, other, b.ra)? {
+        return Ok(Some(Aspect::Ra));
+    }
+    first_register(alloc, own, a, other, b)
+}
+
+/// What differs where no INIT of the own file covers the address.
+fn alone(init: Option<usize>) -> Option<Aspect>
+    ensures { MatchOption init (result ≡ None) (λ _. result ≡ Some Aspect.Init) }
+{
+    match init {
+        None => None,
+        Some(_) => Some(Aspect::Init),
+    }
+}
+
+/// What differs of the frame rules at an address.
+pub(crate) fn first_frame_aspect(
+    alloc: Global,
+    own: &Side<'_>,
+    other: &Side<'_>,
+    address: u64,
+) -> Result<Option<Aspect>, OutOfMemory>
+    ensures { IfOk result (λ found. found ≡ first_in Frames own.now other.now address) }
+{
+    let Some(first) = own.init_at(address) else {
+        return Ok(alone(other.init_at(address)));
+    };
+    let Some(second) = other.init_at(address) else {
+        return Ok(Some(Aspect::Init));
+    };
+    let a = table_at(own.lines(), first, address);
+    let b = table_at(other.lines(), second, address);
+    first_rule(alloc, own.lines(), &a, other.lines(), &b)
+}

@@ -1,0 +1,28 @@
+//! Whether two symbol files say the same (Breakpad's symbol_files.md).
+//!
+//! [`judge`] answers yes where, at every address, both files name the same function, the same inlined calls and the same line, and have frame
+//! rules of the same forms; else the least address at which they differ, and the first [`Aspect`] there. Records may stand in another order and
+//! have other numbers, and what `PUBLIC`, `MODULE` and `INFO` say is not looked at.
+//!
+//! The form of a rule is what its words add up: a register, the CFA or nothing, and a number; or what memory holds there. So `16 $rsp +` has the
+//! form of `$rsp 16 +`, and a missing rule of a register that a call keeps that of the register. Other words are their own form: that files
+//! differ there does not say that their rules evaluate to other values. [`laws`] say that rules of one form give one outcome, what a yes means
+//! for look-up and unwinding, and that a file says the same as itself.
+//!
+//! To read: `specs/Forms.antt`, `specs/Alike.antt`, `specs/Rulings.antt` and `specs/SameMeaning.antt`; then `terms` and `forms`, `tables` (the
+//! rules that count at an address) and `frames`, `names`, and `judging`, on `sides` (a file with its index).
+#![tactic(auto)]
+
+mod forms;
+mod frames;
+mod judging;
+pub mod laws;
+mod names;
+mod ruling;
+mod sides;
+mod tables;
+mod terms;
+
+pub use judging::judge;
+pub use ruling::{Aspect, Ruling};
+pub use terms::{Base, Sum, Term};

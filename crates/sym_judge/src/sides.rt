@@ -1,0 +1,77 @@
+//! One of the two files that are judged.
+ghost use Rattle.std.specs.Prelude.{◌≡◌, ◌<◌, length, IfOk, IfSome};
+ghost use Rattle.std.specs.Option.{option_copied};
+ghost use Rattle.cfi_eval.specs.Inits.{init_place};
+ghost use Rattle.sym_lookup.specs.Answers.{answer_of};
+ghost use Rattle.sym_lookup.specs.IndexOf.{IsIndexOf};
+ghost use Rattle.sym_meaning.specs.TextNames.{text_path, text_origin};
+
+use std::alloc::Global;
+use std::marker::Model;
+use sym_edges::OutOfMemory;
+use sym_lookup::{Answer, Index};
+use sym_records::{SymFile, SymLine};
+
+/// A file with its index. Contracts see the records.
+#[derive(Drop)]
+pub(crate) struct Side<'f> {
+    file: &'f SymFile,
+    index: &'f Index,
+}
+
+impl<'f> Model for Side<'f> {
+    ghost use Rattle.std.specs.Prelude.{List};
+    ghost use Rattle.sym_records.specs.declared.line.SymLine.{SymLine};
+    ghost use Rattle.sym_lookup.specs.IndexOf.{IsIndexOf};
+
+    ghost Value = { List SymLine };
+
+    ghost view = { λ s. s.file.now };
+
+    ghost invariant = { λ s. IsIndexOf s.file.now s.index.now };
+}
+
+impl<'f> Side<'f> {
+    pub(crate) fn of(file: &'f SymFile, index: &'f Index) -> Side<'f>
+        requires { IsIndexOf file.now index.now }
+        ensures { result ≡ file.now }
+    {
+        Side { file, index }
+    }
+
+    pub(crate) fn lines(&self) -> &'f [SymLine]
+        ensures { result.now ≡ self.now }
+    {
+        self.file.as_slice()
+    }
+
+    /// The place of the first `INIT` that covers an address.
+    #[tactic(auto, using(crate::proofs::SideLemmas::init_within))]
+    pub(crate) fn init_at(&self, address: u64) -> Option<usize>
+        ensures place { result ≡ init_place self.now address }
+        ensures within { IfSome result (λ init. init < length self.now) }
+    {
+        self.index.init_at(address)
+    }
+
+    /// Which records name an address.
+    pub(crate) fn answer_at(&self, alloc: Global, address: u64) -> Result<Answer, OutOfMemory>
+        ensures { IfOk result (λ found. found ≡ answer_of self.now address) }
+    {
+        self.index.answer_at(alloc, self.file, address)
+    }
+
+    /// The name of the first `FILE` of a number.
+    pub(crate) fn path(&self, number: u32) -> Option<&'f [u8]>
+        ensures { option_copied result ≡ text_path self.now number }
+    {
+        self.index.path(self.file, number)
+    }
+
+    /// The name of the first `INLINE_ORIGIN` of a number.
+    pub(crate) fn origin(&self, number: u32) -> Option<&'f [u8]>
+        ensures { option_copied result ≡ text_origin self.now number }
+    {
+        self.index.origin(self.file, number)
+    }
+}
