@@ -35,14 +35,6 @@ use Rattle.dumpsyms_cmd.specs.declared.judgement.Judgement.{Judgement}
 use Rattle.dumpsyms_cmd.specs.declared.judgement.Answer.{Answer}
 use Rattle.dumpsyms_cmd.specs.declared.judgement.Answer.TheVariants.{Judged, NoMemory}
 
--- a reader that was fed all of a text that reads as records answers these
-ok_same : {F : Type 0} (x y : List SymLine) (why : Result (List SymLine) F) → why ≡ Ok x → why ≡ Ok y → x ≡ y
-ok_same x y why one other = (let e : ◌≡◌ {A = Result (List SymLine) _} (Ok x) (Ok y) = sym one ∙ other in cc)
-
-pub reads_back : (start fed : Reads) (text : List ℕ) (lines file : List SymLine) → ((bytes : List ℕ) → answer start bytes ≡ lifted (reading bytes)) → ((more : List ℕ) → answer fed more ≡ answer start (text ++ more)) → reading text ≡ Ok lines → answer fed [] ≡ Ok file → file ≡ lines
-reads_back start fed text lines file starts feeds reads ends =
-    ok_same file lines (answer fed []) ends (feeds [] ∙ ap (answer start) (append-nil text) ∙ starts text ∙ ap lifted reads)
-
 -- the counts of what was assembled
 abbrev pub given : ℕ → List ℕ → List ℕ → Verdict
 given status out err = record { status = status; out = out; err = err }

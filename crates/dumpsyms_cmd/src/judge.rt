@@ -1,74 +1,14 @@
 //! `judge ELF SYM`, by the records of both.
-ghost use Rattle.std.specs.Prelude.{◌≡◌, Some, Ok, IfOk};
-ghost use Rattle.sym_records.specs.Reading.{reading};
+ghost use Rattle.std.specs.Prelude.{◌≡◌, IfOk};
 ghost use Rattle.dumpsyms_cmd.specs.Judgement.{judgement_verdict};
 ghost use Rattle.dumpsyms_cmd.specs.commands.Judge.{aspect_word, ruling_verdict, IsRuled};
 
 use crate::frame_text::{add_hex, short_name};
 use crate::judgement::{Judgement, Message, Output};
 use std::alloc::Global;
-use sym_edges::{Failed, OutOfMemory, Sink};
-use sym_grammar::Reader;
+use sym_edges::OutOfMemory;
 use sym_judge::{Aspect, Ruling, judge};
-use sym_records::{ByteText, SymFile, SymText};
-
-/// A sink that keeps what it takes. It fails where memory runs out.
-#[derive(Drop)]
-struct Kept {
-    bytes: Vec<u8>,
-    faults: u64,
-}
-
-impl Sink for Kept {
-    ghost taken = { λ s. Some s.bytes.items };
-
-    ghost faults = { λ s. s.faults };
-
-    fn write(&mut self, piece: &[u8]) -> Result<usize, Failed> {
-        if piece.is_empty() {
-            return Ok(0);
-        }
-        match self.bytes.extend_from_slice(piece) {
-            Ok(()) => Ok(piece.len()),
-            Err(_) => {
-                self.faults = self.faults.saturating_add(1);
-                Err(Failed)
-            }
-        }
-    }
-}
-
-/// The bytes of a text, which read as its records.
-fn bytes_of(alloc: Global, text: &SymText) -> Result<Vec<u8>, OutOfMemory>
-    ensures { IfOk result (λ bytes. reading bytes.items ≡ Ok text.now) }
-{
-    let mut sink = Kept {
-        bytes: Vec::new(alloc),
-        faults: 0,
-    };
-    match text.write(&mut sink) {
-        Ok(()) => {}
-        Err(Failed) => return Err(OutOfMemory),
-    }
-    let Kept { bytes, .. } = sink;
-    Ok(bytes)
-}
-
-/// The records of a text. It reads, so that only want of memory can stop the reader.
-pub(crate) fn records_of(alloc: Global, text: &SymText) -> Result<SymFile, OutOfMemory>
-    ensures { IfOk result (λ file. file ≡ text.now) }
-{
-    let bytes = bytes_of(alloc, text)?;
-    let mut reader = Reader::new(alloc);
-    match reader.feed(alloc, bytes.as_slice()) {
-        Ok(()) => {}
-        Err(_) => return Err(OutOfMemory),
-    }
-    match reader.finish(alloc) {
-        Ok(file) => Ok(file),
-        Err(_) => Err(OutOfMemory),
-    }
-}
+use sym_records::{ByteText, SymFile};
 
 /// The word of what two files say differently.
 fn aspect_word(aspect: Aspect) -> &'static [u8]

@@ -6,8 +6,9 @@ ghost use Rattle.dumpsyms_cmd.specs.Observed.{Asks};
 ghost use Rattle.dumpsyms_cmd.specs.internal.Judged.{AnswersCommand, AnswersSym};
 
 use crate::commands::{answer_stop, judge_bytes};
-use crate::judge::{judge_files, records_of};
+use crate::judge::judge_files;
 use crate::judgement::{Answer, Judgement, Output};
+use crate::read_back::read_back;
 use crate::symbol_input::{answer_end, answer_judged};
 use crate::words::name_of;
 use std::alloc::Global;
@@ -45,7 +46,7 @@ fn answer_dumped<S: Store>(alloc: Global, dumped: Judgement, sym: &str, store: &
     let Output::Text(text) = &dumped.out else {
         return Answer::Judged(dumped);
     };
-    match records_of(alloc, text) {
+    match read_back(alloc, text) {
         Ok(own) => answer_sym(alloc, &own, sym, store),
         Err(OutOfMemory) => Answer::NoMemory,
     }

@@ -1,28 +1,29 @@
 //! The records of a text that was spelled, as a reader gives them.
-ghost use Rattle.std.specs.Prelude.{◌≡◌, ◌≤◌, ◌<◌, ℕ, Some, Ok, IfOk, OnErr, length, take};
-ghost use Rattle.sym_edges.specs.Outside.{append_told, Rose};
+ghost use Rattle.std.specs.Prelude.{◌≡◌, Some, Ok, IfOk};
+ghost use Rattle.sym_records.specs.Reading.{reading};
 
 use std::alloc::Global;
 use sym_edges::{Failed, OutOfMemory, Sink};
 use sym_grammar::Reader;
 use sym_records::{SymFile, SymText};
 
-/// A sink that keeps what it takes.
+/// A sink that keeps what it takes. It fails where memory runs out.
 #[derive(Drop)]
-struct KeptText {
-    text: Vec<u8>,
+struct Kept {
+    bytes: Vec<u8>,
     faults: u64,
 }
 
-impl Sink for KeptText {
-    ghost use Rattle.std.specs.Prelude.{Some};
-
-    ghost taken = { λ s. Some s.text.items };
+impl Sink for Kept {
+    ghost taken = { λ s. Some s.bytes.items };
 
     ghost faults = { λ s. s.faults };
 
     fn write(&mut self, piece: &[u8]) -> Result<usize, Failed> {
-        match self.text.extend_from_slice(piece) {
+        if piece.is_empty() {
+            return Ok(0);
+        }
+        match self.bytes.extend_from_slice(piece) {
             Ok(()) => Ok(piece.len()),
             Err(_) => {
                 self.faults = self.faults.saturating_add(1);
@@ -32,21 +33,29 @@ impl Sink for KeptText {
     }
 }
 
-/// The records of a text.
-#[tactic(auto, using(crate::proofs::SampleLemmas::reads_back))]
-pub fn read_back(alloc: Global, text: SymText) -> Result<SymFile, OutOfMemory>
-    ensures { IfOk result (λ file. file ≡ text) }
+/// The bytes of a text, which read as its records.
+fn bytes_of(alloc: Global, text: &SymText) -> Result<Vec<u8>, OutOfMemory>
+    ensures { IfOk result (λ bytes. reading bytes.items ≡ Ok text.now) }
 {
-    let mut kept = KeptText {
-        text: Vec::new(alloc),
+    let mut sink = Kept {
+        bytes: Vec::new(alloc),
         faults: 0,
     };
-    match text.write(&mut kept) {
+    match text.write(&mut sink) {
         Ok(()) => {}
         Err(Failed) => return Err(OutOfMemory),
     }
+    let Kept { bytes, .. } = sink;
+    Ok(bytes)
+}
+
+/// The records of a text. It reads, so that only want of memory can stop the reader.
+pub fn read_back(alloc: Global, text: &SymText) -> Result<SymFile, OutOfMemory>
+    ensures { IfOk result (λ file. file ≡ text.now) }
+{
+    let bytes = bytes_of(alloc, text)?;
     let mut reader = Reader::new(alloc);
-    match reader.feed(alloc, kept.text.as_slice()) {
+    match reader.feed(alloc, bytes.as_slice()) {
         Ok(()) => {}
         Err(_) => return Err(OutOfMemory),
     }

@@ -91,7 +91,7 @@ fn count_records(
     ensures { IfOk result (λ j. CountsParts j image.now) }
 {
     let dumped = assemble(alloc, image, debug, b"")?;
-    let file = read_back(alloc, dumped.file)?;
+    let file = read_back(alloc, &dumped.file)?;
     let units = debug.units.as_slice().len();
     let text = counts_line(alloc, units, &file, dumped.omitted)?;
     Ok(Judgement {

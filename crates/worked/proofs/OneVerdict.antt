@@ -83,7 +83,7 @@ one_file elf None v w p q = p ∙ sym q
 one_file elf (Some file) v w p q = one_bytes (nat_lt LIMIT (length file)) (module_name elf) file v w p q
 
 -- the counts of a made file
-counted : ImageParts → DebugSays → List SymLine → Verdict
+abbrev counted : ImageParts → DebugSays → List SymLine → Verdict
 counted parts found lines = record { status = 0; out = counts_line (length found.units) lines (length (omitted parts.code found.first found.second)); err = [] }
 
 one_counts : (says : Result DebugSays DebugFault) (parts : ImageParts) (v w : Verdict) → EndBelow parts.code → IsCountsVerdict says parts v → IsCountsVerdict says parts w → v ≡ w
