@@ -1,17 +1,14 @@
 -- The judgement on an ELF file and a symbol file; for `judge_files`, `answer_sym` and `answer_judge`.
-use Rattle.std.proofs.Common.{◌≡◌, inl, inr, ℕ, zero, suc, ◌+◌, ◌≤◌, ◌<◌, ◌^◌, ◌⊎◌, Bool, true, false, cond, List, [], ◌∷◌, ◌++◌, take, Option, Some, None, Ok, Err, Result, length, nat_lt, refl, sym, ◌∙◌, ap, arith, append-nil, append_assoc, subst, IfOk}
+use Rattle.std.proofs.Common.{◌≡◌, inl, inr, ℕ, suc, ◌+◌, ◌≤◌, ◌<◌, ◌^◌, false, cond, List, [], ◌∷◌, ◌++◌, take, Option, Some, None, Ok, Err, Result, length, nat_lt, refl, sym, ◌∙◌, ap, arith, append-nil, append_assoc, subst, IfOk}
 use Rattle.std.proofs.lemmas.Bool.Decides.{nat_tests}
-use Rattle.sym_edges.specs.Outside.{Files, Tells, Rose}
+use Rattle.sym_edges.specs.Outside.{Files, Tells}
 use Rattle.sym_edges.specs.WholeFile.{HoldsFile, AsksOnce, IsWhole, ReadAll}
 use Rattle.sym_edges.specs.declared.reading.ReadEnd.{ReadEnd}
 use Rattle.sym_edges.specs.declared.reading.ReadEnd.TheVariants.{CantOpen, CantRead, TooLong}
 use Rattle.sym_edges.specs.declared.fault.Stop.{Stop}
 use Rattle.sym_edges.specs.declared.fault.Stop.TheVariants.{Fault}
 use Rattle.sym_edges.specs.declared.fault.Stop.TheVariants as stop
-use Rattle.elf_sections.specs.Image.{ImageParts, image}
-use Rattle.elf_sections.specs.declared.fault.ElfFault.{ElfFault}
-use Rattle.debug_read.specs.DebugSays.{DebugSays, debug_says}
-use Rattle.debug_read.specs.declared.fault.DebugFault.{DebugFault}
+use Rattle.elf_sections.specs.Image.{image}
 use Rattle.sym_rules.specs.declared.text_fault.TextFault.{TextFault}
 use Rattle.sym_records.specs.Canon.{canon_text}
 use Rattle.sym_records.specs.Reading.{reading}
@@ -23,14 +20,14 @@ use Rattle.sym_grammar.specs.declared.refusal.SymEnd.TheVariants as end
 use Rattle.sym_judge.specs.Rulings.{IsRuling}
 use Rattle.sym_judge.specs.declared.ruling.Ruling.{Ruling}
 use Rattle.sym_judge.specs.declared.ruling.Ruling.TheVariants.{Yes, No}
-use Rattle.dumpsyms_cmd.specs.Words.{Asked, dump, judge, module_name, files_of, if_image, if_dumped, behind_dump, dumped_told}
+use Rattle.dumpsyms_cmd.specs.Words.{judge, module_name, if_image, if_dumped, behind_dump, dumped_told}
 use Rattle.dumpsyms_cmd.specs.Refusals.{too_long_line}
-use Rattle.dumpsyms_cmd.specs.Verdict.{Verdict, refused, unread, LIMIT}
+use Rattle.dumpsyms_cmd.specs.Verdict.{Verdict, refused, LIMIT}
 use Rattle.dumpsyms_cmd.specs.Observed.{Asks}
 use Rattle.dumpsyms_cmd.specs.Judgement.{out_bytes, err_bytes, judgement_verdict, RefusesOrGives}
 use Rattle.dumpsyms_cmd.specs.SymbolInput.{refusal_line}
 use Rattle.dumpsyms_cmd.specs.commands.Dump.{IsFileVerdict, DumpsFile, DumpPromises}
-use Rattle.dumpsyms_cmd.specs.commands.Judge.{ruling_verdict, IsRuled, IsReadVerdict, IsSymVerdict, IsTextVerdict, IsDumpedVerdict, IsJudgeVerdict, JudgesSym, RefusesElf, JudgesBoth, JudgePromises}
+use Rattle.dumpsyms_cmd.specs.commands.Judge.{ruling_verdict, IsRuled, IsReadVerdict, IsSymVerdict, IsTextVerdict, IsJudgeVerdict, JudgesSym, RefusesElf, JudgePromises}
 use Rattle.dumpsyms_cmd.specs.internal.Judged.{IsJudged, AnswersCommand, AnswersStop, AnswersEnd, AnswersJudged, AnswersSym, JudgesBytes}
 use Rattle.dumpsyms_cmd.specs.declared.judgement.Output.{Output}
 use Rattle.dumpsyms_cmd.specs.declared.judgement.Output.TheVariants.{Nothing, Text, Bytes, Records}
@@ -210,3 +207,21 @@ stop_judged Unread (Fault CantRead) files elf name left left_after before after 
 stop_judged Unread (Fault TooLong) files elf name left left_after before after read says = absurd says
 stop_judged Unread stop.NoMemory files elf name left left_after before after read says = absurd says
 stop_judged NoMemory stopped files elf name left left_after before after read says = refl
+
+-- a dump and what is answered behind it, together
+pub judge_asked : (elf name : List ℕ) (files mid_files : Option Files) (j : Judgement) (before mid after : List (List ℕ)) → mid_files ≡ files → mid ≡ before ++ elf ∷ [] → DumpPromises elf files j
+    → ((e : List ℕ) → DumpPromises e mid_files j → Asks (dumped_told mid_files e name) mid after) → Asks (elf ∷ dumped_told files elf name) before after
+judge_asked elf name files mid_files j before mid after same first kept asked =
+    let kept_mid : DumpPromises elf mid_files j = subst (λ (f : Option Files). DumpPromises elf f j) (sym same) kept in
+    asks_later elf (dumped_told files elf name) before mid after first (subst (λ (f : Option Files). Asks (dumped_told f elf name) mid after) same (asked elf kept_mid))
+
+later_answered : (answer : Answer) (elf name : List ℕ) (files : Option Files) (before mid after : ℕ) → before ≤ mid → mid ≤ after → AnswersCommand answer (Some (judge elf name)) files mid after → AnswersCommand answer (Some (judge elf name)) files before after
+later_answered (Judged j) elf name files before mid after first second says = says
+later_answered Unread elf name files before mid after first second says = (says.0, rose_later before mid after first second says.1)
+later_answered NoMemory elf name files before mid after first second says = says
+
+pub judge_answered : (answer : Answer) (elf name : List ℕ) (files mid_files : Option Files) (j : Judgement) (before mid after : ℕ) → mid_files ≡ files → before ≤ mid → mid ≤ after → DumpPromises elf files j
+    → ((e : List ℕ) → DumpPromises e mid_files j → AnswersCommand answer (Some (judge e name)) mid_files mid after) → AnswersCommand answer (Some (judge elf name)) files before after
+judge_answered answer elf name files mid_files j before mid after same first second kept says =
+    let kept_mid : DumpPromises elf mid_files j = subst (λ (f : Option Files). DumpPromises elf f j) (sym same) kept in
+    later_answered answer elf name files before mid after first second (subst (λ (f : Option Files). AnswersCommand answer (Some (judge elf name)) f mid after) same (says elf kept_mid))

@@ -113,9 +113,9 @@ one_ruling own other (No x f) Yes p q = clash (sym (q x p.address_fits) ∙ p.di
 one_ruling own other (No x f) (No y g) p q = elim (cases_lt x y) [
   | inl below ↦ clash (sym (q.alike_below x below) ∙ p.differ)
   | inr upto ↦ elim (cases_lt y x) [
-      | inl above ↦ clash (sym (p.alike_below y above) ∙ q.differ)
-      | inr down ↦ same_address own other x y f g (omega arith) p.differ q.differ
-    ]
+    | inl above ↦ clash (sym (p.alike_below y above) ∙ q.differ)
+    | inr down ↦ same_address own other x y f g (omega arith) p.differ q.differ
+  ]
 ]
 
 one_read : (own : List SymLine) (read : Result (List SymLine) SymRefusal) (v w : Verdict) → IsReadVerdict own read v → IsReadVerdict own read w → v ≡ w

@@ -1,0 +1,5 @@
+use Rattle.dumpsyms_cmd.proofs.JudgeLemmas.{text_judged}
+use Rattle.dumpsyms_cmd.proofs.judge_input.answer_dumped.Goals as goal
+
+pub returns-in-Ok-clause-answered : goal.returns-in-Ok-clause-answered
+returns-in-Ok-clause-answered g c = λ elf kept. text_judged _ elf _ _ c.args.dumped c.in-Text.text c.in-Ok.own _ _ c.in-Text.is c.in-Ok.ensures kept c.answer_sym.ensures.answered
