@@ -35,7 +35,7 @@ fn last_kept(alloc: Global, info: &[u8]) -> Result<[u64; 3], Fail> {
         let abbrevs = read_abbrevs(alloc, &sections, unit)?;
         if unit.body <= unit.end && unit.end <= info.len() as u64 && info.len() <= 1 << 29 {
             let table = walk(alloc, &sections, unit, &abbrevs)?;
-            if let Some(die) = table.dies().last() {
+            if let Some(die) = table.dies().get(table.dies().len().saturating_sub(1)) {
                 let parent = match die.parent() {
                     Some(parent) => u64::from(parent),
                     None => u64::MAX,

@@ -85,8 +85,10 @@ fn answer<R: Threads + Sync, G: Gate + Sync>(
     counts.push(read.second.len() as u64)?;
     for unit in read.units.as_slice() {
         let mut covering: u64 = 0;
-        for set in unit.spans.as_slice() {
-            covering = covering.saturating_add(u64::from(set.has(0x100f)));
+        for entry in 0..unit.die.dies().len() {
+            if let Some(set) = unit.ranges(entry) {
+                covering = covering.saturating_add(u64::from(set.has(0x100f)));
+            }
         }
         counts.push(unit.die.dies().len() as u64)?;
         counts.push(covering)?;

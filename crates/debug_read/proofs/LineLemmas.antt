@@ -1,5 +1,5 @@
 -- The line table of a unit, kept or not.
-use Rattle.std.proofs.Common.{◌≡◌, ℕ, Bool, true, false, if◌then◌else◌, List, [], Option, None, Some, unwrap_or, Result, Ok, Err, refl, sym, ap, subst, ◌∙◌}
+use Rattle.std.proofs.Common.{◌≡◌, ℕ, zero, suc, ◌+◌, ◌≤◌, ◌||◌, Bool, true, false, if◌then◌else◌, List, [], ◌∷◌, length, drop, arith, add-one, Option, None, Some, unwrap_or, Result, Ok, Err, refl, sym, ap, subst, ◌∙◌}
 use Rattle.std.proofs.lemmas.Bool.{cond-true}
 use Rattle.sym_edges.specs.Addresses.{Range}
 use Rattle.sym_edges.specs.Results.{◌>>=◌}
@@ -7,13 +7,16 @@ use Rattle.sym_edges.specs.declared.located.Located.{Located}
 use Rattle.abbrev_units.specs.declared.fault.DwarfKind.{DwarfKind}
 use Rattle.abbrev_units.specs.DebugSections.{DebugSections}
 use Rattle.range_set.specs.Enclosing.{encloses}
-use Rattle.die_walk.specs.EntryTable.{RootFields}
+use Rattle.std.proofs.Math.ListN.{drop_of_length-le}
+use Rattle.std.specs.List.{slice_get, list_any}
+use Rattle.die_walk.specs.EntryKinds.{is_function}
+use Rattle.die_walk.specs.EntryTable.{DieFields, RootFields}
 use Rattle.line_program.specs.LineAt.{Lines}
 use Rattle.line_program.specs.LineMaps.{LineMap}
 use Rattle.line_program.specs.LineTables.{unit_lines, Says as SaysTable}
 use Rattle.debug_read.specs.Each.{Says}
 use Rattle.debug_read.specs.UnitSays.{lines_by, root_lines}
-use Rattle.debug_read.specs.UnitsRead.{no_lines, KeepsLines}
+use Rattle.debug_read.specs.UnitsRead.{no_lines, KeepsLines, has_function}
 
 kept_by : (spans : List Range) (asked : Bool) (read : Result Lines (Located DwarfKind)) (table : LineMap) → SaysTable (encloses spans) read table → Says (KeepsLines spans asked) (read >>= λ lines. Ok (Some lines)) (if asked then table else no_lines)
 kept_by spans true (Ok lines) table says = says
@@ -45,3 +48,39 @@ table_refused sections root offset fault there is =
 pub table_whole : (sections : DebugSections) (root : RootFields) (offset : ℕ) (spans : List Range) (asked : Bool) (table : LineMap) → root.stmt_list ≡ Some offset → asked ≡ true → SaysTable (encloses spans) (unit_lines sections offset root.at (unwrap_or root.comp_dir [])) table → Says (KeepsLines spans asked) (root_lines sections root) table
 table_whole sections root offset spans asked table there some says =
     table_kept sections root offset spans asked table table there says (sym (cond-true _ _ _ some))
+
+-- whether there is a function, entry by entry
+function_step : (dies : List DieFields) (i : ℕ) (d : DieFields) → Some d ≡ slice_get dies i → list_any is_function (drop i dies) ≡ (is_function d || list_any is_function (drop (suc i) dies))
+function_step [] i d is = absurd (cc)
+function_step (x ∷ dies) zero d is = let same : d ≡ x = cc in ap (λ (y : DieFields). is_function y || list_any is_function dies) (sym same)
+function_step (x ∷ dies) (suc i) d is = function_step dies i d is
+
+here_by : (b rest whole : Bool) → b ≡ true → (b || rest) ≡ whole → true ≡ whole
+here_by true rest whole told is = is
+here_by false rest whole told is = absurd (cc)
+
+later_by : (b rest whole : Bool) → b ≡ false → (b || rest) ≡ whole → rest ≡ whole
+later_by true rest whole told is = absurd (cc)
+later_by false rest whole told is = is
+
+pub function_here : (dies : List DieFields) (i : ℕ) (d : DieFields) (whole : Bool) → Some d ≡ slice_get dies i → is_function d ≡ true → has_function (drop i dies) ≡ whole → true ≡ whole
+unfolding has_function
+function_here dies i d whole is told so_far = here_by (is_function d) (list_any is_function (drop (suc i) dies)) whole told (sym (function_step dies i d is) ∙ so_far)
+
+pub function_later : (dies : List DieFields) (i : ℕ) (d : DieFields) (whole : Bool) → Some d ≡ slice_get dies i → is_function d ≡ false → has_function (drop i dies) ≡ whole → has_function (drop (i + 1) dies) ≡ whole
+unfolding has_function
+function_later dies i d whole is told so_far =
+    ap (λ (n : ℕ). list_any is_function (drop n dies)) (add-one i)
+    ∙ later_by (is_function d) (list_any is_function (drop (suc i) dies)) whole told (sym (function_step dies i d is) ∙ so_far)
+
+pub no_function : (dies : List DieFields) (i : ℕ) (whole : Bool) → length dies ≤ i → has_function (drop i dies) ≡ whole → false ≡ whole
+unfolding has_function
+no_function dies i whole past so_far = ap (λ (ds : List DieFields). list_any is_function ds) (sym (drop_of_length-le dies past)) ∙ so_far
+
+pub function_lost : (dies : List DieFields) (i : ℕ) (whole : Bool) → None ≡ slice_get dies i → has_function (drop i dies) ≡ whole → false ≡ whole
+function_lost dies i whole lost so_far = no_function dies i whole (not_there dies i lost) so_far
+  where
+    not_there : (xs : List DieFields) (k : ℕ) → None ≡ slice_get xs k → length xs ≤ k
+    not_there [] k is = omega arith
+    not_there (x ∷ xs) zero is = absurd (cc)
+    not_there (x ∷ xs) (suc k) is = omega (arith, not_there xs k is)

@@ -12,17 +12,26 @@ ghost use Rattle.debug_read.specs.internal.Owing.{HoldsLines};
 
 use crate::owing::TableRead;
 use abbrev_units::{DwarfFault, Sections};
-use die_walk::{Die, DieTable, Root};
+use die_walk::{DieList, DieTable, Root};
 use line_program::{LineTable, read_lines};
 use range_set::Enclosing;
 use std::alloc::Global;
 use sym_edges::Stop;
 
-#[tactic(auto, unfolding(crate::specs::UnitsRead::has_function))]
-fn has_function(dies: &[Die<'_>]) -> bool
+/// Whether one of the entries is a function.
+#[tactic(auto, using(crate::proofs::LineLemmas::function_here, crate::proofs::LineLemmas::function_later, crate::proofs::LineLemmas::no_function, crate::proofs::LineLemmas::function_lost))]
+fn has_function(dies: &DieList<'_>) -> bool
     ensures { result ≡ has_function dies.now }
 {
-    dies.iter().any(|die| die.is_function())
+    'entries: for entry in 0..dies.len() {
+        let Some(die) = dies.get(entry) else {
+            return false;
+        };
+        if die.is_function() {
+            return true;
+        }
+    }
+    false
 }
 
 /// The directory of the compilation, or the empty text.

@@ -11,7 +11,7 @@ use die_walk::DieTable;
 use range_lists::ranges_of;
 use range_set::{Enclosing, RangeSet};
 use std::alloc::Global;
-use sym_edges::{ListOf, Stop};
+use sym_edges::Stop;
 
 /// The addresses of an entry, by its number in the table.
 #[tactic(auto, using(crate::proofs::SetLemmas::set_found, crate::proofs::SetLemmas::set_refused))]
@@ -55,12 +55,12 @@ pub fn read_sets(
         (Prim.Unit {0}) }
 {
     let count = table.dies().len();
-    let mut sets = Vec::with_capacity(alloc, count)?;
+    let mut sets = SpanSets::with_room(alloc, count)?;
     'entries: for entry in 0..count {
         match read_set(alloc, sections, unit, table, entry as u32, base, code) {
             Ok(set) => sets.push(set)?,
             Err(stop) => return Err(stop),
         }
     }
-    Ok(ListOf::of(sets))
+    Ok(sets)
 }

@@ -1,8 +1,9 @@
 -- A search among entries whose places rise.
-use Rattle.std.proofs.Common.{◌≡◌, ◌<◌, ◌+◌, ℕ, zero, suc, true, false, eqb, List, [], ◌∷◌, map, length, get_or, Option, None, Some, refl, sym, ap, ◌∙◌, arith}
+use Rattle.std.proofs.Common.{◌≡◌, ◌<◌, ◌≤◌, ◌+◌, ℕ, zero, suc, true, false, eqb, List, [], ◌∷◌, map, length, get_or, Option, None, Some, refl, sym, ap, ◌∙◌, arith}
 use Rattle.std.specs.List.{find, slice_get}
 use Rattle.std.specs.Option.{option_map}
 use Rattle.std.proofs.lemmas.Bool.{cond-true, cond-false, eq-eqb}
+use Rattle.std.proofs.lemmas.Option.{slice_get_within, get_or_from_slice_get}
 use Rattle.sym_edges.specs.Rising.{RisesFrom, StandBelow}
 use Rattle.sym_edges.proofs.RisingLemmas.{differ_below, differ_all, differ_other}
 use Rattle.die_walk.specs.EntryTable.{DieFields}
@@ -38,3 +39,23 @@ die_other place count unit dies d rises h there other = nowhere unit 0 place die
 
 pub die_none : (place count unit : ℕ) (dies : List DieFields) → StandBelow (λ (c : DieFields). c.at) place count dies → count ≡ length dies → None ≡ find (is_at place) (unit_entries unit 0 dies)
 die_none place count unit dies h whole = nowhere unit 0 place dies (differ_all (λ (c : DieFields). c.at) place count dies h whole)
+
+-- the same by what stands at a number
+not_there : (dies : List DieFields) (k : ℕ) → None ≡ slice_get dies k → length dies ≤ k
+not_there [] k is = omega arith
+not_there (x ∷ dies) zero is = absurd (cc)
+not_there (x ∷ dies) (suc k) is = omega (arith, not_there dies k is)
+
+pub die_lost : (place count unit : ℕ) (dies : List DieFields) → StandBelow (λ (c : DieFields). c.at) place count dies → None ≡ slice_get dies count → None ≡ find (is_at place) (unit_entries unit 0 dies)
+die_lost place count unit dies h lost = die_none place count unit dies h (omega (arith, not_there dies count lost, h.within))
+
+pub die_here : (place count unit : ℕ) (dies : List DieFields) (d : DieFields) → StandBelow (λ (c : DieFields). c.at) place count dies → Some d ≡ slice_get dies count → d.at ≡ place → found_in unit dies (Some count) ≡ find (is_at place) (unit_entries unit 0 dies)
+die_here place count unit dies d h is same =
+    die_found place count unit dies d h (slice_get_within dies count d (sym is)) (ap (λ (c : DieFields). c.at) (get_or_from_slice_get dies count d d (sym is)) ∙ same)
+
+pub die_wrong : (place count unit : ℕ) (dies : List DieFields) (d : DieFields) → RisesFrom 0 (dies_places dies) → StandBelow (λ (c : DieFields). c.at) place count dies → Some d ≡ slice_get dies count → (d.at ≡ place → ⊥) → None ≡ find (is_at place) (unit_entries unit 0 dies)
+die_wrong place count unit dies d rises h is other =
+    die_other place count unit dies d rises h (slice_get_within dies count d (sym is)) (λ same. other (sym (ap (λ (c : DieFields). c.at) (get_or_from_slice_get dies count d d (sym is))) ∙ same))
+
+pub die_inside : (dies : List DieFields) (count : ℕ) (d : DieFields) → Some d ≡ slice_get dies count → count < length dies
+die_inside dies count d is = slice_get_within dies count d (sym is)

@@ -1,13 +1,13 @@
 //! The entry that begins at a place.
-ghost use Rattle.std.specs.Prelude.{◌≡◌, ◌+◌, ◌<◌, ◌^◌, ℕ, map, length, IfSome};
+ghost use Rattle.std.specs.Prelude.{◌≡◌, ◌+◌, ◌<◌, ◌^◌, ℕ, map, length, Some, IfSome};
 ghost use Rattle.std.specs.List.{find};
-ghost use Rattle.sym_edges.specs.Rising.{RisesFrom, StandBelow};
+ghost use Rattle.sym_edges.specs.Rising.{RisesFrom};
 ghost use Rattle.die_walk.specs.EntryTable.{DieFields};
 ghost use Rattle.die_names.specs.UnitEntries.{AreRead, places, unit_entries, entries_from, entry_at};
 ghost use Rattle.die_names.specs.internal.Finding.{is_at, found_in, found_from, found, moved, IsInside};
 
 use crate::unit_read::{EntryRef, UnitRead};
-use die_walk::Die;
+use die_walk::DieList;
 
 /// Where an entry stands, as it is looked up.
 #[derive(Clone, Copy, Debug)]
@@ -16,26 +16,17 @@ pub struct Standing {
     pub entry: usize,
 }
 
-/// How many entries begin before a place, by halves.
-fn count_before(dies: &[Die<'_>], place: u64) -> usize
-    requires { RisesFrom 0 (map (λ (d : DieFields). d.at) dies.now) }
-    ensures { StandBelow (λ (d : DieFields). d.at) place result dies.now }
-{
-    dies.partition_point(|die| u64::from(die.at()) < place)
-}
-
 /// The number of the entry of a unit that begins at a place.
-#[tactic(auto, using(crate::proofs::FindLemmas::die_found, crate::proofs::FindLemmas::die_other, crate::proofs::FindLemmas::die_none))]
-fn find_in_unit(dies: &[Die<'_>], place: u64) -> Option<usize>
+#[tactic(auto, using(crate::proofs::FindLemmas::die_here, crate::proofs::FindLemmas::die_wrong, crate::proofs::FindLemmas::die_lost, crate::proofs::FindLemmas::die_inside))]
+fn find_in_unit(dies: &DieList<'_>, place: u64) -> Option<usize>
     requires { RisesFrom 0 (map (λ (d : DieFields). d.at) dies.now) }
     ensures found { (unit : ℕ) → found_in unit dies.now result ≡ find (is_at place) (unit_entries unit 0 dies.now) }
     ensures inside { IfSome result (λ entry. entry < length dies.now) }
 {
-    let count = count_before(dies, place);
-    if count == dies.len() {
+    let count = dies.count_before(place);
+    let Some(die) = dies.get(count) else {
         return None;
-    }
-    let die = &dies[count];
+    };
     if u64::from(die.at()) != place {
         return None;
     }
@@ -68,7 +59,7 @@ fn find_among(units: &[UnitRead<'_>], place: u64) -> Option<Standing>
         return None;
     };
     let dies = part.die.dies();
-    let Some(die) = dies.first() else {
+    let Some(die) = dies.get(0) else {
         return match find_among(left, place) {
             Some(standing) => Some(standing),
             None => behind(half + 1, find_among(rest, place)),
@@ -83,13 +74,51 @@ fn find_among(units: &[UnitRead<'_>], place: u64) -> Option<Standing>
     }
 }
 
-/// The entry that begins at a place of `.debug_info`.
+/// The entry that begins at a place, where it is in the unit of a number.
+fn find_near(units: &[UnitRead<'_>], near: usize, place: u64) -> Option<Standing>
+    requires { RisesFrom 0 (places units.now) }
+    ensures found { IfSome result (λ s. (first : ℕ) → found_from first units.now (Some s) ≡ find (is_at place) (entries_from first units.now)) }
+    ensures inside { IfSome result (λ s. IsInside units.now s) }
+{
+    if near >= units.len() {
+        return None;
+    }
+    let (left, right) = units.split_at(near);
+    let Some((part, rest)) = right.split_first() else {
+        return None;
+    };
+    let dies = part.die.dies();
+    let Some(die) = dies.get(0) else {
+        return None;
+    };
+    if u64::from(die.at()) > place {
+        return None;
+    }
+    match find_in_unit(dies, place) {
+        Some(entry) => Some(Standing { unit: near, entry }),
+        None => None,
+    }
+}
+
+/// The entry that begins at a place, first looked for in the unit of a number.
+fn find_from(units: &[UnitRead<'_>], near: usize, place: u64) -> Option<Standing>
+    requires { RisesFrom 0 (places units.now) }
+    ensures found { (first : ℕ) → found_from first units.now result ≡ find (is_at place) (entries_from first units.now) }
+    ensures inside { IfSome result (λ s. IsInside units.now s) }
+{
+    match find_near(units, near, place) {
+        Some(standing) => Some(standing),
+        None => find_among(units, place),
+    }
+}
+
+/// The entry that begins at a place of `.debug_info`. Most places that an entry names are in its own unit, which is `near`.
 #[tactic(auto, using(crate::proofs::AmongLemmas::found_none, crate::proofs::AmongLemmas::found_some, crate::proofs::FollowLemmas::small_unit, crate::proofs::FollowLemmas::small_entry))]
-pub(crate) fn find_entry(units: &[UnitRead<'_>], place: u64) -> Option<EntryRef>
+pub(crate) fn find_entry(units: &[UnitRead<'_>], near: u32, place: u64) -> Option<EntryRef>
     requires { AreRead units.now }
     ensures { found units.now result ≡ entry_at units.now place }
 {
-    match find_among(units, place) {
+    match find_from(units, near as usize, place) {
         Some(at) => Some(EntryRef {
             unit: at.unit as u32,
             entry: at.entry as u32,

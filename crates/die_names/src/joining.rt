@@ -12,20 +12,20 @@ use crate::kept::{EntryNameText, whole_name};
 use crate::naming::{How, NameRef};
 use crate::unit_read::Units;
 use clean_names::clean;
-use die_walk::Die;
+use die_walk::{Die, DieList};
 use std::alloc::Global;
 use sym_edges::{ByteRun, OutOfMemory};
 
 /// The entry of a number.
-fn entry_in<'u, 'a>(dies: &'u [Die<'a>], entry: usize) -> Option<&'u Die<'a>>
-    ensures { option_copied result ≡ slice_get dies.now entry }
+fn entry_in<'u, 'a>(dies: &'u DieList<'a>, entry: usize) -> Option<Die<'u, 'a>>
+    ensures { result ≡ slice_get dies.now entry }
 {
     dies.get(entry)
 }
 
 /// Adds what an entry puts in front of a name.
 #[tactic(auto, unfolding(crate::specs::Names::scope_front))]
-fn add_front(text: &mut Vec<u8>, die: &Die<'_>) -> Result<(), OutOfMemory>
+fn add_front(text: &mut Vec<u8>, die: &Die<'_, '_>) -> Result<(), OutOfMemory>
     ensures { OnOk result (text.new.items ≡ text.old.items ++ scope_front die.now) }
 {
     if !die.is_scope() {
@@ -40,7 +40,7 @@ fn add_front(text: &mut Vec<u8>, die: &Die<'_>) -> Result<(), OutOfMemory>
 #[tactic(auto, using(crate::proofs::JoinLemmas::gathered_more, crate::proofs::JoinLemmas::gathered_none, crate::proofs::JoinLemmas::gathered_past, crate::proofs::JoinLemmas::gathered_lost))]
 fn numbers_around(
     alloc: Global,
-    dies: &[Die<'_>],
+    dies: &DieList<'_>,
     entry: usize,
     parent: Option<u32>,
 ) -> Result<Vec<u32>, OutOfMemory>
@@ -67,7 +67,7 @@ fn numbers_around(
 
 /// Whether one of the entries around one is a scope.
 #[tactic(auto, using(crate::proofs::JoinLemmas::any_found, crate::proofs::JoinLemmas::any_more, crate::proofs::JoinLemmas::any_none, crate::proofs::JoinLemmas::any_past, crate::proofs::JoinLemmas::any_lost))]
-fn has_scope(dies: &[Die<'_>], entry: usize, parent: Option<u32>) -> bool
+fn has_scope(dies: &DieList<'_>, entry: usize, parent: Option<u32>) -> bool
     ensures { result ≡ list_any (is_scope_at dies.now) (around dies.now entry parent) }
 {
     let mut limit = entry;
@@ -94,7 +94,7 @@ fn has_scope(dies: &[Die<'_>], entry: usize, parent: Option<u32>) -> bool
 #[tactic(auto, using(crate::proofs::JoinLemmas::fronts_more))]
 fn join(
     alloc: Global,
-    dies: &[Die<'_>],
+    dies: &DieList<'_>,
     entry: usize,
     parent: Option<u32>,
     name: &[u8],
@@ -105,7 +105,7 @@ fn join(
     let mut text = Vec::new(alloc);
     'scopes: while let Some(number) = numbers.pop() {
         if let Some(die) = entry_in(dies, number as usize) {
-            add_front(&mut text, die)?;
+            add_front(&mut text, &die)?;
         }
     }
     text.extend_from_slice(name)?;

@@ -5,7 +5,8 @@
 //! DW_AT_specification, into any unit. Its name is the first linkage name on the way, or else the first name, after the names
 //! of the classes, structures, unions and namespaces around the entry that has it, joined by `::`; or else `<name omitted>`.
 //! [`name_of`] says which entry gives the name, and how; [`name_text`] gives its text, cleaned, a [`EntryNameText`]; [`name_slice`] gives
-//! the bytes of the file where the name stands there as it is. A link is looked up by halves, among the units and then in one.
+//! the bytes of the file where the name stands there as it is. A link is looked up by halves, in the entry's own unit first, then
+//! among all units.
 //!
 //! Here also stands which function owns an address, which inlined copies are on its chain, and which line it has
 //! (`specs/Owners.antt`), for the crates above.
@@ -17,9 +18,11 @@ mod finding;
 mod joining;
 mod kept;
 mod naming;
+mod span_sets;
 mod unit_read;
 
 pub use crate::joining::{name_slice, name_text};
 pub use crate::kept::EntryNameText;
 pub use crate::naming::{How, NameRef, name_of};
-pub use crate::unit_read::{EntryRef, SpanSets, UnitRead, Units};
+pub use crate::span_sets::SpanSets;
+pub use crate::unit_read::{EntryRef, UnitRead, Units};

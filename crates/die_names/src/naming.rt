@@ -33,15 +33,15 @@ pub struct NameRef {
 /// So many links are followed.
 const LINKS: u32 = 16;
 
-/// The entry that an entry is linked to.
-fn follow_link(units: &Units<'_>, die: &Die<'_>) -> Option<EntryRef>
+/// The entry that an entry of a unit is linked to.
+fn follow_link(units: &Units<'_>, unit: u32, die: &Die<'_, '_>) -> Option<EntryRef>
     ensures { found units.now result ≡ linked_from units.now die.now }
 {
     let place = match die.origin() {
         Some(place) => place,
         None => die.spec()?,
     };
-    find_entry(units.as_slice(), place)
+    find_entry(units.as_slice(), unit, place)
 }
 
 /// The name that the entry gives.
@@ -56,11 +56,11 @@ fn refer(at: EntryRef, how: How) -> NameRef
 }
 
 /// The name if no linkage name comes: that of the first entry that has one.
-fn note(die: &Die<'_>, at: EntryRef, best: NameRef) -> NameRef
+fn note(die: &Die<'_, '_>, at: EntryRef, best: NameRef) -> NameRef
     ensures { result ≡ noted_at best at die.now }
 {
     match best.how {
-        How::Omitted if die.name().is_some() => refer(at, How::Joined),
+        How::Omitted if die.has_name() => refer(at, How::Joined),
         _ => best,
     }
 }
@@ -76,14 +76,14 @@ fn follow(units: &Units<'_>, here: Option<EntryRef>, links: u32, best: NameRef) 
     let Some(die) = units.entry(at) else {
         return best;
     };
-    if die.linkage().is_some() {
+    if die.has_linkage() {
         return refer(at, How::Linkage);
     }
-    let noted = note(die, at, best);
+    let noted = note(&die, at, best);
     if links == 0 {
         return noted;
     }
-    follow(units, follow_link(units, die), links - 1, noted)
+    follow(units, follow_link(units, at.unit, &die), links - 1, noted)
 }
 
 /// The entry that gives the name of an entry: the first one with a linkage name, else the first one with a name, among the entry and those that at most 16 links reach. A link goes by `DW_AT_abstract_origin`,

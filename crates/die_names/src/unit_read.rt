@@ -4,11 +4,11 @@ ghost use Rattle.std.specs.List.{slice_get};
 ghost use Rattle.std.specs.Option.{option_copied};
 ghost use Rattle.die_names.specs.UnitEntries.{AreRead, die_in};
 
+use crate::span_sets::SpanSets;
 use die_walk::{Die, DieTable};
 use line_program::LineTable;
 use range_set::RangeSet;
 use std::marker::Model;
-use sym_edges::ListOf;
 
 /// An entry: the number of its unit, and its own number there.
 #[derive(Clone, Copy, Debug, PartialEq, Eq)]
@@ -16,9 +16,6 @@ pub struct EntryRef {
     pub unit: u32,
     pub entry: u32,
 }
-
-/// The addresses of a unit's entries, one set for each: empty for those that do not count.
-pub type SpanSets = ListOf<RangeSet>;
 
 /// What was read of a unit.
 #[derive(Drop)]
@@ -31,8 +28,8 @@ pub struct UnitRead<'a> {
 impl<'a> UnitRead<'a> {
     /// The entry of a number.
     #[inline]
-    pub fn entry(&self, entry: usize) -> Option<&Die<'a>>
-        ensures { option_copied result ≡ slice_get self.now.die.dies entry }
+    pub fn entry(&self, entry: usize) -> Option<Die<'_, 'a>>
+        ensures { result ≡ slice_get self.now.die.dies entry }
     {
         self.die.dies().get(entry)
     }
@@ -42,7 +39,7 @@ impl<'a> UnitRead<'a> {
     pub fn ranges(&self, entry: usize) -> Option<&RangeSet>
         ensures { option_copied result ≡ slice_get self.now.spans entry }
     {
-        self.spans.as_slice().get(entry)
+        self.spans.get(entry)
     }
 }
 
@@ -83,8 +80,8 @@ impl<'a> Units<'a> {
     }
 
     /// An entry.
-    pub fn entry(&self, at: EntryRef) -> Option<&Die<'a>>
-        ensures { option_copied result ≡ die_in self.now at }
+    pub fn entry(&self, at: EntryRef) -> Option<Die<'_, 'a>>
+        ensures { result ≡ die_in self.now at }
     {
         let part = self.unit(at.unit)?;
         part.entry(at.entry as usize)

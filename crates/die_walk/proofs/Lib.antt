@@ -1,4 +1,5 @@
 mod HeldLemmas
+mod HeadLemmas
 mod TakeLemmas
 mod PickLemmas
 mod StepLemmas

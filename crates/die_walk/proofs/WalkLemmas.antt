@@ -29,7 +29,8 @@ use Rattle.die_walk.specs.EntryTable.{DieFields, EntryTable, table_of, entries_a
 use Rattle.die_walk.specs.Marks.{Mark, in_entry, read_values_at, entry_by, mark_by, mark_at, next_mark, marks_at}
 use Rattle.die_walk.specs.Marks.Mark.{Close, Entry}
 use Rattle.die_walk.proofs.TreeLemmas.{start_is, moved_few}
-use Rattle.die_walk.specs.Steps.{Walked, moved, all_moved, rounded, table_in, walked_from, moving, moved_at, step_at, Steps, Moves, IsShort, TableOf}
+use Rattle.die_walk.specs.EntryTree.{is_kept_tag}
+use Rattle.die_walk.specs.Steps.{Walked, begun, added, entered, opened, own_number, moved, all_moved, rounded, table_in, walked_from, moving, moved_at, step_at, Steps, Moves, IsShort, TableOf}
 
 -- how far a mark goes
 entry_passes : {A : Type 0} (reading : Result (A × Ahead) FormFault) (least : ℕ) (c : Ahead) → Passes least c reading → Passes least c (in_entry reading)
@@ -242,11 +243,39 @@ pub step_shorter : (sections : DebugSections) (unit : Unit) (abbrevs : List Abbr
 unfolding step_at
 step_shorter sections unit abbrevs w x c d steps short = (short_by sections unit w x c d (next_mark abbrevs c) (next_goes abbrevs c) steps short).1
 
+-- no step takes names from another section
+opened_strs : (w : Walked) (children : Bool) (own : Option ℕ) → (opened w children own).strs ≡ w.strs
+opened_strs w true own = refl
+opened_strs w false own = refl
+
+entered_strs : (sections : DebugSections) (unit : Unit) (w : Walked) (at tag : ℕ) (values : List Given) (first kept : Bool) → (cond first (begun sections unit w at tag values) (cond kept (added sections unit w at tag values) w)).strs ≡ w.strs
+entered_strs sections unit w at tag values true kept = refl
+entered_strs sections unit w at tag values false true = refl
+entered_strs sections unit w at tag values false false = refl
+
+moved_strs : (sections : DebugSections) (unit : Unit) (w : Walked) (mark : Mark) → (moved sections unit w mark).strs ≡ w.strs
+unfolding moved entered
+moved_strs sections unit w Close = refl
+moved_strs sections unit w (Entry at tag children values) =
+    opened_strs (entered sections unit w at tag values) children (own_number w tag)
+    ∙ entered_strs sections unit w at tag values (nat_eq (length w.dies) 0) (is_kept_tag tag)
+
+strs_by : (sections : DebugSections) (unit : Unit) (w x : Walked) (d : Ahead) (next : Result (Option Mark × Ahead) (Located DwarfKind)) → (next >>= stepping sections unit w) ≡ Ok (Some x, d) → x.strs ≡ w.strs
+strs_by sections unit w x d (Ok (Some mark, e)) steps =
+    let after : moved sections unit w mark ≡ x = ap (step_walked x) steps in
+    ap (λ (y : Walked). y.strs) (sym after) ∙ moved_strs sections unit w mark
+strs_by sections unit w x d (Ok (None, e)) steps = absurd (subst HasStep (sym steps) tt)
+strs_by sections unit w x d (Err fault) steps = absurd (subst HasStep (sym steps) tt)
+
+pub step_strs : (sections : DebugSections) (unit : Unit) (abbrevs : List Abbrev) (w x : Walked) (c d : Ahead) → step_at sections unit abbrevs w c ≡ Ok (Some x, d) → x.strs ≡ w.strs
+unfolding step_at
+step_strs sections unit abbrevs w x c d steps = strs_by sections unit w x d (next_mark abbrevs c) steps
+
 start_by : (sections : DebugSections) (unit : Unit) (w : Walked) (marks : Result (List Mark) (Located DwarfKind)) → w.dies ≡ [] → w.open_levels ≡ [] → (marks >>= λ m. Ok (table_in (rounded sections unit (all_moved sections unit w m)))) ≡ (marks >>= λ m. Ok (table_of sections unit m))
 start_by sections unit w (Ok marks) dies levels =
-    ap Ok (ap (λ (d : List DieFields). table_in (rounded sections unit (all_moved sections unit (record { dies = d; root = w.root; open_levels = w.open_levels }) marks))) dies
-    ∙ ap (λ (l : List (Option ℕ)). table_in (rounded sections unit (all_moved sections unit (record { dies = []; root = w.root; open_levels = l }) marks))) levels
-    ∙ start_is sections unit marks w.root)
+    ap Ok (ap (λ (d : List DieFields). table_in (rounded sections unit (all_moved sections unit (record { dies = d; root = w.root; open_levels = w.open_levels; strs = w.strs }) marks))) dies
+    ∙ ap (λ (l : List (Option ℕ)). table_in (rounded sections unit (all_moved sections unit (record { dies = []; root = w.root; open_levels = l; strs = w.strs }) marks))) levels
+    ∙ start_is sections unit marks w.root w.strs)
 start_by sections unit w (Err fault) dies levels = refl
 
 -- the walk begins where the entries of the unit begin

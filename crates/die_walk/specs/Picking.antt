@@ -77,11 +77,6 @@ unfoldable pub noted_at : Picks → List Take → Ahead → Result (Picks × Ahe
 noted_at picks [] c = Ok (picks, c)
 noted_at picks (take ∷ takes) c = taken_at take c >>= λ first. noted_at (noted picks take.attribute first.0) takes first.1
 
--- what a call that picks values left, and what it picked
-abbrev pub picked_by : {U F : Type 0} → Result U F → Picks → Ahead → Result (Picks × Ahead) F
-picked_by (Ok x) picks c = Ok (picks, c)
-picked_by (Err fault) picks c = Err fault
-
 -- the first values of a list
 abbrev pub picks_of : List Given → Picks
 picks_of values = record {

@@ -25,11 +25,13 @@ kept_at at parent tag values = record { item = record { at = at; depth = 0; tag 
 abbrev pub root_at : ℕ → List Given → Item
 root_at at values = record { at = at; depth = 0; tag = 0; values = values }
 
--- the kept entries so far, what the root said, and for each open list of children the number of the nearest kept entry around it
+-- the kept entries so far, what the root said, for each open list of children the number of the nearest kept entry around it, and the
+-- section that has their names
 pub record Walked : Type 0 where
   pub dies : List DieFields
   pub root : RootFields
   pub open_levels : List (Option ℕ)
+  pub strs : List ℕ
 
 -- the innermost of them
 abbrev pub innermost : List (Option ℕ) → Option ℕ
@@ -41,10 +43,9 @@ keeps w tag = length w.dies == 0 || is_kept_tag tag
 
 -- the first entry is the root, and its base counts for itself
 abbrev pub begun : DebugSections → Unit → Walked → ℕ → ℕ → List Given → Walked
-begun sections unit w at tag values = record {
+begun sections unit w at tag values = record w {
   dies = die_of sections unit (base_of values) (kept_at at (innermost w.open_levels) tag values) ∷ [];
   root = root_of sections unit (root_at at values);
-  open_levels = w.open_levels;
 }
 
 abbrev pub added : DebugSections → Unit → Walked → ℕ → ℕ → List Given → Walked
@@ -60,10 +61,9 @@ entered sections unit w at tag values =
 
 -- the same from what was picked
 abbrev pub begun_by : DebugSections → Unit → Walked → ℕ → ℕ → Picks → Walked
-begun_by sections unit w at tag picks = record {
+begun_by sections unit w at tag picks = record w {
   dies = die_by sections unit (base_by picks) at (innermost w.open_levels) tag picks ∷ [];
   root = root_by sections unit at picks;
-  open_levels = w.open_levels;
 }
 
 abbrev pub added_by : DebugSections → Unit → Walked → ℕ → ℕ → Picks → Walked

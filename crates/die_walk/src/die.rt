@@ -1,16 +1,12 @@
-//! Kept entries, and the root.
-ghost use Rattle.std.specs.Prelude.{◌≡◌};
+//! Kept entries.
+ghost use Rattle.std.specs.Prelude.{◌≡◌, is_some, drop};
 ghost use Rattle.std.specs.Option.{option_copied};
-ghost use Rattle.die_walk.specs.Attributes.{or_else};
 ghost use Rattle.die_walk.specs.EntryKinds.{is_function, is_inlined, is_scope};
-ghost use Rattle.die_walk.specs.internal.Packing.{where_said, text_said};
-ghost use Rattle.die_walk.specs.Picking.{text_by, base_by, die_by, root_by};
+ghost use Rattle.die_walk.specs.internal.Heads.{held_in, origin_said, spec_said, place_said};
 
-use crate::attributes::{line_of, number_of, place_of, reference_of, says_yes, text_of};
-use crate::packed::{Class, Packed, pack_high, pack_low, pack_ranges, unpack};
-use crate::picks::Picks;
-use crate::texts::{Ending, Held, hold_text, text_where};
-use abbrev_units::{Sections, Unit, Value};
+use crate::heads::{DieParts, Head, Link, site_of, whole_of};
+use crate::texts::{Ending, text_where};
+use abbrev_units::Value;
 use code_table::{
     DW_TAG_class_type, DW_TAG_inlined_subroutine, DW_TAG_namespace, DW_TAG_structure_type,
     DW_TAG_subprogram, DW_TAG_union_type,
@@ -19,69 +15,80 @@ use std::marker::Model;
 
 /// A kept entry with the attributes that matter here (DWARF 5, 7.5.4): absent where they are not given,
 /// have another class, or lead to no text. Each call says one of them.
-#[derive(Debug, Drop)]
-pub struct Die<'a> {
-    at: u32,
-    parent: u32,
-    tag: u64,
-    low: u64,
-    high: u64,
-    ranges: u64,
-    origin: u64,
-    spec: u64,
-    call_file: u64,
-    name: &'a [u8],
-    linkage: &'a [u8],
-    call_line: u32,
-    low_class: Class,
-    high_class: Class,
-    ranges_class: Class,
-    declaration: bool,
-    has_parent: bool,
-    has_origin: bool,
-    has_spec: bool,
-    has_call_file: bool,
-    name_ending: Ending,
-    linkage_ending: Ending,
+#[derive(Drop)]
+pub struct Die<'t, 'a> {
+    parts: &'t DieParts<'a>,
+    head: &'t Head,
 }
 
-impl<'a> Model for Die<'a> {
+impl<'t, 'a> Model for Die<'t, 'a> {
     ghost use Rattle.die_walk.specs.EntryTable.{DieFields};
-    ghost use Rattle.die_walk.specs.internal.Packing.{value_in, where_said, text_said};
+    ghost use Rattle.die_walk.specs.internal.Heads.{held_in};
 
     ghost Value = { DieFields };
 
-    ghost view = { λ d. record {
-      at = d.at;
-      tag = d.tag;
-      parent = where_said d.has_parent d.parent;
-      declaration = d.declaration;
-      low = value_in d.low_class d.low;
-      high = value_in d.high_class d.high;
-      ranges = value_in d.ranges_class d.ranges;
-      origin = where_said d.has_origin d.origin;
-      spec = where_said d.has_spec d.spec;
-      name = text_said d.name_ending d.name.now;
-      linkage = text_said d.linkage_ending d.linkage.now;
-      call_file = where_said d.has_call_file d.call_file;
-      call_line = d.call_line;
-    } };
+    ghost view = { λ d. held_in d.parts.now.strs.now d.parts.now.sites.items d.parts.now.wholes.items d.head.now };
 }
 
+/// The target, where it is the origin.
 #[inline]
-fn number_where(there: bool, number: u64) -> Option<u64>
-    ensures { result ≡ where_said there number }
+fn origin_of(head: &Head) -> Option<u64>
+    ensures { result ≡ origin_said head.now.link head.now.target }
 {
-    if there { Some(number) } else { None }
+    match head.link {
+        Link::Origin => Some(u64::from(head.target)),
+        Link::Missing | Link::Spec => None,
+    }
 }
 
-impl<'a> Die<'a> {
+/// The target, where it is the declaration.
+#[inline]
+fn spec_of(head: &Head) -> Option<u64>
+    ensures { result ≡ spec_said head.now.link head.now.target }
+{
+    match head.link {
+        Link::Spec => Some(u64::from(head.target)),
+        Link::Missing | Link::Origin => None,
+    }
+}
+
+/// The bytes from a place on, as far as they are there.
+#[inline]
+#[tactic(auto, using(crate::proofs::HeadLemmas::drop_past))]
+fn bytes_from(strs: &[u8], place: usize) -> &[u8]
+    ensures { result.now ≡ drop place strs.now }
+{
+    if place > strs.len() {
+        return &[];
+    }
+    strs.split_at(place).1
+}
+
+/// The text at a place.
+#[inline]
+fn text_from(strs: &[u8], there: bool, place: u32) -> Option<&[u8]>
+    ensures { option_copied result ≡ place_said strs.now there place }
+{
+    if !there {
+        return None;
+    }
+    text_where(Ending::Open, bytes_from(strs, place as usize))
+}
+
+impl<'t, 'a> Die<'t, 'a> {
+    #[inline]
+    pub(crate) fn of(parts: &'t DieParts<'a>, head: &'t Head) -> Die<'t, 'a>
+        ensures { result ≡ held_in parts.now.strs.now parts.now.sites.items parts.now.wholes.items head.now }
+    {
+        Die { parts, head }
+    }
+
     /// The place of the entry in `.debug_info`.
     #[inline]
     pub fn at(&self) -> u32
         ensures { result ≡ self.now.at }
     {
-        self.at
+        self.head.at
     }
 
     /// DWARF 5, table 7.3.
@@ -89,7 +96,10 @@ impl<'a> Die<'a> {
     pub fn tag(&self) -> u64
         ensures { result ≡ self.now.tag }
     {
-        self.tag
+        match whole_of(self.parts, self.head) {
+            Some(whole) => whole.tag(),
+            None => u64::from(self.head.tag),
+        }
     }
 
     /// Whether it is a function that is not only declared.
@@ -98,7 +108,7 @@ impl<'a> Die<'a> {
     pub fn is_function(&self) -> bool
         ensures { result ≡ is_function self.now }
     {
-        self.tag == DW_TAG_subprogram && !self.declaration
+        self.tag() == DW_TAG_subprogram && !self.declaration()
     }
 
     /// Whether it is an inlined copy of a function.
@@ -107,7 +117,7 @@ impl<'a> Die<'a> {
     pub fn is_inlined(&self) -> bool
         ensures { result ≡ is_inlined self.now }
     {
-        self.tag == DW_TAG_inlined_subroutine
+        self.tag() == DW_TAG_inlined_subroutine
     }
 
     /// Whether it is a class, a structure, a union or a namespace, whose name stands in front of other names.
@@ -117,7 +127,7 @@ impl<'a> Die<'a> {
         ensures { result ≡ is_scope self.now }
     {
         matches!(
-            self.tag,
+            self.tag(),
             DW_TAG_class_type | DW_TAG_structure_type | DW_TAG_union_type | DW_TAG_namespace
         )
     }
@@ -127,54 +137,62 @@ impl<'a> Die<'a> {
     pub fn parent(&self) -> Option<u32>
         ensures { result ≡ self.now.parent }
     {
-        if self.has_parent {
-            Some(self.parent)
-        } else {
-            None
+        if let Some(whole) = whole_of(self.parts, self.head) {
+            return whole.parent();
         }
+        if self.head.has_parent {
+            return Some(self.head.parent);
+        }
+        None
     }
 
     #[inline]
     pub fn declaration(&self) -> bool
         ensures { result ≡ self.now.declaration }
     {
-        self.declaration
+        match whole_of(self.parts, self.head) {
+            Some(whole) => whole.declaration(),
+            None => self.head.declaration,
+        }
     }
 
     /// An address, or the number of one.
-    #[inline]
-    #[tactic(auto, unfolding(crate::specs::internal::Packing::unpacked))]
     pub fn low(&self) -> Option<Value>
         ensures { result ≡ self.now.low }
     {
-        unpack(Packed {
-            class: self.low_class,
-            number: self.low,
-        })
+        if let Some(whole) = whole_of(self.parts, self.head) {
+            return whole.low();
+        }
+        match site_of(self.parts, self.head) {
+            Some(site) => site.low(),
+            None => None,
+        }
     }
 
     /// An address, the number of one, or a length.
-    #[inline]
-    #[tactic(auto, unfolding(crate::specs::internal::Packing::unpacked))]
     pub fn high(&self) -> Option<Value>
         ensures { result ≡ self.now.high }
     {
-        unpack(Packed {
-            class: self.high_class,
-            number: self.high,
-        })
+        if let Some(whole) = whole_of(self.parts, self.head) {
+            return whole.high();
+        }
+        match site_of(self.parts, self.head) {
+            Some(site) => site.high(),
+            None => None,
+        }
     }
 
     /// The place or the number of a range list.
-    #[inline]
-    #[tactic(auto, unfolding(crate::specs::internal::Packing::unpacked))]
     pub fn ranges(&self) -> Option<Value>
         ensures { result ≡ self.now.ranges }
     {
-        unpack(Packed {
-            class: self.ranges_class,
-            number: self.ranges,
-        })
+        if let Some(whole) = whole_of(self.parts, self.head) {
+            return whole.ranges();
+        }
+        match site_of(self.parts, self.head) {
+            Some(site) => site.ranges(),
+            None => None,
+        }
     }
 
     /// The place in `.debug_info` of the abstract entry.
@@ -182,7 +200,10 @@ impl<'a> Die<'a> {
     pub fn origin(&self) -> Option<u64>
         ensures { result ≡ self.now.origin }
     {
-        number_where(self.has_origin, self.origin)
+        match whole_of(self.parts, self.head) {
+            Some(whole) => whole.origin(),
+            None => origin_of(self.head),
+        }
     }
 
     /// The place in `.debug_info` of the declaration.
@@ -190,179 +211,73 @@ impl<'a> Die<'a> {
     pub fn spec(&self) -> Option<u64>
         ensures { result ≡ self.now.spec }
     {
-        number_where(self.has_spec, self.spec)
+        match whole_of(self.parts, self.head) {
+            Some(whole) => whole.spec(),
+            None => spec_of(self.head),
+        }
     }
 
+    /// Whether there is a name.
     #[inline]
+    pub fn has_name(&self) -> bool
+        ensures { result ≡ is_some self.now.name }
+    {
+        match whole_of(self.parts, self.head) {
+            Some(whole) => whole.name().is_some(),
+            None => self.head.has_name,
+        }
+    }
+
     pub fn name(&self) -> Option<&'a [u8]>
         ensures { option_copied result ≡ self.now.name }
     {
-        text_where(self.name_ending, self.name)
+        match whole_of(self.parts, self.head) {
+            Some(whole) => whole.name(),
+            None => text_from(self.parts.strs, self.head.has_name, self.head.name),
+        }
     }
 
+    /// Whether there is a linkage name.
     #[inline]
+    pub fn has_linkage(&self) -> bool
+        ensures { result ≡ is_some self.now.linkage }
+    {
+        match whole_of(self.parts, self.head) {
+            Some(whole) => whole.linkage().is_some(),
+            None => self.head.has_linkage,
+        }
+    }
+
     pub fn linkage(&self) -> Option<&'a [u8]>
         ensures { option_copied result ≡ self.now.linkage }
     {
-        text_where(self.linkage_ending, self.linkage)
+        match whole_of(self.parts, self.head) {
+            Some(whole) => whole.linkage(),
+            None => text_from(self.parts.strs, self.head.has_linkage, self.head.linkage),
+        }
     }
 
-    #[inline]
     pub fn call_file(&self) -> Option<u64>
         ensures { result ≡ self.now.call_file }
     {
-        number_where(self.has_call_file, self.call_file)
+        if let Some(whole) = whole_of(self.parts, self.head) {
+            return whole.call_file();
+        }
+        match site_of(self.parts, self.head) {
+            Some(site) => site.call_file(),
+            None => None,
+        }
     }
 
-    #[inline]
     pub fn call_line(&self) -> u32
         ensures { result ≡ self.now.call_line }
     {
-        self.call_line
-    }
-}
-
-/// What the root of a unit says of the whole unit: the place of the root, the address at which lists
-/// begin to count, the place of the line table, the folder of the compilation, and the bases in
-/// `.debug_str_offsets`, `.debug_addr` and `.debug_rnglists`.
-#[derive(Debug, Drop)]
-pub struct Root<'a> {
-    pub at: u64,
-    pub low: Option<Value>,
-    pub stmt_list: Option<u64>,
-    pub comp_dir: Option<&'a [u8]>,
-    pub str_offsets_base: Option<u64>,
-    pub addr_base: Option<u64>,
-    pub rnglists_base: Option<u64>,
-}
-
-impl<'a> Model for Root<'a> {
-    ghost use Rattle.std.specs.Option.{option_copied};
-    ghost use Rattle.die_walk.specs.EntryTable.{RootFields};
-
-    ghost Value = { RootFields };
-
-    ghost view = { λ r. record {
-      at = r.at;
-      low = r.low;
-      stmt_list = r.stmt_list;
-      comp_dir = option_copied r.comp_dir;
-      str_offsets_base = r.str_offsets_base;
-      addr_base = r.addr_base;
-      rnglists_base = r.rnglists_base;
-    } };
-}
-
-/// The linkage name of an entry, also by the name that it had before the standard had one.
-#[inline]
-fn linkage_of<'a>(
-    sections: &Sections<'a>,
-    unit: &Unit,
-    base: Option<u64>,
-    picks: &Picks,
-) -> Held<'a>
-    ensures { text_said result.ending result.bytes.now ≡ or_else (text_by sections.now unit.now base picks.now.linkage) (text_by sections.now unit.now base picks.now.old_linkage) }
-{
-    let linkage = hold_text(sections, unit, base, picks.linkage);
-    match linkage.ending {
-        Ending::Missing => hold_text(sections, unit, base, picks.old_linkage),
-        Ending::Whole | Ending::Open => linkage,
-    }
-}
-
-/// A number, or 0, and whether it is there.
-#[inline]
-fn parts_of(number: Option<u64>) -> (bool, u64)
-    ensures { where_said result.0 result.1 ≡ number }
-{
-    match number {
-        Some(n) => (true, n),
-        None => (false, 0),
-    }
-}
-
-/// The same for the number of an entry.
-#[inline]
-fn parent_parts(parent: Option<u32>) -> (bool, u32)
-    ensures { where_said result.0 result.1 ≡ parent }
-{
-    match parent {
-        Some(n) => (true, n),
-        None => (false, 0),
-    }
-}
-
-/// A kept entry from its place, its parent, its tag and its values; `base` is the unit's
-/// str_offsets_base.
-#[inline]
-#[tactic(auto, unfolding(crate::specs::Picking::die_by, crate::specs::internal::Packing::unpacked))]
-pub fn make_die<'a>(
-    sections: &Sections<'a>,
-    unit: &Unit,
-    base: Option<u64>,
-    at: u32,
-    parent: Option<u32>,
-    tag: u64,
-    picks: &Picks,
-) -> Die<'a>
-    ensures { result ≡ die_by sections.now unit.now base at parent tag picks.now }
-{
-    let (has_parent, parent) = parent_parts(parent);
-    let low = pack_low(picks.low);
-    let high = pack_high(picks.high);
-    let ranges = pack_ranges(picks.ranges);
-    let origin = reference_of(unit, picks.origin);
-    let (has_origin, origin) = parts_of(origin);
-    let (has_spec, spec) = parts_of(reference_of(unit, picks.spec));
-    let (has_call_file, call_file) = parts_of(number_of(picks.call_file));
-    let name = hold_text(sections, unit, base, picks.name);
-    let linkage = linkage_of(sections, unit, base, picks);
-    Die {
-        at,
-        parent,
-        tag,
-        low: low.number,
-        high: high.number,
-        ranges: ranges.number,
-        origin,
-        spec,
-        call_file,
-        name: name.bytes,
-        linkage: linkage.bytes,
-        call_line: line_of(number_of(picks.call_line)),
-        low_class: low.class,
-        high_class: high.class,
-        ranges_class: ranges.class,
-        declaration: says_yes(picks.declaration),
-        has_parent,
-        has_origin,
-        has_spec,
-        has_call_file,
-        name_ending: name.ending,
-        linkage_ending: linkage.ending,
-    }
-}
-
-/// The base in `.debug_str_offsets` that the root's values give.
-pub fn base_of(picks: &Picks) -> Option<u64>
-    ensures { result ≡ base_by picks.now }
-{
-    place_of(picks.str_offsets_base)
-}
-
-/// What the root says of the unit.
-#[tactic(auto, unfolding(crate::specs::Picking::root_by))]
-pub fn make_root<'a>(sections: &Sections<'a>, unit: &Unit, at: u32, picks: &Picks) -> Root<'a>
-    ensures { result ≡ root_by sections.now unit.now at picks.now }
-{
-    let base = base_of(picks);
-    Root {
-        at: u64::from(at),
-        low: unpack(pack_low(picks.low)),
-        stmt_list: place_of(picks.stmt_list),
-        comp_dir: text_of(sections, unit, base, picks.comp_dir),
-        str_offsets_base: base,
-        addr_base: place_of(picks.addr_base),
-        rnglists_base: place_of(picks.rnglists_base),
+        if let Some(whole) = whole_of(self.parts, self.head) {
+            return whole.call_line();
+        }
+        match site_of(self.parts, self.head) {
+            Some(site) => site.call_line(),
+            None => 0,
+        }
     }
 }

@@ -17,11 +17,17 @@
 
 mod attributes;
 mod die;
+mod heads;
+mod making;
 mod packed;
 mod picks;
+mod quick;
+mod root;
 mod table;
 mod texts;
 mod walker;
+mod whole;
 
-pub use crate::die::{Die, Root};
-pub use crate::table::{DieTable, walk};
+pub use crate::die::Die;
+pub use crate::root::Root;
+pub use crate::table::{DieList, DieTable, walk};

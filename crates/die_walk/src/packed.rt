@@ -15,6 +15,15 @@ pub enum Class {
     Signed,
     SecOffset,
     ListIndex,
+    Flag,
+    StrAt,
+    LineStrAt,
+    StrIndex,
+    UnitRef,
+    InfoRef,
+    InlineText,
+    Block,
+    Other,
 }
 
 /// A number of a class. One with a sign stands modulo 2^64.
@@ -90,5 +99,13 @@ pub fn unpack(packed: Packed) -> Option<Value>
         Class::Signed => Some(Value::Signed(n.cast_signed())),
         Class::SecOffset => Some(Value::SecOffset(n)),
         Class::ListIndex => Some(Value::ListIndex(n)),
+        Class::Flag => Some(Value::Flag(n != 0)),
+        Class::StrAt => Some(Value::StrAt(n)),
+        Class::LineStrAt => Some(Value::LineStrAt(n)),
+        Class::StrIndex => Some(Value::StrIndex(n)),
+        Class::UnitRef => Some(Value::UnitRef(n)),
+        Class::InfoRef => Some(Value::InfoRef(n)),
+        Class::InlineText | Class::Block => None,
+        Class::Other => Some(Value::Other),
     }
 }

@@ -1,9 +1,9 @@
-//! The values of an entry that matter, picked in one pass.
-ghost use Rattle.std.specs.Prelude.{◌≡◌, true, Ok};
+//! The values of an entry that matter, picked in one pass, whatever they may be.
+ghost use Rattle.std.specs.Prelude.{◌≡◌};
 ghost use Rattle.leb_cursor.specs.Ahead.{gave};
-ghost use Rattle.die_walk.specs.Picking.{or_value, no_picks, noted, picks_at, noted_at, picked_by};
+ghost use Rattle.die_walk.specs.Picking.{or_value, no_picks, noted, picks_at};
 
-use abbrev_units::{FormFault, Spec, SpecList, Take, Value};
+use abbrev_units::{FormFault, Spec, Value};
 use code_table::{
     DW_AT_MIPS_linkage_name, DW_AT_abstract_origin, DW_AT_addr_base, DW_AT_call_file,
     DW_AT_call_line, DW_AT_comp_dir, DW_AT_declaration, DW_AT_high_pc, DW_AT_linkage_name,
@@ -92,24 +92,9 @@ fn note(picks: &mut Picks, attribute: u64, value: Value)
     }
 }
 
-/// Notes the values to which a short way leads. Where it fails, nothing is said.
-#[inline]
-#[tactic(auto, using(crate::proofs::TakeLemmas::notes_more, crate::proofs::TakeLemmas::notes_end))]
-fn note_takes(picks: &mut Picks, cursor: &mut Cursor<'_>, takes: &[Take]) -> bool
-    ensures { result ≡ true → noted_at picks.old takes.now cursor.old ≡ Ok (picks.new, cursor.new) }
-{
-    'takes: for take in takes {
-        match take.read(cursor) {
-            Ok(value) => note(picks, take.attribute, value),
-            Err(_) => return false,
-        }
-    }
-    true
-}
-
 /// Reads the values of an entry one by one.
 #[tactic(auto, using(crate::proofs::PickLemmas::picks_more, crate::proofs::PickLemmas::picks_end, crate::proofs::PickLemmas::picks_refused))]
-fn read_each(cursor: &mut Cursor<'_>, specs: &[Spec]) -> Result<Picks, FormFault>
+pub fn read_picks(cursor: &mut Cursor<'_>, specs: &[Spec]) -> Result<Picks, FormFault>
     ensures { gave result cursor.new ≡ picks_at no_picks specs.now cursor.old }
 {
     let mut picks = no_picks();
@@ -120,39 +105,4 @@ fn read_each(cursor: &mut Cursor<'_>, specs: &[Spec]) -> Result<Picks, FormFault
         }
     }
     Ok(picks)
-}
-
-/// Reads the values of an entry one by one, into places that may hold something.
-#[inline(never)]
-fn read_again(picks: &mut Picks, cursor: &mut Cursor<'_>, specs: &[Spec]) -> Result<(), FormFault>
-    ensures { picked_by result picks.new cursor.new ≡ picks_at no_picks specs.now cursor.old }
-{
-    match read_each(cursor, specs) {
-        Ok(read) => {
-            *picks = read;
-            Ok(())
-        }
-        Err(fault) => Err(fault),
-    }
-}
-
-/// Reads the values of an entry.
-#[inline]
-#[tactic(auto, using(crate::proofs::TakeLemmas::short_way))]
-pub fn read_picks(
-    picks: &mut Picks,
-    cursor: &mut Cursor<'_>,
-    specs: &SpecList,
-) -> Result<(), FormFault>
-    requires { picks.old ≡ no_picks }
-    ensures { picked_by result picks.new cursor.new ≡ picks_at no_picks specs.now cursor.old }
-{
-    if let Some(takes) = specs.takes() {
-        let mut probe = cursor.fork();
-        if note_takes(picks, &mut probe, takes) {
-            *cursor = probe;
-            return Ok(());
-        }
-    }
-    read_again(picks, cursor, specs.as_slice())
 }

@@ -1,10 +1,14 @@
 //! The table of a unit's entries.
-ghost use Rattle.std.specs.Prelude.{◌≡◌, ◌≤◌, ◌^◌, [], length, OnOk};
+ghost use Rattle.std.specs.Prelude.{◌≡◌, ◌≤◌, ◌^◌, [], length, map, OnOk};
+ghost use Rattle.std.specs.List.{slice_get};
+ghost use Rattle.sym_edges.specs.Rising.{RisesFrom, StandBelow};
 ghost use Rattle.abbrev_units.specs.Faults.{Gives};
-ghost use Rattle.die_walk.specs.EntryTable.{EntryTable, entries_ahead, entry_table};
+ghost use Rattle.die_walk.specs.EntryTable.{DieFields, EntryTable, entries_ahead, entry_table};
 ghost use Rattle.die_walk.specs.Steps.{TableOf};
 
-use crate::die::{Die, Root};
+use crate::die::Die;
+use crate::heads::EntryList;
+use crate::root::Root;
 use crate::walker::Walker;
 use abbrev_units::{Abbrevs, DwarfFault, Sections, Unit};
 use leb_cursor::Cursor;
@@ -12,11 +16,52 @@ use std::alloc::Global;
 use std::marker::Model;
 use sym_edges::{FILE_LIMIT, OutOfMemory, Stop};
 
+/// Kept entries in their order.
+#[derive(Drop)]
+pub struct DieList<'a> {
+    entries: EntryList<'a>,
+}
+
+impl<'a> Model for DieList<'a> {
+    ghost use Rattle.std.specs.Prelude.{List};
+    ghost use Rattle.die_walk.specs.EntryTable.{DieFields};
+
+    ghost Value = { List DieFields };
+
+    ghost view = { λ l. l.entries.dies };
+}
+
+impl<'a> DieList<'a> {
+    #[inline]
+    pub fn len(&self) -> usize
+        ensures { result ≡ length self.now }
+    {
+        self.entries.len()
+    }
+
+    /// The entry of a number.
+    #[inline]
+    pub fn get(&self, entry: usize) -> Option<Die<'_, 'a>>
+        ensures { result ≡ slice_get self.now entry }
+    {
+        self.entries.get(entry)
+    }
+
+    /// How many entries begin before a place, by halves.
+    #[inline]
+    pub fn count_before(&self, place: u64) -> usize
+        requires { RisesFrom 0 (map (λ (d : DieFields). d.at) self.now) }
+        ensures { StandBelow (λ (d : DieFields). d.at) place result self.now }
+    {
+        self.entries.count_before(place)
+    }
+}
+
 /// The root of a unit and its kept entries, of which the root is the first.
-#[derive(Debug, Drop)]
+#[derive(Drop)]
 pub struct DieTable<'a> {
     root: Root<'a>,
-    dies: Vec<Die<'a>>,
+    dies: DieList<'a>,
 }
 
 impl<'a> Model for DieTable<'a> {
@@ -24,14 +69,17 @@ impl<'a> Model for DieTable<'a> {
 
     ghost Value = { EntryTable };
 
-    ghost view = { λ t. record { root = t.root; dies = t.dies.items } };
+    ghost view = { λ t. record { root = t.root; dies = t.dies } };
 }
 
 impl<'a> DieTable<'a> {
-    pub(crate) fn of(root: Root<'a>, dies: Vec<Die<'a>>) -> DieTable<'a>
-        ensures { result ≡ record { root = root.entry; dies = dies.entry.items } }
+    pub(crate) fn of(root: Root<'a>, entries: EntryList<'a>) -> DieTable<'a>
+        ensures { result ≡ record { root = root.entry; dies = entries.entry.dies } }
     {
-        DieTable { root, dies }
+        DieTable {
+            root,
+            dies: DieList { entries },
+        }
     }
 
     pub fn root(&self) -> &Root<'a>
@@ -40,10 +88,10 @@ impl<'a> DieTable<'a> {
         &self.root
     }
 
-    pub fn dies(&self) -> &[Die<'a>]
+    pub fn dies(&self) -> &DieList<'a>
         ensures { result.now ≡ self.now.dies }
     {
-        self.dies.as_slice()
+        &self.dies
     }
 }
 
@@ -69,6 +117,7 @@ fn walk_all<'a>(
     requires small { length sections.now.info ≤ 2 ^ 29 }
     requires dies { walker.old.dies ≡ [] }
     requires levels { walker.old.open_levels ≡ [] }
+    requires strs { walker.old.strs ≡ sections.now.strs }
     ensures { TableOf result walker.new (entry_table sections.now unit.now abbrevs.now) }
 {
     let mut cursor = entries_of(sections, unit);
@@ -101,7 +150,7 @@ pub fn walk<'a>(
     if sections.info.len() > FILE_LIMIT {
         return Err(Stop::NoMemory);
     }
-    let mut walker = Walker::new(alloc);
+    let mut walker = Walker::new(alloc, sections.strs);
     match walk_all(sections, unit, abbrevs, &mut walker) {
         Ok(()) => Ok(walker.into_table()),
         Err(stop) => Err(stop),

@@ -42,7 +42,7 @@ fn whole(text: Option<&[u8]>) -> Held<'_>
 
 /// Whether a section ends with a zero byte.
 #[inline]
-fn is_closed(bytes: &[u8]) -> bool
+pub fn is_closed(bytes: &[u8]) -> bool
     ensures { IsClosed result bytes.now }
 {
     match bytes.last() {

@@ -1,13 +1,17 @@
 //! The walk over the entries of a unit.
-ghost use Rattle.std.specs.Prelude.{◌≡◌, ◌<◌, ◌^◌, true, false, [], length, OnOk, IfOk};
+ghost use Rattle.std.specs.Prelude.{◌≡◌, ◌<◌, ◌^◌, ◌==◌, true, false, [], length, OnOk, IfOk};
 ghost use Rattle.die_walk.specs.EntryTree.{is_kept_tag};
 ghost use Rattle.die_walk.specs.Marks.{value_fault};
 ghost use Rattle.die_walk.specs.Marks.Mark.{Close};
 ghost use Rattle.die_walk.specs.Steps.{innermost, keeps, opened, own_number, begun_by, entered_by, moved, rounded, entered_at, moved_at, step_at, Steps, Moves, IsShort, table_in};
 
-use crate::die::{Die, Root, base_of, make_die, make_root};
+use crate::heads::EntryList;
+use crate::making::{has_no_site, make_head, make_site};
 use crate::picks::{Picks, no_picks, read_picks};
+use crate::quick::{Quick, no_quick, read_quick};
+use crate::root::{Root, base_of, make_root};
 use crate::table::DieTable;
+use crate::whole::make_whole;
 use abbrev_units::{Abbrev, Abbrevs, DwarfFault, DwarfKind, FormFault, Sections, Unit, in_section};
 use code_table::{
     DW_TAG_class_type, DW_TAG_inlined_subroutine, DW_TAG_namespace, DW_TAG_structure_type,
@@ -22,7 +26,7 @@ use sym_edges::{Located, OutOfMemory, Sect, Stop};
 /// nearest kept entry around it.
 #[derive(Drop)]
 pub struct Walker<'a> {
-    pub dies: Vec<Die<'a>>,
+    pub dies: EntryList<'a>,
     pub root: Root<'a>,
     pub open_levels: Vec<Option<u32>>,
 }
@@ -32,7 +36,7 @@ impl<'a> Model for Walker<'a> {
 
     ghost Value = { Walked };
 
-    ghost view = { λ w. record { dies = w.dies.items; root = w.root; open_levels = w.open_levels.items } };
+    ghost view = { λ w. record { dies = w.dies.dies; root = w.root; open_levels = w.open_levels.items; strs = w.dies.strs } };
 }
 
 /// The fault of a value.
@@ -77,13 +81,14 @@ fn is_kept_tag(tag: u64) -> bool
 }
 
 impl<'a> Walker<'a> {
-    /// A walk that has nothing yet.
-    pub fn new(alloc: Global) -> Walker<'a>
+    /// A walk that has nothing yet; names are in this section.
+    pub fn new(alloc: Global, strs: &'a [u8]) -> Walker<'a>
         ensures dies { result.dies ≡ [] }
         ensures levels { result.open_levels ≡ [] }
+        ensures strs { result.strs ≡ strs.now }
     {
         Walker {
-            dies: Vec::new(alloc),
+            dies: EntryList::new(alloc, strs),
             root: Root {
                 at: 0,
                 low: None,
@@ -111,8 +116,8 @@ impl<'a> Walker<'a> {
         ensures { OnOk result (self.new ≡ begun_by sections.now unit.now self.old at tag picks.now) }
     {
         let parent = innermost(self.open_levels.as_slice());
-        let die = make_die(sections, unit, base_of(picks), at, parent, tag, picks);
-        self.dies.push(die)?;
+        let whole = make_whole(sections, unit, base_of(picks), at, parent, tag, picks);
+        self.dies.push_whole(at, whole)?;
         self.root = make_root(sections, unit, at, picks);
         Ok(())
     }
@@ -164,8 +169,8 @@ impl<'a> Walker<'a> {
         }
         let parent = innermost(self.open_levels.as_slice());
         let base = self.root.str_offsets_base;
-        let die = make_die(sections, unit, base, at, parent, tag, picks);
-        self.dies.push(die)?;
+        let whole = make_whole(sections, unit, base, at, parent, tag, picks);
+        self.dies.push_whole(at, whole)?;
         Ok(())
     }
 
@@ -177,10 +182,47 @@ impl<'a> Walker<'a> {
         let _level = self.open_levels.pop();
     }
 
-    /// Takes a kept entry in, without its children. It stands alone, so that entries that are not kept need no places for values.
+    /// Adds a kept entry that is not the first, by what was picked.
+    #[inline]
+    #[tactic(auto, unfolding(crate::specs::Steps::entered_by))]
+    fn add_quick(
+        &mut self,
+        sections: &Sections<'a>,
+        unit: &Unit,
+        at: u32,
+        tag: u64,
+        quick: &Quick,
+    ) -> Result<(), OutOfMemory>
+        requires kept { is_kept_tag tag ≡ true }
+        requires later { (length self.old.dies == 0) ≡ false }
+        requires strs { self.old.strs ≡ sections.now.strs }
+        ensures { OnOk result (self.new ≡ entered_by sections.now unit.now self.old at tag quick.now) }
+    {
+        let parent = innermost(self.open_levels.as_slice());
+        let root = &self.root;
+        if let Some(head) = make_head(
+            sections,
+            unit,
+            root.str_offsets_base,
+            at,
+            parent,
+            tag,
+            quick,
+        ) {
+            if has_no_site(quick) {
+                return self.dies.push_alone(head);
+            }
+            if let Some(site) = make_site(quick) {
+                return self.dies.push_site(head, site);
+            }
+        }
+        self.add(sections, unit, at, tag, &quick.to_picks())
+    }
+
+    /// Takes a kept entry in, without its children, whatever its values may be.
     #[inline(never)]
     #[tactic(auto, using(crate::proofs::StepLemmas::taken, crate::proofs::StepLemmas::taken_refused))]
-    fn take_kept(
+    fn take_any(
         &mut self,
         sections: &Sections<'a>,
         unit: &Unit,
@@ -191,12 +233,37 @@ impl<'a> Walker<'a> {
         requires { keeps self.old found.now.tag ≡ true }
         ensures { Moves result self.new cursor.new (entered_at sections.now unit.now self.old at found.now cursor.old) }
     {
-        let mut picks = no_picks();
-        match read_picks(&mut picks, cursor, &found.specs) {
-            Ok(()) => {}
+        let picks = match read_picks(cursor, found.specs.as_slice()) {
+            Ok(picks) => picks,
             Err(fault) => return Err(Stop::Fault(value_fault(fault))),
-        }
+        };
         self.add(sections, unit, at, found.tag, &picks)?;
+        Ok(())
+    }
+
+    /// Takes a kept entry in, without its children. It stands alone, so that entries that are not kept need no places for values.
+    #[inline(never)]
+    #[tactic(auto, using(crate::proofs::StepLemmas::taken))]
+    fn take_kept(
+        &mut self,
+        sections: &Sections<'a>,
+        unit: &Unit,
+        cursor: &mut Cursor<'a>,
+        at: u32,
+        found: &Abbrev,
+    ) -> Result<(), Stop<DwarfFault>>
+        requires kept { keeps self.old found.now.tag ≡ true }
+        requires strs { self.old.strs ≡ sections.now.strs }
+        ensures { Moves result self.new cursor.new (entered_at sections.now unit.now self.old at found.now cursor.old) }
+    {
+        if self.dies.is_empty() {
+            return self.take_any(sections, unit, cursor, at, found);
+        }
+        let mut quick = no_quick();
+        if !read_quick(&mut quick, cursor, &found.specs) {
+            return self.take_any(sections, unit, cursor, at, found);
+        }
+        self.add_quick(sections, unit, at, found.tag, &quick)?;
         Ok(())
     }
 
@@ -211,6 +278,7 @@ impl<'a> Walker<'a> {
         at: u32,
         found: &Abbrev,
     ) -> Result<(), Stop<DwarfFault>>
+        requires { self.old.strs ≡ sections.now.strs }
         ensures { Moves result self.new cursor.new (entered_at sections.now unit.now self.old at found.now cursor.old) }
     {
         if self.keeps(found.tag) {
@@ -251,7 +319,8 @@ impl<'a> Walker<'a> {
         at: u32,
         found: &Abbrev,
     ) -> Result<(), Stop<DwarfFault>>
-        requires { length self.old.dies < 2 ^ 32 }
+        requires few { length self.old.dies < 2 ^ 32 }
+        requires strs { self.old.strs ≡ sections.now.strs }
         ensures { Moves result self.new cursor.new (moved_at sections.now unit.now self.old at found.now cursor.old) }
     {
         let own = self.own_number(found.tag);
@@ -274,7 +343,8 @@ impl<'a> Walker<'a> {
         abbrevs: &Abbrevs,
         cursor: &mut Cursor<'a>,
     ) -> Result<bool, Stop<DwarfFault>>
-        requires { IsShort (length self.old.dies) cursor.old }
+        requires short { IsShort (length self.old.dies) cursor.old }
+        requires strs { self.old.strs ≡ sections.now.strs }
         ensures step { Steps result self.new cursor.new (step_at sections.now unit.now abbrevs.now self.old cursor.old) }
         ensures still { IfOk result (λ went. went ≡ false → self.new ≡ self.old) }
     {

@@ -60,7 +60,7 @@ fn push_unit(
                 unit,
                 entry: entry as u32,
             },
-            die,
+            &die,
             set,
         )?;
     }
@@ -72,7 +72,7 @@ fn push_entry(
     places: &mut Vec<EntryRef>,
     stretches: &mut Vec<Stretch>,
     place: EntryRef,
-    die: &Die<'_>,
+    die: &Die<'_, '_>,
     set: &RangeSet,
 ) -> Result<(), AllocError>
     requires count { vec_len places.old < 2 ^ 32 }

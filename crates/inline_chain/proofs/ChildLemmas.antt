@@ -17,7 +17,7 @@ use Rattle.step_maps.specs.SpanStretches.{span_stretches}
 use Rattle.inline_chain.specs.internal.Copies.{stretches_in, copy_by, copy_stretches, child_stretches, of_class, HaveSets}
 use Rattle.inline_chain.specs.Trees.{is_number, first_child}
 
-index_first : (s : Stretch) (items : List Stretch) (a : ℕ) → index_at (s ∷ items) a ≡ (if reaches s a then Some s.index else index_at items a)
+pub index_first : (s : Stretch) (items : List Stretch) (a : ℕ) → index_at (s ∷ items) a ≡ (if reaches s a then Some s.index else index_at items a)
 unfolding index_at first_at
 index_first s items a = go (reaches s a)
   where

@@ -3,7 +3,9 @@ pub mod ChainLemmas
 pub mod ChildLemmas
 pub mod CollectLemmas
 pub mod ClassLemmas
-pub mod TreeLemmas
+pub mod ApartLemmas
+mod NumberLemmas
+mod TreeLemmas
 pub mod LevelLemmas
 pub mod PartLemmas
 pub mod GroupLemmas

@@ -130,3 +130,21 @@ group_added level entry spans set group old new held same canonical adds = recor
   canonical = subst IsCanonical (sym adds.ranges) canonical;
   members = λ a. ap (λ l. holds_any l a) adds.ranges ∙ same a ∙ held a;
 }
+
+-- an entry with few ranges, and one with one
+pub parts_one : (level entry : ℕ) (spans : List Range) (old new : List InlineParts) → (length spans ≡ 0 → ⊥) → length spans ≤ 16384 → new ≡ old ++ record { level = level; entry = entry; spans = spans } ∷ [] → AddsParts level entry spans old new
+parts_one level entry spans old new some few grown = parts_last level entry spans spans spans old old new (above spans some) few refl grown (parts_begin level entry spans old)
+  where
+    above : (rs : List Range) → (length rs ≡ 0 → ⊥) → 0 < length rs
+    above [] some = absurd (some refl)
+    above (r ∷ rs) some = omega arith
+
+pub group_one : (level entry : ℕ) (s : Stretch) (old new : List InlineParts) → s.first ≤ s.last → new ≡ old ++ record { level = level; entry = entry; spans = record { start = s.first; end = s.last + 1 } ∷ [] } ∷ [] → AddsGroup level entry (s ∷ []) old new
+unfolding joined
+group_one level entry s old new some grown = record {
+  parts = (record { start = s.first; end = s.last + 1 } ∷ []) ∷ [];
+  whole = grown;
+  parts_are = (omega arith, omega arith);
+  canonical = (omega (arith, some), tt, tt);
+  members = λ a. ap (λ t. t || false) (stretch_holds s.first s.last a);
+}

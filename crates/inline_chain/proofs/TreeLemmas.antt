@@ -6,12 +6,12 @@ use Rattle.std.proofs.lemmas.List.{length-append, take_more, take_all}
 use Rattle.step_maps.specs.Runs.{Run, IsRuns, between}
 use Rattle.step_maps.specs.declared.stretch.Stretch.{Stretch}
 use Rattle.step_maps.specs.declared.stretch.Cover.{Cover}
-use Rattle.step_maps.specs.Covers.{AreCovers, cover_run, first_at, index_at}
+use Rattle.step_maps.specs.Covers.{cover_run, first_at, index_at}
 use Rattle.die_walk.specs.EntryTable.{DieFields}
 use Rattle.die_names.specs.declared.unit_read.UnitRead.{UnitRead}
 use Rattle.die_names.specs.UnitEntries.{places}
 use Rattle.step_maps.specs.SpanStretches.{AreFit}
-use Rattle.inline_chain.specs.internal.Copies.{of_class, HaveClasses, SortedFrom, front_count, IsList, AreLists, ListsTo, HaveSets, child_stretches, TreeFor}
+use Rattle.inline_chain.specs.internal.Copies.{of_class, HaveClasses, SortedFrom, front_count, IsList, AreLists, ListsTo, HaveSets, child_stretches, TreeFor, AddsCovers}
 use Rattle.inline_chain.specs.Trees.{list_of, child_at, IsTree, AreTrees}
 use Rattle.inline_chain.proofs.ChildLemmas.{index_children}
 use Rattle.inline_chain.proofs.CollectLemmas.{got_front, got_last}
@@ -38,10 +38,10 @@ got_past (x ∷ xs) (suc k) outside = got_past xs k (omega arith)
 pub lists_begin : (items : List Stretch) (lists : List (List Cover)) → lists ≡ [] → SortedFrom 0 items → AreFit items → ListsTo items items lists 0
 lists_begin items lists none sorted fit = record { many = ap length none; each = λ x below. absurd (omega arith); ahead = λ x up. refl; sorted = sorted; fit = fit }
 
-pub lists_more : (items rest : List Stretch) (lists : List (List Cover)) (count : ℕ) (group later : List Stretch) (covers : List Cover) → group ≡ take (front_count count rest) rest → later ≡ drop (front_count count rest) rest
-    → AreCovers group covers → ListsTo items rest lists count → ListsTo items later (lists ++ covers ∷ []) (count + 1)
+lists_grown : (items rest : List Stretch) (lists : List (List Cover)) (count : ℕ) (group later : List Stretch) (covers : List Cover) → group ≡ take (front_count count rest) rest → later ≡ drop (front_count count rest) rest
+    → IsRuns (between 0 18446744073709551616 (index_at group)) (map cover_run covers) → ListsTo items rest lists count → ListsTo items later (lists ++ covers ∷ []) (count + 1)
 unfolding list_of
-lists_more items rest lists count group later covers front back made to = record {
+lists_grown items rest lists count group later covers front back runs to = record {
   many = length-append lists (covers ∷ []) ∙ omega (arith, to.many);
   each = λ x below. ⊎_elim
       (λ less. subst (λ o. IsRuns (between 0 18446744073709551616 (index_at (of_class x items))) (map cover_run (unwrap_or o []))) (sym (got_front lists x covers (omega (arith, to.many)))) (to.each x less))
@@ -50,12 +50,18 @@ lists_more items rest lists count group later covers front back made to = record
       let class_is : group ≡ of_class x items = front ∙ take_front count rest to.sorted ∙ to.ahead count (omega arith) ∙ ap (λ n. of_class n items) (let e : count ≡ x = omega (arith, to.many) in e) in
       subst (λ o. IsRuns (between 0 18446744073709551616 (index_at (of_class x items))) (map cover_run (unwrap_or o [])))
       (sym (ap (slice_get (lists ++ covers ∷ [])) (sym here) ∙ got_last lists covers))
-      (same_runs _ _ (map cover_run covers) (between_same 0 18446744073709551616 (index_at group) (index_at (of_class x items)) (λ a. ap (λ l. index_at l a) class_is)) made.runs))
+      (same_runs _ _ (map cover_run covers) (between_same 0 18446744073709551616 (index_at group) (index_at (of_class x items)) (λ a. ap (λ l. index_at l a) class_is)) runs))
       (cases_lt x count);
   ahead = λ x up. ap (of_class x) back ∙ drop_front count x rest (λ (e : count ≡ x). absurd (omega arith)) ∙ to.ahead x (omega arith);
   sorted = subst (SortedFrom (count + 1)) (sym back) (sorted_behind count rest to.sorted);
   fit = subst AreFit (sym back) (fit_drop (front_count count rest) rest to.fit);
 }
+
+pub lists_more : (items rest : List Stretch) (lists : List (List Cover)) (count : ℕ) (group later : List Stretch) (new : List (List Cover)) → group ≡ take (front_count count rest) rest → later ≡ drop (front_count count rest) rest
+    → AddsCovers group lists new → ListsTo items rest lists count → ListsTo items later new (count + 1)
+lists_more items rest lists count group later new front back made to =
+    subst (λ (ls : List (List Cover)). ListsTo items later ls (count + 1)) (sym made.added)
+    (lists_grown items rest lists count group later made.covers front back made.runs to)
 
 none_of : (x count : ℕ) (items : List Stretch) → HaveClasses count items → count ≤ x → of_class x items ≡ []
 none_of x count [] below up = refl

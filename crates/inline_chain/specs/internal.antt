@@ -1,3 +1,5 @@
 -- What serves the functions and loops of this crate alone: no public clause names it.
 pub mod Levels
 pub mod Copies
+pub mod Apart
+pub mod CoverNumbers

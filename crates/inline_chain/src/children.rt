@@ -26,7 +26,7 @@ fn spans_in<'u>(part: &'u UnitRead<'_>, entry: usize) -> Option<&'u [Span]>
 fn push_copy(
     stretches: &mut Vec<Stretch>,
     number: u32,
-    die: &Die<'_>,
+    die: &Die<'_, '_>,
     above: Option<u32>,
     spans: &[Span],
 ) -> Result<(), AllocError>
@@ -63,8 +63,8 @@ pub fn collect_copies(alloc: Global, part: &UnitRead<'_>) -> Result<Vec<Stretch>
         let Some(spans) = spans_in(part, entry) else {
             return Ok(stretches);
         };
-        let above = inside_of(part, row.as_slice(), die);
-        push_copy(&mut stretches, entry as u32, die, above, spans)?;
+        let above = inside_of(part, row.as_slice(), &die);
+        push_copy(&mut stretches, entry as u32, &die, above, spans)?;
         row.push(above)?;
     }
     Ok(stretches)

@@ -1,5 +1,5 @@
 //! The records of a level: the addresses of each entry together.
-ghost use Rattle.std.specs.Prelude.{◌≡◌, ℕ, ◌<◌, ◌++◌, length, IfOk, OnOk};
+ghost use Rattle.std.specs.Prelude.{◌≡◌, ℕ, ◌<◌, ◌++◌, [], ◌∷◌, length, IfOk, OnOk};
 ghost use Rattle.std.specs.List.{list_any};
 ghost use Rattle.range_set.specs.Members.{holds_any};
 ghost use Rattle.range_set.specs.Canonical.{IsCanonical};
@@ -76,6 +76,47 @@ fn push_parts(
     Ok(())
 }
 
+/// Adds the records of an entry's ranges, which mostly are one record.
+#[tactic(auto, using(crate::proofs::PartLemmas::parts_one))]
+fn push_set(
+    alloc: Global,
+    made: &mut Vec<InlineRun>,
+    level: u32,
+    entry: u32,
+    spans: RangeSet,
+) -> Result<(), OutOfMemory>
+    ensures { OnOk result (AddsParts level entry spans made.old.items made.new.items) }
+{
+    if spans.is_empty() || spans.len() > RANGES {
+        return push_parts(alloc, made, level, entry, spans.spans());
+    }
+    made.push(InlineRun {
+        level,
+        entry,
+        spans,
+    })?;
+    Ok(())
+}
+
+/// Adds the record of one stretch. Takes no memory for it.
+#[tactic(auto, using(crate::proofs::PartLemmas::group_one))]
+fn push_one(
+    made: &mut Vec<InlineRun>,
+    level: u32,
+    entry: u32,
+    one: Stretch,
+) -> Result<(), OutOfMemory>
+    requires { AreFit (one ∷ []) }
+    ensures { OnOk result (AddsGroup level entry (one ∷ []) made.old.items made.new.items) }
+{
+    made.push(InlineRun {
+        level,
+        entry,
+        spans: RangeSet::of_span(Span::new(one.first, one.last + 1)),
+    })?;
+    Ok(())
+}
+
 /// Adds the records of the stretches of one entry.
 fn push_group(
     alloc: Global,
@@ -87,10 +128,14 @@ fn push_group(
     requires { AreFit group.now }
     ensures { OnOk result (AddsGroup level entry group.now made.old.items made.new.items) }
 {
+    if let [one] = group {
+        return push_one(made, level, entry, *one);
+    }
     let spans = spans_of(alloc, group)?;
     let set = of_ranges(alloc, spans.as_slice())?;
-    push_parts(alloc, made, level, entry, set.spans())?;
-    Ok(())
+    // That the set is the one list of its addresses is said by this call.
+    let _held = set.spans();
+    push_set(alloc, made, level, entry, set)
 }
 
 /// The records of sorted stretches, entry by entry.

@@ -6,13 +6,14 @@ ghost use Rattle.step_maps.specs.SpanStretches.{AreFit};
 ghost use Rattle.inline_chain.specs.Trees.{IsTree};
 ghost use Rattle.inline_chain.specs.internal.Levels.{HaveRuns, AllRuns};
 
+use crate::cover_lists::CoverLists;
 use crate::grouping::push_level;
 use crate::inline_run::{InlineRun, InlineRuns};
 use crate::levels::level_under;
 use crate::trees::InlineTrees;
 use func_flatten::Piece;
 use std::alloc::Global;
-use step_maps::{CoverList, Stretch};
+use step_maps::Stretch;
 use sym_edges::{ListOf, OutOfMemory};
 
 /// The inlined copies on the chains of a piece's addresses, by level and first address: for each entry on a chain, at its level, the
@@ -36,14 +37,14 @@ pub fn inlines(
         index: piece.entry,
         class: piece.entry,
     };
-    let runs = runs_under(alloc, tree.as_slice(), owner)?;
+    let runs = runs_under(alloc, tree, owner)?;
     Ok(ListOf::of(runs))
 }
 
 /// The records of what stands in an owner, level by level.
 fn runs_under(
     alloc: Global,
-    lists: &[CoverList],
+    lists: &CoverLists,
     owner: Stretch,
 ) -> Result<Vec<InlineRun>, OutOfMemory>
     requires fit { AreFit (owner ∷ []) }

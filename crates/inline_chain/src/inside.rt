@@ -9,7 +9,7 @@ use die_names::UnitRead;
 use die_walk::Die;
 
 /// Whether an entry is a function or an inlined copy.
-fn is_around(die: &Die<'_>) -> bool
+fn is_around(die: &Die<'_, '_>) -> bool
     ensures { result ≡ (die.now.tag == 0x2e || is_inlined die.now) }
 {
     die.tag() == DW_TAG_subprogram || die.is_inlined()
@@ -17,7 +17,7 @@ fn is_around(die: &Die<'_>) -> bool
 
 /// The nearest function or inlined copy around an entry, where that of each entry before it is known.
 #[tactic(auto, using(crate::proofs::InsideLemmas::inside_none, crate::proofs::InsideLemmas::inside_past, crate::proofs::InsideLemmas::inside_lost, crate::proofs::InsideLemmas::inside_own, crate::proofs::InsideLemmas::inside_row))]
-pub fn inside_of(part: &UnitRead<'_>, row: &[Option<u32>], die: &Die<'_>) -> Option<u32>
+pub fn inside_of(part: &UnitRead<'_>, row: &[Option<u32>], die: &Die<'_, '_>) -> Option<u32>
     requires { SaysInside part.now.die.dies row.now (length row.now) }
     ensures { result ≡ inside_of part.now.die.dies (length row.now) die.now.parent }
 {
@@ -29,7 +29,7 @@ pub fn inside_of(part: &UnitRead<'_>, row: &[Option<u32>], die: &Die<'_>) -> Opt
     let Some(around) = part.entry(place) else {
         return None;
     };
-    if is_around(around) {
+    if is_around(&around) {
         return Some(parent);
     }
     row[place]

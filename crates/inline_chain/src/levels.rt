@@ -7,19 +7,9 @@ ghost use Rattle.step_maps.specs.SpanStretches.{AreFit};
 ghost use Rattle.inline_chain.specs.Trees.{list_of};
 ghost use Rattle.inline_chain.specs.internal.Levels.{has_at, covers_at, reaches_under, cut, HaveRuns, StartsCovers};
 
+use crate::cover_lists::CoverLists;
 use std::alloc::{AllocError, Global};
-use step_maps::{Cover, CoverList, Stretch};
-
-/// The covers of an entry.
-#[tactic(auto, unfolding(crate::specs::Trees::list_of))]
-fn list_in(lists: &[CoverList], entry: usize) -> &[Cover]
-    ensures { result.now ≡ list_of lists.now entry }
-{
-    match lists.get(entry) {
-        Some(list) => list.as_slice(),
-        None => &[],
-    }
-}
+use step_maps::{Cover, Stretch};
 
 /// How many covers end below an address.
 fn count_below(covers: &[Cover], first: u64) -> usize
@@ -64,7 +54,7 @@ fn push_under(next: &mut Vec<Stretch>, covers: &[Cover], around: Stretch) -> Res
 /// What stands directly in the entries of a level, at the addresses at which these stand.
 pub fn level_under(
     alloc: Global,
-    lists: &[CoverList],
+    lists: &CoverLists,
     level: &[Stretch],
 ) -> Result<Vec<Stretch>, AllocError>
     requires runs { HaveRuns lists.now }
@@ -75,7 +65,7 @@ pub fn level_under(
     let mut next = Vec::new(alloc);
     let mut rest = level;
     'level: while let Some((around, later)) = rest.split_first() {
-        push_under(&mut next, list_in(lists, around.class as usize), *around)?;
+        push_under(&mut next, lists.get(around.class as usize), *around)?;
         rest = later;
     }
     Ok(next)

@@ -10,10 +10,12 @@
 //! definitions there are for the code alone. For n ranges of inlined copies in a unit the trees take n log n turns, and a piece
 //! takes as many as there are ranges on its levels, each with a search.
 //!
-//! To read: `inline_run`, then `inside`, `children` and `trees`, then `levels`, `grouping` and `inlining`.
+//! To read: `inline_run`, then `inside`, `children`, `covering`, `cover_lists` and `trees`, then `levels`, `grouping` and `inlining`.
 #![tactic(auto)]
 
 mod children;
+mod cover_lists;
+mod covering;
 mod grouping;
 mod inline_run;
 mod inlining;

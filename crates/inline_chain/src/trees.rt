@@ -4,18 +4,17 @@ ghost use Rattle.step_maps.specs.SpanStretches.{AreFit};
 ghost use Rattle.std.specs.List.{slice_get};
 ghost use Rattle.std.specs.Option.{option_copied};
 ghost use Rattle.die_names.specs.UnitEntries.{AreRead};
-ghost use Rattle.inline_chain.specs.internal.Copies.{HaveClasses, SortedFrom, of_class, front_count, AreLists, TreeFor};
+ghost use Rattle.inline_chain.specs.internal.Copies.{HaveClasses, SortedFrom, of_class, front_count, AreLists, TreeFor, AddsCovers};
 ghost use Rattle.inline_chain.specs.Trees.{IsTree, AreTrees};
 
 use crate::children::collect_copies;
+use crate::cover_lists::CoverLists;
+use crate::covering::covers_of;
 use die_names::{UnitRead, Units};
 use std::alloc::{AllocError, Global};
 use std::marker::Model;
-use step_maps::{CoverList, Stretch, covers};
-use sym_edges::{ListOf, OutOfMemory};
-
-/// For each entry the covers of the inlined copies directly in it.
-pub(crate) type CoverLists = ListOf<CoverList>;
+use step_maps::Stretch;
+use sym_edges::OutOfMemory;
 
 /// The units of a file, and which inlined copies stand directly in each of their entries, by address.
 #[derive(Drop)]
@@ -67,15 +66,15 @@ fn all_trees(alloc: Global, units: &[UnitRead<'_>]) -> Result<Vec<CoverLists>, O
     let mut trees = Vec::with_capacity(alloc, units.len())?;
     'units: for unit in 0..units.len() {
         let part = &units[unit];
-        trees.push(ListOf::of(tree_of(alloc, part)?))?;
+        trees.push(tree_of(alloc, part)?)?;
     }
     Ok(trees)
 }
 
 /// The tree of a unit.
-fn tree_of(alloc: Global, part: &UnitRead<'_>) -> Result<Vec<CoverList>, OutOfMemory>
+fn tree_of(alloc: Global, part: &UnitRead<'_>) -> Result<CoverLists, OutOfMemory>
     requires { length part.now.die.dies < 2 ^ 32 }
-    ensures { IfOk result (λ lists. IsTree part.now lists.items) }
+    ensures { IfOk result (λ lists. IsTree part.now lists) }
 {
     let mut items = collect_copies(alloc, part)?;
     sort_by_class(&mut items)?;
@@ -110,22 +109,34 @@ pub(crate) fn front_count(items: &[Stretch], class: u32) -> usize
     count
 }
 
+/// Adds the covers of stretches.
+#[tactic(auto, using(crate::proofs::ApartLemmas::no_cover))]
+fn push_covers(alloc: Global, lists: &mut CoverLists, group: &[Stretch]) -> Result<(), OutOfMemory>
+    requires { AreFit group.now }
+    ensures { OnOk result (AddsCovers group.now lists.old lists.new) }
+{
+    if group.is_empty() {
+        return lists.push_none();
+    }
+    lists.push(covers_of(alloc, group)?)
+}
+
 /// The covers of each class of sorted stretches, as far as there are any.
-fn lists_of(alloc: Global, count: usize, items: &[Stretch]) -> Result<Vec<CoverList>, OutOfMemory>
+fn lists_of(alloc: Global, count: usize, items: &[Stretch]) -> Result<CoverLists, OutOfMemory>
     requires few { count < 2 ^ 32 }
     requires fit { AreFit items.now }
     requires sorted { SortedFrom 0 items.now }
     requires below { HaveClasses count items.now }
-    ensures { IfOk result (λ lists. AreLists items.now lists.items) }
+    ensures { IfOk result (λ lists. AreLists items.now lists) }
 {
-    let mut lists = Vec::new(alloc);
+    let mut lists = CoverLists::new(alloc);
     let mut rest = items;
     'classes: for class in 0..count {
         if rest.is_empty() {
             return Ok(lists);
         }
         let (group, later) = rest.split_at(front_count(rest, class as u32));
-        lists.push(covers(alloc, group)?)?;
+        push_covers(alloc, &mut lists, group)?;
         rest = later;
     }
     Ok(lists)

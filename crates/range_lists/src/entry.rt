@@ -159,7 +159,7 @@ fn ranges_of_bounds(
 /// Whether an entry counts.
 #[inline]
 #[tactic(auto, unfolding(die_walk::specs::EntryKinds::counts))]
-fn counts(die: &Die<'_>) -> bool
+fn counts(die: &Die<'_, '_>) -> bool
     ensures { result ≡ counts die.now }
 {
     die.is_function() || die.is_inlined()
@@ -173,7 +173,7 @@ fn ranges_of_die(
     unit: &Unit,
     root: &Root<'_>,
     base: u64,
-    die: &Die<'_>,
+    die: &Die<'_, '_>,
     code: &Enclosing,
 ) -> Result<RangeSet, Stop<DwarfFault>>
     ensures ranges { IsRanges code.now result (pairs_of sections.now unit.now root.now base die.now) }
@@ -211,7 +211,7 @@ pub fn ranges_of(
     ensures given { HasNoList (slice_get table.now.dies entry) → IsGiven result }
 {
     match table.dies().get(entry as usize) {
-        Some(die) => ranges_of_die(alloc, sections, unit, table.root(), base, die, code),
+        Some(die) => ranges_of_die(alloc, sections, unit, table.root(), base, &die, code),
         None => Ok(RangeSet::empty()),
     }
 }

@@ -71,6 +71,12 @@ pub record Collects (all : List DieFields) (sets : List (List Range)) (count : �
 abbrev pub IsList : List Stretch → List (List Cover) → ℕ → Type 0
 IsList items lists x = IsRuns (between 0 18446744073709551616 (index_at (of_class x items))) (map cover_run (list_of lists x))
 
+-- one list is added, the runs of the first stretch's index
+pub record AddsCovers (group : List Stretch) (old new : List (List Cover)) : Type 0 where
+  pub covers : List Cover
+  pub added : new ≡ old ++ covers ∷ []
+  pub runs : IsRuns (between 0 18446744073709551616 (index_at group)) (map cover_run covers)
+
 abbrev pub AreLists : List Stretch → List (List Cover) → Type 0
 AreLists items lists = (x : ℕ) → IsList items lists x
 

@@ -4,15 +4,15 @@ use Rattle.debug_read.proofs.ranges.read_sets.Goals as goal
 
 pub returns-in-Err : goal.returns-in-Err
 returns-in-Err c =
-    let inside : c.entries.entry < length c.args.table.now.dies = omega (arith, ap length c.dies-count.ensures, c.entries-test.true) in
-    sets_stopped c.args.sections.now c.args.unit.now c.args.table.now.root c.args.base c.args.code.now c.args.table.now.dies c.entries.entry c.entries.sets.items c.in-Err.stop inside c.entries.invariant c.in-Err.ensures
+    let inside : c.entries.entry < length c.args.table.now.dies = omega (arith, c.len-count.ensures, ap length c.dies.ensures, c.entries-test.true) in
+    sets_stopped c.args.sections.now c.args.unit.now c.args.table.now.root c.args.base c.args.code.now c.args.table.now.dies c.entries.entry c.entries.sets c.in-Err.stop inside c.entries.invariant c.in-Err.ensures
 
 pub entries-preserved : goal.entries-preserved
 entries-preserved c =
-    let inside : c.entries.entry < length c.args.table.now.dies = omega (arith, ap length c.dies-count.ensures, c.entries-test.true) in
-    sets_more c.args.sections.now c.args.unit.now c.args.table.now.root c.args.base c.args.code.now c.args.table.now.dies c.entries.entry c.entries.sets.items c.push.new.self.items c.in-Ok.set inside c.entries.invariant c.in-Ok.ensures c.in_ok-push-in-Ok.ensures.items
+    let inside : c.entries.entry < length c.args.table.now.dies = omega (arith, c.len-count.ensures, ap length c.dies.ensures, c.entries-test.true) in
+    sets_more c.args.sections.now c.args.unit.now c.args.table.now.root c.args.base c.args.code.now c.args.table.now.dies c.entries.entry c.entries.sets c.push.new.self c.in-Ok.set inside c.entries.invariant c.in-Ok.ensures c.in_ok-push-in-Ok.ensures
 
 pub returns : goal.returns
 returns c =
-    let end : c.entries.entry ≡ length c.args.table.now.dies = omega (arith, ap length c.dies-count.ensures, c.entries-test.false, c.entries.auto.entry-end) in
-    rw c.of.ensures (sets_all c.args.sections.now c.args.unit.now c.args.table.now.root c.args.base c.args.code.now c.args.table.now.dies c.entries.entry c.entries.sets.items end c.entries.invariant)
+    let end : c.entries.entry ≡ length c.args.table.now.dies = omega (arith, c.len-count.ensures, ap length c.dies.ensures, c.entries-test.false, c.entries.auto.entry-end) in
+    sets_all c.args.sections.now c.args.unit.now c.args.table.now.root c.args.base c.args.code.now c.args.table.now.dies c.entries.entry c.entries.sets end c.entries.invariant

@@ -8,4 +8,4 @@ use Rattle.debug_read.proofs.ranges.read_sets.Given as goal
 abbrev pub invariant-entries : goal.invariant-entries
 invariant-entries l =
     let gives = pairs_of l.sections l.unit l.table.root l.base in
-    Going (IsSet l.code) (each_of gives l.table.dies) (each_of gives (drop l.entry l.table.dies)) l.sets.items
+    Going (IsSet l.code) (each_of gives l.table.dies) (each_of gives (drop l.entry l.table.dies)) l.sets

@@ -31,7 +31,7 @@ returns-in-Some-find_among-clause-inside t c =
 pub returns-in-None-clause-found : goal.returns-in-None-clause-found
 returns-in-None-clause-found t c first =
     let h = halves c.args.units.now c.split_at.result.0.now c.split_at.result.1.now c.in-Some.part.now c.in-Some.rest.now _ c.split_at.ensures.front c.split_at.ensures.back c.split_at.ensures.front_len c.in-Some.ensures.cases.0 in
-    behind_empty c.args.place first _ _ _ _ _ c.find_among-in-None.result c.behind.result h c.behind.ensures (ap (λ l. slice_get l 0) (sym c.dies-dies.ensures) ∙ sym c.in_default-first.ensures.value) c.in-None.ensures.found c.find_among-in-None.ensures.found
+    behind_empty c.args.place first _ _ _ _ _ c.find_among-in-None.result c.behind.result h c.behind.ensures (ap (λ l. slice_get l 0) (sym c.dies-dies.ensures) ∙ sym c.in_default-get.ensures) c.in-None.ensures.found c.find_among-in-None.ensures.found
 
 pub returns-in-None-clause-inside : goal.returns-in-None-clause-inside
 returns-in-None-clause-inside t c =
@@ -47,7 +47,7 @@ find_among-requires-then-place-from t c =
 pub returns-then-place-from-clause-found : goal.returns-then-place-from-clause-found
 returns-then-place-from-clause-found t c first =
     let h = halves c.args.units.now c.split_at.result.0.now c.split_at.result.1.now c.in-Some.part.now c.in-Some.rest.now _ c.split_at.ensures.front c.split_at.ensures.back c.split_at.ensures.front_len c.in-Some.ensures.cases.0 in
-    at_left c.args.place first _ _ _ _ _ c.in-Some-first.die.now c.find_among-then-place-from.result h c.requires (ap (λ l. slice_get l 0) (sym c.dies-dies.ensures) ∙ sym c.in-Some-first.ensures.value) (search rules) c.find_among-then-place-from.ensures.inside (c.find_among-then-place-from.ensures.found first)
+    at_left c.args.place first _ _ _ _ _ c.in-Some-get.die c.find_among-then-place-from.result h c.requires (ap (λ l. slice_get l 0) (sym c.dies-dies.ensures) ∙ sym c.in-Some-get.ensures) (search rules) c.find_among-then-place-from.ensures.inside (c.find_among-then-place-from.ensures.found first)
 
 pub returns-then-place-from-clause-inside : goal.returns-then-place-from-clause-inside
 returns-then-place-from-clause-inside t c =
@@ -68,7 +68,7 @@ find_among-requires-in-None-find_in_unit t c =
 pub returns-in-Some-find_in_unit-clause-found : goal.returns-in-Some-find_in_unit-clause-found
 returns-in-Some-find_in_unit-clause-found t c first =
     let h = halves c.args.units.now c.split_at.result.0.now c.split_at.result.1.now c.in-Some.part.now c.in-Some.rest.now _ c.split_at.ensures.front c.split_at.ensures.back c.split_at.ensures.front_len c.in-Some.ensures.cases.0 in
-    at_middle c.args.place first _ _ _ _ _ c.in-Some-first.die.now c.in-Some-find_in_unit.entry h c.requires (ap (λ l. slice_get l 0) (sym c.dies-dies.ensures) ∙ sym c.in-Some-first.ensures.value) (search rules) (subst (λ ds. c.in-Some-find_in_unit.entry < length ds) c.dies-dies.ensures c.in-Some-find_in_unit.ensures.inside) (subst (λ ds. (unit : ℕ) → found_in unit ds (Some c.in-Some-find_in_unit.entry) ≡ in_unit c.args.place unit ds) c.dies-dies.ensures c.in-Some-find_in_unit.ensures.found)
+    at_middle c.args.place first _ _ _ _ _ c.in-Some-get.die c.in-Some-find_in_unit.entry h c.requires (ap (λ l. slice_get l 0) (sym c.dies-dies.ensures) ∙ sym c.in-Some-get.ensures) (search rules) (subst (λ ds. c.in-Some-find_in_unit.entry < length ds) c.dies-dies.ensures c.in-Some-find_in_unit.ensures.inside) (subst (λ ds. (unit : ℕ) → found_in unit ds (Some c.in-Some-find_in_unit.entry) ≡ in_unit c.args.place unit ds) c.dies-dies.ensures c.in-Some-find_in_unit.ensures.found)
 
 pub returns-in-Some-find_in_unit-clause-inside : goal.returns-in-Some-find_in_unit-clause-inside
 returns-in-Some-find_in_unit-clause-inside t c =
@@ -78,7 +78,7 @@ returns-in-Some-find_in_unit-clause-inside t c =
 pub returns-in-None-find_in_unit-clause-found : goal.returns-in-None-find_in_unit-clause-found
 returns-in-None-find_in_unit-clause-found t c first =
     let h = halves c.args.units.now c.split_at.result.0.now c.split_at.result.1.now c.in-Some.part.now c.in-Some.rest.now _ c.split_at.ensures.front c.split_at.ensures.back c.split_at.ensures.front_len c.in-Some.ensures.cases.0 in
-    behind_middle c.args.place first _ _ _ _ _ c.in-Some-first.die.now c.find_among-in-None-find_in_unit.result c.behind-in-None-find_in_unit.result h c.behind-in-None-find_in_unit.ensures c.requires (ap (λ l. slice_get l 0) (sym c.dies-dies.ensures) ∙ sym c.in-Some-first.ensures.value) (search rules) (subst (λ ds. (unit : ℕ) → None ≡ in_unit c.args.place unit ds) c.dies-dies.ensures c.in-None-find_in_unit.ensures.found) c.find_among-in-None-find_in_unit.ensures.found
+    behind_middle c.args.place first _ _ _ _ _ c.in-Some-get.die c.find_among-in-None-find_in_unit.result c.behind-in-None-find_in_unit.result h c.behind-in-None-find_in_unit.ensures c.requires (ap (λ l. slice_get l 0) (sym c.dies-dies.ensures) ∙ sym c.in-Some-get.ensures) (search rules) (subst (λ ds. (unit : ℕ) → None ≡ in_unit c.args.place unit ds) c.dies-dies.ensures c.in-None-find_in_unit.ensures.found) c.find_among-in-None-find_in_unit.ensures.found
 
 pub returns-in-None-find_in_unit-clause-inside : goal.returns-in-None-find_in_unit-clause-inside
 returns-in-None-find_in_unit-clause-inside t c =

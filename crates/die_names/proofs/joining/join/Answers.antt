@@ -7,7 +7,7 @@ pub scopes-preserved-in-Continue-branch-2 : goal.scopes-preserved-in-Continue-br
 scopes-preserved-in-Continue-branch-2 c =
     fronts_more c.args.dies.now c.pop.new.self.items c.in-Some.number c.scopes.text.items c.add_front.new.text.items _
     (ap (λ ns. c.scopes.text.items ++ fronts c.args.dies.now ns) (sym c.in-Some.ensures.items) ∙ c.scopes.invariant)
-    (c.in_ok-add_front.ensures ∙ ap (λ f. c.scopes.text.items ++ f) (sym (front_some c.args.dies.now c.in-Some.number c.in-Some-entry_in.die.now c.in-Some-entry_in.ensures)))
+    (c.in_ok-add_front.ensures ∙ ap (λ f. c.scopes.text.items ++ f) (sym (front_some c.args.dies.now c.in-Some.number c.in-Some-entry_in.die c.in-Some-entry_in.ensures)))
 
 pub scopes-preserved : goal.scopes-preserved
 scopes-preserved c =

@@ -11,4 +11,4 @@ pub returns-in_default-entry_in : goal.returns-in_default-entry_in
 returns-in_default-entry_in c = gathered_lost c.args.dies.now c.around.numbers.items c.around.limit c.in-Some.number c.around.next _ c.in-Some.is c.if-number-limit.false c.in_default-entry_in.ensures c.around.invariant
 
 pub around-preserved : goal.around-preserved
-around-preserved c = gathered_more c.args.dies.now c.around.numbers.items c.push.new.self.items c.around.limit c.in-Some.number c.in-Some-entry_in.die.now c.around.next c.parent-next.result _ c.in-Some.is c.if-number-limit.false c.in-Some-entry_in.ensures c.around.invariant c.in_ok-push.ensures.items c.parent-next.ensures
+around-preserved c = gathered_more c.args.dies.now c.around.numbers.items c.push.new.self.items c.around.limit c.in-Some.number c.in-Some-entry_in.die c.around.next c.parent-next.result _ c.in-Some.is c.if-number-limit.false c.in-Some-entry_in.ensures c.around.invariant c.in_ok-push.ensures.items c.parent-next.ensures

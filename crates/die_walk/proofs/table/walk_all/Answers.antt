@@ -1,13 +1,14 @@
 use Rattle.std.proofs.Common.{Bool, cond, Some, None, Ok, sym, ap, ◌∙◌}
 use Rattle.die_walk.specs.EntryTable.{entry_table}
 use Rattle.die_walk.specs.Steps.{Walked, rounded, table_in}
-use Rattle.die_walk.proofs.WalkLemmas.{walked_start, walked_more, walked_end, walked_stopped, step_short, short_start}
+use Rattle.die_walk.proofs.WalkLemmas.{walked_start, walked_more, walked_end, walked_stopped, step_short, short_start, step_strs}
 use Rattle.die_walk.proofs.table.walk_all.Goals as goal
 
 pub entries-init : goal.entries-init
 entries-init c = record {
   rest = walked_start c.args.sections.now c.args.unit.now c.args.abbrevs.now c.args.walker.now c.entries_of-cursor.result c.requires.dies c.requires.levels c.entries_of-cursor.ensures;
   short = short_start c.args.sections.now c.args.unit.now c.args.walker.now c.entries_of-cursor.result c.requires.dies c.entries_of-cursor.ensures c.requires.ordered c.requires.inside c.requires.small;
+  strs = c.requires.strs;
 }
 
 pub entries-preserved : goal.entries-preserved
@@ -16,6 +17,7 @@ entries-preserved c =
     record {
       rest = walked_more c.args.sections.now c.args.unit.now c.args.abbrevs.now c.entries.walker c.step.new.self c.entries.cursor c.step.new.cursor (entry_table c.args.sections.now c.args.unit.now c.args.abbrevs.now) c.entries.invariant.rest steps;
       short = step_short c.args.sections.now c.args.unit.now c.args.abbrevs.now c.entries.walker c.step.new.self c.entries.cursor c.step.new.cursor steps c.entries.invariant.short;
+      strs = step_strs c.args.sections.now c.args.unit.now c.args.abbrevs.now c.entries.walker c.step.new.self c.entries.cursor c.step.new.cursor steps ∙ c.entries.invariant.strs;
     }
 
 pub returns-in-Err : goal.returns-in-Err

@@ -7,6 +7,7 @@ abbrev pub invariant-entries : goal.invariant-entries
 invariant-entries l = record {
   rest : walked_from l.sections l.unit l.abbrevs l.walker l.cursor ≡ entry_table l.sections l.unit l.abbrevs;
   short : IsShort (length l.walker.dies) l.cursor;
+  strs : l.walker.strs ≡ l.sections.strs;
 }
 
 abbrev pub decreases-entries : goal.decreases-entries

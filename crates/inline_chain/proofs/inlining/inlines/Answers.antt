@@ -9,7 +9,7 @@ pub returns-then-piece : goal.returns-then-piece
 returns-then-piece c = no_address_runs _ _ _ (c.of-then-piece.ensures ∙ c.new-then-piece.ensures.items) (omega arith)
 
 pub runs_under-requires-clause-runs : goal.runs_under-requires-clause-runs
-runs_under-requires-clause-runs c = rw c.as_slice.ensures (tree_runs _ _ c.in-Some.ensures)
+runs_under-requires-clause-runs c = tree_runs _ _ c.in-Some.ensures
 
 pub returns : goal.returns
-returns c = rw c.of-2.ensures (tree_piece c.args.trees.now c.args.piece.now c.in-Some.tree.now _ c.in-Some.ensures (omega arith) (rw c.as_slice.ensures at c.in_ok-runs.ensures))
+returns c = rw c.of-2.ensures (tree_piece c.args.trees.now c.args.piece.now c.in-Some.tree.now _ c.in-Some.ensures (omega arith) c.in_ok-runs.ensures)

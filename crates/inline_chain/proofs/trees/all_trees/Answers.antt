@@ -7,4 +7,4 @@ pub tree_of-requires : goal.tree_of-requires
 tree_of-requires c = (let less : length c.index-units-unit.result.die.dies ≤ length (places c.args.units.now) = rw c.index-units-unit.is (unit_few c.args.units.now c.units.unit _ (omega arith)) in omega (arith, less, c.requires.few_entries))
 
 pub units-preserved : goal.units-preserved
-units-preserved c = rw (c.in_ok-push.ensures.items, c.of.ensures) (trees_more _ _ _ _ _ _ (omega arith) c.index-units-unit.is c.in_ok-tree_of.ensures c.units.invariant)
+units-preserved c = rw c.in_ok-push.ensures.items (trees_more _ _ _ _ _ _ (omega arith) c.index-units-unit.is c.in_ok-tree_of.ensures c.units.invariant)

@@ -1,7 +1,7 @@
 use Rattle.std.proofs.Common.{ℕ, ap, ◌∙◌}
 use Rattle.die_walk.specs.Picking.{no_picks, noted, picks_at}
 use Rattle.die_walk.proofs.PickLemmas.{picks_more}
-use Rattle.die_walk.proofs.picks.read_each.Goals as goal
+use Rattle.die_walk.proofs.picks.read_picks.Goals as goal
 
 pub specs-preserved : goal.specs-preserved
 specs-preserved c =

@@ -1,9 +1,0 @@
-use Rattle.std.proofs.Common.{refl}
-use Rattle.die_walk.specs.Picking.{noted_at}
-use Rattle.die_walk.proofs.TakeLemmas.{notes_more}
-use Rattle.die_walk.proofs.picks.note_takes.Goals as goal
-
-pub takes-preserved : goal.takes-preserved
-takes-preserved c =
-    notes_more c.args.takes.now c.takes.take-index _ _ c.in-Ok.value c.takes.picks c.note.new.picks c.takes.cursor c.read.new.cursor
-    (noted_at c.args.picks.now c.args.takes.now c.args.cursor.now) c.takes.invariant c.takes-test.true refl c.in-Ok.ensures c.note.ensures

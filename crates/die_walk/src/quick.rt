@@ -1,0 +1,290 @@
+//! The values of an entry that matter, picked by a short way into 16 bytes each.
+ghost use Rattle.std.specs.Prelude.{◌≡◌, true, false, Ok, Some, IfSome};
+ghost use Rattle.abbrev_units.specs.declared.value.Value.{Value};
+ghost use Rattle.die_walk.specs.Picking.{or_value, no_picks, noted, noted_at, picks_at};
+ghost use Rattle.die_walk.specs.internal.Packing.{pick_said};
+
+use crate::packed::{Class, Packed, unpack};
+use crate::picks::Picks;
+use abbrev_units::{SpecList, Take, Value};
+use code_table::{
+    DW_AT_MIPS_linkage_name, DW_AT_abstract_origin, DW_AT_addr_base, DW_AT_call_file,
+    DW_AT_call_line, DW_AT_comp_dir, DW_AT_declaration, DW_AT_high_pc, DW_AT_linkage_name,
+    DW_AT_low_pc, DW_AT_name, DW_AT_ranges, DW_AT_rnglists_base, DW_AT_specification,
+    DW_AT_stmt_list, DW_AT_str_offsets_base,
+};
+use leb_cursor::Cursor;
+use std::marker::Model;
+
+/// A value by its class; of a run of bytes `number` is where it begins.
+#[derive(Clone, Copy)]
+pub struct Pick {
+    pub class: Class,
+    pub len: u32,
+    pub number: u64,
+}
+
+const MISSING: Pick = Pick {
+    class: Class::Missing,
+    len: 0,
+    number: 0,
+};
+
+/// The first value of each attribute that matters, as [`Picks`] has them.
+#[derive(Drop)]
+pub struct Quick {
+    pub low: Pick,
+    pub high: Pick,
+    pub ranges: Pick,
+    pub origin: Pick,
+    pub spec: Pick,
+    pub name: Pick,
+    pub linkage: Pick,
+    pub old_linkage: Pick,
+    pub declaration: Pick,
+    pub call_file: Pick,
+    pub call_line: Pick,
+    pub stmt_list: Pick,
+    pub comp_dir: Pick,
+    pub str_offsets_base: Pick,
+    pub addr_base: Pick,
+    pub rnglists_base: Pick,
+}
+
+impl Model for Quick {
+    ghost use Rattle.die_walk.specs.declared.picks.Picks.{Picks};
+    ghost use Rattle.die_walk.specs.internal.Packing.{pick_said};
+
+    ghost Value = { Picks };
+
+    ghost view = { λ q. record {
+      low = pick_said q.low;
+      high = pick_said q.high;
+      ranges = pick_said q.ranges;
+      origin = pick_said q.origin;
+      spec = pick_said q.spec;
+      name = pick_said q.name;
+      linkage = pick_said q.linkage;
+      old_linkage = pick_said q.old_linkage;
+      declaration = pick_said q.declaration;
+      call_file = pick_said q.call_file;
+      call_line = pick_said q.call_line;
+      stmt_list = pick_said q.stmt_list;
+      comp_dir = pick_said q.comp_dir;
+      str_offsets_base = pick_said q.str_offsets_base;
+      addr_base = pick_said q.addr_base;
+      rnglists_base = pick_said q.rnglists_base;
+    } };
+}
+
+#[inline]
+#[tactic(auto, unfolding(crate::specs::internal::Packing::pick_said))]
+pub fn no_quick() -> Quick
+    ensures { result ≡ no_picks }
+{
+    Quick {
+        low: MISSING,
+        high: MISSING,
+        ranges: MISSING,
+        origin: MISSING,
+        spec: MISSING,
+        name: MISSING,
+        linkage: MISSING,
+        old_linkage: MISSING,
+        declaration: MISSING,
+        call_file: MISSING,
+        call_line: MISSING,
+        stmt_list: MISSING,
+        comp_dir: MISSING,
+        str_offsets_base: MISSING,
+        addr_base: MISSING,
+        rnglists_base: MISSING,
+    }
+}
+
+/// A number of a class.
+#[inline]
+#[tactic(auto, unfolding(crate::specs::internal::Packing::pick_said))]
+fn numbered(class: Class, number: u64) -> Pick
+    ensures { result ≡ record { class = class; len = 0; number = number } }
+{
+    Pick {
+        class,
+        len: 0,
+        number,
+    }
+}
+
+/// A run of bytes, where its length is below 2^32.
+#[inline]
+fn run(class: Class, start: usize, len: usize) -> Option<Pick>
+    ensures { IfSome result (λ pick. pick ≡ record { class = class; len = len; number = start }) }
+{
+    if len > u32::MAX as usize {
+        return None;
+    }
+    Some(Pick {
+        class,
+        len: len as u32,
+        number: start as u64,
+    })
+}
+
+/// A value as a pick.
+#[inline]
+#[tactic(auto, unfolding(crate::specs::internal::Packing::pick_said))]
+fn pick_of(value: Value) -> Option<Pick>
+    ensures { IfSome result (λ pick. pick_said pick ≡ Some value) }
+{
+    match value {
+        Value::Addr(n) => Some(numbered(Class::Addr, n)),
+        Value::Block { start, len } => run(Class::Block, start, len),
+        Value::Num(n) => Some(numbered(Class::Num, n)),
+        Value::Signed(n) => Some(numbered(Class::Signed, n.cast_unsigned())),
+        Value::Flag(said) => Some(numbered(Class::Flag, u64::from(said))),
+        Value::InlineText { start, len } => run(Class::InlineText, start, len),
+        Value::StrAt(n) => Some(numbered(Class::StrAt, n)),
+        Value::LineStrAt(n) => Some(numbered(Class::LineStrAt, n)),
+        Value::StrIndex(n) => Some(numbered(Class::StrIndex, n)),
+        Value::AddrIndex(n) => Some(numbered(Class::AddrIndex, n)),
+        Value::UnitRef(n) => Some(numbered(Class::UnitRef, n)),
+        Value::InfoRef(n) => Some(numbered(Class::InfoRef, n)),
+        Value::SecOffset(n) => Some(numbered(Class::SecOffset, n)),
+        Value::ListIndex(n) => Some(numbered(Class::ListIndex, n)),
+        Value::Other => Some(numbered(Class::Other, 0)),
+    }
+}
+
+/// The value of a pick.
+#[tactic(auto, unfolding(crate::specs::internal::Packing::pick_said, crate::specs::internal::Packing::unpacked))]
+fn value_of(pick: Pick) -> Option<Value>
+    ensures { result ≡ pick_said pick }
+{
+    match pick.class {
+        Class::InlineText => Some(Value::InlineText {
+            start: pick.number as usize,
+            len: pick.len as usize,
+        }),
+        Class::Block => Some(Value::Block {
+            start: pick.number as usize,
+            len: pick.len as usize,
+        }),
+        class => unpack(Packed {
+            class,
+            number: pick.number,
+        }),
+    }
+}
+
+/// Notes a pick, where none is there.
+#[inline]
+#[tactic(auto, unfolding(crate::specs::internal::Packing::pick_said))]
+fn note_first(place: &mut Pick, pick: Pick)
+    ensures { (value : Value) → pick_said pick ≡ Some value → pick_said place.new ≡ or_value (pick_said place.old) value }
+{
+    if matches!(place.class, Class::Missing) {
+        *place = pick;
+    }
+}
+
+/// Notes a pick, where it is the first of its attribute.
+#[inline(always)]
+fn note_pick(quick: &mut Quick, attribute: u64, pick: Pick)
+    ensures { (value : Value) → pick_said pick ≡ Some value → quick.new ≡ noted quick.old attribute value }
+{
+    match attribute {
+        DW_AT_low_pc => note_first(&mut quick.low, pick),
+        DW_AT_high_pc => note_first(&mut quick.high, pick),
+        DW_AT_ranges => note_first(&mut quick.ranges, pick),
+        DW_AT_abstract_origin => note_first(&mut quick.origin, pick),
+        DW_AT_specification => note_first(&mut quick.spec, pick),
+        DW_AT_name => note_first(&mut quick.name, pick),
+        DW_AT_linkage_name => note_first(&mut quick.linkage, pick),
+        DW_AT_MIPS_linkage_name => note_first(&mut quick.old_linkage, pick),
+        DW_AT_declaration => note_first(&mut quick.declaration, pick),
+        DW_AT_call_file => note_first(&mut quick.call_file, pick),
+        DW_AT_call_line => note_first(&mut quick.call_line, pick),
+        DW_AT_stmt_list => note_first(&mut quick.stmt_list, pick),
+        DW_AT_comp_dir => note_first(&mut quick.comp_dir, pick),
+        DW_AT_str_offsets_base => note_first(&mut quick.str_offsets_base, pick),
+        DW_AT_addr_base => note_first(&mut quick.addr_base, pick),
+        DW_AT_rnglists_base => note_first(&mut quick.rnglists_base, pick),
+        _ => {}
+    }
+}
+
+/// Notes a value, where it is the first of its attribute; false where there is no pick of it.
+#[inline(always)]
+fn note_value(quick: &mut Quick, attribute: u64, value: Value) -> bool
+    ensures { result ≡ true → quick.new ≡ noted quick.old attribute value }
+{
+    let Some(pick) = pick_of(value) else {
+        return false;
+    };
+    note_pick(quick, attribute, pick);
+    true
+}
+
+/// Notes the values to which a short way leads. Where it fails, nothing is said.
+#[inline]
+#[tactic(auto, using(crate::proofs::TakeLemmas::notes_more, crate::proofs::TakeLemmas::notes_end))]
+fn note_takes(quick: &mut Quick, cursor: &mut Cursor<'_>, takes: &[Take]) -> bool
+    ensures { result ≡ true → noted_at quick.old takes.now cursor.old ≡ Ok (quick.new, cursor.new) }
+{
+    'takes: for take in takes {
+        match take.read(cursor) {
+            Ok(value) => {
+                if !note_value(quick, take.attribute, value) {
+                    return false;
+                }
+            }
+            Err(_) => return false,
+        }
+    }
+    true
+}
+
+/// Reads the values of an entry by a short way; false where there is none, and nothing is read.
+#[inline]
+#[tactic(auto, using(crate::proofs::TakeLemmas::short_way))]
+pub fn read_quick(quick: &mut Quick, cursor: &mut Cursor<'_>, specs: &SpecList) -> bool
+    requires { quick.old ≡ no_picks }
+    ensures read { result ≡ true → Ok (quick.new, cursor.new) ≡ picks_at no_picks specs.now cursor.old }
+    ensures kept { result ≡ false → cursor.new ≡ cursor.old }
+{
+    let Some(takes) = specs.takes() else {
+        return false;
+    };
+    let mut probe = cursor.fork();
+    if !note_takes(quick, &mut probe, takes) {
+        return false;
+    }
+    *cursor = probe;
+    true
+}
+
+impl Quick {
+    /// The same values, each with room for whatever it may be.
+    pub fn to_picks(&self) -> Picks
+        ensures { result ≡ self.now }
+    {
+        Picks {
+            low: value_of(self.low),
+            high: value_of(self.high),
+            ranges: value_of(self.ranges),
+            origin: value_of(self.origin),
+            spec: value_of(self.spec),
+            name: value_of(self.name),
+            linkage: value_of(self.linkage),
+            old_linkage: value_of(self.old_linkage),
+            declaration: value_of(self.declaration),
+            call_file: value_of(self.call_file),
+            call_line: value_of(self.call_line),
+            stmt_list: value_of(self.stmt_list),
+            comp_dir: value_of(self.comp_dir),
+            str_offsets_base: value_of(self.str_offsets_base),
+            addr_base: value_of(self.addr_base),
+            rnglists_base: value_of(self.rnglists_base),
+        }
+    }
+}
