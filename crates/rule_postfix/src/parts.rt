@@ -1,5 +1,5 @@
 //! What a row says of each target, in one form.
-ghost use Rattle.std.specs.Prelude.{◌≡◌};
+ghost use Rattle.std.specs.Prelude.{◌≡◌, ◌<◌, true};
 ghost use Rattle.sym_edges.specs.Abi.{is_kept};
 ghost use Rattle.rule_postfix.specs.internal.Backward.{is_expression};
 ghost use Rattle.rule_postfix.specs.RowParts.{own_as_same, by_group, column_part, cfa_part, part_of, is_unruled, rule_at, becomes_unspecified, same_bool, same_place, same_rule, same_cfa, same_part, is_unspecified};
@@ -123,8 +123,8 @@ fn same_rule(a: Rule, b: Rule) -> bool
     }
 }
 
-fn same_cfa(a: CfaRule, b: CfaRule) -> bool
-    ensures { result ≡ same_cfa a b }
+fn same_cfa(a: &CfaRule, b: &CfaRule) -> bool
+    ensures { result ≡ same_cfa a.now b.now }
 {
     match (a, b) {
         (
@@ -134,7 +134,7 @@ fn same_cfa(a: CfaRule, b: CfaRule) -> bool
                 offset: other_offset,
             },
         ) => register == other_register && offset == other_offset,
-        (CfaRule::Expr { place }, CfaRule::Expr { place: other }) => same_place(place, other),
+        (CfaRule::Expr { place }, CfaRule::Expr { place: other }) => same_place(*place, *other),
         _ => false,
     }
 }
@@ -144,8 +144,20 @@ pub fn same_part(a: RowPart, b: RowPart) -> bool
 {
     match (a, b) {
         (RowPart::Unruled, RowPart::Unruled) => true,
-        (RowPart::Base(x), RowPart::Base(y)) => same_cfa(x, y),
+        (RowPart::Base(x), RowPart::Base(y)) => same_cfa(&x, &y),
         (RowPart::Column(x), RowPart::Column(y)) => same_rule(x, y),
+        _ => false,
+    }
+}
+
+/// Whether the CFA has the same part in two rows.
+#[inline(always)]
+pub fn keeps_cfa(before: &Row, after: &Row) -> bool
+    ensures { result ≡ same_part (cfa_part before.now.cfa) (cfa_part after.now.cfa) }
+{
+    match (&before.cfa, &after.cfa) {
+        (None, None) => true,
+        (Some(a), Some(b)) => same_cfa(a, b),
         _ => false,
     }
 }
@@ -158,6 +170,30 @@ pub fn rule_at(row: &Row, column: u8) -> Rule
         Some(given) => *given,
         None => Rule::Rest,
     }
+}
+
+/// Whether two rules are the same; most are both at rest.
+#[inline(always)]
+fn equal(a: &Rule, b: &Rule) -> bool
+    ensures { result ≡ true → a.now ≡ b.now }
+{
+    match (a, b) {
+        (Rule::Rest, Rule::Rest) => true,
+        (Rule::Offset(m), Rule::Offset(n)) => m == n,
+        _ => *a == *b,
+    }
+}
+
+/// Whether a column has the same rule in two rows.
+#[inline(always)]
+pub fn stays(before: &Row, after: &Row, column: u8) -> bool
+    requires { column < 17 }
+    ensures { result ≡ true → rule_at before.now column ≡ rule_at after.now column }
+{
+    equal(
+        &before.rules[column as usize],
+        &after.rules[column as usize],
+    )
 }
 
 pub fn is_expression(given: Rule) -> bool

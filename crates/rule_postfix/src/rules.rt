@@ -14,7 +14,8 @@ ghost use Rattle.rule_postfix.specs.declared.rules.Unwritten.TheVariants.{Expres
 
 use crate::column_target::ColumnTarget;
 use crate::parts::{
-    RowPart, becomes_unspecified, cfa_part, column_part, is_expression, is_kept, rule_at, same_part,
+    RowPart, becomes_unspecified, column_part, is_expression, is_kept, keeps_cfa, rule_at,
+    same_part, stays,
 };
 use frame_entries::Fde;
 use frame_rows::{CfaRule, Columns, Row, Rule};
@@ -244,8 +245,8 @@ pub enum Unwritten {
 #[tactic(auto, using(crate::proofs::TokenLemmas::cfa_written, crate::proofs::TokenLemmas::no_rule), unfolding(crate::specs::RowRules::spelled))]
 fn write_cfa(
     fde: &Fde<'_>,
-    before: Option<CfaRule>,
-    after: Option<CfaRule>,
+    before: &Row,
+    after: &Row,
     line: &mut [u8],
     end: usize,
 ) -> Result<usize, Unwritten>
@@ -254,15 +255,15 @@ fn write_cfa(
     ensures why { OnErr result (result ≡ Err Expression) }
     ensures below { IfOk result (λ start. start ≤ end) }
     ensures short { IfOk result (λ start. end ≤ start + 40) }
-    ensures written { IfOk result (λ start. drop start line.new ≡ rule_text Cfa (if_other fde.now Cfa (cfa_part before) (cfa_part after)) ++ drop end line.old) }
+    ensures written { IfOk result (λ start. drop start line.new ≡ rule_text Cfa (if_other fde.now Cfa (cfa_part before.now.cfa) (cfa_part after.now.cfa)) ++ drop end line.old) }
 {
-    if same_part(cfa_part(before), cfa_part(after)) {
+    if keeps_cfa(before, after) {
         return Ok(end);
     }
-    match after {
+    match &after.cfa {
         None => Ok(end),
         Some(CfaRule::Base { register, offset }) => {
-            let at = write_base(register, offset, line, end);
+            let at = write_base(*register, *offset, line, end);
             Ok(write_bytes(b" .cfa:", line, at))
         }
         Some(CfaRule::Expr { .. }) => Err(Unwritten::Expression),
@@ -292,9 +293,9 @@ fn write_registers(
     let mut number = columns.end.min(16);
     'turns: while columns.first < number {
         number -= 1;
-        let was = rule_at(before, number);
-        let is = rule_at(after, number);
-        if was != is {
+        if !stays(before, after, number) {
+            let was = rule_at(before, number);
+            let is = rule_at(after, number);
             if becomes_unspecified(before, after, number) {
                 return Err(Unwritten::Unspecified);
             }
@@ -324,11 +325,11 @@ fn write_ra(
     ensures short { IfOk result (λ start. end ≤ start + 40) }
     ensures written { IfOk result (λ start. drop start line.new ≡ rule_text Ra (if_other fde.now Ra (column_part 16 (rule_at before.now 16)) (column_part 16 (rule_at after.now 16))) ++ drop end line.old) }
 {
-    let was = rule_at(before, 16);
-    let is = rule_at(after, 16);
-    if was == is {
+    if stays(before, after, 16) {
         return Ok(end);
     }
+    let was = rule_at(before, 16);
+    let is = rule_at(after, 16);
     if becomes_unspecified(before, after, 16) {
         return Err(Unwritten::Unspecified);
     }
@@ -365,7 +366,7 @@ pub fn write_changes(
         Ok(at) => at,
         Err(why) => return Err(why),
     };
-    match write_cfa(fde, before.cfa, after.cfa, line, at) {
+    match write_cfa(fde, before, after, line, at) {
         Ok(at) => Ok(at),
         Err(_) => Err(Unwritten::Expression),
     }

@@ -6,8 +6,7 @@ use Rattle.rule_postfix.proofs.rules.write_registers.Goals as goal
 
 pub turns-preserved : goal.turns-preserved
 turns-preserved c =
-    let held : c.rule_at-was.result ≡ c.rule_at-is.result = first_of (grind arith, grind (arith, common_steps), search rules) in
-    let same : rule_at c.args.before.now (c.turns.number - 1) ≡ rule_at c.args.after.now (c.turns.number - 1) = sym c.rule_at-was.ensures ∙ held ∙ c.rule_at-is.ensures in
+    let same : rule_at c.args.before.now (c.turns.number - 1) ≡ rule_at c.args.after.now (c.turns.number - 1) = c.stays.ensures c.if-not-stays.false in
     record {
       small = omega arith;
       low = c.turns.invariant.low;
