@@ -7,7 +7,7 @@ use std::alloc::Global;
 use std::mem::size_of;
 use std::test::Fail;
 
-const _: () = prove!(size_of::<Die<'_>>() == 112);
+const _: () = prove!(size_of::<Die<'_, '_>>() == 16);
 
 /// A subprogram with children, one without, and a variable.
 const ABBREVS: &[u8] = b"\x01\x2e\x01\0\0\x02\x2e\0\0\0\x03\x34\0\0\0\0";
