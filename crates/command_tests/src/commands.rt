@@ -3,8 +3,9 @@
 use crate::comparing::same;
 use crate::files::{Given, file_by, joined, of_code};
 use crate::rows::{
-    A, BY_TWO, CHECK, DUMP, FRAME, FRONT, FRONTS, MAIN, PUSHED, ROWS, Row, SAMPLE_ROWS, SHOW,
-    STACK, STATE, TABLE, TEXT, TEXT_ROWS, THOUSAND, THREE_PATHS, UNREAD, WALK, Words,
+    A, BY_TWO, CHECK, DUMP, FRAME, FRONT, FRONTS, JUDGE_ROWS, MAIN, PUSHED, ROWS, Row, SAMPLE_ROWS,
+    SHORT, SHOW, SLOT, STACK, STATE, TABLE, TEXT, TEXT_ROWS, THOUSAND, THREE_PATHS, UNREAD, WALK,
+    Words,
 };
 use dumpsyms_cmd::run;
 use std::alloc::{AllocError, Global};
@@ -45,13 +46,15 @@ fn named(alloc: Global, name: &str, bytes: &[u8]) -> Result<NamedFile, AllocErro
     })
 }
 
-/// A store of the file `d/a.out`, of the states `d/state` and `d/stack`, and of the symbol file `d/text`.
+/// A store of the file `d/a.out`, of the states `d/state` and `d/stack`, and of the symbol files `d/text`, `d/slot` and `d/short`.
 fn store_of(alloc: Global, file: &[u8], edges: Edges<'_>) -> Result<MemStore, AllocError> {
     let mut files = Vec::new(alloc);
     files.push(named(alloc, "d/a.out", file)?)?;
     files.push(named(alloc, "d/state", STATE)?)?;
     files.push(named(alloc, "d/stack", STACK)?)?;
     files.push(named(alloc, "d/text", TEXT)?)?;
+    files.push(named(alloc, "d/slot", SLOT)?)?;
+    files.push(named(alloc, "d/short", SHORT)?)?;
     let fail = calls(alloc, edges.store)?;
     Ok(MemStore::new(alloc, FileList::of(files), edges.step.max(1), fail))
 }
@@ -143,6 +146,14 @@ fn symbol_files_have_their_rows(rt: HostRuntime) -> Result<(), Fail> {
 #[test]
 fn elf_files_have_their_rows(rt: HostRuntime) -> Result<(), Fail> {
     for row in ROWS {
+        expect_row(&rt, rt.alloc(), row)?;
+    }
+    Ok(())
+}
+
+#[test]
+fn judgements_have_their_rows(rt: HostRuntime) -> Result<(), Fail> {
+    for row in JUDGE_ROWS {
         expect_row(&rt, rt.alloc(), row)?;
     }
     Ok(())

@@ -52,6 +52,19 @@ pub const TEXT: &[u8] = b"MODULE Linux x86_64 0 a\n\
     STACK CFI 1004 .cfa: $rbp 16 +\n\
     STACK CFI 100e .cfa: $rsp 8 +\n";
 
+/// The same with rbp in another slot, as the file `d/slot`.
+pub const SLOT: &[u8] = b"MODULE Linux x86_64 0 a\n\
+    STACK CFI INIT 1000 20 .cfa: $rsp 8 + .ra: .cfa -8 + ^\n\
+    STACK CFI 1001 .cfa: $rsp 16 + $rbp: .cfa -8 + ^\n\
+    STACK CFI 1004 .cfa: $rbp 16 +\n\
+    STACK CFI 100e .cfa: $rsp 8 +\n";
+
+/// The same without its last line, as the file `d/short`.
+pub const SHORT: &[u8] = b"MODULE Linux x86_64 0 a\n\
+    STACK CFI INIT 1000 20 .cfa: $rsp 8 + .ra: .cfa -8 + ^\n\
+    STACK CFI 1001 .cfa: $rsp 16 + $rbp: .cfa -16 + ^\n\
+    STACK CFI 1004 .cfa: $rbp 16 +\n";
+
 /// A function that another one calls, of which no rule gives the return address.
 const CALLED: &[u8] = b"MODULE Linux x86_64 0 a\nFUNC 1000 20 0 f\nFUNC 2000 10 0 g\n\
     STACK CFI INIT 1000 20 .cfa: $rsp 8 + .ra: .cfa -8 + ^\nSTACK CFI INIT 2000 10 .cfa: $rsp 8 +\n";
@@ -320,6 +333,58 @@ pub const TEXT_ROWS: [Row; 17] = [
 pub const THOUSAND: &[u8] =
     b"units 1000 funcs 2000 inlines 1000 lines 4000 inits 1900 omitted 100\n";
 
+/// Judgements.
+pub const JUDGE_ROWS: [Row; 6] = [
+    (
+        "the same rules",
+        &[JUDGE],
+        Given::Units(&[], PUSH_RBP),
+        0,
+        &[b"yes\n"],
+        &[],
+    ),
+    (
+        "no rules",
+        &[JUDGE],
+        Given::Small,
+        1,
+        &[b"no 1000 init\n"],
+        &[],
+    ),
+    (
+        "no ELF file",
+        &[JUDGE],
+        Given::Bytes(b""),
+        1,
+        &[],
+        &[NOT_ELF],
+    ),
+    (
+        "a state as a text",
+        &[&["judge", "d/a.out", "d/state"]],
+        Given::Small,
+        1,
+        &[],
+        &[b"refused text no-module line 1\n"],
+    ),
+    (
+        "another slot",
+        &[&["judge", "d/a.out", "d/slot"]],
+        Given::Units(&[], PUSH_RBP),
+        1,
+        &[b"no 1001 rbp\n"],
+        &[],
+    ),
+    (
+        "a change is missing",
+        &[&["judge", "d/a.out", "d/short"]],
+        Given::Units(&[], PUSH_RBP),
+        1,
+        &[b"no 100e cfa\n"],
+        &[],
+    ),
+];
+
 /// Samples, which read no file.
 pub const SAMPLE_ROWS: [Row; 5] = [
     (
@@ -369,7 +434,7 @@ pub const SAMPLE_ROWS: [Row; 5] = [
 ];
 
 /// Words, and ELF files.
-pub const ROWS: [Row; 41] = [
+pub const ROWS: [Row; 37] = [
     ("usage", NO_ROWS, Given::Small, 2, &[], &[USAGE]),
     (
         "another file",
@@ -403,38 +468,6 @@ pub const ROWS: [Row; 41] = [
         0,
         &[FRONT, PUSH_RBP_LINES],
         &[],
-    ),
-    (
-        "the same rules",
-        &[JUDGE],
-        Given::Units(&[], PUSH_RBP),
-        0,
-        &[b"yes\n"],
-        &[],
-    ),
-    (
-        "no rules",
-        &[JUDGE],
-        Given::Small,
-        1,
-        &[b"no 1000 init\n"],
-        &[],
-    ),
-    (
-        "no ELF file",
-        &[JUDGE],
-        Given::Bytes(b""),
-        1,
-        &[],
-        &[NOT_ELF],
-    ),
-    (
-        "a state as a text",
-        &[&["judge", "d/a.out", "d/state"]],
-        Given::Small,
-        1,
-        &[],
-        &[b"refused text no-module line 1\n"],
     ),
     (
         "left out",

@@ -7,7 +7,6 @@ mod OneRecords
 mod OneVerdict
 mod OneRun
 pub mod RowStepLemmas
-mod PlainJudge
 mod Plain
 mod Small
 mod WorkedWords
@@ -22,4 +21,3 @@ pub mod ComputingSymbols
 mod WorkedSymbolFiles
 mod WorkedStacks
 mod WorkedNames
-mod WorkedJudgements
