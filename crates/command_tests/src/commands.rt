@@ -2,10 +2,10 @@
 //! each small file gives stands in the rows of the crate `worked` too.
 use crate::comparing::same;
 use crate::files::{Given, file_by, joined, of_code};
+use crate::judgements::{JUDGE_ROWS, SAMPLE_ROWS, SHORT, SLOT, TEXT, THOUSAND, TWO};
 use crate::rows::{
-    A, BY_TWO, CHECK, DUMP, FRAME, FRONT, FRONTS, JUDGE_ROWS, MAIN, PUSHED, ROWS, Row, SAMPLE_ROWS,
-    SHORT, SHOW, SLOT, STACK, STATE, TABLE, TEXT, TEXT_ROWS, THOUSAND, THREE_PATHS, UNREAD, WALK,
-    Words,
+    A, BY_TWO, CHECK, DUMP, FRAME, FRONT, FRONTS, MAIN, PUSHED, ROWS, Row, SHOW, STACK, STATE,
+    TABLE, TEXT_ROWS, THREE_PATHS, UNREAD, WALK, Words,
 };
 use dumpsyms_cmd::run;
 use std::alloc::{AllocError, Global};
@@ -268,6 +268,10 @@ fn two_workers_meet(rt: HostRuntime) -> Result<(), Fail> {
     expect(
         &rt, &gate, alloc, "held", BY_TWO, &file, SMOOTH, 0, &text, b"",
     )?;
+    same(&rt, "the other is reached", &gate.seen(), &[1, 0]);
+    let gate = Holding::new(0, 1);
+    let words = &["sample", "2", "--workers", "2"];
+    expect(&rt, &gate, alloc, "held", words, &file, SMOOTH, 0, TWO, b"")?;
     same(&rt, "the other is reached", &gate.seen(), &[1, 0]);
     let gate = Holding::new(0, 999);
     let words = &["sample", "1000", "--workers", "2"];

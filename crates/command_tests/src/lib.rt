@@ -10,4 +10,6 @@ mod comparing;
 #[cfg(test)]
 mod files;
 #[cfg(test)]
+mod judgements;
+#[cfg(test)]
 mod rows;
