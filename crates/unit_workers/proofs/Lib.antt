@@ -1,6 +1,7 @@
 pub mod SumLemmas
 pub mod NumberLemmas
 pub mod StepLemmas
+pub mod RuleLemmas
 pub mod WorkLemmas
 pub mod PlaceLemmas
 mod WorkedRows

@@ -1,4 +1,5 @@
--- What each step does to the views.
+-- What each step does to the views: a draw gives its seat the next number or takes a right; a split gives one right and one of the share to a new seat; a join gives one
+-- seat the numbers, rights and shares of two.
 use Rattle.std.specs.Prelude.{◌≡◌, ℕ, ◌+◌, ◌-◌, ◌<◌, ◌≤◌, [], ◌∷◌, ◌++◌}
 use Rattle.std.specs.List.{All}
 use Rattle.atomic_table.specs.Table.{Me}

@@ -41,6 +41,7 @@
 
 mod gathering;
 mod job;
+pub mod laws;
 mod lot;
 mod rule;
 mod running;
