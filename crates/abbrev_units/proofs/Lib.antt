@@ -1,5 +1,6 @@
 mod TextLemmas
 pub mod UnitLemmas
+pub mod UnitPlaceLemmas
 pub mod AbbrevLemmas
 mod PlaceLemmas
 pub mod ValueLemmas

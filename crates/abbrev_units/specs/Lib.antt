@@ -5,6 +5,7 @@ pub mod Texts
 pub mod Contents
 pub mod InitialLength
 pub mod Units
+pub mod UnitPlaces
 pub mod SpecFields
 pub mod Abbreviations
 pub mod Places

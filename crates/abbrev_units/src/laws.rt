@@ -1,5 +1,6 @@
 //! Laws of the definitions, for proofs above. Each function does nothing: its contract is the law.
-ghost use Rattle.std.specs.Prelude.{◌≡◌, ℕ, ℤ, Bool, List};
+ghost use Rattle.std.specs.Prelude.{◌≡◌, ℕ, ℤ, Bool, List, Ok, length};
+ghost use Rattle.std.specs.List.{AllByRecursion};
 ghost use Rattle.leb_cursor.specs.Ahead.{Ahead};
 ghost use Rattle.leb_cursor.specs.Passes.{Passes};
 ghost use Rattle.leb_cursor.specs.Lists.{list_at, list_cases};
@@ -7,7 +8,9 @@ ghost use Rattle.abbrev_units.specs.SpecFields.{SpecFields};
 ghost use Rattle.abbrev_units.specs.InitialLength.{contents_at};
 ghost use Rattle.abbrev_units.specs.FormValue.{form_at};
 ghost use Rattle.abbrev_units.specs.Values.{values_at};
-ghost use Rattle.abbrev_units.specs.Units.{next_unit};
+ghost use Rattle.abbrev_units.specs.Units.{next_unit, units_in};
+ghost use Rattle.abbrev_units.specs.UnitPlaces.{Follow, IsInside, read_units};
+ghost use Rattle.abbrev_units.specs.declared.unit.Unit.{Unit};
 ghost use Rattle.abbrev_units.specs.Abbreviations.{spec_at, abbrev_at};
 
 /// The units ahead are what stands first and the units after it, and so are attributes and
@@ -25,4 +28,11 @@ pub fn values_pass()
     ensures contents { (c : Ahead) → Passes 4 c (contents_at c) }
     ensures value { (form : ℕ) (implicit : ℤ) (wide : Bool) (c : Ahead) → Passes 0 c (form_at form implicit wide c) }
     ensures values { (specs : List SpecFields) (c : Ahead) → Passes 0 c (values_at specs c) }
+{}
+
+/// The units of a section stand one after the other, up to its end; those that are read have their
+/// entries in the section, after their header.
+pub fn units_stand_one_after_the_other()
+    ensures follow { (info : List ℕ) (units : List Unit) → units_in info ≡ Ok units → Follow 0 (length info) units }
+    ensures inside { (info : List ℕ) (units : List Unit) → units_in info ≡ Ok units → AllByRecursion (IsInside (length info)) (read_units units) }
 {}

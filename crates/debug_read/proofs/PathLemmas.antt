@@ -26,7 +26,7 @@ use Rattle.line_program.specs.LineTables.{lines_of, lines_at, unit_lines}
 use Rattle.line_program.specs.Paths.{directories_of, file_path}
 use Rattle.die_names.specs.declared.unit_read.UnitRead.{UnitRead}
 use Rattle.sym_edges.specs.declared.part.Sect.TheVariants.{EhFrame, DebugFrame}
-use Rattle.die_names.specs.UnitPlaces.{read_units}
+use Rattle.abbrev_units.specs.UnitPlaces.{read_units}
 use Rattle.abbrev_units.specs.Units.{units_in}
 use Rattle.frame_entries.specs.declared.description.Entry.{Entry}
 use Rattle.frame_entries.specs.FrameEntries.{frame_entries}

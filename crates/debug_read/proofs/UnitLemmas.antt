@@ -15,8 +15,9 @@ use Rattle.line_program.specs.LineMaps.{LineMap}
 use Rattle.die_names.specs.declared.unit_read.UnitRead.{UnitRead}
 use Rattle.die_walk.specs.EntryKinds.{counts}
 use Rattle.die_names.specs.UnitEntries.{ArePaired, ArePairs}
-use Rattle.die_names.specs.UnitPlaces.{RisesTo, IsTable, AreTables}
-use Rattle.die_names.proofs.PlaceLemmas.{places_rise}
+use Rattle.die_walk.specs.EntryPlaces.{RisesTo}
+use Rattle.die_names.specs.UnitTables.{IsTable, AreTables}
+use Rattle.die_walk.proofs.EntryPlaceLemmas.{places_rise}
 use Rattle.debug_read.specs.Each.{each_of, Match, Says}
 use Rattle.debug_read.specs.UnitSays.{UnitSays, root_lines, unit_says}
 use Rattle.debug_read.specs.UnitsRead.{IsSet, has_function, KeepsLines, IsUnitRead}

@@ -11,7 +11,7 @@ use Rattle.abbrev_units.specs.Units.{units_in}
 use Rattle.frame_entries.specs.declared.description.Entry.{Entry}
 use Rattle.frame_entries.specs.declared.fault.FrameKind.{FrameKind}
 use Rattle.frame_entries.specs.FrameEntries.{frame_entries}
-use Rattle.die_names.specs.UnitPlaces.{read_units}
+use Rattle.abbrev_units.specs.UnitPlaces.{read_units}
 use Rattle.debug_read.specs.declared.fault.DebugFault.{DebugFault}
 use Rattle.debug_read.specs.declared.fault.DebugFault.TheVariants.{Dwarf, Frame}
 use Rattle.debug_read.specs.declared.found.DebugRead.{DebugRead}

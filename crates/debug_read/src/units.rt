@@ -1,13 +1,13 @@
 //! The units that are read, each by a worker, and joined in their order.
 ghost use Rattle.std.specs.Prelude.{◌≡◌, [], ◌++◌, OnOk, IfOk, ◌≤◌, ◌^◌, length, List, slice_get, Err, Ok};
-ghost use Rattle.die_names.specs.UnitPlaces.{with_read, read_units};
+ghost use Rattle.abbrev_units.specs.UnitPlaces.{IsInside, with_read, read_units};
 ghost use Rattle.sym_edges.specs.Addresses.{Range};
 ghost use Rattle.sym_edges.specs.Outside.{MatchStop};
 ghost use Rattle.line_program.specs.LineMaps.{EncloseAlike};
 ghost use Rattle.debug_read.specs.Each.{Says, each_of, Match};
 ghost use Rattle.debug_read.specs.UnitSays.{unit_says};
 ghost use Rattle.debug_read.specs.UnitsRead.{IsUnitRead};
-ghost use Rattle.debug_read.specs.internal.Jobs.{IsInside, IsReader};
+ghost use Rattle.debug_read.specs.internal.Jobs.{IsReader};
 ghost use Rattle.debug_read.specs.internal.Sharing.{IsRead};
 ghost use Rattle.abbrev_units.specs.Abbreviations.{abbrevs_of};
 ghost use Rattle.debug_read.specs.internal.Owing.{HoldsUnit, IsOwing, ReaderGives};

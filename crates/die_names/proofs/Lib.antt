@@ -8,7 +8,5 @@ pub mod TextLemmas
 pub mod Computing
 pub mod MadeUnits
 mod WorkedNames
-pub mod PlaceLemmas
-pub mod UnitLemmas
 pub mod ReadLemmas
 mod WorkedUnits

@@ -9,9 +9,11 @@ use Rattle.die_walk.specs.EntryTable.{DieFields}
 use Rattle.sym_edges.specs.Rising.{RisesFrom}
 use Rattle.die_names.specs.declared.unit_read.UnitRead.{UnitRead}
 use Rattle.die_names.specs.UnitEntries.{places, ArePairs, AreRead}
-use Rattle.die_names.specs.UnitPlaces.{RisesTo, BodyInside, Follow, with_read, read_units, AreTables}
-use Rattle.die_names.proofs.PlaceLemmas.{places_rise, rises_lower}
-use Rattle.die_names.proofs.UnitLemmas.{units_follow}
+use Rattle.abbrev_units.specs.UnitPlaces.{BodyInside, Follow, with_read, read_units}
+use Rattle.die_walk.specs.EntryPlaces.{RisesTo}
+use Rattle.die_names.specs.UnitTables.{AreTables}
+use Rattle.die_walk.proofs.EntryPlaceLemmas.{places_rise, rises_lower}
+use Rattle.abbrev_units.proofs.UnitPlaceLemmas.{units_follow}
 
 rises_append : (low mid high : ℕ) (xs ys : List ℕ) → low ≤ mid + 1 → mid ≤ high → RisesTo low mid xs → RisesTo (mid + 1) high ys → RisesTo low high (xs ++ ys)
 rises_append low mid high [] ys below inside first later = rises_lower low (mid + 1) high ys below later

@@ -13,7 +13,7 @@ use Rattle.die_walk.specs.EntryTable.{DieFields, EntryTable, entry_table}
 use Rattle.die_walk.proofs.Computing.{die_walk_computes}
 use Rattle.die_names.specs.declared.unit_read.UnitRead.{UnitRead}
 use Rattle.die_names.specs.Names.{entry_name}
-use Rattle.die_names.specs.UnitPlaces.{read_units}
+use Rattle.abbrev_units.specs.UnitPlaces.{read_units}
 use Rattle.die_names.proofs.Computing.{die_names_computes}
 use Rattle.die_names.proofs.MadeUnits.{bare_unit}
 

@@ -1,5 +1,5 @@
 pub mod UnitEntries
-pub mod UnitPlaces
+pub mod UnitTables
 pub mod Names
 pub mod NameRefs
 pub mod Owners

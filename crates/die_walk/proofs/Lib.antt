@@ -5,6 +5,7 @@ mod PickLemmas
 mod StepLemmas
 mod TreeLemmas
 pub mod WalkLemmas
+pub mod EntryPlaceLemmas
 pub mod Computing
 mod WorkedEntries
 mod WorkedAttributes

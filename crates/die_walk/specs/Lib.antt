@@ -2,6 +2,7 @@ pub mod Marks
 pub mod EntryTree
 pub mod Attributes
 pub mod EntryTable
+pub mod EntryPlaces
 pub mod EntryKinds
 pub mod Picking
 pub mod Steps

@@ -18,6 +18,7 @@
 mod attributes;
 mod die;
 mod heads;
+pub mod laws;
 mod making;
 mod packed;
 mod picks;

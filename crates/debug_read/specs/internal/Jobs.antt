@@ -6,16 +6,12 @@ use Rattle.sym_edges.specs.declared.located.Located.{Located}
 use Rattle.abbrev_units.specs.declared.fault.DwarfKind.{DwarfKind}
 use Rattle.abbrev_units.specs.declared.unit.Unit.{Unit}
 use Rattle.abbrev_units.specs.DebugSections.{DebugSections}
+use Rattle.abbrev_units.specs.UnitPlaces.{IsInside}
 use Rattle.die_names.specs.declared.unit_read.UnitRead.{UnitRead}
 use Rattle.debug_read.specs.Each.{Says, Match}
 use Rattle.debug_read.specs.internal.Sharing.{SharedParts, IsRead}
 use Rattle.debug_read.specs.UnitSays.{unit_says}
 use Rattle.debug_read.specs.UnitsRead.{IsUnitRead}
-
--- the entries of a unit stand in the section
-pub record IsInside (end : ℕ) (unit : Unit) : Type 0 where
-  pub ordered : unit.body ≤ unit.end
-  pub inside : unit.end ≤ end
 
 -- the units that are to be read, of these sections, where ranges of these spans are code, with the abbreviations that several of them
 -- name

@@ -1,7 +1,6 @@
 use Rattle.std.proofs.Common.{◌≡◌, ◌≤◌, ◌^◌, length, ap, sym, subst, ◌∙◌, arith}
 use Rattle.std.specs.List.{AllByRecursion}
-use Rattle.die_names.specs.UnitPlaces.{read_units}
-use Rattle.debug_read.specs.internal.Jobs.{IsInside}
+use Rattle.abbrev_units.specs.UnitPlaces.{IsInside, read_units}
 use Rattle.debug_read.proofs.PickLemmas.{units_inside, units_few}
 use Rattle.debug_read.proofs.JobLemmas.{found_in}
 use Rattle.debug_read.proofs.units.find_all.Goals as goal

@@ -1,4 +1,4 @@
-use Rattle.die_names.specs.UnitPlaces.{read_units}
+use Rattle.abbrev_units.specs.UnitPlaces.{read_units}
 use Rattle.die_names.proofs.ReadLemmas.{are_read}
 use Rattle.debug_read.proofs.UnitLemmas.{parts_are}
 use Rattle.debug_read.proofs.JobLemmas.{joined_all, joined_stop}

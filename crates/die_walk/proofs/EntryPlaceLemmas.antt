@@ -1,11 +1,12 @@
--- Entries stand in their units in rising order, and units one after the other.
+-- Entries stand in their units in rising order. Serves the laws.
 use Rattle.std.proofs.Common.{◌≡◌, ◌≤◌, ◌+◌, ◌-◌, ℕ, zero, suc, Bool, true, false, nat_eq, cond, List, [], ◌∷◌, ◌++◌, map, length, take, Option, None, Some, Result, Ok, Err, refl, ap, subst, ◌∙◌, arith, length-drop, length-take-le}
 use Rattle.sym_edges.specs.Results.{◌>>=◌}
 use Rattle.sym_edges.specs.declared.located.Located.{Located}
 use Rattle.sym_edges.specs.declared.part.Sect.TheVariants.{Info}
 use Rattle.leb_cursor.specs.Ahead.{Ahead}
 use Rattle.leb_cursor.specs.Readings.{uleb_at}
-use Rattle.leb_cursor.specs.Lists.{list_by, list_in, list_at, GoesOn}
+use Rattle.leb_cursor.specs.Lists.{list_by, list_in, list_at, list_cases, GoesOn}
+use Rattle.leb_cursor.proofs.ListLemmas.{list_follows}
 use Rattle.abbrev_units.specs.declared.abbrev.Abbrev.{Abbrev}
 use Rattle.abbrev_units.specs.declared.fault.DwarfKind.{DwarfKind}
 use Rattle.abbrev_units.specs.declared.value.Given.{Given}
@@ -18,7 +19,7 @@ use Rattle.die_walk.specs.Marks.Mark.{Close, Entry}
 use Rattle.die_walk.specs.EntryTree.{Item, Kept, items_from, is_kept, kept_from, ancestor, rooted}
 use Rattle.die_walk.specs.EntryTable.{DieFields, EntryTable, base_of, die_of, table_by, table_of, entries_ahead, entry_table}
 use Rattle.die_walk.proofs.WalkLemmas.{next_goes}
-use Rattle.die_names.specs.UnitPlaces.{RisesTo}
+use Rattle.die_walk.specs.EntryPlaces.{RisesTo, table_places}
 
 -- what stands in a unit from a place on, entries in rising order
 abbrev MarksRise : ℕ → ℕ → List Mark → Type 0
@@ -146,9 +147,6 @@ kept_rise sections unit base earlier (item ∷ items) low high rise =
     one_rises sections unit base (record { item = item; parent = ancestor item.depth earlier }) (kept_from (item ∷ earlier) items) low high (is_kept item earlier) rise.0 rise.1
     (kept_rise sections unit base (item ∷ earlier) items (item.at + 1) high rise.2)
 
-abbrev table_places : EntryTable → List ℕ
-table_places table = map (λ (d : DieFields). d.at) table.dies
-
 by_rises : (sections : DebugSections) (unit : Unit) (items : List Item) (low high : ℕ) → ItemsRise low high items → RisesTo low high (table_places (table_by sections unit items))
 by_rises sections unit [] low high rise = tt
 by_rises sections unit (first ∷ items) low high rise = kept_rise sections unit (base_of first.values) [] (first ∷ items) low high rise
@@ -171,3 +169,7 @@ places_rise sections unit abbrevs table ordered inside is =
     let last : end_of c ≡ unit.end = omega (arith, all, ordered) in
     table_rises sections unit (list_at (next_mark abbrevs) c) table unit.end ordered
     (subst (λ high. ListRises unit.body high (list_at (next_mark abbrevs) c)) last (marks_rise_in abbrevs (suc (length c.bytes)) c)) is
+
+-- what stands ahead is the first and what stands after it
+pub marks_follow : (abbrevs : List Abbrev) (c : Ahead) → list_at (next_mark abbrevs) c ≡ list_cases (next_mark abbrevs) c
+marks_follow abbrevs c = list_follows (next_mark abbrevs) (next_goes abbrevs) c

@@ -1,6 +1,7 @@
--- Units stand one after the other, and their entries after their headers.
-use Rattle.std.proofs.Common.{◌≡◌, ◌<◌, ◌≤◌, ◌+◌, ℕ, zero, suc, Bool, true, false, nat_eq, nat_lt, cond, List, ◌∷◌, length, take, Option, None, Some, Result, Ok, Err, refl, sym, ap, subst, ◌∙◌, arith, length-take-le}
+-- Units stand one after the other, and their entries after their headers. Serves the law of their places.
+use Rattle.std.proofs.Common.{◌≡◌, ◌<◌, ◌≤◌, ◌+◌, ℕ, zero, suc, Bool, true, false, nat_eq, nat_lt, cond, List, [], ◌∷◌, length, take, Option, None, Some, Result, Ok, Err, refl, sym, ap, subst, ◌∙◌, arith, length-take-le}
 use Rattle.std.proofs.lemmas.Bool.{ltb-false}
+use Rattle.std.specs.List.{AllByRecursion}
 use Rattle.sym_edges.specs.Results.{◌>>=◌}
 use Rattle.sym_edges.specs.declared.located.Located.{Located}
 use Rattle.sym_edges.specs.declared.part.Sect.TheVariants.{Info}
@@ -16,6 +17,7 @@ use Rattle.abbrev_units.specs.declared.fault.HeaderFault.{HeaderFault}
 use Rattle.abbrev_units.specs.declared.fault.HeaderFault.TheVariants.{Start}
 use Rattle.abbrev_units.specs.declared.unit.Frame.{Frame}
 use Rattle.abbrev_units.specs.declared.unit.Unit.{Unit}
+use Rattle.abbrev_units.specs.declared.unit.UnitPart.{UnitPart}
 use Rattle.abbrev_units.specs.declared.unit.UnitPart.TheVariants as part
 use Rattle.abbrev_units.specs.declared.length.InitialLength.{InitialLength}
 use Rattle.abbrev_units.specs.Contents.{Contents}
@@ -24,7 +26,7 @@ use Rattle.abbrev_units.specs.InitialLength.{length_at, contents_at}
 use Rattle.abbrev_units.specs.Texts.{place_width}
 use Rattle.abbrev_units.specs.Units.{other_unit, read_unit, address_size_at, abbrev_place_at, version_4_at, id_at, version_5_by, version_5_at, is_read_type, is_passed_type, unit_by, unit_in, header_at, unit_at, next_unit, units_in}
 use Rattle.abbrev_units.proofs.UnitLemmas.{length_passes, next_goes}
-use Rattle.die_names.specs.UnitPlaces.{BodyInside, Follow}
+use Rattle.abbrev_units.specs.UnitPlaces.{BodyInside, Follow, IsInside, with_read, read_units}
 
 abbrev end_of : Ahead → ℕ
 end_of c = c.at + length c.bytes
@@ -254,3 +256,16 @@ units_follow info units is =
     let c : Ahead = record { bytes = info; at = 0 } in
     let last : end_of c ≡ length info = omega arith in
     found_units (list_at next_unit c) units (length info) (subst (λ high. ListFollows 0 high (list_at next_unit c)) last (units_follow_in (suc (length info)) c)) is
+
+-- those that are read have their entries in the section
+inside_by : (unit : Unit) (which : UnitPart) (later : List Unit) (high : ℕ) → BodyInside unit which → unit.end ≤ high → AllByRecursion (IsInside high) later → AllByRecursion (IsInside high) (with_read unit which later)
+inside_by unit part.Read later high body end all = (record { ordered = body.1; inside = end }, all)
+inside_by unit part.Passed later high body end all = all
+inside_by unit part.Skipped later high body end all = all
+
+are_inside : (low high : ℕ) (units : List Unit) → Follow low high units → AllByRecursion (IsInside high) (read_units units)
+are_inside low high [] follow = tt
+are_inside low high (unit ∷ units) follow = inside_by unit unit.part (read_units units) high follow.3 follow.2 (are_inside unit.end high units follow.4)
+
+pub units_inside : (info : List ℕ) (units : List Unit) → units_in info ≡ Ok units → AllByRecursion (IsInside (length info)) (read_units units)
+units_inside info units is = are_inside 0 (length info) units (units_follow info units is)
