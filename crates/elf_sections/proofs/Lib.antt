@@ -6,8 +6,10 @@ pub mod IdentityLemmas
 pub mod StringLemmas
 pub mod SymbolLemmas
 pub mod CodeLemmas
+pub mod PairLemmas
 pub mod Computing
 pub mod Elf
 mod WorkedImage
 mod WorkedFaults
 mod WorkedNotes
+mod WorkedPair

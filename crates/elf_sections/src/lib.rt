@@ -2,7 +2,8 @@
 //!
 //! `read_image` reads the file header, the section and program header tables, the notes and the symbol table (System V
 //! ABI, ELF64; LSB notes). It refuses a file exactly with the first of twelve faults, in the order of `ElfFault`, and
-//! else answers an `Image`, each part of which is chosen from the list of all headers by a condition.
+//! else answers an `Image`, each part of which is chosen from the list of all headers by a condition. `Image::with_debug` puts
+//! the image of a stripped binary together with that of its separate debug file.
 #![tactic(auto)]
 
 mod code;
@@ -12,6 +13,7 @@ mod header;
 mod image;
 mod notes;
 mod numbers;
+mod pairing;
 mod program;
 mod reading;
 mod section;
