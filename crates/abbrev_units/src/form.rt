@@ -9,14 +9,15 @@ use crate::value::{Value, value_of};
 use code_table::{DW_FORM_implicit_const, DW_FORM_indirect, FormRow, find_form, read_kind};
 use leb_cursor::Cursor;
 
-/// Reads a value by the row of its form. A refused call may leave the cursor after a block's length.
+/// Reads a value by the row of its form. A refused call leaves the cursor where it was.
 #[inline]
 pub fn read_known(
     cursor: &mut Cursor<'_>,
     row: Option<FormRow>,
     implicit: i64,
 ) -> Result<Value, FormFault>
-    ensures { gave result cursor.new ≡ value_by row implicit cursor.old }
+    ensures read { gave result cursor.new ≡ value_by row implicit cursor.old }
+    ensures kept { OnErr result (cursor.new ≡ cursor.old) }
 {
     match row {
         Some(row) => {
@@ -36,21 +37,26 @@ fn read_direct(
     implicit: i64,
     wide: bool,
 ) -> Result<Value, FormFault>
-    ensures { gave result cursor.new ≡ direct_at form implicit wide cursor.old }
+    ensures read { gave result cursor.new ≡ direct_at form implicit wide cursor.old }
+    ensures kept { OnErr result (cursor.new ≡ cursor.old) }
 {
     read_known(cursor, find_form(form, wide), implicit)
 }
 
-/// Reads a form and the value after it.
+/// Reads a form and the value after it. A refused call leaves the cursor where it was.
 #[tactic(auto, unfolding(crate::specs::FormValue::indirect_at))]
 pub fn read_indirect(cursor: &mut Cursor<'_>, wide: bool) -> Result<Value, FormFault>
-    ensures { gave result cursor.new ≡ indirect_at wide cursor.old }
+    ensures read { gave result cursor.new ≡ indirect_at wide cursor.old }
+    ensures kept { OnErr result (cursor.new ≡ cursor.old) }
 {
-    let form = cursor.uleb()?;
+    let mut probe = cursor.fork();
+    let form = probe.uleb()?;
     if form == DW_FORM_indirect || form == DW_FORM_implicit_const {
-        return Err(FormFault::Unknown { at: cursor.at() });
+        return Err(FormFault::Unknown { at: probe.at() });
     }
-    read_direct(cursor, form, 0, wide)
+    let value = read_direct(&mut probe, form, 0, wide)?;
+    *cursor = probe;
+    Ok(value)
 }
 
 /// Reads the value of a form (DWARF 5, 7.5.5 and 7.5.6), in a unit of the 64-bit format where `wide`.
@@ -66,12 +72,8 @@ pub fn read_form(
     ensures read { gave result cursor.new ≡ form_at form implicit wide cursor.old }
     ensures kept { OnErr result (cursor.new ≡ cursor.old) }
 {
-    let mut probe = cursor.fork();
-    let value = if form == DW_FORM_indirect {
-        read_indirect(&mut probe, wide)?
-    } else {
-        read_direct(&mut probe, form, implicit, wide)?
-    };
-    *cursor = probe;
-    Ok(value)
+    if form == DW_FORM_indirect {
+        return read_indirect(cursor, wide);
+    }
+    read_direct(cursor, form, implicit, wide)
 }

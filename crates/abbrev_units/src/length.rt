@@ -1,5 +1,5 @@
 //! The length in front of a unit or of a line table (DWARF 5, 7.2.2 and 7.4).
-ghost use Rattle.std.specs.Prelude.{◌≡◌};
+ghost use Rattle.std.specs.Prelude.{◌≡◌, OnErr};
 ghost use Rattle.leb_cursor.specs.Ahead.{gave};
 ghost use Rattle.abbrev_units.specs.InitialLength.{length_by, length_at, contents_at};
 
@@ -60,15 +60,18 @@ fn read_length(cursor: &mut Cursor<'_>) -> Result<InitialLength, HeaderFault>
 }
 
 /// Reads a length, and passes what it counts. A refusal is for the start of the length: it is reserved,
-/// its own bytes are cut, or it leaves the section.
+/// its own bytes are cut, or it leaves the section. A refused call leaves the cursor where it was.
 #[tactic(auto, unfolding(crate::specs::InitialLength::contents_at))]
 pub fn read_contents<'a>(cursor: &mut Cursor<'a>) -> Result<Contents<'a>, HeaderFault>
-    ensures { gave result cursor.new ≡ contents_at cursor.old }
+    ensures read { gave result cursor.new ≡ contents_at cursor.old }
+    ensures kept { OnErr result (cursor.new ≡ cursor.old) }
 {
-    let length = read_length(cursor)?;
-    let Ok(ahead) = cursor.part(length.count) else {
+    let mut probe = cursor.fork();
+    let length = read_length(&mut probe)?;
+    let Ok(ahead) = probe.part(length.count) else {
         return Err(HeaderFault::Start(DwarfKind::Ends));
     };
+    *cursor = probe;
     Ok(Contents {
         wide: length.wide,
         ahead,

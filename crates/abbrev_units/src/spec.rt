@@ -1,5 +1,5 @@
 //! An attribute of an abbreviation.
-ghost use Rattle.std.specs.Prelude.{◌≡◌, IfSome, IfOk};
+ghost use Rattle.std.specs.Prelude.{◌≡◌, IfSome, IfOk, OnErr};
 ghost use Rattle.leb_cursor.specs.Ahead.{gave};
 ghost use Rattle.leb_cursor.specs.Readings.{take_at};
 ghost use Rattle.abbrev_units.specs.Faults.{left_by, as_value};
@@ -47,7 +47,8 @@ impl Model for Spec {
 /// Passes so many bytes.
 #[inline]
 fn pass_run(cursor: &mut Cursor<'_>, size: u8) -> Result<(), FormFault>
-    ensures { left_by result cursor.new ≡ as_value (only_ahead (take_at size cursor.old)) }
+    ensures passed { left_by result cursor.new ≡ as_value (only_ahead (take_at size cursor.old)) }
+    ensures kept { OnErr result (cursor.new ≡ cursor.old) }
 {
     let _run = cursor.take(u64::from(size))?;
     Ok(())
@@ -92,11 +93,12 @@ impl Spec {
         self.implicit
     }
 
-    /// Reads a value of the attribute. A refused call may leave the cursor inside the value.
+    /// Reads a value of the attribute. A refused call leaves the cursor where it was.
     #[inline]
     #[tactic(auto, unfolding(crate::specs::FormValue::form_at, crate::specs::FormValue::direct_at))]
     pub fn read(&self, cursor: &mut Cursor<'_>) -> Result<Value, FormFault>
-        ensures { gave result cursor.new ≡ form_at self.now.form self.now.implicit self.now.wide cursor.old }
+        ensures read { gave result cursor.new ≡ form_at self.now.form self.now.implicit self.now.wide cursor.old }
+        ensures kept { OnErr result (cursor.new ≡ cursor.old) }
     {
         if self.form == DW_FORM_indirect {
             return read_indirect(cursor, self.wide);
@@ -132,11 +134,12 @@ impl Spec {
         }
     }
 
-    /// Passes a value of the attribute. A refused call may leave the cursor inside the value.
+    /// Passes a value of the attribute. A refused call leaves the cursor where it was.
     #[inline]
     #[tactic(auto, using(crate::proofs::PlanLemmas::sized_value))]
     pub fn skip(&self, cursor: &mut Cursor<'_>) -> Result<(), FormFault>
-        ensures { left_by result cursor.new ≡ only_ahead (value_at self.now cursor.old) }
+        ensures passed { left_by result cursor.new ≡ only_ahead (value_at self.now cursor.old) }
+        ensures kept { OnErr result (cursor.new ≡ cursor.old) }
     {
         if let Some(size) = self.size {
             return pass_run(cursor, size);
@@ -203,11 +206,12 @@ impl SpecList {
         }
     }
 
-    /// Passes the values of the attributes, one after the other. A refused call may leave the cursor among
-    /// them.
+    /// Passes the values of the attributes, one after the other. A refused call leaves the cursor where it
+    /// was.
     #[tactic(auto, using(crate::proofs::PlanLemmas::short_way))]
     pub fn skip(&self, cursor: &mut Cursor<'_>) -> Result<(), FormFault>
-        ensures { left_by result cursor.new ≡ behind_values self.now cursor.old }
+        ensures passed { left_by result cursor.new ≡ behind_values self.now cursor.old }
+        ensures kept { OnErr result (cursor.new ≡ cursor.old) }
     {
         if let Some(steps) = &self.steps {
             let mut probe = cursor.fork();
@@ -216,7 +220,10 @@ impl SpecList {
                 return Ok(());
             }
         }
-        skip_values(cursor, self.items.as_slice())
+        let mut probe = cursor.fork();
+        skip_values(&mut probe, self.items.as_slice())?;
+        *cursor = probe;
+        Ok(())
     }
 }
 

@@ -1,5 +1,5 @@
 //! A short way to those values of an entry that are asked for: what stands between them is passed.
-ghost use Rattle.std.specs.Prelude.{◌≡◌, ◌+◌, IfSome, IfOk, OnOk, reverse, unwrap_or};
+ghost use Rattle.std.specs.Prelude.{◌≡◌, ◌+◌, IfSome, IfOk, OnOk, reverse, unwrap_or, OnErr};
 ghost use Rattle.leb_cursor.specs.Ahead.{gave};
 ghost use Rattle.code_table.specs.Layouts.{kind_at};
 ghost use Rattle.abbrev_units.specs.Takes.{taken_at, is_asked, AreTakes};
@@ -41,7 +41,8 @@ const NO_TAKE: Take = Take {
 #[inline(always)]
 #[tactic(auto, unfolding(code_table::specs::Layouts::kind_at))]
 fn read_usual(cursor: &mut Cursor<'_>, kind: Kind) -> Result<Operand, CursorFault>
-    ensures { gave result cursor.new ≡ kind_at kind cursor.old }
+    ensures read { gave result cursor.new ≡ kind_at kind cursor.old }
+    ensures kept { OnErr result (cursor.new ≡ cursor.old) }
 {
     match kind {
         Kind::Nothing => Ok(Operand::Nothing),
@@ -54,14 +55,17 @@ fn read_usual(cursor: &mut Cursor<'_>, kind: Kind) -> Result<Operand, CursorFaul
 }
 
 impl Take {
-    /// Passes the bytes, and reads the value. A refused call may leave the cursor among them.
+    /// Passes the bytes, and reads the value. A refused call leaves the cursor where it was.
     #[inline]
     #[tactic(auto, unfolding(crate::specs::Takes::taken_at))]
     pub fn read(&self, cursor: &mut Cursor<'_>) -> Result<Value, CursorFault>
-        ensures { gave result cursor.new ≡ taken_at self.now cursor.old }
+        ensures read { gave result cursor.new ≡ taken_at self.now cursor.old }
+        ensures kept { OnErr result (cursor.new ≡ cursor.old) }
     {
-        let _run = cursor.take(self.bytes)?;
-        let operand = read_usual(cursor, self.kind)?;
+        let mut probe = cursor.fork();
+        let _run = probe.take(self.bytes)?;
+        let operand = read_usual(&mut probe, self.kind)?;
+        *cursor = probe;
         Ok(value_of(self.class, self.implicit, operand))
     }
 }

@@ -1,5 +1,5 @@
 //! The texts of values.
-ghost use Rattle.std.specs.Prelude.{◌≡◌, ◌≤◌, ◌+◌, ◌*◌, ◌^◌, length, take, drop, MatchOption, option_and_then};
+ghost use Rattle.std.specs.Prelude.{◌≡◌, ◌≤◌, ◌+◌, ◌*◌, ◌^◌, length, take, drop, MatchOption, option_and_then, OnErr};
 ghost use Rattle.std.specs.Option.{option_copied};
 ghost use Rattle.leb_cursor.specs.Ahead.{gave};
 ghost use Rattle.leb_cursor.specs.Readings.{fixed_at};
@@ -35,10 +35,12 @@ pub fn text_in(bytes: &[u8], place: u64) -> Option<&[u8]>
     }
 }
 
-/// Reads a place in a section: of four bytes, or of eight in the 64-bit format (DWARF 5, 7.4).
+/// Reads an offset in a section: of four bytes, or of eight in the 64-bit format (DWARF 5, 7.4). A refused
+/// call leaves the cursor where it was.
 #[inline]
 pub fn read_place(cursor: &mut Cursor<'_>, wide: bool) -> Result<u64, CursorFault>
-    ensures { gave result cursor.new ≡ fixed_at (place_width wide) cursor.old }
+    ensures read { gave result cursor.new ≡ fixed_at (place_width wide) cursor.old }
+    ensures kept { OnErr result (cursor.new ≡ cursor.old) }
 {
     if wide {
         return Ok(cursor.u64()?);

@@ -10,7 +10,8 @@ use leb_cursor::{Cursor, CursorFault};
 #[inline]
 #[tactic(auto, unfolding(crate::specs::Layouts::run_at))]
 fn read_run(cursor: &mut Cursor<'_>, n: u64) -> Result<Operand, CursorFault>
-    ensures { gave result cursor.new ≡ run_at n cursor.old }
+    ensures read { gave result cursor.new ≡ run_at n cursor.old }
+    ensures kept { OnErr result (cursor.new ≡ cursor.old) }
 {
     let start = cursor.at();
     let run = cursor.take(n)?;
@@ -24,7 +25,8 @@ fn read_run(cursor: &mut Cursor<'_>, n: u64) -> Result<Operand, CursorFault>
 #[inline]
 #[tactic(auto, unfolding(crate::specs::Layouts::kind_at))]
 fn read_text(cursor: &mut Cursor<'_>) -> Result<Operand, CursorFault>
-    ensures { gave result cursor.new ≡ kind_at Kind.ZeroText cursor.old }
+    ensures read { gave result cursor.new ≡ kind_at Kind.ZeroText cursor.old }
+    ensures kept { OnErr result (cursor.new ≡ cursor.old) }
 {
     let start = cursor.at();
     let text = cursor.text()?;
@@ -45,19 +47,24 @@ macro_rules! read_by_kind {
         match $kind {
             $(Kind::$number => Ok(Operand::Num(u64::from($cursor.$read_number()?))),)*
             $(Kind::$block => {
-                let length = u64::from($cursor.$read_length()?);
-                read_run($cursor, length)
+                let mut probe = $cursor.fork();
+                let length = u64::from(probe.$read_length()?);
+                let run = read_run(&mut probe, length)?;
+                *$cursor = probe;
+                Ok(run)
             })*
             $(Kind::$other => $reading,)*
         }
     };
 }
 
-/// Reads an operand. A refused call may leave the cursor after a block's length.
+/// Reads an operand. A refused call leaves the cursor where it was; of a block whose bytes end too early
+/// the place of the refusal is after its length.
 #[inline]
 #[tactic(auto, unfolding(crate::specs::Layouts::kind_at))]
 pub fn read_kind(cursor: &mut Cursor<'_>, kind: Kind) -> Result<Operand, CursorFault>
-    ensures { gave result cursor.new ≡ kind_at kind cursor.old }
+    ensures read { gave result cursor.new ≡ kind_at kind cursor.old }
+    ensures kept { OnErr result (cursor.new ≡ cursor.old) }
 {
     read_by_kind!(cursor, kind;
         numbers { U8: u8, U16: u16, U24: u24, U32: u32, U64: u64, Uleb: uleb }

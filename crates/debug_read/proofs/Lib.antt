@@ -11,3 +11,4 @@ mod WorkedFaults
 pub mod KeptLemmas
 pub mod PathLemmas
 pub mod OwnerLemmas
+mod SaidLemmas

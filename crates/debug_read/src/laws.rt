@@ -1,9 +1,16 @@
 //! What holds of debugging information that was read. Each function does nothing: its contract is the law.
-ghost use Rattle.std.specs.Prelude.{◌≡◌, ◌≤◌, ℕ, Some};
+ghost use Rattle.std.specs.Prelude.{◌≡◌, ◌≤◌, ◌<◌, ◌^◌, ℕ, List, Some, map};
+ghost use Rattle.std.specs.Option.{option_map};
+ghost use Rattle.sym_edges.specs.Addresses.{Range};
 ghost use Rattle.elf_sections.specs.Image.{ImageParts};
 ghost use Rattle.range_set.specs.Starts.{AllFrom};
 ghost use Rattle.die_names.specs.CleanPaths.{HaveCleanPaths};
-ghost use Rattle.die_names.specs.Owners.{Covering, owner};
+ghost use Rattle.die_names.specs.declared.unit_read.UnitRead.{UnitRead};
+ghost use Rattle.die_names.specs.Owners.{Covering, owner, chain, line};
+ghost use Rattle.debug_read.specs.Each.{Match};
+ghost use Rattle.debug_read.specs.UnitSays.{UnitSays};
+ghost use Rattle.debug_read.specs.UnitsRead.{IsUnitRead};
+ghost use Rattle.debug_read.specs.SaidOwners.{said_owner, said_chain, said_line, said_place, kept_place};
 ghost use Rattle.debug_read.specs.DebugSays.{IsDebugRead};
 ghost use Rattle.debug_read.specs.declared.found.DebugRead.{DebugRead};
 
@@ -17,4 +24,12 @@ pub fn paths_are_clean()
 #[tactic(auto, using(crate::proofs::OwnerLemmas::owners_above))]
 pub fn owners_are_code()
     ensures { (image : ImageParts) (read : DebugRead) → IsDebugRead image read → AllFrom image.base image.code → (a : ℕ) (c : Covering) → owner read.units a ≡ Some c → image.base ≤ a }
+{}
+
+/// The owner, the inline chain and the line of an address are those of what DWARF says of the units: of what
+/// is kept of them nothing is lost that these depend on.
+pub fn what_is_kept_says_what_the_units_say()
+    ensures owner { (code : List Range) (says : List UnitSays) (units : List UnitRead) (a : ℕ) → Match (IsUnitRead code) says units → option_map said_place (said_owner code says a) ≡ option_map kept_place (owner units a) }
+    ensures chain { (code : List Range) (says : List UnitSays) (units : List UnitRead) (a : ℕ) → Match (IsUnitRead code) says units → map said_place (said_chain code says a) ≡ map kept_place (chain units a) }
+    ensures line { (code : List Range) (says : List UnitSays) (units : List UnitRead) (a : ℕ) → a < 2 ^ 64 → Match (IsUnitRead code) says units → said_line code says a ≡ line units a }
 {}

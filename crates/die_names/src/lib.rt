@@ -17,6 +17,7 @@
 mod finding;
 mod joining;
 mod kept;
+pub mod laws;
 mod naming;
 mod span_sets;
 mod unit_read;

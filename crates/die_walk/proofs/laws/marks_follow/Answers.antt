@@ -1,5 +1,5 @@
 use Rattle.die_walk.proofs.EntryPlaceLemmas.{marks_follow}
 use Rattle.die_walk.proofs.laws.marks_follow.Goals as goal
 
-pub returns-clause : goal.returns-clause
-returns-clause c = marks_follow
+pub returns : goal.returns
+returns c = marks_follow
