@@ -1,0 +1,3 @@
+pub mod DebugPath
+pub mod Pairing
+pub mod FaultWords
