@@ -54,6 +54,12 @@ def used(text, test_inline, test_line):
     return min(found, default=None)
 
 
+def renumbered(kind, words):
+    """The record with other numbers of FILE records."""
+    at = {"FILE": 1, "LINE": 3, "INLINE": 3}.get(kind)
+    return " ".join(words[:at] + [str(int(words[at]) + 7)] + words[at + 1 :]) if at else " ".join(words)
+
+
 def changes(text):
     """Pairs of a name, the changed lines and the answer."""
     lines = text.lines
@@ -100,6 +106,9 @@ def changes(text):
         own = text.words[place][1]
         shown = used(text, lambda words: words[3] == own, lambda words: words[3] == own)
         yield "file", with_line(place, lines[place] + "x"), no(*shown) if shown else "yes"
+        other = [renumbered(text.kind(place), words) for place, words in enumerate(text.words)]
+        yield "file-numbers", other, "yes"
+        yield "file-numbers-twice", other + ["FILE %d /other" % (int(own) + 7)], "yes"
 
     place = text.middle("LINE", is_line)
     if place is not None:

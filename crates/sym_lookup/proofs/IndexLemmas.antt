@@ -18,7 +18,8 @@ use Rattle.sym_lookup.specs.declared.marks.Marked.TheVariants as marked
 use Rattle.sym_lookup.specs.declared.stretches.Kind.TheVariants as kind
 use Rattle.sym_lookup.specs.Answers.{func_place, public_place, chain_places, line_place, answer_of}
 use Rattle.sym_lookup.specs.IndexOf.{AreMarksOf}
-use Rattle.sym_lookup.specs.PlaceMaps.{IsPlaceMap}
+use Rattle.sym_lookup.specs.declared.answers.PlaceRun.{PlaceRun}
+use Rattle.sym_lookup.specs.PlaceMaps.{place_in, IsPlaceMap, IsPlaceRun}
 use Rattle.sym_lookup.specs.internal.Kinds.{is_at}
 use Rattle.sym_lookup.specs.internal.Marks.{marks_of, mark_at, public_of}
 use Rattle.sym_lookup.proofs.PublicMarkLemmas.{public_by_marks}
@@ -35,6 +36,10 @@ funcs_map lines map h = record { places = λ x l. h.places x l ∙ sym (position
 pub inits_map : (lines : List SymLine) (map : Stepping (Option FirstItem)) → IsPlaceMap (λ x. position_from (is_at kind.Inits x) 0 lines) map → IsPlaceMap (init_place lines) map
 unfolding init_place
 inits_map lines map h = record { places = λ x l. h.places x l ∙ sym (position_from-zero (is_init_at x) lines) }
+
+-- a run by a map is one by the scans
+pub run_of_map : (find : ℕ → Option ℕ) (map : Stepping (Option FirstItem)) (x : ℕ) (run : PlaceRun) → IsPlaceMap find map → IsPlaceRun (place_in map) x run → IsPlaceRun find x run
+run_of_map find map x run is told = record { above = told.above; places = λ y low fits before. sym (is.places y fits) ∙ told.places y low fits before }
 
 pub marks_found : (lines : List SymLine) (starts publics : List Mark) → IsNonDecreasingBy (λ m. m.key) starts → IsNonDecreasingBy (λ m. m.key) publics → ((x : ℕ) → mark_at starts x ≡ mark_at (marks_of marked.Functions 0 lines) x)
     → ((x : ℕ) → mark_at publics x ≡ mark_at (marks_of marked.Publics 0 lines) x) → AreMarksOf lines starts publics

@@ -88,7 +88,7 @@ func_found lines x (s ∷ rest) n e =
     go true at behind later = (at, sym behind)
     go false at behind later = later
 
-func_at : (lines : List SymLine) (x : ℕ) → IsFuncOf lines (text_func lines x) (func_place lines x)
+pub func_at : (lines : List SymLine) (x : ℕ) → IsFuncOf lines (text_func lines x) (func_place lines x)
 unfolding func_place
 func_at lines x = let P : Option ℕ → Type 0 = IsFuncOf lines (text_func lines x) in subst P (sym (position_from-zero (is_func_at x) lines)) (func_found lines x lines 0 refl)
 

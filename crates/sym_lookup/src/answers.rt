@@ -19,3 +19,11 @@ pub enum Answer {
     },
     Nothing,
 }
+
+/// The place of the first record that covers an address, and the first address above it from which that may be another record; where there is
+/// none it is the same up to the last address.
+#[derive(Clone, Copy, Debug, PartialEq, Eq)]
+pub struct PlaceRun {
+    pub place: Option<usize>,
+    pub end: Option<u64>,
+}

@@ -4,7 +4,7 @@ ghost use Rattle.cfi_eval.specs.Inits.{init_place};
 ghost use Rattle.sym_lookup.specs.Answers.{func_place, public_place, answer_of};
 ghost use Rattle.sym_lookup.specs.AnswerTexts.{answer_text};
 ghost use Rattle.sym_lookup.specs.IndexOf.{IsIndexOf};
-ghost use Rattle.sym_lookup.specs.PlaceMaps.{IsPlaceMap};
+ghost use Rattle.sym_lookup.specs.PlaceMaps.{IsPlaceMap, IsPlaceRun};
 ghost use Rattle.sym_lookup.specs.internal.Marks.{mark_at, public_of};
 ghost use Rattle.sym_lookup.specs.declared.answers.Answer.TheVariants as answer;
 ghost use Rattle.sym_records.specs.declared.line.SymLine.{SymLine};
@@ -12,11 +12,11 @@ ghost use Rattle.std.specs.List.Sorted.{IsNonDecreasingBy};
 ghost use Rattle.std.specs.Option.{option_map_or, option_copied};
 ghost use Rattle.sym_meaning.specs.TextNames.{text_path, text_origin};
 
-use crate::answers::Answer;
+use crate::answers::{Answer, PlaceRun};
 use crate::marks::{Mark, Marked, mark_at, sorted_marks};
 use crate::named::Records;
 use crate::numbers::{Numbers, numbers_of};
-use crate::stretches::{Kind, PlaceMap, place_at, place_map};
+use crate::stretches::{Kind, PlaceMap, place_at, place_map, run_at};
 use crate::texts::shown_text;
 use crate::under::{Under, held_in_function, unders_of};
 use std::alloc::Global;
@@ -128,6 +128,22 @@ impl Index {
         ensures { (lines : List SymLine) → IsIndexOf lines self.now → result ≡ init_place lines address }
     {
         place_at(&self.inits, address)
+    }
+
+    /// The place of the first `FUNC` that covers the address, and up to where it is the same. Takes no memory.
+    #[tactic(auto, using(crate::proofs::IndexLemmas::run_of_map))]
+    pub fn func_run(&self, address: u64) -> PlaceRun
+        ensures { (lines : List SymLine) → IsIndexOf lines self.now → IsPlaceRun (func_place lines) address result }
+    {
+        run_at(&self.funcs, address)
+    }
+
+    /// The place of the first `INIT` that covers the address, and up to where it is the same. Takes no memory.
+    #[tactic(auto, using(crate::proofs::IndexLemmas::run_of_map))]
+    pub fn init_run(&self, address: u64) -> PlaceRun
+        ensures { (lines : List SymLine) → IsIndexOf lines self.now → IsPlaceRun (init_place lines) address result }
+    {
+        run_at(&self.inits, address)
     }
 
     /// The text that shows an answer, as [`crate::answer_text`] gives it, without a pass over the file.

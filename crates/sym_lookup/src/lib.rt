@@ -3,7 +3,7 @@
 //! [`answer_at`] says which records name an address, by their places in the file: the first `FUNC` that covers it with the first
 //! `INLINE` of each level and the first line record under it, or else the `PUBLIC` in front of it. It scans the file. [`Index::of`] makes an
 //! index of a file, and [`Index::answer_at`] answers the same by halves; [`Index::init_at`] finds the first `INIT` that covers an address, for
-//! `cfi_eval::frame_from`. [`answer_text`] shows an answer, a line for each frame, and [`Index::answer_text`] does so by halves. What an answer
+//! `cfi_eval::frame_from`. [`Index::func_run`] and [`Index::init_run`] also say up to where the record is the same. [`answer_text`] shows an answer, a line for each frame, and [`Index::answer_text`] does so by halves. What an answer
 //! names is what `sym_meaning` says that a look-up in the text names ([`laws`]).
 //!
 //! To read: `answers`, `finding`, `texts` (on `named`, the records that others name by a number) and `laws`; then `index`, on `stretches` (step
@@ -23,7 +23,7 @@ mod stretches;
 mod texts;
 mod under;
 
-pub use answers::{Answer, PlaceList};
+pub use answers::{Answer, PlaceList, PlaceRun};
 pub use finding::answer_at;
 pub use index::Index;
 pub use texts::answer_text;

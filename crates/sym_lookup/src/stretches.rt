@@ -1,11 +1,14 @@
 //! The addresses of records as stretches, and the first record at each address.
-ghost use Rattle.std.specs.Prelude.{◌≡◌, ℕ, ◌+◌, ◌<◌, ◌^◌, ◌++◌, [], ◌∷◌, None, length, IfOk, OnOk};
+ghost use Rattle.std.specs.Prelude.{◌≡◌, ℕ, ◌+◌, ◌<◌, ◌^◌, ◌++◌, [], ◌∷◌, None, length, slice_get, IfOk, OnOk};
 ghost use Rattle.std.specs.List.{position_from};
+ghost use Rattle.std.specs.Option.{option_map};
 ghost use Rattle.step_maps.specs.Covers.{AreStretches, first_item};
 ghost use Rattle.step_maps.specs.Stepping.{value_at};
+ghost use Rattle.step_maps.specs.declared.stretch.FirstItem.{FirstItem};
 ghost use Rattle.sym_lookup.specs.internal.Kinds.{is_at, extents_of, stretch_of, extent_stretches, stretches_of};
-ghost use Rattle.sym_lookup.specs.PlaceMaps.{place_in, IsPlaceMap};
+ghost use Rattle.sym_lookup.specs.PlaceMaps.{place_in, IsPlaceMap, IsPlaceRun};
 
+use crate::answers::PlaceRun;
 use std::alloc::Global;
 use step_maps::{FirstItem, StepMap, Stretch, first_items};
 use sym_edges::OutOfMemory;
@@ -138,12 +141,43 @@ pub(crate) fn place_map(
     Ok(map)
 }
 
+/// The place of an item.
+#[inline]
+fn place_of(item: Option<FirstItem>) -> Option<usize>
+    ensures { result ≡ option_map (λ (i : FirstItem). i.index) item }
+{
+    match item {
+        None => None,
+        Some(item) => Some(item.index as usize),
+    }
+}
+
 /// The place of the first record at an address.
 pub(crate) fn place_at(map: &PlaceMap, address: u64) -> Option<usize>
     ensures { result ≡ place_in map.now address }
 {
-    match map.at(None, address) {
-        None => None,
-        Some(item) => Some(item.index as usize),
+    place_of(map.at(None, address))
+}
+
+/// The stop at an index.
+#[inline]
+fn stop_at(stops: &[u64], index: usize) -> Option<u64>
+    ensures { result ≡ slice_get stops.now index }
+{
+    stops.get(index).copied()
+}
+
+/// The place of the first record at an address, and up to where it is the same.
+pub(crate) fn run_at(map: &PlaceMap, address: u64) -> PlaceRun
+    ensures { IsPlaceRun (place_in map.now) address result }
+{
+    let stops = map.stops();
+    let count = stops.partition_point(|stop| *stop <= address);
+    let end = stop_at(stops, count);
+    if count == 0 {
+        return PlaceRun { place: None, end };
     }
+    let values = map.values();
+    let place = place_of(values[count - 1]);
+    PlaceRun { place, end }
 }
