@@ -1,15 +1,18 @@
 -- Each path has one number.
-use Rattle.std.proofs.Common.{◌≡◌, ◌<◌, ◌≤◌, ℕ, zero, suc, ◌+◌, ◌||◌, Bool, true, false, cond, List, [], ◌∷◌, ◌++◌, length, get_or, take, Option, Some, None, refl, sym, ◌∙◌, ap, subst, ◌⊎◌, inl, inr, arith}
+use Rattle.std.proofs.Common.{◌≡◌, ◌<◌, ◌≤◌, ℕ, zero, suc, ◌+◌, ◌||◌, ◌&&◌, eqb, Bool, true, false, cond, List, [], ◌∷◌, ◌++◌, length, get_or, take, Option, Some, None, refl, sym, ◌∙◌, ap, subst, ◌⊎◌, inl, inr, arith}
 use Rattle.std.specs.BTreeMap as tree
 use Rattle.std.specs.BTreeMap.{BTreeMap}
 use Rattle.std.specs.Cmp.Lexicographic.{slice_cmp}
 use Rattle.std.specs.List.{slice_get, list_any}
-use Rattle.std.specs.Map.{lookup}
+use Rattle.std.specs.Map.{lookup, KeepsOthers}
 use Rattle.std.specs.Option.{option_map, option_or, is_some}
-use Rattle.std.specs.Ordering.{nat_cmp}
+use Rattle.std.specs.Ordering.{nat_cmp, ordering_then, is_eq, eq_by_cmp}
+use Rattle.std.specs.declared.cmp.Ordering.{Ordering}
+use Rattle.std.proofs.lemmas.Bool.{eqb-true}
 use Rattle.std.specs.Str.{bytes_eq}
 use Rattle.std.proofs.lemmas.List.{take_more, take_all, length-map, length_push, get_or_default}
-use Rattle.std.proofs.lemmas.Map.Text.{btree_map_updates_str}
+use Rattle.std.proofs.lemmas.Map.Text.{is_eq-slice_cmp}
+use Rattle.std.proofs.lemmas.Bool.Decides.{nat_tests}
 use Rattle.std.proofs.lemmas.Slice.Eq.{bytes_eq-Decides}
 use denote.Ref.{Bor}
 use Rattle.line_program.specs.LineMaps.{with_path, paths_from, distinct_paths, AreDistinct}
@@ -133,15 +136,72 @@ unfolding paths_from
 paths_push paths [] f = refl
 paths_push paths (g ∷ files) f = paths_push (with_path paths g) files f
 
-abbrev found_in : List (Bor (List ℕ) × ℕ) → List ℕ → Option ℕ
-found_in entries q = lookup (tree.is_at (λ (k : Bor (List ℕ)). slice_cmp nat_cmp q k.now)) entries
+-- keys in the order of the lengths of paths, then of their bytes
+abbrev Key : Type 0
+Key = ℕ × Bor (List ℕ)
+
+abbrev key_cmp : Key → Key → Ordering
+key_cmp x y = ordering_then (nat_cmp x.0 y.0) (slice_cmp nat_cmp x.1.now y.1.now)
+
+-- how a path of a length compares with a key
+abbrev with_key : ℕ → List ℕ → Key → Ordering
+with_key n q k = ordering_then (nat_cmp n k.0) (slice_cmp nat_cmp q k.1.now)
+
+abbrev found_in : List (Key × ℕ) → List ℕ → Option ℕ
+found_in entries q = lookup (tree.is_at (with_key (length q) q)) entries
 
 -- what a map has of a path
-abbrev pub number_in : BTreeMap (Bor (List ℕ)) ℕ → List ℕ → Option ℕ
-number_in numbers q = tree.get_by (λ k. slice_cmp nat_cmp q k.now) numbers
+abbrev pub number_in : BTreeMap (ℕ × Bor (List ℕ)) ℕ → List ℕ → Option ℕ
+number_in numbers q = tree.get_by (with_key (length q) q) numbers
+
+-- a path compares equal to a key of its length and its bytes
+tests_same : (xs ys : List ℕ) → is_eq (slice_cmp nat_cmp xs ys) ≡ bytes_eq xs ys
+tests_same xs ys = is_eq-slice_cmp xs ys
+
+then_tests : (a b : ℕ) (o : Ordering) (r : Bool) → is_eq o ≡ r → is_eq (ordering_then (nat_cmp a b) o) ≡ (eqb a b && r)
+then_tests a b o r e = grind (arith, nat_tests)
+
+key_tests : (n : ℕ) (q : List ℕ) (k : Key) → is_eq (with_key n q k) ≡ (eqb n k.0 && bytes_eq q k.1.now)
+key_tests n q k = then_tests n k.0 (slice_cmp nat_cmp q k.1.now) (bytes_eq q k.1.now) (tests_same q k.1.now)
+
+and_both : (a b : Bool) → (a && b) ≡ true → (a ≡ true) × (b ≡ true)
+and_both true b is = (refl, is)
+and_both false b is = absurd (cc)
+
+key_is : (n : ℕ) (q : List ℕ) (k : Key) → is_eq (with_key n q k) ≡ true → (n ≡ k.0) × (q ≡ k.1.now)
+key_is n q k is =
+    let both = and_both (eqb n k.0) (bytes_eq q k.1.now) (sym (key_tests n q k) ∙ is) in
+    (eqb-true n k.0 both.0, equal q k.1.now both.1)
+
+one_key : (q : List ℕ) (x y : Key) → is_eq (with_key (length q) q x) ≡ true → is_eq (with_key (length q) q y) ≡ is_eq (key_cmp x y)
+one_key q x y is =
+    let same = key_is (length q) q x is in
+    ap (λ n. is_eq (with_key n q y)) same.0 ∙ ap (λ p. is_eq (with_key x.0 p y)) same.1
+
+false_by : (b : Bool) → (b ≡ true → ⊥) → b ≡ false
+false_by true not = absurd (not refl)
+false_by false not = refl
+
+apart_keys : (n : ℕ) (text q : List ℕ) → bytes_eq text q ≡ false → (k : Key) → is_eq (with_key n text k) ≡ true → is_eq (with_key (length q) q k) ≡ false
+apart_keys n text q other k is =
+    false_by (is_eq (with_key (length q) q k)) (λ also.
+    let one = key_is n text k is in
+    let two = key_is (length q) q k also in
+    let same : text ≡ q = one.1 ∙ sym two.1 in
+    let no : true ≡ false = sym (same_bytes text) ∙ ap (bytes_eq text) same ∙ other in cc)
+
+others_keep : (old new : List (Key × ℕ)) (n : ℕ) (text q : List ℕ) → KeepsOthers (eq_by_cmp key_cmp) (tree.is_at (with_key n text)) old new → bytes_eq text q ≡ false → found_in new q ≡ found_in old q
+unfolding KeepsOthers
+others_keep old new n text q keeps other = keeps (tree.is_at (with_key (length q) q)) (one_key q) (apart_keys n text q other)
+
+updated_by : (t : Bool) (n : ℕ) (text q : List ℕ) (m more : BTreeMap Key ℕ) (w : Option ℕ) → bytes_eq text q ≡ t → n ≡ length text → tree.UpdatesBy key_cmp (with_key n text) m more w → number_in more q ≡ cond t w (number_in m q)
+updated_by true n text q m more w is count updates =
+    let same : text ≡ q = equal text q is in
+    sym (ap (λ p. number_in more p) same) ∙ sym (ap (λ k. tree.get_by (with_key k text) more) count) ∙ updates.1
+updated_by false n text q m more w is count updates = others_keep m.entries more.entries n text q updates.3 is
 
 -- the paths of the first files, and their numbers
-pub record Numbers (texts : List (List ℕ)) (file : ℕ) (firsts files : List ℕ) (numbers : BTreeMap (Bor (List ℕ)) ℕ) : Type 0 where
+pub record Numbers (texts : List (List ℕ)) (file : ℕ) (firsts files : List ℕ) (numbers : BTreeMap (ℕ × Bor (List ℕ)) ℕ) : Type 0 where
   pub paths : picked texts firsts ≡ distinct_paths (take file texts)
   pub few : length firsts ≤ file
   pub there : AllBelow file firsts
@@ -149,7 +209,7 @@ pub record Numbers (texts : List (List ℕ)) (file : ℕ) (firsts files : List �
   pub places : (q : List ℕ) → number_in numbers q ≡ place_in (picked texts firsts) q
   pub placed : ArePlaced (picked texts firsts)
 
-pub numbers_begin : (texts : List (List ℕ)) (firsts files : List ℕ) (numbers : BTreeMap (Bor (List ℕ)) ℕ) → firsts ≡ [] → files ≡ [] → numbers.entries ≡ [] → Numbers texts 0 firsts files numbers
+pub numbers_begin : (texts : List (List ℕ)) (firsts files : List ℕ) (numbers : BTreeMap (ℕ × Bor (List ℕ)) ℕ) → firsts ≡ [] → files ≡ [] → numbers.entries ≡ [] → Numbers texts 0 firsts files numbers
 unfolding paths_from place_in ArePlaced
 numbers_begin texts firsts files numbers no_firsts no_files empty = record {
   paths = ap (picked texts) no_firsts;
@@ -164,8 +224,9 @@ none_any : (paths : List (List ℕ)) (q : List ℕ) (o : Option ℕ) → place_i
 none_any paths q o is = ap (λ t. cond t paths (paths ++ q ∷ [])) (place_any paths q ∙ ap is_some is)
 
 -- a file whose path has a number
-pub numbers_old : (texts : List (List ℕ)) (file : ℕ) (firsts files more : List ℕ) (numbers : BTreeMap (Bor (List ℕ)) ℕ) (text : List ℕ) (number : ℕ) → file < length texts → Numbers texts file firsts files numbers → text ≡ get_or texts file text → Some number ≡ number_in numbers text → more ≡ files ++ number ∷ [] → Numbers texts (file + 1) firsts more numbers
-numbers_old texts file firsts files more numbers text number inside n at found added =
+pub numbers_old : (texts : List (List ℕ)) (file : ℕ) (firsts files more : List ℕ) (numbers : BTreeMap (ℕ × Bor (List ℕ)) ℕ) (text : List ℕ) (long number : ℕ) → file < length texts → Numbers texts file firsts files numbers → text ≡ get_or texts file text → long ≡ length text → Some number ≡ tree.get_by (with_key long text) numbers → more ≡ files ++ number ∷ [] → Numbers texts (file + 1) firsts more numbers
+numbers_old texts file firsts files more numbers text long number inside n at count known added =
+    let found : Some number ≡ number_in numbers text = known ∙ ap (λ k. tree.get_by (with_key k text) numbers) count in
     let front : take (file + 1) texts ≡ take file texts ++ text ∷ [] = take_more texts file text inside ∙ ap (λ t. take file texts ++ t ∷ []) (sym at) in
     let place : place_in (picked texts firsts) text ≡ Some number = sym (found ∙ n.places text) in
     record {
@@ -200,10 +261,11 @@ other_by false text q paths number is none count =
     or_nothing (place_in paths q) (bytes_eq q text) (length paths) (λ yes. (let no : true ≡ false = sym (same_bytes text ∙ refl) ∙ ap (λ r. bytes_eq text r) (sym (equal q text yes)) ∙ is in cc))
 
 -- a file whose path has none yet
-pub numbers_new : (texts : List (List ℕ)) (file : ℕ) (firsts files more_firsts more : List ℕ) (numbers more_numbers : BTreeMap (Bor (List ℕ)) ℕ) (text : List ℕ) (number : ℕ) → file < length texts → Numbers texts file firsts files numbers → text ≡ get_or texts file text → None ≡ number_in numbers text → number ≡ length firsts
-    → more_firsts ≡ firsts ++ file ∷ [] → tree.UpdatesBy (λ x y. slice_cmp nat_cmp x.now y.now) (λ k. slice_cmp nat_cmp text k.now) numbers more_numbers (Some number) → more ≡ files ++ number ∷ []
+pub numbers_new : (texts : List (List ℕ)) (file : ℕ) (firsts files more_firsts more : List ℕ) (numbers more_numbers : BTreeMap (ℕ × Bor (List ℕ)) ℕ) (text : List ℕ) (long number : ℕ) → file < length texts → Numbers texts file firsts files numbers → text ≡ get_or texts file text → long ≡ length text → None ≡ tree.get_by (with_key long text) numbers → number ≡ length firsts
+    → more_firsts ≡ firsts ++ file ∷ [] → tree.UpdatesBy key_cmp (with_key long text) numbers more_numbers (Some number) → more ≡ files ++ number ∷ []
     → Numbers texts (file + 1) more_firsts more more_numbers
-numbers_new texts file firsts files more_firsts more numbers more_numbers text number inside n at found count added updates pushed =
+numbers_new texts file firsts files more_firsts more numbers more_numbers text long number inside n at size unknown count added updates pushed =
+    let found : None ≡ number_in numbers text = unknown ∙ ap (λ k. tree.get_by (with_key k text) numbers) size in
     let front : take (file + 1) texts ≡ take file texts ++ text ∷ [] = take_more texts file text inside ∙ ap (λ t. take file texts ++ t ∷ []) (sym at) in
     let none : place_in (picked texts firsts) text ≡ None = sym (found ∙ n.places text) in
     let here : get_or texts file [] ≡ text = get_or_default texts file [] text inside ∙ sym at in
@@ -222,7 +284,7 @@ numbers_new texts file firsts files more_firsts more numbers more_numbers text n
           (numbered_push (picked texts firsts ++ text ∷ []) files (take file texts) number text (numbered_grow (picked texts firsts) (text ∷ []) files (take file texts) n.are)
           (ap (λ k. slice_get (picked texts firsts ++ text ∷ []) k) many ∙ get_last (picked texts firsts) text))));
       places =
-          λ q. btree_map_updates_str text numbers more_numbers (Some number) updates q
+          λ q. updated_by (bytes_eq text q) long text q numbers more_numbers (Some number) refl size updates
           ∙ ap (λ o. cond (bytes_eq text q) (Some number) o) (n.places q)
           ∙ other_by (bytes_eq text q) text q (picked texts firsts) number refl none many
           ∙ sym (place_push (picked texts firsts) text q)
@@ -231,16 +293,16 @@ numbers_new texts file firsts files more_firsts more numbers more_numbers text n
     }
 
 -- after the last file
-pub numbers_paths : (texts : List (List ℕ)) (file : ℕ) (firsts files : List ℕ) (numbers : BTreeMap (Bor (List ℕ)) ℕ) → length texts ≤ file → Numbers texts file firsts files numbers → picked texts firsts ≡ distinct_paths texts
+pub numbers_paths : (texts : List (List ℕ)) (file : ℕ) (firsts files : List ℕ) (numbers : BTreeMap (ℕ × Bor (List ℕ)) ℕ) → length texts ≤ file → Numbers texts file firsts files numbers → picked texts firsts ≡ distinct_paths texts
 numbers_paths texts file firsts files numbers all n = n.paths ∙ ap (λ l. paths_from [] l) (take_all file texts all)
 
-pub numbers_files : (texts : List (List ℕ)) (file : ℕ) (firsts files : List ℕ) (numbers : BTreeMap (Bor (List ℕ)) ℕ) → length texts ≤ file → Numbers texts file firsts files numbers → AreNumbered (picked texts firsts) files texts
+pub numbers_files : (texts : List (List ℕ)) (file : ℕ) (firsts files : List ℕ) (numbers : BTreeMap (ℕ × Bor (List ℕ)) ℕ) → length texts ≤ file → Numbers texts file firsts files numbers → AreNumbered (picked texts firsts) files texts
 numbers_files texts file firsts files numbers all n = subst (λ l. AreNumbered (picked texts firsts) files l) (take_all file texts all) n.are
 
-pub numbers_there : (texts : List (List ℕ)) (file : ℕ) (firsts files : List ℕ) (numbers : BTreeMap (Bor (List ℕ)) ℕ) → file ≡ length texts → Numbers texts file firsts files numbers → AllBelow (length texts) firsts
+pub numbers_there : (texts : List (List ℕ)) (file : ℕ) (firsts files : List ℕ) (numbers : BTreeMap (ℕ × Bor (List ℕ)) ℕ) → file ≡ length texts → Numbers texts file firsts files numbers → AllBelow (length texts) firsts
 numbers_there texts file firsts files numbers all n = subst (λ b. AllBelow b firsts) all n.there
 
-pub numbers_apart : (texts : List (List ℕ)) (file : ℕ) (firsts files : List ℕ) (numbers : BTreeMap (Bor (List ℕ)) ℕ) → Numbers texts file firsts files numbers → AreDistinct (picked texts firsts)
+pub numbers_apart : (texts : List (List ℕ)) (file : ℕ) (firsts files : List ℕ) (numbers : BTreeMap (ℕ × Bor (List ℕ)) ℕ) → Numbers texts file firsts files numbers → AreDistinct (picked texts firsts)
 numbers_apart texts file firsts files numbers n = placed_distinct (picked texts firsts) n.placed
 
 -- a text that was read at a place

@@ -24,10 +24,12 @@ pub(crate) fn number_paths(alloc: Global, texts: &[ByteRun]) -> Result<Numbering
 {
     let mut firsts = Vec::new(alloc);
     let mut files = Vec::with_capacity(alloc, texts.len())?;
-    let mut numbers: BTreeMap<&[u8], u32> = BTreeMap::new(alloc);
+    // By their lengths first, since many paths begin alike.
+    let mut numbers: BTreeMap<(usize, &[u8]), u32> = BTreeMap::new(alloc);
     'files: for file in 0..texts.len() {
         let text = texts[file].as_slice();
-        match numbers.get(text) {
+        let key = (text.len(), text);
+        match numbers.get(&key) {
             Some(number) => {
                 files.push(*number)?;
                 continue;
@@ -36,7 +38,7 @@ pub(crate) fn number_paths(alloc: Global, texts: &[ByteRun]) -> Result<Numbering
         }
         let number = firsts.len() as u32;
         firsts.push(file as u32)?;
-        numbers.insert(text, number)?;
+        numbers.insert(key, number)?;
         files.push(number)?;
     }
     Ok(Numbering { firsts, files })
