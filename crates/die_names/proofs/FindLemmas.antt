@@ -1,8 +1,8 @@
 -- A search among entries whose places rise.
-use Rattle.std.proofs.Common.{◌≡◌, ◌<◌, ◌≤◌, ◌+◌, ℕ, zero, suc, true, false, eqb, List, [], ◌∷◌, map, length, get_or, Option, None, Some, refl, sym, ap, ◌∙◌, arith}
+use Rattle.std.proofs.Common.{◌≡◌, ◌<◌, ◌≤◌, ◌+◌, ℕ, zero, suc, true, false, eqb, List, [], ◌∷◌, map, length, get_or, Option, None, Some, unwrap_or, refl, sym, ap, ◌∙◌, arith}
 use Rattle.std.specs.List.{find, slice_get}
 use Rattle.std.specs.Option.{option_map}
-use Rattle.std.proofs.lemmas.Bool.{cond-true, cond-false, eq-eqb}
+use Rattle.std.proofs.lemmas.Bool.{cond-true, cond-false, eq-eqb, ne_eqb}
 use Rattle.std.proofs.lemmas.Option.{slice_get_within, get_or_from_slice_get}
 use Rattle.sym_edges.specs.Rising.{RisesFrom, StandBelow}
 use Rattle.sym_edges.proofs.RisingLemmas.{differ_below, differ_all, differ_other}
@@ -59,3 +59,27 @@ die_wrong place count unit dies d rises h is other =
 
 pub die_inside : (dies : List DieFields) (count : ℕ) (d : DieFields) → Some d ≡ slice_get dies count → count < length dies
 die_inside dies count d is = slice_get_within dies count d (sym is)
+
+-- an entry of a unit whose places rise, where it begins at the place
+rises_at : (low : ℕ) (dies : List DieFields) (k : ℕ) (d : DieFields) → RisesFrom low (dies_places dies) → slice_get dies k ≡ Some d → low ≤ d.at
+rises_at low [] k d rises is = absurd (cc)
+rises_at low (x ∷ dies) zero d rises is =
+    let same : x.at ≡ d.at = ap (λ (o : Option DieFields). (unwrap_or o x).at) is in
+    omega (arith, rises.0)
+rises_at low (x ∷ dies) (suc k) d rises is = omega (arith, rises.0, rises_at (x.at + 1) dies k d rises.1 is)
+
+guess_from : (unit from place low : ℕ) (dies : List DieFields) (k : ℕ) (d : DieFields) → RisesFrom low (dies_places dies) → slice_get dies k ≡ Some d → d.at ≡ place
+    → option_map {U = Placed} (λ die. record { unit = unit; entry = from + k; die = die }) (slice_get dies k) ≡ find (is_at place) (unit_entries unit from dies)
+guess_from unit from place low [] k d rises is same = absurd (cc)
+guess_from unit from place low (x ∷ dies) zero d rises is same =
+    let here : x.at ≡ d.at = ap (λ (o : Option DieFields). (unwrap_or o x).at) is in
+    ap {B = Option Placed} (λ (n : ℕ). Some (record { unit = unit; entry = n; die = x })) (omega arith) ∙ sym (cond-true _ _ _ (eq-eqb _ _ (here ∙ same)))
+guess_from unit from place low (x ∷ dies) (suc k) d rises is same =
+    ap (λ (n : ℕ). option_map {U = Placed} (λ die. record { unit = unit; entry = n; die = die }) (slice_get dies k)) (omega arith)
+    ∙ guess_from unit (from + 1) place (x.at + 1) dies k d rises.1 is same
+    ∙ sym (cond-false _ _ _ (ne_eqb x.at place (λ (e : x.at ≡ place). (let later : x.at + 1 ≤ d.at = rises_at (x.at + 1) dies k d rises.1 is in absurd (omega (arith, e, same, later))))))
+
+pub guess_here : (place count unit : ℕ) (dies : List DieFields) (d : DieFields) → RisesFrom 0 (dies_places dies) → Some d ≡ slice_get dies count → d.at ≡ place → found_in unit dies (Some count) ≡ find (is_at place) (unit_entries unit 0 dies)
+guess_here place count unit dies d rises is same =
+    ap (λ (n : ℕ). option_map {U = Placed} (λ die. record { unit = unit; entry = n; die = die }) (slice_get dies count)) (omega arith)
+    ∙ guess_from unit 0 place 0 dies count d rises (sym is) same

@@ -6,6 +6,7 @@ ghost use Rattle.die_walk.specs.EntryTable.{DieFields};
 ghost use Rattle.die_names.specs.UnitEntries.{AreRead, places, unit_entries, entries_from, entry_at};
 ghost use Rattle.die_names.specs.internal.Finding.{is_at, found_in, found_from, found, moved, IsInside};
 
+use crate::guesses::{guess_at, note_guess};
 use crate::unit_read::{EntryRef, UnitRead};
 use die_walk::DieList;
 
@@ -100,6 +101,49 @@ fn find_near(units: &[UnitRead<'_>], near: usize, place: u64) -> Option<Standing
     }
 }
 
+/// A number of an entry of a unit, where the entry begins at a place.
+#[tactic(auto, using(crate::proofs::FindLemmas::guess_here, crate::proofs::FindLemmas::die_inside))]
+fn guess_in_unit(dies: &DieList<'_>, guess: usize, place: u64) -> Option<usize>
+    requires { RisesFrom 0 (map (λ (d : DieFields). d.at) dies.now) }
+    ensures found { IfSome result (λ entry. (unit : ℕ) → found_in unit dies.now (Some entry) ≡ find (is_at place) (unit_entries unit 0 dies.now)) }
+    ensures inside { IfSome result (λ entry. entry < length dies.now) }
+{
+    let Some(die) = dies.get(guess) else {
+        return None;
+    };
+    if u64::from(die.at()) != place {
+        return None;
+    }
+    Some(guess)
+}
+
+/// The entry that begins at a place, where it is this one.
+fn find_guessed(units: &[UnitRead<'_>], guess: EntryRef, place: u64) -> Option<Standing>
+    requires { RisesFrom 0 (places units.now) }
+    ensures found { IfSome result (λ s. (first : ℕ) → found_from first units.now (Some s) ≡ find (is_at place) (entries_from first units.now)) }
+    ensures inside { IfSome result (λ s. IsInside units.now s) }
+{
+    let near = guess.unit as usize;
+    if near >= units.len() {
+        return None;
+    }
+    let (left, right) = units.split_at(near);
+    let Some((part, rest)) = right.split_first() else {
+        return None;
+    };
+    let dies = part.die.dies();
+    let Some(die) = dies.get(0) else {
+        return None;
+    };
+    if u64::from(die.at()) > place {
+        return None;
+    }
+    match guess_in_unit(dies, guess.entry as usize, place) {
+        Some(entry) => Some(Standing { unit: near, entry }),
+        None => None,
+    }
+}
+
 /// The entry that begins at a place, first looked for in the unit of a number.
 fn find_from(units: &[UnitRead<'_>], near: usize, place: u64) -> Option<Standing>
     requires { RisesFrom 0 (places units.now) }
@@ -112,17 +156,48 @@ fn find_from(units: &[UnitRead<'_>], near: usize, place: u64) -> Option<Standing
     }
 }
 
-/// The entry that begins at a place of `.debug_info`. Most places that an entry names are in its own unit, which is `near`.
+/// The entry that begins at a place, first the guessed one, then in the unit of a number.
+fn find_from_guess(
+    units: &[UnitRead<'_>],
+    guess: Option<EntryRef>,
+    near: usize,
+    place: u64,
+) -> Option<Standing>
+    requires { RisesFrom 0 (places units.now) }
+    ensures found { (first : ℕ) → found_from first units.now result ≡ find (is_at place) (entries_from first units.now) }
+    ensures inside { IfSome result (λ s. IsInside units.now s) }
+{
+    let Some(guess) = guess else {
+        return find_from(units, near, place);
+    };
+    match find_guessed(units, guess, place) {
+        Some(standing) => Some(standing),
+        None => find_from(units, near, place),
+    }
+}
+
+/// The entry that begins at a place of `.debug_info`. Most places that an entry names are in its own unit, which is `near`, and many
+/// entries name the same places, which `guesses` keeps.
 #[tactic(auto, using(crate::proofs::AmongLemmas::found_none, crate::proofs::AmongLemmas::found_some, crate::proofs::FollowLemmas::small_unit, crate::proofs::FollowLemmas::small_entry))]
-pub(crate) fn find_entry(units: &[UnitRead<'_>], near: u32, place: u64) -> Option<EntryRef>
+pub(crate) fn find_entry(
+    units: &[UnitRead<'_>],
+    near: u32,
+    place: u64,
+    guesses: &mut [EntryRef],
+) -> Option<EntryRef>
     requires { AreRead units.now }
     ensures { found units.now result ≡ entry_at units.now place }
 {
-    match find_from(units, near as usize, place) {
-        Some(at) => Some(EntryRef {
-            unit: at.unit as u32,
-            entry: at.entry as u32,
-        }),
+    let guess = guess_at(guesses, place);
+    match find_from_guess(units, guess, near as usize, place) {
+        Some(at) => {
+            let at = EntryRef {
+                unit: at.unit as u32,
+                entry: at.entry as u32,
+            };
+            note_guess(guesses, place, at);
+            Some(at)
+        }
         None => None,
     }
 }

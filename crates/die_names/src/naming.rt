@@ -8,6 +8,7 @@ ghost use Rattle.die_names.specs.internal.Finding.{found};
 ghost use Rattle.die_names.specs.internal.Following.{followed, noted_at};
 
 use crate::finding::find_entry;
+use crate::guesses::LinkGuesses;
 use crate::unit_read::{EntryRef, Units};
 use die_walk::Die;
 
@@ -34,14 +35,19 @@ pub struct NameRef {
 const LINKS: u32 = 16;
 
 /// The entry that an entry of a unit is linked to.
-fn follow_link(units: &Units<'_>, unit: u32, die: &Die<'_, '_>) -> Option<EntryRef>
+fn follow_link(
+    units: &Units<'_>,
+    unit: u32,
+    die: &Die<'_, '_>,
+    guesses: &mut [EntryRef],
+) -> Option<EntryRef>
     ensures { found units.now result ≡ linked_from units.now die.now }
 {
     let place = match die.origin() {
         Some(place) => place,
         None => die.spec()?,
     };
-    find_entry(units.as_slice(), unit, place)
+    find_entry(units.as_slice(), unit, place, guesses)
 }
 
 /// The name that the entry gives.
@@ -67,7 +73,13 @@ fn note(die: &Die<'_, '_>, at: EntryRef, best: NameRef) -> NameRef
 
 /// The name from an entry on, where `best` is what it is if no linkage name comes.
 #[tactic(auto, using(crate::proofs::FollowLemmas::way_none, crate::proofs::FollowLemmas::way_lost, crate::proofs::FollowLemmas::linkage_is, crate::proofs::FollowLemmas::last_is, crate::proofs::FollowLemmas::next_is))]
-fn follow(units: &Units<'_>, here: Option<EntryRef>, links: u32, best: NameRef) -> NameRef
+fn follow(
+    units: &Units<'_>,
+    here: Option<EntryRef>,
+    links: u32,
+    best: NameRef,
+    guesses: &mut [EntryRef],
+) -> NameRef
     ensures { result ≡ followed best (way units.now links (found units.now here)) }
 {
     let Some(at) = here else {
@@ -83,13 +95,13 @@ fn follow(units: &Units<'_>, here: Option<EntryRef>, links: u32, best: NameRef) 
     if links == 0 {
         return noted;
     }
-    follow(units, follow_link(units, at.unit, &die), links - 1, noted)
+    let next = follow_link(units, at.unit, &die, guesses);
+    follow(units, next, links - 1, noted, guesses)
 }
 
-/// The entry that gives the name of an entry: the first one with a linkage name, else the first one with a name, among the entry and those that at most 16 links reach. A link goes by `DW_AT_abstract_origin`,
-/// or else by `DW_AT_specification`, to a kept entry of any unit. Takes no memory.
+/// The entry that gives the name of an entry, by these guesses of where links lead.
 #[tactic(auto, using(crate::proofs::NameLemmas::reference_is, crate::proofs::NameLemmas::name_from), unfolding(crate::specs::UnitEntries::entry_of))]
-pub fn name_of(units: &Units<'_>, unit: u32, entry: u32) -> NameRef
+fn name_among(units: &Units<'_>, unit: u32, entry: u32, guesses: &mut [EntryRef]) -> NameRef
     ensures reference { result ≡ name_ref units.now unit entry }
     ensures name { cleaned (name_bytes units.now result) ≡ entry_name units.now unit entry }
 {
@@ -98,5 +110,22 @@ pub fn name_of(units: &Units<'_>, unit: u32, entry: u32) -> NameRef
         entry,
         how: How::Omitted,
     };
-    follow(units, Some(EntryRef { unit, entry }), LINKS, asked)
+    follow(units, Some(EntryRef { unit, entry }), LINKS, asked, guesses)
+}
+
+/// The entry that gives the name of an entry: the first one with a linkage name, else the first one with a name, among the entry and those that at most 16 links reach. A link goes by `DW_AT_abstract_origin`,
+/// or else by `DW_AT_specification`, to a kept entry of any unit. Takes no memory.
+pub fn name_of(units: &Units<'_>, unit: u32, entry: u32) -> NameRef
+    ensures reference { result ≡ name_ref units.now unit entry }
+    ensures name { cleaned (name_bytes units.now result) ≡ entry_name units.now unit entry }
+{
+    name_among(units, unit, entry, &mut [])
+}
+
+/// The same for one of many entries, whose links often lead to the same entries: `guesses` keeps where they led. Takes no memory.
+pub fn name_by(units: &Units<'_>, unit: u32, entry: u32, guesses: &mut LinkGuesses) -> NameRef
+    ensures reference { result ≡ name_ref units.now unit entry }
+    ensures name { cleaned (name_bytes units.now result) ≡ entry_name units.now unit entry }
+{
+    name_among(units, unit, entry, guesses.slots())
 }
