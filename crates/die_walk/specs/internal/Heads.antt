@@ -2,8 +2,6 @@
 use Rattle.std.specs.Prelude.{ℕ, ◌<◌, ◌≡◌, Bool, true, false, List, [], ◌∷◌, drop, Option, None, Some, unwrap_or}
 use Rattle.std.specs.List.{slice_get}
 use Rattle.std.specs.Option.{option_and_then}
-use Rattle.abbrev_units.specs.declared.unit.Unit.{Unit}
-use Rattle.abbrev_units.specs.declared.value.Value.{Value}
 use Rattle.die_walk.specs.declared.picks.Picks.{Picks}
 use Rattle.die_walk.specs.declared.heads.Head.{Head}
 use Rattle.die_walk.specs.declared.heads.Link.{Link}

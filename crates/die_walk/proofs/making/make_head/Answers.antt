@@ -1,4 +1,4 @@
-use Rattle.std.proofs.Common.{refl, sym, ap, ◌∙◌, option_and_then}
+use Rattle.std.proofs.Common.{refl, ap, ◌∙◌, option_and_then}
 use Rattle.die_walk.specs.declared.picks.Picks.{Picks}
 use Rattle.die_walk.specs.Attributes.{as_reference, as_flag, is_yes, or_else}
 use Rattle.die_walk.specs.Picking.{text_by}
