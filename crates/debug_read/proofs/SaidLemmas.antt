@@ -1,8 +1,8 @@
 -- What is kept of units has the owners, chains and lines of what they say. Serves the law.
-use Rattle.std.proofs.Common.{◌≡◌, ℕ, zero, suc, ◌+◌, ◌-◌, ◌^◌, ◌<◌, ◌≤◌, ◌&&◌, ◌||◌, Bool, true, false, cond, List, [], ◌∷◌, ◌++◌, map, Option, None, Some, option_map, option_or, arith, refl, sym, ap, subst, ◌∙◌}
-use Rattle.std.specs.Prelude.{◌==◌, nat_eq, option_and_then}
+use Rattle.std.proofs.Common.{◌≡◌, ℕ, zero, suc, ◌+◌, ◌^◌, ◌<◌, ◌≤◌, ◌&&◌, ◌||◌, Bool, true, false, cond, List, [], ◌∷◌, ◌++◌, map, Option, None, Some, option_map, arith, refl, sym, ap, subst, ◌∙◌}
+use Rattle.std.specs.Prelude.{◌==◌, option_and_then}
 use Rattle.std.specs.List.{find, slice_get, list_any}
-use Rattle.std.specs.Option.{option_map_or}
+use Rattle.std.specs.Option.{option_map_or, option_or}
 use Rattle.std.proofs.lemmas.List.Folds.{find-append}
 use Rattle.sym_edges.specs.Addresses.{Range}
 use Rattle.range_set.specs.Enclosing.{encloses}
@@ -211,9 +211,14 @@ owner_function code a unit (said ∷ says) e is k =
         let rest = later is n in
         (omega (arith, rest.0), λ far. rest.1 (omega (arith, far)))
 
+-- a table without paths names no line
+no_path : (at : Option (ℕ × ℕ)) → None ≡ named_line [] at
+no_path None = refl
+no_path (Some at) = refl
+
 kept_line : (code : List Range) (a : ℕ) (some : Bool) (lines : Option Lines) (kept : LineMap) → a < 2 ^ 64 → some ≡ true → KeepsLines code some lines kept → option_and_then (λ l. line_at (encloses code) l a) lines ≡ named_line kept.paths (numbered_line kept a)
 kept_line code a true (Some lines) kept small is keeps = sym (keeps.line a small)
-kept_line code a true None kept small is keeps = ap (λ (t : LineMap). named_line t.paths (numbered_line t a)) (sym keeps)
+kept_line code a true None kept small is keeps = no_path (numbered_line no_lines a) ∙ ap (λ (t : LineMap). named_line t.paths (numbered_line t a)) (sym keeps)
 kept_line code a false lines kept small is keeps = absurd (cc)
 
 line_by : (code : List Range) (a : ℕ) (said : Option UnitSays) (part : Option UnitRead) → a < 2 ^ 64 → ((s : UnitSays) → said ≡ Some s → has_function s.table.dies ≡ true) → BothRead code said part → said_line_in code a said ≡ line_in a part
@@ -229,7 +234,7 @@ line_alike code says units a (Some e) None small found are is = absurd is
 line_alike code says units a (Some e) (Some c) small found are is =
     let unit : e.unit ≡ c.unit = ap (λ (p : ℕ × ℕ × DieFields). p.0) is.place in
     ap (λ n. said_line_in code a (slice_get says n)) unit
-    ∙ line_by code a (slice_get says c.unit) (slice_get units c.unit) small ((owner_function code a 0 says e found c.unit).1 unit) (both_read code says units c.unit are)
+    ∙ line_by code a (slice_get says c.unit) (slice_get units c.unit) small ((owner_function code a 0 says e found c.unit).1 (omega (arith, unit))) (both_read code says units c.unit are)
 
 pub lines_same : (code : List Range) (says : List UnitSays) (units : List UnitRead) (a : ℕ) → a < 2 ^ 64 → Match (IsUnitRead code) says units → said_line code says a ≡ line units a
 unfolding said_line line said_owner

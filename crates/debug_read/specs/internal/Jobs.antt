@@ -1,5 +1,5 @@
 -- The reader of units by their numbers.
-use Rattle.std.specs.Prelude.{◌≡◌, ℕ, ◌≤◌, ◌^◌, List, length, Result, Ok, Err}
+use Rattle.std.specs.Prelude.{◌≡◌, ◌≤◌, ◌^◌, List, length, Result, Ok, Err}
 use Rattle.std.specs.List.{AllByRecursion}
 use Rattle.sym_edges.specs.Addresses.{Range}
 use Rattle.sym_edges.specs.declared.located.Located.{Located}

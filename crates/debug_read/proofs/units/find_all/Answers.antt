@@ -1,7 +1,8 @@
 use Rattle.std.proofs.Common.{◌≡◌, ◌≤◌, ◌^◌, length, ap, sym, subst, ◌∙◌, arith}
 use Rattle.std.specs.List.{AllByRecursion}
 use Rattle.abbrev_units.specs.UnitPlaces.{IsInside, read_units}
-use Rattle.debug_read.proofs.PickLemmas.{units_inside, units_few}
+use Rattle.abbrev_units.proofs.UnitPlaceLemmas.{units_inside}
+use Rattle.debug_read.proofs.PickLemmas.{units_few}
 use Rattle.debug_read.proofs.JobLemmas.{found_in}
 use Rattle.debug_read.proofs.units.find_all.Goals as goal
 
