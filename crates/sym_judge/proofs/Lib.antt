@@ -6,6 +6,9 @@ pub mod StackLemmas
 pub mod SideLemmas
 pub mod FrameLemmas
 pub mod NameLemmas
+pub mod BlockLemmas
+pub mod ClearLemmas
+pub mod DoubtLemmas
 pub mod SteadyLemmas
 pub mod StopLemmas
 pub mod LawLemmas

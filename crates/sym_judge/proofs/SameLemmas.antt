@@ -29,7 +29,7 @@ and_right false b is = cc
 pub and_both : (a b : Bool) → a ≡ true → b ≡ true → (a && b) ≡ true
 and_both a b p q = ap (λ c. c && b) p ∙ q
 
-numbers : (a b : ℕ) → (a == b) ≡ true → a ≡ b
+pub numbers : (a b : ℕ) → (a == b) ≡ true → a ≡ b
 numbers a b = (Decides-eqb a b).0
 
 number_self : (a : ℕ) → (a == a) ≡ true
@@ -67,7 +67,7 @@ term_self : (a : Term) → same_term a a ≡ true
 term_self (Plain a) = sum_self a
 term_self (Fetched a) = sum_self a
 
-never : {P : Type 0} → false ≡ true → P
+pub never : {P : Type 0} → false ≡ true → P
 never is = absurd (cc)
 
 token_true : (a b : Token) → same_token a b ≡ true → a ≡ b

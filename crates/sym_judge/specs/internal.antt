@@ -3,3 +3,4 @@ pub mod Stops
 pub mod Tables
 pub mod Stacks
 pub mod Spots
+pub mod Blocks

@@ -3,32 +3,15 @@ ghost use Rattle.std.specs.Prelude.{◌≡◌, IfOk};
 ghost use Rattle.std.specs.List.{flat_map};
 ghost use Rattle.sym_lookup.specs.IndexOf.{IsIndexOf};
 ghost use Rattle.sym_judge.specs.Rulings.{IsRuling};
-ghost use Rattle.sym_judge.specs.internal.Stops.{run_stops, extent_stops, line_stops, stops_of, first_in, is_settled, with_found, with_stop, with_stops, half_ruling, sooner, Fits};
+ghost use Rattle.sym_judge.specs.internal.Stops.{run_stops, extent_stops, line_stops, stops_of, is_settled, with_found, with_stop, with_stops, half_ruling, sooner, Fits};
 
-use crate::frames::first_frame_aspect;
-use crate::names::first_name_aspect;
+use crate::pairs::Pair;
 use crate::ruling::{Aspect, Half, Ruling};
 use crate::sides::Side;
 use std::alloc::Global;
 use sym_edges::OutOfMemory;
 use sym_lookup::Index;
 use sym_records::{Extent, SymFile, SymLine};
-
-/// What differs at an address.
-fn first_in(
-    alloc: Global,
-    half: Half,
-    own: &Side<'_>,
-    other: &Side<'_>,
-    address: u64,
-) -> Result<Option<Aspect>, OutOfMemory>
-    ensures { IfOk result (λ found. found ≡ first_in half own.now other.now address) }
-{
-    match half {
-        Half::Names => first_name_aspect(alloc, own, other, address),
-        Half::Frames => first_frame_aspect(alloc, own, other, address),
-    }
-}
 
 fn is_settled(ruling: Ruling, address: u64) -> bool
     ensures { result ≡ is_settled ruling address }
@@ -53,19 +36,17 @@ fn with_found(ruling: Ruling, address: u64, found: Option<Aspect>) -> Ruling
 #[tactic(auto, unfolding(crate::specs::internal::Stops::with_stop))]
 fn with_stop(
     alloc: Global,
-    half: Half,
-    own: &Side<'_>,
-    other: &Side<'_>,
+    pair: &Pair<'_, '_>,
     ruling: Ruling,
     address: u64,
 ) -> Result<Ruling, OutOfMemory>
-    ensures is { IfOk result (λ r. r ≡ with_stop half own.now other.now ruling address) }
+    ensures is { IfOk result (λ r. r ≡ with_stop pair.now.half pair.now.own pair.now.other ruling address) }
     ensures fits { IfOk result (λ r. Fits ruling → Fits r) }
 {
     if is_settled(ruling, address) {
         return Ok(ruling);
     }
-    let found = first_in(alloc, half, own, other, address)?;
+    let found = pair.first_in(alloc, address)?;
     Ok(with_found(ruling, address, found))
 }
 
@@ -73,19 +54,17 @@ fn with_stop(
 #[tactic(auto, unfolding(crate::specs::internal::Stops::run_stops, crate::specs::internal::Stops::with_stops))]
 fn with_run(
     alloc: Global,
-    half: Half,
-    own: &Side<'_>,
-    other: &Side<'_>,
+    pair: &Pair<'_, '_>,
     ruling: Ruling,
     address: u64,
     size: u64,
 ) -> Result<Ruling, OutOfMemory>
-    ensures is { IfOk result (λ r. r ≡ with_stops half own.now other.now ruling (run_stops address size)) }
+    ensures is { IfOk result (λ r. r ≡ with_stops pair.now.half pair.now.own pair.now.other ruling (run_stops address size)) }
     ensures fits { IfOk result (λ r. Fits ruling → Fits r) }
 {
-    let begun = with_stop(alloc, half, own, other, ruling, address)?;
+    let begun = with_stop(alloc, pair, ruling, address)?;
     match address.checked_add(size) {
-        Some(end) => with_stop(alloc, half, own, other, begun, end),
+        Some(end) => with_stop(alloc, pair, begun, end),
         None => Ok(begun),
     }
 }
@@ -94,19 +73,17 @@ fn with_run(
 #[tactic(auto, using(crate::proofs::StopLemmas::stops_append, crate::proofs::StopLemmas::no_stops))]
 fn with_extents(
     alloc: Global,
-    half: Half,
-    own: &Side<'_>,
-    other: &Side<'_>,
+    pair: &Pair<'_, '_>,
     ruling: Ruling,
     extents: &[Extent],
 ) -> Result<Ruling, OutOfMemory>
-    ensures is { IfOk result (λ r. r ≡ with_stops half own.now other.now ruling (flat_map extent_stops extents.now)) }
+    ensures is { IfOk result (λ r. r ≡ with_stops pair.now.half pair.now.own pair.now.other ruling (flat_map extent_stops extents.now)) }
     ensures fits { IfOk result (λ r. Fits ruling → Fits r) }
 {
     let mut known = ruling;
     let mut rest = extents;
     'extents: while let Some((extent, later)) = rest.split_first() {
-        known = with_run(alloc, half, own, other, known, extent.address, extent.size)?;
+        known = with_run(alloc, pair, known, extent.address, extent.size)?;
         rest = later;
     }
     Ok(known)
@@ -116,26 +93,24 @@ fn with_extents(
 #[tactic(auto, unfolding(crate::specs::internal::Stops::with_stops))]
 fn with_line(
     alloc: Global,
-    half: Half,
-    own: &Side<'_>,
-    other: &Side<'_>,
+    pair: &Pair<'_, '_>,
     ruling: Ruling,
     line: &SymLine,
 ) -> Result<Ruling, OutOfMemory>
-    ensures is { IfOk result (λ r. r ≡ with_stops half own.now other.now ruling (line_stops half line.now)) }
+    ensures is { IfOk result (λ r. r ≡ with_stops pair.now.half pair.now.own pair.now.other ruling (line_stops pair.now.half line.now)) }
     ensures fits { IfOk result (λ r. Fits ruling → Fits r) }
 {
-    match (half, line) {
+    match (pair.half(), line) {
         (Half::Names, SymLine::Func { address, size, .. })
         | (Half::Names, SymLine::Line { address, size, .. })
         | (Half::Frames, SymLine::Init { address, size, .. }) => {
-            with_run(alloc, half, own, other, ruling, *address, *size)
+            with_run(alloc, pair, ruling, *address, *size)
         }
         (Half::Names, SymLine::Inline { ranges, .. }) => {
-            with_extents(alloc, half, own, other, ruling, ranges.as_slice())
+            with_extents(alloc, pair, ruling, ranges.as_slice())
         }
         (Half::Frames, SymLine::Change { address, .. }) => {
-            with_stop(alloc, half, own, other, ruling, *address)
+            with_stop(alloc, pair, ruling, *address)
         }
         _ => Ok(ruling),
     }
@@ -145,19 +120,17 @@ fn with_line(
 #[tactic(auto, using(crate::proofs::StopLemmas::stops_append, crate::proofs::StopLemmas::no_stops))]
 fn with_lines(
     alloc: Global,
-    half: Half,
-    own: &Side<'_>,
-    other: &Side<'_>,
+    pair: &Pair<'_, '_>,
     ruling: Ruling,
     lines: &[SymLine],
 ) -> Result<Ruling, OutOfMemory>
-    ensures is { IfOk result (λ r. r ≡ with_stops half own.now other.now ruling (stops_of half lines.now)) }
+    ensures is { IfOk result (λ r. r ≡ with_stops pair.now.half pair.now.own pair.now.other ruling (stops_of pair.now.half lines.now)) }
     ensures fits { IfOk result (λ r. Fits ruling → Fits r) }
 {
     let mut known = ruling;
     let mut rest = lines;
     'lines: while let Some((line, later)) = rest.split_first() {
-        known = with_line(alloc, half, own, other, known, line)?;
+        known = with_line(alloc, pair, known, line)?;
         rest = later;
     }
     Ok(known)
@@ -174,9 +147,10 @@ fn half_ruling(
     ensures is { IfOk result (λ r. r ≡ half_ruling half own.now other.now) }
     ensures fits { IfOk result Fits }
 {
-    let first = with_stop(alloc, half, own, other, Ruling::Yes, 0)?;
-    let second = with_lines(alloc, half, own, other, first, own.lines())?;
-    with_lines(alloc, half, own, other, second, other.lines())
+    let pair = Pair::of(alloc, half, own, other)?;
+    let first = with_stop(alloc, &pair, Ruling::Yes, 0)?;
+    let second = with_lines(alloc, &pair, first, own.lines())?;
+    with_lines(alloc, &pair, second, other.lines())
 }
 
 /// Of two rulings the one with the lesser address; of equal ones the first.

@@ -10,19 +10,23 @@
 //! for look-up and unwinding, and that a file says the same as itself.
 //!
 //! To read: `specs/Forms.antt`, `specs/Alike.antt`, `specs/Rulings.antt` and `specs/SameMeaning.antt`; then `terms` and `forms`, `tables` (the
-//! rules that count at an address) and `frames`, `names`, and `judging`, on `sides` (a file with its index).
+//! rules that count at an address) and `frames`, `names`, `blocks` and `doubts` (where records say the same in both files, nothing else is looked
+//! at), and `judging`, on `sides` (a file with its index).
 #![tactic(auto)]
 
+mod blocks;
+mod doubts;
 mod forms;
 mod frames;
 mod judging;
 pub mod laws;
 mod names;
+mod pairs;
 mod ruling;
 mod sides;
 mod tables;
 mod terms;
 
 pub use judging::judge;
-pub use ruling::{Aspect, Ruling};
+pub use ruling::{Aspect, Half, Ruling};
 pub use terms::{Base, Sum, Term};

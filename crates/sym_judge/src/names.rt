@@ -77,7 +77,7 @@ fn line_of(answer: &Answer) -> Option<usize>
 }
 
 /// Whether two texts are the same, or both are missing.
-fn is_same_text(a: Option<&[u8]>, b: Option<&[u8]>) -> bool
+pub(crate) fn is_same_text(a: Option<&[u8]>, b: Option<&[u8]>) -> bool
     ensures { result ≡ same_option bytes_eq (option_copied a.entry) (option_copied b.entry) }
 {
     match (a, b) {

@@ -28,7 +28,7 @@ pub enum Ruling {
 
 /// What a ruling is about.
 #[derive(Clone, Copy, Debug, PartialEq, Eq)]
-pub(crate) enum Half {
+pub enum Half {
     /// Functions, inlined copies and lines.
     Names,
     /// Frame rules.

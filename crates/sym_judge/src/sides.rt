@@ -4,12 +4,15 @@ ghost use Rattle.std.specs.Option.{option_copied};
 ghost use Rattle.cfi_eval.specs.Inits.{init_place};
 ghost use Rattle.sym_lookup.specs.Answers.{answer_of};
 ghost use Rattle.sym_lookup.specs.IndexOf.{IsIndexOf};
+ghost use Rattle.sym_lookup.specs.PlaceMaps.{IsPlaceRun};
+ghost use Rattle.sym_judge.specs.internal.Blocks.{block_place};
 ghost use Rattle.sym_meaning.specs.TextNames.{text_path, text_origin};
 
+use crate::ruling::Half;
 use std::alloc::Global;
 use std::marker::Model;
 use sym_edges::OutOfMemory;
-use sym_lookup::{Answer, Index};
+use sym_lookup::{Answer, Index, PlaceRun};
 use sym_records::{SymFile, SymLine};
 
 /// A file with its index. Contracts see the records.
@@ -52,6 +55,16 @@ impl<'f> Side<'f> {
         ensures within { IfSome result (λ init. init < length self.now) }
     {
         self.index.init_at(address)
+    }
+
+    /// The first block of a half that covers an address, and up to where it is the same.
+    pub(crate) fn run_at(&self, half: Half, address: u64) -> PlaceRun
+        ensures { IsPlaceRun (block_place half self.now) address result }
+    {
+        match half {
+            Half::Names => self.index.func_run(address),
+            Half::Frames => self.index.init_run(address),
+        }
     }
 
     /// Which records name an address.

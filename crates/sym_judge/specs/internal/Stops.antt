@@ -38,6 +38,12 @@ half_aspects Frames = frame_aspects
 unfoldable pub first_in : Half → List SymLine → List SymLine → ℕ → Option Aspect
 first_in half own other x = find (differs own other x) (half_aspects half)
 
+-- two files, compared in one half
+pub record Compared : Type 0 where
+  pub half : Half
+  pub own : List SymLine
+  pub other : List SymLine
+
 -- what is known once an address is looked at: an address above one where the files differ tells nothing
 abbrev pub is_settled : Ruling → ℕ → Bool
 is_settled Yes x = false

@@ -5,7 +5,7 @@ use Rattle.sym_judge.proofs.judging.with_extents.Given as goal
 
 abbrev pub invariant-extents : goal.invariant-extents
 invariant-extents l = record {
-  is : with_stops l.half l.own l.other l.known (flat_map extent_stops l.rest) ≡ with_stops l.half l.own l.other l.fn.ruling (flat_map extent_stops l.extents);
+  is : with_stops l.pair.half l.pair.own l.pair.other l.known (flat_map extent_stops l.rest) ≡ with_stops l.pair.half l.pair.own l.pair.other l.fn.ruling (flat_map extent_stops l.extents);
   fits : Fits l.fn.ruling → Fits l.known;
 }
 

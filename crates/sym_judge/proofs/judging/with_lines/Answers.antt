@@ -6,4 +6,4 @@ use Rattle.sym_judge.proofs.judging.with_lines.Goals as goal
 pub returns-clause-is : goal.returns-clause-is
 returns-clause-is c =
     let none : c.lines.rest.now ≡ [] = none_left _ c.in_default.ensures.cases in
-    sym (no_stops c.args.half c.args.own.now c.args.other.now c.lines.known) ∙ ap (λ xs. with_stops c.args.half c.args.own.now c.args.other.now c.lines.known (stops_of c.args.half xs)) (sym none) ∙ c.lines.invariant.is
+    sym (no_stops c.args.pair.now.half c.args.pair.now.own c.args.pair.now.other c.lines.known) ∙ ap (λ xs. with_stops c.args.pair.now.half c.args.pair.now.own c.args.pair.now.other c.lines.known (stops_of c.args.pair.now.half xs)) (sym none) ∙ c.lines.invariant.is

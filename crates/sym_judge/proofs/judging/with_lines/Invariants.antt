@@ -4,7 +4,7 @@ use Rattle.sym_judge.proofs.judging.with_lines.Given as goal
 
 abbrev pub invariant-lines : goal.invariant-lines
 invariant-lines l = record {
-  is : with_stops l.half l.own l.other l.known (stops_of l.half l.rest) ≡ with_stops l.half l.own l.other l.fn.ruling (stops_of l.half l.lines);
+  is : with_stops l.pair.half l.pair.own l.pair.other l.known (stops_of l.pair.half l.rest) ≡ with_stops l.pair.half l.pair.own l.pair.other l.fn.ruling (stops_of l.pair.half l.lines);
   fits : Fits l.fn.ruling → Fits l.known;
 }
 

@@ -1,0 +1,313 @@
+//! Whether the blocks of two files say the same: a `FUNC` with the records under it, or an `INIT` with the changes behind it.
+ghost use Rattle.std.specs.Prelude.{◌≡◌, ◌+◌, ◌<◌, [], ◌∷◌, ℕ, true, drop, length, None, Some, slice_get, MatchOption};
+ghost use Rattle.std.specs.Bool.{OnTrue};
+ghost use Rattle.cfi_eval.specs.TextRules.{same_target};
+ghost use Rattle.sym_judge.specs.Alike.{same_list};
+ghost use Rattle.sym_judge.specs.internal.Blocks.{block_place, inside, is_inside, same_extent, same_rule_text, same_path, same_origin, same_run, same_source, same_ranges, same_site, same_record, same_head, same_inside, AreSameBlocks};
+ghost use Rattle.sym_judge.specs.internal.Stops.{first_in};
+
+use crate::forms::are_same_words;
+use crate::names::is_same_text;
+use crate::ruling::Half;
+use crate::sides::Side;
+use sym_records::{Extent, SymLine};
+use sym_rules::{RuleText, Target};
+
+fn is_inside(half: Half, line: &SymLine) -> bool
+    ensures { result ≡ is_inside half line.now }
+{
+    match (half, line) {
+        (Half::Names, SymLine::Inline { .. })
+        | (Half::Names, SymLine::Line { .. })
+        | (Half::Frames, SymLine::Change { .. }) => true,
+        _ => false,
+    }
+}
+
+/// The next record of a block, and what stands behind it.
+#[tactic(auto, using(crate::proofs::BlockLemmas::inside_more, crate::proofs::BlockLemmas::inside_ends))]
+fn next_inside(half: Half, lines: &[SymLine]) -> Option<(&SymLine, &[SymLine])>
+    ensures { MatchOption result (inside half lines.now ≡ []) (λ next. (inside half lines.now ≡ next.0.now ∷ inside half next.1.now) × (length next.1.now < length lines.now)) }
+{
+    let Some((line, later)) = lines.split_first() else {
+        return None;
+    };
+    if !is_inside(half, line) {
+        return None;
+    }
+    Some((line, later))
+}
+
+fn is_same_extent(a: Extent, b: Extent) -> bool
+    ensures { result ≡ same_extent a b }
+{
+    a.address == b.address && a.size == b.size
+}
+
+/// Whether two lists have the same ranges.
+fn are_same_extents(a: &[Extent], b: &[Extent]) -> bool
+    ensures { result ≡ same_list same_extent a.now b.now }
+{
+    let mut front = a;
+    let mut back = b;
+    'extents: while let Some((x, xs)) = front.split_first() {
+        let Some((y, ys)) = back.split_first() else {
+            return false;
+        };
+        if !is_same_extent(*x, *y) {
+            return false;
+        }
+        front = xs;
+        back = ys;
+    }
+    back.is_empty()
+}
+
+fn is_same_target(a: &Target, b: &Target) -> bool
+    ensures { result ≡ same_target a.now b.now }
+{
+    match (a, b) {
+        (Target::Cfa, Target::Cfa) | (Target::Ra, Target::Ra) => true,
+        (Target::Reg(a), Target::Reg(b)) => *a == *b,
+        (Target::Other(a), Target::Other(b)) => a.as_slice() == b.as_slice(),
+        _ => false,
+    }
+}
+
+fn is_same_rule_text(a: &RuleText, b: &RuleText) -> bool
+    ensures { result ≡ same_rule_text a.now b.now }
+{
+    is_same_target(&a.target, &b.target) && are_same_words(a.tokens.as_slice(), b.tokens.as_slice())
+}
+
+/// Whether two lists have the same rules, word for word.
+fn are_same_rule_texts(a: &[RuleText], b: &[RuleText]) -> bool
+    ensures { result ≡ same_list same_rule_text a.now b.now }
+{
+    let mut front = a;
+    let mut back = b;
+    'rules: while let Some((x, xs)) = front.split_first() {
+        let Some((y, ys)) = back.split_first() else {
+            return false;
+        };
+        if !is_same_rule_text(x, y) {
+            return false;
+        }
+        front = xs;
+        back = ys;
+    }
+    back.is_empty()
+}
+
+/// Whether two `FILE` records have one name, or both are missing.
+fn is_same_path(own: &Side<'_>, a: u32, other: &Side<'_>, b: u32) -> bool
+    ensures { result ≡ same_path own.now other.now a b }
+{
+    is_same_text(own.path(a), other.path(b))
+}
+
+/// Whether two `INLINE_ORIGIN` records have one name, or both are missing.
+fn is_same_origin(own: &Side<'_>, a: u32, other: &Side<'_>, b: u32) -> bool
+    ensures { result ≡ same_origin own.now other.now a b }
+{
+    is_same_text(own.origin(a), other.origin(b))
+}
+
+fn is_same_run(address: u64, size: u64, start: u64, many: u64) -> bool
+    ensures { result ≡ same_run address size start many }
+{
+    address == start && size == many
+}
+
+/// Whether two lines of a file are the same.
+fn is_same_source(
+    own: &Side<'_>,
+    line: u32,
+    file: u32,
+    other: &Side<'_>,
+    number: u32,
+    path: u32,
+) -> bool
+    ensures { result ≡ same_source own.now other.now line file number path }
+{
+    line == number && is_same_path(own, file, other, path)
+}
+
+/// Whether the ranges of two levels are the same.
+fn are_same_ranges(level: u32, ranges: &[Extent], depth: u32, extents: &[Extent]) -> bool
+    ensures { result ≡ same_ranges level ranges.now depth extents.now }
+{
+    level == depth && are_same_extents(ranges, extents)
+}
+
+/// Where a function is called that is inlined there: the line and the file of the call, and its origin.
+#[derive(Clone, Copy)]
+struct Site {
+    line: u32,
+    file: u32,
+    origin: u32,
+}
+
+fn is_same_site(own: &Side<'_>, a: Site, other: &Side<'_>, b: Site) -> bool
+    ensures { result ≡ same_site own.now other.now a.line a.file a.origin b.line b.file b.origin }
+{
+    is_same_source(own, a.line, a.file, other, b.line, b.file)
+        && is_same_origin(own, a.origin, other, b.origin)
+}
+
+/// Whether two records say the same of the same addresses.
+fn is_same_record(own: &Side<'_>, a: &SymLine, other: &Side<'_>, b: &SymLine) -> bool
+    ensures { result ≡ same_record own.now other.now a.now b.now }
+{
+    match (a, b) {
+        (
+            SymLine::Inline {
+                level,
+                call_line,
+                call_file,
+                origin,
+                ranges,
+            },
+            SymLine::Inline {
+                level: depth,
+                call_line: number,
+                call_file: path,
+                origin: name,
+                ranges: extents,
+            },
+        ) => {
+            let first = Site {
+                line: *call_line,
+                file: *call_file,
+                origin: *origin,
+            };
+            let second = Site {
+                line: *number,
+                file: *path,
+                origin: *name,
+            };
+            are_same_ranges(*level, ranges.as_slice(), *depth, extents.as_slice())
+                && is_same_site(own, first, other, second)
+        }
+        (
+            SymLine::Line {
+                address,
+                size,
+                line,
+                file,
+            },
+            SymLine::Line {
+                address: start,
+                size: many,
+                line: number,
+                file: path,
+            },
+        ) => {
+            is_same_run(*address, *size, *start, *many)
+                && is_same_source(own, *line, *file, other, *number, *path)
+        }
+        (
+            SymLine::Change { address, rules },
+            SymLine::Change {
+                address: start,
+                rules: others,
+            },
+        ) => *address == *start && are_same_rule_texts(rules.as_slice(), others.as_slice()),
+        _ => false,
+    }
+}
+
+/// Whether the records of two blocks behind their first say the same.
+fn are_same_inside(
+    half: Half,
+    own: &Side<'_>,
+    front: &[SymLine],
+    other: &Side<'_>,
+    back: &[SymLine],
+) -> bool
+    ensures { result ≡ same_inside half own.now other.now front.now back.now }
+{
+    let mut mine = front;
+    let mut theirs = back;
+    'records: while let Some((x, xs)) = next_inside(half, mine) {
+        let Some((y, ys)) = next_inside(half, theirs) else {
+            return false;
+        };
+        if !is_same_record(own, x, other, y) {
+            return false;
+        }
+        mine = xs;
+        theirs = ys;
+    }
+    next_inside(half, theirs).is_none()
+}
+
+/// Whether the first records of two blocks say the same.
+fn is_same_head(a: &SymLine, b: &SymLine) -> bool
+    ensures { result ≡ same_head a.now b.now }
+{
+    match (a, b) {
+        (SymLine::Func { name, .. }, SymLine::Func { name: called, .. }) => {
+            name.as_slice() == called.as_slice()
+        }
+        (SymLine::Init { rules, .. }, SymLine::Init { rules: others, .. }) => {
+            are_same_rule_texts(rules.as_slice(), others.as_slice())
+        }
+        _ => false,
+    }
+}
+
+/// Whether a block begins at an address.
+fn begins_at(line: &SymLine, start: u64) -> bool {
+    match line {
+        SymLine::Func { address, .. } | SymLine::Init { address, .. } => *address == start,
+        _ => false,
+    }
+}
+
+/// Whether blocks that cover an address say the same. They are compared where the first of them begins, so each is compared once.
+fn are_same_blocks(
+    half: Half,
+    own: &Side<'_>,
+    i: usize,
+    other: &Side<'_>,
+    j: usize,
+    address: u64,
+) -> bool
+    ensures { OnTrue result (AreSameBlocks half own.now other.now i j) }
+{
+    let mine = own.lines();
+    let theirs = other.lines();
+    if i >= mine.len() || j >= theirs.len() {
+        return false;
+    }
+    if !begins_at(&mine[i], address) || !is_same_head(&mine[i], &theirs[j]) {
+        return false;
+    }
+    are_same_inside(
+        half,
+        own,
+        mine.split_at(i + 1).1,
+        other,
+        theirs.split_at(j + 1).1,
+    )
+}
+
+/// Whether two files do not differ at the addresses at which they have the blocks that they have at this one.
+#[tactic(auto, using(crate::proofs::ClearLemmas::no_blocks, crate::proofs::ClearLemmas::same_blocks))]
+pub(crate) fn is_clear(
+    half: Half,
+    own: &Side<'_>,
+    first: Option<usize>,
+    other: &Side<'_>,
+    second: Option<usize>,
+    address: u64,
+) -> bool
+    ensures { OnTrue result ((y : ℕ) → block_place half own.now y ≡ first → block_place half other.now y ≡ second → first_in half own.now other.now y ≡ None) }
+{
+    match (first, second) {
+        (None, None) => true,
+        (Some(i), Some(j)) => are_same_blocks(half, own, i, other, j, address),
+        _ => false,
+    }
+}

@@ -1,0 +1,95 @@
+//! Two files that are compared in one half.
+ghost use Rattle.std.specs.Prelude.{◌≡◌, false, None, IfOk};
+ghost use Rattle.sym_judge.specs.internal.Stops.{first_in};
+
+use crate::doubts::doubts_of;
+use crate::frames::first_frame_aspect;
+use crate::names::first_name_aspect;
+use crate::ruling::{Aspect, Half};
+use crate::sides::Side;
+use std::alloc::Global;
+use std::marker::Model;
+use step_maps::StepMap;
+use sym_edges::OutOfMemory;
+
+/// Two files, and where they may differ in one half. Contracts see the half and the records.
+#[derive(Drop)]
+pub(crate) struct Pair<'a, 'f> {
+    half: Half,
+    own: &'a Side<'f>,
+    other: &'a Side<'f>,
+    doubts: StepMap<bool>,
+}
+
+impl<'a, 'f> Model for Pair<'a, 'f> {
+    ghost use Rattle.sym_judge.specs.internal.Blocks.{AreDoubts};
+    ghost use Rattle.sym_judge.specs.internal.Stops.{Compared};
+
+    ghost Value = { Compared };
+
+    ghost view = { λ p. record { half = p.half; own = p.own.now; other = p.other.now } };
+
+    ghost invariant = { λ p. AreDoubts p.half p.own.now p.other.now p.doubts };
+}
+
+impl<'a, 'f> Pair<'a, 'f> {
+    /// Compares the blocks of two files.
+    pub(crate) fn of(
+        alloc: Global,
+        half: Half,
+        own: &'a Side<'f>,
+        other: &'a Side<'f>,
+    ) -> Result<Pair<'a, 'f>, OutOfMemory>
+        ensures { IfOk result (λ pair. pair ≡ record { half = half; own = own.now; other = other.now }) }
+    {
+        let doubts = doubts_of(alloc, half, own, other)?;
+        Ok(Pair {
+            half,
+            own,
+            other,
+            doubts,
+        })
+    }
+
+    pub(crate) fn half(&self) -> Half
+        ensures { result ≡ self.now.half }
+    {
+        self.half
+    }
+
+    pub(crate) fn own(&self) -> &'a Side<'f>
+        ensures { result.now ≡ self.now.own }
+    {
+        self.own
+    }
+
+    pub(crate) fn other(&self) -> &'a Side<'f>
+        ensures { result.now ≡ self.now.other }
+    {
+        self.other
+    }
+
+    /// Whether the files may differ at an address.
+    fn may_differ(&self, address: u64) -> bool
+        ensures { result ≡ false → first_in self.now.half self.now.own self.now.other address ≡ None }
+    {
+        self.doubts.at(false, address)
+    }
+
+    /// What differs at an address. Both files are looked up only where they may differ.
+    pub(crate) fn first_in(
+        &self,
+        alloc: Global,
+        address: u64,
+    ) -> Result<Option<Aspect>, OutOfMemory>
+        ensures { IfOk result (λ found. found ≡ first_in self.now.half self.now.own self.now.other address) }
+    {
+        if !self.may_differ(address) {
+            return Ok(None);
+        }
+        match self.half {
+            Half::Names => first_name_aspect(alloc, self.own, self.other, address),
+            Half::Frames => first_frame_aspect(alloc, self.own, self.other, address),
+        }
+    }
+}
