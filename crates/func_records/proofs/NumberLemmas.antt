@@ -1,5 +1,5 @@
 -- The number of a text among sorted texts.
-use Rattle.std.proofs.Common.{◌≡◌, ℕ, zero, suc, ◌+◌, Bool, true, false, ◌||◌, cond, map, take, List, [], ◌∷◌, ◌++◌, Some, arith, refl, sym, ap, ◌∙◌, Bor, Any}
+use Rattle.std.proofs.Common.{◌≡◌, ℕ, zero, suc, ◌+◌, ◌<◌, length, get_or, Bool, true, false, ◌||◌, cond, map, take, List, [], ◌∷◌, ◌++◌, Some, arith, refl, sym, ap, ◌∙◌, Bor, Any}
 use Rattle.std.specs.List.{slice_get, list_any, AllByRecursion}
 use Rattle.std.specs.List.Sorted.{IsStrictlySortedBy}
 use Rattle.std.specs.Str.{bytes_eq}
@@ -14,7 +14,7 @@ use Rattle.func_records.specs.internal.Texts.{text_cmp}
 use Rattle.func_records.specs.FuncRecords.{number_in}
 use Rattle.func_records.specs.internal.Gathering.{bytes_of}
 use Rattle.func_records.specs.internal.Spelling.{number_or_0}
-use Rattle.func_records.proofs.ListLemmas.{take_more}
+use Rattle.func_records.proofs.ListLemmas.{take_more, take_next}
 
 -- a text below all others is none of them
 other_there : (x : Bor (List ℕ)) (xs : List (Bor (List ℕ))) (n : ℕ) (path : List ℕ) → AllByRecursion (λ y. text_cmp x y ≡ Less) xs → slice_get (bytes_of xs) n ≡ Some path → bytes_eq x.now path ≡ false
@@ -44,7 +44,7 @@ number_at (x ∷ xs) zero path sorted is =
 number_at (x ∷ xs) (suc n) path sorted is =
     place_by x.now (bytes_of xs) path n (other_there x xs n path sorted.0 is) (number_at xs n path sorted.1 is)
 
-there : (paths : List (List ℕ)) (n : ℕ) (path : List ℕ) → slice_get paths n ≡ Some path → list_any (bytes_eq path) paths ≡ true
+pub there : (paths : List (List ℕ)) (n : ℕ) (path : List ℕ) → slice_get paths n ≡ Some path → list_any (bytes_eq path) paths ≡ true
 there [] n path is = absurd (cc)
 there (p ∷ paths) zero path is =
     let same : bytes_eq path p ≡ true = (bytes_eq-Decides path p).1 (let first : path ≡ p = cc in first) in
@@ -76,3 +76,20 @@ row_more paths texts n path number row after is there numbered added =
     added ∙ ap (λ r. r ++ number ∷ []) is ∙ ap (λ k. map (number_or_0 texts) (take n paths) ++ k ∷ []) numbered
     ∙ sym (map-append (number_or_0 texts) (take n paths) (path ∷ []))
     ∙ ap (map (number_or_0 texts)) (sym (take_more paths n path (sym there)))
+
+-- a text that stands at a place
+pub number_here : (xs : List (Bor (List ℕ))) (n : ℕ) (x d : Bor (List ℕ)) (text : List ℕ) → IsStrictlySortedBy text_cmp xs → n < length xs → x ≡ get_or xs n d → bytes_eq x.now text ≡ true → n ≡ number_or_0 (bytes_of xs) text
+number_here xs n x d text sorted below is same = number_found xs n text sorted (bytes_at xs n d below ∙ ap (λ (t : Bor (List ℕ)). Some t.now) (sym is) ∙ ap Some ((bytes_eq-Decides x.now text).0 same))
+  where
+    bytes_at : (ys : List (Bor (List ℕ))) (k : ℕ) (d : Bor (List ℕ)) → k < length ys → slice_get (bytes_of ys) k ≡ Some (get_or ys k d).now
+    bytes_at [] k d less = absurd (omega arith)
+    bytes_at (z ∷ ys) zero d less = refl
+    bytes_at (z ∷ ys) (suc k) d less = bytes_at ys k d (omega arith)
+
+-- the numbers of one text more
+pub numbers_more : (f : List ℕ → ℕ) (texts : List (Bor (List ℕ))) (n : ℕ) (d : Bor (List ℕ)) (number : ℕ) (numbers after : List ℕ) → n < length texts → number ≡ f (get_or texts n d).now → numbers ≡ map f (bytes_of (take n texts)) → after ≡ numbers ++ number ∷ [] → after ≡ map f (bytes_of (take (n + 1) texts))
+numbers_more f texts n d number numbers after below is so added =
+    added ∙ ap (λ ns. ns ++ number ∷ []) so ∙ ap (λ k. map f (bytes_of (take n texts)) ++ k ∷ []) is
+    ∙ sym (map-append f (bytes_of (take n texts)) ((get_or texts n d).now ∷ []))
+    ∙ ap (map f) (sym (map-append (λ (t : Bor (List ℕ)). t.now) (take n texts) (get_or texts n d ∷ [])))
+    ∙ ap (λ (ts : List (Bor (List ℕ))). map f (bytes_of ts)) (sym (take_next texts n d below))

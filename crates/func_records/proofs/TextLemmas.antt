@@ -1,10 +1,13 @@
-use Rattle.std.proofs.Common.{◌≡◌, ℕ, zero, suc, ◌+◌, ◌<◌, ◌≤◌, Bool, true, false, map, length, List, [], ◌∷◌, Some, arith, sym, ap, ◌∙◌, Bor, IsPermutation, Any, inl, inr}
+use Rattle.std.proofs.Common.{◌≡◌, ℕ, zero, suc, ◌+◌, ◌<◌, ◌≤◌, Bool, true, false, map, length, take, get_or, ◌++◌, List, [], ◌∷◌, Some, arith, refl, sym, ap, subst, ◌∙◌, Bor, IsPermutation, Any, inl, inr}
 use Rattle.std.proofs.lemmas.Bool.Decides.{leb_tells}
 use Rattle.std.specs.List.{slice_get, slice_index_or}
 use Rattle.std.specs.List.Sorted.{IsSorted, IsStrictlySortedBy, IsNonDecreasingBy, IsPartitionPoint}
 use Rattle.std.specs.List.Retain.{IsFiltered, DiffersFromLast}
 use Rattle.std.specs.Str.{bytes_eq}
-use Rattle.std.specs.Ordering.{nat_cmp, eq_by_cmp, is_eq, is_lt, ordering_reverse, ordering_index}
+use Rattle.std.specs.Ordering.{nat_cmp, eq_by_cmp, is_eq, is_lt, ordering_reverse, ordering_then, ordering_index}
+use Rattle.std.specs.declared.cmp.Ordering.{Ordering}
+use Rattle.std.proofs.lemmas.List.{length-map, map-append}
+use Rattle.func_records.proofs.ListLemmas.{take_next}
 use Rattle.std.specs.declared.cmp.Ordering.TheVariants.{Less, Equal, Greater}
 use Rattle.std.specs.Cmp.{IsTotalOrder, IsEquivalence}
 use Rattle.std.specs.Cmp.Lexicographic.{slice_cmp}
@@ -13,7 +16,7 @@ use Rattle.std.proofs.lemmas.Map.Text.{is_eq-slice_cmp}
 use Rattle.std.proofs.lemmas.Slice.Eq.{bytes_eq-Decides}
 use Rattle.std.proofs.lemmas.List.Filters.{dedup_is}
 use Rattle.std.proofs.lemmas.List.Kept.{IsStrictlySortedBy-dedup, Any-dedup, Contains-from_dedup}
-use Rattle.std.proofs.lemmas.List.Sorted.{IsPermutation-sym, Contains-permutation, searchable_from_sorted}
+use Rattle.std.proofs.lemmas.List.Sorted.{IsPermutation-sym, IsPermutation-map, Contains-permutation, searchable_from_sorted}
 use Rattle.func_records.specs.internal.Texts.{text_cmp, SameTexts}
 
 abbrev text_eq : Bor (List ℕ) → Bor (List ℕ) → Bool
@@ -36,6 +39,38 @@ once_same xs ys zs moved once = rw (dedup_is text_eq ys zs once) (record {
   from = λ t has. Contains-permutation ys xs t (IsPermutation-sym xs ys moved) (Contains-from_dedup text_eq ys t has);
   all = λ t has. Any-dedup text_equiv ys t (Contains-permutation xs ys t moved has);
 })
+
+-- texts with their places, in the order of the texts
+abbrev placed_cmp : Bor (List ℕ) × ℕ → Bor (List ℕ) × ℕ → Ordering
+placed_cmp x y = ordering_then (text_cmp x.0 y.0) (nat_cmp x.1 y.1)
+
+abbrev bare : List (Bor (List ℕ) × ℕ) → List (Bor (List ℕ))
+bare placed = map (λ p. p.0) placed
+
+pub bare_next : (placed : List (Bor (List ℕ) × ℕ)) (n : ℕ) (one d : Bor (List ℕ) × ℕ) (old new : List (Bor (List ℕ))) → n < length placed → one ≡ get_or placed n d → old ≡ bare (take n placed) → new ≡ old ++ one.0 ∷ [] → new ≡ bare (take (n + 1) placed)
+bare_next placed n one d old new below is so added =
+    added ∙ ap (λ ts. ts ++ one.0 ∷ []) so ∙ ap (λ (p : Bor (List ℕ) × ℕ). bare (take n placed) ++ p.0 ∷ []) is
+    ∙ sym (map-append (λ (p : Bor (List ℕ) × ℕ). p.0) (take n placed) (get_or placed n d ∷ []))
+    ∙ ap bare (sym (take_next placed n d below))
+
+first_not : (a b : Ordering) → is_lt (ordering_then a b) ≡ false → is_lt a ≡ false
+first_not Less b is = is
+first_not Equal b is = refl
+first_not Greater b is = refl
+
+bare_at : (xs : List (Bor (List ℕ) × ℕ)) (k : ℕ) (d : Bor (List ℕ)) → slice_index_or (bare xs) k d ≡ (slice_index_or xs k (d, 0)).0
+bare_at [] k d = refl
+bare_at (x ∷ xs) zero d = refl
+bare_at (x ∷ xs) (suc k) d = bare_at xs k d
+
+pub bare_sorted : (placed : List (Bor (List ℕ) × ℕ)) (texts : List (Bor (List ℕ))) → IsSorted placed_cmp placed → texts ≡ bare placed → IsSorted text_cmp texts
+bare_sorted placed texts sorted are = rw are (λ k d low within.
+    ap (λ t. is_lt (text_cmp t (slice_index_or (bare placed) k d))) (bare_at placed (k + 1) d)
+    ∙ ap (λ t. is_lt (text_cmp (slice_index_or placed (k + 1) (d, 0)).0 t)) (bare_at placed k d)
+    ∙ first_not _ _ (sorted k (d, 0) low (let long : length (bare placed) ≡ length placed = length-map placed (λ p. p.0) in omega (arith, within))))
+
+pub bare_moved : (texts : List (Bor (List ℕ))) (placed sorted : List (Bor (List ℕ) × ℕ)) (all : List (Bor (List ℕ))) → bare placed ≡ texts → IsPermutation placed sorted → all ≡ bare sorted → IsPermutation texts all
+bare_moved texts placed sorted all were moved are = rw are (subst (λ (ts : List (Bor (List ℕ))). IsPermutation ts (bare sorted)) were (IsPermutation-map (λ (p : Bor (List ℕ) × ℕ). p.0) placed sorted moved))
 
 tied : (x y : List ℕ) → slice_cmp nat_cmp x y ≡ Equal → x ≡ y
 tied x y is = (let same : bytes_eq x y ≡ true = sym (is_eq-slice_cmp x y) ∙ ap is_eq is in (bytes_eq-Decides x y).0 same)

@@ -8,10 +8,9 @@ use crate::call_paths::no_path;
 use crate::holding::hold_inlines;
 use crate::names::gather_names;
 use crate::numbering::{Numbering, add_texts};
-use crate::numbers::{Numbers, number_of, number_rows};
-use crate::origins::{number_origins, number_refs};
+use crate::numbers::{Numbers, number_of, number_rows, numbers_at, numbers_of};
 use crate::paths::gather_paths;
-use crate::sorting::{sorted_texts, text_slices};
+use crate::sorting::{ranked_texts, text_slices};
 use crate::spelling::add_parts;
 use crate::writer::FuncWriter;
 use die_names::Units;
@@ -38,19 +37,20 @@ pub fn add_functions(
     let held = hold_inlines(alloc, units, pieces)?;
     let copies = held.as_slice();
     let used = gather_paths(alloc, units, pieces, copies)?;
-    let sorted = sorted_texts(alloc, used.as_slice())?;
-    let paths = sorted.as_slice();
+    let ranked_paths = ranked_texts(alloc, used.as_slice())?;
+    let paths = ranked_paths.sorted.as_slice();
     let named = gather_names(alloc, units, pieces, copies)?;
     let texts = named.texts.as_slice();
     let slices = text_slices(alloc, texts)?;
-    let sorted_names = sorted_texts(alloc, slices.as_slice())?;
-    let names = sorted_names.as_slice();
+    let ranked_names = ranked_texts(alloc, slices.as_slice())?;
+    let names = ranked_names.sorted.as_slice();
     if paths.len() > u32::MAX as usize || names.len() > u32::MAX as usize {
         return Err(OutOfMemory);
     }
     let rows = number_rows(alloc, units, paths)?;
-    let known = number_origins(alloc, named.refs.as_slice(), texts, names)?;
-    let origins = number_refs(alloc, units, known.as_slice(), names, named.all.as_slice())?;
+    let guesses = ranked_names.guesses.as_slice();
+    let known = numbers_of(alloc, names, slices.as_slice(), guesses)?;
+    let origins = numbers_at(alloc, known.as_slice(), named.places.as_slice())?;
     let writer = FuncWriter {
         base,
         units,

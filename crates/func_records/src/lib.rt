@@ -9,8 +9,8 @@
 //! inlined there, and the line that it has in the file (`laws::names_are_kept`). A checker finds nothing in such a text
 //! (`laws::records_have_no_findings`).
 //!
-//! To read: `functions` first, then `holding`; `calls`, `marks`, `call_paths` and `paths`; `names`; `sorting`, `numbers` and
-//! `origins`; and `numbering`, `inlines` and `spelling`.
+//! To read: `functions` first, then `holding`; `calls`, `marks`, `call_paths` and `paths`; `ref_slots`,
+//! `origin_refs` and `names`; `sorting` and `numbers`; and `numbering`, `inlines` and `spelling`.
 #![tactic(auto)]
 
 mod call_paths;
@@ -23,8 +23,9 @@ mod marks;
 mod names;
 mod numbering;
 mod numbers;
-mod origins;
+mod origin_refs;
 mod paths;
+mod ref_slots;
 mod sorting;
 mod spelling;
 mod writer;

@@ -46,6 +46,62 @@ pub fn number_of(sorted: &[&[u8]], path: &[u8]) -> u32
     }
 }
 
+/// Whether two texts have the same bytes.
+fn is_text(found: &[u8], text: &[u8]) -> bool
+    ensures { result ≡ bytes_eq found.now text.now }
+{
+    found == text
+}
+
+/// The number of a text that is in use, and 0 for others; it is looked for at a place first.
+fn number_guessed(sorted: &[&[u8]], text: &[u8], guess: u32) -> u32
+    requires sorted { IsStrictlySortedBy text_cmp sorted.now }
+    requires few { length sorted.now < 2 ^ 32 }
+    ensures { result ≡ number_or_0 (bytes_of sorted.now) text.now }
+{
+    let place = guess as usize;
+    if place >= sorted.len() {
+        return number_of(sorted, text);
+    }
+    let found = sorted[place];
+    if is_text(found, text) {
+        return guess;
+    }
+    number_of(sorted, text)
+}
+
+/// The numbers of texts, each of which is looked for at its place first.
+pub fn numbers_of(
+    alloc: Global,
+    sorted: &[&[u8]],
+    texts: &[&[u8]],
+    guesses: &[u32],
+) -> Result<Vec<u32>, OutOfMemory>
+    requires sorted { IsStrictlySortedBy text_cmp sorted.now }
+    requires few { length sorted.now < 2 ^ 32 }
+    ensures { IfOk result (λ numbers. numbers.items ≡ map (number_or_0 (bytes_of sorted.now)) (bytes_of texts.now)) }
+{
+    let mut numbers = Vec::with_capacity(alloc, texts.len())?;
+    'texts: for place in 0..texts.len() {
+        let guess = number_in(guesses, place);
+        numbers.push(number_guessed(sorted, texts[place], guess))?;
+    }
+    Ok(numbers)
+}
+
+/// The numbers at some places.
+pub fn numbers_at(alloc: Global, numbers: &[u32], places: &[u32]) -> Result<Vec<u32>, OutOfMemory>
+    ensures { IfOk result (λ found. found.items ≡ map (λ k. unwrap_or (slice_get numbers.now k) 0) places.now) }
+{
+    let mut found = Vec::with_capacity(alloc, places.len())?;
+    let mut rest = places;
+    'places: while let Some((place, later)) = rest.split_first() {
+        found.push(number_in(numbers, *place as usize))?;
+        rest = later;
+    }
+    Ok(found)
+}
+
 /// The numbers of the paths of a unit.
 fn number_row(
     alloc: Global,

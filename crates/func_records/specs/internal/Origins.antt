@@ -1,5 +1,7 @@
 -- The names of the functions that were inlined, as they are gathered and numbered.
-use Rattle.std.specs.Prelude.{◌≡◌, ℕ, List, [], ◌∷◌, ◌++◌, map}
+use Rattle.std.specs.Prelude.{◌≡◌, ◌⊎◌, ℕ, List, [], ◌∷◌, ◌++◌, map, length, Some}
+use Rattle.std.specs.List.{slice_get, list_any}
+use Rattle.std.specs.Str.{bytes_eq}
 use Rattle.clean_names.specs.Cleaning.{cleaned}
 use Rattle.die_names.specs.declared.unit_read.UnitRead.{UnitRead}
 use Rattle.die_names.specs.declared.naming.NameRef.{NameRef}
@@ -8,7 +10,6 @@ use Rattle.die_names.specs.NameRefs.{name_bytes}
 use Rattle.func_flatten.specs.declared.piece.Piece.{Piece}
 use Rattle.inline_chain.specs.InlineRuns.{InlineParts}
 use Rattle.func_records.specs.declared.numbers.Numbers.{Numbers}
-use Rattle.func_records.specs.declared.origins.Origin.{Origin}
 use Rattle.func_records.specs.internal.Gathering.{bytes_of}
 use Rattle.func_records.specs.internal.Spelling.{number_or_0}
 
@@ -24,14 +25,25 @@ abbrev pub all_names : List UnitRead → List Piece → List (List InlineParts) 
 all_names units (piece ∷ pieces) (copies ∷ held) = entry_names units piece.unit copies ++ all_names units pieces held
 all_names units _ _ = []
 
--- each reference with the number of its name
-abbrev pub numbered_refs : List (List ℕ) → List NameRef → List (List ℕ) → List Origin
-numbered_refs names (name ∷ refs) (text ∷ texts) = record { name = name; number = number_or_0 names text } ∷ numbered_refs names refs texts
-numbered_refs names _ _ = []
+-- references, and for each copy a place among them
+pub record RefParts : Type 0 where
+  pub refs : List NameRef
+  pub places : List ℕ
 
-abbrev pub AllNumbered : List UnitRead → List (List ℕ) → List Origin → Type 0
-AllNumbered units names [] = Unit {0}
-AllNumbered units names (o ∷ origins) = (o.number ≡ number_or_0 names (made_name units o.name)) × AllNumbered units names origins
+-- the text at each place is the one beside it
+abbrev pub AreAt : List (List ℕ) → List ℕ → List (List ℕ) → Type 0
+AreAt texts [] [] = Unit {0}
+AreAt texts (k ∷ places) (name ∷ names) = (slice_get texts k ≡ Some name) × AreAt texts places names
+AreAt texts _ _ = ⊥
+
+-- the references give the names that were asked for and no others, and the places lead to them
+pub record RefsSay (units : List UnitRead) (parts : RefParts) (names : List (List ℕ)) : Type 0 where
+  pub at : AreAt (map (made_name units) parts.refs) parts.places names
+  pub same : (name : List ℕ) → list_any (bytes_eq name) (map (made_name units) parts.refs) ≡ list_any (bytes_eq name) names
+
+-- a reference stood at a place, or was added there
+abbrev pub IsPlaced : List NameRef → List NameRef → NameRef → ℕ → Type 0
+IsPlaced old new name place = ((new ≡ old) × (slice_get old place ≡ Some name)) ⊎ ((new ≡ old ++ name ∷ []) × (place ≡ length old))
 
 -- the numbers of the names of a piece's inlined copies, and of those of all pieces
 abbrev pub copy_numbers : Numbers → List UnitRead → ℕ → List InlineParts → List ℕ

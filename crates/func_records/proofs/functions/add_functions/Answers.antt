@@ -1,10 +1,10 @@
-use Rattle.std.proofs.Common.{◌≡◌, map, refl, sym, ap, ◌∙◌}
+use Rattle.std.proofs.Common.{◌≡◌, ℕ, List, map, refl, sym, ap, subst, ◌∙◌}
 use Rattle.sym_records.specs.Spelled.{text_bytes}
 use Rattle.func_records.specs.internal.Gathering.{bytes_of}
 use Rattle.func_records.specs.internal.Spelling.{number_or_0}
-use Rattle.func_records.specs.internal.Origins.{made_name}
+use Rattle.func_records.specs.internal.Origins.{all_names, AreAt}
 use Rattle.func_records.proofs.HoldLemmas.{held_short}
-use Rattle.func_records.proofs.OriginLemmas.{numbered_by}
+use Rattle.func_records.proofs.OriginLemmas.{places_numbered}
 use Rattle.func_records.proofs.UsedLemmas.{paths_clean, names_clean}
 use Rattle.func_records.proofs.AddLemmas.{functions_added}
 use Rattle.func_records.proofs.functions.add_functions.Goals as goal
@@ -12,23 +12,24 @@ use Rattle.func_records.proofs.functions.add_functions.Goals as goal
 pub add_texts-requires-clause-clean : goal.add_texts-requires-clause-clean
 add_texts-requires-clause-clean c =
     let used : c.as_slice.result.now ≡ c.in_ok-used.used.items = c.as_slice.ensures.value in
-    let paths : c.as_slice-paths.result.now ≡ c.in_ok-sorted.sorted.items = c.as_slice-paths.ensures.value in
-    paths_clean c.args.units.now c.args.pieces.now c.as_slice-copies.result.now c.in_ok-used.used.items c.as_slice-paths.result.now c.requires c.in_ok-used.ensures (rw (sym paths) at (rw used at c.in_ok-sorted.ensures.same))
+    let paths : c.as_slice-paths.result.now ≡ c.in_ok-ranked_paths.ranked_paths.sorted.items = c.as_slice-paths.ensures.value in
+    paths_clean c.args.units.now c.args.pieces.now c.as_slice-copies.result.now c.in_ok-used.used.items c.as_slice-paths.result.now c.requires c.in_ok-used.ensures (rw (sym paths) at (rw used at c.in_ok-ranked_paths.ensures.same))
 
 pub add_texts-requires-2-clause-clean : goal.add_texts-requires-2-clause-clean
 add_texts-requires-2-clause-clean c =
     let slices : c.as_slice-2.result.now ≡ c.in_ok-slices.slices.items = c.as_slice-2.ensures.value in
-    let names : c.as_slice-names.result.now ≡ c.in_ok-sorted_names.sorted_names.items = c.as_slice-names.ensures.value in
-    names_clean c.args.units.now c.in_ok-named.named.refs.items c.in_ok-named.named.texts.items c.in_ok-slices.slices.items c.as_slice-names.result.now c.in_ok-named.ensures.made (c.in_ok-slices.ensures ∙ c.as_slice-texts.ensures.value) (rw (sym names) at (rw slices at c.in_ok-sorted_names.ensures.same))
-
-pub number_refs-requires-clause-numbered : goal.number_refs-requires-clause-numbered
-number_refs-requires-clause-numbered c =
-    numbered_by c.args.units.now _ c.as_slice-3.result.now c.as_slice-texts.result.now c.as_slice-4.result.now (c.as_slice-4.ensures.value ∙ c.in_ok-known.ensures) (c.as_slice-texts.ensures.value ∙ c.in_ok-named.ensures.made ∙ ap (map (made_name c.args.units.now)) (sym c.as_slice-3.ensures.value))
+    let names : c.as_slice-names.result.now ≡ c.in_ok-ranked_names.ranked_names.sorted.items = c.as_slice-names.ensures.value in
+    names_clean c.args.units.now c.in_ok-named.named.refs.items c.in_ok-named.named.texts.items c.in_ok-slices.slices.items c.as_slice-names.result.now c.in_ok-named.ensures.made (c.in_ok-slices.ensures ∙ c.as_slice-texts.ensures.value) (rw (sym names) at (rw slices at c.in_ok-ranked_names.ensures.same))
 
 pub add_parts-requires-clause-numbered : goal.add_parts-requires-clause-numbered
 add_parts-requires-clause-numbered c =
+    let f : List ℕ → ℕ = number_or_0 (bytes_of c.as_slice-names.result.now) in
+    let texts : List (List ℕ) = c.in_ok-named.named.texts.items in
+    let names : List (List ℕ) = all_names c.args.units.now c.args.pieces.now c.as_slice-copies.result.now in
     c.as_slice-7.ensures.value ∙ c.in_ok-origins.ensures
-    ∙ ap (map (number_or_0 (bytes_of c.as_slice-names.result.now))) (ap (map (made_name c.args.units.now)) c.as_slice-5.ensures.value ∙ c.in_ok-named.ensures.all)
+    ∙ places_numbered f texts c.as_slice-4.result.now c.as_slice-5.result.now names
+    (c.as_slice-4.ensures.value ∙ c.in_ok-known.ensures ∙ ap (map f) (ap bytes_of c.as_slice-3.ensures.value ∙ c.in_ok-slices.ensures ∙ c.as_slice-texts.ensures.value))
+    (subst (λ ps. AreAt texts ps names) (sym c.as_slice-5.ensures.value) c.in_ok-named.ensures.all)
 
 pub add_parts-requires-clause-short : goal.add_parts-requires-clause-short
 add_parts-requires-clause-short c =
@@ -39,7 +40,7 @@ pub returns : goal.returns
 returns c =
     let copies : c.as_slice-copies.result.now ≡ c.in_ok-held.held.items = c.as_slice-copies.ensures.value in
     let used : c.as_slice.result.now ≡ c.in_ok-used.used.items = c.as_slice.ensures.value in
-    let paths : c.as_slice-paths.result.now ≡ c.in_ok-sorted.sorted.items = c.as_slice-paths.ensures.value in
+    let paths : c.as_slice-paths.result.now ≡ c.in_ok-ranked_paths.ranked_paths.sorted.items = c.as_slice-paths.ensures.value in
     let slices : c.as_slice-2.result.now ≡ c.in_ok-slices.slices.items = c.as_slice-2.ensures.value in
-    let names : c.as_slice-names.result.now ≡ c.in_ok-sorted_names.sorted_names.items = c.as_slice-names.ensures.value in
-    functions_added c.args.base c.args.units.now c.args.pieces.now c.as_slice-copies.result.now c.in_ok-used.used.items c.as_slice-paths.result.now c.in_ok-slices.slices.items c.as_slice-names.result.now c.in_ok-named.named.texts.items _ (text_bytes c.args.text.now) _ _ _ (rw (sym copies) at c.in_ok-held.ensures.are) c.in_ok-used.ensures (rw (sym paths) at c.in_ok-sorted.ensures.sorted) (rw (sym paths) at (rw used at c.in_ok-sorted.ensures.same)) c.in_ok-named.ensures.same (c.in_ok-slices.ensures ∙ c.as_slice-texts.ensures.value) (rw (sym names) at c.in_ok-sorted_names.ensures.sorted) (rw (sym names) at (rw slices at c.in_ok-sorted_names.ensures.same)) (c.as_slice-6.ensures.value ∙ c.in_ok-rows.ensures) (c.number_of.ensures ∙ ap (number_or_0 (bytes_of c.as_slice-paths.result.now)) c.no_path.ensures) refl c.in_ok-add_texts.ensures.text c.in_ok-add_texts.ensures.fit c.in_ok-add_texts-2.ensures.text c.in_ok-add_texts-2.ensures.fit c.in_ok-add_parts.ensures
+    let names : c.as_slice-names.result.now ≡ c.in_ok-ranked_names.ranked_names.sorted.items = c.as_slice-names.ensures.value in
+    functions_added c.args.base c.args.units.now c.args.pieces.now c.as_slice-copies.result.now c.in_ok-used.used.items c.as_slice-paths.result.now c.in_ok-slices.slices.items c.as_slice-names.result.now c.in_ok-named.named.texts.items _ (text_bytes c.args.text.now) _ _ _ (rw (sym copies) at c.in_ok-held.ensures.are) c.in_ok-used.ensures (rw (sym paths) at c.in_ok-ranked_paths.ensures.sorted) (rw (sym paths) at (rw used at c.in_ok-ranked_paths.ensures.same)) c.in_ok-named.ensures.same (c.in_ok-slices.ensures ∙ c.as_slice-texts.ensures.value) (rw (sym names) at c.in_ok-ranked_names.ensures.sorted) (rw (sym names) at (rw slices at c.in_ok-ranked_names.ensures.same)) (c.as_slice-6.ensures.value ∙ c.in_ok-rows.ensures) (c.number_of.ensures ∙ ap (number_or_0 (bytes_of c.as_slice-paths.result.now)) c.no_path.ensures) refl c.in_ok-add_texts.ensures.text c.in_ok-add_texts.ensures.fit c.in_ok-add_texts-2.ensures.text c.in_ok-add_texts-2.ensures.fit c.in_ok-add_parts.ensures
