@@ -11,6 +11,7 @@ pub mod SiteLemmas
 pub mod HoldLemmas
 pub mod PathLemmas
 pub mod NumberLemmas
+pub mod GapLemmas
 pub mod OriginLemmas
 pub mod TableLemmas
 pub mod SpellLemmas

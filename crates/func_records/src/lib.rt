@@ -10,12 +10,13 @@
 //! (`laws::records_have_no_findings`).
 //!
 //! To read: `functions` first, then `holding`; `calls`, `marks`, `call_paths` and `paths`; `ref_slots`,
-//! `origin_refs` and `names`; `sorting` and `numbers`; and `numbering`, `inlines` and `spelling`.
+//! `origin_refs` and `names`; `sorting`, `gaps` and `numbers`; and `numbering`, `inlines` and `spelling`.
 #![tactic(auto)]
 
 mod call_paths;
 mod calls;
 mod functions;
+mod gaps;
 mod holding;
 mod inlines;
 pub mod laws;

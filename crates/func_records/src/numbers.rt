@@ -7,6 +7,7 @@ ghost use Rattle.func_records.specs.internal.Texts.{text_cmp};
 ghost use Rattle.func_records.specs.internal.Gathering.{bytes_of};
 ghost use Rattle.func_records.specs.internal.Spelling.{number_or_0, unit_numbers, row_of};
 
+use crate::gaps::TextGaps;
 use die_names::Units;
 use line_program::LineTable;
 use std::alloc::Global;
@@ -107,6 +108,7 @@ fn number_row(
     alloc: Global,
     table: &LineTable,
     sorted: &[&[u8]],
+    gaps: &mut TextGaps,
 ) -> Result<ListOf<u32>, OutOfMemory>
     requires sorted { IsStrictlySortedBy text_cmp sorted.now }
     requires few { length sorted.now < 2 ^ 32 }
@@ -118,7 +120,7 @@ fn number_row(
     }
     let mut row = Vec::with_capacity(alloc, count)?;
     'paths: for path in 0..count {
-        row.push(number_of(sorted, table.path(path as u32)))?;
+        row.push(gaps.number_of(sorted, table.path(path as u32)))?;
     }
     Ok(ListOf::of(row))
 }
@@ -134,10 +136,11 @@ pub fn number_rows(
     ensures { IfOk result (λ rows. rows.items ≡ unit_numbers (bytes_of sorted.now) units.now) }
 {
     let mut rows = Vec::new(alloc);
+    let mut gaps = TextGaps::new(alloc)?;
     let parts = units.as_slice();
     'units: for unit in 0..parts.len() {
         let part = &parts[unit];
-        rows.push(number_row(alloc, &part.lines, sorted)?)?;
+        rows.push(number_row(alloc, &part.lines, sorted, &mut gaps)?)?;
     }
     Ok(rows)
 }
