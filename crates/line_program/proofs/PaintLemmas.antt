@@ -12,7 +12,7 @@ use Rattle.line_program.specs.declared.path_line.PathLine.{PathLine}
 use Rattle.line_program.specs.LineMaps.{no_line}
 use Rattle.line_program.specs.internal.Numbered.{numbered_line_of}
 use Rattle.step_maps.specs.declared.stretch.FirstItem.{FirstItem}
-use Rattle.step_maps.specs.Copying.{BelowEnd, UpToEnd}
+use Rattle.step_maps.specs.Ends.{BelowEnd, UpToEnd}
 use Rattle.line_program.specs.internal.Painting.{Counted, SortedFrom, AllUpTo, or_row, last_at, covering, row_by}
 use Rattle.line_program.specs.internal.RowsAbove.{line_or, Parts}
 use Rattle.line_program.proofs.SortLemmas.{sorted_of, sorted_by, rises_of}

@@ -4,7 +4,7 @@ ghost use Rattle.std.specs.Option.{option_copied};
 ghost use Rattle.step_maps.specs.Stepping.{last_from, held_from, value_at, IsStepping};
 ghost use Rattle.line_program.specs.LineMaps.{no_line};
 ghost use Rattle.line_program.specs.internal.Numbered.{numbered_line_of};
-ghost use Rattle.step_maps.specs.Copying.{BelowEnd, UpToEnd};
+ghost use Rattle.step_maps.specs.Ends.{BelowEnd, UpToEnd};
 ghost use Rattle.line_program.specs.internal.Painting.{SortedFrom, AllUpTo, last_at, covering, row_by};
 ghost use Rattle.line_program.specs.internal.RowsAbove.{Parts};
 

@@ -6,7 +6,7 @@ use Rattle.step_maps.specs.declared.stretch.FirstItem.{FirstItem}
 use Rattle.step_maps.specs.Stepping.{Stepping, held_from, value_at, last_from}
 use Rattle.step_maps.specs.Covers.{reaches, AreStretches}
 use Rattle.step_maps.specs.Overlays.{over}
-use Rattle.step_maps.specs.Copying.{BelowEnd}
+use Rattle.step_maps.specs.Ends.{BelowEnd}
 use Rattle.step_maps.specs.internal.Laying.{own_item, laid, ascends, ascends_from, sooner, AreSteady}
 use Rattle.step_maps.proofs.RunLemmas.{if_true, if_false}
 

@@ -9,7 +9,6 @@ pub mod SpanLemmas
 pub mod LayingLemmas
 pub mod FirstLemmas
 pub mod JoiningLemmas
-pub mod CopyLemmas
 pub mod Computing
 mod WorkedCovers
 mod WorkedSteps

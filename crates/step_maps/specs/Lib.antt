@@ -4,5 +4,5 @@ pub mod StepRuns
 pub mod Covers
 pub mod SpanStretches
 pub mod Overlays
-pub mod Copying
+pub mod Ends
 pub mod internal

@@ -1,7 +1,7 @@
 ghost use Rattle.std.specs.Prelude.{◌≡◌, ℕ, ◌+◌, ◌^◌, ◌<◌, ◌≤◌, true, false, nat_le, nat_lt, if◌then◌else◌, None, Some, IfOk, OnOk};
 ghost use Rattle.step_maps.specs.Stepping.{last_from, value_at};
 ghost use Rattle.step_maps.specs.Covers.{reaches, AreStretches};
-ghost use Rattle.step_maps.specs.Copying.{BelowEnd};
+ghost use Rattle.step_maps.specs.Ends.{BelowEnd};
 ghost use Rattle.step_maps.specs.internal.Laying.{own_item, laid, ascends, AreSteady, sooner};
 
 use crate::overlaying::{over, overlay};

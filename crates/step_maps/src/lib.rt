@@ -2,8 +2,7 @@
 //!
 //! A [`StepMap`] is such a function: a rising list of stops, and beside each the value from there on. It changes in one way,
 //! `set`: from an address on the value is this one. The contract of `set` is one equation at every address, so whoever makes a
-//! function from left to right never speaks of intervals, gaps or overlaps. `at` looks an address up by halves, and
-//! [`copy_steps`] copies a part of one step map into another.
+//! function from left to right never speaks of intervals, gaps or overlaps. `at` looks an address up by halves.
 //!
 //! Items have numbers, and classes that several may share; a [`Stretch`] is the addresses from a first to a last one, both
 //! included, of one item. Of stretches that overlap the first in the list counts. [`first_items`] gives at each address the
@@ -17,11 +16,9 @@
 //! neighbours are equal has them between its stops ([`steps_are_runs`]). [`covers`] gives the runs of the first item's
 //! index, and with each [`Cover`] whether its first address is shared. [`push_spans`] makes the stretches of an item's ranges.
 //!
-//! To read: `steps` first, then `stretch` and `overlaying`, then `laying`, `joining` and `covering`; `copying` and `laws`
-//! stand alone.
+//! To read: `steps` first, then `stretch` and `overlaying`, then `laying`, `joining` and `covering`; `laws` stand alone.
 #![tactic(auto)]
 
-mod copying;
 mod covering;
 mod joining;
 mod laws;
@@ -31,7 +28,6 @@ mod spans;
 mod steps;
 mod stretch;
 
-pub use copying::copy_steps;
 pub use covering::{covers, first_items};
 pub use laws::{runs_are_maximal, same_values_same_runs, steps_are_runs};
 pub use overlaying::overlay;

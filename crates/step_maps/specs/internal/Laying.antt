@@ -4,7 +4,7 @@ use Rattle.step_maps.specs.declared.stretch.Stretch.{Stretch}
 use Rattle.step_maps.specs.declared.stretch.FirstItem.{FirstItem}
 use Rattle.step_maps.specs.Covers.{reaches}
 use Rattle.step_maps.specs.Overlays.{over}
-use Rattle.step_maps.specs.Copying.{BelowEnd}
+use Rattle.step_maps.specs.Ends.{BelowEnd}
 
 -- the stretch alone
 abbrev pub own_item : Stretch → ℕ → Option FirstItem

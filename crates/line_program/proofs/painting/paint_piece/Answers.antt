@@ -1,5 +1,5 @@
 use Rattle.std.proofs.Common.{subst}
-use Rattle.step_maps.specs.Copying.{UpToEnd}
+use Rattle.step_maps.specs.Ends.{UpToEnd}
 use Rattle.line_program.proofs.PaintLemmas.{piece_last}
 use Rattle.line_program.proofs.painting.paint_piece.Goals as goal
 

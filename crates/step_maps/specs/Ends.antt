@@ -1,4 +1,4 @@
--- One step map's values from an address on, and up to an end, copied into another.
+-- An end of addresses, which may not be there.
 use Rattle.std.specs.Prelude.{ℕ, ◌<◌, ◌≤◌, Option, None, Some}
 
 -- an address is below an end; there may be no end
