@@ -6,6 +6,7 @@ pub mod StackLemmas
 pub mod SideLemmas
 pub mod FrameLemmas
 pub mod NameLemmas
+pub mod BothLemmas
 pub mod BlockLemmas
 pub mod ClearLemmas
 pub mod DoubtLemmas

@@ -3,13 +3,12 @@ ghost use Rattle.std.specs.Prelude.{◌≡◌, ◌+◌, ◌<◌, [], ◌∷◌, 
 ghost use Rattle.std.specs.Bool.{OnTrue};
 ghost use Rattle.cfi_eval.specs.TextRules.{same_target};
 ghost use Rattle.sym_judge.specs.Alike.{same_list};
-ghost use Rattle.sym_judge.specs.internal.Blocks.{block_place, inside, is_inside, same_extent, same_rule_text, same_path, same_origin, same_run, same_source, same_ranges, same_site, same_record, same_head, same_inside, AreSameBlocks};
+ghost use Rattle.sym_judge.specs.internal.Blocks.{block_place, inside, is_inside, same_extent, same_rule_text, same_run, same_source, same_ranges, same_site, same_record, same_head, same_inside, AreSameBlocks};
 ghost use Rattle.sym_judge.specs.internal.Stops.{first_in};
 
+use crate::both::Both;
 use crate::forms::are_same_words;
-use crate::names::is_same_text;
 use crate::ruling::Half;
-use crate::sides::Side;
 use sym_records::{Extent, SymLine};
 use sym_rules::{RuleText, Target};
 
@@ -99,20 +98,6 @@ fn are_same_rule_texts(a: &[RuleText], b: &[RuleText]) -> bool
     back.is_empty()
 }
 
-/// Whether two `FILE` records have one name, or both are missing.
-fn is_same_path(own: &Side<'_>, a: u32, other: &Side<'_>, b: u32) -> bool
-    ensures { result ≡ same_path own.now other.now a b }
-{
-    is_same_text(own.path(a), other.path(b))
-}
-
-/// Whether two `INLINE_ORIGIN` records have one name, or both are missing.
-fn is_same_origin(own: &Side<'_>, a: u32, other: &Side<'_>, b: u32) -> bool
-    ensures { result ≡ same_origin own.now other.now a b }
-{
-    is_same_text(own.origin(a), other.origin(b))
-}
-
 fn is_same_run(address: u64, size: u64, start: u64, many: u64) -> bool
     ensures { result ≡ same_run address size start many }
 {
@@ -120,17 +105,10 @@ fn is_same_run(address: u64, size: u64, start: u64, many: u64) -> bool
 }
 
 /// Whether two lines of a file are the same.
-fn is_same_source(
-    own: &Side<'_>,
-    line: u32,
-    file: u32,
-    other: &Side<'_>,
-    number: u32,
-    path: u32,
-) -> bool
-    ensures { result ≡ same_source own.now other.now line file number path }
+fn is_same_source(both: &Both<'_>, line: u32, file: u32, number: u32, path: u32) -> bool
+    ensures { result ≡ same_source both.now.own both.now.other line file number path }
 {
-    line == number && is_same_path(own, file, other, path)
+    line == number && both.is_same_path(file, path)
 }
 
 /// Whether the ranges of two levels are the same.
@@ -148,16 +126,15 @@ struct Site {
     origin: u32,
 }
 
-fn is_same_site(own: &Side<'_>, a: Site, other: &Side<'_>, b: Site) -> bool
-    ensures { result ≡ same_site own.now other.now a.line a.file a.origin b.line b.file b.origin }
+fn is_same_site(both: &Both<'_>, a: Site, b: Site) -> bool
+    ensures { result ≡ same_site both.now.own both.now.other a.line a.file a.origin b.line b.file b.origin }
 {
-    is_same_source(own, a.line, a.file, other, b.line, b.file)
-        && is_same_origin(own, a.origin, other, b.origin)
+    is_same_source(both, a.line, a.file, b.line, b.file) && both.is_same_origin(a.origin, b.origin)
 }
 
 /// Whether two records say the same of the same addresses.
-fn is_same_record(own: &Side<'_>, a: &SymLine, other: &Side<'_>, b: &SymLine) -> bool
-    ensures { result ≡ same_record own.now other.now a.now b.now }
+fn is_same_record(both: &Both<'_>, a: &SymLine, b: &SymLine) -> bool
+    ensures { result ≡ same_record both.now.own both.now.other a.now b.now }
 {
     match (a, b) {
         (
@@ -187,7 +164,7 @@ fn is_same_record(own: &Side<'_>, a: &SymLine, other: &Side<'_>, b: &SymLine) ->
                 origin: *name,
             };
             are_same_ranges(*level, ranges.as_slice(), *depth, extents.as_slice())
-                && is_same_site(own, first, other, second)
+                && is_same_site(both, first, second)
         }
         (
             SymLine::Line {
@@ -204,7 +181,7 @@ fn is_same_record(own: &Side<'_>, a: &SymLine, other: &Side<'_>, b: &SymLine) ->
             },
         ) => {
             is_same_run(*address, *size, *start, *many)
-                && is_same_source(own, *line, *file, other, *number, *path)
+                && is_same_source(both, *line, *file, *number, *path)
         }
         (
             SymLine::Change { address, rules },
@@ -218,14 +195,8 @@ fn is_same_record(own: &Side<'_>, a: &SymLine, other: &Side<'_>, b: &SymLine) ->
 }
 
 /// Whether the records of two blocks behind their first say the same.
-fn are_same_inside(
-    half: Half,
-    own: &Side<'_>,
-    front: &[SymLine],
-    other: &Side<'_>,
-    back: &[SymLine],
-) -> bool
-    ensures { result ≡ same_inside half own.now other.now front.now back.now }
+fn are_same_inside(half: Half, both: &Both<'_>, front: &[SymLine], back: &[SymLine]) -> bool
+    ensures { result ≡ same_inside half both.now.own both.now.other front.now back.now }
 {
     let mut mine = front;
     let mut theirs = back;
@@ -233,7 +204,7 @@ fn are_same_inside(
         let Some((y, ys)) = next_inside(half, theirs) else {
             return false;
         };
-        if !is_same_record(own, x, other, y) {
+        if !is_same_record(both, x, y) {
             return false;
         }
         mine = xs;
@@ -266,48 +237,34 @@ fn begins_at(line: &SymLine, start: u64) -> bool {
 }
 
 /// Whether blocks that cover an address say the same. They are compared where the first of them begins, so each is compared once.
-fn are_same_blocks(
-    half: Half,
-    own: &Side<'_>,
-    i: usize,
-    other: &Side<'_>,
-    j: usize,
-    address: u64,
-) -> bool
-    ensures { OnTrue result (AreSameBlocks half own.now other.now i j) }
+fn are_same_blocks(half: Half, both: &Both<'_>, i: usize, j: usize, address: u64) -> bool
+    ensures { OnTrue result (AreSameBlocks half both.now.own both.now.other i j) }
 {
-    let mine = own.lines();
-    let theirs = other.lines();
+    let mine = both.own().lines();
+    let theirs = both.other().lines();
     if i >= mine.len() || j >= theirs.len() {
         return false;
     }
     if !begins_at(&mine[i], address) || !is_same_head(&mine[i], &theirs[j]) {
         return false;
     }
-    are_same_inside(
-        half,
-        own,
-        mine.split_at(i + 1).1,
-        other,
-        theirs.split_at(j + 1).1,
-    )
+    are_same_inside(half, both, mine.split_at(i + 1).1, theirs.split_at(j + 1).1)
 }
 
 /// Whether two files do not differ at the addresses at which they have the blocks that they have at this one.
 #[tactic(auto, using(crate::proofs::ClearLemmas::no_blocks, crate::proofs::ClearLemmas::same_blocks))]
 pub(crate) fn is_clear(
     half: Half,
-    own: &Side<'_>,
+    both: &Both<'_>,
     first: Option<usize>,
-    other: &Side<'_>,
     second: Option<usize>,
     address: u64,
 ) -> bool
-    ensures { OnTrue result ((y : ℕ) → block_place half own.now y ≡ first → block_place half other.now y ≡ second → first_in half own.now other.now y ≡ None) }
+    ensures { OnTrue result ((y : ℕ) → block_place half both.now.own y ≡ first → block_place half both.now.other y ≡ second → first_in half both.now.own both.now.other y ≡ None) }
 {
     match (first, second) {
         (None, None) => true,
-        (Some(i), Some(j)) => are_same_blocks(half, own, i, other, j, address),
+        (Some(i), Some(j)) => are_same_blocks(half, both, i, j, address),
         _ => false,
     }
 }

@@ -6,8 +6,8 @@ ghost use Rattle.sym_lookup.specs.PlaceMaps.{IsBefore};
 ghost use Rattle.sym_judge.specs.internal.Blocks.{AreDoubts};
 
 use crate::blocks::is_clear;
+use crate::both::Both;
 use crate::ruling::Half;
-use crate::sides::Side;
 use std::alloc::Global;
 use step_maps::StepMap;
 use sym_edges::OutOfMemory;
@@ -46,18 +46,17 @@ fn note(
 pub(crate) fn doubts_of(
     alloc: Global,
     half: Half,
-    own: &Side<'_>,
-    other: &Side<'_>,
+    both: &Both<'_>,
 ) -> Result<StepMap<bool>, OutOfMemory>
-    ensures { IfOk result (λ doubts. AreDoubts half own.now other.now doubts) }
+    ensures { IfOk result (λ doubts. AreDoubts half both.now.own both.now.other doubts) }
 {
     let mut doubts = StepMap::new(alloc);
     let mut known = false;
     let mut address = 0;
     'runs: loop {
-        let mine = own.run_at(half, address);
-        let theirs = other.run_at(half, address);
-        let doubted = !is_clear(half, own, mine.place, other, theirs.place, address);
+        let mine = both.own().run_at(half, address);
+        let theirs = both.other().run_at(half, address);
+        let doubted = !is_clear(half, both, mine.place, theirs.place, address);
         note(&mut doubts, known, address, doubted)?;
         known = doubted;
         match nearer(mine.end, theirs.end) {

@@ -5,6 +5,7 @@ ghost use Rattle.sym_lookup.specs.IndexOf.{IsIndexOf};
 ghost use Rattle.sym_judge.specs.Rulings.{IsRuling};
 ghost use Rattle.sym_judge.specs.internal.Stops.{run_stops, extent_stops, line_stops, stops_of, is_settled, with_found, with_stop, with_stops, half_ruling, sooner, Fits};
 
+use crate::both::Both;
 use crate::pairs::Pair;
 use crate::ruling::{Aspect, Half, Ruling};
 use crate::sides::Side;
@@ -138,19 +139,14 @@ fn with_lines(
 
 /// The ruling of one half.
 #[tactic(auto, using(crate::proofs::StopLemmas::half_told))]
-fn half_ruling(
-    alloc: Global,
-    half: Half,
-    own: &Side<'_>,
-    other: &Side<'_>,
-) -> Result<Ruling, OutOfMemory>
-    ensures is { IfOk result (λ r. r ≡ half_ruling half own.now other.now) }
+fn half_ruling(alloc: Global, half: Half, both: &Both<'_>) -> Result<Ruling, OutOfMemory>
+    ensures is { IfOk result (λ r. r ≡ half_ruling half both.now.own both.now.other) }
     ensures fits { IfOk result Fits }
 {
-    let pair = Pair::of(alloc, half, own, other)?;
+    let pair = Pair::of(alloc, half, both)?;
     let first = with_stop(alloc, &pair, Ruling::Yes, 0)?;
-    let second = with_lines(alloc, &pair, first, own.lines())?;
-    with_lines(alloc, &pair, second, other.lines())
+    let second = with_lines(alloc, &pair, first, both.own().lines())?;
+    with_lines(alloc, &pair, second, both.other().lines())
 }
 
 /// Of two rulings the one with the lesser address; of equal ones the first.
@@ -192,9 +188,8 @@ pub fn judge(alloc: Global, own: &SymFile, other: &SymFile) -> Result<Ruling, Ou
 {
     let first = index_of(alloc, own)?;
     let second = index_of(alloc, other)?;
-    let mine = Side::of(own, &first);
-    let theirs = Side::of(other, &second);
-    let names = half_ruling(alloc, Half::Names, &mine, &theirs)?;
-    let frames = half_ruling(alloc, Half::Frames, &mine, &theirs)?;
+    let both = Both::of(alloc, Side::of(own, &first), Side::of(other, &second))?;
+    let names = half_ruling(alloc, Half::Names, &both)?;
+    let frames = half_ruling(alloc, Half::Frames, &both)?;
     Ok(sooner(names, frames))
 }

@@ -11,10 +11,11 @@
 //!
 //! To read: `specs/Forms.antt`, `specs/Alike.antt`, `specs/Rulings.antt` and `specs/SameMeaning.antt`; then `terms` and `forms`, `tables` (the
 //! rules that count at an address) and `frames`, `names`, `blocks` and `doubts` (where records say the same in both files, nothing else is looked
-//! at), and `judging`, on `sides` (a file with its index).
+//! at), and `judging`, on `sides` (a file with its index) and `both` (two of them).
 #![tactic(auto)]
 
 mod blocks;
+mod both;
 mod doubts;
 mod forms;
 mod frames;

@@ -2,11 +2,11 @@
 ghost use Rattle.std.specs.Prelude.{◌≡◌, false, None, IfOk};
 ghost use Rattle.sym_judge.specs.internal.Stops.{first_in};
 
+use crate::both::Both;
 use crate::doubts::doubts_of;
 use crate::frames::first_frame_aspect;
 use crate::names::first_name_aspect;
 use crate::ruling::{Aspect, Half};
-use crate::sides::Side;
 use std::alloc::Global;
 use std::marker::Model;
 use step_maps::StepMap;
@@ -16,8 +16,7 @@ use sym_edges::OutOfMemory;
 #[derive(Drop)]
 pub(crate) struct Pair<'a, 'f> {
     half: Half,
-    own: &'a Side<'f>,
-    other: &'a Side<'f>,
+    both: &'a Both<'f>,
     doubts: StepMap<bool>,
 }
 
@@ -27,9 +26,9 @@ impl<'a, 'f> Model for Pair<'a, 'f> {
 
     ghost Value = { Compared };
 
-    ghost view = { λ p. record { half = p.half; own = p.own.now; other = p.other.now } };
+    ghost view = { λ p. record { half = p.half; own = p.both.now.own; other = p.both.now.other } };
 
-    ghost invariant = { λ p. AreDoubts p.half p.own.now p.other.now p.doubts };
+    ghost invariant = { λ p. AreDoubts p.half p.both.now.own p.both.now.other p.doubts };
 }
 
 impl<'a, 'f> Pair<'a, 'f> {
@@ -37,36 +36,18 @@ impl<'a, 'f> Pair<'a, 'f> {
     pub(crate) fn of(
         alloc: Global,
         half: Half,
-        own: &'a Side<'f>,
-        other: &'a Side<'f>,
+        both: &'a Both<'f>,
     ) -> Result<Pair<'a, 'f>, OutOfMemory>
-        ensures { IfOk result (λ pair. pair ≡ record { half = half; own = own.now; other = other.now }) }
+        ensures { IfOk result (λ pair. pair ≡ record { half = half; own = both.now.own; other = both.now.other }) }
     {
-        let doubts = doubts_of(alloc, half, own, other)?;
-        Ok(Pair {
-            half,
-            own,
-            other,
-            doubts,
-        })
+        let doubts = doubts_of(alloc, half, both)?;
+        Ok(Pair { half, both, doubts })
     }
 
     pub(crate) fn half(&self) -> Half
         ensures { result ≡ self.now.half }
     {
         self.half
-    }
-
-    pub(crate) fn own(&self) -> &'a Side<'f>
-        ensures { result.now ≡ self.now.own }
-    {
-        self.own
-    }
-
-    pub(crate) fn other(&self) -> &'a Side<'f>
-        ensures { result.now ≡ self.now.other }
-    {
-        self.other
     }
 
     /// Whether the files may differ at an address.
@@ -88,8 +69,8 @@ impl<'a, 'f> Pair<'a, 'f> {
             return Ok(None);
         }
         match self.half {
-            Half::Names => first_name_aspect(alloc, self.own, self.other, address),
-            Half::Frames => first_frame_aspect(alloc, self.own, self.other, address),
+            Half::Names => first_name_aspect(alloc, self.both.own(), self.both.other(), address),
+            Half::Frames => first_frame_aspect(alloc, self.both.own(), self.both.other(), address),
         }
     }
 }

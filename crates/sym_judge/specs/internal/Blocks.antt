@@ -1,6 +1,6 @@
 -- Blocks of records: a FUNC with the INLINE and line records directly under it, or an INIT with the changes directly behind it. Where two files
 -- have blocks that say the same they do not differ.
-use Rattle.std.specs.Prelude.{◌≡◌, ℕ, ◌+◌, ◌<◌, ◌^◌, ◌==◌, ◌&&◌, Bool, true, false, List, [], ◌∷◌, drop, Option, None, Some, slice_get}
+use Rattle.std.specs.Prelude.{◌≡◌, ℕ, ◌+◌, ◌<◌, ◌^◌, ◌==◌, ◌&&◌, Bool, true, false, List, [], ◌∷◌, drop, get_or, Option, None, Some, slice_get}
 use Rattle.std.specs.Str.{bytes_eq}
 use Rattle.sym_records.specs.declared.line.Extent.{Extent}
 use Rattle.sym_records.specs.declared.line.SymLine.{SymLine}
@@ -50,6 +50,22 @@ same_path own other a b = same_option bytes_eq (text_path own a) (text_path othe
 
 abbrev pub same_origin : List SymLine → List SymLine → ℕ → ℕ → Bool
 same_origin own other a b = same_option bytes_eq (text_origin own a) (text_origin other b)
+
+-- two files
+pub record TwoFiles : Type 0 where
+  pub own : List SymLine
+  pub other : List SymLine
+
+-- what a list tells of a number, which is a place in it
+abbrev pub is_told : List Bool → ℕ → Bool
+is_told told n = get_or told n false
+
+abbrev pub are_told : List Bool → ℕ → ℕ → Bool
+are_told told a b = (a == b) && is_told told a
+
+-- under each number that is told two files have the same
+pub record AreTold (same : List SymLine → List SymLine → ℕ → ℕ → Bool) (own other : List SymLine) (told : List Bool) : Type 0 where
+  pub holds : (n : ℕ) → is_told told n ≡ true → same own other n n ≡ true
 
 -- the same addresses; the same line of a file; the same ranges of a level; the same function called from the same line
 abbrev pub same_run : ℕ → ℕ → ℕ → ℕ → Bool

@@ -3,4 +3,4 @@ use Rattle.sym_judge.proofs.DoubtLemmas.{AreDoubtsTo, nothing_doubted}
 use Rattle.sym_judge.proofs.doubts.doubts_of.Goals as goal
 
 pub runs-init : goal.runs-init
-runs-init c = subst (λ d. AreDoubtsTo c.args.half c.args.own.now c.args.other.now 0 false d) (sym c.new-doubts.ensures) (nothing_doubted c.args.half c.args.own.now c.args.other.now)
+runs-init c = subst (λ d. AreDoubtsTo c.args.half c.args.both.now.own c.args.both.now.other 0 false d) (sym c.new-doubts.ensures) (nothing_doubted c.args.half c.args.both.now.own c.args.both.now.other)

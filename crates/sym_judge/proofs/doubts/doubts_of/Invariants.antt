@@ -3,7 +3,7 @@ use Rattle.sym_judge.proofs.DoubtLemmas.{AreDoubtsTo}
 use Rattle.sym_judge.proofs.doubts.doubts_of.Given as goal
 
 abbrev pub invariant-runs : goal.invariant-runs
-invariant-runs l = AreDoubtsTo l.half l.own l.other l.address l.known l.doubts
+invariant-runs l = AreDoubtsTo l.half l.both.own l.both.other l.address l.known l.doubts
 
 abbrev pub decreases-runs : goal.decreases-runs
 decreases-runs l = 2 ^ 64 - l.address
