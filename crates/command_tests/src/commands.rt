@@ -1,8 +1,9 @@
 //! `run` over stores and sinks in memory: the commands' rows, each call that fails in turn, large files, and workers that meet. What
 //! each small file gives stands in the rows of the crate `worked` too.
 use crate::comparing::same;
-use crate::files::{Given, file_by, joined, of_code};
+use crate::files::{Given, debug_file, file_by, joined, of_code};
 use crate::judgements::{JUDGE_ROWS, SAMPLE_ROWS, SHORT, SLOT, TEXT, THOUSAND, TWO};
+use crate::pairs::{BELOW, PAIR_ROWS, WITH_ITSELF};
 use crate::rows::{
     A, BY_TWO, CHECK, DUMP, FRAME, FRONT, FRONTS, MAIN, PUSHED, ROWS, Row, SHOW, STACK, STATE,
     TABLE, TEXT_ROWS, THREE_PATHS, UNREAD, WALK, Words,
@@ -46,7 +47,8 @@ fn named(alloc: Global, name: &str, bytes: &[u8]) -> Result<NamedFile, AllocErro
     })
 }
 
-/// A store of the file `d/a.out`, of the states `d/state` and `d/stack`, and of the symbol files `d/text`, `d/slot` and `d/short`.
+/// A store of the file `d/a.out`, of the states `d/state` and `d/stack`, of the symbol files `d/text`, `d/slot` and `d/short`, and of a debug
+/// file, also below the root `d`.
 fn store_of(alloc: Global, file: &[u8], edges: Edges<'_>) -> Result<MemStore, AllocError> {
     let mut files = Vec::new(alloc);
     files.push(named(alloc, "d/a.out", file)?)?;
@@ -55,6 +57,9 @@ fn store_of(alloc: Global, file: &[u8], edges: Edges<'_>) -> Result<MemStore, Al
     files.push(named(alloc, "d/text", TEXT)?)?;
     files.push(named(alloc, "d/slot", SLOT)?)?;
     files.push(named(alloc, "d/short", SHORT)?)?;
+    let debug = debug_file(alloc)?;
+    files.push(named(alloc, "d/debug", &debug)?)?;
+    files.push(named(alloc, BELOW, &debug)?)?;
     let fail = calls(alloc, edges.store)?;
     Ok(MemStore::new(alloc, FileList::of(files), edges.step.max(1), fail))
 }
@@ -160,6 +165,14 @@ fn judgements_have_their_rows(rt: HostRuntime) -> Result<(), Fail> {
 }
 
 #[test]
+fn pairs_have_their_rows(rt: HostRuntime) -> Result<(), Fail> {
+    for row in PAIR_ROWS {
+        expect_row(&rt, rt.alloc(), row)?;
+    }
+    Ok(())
+}
+
+#[test]
 fn samples_have_their_rows(rt: HostRuntime) -> Result<(), Fail> {
     for row in SAMPLE_ROWS {
         expect_row(&rt, rt.alloc(), row)?;
@@ -239,6 +252,9 @@ fn each_call_that_fails_has_its_status(rt: HostRuntime) -> Result<(), Fail> {
     let file = small_and(alloc, NULL)?;
     // The opening, a call for each byte, and the one that finds the end; of two files twice.
     expect_unread(&rt, alloc, DUMP, &file, file.len().saturating_add(2))?;
+    let bare = file_by(alloc, Given::Code(b"\x90"))?;
+    let both = bare.len().saturating_mul(2);
+    expect_unread(&rt, alloc, WITH_ITSELF, &bare, both.saturating_add(4))?;
     expect_unread(&rt, alloc, CHECK, PUSHED, PUSHED.len().saturating_add(2))?;
     expect_unread(&rt, alloc, SHOW, PUSHED, PUSHED.len().saturating_add(2))?;
     let both = PUSHED.len().saturating_add(STATE.len());

@@ -32,6 +32,8 @@ pub enum Given {
     TwoUnits(bool),
     /// The function `f` of eight bytes at this address, and the symbol of the small file.
     Covered(u64),
+    /// Code from 1000 to 1020 and frames alone.
+    Stripped(&'static [u8]),
 }
 
 /// Texts one after the other.
@@ -119,7 +121,8 @@ fn of_entries(alloc: Global, entries: &[Entry]) -> Result<Vec<u8>, AllocError> {
     with_functions(alloc, NOPS, &unit, &lines)
 }
 
-fn of_two_units(alloc: Global, is_one_table: bool) -> Result<Vec<u8>, AllocError> {
+/// The units and the line tables of `f` and `g`.
+fn two_units(alloc: Global, is_one_table: bool) -> Result<(Vec<u8>, Vec<u8>), AllocError> {
     let names = b"b.c\0\0\0\0a\x01.c\0\0\0\0a\x02.c\0\0\0\0\0";
     let mut lines = line_table(alloc, names, TWO_FILES)?;
     let second = if is_one_table { 0 } else { lines.len() as u64 };
@@ -128,7 +131,32 @@ fn of_two_units(alloc: Global, is_one_table: bool) -> Result<Vec<u8>, AllocError
     let g = entry_of(alloc, 2, b"g\0", 0x100c, 0x14)?;
     let mut units = unit_of(alloc, 0, &f)?;
     units.extend_from_slice(&unit_of(alloc, second, &g)?)?;
+    Ok((units, lines))
+}
+
+fn of_two_units(alloc: Global, is_one_table: bool) -> Result<Vec<u8>, AllocError> {
+    let (units, lines) = two_units(alloc, is_one_table)?;
     with_functions(alloc, NOPS, &units, &lines)
+}
+
+fn stripped<'a>(alloc: Global, frames: &'a [u8]) -> Result<Vec<u8>, AllocError> {
+    let frames = (".eh_frame", [1, 2, 0x2000, 0], frames);
+    file_of(alloc, &[(1, 0)], &[NULL, ID, LONG_CODE, frames])
+}
+
+/// The debug file of code from 1000 to 1020 with the two units of `f` and `g`, and no bytes for code and frames.
+pub fn debug_file(alloc: Global) -> Result<Vec<u8>, AllocError> {
+    let (units, lines) = two_units(alloc, false)?;
+    let sections = [
+        NULL,
+        ID,
+        (".text", [8, 6, 0x1000, 0], NOPS),
+        (".eh_frame", [8, 2, 0x2000, 0], NOPS),
+        (".debug_info", [1, 0, 0, 0], units.as_slice()),
+        (".debug_abbrev", [1, 0, 0, 0], FUNCTIONS),
+        (".debug_line", [1, 0, 0, 0], lines.as_slice()),
+    ];
+    file_of(alloc, &[(1, 0)], &sections)
 }
 
 fn with_symbols(alloc: Global, first: u64) -> Result<Vec<u8>, AllocError> {
@@ -161,5 +189,6 @@ pub fn file_by(alloc: Global, given: Given) -> Result<Vec<u8>, AllocError> {
         Given::WideEntries(entries) => of_wide_entries(alloc, entries),
         Given::TwoUnits(is_one_table) => of_two_units(alloc, is_one_table),
         Given::Covered(first) => with_symbols(alloc, first),
+        Given::Stripped(frames) => stripped(alloc, frames),
     }
 }

@@ -12,4 +12,6 @@ mod files;
 #[cfg(test)]
 mod judgements;
 #[cfg(test)]
+mod pairs;
+#[cfg(test)]
 mod rows;

@@ -1,14 +1,15 @@
 -- The judgement on an ELF file and a symbol file; for `judge_files`, `answer_sym` and `answer_judge`.
-use Rattle.std.proofs.Common.{◌≡◌, inl, inr, ℕ, suc, ◌+◌, ◌≤◌, ◌<◌, ◌^◌, false, cond, List, [], ◌∷◌, ◌++◌, take, Option, Some, None, Ok, Err, Result, length, nat_lt, refl, sym, ◌∙◌, ap, arith, append-nil, append_assoc, subst, IfOk}
-use Rattle.std.proofs.lemmas.Bool.Decides.{nat_tests}
+use Rattle.std.proofs.Common.{◌≡◌, inl, inr, ℕ, suc, ◌+◌, ◌≤◌, ◌<◌, Bool, true, false, cond, List, [], ◌∷◌, ◌++◌, take, Option, Some, None, Ok, Err, Result, length, nat_lt, refl, sym, ◌∙◌, ap, arith, append-nil, append_assoc, subst, IfOk}
 use Rattle.sym_edges.specs.Outside.{Files, Tells}
-use Rattle.sym_edges.specs.WholeFile.{HoldsFile, AsksOnce, IsWhole, ReadAll}
+use Rattle.sym_edges.specs.WholeFile.{HoldsFile, AsksOnce, ReadAll}
 use Rattle.sym_edges.specs.declared.reading.ReadEnd.{ReadEnd}
 use Rattle.sym_edges.specs.declared.reading.ReadEnd.TheVariants.{CantOpen, CantRead, TooLong}
 use Rattle.sym_edges.specs.declared.fault.Stop.{Stop}
 use Rattle.sym_edges.specs.declared.fault.Stop.TheVariants.{Fault}
 use Rattle.sym_edges.specs.declared.fault.Stop.TheVariants as stop
-use Rattle.elf_sections.specs.Image.{image}
+use Rattle.elf_sections.specs.Image.{ImageParts, image}
+use Rattle.elf_sections.specs.declared.fault.ElfFault.{ElfFault}
+use Rattle.debug_read.specs.DebugSays.{DebugSays, debug_says}
 use Rattle.sym_rules.specs.declared.text_fault.TextFault.{TextFault}
 use Rattle.sym_records.specs.Canon.{canon_text}
 use Rattle.sym_records.specs.Reading.{reading}
@@ -21,20 +22,21 @@ use Rattle.sym_judge.specs.Rulings.{IsRuling}
 use Rattle.sym_judge.specs.declared.ruling.Ruling.{Ruling}
 use Rattle.sym_judge.specs.declared.ruling.Ruling.TheVariants.{Yes, No}
 use Rattle.dumpsyms_cmd.specs.Words.{judge, module_name, if_image, if_dumped, behind_dump, dumped_told}
-use Rattle.dumpsyms_cmd.specs.Refusals.{too_long_line}
+use Rattle.dumpsyms_cmd.specs.Refusals.{elf_line, too_long_line}
+use Rattle.dumpsyms_cmd.specs.ElfInput.{or_refused, unless_longer, file_image, elf_image}
 use Rattle.dumpsyms_cmd.specs.Verdict.{Verdict, refused, LIMIT}
 use Rattle.dumpsyms_cmd.specs.Observed.{Asks}
 use Rattle.dumpsyms_cmd.specs.Judgement.{out_bytes, err_bytes, judgement_verdict, RefusesOrGives}
 use Rattle.dumpsyms_cmd.specs.SymbolInput.{refusal_line}
 use Rattle.dumpsyms_cmd.specs.commands.Dump.{IsFileVerdict, DumpsFile, DumpPromises}
 use Rattle.dumpsyms_cmd.specs.commands.Judge.{ruling_verdict, IsRuled, IsReadVerdict, IsSymVerdict, IsTextVerdict, IsJudgeVerdict, JudgesSym, RefusesElf, JudgePromises}
-use Rattle.dumpsyms_cmd.specs.internal.Judged.{IsJudged, AnswersCommand, AnswersStop, AnswersEnd, AnswersJudged, AnswersSym, JudgesBytes}
+use Rattle.dumpsyms_cmd.specs.internal.Judged.{IsJudged, AnswersCommand, AnswersStop, AnswersEnd, AnswersJudged, AnswersSym}
 use Rattle.dumpsyms_cmd.specs.declared.judgement.Output.{Output}
 use Rattle.dumpsyms_cmd.specs.declared.judgement.Output.TheVariants.{Nothing, Text, Bytes, Records}
 use Rattle.dumpsyms_cmd.specs.declared.judgement.Judgement.{Judgement}
 use Rattle.dumpsyms_cmd.specs.declared.judgement.Answer.{Answer}
 use Rattle.dumpsyms_cmd.specs.declared.judgement.Answer.TheVariants.{Judged, Unread, NoMemory}
-use Rattle.dumpsyms_cmd.proofs.JudgedLemmas.{dumped_verdict, bytes_command, stop_command}
+use Rattle.dumpsyms_cmd.proofs.JudgedLemmas.{dumped_verdict, stop_command}
 use Rattle.dumpsyms_cmd.proofs.AnswerLemmas.{answered, if_ok, rose_later}
 
 ruled_one : (own other : List SymLine) (ruling : Ruling) (j : Judgement) → IsRuling own other ruling → judgement_verdict j ≡ ruling_verdict ruling → IsRuled own other (judgement_verdict j)
@@ -81,7 +83,7 @@ both_verdict : (elf name : List ℕ) (files : Files) (own : List SymLine) (err :
     → IsJudgeVerdict elf (files elf) (files name) (judgement_verdict j)
 both_verdict elf name files own err j reads dumps bytes there is = record {
   dumped = record { status = 0; out = canon_text own; err = err };
-  dumped_is = dumped_verdict elf files own err dumps;
+  dumped_is = dumped_verdict (elf_image elf files) (module_name elf) own err dumps;
   is = subst (λ (r : Result (List SymLine) TextFault). IsTextVerdict r (files name) (judgement_verdict j)) (sym reads) (subst (λ (o : Option (List ℕ)). IsSymVerdict own o (judgement_verdict j)) (sym there) is);
 }
 
@@ -154,13 +156,17 @@ text_judged NoMemory elf name files dumped lines own before after is same kept s
 pub not_asked : (names before after : List (List ℕ)) → after ≡ before → Asks names before after
 not_asked names before after same = (0, omega arith, same ∙ sym (append-nil before))
 
-short_file : (bytes : List ℕ) → length bytes ≤ 2 ^ 29 → nat_lt (2 ^ 29) (length bytes) ≡ false
-short_file bytes few = grind (arith, nat_tests)
+behind_by : (long : Bool) (read : Result ImageParts ElfFault) (parts : ImageParts) (found : DebugSays) (name : List ℕ) → unless_longer long (or_refused elf_line read) ≡ Ok parts → debug_says parts ≡ Ok found → cond long [] (if_image read name) ≡ name ∷ []
+behind_by true read parts found name is says = absurd (cc)
+behind_by false (Err fault) parts found name is says = absurd (cc)
+behind_by false (Ok other) parts found name is says = (let same : other ≡ parts = cc in ap (λ p. if_dumped (debug_says p) name) same ∙ ap (λ d. if_dumped d name) says)
+
+behind_file : (file : Option (List ℕ)) (parts : ImageParts) (found : DebugSays) (name : List ℕ) → file_image elf_line file ≡ Ok parts → debug_says parts ≡ Ok found → behind_dump file name ≡ name ∷ []
+behind_file None parts found name is says = absurd (cc)
+behind_file (Some bytes) parts found name is says = behind_by (nat_lt LIMIT (length bytes)) (image bytes) parts found name is says
 
 dumped_behind : (elf name : List ℕ) (files : Files) (lines : List SymLine) (err : List ℕ) → DumpsFile elf files lines err → behind_dump (files elf) name ≡ name ∷ []
-dumped_behind elf name files lines err dumps =
-    ap (λ o. behind_dump o name) dumps.there ∙ ap (λ b. cond b [] (if_image (image dumps.file) name)) (short_file dumps.file dumps.few)
-    ∙ ap (λ i. if_image i name) dumps.dumps.image_is ∙ ap (λ d. if_dumped d name) dumps.dumps.dumps.found_is
+dumped_behind elf name files lines err dumps = behind_file (files elf) dumps.parts dumps.dumps.found name dumps.image_is dumps.dumps.found_is
 
 told_behind : (elf name : List ℕ) (files : Option Files) (lines : List SymLine) (err : List ℕ) → Tells files (λ f. DumpsFile elf f lines err) → dumped_told files elf name ≡ name ∷ []
 told_behind elf name None lines err dumps = refl
@@ -171,7 +177,7 @@ text_asked elf name files dumped lines before after is kept asked =
     let gives : Giving elf files lines (err_bytes dumped.err) = gives_by elf files dumped lines is kept in
     subst (λ names. Asks names before after) (sym (told_behind elf name files lines (err_bytes dumped.err) gives.1)) asked
 
-asks_later : (elf : List ℕ) (later before mid after : List (List ℕ)) → mid ≡ before ++ elf ∷ [] → Asks later mid after → Asks (elf ∷ later) before after
+pub asks_later : (elf : List ℕ) (later before mid after : List (List ℕ)) → mid ≡ before ++ elf ∷ [] → Asks later mid after → Asks (elf ∷ later) before after
 asks_later elf later before mid after first asked =
     let one : asked.0 + 1 ≡ suc asked.0 = omega arith in
     (asked.0 + 1, omega (arith, asked.1), asked.2 ∙ ap (λ m. m ++ take asked.0 later) first ∙ append_assoc before (elf ∷ []) (take asked.0 later) ∙ ap (λ n. before ++ take n (elf ∷ later)) (sym one))
@@ -186,9 +192,6 @@ pub asks_both : (bytes elf : List ℕ) (later before mid after : List (List ℕ)
 asks_both bytes elf later before mid after first second = asks_later elf later before mid after first second
 
 -- the ELF file was read, or could not be
-pub dump_promised : (j : Judgement) (files : Option Files) (elf bytes name held : List ℕ) → HoldsFile files elf (λ whole. IsWhole whole bytes LIMIT) → name ≡ module_name elf → held ≡ bytes → JudgesBytes j name held → DumpPromises elf files j
-dump_promised j files elf bytes name held holds named same says = (bytes_command j files elf 4 bytes name held holds named same says).kept
-
 stop_no_text : (o : Output) (status : ℕ) (err : List ℕ) (P : List ℕ → Type 0) → RefusesOrGives o status err P (λ lines e. ⊥) → IsNoText o
 stop_no_text Nothing status err P says = tt
 stop_no_text (Text lines) status err P says = says.1

@@ -14,3 +14,4 @@ pub mod AnswerLemmas
 pub mod WalkLemmas
 pub mod SampleLemmas
 pub mod JudgeLemmas
+pub mod PairLemmas

@@ -1,9 +1,9 @@
 -- The promises of a run, by the three kinds of answer.
 use Rattle.std.proofs.Common.{◌≡◌, ◌⊎◌, inl, inr, ℕ, ◌<◌, ◌≤◌, Bool, true, false, Option, Some, None, IsSome, refl, sym, ◌∙◌, ap, arith}
 use Rattle.sym_edges.specs.Outside.{Files, Rose}
-use Rattle.dumpsyms_cmd.specs.Words.{Asked, files_of}
+use Rattle.dumpsyms_cmd.specs.Words.{Asked}
 use Rattle.dumpsyms_cmd.specs.Verdict.{Verdict, unread, no_memory}
-use Rattle.dumpsyms_cmd.specs.Observed.{SinkSeen, Stood, StoreFailed, SinkFailed, SinkStood, ReceivedWhole, Asks}
+use Rattle.dumpsyms_cmd.specs.Observed.{SinkSeen, Stood, StoreFailed, SinkFailed, SinkStood, ReceivedWhole, AsksFor}
 use Rattle.dumpsyms_cmd.specs.Judgement.{is_some_output, judgement_verdict}
 use Rattle.dumpsyms_cmd.specs.internal.Judged.{has_output, answer_verdict, IsJudged, AnswersCommand}
 use Rattle.dumpsyms_cmd.specs.Answers.{IsUsage}
@@ -88,7 +88,7 @@ status_said run v has (inl whole) quiet calm = whole.0
 status_said run v has (inr failed) quiet calm = absurd (no_failure run.out run.err quiet calm (some_failed has run.out run.err failed.2))
 
 -- a judgement
-by_judgement : (j : Judgement) (run : Run) → IsJudged j (command run) run.store.files → Asks (files_of (command run) run.store.files) run.store.asked run.store.asked_after → Writes run.status (judgement_verdict j) (is_some_output j.out) run.out run.err → Promises run
+by_judgement : (j : Judgement) (run : Run) → IsJudged j (command run) run.store.files → AsksFor run.store (command run) → Writes run.status (judgement_verdict j) (is_some_output j.out) run.out run.err → Promises run
 by_judgement j run judged asks writes =
     let low : j.status < 3 = judged.low in
     let v : Verdict = judgement_verdict j in
@@ -107,7 +107,7 @@ by_judgement j run judged asks writes =
     }
 
 -- a file that could not be read
-by_unread : (run : Run) → IsSome (command run) → StoreFailed run.store → Asks (files_of (command run) run.store.files) run.store.asked run.store.asked_after → Writes run.status unread false run.out run.err → Promises run
+by_unread : (run : Run) → IsSome (command run) → StoreFailed run.store → AsksFor run.store (command run) → Writes run.status unread false run.out run.err → Promises run
 by_unread run some failed asks writes =
     let not_read : WasNotRead run = record { row = some; failed = failed; written = written run unread false writes } in
     record {
@@ -128,7 +128,7 @@ whole_nothing : (run : Run) → Writes run.status no_memory false run.out run.er
 whole_nothing run (inl whole) five = whole.1
 whole_nothing run (inr failed) five = absurd (let is = failed.0 in omega arith)
 
-by_no_memory : (run : Run) → IsSome (command run) → run.status ≡ 5 → Asks (files_of (command run) run.store.files) run.store.asked run.store.asked_after → Writes run.status no_memory false run.out run.err → Promises run
+by_no_memory : (run : Run) → IsSome (command run) → run.status ≡ 5 → AsksFor run.store (command run) → Writes run.status no_memory false run.out run.err → Promises run
 by_no_memory run some five asks writes =
     let texts : ReceivedWhole run.out run.err no_memory = whole_nothing run writes five in
     let none_left : HadNoMemory run = record { row = some; status = five; out = texts.out_text ∙ nothing run.out.taken; err = texts.err_text ∙ nothing run.err.taken } in
@@ -145,7 +145,7 @@ by_no_memory run some five asks writes =
       complete = λ stood quiet calm. inr five;
     }
 
-pub promises : (answer : Answer) (run : Run) → AnswersCommand answer (command run) run.store.files run.store.faults run.store.faults_after → Asks (files_of (command run) run.store.files) run.store.asked run.store.asked_after → Writes run.status (answer_verdict answer) (has_output answer) run.out run.err → (answer ≡ NoMemory → run.status ≡ 5) → Promises run
+pub promises : (answer : Answer) (run : Run) → AnswersCommand answer (command run) run.store.files run.store.faults run.store.faults_after → AsksFor run.store (command run) → Writes run.status (answer_verdict answer) (has_output answer) run.out run.err → (answer ≡ NoMemory → run.status ≡ 5) → Promises run
 promises (Judged j) run says asks writes quiet = by_judgement j run says asks writes
 promises Unread run says asks writes quiet = by_unread run says.0 says.1 asks writes
 promises NoMemory run says asks writes quiet = by_no_memory run says (quiet refl) asks writes

@@ -1,8 +1,6 @@
 -- The counts of a made file; for `sample` and `read_back`.
-use Rattle.std.proofs.Common.{◌≡◌, ℕ, ◌+◌, ◌<◌, ◌≤◌, ◌^◌, Bool, true, false, cond, List, [], ◌∷◌, ◌++◌, Option, Some, None, Result, Ok, Err, IfOk, length, take, get_or, refl, sym, ap, subst, ◌∙◌, arith, append-nil, length-append}
-use Rattle.std.specs.List.{filter}
-use Rattle.std.proofs.lemmas.List.{take_more, take_all}
-use Rattle.sym_edges.specs.Outside.{Files, Tells, MatchStop}
+use Rattle.std.proofs.Common.{◌≡◌, ℕ, ◌<◌, List, [], ◌∷◌, Option, Some, Result, Ok, Err, IfOk, length, refl, sym, ap, subst, ◌∙◌, arith, append-nil}
+use Rattle.sym_edges.specs.Outside.{Files, MatchStop}
 use Rattle.sym_edges.specs.declared.fault.Stop.{Stop}
 use Rattle.sym_edges.specs.declared.fault.Stop.TheVariants.{Fault}
 use Rattle.elf_sections.specs.Image.{ImageParts, image}
@@ -14,26 +12,22 @@ use Rattle.debug_read.specs.declared.found.DebugRead.{DebugRead}
 use Rattle.debug_read.proofs.KeptLemmas.{kept}
 use Rattle.rule_postfix.specs.Written.{omitted}
 use Rattle.sample_elf.specs.Made.{made}
-use Rattle.sym_rules.specs.declared.text_fault.TextFault.{TextFault}
-use Rattle.sym_records.specs.Reading.{reading}
 use Rattle.sym_records.specs.declared.line.SymLine.{SymLine}
-use Rattle.sym_grammar.specs.Answer.{Reads, answer, lifted}
-use Rattle.dumpsyms_cmd.specs.Words.{sample, files_of}
+use Rattle.sym_grammar.specs.Answer.{answer}
+use Rattle.dumpsyms_cmd.specs.Words.{sample}
 use Rattle.dumpsyms_cmd.specs.Refusals.{elf_line, debug_line}
-use Rattle.dumpsyms_cmd.specs.Verdict.{Verdict, refused}
-use Rattle.dumpsyms_cmd.specs.Observed.{Asks}
+use Rattle.dumpsyms_cmd.specs.Verdict.{Verdict}
+use Rattle.dumpsyms_cmd.specs.Observed.{AsksRow}
 use Rattle.dumpsyms_cmd.specs.Judgement.{judgement_verdict}
 use Rattle.dumpsyms_cmd.specs.Answers.{IsVerdict}
 use Rattle.dumpsyms_cmd.specs.commands.Dump.{Assembles}
-use Rattle.dumpsyms_cmd.specs.commands.Sample.{is_counted, count_of, counts_line, IsCountsVerdict, IsImageCounts, IsSampleVerdict}
+use Rattle.dumpsyms_cmd.specs.commands.Sample.{counts_line, IsCountsVerdict, IsImageCounts}
 use Rattle.dumpsyms_cmd.specs.internal.Judged.{Refuses, AnswersCommand, AnswersJudged}
 use Rattle.dumpsyms_cmd.specs.internal.Counting.{CountsParts, CountsBytes, CountsSample}
 use Rattle.dumpsyms_cmd.proofs.JudgedLemmas.{always}
 use Rattle.dumpsyms_cmd.proofs.AnswerLemmas.{refuses_verdict}
-use Rattle.dumpsyms_cmd.specs.declared.sample.Counted.{Counted}
 use Rattle.dumpsyms_cmd.specs.declared.judgement.Judgement.{Judgement}
 use Rattle.dumpsyms_cmd.specs.declared.judgement.Answer.{Answer}
-use Rattle.dumpsyms_cmd.specs.declared.judgement.Answer.TheVariants.{Judged, NoMemory}
 
 -- the counts of what was assembled
 abbrev pub given : ℕ → List ℕ → List ℕ → Verdict
@@ -93,5 +87,5 @@ sample_answered answer (Ok j) units workers is says files before after =
     subst (λ (a : Answer). AnswersCommand a (Some (sample units workers)) files before after) (sym is)
     (record { low = omega arith; row = λ some. low; told = always (λ f. IsVerdict (Some (sample units workers)) f (judgement_verdict j)) files (λ f. says); kept = says })
 
-pub asks_nothing : (units workers : ℕ) (files : Option Files) (before after : List (List ℕ)) → after ≡ before → Asks (files_of (Some (sample units workers)) files) before after
-asks_nothing units workers files before after same = (0, omega arith, same ∙ sym (append-nil before))
+pub asks_nothing : (units workers : ℕ) (files : Option Files) (before after : List (List ℕ)) → after ≡ before → AsksRow (Some (sample units workers)) files before after
+asks_nothing units workers files before after same = record { id = []; asks = (0, omega arith, same ∙ sym (append-nil before)) }

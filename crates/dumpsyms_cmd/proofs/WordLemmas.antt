@@ -13,7 +13,8 @@ use Rattle.sym_rules.proofs.BoolLemmas.{both, and_true, if_both}
 use Rattle.std.proofs.lemmas.List.Sums.{suffix_len_is}
 use Rattle.memchr.specs.Find.{IsLastByte, is_byte}
 use Rattle.std.specs.List.{suffix_len}
-use Rattle.dumpsyms_cmd.specs.Words.{Asked, dump, check, lookup, frame, sample, walk, names, sample_of, address_of, is_number, number_upto, two_words, three_words, four_words, HasWorkers, is_slash, module_name, judge}
+use Rattle.dumpsyms_cmd.specs.ElfInput.{at_path, below_root}
+use Rattle.dumpsyms_cmd.specs.Words.{Asked, dump, dump_pair, check, lookup, frame, walk, names, sample_of, address_of, is_number, number_upto, two_words, three_words, four_words, HasWorkers, is_slash, module_name, judge}
 
 passes_not : (t : Bool) → ((t ≡ true) → ⊥) → not t ≡ true
 passes_not t never = elim t as (λ v. ((v ≡ true) → ⊥) → not v ≡ true) [ true ↦ λ h. absurd (h refl) | false ↦ λ h. refl ] never
@@ -203,11 +204,15 @@ four_workers : (word name third fourth : List ℕ) → HasWorkers (four_words wo
 four_workers word name third fourth =
     let framed : Option Asked = option_map (λ address. frame name address fourth) (address_of third) in
     let sampled : Option Asked = sample_of (number_upto 20000 name) (number_upto 64 fourth) in
-    let more : Option Asked = cond (bytes_eq word (codes "frame")) framed None in
+    let rooted : Option Asked = cond (bytes_eq word (codes "dump") && bytes_eq third (codes "--debug-root")) (Some (dump_pair name (below_root fourth))) None in
+    let paired : Option Asked = cond (bytes_eq word (codes "dump") && bytes_eq third (codes "--debug")) (Some (dump_pair name (at_path fourth))) rooted in
+    let more : Option Asked = cond (bytes_eq word (codes "frame")) framed paired in
     if_both HasWorkers (bytes_eq word (codes "dump") && bytes_eq third (codes "--workers")) (option_map (dump name) (number_upto 64 fourth))
     (cond (bytes_eq word (codes "sample") && bytes_eq third (codes "--workers")) sampled more) (number_workers name fourth)
     (if_both HasWorkers (bytes_eq word (codes "sample") && bytes_eq third (codes "--workers")) sampled more (sample_workers (number_upto 20000 name) (number_upto 64 fourth) (number_within 20000 name) (number_within 64 fourth))
-    (if_both HasWorkers (bytes_eq word (codes "frame")) framed None (address_workers name fourth (address_of third)) tt))
+    (if_both HasWorkers (bytes_eq word (codes "frame")) framed paired (address_workers name fourth (address_of third))
+    (if_both HasWorkers (bytes_eq word (codes "dump") && bytes_eq third (codes "--debug")) (Some (dump_pair name (at_path fourth))) rooted tt
+    (if_both HasWorkers (bytes_eq word (codes "dump") && bytes_eq third (codes "--debug-root")) (Some (dump_pair name (below_root fourth))) None tt tt))))
 
 pub two_few : (view : Option Asked) (word name : List ℕ) → view ≡ two_words word name → HasWorkers view
 two_few view word name is = subst HasWorkers (sym is) (two_workers word name)

@@ -1,12 +1,12 @@
 -- What the commands answer, and what each promises of its judgement: by the words and the files.
 use Rattle.std.specs.Prelude.{◌≡◌, Option, Some, None}
 use Rattle.sym_edges.specs.Outside.{Files}
-use Rattle.dumpsyms_cmd.specs.Words.{Asked, dump, check, lookup, frame, sample, walk, names, judge}
+use Rattle.dumpsyms_cmd.specs.Words.{Asked, dump, dump_pair, check, lookup, frame, sample, walk, names, judge}
 use Rattle.dumpsyms_cmd.specs.Refusals.{usage_line}
 use Rattle.dumpsyms_cmd.specs.Verdict.{Verdict, usage}
 use Rattle.dumpsyms_cmd.specs.Judgement.{err_bytes, judgement_verdict}
 use Rattle.dumpsyms_cmd.specs.SymbolInput.{file_verdict, AnswersBytes}
-use Rattle.dumpsyms_cmd.specs.commands.Dump.{IsFileVerdict, DumpPromises}
+use Rattle.dumpsyms_cmd.specs.commands.Dump.{IsFileVerdict, IsPairVerdict, DumpPromises, PairPromises}
 use Rattle.dumpsyms_cmd.specs.commands.Check.{check_answer}
 use Rattle.dumpsyms_cmd.specs.commands.Lookup.{lookup_answer}
 use Rattle.dumpsyms_cmd.specs.StateInput.{both_verdict, AnswersBoth}
@@ -22,6 +22,7 @@ use Rattle.dumpsyms_cmd.specs.declared.judgement.Judgement.{Judgement}
 abbrev pub IsVerdict : Option Asked → Files → Verdict → Type 0
 IsVerdict None files v = v ≡ usage
 IsVerdict (Some (dump elf workers)) files v = IsFileVerdict elf (files elf) v
+IsVerdict (Some (dump_pair elf debug)) files v = IsPairVerdict elf debug files v
 IsVerdict (Some (check sym)) files v = v ≡ file_verdict check_answer (files sym)
 IsVerdict (Some (lookup sym address)) files v = v ≡ file_verdict (lookup_answer address) (files sym)
 IsVerdict (Some (frame sym address state)) files v = v ≡ both_verdict (frame_answer address) (files sym) (files state)
@@ -40,6 +41,7 @@ pub record IsUsage (j : Judgement) : Type 0 where
 abbrev pub CommandPromises : Option Asked → Option Files → Judgement → Type 0
 CommandPromises None files j = IsUsage j
 CommandPromises (Some (dump elf workers)) files j = DumpPromises elf files j
+CommandPromises (Some (dump_pair elf debug)) files j = PairPromises elf debug files j
 CommandPromises (Some (check sym)) files j = AnswersBytes sym check_answer files j
 CommandPromises (Some (lookup sym address)) files j = AnswersBytes sym (lookup_answer address) files j
 CommandPromises (Some (frame sym address state)) files j = AnswersBoth sym state (frame_answer address) files j

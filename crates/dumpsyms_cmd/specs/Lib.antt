@@ -1,6 +1,7 @@
-pub mod Words
 pub mod Refusals
 pub mod Verdict
+pub mod ElfInput
+pub mod Words
 pub mod Observed
 pub mod Judgement
 pub mod SymbolInput

@@ -2,6 +2,7 @@
 use Rattle.std.specs.Prelude.{◌≡◌, ◌⊎◌, ℕ, ◌+◌, ◌^◌, ◌<◌, ◌≤◌, List, ◌++◌, Option, length, take}
 use Rattle.sym_edges.specs.Outside.{Files, Rose, AddsFront, append_told}
 use Rattle.dumpsyms_cmd.specs.Verdict.{Verdict}
+use Rattle.dumpsyms_cmd.specs.Words.{Asked, files_of}
 
 -- a store: its files, where it tells them; the names that it was asked for, and its count of faults, before and after
 pub record StoreSeen : Type 0 where
@@ -60,5 +61,10 @@ pub record ReceivedFronts (out err : SinkSeen) (v : Verdict) : Type 0 where
 abbrev pub Asks : List (List ℕ) → List (List ℕ) → List (List ℕ) → Type 0
 Asks names before after = (n : ℕ) × (n ≤ length names) × (after ≡ before ++ take n names)
 
-abbrev pub AsksFor : StoreSeen → List (List ℕ) → Type 0
-AsksFor store names = Asks names store.asked store.asked_after
+-- a front of the names of a command's files was asked for: where the store tells nothing, that of a debug file by some build id
+pub record AsksRow (command : Option Asked) (files : Option Files) (before after : List (List ℕ)) : Type 0 where
+  pub id : List ℕ
+  pub asks : Asks (files_of command files id) before after
+
+abbrev pub AsksFor : StoreSeen → Option Asked → Type 0
+AsksFor store command = AsksRow command store.files store.asked store.asked_after

@@ -1,7 +1,7 @@
 -- What the program promises of its status, its two texts and the names that it asks for.
 use Rattle.std.specs.Prelude.{◌≡◌, ◌⊎◌, ℕ, ◌<◌, ◌≤◌, List, Option, None, IsSome}
 use Rattle.sym_edges.specs.Outside.{Tells}
-use Rattle.dumpsyms_cmd.specs.Words.{Asked, command_of, files_of}
+use Rattle.dumpsyms_cmd.specs.Words.{Asked, command_of}
 use Rattle.dumpsyms_cmd.specs.Verdict.{Verdict, unread}
 use Rattle.dumpsyms_cmd.specs.Answers.{IsVerdict}
 use Rattle.dumpsyms_cmd.specs.Observed.{StoreSeen, SinkSeen, StoreFailed, SinkFailed, StoreStood, SinkStood, ReceivedNothing, ReceivedWhole, ReceivedFronts, AsksFor}
@@ -66,6 +66,6 @@ pub record Promises (run : Run) : Type 0 where
   -- no other status comes
   pub range : run.status ≤ 5
   -- the store was asked for a front of the row's files, and for no other name
-  pub asked : AsksFor run.store (files_of (command run) run.store.files)
+  pub asked : AsksFor run.store (command run)
   -- where nothing outside failed the run judged, or memory ran out
   pub complete : StoreStood run.store → SinkStood run.out → SinkStood run.err → (run.status < 3) ⊎ (run.status ≡ 5)

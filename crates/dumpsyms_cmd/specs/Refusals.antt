@@ -5,6 +5,8 @@ use Rattle.sym_edges.specs.declared.part.Sect.{Sect}
 use Rattle.sym_edges.specs.PrintedWords.{section_word, reason_word}
 use Rattle.elf_sections.specs.declared.fault.ElfFault.{ElfFault}
 use Rattle.elf_sections.specs.FaultWords.{fault_word}
+use Rattle.debug_pair.specs.FaultWords.{pair_word, short_id_word}
+use Rattle.debug_pair.specs.declared.fault.PairFault.{PairFault}
 use Rattle.abbrev_units.specs.declared.fault.DwarfKind.{DwarfKind}
 use Rattle.abbrev_units.specs.FaultWords.{dwarf_word}
 use Rattle.abbrev_units.specs.declared.unit.Unit.{Unit}
@@ -30,6 +32,18 @@ line text = text ++ 10 ∷ []
 -- the image has a fault
 abbrev pub elf_line : ElfFault → List ℕ
 elf_line fault = line (codes "refused elf " ++ fault_word fault)
+
+-- the image of a separate debug file has one
+abbrev pub debug_elf_line : ElfFault → List ℕ
+debug_elf_line fault = line (codes "refused debug " ++ fault_word fault)
+
+-- a binary and a debug file are no pair
+abbrev pub pair_line : PairFault → List ℕ
+pair_line fault = line (spaced (codes "refused pair") (pair_word fault ∷ []))
+
+-- the build id of a binary is too short to name a debug file
+abbrev pub short_id_line : List ℕ
+short_id_line = line (spaced (codes "refused pair") (short_id_word ∷ []))
 
 -- the file passes the limit
 abbrev pub too_long_line : List ℕ

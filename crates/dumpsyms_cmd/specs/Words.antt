@@ -14,13 +14,18 @@ use Rattle.sym_records.specs.FieldReading.{hex_value}
 use Rattle.sym_grammar.specs.Input.{file_reading}
 use Rattle.sym_grammar.specs.declared.refusal.SymRefusal.{SymRefusal}
 use Rattle.sym_records.specs.declared.line.SymLine.{SymLine}
+use Rattle.dumpsyms_cmd.specs.ElfInput.{DebugFile, at_path, below_root, debug_told}
 use Rattle.dumpsyms_cmd.specs.declared.words.Command.{Command}
-use Rattle.dumpsyms_cmd.specs.declared.words.Command.TheVariants.{Dump, Check, Lookup, Frame, Sample, Walk, Names, Judge}
+use Rattle.dumpsyms_cmd.specs.declared.words.Command.TheVariants.{Dump, DumpPair, Check, Lookup, Frame, Sample, Walk, Names, Judge}
+use Rattle.dumpsyms_cmd.specs.declared.words.DebugPlace.{DebugPlace}
+use Rattle.dumpsyms_cmd.specs.declared.words.DebugPlace.TheVariants.{File, Root}
 
 -- what the program is asked for
 pub data Asked : Type 0 where
   -- the symbol file of an ELF file, made by some workers
   dump : (elf : List ℕ) → (workers : ℕ) → Asked
+  -- the symbol file of a stripped ELF file with its separate debug file
+  dump_pair : (elf : List ℕ) → (debug : DebugFile) → Asked
   -- what a checker finds in a symbol file
   check : (sym : List ℕ) → Asked
   -- what a symbol file names at an address
@@ -36,9 +41,14 @@ pub data Asked : Type 0 where
   -- a symbol file with its legacy Rust names in readable form
   names : (sym : List ℕ) → Asked
 
--- a command as it is parsed
+-- where a debug file is, and a command, as they are parsed
+abbrev pub debug_view : DebugPlace → DebugFile
+debug_view (File path) = at_path path.now
+debug_view (Root root) = below_root root.now
+
 abbrev pub command_view : Command → Asked
 command_view (Dump elf workers) = dump elf.now workers
+command_view (DumpPair elf debug) = dump_pair elf.now (debug_view debug)
 command_view (Check sym) = check sym.now
 command_view (Lookup sym address) = lookup sym.now address
 command_view (Frame sym address state) = frame sym.now address state.now
@@ -94,12 +104,14 @@ three_words word name third =
     else if bytes_eq word (codes "judge") then Some (judge name third)
     else None
 
--- the rows `dump ELF --workers N`, `sample N --workers W` and `frame SYM ADDR STATE`
+-- the rows `dump ELF --workers N`, `sample N --workers W`, `frame SYM ADDR STATE`, `dump ELF --debug FILE` and `dump ELF --debug-root DIR`
 abbrev pub four_words : List ℕ → List ℕ → List ℕ → List ℕ → Option Asked
 four_words word name third fourth =
     if bytes_eq word (codes "dump") && bytes_eq third (codes "--workers") then option_map (dump name) (number_upto MOST_WORKERS fourth)
     else if bytes_eq word (codes "sample") && bytes_eq third (codes "--workers") then sample_of (number_upto MOST_UNITS name) (number_upto MOST_WORKERS fourth)
     else if bytes_eq word (codes "frame") then option_map (λ address. frame name address fourth) (address_of third)
+    else if bytes_eq word (codes "dump") && bytes_eq third (codes "--debug") then Some (dump_pair name (at_path fourth))
+    else if bytes_eq word (codes "dump") && bytes_eq third (codes "--debug-root") then Some (dump_pair name (below_root fourth))
     else None
 
 -- the table of rows: these, and no other words
@@ -115,6 +127,7 @@ command_of (word ∷ name ∷ third ∷ fourth ∷ more ∷ words) = None
 abbrev pub HasWorkers : Option Asked → Type 0
 HasWorkers None = Unit {0}
 HasWorkers (Some (dump elf workers)) = (1 ≤ workers) × (workers ≤ MOST_WORKERS)
+HasWorkers (Some (dump_pair elf debug)) = Unit {0}
 HasWorkers (Some (check sym)) = Unit {0}
 HasWorkers (Some (lookup sym address)) = Unit {0}
 HasWorkers (Some (frame sym address state)) = Unit {0}
@@ -153,17 +166,19 @@ abbrev pub dumped_told : Option Files → List ℕ → List ℕ → List (List �
 dumped_told None first name = name ∷ []
 dumped_told (Some files) first name = behind_dump (files first) name
 
--- the files that a command asks for, in the order in which they are read, where the store tells its files or tells nothing
-abbrev pub files_of : Option Asked → Option Files → List (List ℕ)
-files_of None files = []
-files_of (Some (dump elf workers)) files = elf ∷ []
-files_of (Some (check sym)) files = sym ∷ []
-files_of (Some (lookup sym address)) files = sym ∷ []
-files_of (Some (frame sym address state)) files = sym ∷ second_told files sym state
-files_of (Some (sample units workers)) files = []
-files_of (Some (walk sym state)) files = sym ∷ second_told files sym state
-files_of (Some (judge elf sym)) files = elf ∷ dumped_told files elf sym
-files_of (Some (names sym)) files = sym ∷ []
+-- the files that a command asks for, in the order in which they are read, where the store tells its files or tells nothing; then the debug
+-- file below a root is that of some build id
+abbrev pub files_of : Option Asked → Option Files → List ℕ → List (List ℕ)
+files_of None files id = []
+files_of (Some (dump elf workers)) files id = elf ∷ []
+files_of (Some (dump_pair elf debug)) files id = elf ∷ debug_told files elf debug id
+files_of (Some (check sym)) files id = sym ∷ []
+files_of (Some (lookup sym address)) files id = sym ∷ []
+files_of (Some (frame sym address state)) files id = sym ∷ second_told files sym state
+files_of (Some (sample units workers)) files id = []
+files_of (Some (walk sym state)) files id = sym ∷ second_told files sym state
+files_of (Some (judge elf sym)) files id = elf ∷ dumped_told files elf sym
+files_of (Some (names sym)) files id = sym ∷ []
 
 -- the byte is a slash
 abbrev pub is_slash : ℕ → Bool

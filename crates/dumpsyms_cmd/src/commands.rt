@@ -1,18 +1,18 @@
 //! The words and the files, judged.
-ghost use Rattle.std.specs.Prelude.{◌≡◌, ◌≤◌, ℕ, Option, Some, None, Ok, false, IfOk, length, map};
+ghost use Rattle.std.specs.Prelude.{◌≡◌, ◌≤◌, ℕ, [], ◌∷◌, Option, Some, None, Ok, IfOk, map};
 ghost use Rattle.sym_edges.specs.Outside.{Files};
 ghost use Rattle.std.specs.String.{string_bytes};
 ghost use Rattle.elf_sections.specs.Image.{image};
-ghost use Rattle.dumpsyms_cmd.specs.Words.{command_of, files_of, dump, sample};
+ghost use Rattle.dumpsyms_cmd.specs.Words.{command_of, dump, sample};
 ghost use Rattle.debug_read.specs.DebugSays.{IsDebugRead};
-ghost use Rattle.dumpsyms_cmd.specs.Verdict.{LIMIT};
 ghost use Rattle.dumpsyms_cmd.specs.Judgement.{err_bytes};
 ghost use Rattle.dumpsyms_cmd.specs.internal.Judged.{Refuses, JudgesParts, JudgesBytes, AnswersStop, AnswersCommand};
-ghost use Rattle.dumpsyms_cmd.specs.Observed.{Asks};
+ghost use Rattle.dumpsyms_cmd.specs.Observed.{Asks, AsksRow};
 
 use crate::dump::assemble;
 use crate::judge_input::answer_judge;
 use crate::judgement::{Answer, Judgement, Message, Output};
+use crate::pair_input::answer_pair;
 use crate::refusals::{TOO_LONG, USAGE, debug_line, fault_line};
 use crate::sample::judge_sample;
 use crate::state_input::{Query, answer_query};
@@ -55,7 +55,7 @@ fn judge_records(
 }
 
 /// A dump of an image.
-fn judge_image<R: Threads + Sync, G: Gate + Sync>(
+pub(crate) fn judge_image<R: Threads + Sync, G: Gate + Sync>(
     rt: &R,
     alloc: Global,
     image: &Image<'_>,
@@ -83,7 +83,6 @@ pub(crate) fn judge_bytes<R: Threads + Sync, G: Gate + Sync>(
     gate: &G,
     workers: usize,
 ) -> Result<Judgement, OutOfMemory>
-    requires few { length bytes.now ≤ LIMIT }
     requires workers { (1 ≤ workers) × (workers ≤ 64) }
     ensures { IfOk result (λ j. JudgesBytes j name.now bytes.now) }
 {
@@ -117,7 +116,7 @@ fn answer_dump<R: Threads + Sync, S: Store, G: Gate + Sync>(
     gate: &G,
 ) -> Answer
     requires workers { (1 ≤ workers) × (workers ≤ 64) }
-    ensures asked { Asks (files_of (Some (dump elf.now workers)) (S.files store.old)) (S.asked store.old) (S.asked store.new) }
+    ensures asked { Asks (elf.now ∷ []) (S.asked store.old) (S.asked store.new) }
     ensures files { S.files store.new ≡ S.files store.old }
     ensures faults { S.faults store.old ≤ S.faults store.new }
     ensures answered { AnswersCommand result (Some (dump elf.now workers)) (S.files store.old) (S.faults store.old) (S.faults store.new) }
@@ -167,7 +166,7 @@ fn answer_usage() -> Answer
 }
 
 /// The answer to the words, over the files of the store. All memory that the program needs is taken here.
-#[tactic(auto, using(crate::proofs::JudgedLemmas::asks_none, crate::proofs::SampleLemmas::asks_nothing))]
+#[tactic(auto, using(crate::proofs::JudgedLemmas::asks_none, crate::proofs::JudgedLemmas::asks_row, crate::proofs::SampleLemmas::asks_nothing))]
 pub fn answer_words<R: Threads + Sync, S: Store, G: Gate + Sync>(
     rt: &R,
     alloc: Global,
@@ -175,7 +174,7 @@ pub fn answer_words<R: Threads + Sync, S: Store, G: Gate + Sync>(
     store: &mut S,
     gate: &G,
 ) -> Answer
-    ensures asked { Asks (files_of (command_of (map string_bytes words.now)) (S.files store.old)) (S.asked store.old) (S.asked store.new) }
+    ensures asked { AsksRow (command_of (map string_bytes words.now)) (S.files store.old) (S.asked store.old) (S.asked store.new) }
     ensures files { S.files store.new ≡ S.files store.old }
     ensures faults { S.faults store.old ≤ S.faults store.new }
     ensures answered { AnswersCommand result (command_of (map string_bytes words.now)) (S.files store.old) (S.faults store.old) (S.faults store.new) }
@@ -183,6 +182,7 @@ pub fn answer_words<R: Threads + Sync, S: Store, G: Gate + Sync>(
     match parse_words(words) {
         None => answer_usage(),
         Some(Command::Dump { elf, workers }) => answer_dump(rt, alloc, elf, workers, store, gate),
+        Some(Command::DumpPair { elf, debug }) => answer_pair(rt, alloc, elf, debug, store, gate),
         Some(Command::Sample { units, workers }) => answer_sample(rt, alloc, units, workers, gate),
         Some(Command::Check { sym }) => answer_symbols(alloc, sym, SymQuery::Check, store),
         Some(Command::Lookup { sym, address }) => {

@@ -1,6 +1,6 @@
 //! What is answered over an ELF file and a symbol file.
 ghost use Rattle.std.specs.Prelude.{◌≡◌, ◌≤◌, ℕ, List, [], ◌∷◌, Some};
-ghost use Rattle.dumpsyms_cmd.specs.Words.{files_of, dumped_told, judge};
+ghost use Rattle.dumpsyms_cmd.specs.Words.{dumped_told, judge};
 ghost use Rattle.dumpsyms_cmd.specs.commands.Dump.{DumpPromises};
 ghost use Rattle.dumpsyms_cmd.specs.Observed.{Asks};
 ghost use Rattle.dumpsyms_cmd.specs.internal.Judged.{AnswersCommand, AnswersSym};
@@ -62,7 +62,7 @@ pub(crate) fn answer_judge<R: Threads + Sync, S: Store, G: Gate + Sync>(
     store: &mut S,
     gate: &G,
 ) -> Answer
-    ensures asked { Asks (files_of (Some (judge elf.now sym.now)) (S.files store.old)) (S.asked store.old) (S.asked store.new) }
+    ensures asked { Asks (elf.now ∷ dumped_told (S.files store.old) elf.now sym.now) (S.asked store.old) (S.asked store.new) }
     ensures files { S.files store.new ≡ S.files store.old }
     ensures faults { S.faults store.old ≤ S.faults store.new }
     ensures answered { AnswersCommand result (Some (judge elf.now sym.now)) (S.files store.old) (S.faults store.old) (S.faults store.new) }

@@ -1,7 +1,8 @@
 //! The program: words and files in, a status and two texts out.
 //!
 //! `dump ELF` reads a file and its debugging information, by as many workers as the words say, makes the records of its symbol file
-//! (Breakpad's symbol_files.md) and writes them, or names the first fault. `check SYM`, `lookup SYM ADDR`, `frame SYM ADDR STATE` and
+//! (Breakpad's symbol_files.md) and writes them, or names the first fault; `dump ELF --debug FILE` and `dump ELF --debug-root DIR` take
+//! the debugging information of a stripped file from a second one of the same build. `check SYM`, `lookup SYM ADDR`, `frame SYM ADDR STATE` and
 //! `walk SYM STATE` read a symbol file of any tool, and print what a checker finds in it, what it names at an address, what its frame rules
 //! evaluate to there, and the frames of a stack by these rules. `sample N` counts what a dump of a made file of N units has.
 //!
@@ -11,7 +12,7 @@
 //!
 //! To read: `specs/Program.antt` with `program`, and a page for each command in `specs/commands/`; `words` and `commands`; `dump`, `omissions`
 //! and `refusals`; `symbol_input` with `check`, `lookup` and `names`, and `state_input` with `frame` and
-//! `walk`; `judge_input` with `judge`.
+//! `walk`; `pair_input` with the second file of `dump`, and `judge_input` with `judge`.
 #![tactic(auto)]
 
 // The program, its words, and what is found out before anything is written.
@@ -21,9 +22,10 @@ mod program;
 mod refusals;
 mod words;
 
-// `dump`, and `sample`.
+// `dump`, also with a separate debug file, and `sample`.
 mod dump;
 mod omissions;
+mod pair_input;
 mod read_back;
 mod sample;
 

@@ -1,6 +1,7 @@
-ghost use Rattle.std.specs.Prelude.{◌≡◌, ◌++◌, map, IfOk, OnOk};
+ghost use Rattle.std.specs.Prelude.{◌≡◌, ◌++◌, ◌∷◌, [], map, codes, IfOk, OnOk};
 ghost use Rattle.sym_records.specs.Canon.{spaced};
-ghost use Rattle.dumpsyms_cmd.specs.Refusals.{line, elf_line, dwarf_line, frame_line, debug_line, located_line, fault_at, text_line, state_line};
+ghost use Rattle.elf_sections.specs.FaultWords.{fault_word};
+ghost use Rattle.dumpsyms_cmd.specs.Refusals.{line, elf_line, debug_elf_line, dwarf_line, frame_line, debug_line, located_line, fault_at, text_line, state_line};
 
 use abbrev_units::DwarfFault;
 use debug_read::DebugFault;
@@ -26,18 +27,46 @@ pub const NO_RIP: &[u8] = b"refused walk no-rip\n";
 pub const USAGE: &[u8] =
     b"usage: dumpsyms dump ELF, check SYM, lookup SYM ADDR, frame SYM ADDR STATE, sample N, walk SYM STATE, judge ELF SYM, names SYM\n";
 
-/// The line that names an image fault.
-pub fn fault_line(alloc: Global, fault: ElfFault) -> Result<ByteText, AllocError>
-    ensures { IfOk result (λ text. text ≡ elf_line fault) }
+/// A line of what is refused and of an image fault.
+fn image_line(
+    alloc: Global,
+    refused: &'static [u8],
+    fault: ElfFault,
+) -> Result<ByteText, AllocError>
+    ensures { IfOk result (λ text. text ≡ line (refused.now ++ fault_word fault)) }
 {
     let (word, index) = fault.word();
-    let mut text = Vec::from_slice(alloc, b"refused elf ")?;
+    let mut text = Vec::from_slice(alloc, refused)?;
     text.extend_from_slice(word)?;
     if let Some(index) = index {
         let mut buffer = Buffer::new();
         text.extend_from_slice(buffer.format(index).as_bytes())?;
     }
     text.extend_from_slice(b"\n")?;
+    Ok(ByteText::of(text))
+}
+
+/// The line that names the fault of the image of an ELF file.
+pub fn fault_line(alloc: Global, fault: ElfFault) -> Result<ByteText, AllocError>
+    ensures { IfOk result (λ text. text ≡ elf_line fault) }
+{
+    image_line(alloc, b"refused elf ", fault)
+}
+
+/// The line that names the fault of the image of a separate debug file.
+pub fn debug_fault_line(alloc: Global, fault: ElfFault) -> Result<ByteText, AllocError>
+    ensures { IfOk result (λ text. text ≡ debug_elf_line fault) }
+{
+    image_line(alloc, b"refused debug ", fault)
+}
+
+/// The line that says by a word why a binary and a debug file are no pair.
+pub fn pair_line(alloc: Global, word: &'static [u8]) -> Result<ByteText, AllocError>
+    ensures { IfOk result (λ text. text ≡ line (spaced (codes "refused pair") (word.now ∷ []))) }
+{
+    let words = [word];
+    let mut text = Vec::new(alloc);
+    add_line(&mut text, b"refused pair", &words)?;
     Ok(ByteText::of(text))
 }
 

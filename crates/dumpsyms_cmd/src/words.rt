@@ -15,6 +15,13 @@ const MOST_WORKERS: usize = 64;
 /// The most units of a made file.
 const MOST_UNITS: usize = 20000;
 
+/// Where the separate debug file of a binary is: at a path, or below a root by the binary's build id.
+#[derive(Clone, Copy, Debug)]
+pub enum DebugPlace<'w> {
+    File { path: &'w str },
+    Root { root: &'w str },
+}
+
 /// What the words ask for, one variant a command.
 #[derive(Clone, Copy, Debug)]
 pub enum Command<'w> {
@@ -22,6 +29,11 @@ pub enum Command<'w> {
     Dump {
         elf: &'w str,
         workers: usize,
+    },
+    /// `dump ELF --debug FILE` and `dump ELF --debug-root DIR`
+    DumpPair {
+        elf: &'w str,
+        debug: DebugPlace<'w>,
     },
     /// `check SYM`
     Check {
@@ -191,7 +203,8 @@ fn parse_frame<'w>(sym: &'w str, address: &str, state: &'w str) -> Option<Comman
     }
 }
 
-/// The rows `dump ELF --workers N`, `sample N --workers W` and `frame SYM ADDR STATE`.
+/// The rows `dump ELF --workers N`, `sample N --workers W`, `frame SYM ADDR STATE`, `dump ELF --debug FILE` and
+/// `dump ELF --debug-root DIR`.
 fn parse_four<'w>(word: &str, name: &'w str, third: &str, fourth: &'w str) -> Option<Command<'w>>
     ensures { option_map command_view result ≡ four_words word.now name.now third.now fourth.now }
 {
@@ -203,6 +216,18 @@ fn parse_four<'w>(word: &str, name: &'w str, third: &str, fourth: &'w str) -> Op
     }
     if word == "frame" {
         return parse_frame(name, third, fourth);
+    }
+    if word == "dump" && third == "--debug" {
+        return Some(Command::DumpPair {
+            elf: name,
+            debug: DebugPlace::File { path: fourth },
+        });
+    }
+    if word == "dump" && third == "--debug-root" {
+        return Some(Command::DumpPair {
+            elf: name,
+            debug: DebugPlace::Root { root: fourth },
+        });
     }
     None
 }

@@ -7,6 +7,7 @@ mod OneRecords
 mod OneVerdict
 mod OneRun
 pub mod RowStepLemmas
+pub mod OwnDebugFile
 mod Plain
 mod Small
 mod WorkedWords
@@ -21,3 +22,4 @@ pub mod ComputingSymbols
 mod WorkedSymbolFiles
 mod WorkedStacks
 mod WorkedNames
+mod WorkedPairs

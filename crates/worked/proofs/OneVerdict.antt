@@ -1,19 +1,25 @@
 -- Words and files have one verdict.
 use Rattle.std.proofs.Common.{◌≡◌, ℕ, Bool, true, false, List, [], ◌++◌, Option, None, Some, Result, Ok, Err, length, nat_lt, refl, sym, ap, subst, ◌∙◌, zero, suc, inl, inr, arith}
 use Rattle.sym_edges.specs.Outside.{Files}
+use Rattle.sym_edges.specs.Results.{◌>>=◌}
 use Rattle.elf_sections.specs.Image.{ImageParts, parts_of, image_fault, image_by, image}
 use Rattle.elf_sections.specs.Programs.{base, code}
 use Rattle.elf_sections.specs.Sections.{sections}
 use Rattle.elf_sections.specs.declared.fault.ElfFault.{ElfFault}
+use Rattle.elf_sections.specs.Pair.{paired}
+use Rattle.debug_pair.specs.Pairing.{pair_fault, pair_by, pair_of}
+use Rattle.debug_pair.specs.declared.fault.PairFault.{PairFault}
 use Rattle.sym_records.specs.Canon.{canon_text}
 use Rattle.sym_records.specs.declared.line.SymLine.{SymLine}
 use Rattle.debug_read.specs.declared.fault.DebugFault.{DebugFault}
 use Rattle.debug_read.specs.DebugSays.{DebugSays, debug_says}
 use Rattle.debug_read.specs.Each.{Match}
-use Rattle.dumpsyms_cmd.specs.Words.{Asked, dump, command_of, module_name, check, lookup, frame, sample, walk, names, judge}
+use Rattle.dumpsyms_cmd.specs.Words.{Asked, dump, dump_pair, command_of, module_name, check, lookup, frame, sample, walk, names, judge}
 use Rattle.dumpsyms_cmd.specs.commands.Dump.{identity_lines, public_lines, frame_lines, CanonFile}
 use Rattle.dumpsyms_cmd.specs.Verdict.{Verdict, LIMIT}
-use Rattle.dumpsyms_cmd.specs.commands.Dump.{left_out, GivesText, IsDebugVerdict, IsImageVerdict, IsBytesVerdict, IsFileVerdict}
+use Rattle.dumpsyms_cmd.specs.Refusals.{elf_line, debug_elf_line, pair_line}
+use Rattle.dumpsyms_cmd.specs.ElfInput.{DebugFile, or_refused, unless_longer, file_image, elf_image, path_of, with_file, then_file, pair_image}
+use Rattle.dumpsyms_cmd.specs.commands.Dump.{left_out, GivesText, IsDebugVerdict, IsDumpVerdict, IsFileVerdict, IsPairVerdict}
 use Rattle.dumpsyms_cmd.specs.commands.Sample.{counts_line, IsCountsVerdict, IsImageCounts}
 use Rattle.dumpsyms_cmd.specs.commands.Judge.{ruling_verdict, IsReadVerdict, IsSymVerdict, IsTextVerdict, IsDumpedVerdict, IsJudgeVerdict}
 use Rattle.sym_rules.specs.declared.text_fault.TextFault.{TextFault}
@@ -70,17 +76,50 @@ one_debug : (says : Result DebugSays DebugFault) (parts : ImageParts) (name : Li
 one_debug (Err fault) parts name v w below p q = p ∙ sym q
 one_debug (Ok found) parts name v w below p q = one_text parts name found v w below p q
 
-one_image : (read : Result ImageParts ElfFault) (name : List ℕ) (v w : Verdict) → ((parts : ImageParts) → read ≡ Ok parts → EndBelow parts.code) → IsImageVerdict read name v → IsImageVerdict read name w → v ≡ w
-one_image (Err fault) name v w below p q = p ∙ sym q
-one_image (Ok parts) name v w below p q = one_debug (debug_says parts) parts name v w (below parts refl) p q
+one_given : (read : Result ImageParts Verdict) (name : List ℕ) (v w : Verdict) → ((parts : ImageParts) → read ≡ Ok parts → EndBelow parts.code) → IsDumpVerdict read name v → IsDumpVerdict read name w → v ≡ w
+one_given (Err ended) name v w below p q = p ∙ sym q
+one_given (Ok parts) name v w below p q = one_debug (debug_says parts) parts name v w (below parts refl) p q
 
-one_bytes : (longer : Bool) (name file : List ℕ) (v w : Verdict) → IsBytesVerdict longer name file v → IsBytesVerdict longer name file w → v ≡ w
-one_bytes true name file v w p q = p ∙ sym q
-one_bytes false name file v w p q = one_image (image file) name v w (image_ends file) p q
+-- the image that files give has code that ends below 2^64
+read_ends : (line : ElfFault → List ℕ) (read : Result ImageParts ElfFault) (parts : ImageParts) → ((p : ImageParts) → read ≡ Ok p → EndBelow p.code) → or_refused line read ≡ Ok parts → EndBelow parts.code
+read_ends line (Ok other) parts below is = (let same : other ≡ parts = cc in subst (λ (p : ImageParts). EndBelow p.code) same (below other refl))
+read_ends line (Err fault) parts below is = absurd (cc)
+
+longer_ends : (longer : Bool) (line : ElfFault → List ℕ) (bytes : List ℕ) (parts : ImageParts) → unless_longer longer (or_refused line (image bytes)) ≡ Ok parts → EndBelow parts.code
+longer_ends true line bytes parts is = absurd (cc)
+longer_ends false line bytes parts is = read_ends line (image bytes) parts (image_ends bytes) is
+
+file_ends : (line : ElfFault → List ℕ) (file : Option (List ℕ)) (parts : ImageParts) → file_image line file ≡ Ok parts → EndBelow parts.code
+file_ends line None parts is = absurd (cc)
+file_ends line (Some bytes) parts is = longer_ends (nat_lt LIMIT (length bytes)) line bytes parts is
+
+-- the code of a pair is the binary's
+paired_ends : (binary debug : ImageParts) → EndBelow binary.code → EndBelow (paired binary debug).code
+unfolding paired
+paired_ends binary debug below = below
+
+fault_ends : (fault : Option PairFault) (binary debug parts : ImageParts) → EndBelow binary.code → or_refused pair_line (pair_by fault (paired binary debug)) ≡ Ok parts → EndBelow parts.code
+fault_ends None binary debug parts below is = (let same : paired binary debug ≡ parts = cc in subst (λ (p : ImageParts). EndBelow p.code) same (paired_ends binary debug below))
+fault_ends (Some fault) binary debug parts below is = absurd (cc)
+
+debug_ends : (read : Result ImageParts Verdict) (binary parts : ImageParts) → EndBelow binary.code → (read >>= (λ debug. or_refused pair_line (pair_of binary debug))) ≡ Ok parts → EndBelow parts.code
+debug_ends (Ok debug) binary parts below is = fault_ends (pair_fault binary.build_id debug.build_id) binary debug parts below is
+debug_ends (Err ended) binary parts below is = absurd (cc)
+
+path_ends : (found : Result (List ℕ) Verdict) (binary : ImageParts) (files : Files) (parts : ImageParts) → EndBelow binary.code → (found >>= (λ path. with_file binary (files path))) ≡ Ok parts → EndBelow parts.code
+path_ends (Ok path) binary files parts below is = debug_ends (file_image debug_elf_line (files path)) binary parts below is
+path_ends (Err ended) binary files parts below is = absurd (cc)
+
+binary_ends : (read : Result ImageParts Verdict) (debug : DebugFile) (files : Files) (parts : ImageParts) → ((p : ImageParts) → read ≡ Ok p → EndBelow p.code) → (read >>= (λ binary. then_file binary (path_of debug binary) files)) ≡ Ok parts → EndBelow parts.code
+binary_ends (Ok binary) debug files parts below is = path_ends (path_of debug binary) binary files parts (below binary refl) is
+binary_ends (Err ended) debug files parts below is = absurd (cc)
 
 one_file : (elf : List ℕ) (file : Option (List ℕ)) (v w : Verdict) → IsFileVerdict elf file v → IsFileVerdict elf file w → v ≡ w
-one_file elf None v w p q = p ∙ sym q
-one_file elf (Some file) v w p q = one_bytes (nat_lt LIMIT (length file)) (module_name elf) file v w p q
+one_file elf file v w p q = one_given (file_image elf_line file) (module_name elf) v w (file_ends elf_line file) p q
+
+one_pair : (elf : List ℕ) (debug : DebugFile) (files : Files) (v w : Verdict) → IsPairVerdict elf debug files v → IsPairVerdict elf debug files w → v ≡ w
+one_pair elf debug files v w p q =
+    one_given (pair_image elf debug files) (module_name elf) v w (λ parts is. binary_ends (elf_image elf files) debug files parts (file_ends elf_line (files elf)) is) p q
 
 -- the counts of a made file
 abbrev counted : ImageParts → DebugSays → List SymLine → Verdict
@@ -147,6 +186,7 @@ alike (Some c) = refl
 -- the number of workers does not matter
 any_workers : (c : Asked) (files : Files) (v : Verdict) → IsVerdict (Some c) files v → IsVerdict (Some (by_one_worker c)) files v
 any_workers (dump elf workers) files v is = is
+any_workers (dump_pair elf debug) files v is = is
 any_workers (check sym) files v is = is
 any_workers (lookup sym address) files v is = is
 any_workers (frame sym address state) files v is = is
@@ -157,6 +197,7 @@ any_workers (names sym) files v is = is
 
 one_command : (c : Asked) (files : Files) (v w : Verdict) → IsVerdict (Some c) files v → IsVerdict (Some c) files w → v ≡ w
 one_command (dump elf workers) files v w p q = one_file elf (files elf) v w p q
+one_command (dump_pair elf debug) files v w p q = one_pair elf debug files v w p q
 one_command (check name) files v w p q = p ∙ sym q
 one_command (lookup name address) files v w p q = p ∙ sym q
 one_command (frame name address state) files v w p q = p ∙ sym q

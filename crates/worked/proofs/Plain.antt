@@ -1,11 +1,10 @@
 -- The verdict of words and files, computed: of a dump where nothing of a unit is dumped (no unit of the file is read, or it is refused), and of
 -- the commands over symbol files.
-use Rattle.std.specs.Prelude.{◌≡◌, ℕ, length, nat_lt, Bool, true, false, List, [], ◌∷◌, ◌++◌, Option, Some, None, Result, Ok, Err}
+use Rattle.std.specs.Prelude.{◌≡◌, ℕ, List, [], ◌∷◌, ◌++◌, Option, Some, None, Result, Ok, Err}
 use Rattle.std.proofs.Common.{refl, sym, subst}
 use Rattle.std.specs.List.Sorted.{IsStrictlySortedBy}
 use Rattle.sym_edges.specs.Outside.{Files}
-use Rattle.elf_sections.specs.Image.{ImageParts, image}
-use Rattle.elf_sections.specs.declared.fault.ElfFault.{ElfFault}
+use Rattle.elf_sections.specs.Image.{ImageParts}
 use Rattle.debug_read.specs.declared.fault.DebugFault.{DebugFault}
 use Rattle.debug_read.specs.DebugSays.{DebugSays, debug_says}
 use Rattle.debug_read.specs.Each.{Match}
@@ -16,7 +15,7 @@ use Rattle.func_flatten.specs.Pieces.{owner_place, ArePieces}
 use Rattle.func_records.specs.FuncRecords.{AreFuncRecords}
 use Rattle.sym_records.specs.Canon.{canon_text}
 use Rattle.sym_records.specs.declared.line.SymLine.{SymLine}
-use Rattle.dumpsyms_cmd.specs.Words.{Asked, dump, check, lookup, frame, sample, walk, names, command_of, module_name, judge}
+use Rattle.dumpsyms_cmd.specs.Words.{Asked, dump, dump_pair, check, lookup, frame, sample, walk, names, command_of, module_name, judge}
 use Rattle.dumpsyms_cmd.specs.SymbolInput.{file_verdict as checked}
 use Rattle.dumpsyms_cmd.specs.commands.Check.{check_answer}
 use Rattle.dumpsyms_cmd.specs.commands.Lookup.{lookup_answer}
@@ -24,10 +23,11 @@ use Rattle.dumpsyms_cmd.specs.StateInput.{both_verdict}
 use Rattle.dumpsyms_cmd.specs.commands.Frame.{frame_answer}
 use Rattle.dumpsyms_cmd.specs.commands.Walk.{walk_answer}
 use Rattle.dumpsyms_cmd.specs.commands.Names.{names_answer}
-use Rattle.dumpsyms_cmd.specs.Refusals.{elf_line, debug_line, too_long_line}
+use Rattle.dumpsyms_cmd.specs.Refusals.{debug_line}
 use Rattle.dumpsyms_cmd.specs.commands.Dump.{identity_lines, public_lines, frame_lines, CanonFile}
-use Rattle.dumpsyms_cmd.specs.Verdict.{Verdict, refused, usage, unread, LIMIT}
-use Rattle.dumpsyms_cmd.specs.commands.Dump.{left_out, GivesText, IsDebugVerdict, IsImageVerdict, IsBytesVerdict, IsFileVerdict}
+use Rattle.dumpsyms_cmd.specs.Verdict.{Verdict, refused, usage}
+use Rattle.dumpsyms_cmd.specs.ElfInput.{elf_image, pair_image}
+use Rattle.dumpsyms_cmd.specs.commands.Dump.{left_out, GivesText, IsDebugVerdict, IsDumpVerdict}
 use Rattle.dumpsyms_cmd.specs.Answers.{IsVerdict}
 use Rattle.worked.proofs.OneVerdict.{one_verdict}
 
@@ -44,21 +44,14 @@ abbrev pub debug_verdict : Result DebugSays DebugFault → ImageParts → List �
 debug_verdict (Err fault) parts name = Some (refused (debug_line fault))
 debug_verdict (Ok found) parts name = found_verdict found.units parts name found
 
-abbrev pub image_verdict : Result ImageParts ElfFault → List ℕ → Option Verdict
-image_verdict (Err fault) name = Some (refused (elf_line fault))
+abbrev pub image_verdict : Result ImageParts Verdict → List ℕ → Option Verdict
+image_verdict (Err ended) name = Some ended
 image_verdict (Ok parts) name = debug_verdict (debug_says parts) parts name
-
-abbrev pub bytes_verdict : Bool → List ℕ → List ℕ → Option Verdict
-bytes_verdict true name file = Some (refused too_long_line)
-bytes_verdict false name file = image_verdict (image file) name
-
-abbrev pub file_verdict : List ℕ → Option (List ℕ) → Option Verdict
-file_verdict elf None = Some unread
-file_verdict elf (Some file) = bytes_verdict (nat_lt LIMIT (length file)) (module_name elf) file
 
 abbrev pub command_verdict : Option Asked → Files → Option Verdict
 command_verdict None files = Some usage
-command_verdict (Some (dump elf workers)) files = file_verdict elf (files elf)
+command_verdict (Some (dump elf workers)) files = image_verdict (elf_image elf files) (module_name elf)
+command_verdict (Some (dump_pair elf debug)) files = image_verdict (pair_image elf debug files) (module_name elf)
 command_verdict (Some (check name)) files = Some (checked check_answer (files name))
 command_verdict (Some (lookup name address)) files = Some (checked (lookup_answer address) (files name))
 command_verdict (Some (frame name address state)) files = Some (both_verdict (frame_answer address) (files name) (files state))
@@ -114,21 +107,14 @@ debug_is : (says : Result DebugSays DebugFault) (parts : ImageParts) (name : Lis
 debug_is (Err fault) parts name v is = the_same is
 debug_is (Ok found) parts name v is = found_is found.units parts name found v refl is
 
-image_is : (read : Result ImageParts ElfFault) (name : List ℕ) (v : Verdict) → image_verdict read name ≡ Some v → IsImageVerdict read name v
-image_is (Err fault) name v is = the_same is
+image_is : (read : Result ImageParts Verdict) (name : List ℕ) (v : Verdict) → image_verdict read name ≡ Some v → IsDumpVerdict read name v
+image_is (Err ended) name v is = the_same is
 image_is (Ok parts) name v is = debug_is (debug_says parts) parts name v is
-
-bytes_is : (longer : Bool) (name file : List ℕ) (v : Verdict) → bytes_verdict longer name file ≡ Some v → IsBytesVerdict longer name file v
-bytes_is true name file v is = the_same is
-bytes_is false name file v is = image_is (image file) name v is
-
-file_is : (elf : List ℕ) (file : Option (List ℕ)) (v : Verdict) → file_verdict elf file ≡ Some v → IsFileVerdict elf file v
-file_is elf None v is = the_same is
-file_is elf (Some file) v is = bytes_is (nat_lt LIMIT (length file)) (module_name elf) file v is
 
 command_is : (command : Option Asked) (files : Files) (v : Verdict) → command_verdict command files ≡ Some v → IsVerdict command files v
 command_is None files v is = the_same is
-command_is (Some (dump elf workers)) files v is = file_is elf (files elf) v is
+command_is (Some (dump elf workers)) files v is = image_is (elf_image elf files) (module_name elf) v is
+command_is (Some (dump_pair elf debug)) files v is = image_is (pair_image elf debug files) (module_name elf) v is
 command_is (Some (check name)) files v is = the_same is
 command_is (Some (lookup name address)) files v is = the_same is
 command_is (Some (frame name address state)) files v is = the_same is

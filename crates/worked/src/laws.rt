@@ -1,13 +1,14 @@
 //! What holds of all runs of the program, and of what its commands say of each other's texts. Each function does nothing: its contract is the law.
-ghost use Rattle.std.specs.Prelude.{◌≡◌, ◌<◌, ℕ, List, Some};
+ghost use Rattle.std.specs.Prelude.{◌≡◌, ◌<◌, ◌↔◌, ℕ, List, Some, IsSome, Ok};
 ghost use Rattle.sym_edges.specs.Outside.{Files};
-ghost use Rattle.elf_sections.specs.Image.{ImageParts};
+ghost use Rattle.elf_sections.specs.Image.{ImageParts, image};
 ghost use Rattle.sym_records.specs.declared.line.SymLine.{SymLine};
 ghost use Rattle.state_file.specs.declared.state.State.{State};
 ghost use Rattle.stack_walk.specs.declared.steps.Walk.{Walk};
 ghost use Rattle.stack_walk.specs.Walk.{walk_of};
 ghost use Rattle.dumpsyms_cmd.specs.commands.Dump.{DumpsParts, written_of};
-ghost use Rattle.dumpsyms_cmd.specs.Words.{command_of};
+ghost use Rattle.dumpsyms_cmd.specs.Words.{command_of, dump, dump_pair};
+ghost use Rattle.dumpsyms_cmd.specs.ElfInput.{DebugFile, path_of};
 ghost use Rattle.dumpsyms_cmd.specs.Verdict.{Verdict};
 ghost use Rattle.dumpsyms_cmd.specs.Answers.{IsVerdict};
 ghost use Rattle.dumpsyms_cmd.specs.Program.{Run, Promises};
@@ -24,6 +25,13 @@ pub fn verdicts_are_one()
 /// that both come to status 0, 1 or 2, answer the same status and leave the same in their sinks.
 pub fn judging_runs_end_alike()
     ensures { (one other : Run) → Promises one → Promises other → RunAlike one other → one.status < 3 → other.status < 3 → EndAlike one other }
+{}
+
+/// Where the debug file of a binary is the binary itself, and that has a build id, the verdict is that of the binary alone.
+pub fn own_debug_files_change_nothing()
+    ensures { (elf file path : List ℕ) (debug : DebugFile) (workers : ℕ) (files : Files) (parts : ImageParts) (v : Verdict) →
+        files elf ≡ Some file → image file ≡ Ok parts → IsSome parts.build_id → path_of debug parts ≡ Ok path → files path ≡ Some file →
+        IsVerdict (Some (dump_pair elf debug)) files v ↔ IsVerdict (Some (dump elf workers)) files v }
 {}
 
 /// A walk over the records that `dump` writes, from any state, unwinds as DWARF says: at each step inside a written frame entry it has the CFA, the

@@ -1,9 +1,9 @@
--- `dump ELF`: the records of a dumped file (Breakpad's symbol_files.md), the verdict of a dump, and what the text that it writes means.
-use Rattle.std.specs.Prelude.{◌≡◌, ℕ, ◌-◌, ◌≤◌, length, nat_lt, Bool, true, false, List, [], ◌∷◌, ◌++◌, Option, Some, None, Result, Ok, Err, map, slice_index, codes}
+-- `dump ELF`, `dump ELF --debug FILE` and `dump ELF --debug-root DIR`: the records of an image (Breakpad's symbol_files.md), the verdict of a dump,
+-- and what the text that it writes means. All three speak of an image; `ElfInput` says which it is.
+use Rattle.std.specs.Prelude.{◌≡◌, ℕ, ◌-◌, length, List, [], ◌∷◌, ◌++◌, Option, Some, None, Result, Ok, Err, map, slice_index, codes}
 use Rattle.hex.specs.Hex.{encode_upper}
 use Rattle.sym_edges.specs.Outside.{Files, Tells}
-use Rattle.elf_sections.specs.Image.{ImageParts, image}
-use Rattle.elf_sections.specs.declared.fault.ElfFault.{ElfFault}
+use Rattle.elf_sections.specs.Image.{ImageParts}
 use Rattle.clean_names.specs.Cleaning.{cleaned}
 use Rattle.sym_records.specs.Canon.{canon_text}
 use Rattle.sym_records.specs.Reading.{reading}
@@ -25,8 +25,9 @@ use Rattle.debug_read.specs.UnitsRead.{IsUnitRead}
 use Rattle.debug_read.specs.DebugSays.{DebugSays, debug_says}
 use Rattle.debug_read.specs.declared.fault.DebugFault.{DebugFault}
 use Rattle.dumpsyms_cmd.specs.Words.{module_name}
-use Rattle.dumpsyms_cmd.specs.Refusals.{elf_line, debug_line, omitted_text, skipped_text, too_long_line}
-use Rattle.dumpsyms_cmd.specs.Verdict.{Verdict, refused, unread, LIMIT}
+use Rattle.dumpsyms_cmd.specs.Refusals.{elf_line, debug_line, omitted_text, skipped_text}
+use Rattle.dumpsyms_cmd.specs.Verdict.{Verdict, refused}
+use Rattle.dumpsyms_cmd.specs.ElfInput.{DebugFile, file_image, elf_image, pair_image}
 use Rattle.dumpsyms_cmd.specs.Judgement.{Judges}
 use Rattle.dumpsyms_cmd.specs.declared.judgement.Judgement.{Judgement}
 
@@ -101,23 +102,18 @@ IsDebugVerdict (Ok found) parts name v = GivesText parts name found v
 abbrev pub IsPartsVerdict : ImageParts → List ℕ → Verdict → Type 0
 IsPartsVerdict parts name v = IsDebugVerdict (debug_says parts) parts name v
 
--- by the image
-abbrev pub IsImageVerdict : Result ImageParts ElfFault → List ℕ → Verdict → Type 0
-IsImageVerdict (Err fault) name v = v ≡ refused (elf_line fault)
-IsImageVerdict (Ok parts) name v = IsPartsVerdict parts name v
+-- by the image that the files give, or by the verdict where they give none
+abbrev pub IsDumpVerdict : Result ImageParts Verdict → List ℕ → Verdict → Type 0
+IsDumpVerdict (Err ended) name v = v ≡ ended
+IsDumpVerdict (Ok parts) name v = IsPartsVerdict parts name v
 
--- the verdict of a dump, by the bytes of the file and whether they pass the limit
-abbrev pub IsBytesVerdict : Bool → List ℕ → List ℕ → Verdict → Type 0
-IsBytesVerdict true name file v = v ≡ refused too_long_line
-IsBytesVerdict false name file v = IsImageVerdict (image file) name v
-
-abbrev pub IsDumpVerdict : ℕ → List ℕ → List ℕ → Verdict → Type 0
-IsDumpVerdict limit name file v = IsBytesVerdict (nat_lt limit (length file)) name file v
-
--- the same, where the file is there
+-- the verdict of a dump of an ELF file
 abbrev pub IsFileVerdict : List ℕ → Option (List ℕ) → Verdict → Type 0
-IsFileVerdict elf None v = v ≡ unread
-IsFileVerdict elf (Some file) v = IsDumpVerdict LIMIT (module_name elf) file v
+IsFileVerdict elf file v = IsDumpVerdict (file_image elf_line file) (module_name elf) v
+
+-- that of a dump of a stripped ELF file with its separate debug file
+abbrev pub IsPairVerdict : List ℕ → DebugFile → Files → Verdict → Type 0
+IsPairVerdict elf debug files v = IsDumpVerdict (pair_image elf debug files) (module_name elf) v
 
 -- the records of an image, and the text on what is left out; what the records say of frames, and that evaluating them gives at each address of
 -- a written entry, for all registers and all memory, what DWARF's row there gives; and what a look-up in them names: at each address the
@@ -138,22 +134,26 @@ pub record Assembles (parts : ImageParts) (name : List ℕ) (lines : List SymLin
   pub dumps : DumpsParts parts name lines text
   pub counted : (found : DebugSays) → debug_says parts ≡ Ok found → count ≡ length (omitted parts.code found.first found.second)
 
--- the same of the bytes of a file
-pub record DumpsImage (bytes name : List ℕ) (lines : List SymLine) (text : List ℕ) : Type 0 where
+-- the same of the image that files give
+pub record DumpsImage (given : Result ImageParts Verdict) (name : List ℕ) (lines : List SymLine) (text : List ℕ) : Type 0 where
   pub parts : ImageParts
-  pub image_is : image bytes ≡ Ok parts
+  pub image_is : given ≡ Ok parts
   pub dumps : DumpsParts parts name lines text
 
--- the file is there, and its records and the text on what is left out are these
-pub record DumpsFile (elf : List ℕ) (files : Files) (lines : List SymLine) (text : List ℕ) : Type 0 where
-  pub file : List ℕ
-  pub there : files elf ≡ Some file
-  pub few : length file ≤ LIMIT
-  pub dumps : DumpsImage file (module_name elf) lines text
+-- the ELF file is there, and its records and the text on what is left out are these
+abbrev pub DumpsFile : List ℕ → Files → List SymLine → List ℕ → Type 0
+DumpsFile elf files lines text = DumpsImage (elf_image elf files) (module_name elf) lines text
 
--- what `dump` promises of its verdict: a refusal with nothing on out; or status 0 with the canonical text of records that reads back
--- as them, which are the file's where the store tells its files
+-- what a dump promises of its judgement, by the image that the files give: a refusal with nothing on out; or status 0 with the canonical text of
+-- records that reads back as them, which are the image's where the store tells its files
+abbrev pub ImagePromises : (Files → Result ImageParts Verdict) → List ℕ → Option Files → Judgement → Type 0
+ImagePromises given name files j = Judges j
+    (λ err. Tells files (λ f. IsDumpVerdict (given f) name (refused err)))
+    (λ lines err. (reading (canon_text lines) ≡ Ok lines) × Tells files (λ f. DumpsImage (given f) name lines err))
+
+-- of an ELF file alone, and with a debug file
 abbrev pub DumpPromises : List ℕ → Option Files → Judgement → Type 0
-DumpPromises elf files j = Judges j
-    (λ err. Tells files (λ f. IsFileVerdict elf (f elf) (refused err)))
-    (λ lines err. (reading (canon_text lines) ≡ Ok lines) × Tells files (λ f. DumpsFile elf f lines err))
+DumpPromises elf files j = ImagePromises (elf_image elf) (module_name elf) files j
+
+abbrev pub PairPromises : List ℕ → DebugFile → Option Files → Judgement → Type 0
+PairPromises elf debug files j = ImagePromises (pair_image elf debug) (module_name elf) files j

@@ -6,14 +6,17 @@ use Rattle.sym_edges.specs.declared.fault.Stop.TheVariants.{Fault}
 use Rattle.sym_edges.specs.declared.fault.Stop.TheVariants as stop
 use Rattle.sym_edges.specs.declared.reading.ReadEnd.{ReadEnd}
 use Rattle.sym_edges.specs.declared.reading.ReadEnd.TheVariants.{CantOpen, CantRead, TooLong}
-use Rattle.elf_sections.specs.Image.{ImageParts}
+use Rattle.sym_edges.specs.Results.{◌>>=◌}
+use Rattle.elf_sections.specs.Image.{ImageParts, image}
+use Rattle.debug_pair.specs.Pairing.{pair_of}
 use Rattle.sym_records.specs.declared.line.SymLine.{SymLine}
 use Rattle.sym_grammar.specs.declared.refusal.SymEnd.{SymEnd}
 use Rattle.sym_grammar.specs.declared.refusal.SymEnd.TheVariants as end
 use Rattle.state_file.specs.declared.state.State.{State}
 use Rattle.dumpsyms_cmd.specs.Words.{Asked, check, lookup, frame, walk, names}
-use Rattle.dumpsyms_cmd.specs.Refusals.{too_long_line}
-use Rattle.dumpsyms_cmd.specs.Verdict.{Verdict, refused, unread, no_memory, LIMIT}
+use Rattle.dumpsyms_cmd.specs.Refusals.{elf_line, debug_elf_line, pair_line, too_long_line}
+use Rattle.dumpsyms_cmd.specs.Verdict.{Verdict, refused, unread, no_memory}
+use Rattle.dumpsyms_cmd.specs.ElfInput.{or_refused}
 use Rattle.dumpsyms_cmd.specs.Judgement.{err_bytes, is_some_output, judgement_verdict, Judges}
 use Rattle.dumpsyms_cmd.specs.SymbolInput.{refusal_line}
 use Rattle.dumpsyms_cmd.specs.StateInput.{state_answer}
@@ -24,7 +27,7 @@ use Rattle.dumpsyms_cmd.specs.commands.Frame.{frame_answer}
 use Rattle.dumpsyms_cmd.specs.commands.Walk.{walk_answer}
 use Rattle.dumpsyms_cmd.specs.commands.Judge.{JudgesSym}
 use Rattle.dumpsyms_cmd.specs.Answers.{IsVerdict, CommandPromises}
-use Rattle.dumpsyms_cmd.specs.commands.Dump.{IsPartsVerdict, IsDumpVerdict, DumpsParts, DumpsImage}
+use Rattle.dumpsyms_cmd.specs.commands.Dump.{IsPartsVerdict, IsDumpVerdict, DumpsParts, DumpsImage, ImagePromises}
 use Rattle.dumpsyms_cmd.specs.declared.symbol_input.SymQuery.{SymQuery}
 use Rattle.dumpsyms_cmd.specs.declared.symbol_input.SymQuery.TheVariants.{Check, Lookup, Names}
 use Rattle.dumpsyms_cmd.specs.declared.state_input.Query.{Query}
@@ -55,9 +58,17 @@ pub record Refuses (j : Judgement) (text : List ℕ) : Type 0 where
 abbrev pub JudgesParts : Judgement → List ℕ → ImageParts → Type 0
 JudgesParts j name parts = Judges j (λ err. IsPartsVerdict parts name (refused err)) (DumpsParts parts name)
 
--- a judgement on the bytes of a file
+-- a judgement on an image that is given, or on the verdict where none is
+abbrev pub JudgesImage : Judgement → List ℕ → Result ImageParts Verdict → Type 0
+JudgesImage j name given = Judges j (λ err. IsDumpVerdict given name (refused err)) (DumpsImage given name)
+
+-- a judgement on the bytes of a file, and one on a binary and the bytes of its debug file
 abbrev pub JudgesBytes : Judgement → List ℕ → List ℕ → Type 0
-JudgesBytes j name bytes = Judges j (λ err. IsDumpVerdict LIMIT name bytes (refused err)) (DumpsImage bytes name)
+JudgesBytes j name bytes = JudgesImage j name (or_refused elf_line (image bytes))
+
+abbrev pub JudgesPair : Judgement → List ℕ → ImageParts → List ℕ → Type 0
+JudgesPair j name binary bytes =
+    JudgesImage j name (or_refused debug_elf_line (image bytes) >>= (λ debug. or_refused pair_line (pair_of binary debug)))
 
 -- what is known of a judgement: it has status 0, 1 or 2, the last for invalid arguments alone; it is the verdict where the store
 -- tells its files; and it keeps the command's promises
@@ -72,6 +83,19 @@ abbrev pub AnswersCommand : Answer → Option Asked → Option Files → ℕ →
 AnswersCommand (Judged j) command files before after = IsJudged j command files
 AnswersCommand Unread command files before after = IsSome command × Rose before after
 AnswersCommand NoMemory command files before after = IsSome command
+
+-- what an answer says of the image that files give
+abbrev pub AnswersImage : Answer → (Files → Result ImageParts Verdict) → List ℕ → Option Files → ℕ → ℕ → Type 0
+AnswersImage (Judged j) given name files before after = ImagePromises given name files j
+AnswersImage Unread given name files before after = Rose before after
+AnswersImage NoMemory given name files before after = Unit {0}
+
+-- an answer is a refusal with a line that was made, or memory ran out
+abbrev pub AnswersMade : {F : Type 0} → Answer → Result (List ℕ) F → Type 0
+AnswersMade (Judged j) (Ok line) = Refuses j line
+AnswersMade (Judged j) (Err e) = ⊥
+AnswersMade Unread made = ⊥
+AnswersMade NoMemory made = Unit {0}
 
 -- what an answer says of a file that could not be read whole
 abbrev pub AnswersStop : Answer → Stop ReadEnd → Type 0
