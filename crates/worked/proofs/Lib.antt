@@ -7,6 +7,7 @@ mod OneRecords
 mod OneVerdict
 mod OneRun
 pub mod RowStepLemmas
+mod PlainJudge
 mod Plain
 mod Small
 mod WorkedWords
@@ -16,6 +17,7 @@ mod WorkedFrames
 mod WorkedHeaders
 mod WorkedFaults
 mod WorkedIds
+mod WorkedJudgements
 mod WorkedDebug
 pub mod ComputingSymbols
 mod WorkedSymbolFiles

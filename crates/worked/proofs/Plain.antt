@@ -23,12 +23,14 @@ use Rattle.dumpsyms_cmd.specs.commands.Lookup.{lookup_answer}
 use Rattle.dumpsyms_cmd.specs.StateInput.{both_verdict}
 use Rattle.dumpsyms_cmd.specs.commands.Frame.{frame_answer}
 use Rattle.dumpsyms_cmd.specs.commands.Walk.{walk_answer}
+use Rattle.dumpsyms_cmd.specs.commands.Judge.{IsJudgeVerdict}
 use Rattle.dumpsyms_cmd.specs.commands.Names.{names_answer}
 use Rattle.dumpsyms_cmd.specs.Refusals.{elf_line, debug_line, too_long_line}
 use Rattle.dumpsyms_cmd.specs.commands.Dump.{identity_lines, public_lines, frame_lines, CanonFile}
 use Rattle.dumpsyms_cmd.specs.Verdict.{Verdict, refused, usage, unread, LIMIT}
 use Rattle.dumpsyms_cmd.specs.commands.Dump.{left_out, GivesText, IsDebugVerdict, IsImageVerdict, IsBytesVerdict, IsFileVerdict}
 use Rattle.dumpsyms_cmd.specs.Answers.{IsVerdict}
+use Rattle.worked.proofs.PlainJudge.{dumped_verdict, dumped_is}
 use Rattle.worked.proofs.OneVerdict.{one_verdict}
 
 -- the records of a file of which no unit is read
@@ -56,6 +58,11 @@ abbrev pub file_verdict : List ℕ → Option (List ℕ) → Option Verdict
 file_verdict elf None = Some unread
 file_verdict elf (Some file) = bytes_verdict (nat_lt LIMIT (length file)) (module_name elf) file
 
+-- of `judge` by that of `dump`
+abbrev pub judge_verdict : Option Verdict → Option (List ℕ) → Option Verdict
+judge_verdict None bytes = None
+judge_verdict (Some dumped) bytes = dumped_verdict dumped.status dumped bytes
+
 abbrev pub command_verdict : Option Asked → Files → Option Verdict
 command_verdict None files = Some usage
 command_verdict (Some (dump elf workers)) files = file_verdict elf (files elf)
@@ -64,7 +71,7 @@ command_verdict (Some (lookup name address)) files = Some (checked (lookup_answe
 command_verdict (Some (frame name address state)) files = Some (both_verdict (frame_answer address) (files name) (files state))
 command_verdict (Some (sample units workers)) files = None
 command_verdict (Some (walk name state)) files = Some (both_verdict walk_answer (files name) (files state))
-command_verdict (Some (judge elf name)) files = None
+command_verdict (Some (judge elf name)) files = judge_verdict (file_verdict elf (files elf)) (files name)
 command_verdict (Some (names name)) files = Some (checked names_answer (files name))
 
 abbrev pub plain_verdict : List (List ℕ) → Files → Option Verdict
@@ -126,6 +133,10 @@ file_is : (elf : List ℕ) (file : Option (List ℕ)) (v : Verdict) → file_ver
 file_is elf None v is = the_same is
 file_is elf (Some file) v is = bytes_is (nat_lt LIMIT (length file)) (module_name elf) file v is
 
+judge_is : (elf : List ℕ) (file bytes : Option (List ℕ)) (v : Verdict) (dumped : Option Verdict) → file_verdict elf file ≡ dumped → judge_verdict dumped bytes ≡ Some v → IsJudgeVerdict elf file bytes v
+judge_is elf file bytes v None told is = absurd (not_told is)
+judge_is elf file bytes v (Some dumped) told is = record { dumped = dumped; dumped_is = file_is elf file dumped told; is = dumped_is dumped.status dumped bytes v is }
+
 command_is : (command : Option Asked) (files : Files) (v : Verdict) → command_verdict command files ≡ Some v → IsVerdict command files v
 command_is None files v is = the_same is
 command_is (Some (dump elf workers)) files v is = file_is elf (files elf) v is
@@ -134,7 +145,7 @@ command_is (Some (lookup name address)) files v is = the_same is
 command_is (Some (frame name address state)) files v is = the_same is
 command_is (Some (sample units workers)) files v is = absurd (not_told is)
 command_is (Some (walk name state)) files v is = the_same is
-command_is (Some (judge elf name)) files v is = absurd (not_told is)
+command_is (Some (judge elf name)) files v is = judge_is elf (files elf) (files name) v (file_verdict elf (files elf)) refl is
 command_is (Some (names name)) files v is = the_same is
 
 -- a verdict that is computed is that of the words and files
