@@ -8,6 +8,7 @@ mod OneVerdict
 mod OneRun
 pub mod RowStepLemmas
 pub mod OwnDebugFile
+mod PlainJudge
 mod Plain
 mod Small
 mod WorkedWords
@@ -17,6 +18,7 @@ mod WorkedFrames
 mod WorkedHeaders
 mod WorkedFaults
 mod WorkedIds
+mod WorkedJudgements
 mod WorkedDebug
 pub mod ComputingSymbols
 mod WorkedSymbolFiles

@@ -22,6 +22,7 @@ use Rattle.dumpsyms_cmd.specs.commands.Lookup.{lookup_answer}
 use Rattle.dumpsyms_cmd.specs.StateInput.{both_verdict}
 use Rattle.dumpsyms_cmd.specs.commands.Frame.{frame_answer}
 use Rattle.dumpsyms_cmd.specs.commands.Walk.{walk_answer}
+use Rattle.dumpsyms_cmd.specs.commands.Judge.{IsJudgeVerdict}
 use Rattle.dumpsyms_cmd.specs.commands.Names.{names_answer}
 use Rattle.dumpsyms_cmd.specs.Refusals.{debug_line}
 use Rattle.dumpsyms_cmd.specs.commands.Dump.{identity_lines, public_lines, frame_lines, CanonFile}
@@ -29,6 +30,7 @@ use Rattle.dumpsyms_cmd.specs.Verdict.{Verdict, refused, usage}
 use Rattle.dumpsyms_cmd.specs.ElfInput.{elf_image, pair_image}
 use Rattle.dumpsyms_cmd.specs.commands.Dump.{left_out, GivesText, IsDebugVerdict, IsDumpVerdict}
 use Rattle.dumpsyms_cmd.specs.Answers.{IsVerdict}
+use Rattle.worked.proofs.PlainJudge.{dumped_verdict, dumped_is}
 use Rattle.worked.proofs.OneVerdict.{one_verdict}
 
 -- the records of a file of which no unit is read
@@ -48,6 +50,11 @@ abbrev pub image_verdict : Result ImageParts Verdict → List ℕ → Option Ver
 image_verdict (Err ended) name = Some ended
 image_verdict (Ok parts) name = debug_verdict (debug_says parts) parts name
 
+-- of `judge` by that of `dump`
+abbrev pub judge_verdict : Option Verdict → Option (List ℕ) → Option Verdict
+judge_verdict None bytes = None
+judge_verdict (Some dumped) bytes = dumped_verdict dumped.status dumped bytes
+
 abbrev pub command_verdict : Option Asked → Files → Option Verdict
 command_verdict None files = Some usage
 command_verdict (Some (dump elf workers)) files = image_verdict (elf_image elf files) (module_name elf)
@@ -57,7 +64,7 @@ command_verdict (Some (lookup name address)) files = Some (checked (lookup_answe
 command_verdict (Some (frame name address state)) files = Some (both_verdict (frame_answer address) (files name) (files state))
 command_verdict (Some (sample units workers)) files = None
 command_verdict (Some (walk name state)) files = Some (both_verdict walk_answer (files name) (files state))
-command_verdict (Some (judge elf name)) files = None
+command_verdict (Some (judge elf name)) files = judge_verdict (image_verdict (elf_image elf files) (module_name elf)) (files name)
 command_verdict (Some (names name)) files = Some (checked names_answer (files name))
 
 abbrev pub plain_verdict : List (List ℕ) → Files → Option Verdict
@@ -111,6 +118,10 @@ image_is : (read : Result ImageParts Verdict) (name : List ℕ) (v : Verdict) �
 image_is (Err ended) name v is = the_same is
 image_is (Ok parts) name v is = debug_is (debug_says parts) parts name v is
 
+judge_is : (elf : List ℕ) (files : Files) (bytes : Option (List ℕ)) (v : Verdict) (dumped : Option Verdict) → image_verdict (elf_image elf files) (module_name elf) ≡ dumped → judge_verdict dumped bytes ≡ Some v → IsJudgeVerdict elf (files elf) bytes v
+judge_is elf files bytes v None told is = absurd (not_told is)
+judge_is elf files bytes v (Some dumped) told is = record { dumped = dumped; dumped_is = image_is (elf_image elf files) (module_name elf) dumped told; is = dumped_is dumped.status dumped bytes v is }
+
 command_is : (command : Option Asked) (files : Files) (v : Verdict) → command_verdict command files ≡ Some v → IsVerdict command files v
 command_is None files v is = the_same is
 command_is (Some (dump elf workers)) files v is = image_is (elf_image elf files) (module_name elf) v is
@@ -120,7 +131,7 @@ command_is (Some (lookup name address)) files v is = the_same is
 command_is (Some (frame name address state)) files v is = the_same is
 command_is (Some (sample units workers)) files v is = absurd (not_told is)
 command_is (Some (walk name state)) files v is = the_same is
-command_is (Some (judge elf name)) files v is = absurd (not_told is)
+command_is (Some (judge elf name)) files v is = judge_is elf files (files name) v (image_verdict (elf_image elf files) (module_name elf)) refl is
 command_is (Some (names name)) files v is = the_same is
 
 -- a verdict that is computed is that of the words and files
