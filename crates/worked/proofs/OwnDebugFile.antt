@@ -1,6 +1,5 @@
 -- A file that is its own debug file.
-use Rattle.std.proofs.Common.{◌≡◌, ◌↔◌, ℕ, Bool, true, false, List, Option, None, Some, IsSome, Result, Ok, Err, length, nat_lt, refl, sym, ◌∙◌, ap, subst}
-use Rattle.std.specs.Str.{bytes_eq}
+use Rattle.std.proofs.Common.{◌≡◌, ◌↔◌, ℕ, Bool, true, false, List, Option, None, Some, IsSome, Result, Ok, length, nat_lt, refl, sym, ◌∙◌, ap, subst}
 use Rattle.std.proofs.lemmas.Slice.Eq.{bytes_eq-Decides}
 use Rattle.sym_edges.specs.Outside.{Files}
 use Rattle.sym_edges.specs.Results.{◌>>=◌, unless}

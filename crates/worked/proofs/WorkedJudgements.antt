@@ -1,5 +1,5 @@
 -- Worked rows: what `judge` answers, from the bytes of an ELF file and of a symbol file.
-use Rattle.std.proofs.Common.{◌≡◌, ℕ, List, [], ◌∷◌, ◌++◌, codes, Option, None, Some, replicate, if◌then◌else◌, refl}
+use Rattle.std.proofs.Common.{◌≡◌, ℕ, List, [], ◌∷◌, codes, Option, None, Some, replicate, if◌then◌else◌, refl}
 use Prim.Native.String.{String}
 use Rattle.std.specs.Str.{bytes_eq}
 use Rattle.worked.proofs.ComputingSymbols.{symbols_compute}
