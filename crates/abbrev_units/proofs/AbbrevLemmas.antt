@@ -1,92 +1,141 @@
 -- How far abbreviations go, and their lists as loops make them.
-use Rattle.std.proofs.Common.{◌≡◌, ◌<◌, ℕ, Bool, nat_eq, pos, List, [], ◌∷◌, ◌++◌, length, Option, None, Some, Result, Ok, Err, refl, sym, ◌∙◌, arith}
+use Rattle.std.proofs.Common.{◌≡◌, ◌<◌, ℕ, zero, suc, Bool, nat_eq, pos, List, [], ◌∷◌, ◌++◌, length, Option, None, Some, Result, Ok, Err, refl, sym, ap, ◌∙◌, arith}
 use Rattle.sym_edges.specs.declared.fault.Stop.{Stop}
 use Rattle.sym_edges.specs.declared.fault.Stop.TheVariants.{Fault, NoMemory}
+use Rattle.sym_edges.specs.Results.{◌>>=◌}
 use Rattle.leb_cursor.specs.declared.fault.CursorFault.{CursorFault}
 use Rattle.leb_cursor.specs.Ahead.{Ahead}
 use Rattle.leb_cursor.specs.Passes.{Passes}
 use Rattle.leb_cursor.specs.Readings.{fixed_at, uleb_at, sleb_at}
-use Rattle.leb_cursor.specs.Lists.{list_at, list_cases, GoesOn}
+use Rattle.leb_cursor.specs.Lists.{list_by, list_in, list_at, list_cases, GoesOn}
 use Rattle.leb_cursor.proofs.PassLemmas.{fixed_passes, uleb_passes, sleb_passes, passes_then}
 use Rattle.leb_cursor.proofs.ListLemmas.{weaker, either_passes, behind, none_behind, list_more, list_ends, list_refused, list_follows, list_passes, goes_of, shorter_by}
 use Rattle.abbrev_units.specs.Faults.{GivesAt}
-use Rattle.abbrev_units.specs.SpecFields.{SpecFields}
+use Rattle.abbrev_units.specs.SpecFields.{AttributeSpec, SpecFields}
 use Rattle.abbrev_units.specs.declared.abbrev.Abbrev.{Abbrev}
-use Rattle.abbrev_units.specs.Abbreviations.{implicit_at, spec_at, abbrev_by, abbrev_at}
+use Rattle.abbrev_units.specs.Abbreviations.{implicit_at, AbbrevFields, spec_at, abbrev_by, abbrev_at, used_spec, used_abbrev, used_at}
+use Rattle.abbrev_units.specs.internal.Used.{one_by, all_by, used_spec_at, used_specs_at, used_abbrev_at}
 
 implicit_passes : (form : ℕ) (c : Ahead) → Passes 0 c (implicit_at form c)
 unfolding implicit_at
 implicit_passes form c = either_passes (nat_eq form 0x21) (sleb_at c) (Ok (pos 0, c)) 0 c (weaker (sleb_at c) 1 0 c (omega arith) (sleb_passes c)) (omega arith, refl)
 
-spec_passes : (wide : Bool) (c : Ahead) → Passes 2 c (spec_at wide c)
+spec_passes : (c : Ahead) → Passes 2 c (spec_at c)
 unfolding spec_at
-spec_passes wide c =
+spec_passes c =
     passes_then (uleb_at c) _ 1 1 c (uleb_passes c)
     (λ attribute. passes_then (uleb_at attribute.1) _ 1 0 attribute.1 (uleb_passes attribute.1)
     (λ form. passes_then (implicit_at form.0 form.1) _ 0 0 form.1 (implicit_passes form.0 form.1) (λ implicit. (omega arith, refl))))
 
-pub spec_goes : (wide : Bool) (c : Ahead) → GoesOn c (spec_at wide c)
-spec_goes wide c = goes_of (spec_at wide c) c (weaker (spec_at wide c) 2 1 c (omega arith) (spec_passes wide c))
+spec_goes : (c : Ahead) → GoesOn c (spec_at c)
+spec_goes c = goes_of (spec_at c) c (weaker (spec_at c) 2 1 c (omega arith) (spec_passes c))
 
-abbrev_by_passes : (wide : Bool) (code : ℕ) (c : Ahead) → Passes 2 c (abbrev_by wide code c)
+abbrev_by_passes : (code : ℕ) (c : Ahead) → Passes 2 c (abbrev_by code c)
 unfolding abbrev_by
-abbrev_by_passes wide code c =
+abbrev_by_passes code c =
     passes_then (uleb_at c) _ 1 1 c (uleb_passes c)
     (λ tag. passes_then (fixed_at 1 tag.1) _ 1 0 tag.1 (fixed_passes 1 tag.1)
-    (λ children. passes_then (list_at (spec_at wide) children.1) _ 0 0 children.1 (list_passes (spec_at wide) (spec_goes wide) children.1) (λ specs. (omega arith, refl))))
+    (λ children. passes_then (list_at spec_at children.1) _ 0 0 children.1 (list_passes spec_at spec_goes children.1) (λ specs. (omega arith, refl))))
 
-abbrev_passes : (wide : Bool) (c : Ahead) → Passes 1 c (abbrev_at wide c)
+abbrev_passes : (c : Ahead) → Passes 1 c (abbrev_at c)
 unfolding abbrev_at
-abbrev_passes wide c =
+abbrev_passes c =
     passes_then (uleb_at c) _ 1 0 c (uleb_passes c)
-    (λ code. either_passes (nat_eq code.0 0) (Ok (None, code.1)) (abbrev_by wide code.0 code.1) 0 code.1 (omega arith, refl) (weaker (abbrev_by wide code.0 code.1) 2 0 code.1 (omega arith) (abbrev_by_passes wide code.0 code.1)))
+    (λ code. either_passes (nat_eq code.0 0) (Ok (None, code.1)) (abbrev_by code.0 code.1) 0 code.1 (omega arith, refl) (weaker (abbrev_by code.0 code.1) 2 0 code.1 (omega arith) (abbrev_by_passes code.0 code.1)))
 
-pub abbrev_goes : (wide : Bool) (c : Ahead) → GoesOn c (abbrev_at wide c)
-abbrev_goes wide c = goes_of (abbrev_at wide c) c (abbrev_passes wide c)
+abbrev_goes : (c : Ahead) → GoesOn c (abbrev_at c)
+abbrev_goes c = goes_of (abbrev_at c) c (abbrev_passes c)
+
+pub specs_follow : (c : Ahead) → list_at spec_at c ≡ list_cases spec_at c
+specs_follow c = list_follows spec_at spec_goes c
+
+pub abbrevs_follow : (c : Ahead) → list_at abbrev_at c ≡ list_cases abbrev_at c
+abbrevs_follow c = list_follows abbrev_at abbrev_goes c
+
+-- ---- as a unit uses them
+
+used_spec_goes : (wide : Bool) (c : Ahead) → GoesOn c (used_spec_at wide c)
+unfolding used_spec_at
+used_spec_goes wide c =
+    goes_of (used_spec_at wide c) c (weaker (used_spec_at wide c) 2 1 c (omega arith) (passes_then (spec_at c) (one_by (used_spec wide)) 2 0 c (spec_passes c) (λ spec. (omega arith, refl))))
+
+used_abbrev_goes : (wide : Bool) (c : Ahead) → GoesOn c (used_abbrev_at wide c)
+unfolding used_abbrev_at
+used_abbrev_goes wide c =
+    goes_of (used_abbrev_at wide c) c (passes_then (abbrev_at c) (one_by (used_abbrev wide)) 1 0 c (abbrev_passes c) (λ found. (omega arith, refl)))
+
+-- a change of each member that is read is one of the list's members
+more_by : {A B : Type 0} (f : A → B) (x : A) (later : Result (List A × Ahead) CursorFault) → ((later >>= all_by f) >>= λ rest. Ok (f x ∷ rest.0, rest.1)) ≡ ((later >>= λ rest. Ok (x ∷ rest.0, rest.1)) >>= all_by f)
+more_by f x (Ok rest) = refl
+more_by f x (Err fault) = refl
+
+next_by : {A B : Type 0} (f : A → B) (first : Result (Option A × Ahead) CursorFault) (one : Ahead → Result (List A × Ahead) CursorFault) (other : Ahead → Result (List B × Ahead) CursorFault) → ((d : Ahead) → other d ≡ (one d >>= all_by f))
+    → ((first >>= one_by f) >>= λ x. list_by x.0 x.1 (other x.1)) ≡ ((first >>= λ x. list_by x.0 x.1 (one x.1)) >>= all_by f)
+next_by f (Ok (None, d)) one other later = refl
+next_by f (Ok (Some x, d)) one other later = ap (λ r. r >>= λ rest. Ok (f x ∷ rest.0, rest.1)) (later d) ∙ more_by f x (one d)
+next_by f (Err fault) one other later = refl
+
+members_by : {A B : Type 0} (f : A → B) (read : Ahead → Result (Option A × Ahead) CursorFault) (n : ℕ) (c : Ahead) → list_in (λ d. read d >>= one_by f) n c ≡ (list_in read n c >>= all_by f)
+unfolding list_in
+members_by f read zero c = refl
+members_by f read (suc n) c = next_by f (read c) (list_in read n) (list_in (λ d. read d >>= one_by f) n) (members_by f read n)
+
+specs_are : (wide : Bool) (c : Ahead) → list_at (used_spec_at wide) c ≡ used_specs_at wide c
+unfolding list_at used_spec_at used_specs_at
+specs_are wide c = members_by (used_spec wide) spec_at (suc (length c.bytes)) c
+
+abbrevs_are : (wide : Bool) (c : Ahead) → list_at (used_abbrev_at wide) c ≡ used_at wide c
+unfolding list_at used_abbrev_at used_at
+abbrevs_are wide c = members_by (used_abbrev wide) abbrev_at (suc (length c.bytes)) c
+
+-- an abbreviation with the attributes that a unit uses
+pub specs_given : (wide : Bool) (code tag : ℕ) (children : Bool) (specs : Result (List AttributeSpec × Ahead) CursorFault) (used : List SpecFields) (d : Ahead) → (specs >>= all_by (used_spec wide)) ≡ Ok (used, d)
+    → ((specs >>= λ l. Ok (Some (record { code = code; tag = tag; children = children; specs = l.0 }), l.1)) >>= one_by (used_abbrev wide)) ≡ Ok (Some (record { code = code; tag = tag; children = children; specs = used }), d)
+specs_given wide code tag children (Ok l) used d is = ap (λ r. r >>= λ l. Ok (Some (record { code = code; tag = tag; children = children; specs = l.0 }), l.1)) is
+specs_given wide code tag children (Err fault) used d is = cc
+
+pub specs_fault : (wide : Bool) (code tag : ℕ) (children : Bool) (specs : Result (List AttributeSpec × Ahead) CursorFault) (fault : CursorFault) → (specs >>= all_by (used_spec wide)) ≡ Err fault
+    → ((specs >>= λ l. Ok (Some (record { code = code; tag = tag; children = children; specs = l.0 }), l.1)) >>= one_by (used_abbrev wide)) ≡ Err fault
+specs_fault wide code tag children (Ok l) fault is = cc
+specs_fault wide code tag children (Err other) fault is = cc
 
 -- the attributes that were read, and those still to come
 abbrev pub specs_behind : Bool → List SpecFields → Ahead → Result (List SpecFields × Ahead) CursorFault
-specs_behind wide done c = behind done (list_at (spec_at wide) c)
+specs_behind wide done c = behind done (list_at (used_spec_at wide) c)
 
-pub specs_begin : (wide : Bool) (done : List SpecFields) (c : Ahead) → done ≡ [] → specs_behind wide done c ≡ list_at (spec_at wide) c
-specs_begin wide done c none = none_behind done (list_at (spec_at wide) c) none
+pub specs_begin : (wide : Bool) (done : List SpecFields) (c : Ahead) → done ≡ [] → specs_behind wide done c ≡ used_specs_at wide c
+specs_begin wide done c none = none_behind done (list_at (used_spec_at wide) c) none ∙ specs_are wide c
 
-pub specs_more : (wide : Bool) (done more : List SpecFields) (spec : SpecFields) (c d : Ahead) (want : Result (List SpecFields × Ahead) CursorFault) → specs_behind wide done c ≡ want → Ok (Some spec, d) ≡ spec_at wide c → more ≡ done ++ spec ∷ [] → specs_behind wide more d ≡ want
+pub specs_more : (wide : Bool) (done more : List SpecFields) (spec : SpecFields) (c d : Ahead) (want : Result (List SpecFields × Ahead) CursorFault) → specs_behind wide done c ≡ want → Ok (Some spec, d) ≡ used_spec_at wide c → more ≡ done ++ spec ∷ [] → specs_behind wide more d ≡ want
 specs_more wide done more spec c d want so_far is added =
-    sym (list_more (spec_at wide) (spec_goes wide) done more spec c d is added) ∙ so_far
+    sym (list_more (used_spec_at wide) (used_spec_goes wide) done more spec c d is added) ∙ so_far
 
-pub specs_end : (wide : Bool) (done : List SpecFields) (c d : Ahead) (want : Result (List SpecFields × Ahead) CursorFault) → specs_behind wide done c ≡ want → Ok (None, d) ≡ spec_at wide c → want ≡ Ok (done, d)
-specs_end wide done c d want so_far is = sym so_far ∙ list_ends (spec_at wide) (spec_goes wide) done c d is
+pub specs_end : (wide : Bool) (done : List SpecFields) (c d : Ahead) (want : Result (List SpecFields × Ahead) CursorFault) → specs_behind wide done c ≡ want → Ok (None, d) ≡ used_spec_at wide c → want ≡ Ok (done, d)
+specs_end wide done c d want so_far is = sym so_far ∙ list_ends (used_spec_at wide) (used_spec_goes wide) done c d is
 
-pub specs_refused : (wide : Bool) (done : List SpecFields) (c : Ahead) (fault : CursorFault) (want : Result (List SpecFields × Ahead) CursorFault) → specs_behind wide done c ≡ want → Err fault ≡ spec_at wide c → want ≡ Err fault
-specs_refused wide done c fault want so_far is = sym so_far ∙ list_refused (spec_at wide) (spec_goes wide) done c fault is
+pub specs_refused : (wide : Bool) (done : List SpecFields) (c : Ahead) (fault : CursorFault) (want : Result (List SpecFields × Ahead) CursorFault) → specs_behind wide done c ≡ want → Err fault ≡ used_spec_at wide c → want ≡ Err fault
+specs_refused wide done c fault want so_far is = sym so_far ∙ list_refused (used_spec_at wide) (used_spec_goes wide) done c fault is
 
-pub specs_shorter : (wide : Bool) (spec : SpecFields) (c d : Ahead) → Ok (Some spec, d) ≡ spec_at wide c → length d.bytes < length c.bytes
-specs_shorter wide spec c d is = shorter_by (spec_at wide c) spec c d (spec_goes wide c) is
+pub specs_shorter : (wide : Bool) (spec : SpecFields) (c d : Ahead) → Ok (Some spec, d) ≡ used_spec_at wide c → length d.bytes < length c.bytes
+specs_shorter wide spec c d is = shorter_by (used_spec_at wide c) spec c d (used_spec_goes wide c) is
 
 -- the abbreviations that were read, and those still to come
 abbrev pub abbrevs_behind : Bool → List Abbrev → Ahead → Result (List Abbrev × Ahead) CursorFault
-abbrevs_behind wide done c = behind done (list_at (abbrev_at wide) c)
+abbrevs_behind wide done c = behind done (list_at (used_abbrev_at wide) c)
 
-pub abbrevs_begin : (wide : Bool) (done : List Abbrev) (c : Ahead) → done ≡ [] → abbrevs_behind wide done c ≡ list_at (abbrev_at wide) c
-abbrevs_begin wide done c none = none_behind done (list_at (abbrev_at wide) c) none
+pub abbrevs_begin : (wide : Bool) (done : List Abbrev) (c : Ahead) → done ≡ [] → abbrevs_behind wide done c ≡ used_at wide c
+abbrevs_begin wide done c none = none_behind done (list_at (used_abbrev_at wide) c) none ∙ abbrevs_are wide c
 
-pub abbrevs_more : (wide : Bool) (done more : List Abbrev) (one : Abbrev) (c d : Ahead) (want : Result (List Abbrev × Ahead) CursorFault) → abbrevs_behind wide done c ≡ want → abbrev_at wide c ≡ Ok (Some one, d) → more ≡ done ++ one ∷ [] → abbrevs_behind wide more d ≡ want
+pub abbrevs_more : (wide : Bool) (done more : List Abbrev) (one : Abbrev) (c d : Ahead) (want : Result (List Abbrev × Ahead) CursorFault) → abbrevs_behind wide done c ≡ want → used_abbrev_at wide c ≡ Ok (Some one, d) → more ≡ done ++ one ∷ [] → abbrevs_behind wide more d ≡ want
 abbrevs_more wide done more one c d want so_far is added =
-    sym (list_more (abbrev_at wide) (abbrev_goes wide) done more one c d (sym is) added) ∙ so_far
+    sym (list_more (used_abbrev_at wide) (used_abbrev_goes wide) done more one c d (sym is) added) ∙ so_far
 
-pub abbrevs_end : (wide : Bool) (done : List Abbrev) (c d : Ahead) (want : Result (List Abbrev × Ahead) CursorFault) → abbrevs_behind wide done c ≡ want → abbrev_at wide c ≡ Ok (None, d) → want ≡ Ok (done, d)
-abbrevs_end wide done c d want so_far is = sym so_far ∙ list_ends (abbrev_at wide) (abbrev_goes wide) done c d (sym is)
+pub abbrevs_end : (wide : Bool) (done : List Abbrev) (c d : Ahead) (want : Result (List Abbrev × Ahead) CursorFault) → abbrevs_behind wide done c ≡ want → used_abbrev_at wide c ≡ Ok (None, d) → want ≡ Ok (done, d)
+abbrevs_end wide done c d want so_far is = sym so_far ∙ list_ends (used_abbrev_at wide) (used_abbrev_goes wide) done c d (sym is)
 
-pub abbrevs_stopped : (wide : Bool) (done : List Abbrev) (c d e : Ahead) (stop : Stop CursorFault) (want : Result (List Abbrev × Ahead) CursorFault) → abbrevs_behind wide done c ≡ want → GivesAt {A = Option Abbrev} (Err stop) d (abbrev_at wide c) → GivesAt {A = List Abbrev} (Err stop) e want
-abbrevs_stopped wide done c d e (Fault fault) want so_far is = sym so_far ∙ list_refused (abbrev_at wide) (abbrev_goes wide) done c fault (sym is)
+pub abbrevs_stopped : (wide : Bool) (done : List Abbrev) (c d e : Ahead) (stop : Stop CursorFault) (want : Result (List Abbrev × Ahead) CursorFault) → abbrevs_behind wide done c ≡ want → GivesAt {A = Option Abbrev} (Err stop) d (used_abbrev_at wide c) → GivesAt {A = List Abbrev} (Err stop) e want
+abbrevs_stopped wide done c d e (Fault fault) want so_far is = sym so_far ∙ list_refused (used_abbrev_at wide) (used_abbrev_goes wide) done c fault (sym is)
 abbrevs_stopped wide done c d e NoMemory want so_far is = tt
 
-pub abbrevs_shorter : (wide : Bool) (one : Abbrev) (c d : Ahead) → abbrev_at wide c ≡ Ok (Some one, d) → length d.bytes < length c.bytes
-abbrevs_shorter wide one c d is = shorter_by (abbrev_at wide c) one c d (abbrev_goes wide c) (sym is)
-
-pub specs_follow : (wide : Bool) (c : Ahead) → list_at (spec_at wide) c ≡ list_cases (spec_at wide) c
-specs_follow wide c = list_follows (spec_at wide) (spec_goes wide) c
-
-pub abbrevs_follow : (wide : Bool) (c : Ahead) → list_at (abbrev_at wide) c ≡ list_cases (abbrev_at wide) c
-abbrevs_follow wide c = list_follows (abbrev_at wide) (abbrev_goes wide) c
+pub abbrevs_shorter : (wide : Bool) (one : Abbrev) (c d : Ahead) → used_abbrev_at wide c ≡ Ok (Some one, d) → length d.bytes < length c.bytes
+abbrevs_shorter wide one c d is = shorter_by (used_abbrev_at wide c) one c d (used_abbrev_goes wide c) (sym is)

@@ -22,7 +22,7 @@ use Rattle.abbrev_units.specs.declared.fault.FormFault.{FormFault}
 use Rattle.abbrev_units.specs.declared.plan.Step.{Step}
 use Rattle.abbrev_units.specs.SpecFields.{SpecFields}
 use Rattle.abbrev_units.specs.Values.{value_at, values_at, only_ahead, behind_values}
-use Rattle.abbrev_units.specs.internal.Plans.{step_at, steps_at, IsPlan, HasLayout, HasSize, SizeOf}
+use Rattle.abbrev_units.specs.internal.Plans.{step_at, steps_at, ended, IsPlan, HasLayout, HasSize, SizeOf}
 use Rattle.abbrev_units.proofs.ValueLemmas.{behind_first}
 
 -- what is left ahead
@@ -167,9 +167,6 @@ behind_more (s ∷ specs) x c =
     ∙ sym (ap (λ r. r >>= λ e. only_ahead (value_at x e)) (behind_first s specs c))
 
 -- a plan grows
-abbrev pub ended : List Step → ℕ → List Step
-ended steps bytes = steps ++ record { bytes = bytes; kind = kind.Nothing } ∷ []
-
 nothing_passed : (c d : Ahead) → only_ahead (kind_at kind.Nothing c) ≡ Ok d → d ≡ c
 unfolding kind_at
 nothing_passed c d is = let same : c ≡ d = cc in sym same
@@ -237,9 +234,16 @@ plan_read steps next specs x layout bytes plan laid is_next c d is =
     ∙ laid inner.middle last.before inner.operand
     ∙ ap Ok (sym there)
 
-pub plan_end : (steps whole : List Step) (specs : List SpecFields) (i bytes : ℕ) → IsPlan (ended steps bytes) (take i specs) → length specs ≤ i → whole ≡ steps ++ record { bytes = bytes; kind = kind.Nothing } ∷ [] → IsPlan whole specs
-plan_end steps whole specs i bytes plan all is c d goes =
-    ap (λ s. behind_values s c) (sym (take_all i specs all)) ∙ plan c d (ap (λ s. steps_at s c) (sym is) ∙ goes)
+pub plan_end : (steps : List Step) (specs : List SpecFields) (i bytes : ℕ) → IsPlan (ended steps bytes) (take i specs) → length specs ≤ i → IsPlan (ended steps bytes) specs
+plan_end steps specs i bytes plan all c d goes =
+    ap (λ s. behind_values s c) (sym (take_all i specs all)) ∙ plan c d goes
+
+-- the bytes after the last step
+pub tail_passed : (steps : List Step) (tail : ℕ) (c d e : Ahead) → steps_at steps c ≡ Ok d → only_ahead (take_at tail d) ≡ Ok e → steps_at (ended steps tail) c ≡ Ok e
+unfolding kind_at
+tail_passed steps tail c d e front run =
+    steps_append steps (record { bytes = tail; kind = kind.Nothing } ∷ []) c ∙ ap (λ r. r >>= steps_at (record { bytes = tail; kind = kind.Nothing } ∷ [])) front
+    ∙ one_step (record { bytes = tail; kind = kind.Nothing }) d ∙ ap (λ r. r >>= λ f. only_ahead (kind_at kind.Nothing f)) run
 
 -- the layout of an attribute whose form is known
 value_ahead : (row : FormRow) (implicit : ℤ) (reading : Result (Operand × Ahead) CursorFault) (d : Ahead) → only_ahead reading ≡ Ok d → only_ahead (as_value reading >>= λ x. Ok (value_of row.class implicit x.0, x.1)) ≡ Ok d

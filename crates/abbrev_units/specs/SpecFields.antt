@@ -1,6 +1,12 @@
 use Rattle.std.specs.Prelude.{ℕ, ℤ, Bool}
 
--- an attribute of an abbreviation: its name and form, its constant where the form has it there, and the format of the unit
+-- an attribute specification (DWARF 5, 7.5.3): an attribute and its form, and its constant where the form has it there
+pub record AttributeSpec : Type 0 where
+  pub attribute : ℕ
+  pub form : ℕ
+  pub implicit : ℤ
+
+-- the same as a unit uses it, whose values are in the 64-bit format where `wide`
 pub record SpecFields : Type 0 where
   pub attribute : ℕ
   pub form : ℕ

@@ -1,9 +1,9 @@
 //! Reading abbreviations (DWARF 5, 7.5.3).
 ghost use Rattle.std.specs.Prelude.{◌≡◌};
 ghost use Rattle.leb_cursor.specs.Ahead.{gave};
-ghost use Rattle.leb_cursor.specs.Lists.{list_at};
 ghost use Rattle.abbrev_units.specs.Faults.{GivesAt};
-ghost use Rattle.abbrev_units.specs.Abbreviations.{implicit_at, spec_at, abbrev_by, abbrev_at};
+ghost use Rattle.abbrev_units.specs.Abbreviations.{implicit_at};
+ghost use Rattle.abbrev_units.specs.internal.Used.{used_spec_at, used_specs_at, used_abbrev_by, used_abbrev_at};
 
 use crate::spec::{Spec, SpecList};
 use code_table::{
@@ -36,9 +36,9 @@ fn read_implicit(cursor: &mut Cursor<'_>, form: u64) -> Result<i64, CursorFault>
 }
 
 /// Reads an attribute and its form, or the end of their list.
-#[tactic(auto, unfolding(crate::specs::Abbreviations::spec_at))]
+#[tactic(auto, unfolding(crate::specs::internal::Used::used_spec_at, crate::specs::Abbreviations::spec_at))]
 fn read_spec(cursor: &mut Cursor<'_>, wide: bool) -> Result<Option<Spec>, CursorFault>
-    ensures { gave result cursor.new ≡ spec_at wide cursor.old }
+    ensures { gave result cursor.new ≡ used_spec_at wide cursor.old }
 {
     let attribute = cursor.uleb()?;
     let form = cursor.uleb()?;
@@ -49,6 +49,9 @@ fn read_spec(cursor: &mut Cursor<'_>, wide: bool) -> Result<Option<Spec>, Cursor
     Ok(Some(Spec::of(attribute, form, implicit, wide)))
 }
 
+/// Room for as many attributes as most abbreviations have.
+const USUAL_SPECS: usize = 8;
+
 /// Reads attributes up to the end of their list.
 #[tactic(auto, using(crate::proofs::AbbrevLemmas::specs_begin, crate::proofs::AbbrevLemmas::specs_more, crate::proofs::AbbrevLemmas::specs_end, crate::proofs::AbbrevLemmas::specs_refused, crate::proofs::AbbrevLemmas::specs_shorter))]
 fn read_specs(
@@ -56,9 +59,9 @@ fn read_specs(
     cursor: &mut Cursor<'_>,
     wide: bool,
 ) -> Result<ListOf<Spec>, Stop<CursorFault>>
-    ensures { GivesAt result cursor.new (list_at (spec_at wide) cursor.old) }
+    ensures { GivesAt result cursor.new (used_specs_at wide cursor.old) }
 {
-    let mut specs = Vec::new(alloc);
+    let mut specs = Vec::with_capacity(alloc, USUAL_SPECS)?;
     'specs: loop {
         match read_spec(cursor, wide) {
             Ok(Some(spec)) => specs.push(spec)?,
@@ -83,14 +86,14 @@ fn is_asked_tag(tag: u64) -> bool {
 }
 
 /// Reads an abbreviation after its code.
-#[tactic(auto, unfolding(crate::specs::Abbreviations::abbrev_by))]
+#[tactic(auto, unfolding(crate::specs::internal::Used::used_abbrev_by, crate::specs::internal::Used::used_specs_at, crate::specs::Abbreviations::abbrev_by), using(crate::proofs::AbbrevLemmas::specs_given, crate::proofs::AbbrevLemmas::specs_fault))]
 fn read_behind(
     alloc: Global,
     cursor: &mut Cursor<'_>,
     wide: bool,
     code: u64,
 ) -> Result<Option<Abbrev>, Stop<CursorFault>>
-    ensures { GivesAt result cursor.new (abbrev_by wide code cursor.old) }
+    ensures { GivesAt result cursor.new (used_abbrev_by wide code cursor.old) }
 {
     let tag = match cursor.uleb() {
         Ok(tag) => tag,
@@ -114,13 +117,13 @@ fn read_behind(
 }
 
 /// Reads an abbreviation, or the end of their list.
-#[tactic(auto, unfolding(crate::specs::Abbreviations::abbrev_at))]
+#[tactic(auto, unfolding(crate::specs::internal::Used::used_abbrev_at, crate::specs::internal::Used::used_abbrev_by, crate::specs::Abbreviations::abbrev_at))]
 pub fn read_abbrev(
     alloc: Global,
     cursor: &mut Cursor<'_>,
     wide: bool,
 ) -> Result<Option<Abbrev>, Stop<CursorFault>>
-    ensures { GivesAt result cursor.new (abbrev_at wide cursor.old) }
+    ensures { GivesAt result cursor.new (used_abbrev_at wide cursor.old) }
 {
     let code = match cursor.uleb() {
         Ok(code) => code,

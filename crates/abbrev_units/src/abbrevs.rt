@@ -3,9 +3,8 @@ ghost use Rattle.std.specs.Prelude.{◌≡◌, ◌&&◌, nat_lt, nat_le, slice_g
 ghost use Rattle.std.specs.Option.{option_copied};
 ghost use Rattle.std.specs.Ordering.{nat_cmp};
 ghost use Rattle.std.specs.BTreeMap.{BTreeMap, get};
-ghost use Rattle.leb_cursor.specs.Lists.{list_at};
 ghost use Rattle.abbrev_units.specs.Faults.{Gives, GivesAt};
-ghost use Rattle.abbrev_units.specs.Abbreviations.{abbrev_at, abbrevs_of, abbrev_of};
+ghost use Rattle.abbrev_units.specs.Abbreviations.{used_at, abbrevs_of, abbrev_of};
 ghost use Rattle.abbrev_units.specs.Places.{IsDense, HasPlaces, AreFound};
 
 use crate::abbrev::{Abbrev, read_abbrev};
@@ -144,7 +143,7 @@ fn read_list(
     cursor: &mut Cursor<'_>,
     wide: bool,
 ) -> Result<ListOf<Abbrev>, Stop<CursorFault>>
-    ensures { GivesAt result cursor.new (list_at (abbrev_at wide) cursor.old) }
+    ensures { GivesAt result cursor.new (used_at wide cursor.old) }
 {
     let mut abbrevs = Vec::new(alloc);
     'abbrevs: loop {

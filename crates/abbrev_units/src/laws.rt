@@ -18,8 +18,8 @@ ghost use Rattle.abbrev_units.specs.Abbreviations.{spec_at, abbrev_at};
 #[tactic(auto, using(crate::proofs::UnitLemmas::units_follow, crate::proofs::AbbrevLemmas::specs_follow, crate::proofs::AbbrevLemmas::abbrevs_follow))]
 pub fn lists_follow()
     ensures units { (c : Ahead) → list_at next_unit c ≡ list_cases next_unit c }
-    ensures attributes { (wide : Bool) (c : Ahead) → list_at (spec_at wide) c ≡ list_cases (spec_at wide) c }
-    ensures abbreviations { (wide : Bool) (c : Ahead) → list_at (abbrev_at wide) c ≡ list_cases (abbrev_at wide) c }
+    ensures attributes { (c : Ahead) → list_at spec_at c ≡ list_cases spec_at c }
+    ensures abbreviations { (c : Ahead) → list_at abbrev_at c ≡ list_cases abbrev_at c }
 {}
 
 /// Readings never go after the end of the bytes.

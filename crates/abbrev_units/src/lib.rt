@@ -5,7 +5,8 @@
 //! version, and where its abbreviations stand; or the first fault of their headers. [`read_abbrevs`] gives the
 //! abbreviations of a unit, and [`Abbrevs::find`] the first of a code. [`read_form`] reads the value of a form,
 //! [`Spec::read`] that of an attribute, whose form was looked up once, [`SpecList::skip`] passes the
-//! values that nobody asks for, and [`SpecList::takes`] is a short way to those that are. [`read_text`] gives the text of a value, as a slice of the file.
+//! values that nobody asks for, [`SpecList::pass`] too where there is a short way, and [`SpecList::takes`] is a short way to
+//! those that are asked for. [`read_text`] gives the text of a value, as a slice of the file.
 //!
 //! Each contract is an equation with a definition: `specs/Units.antt` has the headers field by field,
 //! `specs/Abbreviations.antt` the lists of attributes, `specs/FormValue.antt` the value of a form over the

@@ -4,7 +4,7 @@ ghost use Rattle.leb_cursor.specs.Ahead.{Ahead};
 ghost use Rattle.code_table.specs.Layouts.{kind_at};
 ghost use Rattle.abbrev_units.specs.Faults.{left_by};
 ghost use Rattle.abbrev_units.specs.Values.{only_ahead};
-ghost use Rattle.abbrev_units.specs.internal.Plans.{step_at, steps_at, IsPlan, HasLayout, HasSize, SizeOf};
+ghost use Rattle.abbrev_units.specs.internal.Plans.{step_at, steps_at, ended, IsPlan, HasLayout, HasSize, SizeOf};
 
 use crate::spec::Spec;
 use code_table::{DW_FORM_indirect, FormRow, Kind, read_kind};
@@ -48,10 +48,18 @@ pub fn form_size(form: u64, row: Option<FormRow>) -> Option<u8>
     }
 }
 
-/// The steps over the values of attributes, where each has a layout that is known.
+/// The short way: steps, and so many bytes after the last of them.
+#[derive(Drop)]
+pub struct Plan {
+    pub steps: Vec<Step>,
+    pub tail: u64,
+}
+
+/// The short way over the values of attributes, where each has a layout that is known. It takes no memory where each value
+/// has a fixed size.
 #[tactic(auto, using(crate::proofs::PlanLemmas::plan_none, crate::proofs::PlanLemmas::plan_sized, crate::proofs::PlanLemmas::plan_read, crate::proofs::PlanLemmas::plan_end))]
-pub fn make_plan(alloc: Global, specs: &[Spec]) -> Result<Option<Vec<Step>>, OutOfMemory>
-    ensures { IfOk result (λ plan. IfSome plan (λ steps. IsPlan steps.items specs.now)) }
+pub fn make_plan(alloc: Global, specs: &[Spec]) -> Result<Option<Plan>, OutOfMemory>
+    ensures { IfOk result (λ plan. IfSome plan (λ plan. IsPlan (ended plan.steps.items plan.tail) specs.now)) }
 {
     let mut steps = Vec::new(alloc);
     let mut bytes: u64 = 0;
@@ -69,62 +77,93 @@ pub fn make_plan(alloc: Global, specs: &[Spec]) -> Result<Option<Vec<Step>>, Out
         steps.push(Step { bytes, kind })?;
         bytes = 0;
     }
-    steps.push(Step {
-        bytes,
-        kind: Kind::Nothing,
-    })?;
-    Ok(Some(steps))
+    Ok(Some(Plan { steps, tail: bytes }))
 }
 
-/// Passes an operand of any layout.
+/// A cursor behind an operand of any layout, where the operand is there.
 #[inline(never)]
-fn pass_any(cursor: &mut Cursor<'_>, kind: Kind) -> Result<(), CursorFault>
-    ensures { left_by result cursor.new ≡ only_ahead (kind_at kind cursor.old) }
+fn behind_any<'a>(cursor: Cursor<'a>, kind: Kind) -> Option<Cursor<'a>>
+    ensures { IfSome result (λ left. only_ahead (kind_at kind cursor.entry) ≡ Ok left) }
 {
-    let _operand = read_kind(cursor, kind)?;
-    Ok(())
+    let mut left = cursor;
+    match read_kind(&mut left, kind) {
+        Ok(_operand) => Some(left),
+        Err(_) => None,
+    }
 }
 
-/// Passes an operand: the usual layouts are read here.
-#[inline]
+/// Passes an operand of any layout. The cursor of a caller stays in registers.
+#[inline(always)]
+fn pass_any(cursor: &mut Cursor<'_>, kind: Kind) -> bool
+    ensures { result ≡ true → only_ahead (kind_at kind cursor.old) ≡ Ok cursor.new }
+{
+    match behind_any(cursor.fork(), kind) {
+        Some(left) => {
+            *cursor = left;
+            true
+        }
+        None => false,
+    }
+}
+
+/// Passes an operand: the usual layouts are read here. Where it is not there, nothing is said.
+#[inline(always)]
 #[tactic(auto, unfolding(code_table::specs::Layouts::kind_at, code_table::specs::Layouts::run_at))]
-fn pass_kind(cursor: &mut Cursor<'_>, kind: Kind) -> Result<(), CursorFault>
-    ensures { left_by result cursor.new ≡ only_ahead (kind_at kind cursor.old) }
+fn pass_kind(cursor: &mut Cursor<'_>, kind: Kind) -> bool
+    ensures { result ≡ true → only_ahead (kind_at kind cursor.old) ≡ Ok cursor.new }
 {
     match kind {
-        Kind::Nothing => Ok(()),
-        Kind::Uleb => {
-            let _number = cursor.uleb()?;
-            Ok(())
-        }
-        Kind::BlockUleb => {
-            let count = cursor.uleb()?;
-            let _run = cursor.take(count)?;
-            Ok(())
-        }
+        Kind::Nothing => true,
+        Kind::Uleb => match cursor.uleb() {
+            Ok(_number) => true,
+            Err(_) => false,
+        },
+        Kind::BlockUleb => match cursor.uleb() {
+            Ok(count) => match cursor.take(count) {
+                Ok(_run) => true,
+                Err(_) => false,
+            },
+            Err(_) => false,
+        },
         _ => pass_any(cursor, kind),
     }
 }
 
-#[inline]
-fn pass_step(cursor: &mut Cursor<'_>, step: Step) -> Result<(), CursorFault>
-    ensures { left_by result cursor.new ≡ step_at step cursor.old }
+/// Passes a step. Where it is not there, nothing is said.
+#[inline(always)]
+fn pass_step(cursor: &mut Cursor<'_>, step: Step) -> bool
+    ensures { result ≡ true → step_at step cursor.old ≡ Ok cursor.new }
 {
-    let _run = cursor.take(step.bytes)?;
-    pass_kind(cursor, step.kind)
+    match cursor.take(step.bytes) {
+        Ok(_run) => pass_kind(cursor, step.kind),
+        Err(_) => false,
+    }
 }
 
 /// Goes the steps. Where one fails, nothing is said.
-#[inline]
+#[inline(always)]
 #[tactic(auto, using(crate::proofs::PlanLemmas::steps_more, crate::proofs::PlanLemmas::steps_end))]
 pub fn pass_steps(cursor: &mut Cursor<'_>, steps: &[Step]) -> bool
     ensures { result ≡ true → steps_at steps.now cursor.old ≡ Ok cursor.new }
 {
     'steps: for step in steps {
-        match pass_step(cursor, *step) {
-            Ok(()) => {}
-            Err(_) => return false,
+        if !pass_step(cursor, *step) {
+            return false;
         }
     }
     true
+}
+
+/// Goes a short way. Where it fails, nothing is said.
+#[inline(always)]
+pub fn pass_plan(cursor: &mut Cursor<'_>, plan: &Plan) -> bool
+    ensures { result ≡ true → steps_at (ended plan.now.steps.items plan.now.tail) cursor.old ≡ Ok cursor.new }
+{
+    if !pass_steps(cursor, plan.steps.as_slice()) {
+        return false;
+    }
+    match cursor.take(plan.tail) {
+        Ok(_run) => true,
+        Err(_) => false,
+    }
 }

@@ -1,5 +1,5 @@
 //! An attribute of an abbreviation.
-ghost use Rattle.std.specs.Prelude.{◌≡◌, IfSome, IfOk, OnErr};
+ghost use Rattle.std.specs.Prelude.{◌≡◌, true, false, Ok, IfSome, IfOk, OnErr};
 ghost use Rattle.leb_cursor.specs.Ahead.{gave};
 ghost use Rattle.leb_cursor.specs.Readings.{take_at};
 ghost use Rattle.abbrev_units.specs.Faults.{left_by, as_value};
@@ -10,7 +10,7 @@ ghost use Rattle.abbrev_units.specs.Takes.{AreTakes};
 
 use crate::fault::FormFault;
 use crate::form::{read_indirect, read_known};
-use crate::plan::{Step, form_size, make_plan, pass_steps};
+use crate::plan::{Plan, form_size, make_plan, pass_plan};
 use crate::take::{Take, takes_of};
 use crate::value::Value;
 use code_table::{DW_FORM_indirect, FormRow, Kind, find_form};
@@ -58,7 +58,15 @@ impl Spec {
     pub(crate) fn of(attribute: u64, form: u64, implicit: i64, wide: bool) -> Spec
         ensures { result ≡ record { attribute = attribute; form = form; implicit = implicit; wide = wide } }
     {
-        let row = find_form(form, wide);
+        // Field by field: a row that was just written in parts is slow to copy whole.
+        let row = match find_form(form, wide) {
+            Some(row) => Some(FormRow {
+                code: row.code,
+                layout: row.layout,
+                class: row.class,
+            }),
+            None => None,
+        };
         Spec {
             attribute,
             form,
@@ -154,21 +162,21 @@ impl Spec {
 #[derive(Drop)]
 pub struct SpecList {
     items: Vec<Spec>,
-    steps: Option<Vec<Step>>,
+    plan: Option<Plan>,
     takes: Option<Vec<Take>>,
 }
 
 impl Model for SpecList {
     ghost use Rattle.std.specs.Prelude.{List, IfSome};
     ghost use Rattle.abbrev_units.specs.SpecFields.{SpecFields};
-    ghost use Rattle.abbrev_units.specs.internal.Plans.{IsPlan};
+    ghost use Rattle.abbrev_units.specs.internal.Plans.{ended, IsPlan};
     ghost use Rattle.abbrev_units.specs.Takes.{AreTakes};
 
     ghost Value = { List SpecFields };
 
     ghost view = { λ l. l.items.items };
 
-    ghost invariant = { λ l. IfSome l.steps (λ steps. IsPlan steps.items l.items.items) × IfSome l.takes (λ takes. AreTakes takes.items l.items.items) };
+    ghost invariant = { λ l. IfSome l.plan (λ plan. IsPlan (ended plan.steps.items plan.tail) l.items.items) × IfSome l.takes (λ takes. AreTakes takes.items l.items.items) };
 }
 
 impl SpecList {
@@ -176,17 +184,13 @@ impl SpecList {
     pub(crate) fn of(alloc: Global, items: Vec<Spec>, asked: bool) -> Result<SpecList, OutOfMemory>
         ensures { IfOk result (λ list. list ≡ items.items) }
     {
-        let steps = make_plan(alloc, items.as_slice())?;
+        let plan = make_plan(alloc, items.as_slice())?;
         let takes = if asked {
             takes_of(alloc, items.as_slice())?
         } else {
             None
         };
-        Ok(SpecList {
-            items,
-            steps,
-            takes,
-        })
+        Ok(SpecList { items, plan, takes })
     }
 
     pub fn as_slice(&self) -> &[Spec]
@@ -206,19 +210,34 @@ impl SpecList {
         }
     }
 
+    /// Passes the values of the attributes by a short way; false where there is none, or a value is not there, and nothing is
+    /// passed.
+    #[inline(always)]
+    #[tactic(auto, using(crate::proofs::PlanLemmas::short_way))]
+    pub fn pass(&self, cursor: &mut Cursor<'_>) -> bool
+        ensures passed { result ≡ true → Ok cursor.new ≡ behind_values self.now cursor.old }
+        ensures kept { result ≡ false → cursor.new ≡ cursor.old }
+    {
+        let Some(plan) = &self.plan else {
+            return false;
+        };
+        let mut probe = cursor.fork();
+        if !pass_plan(&mut probe, plan) {
+            return false;
+        }
+        *cursor = probe;
+        true
+    }
+
     /// Passes the values of the attributes, one after the other. A refused call leaves the cursor where it
     /// was.
-    #[tactic(auto, using(crate::proofs::PlanLemmas::short_way))]
+    #[inline(never)]
     pub fn skip(&self, cursor: &mut Cursor<'_>) -> Result<(), FormFault>
         ensures passed { left_by result cursor.new ≡ behind_values self.now cursor.old }
         ensures kept { OnErr result (cursor.new ≡ cursor.old) }
     {
-        if let Some(steps) = &self.steps {
-            let mut probe = cursor.fork();
-            if pass_steps(&mut probe, steps.as_slice()) {
-                *cursor = probe;
-                return Ok(());
-            }
+        if self.pass(cursor) {
+            return Ok(());
         }
         let mut probe = cursor.fork();
         skip_values(&mut probe, self.items.as_slice())?;

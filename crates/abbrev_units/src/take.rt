@@ -37,7 +37,17 @@ const NO_TAKE: Take = Take {
     class: FormClass::Other,
 };
 
-/// Reads an operand: the usual numbers are read here.
+/// Reads an operand of any layout, and gives the cursor behind it.
+#[inline(never)]
+fn read_any<'a>(cursor: Cursor<'a>, kind: Kind) -> Result<(Operand, Cursor<'a>), CursorFault>
+    ensures { result ≡ kind_at kind cursor.entry }
+{
+    let mut behind = cursor;
+    let operand = read_kind(&mut behind, kind)?;
+    Ok((operand, behind))
+}
+
+/// Reads an operand: the usual numbers are read here, and the cursor of a caller stays in registers.
 #[inline(always)]
 #[tactic(auto, unfolding(code_table::specs::Layouts::kind_at))]
 fn read_usual(cursor: &mut Cursor<'_>, kind: Kind) -> Result<Operand, CursorFault>
@@ -50,7 +60,11 @@ fn read_usual(cursor: &mut Cursor<'_>, kind: Kind) -> Result<Operand, CursorFaul
         Kind::U16 => Ok(Operand::Num(u64::from(cursor.u16()?))),
         Kind::U32 => Ok(Operand::Num(u64::from(cursor.u32()?))),
         Kind::U64 => Ok(Operand::Num(cursor.u64()?)),
-        _ => read_kind(cursor, kind),
+        _ => {
+            let (operand, behind) = read_any(cursor.fork(), kind)?;
+            *cursor = behind;
+            Ok(operand)
+        }
     }
 }
 

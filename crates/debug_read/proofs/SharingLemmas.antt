@@ -6,11 +6,10 @@ use Rattle.sym_edges.specs.Results.{◌>>=◌}
 use Rattle.sym_edges.specs.declared.located.Located.{Located}
 use Rattle.sym_edges.specs.declared.part.Sect.TheVariants as section
 use Rattle.leb_cursor.specs.Ahead.{Ahead}
-use Rattle.leb_cursor.specs.Lists.{list_at}
 use Rattle.abbrev_units.specs.declared.abbrev.Abbrev.{Abbrev}
 use Rattle.abbrev_units.specs.declared.fault.DwarfKind.{DwarfKind}
 use Rattle.abbrev_units.specs.declared.unit.Unit.{Unit}
-use Rattle.abbrev_units.specs.Abbreviations.{abbrev_at, abbrevs_of}
+use Rattle.abbrev_units.specs.Abbreviations.{used_at, abbrevs_of}
 use Rattle.abbrev_units.specs.DebugSections.{DebugSections}
 use Rattle.abbrev_units.specs.Faults.{read_in}
 use Rattle.abbrev_units.specs.Texts.{ahead_from}
@@ -25,7 +24,7 @@ abbrev only_list : List Abbrev × Ahead → Read
 only_list x = Ok x.0
 
 abbrev abbrevs_from : DebugSections → ℕ → Bool → Read
-abbrevs_from sections at wide = read_in section.Abbrev (list_at (abbrev_at wide) (ahead_from at sections.abbrevs)) >>= only_list
+abbrevs_from sections at wide = read_in section.Abbrev (used_at wide (ahead_from at sections.abbrevs)) >>= only_list
 
 inside_is : (sections : DebugSections) (unit : Unit) → unit.abbrev_at ≤ length sections.abbrevs → abbrevs_of sections unit ≡ abbrevs_from sections unit.abbrev_at unit.wide
 unfolding abbrevs_of

@@ -132,3 +132,8 @@ pub moved_refused : (sections : DebugSections) (unit : Unit) (w v : Walked) (at 
 unfolding entered_at moved_at
 moved_refused sections unit w v at found (Fault fault) c d is = moved_refused_by sections unit w at found (read_values_at found.specs c) fault is
 moved_refused sections unit w v at found NoMemory c d is = tt
+
+-- an entry without children
+pub moved_alone : (sections : DebugSections) (unit : Unit) (w v : Walked) (at : ℕ) (found : Abbrev) (answer : Result (Prim.Unit {0}) (Stop (Located DwarfKind))) (c d : Ahead) → Moves answer v d (entered_at sections unit w at found c) → found.children ≡ false → Moves answer v d (moved_at sections unit w at found c)
+moved_alone sections unit w v at found (Ok done) c d is none = moved_plain sections unit w v at found c d is none
+moved_alone sections unit w v at found (Err stop) c d is none = moved_refused sections unit w v at found stop c d is

@@ -267,9 +267,30 @@ impl<'a> Walker<'a> {
         Ok(())
     }
 
-    /// Takes an entry in, without its children.
-    #[inline]
+    /// Takes an entry in, without its children, kept or not. It stands alone, so that what it answers is not in the way of entries
+    /// that the short way passes.
+    #[inline(never)]
     #[tactic(auto, using(crate::proofs::StepLemmas::passed_over, crate::proofs::StepLemmas::passed_refused))]
+    fn take_slowly(
+        &mut self,
+        sections: &Sections<'a>,
+        unit: &Unit,
+        cursor: &mut Cursor<'a>,
+        at: u32,
+        found: &Abbrev,
+    ) -> Result<(), Stop<DwarfFault>>
+        requires { keeps self.old found.now.tag ≡ false }
+        ensures { Moves result self.new cursor.new (entered_at sections.now unit.now self.old at found.now cursor.old) }
+    {
+        match found.specs.skip(cursor) {
+            Ok(()) => Ok(()),
+            Err(fault) => Err(Stop::Fault(value_fault(fault))),
+        }
+    }
+
+    /// Takes an entry in, without its children.
+    #[inline(always)]
+    #[tactic(auto, using(crate::proofs::StepLemmas::passed_over))]
     fn take_entry(
         &mut self,
         sections: &Sections<'a>,
@@ -284,10 +305,10 @@ impl<'a> Walker<'a> {
         if self.keeps(found.tag) {
             return self.take_kept(sections, unit, cursor, at, found);
         }
-        match found.specs.skip(cursor) {
-            Ok(()) => Ok(()),
-            Err(fault) => Err(Stop::Fault(value_fault(fault))),
+        if found.specs.pass(cursor) {
+            return Ok(());
         }
+        self.take_slowly(sections, unit, cursor, at, found)
     }
 
     /// The number of the nearest kept entry around an entry's children.
@@ -310,7 +331,7 @@ impl<'a> Walker<'a> {
     }
 
     /// Takes an entry in, and opens the list of its children.
-    #[tactic(auto, using(crate::proofs::StepLemmas::moved_plain, crate::proofs::StepLemmas::moved_opened, crate::proofs::StepLemmas::moved_refused))]
+    #[tactic(auto, using(crate::proofs::StepLemmas::moved_alone, crate::proofs::StepLemmas::moved_opened, crate::proofs::StepLemmas::moved_refused))]
     fn enter(
         &mut self,
         sections: &Sections<'a>,
@@ -323,14 +344,15 @@ impl<'a> Walker<'a> {
         requires strs { self.old.strs ≡ sections.now.strs }
         ensures { Moves result self.new cursor.new (moved_at sections.now unit.now self.old at found.now cursor.old) }
     {
+        if !found.children {
+            return self.take_entry(sections, unit, cursor, at, found);
+        }
         let own = self.own_number(found.tag);
         match self.take_entry(sections, unit, cursor, at, found) {
             Ok(()) => {}
             Err(stop) => return Err(stop),
         }
-        if found.children {
-            self.open(own)?;
-        }
+        self.open(own)?;
         Ok(())
     }
 

@@ -1,5 +1,5 @@
 -- A short way over the values of an entry.
-use Rattle.std.specs.Prelude.{◌≡◌, ℕ, pos, ◌==◌, false, List, [], ◌∷◌, Option, None, Some, Result, Ok}
+use Rattle.std.specs.Prelude.{◌≡◌, ℕ, pos, ◌==◌, false, List, [], ◌∷◌, ◌++◌, Option, None, Some, Result, Ok}
 use Rattle.code_table.specs.declared.forms.FormRow.{FormRow}
 use Rattle.sym_edges.specs.Results.{◌>>=◌}
 use Rattle.leb_cursor.specs.declared.fault.CursorFault.{CursorFault}
@@ -23,6 +23,10 @@ step_at step c = only_ahead (take_at step.bytes c) >>= λ d. only_ahead (kind_at
 unfoldable pub steps_at : List Step → Ahead → Result Ahead CursorFault
 steps_at [] c = Ok c
 steps_at (step ∷ steps) c = step_at step c >>= λ d. steps_at steps d
+
+-- steps, and so many bytes after the last of them
+abbrev pub ended : List Step → ℕ → List Step
+ended steps bytes = steps ++ record { bytes = bytes; kind = kind.Nothing } ∷ []
 
 -- where the steps succeed, they pass the values of the attributes
 abbrev pub IsPlan : List Step → List SpecFields → Type 0

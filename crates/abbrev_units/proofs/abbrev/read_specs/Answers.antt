@@ -1,12 +1,11 @@
 use Rattle.std.proofs.Common.{Ok, Option, sym, ap, ◌∙◌}
-use Rattle.leb_cursor.specs.Lists.{list_at}
 use Rattle.abbrev_units.specs.SpecFields.{SpecFields}
-use Rattle.abbrev_units.specs.Abbreviations.{spec_at}
+use Rattle.abbrev_units.specs.internal.Used.{used_specs_at}
 use Rattle.abbrev_units.proofs.AbbrevLemmas.{specs_end}
 use Rattle.abbrev_units.proofs.abbrev.read_specs.Goals as goal
 
 pub returns-in-Ok-None : goal.returns-in-Ok-None
 returns-in-Ok-None c =
-    specs_end c.args.wide c.specs.specs.items c.specs.cursor c.read_spec.new.cursor (list_at (spec_at c.args.wide) c.args.cursor.now) c.specs.invariant
+    specs_end c.args.wide c.specs.specs.items c.specs.cursor c.read_spec.new.cursor (used_specs_at c.args.wide c.args.cursor.now) c.specs.invariant
     (ap (λ (next : Option SpecFields). Ok (next, c.read_spec.new.cursor)) (sym c.in-Ok-None.field-0-is) ∙ c.in-Ok-None.ensures)
     ∙ ap (λ specs. Ok (specs, c.read_spec.new.cursor)) (sym c.of.ensures)

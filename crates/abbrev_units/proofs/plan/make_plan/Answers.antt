@@ -1,6 +1,6 @@
 use Rattle.std.proofs.Common.{ℕ, ◌+◌, take, sym, ap, subst, ◌∙◌}
-use Rattle.abbrev_units.specs.internal.Plans.{IsPlan}
-use Rattle.abbrev_units.proofs.PlanLemmas.{ended, plan_sized, plan_read, more_taken}
+use Rattle.abbrev_units.specs.internal.Plans.{ended, IsPlan}
+use Rattle.abbrev_units.proofs.PlanLemmas.{plan_sized, plan_read, more_taken}
 use Rattle.abbrev_units.proofs.plan.make_plan.Goals as goal
 
 pub specs-preserved-in-Some-size_of : goal.specs-preserved-in-Some-size_of

@@ -1,6 +1,5 @@
 use Rattle.std.proofs.Common.{take}
-use Rattle.abbrev_units.specs.internal.Plans.{IsPlan}
-use Rattle.abbrev_units.proofs.PlanLemmas.{ended}
+use Rattle.abbrev_units.specs.internal.Plans.{ended, IsPlan}
 use Rattle.abbrev_units.proofs.plan.make_plan.Given as goal
 
 abbrev pub invariant-specs : goal.invariant-specs
