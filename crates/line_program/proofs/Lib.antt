@@ -15,6 +15,7 @@ pub mod TableLemmas
 pub mod SaysLemmas
 pub mod ReadLemmas
 pub mod StopLemmas
+pub mod KeptLemmas
 pub mod LinesLemmas
 pub mod Computing
 mod Samples

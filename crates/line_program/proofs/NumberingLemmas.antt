@@ -16,7 +16,7 @@ use Rattle.std.proofs.lemmas.Bool.Decides.{nat_tests}
 use Rattle.std.proofs.lemmas.Slice.Eq.{bytes_eq-Decides}
 use denote.Ref.{Bor}
 use Rattle.line_program.specs.LineMaps.{with_path, paths_from, distinct_paths, AreDistinct}
-use Rattle.line_program.specs.internal.Numbering.{picked, AreNumbered, AllBelow}
+use Rattle.line_program.specs.internal.Numbering.{picked, AreNumbered, AllBelow, ending_of}
 
 -- the place of a path
 pub place_in : List (List ℕ) → List ℕ → Option ℕ
@@ -136,25 +136,25 @@ unfolding paths_from
 paths_push paths [] f = refl
 paths_push paths (g ∷ files) f = paths_push (with_path paths g) files f
 
--- keys in the order of the lengths of paths, then of their bytes
+-- keys in the order of the ends of paths, then of their bytes
 abbrev Key : Type 0
 Key = ℕ × Bor (List ℕ)
 
 abbrev key_cmp : Key → Key → Ordering
 key_cmp x y = ordering_then (nat_cmp x.0 y.0) (slice_cmp nat_cmp x.1.now y.1.now)
 
--- how a path of a length compares with a key
+-- how a path with an end compares with a key
 abbrev with_key : ℕ → List ℕ → Key → Ordering
 with_key n q k = ordering_then (nat_cmp n k.0) (slice_cmp nat_cmp q k.1.now)
 
 abbrev found_in : List (Key × ℕ) → List ℕ → Option ℕ
-found_in entries q = lookup (tree.is_at (with_key (length q) q)) entries
+found_in entries q = lookup (tree.is_at (with_key (ending_of q) q)) entries
 
 -- what a map has of a path
 abbrev pub number_in : BTreeMap (ℕ × Bor (List ℕ)) ℕ → List ℕ → Option ℕ
-number_in numbers q = tree.get_by (with_key (length q) q) numbers
+number_in numbers q = tree.get_by (with_key (ending_of q) q) numbers
 
--- a path compares equal to a key of its length and its bytes
+-- a path compares equal to a key of its end and its bytes
 tests_same : (xs ys : List ℕ) → is_eq (slice_cmp nat_cmp xs ys) ≡ bytes_eq xs ys
 tests_same xs ys = is_eq-slice_cmp xs ys
 
@@ -173,28 +173,28 @@ key_is n q k is =
     let both = and_both (eqb n k.0) (bytes_eq q k.1.now) (sym (key_tests n q k) ∙ is) in
     (eqb-true n k.0 both.0, equal q k.1.now both.1)
 
-one_key : (q : List ℕ) (x y : Key) → is_eq (with_key (length q) q x) ≡ true → is_eq (with_key (length q) q y) ≡ is_eq (key_cmp x y)
+one_key : (q : List ℕ) (x y : Key) → is_eq (with_key (ending_of q) q x) ≡ true → is_eq (with_key (ending_of q) q y) ≡ is_eq (key_cmp x y)
 one_key q x y is =
-    let same = key_is (length q) q x is in
+    let same = key_is (ending_of q) q x is in
     ap (λ n. is_eq (with_key n q y)) same.0 ∙ ap (λ p. is_eq (with_key x.0 p y)) same.1
 
 false_by : (b : Bool) → (b ≡ true → ⊥) → b ≡ false
 false_by true not = absurd (not refl)
 false_by false not = refl
 
-apart_keys : (n : ℕ) (text q : List ℕ) → bytes_eq text q ≡ false → (k : Key) → is_eq (with_key n text k) ≡ true → is_eq (with_key (length q) q k) ≡ false
+apart_keys : (n : ℕ) (text q : List ℕ) → bytes_eq text q ≡ false → (k : Key) → is_eq (with_key n text k) ≡ true → is_eq (with_key (ending_of q) q k) ≡ false
 apart_keys n text q other k is =
-    false_by (is_eq (with_key (length q) q k)) (λ also.
+    false_by (is_eq (with_key (ending_of q) q k)) (λ also.
     let one = key_is n text k is in
-    let two = key_is (length q) q k also in
+    let two = key_is (ending_of q) q k also in
     let same : text ≡ q = one.1 ∙ sym two.1 in
     let no : true ≡ false = sym (same_bytes text) ∙ ap (bytes_eq text) same ∙ other in cc)
 
 others_keep : (old new : List (Key × ℕ)) (n : ℕ) (text q : List ℕ) → KeepsOthers (eq_by_cmp key_cmp) (tree.is_at (with_key n text)) old new → bytes_eq text q ≡ false → found_in new q ≡ found_in old q
 unfolding KeepsOthers
-others_keep old new n text q keeps other = keeps (tree.is_at (with_key (length q) q)) (one_key q) (apart_keys n text q other)
+others_keep old new n text q keeps other = keeps (tree.is_at (with_key (ending_of q) q)) (one_key q) (apart_keys n text q other)
 
-updated_by : (t : Bool) (n : ℕ) (text q : List ℕ) (m more : BTreeMap Key ℕ) (w : Option ℕ) → bytes_eq text q ≡ t → n ≡ length text → tree.UpdatesBy key_cmp (with_key n text) m more w → number_in more q ≡ cond t w (number_in m q)
+updated_by : (t : Bool) (n : ℕ) (text q : List ℕ) (m more : BTreeMap Key ℕ) (w : Option ℕ) → bytes_eq text q ≡ t → n ≡ ending_of text → tree.UpdatesBy key_cmp (with_key n text) m more w → number_in more q ≡ cond t w (number_in m q)
 updated_by true n text q m more w is count updates =
     let same : text ≡ q = equal text q is in
     sym (ap (λ p. number_in more p) same) ∙ sym (ap (λ k. tree.get_by (with_key k text) more) count) ∙ updates.1
@@ -224,7 +224,7 @@ none_any : (paths : List (List ℕ)) (q : List ℕ) (o : Option ℕ) → place_i
 none_any paths q o is = ap (λ t. cond t paths (paths ++ q ∷ [])) (place_any paths q ∙ ap is_some is)
 
 -- a file whose path has a number
-pub numbers_old : (texts : List (List ℕ)) (file : ℕ) (firsts files more : List ℕ) (numbers : BTreeMap (ℕ × Bor (List ℕ)) ℕ) (text : List ℕ) (long number : ℕ) → file < length texts → Numbers texts file firsts files numbers → text ≡ get_or texts file text → long ≡ length text → Some number ≡ tree.get_by (with_key long text) numbers → more ≡ files ++ number ∷ [] → Numbers texts (file + 1) firsts more numbers
+pub numbers_old : (texts : List (List ℕ)) (file : ℕ) (firsts files more : List ℕ) (numbers : BTreeMap (ℕ × Bor (List ℕ)) ℕ) (text : List ℕ) (long number : ℕ) → file < length texts → Numbers texts file firsts files numbers → text ≡ get_or texts file text → long ≡ ending_of text → Some number ≡ tree.get_by (with_key long text) numbers → more ≡ files ++ number ∷ [] → Numbers texts (file + 1) firsts more numbers
 numbers_old texts file firsts files more numbers text long number inside n at count known added =
     let found : Some number ≡ number_in numbers text = known ∙ ap (λ k. tree.get_by (with_key k text) numbers) count in
     let front : take (file + 1) texts ≡ take file texts ++ text ∷ [] = take_more texts file text inside ∙ ap (λ t. take file texts ++ t ∷ []) (sym at) in
@@ -261,7 +261,7 @@ other_by false text q paths number is none count =
     or_nothing (place_in paths q) (bytes_eq q text) (length paths) (λ yes. (let no : true ≡ false = sym (same_bytes text ∙ refl) ∙ ap (λ r. bytes_eq text r) (sym (equal q text yes)) ∙ is in cc))
 
 -- a file whose path has none yet
-pub numbers_new : (texts : List (List ℕ)) (file : ℕ) (firsts files more_firsts more : List ℕ) (numbers more_numbers : BTreeMap (ℕ × Bor (List ℕ)) ℕ) (text : List ℕ) (long number : ℕ) → file < length texts → Numbers texts file firsts files numbers → text ≡ get_or texts file text → long ≡ length text → None ≡ tree.get_by (with_key long text) numbers → number ≡ length firsts
+pub numbers_new : (texts : List (List ℕ)) (file : ℕ) (firsts files more_firsts more : List ℕ) (numbers more_numbers : BTreeMap (ℕ × Bor (List ℕ)) ℕ) (text : List ℕ) (long number : ℕ) → file < length texts → Numbers texts file firsts files numbers → text ≡ get_or texts file text → long ≡ ending_of text → None ≡ tree.get_by (with_key long text) numbers → number ≡ length firsts
     → more_firsts ≡ firsts ++ file ∷ [] → tree.UpdatesBy key_cmp (with_key long text) numbers more_numbers (Some number) → more ≡ files ++ number ∷ []
     → Numbers texts (file + 1) more_firsts more more_numbers
 numbers_new texts file firsts files more_firsts more numbers more_numbers text long number inside n at size unknown count added updates pushed =

@@ -1,6 +1,6 @@
 -- The rows of a line number program: its opcodes, carried out one after another (DWARF 5, 6.2.2 and 6.2.5).
-use Rattle.std.specs.Prelude.{ℕ, ℤ, pos, ◌+ℤ◌, ◌+◌, ◌-◌, ◌*◌, ◌/◌, ◌%◌, ◌^◌, min, List, [], ◌∷◌, ◌++◌, Result, Ok}
-use Rattle.std.specs.Int.{w64, cast_unsigned}
+use Rattle.std.specs.Prelude.{ℕ, ℤ, pos, unsigned_abs, ◌+ℤ◌, ◌+◌, ◌-◌, ◌*◌, ◌/◌, ◌%◌, ◌^◌, List, [], ◌∷◌, ◌++◌, Result, Ok}
+use Rattle.std.specs.Int.{int_rem_euclid}
 use Rattle.sym_edges.specs.Results.{◌>>=◌}
 use Rattle.leb_cursor.specs.Ahead.{Ahead}
 use Rattle.line_program.specs.declared.opcode.Opcode.{Opcode}
@@ -27,7 +27,7 @@ advanced p address count = (address + p.minimum_length * count) % 2 ^ 64
 
 -- a line that goes on by a number that may be negative, modulo 2^32
 abbrev pub line_on : ℕ → ℤ → ℕ
-line_on line by = (line + cast_unsigned w64 by) % 2 ^ 32
+line_on line by = unsigned_abs (int_rem_euclid (pos line +ℤ by) (pos (2 ^ 32)))
 
 -- the registers after an opcode (6.2.5.1 to 6.2.5.3); DW_LNS_const_add_pc moves the address as the special opcode 255 would
 unfoldable pub moved : ProgramFields → Opcode → Registers → Registers
@@ -41,9 +41,9 @@ moved p EndSequence r = first_registers
 moved p (SetAddress address) r = record { address = address; file = r.file; line = r.line }
 moved p _ r = r
 
--- the row of the registers; a file number of 2^32 - 1 and above is that of no file, and is kept as that one
+-- the row of the registers
 abbrev pub row_of : Registers → Row
-row_of r = record { address = r.address; file = min r.file (2 ^ 32 - 1); line = r.line }
+row_of r = record { address = r.address; file = r.file; line = r.line }
 
 -- a sequence of rows, and the address after its last instruction
 pub record Sequence : Type 0 where

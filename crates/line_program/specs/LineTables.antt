@@ -13,6 +13,7 @@ use Rattle.line_program.specs.LineAt.{Lines}
 use Rattle.line_program.specs.LineMaps.{LineMap, SaysLines}
 use Rattle.line_program.specs.LineRows.{State, line_rows}
 use Rattle.line_program.specs.Paths.{directories_of, file_path, first_file}
+use Rattle.line_program.specs.ProgramFields.{ProgramFields}
 
 -- what a header's tables and a program's rows say; the files that the program defined are the last of the table
 unfoldable pub lines_of : List ℕ → ℕ → Tables → State → Lines
@@ -22,13 +23,16 @@ lines_of comp_dir version tables state = record {
   files = map (file_path (directories_of version comp_dir tables.directories)) (tables.files ++ state.files);
 }
 
+-- what the tables and the program that stands ahead say
+abbrev pub program_lines : List ℕ → ProgramFields → Tables → Ahead → Result Lines Fault
+program_lines comp_dir p tables c = line_rows p c >>= λ state. Ok (lines_of comp_dir p.version tables state)
+
 -- the line table ahead of its first byte, in a unit with that compilation directory
 unfoldable pub lines_at : DebugSections → List ℕ → Ahead → Result Lines Fault
 lines_at sections comp_dir c =
     as_header Line c.at (table_at c) >>= λ header.
     tables_at sections c.at header >>= λ tables.
-    line_rows header.program header.opcodes >>= λ state.
-    Ok (lines_of comp_dir header.program.version tables state)
+    program_lines comp_dir header.program tables header.opcodes
 
 -- the line table at an offset that the unit's root, which stands at a place, has
 unfoldable pub unit_lines : DebugSections → ℕ → ℕ → List ℕ → Result Lines Fault

@@ -4,3 +4,4 @@ pub mod Painting
 pub mod RowsAbove
 pub mod Directories
 pub mod Numbering
+pub mod KeptRows

@@ -1,15 +1,17 @@
 //! A line table of `.debug_line`, whole (DWARF 5, 6.2).
-ghost use Rattle.std.specs.Prelude.{◌≡◌, List, IfOk, Err};
+ghost use Rattle.std.specs.Prelude.{◌≡◌, ◌+◌, ◌<◌, ◌^◌, List, length, IfOk, Err};
 ghost use Rattle.sym_edges.specs.Addresses.{Range};
 ghost use Rattle.sym_edges.specs.Outside.{MatchStop};
 ghost use Rattle.range_set.specs.Enclosing.{encloses};
 ghost use Rattle.line_program.specs.LineMaps.{EncloseAlike, SaysLines};
-ghost use Rattle.line_program.specs.LineTables.{lines_of, lines_at, unit_lines, Says};
+ghost use Rattle.line_program.specs.LineTables.{lines_of, program_lines, lines_at, unit_lines, Says};
+ghost use Rattle.line_program.specs.internal.KeptRows.{or_kept_lines};
 
 use crate::fault::{LineFault, Reading};
 use crate::header::{Header, read_table};
 use crate::machine::{LineSequence, Machine};
 use crate::paths::Directories;
+use crate::program::Program;
 use crate::running::run_program;
 use crate::table::LineTable;
 use crate::tables::{Tables, read_tables};
@@ -62,6 +64,25 @@ fn name_files<'a>(
     })
 }
 
+/// What the tables and the opcodes of a header say.
+#[tactic(auto, using(crate::proofs::KeptLemmas::lines_read, crate::proofs::KeptLemmas::lines_refused))]
+fn read_rows<'a>(
+    alloc: Global,
+    comp_dir: &[u8],
+    program: &Program<'a>,
+    tables: Tables<'a>,
+    opcodes: Cursor<'a>,
+) -> Reading<Lines>
+    ensures { IfOk result (λ read. read ≡ or_kept_lines (program_lines comp_dir.now program.now tables.entry opcodes.entry)) }
+{
+    let machine = match run_program(alloc, program, opcodes)? {
+        Ok(machine) => machine,
+        Err(fault) => return Ok(Err(fault)),
+    };
+    let lines = name_files(alloc, comp_dir, program.version, tables, machine)?;
+    Ok(Ok(lines))
+}
+
 /// Reads the table that stands ahead.
 #[tactic(auto, unfolding(crate::specs::LineTables::lines_at))]
 fn read_ahead<'a>(
@@ -70,7 +91,7 @@ fn read_ahead<'a>(
     comp_dir: &[u8],
     cursor: Cursor<'a>,
 ) -> Reading<Lines>
-    ensures { IfOk result (λ read. read ≡ lines_at sections.now comp_dir.now cursor.entry) }
+    ensures { IfOk result (λ read. read ≡ or_kept_lines (lines_at sections.now comp_dir.now cursor.entry)) }
 {
     let start = cursor.at();
     let header = match read_table(cursor) {
@@ -87,17 +108,14 @@ fn read_ahead<'a>(
         tables: _,
         opcodes,
     } = header;
-    let machine = match run_program(alloc, &program, opcodes)? {
-        Ok(machine) => machine,
-        Err(fault) => return Ok(Err(fault)),
-    };
-    let lines = name_files(alloc, comp_dir, program.version, tables, machine)?;
-    Ok(Ok(lines))
+    let lines = read_rows(alloc, comp_dir, &program, tables, opcodes)?;
+    Ok(lines)
 }
 
 /// The table of what was read.
 fn table_of(alloc: Global, code: &Enclosing, lines: Lines) -> Result<LineTable, OutOfMemory>
-    ensures { IfOk result (λ table. SaysLines (encloses code.now) lines table) }
+    ensures says { IfOk result (λ table. SaysLines (encloses code.now) lines table) }
+    ensures few { IfOk result (λ table. lines.first + length lines.files < 2 ^ 32) }
 {
     let Lines {
         sequences,
@@ -105,6 +123,29 @@ fn table_of(alloc: Global, code: &Enclosing, lines: Lines) -> Result<LineTable, 
         files,
     } = lines;
     LineTable::of(alloc, code, sequences, first, files)
+}
+
+/// Reads the table that stands ahead, and paints its lines.
+#[tactic(auto, using(crate::proofs::LinesLemmas::refused_kept))]
+fn read_at(
+    alloc: Global,
+    sections: &Sections<'_>,
+    comp_dir: &[u8],
+    cursor: Cursor<'_>,
+    code: &Enclosing,
+) -> Result<LineTable, Stop<DwarfFault>>
+    ensures { MatchStop result
+        (λ table. (spans : List Range) → EncloseAlike code.now spans → Says (encloses spans) (lines_at sections.now comp_dir.now cursor.entry) table)
+        (λ fault. lines_at sections.now comp_dir.now cursor.entry ≡ Err fault)
+        (Unit {0}) }
+{
+    match read_ahead(alloc, sections, comp_dir, cursor)? {
+        Ok(lines) => {
+            let table = table_of(alloc, code, lines)?;
+            Ok(table)
+        }
+        Err(fault) => Err(Stop::Fault(fault.into_fault())),
+    }
 }
 
 /// Reads the line table at an offset in `.debug_line`: the offset of a unit whose root stands at `place` of `.debug_info`.
@@ -115,7 +156,7 @@ fn table_of(alloc: Global, code: &Enclosing, lines: Lines) -> Result<LineTable, 
 /// `place`. At the table's start: `Ends` where the length leaves the section, `Reserved`, `LineVersion`, and `LineHeader` where a field
 /// of the header cannot be, the program begins after the table, or a count is above the bytes that are left. At their
 /// own places: `Ends`, `LebLong`, `NoZero`, `UnknownForm` and `LineOpcode`.
-#[tactic(auto, using(crate::proofs::LinesLemmas::offset_outside, crate::proofs::LinesLemmas::offset_inside))]
+#[tactic(auto, using(crate::proofs::LinesLemmas::offset_outside, crate::proofs::LinesLemmas::inside_reads))]
 pub fn read_lines(
     alloc: Global,
     sections: &Sections<'_>,
@@ -137,11 +178,5 @@ pub fn read_lines(
         }));
     }
     let cursor = Cursor::new(sections.line, offset as usize, sections.line.len());
-    match read_ahead(alloc, sections, comp_dir, cursor)? {
-        Ok(lines) => {
-            let table = table_of(alloc, code, lines)?;
-            Ok(table)
-        }
-        Err(fault) => Err(Stop::Fault(fault.into_fault())),
-    }
+    read_at(alloc, sections, comp_dir, cursor, code)
 }

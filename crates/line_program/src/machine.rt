@@ -1,7 +1,8 @@
 //! Carrying out an opcode.
 ghost use Rattle.std.specs.Prelude.{◌≡◌, [], ◌∷◌, ◌++◌, OnOk};
 ghost use Rattle.line_program.specs.declared.opcode.Opcode.TheVariants.{EndSequence};
-ghost use Rattle.line_program.specs.LineRows.{first_state, carried, row_of, advanced, line_on};
+ghost use Rattle.line_program.specs.LineRows.{first_state, row_of, advanced, line_on};
+ghost use Rattle.line_program.specs.internal.KeptRows.{kept_row, carried_kept};
 
 use crate::file_entry::FileEntry;
 use crate::opcode::Opcode;
@@ -61,6 +62,7 @@ fn advance(program: &Program<'_>, address: u64, count: u64) -> u64
 
 /// A line that goes on by a number that may be negative.
 #[inline]
+#[tactic(auto, using(crate::proofs::NumberLemmas::line_goes))]
 fn advance_line(line: u32, by: i64) -> u32
     ensures { result ≡ line_on line by }
 {
@@ -99,10 +101,10 @@ impl<'a> Machine<'a> {
         (sequences, files)
     }
 
-    /// Adds the row of the registers.
+    /// Adds the row of the registers. No table has so many files as the greatest number that a row keeps.
     #[inline]
     fn push_row(&mut self) -> Result<(), OutOfMemory>
-        ensures { OnOk result (self.new ≡ record self.old { rows = self.old.rows ++ row_of self.old.registers ∷ [] }) }
+        ensures { OnOk result (self.new ≡ record self.old { rows = self.old.rows ++ kept_row (row_of self.old.registers) ∷ [] }) }
     {
         let file = if self.file < u64::from(u32::MAX) {
             self.file as u32
@@ -118,9 +120,9 @@ impl<'a> Machine<'a> {
     }
 
     /// Ends the sequence, and begins another.
-    #[tactic(auto, unfolding(crate::specs::LineRows::carried, crate::specs::LineRows::moved))]
+    #[tactic(auto, unfolding(crate::specs::internal::KeptRows::carried_kept, crate::specs::LineRows::carried, crate::specs::LineRows::moved))]
     fn end_sequence(&mut self, alloc: Global, program: &Program<'_>) -> Result<(), OutOfMemory>
-        ensures { OnOk result (self.new ≡ carried program.now EndSequence self.old) }
+        ensures { OnOk result (self.new ≡ carried_kept program.now EndSequence self.old) }
     {
         let rows = Vec::from_slice(alloc, self.rows.as_slice())?;
         self.sequences.push(LineSequence {
@@ -136,14 +138,14 @@ impl<'a> Machine<'a> {
 
     /// Carries out an opcode.
     #[inline]
-    #[tactic(auto, unfolding(crate::specs::LineRows::carried, crate::specs::LineRows::moved))]
+    #[tactic(auto, unfolding(crate::specs::internal::KeptRows::carried_kept, crate::specs::LineRows::carried, crate::specs::LineRows::moved))]
     pub fn carry_out(
         &mut self,
         alloc: Global,
         program: &Program<'_>,
         opcode: Opcode<'a>,
     ) -> Result<(), OutOfMemory>
-        ensures { OnOk result (self.new ≡ carried program.now opcode.entry self.old) }
+        ensures { OnOk result (self.new ≡ carried_kept program.now opcode.entry self.old) }
     {
         match opcode {
             Opcode::Special { adjusted } => {

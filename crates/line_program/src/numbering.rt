@@ -1,7 +1,8 @@
 //! Numbers for the paths of files, each path once.
-ghost use Rattle.std.specs.Prelude.{◌≡◌, ◌<◌, ◌^◌, length, IfOk};
+ghost use Rattle.std.specs.Prelude.{◌≡◌, ◌<◌, ◌≤◌, ◌^◌, length, IfOk};
+ghost use Rattle.leb_cursor.specs.Readings.{fixed_sum};
 ghost use Rattle.line_program.specs.LineMaps.{distinct_paths, AreDistinct};
-ghost use Rattle.line_program.specs.internal.Numbering.{picked, AreNumbered, AllBelow};
+ghost use Rattle.line_program.specs.internal.Numbering.{picked, AreNumbered, AllBelow, ending_of};
 
 use std::alloc::Global;
 use std::collections::BTreeMap;
@@ -14,6 +15,30 @@ pub(crate) struct Numbering {
     pub files: Vec<u32>,
 }
 
+/// The number of eight bytes at the front, the lowest first.
+#[inline]
+#[tactic(auto, unfolding(leb_cursor::specs::Readings::fixed_sum))]
+fn word_of(bytes: &[u8]) -> u64
+    requires { 8 ≤ length bytes.now }
+    ensures { result ≡ fixed_sum 8 bytes.now }
+{
+    u64::from_le_bytes([
+        bytes[0], bytes[1], bytes[2], bytes[3], bytes[4], bytes[5], bytes[6], bytes[7],
+    ])
+}
+
+/// The last eight bytes of a path as a number, or 0 where there are fewer.
+#[inline]
+#[tactic(auto, unfolding(crate::specs::internal::Numbering::ending_of))]
+fn ending_of(text: &[u8]) -> u64
+    ensures { result ≡ ending_of text.now }
+{
+    if text.len() < 8 {
+        return 0;
+    }
+    word_of(text.split_at(text.len() - 8).1)
+}
+
 /// Numbers paths in the order of the first file that has each.
 pub(crate) fn number_paths(alloc: Global, texts: &[ByteRun]) -> Result<Numbering, OutOfMemory>
     requires { length texts.now < 2 ^ 32 }
@@ -24,11 +49,11 @@ pub(crate) fn number_paths(alloc: Global, texts: &[ByteRun]) -> Result<Numbering
 {
     let mut firsts = Vec::new(alloc);
     let mut files = Vec::with_capacity(alloc, texts.len())?;
-    // By their lengths first, since many paths begin alike.
-    let mut numbers: BTreeMap<(usize, &[u8]), u32> = BTreeMap::new(alloc);
+    // By their ends first, since many paths begin alike.
+    let mut numbers: BTreeMap<(u64, &[u8]), u32> = BTreeMap::new(alloc);
     'files: for file in 0..texts.len() {
         let text = texts[file].as_slice();
-        let key = (text.len(), text);
+        let key = (ending_of(text), text);
         match numbers.get(&key) {
             Some(number) => {
                 files.push(*number)?;

@@ -1,6 +1,7 @@
 //! A whole program.
 ghost use Rattle.std.specs.Prelude.{◌≡◌, IfOk};
 ghost use Rattle.line_program.specs.LineRows.{line_rows};
+ghost use Rattle.line_program.specs.internal.KeptRows.{or_kept_state};
 
 use crate::fault::Reading;
 use crate::machine::Machine;
@@ -10,13 +11,13 @@ use leb_cursor::Cursor;
 use std::alloc::Global;
 
 /// The rows of a program.
-#[tactic(auto, using(crate::proofs::RunLemmas::run_more, crate::proofs::RunLemmas::run_ended, crate::proofs::RunLemmas::run_cut, crate::proofs::OpcodeLemmas::opcode_shorter))]
+#[tactic(auto, using(crate::proofs::RunLemmas::run_begins, crate::proofs::RunLemmas::run_more, crate::proofs::RunLemmas::run_ended, crate::proofs::RunLemmas::run_cut, crate::proofs::OpcodeLemmas::opcode_shorter))]
 pub fn run_program<'a>(
     alloc: Global,
     program: &Program<'_>,
     mut cursor: Cursor<'a>,
 ) -> Reading<Machine<'a>>
-    ensures { IfOk result (λ run. run ≡ line_rows program.now cursor.entry) }
+    ensures { IfOk result (λ run. run ≡ or_kept_state (line_rows program.now cursor.entry)) }
 {
     let mut machine = Machine::new(alloc);
     'opcodes: while !cursor.is_at_end() {

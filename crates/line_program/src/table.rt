@@ -1,5 +1,5 @@
 //! The line table of a unit, by address.
-ghost use Rattle.std.specs.Prelude.{◌≡◌, ℕ, ◌^◌, ◌<◌, [], length, slice_index, Some, IfOk, IfSome};
+ghost use Rattle.std.specs.Prelude.{◌≡◌, ℕ, ◌+◌, ◌^◌, ◌<◌, [], length, slice_index, Some, IfOk, IfSome};
 ghost use Rattle.std.specs.List.{slice_get};
 ghost use Rattle.range_set.specs.Enclosing.{encloses};
 ghost use Rattle.sym_edges.specs.Rising.{RisesFrom};
@@ -116,9 +116,10 @@ impl LineTable {
         first: u32,
         texts: Vec<ByteRun>,
     ) -> Result<LineTable, OutOfMemory>
-        ensures { IfOk result (λ table. SaysLines (encloses code.now) (record { sequences = sequences.items; first = first; files = texts.items }) table) }
+        ensures says { IfOk result (λ table. SaysLines (encloses code.now) (record { sequences = sequences.items; first = first; files = texts.items }) table) }
+        ensures few { IfOk result (λ table. first + length texts.items < 2 ^ 32) }
     {
-        if texts.len() as u64 >= 1 << 32 {
+        if texts.len() as u64 + u64::from(first) >= 1 << 32 {
             return Err(OutOfMemory);
         }
         let Numbering { firsts, files } = number_paths(alloc, texts.as_slice())?;

@@ -1,6 +1,7 @@
 -- Paths by their numbers, as the code keeps them.
-use Rattle.std.specs.Prelude.{◌≡◌, ◌≢◌, ℕ, ◌<◌, ◌^◌, List, [], ◌∷◌, map, length, slice_index, slice_index_or, Some}
+use Rattle.std.specs.Prelude.{◌≡◌, ◌≢◌, ℕ, ◌<◌, ◌-◌, ◌^◌, nat_lt, if◌then◌else◌, List, [], ◌∷◌, map, length, drop, slice_index, slice_index_or, Some}
 use Rattle.std.specs.List.{slice_get}
+use Rattle.leb_cursor.specs.Readings.{fixed_sum}
 use Rattle.step_maps.specs.Stepping.{Stepping, value_at}
 use Rattle.line_program.specs.declared.path_line.PathLine.{PathLine}
 use Rattle.line_program.specs.LineMaps.{no_line, AreDistinct}
@@ -8,6 +9,10 @@ use Rattle.line_program.specs.LineMaps.{no_line, AreDistinct}
 -- the texts at these places
 abbrev pub picked : List (List ℕ) → List ℕ → List (List ℕ)
 picked texts places = map (λ k. slice_index_or texts k []) places
+
+-- the last eight bytes of a path as a number, or 0 where there are fewer
+unfoldable pub ending_of : List ℕ → ℕ
+ending_of text = if nat_lt (length text) 8 then 0 else fixed_sum 8 (drop (length text - 8) text)
 
 -- each number is that of the path beside it
 abbrev pub AreNumbered : List (List ℕ) → List ℕ → List (List ℕ) → Type 0

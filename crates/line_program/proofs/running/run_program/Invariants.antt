@@ -1,9 +1,10 @@
 use Rattle.std.proofs.Common.{◌≡◌, length}
-use Rattle.line_program.specs.LineRows.{run_from, line_rows}
+use Rattle.line_program.specs.LineRows.{line_rows}
+use Rattle.line_program.specs.internal.KeptRows.{or_kept_state, run_kept}
 use Rattle.line_program.proofs.running.run_program.Given as goal
 
 abbrev pub invariant-opcodes : goal.invariant-opcodes
-invariant-opcodes l = run_from l.program l.machine l.cursor ≡ line_rows l.program l.initial.cursor
+invariant-opcodes l = run_kept l.program l.machine l.cursor ≡ or_kept_state (line_rows l.program l.initial.cursor)
 
 abbrev pub decreases-opcodes : goal.decreases-opcodes
 decreases-opcodes l = length l.cursor.bytes
