@@ -147,9 +147,9 @@ fn spell_head(
     ensures { IfOk result (λ text. HasHead image.now name.now units.now pieces.now (text_bytes text)) }
 {
     let base = image.base();
-    let mut text = TextPieces::new(alloc);
-    put_identity(alloc, &mut text.last, image, name)?;
-    add_functions(alloc, base, units, pieces.as_slice(), &mut text)?;
+    let mut front = TextPieces::new(alloc);
+    put_identity(alloc, &mut front.last, image, name)?;
+    let mut text = add_functions(alloc, base, units, pieces.as_slice(), front)?;
     let found = publics(alloc, image, pieces)?;
     add_publics(alloc, base, found.as_slice(), &mut text)?;
     Ok(text)

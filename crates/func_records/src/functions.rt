@@ -1,5 +1,5 @@
 //! The records of all functions of a file.
-ghost use Rattle.std.specs.Prelude.{OnOk};
+ghost use Rattle.std.specs.Prelude.{IfOk};
 ghost use Rattle.sym_records.specs.Spelled.{text_bytes};
 ghost use Rattle.die_names.specs.CleanPaths.{HaveCleanPaths};
 ghost use Rattle.func_records.specs.Adding.{AddsFunctions};
@@ -19,7 +19,7 @@ use std::alloc::Global;
 use sym_edges::OutOfMemory;
 use sym_records::TextPieces;
 
-/// Adds to a text the records of functions (Breakpad's symbol_files.md): a FILE record for each path that a line record or a call
+/// Adds to a text, which is given back, the records of functions (Breakpad's symbol_files.md): a FILE record for each path that a line record or a call
 /// names, and an INLINE_ORIGIN record for each name of a function that was inlined, both sorted by bytes and numbered from 0; then for
 /// each piece its FUNC record, an INLINE record for each inlined copy on the chains of its addresses, and a line record for each run
 /// of its lines. The base is taken off all addresses. Inlined copies are held from the first pass to the second; line runs are made
@@ -29,10 +29,10 @@ pub fn add_functions(
     base: u64,
     units: &Units<'_>,
     pieces: &[Piece],
-    text: &mut TextPieces,
-) -> Result<(), OutOfMemory>
+    front: TextPieces,
+) -> Result<TextPieces, OutOfMemory>
     requires { HaveCleanPaths units.now }
-    ensures { OnOk result (AddsFunctions base units.now pieces.now (text_bytes text.old) (text_bytes text.new)) }
+    ensures { IfOk result (λ text. AddsFunctions base units.now pieces.now (text_bytes front) (text_bytes text)) }
 {
     let held = hold_inlines(alloc, units, pieces)?;
     let copies = held.as_slice();
@@ -60,8 +60,16 @@ pub fn add_functions(
             names,
         },
     };
-    add_texts(alloc, Numbering::Files, paths, text)?;
-    add_texts(alloc, Numbering::Origins, names, text)?;
-    add_parts(alloc, &writer, pieces, copies, origins.as_slice(), text)?;
-    Ok(())
+    let mut text = front;
+    add_texts(alloc, Numbering::Files, paths, &mut text)?;
+    add_texts(alloc, Numbering::Origins, names, &mut text)?;
+    add_parts(
+        alloc,
+        &writer,
+        pieces,
+        copies,
+        origins.as_slice(),
+        &mut text,
+    )?;
+    Ok(text)
 }

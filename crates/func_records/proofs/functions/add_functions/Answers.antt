@@ -43,4 +43,4 @@ returns c =
     let paths : c.as_slice-paths.result.now ≡ c.in_ok-ranked_paths.ranked_paths.sorted.items = c.as_slice-paths.ensures.value in
     let slices : c.as_slice-2.result.now ≡ c.in_ok-slices.slices.items = c.as_slice-2.ensures.value in
     let names : c.as_slice-names.result.now ≡ c.in_ok-ranked_names.ranked_names.sorted.items = c.as_slice-names.ensures.value in
-    functions_added c.args.base c.args.units.now c.args.pieces.now c.as_slice-copies.result.now c.in_ok-used.used.items c.as_slice-paths.result.now c.in_ok-slices.slices.items c.as_slice-names.result.now c.in_ok-named.named.texts.items _ (text_bytes c.args.text.now) _ _ _ (rw (sym copies) at c.in_ok-held.ensures.are) c.in_ok-used.ensures (rw (sym paths) at c.in_ok-ranked_paths.ensures.sorted) (rw (sym paths) at (rw used at c.in_ok-ranked_paths.ensures.same)) c.in_ok-named.ensures.same (c.in_ok-slices.ensures ∙ c.as_slice-texts.ensures.value) (rw (sym names) at c.in_ok-ranked_names.ensures.sorted) (rw (sym names) at (rw slices at c.in_ok-ranked_names.ensures.same)) (c.as_slice-6.ensures.value ∙ c.in_ok-rows.ensures) (c.number_of.ensures ∙ ap (number_or_0 (bytes_of c.as_slice-paths.result.now)) c.no_path.ensures) refl c.in_ok-add_texts.ensures.text c.in_ok-add_texts.ensures.fit c.in_ok-add_texts-2.ensures.text c.in_ok-add_texts-2.ensures.fit c.in_ok-add_parts.ensures
+    functions_added c.args.base c.args.units.now c.args.pieces.now c.as_slice-copies.result.now c.in_ok-used.used.items c.as_slice-paths.result.now c.in_ok-slices.slices.items c.as_slice-names.result.now c.in_ok-named.named.texts.items _ (text_bytes c.args.front) _ _ _ (rw (sym copies) at c.in_ok-held.ensures.are) c.in_ok-used.ensures (rw (sym paths) at c.in_ok-ranked_paths.ensures.sorted) (rw (sym paths) at (rw used at c.in_ok-ranked_paths.ensures.same)) c.in_ok-named.ensures.same (c.in_ok-slices.ensures ∙ c.as_slice-texts.ensures.value) (rw (sym names) at c.in_ok-ranked_names.ensures.sorted) (rw (sym names) at (rw slices at c.in_ok-ranked_names.ensures.same)) (c.as_slice-6.ensures.value ∙ c.in_ok-rows.ensures) (c.number_of.ensures ∙ ap (number_or_0 (bytes_of c.as_slice-paths.result.now)) c.no_path.ensures) refl c.in_ok-add_texts.ensures.text c.in_ok-add_texts.ensures.fit c.in_ok-add_texts-2.ensures.text c.in_ok-add_texts-2.ensures.fit c.in_ok-add_parts.ensures
