@@ -200,13 +200,13 @@ head_names (record_line.Init address size rules) (record_line.Init start length 
 head_names _ _ is = never is
 
 -- two tests of a record in turn
-pub line_like : (own other : List SymLine) (a b : SymLine) (address size line file start many number path : ℕ) (run source : Bool) → a ≡ record_line.Line address size line file → b ≡ record_line.Line start many number path → run ≡ same_run address size start many → run ≡ true
-    → source ≡ same_source own other line file number path → source ≡ same_record own other a b
-line_like own other a b address size line file start many number path run source p q e holds is =
-    is ∙ sym (ap (λ s. same_record own other s b) p ∙ ap (same_record own other (record_line.Line address size line file)) q ∙ ap (λ r. r && same_source own other line file number path) (sym e ∙ holds))
+pub line_like : (own other : List SymLine) (other_line : SymLine) (address size line file start many number path : ℕ) (run source : Bool) → other_line ≡ record_line.Line start many number path → run ≡ same_run address size start many → run ≡ true
+    → source ≡ same_source own other line file number path → source ≡ same_record own other (record_line.Line address size line file) other_line
+line_like own other other_line address size line file start many number path run source p e holds is =
+    is ∙ sym (ap (same_record own other (record_line.Line address size line file)) p ∙ ap (λ r. r && same_source own other line file number path) (sym e ∙ holds))
 
-pub inline_like : (own other : List SymLine) (a b : SymLine) (level line file origin depth number path name : ℕ) (ranges extents first second : List Extent) (same site : Bool) → a ≡ record_line.Inline level line file origin ranges → b ≡ record_line.Inline depth number path name extents
-    → first ≡ ranges → second ≡ extents → same ≡ same_ranges level first depth second → same ≡ true → site ≡ same_site own other line file origin number path name → site ≡ same_record own other a b
-inline_like own other a b level line file origin depth number path name ranges extents first second same site p q f g e holds is =
-    let told : same ≡ same_ranges level ranges depth extents = e ∙ ap (λ rs. same_ranges level rs depth second) f ∙ ap (same_ranges level ranges depth) g in
-    is ∙ sym (ap (λ s. same_record own other s b) p ∙ ap (same_record own other (record_line.Inline level line file origin ranges)) q ∙ ap (λ r. r && same_site own other line file origin number path name) (sym told ∙ holds))
+pub inline_like : (own other : List SymLine) (other_line : SymLine) (level line file origin depth number path name : ℕ) (ranges extents second : List Extent) (same site : Bool) → other_line ≡ record_line.Inline depth number path name extents
+    → second ≡ extents → same ≡ same_ranges level ranges depth second → same ≡ true → site ≡ same_site own other line file origin number path name → site ≡ same_record own other (record_line.Inline level line file origin ranges) other_line
+inline_like own other other_line level line file origin depth number path name ranges extents second same site p g e holds is =
+    let told : same ≡ same_ranges level ranges depth extents = e ∙ ap (same_ranges level ranges depth) g in
+    is ∙ sym (ap (same_record own other (record_line.Inline level line file origin ranges)) p ∙ ap (λ r. r && same_site own other line file origin number path name) (sym told ∙ holds))

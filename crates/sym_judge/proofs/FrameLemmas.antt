@@ -168,10 +168,8 @@ pub alone_is : (own other : List SymLine) (x : ℕ) (init : Option ℕ) (found :
 alone_is own other x None found p q is = is ∙ nowhere own other x p (sym q)
 alone_is own other x (Some place) found p q is = is ∙ other_alone own other x place p (sym q)
 
-pub covered_is : {E : Type 0} (own other first second third fourth : List SymLine) (x : ℕ) (a b : RuleTable) (found : Result (Option Aspect) E) → first ≡ own → second ≡ other → third ≡ own → fourth ≡ other → IsTableAt first x a → IsTableAt second x b
-    → ((x : ℕ) → IsTableAt third x a → IsTableAt fourth x b → IfOk found (λ f. f ≡ find (differs third fourth x) rule_aspects)) → IfOk found (λ f. f ≡ first_in Frames own other x)
-covered_is own other first second third fourth x a b found p q r s here there finds =
-    let mine : IsTableAt own x a = subst (λ lines. IsTableAt lines x a) p here in
-    let theirs : IsTableAt other x b = subst (λ lines. IsTableAt lines x b) q there in
-    let told : IfOk found (λ f. f ≡ find (differs third fourth x) rule_aspects) = finds x (subst (λ lines. IsTableAt lines x a) (p ∙ sym r) here) (subst (λ lines. IsTableAt lines x b) (q ∙ sym s) there) in
-    then_behind found told (ap (λ lines. find (differs lines fourth x) rule_aspects) r ∙ ap (λ lines. find (differs own lines x) rule_aspects) s ∙ both_covered own other x a b (find (differs own other x) rule_aspects) mine theirs refl)
+pub covered_is : {E : Type 0} (own other first second : List SymLine) (x : ℕ) (a b : RuleTable) (found : Result (Option Aspect) E) → first ≡ own → second ≡ other → IsTableAt own x a → IsTableAt other x b
+    → ((x : ℕ) → IsTableAt first x a → IsTableAt second x b → IfOk found (λ f. f ≡ find (differs first second x) rule_aspects)) → IfOk found (λ f. f ≡ first_in Frames own other x)
+covered_is own other first second x a b found r s here there finds =
+    let told : IfOk found (λ f. f ≡ find (differs first second x) rule_aspects) = finds x (subst (λ lines. IsTableAt lines x a) (sym r) here) (subst (λ lines. IsTableAt lines x b) (sym s) there) in
+    then_behind found told (ap (λ lines. find (differs lines second x) rule_aspects) r ∙ ap (λ lines. find (differs own lines x) rule_aspects) s ∙ both_covered own other x a b (find (differs own other x) rule_aspects) here there refl)

@@ -2,6 +2,7 @@ pub mod Computing
 pub mod FormLemmas
 pub mod SameLemmas
 pub mod TableLemmas
+pub mod RuleMapLemmas
 pub mod StackLemmas
 pub mod SideLemmas
 pub mod FrameLemmas

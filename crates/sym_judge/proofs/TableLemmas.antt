@@ -112,7 +112,7 @@ rules_more lines rules before line place rule old new l e puts is table =
     rw more (puts lines (before ++ take place rules) (words_there lines rules line place rule is there) table)
 
 -- the rules of the INIT, and then those of the changes behind it, one record after another
-record_there : (lines : List SymLine) (place : ℕ) (line : SymLine) → place < length lines → line ≡ get_or lines place line → slice_get lines place ≡ Some line
+pub record_there : (lines : List SymLine) (place : ℕ) (line : SymLine) → place < length lines → line ≡ get_or lines place line → slice_get lines place ≡ Some line
 record_there lines place line l e = slice_get-get_or lines place line l ∙ ap Some (sym e)
 
 abbrev Puts : ℕ → List RuleText → RuleTable → RuleTable → Type 0
@@ -124,7 +124,7 @@ table_start lines x init line address size rules given old new l first e is same
     let there : rules_at lines init ≡ rules = ap rules_or (record_there lines init line l e ∙ ap Some is) in
     record { done = rules; is = init_rules lines x init line address size rules first e is; table_is = subst (λ rs. IsTable lines rs new) same (puts lines [] (there ∙ sym same) none) }
 
-change_there : (lines : List SymLine) (place start : ℕ) (line : SymLine) (rules : List RuleText) → place < length lines → line ≡ get_or lines place line → line ≡ Change start rules → drop place lines ≡ Change start rules ∷ drop (place + 1) lines
+pub change_there : (lines : List SymLine) (place start : ℕ) (line : SymLine) (rules : List RuleText) → place < length lines → line ≡ get_or lines place line → line ≡ Change start rules → drop place lines ≡ Change start rules ∷ drop (place + 1) lines
 change_there lines place start line rules l e is = drop_more lines place line l ∙ ap (λ s. s ∷ drop (place + 1) lines) (sym e ∙ is)
 
 pub table_counts : (lines : List SymLine) (x place start : ℕ) (line : SymLine) (rules given : List RuleText) (old new : RuleTable) → place < length lines → line ≡ get_or lines place line → line ≡ Change start rules → given ≡ rules → start ≤ x
@@ -147,7 +147,7 @@ table_waits lines x place start line rules table l e is up before = record {
   table_is = before.table_is;
 }
 
-no_change : (x : ℕ) (line : SymLine) (lines : List SymLine) → ((address : ℕ) (rules : List RuleText) → line ≡ Change address rules → ⊥) → changes_until x (line ∷ lines) ≡ []
+pub no_change : (x : ℕ) (line : SymLine) (lines : List SymLine) → ((address : ℕ) (rules : List RuleText) → line ≡ Change address rules → ⊥) → changes_until x (line ∷ lines) ≡ []
 unfolding changes_until
 no_change x (Change address rules) lines h = absurd (h address rules refl)
 no_change x _ lines h = refl

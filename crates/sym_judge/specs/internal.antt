@@ -1,6 +1,7 @@
 -- What serves the functions and loops of the crate alone: no public clause cites it.
 pub mod Stops
 pub mod Tables
+pub mod RuleMaps
 pub mod Stacks
 pub mod Spots
 pub mod Blocks

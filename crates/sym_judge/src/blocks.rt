@@ -1,7 +1,9 @@
 //! Whether the blocks of two files say the same: a `FUNC` with the records under it, or an `INIT` with the changes behind it.
-ghost use Rattle.std.specs.Prelude.{◌≡◌, ◌+◌, ◌<◌, [], ◌∷◌, ℕ, true, drop, length, None, Some, slice_get, MatchOption};
+ghost use Rattle.std.specs.Prelude.{◌≡◌, ◌+◌, ◌<◌, List, [], ◌∷◌, ℕ, true, drop, length, None, Some, slice_get, MatchOption};
 ghost use Rattle.std.specs.Bool.{OnTrue};
 ghost use Rattle.cfi_eval.specs.TextRules.{same_target};
+ghost use Rattle.sym_records.specs.declared.line.SymLine.{SymLine};
+ghost use Rattle.sym_records.specs.declared.line.SymLine.TheVariants as record_line;
 ghost use Rattle.sym_judge.specs.Alike.{same_list};
 ghost use Rattle.sym_judge.specs.internal.Blocks.{block_place, inside, is_inside, same_extent, same_rule_text, same_run, same_source, same_ranges, same_site, same_record, same_head, same_inside, AreSameBlocks};
 ghost use Rattle.sym_judge.specs.internal.Stops.{first_in};
@@ -62,7 +64,7 @@ fn are_same_extents(a: &[Extent], b: &[Extent]) -> bool
     back.is_empty()
 }
 
-fn is_same_target(a: &Target, b: &Target) -> bool
+pub(crate) fn is_same_target(a: &Target, b: &Target) -> bool
     ensures { result ≡ same_target a.now b.now }
 {
     match (a, b) {
@@ -132,64 +134,97 @@ fn is_same_site(both: &Both<'_>, a: Site, b: Site) -> bool
     is_same_source(both, a.line, a.file, b.line, b.file) && both.is_same_origin(a.origin, b.origin)
 }
 
+/// Whether a record is an `INLINE` of a level, a call and ranges.
+fn is_inline_like(
+    both: &Both<'_>,
+    level: u32,
+    site: Site,
+    ranges: &[Extent],
+    found: &SymLine,
+) -> bool
+    ensures { result ≡ same_record both.now.own both.now.other (record_line.Inline level site.line site.file site.origin ranges.now) found.now }
+{
+    let SymLine::Inline {
+        level: depth,
+        call_line: line,
+        call_file: file,
+        origin,
+        ranges: extents,
+    } = found
+    else {
+        return false;
+    };
+    let second = Site {
+        line: *line,
+        file: *file,
+        origin: *origin,
+    };
+    are_same_ranges(level, ranges, *depth, extents.as_slice()) && is_same_site(both, site, second)
+}
+
+/// Whether it is a line record of some addresses, a line and a file.
+fn is_line_like(both: &Both<'_>, run: Extent, line: u32, file: u32, found: &SymLine) -> bool
+    ensures { result ≡ same_record both.now.own both.now.other (record_line.Line run.address run.size line file) found.now }
+{
+    let SymLine::Line {
+        address,
+        size,
+        line: number,
+        file: path,
+    } = found
+    else {
+        return false;
+    };
+    is_same_run(run.address, run.size, *address, *size)
+        && is_same_source(both, line, file, *number, *path)
+}
+
+/// Whether it is a record of changes at an address.
+fn is_change_like(address: u64, rules: &[RuleText], found: &SymLine) -> bool
+    ensures { (own other : List SymLine) → result ≡ same_record own other (record_line.Change address rules.now) found.now }
+{
+    let SymLine::Change {
+        address: start,
+        rules: others,
+    } = found
+    else {
+        return false;
+    };
+    address == *start && are_same_rule_texts(rules, others.as_slice())
+}
+
 /// Whether two records say the same of the same addresses.
 fn is_same_record(both: &Both<'_>, a: &SymLine, b: &SymLine) -> bool
     ensures { result ≡ same_record both.now.own both.now.other a.now b.now }
 {
-    match (a, b) {
-        (
-            SymLine::Inline {
-                level,
-                call_line,
-                call_file,
-                origin,
-                ranges,
-            },
-            SymLine::Inline {
-                level: depth,
-                call_line: number,
-                call_file: path,
-                origin: name,
-                ranges: extents,
-            },
-        ) => {
-            let first = Site {
+    match a {
+        SymLine::Inline {
+            level,
+            call_line,
+            call_file,
+            origin,
+            ranges,
+        } => {
+            let site = Site {
                 line: *call_line,
                 file: *call_file,
                 origin: *origin,
             };
-            let second = Site {
-                line: *number,
-                file: *path,
-                origin: *name,
+            is_inline_like(both, *level, site, ranges.as_slice(), b)
+        }
+        SymLine::Line {
+            address,
+            size,
+            line,
+            file,
+        } => {
+            let run = Extent {
+                address: *address,
+                size: *size,
             };
-            are_same_ranges(*level, ranges.as_slice(), *depth, extents.as_slice())
-                && is_same_site(both, first, second)
+            is_line_like(both, run, *line, *file, b)
         }
-        (
-            SymLine::Line {
-                address,
-                size,
-                line,
-                file,
-            },
-            SymLine::Line {
-                address: start,
-                size: many,
-                line: number,
-                file: path,
-            },
-        ) => {
-            is_same_run(*address, *size, *start, *many)
-                && is_same_source(both, *line, *file, *number, *path)
-        }
-        (
-            SymLine::Change { address, rules },
-            SymLine::Change {
-                address: start,
-                rules: others,
-            },
-        ) => *address == *start && are_same_rule_texts(rules.as_slice(), others.as_slice()),
+        SymLine::Change { address, rules } => is_change_like(*address, rules.as_slice(), b),
         _ => false,
     }
 }

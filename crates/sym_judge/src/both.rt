@@ -1,6 +1,6 @@
 //! The two files that are judged, with the numbers under which both name the same.
 ghost use Rattle.std.specs.Prelude.{◌≡◌, IfOk};
-ghost use Rattle.sym_judge.specs.internal.Blocks.{same_path, same_origin, AreTold, is_told, are_told};
+ghost use Rattle.sym_judge.specs.internal.Blocks.{same_path, same_origin, same_name, AreTold, is_told, are_told};
 
 use crate::names::is_same_text;
 use crate::sides::Side;
@@ -28,68 +28,49 @@ impl<'f> Model for Both<'f> {
     ghost invariant = { λ b. AreTold same_path b.own b.other b.paths.items × AreTold same_origin b.own b.other b.origins.items };
 }
 
-/// How many `FILE` records there are.
-fn path_count(lines: &[SymLine]) -> u32 {
+/// Records that are named by their numbers.
+#[derive(Clone, Copy)]
+pub(crate) enum Numbered {
+    Files,
+    Origins,
+}
+
+/// How many records of a kind there are.
+fn count_of(numbered: Numbered, lines: &[SymLine]) -> u32 {
     let mut count = 0u32;
     'lines: for line in lines {
-        if let SymLine::File { .. } = line {
-            count = count.saturating_add(1);
+        match (numbered, line) {
+            (Numbered::Files, SymLine::File { .. }) | (Numbered::Origins, SymLine::Origin { .. }) =>
+                count = count.saturating_add(1),
+            _ => {}
         }
     }
     count
 }
 
-/// How many `INLINE_ORIGIN` records there are.
-fn origin_count(lines: &[SymLine]) -> u32 {
-    let mut count = 0u32;
-    'lines: for line in lines {
-        if let SymLine::Origin { .. } = line {
-            count = count.saturating_add(1);
-        }
+/// Whether two records of a kind have one name, or both are missing.
+fn is_one_name(numbered: Numbered, own: &Side<'_>, a: u32, other: &Side<'_>, b: u32) -> bool
+    ensures { result ≡ same_name numbered own.now other.now a b }
+{
+    match numbered {
+        Numbered::Files => is_same_text(own.path(a), other.path(b)),
+        Numbered::Origins => is_same_text(own.origin(a), other.origin(b)),
     }
-    count
 }
 
-fn is_one_path(own: &Side<'_>, a: u32, other: &Side<'_>, b: u32) -> bool
-    ensures { result ≡ same_path own.now other.now a b }
-{
-    is_same_text(own.path(a), other.path(b))
-}
-
-fn is_one_origin(own: &Side<'_>, a: u32, other: &Side<'_>, b: u32) -> bool
-    ensures { result ≡ same_origin own.now other.now a b }
-{
-    is_same_text(own.origin(a), other.origin(b))
-}
-
-/// Of so many numbers from 0 on whether both files have one path under it.
-fn same_paths(
+/// Of the numbers that the records of a kind have where each has its own, from 0 on, whether both files have one name under it.
+fn same_names(
     alloc: Global,
+    numbered: Numbered,
     own: &Side<'_>,
     other: &Side<'_>,
-    count: u32,
 ) -> Result<Vec<bool>, OutOfMemory>
-    ensures { IfOk result (λ told. AreTold same_path own.now other.now told.items) }
+    ensures { IfOk result (λ told. AreTold (same_name numbered) own.now other.now told.items) }
 {
+    let count = count_of(numbered, own.lines());
     let mut told = Vec::new(alloc);
     'numbers: for number in 0..count {
-        told.push(is_one_path(own, number, other, number))?;
-    }
-    Ok(told)
-}
-
-/// Of so many numbers from 0 on whether both files have one name of an inlined function under it.
-fn same_origins(
-    alloc: Global,
-    own: &Side<'_>,
-    other: &Side<'_>,
-    count: u32,
-) -> Result<Vec<bool>, OutOfMemory>
-    ensures { IfOk result (λ told. AreTold same_origin own.now other.now told.items) }
-{
-    let mut told = Vec::new(alloc);
-    'numbers: for number in 0..count {
-        told.push(is_one_origin(own, number, other, number))?;
+        told.push(is_one_name(numbered, own, number, other, number))?;
     }
     Ok(told)
 }
@@ -112,12 +93,12 @@ fn are_told(told: &[bool], a: u32, b: u32) -> bool
 }
 
 impl<'f> Both<'f> {
-    /// Compares the names of the numbers that the records have where each has its own, from 0 on.
+    /// Compares the names under each number.
     pub(crate) fn of(alloc: Global, own: Side<'f>, other: Side<'f>) -> Result<Both<'f>, OutOfMemory>
         ensures { IfOk result (λ both. both ≡ record { own = own.entry; other = other.entry }) }
     {
-        let paths = same_paths(alloc, &own, &other, path_count(own.lines()))?;
-        let origins = same_origins(alloc, &own, &other, origin_count(own.lines()))?;
+        let paths = same_names(alloc, Numbered::Files, &own, &other)?;
+        let origins = same_names(alloc, Numbered::Origins, &own, &other)?;
         Ok(Both {
             own,
             other,
@@ -146,7 +127,7 @@ impl<'f> Both<'f> {
         if are_told(self.paths.as_slice(), a, b) {
             return true;
         }
-        is_one_path(&self.own, a, &self.other, b)
+        is_one_name(Numbered::Files, &self.own, a, &self.other, b)
     }
 
     /// Whether two `INLINE_ORIGIN` records have one name, or both are missing.
@@ -157,6 +138,6 @@ impl<'f> Both<'f> {
         if are_told(self.origins.as_slice(), a, b) {
             return true;
         }
-        is_one_origin(&self.own, a, &self.other, b)
+        is_one_name(Numbered::Origins, &self.own, a, &self.other, b)
     }
 }

@@ -7,25 +7,16 @@ ghost use Rattle.sym_judge.specs.Forms.{form_by, same_form};
 ghost use Rattle.sym_judge.specs.declared.ruling.Aspect.TheVariants.{Reg};
 ghost use Rattle.sym_judge.specs.declared.ruling.Half.TheVariants.{Frames};
 ghost use Rattle.sym_judge.specs.internal.Stops.{first_in};
-ghost use Rattle.sym_judge.specs.internal.Tables.{rules_of, words_in, IsTableAt};
+ghost use Rattle.sym_judge.specs.internal.Tables.{words_in, IsTableAt};
 
 use crate::forms::{are_same_words, have_same_form};
+use crate::ruled::Ruled;
 use crate::ruling::Aspect;
-use crate::sides::Side;
-use crate::tables::{RulePlace, RuleTable, table_at};
+use crate::tables::{RulePlace, RuleTable, rules_of};
 use std::alloc::Global;
 use sym_edges::OutOfMemory;
 use sym_records::SymLine;
 use sym_rules::{RuleText, Target, Token};
-
-fn rules_of(line: &SymLine) -> &[RuleText]
-    ensures { result.now ≡ rules_of line.now }
-{
-    match line {
-        SymLine::Init { rules, .. } | SymLine::Change { rules, .. } => rules.as_slice(),
-        _ => &[],
-    }
-}
 
 /// The words of the rule at a place.
 fn words_at(lines: &[SymLine], place: Option<RulePlace>) -> Option<&[Token]>
@@ -124,8 +115,8 @@ fn alone(init: Option<usize>) -> Option<Aspect>
 /// What differs of the frame rules at an address.
 pub(crate) fn first_frame_aspect(
     alloc: Global,
-    own: &Side<'_>,
-    other: &Side<'_>,
+    own: &Ruled<'_, '_>,
+    other: &Ruled<'_, '_>,
     address: u64,
 ) -> Result<Option<Aspect>, OutOfMemory>
     ensures { IfOk result (λ found. found ≡ first_in Frames own.now other.now address) }
@@ -136,7 +127,7 @@ pub(crate) fn first_frame_aspect(
     let Some(second) = other.init_at(address) else {
         return Ok(Some(Aspect::Init));
     };
-    let a = table_at(own.lines(), first, address);
-    let b = table_at(other.lines(), second, address);
+    let a = own.table_at(first, address);
+    let b = other.table_at(second, address);
     first_rule(alloc, own.lines(), &a, other.lines(), &b)
 }

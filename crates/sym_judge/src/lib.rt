@@ -10,8 +10,9 @@
 //! for look-up and unwinding, and that a file says the same as itself.
 //!
 //! To read: `specs/Forms.antt`, `specs/Alike.antt`, `specs/Rulings.antt` and `specs/SameMeaning.antt`; then `terms` and `forms`, `tables` (the
-//! rules that count at an address) and `frames`, `names`, `blocks` and `doubts` (where records say the same in both files, nothing else is looked
-//! at), and `judging`, on `sides` (a file with its index) and `both` (two of them).
+//! rules that count at an address), `rule_maps` (the same by halves, of an INIT with many) and `frames`, `names`, `blocks` and `doubts` (where
+//! records say the same in both files, nothing else is looked at), and `judging`, on `sides` (a file with its index), `ruled` (with rule maps)
+//! and `both` (two files).
 #![tactic(auto)]
 
 mod blocks;
@@ -23,6 +24,8 @@ mod judging;
 pub mod laws;
 mod names;
 mod pairs;
+mod rule_maps;
+mod ruled;
 mod ruling;
 mod sides;
 mod tables;

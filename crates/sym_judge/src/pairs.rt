@@ -6,7 +6,9 @@ use crate::both::Both;
 use crate::doubts::doubts_of;
 use crate::frames::first_frame_aspect;
 use crate::names::first_name_aspect;
+use crate::ruled::Ruled;
 use crate::ruling::{Aspect, Half};
+use crate::sides::Side;
 use std::alloc::Global;
 use std::marker::Model;
 use step_maps::StepMap;
@@ -18,9 +20,12 @@ pub(crate) struct Pair<'a, 'f> {
     half: Half,
     both: &'a Both<'f>,
     doubts: StepMap<bool>,
+    own: Ruled<'a, 'f>,
+    other: Ruled<'a, 'f>,
 }
 
 impl<'a, 'f> Model for Pair<'a, 'f> {
+    ghost use Rattle.std.specs.Prelude.{◌≡◌};
     ghost use Rattle.sym_judge.specs.internal.Blocks.{AreDoubts};
     ghost use Rattle.sym_judge.specs.internal.Stops.{Compared};
 
@@ -28,7 +33,26 @@ impl<'a, 'f> Model for Pair<'a, 'f> {
 
     ghost view = { λ p. record { half = p.half; own = p.both.now.own; other = p.both.now.other } };
 
-    ghost invariant = { λ p. AreDoubts p.half p.both.now.own p.both.now.other p.doubts };
+    ghost invariant = { λ p. AreDoubts p.half p.both.now.own p.both.now.other p.doubts × (p.own ≡ p.both.now.own) × (p.other ≡ p.both.now.other) };
+}
+
+/// Whether rules are held by addresses: where frame rules may differ somewhere.
+fn is_held(half: Half, doubts: &StepMap<bool>) -> bool {
+    matches!(half, Half::Frames) && !doubts.stops().is_empty()
+}
+
+/// A file, with the rules of its long INITs where they are held.
+fn ruled<'a, 'f>(
+    alloc: Global,
+    held: bool,
+    side: &'a Side<'f>,
+) -> Result<Ruled<'a, 'f>, OutOfMemory>
+    ensures { IfOk result (λ ruled. ruled ≡ side.now) }
+{
+    if held {
+        return Ruled::of(alloc, side);
+    }
+    Ok(Ruled::bare(alloc, side))
 }
 
 impl<'a, 'f> Pair<'a, 'f> {
@@ -41,7 +65,16 @@ impl<'a, 'f> Pair<'a, 'f> {
         ensures { IfOk result (λ pair. pair ≡ record { half = half; own = both.now.own; other = both.now.other }) }
     {
         let doubts = doubts_of(alloc, half, both)?;
-        Ok(Pair { half, both, doubts })
+        let held = is_held(half, &doubts);
+        let own = ruled(alloc, held, both.own())?;
+        let other = ruled(alloc, held, both.other())?;
+        Ok(Pair {
+            half,
+            both,
+            doubts,
+            own,
+            other,
+        })
     }
 
     pub(crate) fn half(&self) -> Half
@@ -70,7 +103,7 @@ impl<'a, 'f> Pair<'a, 'f> {
         }
         match self.half {
             Half::Names => first_name_aspect(alloc, self.both.own(), self.both.other(), address),
-            Half::Frames => first_frame_aspect(alloc, self.both.own(), self.both.other(), address),
+            Half::Frames => first_frame_aspect(alloc, &self.own, &self.other, address),
         }
     }
 }

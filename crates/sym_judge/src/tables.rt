@@ -3,7 +3,7 @@ ghost use Rattle.std.specs.Prelude.{◌≡◌, ◌<◌, [], ◌∷◌, ◌++◌,
 ghost use Rattle.cfi_eval.specs.Inits.{init_place};
 ghost use Rattle.sym_records.specs.declared.line.SymLine.{SymLine};
 ghost use Rattle.sym_rules.specs.declared.rules.RuleText.{RuleText};
-ghost use Rattle.sym_judge.specs.internal.Tables.{words_at, rules_at, IsTable, IsTableAt};
+ghost use Rattle.sym_judge.specs.internal.Tables.{rules_of, words_at, rules_at, IsTable, IsTableAt};
 
 use sym_records::SymLine;
 use sym_rules::{RuleText, Target};
@@ -21,6 +21,16 @@ pub struct RuleTable {
     pub cfa: Option<RulePlace>,
     pub ra: Option<RulePlace>,
     pub registers: [Option<RulePlace>; 16],
+}
+
+/// The rules of a record.
+pub(crate) fn rules_of(line: &SymLine) -> &[RuleText]
+    ensures { result.now ≡ rules_of line.now }
+{
+    match line {
+        SymLine::Init { rules, .. } | SymLine::Change { rules, .. } => rules.as_slice(),
+        _ => &[],
+    }
 }
 
 /// No rule.

@@ -6,6 +6,7 @@ pub mod ShownLemmas
 pub mod Computing
 mod WorkedAnswers
 pub mod StretchLemmas
+pub mod LevelLemmas
 pub mod RunLemmas
 pub mod MarkLemmas
 pub mod NumberLemmas

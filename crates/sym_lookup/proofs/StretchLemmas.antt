@@ -89,7 +89,7 @@ first_of_both : (b c : Bool) (n : ℕ) → option_or (cond b (Some n) None) (con
 first_of_both true c n = refl
 first_of_both false c n = refl
 
-none_at : (x : ℕ) → index_at [] x ≡ None
+pub none_at : (x : ℕ) → index_at [] x ≡ None
 unfolding index_at first_at
 none_at x = refl
 
@@ -136,7 +136,7 @@ first_record : (b : Bool) (n : ℕ) (later : Option ℕ) → option_or (cond b (
 first_record true n later = refl
 first_record false n later = refl
 
-records_found : (kind : Kind) (n : ℕ) (records : List SymLine) (x : ℕ) → x < 2 ^ 64 → index_at (stretches_of kind n records) x ≡ position_from (is_at kind x) n records
+pub records_found : (kind : Kind) (n : ℕ) (records : List SymLine) (x : ℕ) → x < 2 ^ 64 → index_at (stretches_of kind n records) x ≡ position_from (is_at kind x) n records
 unfolding index_at first_at
 records_found kind n [] x l = refl
 records_found kind n (s ∷ records) x l =

@@ -1,6 +1,6 @@
 -- Lemmas on what stands under a FUNC.
-use Rattle.std.proofs.Common.{◌≡◌, ◌+◌, ◌-◌, ◌<◌, ◌≤◌, ◌^◌, ◌++◌, ◌||◌, ℕ, zero, suc, Bool, true, false, cond, List, [], ◌∷◌, length, get_or, take, drop, Option, None, Some, refl, sym, ap, subst, ◌∙◌, arith, append_assoc, append-nil, drop-cons}
-use Rattle.std.specs.List.{list_any, position_from}
+use Rattle.std.proofs.Common.{◌≡◌, ◌+◌, ◌-◌, ◌<◌, ◌≤◌, ◌^◌, ◌++◌, ℕ, zero, suc, List, [], ◌∷◌, length, get_or, take, drop, Option, None, Some, refl, sym, ap, subst, ◌∙◌, arith, append_assoc, append-nil, drop-cons}
+use Rattle.std.specs.List.{position_from}
 use Rattle.std.specs.Option.{option_map_or}
 use Rattle.std.proofs.lemmas.List.{drop-take}
 use Rattle.sym_records.specs.declared.line.SymLine.{SymLine}
@@ -15,7 +15,6 @@ use Rattle.sym_lookup.specs.UnderOf.{chain_in, part, AreSearchable, IsUnder, Are
 use Rattle.sym_lookup.specs.declared.under.Under.{Under}
 use Rattle.sym_lookup.specs.internal.Kinds.{is_at}
 use Rattle.sym_lookup.specs.internal.Risings.{AreRising}
-use Rattle.sym_lookup.specs.internal.Scans.{is_of_level}
 use Rattle.sym_lookup.proofs.PlaceLemmas.{stops_at}
 use Rattle.sym_lookup.proofs.RisingLemmas.{SkipsTo}
 
@@ -53,28 +52,10 @@ levels_more first level count records maps next map before is l n x fits =
     ∙ ap (chain_then maps x) (level_step first x level count records l)
     ∙ before x fits
 
--- a level that no INLINE has
-other_level : (level x : ℕ) (s : SymLine) → is_of_level level s ≡ false → is_inline_at level x s ≡ false
-other_level level x (Inline own line file origin ranges) h = rw h refl
-other_level level x _ h = refl
-
-or_first : (b c : Bool) → (b || c) ≡ false → b ≡ false
-or_first true c h = cc
-or_first false c h = refl
-
-or_second : (b c : Bool) → (b || c) ≡ false → c ≡ false
-or_second true c h = cc
-or_second false c h = h
-
-none_there : (first level x : ℕ) (records : List SymLine) → list_any (is_of_level level) records ≡ false → position_from (is_inline_at level x) first records ≡ None
-none_there first level x [] h = refl
-none_there first level x (s ∷ records) h =
-    ap (λ b. cond b (Some first) (position_from (is_inline_at level x) (first + 1) records)) (other_level level x s (or_first (is_of_level level s) (list_any (is_of_level level) records) h))
-    ∙ none_there (first + 1) level x records (or_second (is_of_level level s) (list_any (is_of_level level) records) h)
-
-pub levels_stop : (first level count : ℕ) (records : List SymLine) (maps : Maps) → LevelsTo first records count level maps → list_any (is_of_level level) records ≡ false → (x : ℕ) → x < 2 ^ 64 → chain_in maps x ≡ chain_from first x 0 (level_count records) records
-levels_stop first level count records maps before none x fits =
-    chain_ends maps x ∙ ap (chain_then maps x) (sym (stops_at first x level (count - level) records (none_there first level x records none))) ∙ before x fits
+-- a level that has nothing
+pub levels_stop : (first level count : ℕ) (records : List SymLine) (maps : Maps) → LevelsTo first records count level maps → ((x : ℕ) → x < 2 ^ 64 → position_from (is_inline_at level x) first records ≡ None) → (x : ℕ) → x < 2 ^ 64
+    → chain_in maps x ≡ chain_from first x 0 (level_count records) records
+levels_stop first level count records maps before none x fits = chain_ends maps x ∙ ap (chain_then maps x) (sym (stops_at first x level (count - level) records (none x fits))) ∙ before x fits
 
 pub levels_all : (first level count : ℕ) (records : List SymLine) (maps : Maps) → LevelsTo first records count level maps → count ≤ level → (x : ℕ) → x < 2 ^ 64 → chain_in maps x ≡ chain_from first x 0 (level_count records) records
 levels_all first level count records maps before l x fits =

@@ -4,3 +4,4 @@ pub mod Spots
 pub mod Kinds
 pub mod Marks
 pub mod Risings
+pub mod Levels

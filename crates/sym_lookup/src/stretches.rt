@@ -1,5 +1,5 @@
 //! The addresses of records as stretches, and the first record at each address.
-ghost use Rattle.std.specs.Prelude.{◌≡◌, ℕ, ◌+◌, ◌<◌, ◌^◌, ◌++◌, [], ◌∷◌, None, length, slice_get, IfOk, OnOk};
+ghost use Rattle.std.specs.Prelude.{◌≡◌, ℕ, ◌+◌, ◌<◌, ◌^◌, ◌++◌, List, [], ◌∷◌, None, length, slice_get, IfOk, OnOk};
 ghost use Rattle.std.specs.List.{position_from};
 ghost use Rattle.std.specs.Option.{option_map};
 ghost use Rattle.step_maps.specs.Covers.{AreStretches, first_item};
@@ -7,6 +7,9 @@ ghost use Rattle.step_maps.specs.Stepping.{value_at};
 ghost use Rattle.step_maps.specs.declared.stretch.FirstItem.{FirstItem};
 ghost use Rattle.sym_lookup.specs.internal.Kinds.{is_at, extents_of, stretch_of, extent_stretches, stretches_of};
 ghost use Rattle.sym_lookup.specs.PlaceMaps.{place_in, IsPlaceMap, IsPlaceRun};
+ghost use Rattle.sym_lookup.specs.internal.Levels.{bucket, AreEmpty, HaveStretches, AreLeveled, IsLevelMap};
+ghost use Rattle.sym_lookup.specs.declared.stretches.Kind.TheVariants as kind;
+ghost use Rattle.sym_records.specs.declared.line.SymLine.{SymLine};
 
 use crate::answers::PlaceRun;
 use std::alloc::Global;
@@ -139,6 +142,99 @@ pub(crate) fn place_map(
     let stretches = stretches_of(alloc, kind, first, records)?;
     let map = first_items(alloc, stretches.as_slice())?;
     Ok(map)
+}
+
+/// No stretch of each level below a number.
+fn no_stretches(alloc: Global, count: usize) -> Result<Vec<Vec<Stretch>>, OutOfMemory>
+    ensures { IfOk result (λ leveled. AreEmpty leveled.items) }
+{
+    let mut leveled = Vec::new(alloc);
+    'levels: for level in 0..count {
+        leveled.push(Vec::new(alloc))?;
+    }
+    Ok(leveled)
+}
+
+/// Adds the stretches of an `INLINE` to those of its level, where that is one of them.
+fn push_inline(
+    leveled: &mut Vec<Vec<Stretch>>,
+    index: u32,
+    line: &SymLine,
+) -> Result<(), OutOfMemory>
+    requires { HaveStretches leveled.old.items }
+    ensures same { OnOk result ((level : ℕ) → bucket leveled.new.items level ≡ option_map (λ s. s ++ extent_stretches index (extents_of (kind.Level level) line.now)) (bucket leveled.old.items level)) }
+    ensures stretches { OnOk result (HaveStretches leveled.new.items) }
+{
+    let SymLine::Inline { level, ranges, .. } = line else {
+        return Ok(());
+    };
+    let level = *level as usize;
+    if level >= leveled.len() {
+        return Ok(());
+    }
+    push_extents(&mut leveled[level], index, ranges.as_slice())
+}
+
+/// The stretches of the `INLINE` records of each level below a number, the first record having a place.
+pub(crate) fn by_level(
+    alloc: Global,
+    records: &[SymLine],
+    first: usize,
+    count: usize,
+) -> Result<Vec<Vec<Stretch>>, OutOfMemory>
+    requires { first + length records.now < 2 ^ 32 }
+    ensures { IfOk result (λ leveled. AreLeveled first records.now leveled.items) }
+{
+    let mut leveled = no_stretches(alloc, count)?;
+    'records: for at in 0..records.len() {
+        push_inline(&mut leveled, (first + at) as u32, &records[at])?;
+    }
+    Ok(leveled)
+}
+
+/// Which of the `INLINE` records of a level is the first at each address, by their stretches; nothing where there is none.
+fn stretch_map(alloc: Global, stretches: &[Stretch]) -> Result<Option<PlaceMap>, OutOfMemory>
+    requires { AreStretches stretches.now }
+    ensures { (level first : ℕ) (records : List SymLine) → stretches.now ≡ stretches_of (kind.Level level) first records → IfOk result (λ map. IsLevelMap level first records map) }
+{
+    if stretches.is_empty() {
+        return Ok(None);
+    }
+    let map = first_items(alloc, stretches)?;
+    Ok(Some(map))
+}
+
+/// The same by a pass over the records.
+fn scanned_map(
+    alloc: Global,
+    level: u64,
+    first: usize,
+    records: &[SymLine],
+) -> Result<Option<PlaceMap>, OutOfMemory>
+    requires { first + length records.now < 2 ^ 32 }
+    ensures { IfOk result (λ map. IsLevelMap level first records.now map) }
+{
+    let stretches = stretches_of(alloc, Kind::Level(level), first, records)?;
+    stretch_map(alloc, stretches.as_slice())
+}
+
+/// Which of the `INLINE` records of a level is the first at each address; nothing where there is none. Where no level below it has none, there
+/// are fewer records than levels, and those of further levels are looked for.
+pub(crate) fn level_map(
+    alloc: Global,
+    leveled: &[Vec<Stretch>],
+    level: u64,
+    first: usize,
+    records: &[SymLine],
+) -> Result<Option<PlaceMap>, OutOfMemory>
+    requires few { first + length records.now < 2 ^ 32 }
+    requires leveled { AreLeveled first records.now leveled.now }
+    ensures { IfOk result (λ map. IsLevelMap level first records.now map) }
+{
+    match leveled.get(level as usize) {
+        Some(stretches) => stretch_map(alloc, stretches.as_slice()),
+        None => scanned_map(alloc, level, first, records),
+    }
 }
 
 /// The place of an item.

@@ -1,17 +1,16 @@
 //! What stands under a `FUNC`, so that the records at an address are found by halves.
 ghost use Rattle.std.specs.Prelude.{◌≡◌, ℕ, ◌+◌, ◌<◌, ◌^◌, List, length, IfOk, OnOk, IfSome};
-ghost use Rattle.std.specs.List.{list_any};
 ghost use Rattle.sym_records.specs.declared.line.SymLine.{SymLine};
 ghost use Rattle.sym_meaning.specs.TextNames.{level_count};
 ghost use Rattle.sym_lookup.specs.declared.answers.Answer.TheVariants as answer;
 ghost use Rattle.sym_lookup.specs.Answers.{chain_from, chain_places, line_place};
 ghost use Rattle.sym_lookup.specs.UnderOf.{chain_in, IsLineFinder, IsUnder, AreUnders};
-ghost use Rattle.sym_lookup.specs.internal.Scans.{is_of_level, is_func};
+ghost use Rattle.sym_lookup.specs.internal.Scans.{is_func};
 
 use crate::answers::{Answer, PlaceList};
 use crate::finding::{in_function, level_count, under_func};
 use crate::rising::{are_rising, inlines_in_front, line_by_halves};
-use crate::stretches::{Kind, PlaceMap, place_at, place_map};
+use crate::stretches::{Kind, PlaceMap, by_level, level_map, place_at, place_map};
 use std::alloc::Global;
 use sym_edges::OutOfMemory;
 use sym_records::SymLine;
@@ -33,34 +32,19 @@ pub struct Under {
     lines: LineFinder,
 }
 
-fn is_of_level(line: &SymLine, level: u64) -> bool
-    ensures { result ≡ is_of_level level line.now }
-{
-    match line {
-        SymLine::Inline { level: own, .. } => u64::from(*own) == level,
-        _ => false,
-    }
-}
-
-/// Whether some `INLINE` has a level.
-fn has_level(records: &[SymLine], level: u64) -> bool
-    ensures { result ≡ list_any (is_of_level level) records.now }
-{
-    records.iter().any(|line| is_of_level(line, level))
-}
-
 /// A map of the `INLINE` records of each level, until a level has none.
 fn levels_of(alloc: Global, records: &[SymLine], first: usize) -> Result<Vec<PlaceMap>, OutOfMemory>
     requires { first + length records.now < 2 ^ 32 }
     ensures { IfOk result (λ levels. (x : ℕ) → x < 2 ^ 64 → chain_in levels.items x ≡ chain_from first x 0 (level_count records.now) records.now) }
 {
     let count = level_count(records);
+    let held = records.len().min(count as usize);
+    let leveled = by_level(alloc, records, first, held)?;
     let mut levels = Vec::new(alloc);
     'levels: for level in 0..count {
-        if !has_level(records, level) {
+        let Some(map) = level_map(alloc, leveled.as_slice(), level, first, records)? else {
             return Ok(levels);
-        }
-        let map = place_map(alloc, Kind::Level(level), first, records)?;
+        };
         levels.push(map)?;
     }
     Ok(levels)
@@ -151,17 +135,37 @@ fn push_under(
     Ok(())
 }
 
-/// So many records under a `FUNC` are scanned, and nothing is held of them.
+/// So many ranges under a `FUNC` are scanned, and nothing is held of them.
 const FEW: usize = 32;
 
-/// What stands under each `FUNC` that has more than a few records under it, in their order.
+/// How many ranges a record under a `FUNC` has, and at least one.
+fn range_count(line: &SymLine) -> usize {
+    match line {
+        SymLine::Inline { ranges, .. } => ranges.len().max(1),
+        _ => 1,
+    }
+}
+
+/// Whether some records have at most a few ranges.
+fn are_few(records: &[SymLine]) -> bool {
+    let mut count = 0usize;
+    'records: for line in records {
+        count = count.saturating_add(range_count(line));
+        if count > FEW {
+            return false;
+        }
+    }
+    true
+}
+
+/// What stands under each `FUNC` that has more than a few ranges under it, in their order.
 pub(crate) fn unders_of(alloc: Global, lines: &[SymLine]) -> Result<Vec<Under>, OutOfMemory>
     requires { length lines.now < 2 ^ 32 }
     ensures { IfOk result (λ unders. AreUnders lines.now unders.items) }
 {
     let mut unders = Vec::new(alloc);
     'lines: for at in 0..lines.len() {
-        if !is_func(&lines[at]) || under_func(lines, at).len() <= FEW {
+        if !is_func(&lines[at]) || are_few(under_func(lines, at)) {
             continue;
         }
         push_under(alloc, &mut unders, lines, at)?;

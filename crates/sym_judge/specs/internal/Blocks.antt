@@ -13,6 +13,8 @@ use Rattle.step_maps.specs.Stepping.{Stepping, value_at}
 use Rattle.sym_lookup.specs.Answers.{func_place}
 use Rattle.sym_judge.specs.Alike.{same_option, same_list}
 use Rattle.sym_judge.specs.Forms.{same_words}
+use Rattle.sym_judge.specs.declared.both.Numbered.{Numbered}
+use Rattle.sym_judge.specs.declared.both.Numbered.TheVariants.{Files, Origins}
 use Rattle.sym_judge.specs.declared.ruling.Half.{Half}
 use Rattle.sym_judge.specs.declared.ruling.Half.TheVariants.{Names, Frames}
 use Rattle.sym_judge.specs.internal.Stops.{first_in}
@@ -50,6 +52,11 @@ same_path own other a b = same_option bytes_eq (text_path own a) (text_path othe
 
 abbrev pub same_origin : List SymLine → List SymLine → ℕ → ℕ → Bool
 same_origin own other a b = same_option bytes_eq (text_origin own a) (text_origin other b)
+
+-- the names of files, or those of inlined functions
+abbrev pub same_name : Numbered → List SymLine → List SymLine → ℕ → ℕ → Bool
+same_name Files = same_path
+same_name Origins = same_origin
 
 -- two files
 pub record TwoFiles : Type 0 where

@@ -1,5 +1,5 @@
 -- Words for scans over records.
-use Rattle.std.specs.Prelude.{ℕ, ◌+◌, ◌==◌, Bool, true, false}
+use Rattle.std.specs.Prelude.{ℕ, ◌+◌, Bool, true, false}
 use Rattle.sym_records.specs.declared.line.SymLine.{SymLine}
 use Rattle.sym_records.specs.declared.line.SymLine.TheVariants.{Func, Inline, Line}
 
@@ -13,11 +13,6 @@ is_under _ = false
 abbrev pub level_end : SymLine → ℕ
 level_end (Inline level line file origin ranges) = level + 1
 level_end _ = 0
-
--- whether it is an INLINE of a level
-abbrev pub is_of_level : ℕ → SymLine → Bool
-is_of_level level (Inline own line file origin ranges) = own == level
-is_of_level level _ = false
 
 abbrev pub is_func : SymLine → Bool
 is_func (Func many address size params name) = true

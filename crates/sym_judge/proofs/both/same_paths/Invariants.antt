@@ -1,9 +1,0 @@
-use Rattle.std.proofs.Common.{◌≡◌, length}
-use Rattle.sym_judge.specs.internal.Blocks.{same_path, AreTold}
-use Rattle.sym_judge.proofs.both.same_paths.Given as goal
-
-abbrev pub invariant-numbers : goal.invariant-numbers
-invariant-numbers l = record {
-  told : AreTold same_path l.own l.other l.told.items;
-  many : length l.told.items ≡ l.number;
-}

@@ -1,0 +1,77 @@
+//! One of the two files, with the rules of its long INITs held by addresses.
+ghost use Rattle.std.specs.Prelude.{◌≡◌, ◌<◌, length, Some, IfOk, IfSome};
+ghost use Rattle.cfi_eval.specs.Inits.{init_place};
+ghost use Rattle.sym_judge.specs.internal.Tables.{IsTableAt};
+
+use crate::rule_maps::{RuleMaps, all_maps, maps_at, table_in};
+use crate::sides::Side;
+use crate::tables::{RuleTable, table_at};
+use std::alloc::Global;
+use std::marker::Model;
+use sym_edges::OutOfMemory;
+use sym_records::SymLine;
+
+/// A file whose frame rules are looked up. Contracts see the records.
+#[derive(Drop)]
+pub(crate) struct Ruled<'a, 'f> {
+    side: &'a Side<'f>,
+    maps: Vec<RuleMaps>,
+}
+
+impl<'a, 'f> Model for Ruled<'a, 'f> {
+    ghost use Rattle.std.specs.Prelude.{List};
+    ghost use Rattle.sym_records.specs.declared.line.SymLine.{SymLine};
+    ghost use Rattle.sym_judge.specs.internal.RuleMaps.{AreAllRuleMaps};
+
+    ghost Value = { List SymLine };
+
+    ghost view = { λ r. r.side.now };
+
+    ghost invariant = { λ r. AreAllRuleMaps r.side.now r.maps.items };
+}
+
+impl<'a, 'f> Ruled<'a, 'f> {
+    /// A file of which nothing is held.
+    pub(crate) fn bare(alloc: Global, side: &'a Side<'f>) -> Ruled<'a, 'f>
+        ensures { result ≡ side.now }
+    {
+        Ruled {
+            side,
+            maps: Vec::new(alloc),
+        }
+    }
+
+    /// A file with the rules of its long INITs.
+    pub(crate) fn of(alloc: Global, side: &'a Side<'f>) -> Result<Ruled<'a, 'f>, OutOfMemory>
+        ensures { IfOk result (λ ruled. ruled ≡ side.now) }
+    {
+        let maps = all_maps(alloc, side.lines())?;
+        Ok(Ruled { side, maps })
+    }
+
+    pub(crate) fn lines(&self) -> &'f [SymLine]
+        ensures { result.now ≡ self.now }
+    {
+        self.side.lines()
+    }
+
+    /// The place of the first `INIT` that covers an address.
+    pub(crate) fn init_at(&self, address: u64) -> Option<usize>
+        ensures place { result ≡ init_place self.now address }
+        ensures within { IfSome result (λ init. init < length self.now) }
+    {
+        self.side.init_at(address)
+    }
+
+    /// The rules at an address that the INIT at a place covers, the first that does.
+    pub(crate) fn table_at(&self, init: usize, address: u64) -> RuleTable
+        requires within { init < length self.now }
+        requires first { init_place self.now address ≡ Some init }
+        ensures { IsTableAt self.now address result }
+    {
+        match maps_at(self.maps.as_slice(), init) {
+            Some(maps) => table_in(maps, address),
+            None => table_at(self.side.lines(), init, address),
+        }
+    }
+}
