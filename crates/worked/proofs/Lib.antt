@@ -8,6 +8,7 @@ mod OneVerdict
 mod OneRun
 pub mod RowStepLemmas
 pub mod OwnDebugFile
+pub mod JudgedLemmas
 mod PlainJudge
 mod Plain
 mod Small

@@ -13,7 +13,10 @@ ghost use Rattle.dumpsyms_cmd.specs.Verdict.{Verdict};
 ghost use Rattle.dumpsyms_cmd.specs.Answers.{IsVerdict};
 ghost use Rattle.dumpsyms_cmd.specs.Program.{Run, Promises};
 ghost use Rattle.worked.specs.Runs.{RunAlike, EndAlike};
+ghost use Rattle.dumpsyms_cmd.specs.commands.Judge.{JudgePromises};
+ghost use Rattle.dumpsyms_cmd.specs.declared.judgement.Judgement.{Judgement};
 ghost use Rattle.worked.specs.RowSteps.{AreRowSteps};
+ghost use Rattle.worked.specs.Judged.{SaysAsFile};
 
 /// Words and files have at most one verdict: the definitions say of a text what each address has in it, and leave one text.
 #[tactic(auto, using(crate::proofs::OneVerdict::one_verdict))]
@@ -39,4 +42,10 @@ pub fn own_debug_files_change_nothing()
 pub fn walks_go_by_the_rows()
     ensures { (parts : ImageParts) (name : List ℕ) (lines : List SymLine) (text : List ℕ) (dumped : DumpsParts parts name lines text) (state : State) (walk : Walk) →
         walk_of lines state ≡ Some walk → AreRowSteps parts.base (written_of parts dumped.found) state.memory state.regs walk.steps }
+{}
+
+/// Where the judgement of an ELF file and a symbol file has status 0, which is that of yes, the symbol file names at each address the function,
+/// the inlined calls and the line that DWARF does, and evaluating its frame rules gives what the rows of the written frame entries give.
+pub fn a_yes_says_what_the_file_says()
+    ensures { (elf sym : List ℕ) (files : Files) (j : Judgement) → JudgePromises elf sym (Some files) j → j.status ≡ 0 → SaysAsFile elf sym files }
 {}
