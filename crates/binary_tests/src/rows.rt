@@ -1,17 +1,24 @@
-//! Entries with many rows, and with many rows remembered (`frame_rows`).
+//! Entries with many rows, and with many rows remembered (`frame_rows`), and their records (`rule_postfix`).
+ghost use Rattle.std.specs.Prelude.{◌+◌, ◌<◌, ◌^◌};
+
 use crate::comparing::same;
 use frame_entries::Fde;
-use frame_rows::{CfaRule, CieState, Row, Rule, Stepper, inspect, rows};
-use std::alloc::Global;
+use frame_rows::{CfaRule, CieState, Row, Stepper, inspect, rows};
+use rule_postfix::translate;
+use std::alloc::{AllocError, Global};
+use std::process::Abort;
 use std::test::Fail;
 
 /// An entry of 1000 after initial instructions as at a call: the CFA is rsp + 8, and the return address lies at the CFA - 8.
 #[tactic(auto, unfolding(frame_entries::specs::Pointers::is_encoding, frame_entries::specs::Pointers::is_format))]
-fn called(size: u64, instructions: &[u8]) -> Fde<'_> {
+fn called(instructions: &[u8]) -> Fde<'_>
+    ensures some { 0 < result.size }
+    ensures fits { result.start + result.size < 2 ^ 64 }
+{
     Fde {
         cie: 0,
         start: 0x1000,
-        size,
+        size: 0x10000,
         code_align: 1,
         data_align: -8,
         encoding: 0x1b,
@@ -20,11 +27,6 @@ fn called(size: u64, instructions: &[u8]) -> Fde<'_> {
         instructions_address: 0x2029,
     }
 }
-
-// A rule with the place of an expression is as small as one with an offset.
-const _: () = prove!(size_of::<Rule>() == 16);
-
-const _: () = prove!(size_of::<Row>() == 296);
 
 /// An address and the offset of the CFA there.
 fn see(address: u64, row: &Row) -> (u64, i64) {
@@ -46,61 +48,131 @@ fn steps_of(alloc: Global, mut stepper: Stepper<'_, '_>) -> Result<Vec<(u64, i64
     Ok(found)
 }
 
-/// The rows of an entry, by all calls that give them.
-fn found(alloc: Global, instructions: &[u8]) -> Result<[Vec<(u64, i64)>; 3], Fail> {
-    let fde = called(0x10000, instructions);
-    if fde.size == 0 || fde.size > u64::MAX - fde.start {
-        return Err("no addresses".into());
-    }
+/// The rows of an entry.
+fn rows_of(alloc: Global, fde: &Fde<'_>) -> Result<Vec<(u64, i64)>, Fail>
+    requires some { 0 < fde.now.size }
+    requires fits { fde.now.start + fde.now.size < 2 ^ 64 }
+{
     let mut found = Vec::new(alloc);
-    for row in rows(alloc, &fde)?.as_slice() {
+    for row in rows(alloc, fde)?.as_slice() {
         found.push(see(row.address, &row.row))?;
     }
-    let steps = steps_of(alloc, Stepper::new(alloc, &fde)?)?;
-    let state = CieState::of(alloc, &fde)?;
-    let begun = steps_of(alloc, Stepper::begin(alloc, &state, &fde)?)?;
-    Ok([found, steps, begun])
+    Ok(found)
+}
+
+/// The same by a stepper that carries out the initial instructions itself.
+fn rows_by_steps(alloc: Global, fde: &Fde<'_>) -> Result<Vec<(u64, i64)>, Fail>
+    requires some { 0 < fde.now.size }
+    requires fits { fde.now.start + fde.now.size < 2 ^ 64 }
+{
+    steps_of(alloc, Stepper::new(alloc, fde)?)
+}
+
+/// The same by one that begins with what they leave.
+fn rows_behind(alloc: Global, fde: &Fde<'_>) -> Result<Vec<(u64, i64)>, Fail>
+    requires some { 0 < fde.now.size }
+    requires fits { fde.now.start + fde.now.size < 2 ^ 64 }
+{
+    let state = CieState::of(alloc, fde)?;
+    steps_of(alloc, Stepper::begin(alloc, &state, fde)?)
+}
+
+/// The text of the entry with these rows: a record where the CFA's offset is another.
+fn text_of(alloc: Global, rows: &[(u64, i64)]) -> Result<Vec<u8>, AllocError> {
+    let first = b"STACK CFI INIT 1000 10000 .cfa: $rsp 8 + .ra: .cfa -8 + ^\n";
+    let mut text = Vec::from_slice(alloc, first)?;
+    let mut before = 8;
+    for (address, offset) in rows {
+        if *offset != before {
+            let line = format!(in alloc; "STACK CFI {address:x} .cfa: $rsp {offset} +\n")?;
+            text.extend_from_slice(line.as_bytes())?;
+            before = *offset;
+        }
+    }
+    Ok(text)
+}
+
+/// The text of its records.
+fn translated(alloc: Global, fde: &Fde<'_>) -> Result<Vec<u8>, Fail>
+    requires some { 0 < fde.now.size }
+    requires fits { fde.now.start + fde.now.size < 2 ^ 64 }
+{
+    Ok(translate(alloc, fde, 0)?.into_vec())
+}
+
+/// An entry of these instructions has these rows, by all calls that give them.
+fn expect_rows(
+    rt: &impl Abort,
+    alloc: Global,
+    row: &str,
+    instructions: &[u8],
+    wanted: &[(u64, i64)],
+) -> Result<(), Fail> {
+    let fde = called(instructions);
+    same(rt, row, &rows_of(alloc, &fde)?, wanted);
+    same(rt, row, &rows_by_steps(alloc, &fde)?, wanted);
+    same(rt, row, &rows_behind(alloc, &fde)?, wanted);
+    same(rt, row, &[inspect(alloc, &fde)?], &[None]);
+    same(rt, row, &translated(alloc, &fde)?, &text_of(alloc, wanted)?);
+    Ok(())
 }
 
 /// How many rows are remembered at once.
 const NESTED: u64 = 100;
 
+/// Each row is remembered, and then the CFA's offset is another; afterwards each comes back.
+fn nested(alloc: Global) -> Result<Vec<u8>, AllocError> {
+    let mut instructions = Vec::new(alloc);
+    for number in 1..NESTED + 1 {
+        let offset = (number % 16 * 8) as u8;
+        instructions.extend_from_slice(&[0x0a, 0x41, 0x0e, offset])?;
+    }
+    for _ in 0..NESTED {
+        instructions.extend_from_slice(b"\x41\x0b")?;
+    }
+    Ok(instructions)
+}
+
+fn nested_rows(alloc: Global) -> Result<Vec<(u64, i64)>, AllocError> {
+    let mut rows = Vec::new(alloc);
+    rows.push((0x1000, 8))?;
+    for number in 1..NESTED + 1 {
+        rows.push((0x1000 + number, (number % 16 * 8) as i64))?;
+    }
+    for number in 1..NESTED {
+        let left = NESTED - number;
+        rows.push((0x1000 + NESTED + number, (left % 16 * 8) as i64))?;
+    }
+    rows.push((0x1000 + 2 * NESTED, 8))?;
+    Ok(rows)
+}
+
 /// How many rows the longest entry has after its first.
 const MANY: u64 = 5000;
 
+fn many(alloc: Global) -> Result<Vec<u8>, AllocError> {
+    let mut instructions = Vec::new(alloc);
+    for number in 1..MANY + 1 {
+        instructions.extend_from_slice(&[0x41, 0x0e, (number % 128) as u8])?;
+    }
+    Ok(instructions)
+}
+
+fn many_rows(alloc: Global) -> Result<Vec<(u64, i64)>, AllocError> {
+    let mut rows = Vec::new(alloc);
+    rows.push((0x1000, 8))?;
+    for number in 1..MANY + 1 {
+        rows.push((0x1000 + number, (number % 128) as i64))?;
+    }
+    Ok(rows)
+}
+
 #[test]
 fn entries_have_their_rows(rt: HostRuntime) -> Result<(), Fail> {
-    let alloc = rt.alloc();
-    // Each row is remembered, and then the CFA's offset is another; afterwards each comes back.
-    let mut nested = Vec::new(alloc);
-    let mut nested_rows = Vec::from_slice(alloc, &[(0x1000, 8)])?;
-    for number in 1..NESTED + 1 {
-        let offset = (number % 16 * 8) as u8;
-        nested.extend_from_slice(&[0x0a, 0x41, 0x0e, offset])?;
-        nested_rows.push((0x1000 + number, i64::from(offset)))?;
-    }
-    for number in 1..NESTED + 1 {
-        nested.extend_from_slice(b"\x41\x0b")?;
-        let left = NESTED - number;
-        let offset = if left == 0 { 8 } else { (left % 16 * 8) as i64 };
-        nested_rows.push((0x1000 + NESTED + number, offset))?;
-    }
-    let mut many = Vec::new(alloc);
-    let mut many_rows = Vec::from_slice(alloc, &[(0x1000, 8)])?;
-    for number in 1..MANY + 1 {
-        let offset = (number % 128) as u8;
-        many.extend_from_slice(&[0x41, 0x0e, offset])?;
-        many_rows.push((0x1000 + number, i64::from(offset)))?;
-    }
-    for (row, instructions, wanted) in [
-        ("nested rows", nested.as_slice(), nested_rows.as_slice()),
-        ("many rows", many.as_slice(), many_rows.as_slice()),
-    ] {
-        for found in &found(alloc, instructions)? {
-            same(&rt, row, found, wanted);
-        }
-        let reason = inspect(alloc, &called(0x10000, instructions))?;
-        same(&rt, row, &[reason], &[None]);
-    }
-    Ok(())
+    let instructions = nested(rt.alloc())?;
+    let wanted = nested_rows(rt.alloc())?;
+    expect_rows(&rt, rt.alloc(), "nested rows", &instructions, &wanted)?;
+    let instructions = many(rt.alloc())?;
+    let wanted = many_rows(rt.alloc())?;
+    expect_rows(&rt, rt.alloc(), "many rows", &instructions, &wanted)
 }

@@ -10,8 +10,8 @@ mod comparing;
 #[cfg(test)]
 mod files;
 #[cfg(test)]
-mod judgements;
-#[cfg(test)]
 mod pairs;
 #[cfg(test)]
 mod rows;
+#[cfg(test)]
+mod samples;

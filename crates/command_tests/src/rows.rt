@@ -50,6 +50,13 @@ const CALLED: &[u8] = b"MODULE Linux x86_64 0 a\nFUNC 1000 20 0 f\nFUNC 2000 10 
 /// The state in it, as the file `d/stack`.
 pub const STACK: &[u8] = b"REG rip 1005\nREG rsp 7000\nMEM 7000 0520000000000000\n";
 
+/// The frame records of a function that pushes rbp, in other words, as the file `d/text`.
+pub const TEXT: &[u8] = b"MODULE Linux x86_64 0 a\n\
+    STACK CFI INIT 1000 20 .cfa: 8 $rsp + .ra: .cfa 8 - ^\n\
+    STACK CFI 1001 .cfa: 16 $rsp + $rbp: .cfa 16 - ^\n\
+    STACK CFI 1004 .cfa: $rbp 16 +\n\
+    STACK CFI 100e .cfa: $rsp 8 +\n";
+
 /// Two functions that meet, and two that do not.
 const MEETING: &[u8] = b"MODULE Linux x86_64 0 a\nFUNC 1000 10 0 f\nFUNC 1008 10 0 g\n";
 
@@ -308,7 +315,7 @@ pub const TEXT_ROWS: [Row; 17] = [
 ];
 
 /// Words, and ELF files.
-pub const ROWS: [Row; 37] = [
+pub const ROWS: [Row; 38] = [
     ("usage", NO_ROWS, Given::Small, 2, &[], &[USAGE]),
     (
         "another file",
@@ -317,6 +324,14 @@ pub const ROWS: [Row; 37] = [
         3,
         &[],
         &[UNREAD],
+    ),
+    (
+        "a judgement",
+        &[&["judge", "d/a.out", "d/text"]],
+        Given::Units(&[], PUSH_RBP),
+        0,
+        &[b"yes\n"],
+        &[],
     ),
     ("main", DUMPS, Given::Small, 0, &[FRONT, MAIN], &[]),
     (

@@ -141,36 +141,6 @@ pub fn with_functions<'a>(
     file_of(alloc, &[(1, 0)], &sections)
 }
 
-/// A file of a unit with so many functions of eight addresses, so far apart from 1000 on, of two names in turn. Of each the first
-/// four addresses are an inlined copy's, of the same name, which is called in line 5 of the file `a.c`.
-pub fn functions_of(
-    alloc: Global,
-    count: u64,
-    apart: u64,
-    names: [&[u8]; 2],
-) -> Result<Vec<u8>, AllocError> {
-    let mut entries = Vec::new(alloc);
-    for k in 0..count {
-        let name = if k % 2 == 0 { names[0] } else { names[1] };
-        let start = k.wrapping_mul(apart).wrapping_add(0x1000);
-        entries.extend_from_slice(&entry_of(alloc, 4, name, start, 8)?)?;
-        entries.extend_from_slice(&entry_of(alloc, 3, name, start, 4)?)?;
-        entries.extend_from_slice(b"\x01\x05\0")?;
-    }
-    let unit = unit_of(alloc, 0, &entries)?;
-    let lines = line_table(alloc, A_C, THREE_ROWS)?;
-    let size = count.wrapping_mul(apart) as usize % 10_000_000;
-    let code = Vec::from_elem(alloc, 0x90, size.saturating_add(0x20))?;
-    with_functions(alloc, &code, &unit, &lines)
-}
-
-/// Says another number of section headers.
-pub fn renumber(file: &mut [u8], count: u16) {
-    for (slot, byte) in file.iter_mut().skip(60).zip(&count.to_le_bytes()) {
-        *slot = *byte;
-    }
-}
-
 /// Numbers of a width, the lowest byte first.
 pub fn put(bytes: &mut Vec<u8>, width: usize, numbers: &[u64]) -> Result<(), AllocError> {
     for number in numbers {
@@ -182,7 +152,7 @@ pub fn put(bytes: &mut Vec<u8>, width: usize, numbers: &[u64]) -> Result<(), All
 }
 
 /// A section header, by the offsets of the name and of the bytes.
-pub fn put_header(
+fn put_header(
     headers: &mut Vec<u8>,
     section: Section<'_>,
     name: u64,

@@ -1,8 +1,9 @@
-//! Tests of the lowest crates, of those that make, read and check records, and of those that evaluate them.
+//! Tests of the lowest crates and of those that make records.
 //!
 //! They use public calls alone and nothing stands on them, so each of those crates is proved without them. There is no code here. A
 //! test shows what no clause says: that calls answer with ample memory, what files and streams do that are slow, interrupted or
-//! broken, that threads meet, and the sizes of types.
+//! broken, that threads meet, and the sizes of types. The crates that read, check and evaluate records are tested by what the commands
+//! answer on long texts (scripts/long_texts.py).
 #![tactic(auto)]
 
 #[cfg(test)]
@@ -12,28 +13,14 @@ mod expressions;
 #[cfg(test)]
 mod fakes;
 #[cfg(test)]
-mod findings;
-#[cfg(test)]
-mod frames;
-#[cfg(test)]
-mod lookups;
-#[cfg(test)]
-mod names;
-#[cfg(test)]
-mod reading;
-#[cfg(test)]
 mod records;
 #[cfg(test)]
 mod rules;
 #[cfg(test)]
 mod sets;
 #[cfg(test)]
-mod states;
-#[cfg(test)]
 mod steps;
 #[cfg(test)]
 mod streams;
-#[cfg(test)]
-mod walks;
 #[cfg(test)]
 mod workers;

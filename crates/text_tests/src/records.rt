@@ -1,9 +1,11 @@
-//! A record of each kind, many records, the longest lines and names, and the size of a record (`sym_records`).
+//! A record of each kind, the longest lines and names, and the sizes of a record (`sym_records`) and of a finding (`sym_findings`).
 use crate::comparing::same;
 use std::alloc::Global;
 use std::mem::size_of;
+use std::process::Abort;
 use std::test::Fail;
 use sym_edges::{CallList, MemSink, OutOfMemory};
+use sym_findings::Finding;
 use sym_records::{
     Binary, BoxedBinary, ByteText, Extent, Extents, RuleText, Rules, SymFile, SymLine, Target,
     TextPieces, Token, Tokens, add_line, clean, file_of, is_valid, render, write_file,
@@ -11,26 +13,37 @@ use sym_records::{
 
 const _: () = prove!(size_of::<SymLine>() == 56);
 
+const _: () = prove!(size_of::<Finding>() == 16);
+
 fn text(alloc: Global, bytes: &[u8]) -> Result<ByteText, OutOfMemory> {
     Ok(ByteText::of(Vec::from_slice(alloc, bytes)?))
 }
 
 fn long_text(alloc: Global, length: usize) -> Result<ByteText, OutOfMemory> {
-    Ok(ByteText::of(vec![in alloc; b'a'; length]?))
+    Ok(ByteText::of(Vec::from_elem(alloc, b'a', length)?))
 }
 
-pub(crate) fn one_rule(alloc: Global, offset: i64) -> Result<Vec<RuleText>, OutOfMemory> {
+fn one_rule(alloc: Global, offset: i64) -> Result<Vec<RuleText>, OutOfMemory> {
     let tokens = Tokens::three(Token::Reg(7), Token::Number(offset), Token::Add);
     let target = Target::Cfa;
     Ok(Vec::from_array(alloc, [RuleText { target, tokens }])?)
 }
 
 fn two_ranges(alloc: Global) -> Result<Vec<Extent>, OutOfMemory> {
-    let ranges = [(0x1004, 8), (0x2000, 16)].map(|(address, size)| Extent { address, size });
+    let ranges = [
+        Extent {
+            address: 0x1004,
+            size: 8,
+        },
+        Extent {
+            address: 0x2000,
+            size: 16,
+        },
+    ];
     Ok(Vec::from_array(alloc, ranges)?)
 }
 
-pub(crate) fn module(alloc: Global) -> Result<SymLine, OutOfMemory> {
+fn module(alloc: Global) -> Result<SymLine, OutOfMemory> {
     let parts = Binary {
         os: text(alloc, b"Linux")?,
         arch: text(alloc, b"x86_64")?,
@@ -129,65 +142,57 @@ const WRITES: [(&str, (usize, usize, u64), usize); 6] = [
     ("the third call fails", (500, 50, 3), 100),
 ];
 
-#[test]
-fn records_are_rendered_and_written(rt: HostRuntime) -> Result<(), Fail> {
-    let alloc = rt.alloc();
+/// Adds the text of a record.
+fn add_rendered(alloc: Global, text: &mut Vec<u8>, line: &SymLine) -> Result<(), OutOfMemory> {
+    let rendered = render(alloc, line)?;
+    text.extend_from_slice(rendered.as_slice())?;
+    Ok(())
+}
+
+/// The records' texts, one after another.
+fn rendered(alloc: Global, records: &[SymLine]) -> Result<Vec<u8>, OutOfMemory> {
+    let mut text = Vec::new(alloc);
+    for line in records {
+        add_rendered(alloc, &mut text, line)?;
+    }
+    Ok(text)
+}
+
+/// The records as a file, and none where they are not valid.
+fn whole_file(alloc: Global) -> Result<Option<SymFile>, OutOfMemory> {
     let records = each_record(alloc)?;
-    let mut rendered = Vec::new(alloc);
-    for line in &records {
-        rendered.extend_from_slice(render(alloc, line)?.as_slice())?;
-    }
-    same(&rt, "rendered", rendered.as_slice(), WHOLE);
-    let Ok(file) = file_of(records) else {
-        return Err("the records are no file".into());
-    };
-    for (row, sink, count) in WRITES {
-        let (sink, is_whole) = write(alloc, &file, sink)?;
-        same(
-            &rt,
-            row,
-            sink.written(),
-            WHOLE.split_at(count.min(WHOLE.len())).0,
-        );
-        same(&rt, row, &[is_whole], &[count == WHOLE.len()]);
-    }
-    same(
-        &rt,
-        "the records come back",
-        &[file.into_vec().len()],
-        &[10],
-    );
+    Ok(file_of(records).ok())
+}
+
+/// A sink that is used in this way takes so many bytes of `WHOLE`.
+fn expect_write(
+    rt: &impl Abort,
+    alloc: Global,
+    file: &SymFile,
+    row: &str,
+    sink: (usize, usize, u64),
+    count: usize,
+) -> Result<(), OutOfMemory> {
+    let (sink, is_whole) = write(alloc, file, sink)?;
+    let wanted = WHOLE.split_at(count.min(WHOLE.len())).0;
+    same(rt, row, sink.written(), wanted);
+    same(rt, row, &[is_whole], &[count == WHOLE.len()]);
     Ok(())
 }
 
 #[test]
-fn many_records_and_a_long_name_are_written(rt: HostRuntime) -> Result<(), Fail> {
+fn records_are_rendered_and_written(rt: HostRuntime) -> Result<(), Fail> {
     let alloc = rt.alloc();
-    let mut lines = Vec::new(alloc);
-    lines.push(module(alloc)?)?;
-    lines.push(SymLine::Func {
-        many: false,
-        address: 0,
-        size: 1,
-        params: 0,
-        name: long_text(alloc, 200_000)?,
-    })?;
-    for _ in 0..200_000 {
-        lines.push(SymLine::Line {
-            address: 0x1000,
-            size: 0x10,
-            line: 5,
-            file: 1,
-        })?;
-    }
-    let Ok(file) = file_of(lines) else {
+    let records = each_record(alloc)?;
+    same(&rt, "rendered", &rendered(alloc, &records)?, WHOLE);
+    let Some(file) = whole_file(alloc)? else {
         return Err("the records are no file".into());
     };
-    let (sink, is_whole) = write(alloc, &file, (3_000_000, 3_000_000, 0))?;
-    let count = 30 + 200_012 + 12 * 200_000;
-    same(&rt, "all bytes", &[sink.written().len()], &[count]);
-    let is_last = sink.written().ends_with(b"1000 10 5 1\n");
-    same(&rt, "to the last line", &[is_whole, is_last], &[true, true]);
+    for (row, sink, count) in WRITES {
+        expect_write(&rt, alloc, &file, row, sink, count)?;
+    }
+    let count = file.into_vec().len();
+    same(&rt, "the records come back", &[count], &[10]);
     Ok(())
 }
 
@@ -219,12 +224,14 @@ fn is_public(alloc: Global, length: usize) -> Result<bool, OutOfMemory> {
     }))
 }
 
+const NOWHERE: Extent = Extent {
+    address: 0,
+    size: 0,
+};
+
 /// Whether an INLINE record of many ranges is valid, whose last one has this size.
 fn is_inline(alloc: Global, size: u64) -> Result<bool, OutOfMemory> {
-    let mut ranges = vec![in alloc; Extent {
-        address: 0,
-        size: 0
-    }; 262_139]?;
+    let mut ranges = Vec::from_elem(alloc, NOWHERE, 262_139)?;
     ranges.push(Extent {
         address: 0x10,
         size,

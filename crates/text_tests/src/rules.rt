@@ -17,25 +17,28 @@ fn name(alloc: Global, bytes: &[u8]) -> Result<RuleName, OutOfMemory> {
     RuleName::of(alloc, ByteText::of(Vec::from_slice(alloc, bytes)?))
 }
 
-/// Rules of one, two, three and four words, with a name and a negative number among them.
+fn rule(target: Target, tokens: Tokens) -> RuleText {
+    RuleText { target, tokens }
+}
+
+/// A rule of two words, with names among them.
+fn named_rule(alloc: Global) -> Result<RuleText, OutOfMemory> {
+    let mut words = Vec::new(alloc);
+    words.push(Token::Other(name(alloc, b".ra")?))?;
+    words.push(Token::Undef)?;
+    Ok(rule(Target::Other(name(alloc, b"$xmm0")?), Tokens::of(words)))
+}
+
+/// Rules of one, two, three and four words, with a negative number among them.
 fn some_rules(alloc: Global) -> Result<Vec<RuleText>, OutOfMemory> {
-    let other = Target::Other(name(alloc, b"$xmm0")?);
-    let words = [Token::Other(name(alloc, b".ra")?), Token::Undef];
-    let words = Tokens::of(Vec::from_array(alloc, words)?);
-    let rules = [
-        (
-            Target::Cfa,
-            Tokens::three(Token::Reg(7), Token::Number(8), Token::Add),
-        ),
-        (
-            Target::Ra,
-            Tokens::four(Token::Cfa, Token::Number(-8), Token::Add, Token::Fetch),
-        ),
-        (Target::Reg(6), Tokens::one(Token::Reg(6))),
-        (other, words),
-    ];
-    let rules = rules.map(|(target, tokens)| RuleText { target, tokens });
-    Ok(Vec::from_array(alloc, rules)?)
+    let mut rules = Vec::new(alloc);
+    let cfa = Tokens::three(Token::Reg(7), Token::Number(8), Token::Add);
+    rules.push(rule(Target::Cfa, cfa))?;
+    let ra = Tokens::four(Token::Cfa, Token::Number(-8), Token::Add, Token::Fetch);
+    rules.push(rule(Target::Ra, ra))?;
+    rules.push(rule(Target::Reg(6), Tokens::one(Token::Reg(6))))?;
+    rules.push(named_rule(alloc)?)?;
+    Ok(rules)
 }
 
 const RULES: &[u8] = b" .cfa: $rsp 8 + .ra: .cfa -8 + ^ $rbp: $rbp $xmm0: .ra .undef";

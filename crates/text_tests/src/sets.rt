@@ -3,8 +3,9 @@ use crate::comparing::same;
 use range_set::{Enclosing, RangeSet, of_ranges};
 use std::alloc::{AllocError, Global};
 use std::mem::size_of;
+use std::process::Abort;
 use std::test::Fail;
-use sym_edges::Span;
+use sym_edges::{OutOfMemory, Span};
 
 const _: () = prove!(size_of::<RangeSet>() == 32);
 
@@ -34,22 +35,68 @@ fn ends_of(alloc: Global, spans: &[Span]) -> Result<Vec<u64>, AllocError> {
     Ok(ends)
 }
 
+/// How two sets are put together.
+#[derive(Clone, Copy)]
+enum Form {
+    Alone,
+    Met,
+    Less,
+    Joined,
+}
+
+/// The spans from 0 to 4 after each tenth address, with those from 2 to 6.
+fn set_by(alloc: Global, form: Form) -> Result<RangeSet, OutOfMemory> {
+    let low = of_ranges(alloc, thousand(alloc, 0, 4, false)?.as_slice())?;
+    if let Form::Alone = form {
+        return Ok(low);
+    }
+    let high = of_ranges(alloc, thousand(alloc, 2, 6, false)?.as_slice())?;
+    match form {
+        Form::Met => low.meet(alloc, &high),
+        Form::Less => low.minus(alloc, &high),
+        _ => low.join(alloc, &high),
+    }
+}
+
+/// A form, and where its spans begin and end after each tenth address.
+const SETS: [(&str, Form, u64, u64); 4] = [
+    ("of_ranges", Form::Alone, 0, 4),
+    ("meet", Form::Met, 2, 4),
+    ("minus", Form::Less, 0, 2),
+    ("join", Form::Joined, 0, 6),
+];
+
+fn expect_set(
+    rt: &impl Abort,
+    alloc: Global,
+    (row, form, from, to): (&str, Form, u64, u64),
+) -> Result<(), OutOfMemory> {
+    let set = set_by(alloc, form)?;
+    let found = ends_of(alloc, set.spans())?;
+    let wanted = thousand(alloc, from, to, true)?;
+    let wanted = ends_of(alloc, wanted.as_slice())?;
+    same(rt, row, &found, &wanted);
+    Ok(())
+}
+
 #[test]
 fn sets_of_a_thousand_spans(rt: HostRuntime) -> Result<(), Fail> {
-    let alloc = rt.alloc();
-    let low = of_ranges(alloc, thousand(alloc, 0, 4, false)?.as_slice())?;
-    let high = of_ranges(alloc, thousand(alloc, 2, 6, false)?.as_slice())?;
-    for (row, set, from, to) in [
-        ("of_ranges", &low, 0, 4),
-        ("meet", &low.meet(alloc, &high)?, 2, 4),
-        ("minus", &low.minus(alloc, &high)?, 0, 2),
-        ("join", &low.join(alloc, &high)?, 0, 6),
-    ] {
-        let wanted = ends_of(alloc, thousand(alloc, from, to, true)?.as_slice())?;
-        same(&rt, row, &ends_of(alloc, set.spans())?, &wanted);
+    for row in SETS {
+        expect_set(&rt, rt.alloc(), row)?;
     }
-    let enclosing = Enclosing::of_spans(alloc, low.spans())?;
-    let found = [(0, 4), (9990, 9994), (0, 5), (4, 10)].map(|(a, b)| enclosing.encloses(a, b));
+    Ok(())
+}
+
+#[test]
+fn a_thousand_spans_enclose(rt: HostRuntime) -> Result<(), Fail> {
+    let spans = thousand(rt.alloc(), 0, 4, true)?;
+    let enclosing = Enclosing::of_spans(rt.alloc(), spans.as_slice())?;
+    let found = [
+        enclosing.encloses(0, 4),
+        enclosing.encloses(9990, 9994),
+        enclosing.encloses(0, 5),
+        enclosing.encloses(4, 10),
+    ];
     same(&rt, "Enclosing", &found, &[true, true, false, false]);
     Ok(())
 }

@@ -5,7 +5,8 @@ ghost use Rattle.step_maps.specs.Covers.{AreStretches};
 use crate::comparing::same;
 use std::alloc::{AllocError, Global};
 use std::test::Fail;
-use step_maps::{Cover, Stretch, covers, first_items, overlay};
+use step_maps::{Cover, FirstItem, Stretch, covers, first_items, overlay};
+use sym_edges::OutOfMemory;
 
 fn stretch(first: u64, last: u64, index: u32, class: u32) -> Stretch
     requires { first ≤ last }
@@ -16,15 +17,6 @@ fn stretch(first: u64, last: u64, index: u32, class: u32) -> Stretch
         last,
         index,
         class,
-    }
-}
-
-fn cover(first: u64, last: u64, index: u32, shared: bool) -> Cover {
-    Cover {
-        first,
-        last,
-        index,
-        shared,
     }
 }
 
@@ -41,33 +33,53 @@ fn falling(alloc: Global, count: u32) -> Result<Vec<Stretch>, AllocError>
     Ok(items)
 }
 
+/// The number of covers, and where the first and the last of them begin and end.
+fn outermost(found: &[Cover]) -> [u64; 5] {
+    let mut ends = [found.len() as u64, 0, 0, 0, 0];
+    if let Some(cover) = found.first() {
+        ends[1] = cover.first;
+        ends[2] = cover.last;
+    }
+    if let Some(cover) = found.last() {
+        ends[3] = cover.first;
+        ends[4] = cover.last;
+    }
+    ends
+}
+
 #[test]
-fn some_thousand_stretches(rt: HostRuntime) -> Result<(), Fail> {
-    let alloc = rt.alloc();
+fn thousands_of_stretches_are_covered(rt: HostRuntime) -> Result<(), Fail> {
+    let items = falling(rt.alloc(), 5000)?;
+    let found = covers(rt.alloc(), items.as_slice())?;
+    let wanted = [5000, 3, 5, 15000, 15003];
+    same(&rt, "the covers", &outermost(found.as_slice()), &wanted);
+    Ok(())
+}
+
+/// Ten times the number of an item, counted from 1, and 1 where it is shared; 0 where there is none.
+fn mark(item: Option<FirstItem>) -> u64 {
+    match item {
+        None => 0,
+        Some(item) => (u64::from(item.index) + 1) * 10 + u64::from(item.shared),
+    }
+}
+
+/// The first items at addresses of the map that is laid over itself.
+fn marks(alloc: Global, places: &[u64]) -> Result<Vec<u64>, OutOfMemory> {
     let items = falling(alloc, 5000)?;
-    let found = covers(alloc, items.as_slice())?;
-    let first = found.get(0).copied().unwrap_or(cover(0, 0, 0, false));
-    let last = found.get(4999).copied().unwrap_or(cover(0, 0, 0, false));
-    let got = [
-        found.len() as u64,
-        first.first,
-        first.last,
-        last.first,
-        last.last,
-    ];
-    same(&rt, "the covers", &got, &[5000, 3, 5, 15000, 15003]);
     let steps = first_items(alloc, items.as_slice())?;
     let both = overlay(alloc, &steps, &steps)?;
+    let mut marks = Vec::new(alloc);
+    for place in places {
+        marks.push(mark(both.at(None, *place)))?;
+    }
+    Ok(marks)
+}
+
+#[test]
+fn thousands_of_stretches_are_laid_over_themselves(rt: HostRuntime) -> Result<(), Fail> {
     let places = [2, 5, 6, 7, 9, 14999, 15000, 15003, 15004];
-    let marks = places.map(|a| match both.at(None, a) {
-        None => 0,
-        Some(item) => (item.index as u64 + 1) * 10 + item.shared as u64,
-    });
-    same(
-        &rt,
-        "laid over themselves",
-        &marks,
-        &[0, 50000, 49991, 49990, 49981, 20, 11, 10, 0],
-    );
+    let wanted = [0, 50000, 49991, 49990, 49981, 20, 11, 10, 0];
+    same(&rt, "marks", &marks(rt.alloc(), &places)?, &wanted);
     Ok(())
 }
