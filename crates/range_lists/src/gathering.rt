@@ -6,7 +6,7 @@ ghost use Rattle.range_lists.specs.ListPairs.{base_after, pair_of};
 ghost use Rattle.range_lists.specs.EntryRanges.{is_code, in_pairs};
 
 use crate::effect::Effect;
-use range_set::{Enclosing, RangeSet, of_ranges};
+use range_set::{Enclosing, RangeSet, of_owned};
 use std::alloc::Global;
 use std::marker::Model;
 use sym_edges::{OutOfMemory, Span};
@@ -136,6 +136,6 @@ impl Gathering {
             }
             done.push(last)?;
         }
-        of_ranges(alloc, done.as_slice())
+        of_owned(alloc, done)
     }
 }

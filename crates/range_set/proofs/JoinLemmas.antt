@@ -119,3 +119,16 @@ joins_end left right built xs ys m none a =
 pub members_permuted : {E : Type 0} (result : Result (List Range) E) (xs ys : List Range) → IsPermutation xs ys → IfOk result (λ set. (a : ℕ) → holds_any set a ≡ holds_any ys a) → IfOk result (λ set. (a : ℕ) → holds_any set a ≡ holds_any xs a)
 members_permuted (Ok set) xs ys p is = λ a. is a ∙ permuted_members xs ys a p
 members_permuted (Err e) xs ys p is = tt
+
+-- the list is that of a set, if what is left of it is and begins above an address
+pub record Apart (all : List Range) (end : ℕ) (rest : List Range) : Type 0 where
+  pub whole : BeginsAbove end rest → IsCanonical rest → IsCanonical all
+
+pub apart_first : (x : Range) (xs : List Range) → x.start < x.end → Apart (x ∷ xs) x.end xs
+apart_first x xs some = record { whole = λ begins canonical. (some, begins, canonical) }
+
+pub apart_more : (all : List Range) (end : ℕ) (x : Range) (xs : List Range) → Apart all end (x ∷ xs) → end < x.start → x.start < x.end → Apart all x.end xs
+apart_more all end x xs a above some = record { whole = λ begins canonical. a.whole above (some, begins, canonical) }
+
+pub apart_end : (all : List Range) (end : ℕ) → Apart all end [] → IsCanonical all
+apart_end all end a = a.whole tt tt

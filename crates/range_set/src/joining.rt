@@ -1,4 +1,4 @@
-ghost use Rattle.std.specs.Prelude.{◌≡◌, ℕ, ◌≤◌, ◌||◌, [], length, IfOk, OnOk, IsOk};
+ghost use Rattle.std.specs.Prelude.{◌≡◌, ℕ, ◌≤◌, ◌||◌, true, [], length, IfOk, OnOk, IsOk};
 ghost use Rattle.std.specs.List.Sorted.{IsNonDecreasingBy, IsPermutation};
 ghost use Rattle.range_set.specs.Members.{holds_any};
 ghost use Rattle.range_set.specs.Canonical.{IsCanonical};
@@ -18,10 +18,44 @@ pub fn of_ranges(alloc: Global, spans: &[Span]) -> Result<RangeSet, OutOfMemory>
         [] => Ok(RangeSet::empty()),
         [span] => Ok(RangeSet::of_span(*span)),
         _ => {
+            if are_apart(spans) {
+                return Ok(RangeSet::of_many(Vec::from_slice(alloc, spans)?));
+            }
             let sorted = sorted_copy(alloc, spans)?;
             of_sorted(alloc, sorted.as_slice())
         }
     }
+}
+
+/// The addresses that some span holds, of spans that nobody needs any more: where they are as a set has them, they are its
+/// list.
+pub fn of_owned(alloc: Global, spans: Vec<Span>) -> Result<RangeSet, OutOfMemory>
+    ensures { IfOk result (λ set. (a : ℕ) → holds_any set a ≡ holds_any spans.items a) }
+{
+    if spans.len() > 1 && are_apart(spans.as_slice()) {
+        return Ok(RangeSet::of_many(spans));
+    }
+    of_ranges(alloc, spans.as_slice())
+}
+
+/// Whether each span ends below the start of the next.
+#[tactic(auto, using(crate::proofs::JoinLemmas::apart_first, crate::proofs::JoinLemmas::apart_more, crate::proofs::JoinLemmas::apart_end))]
+fn are_apart(spans: &[Span]) -> bool
+    ensures { result ≡ true → IsCanonical spans.now }
+{
+    let Some((first, later)) = spans.split_first() else {
+        return true;
+    };
+    let mut end = first.end();
+    let mut rest = later;
+    'spans: while let Some((span, after)) = rest.split_first() {
+        if span.start() <= end {
+            return false;
+        }
+        end = span.end();
+        rest = after;
+    }
+    true
 }
 
 /// The spans in the order of their starts.

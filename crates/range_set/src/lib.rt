@@ -1,7 +1,7 @@
 //! Sets of addresses.
 //!
 //! A [`RangeSet`] is a list of spans that are sorted and disjoint and do not touch, and contracts see it as that list.
-//! [`of_ranges`] makes the set of all addresses that some span of a slice holds; `join`, `meet` and `minus` hold what one of
+//! [`of_ranges`] makes the set of all addresses that some span of a slice holds, [`of_owned`] that of spans in a `Vec`; `join`, `meet` and `minus` hold what one of
 //! two sets holds, what both hold, and what the first holds and the second does not; `has` looks one address up. Each
 //! contract says so of every address. A set of addresses has one such list only, which is what
 //! [`same_addresses_same_list`] promises, so these contracts settle each answer down to its last span.
@@ -24,7 +24,7 @@ mod outermost;
 mod searching;
 mod set;
 
-pub use joining::of_ranges;
+pub use joining::{of_owned, of_ranges};
 pub use law::same_addresses_same_list;
 pub use outermost::Enclosing;
 pub use set::RangeSet;
