@@ -13,7 +13,7 @@ use Rattle.leb_cursor.proofs.ListLemmas.{weaker, either_passes, behind, none_beh
 use Rattle.abbrev_units.specs.Faults.{GivesAt}
 use Rattle.abbrev_units.specs.SpecFields.{AttributeSpec, SpecFields}
 use Rattle.abbrev_units.specs.declared.abbrev.Abbrev.{Abbrev}
-use Rattle.abbrev_units.specs.Abbreviations.{implicit_at, AbbrevFields, spec_at, abbrev_by, abbrev_at, used_spec, used_abbrev, used_at}
+use Rattle.abbrev_units.specs.Abbreviations.{implicit_at, spec_at, abbrev_by, abbrev_at, used_spec, used_abbrev, used_at}
 use Rattle.abbrev_units.specs.internal.Used.{one_by, all_by, used_spec_at, used_specs_at, used_abbrev_at}
 
 implicit_passes : (form : ℕ) (c : Ahead) → Passes 0 c (implicit_at form c)

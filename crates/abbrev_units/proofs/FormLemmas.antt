@@ -1,5 +1,7 @@
 -- How far a value goes.
-use Rattle.std.proofs.Common.{ℕ, ℤ, pos, Bool, ◌||◌, nat_eq, cond, List, [], ◌∷◌, Option, None, Some, Result, Ok, Err, refl, arith}
+use Rattle.std.proofs.Common.{◌≡◌, ℕ, ℤ, pos, Bool, true, false, ◌||◌, nat_eq, cond, List, [], ◌∷◌, Option, None, Some, Result, Ok, Err, refl, sym, ap, ◌∙◌, arith}
+use Rattle.std.specs.List.{find}
+use Rattle.std.proofs.lemmas.Bool.Decides.{nat_tests}
 use Rattle.leb_cursor.specs.declared.fault.CursorFault.{CursorFault}
 use Rattle.leb_cursor.specs.Ahead.{Ahead}
 use Rattle.leb_cursor.specs.Passes.{Passes}
@@ -49,3 +51,20 @@ values_pass [] c = (omega arith, refl)
 values_pass (spec ∷ specs) c =
     passes_then (value_at spec c) _ 0 0 c (form_passes spec.form spec.implicit spec.wide c)
     (λ first. passes_then (values_at specs first.1) _ 0 0 first.1 (values_pass specs first.1) (λ later. (omega arith, refl)))
+
+-- a row that is found has the code that was looked for
+row_code_by : (code : ℕ) (first row : FormRow) (later : Option FormRow) (here : Bool) → nat_eq first.code code ≡ here → (Some row ≡ later → row.code ≡ code) → Some row ≡ cond here (Some first) later → row.code ≡ code
+row_code_by code first row later true test rest is =
+    let same : row ≡ first = cc in
+    let tests : first.code ≡ code = grind (arith, nat_tests) in
+    ap (λ (r : FormRow). r.code) same ∙ tests
+row_code_by code first row later false test rest is = rest is
+
+row_code : (code : ℕ) (rows : List FormRow) (row : FormRow) → Some row ≡ find (λ (r : FormRow). nat_eq r.code code) rows → row.code ≡ code
+row_code code [] row is = absurd (grind (arith, is))
+row_code code (first ∷ rows) row is =
+    row_code_by code first row (find (λ (r : FormRow). nat_eq r.code code) rows) (nat_eq first.code code) refl (row_code code rows row) is
+
+pub row_known : (form : ℕ) (rows : List FormRow) (row : FormRow) → Some row ≡ form_row form rows → Some (record { code = form; layout = row.layout; class = row.class }) ≡ form_row form rows
+unfolding form_row
+row_known form rows row is = ap (λ code. Some (record { code = code; layout = row.layout; class = row.class })) (sym (row_code form rows row is)) ∙ is

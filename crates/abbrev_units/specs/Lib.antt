@@ -11,5 +11,6 @@ pub mod Abbreviations
 pub mod Places
 pub mod Values
 pub mod Takes
+pub mod KeptTags
 pub mod FaultWords
 pub mod internal

@@ -1,8 +1,9 @@
 //! Reading abbreviations (DWARF 5, 7.5.3).
-ghost use Rattle.std.specs.Prelude.{◌≡◌};
+ghost use Rattle.std.specs.Prelude.{◌≡◌, ◌++◌, ◌∷◌, [], OnOk};
 ghost use Rattle.leb_cursor.specs.Ahead.{gave};
 ghost use Rattle.abbrev_units.specs.Faults.{GivesAt};
 ghost use Rattle.abbrev_units.specs.Abbreviations.{implicit_at};
+ghost use Rattle.abbrev_units.specs.KeptTags.{is_kept_tag};
 ghost use Rattle.abbrev_units.specs.internal.Used.{used_spec_at, used_specs_at, used_abbrev_by, used_abbrev_at};
 
 use crate::spec::{Spec, SpecList};
@@ -12,7 +13,7 @@ use code_table::{
 };
 use leb_cursor::{Cursor, CursorFault};
 use std::alloc::Global;
-use sym_edges::{ListOf, Stop};
+use sym_edges::{ListOf, OutOfMemory, Stop};
 
 /// An abbreviation: its code, the tag of its entries (DWARF 5, table 7.3), whether they have children,
 /// and their attributes.
@@ -52,6 +53,18 @@ fn read_spec(cursor: &mut Cursor<'_>, wide: bool) -> Result<Option<Spec>, Cursor
 /// Room for as many attributes as most abbreviations have.
 const USUAL_SPECS: usize = 8;
 
+/// Adds an attribute. The first one takes the usual room, so that an abbreviation without attributes takes none.
+#[inline]
+fn add_spec(specs: &mut Vec<Spec>, spec: Spec) -> Result<(), OutOfMemory>
+    ensures { OnOk result (specs.new.items ≡ specs.old.items ++ spec ∷ []) }
+{
+    if specs.is_empty() {
+        specs.reserve_exact(USUAL_SPECS)?;
+    }
+    specs.push(spec)?;
+    Ok(())
+}
+
 /// Reads attributes up to the end of their list.
 #[tactic(auto, using(crate::proofs::AbbrevLemmas::specs_begin, crate::proofs::AbbrevLemmas::specs_more, crate::proofs::AbbrevLemmas::specs_end, crate::proofs::AbbrevLemmas::specs_refused, crate::proofs::AbbrevLemmas::specs_shorter))]
 fn read_specs(
@@ -61,19 +74,22 @@ fn read_specs(
 ) -> Result<ListOf<Spec>, Stop<CursorFault>>
     ensures { GivesAt result cursor.new (used_specs_at wide cursor.old) }
 {
-    let mut specs = Vec::with_capacity(alloc, USUAL_SPECS)?;
+    let mut specs = Vec::new(alloc);
     'specs: loop {
         match read_spec(cursor, wide) {
-            Ok(Some(spec)) => specs.push(spec)?,
+            Ok(Some(spec)) => add_spec(&mut specs, spec)?,
             Ok(None) => return Ok(ListOf::of(specs)),
             Err(fault) => return Err(Stop::Fault(fault)),
         }
     }
 }
 
-/// Whether the values of entries of a tag are mostly asked for.
+/// Whether entries of a tag are kept: their values are asked for.
 #[inline]
-fn is_asked_tag(tag: u64) -> bool {
+#[tactic(auto, unfolding(crate::specs::KeptTags::is_kept_tag))]
+pub fn is_kept_tag(tag: u64) -> bool
+    ensures { result ≡ is_kept_tag tag }
+{
     matches!(
         tag,
         DW_TAG_class_type
@@ -107,7 +123,7 @@ fn read_behind(
         Ok(specs) => specs.into_vec(),
         Err(stop) => return Err(stop),
     };
-    let specs = SpecList::of(alloc, specs, is_asked_tag(tag))?;
+    let specs = SpecList::of(alloc, specs, is_kept_tag(tag))?;
     Ok(Some(Abbrev {
         code,
         tag,

@@ -28,7 +28,7 @@ mod text;
 mod unit;
 mod value;
 
-pub use crate::abbrev::Abbrev;
+pub use crate::abbrev::{Abbrev, is_kept_tag};
 pub use crate::abbrevs::{Abbrevs, read_abbrevs};
 pub use crate::fault::{DwarfFault, DwarfKind, FormFault, HeaderFault, header_fault, in_section};
 pub use crate::form::read_form;

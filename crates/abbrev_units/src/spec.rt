@@ -5,19 +5,27 @@ ghost use Rattle.leb_cursor.specs.Readings.{take_at};
 ghost use Rattle.abbrev_units.specs.Faults.{left_by, as_value};
 ghost use Rattle.abbrev_units.specs.FormValue.{form_at};
 ghost use Rattle.abbrev_units.specs.Values.{value_at, only_ahead, behind_values};
-ghost use Rattle.abbrev_units.specs.internal.Plans.{HasLayout, HasRow};
+ghost use Rattle.code_table.specs.Forms.{forms, form_row};
+ghost use Rattle.abbrev_units.specs.internal.Plans.{HasLayout, HasRow, row_said};
 ghost use Rattle.abbrev_units.specs.Takes.{AreTakes};
 
 use crate::fault::FormFault;
 use crate::form::{read_indirect, read_known};
 use crate::plan::{Plan, form_size, make_plan, pass_plan};
-use crate::take::{Take, takes_of};
+use crate::take::{Take, has_far_text, takes_of};
 use crate::value::Value;
-use code_table::{DW_FORM_indirect, FormRow, Kind, find_form};
+use code_table::{DW_FORM_indirect, FormClass, FormRow, Kind, find_form};
 use leb_cursor::Cursor;
 use std::alloc::Global;
 use std::marker::Model;
 use sym_edges::OutOfMemory;
+
+/// What the row of a form says beside its code.
+#[derive(Clone, Copy)]
+pub struct Known {
+    pub layout: Kind,
+    pub class: FormClass,
+}
 
 /// An attribute and its form (DWARF 5, 7.5.3), in a unit of the 64-bit format where `wide`. The row of
 /// the form is looked up once.
@@ -27,21 +35,20 @@ pub struct Spec {
     form: u64,
     implicit: i64,
     wide: bool,
-    row: Option<FormRow>,
-    size: Option<u8>,
+    known: Option<Known>,
 }
 
 impl Model for Spec {
     ghost use Rattle.std.specs.Prelude.{◌≡◌};
     ghost use Rattle.code_table.specs.Forms.{forms, form_row};
     ghost use Rattle.abbrev_units.specs.SpecFields.{SpecFields};
-    ghost use Rattle.abbrev_units.specs.internal.Plans.{SizeOf};
+    ghost use Rattle.abbrev_units.specs.internal.Plans.{row_said};
 
     ghost Value = { SpecFields };
 
     ghost view = { λ s. record { attribute = s.attribute; form = s.form; implicit = s.implicit; wide = s.wide } };
 
-    ghost invariant = { λ s. (s.row ≡ form_row s.form (forms s.wide)) × SizeOf s.form s.row s.size };
+    ghost invariant = { λ s. row_said s.form s.known ≡ form_row s.form (forms s.wide) };
 }
 
 /// Passes so many bytes.
@@ -54,26 +61,31 @@ fn pass_run(cursor: &mut Cursor<'_>, size: u8) -> Result<(), FormFault>
     Ok(())
 }
 
+/// What is known of a form.
+#[inline]
+#[tactic(auto, using(crate::proofs::FormLemmas::row_known))]
+fn find_known(form: u64, wide: bool) -> Option<Known>
+    ensures { row_said form result ≡ form_row form (forms wide) }
+{
+    match find_form(form, wide) {
+        Some(row) => Some(Known {
+            layout: row.layout,
+            class: row.class,
+        }),
+        None => None,
+    }
+}
+
 impl Spec {
     pub(crate) fn of(attribute: u64, form: u64, implicit: i64, wide: bool) -> Spec
         ensures { result ≡ record { attribute = attribute; form = form; implicit = implicit; wide = wide } }
     {
-        // Field by field: a row that was just written in parts is slow to copy whole.
-        let row = match find_form(form, wide) {
-            Some(row) => Some(FormRow {
-                code: row.code,
-                layout: row.layout,
-                class: row.class,
-            }),
-            None => None,
-        };
         Spec {
             attribute,
             form,
             implicit,
             wide,
-            row,
-            size: form_size(form, row),
+            known: find_known(form, wide),
         }
     }
 
@@ -101,6 +113,21 @@ impl Spec {
         self.implicit
     }
 
+    /// The row of the form.
+    #[inline]
+    fn form_row(&self) -> Option<FormRow>
+        ensures { result ≡ form_row self.now.form (forms self.now.wide) }
+    {
+        match self.known {
+            Some(known) => Some(FormRow {
+                code: self.form,
+                layout: known.layout,
+                class: known.class,
+            }),
+            None => None,
+        }
+    }
+
     /// Reads a value of the attribute. A refused call leaves the cursor where it was.
     #[inline]
     #[tactic(auto, unfolding(crate::specs::FormValue::form_at, crate::specs::FormValue::direct_at))]
@@ -111,7 +138,7 @@ impl Spec {
         if self.form == DW_FORM_indirect {
             return read_indirect(cursor, self.wide);
         }
-        read_known(cursor, self.row, self.implicit)
+        read_known(cursor, self.form_row(), self.implicit)
     }
 
     /// The layout of the values, where it is the same for each and known.
@@ -122,7 +149,7 @@ impl Spec {
         if self.form == DW_FORM_indirect {
             return None;
         }
-        match self.row {
+        match self.form_row() {
             Some(row) => Some(row.layout),
             None => None,
         }
@@ -136,7 +163,7 @@ impl Spec {
         if self.form == DW_FORM_indirect {
             return None;
         }
-        match self.row {
+        match self.form_row() {
             Some(row) => Some(row),
             None => None,
         }
@@ -149,7 +176,7 @@ impl Spec {
         ensures passed { left_by result cursor.new ≡ only_ahead (value_at self.now cursor.old) }
         ensures kept { OnErr result (cursor.new ≡ cursor.old) }
     {
-        if let Some(size) = self.size {
+        if let Some(size) = form_size(self.form, self.form_row()) {
             return pass_run(cursor, size);
         }
         let _value = self.read(cursor)?;
@@ -164,6 +191,7 @@ pub struct SpecList {
     items: Vec<Spec>,
     plan: Option<Plan>,
     takes: Option<Vec<Take>>,
+    far_text: bool,
 }
 
 impl Model for SpecList {
@@ -179,18 +207,35 @@ impl Model for SpecList {
     ghost invariant = { λ l. IfSome l.plan (λ plan. IsPlan (ended plan.steps.items plan.tail) l.items.items) × IfSome l.takes (λ takes. AreTakes takes.items l.items.items) };
 }
 
+/// Whether one of these is a text elsewhere than at a place of `.debug_str`.
+fn any_far_text(takes: &Option<Vec<Take>>) -> bool {
+    match takes {
+        Some(takes) => has_far_text(takes.as_slice()),
+        None => false,
+    }
+}
+
 impl SpecList {
-    /// The short way to values is made where they are `asked` for.
+    /// The short way to values is made where they are `asked` for, and that over them where they are not.
     pub(crate) fn of(alloc: Global, items: Vec<Spec>, asked: bool) -> Result<SpecList, OutOfMemory>
         ensures { IfOk result (λ list. list ≡ items.items) }
     {
+        if asked {
+            let takes = takes_of(alloc, items.as_slice())?;
+            return Ok(SpecList {
+                far_text: any_far_text(&takes),
+                items,
+                plan: None,
+                takes,
+            });
+        }
         let plan = make_plan(alloc, items.as_slice())?;
-        let takes = if asked {
-            takes_of(alloc, items.as_slice())?
-        } else {
-            None
-        };
-        Ok(SpecList { items, plan, takes })
+        Ok(SpecList {
+            items,
+            plan,
+            takes: None,
+            far_text: false,
+        })
     }
 
     pub fn as_slice(&self) -> &[Spec]
@@ -208,6 +253,13 @@ impl SpecList {
             Some(takes) => Some(takes.as_slice()),
             None => None,
         }
+    }
+
+    /// Whether one of the values that are asked for is a text elsewhere than at a place of `.debug_str`. Which way is taken over
+    /// such values changes no answer.
+    #[inline]
+    pub fn has_far_text(&self) -> bool {
+        self.far_text
     }
 
     /// Passes the values of the attributes by a short way; false where there is none, or a value is not there, and nothing is

@@ -186,6 +186,19 @@ fn make_takes(alloc: Global, specs: &[Spec]) -> Result<Option<Vec<Take>>, OutOfM
     Ok(Some(later))
 }
 
+/// Whether one of these is a text elsewhere than at a place of `.debug_str`.
+pub fn has_far_text(takes: &[Take]) -> bool {
+    for take in takes {
+        if matches!(
+            take.class,
+            FormClass::InlineText | FormClass::LineTextPlace | FormClass::TextIndex
+        ) {
+            return true;
+        }
+    }
+    false
+}
+
 /// The takes of attributes, where the form of each is known.
 pub fn takes_of(alloc: Global, specs: &[Spec]) -> Result<Option<Vec<Take>>, OutOfMemory>
     ensures { IfOk result (λ made. IfSome made (λ takes. AreTakes takes.items specs.now)) }

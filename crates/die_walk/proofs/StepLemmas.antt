@@ -14,7 +14,7 @@ use Rattle.abbrev_units.specs.declared.value.Given.{Given}
 use Rattle.abbrev_units.specs.DebugSections.{DebugSections}
 use Rattle.abbrev_units.specs.Values.{values_at, behind_values, only_ahead}
 use Rattle.die_walk.specs.Marks.{value_fault, in_entry, read_values_at}
-use Rattle.die_walk.specs.EntryTree.{is_kept_tag}
+use Rattle.abbrev_units.specs.KeptTags.{is_kept_tag}
 use Rattle.die_walk.specs.declared.picks.Picks.{Picks}
 use Rattle.die_walk.specs.Attributes.{first_of, text_in_entry}
 use Rattle.die_walk.specs.EntryTable.{die_of, root_of}

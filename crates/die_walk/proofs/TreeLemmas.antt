@@ -9,7 +9,8 @@ use Rattle.abbrev_units.specs.declared.value.Given.{Given}
 use Rattle.abbrev_units.specs.DebugSections.{DebugSections}
 use Rattle.die_walk.specs.Marks.{Mark}
 use Rattle.die_walk.specs.Marks.Mark.{Close, Entry}
-use Rattle.die_walk.specs.EntryTree.{Item, items_from, is_kept_tag, kept_count, ancestor, kept_from}
+use Rattle.abbrev_units.specs.KeptTags.{is_kept_tag}
+use Rattle.die_walk.specs.EntryTree.{Item, items_from, kept_count, ancestor, kept_from}
 use Rattle.die_walk.specs.EntryTable.{DieFields, RootFields, EntryTable, base_of, die_of, root_of, table_by, table_of}
 use Rattle.die_walk.specs.Steps.{Walked, kept_at, innermost, keeps, begun, added, entered, opened, own_number, moved, all_moved, rounded, table_in}
 

@@ -29,7 +29,7 @@ use Rattle.die_walk.specs.EntryTable.{DieFields, EntryTable, table_of, entries_a
 use Rattle.die_walk.specs.Marks.{Mark, in_entry, read_values_at, entry_by, mark_by, mark_at, next_mark, marks_at}
 use Rattle.die_walk.specs.Marks.Mark.{Close, Entry}
 use Rattle.die_walk.proofs.TreeLemmas.{start_is, moved_few}
-use Rattle.die_walk.specs.EntryTree.{is_kept_tag}
+use Rattle.abbrev_units.specs.KeptTags.{is_kept_tag}
 use Rattle.die_walk.specs.Steps.{Walked, begun, added, entered, opened, own_number, moved, all_moved, rounded, table_in, walked_from, moving, moved_at, step_at, Steps, Moves, IsShort, TableOf}
 
 -- how far a mark goes

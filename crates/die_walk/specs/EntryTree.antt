@@ -1,6 +1,7 @@
 -- The tree of a unit's entries (DWARF 5, 2.3), and the entries that are kept.
-use Rattle.std.specs.Prelude.{ℕ, ◌+◌, ◌-◌, ◌==◌, ◌||◌, Bool, true, if◌then◌else◌, List, [], ◌∷◌, ◌++◌, Option, None, Some}
+use Rattle.std.specs.Prelude.{ℕ, ◌+◌, ◌-◌, ◌==◌, Bool, true, if◌then◌else◌, List, [], ◌∷◌, ◌++◌, Option, None, Some}
 use Rattle.abbrev_units.specs.declared.value.Given.{Given}
+use Rattle.abbrev_units.specs.KeptTags.{is_kept_tag}
 use Rattle.die_walk.specs.Marks.{Mark}
 use Rattle.die_walk.specs.Marks.Mark.{Close, Entry}
 
@@ -18,11 +19,6 @@ items_from depth [] = []
 items_from depth (Close ∷ marks) = items_from (depth - 1) marks
 items_from depth (Entry at tag children values ∷ marks) =
     record { at = at; depth = depth; tag = tag; values = values } ∷ items_from (if children then depth + 1 else depth) marks
-
--- the tags that are kept (DWARF 5, table 7.3): DW_TAG_class_type, DW_TAG_structure_type, DW_TAG_union_type, DW_TAG_inlined_subroutine,
--- DW_TAG_subprogram, DW_TAG_namespace
-unfoldable pub is_kept_tag : ℕ → Bool
-is_kept_tag tag = tag == 0x02 || (tag == 0x13 || (tag == 0x17 || (tag == 0x1d || (tag == 0x2e || tag == 0x39))))
 
 -- an entry is kept by its tag; the first of a unit, its root, always is. `earlier` are the entries before it, the last one first
 abbrev pub is_kept : Item → List Item → Bool

@@ -11,9 +11,10 @@ use Rattle.abbrev_units.specs.declared.fault.DwarfKind.{DwarfKind}
 use Rattle.abbrev_units.specs.declared.unit.Unit.{Unit}
 use Rattle.abbrev_units.specs.declared.value.Given.{Given}
 use Rattle.abbrev_units.specs.DebugSections.{DebugSections}
+use Rattle.abbrev_units.specs.KeptTags.{is_kept_tag}
 use Rattle.die_walk.specs.Marks.{Mark, read_values_at, next_mark, marks_at}
 use Rattle.die_walk.specs.Marks.Mark.{Close, Entry}
-use Rattle.die_walk.specs.EntryTree.{Item, Kept, is_kept_tag}
+use Rattle.die_walk.specs.EntryTree.{Item, Kept}
 use Rattle.die_walk.specs.declared.picks.Picks.{Picks}
 use Rattle.die_walk.specs.Picking.{base_by, die_by, root_by}
 use Rattle.die_walk.specs.EntryTable.{DieFields, RootFields, EntryTable, base_of, die_of, root_of}

@@ -1,5 +1,5 @@
 //! Kept entries in two parts: a head of 32 bytes, and what does not fit into it.
-ghost use Rattle.std.specs.Prelude.{◌≡◌, ◌<◌, ◌^◌, ◌++◌, ◌==◌, ◌∷◌, [], length, map, OnOk};
+ghost use Rattle.std.specs.Prelude.{◌≡◌, ◌<◌, ◌^◌, ◌++◌, ◌==◌, ◌∷◌, [], length, map, IfOk, OnOk};
 ghost use Rattle.std.specs.List.{slice_get};
 ghost use Rattle.std.specs.Option.{option_copied};
 ghost use Rattle.sym_edges.specs.Rising.{RisesFrom, StandBelow};
@@ -180,18 +180,31 @@ impl<'a> Model for EntryList<'a> {
 }
 
 impl<'a> EntryList<'a> {
-    /// No entry yet; names are in this section.
-    pub fn new(alloc: Global, strs: &'a [u8]) -> EntryList<'a>
-        ensures { result ≡ record { dies = []; strs = strs.now } }
+    /// No entry yet, and room for so many; names are in this section.
+    pub fn with_room(
+        alloc: Global,
+        strs: &'a [u8],
+        room: usize,
+    ) -> Result<EntryList<'a>, OutOfMemory>
+        ensures { IfOk result (λ list. list ≡ record { dies = []; strs = strs.now }) }
     {
-        EntryList {
-            heads: Vec::new(alloc),
+        Ok(EntryList {
+            heads: Vec::with_capacity(alloc, room)?,
             parts: DieParts {
                 strs,
                 sites: Vec::new(alloc),
                 wholes: Vec::new(alloc),
             },
-        }
+        })
+    }
+
+    /// Gives back the room that no entry took.
+    pub fn shrink(&mut self)
+        ensures { self.new ≡ self.old }
+    {
+        self.heads.shrink_to_fit();
+        self.parts.sites.shrink_to_fit();
+        self.parts.wholes.shrink_to_fit();
     }
 
     #[inline]

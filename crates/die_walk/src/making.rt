@@ -3,13 +3,14 @@ ghost use Rattle.std.specs.Prelude.{◌≡◌, ℕ, true, List, Option, None, So
 ghost use Rattle.abbrev_units.specs.Texts.{text_in};
 ghost use Rattle.die_walk.specs.Attributes.{as_low, as_high, as_ranges, as_reference, as_flag, as_number, is_yes, line_of, or_else};
 ghost use Rattle.die_walk.specs.Picking.{text_by, die_by};
-ghost use Rattle.die_walk.specs.internal.Packing.{pick_said, value_in, where_said};
+ghost use Rattle.die_walk.specs.internal.Packing.{pick_said, value_in};
 ghost use Rattle.die_walk.specs.internal.Heads.{FitsText, FitsNumber, no_site, site_by, slim, origin_said, spec_said, place_said};
 
 use crate::heads::{Head, Link, Rest, Site};
 use crate::packed::Class;
 use crate::quick::{Pick, Quick};
 use crate::texts::is_closed;
+use crate::whole::parent_parts;
 use abbrev_units::{Sections, Unit};
 
 /// Whether something fits into a head: there is none, or it is this number; or it may not fit.
@@ -229,17 +230,6 @@ fn make_name(fit: Fit) -> Option<(bool, u32)>
         Fit::Missing => Some((false, 0)),
         Fit::At(place) => Some((true, place)),
         Fit::Wide => None,
-    }
-}
-
-/// The number of an entry, or 0, and whether it is there.
-#[inline]
-fn parent_parts(parent: Option<u32>) -> (bool, u32)
-    ensures { where_said result.0 result.1 ≡ parent }
-{
-    match parent {
-        Some(n) => (true, n),
-        None => (false, 0),
     }
 }
 

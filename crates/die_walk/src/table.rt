@@ -132,6 +132,9 @@ fn walk_all<'a>(
     Ok(())
 }
 
+/// About as many bytes stand for each kept entry in units that have many of them. Room that they do not take is given back.
+const BYTES_A_KEPT_ENTRY: u64 = 32;
+
 /// The entries of a unit (DWARF 5, 7.5.2), or their first fault, which is in `.debug_info`: `Ends`,
 /// `LebLong` or `NoZero` at the code or the value, `UnknownForm` where a value of such a form would
 /// begin, `NoAbbrev` at the entry. Kept are the root and classes, structures, unions, inlined
@@ -150,7 +153,8 @@ pub fn walk<'a>(
     if sections.info.len() > FILE_LIMIT {
         return Err(Stop::NoMemory);
     }
-    let mut walker = Walker::new(alloc, sections.strs);
+    let room = unit.end.saturating_sub(unit.body) / BYTES_A_KEPT_ENTRY;
+    let mut walker = Walker::with_room(alloc, sections.strs, room as usize)?;
     match walk_all(sections, unit, abbrevs, &mut walker) {
         Ok(()) => Ok(walker.into_table()),
         Err(stop) => Err(stop),

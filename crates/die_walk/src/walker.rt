@@ -1,6 +1,6 @@
 //! The walk over the entries of a unit.
 ghost use Rattle.std.specs.Prelude.{◌≡◌, ◌<◌, ◌^◌, ◌==◌, true, false, [], length, OnOk, IfOk};
-ghost use Rattle.die_walk.specs.EntryTree.{is_kept_tag};
+ghost use Rattle.abbrev_units.specs.KeptTags.{is_kept_tag};
 ghost use Rattle.die_walk.specs.Marks.{value_fault};
 ghost use Rattle.die_walk.specs.Marks.Mark.{Close};
 ghost use Rattle.die_walk.specs.Steps.{innermost, keeps, opened, own_number, begun_by, entered_by, moved, rounded, entered_at, moved_at, step_at, Steps, Moves, IsShort, table_in};
@@ -12,10 +12,8 @@ use crate::quick::{Quick, no_quick, read_quick};
 use crate::root::{Root, base_of, make_root};
 use crate::table::DieTable;
 use crate::whole::make_whole;
-use abbrev_units::{Abbrev, Abbrevs, DwarfFault, DwarfKind, FormFault, Sections, Unit, in_section};
-use code_table::{
-    DW_TAG_class_type, DW_TAG_inlined_subroutine, DW_TAG_namespace, DW_TAG_structure_type,
-    DW_TAG_subprogram, DW_TAG_union_type,
+use abbrev_units::{
+    Abbrev, Abbrevs, DwarfFault, DwarfKind, FormFault, Sections, Unit, in_section, is_kept_tag,
 };
 use leb_cursor::Cursor;
 use std::alloc::Global;
@@ -64,31 +62,15 @@ fn innermost(levels: &[Option<u32>]) -> Option<u32>
     levels[levels.len() - 1]
 }
 
-#[inline]
-#[tactic(auto, unfolding(crate::specs::EntryTree::is_kept_tag))]
-fn is_kept_tag(tag: u64) -> bool
-    ensures { result ≡ is_kept_tag tag }
-{
-    matches!(
-        tag,
-        DW_TAG_class_type
-            | DW_TAG_structure_type
-            | DW_TAG_union_type
-            | DW_TAG_inlined_subroutine
-            | DW_TAG_subprogram
-            | DW_TAG_namespace
-    )
-}
-
 impl<'a> Walker<'a> {
-    /// A walk that has nothing yet; names are in this section.
-    pub fn new(alloc: Global, strs: &'a [u8]) -> Walker<'a>
-        ensures dies { result.dies ≡ [] }
-        ensures levels { result.open_levels ≡ [] }
-        ensures strs { result.strs ≡ strs.now }
+    /// A walk that has nothing yet, and room for so many kept entries; names are in this section.
+    pub fn with_room(alloc: Global, strs: &'a [u8], room: usize) -> Result<Walker<'a>, OutOfMemory>
+        ensures dies { IfOk result (λ walker. walker.dies ≡ []) }
+        ensures levels { IfOk result (λ walker. walker.open_levels ≡ []) }
+        ensures strs { IfOk result (λ walker. walker.strs ≡ strs.now) }
     {
-        Walker {
-            dies: EntryList::new(alloc, strs),
+        Ok(Walker {
+            dies: EntryList::with_room(alloc, strs, room)?,
             root: Root {
                 at: 0,
                 low: None,
@@ -99,7 +81,7 @@ impl<'a> Walker<'a> {
                 rnglists_base: None,
             },
             open_levels: Vec::new(alloc),
-        }
+        })
     }
 
     /// Adds the first entry, which is the root.
@@ -139,7 +121,8 @@ impl<'a> Walker<'a> {
     pub fn into_table(self) -> DieTable<'a>
         ensures { result ≡ table_in self.entry }
     {
-        let Walker { dies, root, .. } = self;
+        let Walker { mut dies, root, .. } = self;
+        dies.shrink();
         DieTable::of(root, dies)
     }
 
@@ -182,7 +165,7 @@ impl<'a> Walker<'a> {
         let _level = self.open_levels.pop();
     }
 
-    /// Adds a kept entry that is not the first, by what was picked.
+    /// Adds a kept entry that is not the first, by what was picked; false where it does not fit, and nothing is added.
     #[inline]
     #[tactic(auto, unfolding(crate::specs::Steps::entered_by))]
     fn add_quick(
@@ -192,15 +175,16 @@ impl<'a> Walker<'a> {
         at: u32,
         tag: u64,
         quick: &Quick,
-    ) -> Result<(), OutOfMemory>
+    ) -> Result<bool, OutOfMemory>
         requires kept { is_kept_tag tag ≡ true }
         requires later { (length self.old.dies == 0) ≡ false }
         requires strs { self.old.strs ≡ sections.now.strs }
-        ensures { OnOk result (self.new ≡ entered_by sections.now unit.now self.old at tag quick.now) }
+        ensures added { IfOk result (λ fits. fits ≡ true → self.new ≡ entered_by sections.now unit.now self.old at tag quick.now) }
+        ensures same { IfOk result (λ fits. fits ≡ false → self.new ≡ self.old) }
     {
         let parent = innermost(self.open_levels.as_slice());
         let root = &self.root;
-        if let Some(head) = make_head(
+        let Some(head) = make_head(
             sections,
             unit,
             root.str_offsets_base,
@@ -208,15 +192,18 @@ impl<'a> Walker<'a> {
             parent,
             tag,
             quick,
-        ) {
-            if has_no_site(quick) {
-                return self.dies.push_alone(head);
-            }
-            if let Some(site) = make_site(quick) {
-                return self.dies.push_site(head, site);
-            }
+        ) else {
+            return Ok(false);
+        };
+        if has_no_site(quick) {
+            self.dies.push_alone(head)?;
+            return Ok(true);
         }
-        self.add(sections, unit, at, tag, &quick.to_picks())
+        let Some(site) = make_site(quick) else {
+            return Ok(false);
+        };
+        self.dies.push_site(head, site)?;
+        Ok(true)
     }
 
     /// Takes a kept entry in, without its children, whatever its values may be.
@@ -241,6 +228,30 @@ impl<'a> Walker<'a> {
         Ok(())
     }
 
+    /// Takes a kept entry in, without its children, that may not fit into a head. It stands alone, so that the short way holds
+    /// nothing but what heads need.
+    #[inline(never)]
+    #[tactic(auto, using(crate::proofs::StepLemmas::taken))]
+    fn take_wide(
+        &mut self,
+        sections: &Sections<'a>,
+        unit: &Unit,
+        cursor: &mut Cursor<'a>,
+        at: u32,
+        found: &Abbrev,
+    ) -> Result<(), Stop<DwarfFault>>
+        requires { keeps self.old found.now.tag ≡ true }
+        ensures { Moves result self.new cursor.new (entered_at sections.now unit.now self.old at found.now cursor.old) }
+    {
+        let mut quick = no_quick();
+        if !read_quick(&mut quick, cursor, &found.specs) {
+            return self.take_any(sections, unit, cursor, at, found);
+        }
+        let picks = quick.to_picks();
+        self.add(sections, unit, at, found.tag, &picks)?;
+        Ok(())
+    }
+
     /// Takes a kept entry in, without its children. It stands alone, so that entries that are not kept need no places for values.
     #[inline(never)]
     #[tactic(auto, using(crate::proofs::StepLemmas::taken))]
@@ -259,15 +270,22 @@ impl<'a> Walker<'a> {
         if self.dies.is_empty() {
             return self.take_any(sections, unit, cursor, at, found);
         }
+        if found.specs.has_far_text() {
+            return self.take_wide(sections, unit, cursor, at, found);
+        }
         let mut quick = no_quick();
-        if !read_quick(&mut quick, cursor, &found.specs) {
+        let mut behind = cursor.fork();
+        if !read_quick(&mut quick, &mut behind, &found.specs) {
             return self.take_any(sections, unit, cursor, at, found);
         }
-        self.add_quick(sections, unit, at, found.tag, &quick)?;
+        if !self.add_quick(sections, unit, at, found.tag, &quick)? {
+            return self.take_wide(sections, unit, cursor, at, found);
+        }
+        *cursor = behind;
         Ok(())
     }
 
-    /// Takes an entry in, without its children, kept or not. It stands alone, so that what it answers is not in the way of entries
+    /// Passes an entry that is not kept, without its children. It stands alone, so that what it answers is not in the way of entries
     /// that the short way passes.
     #[inline(never)]
     #[tactic(auto, using(crate::proofs::StepLemmas::passed_over, crate::proofs::StepLemmas::passed_refused))]

@@ -208,7 +208,7 @@ fn parts_of(number: Option<u64>) -> (bool, u64)
 
 /// The same for the number of an entry.
 #[inline]
-fn parent_parts(parent: Option<u32>) -> (bool, u32)
+pub fn parent_parts(parent: Option<u32>) -> (bool, u32)
     ensures { where_said result.0 result.1 ≡ parent }
 {
     match parent {

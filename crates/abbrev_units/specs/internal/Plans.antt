@@ -10,6 +10,7 @@ use Rattle.code_table.specs.declared.kind.Kind.TheVariants as kind
 use Rattle.code_table.specs.declared.forms.FormClass.TheVariants as class
 use Rattle.code_table.specs.Layouts.{kind_at}
 use Rattle.abbrev_units.specs.declared.plan.Step.{Step}
+use Rattle.abbrev_units.specs.declared.spec.Known.{Known}
 use Rattle.abbrev_units.specs.declared.take.Take.{Take}
 use Rattle.abbrev_units.specs.SpecFields.{SpecFields}
 use Rattle.abbrev_units.specs.FormValue.{value_by}
@@ -45,6 +46,11 @@ abbrev pub SizeOf : ℕ → Option FormRow → Option ℕ → Type 0
 SizeOf form row None = Prim.Unit {0}
 SizeOf form None (Some size) = ⊥
 SizeOf form (Some row) (Some size) = ((form == 0x16) ≡ false) × HasSize row.layout size
+
+-- the row of a form, from what is kept of it
+abbrev pub row_said : ℕ → Option Known → Option FormRow
+row_said form None = None
+row_said form (Some known) = Some (record { code = form; layout = known.layout; class = known.class })
 
 -- the values of an attribute are read by a row
 abbrev pub HasRow : SpecFields → FormRow → Type 0
