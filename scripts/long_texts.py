@@ -86,6 +86,23 @@ def walks():
     expect("a walk without rip", ["walk", "text", "state"], 1, err="refused walk no-rip\n")
 
 
+def levels():
+    """Of 3,000 levels of inlining each is one address shorter than the one around it; a second record of each level says something else."""
+    count = 3000
+    inline = lambda level, line, number: f"INLINE {level} {line} {number} {number} 0 {count - level:x}\n"
+    first = [inline(k, k + 1, k) for k in range(count)]
+    second = [inline(k, 77, 2) for k in range(count)]
+    for order in (1, -1):
+        text("FUNC 0 2000 0 f\n", *first[::order], *second[::order], "0 2000 9 2\n",
+             *(f"FILE {k} /s/{k}.c\nINLINE_ORIGIN {k} g{k}\n" for k in range(count)[::-1]), "FILE 5 /other.c\nINLINE_ORIGIN 5 other\n")
+        for deep in (count, count // 2, 9, 8, 1, 0):
+            inner = list(range(deep))[::-1]
+            names = [*(f"g{k}" for k in inner), "f"]
+            places = ["/s/2.c:9", *(f"/s/{k}.c:{k + 1}" for k in inner)]
+            answer = "".join(f"{name} at {place}\n" for name, place in zip(names, places))
+            expect(f"{deep} levels", ["lookup", "text", f"{count - deep:x}"], 0, answer)
+
+
 def frame(**known):
     """The lines of `frame`, of which these are known; where the CFA is, rsp is it."""
     known = {"rsp": known.get("cfa", "undefined"), **known}
@@ -111,6 +128,13 @@ def states():
     for label, lines in (("rising", runs), ("falling", runs[::-1])):
         write("state", *lines, "REG rsp 7FFE0010\nREG rip 10")
         expect(f"{label} runs of memory", ["frame", "text", "0", "state"], 0, wanted)
+    pairs = [f"MEM {0x1000 + k:x} {k % 256:02x}ff\n" for k in range(100_000)]
+    wanted = frame(cfa="failed unreadable fff", ra="706050403020100", rax="9f9e9d9c9b9a9998", rbx="ff9f9e9d9c9b9a99", rdx="10", rcx="7ffe0010")
+    write("state", *pairs, "REG rsp 7FFE0010\nREG rip 10")
+    expect("rising runs that overlap", ["frame", "text", "0", "state"], 0, wanted)
+    wanted = frame(cfa="failed unreadable fff", ra="ffffffffffffff00", rax="f" * 16, rbx="f" * 16, rdx="10", rcx="7ffe0010")
+    write("state", *pairs[::-1], "REG rsp 7FFE0010\nREG rip 10")
+    expect("falling runs that overlap", ["frame", "text", "0", "state"], 0, wanted)
     write("state", "REG rax 1\n\nMEM 0 012\nSET\n")
     expect("the first fault of a state", ["frame", "text", "0", "state"], 1, err="refused state hex line 3\n")
 
@@ -185,6 +209,6 @@ def lines():
     expect("a long name and many lines", ["names", "text"], 0, MODULE + records)
 
 
-for part in (findings, walks, frames, states, names, lines):
+for part in (findings, walks, levels, frames, states, names, lines):
     part()
 print(f"long texts: {passed} passed, {failed} failed")

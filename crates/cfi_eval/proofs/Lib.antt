@@ -7,3 +7,5 @@ pub mod InitLemmas
 pub mod Computing
 pub mod WorkedValues
 pub mod WorkedFrames
+pub mod FinderLemmas
+pub mod TableLemmas

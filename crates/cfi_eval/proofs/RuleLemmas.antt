@@ -1,19 +1,16 @@
 -- Lemmas on the rules of a target.
-use Rattle.std.proofs.Common.{◌≡◌, ◌+◌, ◌-◌, ◌<◌, ◌≤◌, ℕ, zero, suc, cond, true, false, List, [], ◌∷◌, ◌++◌, length, get_or, take, drop, Option, None, Some, refl, sym, ap, ◌∙◌, arith}
+use Rattle.std.proofs.Common.{◌≡◌, ◌+◌, ◌<◌, ◌≤◌, ℕ, List, [], ◌∷◌, ◌++◌, length, get_or, drop, Option, refl, sym, ap, ◌∙◌}
 use Rattle.std.proofs.lemmas.Bool.{le-leb, lt-leb}
-use Rattle.std.proofs.lemmas.List.{drop_more, drop_all, take_more, take_all, get_or_default}
+use Rattle.std.proofs.lemmas.List.{drop_more, drop_all}
 use Rattle.std.specs.Option.{option_or}
 use Rattle.sym_records.specs.declared.line.SymLine.{SymLine}
 use Rattle.sym_records.specs.declared.line.SymLine.TheVariants.{Change}
 use Rattle.sym_rules.specs.declared.rules.Target.{Target}
 use Rattle.sym_rules.specs.declared.rules.Token.{Token}
 use Rattle.sym_rules.specs.declared.rules.RuleText.{RuleText}
-use Rattle.cfi_eval.specs.TextRules.{rule_for, same_target, changes_until}
+use Rattle.cfi_eval.specs.TextRules.{rule_for, changes_until}
+use Rattle.cfi_eval.specs.internal.Tables.{rule_in}
 use Rattle.cfi_eval.proofs.OptionLemmas.{or_none, or_assoc}
-
--- the rule of a target in one rule
-abbrev pub rule_in : Target → RuleText → Option (List Token)
-rule_in t rule = cond (same_target rule.target t) (Some rule.tokens) None
 
 -- later rules come before earlier ones
 pub rule_append : (t : Target) (xs ys : List RuleText) → rule_for t (xs ++ ys) ≡ option_or (rule_for t ys) (rule_for t xs)
@@ -24,35 +21,6 @@ rule_append t (x ∷ xs) ys = ap (λ o. option_or o (rule_in t x)) (rule_append 
 pub rule_push : (t : Target) (xs : List RuleText) (x : RuleText) → rule_for t (xs ++ x ∷ []) ≡ option_or (rule_in t x) (rule_for t xs)
 unfolding rule_for
 rule_push t xs x = rule_append t xs (x ∷ [])
-
--- the search from the last rule on
-pub last_start : (t : Target) (rules : List RuleText) → rule_for t rules ≡ rule_for t (take (length rules) rules)
-last_start t rules = ap (rule_for t) (sym (take_all (length rules) rules (omega arith)))
-
-pub last_rules : (t : Target) (rules : List RuleText) (place : ℕ) (rule : RuleText) → 0 < place → place ≤ length rules → rule ≡ get_or rules (place - 1) rule
-    → rule_for t (take place rules) ≡ option_or (rule_in t rule) (rule_for t (take (place - 1) rules))
-last_rules t rules place rule h l e =
-    let one : place - 1 + 1 ≡ place = omega arith in
-    let more : take place rules ≡ take (place - 1) rules ++ rule ∷ [] = ap (λ n. take n rules) (sym one) ∙ take_more rules (place - 1) rule (omega arith) ∙ ap (λ r. take (place - 1) rules ++ r ∷ []) (sym e) in
-    rw more (rule_push t (take (place - 1) rules) rule)
-
-pub last_found : (t : Target) (rules : List RuleText) (place : ℕ) (e d : RuleText) → 0 < place → place ≤ length rules → true ≡ same_target (get_or rules (place - 1) e).target t
-    → Some (get_or rules (place - 1) d).tokens ≡ rule_for t (take place rules)
-last_found t rules place e d h l given =
-    let s : true ≡ same_target (get_or rules (place - 1) d).target t = given ∙ ap (λ r. same_target r.target t) (get_or_default rules (place - 1) e d (omega arith)) in
-    let same : get_or rules (place - 1) d ≡ get_or rules (place - 1) (get_or rules (place - 1) d) = get_or_default rules (place - 1) d (get_or rules (place - 1) d) (omega arith) in
-    rw (last_rules t rules place (get_or rules (place - 1) d) h l same, sym s) refl
-
-pub last_more : (t : Target) (rules : List RuleText) (place : ℕ) (d : RuleText) → 0 < place → place ≤ length rules → false ≡ same_target (get_or rules (place - 1) d).target t
-    → rule_for t (take place rules) ≡ rule_for t (take (place - 1) rules)
-last_more t rules place d h l s =
-    let same : get_or rules (place - 1) d ≡ get_or rules (place - 1) (get_or rules (place - 1) d) = get_or_default rules (place - 1) d (get_or rules (place - 1) d) (omega arith) in
-    rw (last_rules t rules place (get_or rules (place - 1) d) h l same, sym s) refl
-
-pub last_none : (t : Target) (rules : List RuleText) (place : ℕ) → place ≤ 0 → rule_for t (take place rules) ≡ None
-unfolding rule_for
-last_none t rules zero h = refl
-last_none t rules (suc place) h = absurd (omega arith)
 
 -- the records behind an INIT, one after another
 pub changes_start : (t : Target) (x : ℕ) (first : List RuleText) (behind : List SymLine) (found : Option (List Token)) → found ≡ rule_for t first

@@ -1,5 +1,5 @@
 //! What the rules of a symbol file give at an address.
-ghost use Rattle.std.specs.Prelude.{◌≡◌, Some, IfOk};
+ghost use Rattle.std.specs.Prelude.{◌≡◌, ◌<◌, Some, IfOk};
 ghost use Rattle.sym_edges.specs.Abi.{is_kept, default_of};
 ghost use Rattle.cfi_eval.specs.Inits.{init_place};
 ghost use Rattle.cfi_eval.specs.TextValue.{outcome_of, default_value, text_cfa, text_ra, text_register, frame_of, text_frame};
@@ -89,7 +89,8 @@ fn register_at(
     cfa: Outcome,
     register: u8,
 ) -> Result<Outcome, OutOfMemory>
-    requires { cfa ≡ text_cfa regs.now memory.now rules.now }
+    requires cfa { cfa ≡ text_cfa regs.now memory.now rules.now }
+    requires few { register < 16 }
     ensures { IfOk result (λ value. value ≡ text_register regs.now memory.now rules.now register) }
 {
     match rules.tokens(&Target::Reg(register)) {

@@ -1,10 +1,14 @@
 //! What is known of memory.
-ghost use Rattle.std.specs.Prelude.{◌≡◌, ◌≤◌, true, length};
+ghost use Rattle.std.specs.Prelude.{◌≡◌, ◌<◌, ◌≤◌, ◌^◌, ◌++◌, true, length, IfOk, OnOk};
+ghost use Rattle.step_maps.specs.Covers.{AreStretches};
 ghost use Rattle.cfi_eval.specs.Bytes.{byte_at, word_at};
 ghost use Rattle.cfi_eval.specs.internal.Rising.{rise_from, byte_in, byte_behind};
+ghost use Rattle.cfi_eval.specs.internal.Finders.{run_stretch, stretches_to, byte_of, IsRunMap, IsFinder};
 
+use std::alloc::Global;
 use std::marker::Model;
-use sym_edges::ByteRun;
+use step_maps::{FirstItem, StepMap, Stretch, first_items};
+use sym_edges::{ByteRun, OutOfMemory};
 
 /// Bytes of memory from an address on.
 #[derive(Debug, Drop)]
@@ -13,24 +17,34 @@ pub struct MemRun {
     pub bytes: ByteRun,
 }
 
+/// How the run that holds an address is found.
+#[derive(Drop)]
+pub enum Finder {
+    /// By halves: the runs ascend and do not meet.
+    Rising,
+    /// By a map of the runs.
+    Map { map: StepMap<Option<FirstItem>> },
+    /// By a scan.
+    Scan,
+}
+
 /// What is known of memory: runs of bytes, of which the last that holds an address counts.
-#[derive(Debug, Drop)]
+#[derive(Drop)]
 pub struct Memory {
     runs: Vec<MemRun>,
-    /// Whether the runs are known to ascend and not to meet, so that one of them is found by halves.
-    rising: bool,
+    finder: Finder,
 }
 
 impl Model for Memory {
-    ghost use Rattle.std.specs.Prelude.{◌≡◌, true, List};
+    ghost use Rattle.std.specs.Prelude.{List};
     ghost use Rattle.cfi_eval.specs.declared.memory.MemRun.{MemRun};
-    ghost use Rattle.cfi_eval.specs.internal.Rising.{rise_from};
+    ghost use Rattle.cfi_eval.specs.internal.Finders.{IsFinder};
 
     ghost Value = { List MemRun };
 
     ghost view = { λ m. m.runs.items };
 
-    ghost invariant = { λ m. m.rising ≡ true → rise_from 0 m.runs.items ≡ true };
+    ghost invariant = { λ m. IsFinder m.runs.items m.finder };
 }
 
 /// Whether each run begins at or behind the end of the one before it.
@@ -92,23 +106,93 @@ fn byte_by_halves(runs: &[MemRun], a: u64) -> Option<u8>
     byte_in(&runs[behind - 1], a)
 }
 
+/// Adds the stretch of a run, where it is not empty, cut at the last address.
+#[tactic(auto, using(crate::proofs::FinderLemmas::fit_joined))]
+fn push_run(stretches: &mut Vec<Stretch>, index: u32, run: &MemRun) -> Result<(), OutOfMemory>
+    requires { AreStretches stretches.old.items }
+    ensures same { OnOk result (stretches.new.items ≡ stretches.old.items ++ run_stretch index run.now) }
+    ensures stretches { OnOk result (AreStretches stretches.new.items) }
+{
+    let length = run.bytes.len() as u64;
+    if length == 0 {
+        return Ok(());
+    }
+    stretches.push(Stretch {
+        first: run.start,
+        last: run.start.saturating_add(length - 1),
+        index,
+        class: 0,
+    })?;
+    Ok(())
+}
+
+/// The stretches of runs, those of the last run first.
+fn stretches_of(alloc: Global, runs: &[MemRun]) -> Result<Vec<Stretch>, OutOfMemory>
+    requires { length runs.now < 2 ^ 32 }
+    ensures same { IfOk result (λ stretches. stretches.items ≡ stretches_to (length runs.now) runs.now) }
+    ensures stretches { IfOk result (λ stretches. AreStretches stretches.items) }
+{
+    let mut stretches = Vec::new(alloc);
+    'places: for place in (0..runs.len()).rev() {
+        push_run(&mut stretches, place as u32, &runs[place])?;
+    }
+    Ok(stretches)
+}
+
+/// How the runs are found: in n log n turns for n runs however they overlap.
+fn finder_of(alloc: Global, runs: &[MemRun]) -> Result<Finder, OutOfMemory>
+    ensures { IfOk result (λ finder. IsFinder runs.now finder) }
+{
+    if rise(runs) {
+        return Ok(Finder::Rising);
+    }
+    if runs.len() >= 1 << 32 {
+        return Ok(Finder::Scan);
+    }
+    let stretches = stretches_of(alloc, runs)?;
+    let map = first_items(alloc, stretches.as_slice())?;
+    Ok(Finder::Map { map })
+}
+
+/// The byte at an address, by a map of the runs.
+fn byte_by_map(runs: &[MemRun], map: &StepMap<Option<FirstItem>>, a: u64) -> Option<u8>
+    requires { IsRunMap runs.now map.now }
+    ensures { result ≡ byte_at runs.now a }
+{
+    match map.at(None, a) {
+        None => None,
+        Some(item) => byte_of(runs, item.index as usize, a),
+    }
+}
+
+/// The byte that the run at a place has at an address.
+fn byte_of(runs: &[MemRun], place: usize, a: u64) -> Option<u8>
+    ensures { result ≡ byte_of a runs.now place }
+{
+    match runs.get(place) {
+        None => None,
+        Some(run) => byte_in(run, a),
+    }
+}
+
 impl Memory {
-    /// The memory that runs give, of which the last that holds an address counts. Takes no memory.
-    pub fn of(runs: Vec<MemRun>) -> Memory
-        ensures { result ≡ runs.items }
+    /// The memory that runs give, of which the last that holds an address counts.
+    pub fn of(alloc: Global, runs: Vec<MemRun>) -> Result<Memory, OutOfMemory>
+        ensures { IfOk result (λ memory. memory ≡ runs.items) }
     {
-        let rising = rise(runs.as_slice());
-        Memory { runs, rising }
+        let finder = finder_of(alloc, runs.as_slice())?;
+        Ok(Memory { runs, finder })
     }
 
     /// The byte at an address.
     pub fn byte(&self, a: u64) -> Option<u8>
         ensures { result ≡ byte_at self.now a }
     {
-        if !self.rising {
-            return last_byte(self.runs.as_slice(), a);
+        match &self.finder {
+            Finder::Rising => byte_by_halves(self.runs.as_slice(), a),
+            Finder::Map { map } => byte_by_map(self.runs.as_slice(), map, a),
+            Finder::Scan => last_byte(self.runs.as_slice(), a),
         }
-        byte_by_halves(self.runs.as_slice(), a)
     }
 
     /// The word at an address: eight bytes, the lowest first, each at an address below 2^64.

@@ -1,8 +1,11 @@
 //! The rules that a symbol file has at an address.
-ghost use Rattle.std.specs.Prelude.{◌≡◌, ◌<◌, ◌++◌, Some, length};
-ghost use Rattle.std.specs.Option.{option_copied, option_or};
+ghost use Rattle.std.specs.Prelude.{◌≡◌, ◌<◌, ◌++◌, true, List, Option, Some, length, IfSome};
+ghost use Rattle.std.specs.Option.{is_some, option_copied, option_or};
 ghost use Rattle.cfi_eval.specs.Inits.{is_init_at, init_place};
-ghost use Rattle.cfi_eval.specs.TextRules.{same_target, rule_for, changes_until, text_rules};
+ghost use Rattle.cfi_eval.specs.TextRules.{rule_for, changes_until, text_rules};
+ghost use Rattle.cfi_eval.specs.internal.Tables.{target_place, rule_in, IsTable};
+ghost use Rattle.sym_rules.specs.declared.rules.Target.{Target};
+ghost use Rattle.sym_rules.specs.declared.rules.Token.{Token};
 
 use std::marker::Model;
 use sym_records::{SymFile, SymLine};
@@ -32,67 +35,65 @@ pub fn init_at(file: &SymFile, address: u64) -> Option<usize>
         .position(|line| is_init_at(line, address))
 }
 
-fn is_same_target(a: &Target, b: &Target) -> bool
-    ensures { result ≡ same_target a.now b.now }
+/// How many targets a frame has.
+const TARGETS: usize = 18;
+
+/// The place of a target among those that a frame has: the registers by their numbers, then the CFA and the return address.
+fn place_of(target: &Target) -> Option<usize>
+    ensures place { result ≡ target_place target.now }
+    ensures within { IfSome result (λ place. place < 18) }
 {
-    match (a, b) {
-        (Target::Cfa, Target::Cfa) | (Target::Ra, Target::Ra) => true,
-        (Target::Reg(a), Target::Reg(b)) => *a == *b,
-        (Target::Other(a), Target::Other(b)) => a.as_slice() == b.as_slice(),
-        _ => false,
+    match target {
+        Target::Reg(register) if *register < 16 => Some(usize::from(*register)),
+        Target::Cfa => Some(16),
+        Target::Ra => Some(17),
+        _ => None,
     }
 }
 
-/// The words of the last rule of a target.
-fn last_rule<'r>(rules: &'r [RuleText], target: &Target) -> Option<&'r Tokens>
-    ensures { option_copied result ≡ rule_for target.now rules.now }
+/// A rule counts before the earlier ones of its target.
+fn put_rule<'r>(table: &mut [Option<&'r Tokens>; TARGETS], rule: &'r RuleText)
+    ensures { (find : Target → Option (List Token)) → IsTable find table.old → IsTable (λ t. option_or (rule_in t rule.now) (find t)) table.new }
 {
-    'rules: for place in (0..rules.len()).rev() {
-        if is_same_target(&rules[place].target, target) {
-            return Some(&rules[place].tokens);
-        }
-    }
-    None
+    let Some(place) = place_of(&rule.target) else {
+        return;
+    };
+    table[place] = Some(&rule.tokens);
 }
 
-/// The words of the last rule of a target, or those that earlier rules gave it.
-fn later_rule<'r>(
-    rules: &'r [RuleText],
-    target: &Target,
-    earlier: Option<&'r Tokens>,
-) -> Option<&'r Tokens>
-    ensures { option_copied result ≡ option_or (rule_for target.now rules.now) (option_copied earlier.entry) }
+/// The same of the rules of a record.
+fn put_rules<'r>(table: &mut [Option<&'r Tokens>; TARGETS], rules: &'r [RuleText])
+    ensures { (find : Target → Option (List Token)) → IsTable find table.old → IsTable (λ t. option_or (rule_for t rules.now) (find t)) table.new }
 {
-    match last_rule(rules, target) {
-        None => earlier,
-        Some(tokens) => Some(tokens),
+    'rules: for rule in rules {
+        put_rule(table, rule);
     }
 }
 
-/// The words of the last rule of a target among `first` and the rules of the records of changes that stand at the front of `behind`, up
-/// to an address.
-fn rule_at<'r>(
+/// The words of the last rule of each target of a frame, in one pass over `first` and the records of changes that stand at the front of
+/// `behind`, up to an address.
+fn table_at<'r>(
     first: &'r [RuleText],
     behind: &'r [SymLine],
     address: u64,
-    target: &Target,
-) -> Option<&'r Tokens>
-    ensures { option_copied result ≡ rule_for target.now (first.now ++ changes_until address behind.now) }
+) -> [Option<&'r Tokens>; TARGETS]
+    ensures { IsTable (λ t. rule_for t (first.now ++ changes_until address behind.now)) result }
 {
-    let mut found = last_rule(first, target);
+    let mut table = [None; TARGETS];
+    put_rules(&mut table, first);
     'lines: for line in behind {
         let SymLine::Change {
             address: start,
             rules,
         } = line
         else {
-            return found;
+            return table;
         };
         if *start <= address {
-            found = later_rule(rules.as_slice(), target, found);
+            put_rules(&mut table, rules.as_slice());
         }
     }
-    found
+    table
 }
 
 /// The rules that count at an address: those of an INIT, then those of the changes that stand directly behind it, up to there. Contracts
@@ -102,16 +103,21 @@ pub(crate) struct RulesAt<'r> {
     first: &'r [RuleText],
     behind: &'r [SymLine],
     address: u64,
+    /// The words of the last rule of each target of a frame.
+    table: [Option<&'r Tokens>; TARGETS],
 }
 
 impl<'r> Model for RulesAt<'r> {
     ghost use Rattle.std.specs.Prelude.{List, ◌++◌};
     ghost use Rattle.sym_rules.specs.declared.rules.RuleText.{RuleText};
-    ghost use Rattle.cfi_eval.specs.TextRules.{changes_until};
+    ghost use Rattle.cfi_eval.specs.TextRules.{rule_for, changes_until};
+    ghost use Rattle.cfi_eval.specs.internal.Tables.{IsTable};
 
     ghost Value = { List RuleText };
 
     ghost view = { λ r. r.first.now ++ changes_until r.address r.behind.now };
+
+    ghost invariant = { λ r. IsTable (λ t. rule_for t (r.first.now ++ changes_until r.address r.behind.now)) r.table };
 }
 
 impl<'r> RulesAt<'r> {
@@ -124,17 +130,26 @@ impl<'r> RulesAt<'r> {
         let SymLine::Init { rules, .. } = &lines[init] else {
             unreachable!()
         };
+        let first = rules.as_slice();
+        let behind = &lines[init + 1..];
+        let table = table_at(first, behind, address);
         RulesAt {
-            first: rules.as_slice(),
-            behind: &lines[init + 1..],
+            first,
+            behind,
             address,
+            table,
         }
     }
 
-    /// The words of the last rule of a target.
+    /// The words of the last rule of a target that a frame has.
     pub(crate) fn tokens(&self, target: &Target) -> Option<&'r Tokens>
+        requires { is_some (target_place target.now) ≡ true }
         ensures { option_copied result ≡ rule_for target.now self.now }
     {
-        rule_at(self.first, self.behind, self.address, target)
+        let Some(place) = place_of(target) else {
+            unreachable!()
+        };
+        let table = &self.table[..];
+        table[place]
     }
 }

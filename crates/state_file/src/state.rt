@@ -13,7 +13,7 @@ use std::alloc::Global;
 use sym_edges::{OutOfMemory, Stop};
 
 /// Registers and memory.
-#[derive(Debug, Drop)]
+#[derive(Drop)]
 pub struct State {
     pub regs: Regs,
     pub memory: Memory,
@@ -77,8 +77,6 @@ pub fn read_state(alloc: Global, bytes: &[u8]) -> Result<State, Stop<StateFault>
         take_line(said, &mut regs, &mut runs)?;
         rest = behind;
     }
-    Ok(State {
-        regs,
-        memory: Memory::of(runs),
-    })
+    let memory = Memory::of(alloc, runs)?;
+    Ok(State { regs, memory })
 }

@@ -25,4 +25,4 @@ lines-preserved c =
 pub returns : goal.returns
 returns c =
     sym c.lines.invariant ∙ ap (λ rest. with_lines c.lines.number (state c.lines.regs c.lines.runs.items) (lines_behind (option_copied rest))) c.in_default.is
-    ∙ lines_none c.lines.number (state c.lines.regs c.lines.runs.items) ∙ ap (λ runs. Ok (state c.lines.regs runs)) (sym c.of.ensures)
+    ∙ lines_none c.lines.number (state c.lines.regs c.lines.runs.items) ∙ ap (λ runs. Ok (state c.lines.regs runs)) (sym c.in_ok-memory.ensures)
