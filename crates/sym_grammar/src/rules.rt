@@ -171,14 +171,17 @@ fn rule_at(alloc: Global, bytes: &[u8]) -> Result<(RuleText, &[u8]), Stop<TextKi
     Ok((RuleText { target, tokens }, later))
 }
 
-/// How many `:` there are. A rule has one, so the memory for the rules of a usual line is taken at once.
+/// How many `:` stand in front of a space, as the one behind the target of each rule does: the memory for the rules of a line is taken at once.
+/// A rule has five bytes at least, so other lines have no more room than those of as many rules.
 #[inline]
-fn count_colons(bytes: &[u8]) -> usize {
+fn rule_room(bytes: &[u8]) -> usize {
     let mut count: usize = 0;
+    let mut last = 0;
     for b in bytes {
-        count = count.wrapping_add(usize::from(*b == b':'));
+        count = count.wrapping_add(usize::from(last == b':' && *b == b' '));
+        last = *b;
     }
-    count
+    count.min(bytes.len() / 5 + 1)
 }
 
 /// The rules of a line.
@@ -186,7 +189,7 @@ fn count_colons(bytes: &[u8]) -> usize {
 pub(crate) fn rules_at(alloc: Global, bytes: &[u8]) -> Result<Rules, Stop<TextKind>>
     ensures { Gives result (λ x. x) (rules_at bytes.now) }
 {
-    let mut rules = Vec::with_capacity(alloc, count_colons(bytes).min(16))?;
+    let mut rules = Vec::with_capacity(alloc, rule_room(bytes))?;
     let mut rest = skip_spaces(bytes);
     'turns: while !rest.is_empty() {
         match rule_at(alloc, rest) {
