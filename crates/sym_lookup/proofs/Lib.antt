@@ -1,5 +1,6 @@
 pub mod UnderLemmas
 pub mod PlaceLemmas
+pub mod FirstLemmas
 pub mod PublicLemmas
 pub mod NameLemmas
 pub mod ShownLemmas
@@ -11,6 +12,7 @@ pub mod RunLemmas
 pub mod MarkLemmas
 pub mod NumberLemmas
 pub mod PublicMarkLemmas
+pub mod PartLemmas
 pub mod IndexLemmas
 pub mod RisingLemmas
 pub mod UnderOfLemmas

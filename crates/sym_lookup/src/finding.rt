@@ -1,10 +1,11 @@
 //! The plain look-up, by scans.
-ghost use Rattle.std.specs.Prelude.{◌≡◌, ◌+◌, ◌<◌, ◌≤◌, ◌^◌, if◌then◌else◌, length, drop, IfOk, IfSome};
+ghost use Rattle.std.specs.Prelude.{◌≡◌, ℕ, ◌+◌, ◌<◌, ◌≤◌, ◌^◌, if◌then◌else◌, length, drop, replicate, slice_get, None, IfOk, IfSome};
 ghost use Rattle.std.specs.List.{list_any, position, position_from};
+ghost use Rattle.std.specs.Option.{option_map};
 ghost use Rattle.sym_meaning.specs.TextNames.{is_within, under, is_func_at, is_line_at, is_inline_at, level_count};
 ghost use Rattle.sym_lookup.specs.declared.answers.Answer.TheVariants as answer;
 ghost use Rattle.sym_lookup.specs.Answers.{chain_from, chain_places, line_place, func_place, nearer, greater, nearest_public, is_public_of, begins_between, public_place, answer_of};
-ghost use Rattle.sym_lookup.specs.internal.Scans.{is_under, level_end};
+ghost use Rattle.sym_lookup.specs.internal.Scans.{is_under, level_end, sooner, AreFirsts};
 ghost use Rattle.sym_records.specs.declared.line.Extent.{Extent};
 
 use crate::answers::{Answer, PlaceList};
@@ -146,6 +147,70 @@ fn inline_from(records: &[SymLine], first: usize, level: u64, address: u64) -> O
     None
 }
 
+/// An `INLINE` that covers the address becomes the first of its level, where that is one of those that are held.
+fn note_inline(firsts: &mut Vec<Option<usize>>, place: usize, line: &SymLine, address: u64)
+    ensures { (level : ℕ) → slice_get firsts.new.items level ≡ option_map (sooner level address place line.now) (slice_get firsts.old.items level) }
+{
+    let SymLine::Inline { level, ranges, .. } = line else {
+        return;
+    };
+    let level = *level as usize;
+    if level >= firsts.len() {
+        return;
+    }
+    if has_address(ranges.as_slice(), address) {
+        firsts[level] = Some(place);
+    }
+}
+
+/// No place at each level below a number.
+fn no_places(alloc: Global, count: usize) -> Result<Vec<Option<usize>>, OutOfMemory>
+    ensures { IfOk result (λ places. places.items ≡ replicate count None) }
+{
+    let mut places = Vec::with_capacity(alloc, count)?;
+    'levels: for level in 0..count {
+        places.push(None)?;
+    }
+    Ok(places)
+}
+
+/// The first `INLINE` that covers the address at each level below a number, in one pass.
+fn firsts_at(
+    alloc: Global,
+    records: &[SymLine],
+    first: usize,
+    count: usize,
+    address: u64,
+) -> Result<Vec<Option<usize>>, OutOfMemory>
+    requires { first + length records.now < 2 ^ 64 }
+    ensures { IfOk result (λ firsts. AreFirsts first address records.now firsts.items) }
+{
+    let mut firsts = no_places(alloc, count)?;
+    'records: for at in (0..records.len()).rev() {
+        note_inline(&mut firsts, first + at, &records[at], address);
+    }
+    Ok(firsts)
+}
+
+/// The place of the first `INLINE` of a level that covers the address. Where each level that is held has one, no record is left for a further
+/// level, and this is seen by a pass.
+fn first_of_level(
+    firsts: &[Option<usize>],
+    records: &[SymLine],
+    first: usize,
+    level: u64,
+    address: u64,
+) -> Option<usize>
+    requires fits { first + length records.now < 2 ^ 64 }
+    requires firsts { AreFirsts first address records.now firsts.now }
+    ensures { result ≡ position_from (is_inline_at level address) first records.now }
+{
+    match firsts.get(level as usize) {
+        Some(found) => *found,
+        None => inline_from(records, first, level, address),
+    }
+}
+
 /// The first `INLINE` at each level, until a level has none.
 #[tactic(auto, using(crate::proofs::PlaceLemmas::chain_more, crate::proofs::PlaceLemmas::chain_stops))]
 fn chain_from(
@@ -158,9 +223,11 @@ fn chain_from(
     ensures { IfOk result (λ chain. chain ≡ chain_from first address 0 (level_count records.now) records.now) }
 {
     let count = level_count(records);
+    let held = records.len().min(count as usize);
+    let firsts = firsts_at(alloc, records, first, held, address)?;
     let mut chain = Vec::new(alloc);
     'levels: for level in 0..count {
-        let Some(place) = inline_from(records, first, level, address) else {
+        let Some(place) = first_of_level(firsts.as_slice(), records, first, level, address) else {
             return Ok(PlaceList::of(chain));
         };
         chain.push(place)?;

@@ -99,6 +99,20 @@ impl Index {
         })
     }
 
+    /// Which `FUNC` is the first at each address.
+    pub(crate) fn funcs(&self) -> &PlaceMap
+        ensures { result.now ≡ self.now.funcs }
+    {
+        &self.funcs
+    }
+
+    /// What stands under each `FUNC` that has more than a few ranges under it.
+    pub(crate) fn unders(&self) -> &[Under]
+        ensures { result.now ≡ self.now.unders.items }
+    {
+        self.unders.as_slice()
+    }
+
     /// What a look-up of the address answers.
     pub fn answer_at(
         &self,

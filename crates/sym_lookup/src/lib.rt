@@ -8,7 +8,7 @@
 //!
 //! To read: `answers`, `finding`, `texts` (on `named`, the records that others name by a number) and `laws`; then `index`, on `stretches` (step
 //! maps of records), `marks` (records in the order of a key), `numbers` and `under` (what stands under a `FUNC`), with `rising` (its line
-//! records, where they rise).
+//! records, where they rise), and `parts` (the same part by part).
 #![tactic(auto)]
 
 mod answers;
@@ -18,6 +18,7 @@ pub mod laws;
 mod marks;
 mod named;
 mod numbers;
+mod parts;
 mod rising;
 mod stretches;
 mod texts;
@@ -26,4 +27,5 @@ mod under;
 pub use answers::{Answer, PlaceList, PlaceRun};
 pub use finding::answer_at;
 pub use index::Index;
+pub use parts::place_run;
 pub use texts::answer_text;

@@ -8,6 +8,7 @@ ghost use Rattle.sym_lookup.specs.internal.Spots.{spot_shown};
 
 use crate::answers::Answer;
 use crate::named::{Records, file_name, origin_name};
+use crate::numbers::numbers_of;
 use itoa::Buffer;
 use std::alloc::Global;
 use sym_edges::OutOfMemory;
@@ -288,9 +289,25 @@ pub(crate) fn shown_text(
     Ok(ByteText::of(text))
 }
 
+/// The frames of so many calls are named by scans.
+const FEW: usize = 8;
+
+/// Whether more calls were inlined than a few.
+fn are_many(answer: &Answer) -> bool {
+    match answer {
+        Answer::Function { chain, .. } => chain.len() > FEW,
+        Answer::Public { .. } | Answer::Nothing => false,
+    }
+}
+
 /// The text that shows an answer: a line `NAME at PATH:LINE` for each frame, the innermost first, `public NAME` or `none`.
 pub fn answer_text(alloc: Global, file: &SymFile, answer: &Answer) -> Result<ByteText, OutOfMemory>
     ensures { IfOk result (λ text. text ≡ answer_text file.now answer.now) }
 {
-    shown_text(alloc, &Records::of(file.as_slice()), answer)
+    let lines = file.as_slice();
+    if are_many(answer) && lines.len() < 1 << 32 {
+        let numbers = numbers_of(alloc, lines)?;
+        return shown_text(alloc, &Records::numbered(lines, &numbers), answer);
+    }
+    shown_text(alloc, &Records::of(lines), answer)
 }

@@ -83,7 +83,7 @@ fn line_finder(alloc: Global, lines: &[SymLine], func: usize) -> Result<LineFind
 }
 
 /// The first line record under a `FUNC` that covers an address.
-fn line_in(under: &Under, lines: &[SymLine], address: u64) -> Option<usize>
+pub(crate) fn line_in(under: &Under, lines: &[SymLine], address: u64) -> Option<usize>
     requires { IsLineFinder lines.now under.now.func under.now.lines }
     ensures { result ≡ line_place lines.now under.now.func address }
 {
@@ -175,7 +175,7 @@ pub(crate) fn unders_of(alloc: Global, lines: &[SymLine]) -> Result<Vec<Under>, 
 
 /// What stands under the `FUNC` at a place, by halves.
 #[tactic(auto, using(crate::proofs::UnderOfLemmas::under_there))]
-fn under_at(unders: &[Under], func: usize) -> Option<&Under>
+pub(crate) fn under_at(unders: &[Under], func: usize) -> Option<&Under>
     ensures func { IfSome result (λ under. under.now.func ≡ func) }
     ensures under { IfSome result (λ under. (lines : List SymLine) → AreUnders lines unders.now → IsUnder lines under.now) }
 {
@@ -188,6 +188,13 @@ fn under_at(unders: &[Under], func: usize) -> Option<&Under>
         return None;
     }
     Some(under)
+}
+
+/// Its maps of the `INLINE` records of each level.
+pub(crate) fn level_maps(under: &Under) -> &[PlaceMap]
+    ensures { result.now ≡ under.now.levels.items }
+{
+    under.levels.as_slice()
 }
 
 /// What the `FUNC` that stands over some records answers.

@@ -1,7 +1,9 @@
 -- Words for scans over records.
-use Rattle.std.specs.Prelude.{ℕ, ◌+◌, Bool, true, false}
+use Rattle.std.specs.Prelude.{◌≡◌, ℕ, ◌+◌, Bool, true, false, if◌then◌else◌, List, Option, Some, IfSome, slice_get}
+use Rattle.std.specs.List.{position_from}
 use Rattle.sym_records.specs.declared.line.SymLine.{SymLine}
 use Rattle.sym_records.specs.declared.line.SymLine.TheVariants.{Func, Inline, Line}
+use Rattle.sym_meaning.specs.TextNames.{is_inline_at}
 
 -- whether a record stands under a FUNC
 abbrev pub is_under : SymLine → Bool
@@ -17,3 +19,11 @@ level_end _ = 0
 abbrev pub is_func : SymLine → Bool
 is_func (Func many address size params name) = true
 is_func _ = false
+
+-- a record at a place before those of a level behind it
+abbrev pub sooner : ℕ → ℕ → ℕ → SymLine → Option ℕ → Option ℕ
+sooner level x place s later = if is_inline_at level x s then Some place else later
+
+-- of each level that is held the first INLINE that covers the address
+abbrev pub AreFirsts : ℕ → ℕ → List SymLine → List (Option ℕ) → Type 0
+AreFirsts first x records firsts = (level : ℕ) → IfSome (slice_get firsts level) (λ found. found ≡ position_from (is_inline_at level x) first records)
