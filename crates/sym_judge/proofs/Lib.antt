@@ -7,12 +7,17 @@ pub mod StackLemmas
 pub mod SideLemmas
 pub mod FrameLemmas
 pub mod NameLemmas
+pub mod AliasLemmas
+pub mod HeldFormLemmas
 pub mod BothLemmas
 pub mod BlockLemmas
 pub mod ClearLemmas
+pub mod ChainLemmas
+pub mod MeetingLemmas
 pub mod DoubtLemmas
 pub mod SteadyLemmas
 pub mod StopLemmas
 pub mod LawLemmas
 mod WorkedForms
 mod WorkedAlike
+mod WorkedChains

@@ -5,3 +5,6 @@ pub mod RuleMaps
 pub mod Stacks
 pub mod Spots
 pub mod Blocks
+pub mod Aliases
+pub mod HeldForms
+pub mod Chains

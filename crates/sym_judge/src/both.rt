@@ -1,7 +1,9 @@
 //! The two files that are judged, with the numbers under which both name the same.
 ghost use Rattle.std.specs.Prelude.{◌≡◌, IfOk};
+ghost use Rattle.sym_judge.specs.internal.Aliases.{AreAliasesOf};
 ghost use Rattle.sym_judge.specs.internal.Blocks.{same_path, same_origin, same_name, AreTold, is_told, are_told};
 
+use crate::aliases::{Aliases, aliases_of, have_one_name, no_aliases};
 use crate::names::is_same_text;
 use crate::sides::Side;
 use std::alloc::Global;
@@ -16,16 +18,20 @@ pub(crate) struct Both<'f> {
     other: Side<'f>,
     paths: Vec<bool>,
     origins: Vec<bool>,
+    path_aliases: Aliases,
+    origin_aliases: Aliases,
 }
 
 impl<'f> Model for Both<'f> {
+    ghost use Rattle.sym_judge.specs.declared.both.Numbered.TheVariants.{Files, Origins};
+    ghost use Rattle.sym_judge.specs.internal.Aliases.{AreAliasesOf};
     ghost use Rattle.sym_judge.specs.internal.Blocks.{TwoFiles, same_path, same_origin, AreTold};
 
     ghost Value = { TwoFiles };
 
     ghost view = { λ b. record { own = b.own; other = b.other } };
 
-    ghost invariant = { λ b. AreTold same_path b.own b.other b.paths.items × AreTold same_origin b.own b.other b.origins.items };
+    ghost invariant = { λ b. AreTold same_path b.own b.other b.paths.items × AreTold same_origin b.own b.other b.origins.items × AreAliasesOf Files b.own b.other b.path_aliases × AreAliasesOf Origins b.own b.other b.origin_aliases };
 }
 
 /// Records that are named by their numbers.
@@ -92,6 +98,22 @@ fn are_told(told: &[bool], a: u32, b: u32) -> bool
     a == b && is_told(told, a)
 }
 
+/// The numbers that have one name, where there may be others than those that are told.
+fn aliases_beside<'f>(
+    alloc: Global,
+    numbered: Numbered,
+    own: &Side<'f>,
+    other: &Side<'f>,
+    told: &[bool],
+) -> Result<Aliases, OutOfMemory>
+    ensures { IfOk result (λ aliases. AreAliasesOf numbered own.now other.now aliases) }
+{
+    if count_of(numbered, other.lines()) as usize == told.len() && told.iter().all(|told| *told) {
+        return Ok(no_aliases(alloc));
+    }
+    aliases_of(alloc, numbered, own, other)
+}
+
 impl<'f> Both<'f> {
     /// Compares the names under each number.
     pub(crate) fn of(alloc: Global, own: Side<'f>, other: Side<'f>) -> Result<Both<'f>, OutOfMemory>
@@ -99,11 +121,21 @@ impl<'f> Both<'f> {
     {
         let paths = same_names(alloc, Numbered::Files, &own, &other)?;
         let origins = same_names(alloc, Numbered::Origins, &own, &other)?;
+        let path_aliases = aliases_beside(alloc, Numbered::Files, &own, &other, paths.as_slice())?;
+        let origin_aliases = aliases_beside(
+            alloc,
+            Numbered::Origins,
+            &own,
+            &other,
+            origins.as_slice(),
+        )?;
         Ok(Both {
             own,
             other,
             paths,
             origins,
+            path_aliases,
+            origin_aliases,
         })
     }
 
@@ -127,6 +159,9 @@ impl<'f> Both<'f> {
         if are_told(self.paths.as_slice(), a, b) {
             return true;
         }
+        if have_one_name(&self.path_aliases, a, b) {
+            return true;
+        }
         is_one_name(Numbered::Files, &self.own, a, &self.other, b)
     }
 
@@ -136,6 +171,9 @@ impl<'f> Both<'f> {
         ensures { result ≡ same_origin self.now.own self.now.other a b }
     {
         if are_told(self.origins.as_slice(), a, b) {
+            return true;
+        }
+        if have_one_name(&self.origin_aliases, a, b) {
             return true;
         }
         is_one_name(Numbered::Origins, &self.own, a, &self.other, b)

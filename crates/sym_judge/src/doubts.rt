@@ -13,7 +13,7 @@ use step_maps::StepMap;
 use sym_edges::OutOfMemory;
 
 /// The nearer of two ends.
-fn nearer(a: Option<u64>, b: Option<u64>) -> Option<u64>
+pub(crate) fn nearer(a: Option<u64>, b: Option<u64>) -> Option<u64>
     ensures both { (x : ℕ) → IsBefore result x → IsBefore a x × IsBefore b x }
     ensures above { (x : ℕ) → IsBefore a x → IsBefore b x → IsBefore result x }
 {

@@ -11,7 +11,7 @@ use sym_rules::{Target, Token};
 
 /// The form of a rule.
 #[derive(Clone, Copy)]
-pub(crate) enum Form<'r> {
+pub enum Form<'r> {
     Term(Term),
     NoValue,
     Words(&'r [Token]),
@@ -168,7 +168,11 @@ fn is_undefined(words: &[Token]) -> bool
 
 /// The form of a rule's words. `inside` says that it is the CFA's rule.
 #[tactic(auto, using(crate::proofs::StackLemmas::form_undefined, crate::proofs::StackLemmas::form_defined))]
-fn form_of<'r>(alloc: Global, inside: bool, words: &'r [Token]) -> Result<Form<'r>, OutOfMemory>
+pub(crate) fn form_of<'r>(
+    alloc: Global,
+    inside: bool,
+    words: &'r [Token],
+) -> Result<Form<'r>, OutOfMemory>
     ensures { IfOk result (λ f. form_view f ≡ form_of inside words.now) }
 {
     if is_undefined(words) {
@@ -182,7 +186,7 @@ fn form_of<'r>(alloc: Global, inside: bool, words: &'r [Token]) -> Result<Form<'
 
 /// The form of a missing rule: a register that a call keeps has its value, rsp is the CFA, and of the others nothing is known.
 #[tactic(auto, unfolding(sym_edges::specs::Abi::default_of, sym_edges::specs::Abi::is_kept))]
-fn missing_form(target: &Target) -> Form<'static>
+pub(crate) fn missing_form(target: &Target) -> Form<'static>
     ensures { form_view result ≡ missing_form target.now }
 {
     let Target::Reg(register) = target else {
@@ -205,14 +209,14 @@ fn missing_form(target: &Target) -> Form<'static>
 }
 
 /// Whether the rules of the target are those of the CFA.
-fn is_cfa(target: &Target) -> bool
+pub(crate) fn is_cfa(target: &Target) -> bool
     ensures { result ≡ is_cfa target.now }
 {
     matches!(target, Target::Cfa)
 }
 
 /// The form of a target's rule, or of a missing one.
-fn form_by<'r>(
+pub(crate) fn form_by<'r>(
     alloc: Global,
     target: &Target,
     words: Option<&'r [Token]>,
@@ -292,7 +296,7 @@ pub(crate) fn are_same_words(a: &[Token], b: &[Token]) -> bool
 }
 
 /// Whether two forms are one.
-fn is_same_form(a: Form<'_>, b: Form<'_>) -> bool
+pub(crate) fn is_same_form(a: Form<'_>, b: Form<'_>) -> bool
     ensures { result ≡ same_form (form_view a.entry) (form_view b.entry) }
 {
     match (a, b) {

@@ -9,24 +9,14 @@ ghost use Rattle.sym_judge.specs.declared.ruling.Half.TheVariants.{Frames};
 ghost use Rattle.sym_judge.specs.internal.Stops.{first_in};
 ghost use Rattle.sym_judge.specs.internal.Tables.{words_in, IsTableAt};
 
-use crate::forms::{are_same_words, have_same_form};
+use crate::forms::{are_same_words, have_same_form, is_same_form};
+use crate::held_forms::are_many;
 use crate::ruled::Ruled;
 use crate::ruling::Aspect;
-use crate::tables::{RulePlace, RuleTable, rules_of};
+use crate::tables::{RulePlace, RuleTable, words_of};
 use std::alloc::Global;
 use sym_edges::OutOfMemory;
-use sym_records::SymLine;
-use sym_rules::{RuleText, Target, Token};
-
-/// The words of the rule at a place.
-fn words_at(lines: &[SymLine], place: Option<RulePlace>) -> Option<&[Token]>
-    ensures { option_copied result ≡ words_in lines.now place }
-{
-    let place = place?;
-    let line = lines.get(place.line)?;
-    let rule = rules_of(line).get(place.rule)?;
-    Some(rule.tokens.as_slice())
-}
+use sym_rules::{Target, Token};
 
 /// Whether words, or missing ones, have one form as the rule of a target. Of equal words it takes no memory.
 #[tactic(auto, using(crate::proofs::FrameLemmas::same_words_same_form))]
@@ -48,26 +38,41 @@ fn is_same_rule(
     have_same_form(alloc, target, a, b)
 }
 
+/// Whether there are few words, or none.
+fn are_few(words: Option<&[Token]>) -> bool {
+    match words {
+        None => true,
+        Some(words) => !are_many(words),
+    }
+}
+
 /// Whether the rules at two places have one form.
 fn agree(
     alloc: Global,
     target: &Target,
-    own: &[SymLine],
+    own: &Ruled<'_, '_>,
     a: Option<RulePlace>,
-    other: &[SymLine],
+    other: &Ruled<'_, '_>,
     b: Option<RulePlace>,
 ) -> Result<bool, OutOfMemory>
     ensures { IfOk result (λ same. same ≡ same_form (form_by target.now (words_in own.now a)) (form_by target.now (words_in other.now b))) }
 {
-    is_same_rule(alloc, target, words_at(own, a), words_at(other, b))
+    let first = words_of(own.lines(), a);
+    let second = words_of(other.lines(), b);
+    if are_few(first) && are_few(second) {
+        return is_same_rule(alloc, target, first, second);
+    }
+    let first = own.form_at(alloc, target, a)?;
+    let second = other.form_at(alloc, target, b)?;
+    Ok(is_same_form(first, second))
 }
 
 /// The first register whose rules differ.
 fn first_register(
     alloc: Global,
-    own: &[SymLine],
+    own: &Ruled<'_, '_>,
     a: &RuleTable,
-    other: &[SymLine],
+    other: &Ruled<'_, '_>,
     b: &RuleTable,
 ) -> Result<Option<Aspect>, OutOfMemory>
     ensures { (x : ℕ) → IsTableAt own.now x a.now → IsTableAt other.now x b.now → IfOk result (λ found. found ≡ find (differs own.now other.now x) (map Reg (range_with_len 0 16))) }
@@ -86,9 +91,9 @@ fn first_register(
 /// The first target whose rules differ.
 fn first_rule(
     alloc: Global,
-    own: &[SymLine],
+    own: &Ruled<'_, '_>,
     a: &RuleTable,
-    other: &[SymLine],
+    other: &Ruled<'_, '_>,
     b: &RuleTable,
 ) -> Result<Option<Aspect>, OutOfMemory>
     ensures { (x : ℕ) → IsTableAt own.now x a.now → IsTableAt other.now x b.now → IfOk result (λ found. found ≡ find (differs own.now other.now x) rule_aspects) }
@@ -129,5 +134,5 @@ pub(crate) fn first_frame_aspect(
     };
     let a = own.table_at(first, address);
     let b = other.table_at(second, address);
-    first_rule(alloc, own.lines(), &a, other.lines(), &b)
+    first_rule(alloc, own, &a, other, &b)
 }

@@ -10,18 +10,22 @@
 //! for look-up and unwinding, and that a file says the same as itself.
 //!
 //! To read: `specs/Forms.antt`, `specs/Alike.antt`, `specs/Rulings.antt` and `specs/SameMeaning.antt`; then `terms` and `forms`, `tables` (the
-//! rules that count at an address), `rule_maps` (the same by halves, of an INIT with many) and `frames`, `names`, `blocks` and `doubts` (where
-//! records say the same in both files, nothing else is looked at), and `judging`, on `sides` (a file with its index), `ruled` (with rule maps)
-//! and `both` (two files).
+//! rules that count at an address), `rule_maps` (the same by halves, of an INIT with many), `held_forms` (those of long rules) and `frames`, `names`, `blocks` and `doubts` (where
+//! records say the same in both files, nothing else is looked at), `chains` and `meetings` (what is found out once for two functions), and `judging`, on `sides` (a file with its index), `ruled` (with rule maps)
+//! and `both` (two files), with `aliases` (the numbers of one name).
 #![tactic(auto)]
 
+mod aliases;
 mod blocks;
 mod both;
+mod chains;
 mod doubts;
 mod forms;
 mod frames;
+mod held_forms;
 mod judging;
 pub mod laws;
+mod meetings;
 mod names;
 mod pairs;
 mod rule_maps;

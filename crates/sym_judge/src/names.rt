@@ -1,15 +1,20 @@
 //! Whether two files name the same at an address.
-ghost use Rattle.std.specs.Prelude.{◌≡◌, List, map, codes, IfOk};
-ghost use Rattle.std.specs.Option.{option_copied, option_map, unwrap_or};
+ghost use Rattle.std.specs.Prelude.{◌≡◌, ◌≤◌, List, map, codes, if◌then◌else◌, None, Some, IfOk, IfSome};
+ghost use Rattle.std.specs.Option.{option_copied, option_map, option_and_then, unwrap_or};
 ghost use Rattle.std.specs.Str.{bytes_eq};
-ghost use Rattle.sym_meaning.specs.TextNames.{func_name, path_and_line};
+ghost use Rattle.sym_meaning.specs.TextNames.{func_name, path_and_line, text_path, text_origin};
 ghost use Rattle.sym_records.specs.declared.line.SymLine.{SymLine};
-ghost use Rattle.sym_lookup.specs.AnswerTexts.{call_at, call_name, line_at, owner_of, calls_of, line_of};
+ghost use Rattle.sym_lookup.specs.Answers.{answer_of, func_place, chain_places, line_place};
+ghost use Rattle.sym_judge.specs.internal.Chains.{IsFuncPair, AreFuncPairs};
+ghost use Rattle.sym_lookup.specs.AnswerTexts.{call_at, func_name_at, line_at, owner_of, calls_of, line_of};
 ghost use Rattle.sym_judge.specs.Alike.{same_option, same_list, same_line, same_call};
 ghost use Rattle.sym_judge.specs.declared.ruling.Half.TheVariants.{Names};
 ghost use Rattle.sym_judge.specs.internal.Stops.{first_in};
 ghost use Rattle.sym_judge.specs.internal.Spots.{spot_view, call_spot_of, first_named};
 
+use crate::both::Both;
+use crate::chains::is_alike_at;
+use crate::meetings::{FuncPair, pair_at};
 use crate::ruling::Aspect;
 use crate::sides::Side;
 use std::alloc::Global;
@@ -17,18 +22,18 @@ use sym_edges::OutOfMemory;
 use sym_lookup::Answer;
 use sym_records::SymLine;
 
-/// A path, where it is known, and a line.
+/// The number of a file, where there is one, and a line.
 #[derive(Clone, Copy)]
-pub(crate) struct Spot<'f> {
-    path: Option<&'f [u8]>,
+pub(crate) struct Spot {
+    file: Option<u32>,
     line: u32,
 }
 
-/// An inlined call: the name of the function, and where the call is.
+/// An inlined call: the number of the function's origin, where there is one, and where the call is.
 #[derive(Clone, Copy)]
-pub(crate) struct CallText<'f> {
-    name: &'f [u8],
-    spot: Spot<'f>,
+pub(crate) struct CallSpot {
+    origin: Option<u32>,
+    spot: Spot,
 }
 
 fn func_name(line: &SymLine) -> &[u8]
@@ -40,16 +45,23 @@ fn func_name(line: &SymLine) -> &[u8]
     }
 }
 
+/// The name of the `FUNC` at a place.
+pub(crate) fn func_name_at(lines: &[SymLine], func: usize) -> &[u8]
+    ensures { result.now ≡ func_name_at lines.now func }
+{
+    match lines.get(func) {
+        Some(line) => func_name(line),
+        None => &[],
+    }
+}
+
 /// The name of the function of an answer.
 #[tactic(auto, unfolding(sym_lookup::specs::AnswerTexts::owner_of))]
 fn owner_of<'f>(lines: &'f [SymLine], answer: &Answer) -> Option<&'f [u8]>
     ensures { option_copied result ≡ owner_of lines.now answer.now }
 {
     match answer {
-        Answer::Function { func, .. } => match lines.get(*func) {
-            Some(line) => Some(func_name(line)),
-            None => Some(&[]),
-        },
+        Answer::Function { func, .. } => Some(func_name_at(lines, *func)),
         _ => None,
     }
 }
@@ -87,45 +99,75 @@ pub(crate) fn is_same_text(a: Option<&[u8]>, b: Option<&[u8]>) -> bool
     }
 }
 
-fn is_same_spot(a: Spot<'_>, b: Spot<'_>) -> bool
-    ensures { result ≡ same_line (spot_view a.entry) (spot_view b.entry) }
+/// The path under a number, where there is one.
+fn path_in<'f>(side: &Side<'f>, file: Option<u32>) -> Option<&'f [u8]>
+    ensures { option_copied result ≡ option_and_then (text_path side.now) file }
 {
-    is_same_text(a.path, b.path) && a.line == b.line
+    match file {
+        None => None,
+        Some(file) => side.path(file),
+    }
+}
+
+/// The name of an origin under a number, where there is one.
+fn origin_in<'f>(side: &Side<'f>, origin: Option<u32>) -> Option<&'f [u8]>
+    ensures { option_copied result ≡ option_and_then (text_origin side.now) origin }
+{
+    match origin {
+        None => None,
+        Some(origin) => side.origin(origin),
+    }
+}
+
+/// Whether the paths under two numbers are the same.
+fn is_same_file(both: &Both<'_>, a: Option<u32>, b: Option<u32>) -> bool
+    ensures { result ≡ same_option bytes_eq (option_and_then (text_path both.now.own) a) (option_and_then (text_path both.now.other) b) }
+{
+    if let (Some(a), Some(b)) = (a, b) {
+        return both.is_same_path(a, b);
+    }
+    is_same_text(path_in(both.own(), a), path_in(both.other(), b))
+}
+
+fn is_same_spot(both: &Both<'_>, a: Spot, b: Spot) -> bool
+    ensures { result ≡ same_line (spot_view both.now.own a) (spot_view both.now.other b) }
+{
+    is_same_file(both, a.file, b.file) && a.line == b.line
 }
 
 /// Where a line record is.
-fn spot_of<'f>(side: &Side<'f>, line: &SymLine) -> Spot<'f>
-    ensures { spot_view result ≡ path_and_line side.now line.now }
+fn spot_of(line: &SymLine) -> Spot
+    ensures { (lines : List SymLine) → spot_view lines result ≡ path_and_line lines line.now }
 {
     match line {
         SymLine::Line { line, file, .. } => Spot {
-            path: side.path(*file),
+            file: Some(*file),
             line: *line,
         },
         _ => Spot {
-            path: None,
+            file: None,
             line: 0,
         },
     }
 }
 
 /// Where the line record at a place is.
-fn spot_at<'f>(side: &Side<'f>, place: Option<usize>) -> Option<Spot<'f>>
-    ensures { option_map spot_view result ≡ line_at side.now place }
+fn spot_at(side: &Side<'_>, place: Option<usize>) -> Option<Spot>
+    ensures { option_map (spot_view side.now) result ≡ line_at side.now place }
 {
     match side.lines().get(place?) {
-        Some(line) => Some(spot_of(side, line)),
+        Some(line) => Some(spot_of(line)),
         None => None,
     }
 }
 
 /// Whether two line records say the same.
-fn is_same_line(own: &Side<'_>, a: Option<usize>, other: &Side<'_>, b: Option<usize>) -> bool
-    ensures { result ≡ same_option same_line (line_at own.now a) (line_at other.now b) }
+fn is_same_line(both: &Both<'_>, a: Option<usize>, b: Option<usize>) -> bool
+    ensures { result ≡ same_option same_line (line_at both.now.own a) (line_at both.now.other b) }
 {
-    match (spot_at(own, a), spot_at(other, b)) {
+    match (spot_at(both.own(), a), spot_at(both.other(), b)) {
         (None, None) => true,
-        (Some(a), Some(b)) => is_same_spot(a, b),
+        (Some(a), Some(b)) => is_same_spot(both, a, b),
         _ => false,
     }
 }
@@ -141,9 +183,9 @@ fn name_or_omitted(name: Option<&[u8]>) -> &[u8]
 }
 
 /// The call that the INLINE at a place says.
-fn call_at<'f>(side: &Side<'f>, place: usize) -> CallText<'f>
-    ensures name { result.name.now ≡ call_name (call_at side.now place) }
-    ensures spot { spot_view result.spot ≡ call_spot_of (call_at side.now place) }
+fn call_at(side: &Side<'_>, place: usize) -> CallSpot
+    ensures name { option_and_then (text_origin side.now) result.origin ≡ (call_at side.now place).name }
+    ensures spot { spot_view side.now result.spot ≡ call_spot_of (call_at side.now place) }
 {
     match side.lines().get(place) {
         Some(
@@ -153,35 +195,48 @@ fn call_at<'f>(side: &Side<'f>, place: usize) -> CallText<'f>
                 origin,
                 ..
             },
-        ) => CallText {
-            name: name_or_omitted(side.origin(*origin)),
+        ) => CallSpot {
+            origin: Some(*origin),
             spot: Spot {
-                path: side.path(*call_file),
+                file: Some(*call_file),
                 line: *call_line,
             },
         },
-        _ => CallText {
-            name: b"<name omitted>",
+        _ => CallSpot {
+            origin: None,
             spot: Spot {
-                path: None,
+                file: None,
                 line: 0,
             },
         },
     }
 }
 
-/// Whether two inlined calls are the same.
-fn is_same_call(own: &Side<'_>, a: usize, other: &Side<'_>, b: usize) -> bool
-    ensures { result ≡ same_call (call_at own.now a) (call_at other.now b) }
+/// Whether the names of two inlined functions are the same.
+#[tactic(auto, using(crate::proofs::NameLemmas::one_origin))]
+fn is_same_origin(both: &Both<'_>, a: Option<u32>, b: Option<u32>) -> bool
+    ensures { result ≡ bytes_eq (unwrap_or (option_and_then (text_origin both.now.own) a) (codes "<name omitted>")) (unwrap_or (option_and_then (text_origin both.now.other) b) (codes "<name omitted>")) }
 {
-    let first = call_at(own, a);
-    let second = call_at(other, b);
-    first.name == second.name && is_same_spot(first.spot, second.spot)
+    if let (Some(a), Some(b)) = (a, b) {
+        if both.is_same_origin(a, b) {
+            return true;
+        }
+    }
+    name_or_omitted(origin_in(both.own(), a)) == name_or_omitted(origin_in(both.other(), b))
+}
+
+/// Whether two inlined calls are the same.
+pub(crate) fn is_same_call(both: &Both<'_>, a: usize, b: usize) -> bool
+    ensures { result ≡ same_call (call_at both.now.own a) (call_at both.now.other b) }
+{
+    let first = call_at(both.own(), a);
+    let second = call_at(both.other(), b);
+    is_same_origin(both, first.origin, second.origin) && is_same_spot(both, first.spot, second.spot)
 }
 
 /// Whether two chains are the same.
-fn are_same_calls(own: &Side<'_>, a: &[usize], other: &Side<'_>, b: &[usize]) -> bool
-    ensures { result ≡ same_list same_call (map (call_at own.now) a.now) (map (call_at other.now) b.now) }
+fn are_same_calls(both: &Both<'_>, a: &[usize], b: &[usize]) -> bool
+    ensures { result ≡ same_list same_call (map (call_at both.now.own) a.now) (map (call_at both.now.other) b.now) }
 {
     let mut front = a;
     let mut back = b;
@@ -189,7 +244,7 @@ fn are_same_calls(own: &Side<'_>, a: &[usize], other: &Side<'_>, b: &[usize]) ->
         let Some((y, ys)) = back.split_first() else {
             return false;
         };
-        if !is_same_call(own, *x, other, *y) {
+        if !is_same_call(both, *x, *y) {
             return false;
         }
         front = xs;
@@ -198,34 +253,136 @@ fn are_same_calls(own: &Side<'_>, a: &[usize], other: &Side<'_>, b: &[usize]) ->
     back.is_empty()
 }
 
-/// What two answers name differently.
-#[tactic(auto, using(crate::proofs::NameLemmas::func_met, crate::proofs::NameLemmas::chain_met, crate::proofs::NameLemmas::line_met, crate::proofs::NameLemmas::none_met))]
-fn first_named(own: &Side<'_>, a: &Answer, other: &Side<'_>, b: &Answer) -> Option<Aspect>
-    ensures { result ≡ first_named own.now a.now other.now b.now }
+/// Whether the functions of two answers have one name.
+fn is_same_owner(both: &Both<'_>, a: &Answer, b: &Answer) -> bool
+    ensures { result ≡ same_option bytes_eq (owner_of both.now.own a.now) (owner_of both.now.other b.now) }
 {
-    if !is_same_text(owner_of(own.lines(), a), owner_of(other.lines(), b)) {
+    is_same_text(
+        owner_of(both.own().lines(), a),
+        owner_of(both.other().lines(), b),
+    )
+}
+
+/// What two answers name differently, where it is known whether their functions have one name.
+#[tactic(auto, using(crate::proofs::NameLemmas::func_met, crate::proofs::NameLemmas::chain_met, crate::proofs::NameLemmas::line_met, crate::proofs::NameLemmas::none_met))]
+fn first_named(both: &Both<'_>, same_owner: bool, a: &Answer, b: &Answer) -> Option<Aspect>
+    requires { same_owner ≡ same_option bytes_eq (owner_of both.now.own a.now) (owner_of both.now.other b.now) }
+    ensures { result ≡ first_named both.now.own a.now both.now.other b.now }
+{
+    if !same_owner {
         return Some(Aspect::Func);
     }
-    if !are_same_calls(own, chain_of(a), other, chain_of(b)) {
+    if !are_same_calls(both, chain_of(a), chain_of(b)) {
         return Some(Aspect::Chain);
     }
-    if !is_same_line(own, line_of(a), other, line_of(b)) {
+    if !is_same_line(both, line_of(a), line_of(b)) {
         return Some(Aspect::Line);
     }
     None
 }
 
-/// What the files name differently at an address.
+/// What differs where all but the line is the same.
+fn line_alone(same: bool) -> Option<Aspect>
+    ensures { result ≡ (if same then None else Some Aspect.Line) }
+{
+    if same { None } else { Some(Aspect::Line) }
+}
+
+/// What two functions name differently at an address at which it is known whether their chains are the same, and the line records.
+fn first_in_funcs(
+    both: &Both<'_>,
+    pair: &FuncPair,
+    alike: bool,
+    address: u64,
+    a: Option<usize>,
+    b: Option<usize>,
+) -> Option<Aspect>
+    requires own { func_place both.now.own address ≡ Some pair.now.met.own }
+    requires other { func_place both.now.other address ≡ Some pair.now.met.other }
+    requires pair { IsFuncPair both.now.own both.now.other pair.now }
+    requires alike { alike ≡ same_list same_call (map (call_at both.now.own) (chain_places both.now.own pair.now.met.own address)) (map (call_at both.now.other) (chain_places both.now.other pair.now.met.other address)) }
+    requires first { a ≡ line_place both.now.own pair.now.met.own address }
+    requires second { b ≡ line_place both.now.other pair.now.met.other address }
+    ensures { result ≡ first_in Names both.now.own both.now.other address }
+{
+    if !pair.same_name {
+        return Some(Aspect::Func);
+    }
+    if alike {
+        return line_alone(is_same_line(both, a, b));
+    }
+    Some(Aspect::Chain)
+}
+
+/// What two functions that are the first at an address name differently there, where their chains are held.
+fn first_by_chains(both: &Both<'_>, pair: &FuncPair, address: u64) -> Option<Option<Aspect>>
+    requires own { func_place both.now.own address ≡ Some pair.now.met.own }
+    requires other { func_place both.now.other address ≡ Some pair.now.met.other }
+    requires first { pair.now.met.first ≤ address }
+    requires last { address ≤ pair.now.met.last }
+    requires pair { IsFuncPair both.now.own both.now.other pair.now }
+    ensures { IfSome result (λ found. found ≡ first_in Names both.now.own both.now.other address) }
+{
+    let Some(chains) = &pair.chains else {
+        return None;
+    };
+    let alike = is_alike_at(chains, address);
+    let a = both.own().line_at(pair.met.own, address)?;
+    let b = both.other().line_at(pair.met.other, address)?;
+    Some(first_in_funcs(both, pair, alike, address, a, b))
+}
+
+/// What the files name differently at an address, where it may be known whether the functions have one name.
 #[tactic(auto, using(crate::proofs::NameLemmas::names_differ))]
-pub(crate) fn first_name_aspect(
+fn first_by_answers(
     alloc: Global,
-    own: &Side<'_>,
-    other: &Side<'_>,
+    both: &Both<'_>,
+    known: Option<bool>,
     address: u64,
 ) -> Result<Option<Aspect>, OutOfMemory>
-    ensures { IfOk result (λ found. found ≡ first_in Names own.now other.now address) }
+    requires { IfSome known (λ same. same ≡ same_option bytes_eq (owner_of both.now.own (answer_of both.now.own address)) (owner_of both.now.other (answer_of both.now.other address))) }
+    ensures { IfOk result (λ found. found ≡ first_in Names both.now.own both.now.other address) }
 {
-    let a = own.answer_at(alloc, address)?;
-    let b = other.answer_at(alloc, address)?;
-    Ok(first_named(own, &a, other, &b))
+    let a = both.own().answer_at(alloc, address)?;
+    let b = both.other().answer_at(alloc, address)?;
+    let same = match known {
+        Some(same) => same,
+        None => is_same_owner(both, &a, &b),
+    };
+    Ok(first_named(both, same, &a, &b))
+}
+
+/// The functions of both files at an address, and what is known of them.
+fn met_at<'p>(pairs: &'p [FuncPair], both: &Both<'_>, address: u64) -> Option<&'p FuncPair>
+    ensures own { IfSome result (λ pair. func_place both.now.own address ≡ Some pair.now.met.own) }
+    ensures other { IfSome result (λ pair. func_place both.now.other address ≡ Some pair.now.met.other) }
+    ensures first { IfSome result (λ pair. pair.now.met.first ≤ address) }
+    ensures last { IfSome result (λ pair. address ≤ pair.now.met.last) }
+    ensures is { IfSome result (λ pair. (mine theirs : List SymLine) → AreFuncPairs mine theirs pairs.now → IsFuncPair mine theirs pair.now) }
+{
+    if pairs.is_empty() {
+        return None;
+    }
+    let own = both.own().func_at(address)?;
+    let other = both.other().func_at(address)?;
+    pair_at(pairs, own, other, address)
+}
+
+/// What the files name differently at an address.
+pub(crate) fn first_name_aspect(
+    alloc: Global,
+    pairs: &[FuncPair],
+    both: &Both<'_>,
+    address: u64,
+) -> Result<Option<Aspect>, OutOfMemory>
+    requires { AreFuncPairs both.now.own both.now.other pairs.now }
+    ensures { IfOk result (λ found. found ≡ first_in Names both.now.own both.now.other address) }
+{
+    let Some(pair) = met_at(pairs, both, address) else {
+        return first_by_answers(alloc, both, None, address);
+    };
+    match first_by_chains(both, pair, address) {
+        Some(found) => Ok(found),
+        None => first_by_answers(alloc, both, Some(pair.same_name), address),
+    }
 }

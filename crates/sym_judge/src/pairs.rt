@@ -1,10 +1,12 @@
 //! Two files that are compared in one half.
 ghost use Rattle.std.specs.Prelude.{◌≡◌, false, None, IfOk};
+ghost use Rattle.sym_judge.specs.internal.Chains.{AreFuncPairs};
 ghost use Rattle.sym_judge.specs.internal.Stops.{first_in};
 
 use crate::both::Both;
 use crate::doubts::doubts_of;
 use crate::frames::first_frame_aspect;
+use crate::meetings::{FuncPair, func_pairs};
 use crate::names::first_name_aspect;
 use crate::ruled::Ruled;
 use crate::ruling::{Aspect, Half};
@@ -20,6 +22,7 @@ pub(crate) struct Pair<'a, 'f> {
     half: Half,
     both: &'a Both<'f>,
     doubts: StepMap<bool>,
+    funcs: Vec<FuncPair>,
     own: Ruled<'a, 'f>,
     other: Ruled<'a, 'f>,
 }
@@ -27,18 +30,34 @@ pub(crate) struct Pair<'a, 'f> {
 impl<'a, 'f> Model for Pair<'a, 'f> {
     ghost use Rattle.std.specs.Prelude.{◌≡◌};
     ghost use Rattle.sym_judge.specs.internal.Blocks.{AreDoubts};
+    ghost use Rattle.sym_judge.specs.internal.Chains.{AreFuncPairs};
     ghost use Rattle.sym_judge.specs.internal.Stops.{Compared};
 
     ghost Value = { Compared };
 
     ghost view = { λ p. record { half = p.half; own = p.both.now.own; other = p.both.now.other } };
 
-    ghost invariant = { λ p. AreDoubts p.half p.both.now.own p.both.now.other p.doubts × (p.own ≡ p.both.now.own) × (p.other ≡ p.both.now.other) };
+    ghost invariant = { λ p. AreDoubts p.half p.both.now.own p.both.now.other p.doubts × AreFuncPairs p.both.now.own p.both.now.other p.funcs.items × (p.own ≡ p.both.now.own) × (p.other ≡ p.both.now.other) };
 }
 
 /// Whether rules are held by addresses: where frame rules may differ somewhere.
 fn is_held(half: Half, doubts: &StepMap<bool>) -> bool {
     matches!(half, Half::Frames) && !doubts.stops().is_empty()
+}
+
+/// What is known of functions that meet where names may differ.
+fn funcs(
+    alloc: Global,
+    half: Half,
+    both: &Both<'_>,
+    doubts: &StepMap<bool>,
+) -> Result<Vec<FuncPair>, OutOfMemory>
+    ensures { IfOk result (λ funcs. AreFuncPairs both.now.own both.now.other funcs.items) }
+{
+    match half {
+        Half::Names => func_pairs(alloc, both, doubts),
+        Half::Frames => Ok(Vec::new(alloc)),
+    }
 }
 
 /// A file, with the rules of its long INITs where they are held.
@@ -65,6 +84,7 @@ impl<'a, 'f> Pair<'a, 'f> {
         ensures { IfOk result (λ pair. pair ≡ record { half = half; own = both.now.own; other = both.now.other }) }
     {
         let doubts = doubts_of(alloc, half, both)?;
+        let funcs = funcs(alloc, half, both, &doubts)?;
         let held = is_held(half, &doubts);
         let own = ruled(alloc, held, both.own())?;
         let other = ruled(alloc, held, both.other())?;
@@ -72,6 +92,7 @@ impl<'a, 'f> Pair<'a, 'f> {
             half,
             both,
             doubts,
+            funcs,
             own,
             other,
         })
@@ -102,7 +123,7 @@ impl<'a, 'f> Pair<'a, 'f> {
             return Ok(None);
         }
         match self.half {
-            Half::Names => first_name_aspect(alloc, self.both.own(), self.both.other(), address),
+            Half::Names => first_name_aspect(alloc, self.funcs.as_slice(), self.both, address),
             Half::Frames => first_frame_aspect(alloc, &self.own, &self.other, address),
         }
     }

@@ -1,33 +1,40 @@
 //! One of the two files, with the rules of its long INITs held by addresses.
 ghost use Rattle.std.specs.Prelude.{◌≡◌, ◌<◌, length, Some, IfOk, IfSome};
 ghost use Rattle.cfi_eval.specs.Inits.{init_place};
-ghost use Rattle.sym_judge.specs.internal.Tables.{IsTableAt};
+ghost use Rattle.sym_judge.specs.Forms.{form_by};
+ghost use Rattle.sym_judge.specs.internal.Stacks.{form_view};
+ghost use Rattle.sym_judge.specs.internal.Tables.{words_in, IsTableAt};
 
+use crate::forms::{Form, form_by, is_cfa};
+use crate::held_forms::{HeldForm, held_form, held_forms};
 use crate::rule_maps::{RuleMaps, all_maps, maps_at, table_in};
 use crate::sides::Side;
-use crate::tables::{RuleTable, table_at};
+use crate::tables::{RulePlace, RuleTable, table_at, words_of};
 use std::alloc::Global;
 use std::marker::Model;
 use sym_edges::OutOfMemory;
 use sym_records::SymLine;
+use sym_rules::Target;
 
 /// A file whose frame rules are looked up. Contracts see the records.
 #[derive(Drop)]
 pub(crate) struct Ruled<'a, 'f> {
     side: &'a Side<'f>,
     maps: Vec<RuleMaps>,
+    forms: Vec<HeldForm<'f>>,
 }
 
 impl<'a, 'f> Model for Ruled<'a, 'f> {
     ghost use Rattle.std.specs.Prelude.{List};
     ghost use Rattle.sym_records.specs.declared.line.SymLine.{SymLine};
+    ghost use Rattle.sym_judge.specs.internal.HeldForms.{AreHeldForms};
     ghost use Rattle.sym_judge.specs.internal.RuleMaps.{AreAllRuleMaps};
 
     ghost Value = { List SymLine };
 
     ghost view = { λ r. r.side.now };
 
-    ghost invariant = { λ r. AreAllRuleMaps r.side.now r.maps.items };
+    ghost invariant = { λ r. AreAllRuleMaps r.side.now r.maps.items × AreHeldForms r.side.now r.forms.items };
 }
 
 impl<'a, 'f> Ruled<'a, 'f> {
@@ -38,6 +45,7 @@ impl<'a, 'f> Ruled<'a, 'f> {
         Ruled {
             side,
             maps: Vec::new(alloc),
+            forms: Vec::new(alloc),
         }
     }
 
@@ -46,7 +54,8 @@ impl<'a, 'f> Ruled<'a, 'f> {
         ensures { IfOk result (λ ruled. ruled ≡ side.now) }
     {
         let maps = all_maps(alloc, side.lines())?;
-        Ok(Ruled { side, maps })
+        let forms = held_forms(alloc, side.lines())?;
+        Ok(Ruled { side, maps, forms })
     }
 
     pub(crate) fn lines(&self) -> &'f [SymLine]
@@ -73,5 +82,23 @@ impl<'a, 'f> Ruled<'a, 'f> {
             Some(maps) => table_in(maps, address),
             None => table_at(self.side.lines(), init, address),
         }
+    }
+
+    /// The form of the rule of a target at a place, or of a missing one. That of a long rule is held.
+    pub(crate) fn form_at(
+        &self,
+        alloc: Global,
+        target: &Target,
+        place: Option<RulePlace>,
+    ) -> Result<Form<'f>, OutOfMemory>
+        ensures { IfOk result (λ form. form_view form ≡ form_by target.now (words_in self.now place)) }
+    {
+        let words = words_of(self.lines(), place);
+        if let (Some(at), Some(_)) = (place, words) {
+            if let Some(form) = held_form(self.forms.as_slice(), is_cfa(target), at) {
+                return Ok(form);
+            }
+        }
+        form_by(alloc, target, words)
     }
 }

@@ -1,16 +1,18 @@
 //! One of the two files that are judged.
-ghost use Rattle.std.specs.Prelude.{◌≡◌, ◌<◌, length, IfOk, IfSome};
+ghost use Rattle.std.specs.Prelude.{◌≡◌, ◌<◌, ◌^◌, ℕ, length, IfOk, IfSome};
 ghost use Rattle.std.specs.Option.{option_copied};
 ghost use Rattle.cfi_eval.specs.Inits.{init_place};
-ghost use Rattle.sym_lookup.specs.Answers.{answer_of};
+ghost use Rattle.sym_lookup.specs.Answers.{answer_of, func_place, chain_places, line_place};
 ghost use Rattle.sym_lookup.specs.IndexOf.{IsIndexOf};
 ghost use Rattle.sym_lookup.specs.PlaceMaps.{IsPlaceRun};
+ghost use Rattle.sym_lookup.specs.UnderOf.{chain_in};
 ghost use Rattle.sym_judge.specs.internal.Blocks.{block_place};
 ghost use Rattle.sym_meaning.specs.TextNames.{text_path, text_origin};
 
 use crate::ruling::Half;
 use std::alloc::Global;
 use std::marker::Model;
+use step_maps::{FirstItem, StepMap};
 use sym_edges::OutOfMemory;
 use sym_lookup::{Answer, Index, PlaceRun};
 use sym_records::{SymFile, SymLine};
@@ -65,6 +67,27 @@ impl<'f> Side<'f> {
             Half::Names => self.index.func_run(address),
             Half::Frames => self.index.init_run(address),
         }
+    }
+
+    /// The place of the first `FUNC` that covers an address.
+    pub(crate) fn func_at(&self, address: u64) -> Option<usize>
+        ensures { result ≡ func_place self.now address }
+    {
+        self.index.func_at(address)
+    }
+
+    /// The levels of the `FUNC` at a place, where the index holds them.
+    pub(crate) fn levels(&self, func: usize) -> Option<&'f [StepMap<Option<FirstItem>>]>
+        ensures { IfSome result (λ levels. (x : ℕ) → x < 2 ^ 64 → chain_in levels.now x ≡ chain_places self.now func x) }
+    {
+        self.index.levels(func)
+    }
+
+    /// The place of the line record at an address under the `FUNC` at a place, where the index holds them.
+    pub(crate) fn line_at(&self, func: usize, address: u64) -> Option<Option<usize>>
+        ensures { IfSome result (λ line. line ≡ line_place self.now func address) }
+    {
+        self.index.line_at(self.file, func, address)
     }
 
     /// Which records name an address.

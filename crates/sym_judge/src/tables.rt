@@ -1,12 +1,13 @@
 //! The rules that count at an address.
 ghost use Rattle.std.specs.Prelude.{◌≡◌, ◌<◌, [], ◌∷◌, ◌++◌, List, length, Some, slice_get};
+ghost use Rattle.std.specs.Option.{option_copied};
 ghost use Rattle.cfi_eval.specs.Inits.{init_place};
 ghost use Rattle.sym_records.specs.declared.line.SymLine.{SymLine};
 ghost use Rattle.sym_rules.specs.declared.rules.RuleText.{RuleText};
-ghost use Rattle.sym_judge.specs.internal.Tables.{rules_of, words_at, rules_at, IsTable, IsTableAt};
+ghost use Rattle.sym_judge.specs.internal.Tables.{rules_of, words_at, words_in, rules_at, IsTable, IsTableAt};
 
 use sym_records::SymLine;
-use sym_rules::{RuleText, Target};
+use sym_rules::{RuleText, Target, Token};
 
 /// Where a rule stands: the place of its record in the file, and its own place in the record.
 #[derive(Clone, Copy, Debug, PartialEq, Eq)]
@@ -31,6 +32,16 @@ pub(crate) fn rules_of(line: &SymLine) -> &[RuleText]
         SymLine::Init { rules, .. } | SymLine::Change { rules, .. } => rules.as_slice(),
         _ => &[],
     }
+}
+
+/// The words of the rule at a place.
+pub(crate) fn words_of(lines: &[SymLine], place: Option<RulePlace>) -> Option<&[Token]>
+    ensures { option_copied result ≡ words_in lines.now place }
+{
+    let place = place?;
+    let line = lines.get(place.line)?;
+    let rule = rules_of(line).get(place.rule)?;
+    Some(rule.tokens.as_slice())
 }
 
 /// No rule.

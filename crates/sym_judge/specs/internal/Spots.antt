@@ -1,9 +1,9 @@
 -- Places in sources as the code keeps them, and what two answers name differently.
 use Rattle.std.specs.Prelude.{ℕ, List, Option, None, Some, if◌then◌else◌}
-use Rattle.std.specs.Option.{option_copied}
+use Rattle.std.specs.Option.{option_and_then}
 use Rattle.std.specs.Str.{bytes_eq}
 use Rattle.sym_records.specs.declared.line.SymLine.{SymLine}
-use Rattle.sym_meaning.specs.TextNames.{Call}
+use Rattle.sym_meaning.specs.TextNames.{Call, text_path}
 use Rattle.sym_lookup.specs.declared.answers.Answer.{Answer}
 use Rattle.sym_lookup.specs.AnswerTexts.{owner_of, calls_of, line_of}
 use Rattle.sym_judge.specs.Alike.{same_option, same_list, same_line, same_call}
@@ -11,8 +11,9 @@ use Rattle.sym_judge.specs.declared.names.Spot.{Spot}
 use Rattle.sym_judge.specs.declared.ruling.Aspect.{Aspect}
 use Rattle.sym_judge.specs.declared.ruling.Aspect.TheVariants.{Func, Chain, Line}
 
-abbrev pub spot_view : Spot → Option (List ℕ) × ℕ
-spot_view spot = (option_copied spot.path, spot.line)
+-- the path under a file's number, where there is one, and the line
+abbrev pub spot_view : List SymLine → Spot → Option (List ℕ) × ℕ
+spot_view lines spot = (option_and_then (text_path lines) spot.file, spot.line)
 
 abbrev pub call_spot_of : Call → Option (List ℕ) × ℕ
 call_spot_of call = (call.path, call.line)

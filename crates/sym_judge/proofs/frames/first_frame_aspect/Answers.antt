@@ -1,4 +1,4 @@
-use Rattle.std.proofs.Common.{◌∙◌, sym}
+use Rattle.std.proofs.Common.{◌∙◌, sym, refl}
 use Rattle.sym_judge.proofs.FrameLemmas.{alone_is, own_alone, covered_is}
 use Rattle.sym_judge.proofs.frames.first_frame_aspect.Goals as goal
 
@@ -10,5 +10,5 @@ returns-in_default-init_at c = own_alone c.args.own.now c.args.other.now c.args.
 
 pub returns : goal.returns
 returns c =
-    covered_is c.args.own.now c.args.other.now c.lines.result.now c.lines-2.result.now c.args.address c.table_at-a.result c.table_at-b.result c.first_rule.result
-    c.lines.ensures c.lines-2.ensures c.table_at-a.ensures c.table_at-b.ensures c.first_rule.ensures
+    covered_is c.args.own.now c.args.other.now c.args.own.now c.args.other.now c.args.address c.table_at-a.result c.table_at-b.result c.first_rule.result
+    refl refl c.table_at-a.ensures c.table_at-b.ensures c.first_rule.ensures

@@ -1,0 +1,5 @@
+use Rattle.sym_judge.specs.internal.Aliases.{AreAliases}
+use Rattle.sym_judge.proofs.aliases.aliases_in.Given as goal
+
+abbrev pub invariant-numbers : goal.invariant-numbers
+invariant-numbers l = AreAliases l.numbered l.own l.side l.aliases.items
