@@ -2,8 +2,6 @@ use Rattle.std.proofs.Common.{◌≡◌, ℕ, suc, ◌+◌, ◌*◌, ◌/◌, �
 use Rattle.std.specs.Str.Parse.{AllDigits}
 use Rattle.hex.specs.Hex.{encode_upper, encode_with}
 use Rattle.sym_records.specs.Fields.{is_field, is_name}
-use Rattle.std.specs.List.{flat_map}
-use Rattle.std.proofs.lemmas.List.Concat.{flat_map-append}
 use Rattle.sym_records.specs.Canon.{canon, canon_text}
 use Rattle.sym_records.specs.Reading.{fits}
 use Rattle.sym_records.specs.Validity.{fields_fit, first_bad}
@@ -75,11 +73,3 @@ module_fits_first line id none first fit = ap (λ o. first_bad (line ∷ info_li
 
 pub info_fits_behind : (line : SymLine) (bytes : List ℕ) (id : Option (List ℕ)) → id ≡ Some bytes → fits Start line ≡ true → fields_fit line ≡ true → FitsInside (info_line bytes) → first_bad (line ∷ info_lines id) ≡ None
 info_fits_behind line bytes id some first fit behind = ap (λ o. first_bad (line ∷ info_lines o)) some ∙ push_fits (line ∷ []) (info_line bytes) (first_fits line first fit) behind.0 behind.1
-
--- one text after another
-pub joined : (front rest more whole : List (List ℕ)) (middle last : List ℕ) → more ≡ front ++ middle ∷ [] → whole ≡ more ++ rest → flat_map (λ piece. piece) whole ++ last ≡ (flat_map (λ piece. piece) front ++ middle) ++ (flat_map (λ piece. piece) rest ++ last)
-joined front rest more whole middle last pushed appended =
-    let pieces : List (List ℕ) → List ℕ = flat_map (λ piece. piece) in
-    ap (λ l. pieces l ++ last) (appended ∙ ap (λ l. l ++ rest) pushed)
-    ∙ ap (λ l. l ++ last) (flat_map-append (λ piece. piece) (front ++ middle ∷ []) rest ∙ ap (λ l. l ++ pieces rest) (flat_map-append (λ piece. piece) front (middle ∷ []) ∙ ap (λ l. pieces front ++ l) (append-nil middle)))
-    ∙ append_assoc (pieces front ++ middle) (pieces rest) last

@@ -37,16 +37,19 @@ pub fn refuse(line: Message) -> Judgement
 }
 
 /// A dump of an image without faults after it.
-fn judge_records(
+fn judge_records<R: Threads + Sync>(
+    rt: &R,
     alloc: Global,
     image: &Image<'_>,
     debug: &DebugRead<'_>,
     name: &[u8],
+    workers: usize,
 ) -> Result<Judgement, OutOfMemory>
     requires found { IsDebugRead image.now debug.now }
+    requires workers { (1 ≤ workers) × (workers ≤ 64) }
     ensures { IfOk result (λ j. JudgesParts j name.now image.now) }
 {
-    let dumped = assemble(alloc, image, debug, name)?;
+    let dumped = assemble(rt, alloc, image, debug, name, workers)?;
     Ok(Judgement {
         status: 0,
         out: Output::Text(dumped.file),
@@ -67,7 +70,7 @@ pub(crate) fn judge_image<R: Threads + Sync, G: Gate + Sync>(
     ensures { IfOk result (λ j. JudgesParts j name.now image.now) }
 {
     match read_debug(rt, alloc, image, gate, workers) {
-        Ok(debug) => judge_records(alloc, image, &debug, name),
+        Ok(debug) => judge_records(rt, alloc, image, &debug, name, workers),
         Err(Stop::Fault(fault)) => Ok(refuse(Message::Made(debug_line(alloc, fault)?))),
         Err(Stop::NoMemory) => Err(OutOfMemory),
     }

@@ -20,9 +20,10 @@ use debug_read::DebugRead;
 use die_names::Units;
 use elf_sections::Image;
 use func_flatten::{PieceList, PublicAt, pieces, publics};
-use func_records::add_functions;
+use func_records::{add_functions, join_texts};
 use rule_postfix::{Frames, Omissions, translate_all};
 use std::alloc::Global;
+use std::thread::Threads;
 use sym_edges::OutOfMemory;
 use sym_records::laws::cleaned_bytes_are_names;
 use sym_records::{ByteText, SymText, TextPieces, add_info, add_module, add_public};
@@ -136,38 +137,26 @@ fn add_publics(
 }
 
 /// Spells the records in front of those of frames, under the file's cleaned name.
-fn spell_head(
+fn spell_head<R: Threads + Sync>(
+    rt: &R,
     alloc: Global,
     image: &Image<'_>,
     name: &[u8],
     units: &Units<'_>,
     pieces: &PieceList,
+    workers: usize,
 ) -> Result<TextPieces, OutOfMemory>
-    requires { HaveCleanPaths units.now }
+    requires clean { HaveCleanPaths units.now }
+    requires workers { (1 ≤ workers) × (workers ≤ 64) }
     ensures { IfOk result (λ text. HasHead image.now name.now units.now pieces.now (text_bytes text)) }
 {
     let base = image.base();
     let mut front = TextPieces::new(alloc);
     put_identity(alloc, &mut front.last, image, name)?;
-    let mut text = add_functions(alloc, base, units, pieces.as_slice(), front)?;
+    let mut text = add_functions(rt, alloc, base, units, pieces.as_slice(), workers, front)?;
     let found = publics(alloc, image, pieces)?;
     add_publics(alloc, base, found.as_slice(), &mut text)?;
     Ok(text)
-}
-
-/// One text after another.
-#[tactic(auto, using(crate::proofs::RecordLemmas::joined))]
-fn join_texts(front: TextPieces, rest: TextPieces) -> Result<TextPieces, OutOfMemory>
-    ensures { IfOk result (λ text. text_bytes text ≡ text_bytes front ++ text_bytes rest) }
-{
-    let TextPieces { mut full, last } = front;
-    full.push(ByteText::of(last))?;
-    let TextPieces {
-        full: mut more,
-        last,
-    } = rest;
-    full.append(&mut more)?;
-    Ok(TextPieces { full, last })
 }
 
 /// The text of a file, and the frame entries that are left out.
@@ -178,17 +167,20 @@ struct FileText {
 }
 
 /// The records of a file, spelled: those in front, and then those of its frame entries.
-fn dump_file(
+fn dump_file<R: Threads + Sync>(
+    rt: &R,
     alloc: Global,
     image: &Image<'_>,
     name: &[u8],
     debug: &DebugRead<'_>,
+    workers: usize,
 ) -> Result<FileText, OutOfMemory>
     requires found { IsDebugRead image.now debug.now }
+    requires workers { (1 ≤ workers) × (workers ≤ 64) }
     ensures { IfOk result (λ d. DumpsRead image.now name.now debug.now d.file d.omitted) }
 {
     let pieces = pieces(alloc, &debug.units)?;
-    let head = spell_head(alloc, image, name, &debug.units, &pieces)?;
+    let head = spell_head(rt, alloc, image, name, &debug.units, &pieces, workers)?;
     let framed = translate_all(
         alloc,
         &debug.first,
@@ -214,16 +206,20 @@ pub struct Dumped {
 
 /// Spells the symbol file of an image under a name, which is cleaned (Breakpad's symbol_files.md): MODULE, INFO, FILE, INLINE_ORIGIN,
 /// each FUNC with its INLINE and line records, PUBLIC, and the records of frames. `debug` is what `read_debug` answered for the image.
-pub fn assemble(
+/// It is spelled by `workers` workers, 1 to 64, whose number changes nothing.
+pub fn assemble<R: Threads + Sync>(
+    rt: &R,
     alloc: Global,
     image: &Image<'_>,
     debug: &DebugRead<'_>,
     name: &[u8],
+    workers: usize,
 ) -> Result<Dumped, OutOfMemory>
     requires found { IsDebugRead image.now debug.now }
+    requires workers { (1 ≤ workers) × (workers ≤ 64) }
     ensures { IfOk result (λ d. Assembles image.now name.now d.file d.err d.omitted) }
 {
-    let text = dump_file(alloc, image, name, debug)?;
+    let text = dump_file(rt, alloc, image, name, debug, workers)?;
     let FileText { file, omitted } = text;
     let err = list_left_out(alloc, debug.headers.as_slice(), omitted.as_slice())?;
     Ok(Dumped {

@@ -82,15 +82,18 @@ fn counts_line(
 }
 
 /// The counts of an image without faults after it.
-fn count_records(
+fn count_records<R: Threads + Sync>(
+    rt: &R,
     alloc: Global,
     image: &Image<'_>,
     debug: &DebugRead<'_>,
+    workers: usize,
 ) -> Result<Judgement, OutOfMemory>
     requires found { IsDebugRead image.now debug.now }
+    requires workers { (1 ≤ workers) × (workers ≤ 64) }
     ensures { IfOk result (λ j. CountsParts j image.now) }
 {
-    let dumped = assemble(alloc, image, debug, b"")?;
+    let dumped = assemble(rt, alloc, image, debug, b"", workers)?;
     let file = read_back(alloc, &dumped.file)?;
     let units = debug.units.as_slice().len();
     let text = counts_line(alloc, units, &file, dumped.omitted)?;
@@ -113,7 +116,7 @@ fn count_image<R: Threads + Sync, G: Gate + Sync>(
     ensures { IfOk result (λ j. CountsParts j image.now) }
 {
     match read_debug(rt, alloc, image, gate, workers) {
-        Ok(debug) => count_records(alloc, image, &debug),
+        Ok(debug) => count_records(rt, alloc, image, &debug, workers),
         Err(Stop::Fault(fault)) => Ok(refuse(Message::Made(debug_line(alloc, fault)?))),
         Err(Stop::NoMemory) => Err(OutOfMemory),
     }

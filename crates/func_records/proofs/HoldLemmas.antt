@@ -25,6 +25,12 @@ held_next units pieces n d held after copies below all are added =
 pub held_all : (units : List UnitRead) (pieces : List Piece) (n : ℕ) (held : List (List InlineParts)) → length pieces ≤ n → AreHeld units (take n pieces) held → AreHeld units pieces held
 held_all units pieces n held all are = subst (λ (ps : List Piece). AreHeld units ps held) (take_all n pieces all) are
 
+pub held_count : (units : List UnitRead) (pieces : List Piece) (held : List (List InlineParts)) → AreHeld units pieces held → length held ≡ length pieces
+held_count units [] [] all = refl
+held_count units [] (h ∷ held) all = absurd all
+held_count units (p ∷ pieces) [] all = absurd all
+held_count units (p ∷ pieces) (h ∷ held) all = omega (arith, held_count units pieces held all.1)
+
 -- the parts that have these pieces and these copies
 pub held_inlined : (units : List UnitRead) (parts : List Part) → AreHeld units (pieces_of parts) (copies_of parts) → AreInlined units parts
 held_inlined units [] are = tt

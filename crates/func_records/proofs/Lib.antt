@@ -15,6 +15,7 @@ pub mod GapLemmas
 pub mod OriginLemmas
 pub mod TableLemmas
 pub mod SpellLemmas
+pub mod ShareLemmas
 pub mod UsedLemmas
 pub mod AddLemmas
 mod WorkedRecords

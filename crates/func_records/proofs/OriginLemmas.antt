@@ -46,7 +46,7 @@ names_from units (p ∷ pieces) (h ∷ held) (suc n) d e copies below count is =
     ∙ ap (λ k. entry_names units (get_or pieces n d).unit copies ++ all_names units (drop k (p ∷ pieces)) (drop k (h ∷ held))) (sym next)
 
 -- their numbers
-count_names : (f : List ℕ → ℕ) (units : List UnitRead) (unit : ℕ) (copies : List InlineParts) → length (map f (entry_names units unit copies)) ≡ length copies
+pub count_names : (f : List ℕ → ℕ) (units : List UnitRead) (unit : ℕ) (copies : List InlineParts) → length (map f (entry_names units unit copies)) ≡ length copies
 count_names f units unit [] = refl
 count_names f units unit (r ∷ copies) = ap suc (count_names f units unit copies)
 

@@ -5,4 +5,5 @@ pub mod Gathering
 pub mod Numbering
 pub mod Origins
 pub mod Parts
+pub mod Shares
 pub mod Spelling

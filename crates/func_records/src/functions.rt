@@ -1,5 +1,5 @@
 //! The records of all functions of a file.
-ghost use Rattle.std.specs.Prelude.{IfOk};
+ghost use Rattle.std.specs.Prelude.{◌≤◌, IfOk};
 ghost use Rattle.sym_records.specs.Spelled.{text_bytes};
 ghost use Rattle.die_names.specs.CleanPaths.{HaveCleanPaths};
 ghost use Rattle.func_records.specs.Adding.{AddsFunctions};
@@ -11,11 +11,12 @@ use crate::numbering::{Numbering, add_texts};
 use crate::numbers::{Numbers, number_of, number_rows, numbers_at, numbers_of};
 use crate::paths::gather_paths;
 use crate::sorting::{ranked_texts, text_slices};
-use crate::spelling::add_parts;
+use crate::speller::add_shares;
 use crate::writer::FuncWriter;
 use die_names::Units;
 use func_flatten::Piece;
 use std::alloc::Global;
+use std::thread::Threads;
 use sym_edges::OutOfMemory;
 use sym_records::TextPieces;
 
@@ -23,18 +24,22 @@ use sym_records::TextPieces;
 /// names, and an INLINE_ORIGIN record for each name of a function that was inlined, both sorted by bytes and numbered from 0; then for
 /// each piece its FUNC record, an INLINE record for each inlined copy on the chains of its addresses, and a line record for each run
 /// of its lines. The base is taken off all addresses. Inlined copies are held from the first pass to the second; line runs are made
-/// where they are spelled and not kept.
-pub fn add_functions(
+/// where they are spelled and not kept. Copies are found, and records spelled, by `workers` workers, 1 to 64, whose number changes
+/// nothing.
+pub fn add_functions<R: Threads + Sync>(
+    rt: &R,
     alloc: Global,
     base: u64,
     units: &Units<'_>,
     pieces: &[Piece],
+    workers: usize,
     front: TextPieces,
 ) -> Result<TextPieces, OutOfMemory>
-    requires { HaveCleanPaths units.now }
+    requires clean { HaveCleanPaths units.now }
+    requires workers { (1 ≤ workers) × (workers ≤ 64) }
     ensures { IfOk result (λ text. AddsFunctions base units.now pieces.now (text_bytes front) (text_bytes text)) }
 {
-    let held = hold_inlines(alloc, units, pieces)?;
+    let held = hold_inlines(rt, alloc, units, pieces, workers)?;
     let copies = held.as_slice();
     let used = gather_paths(alloc, units, pieces, copies)?;
     let ranked_paths = ranked_texts(alloc, used.as_slice())?;
@@ -63,13 +68,15 @@ pub fn add_functions(
     let mut text = front;
     add_texts(alloc, Numbering::Files, paths, &mut text)?;
     add_texts(alloc, Numbering::Origins, names, &mut text)?;
-    add_parts(
+    let text = add_shares(
+        rt,
         alloc,
         &writer,
         pieces,
         copies,
         origins.as_slice(),
-        &mut text,
+        workers,
+        text,
     )?;
     Ok(text)
 }

@@ -10,7 +10,7 @@
 //! (`laws::records_have_no_findings`).
 //!
 //! To read: `functions` first, then `holding`; `calls`, `marks`, `call_paths` and `paths`; `ref_slots`,
-//! `origin_refs` and `names`; `sorting`, `gaps` and `numbers`; and `numbering`, `inlines` and `spelling`.
+//! `origin_refs` and `names`; `sorting`, `gaps` and `numbers`; `numbering`, `inlines` and `spelling`; and `speller`.
 #![tactic(auto)]
 
 mod call_paths;
@@ -27,8 +27,11 @@ mod numbers;
 mod origin_refs;
 mod paths;
 mod ref_slots;
+mod shares;
 mod sorting;
+mod speller;
 mod spelling;
 mod writer;
 
 pub use functions::add_functions;
+pub use speller::join_texts;

@@ -1,8 +1,8 @@
 -- The trees of units.
-use Rattle.std.proofs.Common.{◌≡◌, ℕ, zero, suc, ◌+◌, ◌<◌, ◌≤◌, ◌&&◌, ◌++◌, Bool, true, false, if◌then◌else◌, nat_le, nat_lt, List, [], ◌∷◌, length, take, drop, get_or, map, Option, None, unwrap_or, arith, refl, sym, ap, subst, ◌∙◌, ⊎_elim}
+use Rattle.std.proofs.Common.{◌≡◌, ℕ, zero, suc, ◌+◌, ◌<◌, ◌≤◌, ◌&&◌, ◌++◌, Bool, true, false, if◌then◌else◌, nat_le, nat_lt, List, [], ◌∷◌, length, take, drop, get_or, map, Option, None, Some, unwrap_or, arith, refl, sym, ap, subst, ◌∙◌, ⊎_elim}
 use Rattle.std.specs.List.{slice_get}
 use Rattle.std.proofs.lemmas.Bool.{cond-false, ne_eqb, cases_lt}
-use Rattle.std.proofs.lemmas.List.{length-append, take_more, take_all}
+use Rattle.std.proofs.lemmas.List.{length-append}
 use Rattle.step_maps.specs.Runs.{Run, IsRuns, between}
 use Rattle.step_maps.specs.declared.stretch.Stretch.{Stretch}
 use Rattle.step_maps.specs.declared.stretch.Cover.{Cover}
@@ -91,23 +91,13 @@ tree_is part items sorted lists items_are sets same are x =
     (are x)
 
 -- the trees of the first units
-abbrev pub TreesTo : List UnitRead → ℕ → List (List (List Cover)) → Type 0
-TreesTo units count trees = AreTrees (take count units) trees
-
-trees_joined : (units more : List UnitRead) (trees others : List (List (List Cover))) → AreTrees units trees → AreTrees more others → AreTrees (units ++ more) (trees ++ others)
-trees_joined [] more [] others are later = later
-trees_joined [] more (t ∷ trees) others are later = absurd are
-trees_joined (u ∷ units) more [] others are later = absurd are
-trees_joined (u ∷ units) more (t ∷ trees) others are later = (are.0, trees_joined units more trees others are.1 later)
-
-pub trees_more : (units : List UnitRead) (count : ℕ) (trees : List (List (List Cover))) (lists : List (List Cover)) (part d : UnitRead) → count < length units → part ≡ get_or units count d → IsTree part lists
-    → TreesTo units count trees → TreesTo units (count + 1) (trees ++ lists ∷ [])
-trees_more units count trees lists part d inside is tree are =
-    subst (λ l. AreTrees l (trees ++ lists ∷ [])) (sym (take_more units count d inside ∙ ap (λ u. take count units ++ u ∷ []) (sym is)))
-    (trees_joined (take count units) (part ∷ []) trees (lists ∷ []) are (tree, tt))
-
-pub trees_all : (units : List UnitRead) (count : ℕ) (trees : List (List (List Cover))) → length units ≤ count → TreesTo units count trees → AreTrees units trees
-trees_all units count trees over are = subst (λ l. AreTrees l trees) (take_all count units over) are
+-- the trees by the numbers of their units
+pub trees_in_order : (units : List UnitRead) (trees : List (List (List Cover))) → length trees ≡ length units → ((k : ℕ) (d : List (List Cover)) → k < length trees → TreeFor (slice_get units k) (Some (get_or trees k d))) → AreTrees units trees
+trees_in_order [] [] same each = tt
+trees_in_order [] (t ∷ trees) same each = absurd (omega (arith, same))
+trees_in_order (u ∷ units) [] same each = absurd (omega (arith, same))
+trees_in_order (u ∷ units) (t ∷ trees) same each =
+    (each zero t (omega arith), trees_in_order units trees (omega (arith, same)) (λ k d inside. each (suc k) d (omega (arith, inside))))
 
 pub tree_at : (units : List UnitRead) (trees : List (List (List Cover))) (k : ℕ) → AreTrees units trees → TreeFor (slice_get units k) (slice_get trees k)
 tree_at [] [] k are = tt
@@ -121,8 +111,10 @@ ats [] = refl
 ats (d ∷ dies) = omega (arith, ats dies)
 
 -- a unit has no more entries than all units have
-pub unit_few : (units : List UnitRead) (k : ℕ) (d : UnitRead) → k < length units → length (get_or units k d).die.dies ≤ length (places units)
-unit_few [] k d inside = absurd (omega arith)
-unit_few (u ∷ units) zero d inside = omega (arith, length-append (map (λ die. die.at) u.die.dies) (places units), ats u.die.dies)
-unit_few (u ∷ units) (suc k) d inside =
-    (let less : length (get_or units k d).die.dies ≤ length (places units) = unit_few units k d (omega arith) in omega (arith, length-append (map (λ die. die.at) u.die.dies) (places units)))
+pub unit_few : (units : List UnitRead) (k : ℕ) (part : UnitRead) → Some part ≡ slice_get units k → length part.die.dies ≤ length (places units)
+unit_few [] k part is = absurd (cc)
+unit_few (u ∷ units) zero part is =
+    let same : part ≡ u = cc in
+    omega (arith, length-append (map (λ die. die.at) u.die.dies) (places units), ats u.die.dies, ap (λ (p : UnitRead). length p.die.dies) same)
+unit_few (u ∷ units) (suc k) part is =
+    (let less : length part.die.dies ≤ length (places units) = unit_few units k part is in omega (arith, less, length-append (map (λ die. die.at) u.die.dies) (places units)))

@@ -1,5 +1,5 @@
 //! Which inlined copies stand directly in each entry.
-ghost use Rattle.std.specs.Prelude.{◌≡◌, ℕ, ◌<◌, ◌^◌, length, IfOk, OnOk};
+ghost use Rattle.std.specs.Prelude.{◌≡◌, ℕ, ◌<◌, ◌≤◌, ◌^◌, length, Some, IfOk, OnOk};
 ghost use Rattle.step_maps.specs.SpanStretches.{AreFit};
 ghost use Rattle.std.specs.List.{slice_get};
 ghost use Rattle.std.specs.Option.{option_copied};
@@ -13,8 +13,10 @@ use crate::covering::covers_of;
 use die_names::{UnitRead, Units};
 use std::alloc::{AllocError, Global};
 use std::marker::Model;
+use std::thread::Threads;
 use step_maps::Stretch;
 use sym_edges::OutOfMemory;
+use unit_workers::{NoGate, UnitJob, run_all};
 
 /// The units of a file, and which inlined copies stand directly in each of their entries, by address.
 #[derive(Drop)]
@@ -36,11 +38,17 @@ impl<'u, 'a> Model for InlineTrees<'u, 'a> {
 }
 
 impl<'u, 'a> InlineTrees<'u, 'a> {
-    /// Finds which inlined copies stand directly in each entry, once for all pieces.
-    pub fn of(alloc: Global, units: &'u Units<'a>) -> Result<InlineTrees<'u, 'a>, OutOfMemory>
+    /// Finds which inlined copies stand directly in each entry, once for all pieces, by `workers` workers, 1 to 64.
+    pub fn of<R: Threads + Sync>(
+        rt: &R,
+        alloc: Global,
+        units: &'u Units<'a>,
+        workers: usize,
+    ) -> Result<InlineTrees<'u, 'a>, OutOfMemory>
+        requires workers { (1 ≤ workers) × (workers ≤ 64) }
         ensures { IfOk result (λ trees. trees ≡ units.now) }
     {
-        let trees = all_trees(alloc, units.as_slice())?;
+        let trees = all_trees(rt, alloc, units, workers)?;
         Ok(InlineTrees { units, trees })
     }
 
@@ -58,16 +66,68 @@ fn tree_in(trees: &[CoverLists], unit: usize) -> Option<&CoverLists>
     trees.get(unit)
 }
 
+/// Units whose trees are made by their numbers.
+#[derive(Drop)]
+struct TreeMaker<'u, 'a> {
+    units: &'u Units<'a>,
+}
+
+impl<'u, 'a> Model for TreeMaker<'u, 'a> {
+    ghost use Rattle.std.specs.Prelude.{List};
+    ghost use Rattle.die_names.specs.declared.unit_read.UnitRead.{UnitRead};
+
+    ghost Value = { List UnitRead };
+
+    ghost view = { λ m. m.units.now };
+}
+
+impl<'u, 'a> TreeMaker<'u, 'a> {
+    fn of(units: &'u Units<'a>) -> TreeMaker<'u, 'a>
+        ensures { result ≡ units.now }
+    {
+        TreeMaker { units }
+    }
+}
+
+fn unit_at<'u, 'a>(units: &'u [UnitRead<'a>], k: usize) -> Option<&'u UnitRead<'a>>
+    ensures { option_copied result ≡ slice_get units.now k }
+{
+    units.get(k)
+}
+
+impl<'u, 'a> UnitJob for TreeMaker<'u, 'a> {
+    type Out = CoverLists;
+
+    type Scratch = ();
+
+    ghost gives = { λ units k lists. TreeFor (slice_get units k) (Some lists) };
+
+    fn scratch(&self, _alloc: Global) -> Result<(), OutOfMemory> {
+        Ok(())
+    }
+
+    /// A number after the last unit, which no worker draws, has no result.
+    fn run(&self, alloc: Global, k: usize, _scratch: &mut ()) -> Result<CoverLists, OutOfMemory> {
+        match unit_at(self.units.as_slice(), k) {
+            Some(part) => tree_of(alloc, part),
+            None => Err(OutOfMemory),
+        }
+    }
+}
+
 /// The trees of all units.
-fn all_trees(alloc: Global, units: &[UnitRead<'_>]) -> Result<Vec<CoverLists>, OutOfMemory>
-    requires { AreRead units.now }
+fn all_trees<R: Threads + Sync>(
+    rt: &R,
+    alloc: Global,
+    units: &Units<'_>,
+    workers: usize,
+) -> Result<Vec<CoverLists>, OutOfMemory>
+    requires workers { (1 ≤ workers) × (workers ≤ 64) }
     ensures { IfOk result (λ trees. AreTrees units.now trees.items) }
 {
-    let mut trees = Vec::with_capacity(alloc, units.len())?;
-    'units: for unit in 0..units.len() {
-        let part = &units[unit];
-        trees.push(tree_of(alloc, part)?)?;
-    }
+    let maker = TreeMaker::of(units);
+    let count = units.as_slice().len();
+    let trees = run_all(rt, alloc, &maker, &NoGate, count, workers)?;
     Ok(trees)
 }
 

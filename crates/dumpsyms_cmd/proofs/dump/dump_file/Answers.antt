@@ -8,18 +8,18 @@ use Rattle.debug_read.proofs.PathLemmas.{read_clean}
 use Rattle.dumpsyms_cmd.proofs.CanonLemmas.{whole_spelled, whole_records, file_dumped}
 use Rattle.dumpsyms_cmd.proofs.dump.dump_file.Goals as goal
 
-pub spell_head-requires : goal.spell_head-requires
-spell_head-requires c = read_clean c.args.image.now c.args.debug.now c.requires.found
+pub spell_head-requires-clause-clean : goal.spell_head-requires-clause-clean
+spell_head-requires-clause-clean g c κs within = read_clean c.args.image.now c.args.debug.now c.requires.found
 
 pub of-requires : goal.of-requires
-of-requires c =
+of-requires g c =
     let lines : List SymLine = written_lines c.base.result (written c.code.result.now c.args.debug.now.first c.args.debug.now.second) in
     let front = c.in_ok-head.ensures in
     whole_spelled (text_bytes c.in_ok-head.head) (text_bytes c.in_ok-framed.framed.text) (text_bytes c.in_ok-join_texts.field-0) (identity_lines c.args.image.now c.args.name.now ++ (front.functions ++ public_lines c.args.image.now c.in_ok-pieces.pieces)) lines
     front.text_is front.valid c.in_ok-framed.ensures.text c.in_ok-framed.ensures.valid c.in_ok-join_texts.ensures
 
 pub returns : goal.returns
-returns c =
+returns g c =
     let lines : List SymLine = written_lines c.base.result (written c.code.result.now c.args.debug.now.first c.args.debug.now.second) in
     let front = c.in_ok-head.ensures in
     let head : List SymLine = identity_lines c.args.image.now c.args.name.now ++ (front.functions ++ public_lines c.args.image.now c.in_ok-pieces.pieces) in

@@ -6,7 +6,7 @@ use Rattle.dumpsyms_cmd.proofs.SampleLemmas.{given, records_counted}
 use Rattle.dumpsyms_cmd.proofs.sample.count_records.Goals as goal
 
 pub returns : goal.returns
-returns c =
+returns g c =
     let units : ℕ = length c.as_slice-units.result.now in
     let left : ℕ = c.in_ok-dumped.dumped.omitted in
     records_counted (given 0 c.of.result []) c.args.image.now c.args.debug.now c.in_ok-dumped.dumped.file c.in_ok-dumped.dumped.err c.in_ok-text.text.items left units c.requires.found c.in_ok-dumped.ensures

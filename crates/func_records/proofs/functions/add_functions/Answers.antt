@@ -10,19 +10,19 @@ use Rattle.func_records.proofs.AddLemmas.{functions_added}
 use Rattle.func_records.proofs.functions.add_functions.Goals as goal
 
 pub add_texts-requires-clause-clean : goal.add_texts-requires-clause-clean
-add_texts-requires-clause-clean c =
+add_texts-requires-clause-clean g c =
     let used : c.as_slice.result.now ≡ c.in_ok-used.used.items = c.as_slice.ensures.value in
     let paths : c.as_slice-paths.result.now ≡ c.in_ok-ranked_paths.ranked_paths.sorted.items = c.as_slice-paths.ensures.value in
-    paths_clean c.args.units.now c.args.pieces.now c.as_slice-copies.result.now c.in_ok-used.used.items c.as_slice-paths.result.now c.requires c.in_ok-used.ensures (rw (sym paths) at (rw used at c.in_ok-ranked_paths.ensures.same))
+    paths_clean c.args.units.now c.args.pieces.now c.as_slice-copies.result.now c.in_ok-used.used.items c.as_slice-paths.result.now c.requires.clean c.in_ok-used.ensures (rw (sym paths) at (rw used at c.in_ok-ranked_paths.ensures.same))
 
 pub add_texts-requires-2-clause-clean : goal.add_texts-requires-2-clause-clean
-add_texts-requires-2-clause-clean c =
+add_texts-requires-2-clause-clean g c =
     let slices : c.as_slice-2.result.now ≡ c.in_ok-slices.slices.items = c.as_slice-2.ensures.value in
     let names : c.as_slice-names.result.now ≡ c.in_ok-ranked_names.ranked_names.sorted.items = c.as_slice-names.ensures.value in
     names_clean c.args.units.now c.in_ok-named.named.refs.items c.in_ok-named.named.texts.items c.in_ok-slices.slices.items c.as_slice-names.result.now c.in_ok-named.ensures.made (c.in_ok-slices.ensures ∙ c.as_slice-texts.ensures.value) (rw (sym names) at (rw slices at c.in_ok-ranked_names.ensures.same))
 
-pub add_parts-requires-clause-numbered : goal.add_parts-requires-clause-numbered
-add_parts-requires-clause-numbered c =
+pub add_shares-requires-clause-numbered : goal.add_shares-requires-clause-numbered
+add_shares-requires-clause-numbered g c κs within =
     let f : List ℕ → ℕ = number_or_0 (bytes_of c.as_slice-names.result.now) in
     let texts : List (List ℕ) = c.in_ok-named.named.texts.items in
     let names : List (List ℕ) = all_names c.args.units.now c.args.pieces.now c.as_slice-copies.result.now in
@@ -31,16 +31,16 @@ add_parts-requires-clause-numbered c =
     (c.as_slice-4.ensures.value ∙ c.in_ok-known.ensures ∙ ap (map f) (ap bytes_of c.as_slice-3.ensures.value ∙ c.in_ok-slices.ensures ∙ c.as_slice-texts.ensures.value))
     (subst (λ ps. AreAt texts ps names) (sym c.as_slice-5.ensures.value) c.in_ok-named.ensures.all)
 
-pub add_parts-requires-clause-short : goal.add_parts-requires-clause-short
-add_parts-requires-clause-short c =
+pub add_shares-requires-clause-short : goal.add_shares-requires-clause-short
+add_shares-requires-clause-short g c κs within =
     let copies : c.as_slice-copies.result.now ≡ c.in_ok-held.held.items = c.as_slice-copies.ensures.value in
     held_short c.args.units.now c.args.pieces.now c.as_slice-copies.result.now (rw (sym copies) at c.in_ok-held.ensures.are)
 
 pub returns : goal.returns
-returns c =
+returns g c =
     let copies : c.as_slice-copies.result.now ≡ c.in_ok-held.held.items = c.as_slice-copies.ensures.value in
     let used : c.as_slice.result.now ≡ c.in_ok-used.used.items = c.as_slice.ensures.value in
     let paths : c.as_slice-paths.result.now ≡ c.in_ok-ranked_paths.ranked_paths.sorted.items = c.as_slice-paths.ensures.value in
     let slices : c.as_slice-2.result.now ≡ c.in_ok-slices.slices.items = c.as_slice-2.ensures.value in
     let names : c.as_slice-names.result.now ≡ c.in_ok-ranked_names.ranked_names.sorted.items = c.as_slice-names.ensures.value in
-    functions_added c.args.base c.args.units.now c.args.pieces.now c.as_slice-copies.result.now c.in_ok-used.used.items c.as_slice-paths.result.now c.in_ok-slices.slices.items c.as_slice-names.result.now c.in_ok-named.named.texts.items _ (text_bytes c.args.front) _ _ _ (rw (sym copies) at c.in_ok-held.ensures.are) c.in_ok-used.ensures (rw (sym paths) at c.in_ok-ranked_paths.ensures.sorted) (rw (sym paths) at (rw used at c.in_ok-ranked_paths.ensures.same)) c.in_ok-named.ensures.same (c.in_ok-slices.ensures ∙ c.as_slice-texts.ensures.value) (rw (sym names) at c.in_ok-ranked_names.ensures.sorted) (rw (sym names) at (rw slices at c.in_ok-ranked_names.ensures.same)) (c.as_slice-6.ensures.value ∙ c.in_ok-rows.ensures) (c.number_of.ensures ∙ ap (number_or_0 (bytes_of c.as_slice-paths.result.now)) c.no_path.ensures) refl c.in_ok-add_texts.ensures.text c.in_ok-add_texts.ensures.fit c.in_ok-add_texts-2.ensures.text c.in_ok-add_texts-2.ensures.fit c.in_ok-add_parts.ensures
+    functions_added c.args.base c.args.units.now c.args.pieces.now c.as_slice-copies.result.now c.in_ok-used.used.items c.as_slice-paths.result.now c.in_ok-slices.slices.items c.as_slice-names.result.now c.in_ok-named.named.texts.items _ (text_bytes c.args.front) _ _ _ (rw (sym copies) at c.in_ok-held.ensures.are) c.in_ok-used.ensures (rw (sym paths) at c.in_ok-ranked_paths.ensures.sorted) (rw (sym paths) at (rw used at c.in_ok-ranked_paths.ensures.same)) c.in_ok-named.ensures.same (c.in_ok-slices.ensures ∙ c.as_slice-texts.ensures.value) (rw (sym names) at c.in_ok-ranked_names.ensures.sorted) (rw (sym names) at (rw slices at c.in_ok-ranked_names.ensures.same)) (c.as_slice-6.ensures.value ∙ c.in_ok-rows.ensures) (c.number_of.ensures ∙ ap (number_or_0 (bytes_of c.as_slice-paths.result.now)) c.no_path.ensures) refl c.in_ok-add_texts.ensures.text c.in_ok-add_texts.ensures.fit c.in_ok-add_texts-2.ensures.text c.in_ok-add_texts-2.ensures.fit c.in_ok-text.ensures

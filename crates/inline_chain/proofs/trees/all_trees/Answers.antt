@@ -1,10 +1,12 @@
-use Rattle.std.proofs.Common.{◌≤◌, length, arith}
-use Rattle.die_names.specs.UnitEntries.{places}
-use Rattle.inline_chain.proofs.TreeLemmas.{trees_more, unit_few}
+use Rattle.std.proofs.Common.{List, Some, get_or, length, ap, subst, arith}
+use Rattle.std.specs.List.{slice_get}
+use Rattle.die_names.specs.declared.unit_read.UnitRead.{UnitRead}
+use Rattle.inline_chain.specs.internal.Copies.{TreeFor}
+use Rattle.inline_chain.proofs.TreeLemmas.{trees_in_order}
 use Rattle.inline_chain.proofs.trees.all_trees.Goals as goal
 
-pub tree_of-requires : goal.tree_of-requires
-tree_of-requires c = (let less : length c.index-units-unit.result.die.dies ≤ length (places c.args.units.now) = rw c.index-units-unit.is (unit_few c.args.units.now c.units.unit _ (omega arith)) in omega (arith, less, c.requires.few_entries))
-
-pub units-preserved : goal.units-preserved
-units-preserved c = rw c.in_ok-push.ensures.items (trees_more _ _ _ _ _ _ (omega arith) c.index-units-unit.is c.in_ok-tree_of.ensures c.units.invariant)
+pub returns : goal.returns
+returns g c =
+    trees_in_order c.args.units.now c.in_ok-trees.trees.items
+    (omega (arith, c.in_ok-trees.ensures.count, c.in_ok-trees.trees.ok.0, ap length c.as_slice-count.ensures.units))
+    (λ k d below. subst (λ (us : List UnitRead). TreeFor (slice_get us k) (Some (get_or c.in_ok-trees.trees.items k d))) c.of-maker.ensures (c.in_ok-trees.ensures.each k d below))

@@ -1,4 +1,4 @@
-use Rattle.std.proofs.Common.{◌≡◌, ◌<◌, ◌≤◌, ℕ, List, [], length, get_or, Some, unwrap_or, sym, ap, subst, ◌∙◌, rules}
+use Rattle.std.proofs.Common.{◌≡◌, ◌<◌, ◌≤◌, ℕ, List, [], length, get_or, unwrap_or, sym, ap, subst, ◌∙◌, rules}
 use Rattle.std.specs.List.{slice_get}
 use Rattle.step_maps.specs.declared.stretch.Cover.{Cover}
 use Rattle.inline_chain.specs.Trees.{list_of}
