@@ -77,3 +77,17 @@ some_lacks e rows are some =
     let same : Some (row_at e found.0) ≡ Some found.1 = sym (are.each found.0 found.2 found.3) ∙ found.4 in
     let row : row_at e found.0 ≡ found.1 = cc in
     some_in (row_at e) e.start e.size found.0 found.2 found.3 (ap has_cfa row ∙ found.5)
+
+-- an entry none of whose addresses lacks one
+cfa_there : (f : ℕ → Row) (start size a : ℕ) → list_any (λ b. not (has_cfa (f b))) (range_with_len start size) ≡ false → start ≤ a → a < start + size → has_cfa (f a) ≡ true
+cfa_there f start zero a none low high = absurd (omega arith)
+cfa_there f start (suc size) a none low high =
+    let parts = or_parts (not (has_cfa (f start))) (list_any (λ b. not (has_cfa (f b))) (range_with_len (start + 1) size)) none in
+    elim (cases_lt start a) [
+      | inl up ↦ cfa_there f (start + 1) size a parts.1 (omega arith) (omega arith)
+      | inr down ↦ let same : start ≡ a = omega arith in ap (λ b. has_cfa (f b)) (sym same) ∙ not-false (has_cfa (f start)) parts.0
+    ]
+
+pub not_lacks_has : (e : FdeFields) → lacks_cfa e ≡ false → HasCfa e
+unfolding lacks_cfa
+not_lacks_has e none = record { everywhere = λ a low high. cfa_there (row_at e) e.start e.size a none low high }

@@ -1,5 +1,5 @@
--- The rows of an entry, from the states of its two runs of instructions; for `begin`, `check_rows_behind`, `new`.
-use Rattle.std.proofs.Common.{◌≡◌, ℕ, not, true, false, List, Option, Some, None, Err, sym, ◌∙◌, ap}
+-- The rows of an entry, from the states of its two runs of instructions; for `begin`, `check_rows_behind`, `new`, `rows_are_sound`.
+use Rattle.std.proofs.Common.{◌≡◌, ℕ, not, Bool, true, false, List, Option, Some, None, Err, refl, sym, ◌∙◌, ap}
 use Rattle.std.specs.List.{list_any}
 use Rattle.sym_edges.specs.Outside.{MatchStop}
 use Rattle.sym_edges.specs.declared.fault.Stop.{Stop}
@@ -13,7 +13,7 @@ use Rattle.std.specs.Option.{option_or}
 use Rattle.frame_rows.specs.Steps.{has_cfa}
 use Rattle.frame_rows.specs.Rows.{first_fault, cie_context, cie_items, cie_begin, own_context, own_items, own_begin, instruction_fault, lacks_cfa, rows_fault, AreRows, HasCfa, IsSound, row_at}
 use Rattle.frame_rows.proofs.TestLemmas.{neither}
-use Rattle.frame_rows.proofs.CfaLemmas.{none_lacks, some_lacks, has_not_lacks}
+use Rattle.frame_rows.proofs.CfaLemmas.{none_lacks, some_lacks, has_not_lacks, not_lacks_has}
 use Rattle.frame_rows.proofs.SoundLemmas.{entry_sound}
 
 -- what is known once both runs are carried out
@@ -33,22 +33,32 @@ walked_by e rows good are =
     record { cie = both.0; own = both.1; are = are }
 
 -- each row has a rule for the CFA
-pub rows_have : (e : FdeFields) (rows : List RowAt) (b : _) → Walked e rows → b ≡ false → b ≡ list_any (λ r. not (has_cfa r.row)) rows → HasCfa e
-rows_have e rows b w none is = none_lacks e rows w.are (sym is ∙ none)
-
-pub rows_good : (e : FdeFields) (rows : List RowAt) (b : _) → Walked e rows → b ≡ false → b ≡ list_any (λ r. not (has_cfa r.row)) rows → rows_fault e ≡ None
+pub none_refused : (e : FdeFields) (rows : List RowAt) (b : _) → Walked e rows → b ≡ false → b ≡ list_any (λ r. not (has_cfa r.row)) rows → rows_fault e ≡ None
 unfolding rows_fault
-rows_good e rows b w none is =
-    ap (λ o. option_or o (unless (not (lacks_cfa e)) reason.Cfa)) (fine e rows w) ∙ ap (λ t. unless (not t) reason.Cfa) (has_not_lacks e (rows_have e rows b w none is))
+none_refused e rows b w none is =
+    ap (λ o. option_or o (unless (not (lacks_cfa e)) reason.Cfa)) (fine e rows w) ∙ ap (λ t. unless (not t) reason.Cfa) (has_not_lacks e (none_lacks e rows w.are (sym is ∙ none)))
 
 -- some row has none
-pub rows_lack : (e : FdeFields) (rows : List RowAt) (b : _) → Walked e rows → b ≡ true → b ≡ list_any (λ r. not (has_cfa r.row)) rows → rows_fault e ≡ Some reason.Cfa
+pub some_refused : (e : FdeFields) (rows : List RowAt) (b : _) → Walked e rows → b ≡ true → b ≡ list_any (λ r. not (has_cfa r.row)) rows → rows_fault e ≡ Some reason.Cfa
 unfolding rows_fault
-rows_lack e rows b w some is =
+some_refused e rows b w some is =
     ap (λ o. option_or o (unless (not (lacks_cfa e)) reason.Cfa)) (fine e rows w) ∙ ap (λ t. unless (not t) reason.Cfa) (some_lacks e rows w.are (sym is ∙ some))
 
-pub rows_sound : (e : FdeFields) (rows : List RowAt) → Walked e rows → (a : ℕ) → IsSound e (row_at e a)
-rows_sound e rows w a = entry_sound e a (fine e rows w)
+-- an entry that has rows
+lacks_none : (b : Bool) → unless (not b) reason.Cfa ≡ None → b ≡ false
+lacks_none true none = cc
+lacks_none false none = refl
+
+pub rows_good : (e : FdeFields) → rows_fault e ≡ None → instruction_fault e ≡ None
+unfolding rows_fault
+rows_good e none = (neither (instruction_fault e) (unless (not (lacks_cfa e)) reason.Cfa) none).0
+
+pub rows_have : (e : FdeFields) → rows_fault e ≡ None → HasCfa e
+unfolding rows_fault
+rows_have e none = not_lacks_has e (lacks_none (lacks_cfa e) (neither (instruction_fault e) (unless (not (lacks_cfa e)) reason.Cfa) none).1)
+
+pub rows_sound : (e : FdeFields) (a : ℕ) → rows_fault e ≡ None → IsSound e (row_at e a)
+rows_sound e a none = entry_sound e a (rows_good e none)
 
 -- an instruction of the CIE, or of the entry, is bad
 pub cie_bad : (e : FdeFields) (why : Reason) → first_fault (cie_context e) (cie_items e) (cie_begin e) ≡ Some why → rows_fault e ≡ Some why

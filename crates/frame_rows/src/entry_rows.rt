@@ -3,7 +3,7 @@ ghost use Rattle.std.specs.Prelude.{◌≡◌, ℕ, ◌+◌, ◌<◌, ◌^◌, �
 ghost use Rattle.std.specs.List.{list_any};
 ghost use Rattle.sym_edges.specs.Outside.{MatchStop};
 ghost use Rattle.frame_rows.specs.Steps.{has_cfa};
-ghost use Rattle.frame_rows.specs.Rows.{instruction_fault, row_at, rows_fault, AreRows, HasCfa, IsSound};
+ghost use Rattle.frame_rows.specs.Rows.{rows_fault, AreRows};
 ghost use Rattle.frame_rows.specs.CieLeft.{cie_left};
 
 use crate::cie_state::CieState;
@@ -62,9 +62,6 @@ pub fn check_rows_behind(alloc: Global, state: &CieState, fde: &Fde<'_>) -> Resu
     requires behind { state.now ≡ cie_left fde.now }
     requires some { 0 < fde.now.size }
     requires fits { fde.now.start + fde.now.size < 2 ^ 64 }
-    ensures good { MatchStop result (λ _. instruction_fault fde.now ≡ None) (λ _. Unit {0}) (Unit {0}) }
-    ensures cfa { MatchStop result (λ _. HasCfa fde.now) (λ _. Unit {0}) (Unit {0}) }
-    ensures sound { MatchStop result (λ _. (a : ℕ) → IsSound fde.now (row_at fde.now a)) (λ _. Unit {0}) (Unit {0}) }
     ensures exact { MatchStop result (λ _. rows_fault fde.now ≡ None) (λ why. rows_fault fde.now ≡ Some why) (Unit {0}) }
 {
     let mut stepper = Stepper::begin(alloc, state, fde)?;
@@ -85,8 +82,6 @@ pub fn rows_behind(alloc: Global, state: &CieState, fde: &Fde<'_>) -> Result<Row
     requires some { 0 < fde.now.size }
     requires fits { fde.now.start + fde.now.size < 2 ^ 64 }
     ensures rows { MatchStop result (λ rows. AreRows fde.now rows) (λ _. Unit {0}) (Unit {0}) }
-    ensures cfa { MatchStop result (λ _. HasCfa fde.now) (λ _. Unit {0}) (Unit {0}) }
-    ensures sound { MatchStop result (λ _. (a : ℕ) → IsSound fde.now (row_at fde.now a)) (λ _. Unit {0}) (Unit {0}) }
     ensures exact { MatchStop result (λ _. rows_fault fde.now ≡ None) (λ why. rows_fault fde.now ≡ Some why) (Unit {0}) }
 {
     check_rows_behind(alloc, state, fde)?;
@@ -101,8 +96,6 @@ pub fn rows(alloc: Global, fde: &Fde<'_>) -> Result<RowList, Stop<Reason>>
     requires some { 0 < fde.now.size }
     requires fits { fde.now.start + fde.now.size < 2 ^ 64 }
     ensures rows { MatchStop result (λ rows. AreRows fde.now rows) (λ _. Unit {0}) (Unit {0}) }
-    ensures cfa { MatchStop result (λ _. HasCfa fde.now) (λ _. Unit {0}) (Unit {0}) }
-    ensures sound { MatchStop result (λ _. (a : ℕ) → IsSound fde.now (row_at fde.now a)) (λ _. Unit {0}) (Unit {0}) }
     ensures exact { MatchStop result (λ _. rows_fault fde.now ≡ None) (λ why. rows_fault fde.now ≡ Some why) (Unit {0}) }
 {
     let state = CieState::of(alloc, fde)?;

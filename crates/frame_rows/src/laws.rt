@@ -1,5 +1,5 @@
 //! Laws of the definitions, for proofs above. Each function does nothing: its contract is the law.
-ghost use Rattle.std.specs.Prelude.{◌≡◌, ℕ};
+ghost use Rattle.std.specs.Prelude.{◌≡◌, ℕ, None};
 ghost use Rattle.std.specs.List.{All};
 ghost use Rattle.leb_cursor.specs.Ahead.{Ahead};
 ghost use Rattle.frame_entries.specs.FdeFields.{FdeFields};
@@ -7,6 +7,7 @@ ghost use Rattle.frame_entries.specs.SharedCies.{HaveOneCie};
 ghost use Rattle.frame_rows.specs.CieLeft.{cie_left};
 ghost use Rattle.frame_rows.specs.Instructions.{listed_at, listed_by};
 ghost use Rattle.frame_rows.specs.Operands.{TakesOperands, plain_opcodes};
+ghost use Rattle.frame_rows.specs.Rows.{instruction_fault, row_at, rows_fault, HasCfa, IsSound};
 
 /// The instructions ahead are none where no byte is left, else the next one with those after it.
 #[tactic(auto, using(crate::proofs::FollowLemmas::listed_is))]
@@ -18,6 +19,15 @@ pub fn instructions_follow()
 #[tactic(auto, using(crate::proofs::OperandLemmas::operands_taken))]
 pub fn operands_are_those_of_the_table()
     ensures { All TakesOperands plain_opcodes }
+{}
+
+/// An entry that has rows: none of its instructions is bad, at each address of its range the row has a rule for the CFA, and text can say the
+/// rules of each row.
+#[tactic(auto, using(crate::proofs::EntryLemmas::rows_good, crate::proofs::EntryLemmas::rows_have))]
+pub fn rows_are_sound()
+    ensures good { (e : FdeFields) → rows_fault e ≡ None → instruction_fault e ≡ None }
+    ensures cfa { (e : FdeFields) → rows_fault e ≡ None → HasCfa e }
+    ensures sound { (e : FdeFields) (a : ℕ) → rows_fault e ≡ None → IsSound e (row_at e a) }
 {}
 
 /// What the instructions of a CIE leave is the same for all of its entries, wherever these start.

@@ -23,8 +23,6 @@ use Rattle.sym_records.specs.Canon.{canon_text}
 use Rattle.sym_records.specs.Spelled.{text_bytes}
 use Rattle.sym_records.specs.declared.line.SymLine.{SymLine}
 use Rattle.sym_records.proofs.SpelledLemmas.{text_grown}
-use Rattle.sym_records.specs.declared.place.Place.TheVariants.{Inside}
-use Rattle.sym_records.specs.Validity.{first_bad_from}
 use Rattle.rule_postfix.specs.declared.all.Progress.{Progress}
 use Rattle.rule_postfix.specs.declared.omission.Omission.{Omission}
 use Rattle.rule_postfix.specs.Overlaps.{meet, any_meets}
@@ -49,12 +47,10 @@ meets_more range ws e =
     ap (list_any (meet range)) (map-append range_of ws (e ∷ [])) ∙ list_any-append (meet range) (map range_of ws) (range_of e ∷ [])
     ∙ ap (λ t. list_any (meet range) (map range_of ws) || t) (or_nothing (meet range (range_of e)))
 
-pub shows_more : (base : ℕ) (p q : Progress) (e : FdeFields) (d : Decided) (full last new : List ℕ) (lines : List SymLine) → lines ≡ entry_lines base e → first_bad_from 0 Inside (entry_lines base e) ≡ None → text_bytes p.text ≡ full ++ last → new ≡ last ++ canon_text lines → text_bytes q.text ≡ full ++ new → q.omitted.items ≡ p.omitted.items → ((range : Range) → any_meets range q.taken ≡ (any_meets range p.taken || meet range (range_of e))) →
-    ((xs ys : List SymLine) → first_bad_from 0 Inside xs ≡ None → first_bad_from 0 Inside ys ≡ None → first_bad_from 0 Inside (xs ++ ys) ≡ None) → Shows base p d → Shows base q (with_written e d)
-shows_more base p q e d full last new lines these fit was more now same taken joined so = record {
+pub shows_more : (base : ℕ) (p q : Progress) (e : FdeFields) (d : Decided) (full last new : List ℕ) (lines : List SymLine) → lines ≡ entry_lines base e → text_bytes p.text ≡ full ++ last → new ≡ last ++ canon_text lines → text_bytes q.text ≡ full ++ new → q.omitted.items ≡ p.omitted.items → ((range : Range) → any_meets range q.taken ≡ (any_meets range p.taken || meet range (range_of e))) → Shows base p d → Shows base q (with_written e d)
+shows_more base p q e d full last new lines these was more now same taken so = record {
   text = now ∙ text_grown full last (canon_text lines) new more ∙ ap (λ t. t ++ canon_text lines) (sym was ∙ so.text) ∙ ap (λ xs. canon_text (written_lines base d.written) ++ canon_text xs) these
       ∙ sym (canon_append (written_lines base d.written) (entry_lines base e)) ∙ ap canon_text (sym (lines_more base d.written e));
-  valid = ap (first_bad_from 0 Inside) (lines_more base d.written e) ∙ joined (written_lines base d.written) (entry_lines base e) so.valid fit;
   omitted = same ∙ so.omitted;
   taken = λ range. taken range ∙ ap (λ t. t || meet range (range_of e)) (so.taken range) ∙ sym (meets_more range d.written e);
 }
@@ -64,8 +60,8 @@ abbrev pub none_decided : Decided
 none_decided = record { written = []; omitted = [] }
 
 pub shows_none : (base : ℕ) (p : Progress) → text_bytes p.text ≡ [] → p.omitted.items ≡ [] → p.taken ≡ [] → Shows base p none_decided
-unfolding written_lines first_bad_from canon_text
-shows_none base p text omitted taken = record { text = text; omitted = omitted; valid = refl; taken = λ range. ap (any_meets range) taken }
+unfolding written_lines canon_text
+shows_none base p text omitted taken = record { text = text; omitted = omitted; taken = λ range. ap (any_meets range) taken }
 
 -- what is enclosed by code above a base lies above it
 pub enclosed_above : (base start end : ℕ) (code : List Range) → AllFrom base code → encloses code start end ≡ true → base ≤ start
@@ -159,7 +155,6 @@ refused_too A B base code p q r entry e end NoMemory P Q body ends still bad mor
 pub shows_same : (p q : Progress) → text_bytes q.text ≡ text_bytes p.text → q.omitted.items ≡ p.omitted.items → q.taken ≡ p.taken → (base : ℕ) (d : Decided) → Shows base p d → Shows base q d
 shows_same p q text omitted taken base d so = record {
   text = text ∙ so.text;
-  valid = so.valid;
   omitted = omitted ∙ so.omitted;
   taken = λ range. ap (any_meets range) taken ∙ so.taken range;
 }
@@ -227,7 +222,3 @@ shown_text base code first second r so = so.text
 pub shown_omitted : (base : ℕ) (code : List Range) (first second : List Entry) (r : Progress) (left : List Omission) → Shows base r (decided code first second) → left ≡ r.omitted.items → left ≡ omitted code first second
 unfolding omitted
 shown_omitted base code first second r left so these = these ∙ so.omitted
-
-pub shown_valid : (base : ℕ) (code : List Range) (first second : List Entry) (r : Progress) → Shows base r (decided code first second) → first_bad_from 0 Inside (written_lines base (written code first second)) ≡ None
-unfolding written
-shown_valid base code first second r so = so.valid

@@ -18,7 +18,7 @@ use Rattle.frame_entries.specs.FdeFields.{FdeFields}
 use Rattle.frame_rows.specs.declared.row.Row.{Row}
 use Rattle.frame_rows.specs.Steps.{has_cfa}
 use Rattle.frame_rows.specs.Rows.{IsSound, row_at, rows_fault, instruction_fault, lacks_cfa}
-use Rattle.frame_rows.proofs.SoundLemmas.{entry_sound}
+use Rattle.frame_rows.proofs.EntryLemmas.{rows_have, rows_sound}
 use Rattle.sym_records.specs.declared.line.SymLine.{SymLine}
 use Rattle.sym_rules.specs.declared.rules.Target.{Target}
 use Rattle.sym_rules.specs.declared.rules.Target.TheVariants.{Cfa, Ra, Reg}
@@ -39,6 +39,7 @@ use Rattle.rule_postfix.specs.Written.{Decided, range_of, has_range, rows_reason
 use Rattle.rule_postfix.specs.Covering.{holds_address, entries_at, AreDisjoint, SaysFrames}
 use Rattle.rule_postfix.proofs.DecidedLemmas.{IsFree, is_free, none_decided, or_left, or_right}
 use Rattle.rule_postfix.proofs.CoveringLemmas.{AreAbove, written_inits}
+use Rattle.rule_postfix.proofs.WrittenLemmas.{AreWritten, written_are}
 use Rattle.rule_postfix.proofs.KeptLemmas.{written_above, written_apart, written_cover}
 use Rattle.rule_postfix.proofs.SayingLemmas.{entries_more, one_entry}
 use Rattle.rule_postfix.proofs.ShownLemmas.{IsTarget, Shows}
@@ -64,65 +65,8 @@ says_by e row regs memory lines x sound has rules =
     subst P (sym (ap (option_map (frame_of regs memory)) rules.found)) (frame_shown e row regs memory rules.rules sound has rules.shows)
 
 -- an entry without a reason of its rows has rows that can be said
-cfa_there : (f : ℕ → Row) (start size a : ℕ) → list_any (λ b. not (has_cfa (f b))) (range_with_len start size) ≡ false → start ≤ a → a < start + size → has_cfa (f a) ≡ true
-cfa_there f start zero a none low high = absurd (omega arith)
-cfa_there f start (suc size) a none low high =
-    let parts = or_parts (not (has_cfa (f start))) (list_any (λ b. not (has_cfa (f b))) (range_with_len (start + 1) size)) none in
-    elim (cases_lt start a) [
-      | inl up ↦ cfa_there f (start + 1) size a parts.1 (omega arith) (omega arith)
-      | inr down ↦ let same : start ≡ a = omega arith in ap (λ b. has_cfa (f b)) (sym same) ∙ not-false (has_cfa (f start)) parts.0
-    ]
-
-lacks_none : (b : Bool) → unless (not b) reason.Cfa ≡ None → b ≡ false
-lacks_none true none = cc
-lacks_none false none = refl
-
 rows_said : (e : FdeFields) → rows_fault e ≡ None → AreSaid e (row_at e) e.start (e.start + e.size)
-unfolding rows_fault lacks_cfa
-rows_said e none = record {
-  sound = λ a. entry_sound e a (or_left (instruction_fault e) (unless (not (lacks_cfa e)) reason.Cfa) none);
-  cfa = λ a low high. cfa_there (row_at e) e.start e.size a (lacks_none (lacks_cfa e) (or_right (instruction_fault e) (unless (not (lacks_cfa e)) reason.Cfa) none)) low high;
-}
-
--- entries that are written have rows
-abbrev pub HaveRows : List FdeFields → Type 0
-HaveRows [] = Unit {0}
-HaveRows (e ∷ entries) = (rows_fault e ≡ None) × HaveRows entries
-
-rows_push : (entries : List FdeFields) (e : FdeFields) → HaveRows entries → rows_fault e ≡ None → HaveRows (entries ++ e ∷ [])
-rows_push [] e have none = (none, tt)
-rows_push (f ∷ entries) e have none = (have.0, rows_push entries e have.1 none)
-
-has_range_of : (e : FdeFields) → 0 < e.size → e.start + e.size < 2 ^ 64 → has_range e ≡ true
-unfolding has_range
-has_range_of e some fits = grind (arith, nat_tests)
-
-ranged_rows : (code taken : List Range) (e : FdeFields) → reason_among code taken e ≡ None → rows_fault e ≡ None
-unfolding reason_among rows_reason
-ranged_rows code taken e none =
-    let free : IsFree code taken e = is_free code taken e none in
-    let rows : cond (has_range e) (rows_fault e) (instruction_fault e) ≡ None = or_left (cond (has_range e) (rows_fault e) (instruction_fault e)) (option_or (unless (is_code code e) reason.Outside) (unless (not (any_meets (range_of e) taken)) reason.Overlap)) none in
-    sym (ap (λ t. cond t (rows_fault e) (instruction_fault e)) (has_range_of e free.some free.fits)) ∙ rows
-
-good_rows : (code : List Range) (entry : Entry) (e : FdeFields) (o : Option Reason) (d : Decided) → entry.body ≡ Good e → reason_behind code d.written e ≡ o → HaveRows d.written → HaveRows (with_decision entry o d).written
-unfolding reason_behind
-good_rows code entry e None d body is have =
-    let P : Body → Type 0 = λ b. HaveRows (with_fields b d).written in
-    subst P (sym body) (rows_push d.written e have (ranged_rows code (map range_of d.written) e is))
-good_rows code entry e (Some why) d body is have = have
-
-body_rows : (code : List Range) (entry : Entry) (b : Body) (d : Decided) → entry.body ≡ b → HaveRows d.written → HaveRows (with_decision entry (body_reason code d.written b) d).written
-body_rows code entry (Good e) d body have = good_rows code entry e (reason_behind code d.written e) d body refl have
-body_rows code entry (Bad why) d body have = have
-
-entries_rows : (code : List Range) (entries : List Entry) (d : Decided) → HaveRows d.written → HaveRows (with_entries code entries d).written
-unfolding with_entries with_entry reason_of
-entries_rows code [] d have = have
-entries_rows code (x ∷ entries) d have = entries_rows code entries (with_entry code x d) (body_rows code x x.body d refl have)
-
-pub written_rows : (code : List Range) (first second : List Entry) → HaveRows (written code first second)
-unfolding written decided decided_of decided_behind
-written_rows code first second = entries_rows code (first ++ second) none_decided tt
+rows_said e none = record { sound = λ a. rows_sound e a none; cfa = (rows_have e none).everywhere }
 
 -- no entry before another has an address of it
 entries_append : (xs ys : List FdeFields) (a : ℕ) → entries_at (xs ++ ys) a ≡ entries_at xs a + entries_at ys a
@@ -173,12 +117,12 @@ keeps_one base front xs e ys plain kept none = record {
       says_by e (row_at e a) regs memory lines (a - base) (said.sound a) (said.cfa a low high) (subst P same found);
 }
 
-keeps_all : (base : ℕ) (front : List SymLine) (xs ys : List FdeFields) → list_all is_frameless front ≡ true → AreKept base (xs ++ ys) → HaveRows ys → AllByRecursion (KeepsRows base (front ++ written_lines base (xs ++ ys))) ys
+keeps_all : (base : ℕ) (front : List SymLine) (xs ys : List FdeFields) → list_all is_frameless front ≡ true → AreKept base (xs ++ ys) → AreWritten ys → AllByRecursion (KeepsRows base (front ++ written_lines base (xs ++ ys))) ys
 keeps_all base front xs [] plain kept have = tt
 keeps_all base front xs (e ∷ ys) plain kept have =
     let same : (xs ++ e ∷ []) ++ ys ≡ xs ++ e ∷ ys = append_assoc xs (e ∷ []) ys in
     let P : List FdeFields → Type 0 = λ es. AllByRecursion (KeepsRows base (front ++ written_lines base es)) ys in
-    (keeps_one base front xs e ys plain kept have.0, subst P same (keeps_all base front (xs ++ e ∷ []) ys plain (subst (AreKept base) (sym same) kept) have.1))
+    (keeps_one base front xs e ys plain kept have.0.rows, subst P same (keeps_all base front (xs ++ e ∷ []) ys plain (subst (AreKept base) (sym same) kept) have.1))
 
 none_else : (base x : ℕ) (entries : List FdeFields) (lines : List SymLine) (regs : Regs) (memory : List MemRun) → inits_at lines x ≡ entries_at entries (x + base) → entries_at entries (x + base) ≡ 0 → text_frame lines x regs memory ≡ None
 unfolding text_frame
@@ -190,7 +134,7 @@ frames_kept base code first second front from plain =
     let entries : List FdeFields = written code first second in
     let lines : List SymLine = front ++ written_lines base entries in
     record {
-      rows = keeps_all base front [] entries plain (record { above = written_above base code first second from; apart = written_apart base code first second from }) (written_rows code first second);
+      rows = keeps_all base front [] entries plain (record { above = written_above base code first second from; apart = written_apart base code first second from }) (written_are code first second);
       nothing_else = λ x regs memory none. none_else base x entries lines regs memory (covers_after x front (written_lines base entries) plain ∙ written_cover base code first second (written_lines base entries) from refl x) none;
     }
 

@@ -25,6 +25,7 @@ use Rattle.rule_postfix.specs.Overlaps.{meet, any_meets}
 use Rattle.rule_postfix.specs.Written.{Decided, range_of, reason_behind, body_reason, reason_of, with_fields, with_decision, with_entry, with_entries, decided_behind, decided_of, decided, written, entry_lines, written_lines}
 use Rattle.rule_postfix.specs.Covering.{holds_address, entries_at, AreDisjoint, SaysFrames}
 use Rattle.rule_postfix.proofs.DecidedLemmas.{IsFree, is_free, none_decided}
+use Rattle.rule_postfix.proofs.WrittenLemmas.{AreWritten, written_are}
 use Rattle.rule_postfix.proofs.KeptLemmas.{written_apart, written_cover, written_changes}
 
 -- after records that say nothing of frames, those of the written entries say what they are
@@ -38,39 +39,7 @@ frames_said base code first second front above plain = record {
   nested = nested_after front (written_lines base (written code first second)) plain (written_changes base code first second (written_lines base (written code first second)) above refl);
 }
 
--- the entries that are written end below 2^64
-abbrev pub EndsBelow : ℕ → List FdeFields → Type 0
-EndsBelow limit [] = Unit {0}
-EndsBelow limit (e ∷ entries) = (e.start + e.size < limit) × EndsBelow limit entries
-
-ends_push : (limit : ℕ) (entries : List FdeFields) (e : FdeFields) → EndsBelow limit entries → e.start + e.size < limit → EndsBelow limit (entries ++ e ∷ [])
-ends_push limit [] e below end = (end, tt)
-ends_push limit (f ∷ entries) e below end = (below.0, ends_push limit entries e below.1 end)
-
-abbrev Ends : Decided → Type 0
-Ends d = EndsBelow (2 ^ 64) d.written
-
-good_ends : (code : List Range) (entry : Entry) (e : FdeFields) (o : Option Reason) (d : Decided) → entry.body ≡ Good e → reason_behind code d.written e ≡ o → Ends d → Ends (with_decision entry o d)
-unfolding reason_behind
-good_ends code entry e None d body is ends =
-    let free : IsFree code (map range_of d.written) e = is_free code (map range_of d.written) e is in
-    let P : Body → Type 0 = λ b. Ends (with_fields b d) in
-    subst P (sym body) (ends_push (2 ^ 64) d.written e ends free.fits)
-good_ends code entry e (Some why) d body is ends = ends
-
-body_ends : (code : List Range) (entry : Entry) (b : Body) (d : Decided) → entry.body ≡ b → Ends d → Ends (with_decision entry (body_reason code d.written b) d)
-body_ends code entry (Good e) d body ends = good_ends code entry e (reason_behind code d.written e) d body refl ends
-body_ends code entry (Bad why) d body ends = ends
-
-entries_end : (code : List Range) (entries : List Entry) (d : Decided) → Ends d → Ends (with_entries code entries d)
-unfolding with_entries with_entry reason_of
-entries_end code [] d ends = ends
-entries_end code (x ∷ entries) d ends = entries_end code entries (with_entry code x d) (body_ends code x x.body d refl ends)
-
-pub written_ends : (code : List Range) (first second : List Entry) → EndsBelow (2 ^ 64) (written code first second)
-unfolding written decided decided_of decided_behind
-written_ends code first second = entries_end code (first ++ second) none_decided tt
-
+-- entries together, and one of them
 pub entries_more : (e : FdeFields) (entries : List FdeFields) (a : ℕ) → entries_at (e ∷ entries) a ≡ cond (holds_address a e) 1 0 + entries_at entries a
 unfolding entries_at
 entries_more e entries a = sum_by-append (λ w. cond (holds_address a w) 1 0) (e ∷ []) entries ∙ ap (λ k. k + entries_at entries a) (counted (holds_address a e))
@@ -108,14 +77,14 @@ one_entry a (e ∷ entries) apart =
     go false held few = omega (arith, few)
 
 -- an address of an entry is below its end
-entry_below : (limit a : ℕ) (entries : List FdeFields) → EndsBelow limit entries → 0 < entries_at entries a → a + 1 < limit
+entry_below : (a : ℕ) (entries : List FdeFields) → AreWritten entries → 0 < entries_at entries a → a + 1 < 2 ^ 64
 unfolding entries_at
-entry_below limit a [] below some = absurd (omega arith)
-entry_below limit a (e ∷ entries) below some =
-    go (nat_le e.start a) (nat_lt a (e.start + e.size)) refl (subst (λ (n : ℕ). 0 < n) (entries_more e entries a) some) (entry_below limit a entries below.1)
+entry_below a [] are some = absurd (omega arith)
+entry_below a (e ∷ entries) are some =
+    go (nat_le e.start a) (nat_lt a (e.start + e.size)) refl (subst (λ (n : ℕ). 0 < n) (entries_more e entries a) some) (entry_below a entries are.1)
   where
-    go : (b c : Bool) → nat_lt a (e.start + e.size) ≡ c → 0 < cond (b && c) 1 0 + entries_at entries a → (0 < entries_at entries a → a + 1 < limit) → a + 1 < limit
-    go true true high many later = let first : a < e.start + e.size = grind (arith, nat_tests) in omega (arith, first, below.0)
+    go : (b c : Bool) → nat_lt a (e.start + e.size) ≡ c → 0 < cond (b && c) 1 0 + entries_at entries a → (0 < entries_at entries a → a + 1 < 2 ^ 64) → a + 1 < 2 ^ 64
+    go true true high many later = let first : a < e.start + e.size = grind (arith, nat_tests) in omega (arith, first, are.0.fits)
     go true false high many later = later (omega (arith, many))
     go false c high many later = later (omega (arith, many))
 
@@ -161,9 +130,9 @@ pub written_no_origin : (base : ℕ) (entries : List FdeFields) → HaveNoOrigin
 written_no_origin base entries = written_over (λ (l : List SymLine). HaveNoOrigin l) (record { init = λ address size rules later is. (tt, is); change = λ address rules later is. (tt, is) }) tt base entries
 
 -- the INITs of written entries are not empty and end below 2^64
-frames_sized : (base : ℕ) (entries : List FdeFields) (framed : List SymLine) → ArePlain framed → AreNested 0 0 framed → ((x : ℕ) → inits_at framed x ≡ entries_at entries (x + base)) → EndsBelow (2 ^ 64) entries → list_all are_sized framed ≡ true
-frames_sized base entries framed plain nested cover ends =
-    lines_sized 0 0 framed plain nested (λ x some. less x base (2 ^ 64) (entry_below (2 ^ 64) (x + base) entries ends (subst (λ (n : ℕ). 0 < n) (cover x) some)))
+frames_sized : (base : ℕ) (entries : List FdeFields) (framed : List SymLine) → ArePlain framed → AreNested 0 0 framed → ((x : ℕ) → inits_at framed x ≡ entries_at entries (x + base)) → AreWritten entries → list_all are_sized framed ≡ true
+frames_sized base entries framed plain nested cover are =
+    lines_sized 0 0 framed plain nested (λ x some. less x base (2 ^ 64) (entry_below (x + base) entries are (subst (λ (n : ℕ). 0 < n) (cover x) some)))
   where
     less : (x b limit : ℕ) → (x + b) + 1 < limit → x + 1 < limit
     less x b limit below = omega arith
@@ -173,7 +142,7 @@ written_sized base code first second above =
     frames_sized base (written code first second) (written_lines base (written code first second)) (written_plain base (written code first second))
     (written_changes base code first second (written_lines base (written code first second)) above refl)
     (written_cover base code first second (written_lines base (written code first second)) above refl)
-    (written_ends code first second)
+    (written_are code first second)
 
 -- one INIT at most covers an address
 pub written_once : (base : ℕ) (entries : List FdeFields) (lines : List SymLine) → SaysFrames base entries lines → (x : ℕ) → inits_at lines x ≤ 1

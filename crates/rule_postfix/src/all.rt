@@ -11,8 +11,6 @@ ghost use Rattle.frame_rows.specs.Rows.{rows_fault};
 ghost use Rattle.frame_rows.specs.CieLeft.{cie_left};
 ghost use Rattle.sym_records.specs.Canon.{canon_text};
 ghost use Rattle.sym_records.specs.Spelled.{text_bytes};
-ghost use Rattle.sym_records.specs.declared.place.Place.{Place};
-ghost use Rattle.sym_records.specs.Validity.{first_bad_from};
 ghost use Rattle.rule_postfix.specs.FrameMeaning.{KeepsFrames};
 ghost use Rattle.rule_postfix.specs.Overlaps.{any_meets};
 ghost use Rattle.rule_postfix.specs.Written.{Decided, has_range, range_of, reason_among, left_out, with_written, with_entry, with_entries, written, omitted, written_lines};
@@ -30,7 +28,6 @@ use range_set::Enclosing;
 use std::alloc::Global;
 use sym_edges::{ListOf, OutOfMemory, Reason, Span, Stop};
 use sym_records::TextPieces;
-use sym_records::laws::good_lists_are_joined;
 
 /// The text of the frame records of a file, and the entries that are left out.
 #[derive(Debug, Drop)]
@@ -142,7 +139,6 @@ fn write(
         (Unit {0}) }
     ensures exact { MatchStop result (λ _. rows_fault fde.now ≡ None) (λ why. rows_fault fde.now ≡ Some why) (Unit {0}) }
 {
-    good_lists_are_joined();
     let front = progress.text.last.len();
     match spell_entry(
         alloc,
@@ -291,7 +287,6 @@ pub fn translate_all(
     requires { AllFrom base code.now }
     ensures text { IfOk result (λ frames. text_bytes frames.text ≡ canon_text (written_lines base (written code.now first.now second.now))) }
     ensures means { IfOk result (λ _. KeepsFrames base (written code.now first.now second.now) (written_lines base (written code.now first.now second.now))) }
-    ensures valid { IfOk result (λ _. first_bad_from 0 Place.Inside (written_lines base (written code.now first.now second.now)) ≡ None) }
     ensures omitted { IfOk result (λ frames. frames.omitted ≡ omitted code.now first.now second.now) }
 {
     let enclosing = Enclosing::of_spans(alloc, code)?;

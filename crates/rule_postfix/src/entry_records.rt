@@ -3,20 +3,16 @@ ghost use Rattle.std.specs.Prelude.{◌≡◌, ◌+◌, ◌++◌, ◌^◌, ◌<�
 ghost use Rattle.sym_edges.specs.Outside.{MatchStop};
 ghost use Rattle.frame_rows.specs.CieLeft.{cie_left};
 ghost use Rattle.frame_rows.specs.Rows.{row_at, rows_fault};
-ghost use Rattle.sym_records.specs.declared.place.Place.{Place};
 ghost use Rattle.sym_records.specs.Canon.{canon_text};
-ghost use Rattle.sym_records.specs.Validity.{first_bad_from};
 ghost use Rattle.rule_postfix.specs.FrameLines.{frame_lines};
 ghost use Rattle.rule_postfix.specs.FrameMeaning.{KeepsRows};
 
-use crate::laws::rules_of_rows_fit;
 use crate::open_init::{OpenInit, spell_steps};
 use frame_entries::Fde;
 use frame_rows::{CieState, Stepper};
 use std::alloc::Global;
 use sym_edges::{Reason, Stop};
 use sym_records::ByteText;
-use sym_records::laws::good_lists_are_joined;
 
 /// Adds the text of an entry's frame records, with addresses counted from `base`, where the state after its CIE is given; or
 /// the reason for which it has none, which is met after some of the text.
@@ -36,11 +32,8 @@ pub fn spell_entry(
         (λ _. text.new.items ≡ text.old.items ++ canon_text (frame_lines fde.now (row_at fde.now) fde.now.start fde.now.size base))
         (λ _. take (length text.old.items) text.new.items ≡ text.old.items)
         (Unit {0}) }
-    ensures valid { MatchStop result (λ _. first_bad_from 0 Place.Inside (frame_lines fde.now (row_at fde.now) fde.now.start fde.now.size base) ≡ None) (λ _. Unit {0}) (Unit {0}) }
     ensures exact { MatchStop result (λ _. rows_fault fde.now ≡ None) (λ why. rows_fault fde.now ≡ Some why) (Unit {0}) }
 {
-    rules_of_rows_fit();
-    good_lists_are_joined();
     let mut stepper = match Stepper::begin(alloc, state, fde) {
         Ok(stepper) => stepper,
         Err(stop) => return Err(stop),
@@ -65,7 +58,6 @@ pub fn translate(alloc: Global, fde: &Fde<'_>, base: u64) -> Result<ByteText, St
     requires based { base ≤ fde.now.start }
     ensures text { MatchStop result (λ text. text ≡ canon_text (frame_lines fde.now (row_at fde.now) fde.now.start fde.now.size base)) (λ _. Unit {0}) (Unit {0}) }
     ensures means { MatchStop result (λ _. KeepsRows base (frame_lines fde.now (row_at fde.now) fde.now.start fde.now.size base) fde.now) (λ _. Unit {0}) (Unit {0}) }
-    ensures valid { MatchStop result (λ _. first_bad_from 0 Place.Inside (frame_lines fde.now (row_at fde.now) fde.now.start fde.now.size base) ≡ None) (λ _. Unit {0}) (Unit {0}) }
     ensures exact { MatchStop result (λ _. rows_fault fde.now ≡ None) (λ why. rows_fault fde.now ≡ Some why) (Unit {0}) }
 {
     let state = CieState::of(alloc, fde)?;

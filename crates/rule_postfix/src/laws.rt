@@ -1,13 +1,16 @@
 //! Laws of the definitions, for readers and for proofs above. Each function does nothing: its contract is the law.
-ghost use Rattle.std.specs.Prelude.{◌≡◌, ℕ, ◌<◌, ◌≤◌, ◌^◌, true, List, [], ◌∷◌, ◌++◌, length};
+ghost use Rattle.std.specs.Prelude.{◌≡◌, ℕ, ◌+◌, ◌<◌, ◌≤◌, ◌^◌, true, None, List, [], ◌∷◌, ◌++◌, length};
 ghost use Rattle.std.specs.List.{list_all};
 ghost use Rattle.sym_edges.specs.Addresses.{Range};
 ghost use Rattle.frame_entries.specs.declared.description.Entry.{Entry};
 ghost use Rattle.frame_entries.specs.FdeFields.{FdeFields};
+ghost use Rattle.frame_rows.specs.Rows.{row_at, rows_fault};
 ghost use Rattle.range_set.specs.Starts.{AllFrom};
 ghost use Rattle.sym_records.specs.declared.line.SymLine.{SymLine};
 ghost use Rattle.sym_rules.specs.declared.rules.RuleText.{RuleText};
-ghost use Rattle.sym_records.specs.Validity.{fields_fit};
+ghost use Rattle.sym_records.specs.declared.place.Place.{Place};
+ghost use Rattle.sym_records.specs.Validity.{fields_fit, first_bad_from};
+ghost use Rattle.rule_postfix.specs.FrameLines.{frame_lines};
 ghost use Rattle.rule_postfix.specs.LongRules.{is_long_rule};
 ghost use Rattle.sym_meaning.specs.Findings.{are_sized};
 ghost use Rattle.sym_meaning.specs.Inits.{inits_at, is_frameless};
@@ -36,6 +39,13 @@ pub fn entries_are_decided_by_their_reasons()
 pub fn rules_of_rows_fit()
     ensures init { (address size : ℕ) (rules : List RuleText) → address < 2 ^ 64 → size < 2 ^ 64 → list_all is_long_rule rules ≡ true → 0 < length rules → length rules ≤ 18 → fields_fit (SymLine.Init address size rules) ≡ true }
     ensures change { (address : ℕ) (rules : List RuleText) → address < 2 ^ 64 → list_all is_long_rule rules ≡ true → 0 < length rules → length rules ≤ 18 → fields_fit (SymLine.Change address rules) ≡ true }
+{}
+
+/// The records of the written entries, and those of one entry that has rows, are valid after any record.
+#[tactic(auto, using(crate::proofs::EntryLemmas::entry_valid, crate::proofs::WrittenLemmas::written_valid))]
+pub fn frame_records_are_valid()
+    ensures entry { (base : ℕ) (e : FdeFields) → rows_fault e ≡ None → 0 < e.size → e.start + e.size < 2 ^ 64 → first_bad_from 0 Place.Inside (frame_lines e (row_at e) e.start e.size base) ≡ None }
+    ensures whole { (base : ℕ) (code : List Range) (first second : List Entry) → first_bad_from 0 Place.Inside (written_lines base (written code first second)) ≡ None }
 {}
 
 /// The records of the written entries, after records that say nothing of frames: no two entries have an address in common, as many

@@ -30,10 +30,9 @@ abbrev pub IfRefused : Stop Reason → (Reason → Type 0) → Type 0
 IfRefused (Fault why) P = P why
 IfRefused NoMemory P = ⊥
 
--- the text is that of the records of what was decided, which are valid after any record; the omissions are those of what was decided;
+-- the text is that of the records of what was decided; the omissions are those of what was decided;
 -- and the ranges that are taken are met as those that are written
 pub record Shows (base : ℕ) (p : Progress) (d : Decided) : Type 0 where
   pub text : text_bytes p.text ≡ canon_text (written_lines base d.written)
-  pub valid : first_bad_from 0 Inside (written_lines base d.written) ≡ None
   pub omitted : p.omitted.items ≡ d.omitted
   pub taken : (range : Range) → any_meets range p.taken ≡ any_meets range (map range_of d.written)

@@ -11,6 +11,5 @@ unfolding entry_lines
 returns-clause-shown c = λ d so.
     shows_more c.args.base c.args.progress.now _ c.args.fde.now d
     (flat_map (λ piece. piece) c.args.progress.now.text.full.items) c.args.progress.now.text.last.items c.spell_entry.new.text.items (entry_lines c.args.base c.args.fde.now)
-    refl c.in-Ok.ensures.valid refl c.in-Ok.ensures.text c.in_ok-turn.ensures refl
-    (λ range. c.in_ok-put.ensures range ∙ ap (λ (e : FdeFields). any_meets range c.args.progress.now.taken || meet range (range_of e)) c.fde.view_is)
-    c.good_lists_are_joined.ensures.behind so
+    refl refl c.in-Ok.ensures.text c.in_ok-turn.ensures refl
+    (λ range. c.in_ok-put.ensures range ∙ ap (λ (e : FdeFields). any_meets range c.args.progress.now.taken || meet range (range_of e)) c.fde.view_is) so

@@ -1,6 +1,6 @@
 use Rattle.std.proofs.Common.{◌∷◌, ◌+◌, ap}
 use Rattle.frame_entries.specs.FdeFields.{FdeFields}
-use Rattle.rule_postfix.proofs.EntryLemmas.{entry_text, pass_bad, pass_lack, pass_good, pass_valid}
+use Rattle.rule_postfix.proofs.EntryLemmas.{entry_text, pass_bad, pass_lack, pass_good}
 use Rattle.rule_postfix.proofs.entry_records.spell_entry.Goals as goal
 
 pub returns-in-Err-spell_steps-clause-exact : goal.returns-in-Err-spell_steps-clause-exact
@@ -14,12 +14,6 @@ returns-clause-text c =
     entry_text c.args.base (c.fde.inside.start + c.fde.inside.size) c.args.fde.now (c.in-Ok.stepper.here ∷ c.in-Ok.stepper.later) c.args.text.now.items c.spell_steps.new.text.items (c.in-Ok.ensures.begins.rows c.in-Ok-spell_steps.ensures.fault) c.requires.some
     (ap (λ (e : FdeFields). e.start + e.size) c.fde.view_is)
     c.in-Ok-spell_steps.ensures.text
-
-pub returns-clause-valid : goal.returns-clause-valid
-returns-clause-valid c =
-    pass_valid
-    (record { init = c.rules_of_rows_fit.ensures.init; change = c.rules_of_rows_fit.ensures.change; pushed = c.good_lists_are_joined.ensures.pushed; place = c.good_lists_are_joined.ensures.place })
-    c.args.base c.args.fde.now c.in-Ok.stepper c.in-Ok-spell_steps.lacking c.in-Ok.ensures.begins c.in-Ok-spell_steps.ensures.fault c.in-Ok-spell_steps.ensures.lacking c.if-lacking.false c.requires.some c.requires.fits
 
 pub returns-clause-exact : goal.returns-clause-exact
 returns-clause-exact c = pass_good c.args.fde.now c.in-Ok.stepper c.in-Ok-spell_steps.lacking c.in-Ok.ensures.begins c.in-Ok-spell_steps.ensures.fault c.in-Ok-spell_steps.ensures.lacking c.if-lacking.false
