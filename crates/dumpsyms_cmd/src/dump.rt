@@ -20,7 +20,7 @@ use debug_read::DebugRead;
 use die_names::Units;
 use elf_sections::Image;
 use func_flatten::{PieceList, PublicAt, pieces, publics};
-use func_records::{add_functions, join_texts};
+use func_records::add_functions;
 use rule_postfix::{Frames, Omissions, translate_all};
 use std::alloc::Global;
 use std::thread::Threads;
@@ -180,17 +180,20 @@ fn dump_file<R: Threads + Sync>(
     ensures { IfOk result (λ d. DumpsRead image.now name.now debug.now d.file d.omitted) }
 {
     let pieces = pieces(alloc, &debug.units)?;
-    let head = spell_head(rt, alloc, image, name, &debug.units, &pieces, workers)?;
+    let mut head = spell_head(rt, alloc, image, name, &debug.units, &pieces, workers)?;
     let framed = translate_all(
+        rt,
         alloc,
         &debug.first,
         &debug.second,
         image.code(),
         image.base(),
+        workers,
     )?;
     let Frames { text, omitted } = framed;
+    head.append(text)?;
     Ok(FileText {
-        file: SymText::of(join_texts(head, text)?),
+        file: SymText::of(head),
         omitted,
     })
 }

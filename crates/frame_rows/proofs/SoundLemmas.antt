@@ -20,7 +20,7 @@ use Rattle.frame_rows.specs.declared.instruction.Instruction.{Instruction}
 use Rattle.frame_rows.specs.declared.instruction.Instruction.TheVariants.{SetLoc, AdvanceLoc, DefCfa, DefCfaSf, DefCfaRegister, DefCfaOffset, DefCfaOffsetSf, DefCfaExpression, Undefined, SameValue, Offset, OffsetExtendedSf, ValOffset, ValOffsetSf, Register, Expression, ValExpression, Restore, RememberState, RestoreState, Nop}
 use Rattle.frame_rows.specs.Instructions.{Item}
 use Rattle.frame_rows.specs.Machine.{Machine}
-use Rattle.frame_rows.specs.Steps.{Effect, MovesTo, MovesBy, DefinesCfa, DefinesCfaExpr, ChangesRegister, ChangesOffset, PutsRule, Remembers, TakesBack, DoesNothing, effect, done, effect_fault, plain, scaled, stepped, step_fault, register_fault, part_fault, put_cfa, put_cfa_expr, put_register, put_offset, put_rule, cfa_register, cfa_offset, place_of_block, can_say, expr_fault, column_expr_fault, rule_behind, top_or, under}
+use Rattle.frame_rows.specs.Steps.{Effect, MovesTo, MovesBy, DefinesCfa, DefinesCfaExpr, ChangesRegister, ChangesOffset, PutsRule, Remembers, TakesBack, DoesNothing, effect, done, effect_fault, plain, scaled, stepped, step_fault, register_fault, part_fault, put_cfa, put_cfa_expr, put_register, put_offset, put_rule, cfa_register, cfa_offset, place_of_block, can_say, rule_behind, top_or, under}
 use Rattle.frame_rows.specs.Rows.{item_stepped, item_fault, first_fault, all_stepped, replay, empty_row, cie_context, cie_items, cie_begin, cie_end, left_context, own_context, own_items, own_begin, row_at, instruction_fault, expr_bytes, is_sound_rule, is_sound_cfa, IsSound}
 use Rattle.frame_rows.proofs.TestLemmas.{elim_bool, neither}
 use Rattle.frame_rows.proofs.StepLemmas.{unless_none}

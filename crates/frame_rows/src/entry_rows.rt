@@ -62,7 +62,7 @@ pub fn check_rows_behind(alloc: Global, state: &CieState, fde: &Fde<'_>) -> Resu
     requires behind { state.now ≡ cie_left fde.now }
     requires some { 0 < fde.now.size }
     requires fits { fde.now.start + fde.now.size < 2 ^ 64 }
-    ensures exact { MatchStop result (λ _. rows_fault fde.now ≡ None) (λ why. rows_fault fde.now ≡ Some why) (Unit {0}) }
+    ensures { MatchStop result (λ _. rows_fault fde.now ≡ None) (λ why. rows_fault fde.now ≡ Some why) (Unit {0}) }
 {
     let mut stepper = Stepper::begin(alloc, state, fde)?;
     let lacking = match lack_cfa(&mut stepper) {
@@ -77,6 +77,7 @@ pub fn check_rows_behind(alloc: Global, state: &CieState, fde: &Fde<'_>) -> Resu
 
 /// The rows of an entry by their addresses, or the reason of its first bad instruction, or else `Cfa` where some address of the
 /// range has no rule for the CFA; the state after its CIE is given.
+#[tactic(auto, using(crate::proofs::EntryLemmas::rows_good))]
 pub fn rows_behind(alloc: Global, state: &CieState, fde: &Fde<'_>) -> Result<RowList, Stop<Reason>>
     requires behind { state.now ≡ cie_left fde.now }
     requires some { 0 < fde.now.size }

@@ -4,7 +4,7 @@ ghost use Rattle.sym_edges.specs.Outside.{MatchStop};
 ghost use Rattle.sym_edges.specs.declared.fault.Stop.TheVariants as stop;
 ghost use Rattle.frame_entries.specs.Pointers.{is_encoding};
 ghost use Rattle.frame_rows.specs.Instructions.{listed_at};
-ghost use Rattle.frame_rows.specs.Rows.{first_fault, left_context, own_context, own_items, own_begin, row_at, rows_fault, AreRows, HasCfa, IsSound};
+ghost use Rattle.frame_rows.specs.Rows.{first_fault, left_context, own_context, own_items, own_begin, rows_fault, AreRows};
 ghost use Rattle.frame_rows.specs.CieLeft.{cie_left};
 ghost use Rattle.frame_rows.specs.Columns.{StayOutside, IsNext};
 ghost use Rattle.frame_rows.specs.internal.Held.{context_in};
@@ -120,8 +120,6 @@ impl<'c, 'a> Stepper<'c, 'a> {
         ensures fresh { MatchStop result (λ s. s.failed ≡ false) (λ _. Unit {0}) (Unit {0}) }
         ensures good { IfOk result (λ s. (s.refused ≡ None) × (s.fault ≡ None)) }
         ensures rows { MatchStop result (λ s. AreRows fde.now (s.here ∷ s.later)) (λ _. Unit {0}) (Unit {0}) }
-        ensures cfa { MatchStop result (λ _. HasCfa fde.now) (λ _. Unit {0}) (Unit {0}) }
-        ensures sound { MatchStop result (λ _. (a : ℕ) → IsSound fde.now (row_at fde.now a)) (λ _. Unit {0}) (Unit {0}) }
         ensures exact { MatchStop result (λ _. rows_fault fde.now ≡ None) (λ why. rows_fault fde.now ≡ Some why) (Unit {0}) }
     {
         let state = CieState::of(alloc, fde)?;

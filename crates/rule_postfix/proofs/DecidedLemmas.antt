@@ -1,10 +1,9 @@
--- What the pass over the entries holds, entry after entry; for `put_behind`, `put_entries`, `put_entry`, `put_free`, `translate_all`, `write`.
-use Rattle.std.proofs.Common.{◌≡◌, ℕ, ◌+◌, ◌<◌, ◌≤◌, ◌&&◌, ◌||◌, ◌^◌, not, nat_lt, nat_le, Bool, true, false, List, [], ◌∷◌, ◌++◌, map, take, length, get_or, Option, None, Some, Err, refl, ap, sym, ◌∙◌, inl, inr, arith, subst}
+-- What the pass over the entries holds, entry after entry; for `new`, `put_behind`, `put_entry`, `put_free`, `put_range`, `translate_all`, `write`.
+use Rattle.std.proofs.Common.{◌≡◌, ℕ, ◌+◌, ◌-◌, ◌<◌, ◌≤◌, ◌&&◌, ◌^◌, not, nat_lt, nat_le, Bool, true, false, List, [], ◌∷◌, ◌++◌, map, take, drop, length, get_or, Option, None, Some, Err, refl, ap, sym, ◌∙◌, inl, inr, arith, subst}
 use Rattle.std.specs.List.{flat_map, list_any}
 use Rattle.std.proofs.lemmas.Bool.{and_parts, not-true, or_cases, leb-true, ltb-true}
 use Rattle.std.proofs.lemmas.Grind.{flat_map-append}
-use Rattle.std.proofs.lemmas.List.{append-nil, map-append, take_more}
-use Rattle.std.proofs.lemmas.List.Folds.{list_any-append}
+use Rattle.std.proofs.lemmas.List.{append-nil, map-append, take_more, length-drop, get_or-drop}
 use Rattle.sym_edges.specs.declared.reason.Reason.{Reason}
 use Rattle.sym_edges.specs.declared.reason.Reason.TheVariants as reason
 use Rattle.sym_edges.specs.declared.fault.Stop.{Stop}
@@ -23,45 +22,36 @@ use Rattle.sym_records.specs.Canon.{canon_text}
 use Rattle.sym_records.specs.Spelled.{text_bytes}
 use Rattle.sym_records.specs.declared.line.SymLine.{SymLine}
 use Rattle.sym_records.proofs.SpelledLemmas.{text_grown}
-use Rattle.rule_postfix.specs.declared.all.Progress.{Progress}
+use Rattle.rule_postfix.specs.declared.progress.Progress.{Progress}
 use Rattle.rule_postfix.specs.declared.omission.Omission.{Omission}
-use Rattle.rule_postfix.specs.Overlaps.{meet, any_meets}
+use Rattle.rule_postfix.specs.Overlaps.{any_meets}
 use Rattle.rule_postfix.specs.Written.{Decided, range_of, has_range, is_code, reason_among, reason_behind, rows_reason, body_reason, reason_of, left_out, with_written, with_fields, with_decision, with_entry, with_entries, decided_behind, decided_of, decided, written, omitted, entry_lines, written_lines}
-use Rattle.rule_postfix.specs.internal.Deciding.{LiesAbove, EndsAt, IfRefused, Shows}
+use Rattle.rule_postfix.specs.internal.Deciding.{LiesAbove, EndsAt, IfRefused, Shows, none_decided}
 use Rattle.frame_rows.specs.Rows.{rows_fault}
 use Rattle.rule_postfix.proofs.SpellingLemmas.{canon_append}
 use Rattle.rule_postfix.proofs.ReasonLemmas.{no_rows}
 
--- one entry more
+-- one entry more, and others
+pub lines_append : (base : ℕ) (ws others : List FdeFields) → written_lines base (ws ++ others) ≡ written_lines base ws ++ written_lines base others
+unfolding written_lines
+lines_append base ws others = flat_map-append (entry_lines base) ws others
+
 lines_more : (base : ℕ) (ws : List FdeFields) (e : FdeFields) → written_lines base (ws ++ e ∷ []) ≡ written_lines base ws ++ entry_lines base e
 unfolding written_lines
 lines_more base ws e = flat_map-append (entry_lines base) ws (e ∷ []) ∙ ap (λ xs. flat_map (entry_lines base) ws ++ xs) (append-nil (entry_lines base e))
 
-or_nothing : (t : Bool) → (t || false) ≡ t
-or_nothing true = refl
-or_nothing false = refl
-
-meets_more : (range : Range) (ws : List FdeFields) (e : FdeFields) → any_meets range (map range_of (ws ++ e ∷ [])) ≡ (any_meets range (map range_of ws) || meet range (range_of e))
-unfolding any_meets
-meets_more range ws e =
-    ap (list_any (meet range)) (map-append range_of ws (e ∷ [])) ∙ list_any-append (meet range) (map range_of ws) (range_of e ∷ [])
-    ∙ ap (λ t. list_any (meet range) (map range_of ws) || t) (or_nothing (meet range (range_of e)))
-
-pub shows_more : (base : ℕ) (p q : Progress) (e : FdeFields) (d : Decided) (full last new : List ℕ) (lines : List SymLine) → lines ≡ entry_lines base e → text_bytes p.text ≡ full ++ last → new ≡ last ++ canon_text lines → text_bytes q.text ≡ full ++ new → q.omitted.items ≡ p.omitted.items → ((range : Range) → any_meets range q.taken ≡ (any_meets range p.taken || meet range (range_of e))) → Shows base p d → Shows base q (with_written e d)
+pub shows_more : (base : ℕ) (p q : Progress) (e : FdeFields) (d : Decided) (full last new : List ℕ) (lines : List SymLine) → lines ≡ entry_lines base e → text_bytes p.text ≡ full ++ last → new ≡ last ++ canon_text lines → text_bytes q.text ≡ full ++ new → q.omitted.items ≡ p.omitted.items → q.taken ≡ p.taken ++ range_of e ∷ [] → Shows base p d → Shows base q (with_written e d)
 shows_more base p q e d full last new lines these was more now same taken so = record {
   text = now ∙ text_grown full last (canon_text lines) new more ∙ ap (λ t. t ++ canon_text lines) (sym was ∙ so.text) ∙ ap (λ xs. canon_text (written_lines base d.written) ++ canon_text xs) these
       ∙ sym (canon_append (written_lines base d.written) (entry_lines base e)) ∙ ap canon_text (sym (lines_more base d.written e));
   omitted = same ∙ so.omitted;
-  taken = λ range. taken range ∙ ap (λ t. t || meet range (range_of e)) (so.taken range) ∙ sym (meets_more range d.written e);
+  taken = taken ∙ ap (λ rs. rs ++ range_of e ∷ []) so.taken ∙ sym (map-append range_of d.written (e ∷ []));
 }
 
 -- nothing yet
-abbrev pub none_decided : Decided
-none_decided = record { written = []; omitted = [] }
-
 pub shows_none : (base : ℕ) (p : Progress) → text_bytes p.text ≡ [] → p.omitted.items ≡ [] → p.taken ≡ [] → Shows base p none_decided
 unfolding written_lines canon_text
-shows_none base p text omitted taken = record { text = text; omitted = omitted; taken = λ range. ap (any_meets range) taken }
+shows_none base p text omitted taken = record { text = text; omitted = omitted; taken = taken }
 
 -- what is enclosed by code above a base lies above it
 pub enclosed_above : (base start end : ℕ) (code : List Range) → AllFrom base code → encloses code start end ≡ true → base ≤ start
@@ -113,7 +103,7 @@ is_free code taken e none =
 -- what is decided of an entry
 same_reason : (base : ℕ) (code : List Range) (p : Progress) (e : FdeFields) (d : Decided) → Shows base p d → reason_behind code d.written e ≡ reason_among code p.taken e
 unfolding reason_behind reason_among
-same_reason base code p e d so = ap (λ t. option_or (rows_reason e) (option_or (unless (is_code code e) reason.Outside) (unless (not t) reason.Overlap))) (sym (so.taken (range_of e)))
+same_reason base code p e d so = ap (λ t. option_or (rows_reason e) (option_or (unless (is_code code e) reason.Outside) (unless (not t) reason.Overlap))) (sym (ap (any_meets (range_of e)) so.taken))
 
 pub entry_bad : (code : List Range) (entry : Entry) (why : Reason) (d : Decided) → entry.body ≡ Bad why → with_entry code entry d ≡ left_out entry why d
 unfolding with_entry reason_of
@@ -156,7 +146,7 @@ pub shows_same : (p q : Progress) → text_bytes q.text ≡ text_bytes p.text �
 shows_same p q text omitted taken base d so = record {
   text = text ∙ so.text;
   omitted = omitted ∙ so.omitted;
-  taken = λ range. ap (any_meets range) taken ∙ so.taken range;
+  taken = taken ∙ so.taken;
 }
 
 pub bad_too : (base : ℕ) (code : List Range) (p q : Progress) (entry : Entry) (why : Reason) → entry.body ≡ Bad why →
@@ -188,6 +178,23 @@ on_more base code entries i entry p q r inside is so more d first =
     let P : Decided → Type 0 = λ x. Shows base r x in
     subst P (sym (entries_more code entries i entry d inside is)) (more (with_entries code (take i entries) d) (so d first))
 
+-- from one number on
+pub none_between : (base : ℕ) (code : List Range) (entries : List Entry) (from : ℕ) (p : Progress) (d : Decided) → Shows base p d → Shows base p (with_entries code (take (from - from) (drop from entries)) d)
+unfolding with_entries
+none_between base code entries from p d so =
+    let P : ℕ → Type 0 = λ n. Shows base p (with_entries code (take n (drop from entries)) d) in
+    subst P (let none : 0 ≡ from - from = omega arith in none) so
+
+pub on_next : (base : ℕ) (code : List Range) (entries : List Entry) (from i : ℕ) (entry : Entry) (p q r : Progress) → from ≤ i → i < length entries → entry ≡ get_or entries i entry →
+    ((d : Decided) → Shows base p d → Shows base q (with_entries code (take (i - from) (drop from entries)) d)) → ((d : Decided) → Shows base q d → Shows base r (with_entry code entry d)) →
+    (d : Decided) → Shows base p d → Shows base r (with_entries code (take (i + 1 - from) (drop from entries)) d)
+on_next base code entries from i entry p q r up inside is so more d first =
+    let P : ℕ → Type 0 = λ n. Shows base r (with_entries code (take n (drop from entries)) d) in
+    let back : from + (i - from) ≡ i = omega (arith, up) in
+    subst P (let next : i - from + 1 ≡ i + 1 - from = omega (arith, up) in next)
+    (on_more base code (drop from entries) (i - from) entry p q r (omega (arith, up, inside, length-drop from entries))
+    (is ∙ ap (λ n. get_or entries n entry) (sym back) ∙ sym (get_or-drop from entries (i - from) entry)) so more d first)
+
 -- code by its outermost ranges decides as code by all of them
 pub record SameCode (kept code : List Range) : Type 0 where
   pub at : (start end : ℕ) → encloses kept start end ≡ encloses code start end
@@ -206,14 +213,14 @@ same_entries kept code [] d same = refl
 same_entries kept code (x ∷ entries) d same =
     ap (λ o. with_entries kept entries (with_decision x o d)) (same_body kept code d.written x.body same) ∙ same_entries kept code entries (with_entry code x d) same
 
-pub shown_all : (base : ℕ) (kept code : List Range) (first second : List Entry) (p q r : Progress) → ((start end : ℕ) → encloses kept start end ≡ encloses code start end) → text_bytes p.text ≡ [] → p.omitted.items ≡ [] → p.taken ≡ [] →
+pub shown_all : (base : ℕ) (kept code : List Range) (first second : List Entry) (p q r : Progress) → ((start end : ℕ) → encloses kept start end ≡ encloses code start end) → Shows base p none_decided →
     ((d : Decided) → Shows base p d → Shows base q (with_entries kept first d)) → ((d : Decided) → Shows base q d → Shows base r (with_entries kept second d)) → Shows base r (decided code first second)
 unfolding decided decided_of decided_behind
-shown_all base kept code first second p q r at lines omitted taken on_first on_second =
+shown_all base kept code first second p q r at begun on_first on_second =
     let same : SameCode kept code = record { at = at } in
     let P : Decided → Type 0 = λ x. Shows base r x in
     subst P (same_entries kept code second (with_entries kept first none_decided) same ∙ ap (with_entries code second) (same_entries kept code first none_decided same) ∙ sym (entries_append code first second none_decided))
-    (on_second (with_entries kept first none_decided) (on_first none_decided (shows_none base p lines omitted taken)))
+    (on_second (with_entries kept first none_decided) (on_first none_decided begun))
 
 pub shown_text : (base : ℕ) (code : List Range) (first second : List Entry) (r : Progress) → Shows base r (decided code first second) → text_bytes r.text ≡ canon_text (written_lines base (written code first second))
 unfolding written

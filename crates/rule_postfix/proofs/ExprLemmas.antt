@@ -1,5 +1,5 @@
 -- The words of expressions that can be said: there are some, and they have the value; for the lemmas of ShownLemmas, ValueLemmas, WideLemmas.
-use Rattle.std.proofs.Common.{◌≡◌, ℕ, Bool, true, false, List, [], ◌∷◌, Option, Some, None, is_some, Result, Ok, Err, refl}
+use Rattle.std.proofs.Common.{◌≡◌, ℕ, Bool, true, List, [], ◌∷◌, Option, Some, None, is_some, Result, Ok, Err, refl}
 use Rattle.std.specs.Option.{option_and_then}
 use Rattle.sym_rules.specs.declared.rules.Token.{Token}
 use Rattle.expr_steps.specs.declared.operation.Operation.{Operation}

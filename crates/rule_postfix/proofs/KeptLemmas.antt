@@ -11,7 +11,8 @@ use Rattle.sym_records.specs.declared.line.SymLine.{SymLine}
 use Rattle.rule_postfix.specs.Written.{Decided, range_of, reason_behind, body_reason, reason_of, with_fields, with_decision, with_entry, with_entries, decided_behind, decided_of, decided, written, written_lines}
 use Rattle.sym_meaning.specs.Inits.{inits_at, AreNested}
 use Rattle.rule_postfix.specs.Covering.{entries_at, AreDisjoint}
-use Rattle.rule_postfix.proofs.DecidedLemmas.{IsFree, is_free, enclosed_above, none_decided}
+use Rattle.rule_postfix.specs.internal.Deciding.{none_decided}
+use Rattle.rule_postfix.proofs.DecidedLemmas.{IsFree, is_free, enclosed_above}
 use Rattle.rule_postfix.proofs.CoveringLemmas.{AreAbove, above_more, above_none, disjoint_more, written_inits}
 use Rattle.rule_postfix.proofs.NestingLemmas.{written_nested}
 

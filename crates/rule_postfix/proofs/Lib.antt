@@ -18,6 +18,7 @@ pub mod LongLemmas
 pub mod ValidLemmas
 pub mod CoveringLemmas
 pub mod NestingLemmas
+pub mod ShareLemmas
 pub mod WrittenLemmas
 pub mod KeptLemmas
 pub mod SayingLemmas

@@ -1,6 +1,6 @@
 -- Rules that are spelled at the end of a text, one after another; for `add_column`, `add_registers`, `add_changes` and others.
-use Rattle.std.proofs.Common.{◌≡◌, ℕ, zero, suc, ◌+◌, ◌<◌, ◌≤◌, ◌==◌, Bool, true, false, List, [], ◌∷◌, ◌++◌, map, length, drop, Option, None, Some, refl, ap, sym, ◌∙◌, arith, append_assoc, append-nil}
-use Rattle.std.specs.List.{flat_map, range_with_len}
+use Rattle.std.proofs.Common.{◌≡◌, ℕ, ◌+◌, ◌≤◌, ◌==◌, false, List, [], ◌∷◌, ◌++◌, map, length, drop, Option, None, refl, ap, sym, ◌∙◌, arith, append_assoc, append-nil}
+use Rattle.std.specs.List.{range_with_len}
 use Rattle.std.proofs.lemmas.Bool.{eqb-false}
 use Rattle.std.proofs.lemmas.List.{drop_all, map-append}
 use Rattle.std.proofs.lemmas.List.Concat.{flat_map-append}
@@ -12,7 +12,7 @@ use Rattle.sym_rules.specs.declared.rules.Target.TheVariants.{Cfa, Ra, Reg}
 use Rattle.sym_rules.specs.declared.rules.Token.{Token}
 use Rattle.sym_rules.specs.declared.rules.RuleText.{RuleText}
 use Rattle.sym_rules.specs.Rules.{spelled_rule, spelled_rules}
-use Rattle.sym_records.specs.Canon.{canon, canon_text, change_front}
+use Rattle.sym_records.specs.Canon.{canon_text, change_front}
 use Rattle.sym_records.proofs.AddingLemmas.{change_line}
 use Rattle.sym_records.specs.declared.line.SymLine.TheVariants.{Change}
 use Rattle.rule_postfix.specs.internal.Backward.{rule_text}

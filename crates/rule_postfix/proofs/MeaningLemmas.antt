@@ -1,23 +1,17 @@
 -- The records of written entries mean what DWARF's rows mean; for the law on the meaning of frames.
-use Rattle.std.proofs.Common.{◌≡◌, ℕ, ◌+◌, ◌-◌, ◌<◌, ◌≤◌, ◌^◌, ◌&&◌, nat_le, nat_lt, Bool, true, false, cond, map, List, [], ◌∷◌, ◌++◌, Option, Some, None, refl, ap, sym, ◌∙◌, subst, arith, append_assoc, append-nil, not, zero, suc, inl, inr}
-use Rattle.std.specs.List.{slice_index_or, range_with_len, list_all, list_any, AllByRecursion}
-use Rattle.std.specs.Option.{option_or, option_map}
-use Rattle.std.proofs.lemmas.Bool.{and_parts, cases_lt, ltb-true, leb-true, not-false, or_parts}
-use Rattle.std.proofs.lemmas.Bool.Decides.{nat_tests}
+use Rattle.std.proofs.Common.{◌≡◌, ℕ, ◌+◌, ◌-◌, ◌<◌, ◌≤◌, nat_le, nat_lt, true, cond, List, [], ◌∷◌, ◌++◌, Option, None, refl, ap, sym, ◌∙◌, subst, arith, append_assoc, append-nil}
+use Rattle.std.specs.List.{list_all, AllByRecursion}
+use Rattle.std.specs.Option.{option_map}
+use Rattle.std.proofs.lemmas.Bool.{and_parts, ltb-true, leb-true}
 use Rattle.std.proofs.lemmas.List.FromFn.{get_or-map-range_with_len}
 use Rattle.std.proofs.lemmas.List.Sums.{sum_by-append}
-use Rattle.sym_edges.specs.declared.reason.Reason.{Reason}
-use Rattle.sym_edges.specs.declared.reason.Reason.TheVariants as reason
 use Rattle.sym_edges.specs.Addresses.{Range}
-use Rattle.sym_edges.specs.Results.{unless}
 use Rattle.range_set.specs.Starts.{AllFrom}
-use Rattle.frame_entries.specs.declared.description.Body.{Body}
-use Rattle.frame_entries.specs.declared.description.Body.TheVariants.{Good, Bad}
 use Rattle.frame_entries.specs.declared.description.Entry.{Entry}
 use Rattle.frame_entries.specs.FdeFields.{FdeFields}
 use Rattle.frame_rows.specs.declared.row.Row.{Row}
 use Rattle.frame_rows.specs.Steps.{has_cfa}
-use Rattle.frame_rows.specs.Rows.{IsSound, row_at, rows_fault, instruction_fault, lacks_cfa}
+use Rattle.frame_rows.specs.Rows.{IsSound, row_at, rows_fault}
 use Rattle.frame_rows.proofs.EntryLemmas.{rows_have, rows_sound}
 use Rattle.sym_records.specs.declared.line.SymLine.{SymLine}
 use Rattle.sym_rules.specs.declared.rules.Target.{Target}
@@ -29,16 +23,14 @@ use Rattle.cfi_eval.specs.declared.registers.Regs.{Regs}
 use Rattle.cfi_eval.specs.declared.memory.MemRun.{MemRun}
 use Rattle.cfi_eval.specs.declared.outcome.Outcome.TheVariants.{Undefined}
 use Rattle.cfi_eval.specs.declared.outcome.Frame.{Frame}
-use Rattle.cfi_eval.specs.TextRules.{text_rules}
 use Rattle.cfi_eval.specs.TextValue.{text_register, frame_of, text_frame}
 use Rattle.rule_postfix.specs.FrameLines.{frame_lines as lines_of_rows}
-use Rattle.rule_postfix.specs.Overlaps.{meet, any_meets}
+use Rattle.rule_postfix.specs.Overlaps.{any_meets}
 use Rattle.rule_postfix.specs.RowValue.{value_in_row, row_frame}
-use Rattle.rule_postfix.specs.FrameMeaning.{is_lost, IsFrameOf, SaysFrame, KeepsRows, KeepsFrames}
-use Rattle.rule_postfix.specs.Written.{Decided, range_of, has_range, rows_reason, reason_among, reason_behind, is_code, body_reason, reason_of, with_fields, with_decision, with_entry, with_entries, decided_behind, decided_of, decided, written, entry_lines, written_lines}
-use Rattle.rule_postfix.specs.Covering.{holds_address, entries_at, AreDisjoint, SaysFrames}
-use Rattle.rule_postfix.proofs.DecidedLemmas.{IsFree, is_free, none_decided, or_left, or_right}
-use Rattle.rule_postfix.proofs.CoveringLemmas.{AreAbove, written_inits}
+use Rattle.rule_postfix.specs.FrameMeaning.{IsFrameOf, SaysFrame, KeepsRows, KeepsFrames}
+use Rattle.rule_postfix.specs.Written.{written, entry_lines, written_lines}
+use Rattle.rule_postfix.specs.Covering.{holds_address, entries_at, AreDisjoint}
+use Rattle.rule_postfix.proofs.CoveringLemmas.{AreAbove}
 use Rattle.rule_postfix.proofs.WrittenLemmas.{AreWritten, written_are}
 use Rattle.rule_postfix.proofs.KeptLemmas.{written_above, written_apart, written_cover}
 use Rattle.rule_postfix.proofs.SayingLemmas.{entries_more, one_entry}

@@ -1,13 +1,10 @@
 -- What the records of all entries say of frames, and that a checker finds nothing in them: for the laws of this crate.
-use Rattle.std.proofs.Common.{◌≡◌, ℕ, ◌+◌, ◌-◌, ◌<◌, ◌≤◌, ◌^◌, Bool, true, false, ◌&&◌, ◌||◌, nat_le, nat_lt, cond, map, List, [], ◌∷◌, ◌++◌, Option, None, Some, arith, refl, sym, ap, subst, ◌∙◌, append_assoc, append-nil}
+use Rattle.std.proofs.Common.{◌≡◌, ℕ, ◌+◌, ◌-◌, ◌<◌, ◌≤◌, ◌^◌, Bool, true, false, ◌&&◌, ◌||◌, nat_le, nat_lt, cond, map, List, [], ◌∷◌, ◌++◌, arith, refl, sym, ap, subst, ◌∙◌, append_assoc, append-nil}
 use Rattle.std.proofs.lemmas.Bool.Decides.{nat_tests}
 use Rattle.std.proofs.lemmas.List.Sums.{sum_by-append}
 use Rattle.std.specs.List.{list_any, list_all, flat_map, range_with_len}
 use Rattle.sym_edges.specs.Addresses.{Range}
-use Rattle.sym_edges.specs.declared.reason.Reason.{Reason}
 use Rattle.range_set.specs.Starts.{AllFrom}
-use Rattle.frame_entries.specs.declared.description.Body.{Body}
-use Rattle.frame_entries.specs.declared.description.Body.TheVariants.{Good, Bad}
 use Rattle.frame_entries.specs.declared.description.Entry.{Entry}
 use Rattle.frame_entries.specs.FdeFields.{FdeFields}
 use Rattle.frame_rows.specs.Rows.{row_at}
@@ -22,9 +19,8 @@ use Rattle.sym_meaning.proofs.InitLemmas.{counted, covers_after, nested_after, l
 use Rattle.rule_postfix.specs.RowRules.{row_rules, changed_rules}
 use Rattle.rule_postfix.specs.FrameLines.{is_cut, change, records_at, frame_lines as lines_of_rows}
 use Rattle.rule_postfix.specs.Overlaps.{meet, any_meets}
-use Rattle.rule_postfix.specs.Written.{Decided, range_of, reason_behind, body_reason, reason_of, with_fields, with_decision, with_entry, with_entries, decided_behind, decided_of, decided, written, entry_lines, written_lines}
+use Rattle.rule_postfix.specs.Written.{range_of, written, entry_lines, written_lines}
 use Rattle.rule_postfix.specs.Covering.{holds_address, entries_at, AreDisjoint, SaysFrames}
-use Rattle.rule_postfix.proofs.DecidedLemmas.{IsFree, is_free, none_decided}
 use Rattle.rule_postfix.proofs.WrittenLemmas.{AreWritten, written_are}
 use Rattle.rule_postfix.proofs.KeptLemmas.{written_apart, written_cover, written_changes}
 

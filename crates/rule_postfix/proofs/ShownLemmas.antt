@@ -1,6 +1,6 @@
 -- The rules of a text, the last of a target counting, say what a row says of each target; for the lemmas of FoundLemmas.
-use Rattle.std.proofs.Common.{◌≡◌, ℕ, zero, suc, ◌+◌, ◌-◌, ◌<◌, ◌≤◌, ◌==◌, ◌&&◌, not, nat_lt, Bool, true, false, cond, List, [], ◌∷◌, ◌++◌, map, Option, None, Some, is_some, refl, ap, sym, ◌∙◌, subst, arith, inl, inr, eq-eqb}
-use Rattle.std.specs.List.{range_with_len, filter_map, cons_option, list_any}
+use Rattle.std.proofs.Common.{◌≡◌, ℕ, zero, suc, ◌+◌, ◌<◌, ◌≤◌, ◌==◌, ◌&&◌, not, nat_lt, Bool, true, false, cond, List, [], ◌∷◌, ◌++◌, map, Option, None, Some, is_some, refl, ap, sym, ◌∙◌, arith, inl, inr, eq-eqb}
+use Rattle.std.specs.List.{range_with_len, cons_option}
 use Rattle.std.specs.Option.{option_or}
 use Rattle.std.specs.Ordering.{int_eq}
 use Rattle.std.proofs.lemmas.Bool.{ne_eqb, cases_lt, and_parts, eqb-true}
@@ -23,7 +23,7 @@ use Rattle.rule_postfix.specs.declared.parts.RowPart.{RowPart}
 use Rattle.rule_postfix.specs.declared.parts.RowPart.TheVariants.{Unruled, Base, Column}
 use Rattle.cfi_eval.specs.TextRules.{same_target, rule_for}
 use Rattle.rule_postfix.specs.RowParts.{own_as_same, by_group, column_part, cfa_part, rule_at, part_of, is_unruled, same_bool, same_place, same_rule, same_cfa, same_part, is_unspecified, leaves_unspecified, becomes_unspecified}
-use Rattle.rule_postfix.specs.RowRules.{default_tokens, unruled_tokens, own_name, rule_spelled, spelled, registers, targets, rule_of, rule_by, rules_of, rules_by, if_ruled, if_other, if_changed, row_rules, changed_rules, some_becomes_unspecified}
+use Rattle.rule_postfix.specs.RowRules.{default_tokens, unruled_tokens, spelled, registers, rule_of, rules_of, rules_by, if_ruled, if_changed, row_rules, changed_rules, some_becomes_unspecified}
 use Rattle.rule_postfix.proofs.RulesLemmas.{one_lost}
 use Rattle.rule_postfix.proofs.ExprLemmas.{words_there, rule_there}
 

@@ -1,8 +1,8 @@
 -- The words that say a row's rule have the value of the rule; for the lemmas of MeaningLemmas.
-use Rattle.std.proofs.Common.{◌≡◌, ℕ, ◌+◌, ◌<◌, ◌%◌, ◌^◌, ◌==◌, ◌&&◌, not, nat_lt, nat_le, ℤ, Bool, true, false, cond, List, [], ◌∷◌, map, Option, Some, None, is_some, Result, Ok, Err, refl, ap, sym, ◌∙◌, subst, arith, get_or}
+use Rattle.std.proofs.Common.{◌≡◌, ℕ, ◌+◌, ◌%◌, ◌^◌, ◌==◌, ◌&&◌, not, nat_lt, ℤ, Bool, true, false, cond, List, [], ◌∷◌, Option, Some, None, is_some, Result, Ok, Err, refl, ap, sym, ◌∙◌, arith}
 use Rattle.std.specs.Option.{option_or}
 use Rattle.std.specs.Int.{w64, cast_unsigned}
-use Rattle.std.specs.List.{slice_index_or, range_with_len}
+use Rattle.std.specs.List.{slice_index_or}
 use Rattle.std.proofs.lemmas.Bool.{eqb-true}
 use Rattle.std.proofs.lemmas.Bool.Decides.{nat_tests}
 use Rattle.sym_edges.specs.Abi.{Default, KeepsValue, IsCfa, Unspecified, default_of, is_kept}
@@ -13,11 +13,10 @@ use Rattle.frame_rows.specs.declared.row.Rule.TheVariants as rule
 use Rattle.frame_rows.specs.declared.row.CfaRule.{CfaRule}
 use Rattle.frame_rows.specs.declared.row.CfaRule.TheVariants as cfa
 use Rattle.expr_postfix.specs.ExprTokens.{expr_tokens, with_fetch, rule_tokens}
-use Rattle.expr_postfix.specs.ExprValue.{expr_value, word_of}
+use Rattle.expr_postfix.specs.ExprValue.{expr_value}
 use Rattle.expr_postfix.proofs.WholeLemmas.{value_with_cfa, value_free, value_in_memory}
 use Rattle.frame_rows.specs.Steps.{has_cfa}
 use Rattle.frame_rows.specs.Rows.{expr_bytes, is_sound_rule, is_sound_cfa, IsSound}
-use Rattle.sym_rules.specs.declared.rules.Target.{Target}
 use Rattle.sym_rules.specs.declared.rules.Target.TheVariants.{Cfa, Ra, Reg}
 use Rattle.sym_rules.specs.declared.rules.Token.{Token}
 use Rattle.sym_rules.specs.declared.rules.Token.TheVariants as token
@@ -31,10 +30,8 @@ use Rattle.cfi_eval.specs.Bytes.{word_at}
 use Rattle.cfi_eval.specs.Postfix.{known_or_missing, register_value, word_or_unreadable, word_value, with_token, postfix_from, rule_value}
 use Rattle.cfi_eval.specs.TextRules.{rule_for}
 use Rattle.cfi_eval.specs.TextValue.{outcome_of, cfa_by, text_cfa, ra_by, text_ra, default_value, register_by, text_register}
-use Rattle.rule_postfix.specs.declared.parts.RowPart.{RowPart}
-use Rattle.rule_postfix.specs.declared.parts.RowPart.TheVariants.{Unruled, Base, Column}
-use Rattle.rule_postfix.specs.RowParts.{own_as_same, by_group, column_part, cfa_part, rule_at, part_of, is_unspecified, leaves_unspecified}
-use Rattle.rule_postfix.specs.RowRules.{default_tokens, unruled_tokens, own_name, rule_spelled, spelled}
+use Rattle.rule_postfix.specs.RowParts.{by_group, column_part, cfa_part, rule_at, part_of, is_unspecified, leaves_unspecified}
+use Rattle.rule_postfix.specs.RowRules.{default_tokens, spelled}
 use Rattle.rule_postfix.specs.RowValue.{known_value, value_now, known_word, at_cfa, cfa_value, value_at_rest, value_or_word, column_value, value_in_row}
 use Rattle.rule_postfix.specs.FrameMeaning.{is_undefined, is_lost}
 use Rattle.rule_postfix.proofs.ShownLemmas.{Shows}

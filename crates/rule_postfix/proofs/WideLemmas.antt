@@ -1,9 +1,9 @@
 -- Frame records of the rules that rows have fit; for `rules_of_rows_fit`.
-use Rattle.std.proofs.Common.{◌≡◌, ℕ, ◌^◌, ◌<◌, ◌≤◌, ◌*◌, suc, true, false, pos, negsuc, List, [], ◌∷◌, codes, length, nat_lt, nat_le, refl, ap, ◌∙◌, arith, length-append}
+use Rattle.std.proofs.Common.{◌≡◌, ℕ, ◌^◌, ◌<◌, ◌≤◌, ◌*◌, suc, true, false, pos, negsuc, List, [], ◌∷◌, codes, length, nat_lt, nat_le, refl, arith, length-append}
 use Rattle.std.specs.List.{list_all, flat_map}
 use Rattle.std.proofs.lemmas.Bool.{lt-ltb, le-leb, ltb-true, leb-true}
 use Rattle.std.proofs.lemmas.Slice.Eq.{bytes_eq-Decides}
-use Rattle.sym_edges.specs.Abi.{register_name, register_names}
+use Rattle.sym_edges.specs.Abi.{register_name}
 use Rattle.sym_rules.proofs.BoolLemmas.{and_true, both, not_false}
 use Rattle.sym_rules.proofs.EndLemmas.{last_none}
 use Rattle.sym_rules.proofs.RuleLemmas.{decimal_parts, register_parts}

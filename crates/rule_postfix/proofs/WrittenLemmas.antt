@@ -16,7 +16,8 @@ use Rattle.sym_records.specs.Validity.{first_bad_from}
 use Rattle.sym_records.proofs.JoiningLemmas.{join_behind}
 use Rattle.rule_postfix.specs.Overlaps.{any_meets}
 use Rattle.rule_postfix.specs.Written.{Decided, range_of, has_range, rows_reason, reason_among, reason_behind, is_code, body_reason, reason_of, with_fields, with_decision, with_entry, with_entries, decided_behind, decided_of, decided, written, entry_lines, written_lines}
-use Rattle.rule_postfix.proofs.DecidedLemmas.{IsFree, is_free, none_decided, or_left}
+use Rattle.rule_postfix.specs.internal.Deciding.{none_decided}
+use Rattle.rule_postfix.proofs.DecidedLemmas.{IsFree, is_free, or_left}
 use Rattle.rule_postfix.proofs.EntryLemmas.{entry_valid}
 
 -- it has rows, and a range of addresses

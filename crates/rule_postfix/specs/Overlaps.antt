@@ -28,11 +28,6 @@ abbrev pub AreApart : List (ℕ × ℕ) → Type 0
 AreApart [] = Unit {0}
 AreApart (entry ∷ entries) = (entry.0 < entry.1) × StartsFrom entry.1 entries × AreApart entries
 
--- each range ends at or below an address
-abbrev pub EndBy : ℕ → List (ℕ × ℕ) → Type 0
-EndBy top [] = Unit {0}
-EndBy top (entry ∷ entries) = (entry.1 ≤ top) × EndBy top entries
-
 -- the end of the last range that starts below an address
 abbrev pub or_end : Option ℕ → Option ℕ → Option ℕ
 or_end None other = other

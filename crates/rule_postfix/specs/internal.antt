@@ -2,5 +2,7 @@
 pub mod Backward
 pub mod Deciding
 pub mod Keeping
+pub mod Shares
 pub mod Spelling
+pub mod Taken
 pub mod Writing

@@ -17,8 +17,10 @@
 //! A rule of a DWARF expression is spelled by `expr_postfix` from the bytes at its place. Its words may be longer than the line in which the
 //! other rules are made, so a record with such a rule is spelled by `long_rules`, at the end of a text that grows.
 //!
-//! To read: `parts`, `column_target`, `rules`, `change_record`, `long_rules`, `open_init`, `entry_records`, then `omission`, `written_ranges`, `cie_states` and
-//! `all`.
+//! Entries are translated in shares, side by side, each share as if no range were taken before it; one of whose ranges is taken is translated anew, in turn.
+//!
+//! To read: `parts`, `column_target`, `rules`, `change_record`, `long_rules`, `open_init`, `entry_records`, then `omission`, `written_ranges`, `cie_states`,
+//! `progress`, `shares` and `all`.
 #![tactic(auto)]
 
 mod all;
@@ -31,7 +33,9 @@ mod long_rules;
 mod omission;
 mod open_init;
 mod parts;
+mod progress;
 mod rules;
+mod shares;
 mod written_ranges;
 
 pub use crate::all::{Frames, translate_all};

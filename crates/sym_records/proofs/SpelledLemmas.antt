@@ -46,6 +46,14 @@ turned pieces more last none is empty =
     ap (λ l. flat_map (λ piece. piece) l ++ none) is ∙ ap (λ l. flat_map (λ piece. piece) (pieces ++ last ∷ []) ++ l) empty ∙ append-nil _
     ∙ flat_map-append (λ piece. piece) pieces (last ∷ []) ∙ ap (λ l. flat_map (λ piece. piece) pieces ++ l) (append-nil last)
 
+-- one text after another
+pub joined : (front rest more whole : List (List ℕ)) (middle last : List ℕ) → more ≡ front ++ middle ∷ [] → whole ≡ more ++ rest → flat_map (λ piece. piece) whole ++ last ≡ (flat_map (λ piece. piece) front ++ middle) ++ (flat_map (λ piece. piece) rest ++ last)
+joined front rest more whole middle last pushed appended =
+    let pieces : List (List ℕ) → List ℕ = flat_map (λ piece. piece) in
+    ap (λ l. pieces l ++ last) (appended ∙ ap (λ l. l ++ rest) pushed)
+    ∙ ap (λ l. l ++ last) (flat_map-append (λ piece. piece) (front ++ middle ∷ []) rest ∙ ap (λ l. l ++ pieces rest) (flat_map-append (λ piece. piece) front (middle ∷ []) ∙ ap (λ l. pieces front ++ l) (append-nil middle)))
+    ∙ append_assoc (pieces front ++ middle) (pieces rest) last
+
 -- one more record, and one more line
 pub text_pushed : (lines : List SymLine) (s : SymLine) → canon_text (lines ++ s ∷ []) ≡ canon_text lines ++ canon s
 unfolding canon_text

@@ -1,4 +1,4 @@
-ghost use Rattle.std.specs.Prelude.{◌≡◌, [], OnOk};
+ghost use Rattle.std.specs.Prelude.{◌≡◌, [], ◌++◌, OnOk};
 ghost use Rattle.sym_records.specs.Spelled.{text_bytes};
 
 use std::alloc::Global;
@@ -41,6 +41,18 @@ impl TextPieces {
         let next = Vec::with_capacity(alloc, PIECE + SPARE)?;
         let full = replace(&mut self.last, next);
         self.full.push(ByteText::of(full))?;
+        Ok(())
+    }
+
+    /// Adds another text, whose pieces are kept as they are.
+    #[tactic(auto, using(crate::proofs::SpelledLemmas::joined))]
+    pub fn append(&mut self, text: TextPieces) -> Result<(), OutOfMemory>
+        ensures { OnOk result (text_bytes self.new ≡ text_bytes self.old ++ text_bytes text) }
+    {
+        let TextPieces { mut full, last } = text;
+        let front = replace(&mut self.last, last);
+        self.full.push(ByteText::of(front))?;
+        self.full.append(&mut full)?;
         Ok(())
     }
 }

@@ -1,17 +1,14 @@
 -- What the pass over the entries holds.
-use Rattle.std.specs.Prelude.{◌≡◌, ℕ, ◌+◌, ◌^◌, ◌<◌, ◌≤◌, true, List, map, None}
+use Rattle.std.specs.Prelude.{◌≡◌, ℕ, ◌+◌, ◌^◌, ◌<◌, ◌≤◌, true, List, [], map}
 use Rattle.sym_edges.specs.declared.fault.Stop.{Stop}
 use Rattle.sym_edges.specs.declared.fault.Stop.TheVariants.{Fault, NoMemory}
 use Rattle.sym_edges.specs.declared.reason.Reason.{Reason}
 use Rattle.sym_edges.specs.Addresses.{Range}
 use Rattle.range_set.specs.Enclosing.{encloses}
 use Rattle.frame_entries.specs.FdeFields.{FdeFields}
-use Rattle.sym_records.specs.declared.place.Place.TheVariants.{Inside}
 use Rattle.sym_records.specs.Canon.{canon_text}
 use Rattle.sym_records.specs.Spelled.{text_bytes}
-use Rattle.sym_records.specs.Validity.{first_bad_from}
-use Rattle.rule_postfix.specs.declared.all.Progress.{Progress}
-use Rattle.rule_postfix.specs.Overlaps.{any_meets}
+use Rattle.rule_postfix.specs.declared.progress.Progress.{Progress}
 use Rattle.rule_postfix.specs.Written.{Decided, has_range, range_of, written_lines}
 
 -- what lies in one of the ranges starts at or above an address
@@ -25,14 +22,18 @@ pub record EndsAt (e : FdeFields) (end : ℕ) : Type 0 where
   pub sum : end ≡ e.start + e.size
   pub fits : end < 2 ^ 64
 
+-- nothing is decided yet
+abbrev pub none_decided : Decided
+none_decided = record { written = []; omitted = [] }
+
 -- there is a reason, and a fact of it
 abbrev pub IfRefused : Stop Reason → (Reason → Type 0) → Type 0
 IfRefused (Fault why) P = P why
 IfRefused NoMemory P = ⊥
 
 -- the text is that of the records of what was decided; the omissions are those of what was decided;
--- and the ranges that are taken are met as those that are written
+-- and the ranges that are taken are those that are written
 pub record Shows (base : ℕ) (p : Progress) (d : Decided) : Type 0 where
   pub text : text_bytes p.text ≡ canon_text (written_lines base d.written)
   pub omitted : p.omitted.items ≡ d.omitted
-  pub taken : (range : Range) → any_meets range p.taken ≡ any_meets range (map range_of d.written)
+  pub taken : p.taken ≡ map range_of d.written

@@ -1,5 +1,4 @@
-use Rattle.std.proofs.Common.{◌≡◌, ◌-◌, ◌∙◌, sym, arith, rules, drop}
-use Rattle.std.proofs.lemmas.Grind.{common_steps}
+use Rattle.std.proofs.Common.{◌≡◌, ◌-◌, arith, drop}
 use Rattle.rule_postfix.specs.RowParts.{rule_at}
 use Rattle.rule_postfix.proofs.RulesLemmas.{stays_kept, register_stays, all_kept, all_registers}
 use Rattle.rule_postfix.proofs.rules.write_registers.Goals as goal

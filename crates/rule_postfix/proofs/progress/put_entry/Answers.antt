@@ -1,6 +1,6 @@
 use Rattle.std.proofs.lemmas.Result.{IfOk-weaker}
 use Rattle.rule_postfix.proofs.DecidedLemmas.{bad_too}
-use Rattle.rule_postfix.proofs.all.put_entry.Goals as goal
+use Rattle.rule_postfix.proofs.progress.put_entry.Goals as goal
 
 pub returns-in-Bad-clause-shown : goal.returns-in-Bad-clause-shown
 returns-in-Bad-clause-shown c =

@@ -5,7 +5,7 @@ use Rattle.frame_entries.specs.FdeFields.{FdeFields}
 use Rattle.rule_postfix.specs.Overlaps.{any_meets}
 use Rattle.rule_postfix.proofs.DecidedLemmas.{left_too}
 use Rattle.rule_postfix.proofs.ReasonLemmas.{no_code, overlaps}
-use Rattle.rule_postfix.proofs.all.put_behind.Goals as goal
+use Rattle.rule_postfix.proofs.progress.put_behind.Goals as goal
 
 pub returns-in_default : goal.returns-in_default
 returns-in_default c =

@@ -1,7 +1,7 @@
 use Rattle.std.proofs.lemmas.Result.{IfOk-weaker}
 use Rattle.rule_postfix.proofs.DecidedLemmas.{written_too, refused_too}
 use Rattle.rule_postfix.proofs.ReasonLemmas.{no_reason}
-use Rattle.rule_postfix.proofs.all.put_free.Goals as goal
+use Rattle.rule_postfix.proofs.progress.put_free.Goals as goal
 
 pub returns-in-Ok : goal.returns-in-Ok
 returns-in-Ok c =

@@ -1,0 +1,282 @@
+//! What is decided of entries, one after another, and the text of those that are written.
+ghost use Rattle.std.specs.Prelude.{◌≡◌, ℕ, List, ◌+◌, ◌-◌, ◌^◌, ◌<◌, ◌≤◌, true, false, None, Some, length, take, drop, MatchOption, IfOk, OnOk};
+ghost use Rattle.std.specs.Option.{option_or};
+ghost use Rattle.sym_edges.specs.Outside.{MatchStop};
+ghost use Rattle.sym_edges.specs.Addresses.{Range};
+ghost use Rattle.range_set.specs.Enclosing.{encloses};
+ghost use Rattle.frame_entries.specs.FdeFields.{FdeFields};
+ghost use Rattle.frame_entries.specs.declared.description.Body.TheVariants.{Good};
+ghost use Rattle.frame_rows.specs.Rows.{rows_fault};
+ghost use Rattle.frame_rows.specs.CieLeft.{cie_left};
+ghost use Rattle.rule_postfix.specs.Overlaps.{any_meets};
+ghost use Rattle.rule_postfix.specs.Written.{Decided, has_range, range_of, reason_among, left_out, with_written, with_entry, with_entries};
+ghost use Rattle.rule_postfix.specs.internal.Keeping.{KeptFor, StaysKept};
+ghost use Rattle.rule_postfix.specs.internal.Deciding.{LiesAbove, EndsAt, IfRefused, Shows, none_decided};
+
+use crate::cie_states::CieStates;
+use crate::entry_records::spell_entry;
+use crate::omission::Omission;
+use crate::open_init::OpenInit;
+use crate::written_ranges::WrittenRanges;
+use frame_entries::{Body, Entry, EntryList, Fde};
+use frame_rows::{CieState, check_rows_behind, inspect_behind};
+use range_set::Enclosing;
+use std::alloc::Global;
+use sym_edges::{OutOfMemory, Reason, Stop};
+use sym_records::TextPieces;
+
+/// What was decided so far: the text of the records, the entries that are left out, and the ranges of those that are
+/// written. The INIT of one entry at a time is made in `open`.
+#[derive(Drop)]
+pub struct Progress {
+    pub text: TextPieces,
+    open: OpenInit,
+    pub omitted: Vec<Omission>,
+    pub taken: WrittenRanges,
+}
+
+impl Progress {
+    /// Nothing is decided yet.
+    #[tactic(auto, using(crate::proofs::DecidedLemmas::shows_none))]
+    pub fn new(alloc: Global) -> Progress
+        ensures { (base : ℕ) → Shows base result none_decided }
+    {
+        Progress {
+            text: TextPieces::new(alloc),
+            open: OpenInit::new(alloc),
+            omitted: Vec::new(alloc),
+            taken: WrittenRanges::new(alloc),
+        }
+    }
+}
+
+/// The end of a range of addresses that is not empty and ends below 2^64.
+#[tactic(auto, using(crate::proofs::ReasonLemmas::ends_at, crate::proofs::ReasonLemmas::is_empty, crate::proofs::ReasonLemmas::leaves))]
+fn end_of(fde: &Fde<'_>) -> Option<u64>
+    ensures { MatchOption result (has_range fde.now ≡ false) (λ end. EndsAt fde.now end) }
+{
+    if fde.size == 0 {
+        return None;
+    }
+    fde.start.checked_add(fde.size)
+}
+
+/// Why an entry without such a range is left out.
+#[tactic(auto, using(crate::proofs::ReasonLemmas::unranged_bad, crate::proofs::ReasonLemmas::unranged_good))]
+fn reason_without_range(
+    alloc: Global,
+    state: &CieState,
+    fde: &Fde<'_>,
+) -> Result<Reason, OutOfMemory>
+    requires behind { state.now ≡ cie_left fde.now }
+    requires unranged { has_range fde.now ≡ false }
+    ensures { IfOk result (λ why. (code taken : List Range) → reason_among code taken fde.now ≡ Some why) }
+{
+    match inspect_behind(alloc, state, fde)? {
+        Some(why) => Ok(why),
+        None => Ok(Reason::Outside),
+    }
+}
+
+/// Why an entry with such a range is left out, where there is a later reason.
+#[tactic(auto, using(crate::proofs::ReasonLemmas::later_reason, crate::proofs::ReasonLemmas::first_reason))]
+fn reason_or(
+    alloc: Global,
+    state: &CieState,
+    fde: &Fde<'_>,
+    later: Reason,
+) -> Result<Reason, OutOfMemory>
+    requires behind { state.now ≡ cie_left fde.now }
+    requires some { 0 < fde.now.size }
+    requires fits { fde.now.start + fde.now.size < 2 ^ 64 }
+    ensures { IfOk result (λ why. option_or (rows_fault fde.now) (Some later) ≡ Some why) }
+{
+    match check_rows_behind(alloc, state, fde) {
+        Ok(()) => Ok(later),
+        Err(Stop::Fault(why)) => Ok(why),
+        Err(Stop::NoMemory) => Err(OutOfMemory),
+    }
+}
+
+/// An entry is left out.
+fn leave_out(progress: &mut Progress, entry: &Entry<'_>, reason: Reason) -> Result<(), OutOfMemory>
+    ensures { OnOk result ((base : ℕ) (d : Decided) → Shows base progress.old d → Shows base progress.new (left_out entry.now reason d)) }
+{
+    progress.omitted.push(Omission {
+        section: entry.section,
+        at: entry.at,
+        reason,
+    })?;
+    Ok(())
+}
+
+/// An entry is left out, where it was refused.
+fn leave_out_where_refused(
+    progress: &mut Progress,
+    entry: &Entry<'_>,
+    stop: Stop<Reason>,
+) -> Result<(), OutOfMemory>
+    ensures { OnOk result (IfRefused stop (λ why. (base : ℕ) (d : Decided) → Shows base progress.old d → Shows base progress.new (left_out entry.now why d))) }
+{
+    match stop {
+        Stop::Fault(reason) => leave_out(progress, entry, reason),
+        Stop::NoMemory => Err(OutOfMemory),
+    }
+}
+
+/// An entry whose range is free is written, or has the reason that its rows give; then the text stays.
+fn write(
+    alloc: Global,
+    progress: &mut Progress,
+    state: &CieState,
+    fde: &Fde<'_>,
+    base: u64,
+) -> Result<(), Stop<Reason>>
+    requires behind { state.now ≡ cie_left fde.now }
+    requires some { 0 < fde.now.size }
+    requires fits { fde.now.start + fde.now.size < 2 ^ 64 }
+    requires based { base ≤ fde.now.start }
+    requires apart { any_meets (range_of fde.now) progress.old.taken ≡ false }
+    ensures shown { MatchStop result
+        (λ _. (d : Decided) → Shows base progress.old d → Shows base progress.new (with_written fde.now d))
+        (λ _. (b : ℕ) (d : Decided) → Shows b progress.old d → Shows b progress.new d)
+        (Unit {0}) }
+    ensures exact { MatchStop result (λ _. rows_fault fde.now ≡ None) (λ why. rows_fault fde.now ≡ Some why) (Unit {0}) }
+{
+    let front = progress.text.last.len();
+    match spell_entry(
+        alloc,
+        &mut progress.text.last,
+        &mut progress.open,
+        state,
+        fde,
+        base,
+    ) {
+        Ok(()) => {}
+        Err(stop) => {
+            progress.text.last.truncate(front);
+            return Err(stop);
+        }
+    }
+    progress.taken.put(alloc, fde.start, fde.start + fde.size)?;
+    progress.text.turn(alloc)?;
+    Ok(())
+}
+
+/// An entry whose range is free is written, or left out for its rows.
+fn put_free(
+    alloc: Global,
+    progress: &mut Progress,
+    state: &CieState,
+    entry: &Entry<'_>,
+    fde: &Fde<'_>,
+    code: &Enclosing,
+    end: u64,
+    base: u64,
+) -> Result<(), OutOfMemory>
+    requires good { entry.now.body ≡ Good fde.now }
+    requires behind { state.now ≡ cie_left fde.now }
+    requires ends { EndsAt fde.now end }
+    requires inside { encloses code.now fde.now.start end ≡ true }
+    requires above { LiesAbove base code.now }
+    requires apart { any_meets (record { start = fde.now.start; end = end }) progress.old.taken ≡ false }
+    ensures { OnOk result ((d : Decided) → Shows base progress.old d → Shows base progress.new (with_entry code.now entry.now d)) }
+{
+    match write(alloc, progress, state, fde, base) {
+        Ok(()) => Ok(()),
+        Err(stop) => leave_out_where_refused(progress, entry, stop),
+    }
+}
+
+/// An entry whose fields can be read is written or left out, where the state after its CIE is given.
+fn put_behind(
+    alloc: Global,
+    progress: &mut Progress,
+    state: &CieState,
+    entry: &Entry<'_>,
+    fde: &Fde<'_>,
+    code: &Enclosing,
+    base: u64,
+) -> Result<(), OutOfMemory>
+    requires good { entry.now.body ≡ Good fde.now }
+    requires behind { state.now ≡ cie_left fde.now }
+    requires above { LiesAbove base code.now }
+    ensures { OnOk result ((d : Decided) → Shows base progress.old d → Shows base progress.new (with_entry code.now entry.now d)) }
+{
+    let Some(end) = end_of(fde) else {
+        let why = reason_without_range(alloc, state, fde)?;
+        return leave_out(progress, entry, why);
+    };
+    if !code.encloses(fde.start, end) {
+        let why = reason_or(alloc, state, fde, Reason::Outside)?;
+        return leave_out(progress, entry, why);
+    }
+    if progress.taken.meets(fde.start, end) {
+        let why = reason_or(alloc, state, fde, Reason::Overlap)?;
+        return leave_out(progress, entry, why);
+    }
+    put_free(alloc, progress, state, entry, fde, code, end, base)
+}
+
+/// An entry whose fields can be read is written or left out. The state after its CIE is made where it is not there.
+fn put_good(
+    alloc: Global,
+    progress: &mut Progress,
+    states: &mut CieStates,
+    entry: &Entry<'_>,
+    fde: &Fde<'_>,
+    code: &Enclosing,
+    base: u64,
+) -> Result<(), OutOfMemory>
+    requires good { entry.now.body ≡ Good fde.now }
+    requires known { KeptFor states.old fde.now }
+    requires above { LiesAbove base code.now }
+    ensures shown { OnOk result ((d : Decided) → Shows base progress.old d → Shows base progress.new (with_entry code.now entry.now d)) }
+    ensures kept { OnOk result (StaysKept entry.now states.old states.new) }
+{
+    states.make(alloc, fde)?;
+    put_behind(alloc, progress, states.behind(fde), entry, fde, code, base)
+}
+
+/// An entry is written or left out.
+fn put_entry(
+    alloc: Global,
+    progress: &mut Progress,
+    states: &mut CieStates,
+    entry: &Entry<'_>,
+    code: &Enclosing,
+    base: u64,
+) -> Result<(), OutOfMemory>
+    requires known { (e : FdeFields) → entry.now.body ≡ Good e → KeptFor states.old e }
+    requires above { LiesAbove base code.now }
+    ensures shown { OnOk result ((d : Decided) → Shows base progress.old d → Shows base progress.new (with_entry code.now entry.now d)) }
+    ensures kept { OnOk result (StaysKept entry.now states.old states.new) }
+{
+    match &entry.body {
+        Body::Bad(reason) => leave_out(progress, entry, *reason),
+        Body::Good(fde) => put_good(alloc, progress, states, entry, fde, code, base),
+    }
+}
+
+/// Entries of one section in order, from one number on up to another.
+pub fn put_range(
+    alloc: Global,
+    progress: &mut Progress,
+    entries: &EntryList<'_>,
+    code: &Enclosing,
+    base: u64,
+    from: usize,
+    to: usize,
+) -> Result<(), OutOfMemory>
+    requires above { LiesAbove base code.now }
+    requires order { from ≤ to }
+    requires inside { to ≤ length entries.now }
+    ensures { OnOk result ((d : Decided) → Shows base progress.old d → Shows base progress.new (with_entries code.now (take (to - from) (drop from entries.now)) d)) }
+{
+    let mut states = CieStates::new(alloc);
+    'entries: for i in from..to {
+        let entry = entries.entry(i);
+        put_entry(alloc, progress, &mut states, &entry, code, base)?;
+    }
+    Ok(())
+}

@@ -1,0 +1,223 @@
+//! The entries of a section in shares, which workers translate side by side and which are joined in their order.
+ghost use Rattle.std.specs.Prelude.{◌≡◌, ℕ, ◌*◌, ◌<◌, ◌≤◌, ◌^◌, ◌++◌, length, take, slice_index_or, false, OnOk};
+ghost use Rattle.std.specs.List.{list_any};
+ghost use Rattle.sym_edges.specs.Addresses.{Range};
+ghost use Rattle.unit_workers.specs.Working.{AreInOrder};
+ghost use Rattle.rule_postfix.specs.Overlaps.{any_meets};
+ghost use Rattle.rule_postfix.specs.Written.{Decided, with_entries};
+ghost use Rattle.rule_postfix.specs.internal.Deciding.{LiesAbove, Shows, none_decided};
+ghost use Rattle.rule_postfix.specs.internal.Shares.{share};
+
+use crate::progress::{Progress, put_range};
+use crate::written_ranges::WrittenRanges;
+use frame_entries::EntryList;
+use range_set::Enclosing;
+use std::alloc::Global;
+use std::marker::Model;
+use std::mem::replace;
+use std::thread::Threads;
+use sym_edges::{OutOfMemory, Span};
+use unit_workers::{NoGate, UnitJob, run_all};
+
+/// A share has at least so many entries, where a section has as many.
+const LEAST: usize = 512;
+
+/// The shares of a worker.
+const EACH: usize = 4;
+
+/// How many entries a share has: one worker has one share.
+fn share_size(entries: usize, workers: usize) -> usize
+    requires { (1 ≤ workers) × (workers ≤ 64) }
+    ensures { 0 < result }
+{
+    if workers == 1 {
+        return entries.saturating_add(1);
+    }
+    (entries / (EACH * workers)).saturating_add(1).max(LEAST)
+}
+
+/// Decides the entries of share `k`.
+#[tactic(auto, using(crate::proofs::ShareLemmas::share_is))]
+fn put_share(
+    alloc: Global,
+    progress: &mut Progress,
+    entries: &EntryList<'_>,
+    code: &Enclosing,
+    base: u64,
+    size: usize,
+    k: usize,
+) -> Result<(), OutOfMemory>
+    requires { LiesAbove base code.now }
+    ensures { OnOk result ((d : Decided) → Shows base progress.old d → Shows base progress.new (with_entries code.now (share size k entries.now) d)) }
+{
+    let count = entries.len();
+    let from = size.saturating_mul(k).min(count);
+    let to = from.saturating_add(size).min(count);
+    put_range(alloc, progress, entries, code, base, from, to)
+}
+
+/// The shares of a section's entries, each decided as if no range were taken.
+#[derive(Drop)]
+struct Translator<'s, 'a> {
+    entries: &'s EntryList<'a>,
+    code: &'s Enclosing,
+    base: u64,
+    size: usize,
+}
+
+impl<'s, 'a> Model for Translator<'s, 'a> {
+    ghost use Rattle.rule_postfix.specs.internal.Deciding.{LiesAbove};
+    ghost use Rattle.rule_postfix.specs.internal.Shares.{TranslatorParts};
+
+    ghost Value = { TranslatorParts };
+
+    ghost view = { λ t. record { entries = t.entries.now; code = t.code.now; base = t.base; size = t.size } };
+
+    ghost invariant = { λ t. LiesAbove t.base t.code.now };
+}
+
+impl<'s, 'a> Translator<'s, 'a> {
+    fn of(
+        entries: &'s EntryList<'a>,
+        code: &'s Enclosing,
+        base: u64,
+        size: usize,
+    ) -> Translator<'s, 'a>
+        requires { LiesAbove base code.now }
+        ensures { result ≡ record { entries = entries.now; code = code.now; base = base; size = size } }
+    {
+        Translator {
+            entries,
+            code,
+            base,
+            size,
+        }
+    }
+}
+
+impl<'s, 'a> UnitJob for Translator<'s, 'a> {
+    type Out = Progress;
+
+    type Scratch = ();
+
+    ghost gives = { λ t k progress. Shows t.base progress (with_entries t.code (share t.size k t.entries) none_decided) };
+
+    fn scratch(&self, _alloc: Global) -> Result<(), OutOfMemory> {
+        Ok(())
+    }
+
+    fn run(&self, alloc: Global, k: usize, _scratch: &mut ()) -> Result<Progress, OutOfMemory> {
+        let mut progress = Progress::new(alloc);
+        put_share(
+            alloc,
+            &mut progress,
+            self.entries,
+            self.code,
+            self.base,
+            self.size,
+            k,
+        )?;
+        Ok(progress)
+    }
+}
+
+/// Whether one of the ranges meets one that is taken.
+#[tactic(auto, using(crate::proofs::ShareLemmas::met_here, crate::proofs::ShareLemmas::met_never))]
+fn meets_any(taken: &WrittenRanges, spans: &[Span]) -> bool
+    ensures { result ≡ list_any (λ range. any_meets range taken.now) spans.now }
+{
+    'spans: for k in 0..spans.len() {
+        let span = spans[k];
+        if taken.meets(span.start(), span.end()) {
+            return true;
+        }
+    }
+    false
+}
+
+/// The ranges are taken too. None meets one that is taken, or one before it.
+fn take_all(alloc: Global, taken: &mut WrittenRanges, spans: &[Span]) -> Result<(), OutOfMemory>
+    requires { (k : ℕ) (d : Range) → k < length spans.now → any_meets (slice_index_or spans.now k d) (taken.old ++ take k spans.now) ≡ false }
+    ensures { OnOk result (taken.new ≡ taken.old ++ spans.now) }
+{
+    'spans: for k in 0..spans.len() {
+        let span = spans[k];
+        taken.put(alloc, span.start(), span.end())?;
+    }
+    Ok(())
+}
+
+/// Adds what was decided of share `k`, or decides its entries anew where a range of theirs meets one that is taken.
+fn join_share(
+    alloc: Global,
+    progress: &mut Progress,
+    translator: &Translator<'_, '_>,
+    part: Progress,
+    k: usize,
+) -> Result<(), OutOfMemory>
+    requires { Shows translator.now.base part (with_entries translator.now.code (share translator.now.size k translator.now.entries) none_decided) }
+    ensures { OnOk result ((d : Decided) → Shows translator.now.base progress.old d → Shows translator.now.base progress.new (with_entries translator.now.code (share translator.now.size k translator.now.entries) d)) }
+{
+    if meets_any(&progress.taken, part.taken.as_slice()) {
+        return put_share(
+            alloc,
+            progress,
+            translator.entries,
+            translator.code,
+            translator.base,
+            translator.size,
+            k,
+        );
+    }
+    take_all(alloc, &mut progress.taken, part.taken.as_slice())?;
+    let Progress {
+        text,
+        mut omitted,
+        ..
+    } = part;
+    progress.text.append(text)?;
+    progress.omitted.append(&mut omitted)?;
+    Ok(())
+}
+
+/// Adds what was decided of all shares, in their order.
+fn join_shares(
+    alloc: Global,
+    progress: &mut Progress,
+    translator: &Translator<'_, '_>,
+    mut parts: Vec<Progress>,
+) -> Result<(), OutOfMemory>
+    requires each { AreInOrder (λ k part. Shows translator.now.base part (with_entries translator.now.code (share translator.now.size k translator.now.entries) none_decided)) parts.items }
+    requires all { length translator.now.entries ≤ translator.now.size * length parts.items }
+    ensures { OnOk result ((d : Decided) → Shows translator.now.base progress.old d → Shows translator.now.base progress.new (with_entries translator.now.code translator.now.entries d)) }
+{
+    'shares: for k in 0..parts.len() {
+        let part = replace(&mut parts[k], Progress::new(alloc));
+        join_share(alloc, progress, translator, part, k)?;
+    }
+    Ok(())
+}
+
+/// Decides the entries of one section in order, by `workers` workers, 1 to 64.
+pub fn put_entries<R: Threads + Sync>(
+    rt: &R,
+    alloc: Global,
+    progress: &mut Progress,
+    entries: &EntryList<'_>,
+    code: &Enclosing,
+    base: u64,
+    workers: usize,
+) -> Result<(), OutOfMemory>
+    requires above { LiesAbove base code.now }
+    requires workers { (1 ≤ workers) × (workers ≤ 64) }
+    ensures { OnOk result ((d : Decided) → Shows base progress.old d → Shows base progress.new (with_entries code.now entries.now d)) }
+{
+    let size = share_size(entries.len(), workers);
+    let count = (entries.len() / size).saturating_add(1);
+    if count as u64 > 1 << 32 {
+        return Err(OutOfMemory);
+    }
+    let translator = Translator::of(entries, code, base, size);
+    let parts = run_all(rt, alloc, &translator, &NoGate, count, workers)?;
+    join_shares(alloc, progress, &translator, parts)
+}
