@@ -297,6 +297,18 @@ def frames():
         section += fde(len(section), 0x1000 + 16 * k, 16, b"\x0b")
     frames_of(section, 16_000)
     expect("a thousand good and as many bad entries", 0, FRONT + "".join(f"STACK CFI INIT {0x1000 + 16 * k:x} 10 {CALLED}" for k in range(1000)), left_out)
+    # Entries that rise or fall, and now and then one that meets the first: workers take them in shares.
+    for places, first in ((range(4000), 0x1008), (range(3999, -1, -1), 0x1000 + 16 * 3999 - 8)):
+        section, out, left_out = CIE, FRONT, ""
+        for k, place in enumerate(places):
+            if k % 700 == 699:
+                left_out += f"omitted eh_frame {len(section):x} overlap\n"
+                section += fde(len(section), first, 16)
+            out += f"STACK CFI INIT {0x1000 + 16 * place:x} 10 {CALLED}"
+            section += fde(len(section), 0x1000 + 16 * place, 16)
+        frames_of(section, 64_000)
+        for workers in ("1", "2", "8", "64"):
+            expect(f"entries that meet, workers: {workers}", 0, out, left_out, ("dump", "a.out", "--workers", workers))
 
 
 for part in (sections_and_segments, names_and_code, functions, abbreviations, entries, lines, ranges, units, frames):
