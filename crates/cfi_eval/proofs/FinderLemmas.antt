@@ -9,15 +9,12 @@ use Rattle.step_maps.specs.declared.stretch.Stretch.{Stretch}
 use Rattle.step_maps.specs.declared.stretch.FirstItem.{FirstItem}
 use Rattle.step_maps.specs.Stepping.{Stepping, value_at}
 use Rattle.step_maps.specs.Covers.{AreStretches, reaches, first_at, index_at, first_item, is_shared}
+use Rattle.step_maps.proofs.IndexLemmas.{found_joined, cut_at}
 use Rattle.cfi_eval.specs.declared.memory.MemRun.{MemRun}
 use Rattle.cfi_eval.specs.Bytes.{byte_at, holds}
 use Rattle.cfi_eval.specs.internal.Rising.{byte_in}
 use Rattle.cfi_eval.specs.internal.Finders.{run_stretch, stretches_to, byte_of, IsRunMap}
 use Rattle.cfi_eval.proofs.MemoryLemmas.{last_found}
-
-pub fit_joined : (xs : List Stretch) (s : Stretch) → AreStretches xs → s.first ≤ s.last → AreStretches (xs ++ s ∷ [])
-fit_joined [] s fit some = (some, tt)
-fit_joined (x ∷ xs) s fit some = (fit.0, fit_joined xs s fit.1 some)
 
 -- run by run, from the last on
 pub stretches_more : (runs : List MemRun) (place : ℕ) (run : MemRun) (done next all : List Stretch) → 0 < place → place ≤ length runs → run ≡ get_or runs (place - 1) run → done ++ stretches_to place runs ≡ all → next ≡ done ++ run_stretch (place - 1) run
@@ -36,43 +33,9 @@ pub stretches_all : (runs : List MemRun) (place : ℕ) (done all : List Stretch)
 stretches_all runs zero done all l h = sym (append-nil done) ∙ h
 stretches_all runs (suc place) done all l h = absurd (omega arith)
 
--- which index comes first
-found_joined : (xs ys : List Stretch) (x : ℕ) → index_at (xs ++ ys) x ≡ option_or (index_at xs x) (index_at ys x)
-unfolding index_at first_at
-found_joined [] ys x = refl
-found_joined (s ∷ xs) ys x = go (reaches s x) (found_joined xs ys x)
-  where
-    go : (b : Bool) → option_map (λ (t : Stretch). t.index) (find (λ t. reaches t x) (xs ++ ys)) ≡ option_or (option_map (λ (t : Stretch). t.index) (find (λ t. reaches t x) xs)) (option_map (λ (t : Stretch). t.index) (find (λ t. reaches t x) ys))
-        → option_map (λ (t : Stretch). t.index) (cond b (Some s) (find (λ t. reaches t x) (xs ++ ys))) ≡ option_or (option_map (λ (t : Stretch). t.index) (cond b (Some s) (find (λ t. reaches t x) xs))) (option_map (λ (t : Stretch). t.index) (find (λ t. reaches t x) ys))
-    go true h = refl
-    go false h = h
-
 -- a run has the addresses of its stretch
-within_cut : (a s x top : ℕ) → x < top → (nat_le a x && nat_le x (min (a + (suc s - 1)) (top - 1))) ≡ (nat_le a x && nat_lt x (a + suc s))
-within_cut a s x top l = grind (arith, nat_tests)
-
-within_none : (a x : ℕ) → (nat_le a x && nat_lt x (a + 0)) ≡ false
-within_none a x = grind (arith, nat_tests)
-
-not_empty : (s : ℕ) → (suc s == 0) ≡ false
-not_empty s = grind (arith, nat_tests)
-
-index_of_one : (b : Bool) (s : Stretch) → option_map (λ (t : Stretch). t.index) (cond b (Some s) None) ≡ cond b (Some s.index) None
-index_of_one true s = refl
-index_of_one false s = refl
-
 one_run : (n : ℕ) (run : MemRun) (x : ℕ) → x < 2 ^ 64 → index_at (run_stretch n run) x ≡ cond (holds x run) (Some n) None
-unfolding index_at first_at
-one_run n run x l = by_size (length run.bytes) refl
-  where
-    by_size : (size : ℕ) → size ≡ length run.bytes → index_at (run_stretch n run) x ≡ cond (holds x run) (Some n) None
-    by_size zero is = rw (sym is) (ap (λ b. cond b (Some n) None) (sym (within_none run.start x)))
-    by_size (suc s) is =
-        let stretch : Stretch = record { first = run.start; last = min (run.start + (suc s - 1)) (2 ^ 64 - 1); index = n; class = 0 } in
-        rw (sym is)
-        (ap (λ b. option_map (λ (t : Stretch). t.index) (find (λ t. reaches t x) (cond b [] (stretch ∷ [])))) (not_empty s)
-        ∙ index_of_one (reaches stretch x) stretch
-        ∙ ap (λ b. cond b (Some n) None) (within_cut run.start s x (2 ^ 64) l))
+one_run n run x l = cut_at n run.start (length run.bytes) x l
 
 -- the byte that the run of an index has
 abbrev byte_by : ℕ → List MemRun → Option ℕ → Option ℕ

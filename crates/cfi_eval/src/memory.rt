@@ -107,7 +107,7 @@ fn byte_by_halves(runs: &[MemRun], a: u64) -> Option<u8>
 }
 
 /// Adds the stretch of a run, where it is not empty, cut at the last address.
-#[tactic(auto, using(crate::proofs::FinderLemmas::fit_joined))]
+#[tactic(auto, using(step_maps::proofs::StretchLemmas::stretches_push))]
 fn push_run(stretches: &mut Vec<Stretch>, index: u32, run: &MemRun) -> Result<(), OutOfMemory>
     requires { AreStretches stretches.old.items }
     ensures same { OnOk result (stretches.new.items ≡ stretches.old.items ++ run_stretch index run.now) }

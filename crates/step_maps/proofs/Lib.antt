@@ -5,6 +5,7 @@ pub mod OneRuns
 pub mod MaximalLemmas
 pub mod PieceLemmas
 pub mod StretchLemmas
+pub mod IndexLemmas
 pub mod SpanLemmas
 pub mod LayingLemmas
 pub mod FirstLemmas

@@ -10,6 +10,7 @@ use Rattle.step_maps.specs.declared.stretch.Stretch.{Stretch}
 use Rattle.step_maps.specs.declared.stretch.FirstItem.{FirstItem}
 use Rattle.step_maps.specs.Covers.{AreStretches, reaches, first_at, index_at, first_item, is_shared}
 use Rattle.step_maps.specs.Stepping.{Stepping, held_from, value_at}
+use Rattle.step_maps.proofs.IndexLemmas.{none_at, one_at, found_joined, item_index}
 use Rattle.sym_lookup.specs.Answers.{chain_places}
 use Rattle.sym_lookup.specs.AnswerTexts.{call_at}
 use Rattle.sym_lookup.specs.PlaceMaps.{IsBefore, IsPlaceRun, place_in}
@@ -30,25 +31,9 @@ nothing_more (Some n) b = refl
 pub told_nothing : (items : List Stretch) (first last x : ℕ) → index_at items x ≡ option_or (index_at items x) (told_within first last None x)
 told_nothing items first last x = nothing_more (index_at items x) (nat_le first x && nat_le x last)
 
--- the first of two lists
-index_or : (a b : Option Stretch) → option_map (λ (t : Stretch). t.index) (option_or a b) ≡ option_or (option_map (λ (t : Stretch). t.index) a) (option_map (λ (t : Stretch). t.index) b)
-index_or None b = refl
-index_or (Some s) b = refl
-
-found_joined : (items more : List Stretch) (x : ℕ) → index_at (items ++ more) x ≡ option_or (index_at items x) (index_at more x)
-unfolding index_at first_at
-found_joined items more x = ap (option_map (λ (t : Stretch). t.index)) (find-append (λ t. reaches t x) items more) ∙ index_or (find (λ t. reaches t x) items) (find (λ t. reaches t x) more)
-
-one_told : (s : Stretch) (x : ℕ) → index_at (s ∷ []) x ≡ told_within s.first s.last (Some s.index) x
-unfolding index_at first_at
-one_told s x = go (reaches s x)
-  where
-    go : (b : Bool) → option_map (λ (t : Stretch). t.index) (cond b (Some s) None) ≡ cond b (Some s.index) None
-    go true = refl
-    go false = refl
-
+-- one more, at the end
 pub told_more : (items : List Stretch) (s : Stretch) (x : ℕ) → index_at (items ++ s ∷ []) x ≡ option_or (index_at items x) (told_within s.first s.last (Some s.index) x)
-told_more items s x = found_joined items (s ∷ []) x ∙ ap (option_or (index_at items x)) (one_told s x)
+told_more items s x = found_joined items (s ∷ []) x ∙ ap (option_or (index_at items x)) (one_at s x)
 
 -- within the addresses and outside
 inside_told : (first last x : ℕ) (told : Option ℕ) → first ≤ x → x ≤ last → told_within first last told x ≡ told
@@ -148,10 +133,6 @@ pub record AreLevelsTo (own other : List SymLine) (ms ns : List Map) (first last
 abbrev pub IsLevelOf : List SymLine → List SymLine → Map → Map → ℕ → ℕ → List Stretch → List Stretch → Type 0
 IsLevelOf own other a b first last old new = (x : ℕ) → first ≤ x → x ≤ last → index_at new x ≡ option_or (index_at old x) (level_at own other a b x)
 
-none_at : (x : ℕ) → index_at [] x ≡ None
-unfolding index_at first_at
-none_at x = refl
-
 pub levels_begin : (own other : List SymLine) (ms ns : List Map) (first last : ℕ) (items : List Stretch) → items ≡ [] → AreLevelsTo own other ms ns first last ms ns items
 levels_begin own other ms ns first last items e = record {
   fit = subst AreStretches (sym e) tt;
@@ -192,14 +173,6 @@ levels_end own other ms ns first last front back items e f so x l m =
     ap (alike_by (index_at items x)) (ap (λ maps. same_chain own other [] maps x) (sym f) ∙ ap (λ maps. same_chain own other maps back x) (sym e)) ∙ so.same x l m
 
 -- a map
-item_index : (items : List Stretch) (x : ℕ) → option_map (λ (i : FirstItem). i.index) (first_item items x) ≡ index_at items x
-unfolding index_at first_item
-item_index items x = go (first_at items x)
-  where
-    go : (s : Option Stretch) → option_map (λ (i : FirstItem). i.index) (option_map (λ (t : Stretch). record { index = t.index; class = t.class; shared = is_shared items x }) s) ≡ option_map (λ (t : Stretch). t.index) s
-    go None = refl
-    go (Some s) = refl
-
 pub map_is : (own other : List SymLine) (i j first last : ℕ) (told : Map) (ms ns : List Map) (items : List Stretch) → ((x : ℕ) → x < 2 ^ 64 → chain_in ms x ≡ chain_places own i x) → ((x : ℕ) → x < 2 ^ 64 → chain_in ns x ≡ chain_places other j x)
     → ((x : ℕ) → first ≤ x → x ≤ last → alike_by (index_at items x) true ≡ same_chain own other ms ns x) → ((x : ℕ) → x < 2 ^ 64 → value_at None told x ≡ first_item items x) → IsChainMap own other i j first last told
 map_is own other i j first last told ms ns items p q same tells = record {

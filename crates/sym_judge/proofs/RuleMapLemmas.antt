@@ -19,7 +19,7 @@ use Rattle.step_maps.specs.declared.stretch.Stretch.{Stretch}
 use Rattle.step_maps.specs.declared.stretch.FirstItem.{FirstItem}
 use Rattle.step_maps.specs.Covers.{reaches, first_at, first_item, AreStretches}
 use Rattle.step_maps.specs.Stepping.{Stepping, value_at}
-use Rattle.sym_lookup.proofs.StretchLemmas.{fit_joined}
+use Rattle.step_maps.proofs.StretchLemmas.{stretches_push}
 use Rattle.sym_judge.specs.declared.tables.RulePlace.{RulePlace}
 use Rattle.sym_judge.specs.declared.rule_maps.RuleMaps.{RuleMaps}
 use Rattle.sym_judge.specs.internal.Tables.{rules_of, rules_or, rules_at, words_at, words_in, IsTableAt}
@@ -138,7 +138,7 @@ changes_end lines t init place items map l is before = told_all lines t init pla
 -- the first of the items in reverse
 pub fit_back : (items : List Stretch) → AreStretches items → AreStretches (reverse items)
 fit_back [] fit = tt
-fit_back (s ∷ items) fit = subst AreStretches (sym (reverse-append (s ∷ []) items)) (fit_joined (reverse items) s (fit_back items fit.1) fit.0)
+fit_back (s ∷ items) fit = subst AreStretches (sym (reverse-append (s ∷ []) items)) (stretches_push (reverse items) s (fit_back items fit.1) fit.0)
 
 item_place : (found : Option Stretch) (shared : Stretch → Bool) → option_map place_in (option_map (λ s. record { index = s.index; class = s.class; shared = shared s }) found) ≡ option_map place_of found
 item_place None shared = refl

@@ -17,7 +17,8 @@ use Rattle.step_maps.specs.Stepping.{Stepping}
 use Rattle.step_maps.specs.declared.stretch.FirstItem.{FirstItem}
 use Rattle.sym_lookup.specs.PlaceMaps.{IsPlaceMap}
 use Rattle.sym_lookup.specs.internal.Levels.{bucket, AreEmpty, HaveStretches, AreLeveled, IsLevelMap}
-use Rattle.sym_lookup.proofs.StretchLemmas.{records_more, records_all, records_found, none_at}
+use Rattle.step_maps.proofs.IndexLemmas.{none_at}
+use Rattle.sym_lookup.proofs.StretchLemmas.{records_more, records_all, records_found}
 
 abbrev Leveled : Type 0
 Leveled = List (Vec Stretch)

@@ -1,8 +1,7 @@
 -- Lemmas on the stretches of records.
-use Rattle.std.proofs.Common.{◌≡◌, ◌+◌, ◌-◌, ◌<◌, ◌≤◌, ◌^◌, ◌++◌, ◌==◌, ◌&&◌, ◌||◌, min, nat_le, nat_lt, ℕ, zero, suc, Bool, true, false, cond, List, [], ◌∷◌, length, get_or, drop, Option, None, Some, refl, sym, ap, ◌∙◌, arith, append_assoc, append-nil, drop-cons}
-use Rattle.std.specs.List.{find, position_from, list_any}
+use Rattle.std.proofs.Common.{◌≡◌, ◌+◌, ◌<◌, ◌≤◌, ◌^◌, ◌++◌, ◌==◌, ◌&&◌, ◌||◌, ℕ, zero, suc, Bool, true, false, cond, List, [], ◌∷◌, length, get_or, drop, Option, None, Some, refl, sym, ap, ◌∙◌, arith, append_assoc, append-nil, drop-cons}
+use Rattle.std.specs.List.{position_from, list_any}
 use Rattle.std.specs.Option.{option_map, option_or}
-use Rattle.std.proofs.lemmas.Bool.Decides.{nat_tests}
 use Rattle.sym_records.specs.declared.line.Extent.{Extent}
 use Rattle.sym_records.specs.declared.line.SymLine.{SymLine}
 use Rattle.sym_records.specs.declared.line.SymLine.TheVariants.{Func, Inline, Line, Init}
@@ -12,15 +11,12 @@ use Rattle.cfi_eval.specs.Inits.{is_init_at}
 use Rattle.step_maps.specs.declared.stretch.Stretch.{Stretch}
 use Rattle.step_maps.specs.declared.stretch.FirstItem.{FirstItem}
 use Rattle.step_maps.specs.Stepping.{Stepping, value_at}
-use Rattle.step_maps.specs.Covers.{AreStretches, reaches, first_at, index_at, first_item, is_shared}
+use Rattle.step_maps.specs.Covers.{first_at, index_at, first_item}
+use Rattle.step_maps.proofs.IndexLemmas.{none_at, found_joined, cut_at, item_index}
 use Rattle.sym_lookup.specs.declared.stretches.Kind.{Kind}
 use Rattle.sym_lookup.specs.declared.stretches.Kind.TheVariants as kind
 use Rattle.sym_lookup.specs.internal.Kinds.{is_at, init_run, level_ranges, extents_of, stretch_of, extent_stretches, stretches_of}
 use Rattle.sym_lookup.specs.PlaceMaps.{IsPlaceMap}
-
-pub fit_joined : (xs : List Stretch) (s : Stretch) → AreStretches xs → s.first ≤ s.last → AreStretches (xs ++ s ∷ [])
-fit_joined [] s fit some = (some, tt)
-fit_joined (x ∷ xs) s fit some = (fit.0, fit_joined xs s fit.1 some)
 
 -- one more range, and one more record
 pub extents_more : (done : List Stretch) (n : ℕ) (e : Extent) (extents : List Extent) (all : List Stretch) → done ++ extent_stretches n (e ∷ extents) ≡ all → (done ++ stretch_of n e) ++ extent_stretches n extents ≡ all
@@ -48,50 +44,13 @@ none_left kind (s ∷ records) n (suc at) l = none_left kind records n at (omega
 pub records_all : (kind : Kind) (records : List SymLine) (n at : ℕ) (done all : List Stretch) → done ++ stretches_of kind n (drop at records) ≡ all → length records ≤ at → done ≡ all
 records_all kind records n at done all h l = sym (append-nil done) ∙ ap (λ xs. done ++ xs) (sym (none_left kind records n at l)) ∙ h
 
--- which index comes first
-found_joined : (xs ys : List Stretch) (x : ℕ) → index_at (xs ++ ys) x ≡ option_or (index_at xs x) (index_at ys x)
-unfolding index_at first_at
-found_joined [] ys x = refl
-found_joined (s ∷ xs) ys x = go (reaches s x) (found_joined xs ys x)
-  where
-    go : (b : Bool) → option_map (λ (t : Stretch). t.index) (find (λ t. reaches t x) (xs ++ ys)) ≡ option_or (option_map (λ (t : Stretch). t.index) (find (λ t. reaches t x) xs)) (option_map (λ (t : Stretch). t.index) (find (λ t. reaches t x) ys))
-        → option_map (λ (t : Stretch). t.index) (cond b (Some s) (find (λ t. reaches t x) (xs ++ ys))) ≡ option_or (option_map (λ (t : Stretch). t.index) (cond b (Some s) (find (λ t. reaches t x) xs))) (option_map (λ (t : Stretch). t.index) (find (λ t. reaches t x) ys))
-    go true h = refl
-    go false h = h
-
 -- a range has the addresses of its stretch
-within_cut : (a s x top : ℕ) → x < top → (nat_le a x && nat_le x (min (a + (suc s - 1)) (top - 1))) ≡ (nat_le a x && nat_lt x (a + suc s))
-within_cut a s x top l = grind (arith, nat_tests)
-
-within_none : (a x : ℕ) → (nat_le a x && nat_lt x (a + 0)) ≡ false
-within_none a x = grind (arith, nat_tests)
-
-not_empty : (s : ℕ) → (suc s == 0) ≡ false
-not_empty s = grind (arith, nat_tests)
-
-index_of_one : (b : Bool) (s : Stretch) → option_map (λ (t : Stretch). t.index) (cond b (Some s) None) ≡ cond b (Some s.index) None
-index_of_one true s = refl
-index_of_one false s = refl
-
 one_range : (n : ℕ) (e : Extent) (x : ℕ) → x < 2 ^ 64 → index_at (stretch_of n e) x ≡ cond (is_within e.address e.size x) (Some n) None
-unfolding index_at first_at
-one_range n e x l = by_size e.size
-  where
-    by_size : (size : ℕ) → index_at (stretch_of n (record { address = e.address; size = size })) x ≡ cond (is_within e.address size x) (Some n) None
-    by_size zero = ap (λ b. cond b (Some n) None) (sym (within_none e.address x))
-    by_size (suc s) =
-        let stretch : Stretch = record { first = e.address; last = min (e.address + (suc s - 1)) (2 ^ 64 - 1); index = n; class = 0 } in
-        ap (λ b. option_map (λ (t : Stretch). t.index) (find (λ t. reaches t x) (cond b [] (stretch ∷ [])))) (not_empty s)
-        ∙ index_of_one (reaches stretch x) stretch
-        ∙ ap (λ b. cond b (Some n) None) (within_cut e.address s x (2 ^ 64) l)
+one_range n e x l = cut_at n e.address e.size x l
 
 first_of_both : (b c : Bool) (n : ℕ) → option_or (cond b (Some n) None) (cond c (Some n) None) ≡ cond (b || c) (Some n) None
 first_of_both true c n = refl
 first_of_both false c n = refl
-
-pub none_at : (x : ℕ) → index_at [] x ≡ None
-unfolding index_at first_at
-none_at x = refl
 
 some_range : (n : ℕ) (extents : List Extent) (x : ℕ) → x < 2 ^ 64 → index_at (extent_stretches n extents) x ≡ cond (list_any (λ (e : Extent). is_within e.address e.size x) extents) (Some n) None
 some_range n [] x l = none_at x
@@ -145,14 +104,6 @@ records_found kind n (s ∷ records) x l =
     ∙ ap (λ o. option_or (cond (list_any (λ (e : Extent). is_within e.address e.size x) (extents_of kind s)) (Some n) None) o) (records_found kind (n + 1) records x l)
     ∙ first_record (list_any (λ (e : Extent). is_within e.address e.size x) (extents_of kind s)) n (position_from (is_at kind x) (n + 1) records)
     ∙ ap (λ b. cond b (Some n) (position_from (is_at kind x) (n + 1) records)) (kind_test kind x s)
-
-item_index : (items : List Stretch) (x : ℕ) → option_map (λ (i : FirstItem). i.index) (first_item items x) ≡ index_at items x
-unfolding index_at first_item
-item_index items x = go (first_at items x)
-  where
-    go : (s : Option Stretch) → option_map (λ (i : FirstItem). i.index) (option_map (λ (t : Stretch). record { index = t.index; class = t.class; shared = is_shared items x }) s) ≡ option_map (λ (t : Stretch). t.index) s
-    go None = refl
-    go (Some s) = refl
 
 pub map_is : (kind : Kind) (n : ℕ) (records : List SymLine) (items : List Stretch) (map : Stepping (Option FirstItem)) → items ≡ stretches_of kind n records → ((a : ℕ) → a < 2 ^ 64 → value_at None map a ≡ first_item items a)
     → IsPlaceMap (λ x. position_from (is_at kind x) n records) map

@@ -31,7 +31,7 @@ pub enum Kind {
 pub type PlaceMap = StepMap<Option<FirstItem>>;
 
 /// Adds the stretch of a range, where it is not empty.
-#[tactic(auto, using(crate::proofs::StretchLemmas::fit_joined))]
+#[tactic(auto, using(step_maps::proofs::StretchLemmas::stretches_push))]
 fn push_extent(stretches: &mut Vec<Stretch>, index: u32, extent: Extent) -> Result<(), OutOfMemory>
     requires { AreStretches stretches.old.items }
     ensures same { OnOk result (stretches.new.items ≡ stretches.old.items ++ stretch_of index extent) }
@@ -129,7 +129,7 @@ fn stretches_of(
 }
 
 /// Which record of a kind is the first at each address, in n log n turns for n ranges however they overlap.
-#[tactic(auto, using(crate::proofs::StretchLemmas::fit_joined))]
+#[tactic(auto, using(step_maps::proofs::StretchLemmas::stretches_push))]
 pub(crate) fn place_map(
     alloc: Global,
     kind: Kind,

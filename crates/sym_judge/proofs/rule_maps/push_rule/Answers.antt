@@ -1,6 +1,6 @@
 use Rattle.std.proofs.Common.{sym, subst, ◌∙◌, refl, arith}
 use Rattle.step_maps.specs.Covers.{AreStretches}
-use Rattle.sym_lookup.proofs.StretchLemmas.{fit_joined}
+use Rattle.step_maps.proofs.StretchLemmas.{stretches_push}
 use Rattle.sym_judge.specs.internal.RuleMaps.{with_rule, AreLast}
 use Rattle.sym_judge.proofs.RuleMapLemmas.{rule_told, rule_passed}
 use Rattle.sym_judge.proofs.rule_maps.push_rule.Goals as goal
@@ -10,7 +10,7 @@ returns-then-not-is_same_target-clause-last c = λ lines done words before.
     rule_passed lines c.args.target.now c.args.items.now.items c.args.start c.args.rule.now done (sym c.is_same_target.ensures ∙ c.if-not-is_same_target.true) before
 
 pub returns-clause-stretches : goal.returns-clause-stretches
-returns-clause-stretches c = subst AreStretches (sym c.in_ok-push.ensures.items) (fit_joined c.args.items.now.items _ c.requires.stretches (omega (arith, c.ranges.start.fits)))
+returns-clause-stretches c = subst AreStretches (sym c.in_ok-push.ensures.items) (stretches_push c.args.items.now.items _ c.requires.stretches (omega (arith, c.ranges.start.fits)))
 
 pub returns-clause-last : goal.returns-clause-last
 returns-clause-last c = λ lines done words before.
