@@ -16,3 +16,4 @@ pub mod PartLemmas
 pub mod IndexLemmas
 pub mod RisingLemmas
 pub mod UnderOfLemmas
+pub mod HeldLemmas

@@ -1,5 +1,5 @@
 -- An index of a list of records: at each address of 64 bits it finds what the scans find.
-use Rattle.std.specs.Prelude.{◌≡◌, ℕ, List}
+use Rattle.std.specs.Prelude.{◌≡◌, ℕ, List, length}
 use Rattle.std.specs.List.{position}
 use Rattle.std.specs.List.Sorted.{IsNonDecreasingBy}
 use Rattle.sym_records.specs.declared.line.SymLine.{SymLine}
@@ -9,7 +9,7 @@ use Rattle.sym_lookup.specs.declared.index.Index.{Index}
 use Rattle.sym_meaning.specs.TextNames.{is_file, is_origin}
 use Rattle.sym_lookup.specs.declared.numbers.Numbers.{Numbers}
 use Rattle.sym_lookup.specs.Answers.{func_place, public_place}
-use Rattle.sym_lookup.specs.UnderOf.{AreUnders}
+use Rattle.sym_lookup.specs.UnderOf.{AreUnders, AreHeld}
 use Rattle.sym_lookup.specs.PlaceMaps.{IsPlaceMap}
 use Rattle.sym_lookup.specs.internal.Marks.{mark_at, public_of, numbered}
 
@@ -31,4 +31,5 @@ pub record IsIndexOf (lines : List SymLine) (index : Index) : Type 0 where
   pub inits : IsPlaceMap (init_place lines) index.inits
   pub marks : AreMarksOf lines index.starts.items index.publics.items
   pub unders : AreUnders lines index.unders.items
+  pub held : AreHeld lines 0 (length lines) index.unders.items
   pub numbers : AreNumbersOf lines index.numbers

@@ -1,9 +1,10 @@
 //! The parts of what a look-up answers where a `FUNC` has more than a few ranges under it: its levels as maps, and its line.
 ghost use Rattle.std.specs.Prelude.{◌≡◌, ◌<◌, ◌^◌, ℕ, List, IfSome};
+ghost use Rattle.std.specs.Option.{is_some};
 ghost use Rattle.sym_lookup.specs.Answers.{func_place, chain_places, line_place};
 ghost use Rattle.sym_lookup.specs.IndexOf.{IsIndexOf};
 ghost use Rattle.sym_lookup.specs.PlaceMaps.{place_in, IsPlaceRun};
-ghost use Rattle.sym_lookup.specs.UnderOf.{chain_in};
+ghost use Rattle.sym_lookup.specs.UnderOf.{chain_in, is_held};
 ghost use Rattle.sym_records.specs.declared.line.SymLine.{SymLine};
 
 use crate::answers::PlaceRun;
@@ -27,10 +28,11 @@ impl Index {
         crate::stretches::place_at(self.funcs(), address)
     }
 
-    /// Which `INLINE` of each level under the `FUNC` at a place is the first at each address, where the index holds that: of a `FUNC` with more
-    /// than a few ranges under it.
+    /// Which `INLINE` of each level under the `FUNC` at a place is the first at each address, where the index holds that: exactly of each `FUNC`
+    /// with more than 32 ranges under it, where a record without a range counts as one.
     pub fn levels(&self, func: usize) -> Option<&[PlaceMap]>
-        ensures { IfSome result (λ levels. (lines : List SymLine) (x : ℕ) → IsIndexOf lines self.now → x < 2 ^ 64 → chain_in levels.now x ≡ chain_places lines func x) }
+        ensures held { (lines : List SymLine) → IsIndexOf lines self.now → is_some result ≡ is_held lines func }
+        ensures chain { IfSome result (λ levels. (lines : List SymLine) (x : ℕ) → IsIndexOf lines self.now → x < 2 ^ 64 → chain_in levels.now x ≡ chain_places lines func x) }
     {
         match under_at(self.unders(), func) {
             Some(under) => Some(level_maps(under)),
@@ -39,10 +41,11 @@ impl Index {
     }
 
     /// The place of the first line record under the `FUNC` at a place that covers the address, or of none; nothing where the index does not hold
-    /// what stands under it.
+    /// what stands under it, as for [`Index::levels`].
     pub fn line_at(&self, file: &SymFile, func: usize, address: u64) -> Option<Option<usize>>
         requires { IsIndexOf file.now self.now }
-        ensures { IfSome result (λ line. line ≡ line_place file.now func address) }
+        ensures held { is_some result ≡ is_held file.now func }
+        ensures line { IfSome result (λ line. line ≡ line_place file.now func address) }
     {
         match under_at(self.unders(), func) {
             Some(under) => Some(line_in(under, file.as_slice(), address)),

@@ -1,11 +1,12 @@
 //! What stands under a `FUNC`, so that the records at an address are found by halves.
-ghost use Rattle.std.specs.Prelude.{◌≡◌, ℕ, ◌+◌, ◌<◌, ◌^◌, List, length, IfOk, OnOk, IfSome};
+ghost use Rattle.std.specs.Prelude.{◌≡◌, ℕ, ◌+◌, ◌<◌, ◌^◌, nat_le, true, List, length, IfOk, OnOk, IfSome};
+ghost use Rattle.std.specs.List.{sum_by};
+ghost use Rattle.std.specs.Option.{is_some};
 ghost use Rattle.sym_records.specs.declared.line.SymLine.{SymLine};
 ghost use Rattle.sym_meaning.specs.TextNames.{level_count};
 ghost use Rattle.sym_lookup.specs.declared.answers.Answer.TheVariants as answer;
 ghost use Rattle.sym_lookup.specs.Answers.{chain_from, chain_places, line_place};
-ghost use Rattle.sym_lookup.specs.UnderOf.{chain_in, IsLineFinder, IsUnder, AreUnders};
-ghost use Rattle.sym_lookup.specs.internal.Scans.{is_func};
+ghost use Rattle.sym_lookup.specs.UnderOf.{chain_in, IsLineFinder, IsUnder, AreUnders, range_count, is_func, is_held, AreHeld};
 
 use crate::answers::{Answer, PlaceList};
 use crate::finding::{in_function, level_count, under_func};
@@ -100,7 +101,8 @@ pub(crate) fn line_in(under: &Under, lines: &[SymLine], address: u64) -> Option<
 fn under_of(alloc: Global, lines: &[SymLine], func: usize) -> Result<Under, OutOfMemory>
     requires within { func < length lines.now }
     requires few { length lines.now < 2 ^ 32 }
-    ensures { IfOk result (λ under. IsUnder lines.now under) }
+    ensures func { IfOk result (λ under. under.func ≡ func) }
+    ensures under { IfOk result (λ under. IsUnder lines.now under) }
 {
     let levels = levels_of(alloc, under_func(lines, func), func + 1)?;
     let finder = line_finder(alloc, lines, func)?;
@@ -117,8 +119,44 @@ fn is_func(line: &SymLine) -> bool
     matches!(line, SymLine::Func { .. })
 }
 
-/// Adds what stands under the `FUNC` at a place.
-#[tactic(auto, using(crate::proofs::UnderOfLemmas::unders_joined))]
+/// So many ranges under a `FUNC` are scanned, and nothing is held of them.
+const FEW: usize = 32;
+
+/// How many ranges a record under a `FUNC` has, and at least one.
+fn range_count(line: &SymLine) -> usize
+    ensures { result ≡ range_count line.now }
+{
+    match line {
+        SymLine::Inline { ranges, .. } => ranges.len().max(1),
+        _ => 1,
+    }
+}
+
+/// Whether some records have at most a few ranges.
+fn are_few(records: &[SymLine]) -> bool
+    ensures { result ≡ nat_le (sum_by range_count records.now) 32 }
+{
+    let mut room = FEW;
+    'records: for at in 0..records.len() {
+        let many = range_count(&records[at]);
+        if many > room {
+            return false;
+        }
+        room -= many;
+    }
+    true
+}
+
+/// Whether the record at a place is a `FUNC` with more than a few ranges under it.
+fn is_held(lines: &[SymLine], func: usize) -> bool
+    requires { func < length lines.now }
+    ensures { result ≡ is_held lines.now func }
+{
+    is_func(&lines[func]) && !are_few(under_func(lines, func))
+}
+
+/// Adds what stands under the `FUNC` at a place, the next that has more than a few ranges under it.
+#[tactic(auto, using(crate::proofs::UnderOfLemmas::unders_joined, crate::proofs::HeldLemmas::held_joined))]
 fn push_under(
     alloc: Global,
     unders: &mut Vec<Under>,
@@ -128,44 +166,26 @@ fn push_under(
     requires within { func < length lines.now }
     requires few { length lines.now < 2 ^ 32 }
     requires unders { AreUnders lines.now unders.old.items }
-    ensures { OnOk result (AreUnders lines.now unders.new.items) }
+    requires held { AreHeld lines.now 0 func unders.old.items }
+    requires next { is_held lines.now func ≡ true }
+    ensures unders { OnOk result (AreUnders lines.now unders.new.items) }
+    ensures held { OnOk result (AreHeld lines.now 0 (func + 1) unders.new.items) }
 {
     let under = under_of(alloc, lines, func)?;
     unders.push(under)?;
     Ok(())
 }
 
-/// So many ranges under a `FUNC` are scanned, and nothing is held of them.
-const FEW: usize = 32;
-
-/// How many ranges a record under a `FUNC` has, and at least one.
-fn range_count(line: &SymLine) -> usize {
-    match line {
-        SymLine::Inline { ranges, .. } => ranges.len().max(1),
-        _ => 1,
-    }
-}
-
-/// Whether some records have at most a few ranges.
-fn are_few(records: &[SymLine]) -> bool {
-    let mut count = 0usize;
-    'records: for line in records {
-        count = count.saturating_add(range_count(line));
-        if count > FEW {
-            return false;
-        }
-    }
-    true
-}
-
 /// What stands under each `FUNC` that has more than a few ranges under it, in their order.
+#[tactic(auto, using(crate::proofs::HeldLemmas::held_skipped))]
 pub(crate) fn unders_of(alloc: Global, lines: &[SymLine]) -> Result<Vec<Under>, OutOfMemory>
     requires { length lines.now < 2 ^ 32 }
-    ensures { IfOk result (λ unders. AreUnders lines.now unders.items) }
+    ensures unders { IfOk result (λ unders. AreUnders lines.now unders.items) }
+    ensures held { IfOk result (λ unders. AreHeld lines.now 0 (length lines.now) unders.items) }
 {
     let mut unders = Vec::new(alloc);
     'lines: for at in 0..lines.len() {
-        if !is_func(&lines[at]) || are_few(under_func(lines, at)) {
+        if !is_held(lines, at) {
             continue;
         }
         push_under(alloc, &mut unders, lines, at)?;
@@ -178,6 +198,7 @@ pub(crate) fn unders_of(alloc: Global, lines: &[SymLine]) -> Result<Vec<Under>, 
 pub(crate) fn under_at(unders: &[Under], func: usize) -> Option<&Under>
     ensures func { IfSome result (λ under. under.now.func ≡ func) }
     ensures under { IfSome result (λ under. (lines : List SymLine) → AreUnders lines unders.now → IsUnder lines under.now) }
+    ensures held { (lines : List SymLine) → AreHeld lines 0 (length lines) unders.now → is_some result ≡ is_held lines func }
 {
     let at = unders.partition_point(|under| (under.func as usize) < func);
     if at >= unders.len() {

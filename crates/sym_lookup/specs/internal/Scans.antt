@@ -2,7 +2,7 @@
 use Rattle.std.specs.Prelude.{◌≡◌, ℕ, ◌+◌, Bool, true, false, if◌then◌else◌, List, Option, Some, IfSome, slice_get}
 use Rattle.std.specs.List.{position_from}
 use Rattle.sym_records.specs.declared.line.SymLine.{SymLine}
-use Rattle.sym_records.specs.declared.line.SymLine.TheVariants.{Func, Inline, Line}
+use Rattle.sym_records.specs.declared.line.SymLine.TheVariants.{Inline, Line}
 use Rattle.sym_meaning.specs.TextNames.{is_inline_at}
 
 -- whether a record stands under a FUNC
@@ -15,10 +15,6 @@ is_under _ = false
 abbrev pub level_end : SymLine → ℕ
 level_end (Inline level line file origin ranges) = level + 1
 level_end _ = 0
-
-abbrev pub is_func : SymLine → Bool
-is_func (Func many address size params name) = true
-is_func _ = false
 
 -- a record at a place before those of a level behind it
 abbrev pub sooner : ℕ → ℕ → ℕ → SymLine → Option ℕ → Option ℕ
