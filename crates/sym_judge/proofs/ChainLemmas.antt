@@ -1,14 +1,12 @@
 -- Lemmas on chains by maps of their levels.
 use Rattle.std.proofs.Common.{◌≡◌, ◌+◌, ◌<◌, ◌≤◌, ◌^◌, ◌&&◌, nat_le, ℕ, Bool, true, false, cond, List, [], ◌∷◌, ◌++◌, map, Option, None, Some, refl, sym, ap, subst, ◌∙◌, arith, inl, inr}
-use Rattle.std.specs.List.{find}
 use Rattle.std.specs.Option.{option_map, option_map_or, option_or}
 use Rattle.std.proofs.lemmas.Bool.{cases_lt}
-use Rattle.std.proofs.lemmas.List.Folds.{find-append}
 use Rattle.std.proofs.lemmas.Bool.Decides.{nat_tests}
 use Rattle.sym_records.specs.declared.line.SymLine.{SymLine}
 use Rattle.step_maps.specs.declared.stretch.Stretch.{Stretch}
 use Rattle.step_maps.specs.declared.stretch.FirstItem.{FirstItem}
-use Rattle.step_maps.specs.Covers.{AreStretches, reaches, first_at, index_at, first_item, is_shared}
+use Rattle.step_maps.specs.Covers.{AreStretches, index_at, first_item}
 use Rattle.step_maps.specs.Stepping.{Stepping, held_from, value_at}
 use Rattle.step_maps.proofs.IndexLemmas.{none_at, one_at, found_joined, item_index}
 use Rattle.sym_lookup.specs.Answers.{chain_places}

@@ -9,6 +9,7 @@ pub mod FrameLemmas
 pub mod NameLemmas
 pub mod AliasLemmas
 pub mod HeldFormLemmas
+pub mod RuleAliasLemmas
 pub mod BothLemmas
 pub mod BlockLemmas
 pub mod ClearLemmas
@@ -16,6 +17,7 @@ pub mod ChainLemmas
 pub mod MeetingLemmas
 pub mod DoubtLemmas
 pub mod SteadyLemmas
+pub mod StopListLemmas
 pub mod StopLemmas
 pub mod LawLemmas
 mod WorkedForms

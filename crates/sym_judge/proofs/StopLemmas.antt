@@ -1,10 +1,13 @@
 -- The least stop at which two files differ is the least address at which they do.
-use Rattle.std.proofs.Common.{◌≡◌, ℕ, ◌^◌, ◌<◌, ◌≤◌, leb, Bool, true, false, cond, List, [], ◌∷◌, ◌++◌, length, Option, None, Some, refl, sym, ap, ◌∙◌, arith, inl, inr}
+use Rattle.std.proofs.Common.{◌≡◌, ℕ, zero, suc, ◌+◌, ◌^◌, ◌<◌, ◌≤◌, leb, Bool, true, false, cond, List, [], ◌∷◌, ◌++◌, length, get_or, Option, None, Some, drop, refl, sym, ap, subst, ◌∙◌, add-one, drop-cons, arith, inl, inr}
 use Rattle.std.proofs.lemmas.Bool.{cases_lt}
 use Rattle.std.proofs.lemmas.Bool.Decides.{nat_tests}
-use Rattle.std.specs.List.{find}
+use Rattle.std.specs.List.{find, Contains}
 use Rattle.std.specs.Option.{option_or}
+use Rattle.std.proofs.lemmas.List.{drop_all}
+use Rattle.std.proofs.lemmas.List.Elements.{Contains-append_left, Contains-append_right}
 use Rattle.std.proofs.lemmas.List.Folds.{find-append}
+use Rattle.step_maps.specs.Stepping.{Stepping, value_at}
 use Rattle.sym_records.specs.declared.line.SymLine.{SymLine}
 use Rattle.sym_judge.specs.Alike.{first_unlike, name_aspects, frame_aspects, differs}
 use Rattle.sym_judge.specs.Rulings.{IsRuling}
@@ -13,7 +16,8 @@ use Rattle.sym_judge.specs.declared.ruling.Ruling.{Ruling}
 use Rattle.sym_judge.specs.declared.ruling.Ruling.TheVariants.{Yes, No}
 use Rattle.sym_judge.specs.declared.ruling.Half.{Half}
 use Rattle.sym_judge.specs.declared.ruling.Half.TheVariants.{Names, Frames}
-use Rattle.sym_judge.specs.internal.Stops.{stops_of, first_in, is_settled, with_found, with_stop, with_stops, all_stops, half_ruling, sooner, Fits, IsHalfRuling}
+use Rattle.sym_judge.specs.internal.Stops.{Compared, stops_of, first_in, is_settled, with_found, with_stop, with_stops, all_stops, doubted, sooner, Fits, IsHalfRuling}
+use Rattle.sym_judge.specs.internal.Blocks.{AreDoubts}
 use Rattle.sym_judge.proofs.SteadyLemmas.{AreOutside, steady, outside_both}
 
 -- the addresses below that of a ruling
@@ -24,7 +28,7 @@ IsBelow (No address aspect) x = x < address
 -- at each of some stops that are below it the files do not differ
 abbrev AreClear : Half → List SymLine → List SymLine → Ruling → List ℕ → Type 0
 AreClear half own other ruling [] = Unit {0}
-AreClear half own other ruling (x ∷ stops) = (IsBelow ruling x → first_in half own other x ≡ None) × AreClear half own other ruling stops
+AreClear half own other ruling (x ∷ stops) = (x < 2 ^ 64 → IsBelow ruling x → first_in half own other x ≡ None) × AreClear half own other ruling stops
 
 -- what a ruling that is not yes says is so
 abbrev IsTrueOf : Half → List SymLine → List SymLine → Ruling → Type 0
@@ -77,21 +81,32 @@ unfolding with_stops
 stops_fall half own other ruling [] = λ b h. h
 stops_fall half own other ruling (x ∷ stops) = λ b h. stop_falls half own other ruling x b (stops_fall half own other (with_stop half own other ruling x) stops b h)
 
-stops_clear : (half : Half) (own other : List SymLine) (ruling : Ruling) (stops : List ℕ) → AreClear half own other (with_stops half own other ruling stops) stops
+seen_clear : (half : Half) (own other : List SymLine) (ruling : Ruling) (stops : List ℕ) (k x : ℕ) → k < length stops → get_or stops k x ≡ x → IsBelow (with_stops half own other ruling stops) x → first_in half own other x ≡ None
 unfolding with_stops
-stops_clear half own other ruling [] = tt
-stops_clear half own other ruling (x ∷ stops) =
-    (λ h. stop_clear half own other ruling x (stops_fall half own other (with_stop half own other ruling x) stops x h), stops_clear half own other (with_stop half own other ruling x) stops)
+seen_clear half own other ruling [] k x l e h = absurd (omega arith)
+seen_clear half own other ruling (y ∷ stops) zero x l e h =
+    let below : IsBelow (with_stop half own other ruling y) x = stops_fall half own other (with_stop half own other ruling y) stops x h in
+    ap (first_in half own other) (sym e) ∙ stop_clear half own other ruling y (subst (IsBelow (with_stop half own other ruling y)) (sym e) below)
+seen_clear half own other ruling (y ∷ stops) (suc k) x l e h = seen_clear half own other (with_stop half own other ruling y) stops k x (omega arith) e h
 
 stops_true : (half : Half) (own other : List SymLine) (ruling : Ruling) (stops : List ℕ) → IsTrueOf half own other ruling → IsTrueOf half own other (with_stops half own other ruling stops)
 unfolding with_stops
 stops_true half own other ruling [] h = h
 stops_true half own other ruling (x ∷ stops) h = stops_true half own other (with_stop half own other ruling x) stops (stop_true half own other ruling x h)
 
-pub stops_append : (half : Half) (own other : List SymLine) (ruling : Ruling) (front back : List ℕ) → with_stops half own other ruling (front ++ back) ≡ with_stops half own other (with_stops half own other ruling front) back
-unfolding with_stops
-stops_append half own other ruling [] back = refl
-stops_append half own other ruling (x ∷ front) back = stops_append half own other (with_stop half own other ruling x) front back
+-- where each stop that is doubted is clear, all are
+abbrev IsClearIn : Half → List SymLine → List SymLine → Ruling → List ℕ → Type 0
+IsClearIn half own other ruling stops = (x : ℕ) → Contains stops x → x < 2 ^ 64 → IsBelow ruling x → first_in half own other x ≡ None
+
+clear_more : (half : Half) (own other : List SymLine) (ruling : Ruling) (x : ℕ) (stops kept : List ℕ) (b : Bool) → (b ≡ false → x < 2 ^ 64 → first_in half own other x ≡ None) → IsClearIn half own other ruling (cond b (x ∷ kept) kept) → (IsClearIn half own other ruling kept → AreClear half own other ruling stops)
+    → AreClear half own other ruling (x ∷ stops)
+clear_more half own other ruling x stops kept true none told rest = (λ fits below. told x (Contains-append_left (x ∷ []) kept x (0, omega arith, refl)) fits below, rest (λ y has. told y (Contains-append_right (x ∷ []) kept y has)))
+clear_more half own other ruling x stops kept false none told rest = (λ fits below. none refl fits, rest told)
+
+all_clear : (half : Half) (own other : List SymLine) (ruling : Ruling) (doubts : Stepping Bool) → AreDoubts half own other doubts → (stops : List ℕ) → IsClearIn half own other ruling (doubted doubts stops) → AreClear half own other ruling stops
+all_clear half own other ruling doubts are [] told = tt
+all_clear half own other ruling doubts are (x ∷ stops) told =
+    clear_more half own other ruling x stops (doubted doubts stops) (value_at false doubts x) (λ is fits. are.clear x fits is) told (all_clear half own other ruling doubts are stops)
 
 -- the last stop that is not above an address
 record Latest (half : Half) (own other : List SymLine) (x low : ℕ) (stops : List ℕ) : Type 0 where
@@ -105,25 +120,22 @@ below_too : (ruling : Ruling) (b x : ℕ) → b ≤ x → IsBelow ruling x → I
 below_too Yes b x l h = tt
 below_too (No a p) b x l h = omega arith
 
-latest : (half : Half) (own other : List SymLine) (ruling : Ruling) (x : ℕ) → IsBelow ruling x → (stops : List ℕ) → AreClear half own other ruling stops → (low : ℕ) → low ≤ x → first_in half own other low ≡ None → Latest half own other x low stops
-latest half own other ruling x below [] clear low up none = record { stop = low; above = omega arith; upto = up; clear = none; outside = tt }
-latest half own other ruling x below (b ∷ stops) clear low up none = elim (cases_lt x b) [
-  | inl over ↦ let later : Latest half own other x low stops = latest half own other ruling x below stops clear.1 low up none in
+latest : (half : Half) (own other : List SymLine) (ruling : Ruling) (x : ℕ) → x < 2 ^ 64 → IsBelow ruling x → (stops : List ℕ) → AreClear half own other ruling stops → (low : ℕ) → low ≤ x → first_in half own other low ≡ None → Latest half own other x low stops
+latest half own other ruling x fits below [] clear low up none = record { stop = low; above = omega arith; upto = up; clear = none; outside = tt }
+latest half own other ruling x fits below (b ∷ stops) clear low up none = elim (cases_lt x b) [
+  | inl over ↦ let later : Latest half own other x low stops = latest half own other ruling x fits below stops clear.1 low up none in
       record { stop = later.stop; above = later.above; upto = later.upto; clear = later.clear; outside = (λ l. over, later.outside) }
   | inr under ↦ elim (cases_lt b low) [
-    | inl less ↦ let later : Latest half own other x low stops = latest half own other ruling x below stops clear.1 low up none in
+    | inl less ↦ let later : Latest half own other x low stops = latest half own other ruling x fits below stops clear.1 low up none in
         record { stop = later.stop; above = later.above; upto = later.upto; clear = later.clear; outside = (λ l. let lower : low ≤ later.stop = later.above in absurd (omega arith), later.outside) }
-    | inr more ↦ let later : Latest half own other x b stops = latest half own other ruling x below stops clear.1 b under (clear.0 (below_too ruling b x under below)) in
+    | inr more ↦ let later : Latest half own other x b stops = latest half own other ruling x fits below stops clear.1 b under (clear.0 (omega arith) (below_too ruling b x under below)) in
         record { stop = later.stop; above = let lower : b ≤ later.stop = later.above in omega arith; upto = later.upto; clear = later.clear; outside = (λ l. let lower : b ≤ later.stop = later.above in absurd (omega arith), later.outside) }
   ]
 ]
 
-clear_below : (half : Half) (own other : List SymLine) (x : ℕ) → x < 2 ^ 64 → IsBelow (half_ruling half own other) x → first_in half own other x ≡ None
-unfolding half_ruling
-clear_below half own other x fits below =
-    let ruling : Ruling = half_ruling half own other in
-    let clear = stops_clear half own other Yes (all_stops half own other) in
-    let last : Latest half own other x 0 (stops_of half own ++ stops_of half other) = latest half own other ruling x below (stops_of half own ++ stops_of half other) clear.1 0 (omega arith) (clear.0 (below_too ruling 0 x (omega arith) below)) in
+clear_below : (half : Half) (own other : List SymLine) (ruling : Ruling) → AreClear half own other ruling (all_stops half own other) → (x : ℕ) → x < 2 ^ 64 → IsBelow ruling x → first_in half own other x ≡ None
+clear_below half own other ruling clear x fits below =
+    let last : Latest half own other x 0 (stops_of half own ++ stops_of half other) = latest half own other ruling x fits below (stops_of half own ++ stops_of half other) clear.1 0 (omega arith) (clear.0 (omega arith) (below_too ruling 0 x (omega arith) below)) in
     let out = outside_both last.stop x (stops_of half own) (stops_of half other) last.outside in
     sym (steady half own other last.stop x last.upto fits out.0 out.1) ∙ last.clear
 
@@ -131,9 +143,18 @@ half_by : (half : Half) (own other : List SymLine) (ruling : Ruling) → Fits ru
 half_by half own other Yes fits is clear = λ x l. clear x l tt
 half_by half own other (No a p) fits is clear = (fits, (is, λ x l. clear x (omega arith) l))
 
-pub half_is : (half : Half) (own other : List SymLine) → Fits (half_ruling half own other) → IsHalfRuling half own other (half_ruling half own other)
-unfolding half_ruling
-half_is half own other fits = half_by half own other (half_ruling half own other) fits (stops_true half own other Yes (all_stops half own other) tt) (clear_below half own other)
+half_is : (half : Half) (own other : List SymLine) (doubts : Stepping Bool) (stops : List ℕ) (r : Ruling) → AreDoubts half own other doubts → ((x : ℕ) → Contains (doubted doubts (all_stops half own other)) x → Contains stops x) → r ≡ with_stops half own other Yes stops → Fits r → IsHalfRuling half own other r
+half_is half own other doubts stops r are kept is fits =
+    let told : IsClearIn half own other r (doubted doubts (all_stops half own other))
+    = λ x has small below. let has_it = kept x has in seen_clear half own other Yes stops has_it.0 x has_it.1 has_it.2 (subst (λ q. IsBelow q x) is below) in
+    half_by half own other r fits (subst (IsTrueOf half own other) (sym is) (stops_true half own other Yes stops tt)) (clear_below half own other r (all_clear half own other r doubts are (all_stops half own other) told))
+
+pub half_told : (half : Half) (own other first second : List SymLine) (c : Compared) (doubts : Stepping Bool) (items stops : List ℕ) (r : Ruling) → c ≡ record { half = half; own = own; other = other } → first ≡ own → second ≡ other → AreDoubts c.half c.own c.other doubts
+    → ((x : ℕ) → Contains (doubted doubts (all_stops half first second)) x → Contains items x) → stops ≡ items → r ≡ with_stops c.half c.own c.other Yes stops → Fits r → IsHalfRuling half own other r
+half_told half own other first second c doubts items stops r p e f are kept s is fits =
+    half_is half own other doubts items r (subst (λ (d : Compared). AreDoubts d.half d.own d.other doubts) p are)
+    (λ x has. kept x (subst (λ lines. Contains (doubted doubts (all_stops half lines second)) x) (sym e) (subst (λ lines. Contains (doubted doubts (all_stops half own lines)) x) (sym f) has)))
+    (is ∙ ap (λ (d : Compared). with_stops d.half d.own d.other Yes stops) p ∙ ap (with_stops half own other Yes) s) fits
 
 -- both halves
 first_of_both : (own other : List SymLine) (x : ℕ) (a b : Option Aspect) → first_in Names own other x ≡ a → first_in Frames own other x ≡ b → first_unlike own other x ≡ option_or a b
@@ -150,17 +171,19 @@ rulings_join own other (No a n) (No b f) p q = by (leb a b) refl
     by true is = let l : a ≤ b = settled a b is in record { address_fits = p.0; differ = first_of_both own other a (Some n) (first_in Frames own other a) p.1.0 refl; alike_below = λ x m. first_of_both own other x None None (p.1.1 x m) (q.1.1 x (omega arith)) }
     by false is = let l : b < a = not_settled a b is in record { address_fits = q.0; differ = first_of_both own other b None (Some f) (p.1.1 b l) q.1.0; alike_below = λ x m. first_of_both own other x None None (p.1.1 x (omega arith)) (q.1.1 x m) }
 
-pub no_stops : (half : Half) (own other : List SymLine) (ruling : Ruling) → with_stops half own other ruling [] ≡ ruling
+-- one stop more, and no more
+pub stops_more : (half : Half) (own other : List SymLine) (known r all : Ruling) (stops : List ℕ) (at d : ℕ) → with_stops half own other known (drop at stops) ≡ all → at < length stops → r ≡ with_stop half own other known (get_or stops at d)
+    → with_stops half own other r (drop (at + 1) stops) ≡ all
 unfolding with_stops
-no_stops half own other ruling = refl
+stops_more half own other known r all stops at d before l e =
+    ap (λ k. with_stops half own other r (drop k stops)) (add-one at)
+    ∙ ap (λ q. with_stops half own other q (drop (suc at) stops)) e
+    ∙ ap (with_stops half own other known) (sym (drop-cons stops at d l))
+    ∙ before
 
--- the stops of both files, one file after the other
-pub half_told : (half : Half) (own other first second : List SymLine) (a b r : Ruling) → a ≡ with_stop half own other Yes 0 → first ≡ own → b ≡ with_stops half own other a (stops_of half first) → second ≡ other → r ≡ with_stops half own other b (stops_of half second)
-    → r ≡ half_ruling half own other
-unfolding half_ruling with_stops
-half_told half own other first second a b r p e q f is =
-    is ∙ ap (λ lines. with_stops half own other b (stops_of half lines)) f ∙ ap (λ ruling. with_stops half own other ruling (stops_of half other)) (q ∙ ap (λ lines. with_stops half own other a (stops_of half lines)) e ∙ ap (λ ruling. with_stops half own other ruling (stops_of half own)) p)
-    ∙ sym (stops_append half own other (with_stop half own other Yes 0) (stops_of half own) (stops_of half other))
+pub stops_end : (half : Half) (own other : List SymLine) (known all : Ruling) (stops : List ℕ) (at : ℕ) → with_stops half own other known (drop at stops) ≡ all → length stops ≤ at → known ≡ all
+unfolding with_stops
+stops_end half own other known all stops at before l = ap (with_stops half own other known) (sym (drop_all at stops l)) ∙ before
 
 pub none_left : {A : Type 0} (xs : List A) → length xs ≡ 0 → xs ≡ []
 none_left [] is = refl

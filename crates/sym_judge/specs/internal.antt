@@ -2,6 +2,7 @@
 pub mod Stops
 pub mod Tables
 pub mod RuleMaps
+pub mod RuleAliases
 pub mod Stacks
 pub mod Spots
 pub mod Blocks

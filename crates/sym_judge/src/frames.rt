@@ -7,10 +7,12 @@ ghost use Rattle.sym_judge.specs.Forms.{form_by, same_form};
 ghost use Rattle.sym_judge.specs.declared.ruling.Aspect.TheVariants.{Reg};
 ghost use Rattle.sym_judge.specs.declared.ruling.Half.TheVariants.{Frames};
 ghost use Rattle.sym_judge.specs.internal.Stops.{first_in};
+ghost use Rattle.sym_judge.specs.internal.RuleAliases.{AreRuleAliasesOf};
 ghost use Rattle.sym_judge.specs.internal.Tables.{words_in, IsTableAt};
 
 use crate::forms::{are_same_words, have_same_form, is_same_form};
 use crate::held_forms::are_many;
+use crate::rule_aliases::{RuleAliases, have_one_text};
 use crate::ruled::Ruled;
 use crate::ruling::Aspect;
 use crate::tables::{RulePlace, RuleTable, words_of};
@@ -50,17 +52,22 @@ fn are_few(words: Option<&[Token]>) -> bool {
 fn agree(
     alloc: Global,
     target: &Target,
+    aliases: &RuleAliases,
     own: &Ruled<'_, '_>,
     a: Option<RulePlace>,
     other: &Ruled<'_, '_>,
     b: Option<RulePlace>,
 ) -> Result<bool, OutOfMemory>
+    requires { AreRuleAliasesOf own.now other.now aliases.now }
     ensures { IfOk result (λ same. same ≡ same_form (form_by target.now (words_in own.now a)) (form_by target.now (words_in other.now b))) }
 {
     let first = words_of(own.lines(), a);
     let second = words_of(other.lines(), b);
     if are_few(first) && are_few(second) {
         return is_same_rule(alloc, target, first, second);
+    }
+    if have_one_text(aliases, a, b) {
+        return Ok(true);
     }
     let first = own.form_at(alloc, target, a)?;
     let second = other.form_at(alloc, target, b)?;
@@ -70,18 +77,20 @@ fn agree(
 /// The first register whose rules differ.
 fn first_register(
     alloc: Global,
+    aliases: &RuleAliases,
     own: &Ruled<'_, '_>,
     a: &RuleTable,
     other: &Ruled<'_, '_>,
     b: &RuleTable,
 ) -> Result<Option<Aspect>, OutOfMemory>
+    requires { AreRuleAliasesOf own.now other.now aliases.now }
     ensures { (x : ℕ) → IsTableAt own.now x a.now → IsTableAt other.now x b.now → IfOk result (λ found. found ≡ find (differs own.now other.now x) (map Reg (range_with_len 0 16))) }
 {
     'registers: for register in 0..16usize {
         let target = Target::Reg(register as u8);
         let first = a.registers[register];
         let second = b.registers[register];
-        if !agree(alloc, &target, own, first, other, second)? {
+        if !agree(alloc, &target, aliases, own, first, other, second)? {
             return Ok(Some(Aspect::Reg(register as u8)));
         }
     }
@@ -91,20 +100,22 @@ fn first_register(
 /// The first target whose rules differ.
 fn first_rule(
     alloc: Global,
+    aliases: &RuleAliases,
     own: &Ruled<'_, '_>,
     a: &RuleTable,
     other: &Ruled<'_, '_>,
     b: &RuleTable,
 ) -> Result<Option<Aspect>, OutOfMemory>
+    requires { AreRuleAliasesOf own.now other.now aliases.now }
     ensures { (x : ℕ) → IsTableAt own.now x a.now → IsTableAt other.now x b.now → IfOk result (λ found. found ≡ find (differs own.now other.now x) rule_aspects) }
 {
-    if !agree(alloc, &Target::Cfa, own, a.cfa, other, b.cfa)? {
+    if !agree(alloc, &Target::Cfa, aliases, own, a.cfa, other, b.cfa)? {
         return Ok(Some(Aspect::Cfa));
     }
-    if !agree(alloc, &Target::Ra, own, a.ra, other, b.ra)? {
+    if !agree(alloc, &Target::Ra, aliases, own, a.ra, other, b.ra)? {
         return Ok(Some(Aspect::Ra));
     }
-    first_register(alloc, own, a, other, b)
+    first_register(alloc, aliases, own, a, other, b)
 }
 
 /// What differs where no INIT of the own file covers the address.
@@ -120,10 +131,12 @@ fn alone(init: Option<usize>) -> Option<Aspect>
 /// What differs of the frame rules at an address.
 pub(crate) fn first_frame_aspect(
     alloc: Global,
+    aliases: &RuleAliases,
     own: &Ruled<'_, '_>,
     other: &Ruled<'_, '_>,
     address: u64,
 ) -> Result<Option<Aspect>, OutOfMemory>
+    requires { AreRuleAliasesOf own.now other.now aliases.now }
     ensures { IfOk result (λ found. found ≡ first_in Frames own.now other.now address) }
 {
     let Some(first) = own.init_at(address) else {
@@ -134,5 +147,5 @@ pub(crate) fn first_frame_aspect(
     };
     let a = own.table_at(first, address);
     let b = other.table_at(second, address);
-    first_rule(alloc, own, &a, other, &b)
+    first_rule(alloc, aliases, own, &a, other, &b)
 }

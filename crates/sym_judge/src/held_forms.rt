@@ -8,7 +8,7 @@ ghost use Rattle.sym_judge.specs.internal.Stacks.{form_view};
 ghost use Rattle.sym_judge.specs.internal.Tables.{words_at, rules_at};
 
 use crate::forms::{Form, form_of, is_cfa};
-use crate::tables::{RulePlace, rules_of};
+use crate::tables::{RulePlace, is_before, rules_of};
 use std::alloc::Global;
 use sym_edges::OutOfMemory;
 use sym_records::SymLine;
@@ -90,8 +90,7 @@ pub(crate) fn held_form<'f>(
 ) -> Option<Form<'f>>
     ensures { IfSome result (λ form. (lines : List SymLine) (words : List Token) → AreHeldForms lines forms.now → words_at lines place ≡ Some words → form_view form ≡ form_of inside words) }
 {
-    let at = forms.partition_point(|held| held.place.line < place.line
-        || (held.place.line == place.line && held.place.rule < place.rule));
+    let at = forms.partition_point(|held| is_before(held.place, place));
     if at >= forms.len() {
         return None;
     }

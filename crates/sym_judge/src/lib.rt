@@ -10,9 +10,10 @@
 //! for look-up and unwinding, and that a file says the same as itself.
 //!
 //! To read: `specs/Forms.antt`, `specs/Alike.antt`, `specs/Rulings.antt` and `specs/SameMeaning.antt`; then `terms` and `forms`, `tables` (the
-//! rules that count at an address), `rule_maps` (the same by halves, of an INIT with many), `held_forms` (those of long rules) and `frames`, `names`, `blocks` and `doubts` (where
-//! records say the same in both files, nothing else is looked at), `chains` and `meetings` (what is found out once for two functions), and `judging`, on `sides` (a file with its index), `ruled` (with rule maps)
-//! and `both` (two files), with `aliases` (the numbers of one name).
+//! rules that count at an address), `rule_maps` (the same by halves, of an INIT with many), `held_forms` (those of long rules), `rule_aliases`
+//! (long rules in the same words) and `frames`, `names`, `blocks` and `doubts` (where records say the same in both files, nothing else is looked
+//! at), `chains` and `meetings` (what is found out once for two functions), and `stops` (the addresses at which both are looked up) and
+//! `judgement`, on `sides` (a file with its index), `ruled` (with rule maps) and `both` (two files), with `aliases` (the numbers of one name).
 #![tactic(auto)]
 
 mod aliases;
@@ -23,18 +24,20 @@ mod doubts;
 mod forms;
 mod frames;
 mod held_forms;
-mod judging;
+mod judgement;
 pub mod laws;
 mod meetings;
 mod names;
 mod pairs;
+mod rule_aliases;
 mod rule_maps;
 mod ruled;
 mod ruling;
 mod sides;
+mod stops;
 mod tables;
 mod terms;
 
-pub use judging::judge;
+pub use judgement::judge;
 pub use ruling::{Aspect, Half, Ruling};
 pub use terms::{Base, Sum, Term};

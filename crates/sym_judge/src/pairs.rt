@@ -1,6 +1,8 @@
 //! Two files that are compared in one half.
-ghost use Rattle.std.specs.Prelude.{◌≡◌, false, None, IfOk};
+ghost use Rattle.std.specs.Prelude.{◌≡◌, IfOk};
+ghost use Rattle.sym_judge.specs.internal.Blocks.{AreDoubts};
 ghost use Rattle.sym_judge.specs.internal.Chains.{AreFuncPairs};
+ghost use Rattle.sym_judge.specs.internal.RuleAliases.{AreRuleAliasesOf};
 ghost use Rattle.sym_judge.specs.internal.Stops.{first_in};
 
 use crate::both::Both;
@@ -8,6 +10,7 @@ use crate::doubts::doubts_of;
 use crate::frames::first_frame_aspect;
 use crate::meetings::{FuncPair, func_pairs};
 use crate::names::first_name_aspect;
+use crate::rule_aliases::{RuleAliases, no_rule_aliases, rule_aliases};
 use crate::ruled::Ruled;
 use crate::ruling::{Aspect, Half};
 use crate::sides::Side;
@@ -25,19 +28,21 @@ pub(crate) struct Pair<'a, 'f> {
     funcs: Vec<FuncPair>,
     own: Ruled<'a, 'f>,
     other: Ruled<'a, 'f>,
+    aliases: RuleAliases,
 }
 
 impl<'a, 'f> Model for Pair<'a, 'f> {
     ghost use Rattle.std.specs.Prelude.{◌≡◌};
     ghost use Rattle.sym_judge.specs.internal.Blocks.{AreDoubts};
     ghost use Rattle.sym_judge.specs.internal.Chains.{AreFuncPairs};
+    ghost use Rattle.sym_judge.specs.internal.RuleAliases.{AreRuleAliasesOf};
     ghost use Rattle.sym_judge.specs.internal.Stops.{Compared};
 
     ghost Value = { Compared };
 
     ghost view = { λ p. record { half = p.half; own = p.both.now.own; other = p.both.now.other } };
 
-    ghost invariant = { λ p. AreDoubts p.half p.both.now.own p.both.now.other p.doubts × AreFuncPairs p.both.now.own p.both.now.other p.funcs.items × (p.own ≡ p.both.now.own) × (p.other ≡ p.both.now.other) };
+    ghost invariant = { λ p. AreDoubts p.half p.both.now.own p.both.now.other p.doubts × AreFuncPairs p.both.now.own p.both.now.other p.funcs.items × (p.own ≡ p.both.now.own) × (p.other ≡ p.both.now.other) × AreRuleAliasesOf p.both.now.own p.both.now.other p.aliases };
 }
 
 /// Whether rules are held by addresses: where frame rules may differ somewhere.
@@ -74,6 +79,17 @@ fn ruled<'a, 'f>(
     Ok(Ruled::bare(alloc, side))
 }
 
+/// The long rules in the same words, where they are held.
+fn aliases(alloc: Global, held: bool, both: &Both<'_>) -> Result<RuleAliases, OutOfMemory>
+    ensures { IfOk result (λ aliases. AreRuleAliasesOf both.now.own both.now.other aliases) }
+{
+    if !held {
+        return Ok(no_rule_aliases(alloc));
+    }
+    let aliases = rule_aliases(alloc, both.own().lines(), both.other().lines())?;
+    Ok(aliases)
+}
+
 impl<'a, 'f> Pair<'a, 'f> {
     /// Compares the blocks of two files.
     pub(crate) fn of(
@@ -88,6 +104,7 @@ impl<'a, 'f> Pair<'a, 'f> {
         let held = is_held(half, &doubts);
         let own = ruled(alloc, held, both.own())?;
         let other = ruled(alloc, held, both.other())?;
+        let aliases = aliases(alloc, held, both)?;
         Ok(Pair {
             half,
             both,
@@ -95,23 +112,18 @@ impl<'a, 'f> Pair<'a, 'f> {
             funcs,
             own,
             other,
+            aliases,
         })
     }
 
-    pub(crate) fn half(&self) -> Half
-        ensures { result ≡ self.now.half }
+    /// Where the files may differ.
+    pub(crate) fn doubts(&self) -> &StepMap<bool>
+        ensures { AreDoubts self.now.half self.now.own self.now.other result.now }
     {
-        self.half
+        &self.doubts
     }
 
-    /// Whether the files may differ at an address.
-    fn may_differ(&self, address: u64) -> bool
-        ensures { result ≡ false → first_in self.now.half self.now.own self.now.other address ≡ None }
-    {
-        self.doubts.at(false, address)
-    }
-
-    /// What differs at an address. Both files are looked up only where they may differ.
+    /// What differs at an address.
     pub(crate) fn first_in(
         &self,
         alloc: Global,
@@ -119,12 +131,15 @@ impl<'a, 'f> Pair<'a, 'f> {
     ) -> Result<Option<Aspect>, OutOfMemory>
         ensures { IfOk result (λ found. found ≡ first_in self.now.half self.now.own self.now.other address) }
     {
-        if !self.may_differ(address) {
-            return Ok(None);
-        }
         match self.half {
             Half::Names => first_name_aspect(alloc, self.funcs.as_slice(), self.both, address),
-            Half::Frames => first_frame_aspect(alloc, &self.own, &self.other, address),
+            Half::Frames => first_frame_aspect(
+                alloc,
+                &self.aliases,
+                &self.own,
+                &self.other,
+                address,
+            ),
         }
     }
 }

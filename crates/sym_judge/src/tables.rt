@@ -16,6 +16,11 @@ pub struct RulePlace {
     pub rule: usize,
 }
 
+/// Whether a rule stands before another one.
+pub(crate) fn is_before(a: RulePlace, b: RulePlace) -> bool {
+    a.line < b.line || (a.line == b.line && a.rule < b.rule)
+}
+
 /// The last rule of each target.
 #[derive(Clone, Copy, Debug)]
 pub struct RuleTable {

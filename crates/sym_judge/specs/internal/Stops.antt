@@ -1,9 +1,10 @@
 -- The addresses at which records begin and end: between two of them nothing changes.
 use Rattle.std.specs.Prelude.{◌≡◌, ◌<◌, ℕ, ◌+◌, ◌^◌, Bool, false, nat_lt, nat_le, if◌then◌else◌, List, [], ◌∷◌, ◌++◌, Option, None, Some}
-use Rattle.std.specs.List.{find, flat_map}
+use Rattle.std.specs.List.{find, flat_map, filter}
 use Rattle.sym_records.specs.declared.line.Extent.{Extent}
 use Rattle.sym_records.specs.declared.line.SymLine.{SymLine}
 use Rattle.sym_records.specs.declared.line.SymLine.TheVariants as record_line
+use Rattle.step_maps.specs.Stepping.{Stepping, value_at}
 use Rattle.sym_judge.specs.Alike.{name_aspects, frame_aspects, differs}
 use Rattle.sym_judge.specs.declared.ruling.Aspect.{Aspect}
 use Rattle.sym_judge.specs.declared.ruling.Ruling.{Ruling}
@@ -64,9 +65,9 @@ with_stops half own other ruling (x ∷ stops) = with_stops half own other (with
 abbrev pub all_stops : Half → List SymLine → List SymLine → List ℕ
 all_stops half own other = 0 ∷ (stops_of half own ++ stops_of half other)
 
--- the ruling of one half
-unfoldable pub half_ruling : Half → List SymLine → List SymLine → Ruling
-half_ruling half own other = with_stops half own other Yes (all_stops half own other)
+-- those at which files may differ
+abbrev pub doubted : Stepping Bool → List ℕ → List ℕ
+doubted doubts stops = filter (value_at false doubts) stops
 
 -- of two rulings the one with the lesser address; of equal ones the first
 abbrev pub sooner : Ruling → Ruling → Ruling

@@ -1,0 +1,5 @@
+use Rattle.sym_judge.specs.internal.RuleAliases.{AreRuleAliases}
+use Rattle.sym_judge.proofs.rule_aliases.aliases_in.Given as goal
+
+abbrev pub invariant-lines : goal.invariant-lines
+invariant-lines l = AreRuleAliases l.own l.lines l.aliases.items

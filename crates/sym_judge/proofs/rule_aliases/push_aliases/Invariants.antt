@@ -1,0 +1,5 @@
+use Rattle.sym_judge.specs.internal.RuleAliases.{AreRuleAliases}
+use Rattle.sym_judge.proofs.rule_aliases.push_aliases.Given as goal
+
+abbrev pub invariant-rules : goal.invariant-rules
+invariant-rules l = AreRuleAliases l.own l.lines l.aliases.items
