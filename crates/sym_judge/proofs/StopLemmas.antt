@@ -149,10 +149,10 @@ half_is half own other doubts stops r are kept is fits =
     = λ x has small below. let has_it = kept x has in seen_clear half own other Yes stops has_it.0 x has_it.1 has_it.2 (subst (λ q. IsBelow q x) is below) in
     half_by half own other r fits (subst (IsTrueOf half own other) (sym is) (stops_true half own other Yes stops tt)) (clear_below half own other r (all_clear half own other r doubts are (all_stops half own other) told))
 
-pub half_told : (half : Half) (own other first second : List SymLine) (c : Compared) (doubts : Stepping Bool) (items stops : List ℕ) (r : Ruling) → c ≡ record { half = half; own = own; other = other } → first ≡ own → second ≡ other → AreDoubts c.half c.own c.other doubts
+pub half_told : (half : Half) (own other first second : List SymLine) (c : Compared) (doubts : Stepping Bool) (items stops : List ℕ) (r : Ruling) → c ≡ record { half = half; own = own; other = other } → first ≡ own → second ≡ other → AreDoubts half own other doubts
     → ((x : ℕ) → Contains (doubted doubts (all_stops half first second)) x → Contains items x) → stops ≡ items → r ≡ with_stops c.half c.own c.other Yes stops → Fits r → IsHalfRuling half own other r
 half_told half own other first second c doubts items stops r p e f are kept s is fits =
-    half_is half own other doubts items r (subst (λ (d : Compared). AreDoubts d.half d.own d.other doubts) p are)
+    half_is half own other doubts items r are
     (λ x has. kept x (subst (λ lines. Contains (doubted doubts (all_stops half lines second)) x) (sym e) (subst (λ lines. Contains (doubted doubts (all_stops half own lines)) x) (sym f) has)))
     (is ∙ ap (λ (d : Compared). with_stops d.half d.own d.other Yes stops) p ∙ ap (with_stops half own other Yes) s) fits
 

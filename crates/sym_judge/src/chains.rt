@@ -7,6 +7,7 @@ ghost use Rattle.sym_judge.specs.internal.Chains.{level_told, level_at, alike_by
 
 use crate::both::Both;
 use crate::doubts::nearer;
+use crate::meetings::{Meeting, count_within};
 use crate::names::is_same_call;
 use std::alloc::Global;
 use step_maps::{FirstItem, StepMap, Stretch, first_items};
@@ -134,27 +135,47 @@ fn chain_items(
     Ok(items)
 }
 
-/// Where the chains of two functions are the same from an address to another one, where both have many levels.
+/// In how many pieces so many levels stand from an address to another one.
+fn pieces_within(levels: &[LevelMap], count: usize, first: u64, last: u64) -> usize {
+    let mut pieces = 0usize;
+    'levels: for map in levels.iter().take(count) {
+        pieces = pieces
+            .saturating_add(1)
+            .saturating_add(count_within(map.stops(), first, last));
+    }
+    pieces
+}
+
+/// Whether a map of two chains is worth its making: where the levels are in fewer pieces than they are compared at the stops.
+fn is_worth(a: &[LevelMap], b: &[LevelMap], met: &Meeting) -> bool {
+    let count = a.len().min(b.len());
+    if count <= FEW {
+        return false;
+    }
+    let pieces = pieces_within(a, count, met.first, met.last).saturating_add(pieces_within(
+        b, count, met.first, met.last,
+    ));
+    pieces < count.saturating_mul(met.stops)
+}
+
+/// Where the chains of two functions are the same from the first address at which they meet to the last, where a map is worth its making.
 pub(crate) fn chain_map(
     alloc: Global,
     both: &Both<'_>,
-    own: usize,
-    other: usize,
-    first: u64,
-    last: u64,
+    met: Meeting,
 ) -> Result<Option<LevelMap>, OutOfMemory>
-    ensures { IfOk result (λ map. IfSome map (IsChainMap both.now.own both.now.other own other first last)) }
+    ensures { IfOk result (λ map. IfSome map (IsChainMap both.now.own both.now.other met.own met.other met.first met.last)) }
 {
-    let Some(a) = both.own().levels(own) else {
+    let Some(a) = both.own().levels(met.own) else {
         return Ok(None);
     };
-    let Some(b) = both.other().levels(other) else {
+    let Some(b) = both.other().levels(met.other) else {
         return Ok(None);
     };
-    if a.len() <= FEW || b.len() <= FEW || first > last {
+    if met.first > met.last || !is_worth(a, b, &met) {
         return Ok(None);
     }
-    let items = chain_items(alloc, both, a, b, first, last)?;
+    let items = chain_items(alloc, both, a, b, met.first, met.last)?;
     let map = first_items(alloc, items.as_slice())?;
     Ok(Some(map))
 }

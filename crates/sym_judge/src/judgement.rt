@@ -5,6 +5,7 @@ ghost use Rattle.sym_judge.specs.Rulings.{IsRuling};
 ghost use Rattle.sym_judge.specs.internal.Stops.{is_settled, with_found, with_stop, with_stops, sooner, Fits, IsHalfRuling};
 
 use crate::both::Both;
+use crate::doubts::doubts_of;
 use crate::pairs::Pair;
 use crate::ruling::{Aspect, Half, Ruling};
 use crate::sides::Side;
@@ -67,14 +68,15 @@ fn with_stops(alloc: Global, pair: &Pair<'_, '_>, stops: &[u64]) -> Result<Rulin
 fn half_ruling(alloc: Global, half: Half, both: &Both<'_>) -> Result<Ruling, OutOfMemory>
     ensures { IfOk result (λ r. IsHalfRuling half both.now.own both.now.other r) }
 {
-    let pair = Pair::of(alloc, half, both)?;
+    let doubts = doubts_of(alloc, half, both)?;
     let stops = half_stops(
         alloc,
         half,
-        pair.doubts(),
+        &doubts,
         both.own().lines(),
         both.other().lines(),
     )?;
+    let pair = Pair::of(alloc, half, both, &doubts, stops.as_slice())?;
     let ruling = with_stops(alloc, &pair, stops.as_slice())?;
     Ok(ruling)
 }

@@ -22,6 +22,8 @@ pub struct Meeting {
     pub other: usize,
     pub first: u64,
     pub last: u64,
+    /// At how many addresses from the first to the last they are compared.
+    pub stops: usize,
 }
 
 /// What is known of two functions: whether their names are the same, and, where both have many levels, where their chains are.
@@ -42,6 +44,14 @@ fn key_of(own: usize, other: usize) -> u64 {
         .wrapping_add(other as u64)
 }
 
+/// How many stops there are from an address to another one.
+pub(crate) fn count_within(stops: &[u64], first: u64, last: u64) -> usize {
+    let before = stops.partition_point(|stop| *stop < first);
+    stops
+        .partition_point(|stop| *stop <= last)
+        .saturating_sub(before)
+}
+
 /// Adds a meeting where both files have a function.
 fn push_meeting(
     meetings: &mut Vec<Meeting>,
@@ -49,6 +59,7 @@ fn push_meeting(
     other: Option<usize>,
     first: u64,
     last: u64,
+    stops: &[u64],
 ) -> Result<(), OutOfMemory> {
     let Some(own) = own else {
         return Ok(());
@@ -62,6 +73,7 @@ fn push_meeting(
         other,
         first,
         last,
+        stops: count_within(stops, first, last),
     })?;
     Ok(())
 }
@@ -79,6 +91,7 @@ fn meetings(
     alloc: Global,
     both: &Both<'_>,
     doubts: &StepMap<bool>,
+    stops: &[u64],
 ) -> Result<Vec<Meeting>, OutOfMemory> {
     let mut meetings = Vec::new(alloc);
     let mut address = 0;
@@ -93,6 +106,7 @@ fn meetings(
                 theirs.place,
                 address,
                 last_below(end),
+                stops,
             )?;
         }
         match end {
@@ -111,6 +125,7 @@ fn is_widened(meetings: &mut Vec<Meeting>, by: &Meeting) -> bool {
     let widest = &mut meetings[count - 1];
     widest.first = widest.first.min(by.first);
     widest.last = widest.last.max(by.last);
+    widest.stops = widest.stops.saturating_add(by.stops);
     true
 }
 
@@ -138,7 +153,7 @@ fn push_pair(
 {
     let name = func_name_at(both.own().lines(), met.own);
     let called = func_name_at(both.other().lines(), met.other);
-    let chains = chain_map(alloc, both, met.own, met.other, met.first, met.last)?;
+    let chains = chain_map(alloc, both, met)?;
     if chains.is_none() && (name.len() <= SHORT || called.len() <= SHORT) {
         return Ok(());
     }
@@ -151,15 +166,16 @@ fn push_pair(
     Ok(())
 }
 
-/// What is known of functions that meet, in their order.
+/// What is known of functions that meet, in their order. They are compared at the stops.
 pub(crate) fn func_pairs(
     alloc: Global,
     both: &Both<'_>,
     doubts: &StepMap<bool>,
+    stops: &[u64],
 ) -> Result<Vec<FuncPair>, OutOfMemory>
     ensures { IfOk result (λ pairs. AreFuncPairs both.now.own both.now.other pairs.items) }
 {
-    let mut met = meetings(alloc, both, doubts)?;
+    let mut met = meetings(alloc, both, doubts, stops)?;
     met.sort_unstable_by_key(|meeting| meeting.key);
     let met = joined(alloc, met.as_slice())?;
     let mut pairs = Vec::new(alloc);

@@ -1,12 +1,10 @@
 //! Two files that are compared in one half.
 ghost use Rattle.std.specs.Prelude.{◌≡◌, IfOk};
-ghost use Rattle.sym_judge.specs.internal.Blocks.{AreDoubts};
 ghost use Rattle.sym_judge.specs.internal.Chains.{AreFuncPairs};
 ghost use Rattle.sym_judge.specs.internal.RuleAliases.{AreRuleAliasesOf};
 ghost use Rattle.sym_judge.specs.internal.Stops.{first_in};
 
 use crate::both::Both;
-use crate::doubts::doubts_of;
 use crate::frames::first_frame_aspect;
 use crate::meetings::{FuncPair, func_pairs};
 use crate::names::first_name_aspect;
@@ -19,12 +17,11 @@ use std::marker::Model;
 use step_maps::StepMap;
 use sym_edges::OutOfMemory;
 
-/// Two files, and where they may differ in one half. Contracts see the half and the records.
+/// Two files, and what is found out once of them for one half. Contracts see the half and the records.
 #[derive(Drop)]
 pub(crate) struct Pair<'a, 'f> {
     half: Half,
     both: &'a Both<'f>,
-    doubts: StepMap<bool>,
     funcs: Vec<FuncPair>,
     own: Ruled<'a, 'f>,
     other: Ruled<'a, 'f>,
@@ -33,7 +30,6 @@ pub(crate) struct Pair<'a, 'f> {
 
 impl<'a, 'f> Model for Pair<'a, 'f> {
     ghost use Rattle.std.specs.Prelude.{◌≡◌};
-    ghost use Rattle.sym_judge.specs.internal.Blocks.{AreDoubts};
     ghost use Rattle.sym_judge.specs.internal.Chains.{AreFuncPairs};
     ghost use Rattle.sym_judge.specs.internal.RuleAliases.{AreRuleAliasesOf};
     ghost use Rattle.sym_judge.specs.internal.Stops.{Compared};
@@ -42,12 +38,7 @@ impl<'a, 'f> Model for Pair<'a, 'f> {
 
     ghost view = { λ p. record { half = p.half; own = p.both.now.own; other = p.both.now.other } };
 
-    ghost invariant = { λ p. AreDoubts p.half p.both.now.own p.both.now.other p.doubts × AreFuncPairs p.both.now.own p.both.now.other p.funcs.items × (p.own ≡ p.both.now.own) × (p.other ≡ p.both.now.other) × AreRuleAliasesOf p.both.now.own p.both.now.other p.aliases };
-}
-
-/// Whether rules are held by addresses: where frame rules may differ somewhere.
-fn is_held(half: Half, doubts: &StepMap<bool>) -> bool {
-    matches!(half, Half::Frames) && !doubts.stops().is_empty()
+    ghost invariant = { λ p. AreFuncPairs p.both.now.own p.both.now.other p.funcs.items × (p.own ≡ p.both.now.own) × (p.other ≡ p.both.now.other) × AreRuleAliasesOf p.both.now.own p.both.now.other p.aliases };
 }
 
 /// What is known of functions that meet where names may differ.
@@ -56,11 +47,12 @@ fn funcs(
     half: Half,
     both: &Both<'_>,
     doubts: &StepMap<bool>,
+    stops: &[u64],
 ) -> Result<Vec<FuncPair>, OutOfMemory>
     ensures { IfOk result (λ funcs. AreFuncPairs both.now.own both.now.other funcs.items) }
 {
     match half {
-        Half::Names => func_pairs(alloc, both, doubts),
+        Half::Names => func_pairs(alloc, both, doubts, stops),
         Half::Frames => Ok(Vec::new(alloc)),
     }
 }
@@ -91,36 +83,29 @@ fn aliases(alloc: Global, held: bool, both: &Both<'_>) -> Result<RuleAliases, Ou
 }
 
 impl<'a, 'f> Pair<'a, 'f> {
-    /// Compares the blocks of two files.
+    /// Two files that may differ at some addresses, and are compared at the stops.
     pub(crate) fn of(
         alloc: Global,
         half: Half,
         both: &'a Both<'f>,
+        doubts: &StepMap<bool>,
+        stops: &[u64],
     ) -> Result<Pair<'a, 'f>, OutOfMemory>
         ensures { IfOk result (λ pair. pair ≡ record { half = half; own = both.now.own; other = both.now.other }) }
     {
-        let doubts = doubts_of(alloc, half, both)?;
-        let funcs = funcs(alloc, half, both, &doubts)?;
-        let held = is_held(half, &doubts);
+        let funcs = funcs(alloc, half, both, doubts, stops)?;
+        let held = matches!(half, Half::Frames) && !stops.is_empty();
         let own = ruled(alloc, held, both.own())?;
         let other = ruled(alloc, held, both.other())?;
         let aliases = aliases(alloc, held, both)?;
         Ok(Pair {
             half,
             both,
-            doubts,
             funcs,
             own,
             other,
             aliases,
         })
-    }
-
-    /// Where the files may differ.
-    pub(crate) fn doubts(&self) -> &StepMap<bool>
-        ensures { AreDoubts self.now.half self.now.own self.now.other result.now }
-    {
-        &self.doubts
     }
 
     /// What differs at an address.
