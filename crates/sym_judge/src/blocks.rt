@@ -5,7 +5,7 @@ ghost use Rattle.cfi_eval.specs.TextRules.{same_target};
 ghost use Rattle.sym_records.specs.declared.line.SymLine.{SymLine};
 ghost use Rattle.sym_records.specs.declared.line.SymLine.TheVariants as record_line;
 ghost use Rattle.sym_judge.specs.Alike.{same_list};
-ghost use Rattle.sym_judge.specs.internal.Blocks.{block_place, inside, is_inside, same_extent, same_rule_text, same_run, same_source, same_ranges, same_site, same_record, same_head, same_inside, AreSameBlocks};
+ghost use Rattle.sym_judge.specs.internal.Blocks.{block_place, inside, is_inside, same_rule_text, same_run, same_source, same_ranges, same_site, same_record, same_head, same_inside, AreSameBlocks};
 ghost use Rattle.sym_judge.specs.internal.Stops.{first_in};
 
 use crate::both::Both;
@@ -37,31 +37,6 @@ fn next_inside(half: Half, lines: &[SymLine]) -> Option<(&SymLine, &[SymLine])>
         return None;
     }
     Some((line, later))
-}
-
-fn is_same_extent(a: Extent, b: Extent) -> bool
-    ensures { result ≡ same_extent a b }
-{
-    a.address == b.address && a.size == b.size
-}
-
-/// Whether two lists have the same ranges.
-fn are_same_extents(a: &[Extent], b: &[Extent]) -> bool
-    ensures { result ≡ same_list same_extent a.now b.now }
-{
-    let mut front = a;
-    let mut back = b;
-    'extents: while let Some((x, xs)) = front.split_first() {
-        let Some((y, ys)) = back.split_first() else {
-            return false;
-        };
-        if !is_same_extent(*x, *y) {
-            return false;
-        }
-        front = xs;
-        back = ys;
-    }
-    back.is_empty()
 }
 
 pub(crate) fn is_same_target(a: &Target, b: &Target) -> bool
@@ -117,7 +92,7 @@ fn is_same_source(both: &Both<'_>, line: u32, file: u32, number: u32, path: u32)
 fn are_same_ranges(level: u32, ranges: &[Extent], depth: u32, extents: &[Extent]) -> bool
     ensures { result ≡ same_ranges level ranges.now depth extents.now }
 {
-    level == depth && are_same_extents(ranges, extents)
+    level == depth && ranges == extents
 }
 
 /// Where a function is called that is inlined there: the line and the file of the call, and its origin.

@@ -1,7 +1,7 @@
 //! The forms of rules.
 ghost use Rattle.std.specs.Prelude.{◌≡◌, ◌∷◌, reverse, Some, None, MatchOption, IfOk};
 ghost use Rattle.std.specs.Option.{option_copied};
-ghost use Rattle.sym_judge.specs.Forms.{joined_base, taken_base, added, taken, with_word, term_of, form_of, missing_form, form_by, is_cfa, same_base, same_sum, same_term, same_token, same_words, same_form};
+ghost use Rattle.sym_judge.specs.Forms.{joined_base, taken_base, added, taken, with_word, term_of, form_of, missing_form, form_by, is_cfa, same_token, same_words, same_form};
 ghost use Rattle.sym_judge.specs.internal.Stacks.{HasNoSum, HasNoTwo, one_of, is_undefined, form_view};
 
 use crate::terms::{Base, Sum, Term};
@@ -229,33 +229,6 @@ pub(crate) fn form_by<'r>(
     }
 }
 
-fn is_same_base(a: Base, b: Base) -> bool
-    ensures { result ≡ same_base a b }
-{
-    match (a, b) {
-        (Base::Nothing, Base::Nothing) | (Base::Cfa, Base::Cfa) => true,
-        (Base::Register(a), Base::Register(b)) => a == b,
-        _ => false,
-    }
-}
-
-fn is_same_sum(a: Sum, b: Sum) -> bool
-    ensures { result ≡ same_sum a b }
-{
-    is_same_base(a.base, b.base) && a.offset == b.offset
-}
-
-fn is_same_term(a: Term, b: Term) -> bool
-    ensures { result ≡ same_term a b }
-{
-    match (a, b) {
-        (Term::Plain(a), Term::Plain(b)) | (Term::Fetched(a), Term::Fetched(b)) => {
-            is_same_sum(a, b)
-        }
-        _ => false,
-    }
-}
-
 fn is_same_token(a: &Token, b: &Token) -> bool
     ensures { result ≡ same_token a.now b.now }
 {
@@ -300,7 +273,7 @@ pub(crate) fn is_same_form(a: Form<'_>, b: Form<'_>) -> bool
     ensures { result ≡ same_form (form_view a.entry) (form_view b.entry) }
 {
     match (a, b) {
-        (Form::Term(a), Form::Term(b)) => is_same_term(a, b),
+        (Form::Term(a), Form::Term(b)) => a == b,
         (Form::NoValue, Form::NoValue) => true,
         (Form::Words(a), Form::Words(b)) => are_same_words(a, b),
         _ => false,
