@@ -92,11 +92,7 @@ fn line_of(answer: &Answer) -> Option<usize>
 pub(crate) fn is_same_text(a: Option<&[u8]>, b: Option<&[u8]>) -> bool
     ensures { result ≡ same_option bytes_eq (option_copied a.entry) (option_copied b.entry) }
 {
-    match (a, b) {
-        (None, None) => true,
-        (Some(a), Some(b)) => a == b,
-        _ => false,
-    }
+    a == b
 }
 
 /// The path under a number, where there is one.
