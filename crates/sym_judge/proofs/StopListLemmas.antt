@@ -1,13 +1,13 @@
 -- Lemmas on lists of stops.
 use Rattle.std.proofs.Common.{◌≡◌, ◌+◌, ◌<◌, ◌≤◌, ◌^◌, ◌++◌, nat_eq, nat_lt, ℕ, suc, Bool, true, false, cond, List, [], ◌∷◌, length, get_or, drop, refl, sym, ap, subst, ◌∙◌, add-one, append_assoc, append-nil, drop-cons, arith}
-use Rattle.std.specs.List.{flat_map, Contains, dedup}
+use Rattle.std.specs.List.{flat_map, filter, Contains, dedup}
 use Rattle.std.specs.List.Sorted.{IsPermutation}
 use Rattle.std.proofs.lemmas.Bool.Decides.{nat_tests}
 use Rattle.std.proofs.lemmas.List.{drop_all}
 use Rattle.std.proofs.lemmas.List.Elements.{filter-append}
 use Rattle.std.proofs.lemmas.List.Kept.{Contains-dedup_nat}
 use Rattle.std.proofs.lemmas.List.Sorted.{Contains-permutation}
-use Rattle.step_maps.specs.Stepping.{Stepping, value_at}
+use Rattle.step_maps.specs.Stepping.{Stepping, held_from, value_at}
 use Rattle.sym_records.specs.declared.line.SymLine.{SymLine}
 use Rattle.sym_judge.specs.declared.ruling.Half.{Half}
 use Rattle.sym_judge.specs.internal.Stops.{run_stops, stops_of, all_stops, doubted}
@@ -45,6 +45,20 @@ more doubts f xs at x old next all before is l n =
 
 pub all_of : {X : Type 0} (doubts : Stepping Bool) (f : X → List ℕ) (xs : List X) (at : ℕ) (old all : List ℕ) → old ++ doubted doubts (flat_map f (drop at xs)) ≡ all → length xs ≤ at → old ≡ all
 all_of doubts f xs at old all before l = sym (append-nil old) ∙ ap (λ ys. old ++ doubted doubts (flat_map f ys)) (sym (drop_all at xs l)) ∙ before
+
+-- where nothing is doubted
+none_doubted : (marks : List ℕ) (values : List Bool) (stops : List ℕ) → marks ≡ [] → filter (held_from false marks values) stops ≡ []
+unfolding held_from
+none_doubted marks values [] none = refl
+none_doubted marks values (x ∷ stops) none =
+    ap (λ ms. cond (held_from false ms values x) (x ∷ filter (held_from false marks values) stops) (filter (held_from false marks values) stops)) none ∙ none_doubted marks values stops none
+
+pub nowhere : (doubts : Stepping Bool) (marks stops items : List ℕ) → marks ≡ doubts.stops → marks ≡ [] → (x : ℕ) → Contains (doubted doubts stops) x → Contains items x
+nowhere doubts marks stops items same none x has =
+    absurd (let e : doubted doubts stops ≡ [] = none_doubted doubts.stops doubts.values stops (sym same ∙ none) in nothing x (subst (λ xs. Contains xs x) e has))
+  where
+    nothing : (x : ℕ) → Contains [] x → ⊥
+    nothing x has = absurd (let l : has.0 < 0 = has.1 in omega arith)
 
 -- those of two files, in another order and each once
 pub kept : (half : Half) (own other : List SymLine) (doubts : Stepping Bool) (none first second third sorted once : List ℕ) → none ≡ [] → first ≡ none ++ doubted doubts (0 ∷ []) → second ≡ first ++ doubted doubts (stops_of half own) → third ≡ second ++ doubted doubts (stops_of half other)

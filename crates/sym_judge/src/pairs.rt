@@ -51,6 +51,9 @@ fn funcs(
 ) -> Result<Vec<FuncPair>, OutOfMemory>
     ensures { IfOk result (λ funcs. AreFuncPairs both.now.own both.now.other funcs.items) }
 {
+    if stops.is_empty() {
+        return Ok(Vec::new(alloc));
+    }
     match half {
         Half::Names => func_pairs(alloc, both, doubts, stops),
         Half::Frames => Ok(Vec::new(alloc)),

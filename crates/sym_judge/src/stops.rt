@@ -92,7 +92,7 @@ fn push_lines(
     Ok(())
 }
 
-/// Those of two files in their order, each once.
+/// Those of two files in their order, each once: none where the files differ nowhere.
 pub(crate) fn half_stops(
     alloc: Global,
     half: Half,
@@ -103,6 +103,9 @@ pub(crate) fn half_stops(
     ensures { IfOk result (λ stops. (x : ℕ) → Contains (doubted doubts.now (all_stops half own.now other.now)) x → Contains stops.items x) }
 {
     let mut stops = Vec::new(alloc);
+    if doubts.stops().is_empty() {
+        return Ok(stops);
+    }
     push_stop(&mut stops, doubts, 0)?;
     push_lines(&mut stops, half, doubts, own)?;
     push_lines(&mut stops, half, doubts, other)?;
