@@ -12,7 +12,7 @@ use std::alloc::Global;
 use std::collections::BTreeMap;
 use sym_edges::OutOfMemory;
 use sym_records::SymLine;
-use sym_rules::Token;
+use sym_rules::{RuleText, Token};
 
 /// Where a rule stands, and a rule of the first file in the same words.
 #[derive(Clone, Copy)]
@@ -71,23 +71,33 @@ fn spelled(alloc: Global, words: &[Token]) -> Result<Vec<u64>, OutOfMemory> {
     Ok(numbers)
 }
 
-/// The first place of the words of a rule. Where they have none yet, and the rule is one of the first file, its own place is that.
-fn first_of(
+/// Notes the long rules of the record at a place that are the first in their words.
+fn note_firsts(
     alloc: Global,
     firsts: &mut Firsts,
-    is_own: bool,
-    words: &[Token],
-    place: RulePlace,
-) -> Result<Option<RulePlace>, OutOfMemory> {
-    let numbers = spelled(alloc, words)?;
-    if let Some(first) = firsts.get(&numbers) {
-        return Ok(Some(*first));
+    rules: &[RuleText],
+    line: usize,
+) -> Result<(), OutOfMemory> {
+    'rules: for rule in 0..rules.len() {
+        let words = rules[rule].tokens.as_slice();
+        if !are_many(words) {
+            continue;
+        }
+        let numbers = spelled(alloc, words)?;
+        if firsts.get(&numbers).is_none() {
+            firsts.insert(numbers, RulePlace { line, rule })?;
+        }
     }
-    if !is_own {
-        return Ok(None);
+    Ok(())
+}
+
+/// The first place of the words of each long rule.
+fn firsts_of(alloc: Global, lines: &[SymLine]) -> Result<Firsts, OutOfMemory> {
+    let mut firsts = BTreeMap::new(alloc);
+    'lines: for line in 0..lines.len() {
+        note_firsts(alloc, &mut firsts, rules_of(&lines[line]), line)?;
     }
-    firsts.insert(numbers, place)?;
-    Ok(Some(place))
+    Ok(firsts)
 }
 
 /// Adds a rule, where the rule at the first place is in the same words.
@@ -114,12 +124,11 @@ fn push_alias(
     Ok(())
 }
 
-/// Adds the long rules of the record at a place.
+/// Adds the long rules of the record at a place that are in the words of a rule of the first file.
 fn push_aliases(
     alloc: Global,
     aliases: &mut Vec<RuleAlias>,
-    firsts: &mut Firsts,
-    is_own: bool,
+    firsts: &Firsts,
     own: &[SymLine],
     lines: &[SymLine],
     line: usize,
@@ -134,9 +143,8 @@ fn push_aliases(
         if !are_many(words) {
             continue;
         }
-        let place = RulePlace { line, rule };
-        if let Some(first) = first_of(alloc, firsts, is_own, words, place)? {
-            push_alias(aliases, own, lines, place, first)?;
+        if let Some(first) = firsts.get(&spelled(alloc, words)?) {
+            push_alias(aliases, own, lines, RulePlace { line, rule }, *first)?;
         }
     }
     Ok(())
@@ -145,8 +153,7 @@ fn push_aliases(
 /// The long rules of a file that are in the words of a rule of the first one.
 fn aliases_in(
     alloc: Global,
-    firsts: &mut Firsts,
-    is_own: bool,
+    firsts: &Firsts,
     own: &[SymLine],
     lines: &[SymLine],
 ) -> Result<Vec<RuleAlias>, OutOfMemory>
@@ -154,7 +161,7 @@ fn aliases_in(
 {
     let mut aliases = Vec::new(alloc);
     'lines: for line in 0..lines.len() {
-        push_aliases(alloc, &mut aliases, firsts, is_own, own, lines, line)?;
+        push_aliases(alloc, &mut aliases, firsts, own, lines, line)?;
     }
     Ok(aliases)
 }
@@ -177,9 +184,9 @@ pub(crate) fn rule_aliases(
 ) -> Result<RuleAliases, OutOfMemory>
     ensures { IfOk result (λ aliases. AreRuleAliasesOf own.now other.now aliases) }
 {
-    let mut firsts = BTreeMap::new(alloc);
-    let mine = aliases_in(alloc, &mut firsts, true, own, own)?;
-    let theirs = aliases_in(alloc, &mut firsts, false, own, other)?;
+    let firsts = firsts_of(alloc, own)?;
+    let mine = aliases_in(alloc, &firsts, own, own)?;
+    let theirs = aliases_in(alloc, &firsts, own, other)?;
     Ok(RuleAliases { mine, theirs })
 }
 
