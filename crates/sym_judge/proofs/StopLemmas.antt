@@ -16,7 +16,7 @@ use Rattle.sym_judge.specs.declared.ruling.Ruling.{Ruling}
 use Rattle.sym_judge.specs.declared.ruling.Ruling.TheVariants.{Yes, No}
 use Rattle.sym_judge.specs.declared.ruling.Half.{Half}
 use Rattle.sym_judge.specs.declared.ruling.Half.TheVariants.{Names, Frames}
-use Rattle.sym_judge.specs.internal.Stops.{Compared, stops_of, first_in, is_settled, with_found, with_stop, with_stops, all_stops, doubted, sooner, Fits, IsHalfRuling}
+use Rattle.sym_judge.specs.internal.Stops.{Compared, stops_of, first_in, is_settled, with_found, with_stop, with_stops, all_stops, half_ruling, doubted, sooner, Fits, IsHalfRuling}
 use Rattle.sym_judge.specs.internal.Blocks.{AreDoubts}
 use Rattle.sym_judge.proofs.SteadyLemmas.{AreOutside, steady, outside_both}
 
@@ -143,8 +143,8 @@ half_by : (half : Half) (own other : List SymLine) (ruling : Ruling) → Fits ru
 half_by half own other Yes fits is clear = λ x l. clear x l tt
 half_by half own other (No a p) fits is clear = (fits, (is, λ x l. clear x (omega arith) l))
 
-half_is : (half : Half) (own other : List SymLine) (doubts : Stepping Bool) (stops : List ℕ) (r : Ruling) → AreDoubts half own other doubts → ((x : ℕ) → Contains (doubted doubts (all_stops half own other)) x → Contains stops x) → r ≡ with_stops half own other Yes stops → Fits r → IsHalfRuling half own other r
-half_is half own other doubts stops r are kept is fits =
+half_by_stops : (half : Half) (own other : List SymLine) (doubts : Stepping Bool) (stops : List ℕ) (r : Ruling) → AreDoubts half own other doubts → ((x : ℕ) → Contains (doubted doubts (all_stops half own other)) x → Contains stops x) → r ≡ with_stops half own other Yes stops → Fits r → IsHalfRuling half own other r
+half_by_stops half own other doubts stops r are kept is fits =
     let told : IsClearIn half own other r (doubted doubts (all_stops half own other))
     = λ x has small below. let has_it = kept x has in seen_clear half own other Yes stops has_it.0 x has_it.1 has_it.2 (subst (λ q. IsBelow q x) is below) in
     half_by half own other r fits (subst (IsTrueOf half own other) (sym is) (stops_true half own other Yes stops tt)) (clear_below half own other r (all_clear half own other r doubts are (all_stops half own other) told))
@@ -152,9 +152,20 @@ half_is half own other doubts stops r are kept is fits =
 pub half_told : (half : Half) (own other first second : List SymLine) (c : Compared) (doubts : Stepping Bool) (items stops : List ℕ) (r : Ruling) → c ≡ record { half = half; own = own; other = other } → first ≡ own → second ≡ other → AreDoubts half own other doubts
     → ((x : ℕ) → Contains (doubted doubts (all_stops half first second)) x → Contains items x) → stops ≡ items → r ≡ with_stops c.half c.own c.other Yes stops → Fits r → IsHalfRuling half own other r
 half_told half own other first second c doubts items stops r p e f are kept s is fits =
-    half_is half own other doubts items r are
+    half_by_stops half own other doubts items r are
     (λ x has. kept x (subst (λ lines. Contains (doubted doubts (all_stops half lines second)) x) (sym e) (subst (λ lines. Contains (doubted doubts (all_stops half own lines)) x) (sym f) has)))
     (is ∙ ap (λ (d : Compared). with_stops d.half d.own d.other Yes stops) p ∙ ap (with_stops half own other Yes) s) fits
+
+-- by all stops
+each_clear : (half : Half) (own other : List SymLine) (ruling : Ruling) (stops : List ℕ) → IsClearIn half own other ruling stops → AreClear half own other ruling stops
+each_clear half own other ruling [] told = tt
+each_clear half own other ruling (x ∷ stops) told = clear_more half own other ruling x stops stops true (λ e fits. absurd (cc)) told (each_clear half own other ruling stops)
+
+pub half_is : (half : Half) (own other : List SymLine) → Fits (half_ruling half own other) → IsHalfRuling half own other (half_ruling half own other)
+unfolding half_ruling
+half_is half own other fits =
+    half_by half own other (half_ruling half own other) fits (stops_true half own other Yes (all_stops half own other) tt)
+    (clear_below half own other (half_ruling half own other) (each_clear half own other (half_ruling half own other) (all_stops half own other) (λ x has small below. seen_clear half own other Yes (all_stops half own other) has.0 x has.1 has.2 below)))
 
 -- both halves
 first_of_both : (own other : List SymLine) (x : ℕ) (a b : Option Aspect) → first_in Names own other x ≡ a → first_in Frames own other x ≡ b → first_unlike own other x ≡ option_or a b

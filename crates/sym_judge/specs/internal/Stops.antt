@@ -65,7 +65,11 @@ with_stops half own other ruling (x ∷ stops) = with_stops half own other (with
 abbrev pub all_stops : Half → List SymLine → List SymLine → List ℕ
 all_stops half own other = 0 ∷ (stops_of half own ++ stops_of half other)
 
--- those at which files may differ
+-- the ruling of one half, by all stops
+unfoldable pub half_ruling : Half → List SymLine → List SymLine → Ruling
+half_ruling half own other = with_stops half own other Yes (all_stops half own other)
+
+-- the stops at which files may differ
 abbrev pub doubted : Stepping Bool → List ℕ → List ℕ
 doubted doubts stops = filter (value_at false doubts) stops
 
