@@ -7,6 +7,7 @@ pub mod ValueLemmas
 pub mod FormLemmas
 mod PlanLemmas
 mod TakeLemmas
+mod UsualLemmas
 pub mod Computing
 mod WorkedForms
 mod WorkedUnits

@@ -11,6 +11,7 @@ pub mod Abbreviations
 pub mod Places
 pub mod Values
 pub mod Takes
+pub mod UsualTakes
 pub mod KeptTags
 pub mod FaultWords
 pub mod internal

@@ -26,6 +26,7 @@ mod spec;
 mod take;
 mod text;
 mod unit;
+mod usual;
 mod value;
 
 pub use crate::abbrev::{Abbrev, is_kept_tag};
@@ -38,4 +39,5 @@ pub use crate::spec::{Spec, SpecList};
 pub use crate::take::Take;
 pub use crate::text::{cursor_from, place_by_index, read_place, read_text, text_in};
 pub use crate::unit::{Unit, UnitList, UnitPart, units};
+pub use crate::usual::{KnownTake, Usual};
 pub use crate::value::{Given, Value};

@@ -12,7 +12,8 @@ ghost use Rattle.abbrev_units.specs.Takes.{AreTakes};
 use crate::fault::FormFault;
 use crate::form::{read_indirect, read_known};
 use crate::plan::{Plan, form_size, make_plan, pass_plan};
-use crate::take::{Take, has_far_text, takes_of};
+use crate::take::takes_of;
+use crate::usual::KnownTake;
 use crate::value::Value;
 use code_table::{DW_FORM_indirect, FormClass, FormRow, Kind, find_form};
 use leb_cursor::Cursor;
@@ -190,8 +191,7 @@ impl Spec {
 pub struct SpecList {
     items: Vec<Spec>,
     plan: Option<Plan>,
-    takes: Option<Vec<Take>>,
-    far_text: bool,
+    takes: Option<Vec<KnownTake>>,
 }
 
 impl Model for SpecList {
@@ -207,14 +207,6 @@ impl Model for SpecList {
     ghost invariant = { λ l. IfSome l.plan (λ plan. IsPlan (ended plan.steps.items plan.tail) l.items.items) × IfSome l.takes (λ takes. AreTakes takes.items l.items.items) };
 }
 
-/// Whether one of these is a text elsewhere than at a place of `.debug_str`.
-fn any_far_text(takes: &Option<Vec<Take>>) -> bool {
-    match takes {
-        Some(takes) => has_far_text(takes.as_slice()),
-        None => false,
-    }
-}
-
 impl SpecList {
     /// The short way to values is made where they are `asked` for, and that over them where they are not.
     pub(crate) fn of(alloc: Global, items: Vec<Spec>, asked: bool) -> Result<SpecList, OutOfMemory>
@@ -223,7 +215,6 @@ impl SpecList {
         if asked {
             let takes = takes_of(alloc, items.as_slice())?;
             return Ok(SpecList {
-                far_text: any_far_text(&takes),
                 items,
                 plan: None,
                 takes,
@@ -234,7 +225,6 @@ impl SpecList {
             items,
             plan,
             takes: None,
-            far_text: false,
         })
     }
 
@@ -246,20 +236,13 @@ impl SpecList {
 
     /// A short way to the values that are asked for, where there is one.
     #[inline]
-    pub fn takes(&self) -> Option<&[Take]>
+    pub fn takes(&self) -> Option<&[KnownTake]>
         ensures { IfSome result (λ takes. AreTakes takes.now self.now) }
     {
         match &self.takes {
             Some(takes) => Some(takes.as_slice()),
             None => None,
         }
-    }
-
-    /// Whether one of the values that are asked for is a text elsewhere than at a place of `.debug_str`. Which way is taken over
-    /// such values changes no answer.
-    #[inline]
-    pub fn has_far_text(&self) -> bool {
-        self.far_text
     }
 
     /// Passes the values of the attributes by a short way; false where there is none, or a value is not there, and nothing is

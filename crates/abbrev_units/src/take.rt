@@ -1,18 +1,18 @@
 //! A short way to those values of an entry that are asked for: what stands between them is passed.
 ghost use Rattle.std.specs.Prelude.{◌≡◌, ◌+◌, IfSome, IfOk, OnOk, reverse, unwrap_or, OnErr};
 ghost use Rattle.leb_cursor.specs.Ahead.{gave};
-ghost use Rattle.code_table.specs.Layouts.{kind_at};
 ghost use Rattle.abbrev_units.specs.Takes.{taken_at, is_asked, AreTakes};
 ghost use Rattle.abbrev_units.specs.internal.Plans.{IsPassed, no_take, in_front};
 
 use crate::plan::size_of;
 use crate::spec::Spec;
+use crate::usual::KnownTake;
 use crate::value::{Value, value_of};
 use code_table::{
     DW_AT_MIPS_linkage_name, DW_AT_abstract_origin, DW_AT_addr_base, DW_AT_call_file,
     DW_AT_call_line, DW_AT_comp_dir, DW_AT_declaration, DW_AT_high_pc, DW_AT_linkage_name,
     DW_AT_low_pc, DW_AT_name, DW_AT_ranges, DW_AT_rnglists_base, DW_AT_specification,
-    DW_AT_stmt_list, DW_AT_str_offsets_base, FormClass, FormRow, Kind, Operand, read_kind,
+    DW_AT_stmt_list, DW_AT_str_offsets_base, FormClass, FormRow, Kind, read_kind,
 };
 use leb_cursor::{Cursor, CursorFault};
 use std::alloc::Global;
@@ -37,37 +37,6 @@ const NO_TAKE: Take = Take {
     class: FormClass::Other,
 };
 
-/// Reads an operand of any layout, and gives the cursor behind it.
-#[inline(never)]
-fn read_any<'a>(cursor: Cursor<'a>, kind: Kind) -> Result<(Operand, Cursor<'a>), CursorFault>
-    ensures { result ≡ kind_at kind cursor.entry }
-{
-    let mut behind = cursor;
-    let operand = read_kind(&mut behind, kind)?;
-    Ok((operand, behind))
-}
-
-/// Reads an operand: the usual numbers are read here, and the cursor of a caller stays in registers.
-#[inline(always)]
-#[tactic(auto, unfolding(code_table::specs::Layouts::kind_at))]
-fn read_usual(cursor: &mut Cursor<'_>, kind: Kind) -> Result<Operand, CursorFault>
-    ensures read { gave result cursor.new ≡ kind_at kind cursor.old }
-    ensures kept { OnErr result (cursor.new ≡ cursor.old) }
-{
-    match kind {
-        Kind::Nothing => Ok(Operand::Nothing),
-        Kind::U8 => Ok(Operand::Num(u64::from(cursor.u8()?))),
-        Kind::U16 => Ok(Operand::Num(u64::from(cursor.u16()?))),
-        Kind::U32 => Ok(Operand::Num(u64::from(cursor.u32()?))),
-        Kind::U64 => Ok(Operand::Num(cursor.u64()?)),
-        _ => {
-            let (operand, behind) = read_any(cursor.fork(), kind)?;
-            *cursor = behind;
-            Ok(operand)
-        }
-    }
-}
-
 impl Take {
     /// Passes the bytes, and reads the value. A refused call leaves the cursor where it was.
     #[inline]
@@ -78,7 +47,7 @@ impl Take {
     {
         let mut probe = cursor.fork();
         let _run = probe.take(self.bytes)?;
-        let operand = read_usual(&mut probe, self.kind)?;
+        let operand = read_kind(&mut probe, self.kind)?;
         *cursor = probe;
         Ok(value_of(self.class, self.implicit, operand))
     }
@@ -149,17 +118,17 @@ fn wider(first: Option<Take>, size: u8) -> Option<Take>
 
 /// Puts a take to those behind it, which stand from the last to the first.
 #[tactic(auto, using(crate::proofs::TakeLemmas::put_front))]
-fn put(later: &mut Vec<Take>, first: Option<Take>) -> Result<(), OutOfMemory>
+fn put(later: &mut Vec<KnownTake>, first: Option<Take>) -> Result<(), OutOfMemory>
     ensures { OnOk result (reverse later.new.items ≡ in_front first (reverse later.old.items)) }
 {
     if let Some(take) = first {
-        later.push(take)?;
+        later.push(KnownTake::of(take))?;
     }
     Ok(())
 }
 
 /// The takes of attributes, where the form of each is known, from the last to the first.
-fn make_takes(alloc: Global, specs: &[Spec]) -> Result<Option<Vec<Take>>, OutOfMemory>
+fn make_takes(alloc: Global, specs: &[Spec]) -> Result<Option<Vec<KnownTake>>, OutOfMemory>
     ensures { IfOk result (λ made. IfSome made (λ takes. AreTakes (reverse takes.items) specs.now)) }
 {
     let mut later = Vec::new(alloc);
@@ -186,21 +155,8 @@ fn make_takes(alloc: Global, specs: &[Spec]) -> Result<Option<Vec<Take>>, OutOfM
     Ok(Some(later))
 }
 
-/// Whether one of these is a text elsewhere than at a place of `.debug_str`.
-pub fn has_far_text(takes: &[Take]) -> bool {
-    for take in takes {
-        if matches!(
-            take.class,
-            FormClass::InlineText | FormClass::LineTextPlace | FormClass::TextIndex
-        ) {
-            return true;
-        }
-    }
-    false
-}
-
 /// The takes of attributes, where the form of each is known.
-pub fn takes_of(alloc: Global, specs: &[Spec]) -> Result<Option<Vec<Take>>, OutOfMemory>
+pub fn takes_of(alloc: Global, specs: &[Spec]) -> Result<Option<Vec<KnownTake>>, OutOfMemory>
     ensures { IfOk result (λ made. IfSome made (λ takes. AreTakes takes.items specs.now)) }
 {
     match make_takes(alloc, specs)? {

@@ -13,7 +13,7 @@ use Rattle.abbrev_units.specs.SpecFields.{SpecFields}
 use Rattle.abbrev_units.specs.Values.{value_at, values_at}
 use Rattle.abbrev_units.specs.Takes.{is_asked, asked_of, with_asked, taken_at, takes_at, AreTakes}
 use Rattle.die_walk.specs.declared.picks.Picks.{Picks}
-use Rattle.die_walk.specs.Picking.{no_picks, noted, picks_at, noted_at}
+use Rattle.die_walk.specs.Picking.{no_picks, noted, noted_one, picks_at, noted_at}
 use Rattle.die_walk.proofs.PickLemmas.{unpicked}
 
 -- values noted one after the other
@@ -106,12 +106,28 @@ unfolding noted_at
 step picks takes i x fill c there is =
     ap (λ (rest : List Take). noted_at picks rest c) (drop_more takes i fill there) ∙ ap (λ (y : Take). noted_at picks (y ∷ drop (i + 1) takes) c) (sym is)
 
-pub notes_more : (takes : List Take) (i : ℕ) (x fill : Take) (value : Value) (picks more : Picks) (c d : Ahead) (want : Result (Picks × Ahead) CursorFault) → noted_at picks (drop i takes) c ≡ want → i < length takes → x ≡ get_or takes i fill → Ok (value, d) ≡ taken_at x c → more ≡ noted picks x.attribute value → noted_at more (drop (i + 1) takes) d ≡ want
-notes_more takes i x fill value picks more c d want so_far there is read after =
-    ap (λ (p : Picks). noted_at p (drop (i + 1) takes) d) after
-    ∙ sym (step picks takes i x fill c there is ∙ ap (λ (r : Result (Value × Ahead) CursorFault). r >>= λ first. noted_at (noted picks x.attribute first.0) (drop (i + 1) takes) first.1) (sym read))
-    ∙ so_far
+-- one take more
+abbrev parted : Picks → Ahead → Result (Picks × Ahead) CursorFault → Picks × Ahead
+parted picks c (Ok x) = x
+parted picks c (Err fault) = (picks, c)
+
+abbrev one_noted : Picks → ℕ → Value × Ahead → Result (Picks × Ahead) CursorFault
+one_noted picks attribute first = Ok (noted picks attribute first.0, first.1)
+
+one_more : (reading : Result (Value × Ahead) CursorFault) (picks more : Picks) (attribute : ℕ) (rest : List Take) (c d : Ahead) → (reading >>= one_noted picks attribute) ≡ Ok (more, d) → (reading >>= λ first. noted_at (noted picks attribute first.0) rest first.1) ≡ noted_at more rest d
+one_more (Ok x) picks more attribute rest c d is = ap (λ r. noted_at (parted picks c r).0 rest (parted picks c r).1) is
+one_more (Err fault) picks more attribute rest c d is = absurd (grind (arith, is))
+
+pub notes_more : (takes : List Take) (i : ℕ) (x fill : Take) (picks more : Picks) (c d : Ahead) (want : Result (Picks × Ahead) CursorFault) → noted_at picks (drop i takes) c ≡ want → i < length takes → x ≡ get_or takes i fill → noted_one picks x c ≡ Ok (more, d) → noted_at more (drop (i + 1) takes) d ≡ want
+notes_more takes i x fill picks more c d want so_far there is one =
+    sym (step picks takes i x fill c there is ∙ one_more (taken_at x c) picks more x.attribute (drop (i + 1) takes) c d one) ∙ so_far
 
 pub notes_end : (takes : List Take) (i : ℕ) (picks : Picks) (c : Ahead) (want : Result (Picks × Ahead) CursorFault) → noted_at picks (drop i takes) c ≡ want → length takes ≤ i → want ≡ Ok (picks, c)
 unfolding noted_at
 notes_end takes i picks c want so_far all = sym so_far ∙ ap (λ (rest : List Take). noted_at picks rest c) (drop_of_length-le takes all)
+
+-- the value of one take
+pub noted_value : (picks more : Picks) (take : Take) (value : Value) (c d : Ahead) → Ok (value, d) ≡ taken_at take c → more ≡ noted picks take.attribute value → noted_one picks take c ≡ Ok (more, d)
+noted_value picks more take value c d reads is =
+    ap (λ (r : Result (Value × Ahead) CursorFault). r >>= one_noted picks take.attribute) (sym reads)
+    ∙ ap (λ (p : Picks). Ok (p, d)) (sym is)

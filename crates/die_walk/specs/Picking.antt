@@ -72,7 +72,10 @@ unfoldable pub picks_at : Picks → List SpecFields → Ahead → Result (Picks 
 picks_at picks [] c = Ok (picks, c)
 picks_at picks (spec ∷ specs) c = value_at spec c >>= λ first. picks_at (noted picks spec.attribute first.0) specs first.1
 
--- the same by a short way
+-- the value of a take, and the values of takes one by one
+abbrev pub noted_one : Picks → Take → Ahead → Result (Picks × Ahead) CursorFault
+noted_one picks take c = taken_at take c >>= λ first. Ok (noted picks take.attribute first.0, first.1)
+
 unfoldable pub noted_at : Picks → List Take → Ahead → Result (Picks × Ahead) CursorFault
 noted_at picks [] c = Ok (picks, c)
 noted_at picks (take ∷ takes) c = taken_at take c >>= λ first. noted_at (noted picks take.attribute first.0) takes first.1

@@ -1,12 +1,12 @@
 //! The values of an entry that matter, picked by a short way into 16 bytes each.
-ghost use Rattle.std.specs.Prelude.{◌≡◌, true, false, Ok, Some, IfSome};
+ghost use Rattle.std.specs.Prelude.{◌≡◌, true, Ok, Some, IfSome, MatchOption};
 ghost use Rattle.abbrev_units.specs.declared.value.Value.{Value};
-ghost use Rattle.die_walk.specs.Picking.{or_value, no_picks, noted, noted_at, picks_at};
-ghost use Rattle.die_walk.specs.internal.Packing.{pick_said};
+ghost use Rattle.die_walk.specs.Picking.{or_value, no_picks, noted, noted_one, noted_at, picks_at};
+ghost use Rattle.die_walk.specs.internal.Packing.{pick_said, pick_in};
 
 use crate::packed::{Class, Packed, unpack};
 use crate::picks::Picks;
-use abbrev_units::{SpecList, Take, Value};
+use abbrev_units::{KnownTake, SpecList, Take, Usual, Value};
 use code_table::{
     DW_AT_MIPS_linkage_name, DW_AT_abstract_origin, DW_AT_addr_base, DW_AT_call_file,
     DW_AT_call_line, DW_AT_comp_dir, DW_AT_declaration, DW_AT_high_pc, DW_AT_linkage_name,
@@ -44,14 +44,10 @@ pub struct Quick {
     pub declaration: Pick,
     pub call_file: Pick,
     pub call_line: Pick,
-    pub stmt_list: Pick,
-    pub comp_dir: Pick,
-    pub str_offsets_base: Pick,
-    pub addr_base: Pick,
-    pub rnglists_base: Pick,
 }
 
 impl Model for Quick {
+    ghost use Rattle.std.specs.Prelude.{None};
     ghost use Rattle.die_walk.specs.declared.picks.Picks.{Picks};
     ghost use Rattle.die_walk.specs.internal.Packing.{pick_said};
 
@@ -69,11 +65,11 @@ impl Model for Quick {
       declaration = pick_said q.declaration;
       call_file = pick_said q.call_file;
       call_line = pick_said q.call_line;
-      stmt_list = pick_said q.stmt_list;
-      comp_dir = pick_said q.comp_dir;
-      str_offsets_base = pick_said q.str_offsets_base;
-      addr_base = pick_said q.addr_base;
-      rnglists_base = pick_said q.rnglists_base;
+      stmt_list = None;
+      comp_dir = None;
+      str_offsets_base = None;
+      addr_base = None;
+      rnglists_base = None;
     } };
 }
 
@@ -94,11 +90,6 @@ pub fn no_quick() -> Quick
         declaration: MISSING,
         call_file: MISSING,
         call_line: MISSING,
-        stmt_list: MISSING,
-        comp_dir: MISSING,
-        str_offsets_base: MISSING,
-        addr_base: MISSING,
-        rnglists_base: MISSING,
     }
 }
 
@@ -187,10 +178,10 @@ fn note_first(place: &mut Pick, pick: Pick)
     }
 }
 
-/// Notes a pick, where it is the first of its attribute.
+/// Notes a pick, where it is the first of its attribute; false where the attribute is one that only roots need.
 #[inline(always)]
-fn note_pick(quick: &mut Quick, attribute: u64, pick: Pick)
-    ensures { (value : Value) → pick_said pick ≡ Some value → quick.new ≡ noted quick.old attribute value }
+fn note_pick(quick: &mut Quick, attribute: u64, pick: Pick) -> bool
+    ensures { result ≡ true → (value : Value) → pick_said pick ≡ Some value → quick.new ≡ noted quick.old attribute value }
 {
     match attribute {
         DW_AT_low_pc => note_first(&mut quick.low, pick),
@@ -204,63 +195,120 @@ fn note_pick(quick: &mut Quick, attribute: u64, pick: Pick)
         DW_AT_declaration => note_first(&mut quick.declaration, pick),
         DW_AT_call_file => note_first(&mut quick.call_file, pick),
         DW_AT_call_line => note_first(&mut quick.call_line, pick),
-        DW_AT_stmt_list => note_first(&mut quick.stmt_list, pick),
-        DW_AT_comp_dir => note_first(&mut quick.comp_dir, pick),
-        DW_AT_str_offsets_base => note_first(&mut quick.str_offsets_base, pick),
-        DW_AT_addr_base => note_first(&mut quick.addr_base, pick),
-        DW_AT_rnglists_base => note_first(&mut quick.rnglists_base, pick),
+        DW_AT_stmt_list
+        | DW_AT_comp_dir
+        | DW_AT_str_offsets_base
+        | DW_AT_addr_base
+        | DW_AT_rnglists_base => return false,
         _ => {}
     }
-}
-
-/// Notes a value, where it is the first of its attribute; false where there is no pick of it.
-#[inline(always)]
-fn note_value(quick: &mut Quick, attribute: u64, value: Value) -> bool
-    ensures { result ≡ true → quick.new ≡ noted quick.old attribute value }
-{
-    let Some(pick) = pick_of(value) else {
-        return false;
-    };
-    note_pick(quick, attribute, pick);
     true
 }
 
+/// Notes a number of a class, where it is the first of its attribute; false where there is none.
+#[inline(always)]
+#[tactic(auto, unfolding(crate::specs::internal::Packing::pick_said))]
+fn note_number(quick: &mut Quick, attribute: u64, class: Class, number: Option<u64>) -> bool
+    ensures { result ≡ true → MatchOption number ⊥ (λ n. (value : Value) → pick_in class n 0 ≡ Some value → quick.new ≡ noted quick.old attribute value) }
+{
+    match number {
+        Some(number) => note_pick(quick, attribute, numbered(class, number)),
+        None => false,
+    }
+}
+
+/// Notes whatever value a take has, and gives the cursor behind it; none where there is no pick of it.
+#[inline(never)]
+#[tactic(auto, using(crate::proofs::TakeLemmas::noted_value))]
+fn note_any<'a>(quick: &mut Quick, cursor: Cursor<'a>, take: Take) -> Option<Cursor<'a>>
+    ensures { IfSome result (λ left. noted_one quick.old take cursor.entry ≡ Ok (quick.new, left)) }
+{
+    let mut left = cursor;
+    let Ok(value) = take.read(&mut left) else {
+        return None;
+    };
+    let Some(pick) = pick_of(value) else {
+        return None;
+    };
+    if !note_pick(quick, take.attribute, pick) {
+        return None;
+    }
+    Some(left)
+}
+
+/// Notes the value of a take that is not usual. The cursor of a caller stays in registers.
+#[inline(always)]
+fn note_other(quick: &mut Quick, cursor: &mut Cursor<'_>, take: Take) -> bool
+    ensures { result ≡ true → noted_one quick.old take cursor.old ≡ Ok (quick.new, cursor.new) }
+{
+    match note_any(quick, cursor.fork(), take) {
+        Some(left) => {
+            *cursor = left;
+            true
+        }
+        None => false,
+    }
+}
+
+/// Notes the value of a take: one step for each usual value. Where it fails, nothing is said.
+#[inline(always)]
+fn note_take(quick: &mut Quick, cursor: &mut Cursor<'_>, take: &KnownTake) -> bool
+    ensures { result ≡ true → noted_one quick.old take.now cursor.old ≡ Ok (quick.new, cursor.new) }
+{
+    match take.usual() {
+        Usual::Unasked => take.pass(cursor),
+        Usual::Name => note_number(quick, DW_AT_name, Class::StrAt, take.u32(cursor)),
+        Usual::Linkage => note_number(quick, DW_AT_linkage_name, Class::StrAt, take.u32(cursor)),
+        Usual::Declaration => {
+            take.pass(cursor) && note_number(quick, DW_AT_declaration, Class::Flag, Some(1))
+        }
+        Usual::Origin => {
+            note_number(
+                quick,
+                DW_AT_abstract_origin,
+                Class::UnitRef,
+                take.u32(cursor),
+            )
+        }
+        Usual::Specification => {
+            note_number(quick, DW_AT_specification, Class::UnitRef, take.u32(cursor))
+        }
+        Usual::LowPc => note_number(quick, DW_AT_low_pc, Class::Addr, take.u64(cursor)),
+        Usual::HighPc8 => note_number(quick, DW_AT_high_pc, Class::Num, take.u64(cursor)),
+        Usual::HighPc4 => note_number(quick, DW_AT_high_pc, Class::Num, take.u32(cursor)),
+        Usual::Ranges => note_number(quick, DW_AT_ranges, Class::SecOffset, take.u32(cursor)),
+        Usual::CallFile => note_number(quick, DW_AT_call_file, Class::Num, take.u8(cursor)),
+        Usual::CallLine1 => note_number(quick, DW_AT_call_line, Class::Num, take.u8(cursor)),
+        Usual::CallLine2 => note_number(quick, DW_AT_call_line, Class::Num, take.u16(cursor)),
+        Usual::Other => note_other(quick, cursor, take.take()),
+    }
+}
+
 /// Notes the values to which a short way leads. Where it fails, nothing is said.
-#[inline]
+#[inline(always)]
 #[tactic(auto, using(crate::proofs::TakeLemmas::notes_more, crate::proofs::TakeLemmas::notes_end))]
-fn note_takes(quick: &mut Quick, cursor: &mut Cursor<'_>, takes: &[Take]) -> bool
+fn note_takes(quick: &mut Quick, cursor: &mut Cursor<'_>, takes: &[KnownTake]) -> bool
     ensures { result ≡ true → noted_at quick.old takes.now cursor.old ≡ Ok (quick.new, cursor.new) }
 {
     'takes: for take in takes {
-        match take.read(cursor) {
-            Ok(value) => {
-                if !note_value(quick, take.attribute, value) {
-                    return false;
-                }
-            }
-            Err(_) => return false,
+        if !note_take(quick, cursor, take) {
+            return false;
         }
     }
     true
 }
 
-/// Reads the values of an entry by a short way; false where there is none, and nothing is read.
-#[inline]
+/// Reads the values of an entry by a short way; false where there is none. Where it fails, nothing is said.
+#[inline(always)]
 #[tactic(auto, using(crate::proofs::TakeLemmas::short_way))]
 pub fn read_quick(quick: &mut Quick, cursor: &mut Cursor<'_>, specs: &SpecList) -> bool
     requires { quick.old ≡ no_picks }
-    ensures read { result ≡ true → Ok (quick.new, cursor.new) ≡ picks_at no_picks specs.now cursor.old }
-    ensures kept { result ≡ false → cursor.new ≡ cursor.old }
+    ensures { result ≡ true → Ok (quick.new, cursor.new) ≡ picks_at no_picks specs.now cursor.old }
 {
     let Some(takes) = specs.takes() else {
         return false;
     };
-    let mut probe = cursor.fork();
-    if !note_takes(quick, &mut probe, takes) {
-        return false;
-    }
-    *cursor = probe;
-    true
+    note_takes(quick, cursor, takes)
 }
 
 impl Quick {
@@ -280,11 +328,11 @@ impl Quick {
             declaration: value_of(self.declaration),
             call_file: value_of(self.call_file),
             call_line: value_of(self.call_line),
-            stmt_list: value_of(self.stmt_list),
-            comp_dir: value_of(self.comp_dir),
-            str_offsets_base: value_of(self.str_offsets_base),
-            addr_base: value_of(self.addr_base),
-            rnglists_base: value_of(self.rnglists_base),
+            stmt_list: None,
+            comp_dir: None,
+            str_offsets_base: None,
+            addr_base: None,
+            rnglists_base: None,
         }
     }
 }

@@ -206,6 +206,47 @@ impl<'a> Walker<'a> {
         Ok(true)
     }
 
+    /// Adds a kept entry that may not fit into a head, by what was picked. It stands alone, so that others need no places for what
+    /// it holds.
+    #[inline(never)]
+    fn add_wide(
+        &mut self,
+        sections: &Sections<'a>,
+        unit: &Unit,
+        at: u32,
+        tag: u64,
+        quick: &Quick,
+    ) -> Result<(), OutOfMemory>
+        requires { keeps self.old tag ≡ true }
+        ensures { OnOk result (self.new ≡ entered_by sections.now unit.now self.old at tag quick.now) }
+    {
+        let picks = quick.to_picks();
+        self.add(sections, unit, at, tag, &picks)?;
+        Ok(())
+    }
+
+    /// Adds a kept entry that is not the first, by what was picked.
+    #[inline]
+    fn add_picked(
+        &mut self,
+        sections: &Sections<'a>,
+        unit: &Unit,
+        at: u32,
+        tag: u64,
+        quick: &Quick,
+    ) -> Result<(), OutOfMemory>
+        requires kept { keeps self.old tag ≡ true }
+        requires later { (length self.old.dies == 0) ≡ false }
+        requires strs { self.old.strs ≡ sections.now.strs }
+        ensures { OnOk result (self.new ≡ entered_by sections.now unit.now self.old at tag quick.now) }
+    {
+        if self.add_quick(sections, unit, at, tag, quick)? {
+            return Ok(());
+        }
+        self.add_wide(sections, unit, at, tag, quick)?;
+        Ok(())
+    }
+
     /// Takes a kept entry in, without its children, whatever its values may be.
     #[inline(never)]
     #[tactic(auto, using(crate::proofs::StepLemmas::taken, crate::proofs::StepLemmas::taken_refused))]
@@ -228,30 +269,6 @@ impl<'a> Walker<'a> {
         Ok(())
     }
 
-    /// Takes a kept entry in, without its children, that may not fit into a head. It stands alone, so that the short way holds
-    /// nothing but what heads need.
-    #[inline(never)]
-    #[tactic(auto, using(crate::proofs::StepLemmas::taken))]
-    fn take_wide(
-        &mut self,
-        sections: &Sections<'a>,
-        unit: &Unit,
-        cursor: &mut Cursor<'a>,
-        at: u32,
-        found: &Abbrev,
-    ) -> Result<(), Stop<DwarfFault>>
-        requires { keeps self.old found.now.tag ≡ true }
-        ensures { Moves result self.new cursor.new (entered_at sections.now unit.now self.old at found.now cursor.old) }
-    {
-        let mut quick = no_quick();
-        if !read_quick(&mut quick, cursor, &found.specs) {
-            return self.take_any(sections, unit, cursor, at, found);
-        }
-        let picks = quick.to_picks();
-        self.add(sections, unit, at, found.tag, &picks)?;
-        Ok(())
-    }
-
     /// Takes a kept entry in, without its children. It stands alone, so that entries that are not kept need no places for values.
     #[inline(never)]
     #[tactic(auto, using(crate::proofs::StepLemmas::taken))]
@@ -267,20 +284,15 @@ impl<'a> Walker<'a> {
         requires strs { self.old.strs ≡ sections.now.strs }
         ensures { Moves result self.new cursor.new (entered_at sections.now unit.now self.old at found.now cursor.old) }
     {
+        let mut quick = no_quick();
+        let mut behind = cursor.fork();
         if self.dies.is_empty() {
             return self.take_any(sections, unit, cursor, at, found);
         }
-        if found.specs.has_far_text() {
-            return self.take_wide(sections, unit, cursor, at, found);
-        }
-        let mut quick = no_quick();
-        let mut behind = cursor.fork();
         if !read_quick(&mut quick, &mut behind, &found.specs) {
             return self.take_any(sections, unit, cursor, at, found);
         }
-        if !self.add_quick(sections, unit, at, found.tag, &quick)? {
-            return self.take_wide(sections, unit, cursor, at, found);
-        }
+        self.add_picked(sections, unit, at, found.tag, &quick)?;
         *cursor = behind;
         Ok(())
     }

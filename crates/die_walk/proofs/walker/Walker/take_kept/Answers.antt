@@ -5,5 +5,5 @@ use Rattle.die_walk.proofs.walker.Walker.take_kept.Goals as goal
 
 pub returns : goal.returns
 returns c =
-    taken c.args.sections.now c.args.unit.now c.args.self.now c.add_quick.new.self c.args.at c.args.found.now c.read_quick.new.quick c.args.cursor.now c.read_quick.new.cursor
-    (c.read_quick.ensures.read c.if-not-read_quick.false ∙ ap (λ d. picks_at no_picks c.args.found.now.specs d) c.fork-behind.ensures) (c.in_ok-add_quick.ensures.added c.if-not-branch.false)
+    taken c.args.sections.now c.args.unit.now c.args.self.now c.add_picked.new.self c.args.at c.args.found.now c.read_quick.new.quick c.args.cursor.now c.read_quick.new.cursor
+    (c.read_quick.ensures c.if-not-read_quick.false ∙ ap (λ d. picks_at no_picks c.args.found.now.specs d) c.fork-behind.ensures) c.in_ok-add_picked.ensures
