@@ -16,7 +16,7 @@ use Rattle.abbrev_units.specs.declared.value.Value.{Value}
 use Rattle.abbrev_units.specs.declared.value.Value.TheVariants as value
 use Rattle.abbrev_units.specs.FormValue.{value_of}
 use Rattle.abbrev_units.specs.Takes.{taken_at}
-use Rattle.abbrev_units.specs.UsualTakes.{Makes, MakesYes}
+use Rattle.abbrev_units.specs.UsualTakes.{Makes, MakesYes, MakesImplicit}
 
 abbrev valued : Take → Operand × Ahead → Result (Value × Ahead) CursorFault
 valued take x = Ok (value_of take.class take.implicit x.0, x.1)
@@ -96,3 +96,10 @@ present_yes implicit x = refl
 
 pub declared : (attribute : ℕ) (layout : Kind) (class : FormClass) → attribute ≡ 0x3c → layout ≡ kind.Nothing → class ≡ is.Present → (attribute ≡ 0x3c) × ((layout ≡ kind.Nothing) × MakesYes class)
 declared attribute layout class one two three = (one, (two, subst MakesYes (sym three) present_yes))
+
+implicit_made : MakesImplicit is.Implicit
+unfolding value_of
+implicit_made implicit x = refl
+
+pub given : (attribute a : ℕ) (layout : Kind) (class : FormClass) → attribute ≡ a → layout ≡ kind.Nothing → class ≡ is.Implicit → (attribute ≡ a) × ((layout ≡ kind.Nothing) × MakesImplicit class)
+given attribute a layout class one two three = (one, (two, subst MakesImplicit (sym three) implicit_made))

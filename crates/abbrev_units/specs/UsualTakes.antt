@@ -20,6 +20,10 @@ Makes class f = (implicit : ℤ) (n : ℕ) → value_of class implicit (operand.
 abbrev pub MakesYes : FormClass → Type 0
 MakesYes class = (implicit : ℤ) (x : Operand) → value_of class implicit x ≡ value.Flag true
 
+-- the class makes the constant of the abbreviation of whatever stands there
+abbrev pub MakesImplicit : FormClass → Type 0
+MakesImplicit class = (implicit : ℤ) (x : Operand) → value_of class implicit x ≡ value.Signed implicit
+
 -- a value of this attribute, layout and class is that usual one; of others nothing is said
 abbrev pub IsUsual : Usual → ℕ → Kind → FormClass → Type 0
 IsUsual usual.Unasked attribute layout class = (is_asked attribute ≡ false) × (layout ≡ kind.Nothing)
@@ -35,4 +39,6 @@ IsUsual usual.Ranges attribute layout class = (attribute ≡ 0x55) × ((layout �
 IsUsual usual.CallFile attribute layout class = (attribute ≡ 0x58) × ((layout ≡ kind.U8) × Makes class (λ n. value.Num n))
 IsUsual usual.CallLine1 attribute layout class = (attribute ≡ 0x59) × ((layout ≡ kind.U8) × Makes class (λ n. value.Num n))
 IsUsual usual.CallLine2 attribute layout class = (attribute ≡ 0x59) × ((layout ≡ kind.U16) × Makes class (λ n. value.Num n))
+IsUsual usual.CallFileImplicit attribute layout class = (attribute ≡ 0x58) × ((layout ≡ kind.Nothing) × MakesImplicit class)
+IsUsual usual.CallLineImplicit attribute layout class = (attribute ≡ 0x59) × ((layout ≡ kind.Nothing) × MakesImplicit class)
 IsUsual usual.Other attribute layout class = Prim.Unit {0}

@@ -1,3 +1,4 @@
 -- What serves the functions and loops of the crate alone: no public clause cites it.
 pub mod Plans
 pub mod Used
+pub mod Ways

@@ -8,6 +8,7 @@ ghost use Rattle.abbrev_units.specs.Values.{value_at, only_ahead, behind_values}
 ghost use Rattle.code_table.specs.Forms.{forms, form_row};
 ghost use Rattle.abbrev_units.specs.internal.Plans.{HasLayout, HasRow, row_said};
 ghost use Rattle.abbrev_units.specs.Takes.{AreTakes};
+ghost use Rattle.abbrev_units.specs.internal.Ways.{IsWay};
 
 use crate::fault::FormFault;
 use crate::form::{read_indirect, read_known};
@@ -185,47 +186,55 @@ impl Spec {
     }
 }
 
-/// The attributes of an abbreviation, with a short way over their values, and one to those that are asked
-/// for.
+/// A short way over the values of attributes, or to those that are asked for.
+#[derive(Drop)]
+enum ShortWay {
+    Missing,
+    Over(Plan),
+    To(Vec<KnownTake>),
+}
+
+/// The short way to values is made where they are `asked` for, and that over them where they are not.
+fn make_way(alloc: Global, specs: &[Spec], asked: bool) -> Result<ShortWay, OutOfMemory>
+    ensures { IfOk result (λ way. IsWay way specs.now) }
+{
+    if asked {
+        return match takes_of(alloc, specs)? {
+            Some(takes) => Ok(ShortWay::To(takes)),
+            None => Ok(ShortWay::Missing),
+        };
+    }
+    match make_plan(alloc, specs)? {
+        Some(plan) => Ok(ShortWay::Over(plan)),
+        None => Ok(ShortWay::Missing),
+    }
+}
+
+/// The attributes of an abbreviation, with a short way over their values or to them.
 #[derive(Drop)]
 pub struct SpecList {
+    way: ShortWay,
     items: Vec<Spec>,
-    plan: Option<Plan>,
-    takes: Option<Vec<KnownTake>>,
 }
 
 impl Model for SpecList {
-    ghost use Rattle.std.specs.Prelude.{List, IfSome};
+    ghost use Rattle.std.specs.Prelude.{List};
     ghost use Rattle.abbrev_units.specs.SpecFields.{SpecFields};
-    ghost use Rattle.abbrev_units.specs.internal.Plans.{ended, IsPlan};
-    ghost use Rattle.abbrev_units.specs.Takes.{AreTakes};
+    ghost use Rattle.abbrev_units.specs.internal.Ways.{IsWay};
 
     ghost Value = { List SpecFields };
 
     ghost view = { λ l. l.items.items };
 
-    ghost invariant = { λ l. IfSome l.plan (λ plan. IsPlan (ended plan.steps.items plan.tail) l.items.items) × IfSome l.takes (λ takes. AreTakes takes.items l.items.items) };
+    ghost invariant = { λ l. IsWay l.way l.items.items };
 }
 
 impl SpecList {
-    /// The short way to values is made where they are `asked` for, and that over them where they are not.
     pub(crate) fn of(alloc: Global, items: Vec<Spec>, asked: bool) -> Result<SpecList, OutOfMemory>
         ensures { IfOk result (λ list. list ≡ items.items) }
     {
-        if asked {
-            let takes = takes_of(alloc, items.as_slice())?;
-            return Ok(SpecList {
-                items,
-                plan: None,
-                takes,
-            });
-        }
-        let plan = make_plan(alloc, items.as_slice())?;
-        Ok(SpecList {
-            items,
-            plan,
-            takes: None,
-        })
+        let way = make_way(alloc, items.as_slice(), asked)?;
+        Ok(SpecList { way, items })
     }
 
     pub fn as_slice(&self) -> &[Spec]
@@ -239,9 +248,9 @@ impl SpecList {
     pub fn takes(&self) -> Option<&[KnownTake]>
         ensures { IfSome result (λ takes. AreTakes takes.now self.now) }
     {
-        match &self.takes {
-            Some(takes) => Some(takes.as_slice()),
-            None => None,
+        match &self.way {
+            ShortWay::To(takes) => Some(takes.as_slice()),
+            ShortWay::Missing | ShortWay::Over(_) => None,
         }
     }
 
@@ -253,7 +262,7 @@ impl SpecList {
         ensures passed { result ≡ true → Ok cursor.new ≡ behind_values self.now cursor.old }
         ensures kept { result ≡ false → cursor.new ≡ cursor.old }
     {
-        let Some(plan) = &self.plan else {
+        let ShortWay::Over(plan) = &self.way else {
             return false;
         };
         let mut probe = cursor.fork();

@@ -131,7 +131,7 @@ fn put(later: &mut Vec<KnownTake>, first: Option<Take>) -> Result<(), OutOfMemor
 fn make_takes(alloc: Global, specs: &[Spec]) -> Result<Option<Vec<KnownTake>>, OutOfMemory>
     ensures { IfOk result (λ made. IfSome made (λ takes. AreTakes (reverse takes.items) specs.now)) }
 {
-    let mut later = Vec::new(alloc);
+    let mut later = Vec::with_capacity(alloc, specs.len())?;
     let mut first = None;
     'specs: for place in (0..specs.len()).rev() {
         let spec = &specs[place];

@@ -47,6 +47,10 @@ pub enum Usual {
     CallLine1,
     CallLine2,
 
+    /// Constants that stand in the abbreviation.
+    CallFileImplicit,
+    CallLineImplicit,
+
     /// Whatever it may be.
     Other,
 }
@@ -93,6 +97,11 @@ fn usual_of(attribute: u64, kind: Kind, class: FormClass) -> Usual
         },
         (FormClass::Constant, Kind::U16) => match attribute {
             DW_AT_call_line => Usual::CallLine2,
+            _ => Usual::Other,
+        },
+        (FormClass::Implicit, Kind::Nothing) => match attribute {
+            DW_AT_call_file => Usual::CallFileImplicit,
+            DW_AT_call_line => Usual::CallLineImplicit,
             _ => Usual::Other,
         },
         (FormClass::Other, Kind::Nothing) => {
@@ -148,6 +157,14 @@ impl KnownTake {
         ensures { IsUsual result self.now.attribute self.now.kind self.now.class }
     {
         self.usual
+    }
+
+    /// The constant that stands in the abbreviation.
+    #[inline(always)]
+    pub fn implicit(&self) -> i64
+        ensures { result ≡ self.now.implicit }
+    {
+        self.implicit
     }
 
     /// The take, whatever its value may be.

@@ -51,9 +51,9 @@ fn fit_text(sections: &Sections<'_>, unit: &Unit, base: Option<u64>, pick: Pick)
     ensures { FitsText sections.now.strs result (text_by sections.now unit.now base (pick_said pick)) }
 {
     match pick.class {
+        Class::Missing => Fit::Missing,
         Class::StrAt => fit_place(sections.strs, pick.number),
-        Class::LineStrAt | Class::StrIndex | Class::InlineText => Fit::Wide,
-        _ => Fit::Missing,
+        _ => Fit::Wide,
     }
 }
 

@@ -1,6 +1,7 @@
 //! The values of an entry that matter, picked by a short way into 16 bytes each.
 ghost use Rattle.std.specs.Prelude.{◌≡◌, true, Ok, Some, IfSome, MatchOption};
 ghost use Rattle.abbrev_units.specs.declared.value.Value.{Value};
+ghost use Rattle.abbrev_units.specs.declared.value.Value.TheVariants.{Signed};
 ghost use Rattle.die_walk.specs.Picking.{or_value, no_picks, noted, noted_one, noted_at, picks_at};
 ghost use Rattle.die_walk.specs.internal.Packing.{pick_said, pick_in};
 
@@ -217,6 +218,15 @@ fn note_number(quick: &mut Quick, attribute: u64, class: Class, number: Option<u
     }
 }
 
+/// Notes a number with a sign, where it is the first of its attribute.
+#[inline(always)]
+#[tactic(auto, unfolding(crate::specs::internal::Packing::pick_said))]
+fn note_signed(quick: &mut Quick, attribute: u64, number: i64) -> bool
+    ensures { result ≡ true → quick.new ≡ noted quick.old attribute (Signed number) }
+{
+    note_pick(quick, attribute, numbered(Class::Signed, number.cast_unsigned()))
+}
+
 /// Notes whatever value a take has, and gives the cursor behind it; none where there is no pick of it.
 #[inline(never)]
 #[tactic(auto, using(crate::proofs::TakeLemmas::noted_value))]
@@ -280,6 +290,12 @@ fn note_take(quick: &mut Quick, cursor: &mut Cursor<'_>, take: &KnownTake) -> bo
         Usual::CallFile => note_number(quick, DW_AT_call_file, Class::Num, take.u8(cursor)),
         Usual::CallLine1 => note_number(quick, DW_AT_call_line, Class::Num, take.u8(cursor)),
         Usual::CallLine2 => note_number(quick, DW_AT_call_line, Class::Num, take.u16(cursor)),
+        Usual::CallFileImplicit => {
+            take.pass(cursor) && note_signed(quick, DW_AT_call_file, take.implicit())
+        }
+        Usual::CallLineImplicit => {
+            take.pass(cursor) && note_signed(quick, DW_AT_call_line, take.implicit())
+        }
         Usual::Other => note_other(quick, cursor, take.take()),
     }
 }

@@ -1,7 +1,7 @@
 use Rattle.code_table.specs.declared.kind.Kind.TheVariants as kind
 use Rattle.code_table.specs.declared.forms.FormClass.TheVariants as class
 use Rattle.abbrev_units.specs.declared.value.Value.TheVariants as value
-use Rattle.abbrev_units.proofs.UsualLemmas.{known, texts, references, addresses, constants, places, declared}
+use Rattle.abbrev_units.proofs.UsualLemmas.{known, texts, references, addresses, constants, places, declared, given}
 use Rattle.abbrev_units.proofs.usual.usual_of.Goals as goal
 
 pub returns-in-3 : goal.returns-in-3
@@ -39,3 +39,9 @@ returns-in-85 c = known c.args.attribute 0x55 c.args.kind kind.U32 c.args.class 
 
 pub returns-in-60 : goal.returns-in-60
 returns-in-60 c = declared c.args.attribute c.args.kind c.args.class c.in-60.is c.in-Present-Nothing.is-1 c.in-Present-Nothing.is-0
+
+pub returns-in-88-attribute : goal.returns-in-88-attribute
+returns-in-88-attribute c = given c.args.attribute 0x58 c.args.kind c.args.class c.in-88-attribute.is c.in-Implicit-Nothing.is-1 c.in-Implicit-Nothing.is-0
+
+pub returns-in-89-attribute-2 : goal.returns-in-89-attribute-2
+returns-in-89-attribute-2 c = given c.args.attribute 0x59 c.args.kind c.args.class c.in-89-attribute-2.is c.in-Implicit-Nothing.is-1 c.in-Implicit-Nothing.is-0
