@@ -125,6 +125,10 @@ fn pass_kind(cursor: &mut Cursor<'_>, kind: Kind) -> bool
             },
             Err(_) => false,
         },
+        Kind::ZeroText => match cursor.text() {
+            Ok(_text) => true,
+            Err(_) => false,
+        },
         _ => pass_any(cursor, kind),
     }
 }
