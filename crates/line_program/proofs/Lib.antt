@@ -14,6 +14,7 @@ pub mod CountLemmas
 pub mod TableLemmas
 pub mod SaysLemmas
 pub mod ReadLemmas
+pub mod ValueLemmas
 pub mod StopLemmas
 pub mod KeptLemmas
 pub mod LinesLemmas

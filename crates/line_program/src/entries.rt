@@ -8,8 +8,8 @@ use crate::entry_format::EntryFormat;
 use crate::fault::LineFault;
 use crate::file_entry::FileEntry;
 use crate::reading::read_file_behind;
-use abbrev_units::{DwarfKind, Sections, Value, read_form, read_text};
-use code_table::DW_FORM_implicit_const;
+use abbrev_units::{DwarfKind, Sections, Value, read_form, read_place, read_text};
+use code_table::{DW_FORM_implicit_const, DW_FORM_line_strp, DW_FORM_udata};
 use leb_cursor::Cursor;
 
 // The contents of version 5 that are read (DWARF 5, table 7.27).
@@ -46,9 +46,9 @@ pub fn read_pair(cursor: &mut Cursor<'_>) -> Result<EntryFormat, LineFault>
     Ok(EntryFormat { content, form })
 }
 
-/// Reads a value.
+/// Reads a value of any form.
 #[tactic(auto, unfolding(crate::specs::FileTables::value_at))]
-fn read_value(cursor: &mut Cursor<'_>, form: u64, wide: bool) -> Result<Value, LineFault>
+fn read_any(cursor: &mut Cursor<'_>, form: u64, wide: bool) -> Result<Value, LineFault>
     ensures { gave result cursor.new ≡ value_at wide form cursor.old }
 {
     if form == DW_FORM_implicit_const {
@@ -56,6 +56,25 @@ fn read_value(cursor: &mut Cursor<'_>, form: u64, wide: bool) -> Result<Value, L
     }
     let value = read_form(cursor, form, 0, wide)?;
     Ok(value)
+}
+
+/// Reads a value. The forms of most paths and of numbers are read here.
+#[inline]
+#[tactic(auto, using(crate::proofs::ValueLemmas::number_read, crate::proofs::ValueLemmas::path_read))]
+fn read_value(cursor: &mut Cursor<'_>, form: u64, wide: bool) -> Result<Value, LineFault>
+    ensures { gave result cursor.new ≡ value_at wide form cursor.old }
+{
+    match form {
+        DW_FORM_udata => match cursor.uleb() {
+            Ok(number) => Ok(Value::Num(number)),
+            Err(fault) => Err(fault.into()),
+        },
+        DW_FORM_line_strp => match read_place(cursor, wide) {
+            Ok(place) => Ok(Value::LineStrAt(place)),
+            Err(fault) => Err(fault.into()),
+        },
+        _ => read_any(cursor, form, wide),
+    }
 }
 
 /// The value that was kept, or else this one where it is of the content.

@@ -1,5 +1,5 @@
 -- Rows as the code keeps them: a file number of 2^32 - 1 and above, which no file of a table has, is kept as that one.
-use Rattle.std.specs.Prelude.{ℕ, ◌-◌, ◌^◌, min, List, [], ◌∷◌, ◌++◌, map, Result, Ok, Err}
+use Rattle.std.specs.Prelude.{◌-◌, ◌^◌, min, List, [], ◌∷◌, ◌++◌, map, Result, Ok, Err}
 use Rattle.sym_edges.specs.Results.{◌>>=◌}
 use Rattle.leb_cursor.specs.Ahead.{Ahead}
 use Rattle.line_program.specs.declared.opcode.Opcode.{Opcode}
@@ -7,7 +7,7 @@ use Rattle.line_program.specs.declared.opcode.Opcode.TheVariants.{Special, Copy,
 use Rattle.line_program.specs.declared.row.Row.{Row}
 use Rattle.line_program.specs.Faults.{Fault}
 use Rattle.line_program.specs.LineAt.{Lines}
-use Rattle.line_program.specs.LineRows.{Registers, Sequence, State, row_of, moved, carried}
+use Rattle.line_program.specs.LineRows.{Sequence, State, row_of, moved, carried}
 use Rattle.line_program.specs.Opcodes.{opcodes_at}
 use Rattle.line_program.specs.ProgramFields.{ProgramFields}
 
