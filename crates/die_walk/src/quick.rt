@@ -175,7 +175,9 @@ fn note_first(place: &mut Pick, pick: Pick)
     ensures { (value : Value) → pick_said pick ≡ Some value → pick_said place.new ≡ or_value (pick_said place.old) value }
 {
     if matches!(place.class, Class::Missing) {
-        *place = pick;
+        place.class = pick.class;
+        place.len = pick.len;
+        place.number = pick.number;
     }
 }
 
@@ -224,7 +226,11 @@ fn note_number(quick: &mut Quick, attribute: u64, class: Class, number: Option<u
 fn note_signed(quick: &mut Quick, attribute: u64, number: i64) -> bool
     ensures { result ≡ true → quick.new ≡ noted quick.old attribute (Signed number) }
 {
-    note_pick(quick, attribute, numbered(Class::Signed, number.cast_unsigned()))
+    note_pick(
+        quick,
+        attribute,
+        numbered(Class::Signed, number.cast_unsigned()),
+    )
 }
 
 /// Notes whatever value a take has, and gives the cursor behind it; none where there is no pick of it.
