@@ -1,21 +1,22 @@
 -- For `KnownTake`: a take whose bytes are passed reads what stands behind them.
-use Rattle.std.proofs.Common.{◌≡◌, ℕ, List, Result, Ok, refl, sym, ap, ◌∙◌, subst}
+use Rattle.std.proofs.Common.{◌≡◌, ℕ, List, Result, Ok, refl, sym, ap, ◌∙◌, subst, length}
 use Rattle.sym_edges.specs.Results.{◌>>=◌}
 use Rattle.leb_cursor.specs.declared.fault.CursorFault.{CursorFault}
 use Rattle.leb_cursor.specs.Ahead.{Ahead}
-use Rattle.leb_cursor.specs.Readings.{fixed_at, take_at}
+use Rattle.leb_cursor.specs.Readings.{fixed_at, uleb_at, take_at}
 use Rattle.code_table.specs.declared.kind.Kind.{Kind}
 use Rattle.code_table.specs.declared.kind.Kind.TheVariants as kind
 use Rattle.code_table.specs.declared.kind.Operand.{Operand}
 use Rattle.code_table.specs.declared.kind.Operand.TheVariants as operand
 use Rattle.code_table.specs.declared.forms.FormClass.{FormClass}
 use Rattle.code_table.specs.declared.forms.FormClass.TheVariants as is
-use Rattle.code_table.specs.Layouts.{kind_at, number_in}
+use Rattle.code_table.specs.Layouts.{kind_at, run_at, number_in}
 use Rattle.abbrev_units.specs.declared.take.Take.{Take}
 use Rattle.abbrev_units.specs.declared.value.Value.{Value}
 use Rattle.abbrev_units.specs.declared.value.Value.TheVariants as value
 use Rattle.abbrev_units.specs.FormValue.{value_of}
 use Rattle.abbrev_units.specs.Takes.{taken_at}
+use Rattle.abbrev_units.specs.Values.{only_ahead}
 use Rattle.abbrev_units.specs.UsualTakes.{Makes, MakesYes, MakesImplicit}
 
 abbrev valued : Take → Operand × Ahead → Result (Value × Ahead) CursorFault
@@ -103,3 +104,20 @@ implicit_made implicit x = refl
 
 pub given : (attribute a : ℕ) (layout : Kind) (class : FormClass) → attribute ≡ a → layout ≡ kind.Nothing → class ≡ is.Implicit → (attribute ≡ a) × ((layout ≡ kind.Nothing) × MakesImplicit class)
 given attribute a layout class one two three = (one, (two, subst MakesImplicit (sym three) implicit_made))
+
+-- a block
+abbrev run_of : ℕ → List ℕ × Ahead → Result (Operand × Ahead) CursorFault
+run_of at run = Ok (operand.Run at (length run.0), run.1)
+
+abbrev block_of : ℕ × Ahead → Result (Operand × Ahead) CursorFault
+block_of count = run_at count.0 count.1
+
+block_reads : (d e f : Ahead) (count : ℕ) (block : List ℕ) → Ok (count, e) ≡ uleb_at d → Ok (block, f) ≡ take_at count e → kind_at kind.BlockUleb d ≡ Ok (operand.Run e.at (length block), f)
+unfolding kind_at run_at
+block_reads d e f count block number rest =
+    ap (λ (r : Result (ℕ × Ahead) CursorFault). r >>= block_of) (sym number)
+    ∙ ap (λ (r : Result (List ℕ × Ahead) CursorFault). r >>= run_of e.at) (sym rest)
+
+pub block_taken : (take : Take) (c d e f : Ahead) (run block : List ℕ) (count : ℕ) → take.kind ≡ kind.BlockUleb → Ok (run, d) ≡ take_at take.bytes c → Ok (count, e) ≡ uleb_at d → Ok (block, f) ≡ take_at count e → only_ahead (taken_at take c) ≡ Ok f
+block_taken take c d e f run block count laid over number rest =
+    ap only_ahead (operand_taken take c d f run (operand.Run e.at (length block)) over (ap (λ (k : Kind). kind_at k d) laid ∙ block_reads d e f count block number rest))

@@ -27,6 +27,7 @@ MakesImplicit class = (implicit : ℤ) (x : Operand) → value_of class implicit
 -- a value of this attribute, layout and class is that usual one; of others nothing is said
 abbrev pub IsUsual : Usual → ℕ → Kind → FormClass → Type 0
 IsUsual usual.Unasked attribute layout class = (is_asked attribute ≡ false) × (layout ≡ kind.Nothing)
+IsUsual usual.UnaskedBlock attribute layout class = (is_asked attribute ≡ false) × (layout ≡ kind.BlockUleb)
 IsUsual usual.Name attribute layout class = (attribute ≡ 0x03) × ((layout ≡ kind.U32) × Makes class (λ n. value.StrAt n))
 IsUsual usual.Linkage attribute layout class = (attribute ≡ 0x6e) × ((layout ≡ kind.U32) × Makes class (λ n. value.StrAt n))
 IsUsual usual.Declaration attribute layout class = (attribute ≡ 0x3c) × ((layout ≡ kind.Nothing) × MakesYes class)

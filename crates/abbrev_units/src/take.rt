@@ -117,6 +117,7 @@ fn wider(first: Option<Take>, size: u8) -> Option<Take>
 }
 
 /// Puts a take to those behind it, which stand from the last to the first.
+#[inline]
 #[tactic(auto, using(crate::proofs::TakeLemmas::put_front))]
 fn put(later: &mut Vec<KnownTake>, first: Option<Take>) -> Result<(), OutOfMemory>
     ensures { OnOk result (reverse later.new.items ≡ in_front first (reverse later.old.items)) }

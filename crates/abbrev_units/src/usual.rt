@@ -5,6 +5,7 @@ ghost use Rattle.code_table.specs.declared.kind.Operand.TheVariants as operand;
 ghost use Rattle.abbrev_units.specs.FormValue.{value_of};
 ghost use Rattle.abbrev_units.specs.Takes.{taken_at};
 ghost use Rattle.abbrev_units.specs.UsualTakes.{IsUsual};
+ghost use Rattle.abbrev_units.specs.Values.{only_ahead};
 
 use crate::take::{Take, is_asked};
 use code_table::{
@@ -18,8 +19,9 @@ use std::marker::Model;
 /// An attribute with the layout and the class that its values mostly have in kept entries.
 #[derive(Clone, Copy)]
 pub enum Usual {
-    /// Nobody asks for it, and it has no bytes.
+    /// Nobody asks for it, and it has no bytes, or it is a block with its length as a LEB128.
     Unasked,
+    UnaskedBlock,
 
     /// Names at a place of `.debug_str` of four bytes.
     Name,
@@ -111,6 +113,13 @@ fn usual_of(attribute: u64, kind: Kind, class: FormClass) -> Usual
                 Usual::Unasked
             }
         }
+        (FormClass::Block, Kind::BlockUleb) => {
+            if is_asked(attribute) {
+                Usual::Other
+            } else {
+                Usual::UnaskedBlock
+            }
+        }
         _ => Usual::Other,
     }
 }
@@ -189,6 +198,24 @@ impl KnownTake {
     {
         match cursor.take(self.bytes) {
             Ok(_run) => true,
+            Err(_) => false,
+        }
+    }
+
+    /// Passes the bytes, and the block behind them.
+    #[inline(always)]
+    pub fn pass_block(&self, cursor: &mut Cursor<'_>) -> bool
+        requires { self.now.kind ≡ kind.BlockUleb }
+        ensures { result ≡ true → only_ahead (taken_at self.now cursor.old) ≡ Ok cursor.new }
+    {
+        let Ok(_run) = cursor.take(self.bytes) else {
+            return false;
+        };
+        let Ok(count) = cursor.uleb() else {
+            return false;
+        };
+        match cursor.take(count) {
+            Ok(_block) => true,
             Err(_) => false,
         }
     }

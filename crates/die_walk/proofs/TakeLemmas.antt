@@ -6,11 +6,12 @@ use Rattle.sym_edges.specs.Results.{◌>>=◌}
 use Rattle.leb_cursor.specs.declared.fault.CursorFault.{CursorFault}
 use Rattle.leb_cursor.specs.Ahead.{Ahead}
 use Rattle.abbrev_units.specs.declared.fault.FormFault.{FormFault}
+use Rattle.code_table.specs.declared.kind.Kind.TheVariants as kind
 use Rattle.abbrev_units.specs.declared.take.Take.{Take}
 use Rattle.abbrev_units.specs.declared.value.Value.{Value}
 use Rattle.abbrev_units.specs.declared.value.Given.{Given}
 use Rattle.abbrev_units.specs.SpecFields.{SpecFields}
-use Rattle.abbrev_units.specs.Values.{value_at, values_at}
+use Rattle.abbrev_units.specs.Values.{value_at, values_at, only_ahead}
 use Rattle.abbrev_units.specs.Takes.{is_asked, asked_of, with_asked, taken_at, takes_at, AreTakes}
 use Rattle.die_walk.specs.declared.picks.Picks.{Picks}
 use Rattle.die_walk.specs.Picking.{no_picks, noted, noted_one, picks_at, noted_at}
@@ -131,3 +132,13 @@ pub noted_value : (picks more : Picks) (take : Take) (value : Value) (c d : Ahea
 noted_value picks more take value c d reads is =
     ap (λ (r : Result (Value × Ahead) CursorFault). r >>= one_noted picks take.attribute) (sym reads)
     ∙ ap (λ (p : Picks). Ok (p, d)) (sym is)
+
+-- a value that nobody asks for
+none_by : (picks : Picks) (attribute : ℕ) (reading : Result (Value × Ahead) CursorFault) (d : Ahead) → is_asked attribute ≡ false → only_ahead reading ≡ Ok d → (reading >>= one_noted picks attribute) ≡ Ok (picks, d)
+none_by picks attribute (Ok x) d none is =
+    let there : x.1 ≡ d = cc in
+    ap (λ (p : Picks). Ok (p, x.1)) (unpicked picks attribute x.0 none) ∙ ap (λ (e : Ahead). Ok (picks, e)) there
+none_by picks attribute (Err fault) d none is = absurd (grind (arith, is))
+
+pub noted_none : (picks : Picks) (take : Take) (c d : Ahead) → (is_asked take.attribute ≡ false) × (take.kind ≡ kind.BlockUleb) → only_ahead (taken_at take c) ≡ Ok d → noted_one picks take c ≡ Ok (picks, d)
+noted_none picks take c d usual passed = none_by picks take.attribute (taken_at take c) d usual.0 passed

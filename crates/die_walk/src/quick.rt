@@ -268,11 +268,13 @@ fn note_other(quick: &mut Quick, cursor: &mut Cursor<'_>, take: Take) -> bool
 
 /// Notes the value of a take: one step for each usual value. Where it fails, nothing is said.
 #[inline(always)]
+#[tactic(auto, using(crate::proofs::TakeLemmas::noted_none))]
 fn note_take(quick: &mut Quick, cursor: &mut Cursor<'_>, take: &KnownTake) -> bool
     ensures { result ≡ true → noted_one quick.old take.now cursor.old ≡ Ok (quick.new, cursor.new) }
 {
     match take.usual() {
         Usual::Unasked => take.pass(cursor),
+        Usual::UnaskedBlock => take.pass_block(cursor),
         Usual::Name => note_number(quick, DW_AT_name, Class::StrAt, take.u32(cursor)),
         Usual::Linkage => note_number(quick, DW_AT_linkage_name, Class::StrAt, take.u32(cursor)),
         Usual::Declaration => {
