@@ -44,6 +44,10 @@ u32_reads : (d : Ahead) → kind_at kind.U32 d ≡ number_in (fixed_at 4 d)
 unfolding kind_at
 u32_reads d = refl
 
+uleb_reads : (d : Ahead) → kind_at kind.Uleb d ≡ number_in (uleb_at d)
+unfolding kind_at
+uleb_reads d = refl
+
 u64_reads : (d : Ahead) → kind_at kind.U64 d ≡ number_in (fixed_at 8 d)
 unfolding kind_at
 u64_reads d = refl
@@ -63,6 +67,9 @@ u16_taken take c d e run n is over number = number_taken take kind.U16 c d e run
 
 pub u32_taken : (take : Take) (c d e : Ahead) (run : List ℕ) (n : ℕ) → take.kind ≡ kind.U32 → Ok (run, d) ≡ take_at take.bytes c → Ok (n, e) ≡ fixed_at 4 d → taken_at take c ≡ Ok (value_of take.class take.implicit (operand.Num n), e)
 u32_taken take c d e run n is over number = number_taken take kind.U32 c d e run n (fixed_at 4 d) is (u32_reads d) over number
+
+pub uleb_taken : (take : Take) (c d e : Ahead) (run : List ℕ) (n : ℕ) → take.kind ≡ kind.Uleb → Ok (run, d) ≡ take_at take.bytes c → Ok (n, e) ≡ uleb_at d → taken_at take c ≡ Ok (value_of take.class take.implicit (operand.Num n), e)
+uleb_taken take c d e run n is over number = number_taken take kind.Uleb c d e run n (uleb_at d) is (uleb_reads d) over number
 
 pub u64_taken : (take : Take) (c d e : Ahead) (run : List ℕ) (n : ℕ) → take.kind ≡ kind.U64 → Ok (run, d) ≡ take_at take.bytes c → Ok (n, e) ≡ fixed_at 8 d → taken_at take c ≡ Ok (value_of take.class take.implicit (operand.Num n), e)
 u64_taken take c d e run n is over number = number_taken take kind.U64 c d e run n (fixed_at 8 d) is (u64_reads d) over number
@@ -86,6 +93,14 @@ addresses implicit n = refl
 pub constants : Makes is.Constant (λ n. value.Num n)
 unfolding value_of
 constants implicit n = refl
+
+pub text_indices : Makes is.TextIndex (λ n. value.StrIndex n)
+unfolding value_of
+text_indices implicit n = refl
+
+pub address_indices : Makes is.AddressIndex (λ n. value.AddrIndex n)
+unfolding value_of
+address_indices implicit n = refl
 
 pub places : Makes is.SectionPlace (λ n. value.SecOffset n)
 unfolding value_of

@@ -53,6 +53,15 @@ pub enum Usual {
     CallFileImplicit,
     CallLineImplicit,
 
+    /// Names by their number in `.debug_str_offsets`, of one byte and of two.
+    NameIndex1,
+    NameIndex2,
+    LinkageIndex1,
+    LinkageIndex2,
+
+    /// An address by its number in `.debug_addr`, as a LEB128.
+    LowPcIndex,
+
     /// Whatever it may be.
     Other,
 }
@@ -104,6 +113,20 @@ fn usual_of(attribute: u64, kind: Kind, class: FormClass) -> Usual
         (FormClass::Implicit, Kind::Nothing) => match attribute {
             DW_AT_call_file => Usual::CallFileImplicit,
             DW_AT_call_line => Usual::CallLineImplicit,
+            _ => Usual::Other,
+        },
+        (FormClass::TextIndex, Kind::U8) => match attribute {
+            DW_AT_name => Usual::NameIndex1,
+            DW_AT_linkage_name => Usual::LinkageIndex1,
+            _ => Usual::Other,
+        },
+        (FormClass::TextIndex, Kind::U16) => match attribute {
+            DW_AT_name => Usual::NameIndex2,
+            DW_AT_linkage_name => Usual::LinkageIndex2,
+            _ => Usual::Other,
+        },
+        (FormClass::AddressIndex, Kind::Uleb) => match attribute {
+            DW_AT_low_pc => Usual::LowPcIndex,
             _ => Usual::Other,
         },
         (FormClass::Other, Kind::Nothing) => {
@@ -275,6 +298,21 @@ impl KnownTake {
             return None;
         };
         match cursor.u64() {
+            Ok(number) => Some(number),
+            Err(_) => None,
+        }
+    }
+
+    /// Passes the bytes, and reads an unsigned LEB128.
+    #[inline(always)]
+    pub fn uleb(&self, cursor: &mut Cursor<'_>) -> Option<u64>
+        requires { self.now.kind ≡ kind.Uleb }
+        ensures { IfSome result (λ n. taken_at self.now cursor.old ≡ Ok (value_of self.now.class self.now.implicit (operand.Num n), cursor.new)) }
+    {
+        let Ok(_run) = cursor.take(self.bytes) else {
+            return None;
+        };
+        match cursor.uleb() {
             Ok(number) => Some(number),
             Err(_) => None,
         }

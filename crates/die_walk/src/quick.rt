@@ -31,7 +31,7 @@ const MISSING: Pick = Pick {
     number: 0,
 };
 
-/// The first value of each attribute that matters, as [`Picks`] has them.
+/// The first value of each attribute that matters where the entry is no root, as [`Picks`] has them.
 #[derive(Drop)]
 pub struct Quick {
     pub low: Pick,
@@ -304,6 +304,15 @@ fn note_take(quick: &mut Quick, cursor: &mut Cursor<'_>, take: &KnownTake) -> bo
         Usual::CallLineImplicit => {
             take.pass(cursor) && note_signed(quick, DW_AT_call_line, take.implicit())
         }
+        Usual::NameIndex1 => note_number(quick, DW_AT_name, Class::StrIndex, take.u8(cursor)),
+        Usual::NameIndex2 => note_number(quick, DW_AT_name, Class::StrIndex, take.u16(cursor)),
+        Usual::LinkageIndex1 => {
+            note_number(quick, DW_AT_linkage_name, Class::StrIndex, take.u8(cursor))
+        }
+        Usual::LinkageIndex2 => {
+            note_number(quick, DW_AT_linkage_name, Class::StrIndex, take.u16(cursor))
+        }
+        Usual::LowPcIndex => note_number(quick, DW_AT_low_pc, Class::AddrIndex, take.uleb(cursor)),
         Usual::Other => note_other(quick, cursor, take.take()),
     }
 }

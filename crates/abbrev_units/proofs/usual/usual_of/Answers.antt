@@ -1,7 +1,7 @@
 use Rattle.code_table.specs.declared.kind.Kind.TheVariants as kind
 use Rattle.code_table.specs.declared.forms.FormClass.TheVariants as class
 use Rattle.abbrev_units.specs.declared.value.Value.TheVariants as value
-use Rattle.abbrev_units.proofs.UsualLemmas.{known, texts, references, addresses, constants, places, declared, given}
+use Rattle.abbrev_units.proofs.UsualLemmas.{known, texts, references, addresses, constants, places, text_indices, address_indices, declared, given}
 use Rattle.abbrev_units.proofs.usual.usual_of.Goals as goal
 
 pub returns-in-3 : goal.returns-in-3
@@ -45,3 +45,18 @@ returns-in-88-attribute c = given c.args.attribute 0x58 c.args.kind c.args.class
 
 pub returns-in-89-attribute-2 : goal.returns-in-89-attribute-2
 returns-in-89-attribute-2 c = given c.args.attribute 0x59 c.args.kind c.args.class c.in-89-attribute-2.is c.in-Implicit-Nothing.is-1 c.in-Implicit-Nothing.is-0
+
+pub returns-in-3-attribute : goal.returns-in-3-attribute
+returns-in-3-attribute c = known c.args.attribute 0x03 c.args.kind kind.U8 c.args.class class.TextIndex (λ n. value.StrIndex n) c.in-3-attribute.is c.in-TextIndex-U8.is-1 c.in-TextIndex-U8.is-0 text_indices
+
+pub returns-in-110-attribute : goal.returns-in-110-attribute
+returns-in-110-attribute c = known c.args.attribute 0x6e c.args.kind kind.U8 c.args.class class.TextIndex (λ n. value.StrIndex n) c.in-110-attribute.is c.in-TextIndex-U8.is-1 c.in-TextIndex-U8.is-0 text_indices
+
+pub returns-in-3-attribute-2 : goal.returns-in-3-attribute-2
+returns-in-3-attribute-2 c = known c.args.attribute 0x03 c.args.kind kind.U16 c.args.class class.TextIndex (λ n. value.StrIndex n) c.in-3-attribute-2.is c.in-TextIndex-U16.is-1 c.in-TextIndex-U16.is-0 text_indices
+
+pub returns-in-110-attribute-2 : goal.returns-in-110-attribute-2
+returns-in-110-attribute-2 c = known c.args.attribute 0x6e c.args.kind kind.U16 c.args.class class.TextIndex (λ n. value.StrIndex n) c.in-110-attribute-2.is c.in-TextIndex-U16.is-1 c.in-TextIndex-U16.is-0 text_indices
+
+pub returns-in-17-attribute : goal.returns-in-17-attribute
+returns-in-17-attribute c = known c.args.attribute 0x11 c.args.kind kind.Uleb c.args.class class.AddressIndex (λ n. value.AddrIndex n) c.in-17-attribute.is c.in-AddressIndex-Uleb.is-1 c.in-AddressIndex-Uleb.is-0 address_indices
