@@ -23,7 +23,7 @@ use Rattle.func_records.specs.declared.numbers.Numbers.{Numbers}
 use Rattle.func_records.specs.internal.Texts.{text_cmp, SameTexts}
 use Rattle.func_records.specs.FuncRecords.{Part, pieces_of, path_in, no_path, call_path, call_line, number_in, file_lines, origin_lines, extent, func_record, inline_record, line_record, part_lines, AreLined, names_path, names_origin}
 use Rattle.func_records.specs.internal.Calls.{call_number, path_or, IsPathed, IsKnown, AreKnown, AreAllKnown}
-use Rattle.func_records.specs.internal.Gathering.{bytes_of, ArePathed, AreHeld, Gathered, copies_of}
+use Rattle.func_records.specs.internal.Gathering.{bytes_of, has_text, ArePathed, AreHeld, Gathered, copies_of}
 use Rattle.func_records.specs.internal.Spelling.{number_or_0, unit_numbers, line_by, row_of}
 use Rattle.func_records.specs.internal.Origins.{entry_names, all_names}
 use Rattle.func_records.specs.internal.Parts.{file_by, inline_by, parts_by, AddsParts}
@@ -177,7 +177,7 @@ names_in_parts units name (p ∷ parts) =
     ∙ ap (λ b. names_origin units name p || b) (names_in_parts units name parts)
 
 -- all together
-pub functions_added : (base : ℕ) (units : List UnitRead) (pieces : List Piece) (held : List (List InlineParts)) (used sorted slices names : List (Bor (List ℕ))) (texts : List (List ℕ)) (numbers : Numbers) (old filed named new : List ℕ) → AreHeld units pieces held → Gathered units pieces held used → IsStrictlySortedBy text_cmp sorted → SameTexts used sorted
+pub functions_added : (base : ℕ) (units : List UnitRead) (pieces : List Piece) (held : List (List InlineParts)) (used sorted slices names : List (Bor (List ℕ))) (texts : List (List ℕ)) (numbers : Numbers) (old filed named new : List ℕ) → AreHeld units pieces held → Gathered units pieces held (has_text used) → IsStrictlySortedBy text_cmp sorted → SameTexts used sorted
     → ((name : List ℕ) → list_any (bytes_eq name) texts ≡ list_any (bytes_eq name) (all_names units pieces held)) → bytes_of slices ≡ texts → IsStrictlySortedBy text_cmp names → SameTexts slices names
     → numbers.rows.now ≡ unit_numbers (bytes_of sorted) units → numbers.omitted ≡ number_or_0 (bytes_of sorted) no_path → numbers.names.now ≡ names
     → filed ≡ old ++ canon_text (file_lines 0 (bytes_of sorted)) → first_bad_from 0 Inside (file_lines 0 (bytes_of sorted)) ≡ None → named ≡ filed ++ canon_text (origin_lines 0 (bytes_of names)) → first_bad_from 0 Inside (origin_lines 0 (bytes_of names)) ≡ None

@@ -1,7 +1,8 @@
 -- Fronts of lists, and tests of one of two things.
-use Rattle.std.proofs.Common.{◌≡◌, ℕ, zero, suc, ◌+◌, ◌<◌, Bool, true, false, ◌||◌, take, drop, get_or, length, List, [], ◌∷◌, ◌++◌, Some, arith, refl, sym, ap, ◌∙◌}
+use Rattle.std.proofs.Common.{◌≡◌, ℕ, zero, suc, ◌+◌, ◌<◌, Bool, true, false, ◌||◌, take, drop, get_or, length, List, [], ◌∷◌, ◌++◌, Some, arith, refl, sym, ap, ◌∙◌, append-nil}
 use Rattle.std.proofs.lemmas.Option.{slice_get-get_or}
-use Rattle.std.specs.List.{slice_get}
+use Rattle.std.specs.List.{slice_get, flat_map}
+use Rattle.std.proofs.lemmas.List.Concat.{flat_map-append}
 
 -- a front of one member more
 pub take_more : {X : Type 0} (xs : List X) (n : ℕ) (x : X) → slice_get xs n ≡ Some x → take (n + 1) xs ≡ take n xs ++ x ∷ []
@@ -21,6 +22,11 @@ drop_next (x ∷ xs) zero d below = refl
 drop_next (x ∷ xs) (suc n) d below =
     let next : suc n + 1 ≡ suc (n + 1) = omega arith in
     drop_next xs n d (omega (arith, below)) ∙ ap (λ k. get_or xs n d ∷ drop k (x ∷ xs)) (sym next)
+
+-- what the members of a front of one more give
+pub flat_next : {X A : Type 0} (f : X → List A) (xs : List X) (n : ℕ) (d : X) → n < length xs → flat_map f (take (n + 1) xs) ≡ flat_map f (take n xs) ++ f (get_or xs n d)
+flat_next f xs n d below =
+    ap (flat_map f) (take_next xs n d below) ∙ flat_map-append f (take n xs) (get_or xs n d ∷ []) ∙ ap (λ l. flat_map f (take n xs) ++ l) (append-nil (f (get_or xs n d)))
 
 pub or_right : (b c : Bool) → c ≡ true → (b || c) ≡ true
 or_right true c is = refl

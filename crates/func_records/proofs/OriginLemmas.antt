@@ -11,8 +11,10 @@ use Rattle.die_names.specs.declared.naming.NameRef.{NameRef}
 use Rattle.die_names.specs.Names.{entry_name}
 use Rattle.func_flatten.specs.declared.piece.Piece.{Piece}
 use Rattle.inline_chain.specs.InlineRuns.{InlineParts}
+use Rattle.func_records.specs.declared.found.FoundShare.{FoundShare}
+use Rattle.func_records.specs.internal.Shares.{all_refs}
 use Rattle.func_records.specs.internal.Origins.{made_name, entry_names, all_names, RefParts, AreAt, RefsSay, IsPlaced}
-use Rattle.func_records.proofs.ListLemmas.{take_next, get_front, get_last, or_right}
+use Rattle.func_records.proofs.ListLemmas.{take_next, flat_next, get_front, get_last, or_right}
 use Rattle.func_records.proofs.NumberLemmas.{there}
 
 -- the names of a piece more
@@ -148,6 +150,31 @@ refs_more units old new names name made k placed added said say =
     parts_more : (us : List UnitRead) (refs : List NameRef) (places : List ℕ) (after : List NameRef) (stands : List ℕ) (ns : List (List ℕ)) (r : NameRef) (j : ℕ) → IsPlaced refs after r j → stands ≡ places ++ j ∷ [] → RefsSay us (record { refs = refs; places = places }) ns → RefsSay us (record { refs = after; places = stands }) (ns ++ made_name us r ∷ [])
     parts_more us refs places after stands ns r j (inl stood) is so = rw is (rw stood.0 (refs_kept us refs places ns r j stood.1 so))
     parts_more us refs places after stands ns r j (inr grown) is so = rw is (rw grown.0 (rw grown.1 (refs_added us refs places ns r so)))
+
+-- the names of references, one more
+pub refs_start : (units : List UnitRead) (refs : List NameRef) (parts : RefParts) (names : List (List ℕ)) → RefsSay units parts names → RefsSay units parts (names ++ map (made_name units) (take 0 refs))
+refs_start units refs parts names say = subst (RefsSay units parts) (sym (append-nil names)) say
+
+pub refs_next : (units : List UnitRead) (refs : List NameRef) (n : ℕ) (d : NameRef) (parts : RefParts) (names : List (List ℕ)) → n < length refs → RefsSay units parts ((names ++ map (made_name units) (take n refs)) ++ made_name units (get_or refs n d) ∷ []) → RefsSay units parts (names ++ map (made_name units) (take (n + 1) refs))
+refs_next units refs n d parts names below say =
+    subst (RefsSay units parts)
+    (append_assoc names (map (made_name units) (take n refs)) (made_name units (get_or refs n d) ∷ [])
+    ∙ ap (λ ns. names ++ ns) (sym (map-append (made_name units) (take n refs) (get_or refs n d ∷ [])) ∙ ap (map (made_name units)) (sym (take_next refs n d below))))
+    say
+
+pub refs_all : (units : List UnitRead) (refs : List NameRef) (n : ℕ) (parts : RefParts) (names : List (List ℕ)) → length refs ≤ n → RefsSay units parts (names ++ map (made_name units) (take n refs)) → RefsSay units parts (names ++ map (made_name units) refs)
+refs_all units refs n parts names all say = subst (λ (rs : List NameRef). RefsSay units parts (names ++ map (made_name units) rs)) (take_all n refs all) say
+
+-- those of a share more
+pub share_said : (units : List UnitRead) (shares : List FoundShare) (k : ℕ) (d : FoundShare) (parts : RefParts) → k < length shares → RefsSay units parts (map (made_name units) (all_refs (take k shares)) ++ map (made_name units) (get_or shares k d).refs.items) → RefsSay units parts (map (made_name units) (all_refs (take (k + 1) shares)))
+share_said units shares k d parts below say =
+    subst (RefsSay units parts)
+    (sym (map-append (made_name units) (all_refs (take k shares)) (get_or shares k d).refs.items)
+    ∙ ap (map (made_name units)) (sym (flat_next (λ (f : FoundShare). f.refs.items) shares k d below)))
+    say
+
+pub shares_said : (units : List UnitRead) (shares : List FoundShare) (k : ℕ) (parts : RefParts) → length shares ≤ k → RefsSay units parts (map (made_name units) (all_refs (take k shares))) → RefsSay units parts (map (made_name units) (all_refs shares))
+shares_said units shares k parts all say = subst (λ (ss : List FoundShare). RefsSay units parts (map (made_name units) (all_refs ss))) (take_all k shares all) say
 
 -- the names of a piece's copies, one more
 pub copies_none : (units : List UnitRead) (unit : ℕ) (copies : List InlineParts) (parts : RefParts) (names : List (List ℕ)) → RefsSay units parts names → RefsSay units parts (names ++ entry_names units unit (take 0 copies))

@@ -1,12 +1,11 @@
--- The paths that line records name, as they are gathered.
-use Rattle.std.proofs.Common.{◌≡◌, ℕ, zero, suc, ◌<◌, Bool, true, false, ◌||◌, ◌&&◌, nat_le, nat_lt, cond, length, map, List, [], ◌∷◌, ◌++◌, Option, None, Some, unwrap_or, arith, refl, sym, ap, subst, ◌∙◌, ◌⊎◌, inl, inr, slice_set, replicate, take, get_or, ◌+◌, Bor}
+-- The paths that records name, as they are gathered.
+use Rattle.std.proofs.Common.{◌≡◌, ℕ, zero, suc, ◌<◌, Bool, true, false, ◌||◌, ◌&&◌, nat_le, nat_lt, cond, length, map, List, [], ◌∷◌, ◌++◌, Option, None, Some, arith, refl, sym, ap, subst, ◌∙◌, take, get_or, ◌+◌, Bor, append_assoc}
 use Rattle.std.specs.List.{slice_get, list_any}
-use Rattle.std.specs.Option.{option_copied, option_map}
+use Rattle.std.specs.Option.{option_map}
 use Rattle.std.specs.Str.{bytes_eq}
 use Rattle.std.proofs.lemmas.Option.{slice_get_within, slice_get-get_or}
-use Rattle.std.proofs.lemmas.List.{take_all}
+use Rattle.std.proofs.lemmas.List.{take_all, map-append}
 use Rattle.std.proofs.lemmas.List.Folds.{list_any-append}
-use Rattle.std.proofs.lemmas.Slice.Eq.{bytes_eq-Decides}
 use Rattle.step_maps.specs.Runs.{AreMaximal, between}
 use Rattle.step_maps.proofs.MaximalLemmas.{maximal}
 use Rattle.line_program.specs.LineMaps.{named_line}
@@ -16,117 +15,52 @@ use Rattle.func_flatten.specs.declared.piece.Piece.{Piece}
 use Rattle.func_flatten.specs.declared.line_run.LineRun.{LineRun}
 use Rattle.func_flatten.specs.LineRuns.{number_line_in, paths_in, number_run, path_run, path_line, unit_number_line, unit_line, unit_paths, AreLineRuns}
 use Rattle.inline_chain.specs.InlineRuns.{InlineParts}
-use Rattle.func_records.specs.FuncRecords.{Part, path_in, names_path}
-use Rattle.func_records.specs.internal.Gathering.{has_text, ArePathed, any_run, RowSays, RowsSay, AddsPiece, Gathered, any_call, any_mark}
+use Rattle.func_records.specs.declared.found.FoundShare.{FoundShare}
+use Rattle.func_records.specs.declared.path_list.PathRef.{PathRef}
+use Rattle.func_records.specs.FuncRecords.{Part, names_path}
+use Rattle.func_records.specs.internal.Gathering.{bytes_of, path_at, has_path, ArePathed, any_run, AddsPiece, Gathered, any_call}
+use Rattle.func_records.specs.internal.Shares.{all_paths}
 use Rattle.func_records.proofs.PartLemmas.{lined_push, pieces_push, copies_push, known_push}
-use Rattle.func_records.proofs.ListLemmas.{or_assoc, or_false, or_left, or_right, take_more}
+use Rattle.func_records.proofs.ListLemmas.{or_assoc, or_false, or_left, or_right, take_more, take_next, flat_next}
 
--- a text that is there already
-pub run_known : (used : List (Bor (List ℕ))) (q path : List ℕ) → has_text used q ≡ true → has_text used path ≡ (has_text used path || bytes_eq path q)
-run_known used q path there = go (bytes_eq path q) refl
+-- a path that is there already
+pub path_known : (refs : List PathRef) (k : ℕ) (at : PathRef) (units : List UnitRead) (path : List ℕ) → slice_get refs k ≡ Some at → has_path units refs path ≡ (has_path units refs path || bytes_eq path (path_at units at))
+path_known refs k at units path stands = absorbed (has_path units refs path) (bytes_eq path (path_at units at)) (has_at refs k stands)
   where
-    go : (b : Bool) → bytes_eq path q ≡ b → has_text used path ≡ (has_text used path || b)
-    go true same =
-        let alike : path ≡ q = (bytes_eq-Decides path q).0 same in
-        let here : has_text used path ≡ true = ap (has_text used) alike ∙ there in
-        here ∙ sym (or_left (has_text used path) true here)
-    go false same = sym (or_false (has_text used path))
+    absorbed : (b c : Bool) → (c ≡ true → b ≡ true) → b ≡ (b || c)
+    absorbed true c is = refl
+    absorbed false true is = is refl
+    absorbed false false is = refl
 
--- a path by its number
-pub path_there : (units : List UnitRead) (unit k : ℕ) (path : Bor (List ℕ)) → option_copied (Some path) ≡ slice_get (unit_paths units unit) k → path_in units unit k ≡ path.now
-path_there units unit k path is = ap (λ o. unwrap_or o []) (sym is)
+    has_at : (rs : List PathRef) (j : ℕ) → slice_get rs j ≡ Some at → bytes_eq path (path_at units at) ≡ true → has_path units rs path ≡ true
+    has_at [] j is same = absurd (cc)
+    has_at (r ∷ rs) zero is same =
+        let alike : r ≡ at = cc in
+        or_left (bytes_eq path (path_at units r)) (has_path units rs path) (ap (λ (q : PathRef). bytes_eq path (path_at units q)) alike ∙ same)
+    has_at (r ∷ rs) (suc j) is same = or_right (bytes_eq path (path_at units r)) (has_path units rs path) (has_at rs j is same)
 
-pub path_lost : (units : List UnitRead) (unit k : ℕ) → k < length (unit_paths units unit) → None ≡ slice_get (unit_paths units unit) k → ⊥
-path_lost units unit k below is = go (unit_paths units unit) k below (sym is)
-  where
-    go : (xs : List (List ℕ)) (k : ℕ) → k < length xs → slice_get xs k ≡ None → ⊥
-    go [] k below is = omega arith
-    go (x ∷ xs) zero below is = cc
-    go (x ∷ xs) (suc k) below is = go xs k (omega arith) is
+-- one path more
+pub path_added : (old new : List PathRef) (at : PathRef) (units : List UnitRead) (path : List ℕ) → new ≡ old ++ at ∷ [] → has_path units new path ≡ (has_path units old path || bytes_eq path (path_at units at))
+path_added old new at units path added =
+    ap (λ rs. has_path units rs path) added
+    ∙ list_any-append (λ (r : PathRef). bytes_eq path (path_at units r)) old (at ∷ [])
+    ∙ ap (λ b. has_path units old path || b) (or_false (bytes_eq path (path_at units at)))
 
--- one text more
-grown : (old new : List (Bor (List ℕ))) (t : Bor (List ℕ)) (q path : List ℕ) → q ≡ t.now → new ≡ old ++ t ∷ [] → has_text new path ≡ (has_text old path || bytes_eq path q)
-grown old new t q path same is =
-    ap (λ ts. has_text ts path) is
-    ∙ list_any-append (λ (u : Bor (List ℕ)). bytes_eq path u.now) old (t ∷ [])
-    ∙ ap (λ b. has_text old path || b) (or_false (bytes_eq path t.now) ∙ ap (bytes_eq path) (sym same))
+-- the texts of paths
+pub text_next : (units : List UnitRead) (refs : List PathRef) (n : ℕ) (d : PathRef) (old : List (List ℕ)) (texts more : List (Bor (List ℕ))) (t : Bor (List ℕ)) → n < length refs → t.now ≡ path_at units (get_or refs n d) → more ≡ texts ++ t ∷ [] → bytes_of texts ≡ old ++ map (path_at units) (take n refs) → bytes_of more ≡ old ++ map (path_at units) (take (n + 1) refs)
+text_next units refs n d old texts more t below is pushed so =
+    ap bytes_of pushed ∙ map-append (λ (u : Bor (List ℕ)). u.now) texts (t ∷ []) ∙ ap (λ l. l ++ t.now ∷ []) so ∙ ap (λ u. (old ++ map (path_at units) (take n refs)) ++ u ∷ []) is
+    ∙ append_assoc old (map (path_at units) (take n refs)) (path_at units (get_or refs n d) ∷ [])
+    ∙ ap (λ l. old ++ l) (sym (map-append (path_at units) (take n refs) (get_or refs n d ∷ [])) ∙ ap (map (path_at units)) (sym (take_next refs n d below)))
 
-pub run_added : (units : List UnitRead) (unit k : ℕ) (old new : List (Bor (List ℕ))) (t : Bor (List ℕ)) → option_copied (Some t) ≡ slice_get (unit_paths units unit) k → new ≡ old ++ t ∷ [] → (path : List ℕ) → has_text new path ≡ (has_text old path || bytes_eq path (path_in units unit k))
-run_added units unit k old new t is added path = grown old new t (path_in units unit k) path (path_there units unit k t is) added
-
--- a mark is set where the text is there
-set_get : {X : Type 0} (xs : List X) (i j : ℕ) (v x : X) → slice_get (slice_set xs i v) j ≡ Some x → ((j ≡ i) × (x ≡ v)) ⊎ (slice_get xs j ≡ Some x)
-set_get [] i j v x is = inr is
-set_get (y ∷ xs) zero zero v x is = inl (refl, let same : x ≡ v = cc in same)
-set_get (y ∷ xs) zero (suc j) v x is = inr is
-set_get (y ∷ xs) (suc i) zero v x is = inr is
-set_get (y ∷ xs) (suc i) (suc j) v x is = elim (set_get xs i j v x is) [
-  | inl both ↦ inl (ap suc both.0, both.1)
-  | inr other ↦ inr other
-]
-
-kept_text : (old new : List (Bor (List ℕ))) (t : Bor (List ℕ)) (q : List ℕ) → new ≡ old ++ t ∷ [] → has_text old q ≡ true → has_text new q ≡ true
-kept_text old new t q is there =
-    grown old new t t.now q refl is ∙ or_left (has_text old q) (bytes_eq q t.now) there
-
-pub own_text : (old new : List (Bor (List ℕ))) (t : Bor (List ℕ)) (q : List ℕ) → q ≡ t.now → new ≡ old ++ t ∷ [] → has_text new q ≡ true
-own_text old new t q same is =
-    grown old new t t.now q refl is ∙ or_right (has_text old q) (bytes_eq q t.now) ((bytes_eq-Decides q t.now).1 same)
-
-pub row_marked : (units : List UnitRead) (unit k : ℕ) (row after : List Bool) (old new : List (Bor (List ℕ))) (t : Bor (List ℕ)) → option_copied (Some t) ≡ slice_get (unit_paths units unit) k → new ≡ old ++ t ∷ [] → after ≡ slice_set row k true → RowSays units unit row old → RowSays units unit after new
-row_marked units unit k row after old new t is added set says = λ j marked.
-    elim (set_get row k j true true (subst (λ (r : List Bool). slice_get r j ≡ Some true) set marked)) [
-      | inl both ↦ own_text old new t (path_in units unit j) (ap (path_in units unit) both.0 ∙ path_there units unit k t is) added
-      | inr before ↦ kept_text old new t (path_in units unit j) added (says j before)
-    ]
-
--- the mark of a path says that it is there
-pub mark_says : (units : List UnitRead) (unit k : ℕ) (row : List Bool) (used : List (Bor (List ℕ))) → RowSays units unit row used → unwrap_or (slice_get row k) false ≡ true → has_text used (path_in units unit k) ≡ true
-mark_says units unit k row used says marked = says k (go (slice_get row k) marked)
-  where
-    go : (o : Option Bool) → unwrap_or o false ≡ true → o ≡ Some true
-    go None is = absurd (cc)
-    go (Some b) is = ap Some is
-
-pub run_marked : (units : List UnitRead) (unit k : ℕ) (row : List Bool) (used : List (Bor (List ℕ))) → RowSays units unit row used → unwrap_or (slice_get row k) false ≡ true → (path : List ℕ) → has_text used path ≡ (has_text used path || bytes_eq path (path_in units unit k))
-run_marked units unit k row used says marked path = run_known used (path_in units unit k) path (mark_says units unit k row used says marked)
-
--- rows without marks
-none_marked : (row : List Bool) (k : ℕ) → any_mark row ≡ false → slice_get row k ≡ Some true → ⊥
-none_marked [] k none is = cc
-none_marked (true ∷ row) k none is = cc
-none_marked (false ∷ row) zero none is = cc
-none_marked (false ∷ row) (suc k) none is = none_marked row k none is
-
-rows_unmarked : (rows : List (List Bool)) (unit : ℕ) (row : List Bool) → list_any any_mark rows ≡ false → slice_get rows unit ≡ Some row → any_mark row ≡ false
-rows_unmarked [] unit row none is = absurd (cc)
-rows_unmarked (r ∷ rows) zero row none is =
-    let same : r ≡ row = cc in
-    sym (ap any_mark same) ∙ or_none (any_mark r) (list_any any_mark rows) none
-  where
-    or_none : (b c : Bool) → (b || c) ≡ false → b ≡ false
-    or_none true c is = is
-    or_none false c is = refl
-rows_unmarked (r ∷ rows) (suc unit) row none is = rows_unmarked rows unit row (or_rest (any_mark r) (list_any any_mark rows) none) is
-  where
-    or_rest : (b c : Bool) → (b || c) ≡ false → c ≡ false
-    or_rest true c is = absurd (cc)
-    or_rest false c is = is
-
-pub rows_empty : (units : List UnitRead) (rows : List (List Bool)) → list_any any_mark rows ≡ false → RowsSay units rows []
-rows_empty units rows none unit row is k marked = absurd (none_marked row k (rows_unmarked rows unit row none is) marked)
-
-replicate_unmarked : (n : ℕ) → any_mark (replicate n false) ≡ false
-replicate_unmarked zero = refl
-replicate_unmarked (suc n) = replicate_unmarked n
-
-pub row_pushed : (rows after : List (List Bool)) (row : List Bool) (n : ℕ) → list_any any_mark rows ≡ false → row ≡ replicate n false → after ≡ rows ++ row ∷ [] → list_any any_mark after ≡ false
-row_pushed rows after row n none is added =
-    ap (list_any any_mark) added ∙ list_any-append any_mark rows (row ∷ [])
-    ∙ ap (λ b. b || (any_mark row || false)) none ∙ or_false (any_mark row) ∙ ap any_mark is ∙ replicate_unmarked n
+pub texts_next : (units : List UnitRead) (shares : List FoundShare) (k : ℕ) (d : FoundShare) (texts more : List (List ℕ)) → k < length shares → more ≡ texts ++ map (path_at units) (get_or shares k d).paths.items → texts ≡ map (path_at units) (all_paths (take k shares)) → more ≡ map (path_at units) (all_paths (take (k + 1) shares))
+texts_next units shares k d texts more below pushed so =
+    pushed ∙ ap (λ l. l ++ map (path_at units) (get_or shares k d).paths.items) so
+    ∙ sym (map-append (path_at units) (all_paths (take k shares)) (get_or shares k d).paths.items)
+    ∙ ap (map (path_at units)) (sym (flat_next (λ (f : FoundShare). f.paths.items) shares k d below))
 
 -- the paths of one piece more
-gathered_one : (units : List UnitRead) (pieces : List Piece) (held : List (List InlineParts)) (piece : Piece) (copies : List InlineParts) (old new : List (Bor (List ℕ))) → Gathered units pieces held old → AddsPiece units piece copies old new → Gathered units (pieces ++ piece ∷ []) (held ++ copies ∷ []) new
+gathered_one : (units : List UnitRead) (pieces : List Piece) (held : List (List InlineParts)) (piece : Piece) (copies : List InlineParts) (old new : List PathRef) → Gathered units pieces held (has_path units old) → AddsPiece units piece copies old new → Gathered units (pieces ++ piece ∷ []) (held ++ copies ∷ []) (has_path units new)
 gathered_one units pieces held piece copies old new so adds =
     let part : Part = record { piece = piece; copies = copies; lines = adds.lines } in
     record {
@@ -135,28 +69,28 @@ gathered_one units pieces held piece copies old new so adds =
       copies_are = copies_push so.parts part ∙ ap (λ cs. cs ++ copies ∷ []) so.copies_are;
       lines_are = lined_push units so.parts part so.lines_are adds.runs;
       known = known_push units so.parts part so.known adds.known;
-      same = λ path. adds.same path ∙ or_assoc (has_text old path) (any_run units piece.unit adds.lines path) (any_call units piece.unit copies path)
+      same = λ path. adds.same path ∙ or_assoc (has_path units old path) (any_run units piece.unit adds.lines path) (any_call units piece.unit copies path)
           ∙ ap (λ b. b || (any_run units piece.unit adds.lines path || any_call units piece.unit copies path)) (so.same path)
           ∙ sym (list_any-append (names_path units path) so.parts (part ∷ [])
           ∙ ap (λ b. list_any (names_path units path) so.parts || b) (or_false (names_path units path part)));
     }
 
-pub gathered_more : (units : List UnitRead) (pieces : List Piece) (held : List (List InlineParts)) (n : ℕ) (piece : Piece) (copies : List InlineParts) (old new : List (Bor (List ℕ))) → slice_get pieces n ≡ Some piece → slice_get held n ≡ Some copies → Gathered units (take n pieces) (take n held) old → AddsPiece units piece copies old new → Gathered units (take (n + 1) pieces) (take (n + 1) held) new
+pub gathered_more : (units : List UnitRead) (pieces : List Piece) (held : List (List InlineParts)) (n : ℕ) (piece : Piece) (copies : List InlineParts) (old new : List PathRef) → slice_get pieces n ≡ Some piece → slice_get held n ≡ Some copies → Gathered units (take n pieces) (take n held) (has_path units old) → AddsPiece units piece copies old new → Gathered units (take (n + 1) pieces) (take (n + 1) held) (has_path units new)
 gathered_more units pieces held n piece copies old new piece_is copies_are so adds =
     rw (take_more pieces n piece piece_is) (rw (take_more held n copies copies_are) (gathered_one units (take n pieces) (take n held) piece copies old new so adds))
 
-pub gathered_next : (units : List UnitRead) (pieces : List Piece) (held : List (List InlineParts)) (n : ℕ) (d : Piece) (e copies : List InlineParts) (old new : List (Bor (List ℕ))) → n < length pieces → length held ≡ length pieces → copies ≡ get_or held n e → Gathered units (take n pieces) (take n held) old → AddsPiece units (get_or pieces n d) copies old new → Gathered units (take (n + 1) pieces) (take (n + 1) held) new
+pub gathered_next : (units : List UnitRead) (pieces : List Piece) (held : List (List InlineParts)) (n : ℕ) (d : Piece) (e copies : List InlineParts) (old new : List PathRef) → n < length pieces → length held ≡ length pieces → copies ≡ get_or held n e → Gathered units (take n pieces) (take n held) (has_path units old) → AddsPiece units (get_or pieces n d) copies old new → Gathered units (take (n + 1) pieces) (take (n + 1) held) (has_path units new)
 gathered_next units pieces held n d e copies old new below count is so adds =
     gathered_more units pieces held n (get_or pieces n d) copies old new (slice_get-get_or pieces n d below) (slice_get-get_or held n e (omega (arith, below, count)) ∙ ap Some (sym is)) so adds
 
-pub gathered_none : (units : List UnitRead) (used : List (Bor (List ℕ))) → used ≡ [] → Gathered units [] [] used
-gathered_none units used none = record { parts = []; pieces_are = refl; copies_are = refl; lines_are = tt; known = tt; same = λ path. ap (λ ts. has_text ts path) none }
+pub gathered_none : (units : List UnitRead) (refs : List PathRef) → refs ≡ [] → Gathered units [] [] (has_path units refs)
+gathered_none units refs none = record { parts = []; pieces_are = refl; copies_are = refl; lines_are = tt; known = tt; same = λ path. ap (λ rs. has_path units rs path) none }
 
-pub gathered_all : (units : List UnitRead) (pieces : List Piece) (held : List (List InlineParts)) (n : ℕ) (used : List (Bor (List ℕ))) → n ≡ length pieces → length held ≡ length pieces → Gathered units (take n pieces) (take n held) used → Gathered units pieces held used
-gathered_all units pieces held n used all count so =
+pub gathered_all : (units : List UnitRead) (pieces : List Piece) (held : List (List InlineParts)) (n : ℕ) (refs : List PathRef) → n ≡ length pieces → length held ≡ length pieces → Gathered units (take n pieces) (take n held) (has_path units refs) → Gathered units pieces held (has_path units refs)
+gathered_all units pieces held n refs all count so =
     let whole : take n pieces ≡ pieces = take_all n pieces (omega (arith, all)) in
     let every : take n held ≡ held = take_all n held (omega (arith, all, count)) in
-    subst (λ (ps : List Piece). Gathered units ps held used) whole (subst (λ (hs : List (List InlineParts)). Gathered units (take n pieces) hs used) every so)
+    subst (λ (ps : List Piece). Gathered units ps held (has_path units refs)) whole (subst (λ (hs : List (List InlineParts)). Gathered units (take n pieces) hs (has_path units refs)) every so)
 
 -- each run of a piece has a path of the table: where it begins there is a line with that path
 named_some : (paths : List (List ℕ)) (k line : ℕ) (m : List ℕ × ℕ) → named_line paths (Some (k, line)) ≡ Some m → k < length paths

@@ -16,10 +16,11 @@ use Rattle.func_flatten.specs.declared.piece.Piece.{Piece}
 use Rattle.func_flatten.specs.declared.line_run.LineRun.{LineRun}
 use Rattle.func_flatten.specs.LineRuns.{unit_paths}
 use Rattle.inline_chain.specs.InlineRuns.{InlineParts}
+use Rattle.func_records.specs.declared.path_list.PathRef.{PathRef}
 use Rattle.func_records.specs.internal.Texts.{text_cmp, SameTexts}
 use Rattle.func_records.specs.FuncRecords.{Part, path_in, no_path, call_path, AreLined, names_path}
 use Rattle.func_records.specs.internal.Calls.{call_number, path_or, IsPathed, AreKnown, AreAllKnown}
-use Rattle.func_records.specs.internal.Gathering.{bytes_of, has_text, ArePathed, Gathered}
+use Rattle.func_records.specs.internal.Gathering.{bytes_of, has_text, path_at, has_path, ArePathed, Gathered}
 use Rattle.clean_names.specs.Cleaning.{AreClean}
 use Rattle.die_names.specs.CleanPaths.{HaveCleanPaths}
 use Rattle.func_records.specs.internal.Origins.{made_name}
@@ -41,6 +42,21 @@ unfolding IsStrictlySortedBy
 bytes_sorted [] sorted = tt
 bytes_sorted (x ∷ xs) sorted = (all_below x xs sorted.0, bytes_sorted xs sorted.1)
 
+pub bytes_had : (xs : List (Bor (List ℕ))) (path : List ℕ) → list_any (bytes_eq path) (bytes_of xs) ≡ has_text xs path
+bytes_had [] path = refl
+bytes_had (x ∷ xs) path = ap (λ b. bytes_eq path x.now || b) (bytes_had xs path)
+
+-- the texts of paths
+pub paths_had : (units : List UnitRead) (refs : List PathRef) (used : List (Bor (List ℕ))) (path : List ℕ) → bytes_of used ≡ map (path_at units) refs → has_text used path ≡ has_path units refs path
+paths_had units refs used path are = sym (bytes_had used path) ∙ ap (list_any (bytes_eq path)) are ∙ any_mapped refs
+  where
+    any_mapped : (rs : List PathRef) → list_any (bytes_eq path) (map (path_at units) rs) ≡ has_path units rs path
+    any_mapped [] = refl
+    any_mapped (r ∷ rs) = ap (λ b. bytes_eq path (path_at units r) || b) (any_mapped rs)
+
+pub texts_gathered : (units : List UnitRead) (pieces : List Piece) (held : List (List InlineParts)) (refs : List PathRef) (used : List (Bor (List ℕ))) → bytes_of used ≡ map (path_at units) refs → Gathered units pieces held (has_path units refs) → Gathered units pieces held (has_text used)
+texts_gathered units pieces held refs used are so = record { parts = so.parts; pieces_are = so.pieces_are; copies_are = so.copies_are; lines_are = so.lines_are; known = so.known; same = λ path. paths_had units refs used path are ∙ so.same path }
+
 -- the same texts
 same_true : (a b : Bool) → (a ≡ true → b ≡ true) → (b ≡ true → a ≡ true) → a ≡ b
 same_true true true there back = refl
@@ -60,10 +76,6 @@ had_all xs ys path same had =
     let other = same.all any.1 (any.0, any.2, any.3) in
     let alike : path ≡ other.1.now = (bytes_eq-Decides path any.1.now).0 any.4 ∙ (bytes_eq-Decides any.1.now other.1.now).0 other.4 in
     list_any-from_Any (λ (t : Bor (List ℕ)). bytes_eq path t.now) ys (other.0, other.1, other.2, other.3, (bytes_eq-Decides path other.1.now).1 alike)
-
-pub bytes_had : (xs : List (Bor (List ℕ))) (path : List ℕ) → list_any (bytes_eq path) (bytes_of xs) ≡ has_text xs path
-bytes_had [] path = refl
-bytes_had (x ∷ xs) path = ap (λ b. bytes_eq path x.now || b) (bytes_had xs path)
 
 pub same_used : (xs ys : List (Bor (List ℕ))) (path : List ℕ) → SameTexts xs ys → list_any (bytes_eq path) (bytes_of ys) ≡ has_text xs path
 same_used xs ys path same = bytes_had ys path ∙ same_true (has_text ys path) (has_text xs path) (had_from xs ys path same) (had_all xs ys path same)
@@ -121,7 +133,7 @@ each_clean [] each = tt
 each_clean (t ∷ texts) each =
     (each t (or_left (bytes_eq t t) (list_any (bytes_eq t) texts) (same_bytes t)), each_clean texts (λ text had. each text (or_right (bytes_eq text t) (list_any (bytes_eq text) texts) had)))
 
-pub paths_clean : (units : List UnitRead) (pieces : List Piece) (held : List (List InlineParts)) (used sorted : List (Bor (List ℕ))) → HaveCleanPaths units → Gathered units pieces held used → SameTexts used sorted → AreClean (bytes_of sorted)
+pub paths_clean : (units : List UnitRead) (pieces : List Piece) (held : List (List InlineParts)) (used sorted : List (Bor (List ℕ))) → HaveCleanPaths units → Gathered units pieces held (has_text used) → SameTexts used sorted → AreClean (bytes_of sorted)
 paths_clean units pieces held used sorted clean gathered same =
     each_clean (bytes_of sorted) (λ path had. part_clean units gathered.parts path clean gathered.lines_are gathered.known (sym (gathered.same path) ∙ sym (same_used used sorted path same) ∙ had))
 

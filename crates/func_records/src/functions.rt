@@ -4,12 +4,12 @@ ghost use Rattle.sym_records.specs.Spelled.{text_bytes};
 ghost use Rattle.die_names.specs.CleanPaths.{HaveCleanPaths};
 ghost use Rattle.func_records.specs.Adding.{AddsFunctions};
 
-use crate::call_paths::no_path;
-use crate::holding::hold_inlines;
+use crate::finder::find_shares;
 use crate::names::gather_names;
 use crate::numbering::{Numbering, add_texts};
 use crate::numbers::{Numbers, number_of, number_rows, numbers_at, numbers_of};
-use crate::paths::gather_paths;
+use crate::path_list::no_path;
+use crate::paths::path_texts;
 use crate::sorting::{ranked_texts, text_slices};
 use crate::speller::add_shares;
 use crate::writer::FuncWriter;
@@ -24,8 +24,8 @@ use sym_records::TextPieces;
 /// names, and an INLINE_ORIGIN record for each name of a function that was inlined, both sorted by bytes and numbered from 0; then for
 /// each piece its FUNC record, an INLINE record for each inlined copy on the chains of its addresses, and a line record for each run
 /// of its lines. The base is taken off all addresses. Inlined copies are held from the first pass to the second; line runs are made
-/// where they are spelled and not kept. Copies are found, and records spelled, by `workers` workers, 1 to 64, whose number changes
-/// nothing.
+/// where they are spelled and not kept. Copies with what they name are found, and records spelled, by `workers` workers, 1 to 64,
+/// whose number changes nothing.
 pub fn add_functions<R: Threads + Sync>(
     rt: &R,
     alloc: Global,
@@ -39,12 +39,12 @@ pub fn add_functions<R: Threads + Sync>(
     requires workers { (1 ≤ workers) × (workers ≤ 64) }
     ensures { IfOk result (λ text. AddsFunctions base units.now pieces.now (text_bytes front) (text_bytes text)) }
 {
-    let held = hold_inlines(rt, alloc, units, pieces, workers)?;
-    let copies = held.as_slice();
-    let used = gather_paths(alloc, units, pieces, copies)?;
+    let found = find_shares(rt, alloc, units, pieces, workers)?;
+    let shares = found.as_slice();
+    let used = path_texts(alloc, units, shares)?;
     let ranked_paths = ranked_texts(alloc, used.as_slice())?;
     let paths = ranked_paths.sorted.as_slice();
-    let named = gather_names(alloc, units, pieces, copies)?;
+    let named = gather_names(alloc, units, shares)?;
     let texts = named.texts.as_slice();
     let slices = text_slices(alloc, texts)?;
     let ranked_names = ranked_texts(alloc, slices.as_slice())?;
@@ -55,7 +55,7 @@ pub fn add_functions<R: Threads + Sync>(
     let rows = number_rows(alloc, units, paths)?;
     let guesses = ranked_names.guesses.as_slice();
     let known = numbers_of(alloc, names, slices.as_slice(), guesses)?;
-    let origins = numbers_at(alloc, known.as_slice(), named.places.as_slice())?;
+    let numbers = numbers_at(alloc, known.as_slice(), named.places.as_slice())?;
     let writer = FuncWriter {
         base,
         units,
@@ -73,8 +73,8 @@ pub fn add_functions<R: Threads + Sync>(
         alloc,
         &writer,
         pieces,
-        copies,
-        origins.as_slice(),
+        shares,
+        numbers.as_slice(),
         workers,
         text,
     )?;

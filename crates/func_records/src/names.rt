@@ -1,18 +1,18 @@
 //! The names of the functions that were inlined.
-ghost use Rattle.std.specs.Prelude.{◌≡◌, ℕ, List, map, length, IfOk};
+ghost use Rattle.std.specs.Prelude.{◌≡◌, ℕ, List, map, IfOk};
 ghost use Rattle.std.specs.List.{list_any};
 ghost use Rattle.std.specs.Str.{bytes_eq};
-ghost use Rattle.func_records.specs.internal.Origins.{made_name, all_names, AreAt, RefsSay};
+ghost use Rattle.func_records.specs.internal.Origins.{made_name, AreAt, RefsSay};
+ghost use Rattle.func_records.specs.internal.Shares.{all_refs};
 
+use crate::found::FoundShare;
 use crate::origin_refs::OriginRefs;
 use die_names::{EntryNameText, NameRef, Units, name_text};
-use func_flatten::Piece;
-use inline_chain::InlineRuns;
 use std::alloc::Global;
 use sym_edges::OutOfMemory;
 
-/// The entries that name the functions of inlined copies, once each, with the name that each gives; and for each copy the place of
-/// its entry among them.
+/// The entries that name the functions of inlined copies, mostly once each, with the name that each gives; and for each entry that was
+/// found, share after share, its place among them.
 #[derive(Drop)]
 pub struct OriginNames<'a> {
     pub refs: Vec<NameRef>,
@@ -20,19 +20,26 @@ pub struct OriginNames<'a> {
     pub texts: Vec<EntryNameText<'a>>,
 }
 
-/// Which entries name the functions of all inlined copies.
-fn gather_refs(
+/// How many entries were found.
+fn count_refs(shares: &[FoundShare]) -> usize {
+    let mut count: usize = 0;
+    'shares: for k in 0..shares.len() {
+        count = count.saturating_add(shares[k].refs.len());
+    }
+    count
+}
+
+/// The entries that were found.
+fn join_refs(
     alloc: Global,
     units: &Units<'_>,
-    pieces: &[Piece],
-    held: &[InlineRuns],
+    shares: &[FoundShare],
 ) -> Result<OriginRefs, OutOfMemory>
-    requires { length held.now ≡ length pieces.now }
-    ensures { IfOk result (λ origins. RefsSay units.now origins (all_names units.now pieces.now held.now)) }
+    ensures { IfOk result (λ origins. RefsSay units.now origins (map (made_name units.now) (all_refs shares.now))) }
 {
-    let mut origins = OriginRefs::new(alloc, units)?;
-    'pieces: for place in 0..pieces.len() {
-        origins.add_all(alloc, units, pieces[place].unit, held[place].as_slice())?;
+    let mut origins = OriginRefs::new(alloc, count_refs(shares))?;
+    'shares: for k in 0..shares.len() {
+        origins.add_refs(shares[k].refs.as_slice())?;
     }
     Ok(origins)
 }
@@ -54,19 +61,17 @@ fn make_names<'a>(
     Ok(texts)
 }
 
-/// The names of the functions that were inlined, each once for the entry that gives it.
+/// The names of the functions that were inlined.
 pub fn gather_names<'a>(
     alloc: Global,
     units: &Units<'a>,
-    pieces: &[Piece],
-    held: &[InlineRuns],
+    shares: &[FoundShare],
 ) -> Result<OriginNames<'a>, OutOfMemory>
-    requires { length held.now ≡ length pieces.now }
-    ensures all { IfOk result (λ names. AreAt names.texts.items names.places.items (all_names units.now pieces.now held.now)) }
+    ensures all { IfOk result (λ names. AreAt names.texts.items names.places.items (map (made_name units.now) (all_refs shares.now))) }
     ensures made { IfOk result (λ names. names.texts.items ≡ map (made_name units.now) names.refs.items) }
-    ensures same { IfOk result (λ names. (name : List ℕ) → list_any (bytes_eq name) names.texts.items ≡ list_any (bytes_eq name) (all_names units.now pieces.now held.now)) }
+    ensures same { IfOk result (λ names. (name : List ℕ) → list_any (bytes_eq name) names.texts.items ≡ list_any (bytes_eq name) (map (made_name units.now) (all_refs shares.now))) }
 {
-    let origins = gather_refs(alloc, units, pieces, held)?;
+    let origins = join_refs(alloc, units, shares)?;
     let (refs, places) = origins.into_parts();
     let texts = make_names(alloc, units, refs.as_slice())?;
     Ok(OriginNames {

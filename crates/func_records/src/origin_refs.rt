@@ -1,23 +1,26 @@
 //! Which entries name the functions that were inlined.
-ghost use Rattle.std.specs.Prelude.{◌≡◌, [], ◌∷◌, ◌++◌, true, List, ℕ, IfOk, OnOk, Some};
+ghost use Rattle.std.specs.Prelude.{◌≡◌, [], ◌++◌, ◌∷◌, map, length, true, List, ℕ, IfOk, OnOk, Some};
 ghost use Rattle.std.specs.List.{slice_get};
-ghost use Rattle.die_names.specs.Names.{entry_name};
-ghost use Rattle.func_records.specs.internal.Origins.{entry_names, IsPlaced, RefsSay};
+ghost use Rattle.die_names.specs.declared.unit_read.UnitRead.{UnitRead};
+ghost use Rattle.func_records.specs.internal.Origins.{made_name, entry_names, all_names, IsPlaced, RefsSay};
 
-use crate::ref_slots::RefSlots;
+use crate::place_guesses::PlaceGuesses;
 use die_names::{How, LinkGuesses, NameRef, Units, name_by};
-use inline_chain::InlineRun;
+use func_flatten::Piece;
+use inline_chain::{InlineRun, InlineRuns};
 use std::alloc::Global;
 use std::marker::Model;
 use sym_edges::OutOfMemory;
 
-/// References to the entries that name functions, and for each inlined copy the place of the one that names its function.
+/// So many entries of a share are known again.
+const SLOTS: usize = 8192;
+
+/// References to entries that name functions, mostly once each, and for each one that was added its place among them.
 #[derive(Drop)]
 pub struct OriginRefs {
     refs: Vec<NameRef>,
     places: Vec<u32>,
-    slots: RefSlots,
-    guesses: LinkGuesses,
+    guesses: PlaceGuesses,
 }
 
 impl Model for OriginRefs {
@@ -56,17 +59,21 @@ fn stands_at(refs: &[NameRef], place: u32, name: NameRef) -> bool
     }
 }
 
-/// The place of a reference, which is added where it is not there.
+/// What tells an entry from most others.
+fn key_of(name: NameRef) -> u64 {
+    u64::from(name.unit) << 32 | u64::from(name.entry)
+}
+
+/// The place of a reference, which is added where it is not known to be there.
 fn place_of(
-    alloc: Global,
-    units: &Units<'_>,
-    slots: &mut RefSlots,
+    guesses: &mut PlaceGuesses,
     refs: &mut Vec<NameRef>,
     name: NameRef,
 ) -> Result<u32, OutOfMemory>
     ensures { IfOk result (λ place. IsPlaced refs.old.items refs.new.items name place) }
 {
-    let place = slots.guess(name);
+    let key = key_of(name);
+    let place = guesses.guess(key);
     if stands_at(refs.as_slice(), place, name) {
         return Ok(place);
     }
@@ -75,20 +82,19 @@ fn place_of(
         return Err(OutOfMemory);
     }
     refs.push(name)?;
-    slots.note(alloc, units, name, count as u32)?;
+    guesses.note(key, count as u32);
     Ok(count as u32)
 }
 
 impl OriginRefs {
-    /// None yet.
-    pub fn new(alloc: Global, units: &Units<'_>) -> Result<OriginRefs, OutOfMemory>
+    /// None yet. So many are known again.
+    pub fn new(alloc: Global, slots: usize) -> Result<OriginRefs, OutOfMemory>
         ensures { IfOk result (λ origins. origins ≡ record { refs = []; places = [] }) }
     {
         Ok(OriginRefs {
             refs: Vec::new(alloc),
             places: Vec::new(alloc),
-            slots: RefSlots::new(alloc, units.as_slice().len())?,
-            guesses: LinkGuesses::new(alloc)?,
+            guesses: PlaceGuesses::new(alloc, slots)?,
         })
     }
 
@@ -100,41 +106,63 @@ impl OriginRefs {
         let OriginRefs {
             refs,
             places,
-            slots: _,
             guesses: _,
         } = self;
         (refs, places)
     }
 
-    /// Adds the place of the entry that names the function of an inlined copy.
-    fn add(
-        &mut self,
-        alloc: Global,
-        units: &Units<'_>,
-        unit: u32,
-        copy: &InlineRun,
-    ) -> Result<(), OutOfMemory>
-        ensures { OnOk result ((names : List (List ℕ)) → RefsSay units.now self.old names → RefsSay units.now self.new (names ++ entry_name units.now unit copy.now.entry ∷ [])) }
+    /// Adds the place of a reference.
+    fn add(&mut self, name: NameRef) -> Result<(), OutOfMemory>
+        ensures { OnOk result ((units : List UnitRead) (names : List (List ℕ)) → RefsSay units self.old names → RefsSay units self.new (names ++ made_name units name ∷ [])) }
     {
-        let name = name_by(units, unit, copy.entry, &mut self.guesses);
-        let place = place_of(alloc, units, &mut self.slots, &mut self.refs, name)?;
+        let place = place_of(&mut self.guesses, &mut self.refs, name)?;
         self.places.push(place)?;
         Ok(())
     }
 
+    /// Adds the places of references.
+    pub fn add_refs(&mut self, refs: &[NameRef]) -> Result<(), OutOfMemory>
+        ensures { OnOk result ((units : List UnitRead) (names : List (List ℕ)) → RefsSay units self.old names → RefsSay units self.new (names ++ map (made_name units) refs.now)) }
+    {
+        'refs: for place in 0..refs.len() {
+            self.add(refs[place])?;
+        }
+        Ok(())
+    }
+
     /// Adds the places of the entries that name the functions of a piece's inlined copies.
-    pub fn add_all(
+    fn add_copies(
         &mut self,
-        alloc: Global,
         units: &Units<'_>,
         unit: u32,
         copies: &[InlineRun],
+        links: &mut LinkGuesses,
     ) -> Result<(), OutOfMemory>
         ensures { OnOk result ((names : List (List ℕ)) → RefsSay units.now self.old names → RefsSay units.now self.new (names ++ entry_names units.now unit copies.now)) }
     {
         'copies: for place in 0..copies.len() {
-            self.add(alloc, units, unit, &copies[place])?;
+            let copy = &copies[place];
+            let name = name_by(units, unit, copy.entry, links);
+            self.add(name)?;
         }
         Ok(())
     }
+}
+
+/// Which entries name the functions of some pieces' inlined copies.
+pub fn gather_refs(
+    alloc: Global,
+    units: &Units<'_>,
+    pieces: &[Piece],
+    held: &[InlineRuns],
+    links: &mut LinkGuesses,
+) -> Result<OriginRefs, OutOfMemory>
+    requires { length held.now ≡ length pieces.now }
+    ensures { IfOk result (λ origins. RefsSay units.now origins (all_names units.now pieces.now held.now)) }
+{
+    let mut origins = OriginRefs::new(alloc, SLOTS)?;
+    'pieces: for place in 0..pieces.len() {
+        origins.add_copies(units, pieces[place].unit, held[place].as_slice(), links)?;
+    }
+    Ok(origins)
 }

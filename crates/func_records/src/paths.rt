@@ -1,10 +1,12 @@
 //! The paths that line records and calls name.
-ghost use Rattle.std.specs.Prelude.{◌≡◌, ℕ, List, ◌||◌, length, IfOk, OnOk};
-ghost use Rattle.func_records.specs.internal.Calls.{AreKnown};
-ghost use Rattle.func_records.specs.internal.Gathering.{has_text, ArePathed, any_run, any_call, OmittedSays, RowSays, RowsSay, AddsPiece, Gathered};
+ghost use Rattle.std.specs.Prelude.{◌≡◌, ℕ, List, ◌||◌, ◌++◌, length, map, IfOk, OnOk};
+ghost use Rattle.die_names.specs.declared.unit_read.UnitRead.{UnitRead};
+ghost use Rattle.func_records.specs.internal.Gathering.{bytes_of, path_at, has_path, any_run, AddsPiece, Gathered};
+ghost use Rattle.func_records.specs.internal.Shares.{all_paths};
 
 use crate::call_paths::gather_calls;
-use crate::marks::{Marks, empty_rows, gather_path};
+use crate::found::FoundShare;
+use crate::path_list::{PathList, PathRef, path_text};
 use die_names::Units;
 use func_flatten::{LineRun, Piece, lines_of};
 use inline_chain::{InlineRun, InlineRuns};
@@ -12,119 +14,78 @@ use std::alloc::Global;
 use sym_edges::OutOfMemory;
 
 /// Adds the paths of a piece's runs.
-fn gather_runs<'u>(
-    units: &'u Units<'_>,
-    unit: u32,
-    runs: &[LineRun],
-    row: &mut Marks,
-    used: &mut Vec<&'u [u8]>,
-) -> Result<(), OutOfMemory>
-    requires pathed { ArePathed units.now unit runs.now }
-    requires marked { RowSays units.now unit row.old used.old.items }
-    ensures marked { OnOk result (RowSays units.now unit row.new used.new.items) }
-    ensures same { OnOk result ((path : List ℕ) → has_text used.new.items path ≡ (has_text used.old.items path || any_run units.now unit runs.now path)) }
+fn gather_runs(unit: u32, runs: &[LineRun], paths: &mut PathList) -> Result<(), OutOfMemory>
+    ensures { OnOk result ((units : List UnitRead) (path : List ℕ) → has_path units paths.new path ≡ (has_path units paths.old path || any_run units unit runs.now path)) }
 {
     let mut rest = runs;
     'runs: while let Some((run, later)) = rest.split_first() {
-        gather_path(units, unit, run.path, row, used)?;
+        let path = Some(run.path);
+        paths.add(PathRef { unit, path })?;
         rest = later;
     }
     Ok(())
 }
 
-/// Adds the paths of a piece's runs and calls.
-fn gather_texts<'u>(
-    units: &'u Units<'_>,
-    unit: u32,
-    runs: &[LineRun],
-    copies: &[InlineRun],
-    row: &mut Marks,
-    omitted: &mut bool,
-    used: &mut Vec<&'u [u8]>,
-) -> Result<(), OutOfMemory>
-    requires pathed { ArePathed units.now unit runs.now }
-    requires marked { RowSays units.now unit row.old used.old.items }
-    requires omitted { OmittedSays omitted.old used.old.items }
-    ensures marked { OnOk result (RowSays units.now unit row.new used.new.items) }
-    ensures omitted { OnOk result (OmittedSays omitted.new used.new.items) }
-    ensures known { OnOk result (AreKnown units.now unit copies.now) }
-    ensures same { OnOk result ((path : List ℕ) → has_text used.new.items path ≡ ((has_text used.old.items path || any_run units.now unit runs.now path) || any_call units.now unit copies.now path)) }
-{
-    gather_runs(units, unit, runs, row, used)?;
-    gather_calls(units, unit, copies, row, omitted, used)?;
-    Ok(())
-}
-
 /// Adds the paths of a piece. What `runs` holds does not matter: it is used again for the sake of its memory.
-#[tactic(auto, using(crate::proofs::PathLemmas::all_pathed))]
-fn gather_piece<'u>(
-    alloc: Global,
-    units: &'u Units<'_>,
+fn gather_piece(
+    units: &Units<'_>,
     piece: &Piece,
     copies: &[InlineRun],
     runs: &mut Vec<LineRun>,
-    rows: &mut Vec<Marks>,
-    omitted: &mut bool,
-    used: &mut Vec<&'u [u8]>,
+    paths: &mut PathList,
 ) -> Result<(), OutOfMemory>
-    requires rows { RowsSay units.now rows.old.items used.old.items }
-    requires omitted { OmittedSays omitted.old used.old.items }
-    ensures marked { OnOk result (RowsSay units.now rows.new.items used.new.items) }
-    ensures omitted { OnOk result (OmittedSays omitted.new used.new.items) }
-    ensures added { OnOk result (AddsPiece units.now piece.now copies.now used.old.items used.new.items) }
+    ensures { OnOk result (AddsPiece units.now piece.now copies.now paths.old paths.new) }
 {
     lines_of(units, piece, runs)?;
-    let unit = piece.unit as usize;
-    if unit >= rows.len() {
-        let mut row = Marks::of(Vec::new(alloc));
-        gather_texts(
-            units,
-            piece.unit,
-            runs.as_slice(),
-            copies,
-            &mut row,
-            omitted,
-            used,
-        )?;
-        return Ok(());
-    }
-    gather_texts(
-        units,
-        piece.unit,
-        runs.as_slice(),
-        copies,
-        &mut rows[unit],
-        omitted,
-        used,
-    )?;
+    gather_runs(piece.unit, runs.as_slice(), paths)?;
+    gather_calls(units, piece.unit, copies, paths)?;
     Ok(())
 }
 
 /// The paths that the line records and the calls of some pieces name.
-pub fn gather_paths<'u>(
+pub fn gather_paths(
     alloc: Global,
-    units: &'u Units<'_>,
+    units: &Units<'_>,
     pieces: &[Piece],
     held: &[InlineRuns],
-) -> Result<Vec<&'u [u8]>, OutOfMemory>
+) -> Result<Vec<PathRef>, OutOfMemory>
     requires { length held.now ≡ length pieces.now }
-    ensures { IfOk result (λ used. Gathered units.now pieces.now held.now used.items) }
+    ensures { IfOk result (λ refs. Gathered units.now pieces.now held.now (has_path units.now refs.items)) }
 {
-    let mut rows = empty_rows(alloc, units)?;
-    let mut omitted = false;
-    let mut used = Vec::new(alloc);
+    let mut paths = PathList::new(alloc)?;
     let mut runs = Vec::new(alloc);
     'pieces: for place in 0..pieces.len() {
-        gather_piece(
-            alloc,
-            units,
-            &pieces[place],
-            held[place].as_slice(),
-            &mut runs,
-            &mut rows,
-            &mut omitted,
-            &mut used,
-        )?;
+        let copies = held[place].as_slice();
+        gather_piece(units, &pieces[place], copies, &mut runs, &mut paths)?;
     }
-    Ok(used)
+    Ok(paths.into_refs())
+}
+
+/// Adds the texts of some paths.
+fn push_texts<'u>(
+    units: &'u Units<'_>,
+    refs: &[PathRef],
+    texts: &mut Vec<&'u [u8]>,
+) -> Result<(), OutOfMemory>
+    ensures { OnOk result (bytes_of texts.new.items ≡ bytes_of texts.old.items ++ map (path_at units.now) refs.now) }
+{
+    'refs: for place in 0..refs.len() {
+        texts.push(path_text(units, refs[place]))?;
+    }
+    Ok(())
+}
+
+/// The texts of the paths that were found.
+pub fn path_texts<'u>(
+    alloc: Global,
+    units: &'u Units<'_>,
+    shares: &[FoundShare],
+) -> Result<Vec<&'u [u8]>, OutOfMemory>
+    ensures { IfOk result (λ texts. bytes_of texts.items ≡ map (path_at units.now) (all_paths shares.now)) }
+{
+    let mut texts = Vec::new(alloc);
+    'shares: for k in 0..shares.len() {
+        push_texts(units, shares[k].paths.as_slice(), &mut texts)?;
+    }
+    Ok(texts)
 }

@@ -1,6 +1,6 @@
 -- The paths that line records and calls name, as they are gathered.
-use Rattle.std.specs.Prelude.{◌≡◌, ℕ, Bool, true, ◌||◌, List, [], ◌∷◌, length, map, ◌<◌, Some}
-use Rattle.std.specs.List.{slice_get, list_any}
+use Rattle.std.specs.Prelude.{◌≡◌, ℕ, Bool, ◌||◌, List, [], ◌∷◌, length, map, ◌<◌}
+use Rattle.std.specs.List.{list_any}
 use Rattle.std.specs.Str.{bytes_eq}
 use Rattle.std.proofs.Common.{Bor}
 use Rattle.die_names.specs.declared.unit_read.UnitRead.{UnitRead}
@@ -8,8 +8,9 @@ use Rattle.func_flatten.specs.declared.piece.Piece.{Piece}
 use Rattle.func_flatten.specs.declared.line_run.LineRun.{LineRun}
 use Rattle.func_flatten.specs.LineRuns.{unit_paths, AreLineRuns}
 use Rattle.inline_chain.specs.InlineRuns.{InlineParts, AreInlineRuns}
-use Rattle.func_records.specs.FuncRecords.{Part, pieces_of, path_in, no_path, call_path, AreLined, names_path}
-use Rattle.func_records.specs.internal.Calls.{AreKnown, AreAllKnown}
+use Rattle.func_records.specs.FuncRecords.{Part, pieces_of, path_in, call_path, AreLined, names_path}
+use Rattle.func_records.specs.declared.path_list.PathRef.{PathRef}
+use Rattle.func_records.specs.internal.Calls.{path_or, AreKnown, AreAllKnown}
 
 -- the bytes of texts
 abbrev pub bytes_of : List (Bor (List ℕ)) → List (List ℕ)
@@ -32,16 +33,13 @@ abbrev pub ArePathed : List UnitRead → ℕ → List LineRun → Type 0
 ArePathed units unit [] = Prim.Unit {0}
 ArePathed units unit (r ∷ runs) = (r.path < length (unit_paths units unit)) × ArePathed units unit runs
 
--- the paths of a unit that are marked are there
-abbrev pub RowSays : List UnitRead → ℕ → List Bool → List (Bor (List ℕ)) → Type 0
-RowSays units unit row used = (k : ℕ) → slice_get row k ≡ Some true → has_text used (path_in units unit k) ≡ true
+-- the text of a path
+abbrev pub path_at : List UnitRead → PathRef → List ℕ
+path_at units r = path_or units r.unit r.path
 
-abbrev pub RowsSay : List UnitRead → List (List Bool) → List (Bor (List ℕ)) → Type 0
-RowsSay units rows used = (unit : ℕ) (row : List Bool) → slice_get rows unit ≡ Some row → RowSays units unit row used
-
--- a mark says that the text is there that stands in the place of an unknown path
-abbrev pub OmittedSays : Bool → List (Bor (List ℕ)) → Type 0
-OmittedSays mark used = mark ≡ true → has_text used no_path ≡ true
+-- some path has the text
+abbrev pub has_path : List UnitRead → List PathRef → List ℕ → Bool
+has_path units refs path = list_any (λ (r : PathRef). bytes_eq path (path_at units r)) refs
 
 -- the inlined copies of each piece
 abbrev pub copies_of : List Part → List (List InlineParts)
@@ -52,22 +50,18 @@ AreHeld units [] [] = Unit {0}
 AreHeld units (piece ∷ pieces) (copies ∷ held) = AreInlineRuns units piece copies × AreHeld units pieces held
 AreHeld units _ _ = ⊥
 
--- the texts that were there, and those of a piece's runs and copies
-pub record AddsPiece (units : List UnitRead) (piece : Piece) (copies : List InlineParts) (old new : List (Bor (List ℕ))) : Type 0 where
+-- the paths that were there, and those of a piece's runs and copies
+pub record AddsPiece (units : List UnitRead) (piece : Piece) (copies : List InlineParts) (old new : List PathRef) : Type 0 where
   pub lines : List LineRun
   pub runs : AreLineRuns units piece lines
   pub known : AreKnown units piece.unit copies
-  pub same : (path : List ℕ) → has_text new path ≡ ((has_text old path || any_run units piece.unit lines path) || any_call units piece.unit copies path)
+  pub same : (path : List ℕ) → has_path units new path ≡ ((has_path units old path || any_run units piece.unit lines path) || any_call units piece.unit copies path)
 
 -- the paths that the lines and the calls of some pieces name
-pub record Gathered (units : List UnitRead) (pieces : List Piece) (held : List (List InlineParts)) (used : List (Bor (List ℕ))) : Type 0 where
+pub record Gathered (units : List UnitRead) (pieces : List Piece) (held : List (List InlineParts)) (has : List ℕ → Bool) : Type 0 where
   pub parts : List Part
   pub pieces_are : pieces_of parts ≡ pieces
   pub copies_are : copies_of parts ≡ held
   pub lines_are : AreLined units parts
   pub known : AreAllKnown units parts
-  pub same : (path : List ℕ) → has_text used path ≡ list_any (names_path units path) parts
-
--- some mark is set
-abbrev pub any_mark : List Bool → Bool
-any_mark row = list_any (λ b. b) row
+  pub same : (path : List ℕ) → has path ≡ list_any (names_path units path) parts

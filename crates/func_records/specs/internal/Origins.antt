@@ -51,3 +51,7 @@ copy_numbers numbers units unit copies = map (number_or_0 (bytes_of numbers.name
 
 abbrev pub all_numbers : Numbers → List UnitRead → List Piece → List (List InlineParts) → List ℕ
 all_numbers numbers units pieces held = map (number_or_0 (bytes_of numbers.names.now)) (all_names units pieces held)
+
+-- the numbers of the names that entries give
+abbrev pub ref_numbers : Numbers → List UnitRead → List NameRef → List ℕ
+ref_numbers numbers units refs = map (number_or_0 (bytes_of numbers.names.now)) (map (made_name units) refs)

@@ -1,47 +1,68 @@
 -- The shares of pieces: so many after one another are one job.
-use Rattle.std.specs.Prelude.{◌≡◌, ℕ, ◌+◌, ◌*◌, ◌<◌, List, [], ◌∷◌, length, take, drop, slice_index_or}
+use Rattle.std.specs.Prelude.{◌≡◌, ℕ, ◌*◌, ◌<◌, ◌≤◌, ◌^◌, List, [], ◌∷◌, length, take, drop, slice_index_or}
+use Rattle.std.specs.List.{flat_map}
 use Rattle.std.proofs.Common.{Bor}
 use Rattle.die_names.specs.declared.unit_read.UnitRead.{UnitRead}
+use Rattle.die_names.specs.declared.naming.NameRef.{NameRef}
 use Rattle.func_flatten.specs.declared.piece.Piece.{Piece}
 use Rattle.inline_chain.specs.InlineRuns.{InlineParts}
 use Rattle.func_records.specs.declared.numbers.Numbers.{Numbers}
-use Rattle.func_records.specs.internal.Origins.{all_numbers}
-use Rattle.func_records.specs.internal.Parts.{AreAllShort}
+use Rattle.func_records.specs.declared.path_list.PathRef.{PathRef}
+use Rattle.func_records.specs.declared.found.FoundShare.{FoundShare}
+use Rattle.func_records.specs.internal.Gathering.{AreHeld, has_path, Gathered}
+use Rattle.func_records.specs.internal.Origins.{all_names, ref_numbers, RefsSay}
+use Rattle.func_records.specs.internal.Parts.{AddsParts}
 
 -- 512 members, those of the shares before it left out; the last share may have fewer
 abbrev pub share : {A : Type 0} → ℕ → List A → List A
 share k items = take 512 (drop (512 * k) items)
 
--- how many copies there are
-abbrev pub copy_count : List (List InlineParts) → ℕ
-copy_count [] = 0
-copy_count (copies ∷ held) = length copies + copy_count held
-
--- the units, and the pieces whose copies are found share by share
+-- the units, and the pieces of which the copies and what they name are found share by share
 pub record FinderParts : Type 0 where
   pub units : List UnitRead
   pub pieces : List Piece
 
--- what is spelled share by share: pieces with their copies, and for each share the numbers of their names
+-- what was found of some pieces is theirs
+pub record IsFound (units : List UnitRead) (pieces : List Piece) (found : FoundShare) : Type 0 where
+  pub held : AreHeld units pieces found.held.items
+  pub names : RefsSay units (record { refs = found.refs.items; places = found.places.items }) (all_names units pieces found.held.items)
+  pub paths : Gathered units pieces found.held.items (has_path units found.paths.items)
+
+-- what the shares have, one after another
+abbrev pub all_held : List FoundShare → List (List InlineParts)
+all_held shares = flat_map (λ (f : FoundShare). f.held.items) shares
+
+abbrev pub all_refs : List FoundShare → List NameRef
+all_refs shares = flat_map (λ (f : FoundShare). f.refs.items) shares
+
+abbrev pub all_paths : List FoundShare → List PathRef
+all_paths shares = flat_map (λ (f : FoundShare). f.paths.items) shares
+
+-- what was found share by share is that of all pieces
+pub record AreFound (units : List UnitRead) (pieces : List Piece) (shares : List FoundShare) : Type 0 where
+  pub enough : length pieces ≤ 512 * length shares
+  pub few : length shares ≤ 2 ^ 32
+  pub each : (k : ℕ) (d : FoundShare) → k < length shares → IsFound units (share k pieces) (slice_index_or shares k d)
+
+-- what is spelled share by share: pieces, what was found of them, and for each share the numbers of its entries' names
 pub record SpellerParts : Type 0 where
   pub base : ℕ
   pub units : List UnitRead
   pub numbers : Numbers
   pub pieces : List Piece
-  pub held : List (List InlineParts)
-  pub origins : List (Bor (List ℕ))
+  pub shares : List FoundShare
+  pub split : List (Bor (List ℕ))
 
--- how many copies the pieces of the first shares have
-abbrev pub copies_before : ℕ → List (List InlineParts) → ℕ
-copies_before k held = copy_count (take (512 * k) held)
+-- the numbers of the names that the entries of each share give
+abbrev pub AreSplit : Numbers → List UnitRead → List FoundShare → List (Bor (List ℕ)) → Type 0
+AreSplit numbers units [] [] = Unit {0}
+AreSplit numbers units (f ∷ shares) (s ∷ split) = (s.now ≡ ref_numbers numbers units f.refs.items) × AreSplit numbers units shares split
+AreSplit numbers units _ _ = ⊥
 
--- the numbers of each of the first shares
-pub record AreSplit (held : List (List InlineParts)) (origins : List ℕ) (count : ℕ) (shares : List (Bor (List ℕ))) : Type 0 where
-  pub many : length shares ≡ count
-  pub each : (k : ℕ) (d : Bor (List ℕ)) → k < count → (slice_index_or shares k d).now ≡ take (copy_count (share k held)) (drop (copies_before k held) origins)
-
--- each share has the numbers of its copies' names
 pub record CanSpell (s : SpellerParts) : Type 0 where
-  pub count : length s.held ≡ length s.pieces
-  pub short : AreAllShort s.held
-  pub numbered : (k : ℕ) (d : Bor (List ℕ)) → k < length s.origins → (slice_index_or s.origins k d).now ≡ all_numbers s.numbers s.units (share k s.pieces) (share k s.held)
+  pub found : AreFound s.units s.pieces s.shares
+  pub numbered : AreSplit s.numbers s.units s.shares s.split
+
+-- the records of a share are the text
+abbrev pub AddsShare : SpellerParts → ℕ → List ℕ → Type 0
+AddsShare s k text = (d : FoundShare) → k < length s.shares → AddsParts s.base s.numbers s.units (share k s.pieces) (slice_index_or s.shares k d).held.items [] text

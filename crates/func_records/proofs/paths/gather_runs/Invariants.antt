@@ -1,13 +1,10 @@
 use Rattle.std.proofs.Common.{◌≡◌, ℕ, List, ◌||◌, length}
-use Rattle.func_records.specs.internal.Gathering.{ArePathed, has_text, any_run, RowSays}
+use Rattle.die_names.specs.declared.unit_read.UnitRead.{UnitRead}
+use Rattle.func_records.specs.internal.Gathering.{has_path, any_run}
 use Rattle.func_records.proofs.paths.gather_runs.Given as goal
 
 abbrev pub invariant-runs : goal.invariant-runs
-invariant-runs l = record {
-  pathed : ArePathed l.units l.unit l.rest;
-  marked : RowSays l.units l.unit l.row l.used.items;
-  same : (path : List ℕ) → (has_text l.used.items path || any_run l.units l.unit l.rest path) ≡ (has_text l.fn.used.items path || any_run l.units l.unit l.runs path);
-}
+invariant-runs l = (units : List UnitRead) (path : List ℕ) → (has_path units l.paths path || any_run units l.unit l.rest path) ≡ (has_path units l.fn.paths path || any_run units l.unit l.runs path)
 
 abbrev pub decreases-runs : goal.decreases-runs
 decreases-runs l = length l.rest

@@ -1,0 +1,131 @@
+//! Inlined copies, their names and all paths, found share by share.
+ghost use Rattle.std.specs.Prelude.{◌≡◌, ◌≤◌, length, IfOk};
+ghost use Rattle.func_records.specs.internal.Gathering.{AreHeld};
+ghost use Rattle.func_records.specs.internal.Shares.{share, IsFound, AreFound};
+
+use crate::found::FoundShare;
+use crate::origin_refs::gather_refs;
+use crate::paths::gather_paths;
+use crate::shares::{share_count, share_of};
+use die_names::{LinkGuesses, Units};
+use func_flatten::Piece;
+use inline_chain::{InlineRuns, InlineTrees, inlines};
+use std::alloc::Global;
+use std::marker::Model;
+use std::thread::Threads;
+use sym_edges::OutOfMemory;
+use unit_workers::{NoGate, UnitJob, run_all};
+
+/// The inlined copies of some pieces, each.
+fn find_copies(
+    alloc: Global,
+    trees: &InlineTrees<'_, '_>,
+    pieces: &[Piece],
+) -> Result<Vec<InlineRuns>, OutOfMemory>
+    ensures are { IfOk result (λ held. AreHeld trees.now pieces.now held.items) }
+    ensures count { IfOk result (λ held. length held.items ≡ length pieces.now) }
+{
+    let mut held = Vec::with_capacity(alloc, pieces.len())?;
+    'pieces: for place in 0..pieces.len() {
+        held.push(inlines(alloc, trees, &pieces[place])?)?;
+    }
+    Ok(held)
+}
+
+/// Units and pieces of which the copies and what they name are found share by share.
+#[derive(Drop)]
+struct ShareFinder<'t, 'u, 'a> {
+    trees: &'t InlineTrees<'u, 'a>,
+    units: &'t Units<'a>,
+    pieces: &'t [Piece],
+}
+
+impl<'t, 'u, 'a> Model for ShareFinder<'t, 'u, 'a> {
+    ghost use Rattle.std.specs.Prelude.{◌≡◌};
+    ghost use Rattle.func_records.specs.internal.Shares.{FinderParts};
+
+    ghost Value = { FinderParts };
+
+    ghost view = { λ f. record { units = f.units.now; pieces = f.pieces.now } };
+
+    ghost invariant = { λ f. f.trees.now ≡ f.units.now };
+}
+
+impl<'t, 'u, 'a> ShareFinder<'t, 'u, 'a> {
+    fn of(
+        trees: &'t InlineTrees<'u, 'a>,
+        units: &'t Units<'a>,
+        pieces: &'t [Piece],
+    ) -> ShareFinder<'t, 'u, 'a>
+        requires { trees.now ≡ units.now }
+        ensures { result ≡ record { units = units.now; pieces = pieces.now } }
+    {
+        ShareFinder {
+            trees,
+            units,
+            pieces,
+        }
+    }
+
+    /// What is found of some pieces.
+    fn find(
+        &self,
+        alloc: Global,
+        pieces: &[Piece],
+        links: &mut LinkGuesses,
+    ) -> Result<FoundShare, OutOfMemory>
+        ensures { IfOk result (λ found. IsFound self.now.units pieces.now found) }
+    {
+        let held = find_copies(alloc, self.trees, pieces)?;
+        let copies = held.as_slice();
+        let origins = gather_refs(alloc, self.units, pieces, copies, links)?;
+        let paths = gather_paths(alloc, self.units, pieces, copies)?;
+        let (refs, places) = origins.into_parts();
+        Ok(FoundShare {
+            held,
+            refs,
+            places,
+            paths,
+        })
+    }
+}
+
+impl<'t, 'u, 'a> UnitJob for ShareFinder<'t, 'u, 'a> {
+    type Out = FoundShare;
+
+    type Scratch = LinkGuesses;
+
+    ghost gives = { λ finder k found. IsFound finder.units (share k finder.pieces) found };
+
+    fn scratch(&self, alloc: Global) -> Result<LinkGuesses, OutOfMemory> {
+        LinkGuesses::new(alloc)
+    }
+
+    fn run(
+        &self,
+        alloc: Global,
+        k: usize,
+        links: &mut LinkGuesses,
+    ) -> Result<FoundShare, OutOfMemory> {
+        let found = self.find(alloc, share_of(self.pieces, k), links)?;
+        Ok(found)
+    }
+}
+
+/// What is found of all pieces by `workers` workers, 1 to 64.
+pub fn find_shares<R: Threads + Sync>(
+    rt: &R,
+    alloc: Global,
+    units: &Units<'_>,
+    pieces: &[Piece],
+    workers: usize,
+) -> Result<Vec<FoundShare>, OutOfMemory>
+    requires workers { (1 ≤ workers) × (workers ≤ 64) }
+    ensures { IfOk result (λ shares. AreFound units.now pieces.now shares.items) }
+{
+    let trees = InlineTrees::of(rt, alloc, units, workers)?;
+    let finder = ShareFinder::of(&trees, units, pieces);
+    let count = share_count(pieces.len())?;
+    let shares = run_all(rt, alloc, &finder, &NoGate, count, workers)?;
+    Ok(shares)
+}

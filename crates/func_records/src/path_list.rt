@@ -1,0 +1,135 @@
+//! The paths that records name, by their numbers.
+ghost use Rattle.std.specs.Prelude.{◌≡◌, ℕ, List, ◌||◌, [], true, Some, IfOk, OnOk};
+ghost use Rattle.std.specs.List.{slice_get};
+ghost use Rattle.std.specs.Str.{bytes_eq};
+ghost use Rattle.die_names.specs.declared.unit_read.UnitRead.{UnitRead};
+ghost use Rattle.func_flatten.specs.LineRuns.{unit_paths};
+ghost use Rattle.func_records.specs.FuncRecords.{no_path, path_in};
+ghost use Rattle.func_records.specs.internal.Gathering.{path_at, has_path};
+
+use crate::place_guesses::PlaceGuesses;
+use die_names::Units;
+use std::alloc::Global;
+use std::marker::Model;
+use sym_edges::OutOfMemory;
+
+/// So many paths are known again.
+const SLOTS: usize = 4096;
+
+/// The path of a number in the line table of a unit; without a number it is one that is not known.
+#[derive(Clone, Copy, Debug, PartialEq, Eq)]
+pub struct PathRef {
+    pub unit: u32,
+    pub path: Option<u32>,
+}
+
+/// Paths, mostly once each.
+#[derive(Drop)]
+pub struct PathList {
+    refs: Vec<PathRef>,
+    guesses: PlaceGuesses,
+}
+
+impl Model for PathList {
+    ghost use Rattle.std.specs.Prelude.{List};
+    ghost use Rattle.func_records.specs.declared.path_list.PathRef.{PathRef};
+
+    ghost Value = { List PathRef };
+
+    ghost view = { λ l. l.refs.items };
+}
+
+/// What stands in the place of a path that is not known.
+#[tactic(auto, unfolding(crate::specs::FuncRecords::no_path))]
+pub fn no_path() -> &'static [u8]
+    ensures { result.now ≡ no_path }
+{
+    b"<name omitted>"
+}
+
+/// The path of a number in a unit's line table.
+#[tactic(auto, unfolding(func_flatten::specs::LineRuns::unit_paths))]
+fn path_in<'u>(units: &'u Units<'_>, unit: u32, path: u32) -> &'u [u8]
+    ensures { result.now ≡ path_in units.now unit path }
+{
+    let Some(part) = units.unit(unit) else {
+        return &[];
+    };
+    if path as usize >= part.lines.path_count() {
+        return &[];
+    }
+    part.lines.path(path)
+}
+
+/// The text of a path.
+pub fn path_text<'u>(units: &'u Units<'_>, at: PathRef) -> &'u [u8]
+    ensures { result.now ≡ path_at units.now at }
+{
+    match at.path {
+        Some(path) => path_in(units, at.unit, path),
+        None => no_path(),
+    }
+}
+
+/// Whether both are the same number of the same unit.
+fn is_same(one: PathRef, other: PathRef) -> bool
+    ensures { result ≡ true → one ≡ other }
+{
+    one.unit == other.unit && one.path == other.path
+}
+
+/// Whether a path stands at a place.
+fn stands_at(refs: &[PathRef], place: u32, at: PathRef) -> bool
+    ensures { result ≡ true → slice_get refs.now place ≡ Some at }
+{
+    match refs.get(place as usize) {
+        Some(known) => is_same(*known, at),
+        None => false,
+    }
+}
+
+/// What tells a path from most others.
+fn key_of(at: PathRef) -> u64 {
+    match at.path {
+        Some(path) => u64::from(at.unit) << 32 | u64::from(path),
+        None => u64::MAX,
+    }
+}
+
+impl PathList {
+    /// None yet.
+    pub fn new(alloc: Global) -> Result<PathList, OutOfMemory>
+        ensures { IfOk result (λ list. list ≡ []) }
+    {
+        Ok(PathList {
+            refs: Vec::new(alloc),
+            guesses: PlaceGuesses::new(alloc, SLOTS)?,
+        })
+    }
+
+    /// The paths.
+    pub fn into_refs(self) -> Vec<PathRef>
+        ensures { result.items ≡ self }
+    {
+        let PathList { refs, guesses: _ } = self;
+        refs
+    }
+
+    /// Adds a path, unless it is known to be there.
+    #[tactic(auto, using(crate::proofs::PathLemmas::path_known, crate::proofs::PathLemmas::path_added))]
+    pub fn add(&mut self, at: PathRef) -> Result<(), OutOfMemory>
+        ensures { OnOk result ((units : List UnitRead) (path : List ℕ) → has_path units self.new path ≡ (has_path units self.old path || bytes_eq path (path_at units at))) }
+    {
+        let key = key_of(at);
+        if stands_at(self.refs.as_slice(), self.guesses.guess(key), at) {
+            return Ok(());
+        }
+        let count = self.refs.len();
+        if count >= u32::MAX as usize {
+            return Err(OutOfMemory);
+        }
+        self.refs.push(at)?;
+        self.guesses.note(key, count as u32);
+        Ok(())
+    }
+}
