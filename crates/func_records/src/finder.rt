@@ -9,7 +9,7 @@ use crate::paths::gather_paths;
 use crate::shares::{share_count, share_of};
 use die_names::{LinkGuesses, Units};
 use func_flatten::Piece;
-use inline_chain::{InlineRuns, InlineTrees, inlines};
+use inline_chain::{InlineRuns, InlineTrees, LevelLists, inlines};
 use std::alloc::Global;
 use std::marker::Model;
 use std::thread::Threads;
@@ -21,15 +21,23 @@ fn find_copies(
     alloc: Global,
     trees: &InlineTrees<'_, '_>,
     pieces: &[Piece],
+    levels: &mut LevelLists,
 ) -> Result<Vec<InlineRuns>, OutOfMemory>
     ensures are { IfOk result (λ held. AreHeld trees.now pieces.now held.items) }
     ensures count { IfOk result (λ held. length held.items ≡ length pieces.now) }
 {
     let mut held = Vec::with_capacity(alloc, pieces.len())?;
     'pieces: for place in 0..pieces.len() {
-        held.push(inlines(alloc, trees, &pieces[place])?)?;
+        held.push(inlines(alloc, trees, &pieces[place], levels)?)?;
     }
     Ok(held)
+}
+
+/// What a worker keeps from share to share: where links led, and lists.
+#[derive(Drop)]
+struct FinderScratch {
+    links: LinkGuesses,
+    levels: LevelLists,
 }
 
 /// Units and pieces of which the copies and what they name are found share by share.
@@ -72,13 +80,13 @@ impl<'t, 'u, 'a> ShareFinder<'t, 'u, 'a> {
         &self,
         alloc: Global,
         pieces: &[Piece],
-        links: &mut LinkGuesses,
+        scratch: &mut FinderScratch,
     ) -> Result<FoundShare, OutOfMemory>
         ensures { IfOk result (λ found. IsFound self.now.units pieces.now found) }
     {
-        let held = find_copies(alloc, self.trees, pieces)?;
+        let held = find_copies(alloc, self.trees, pieces, &mut scratch.levels)?;
         let copies = held.as_slice();
-        let origins = gather_refs(alloc, self.units, pieces, copies, links)?;
+        let origins = gather_refs(alloc, self.units, pieces, copies, &mut scratch.links)?;
         let paths = gather_paths(alloc, self.units, pieces, copies)?;
         let (refs, places) = origins.into_parts();
         Ok(FoundShare {
@@ -93,21 +101,24 @@ impl<'t, 'u, 'a> ShareFinder<'t, 'u, 'a> {
 impl<'t, 'u, 'a> UnitJob for ShareFinder<'t, 'u, 'a> {
     type Out = FoundShare;
 
-    type Scratch = LinkGuesses;
+    type Scratch = FinderScratch;
 
     ghost gives = { λ finder k found. IsFound finder.units (share k finder.pieces) found };
 
-    fn scratch(&self, alloc: Global) -> Result<LinkGuesses, OutOfMemory> {
-        LinkGuesses::new(alloc)
+    fn scratch(&self, alloc: Global) -> Result<FinderScratch, OutOfMemory> {
+        Ok(FinderScratch {
+            links: LinkGuesses::new(alloc)?,
+            levels: LevelLists::new(alloc),
+        })
     }
 
     fn run(
         &self,
         alloc: Global,
         k: usize,
-        links: &mut LinkGuesses,
+        scratch: &mut FinderScratch,
     ) -> Result<FoundShare, OutOfMemory> {
-        let found = self.find(alloc, share_of(self.pieces, k), links)?;
+        let found = self.find(alloc, share_of(self.pieces, k), scratch)?;
         Ok(found)
     }
 }

@@ -1,5 +1,6 @@
 //! The covers of the inlined copies in one entry.
 ghost use Rattle.std.specs.Prelude.{◌≡◌, map, IfOk};
+ghost use Rattle.std.specs.List.Sorted.{IsPermutation};
 ghost use Rattle.step_maps.specs.Runs.{IsRuns, between};
 ghost use Rattle.step_maps.specs.Covers.{index_at, cover_run};
 ghost use Rattle.step_maps.specs.SpanStretches.{AreFit};
@@ -54,14 +55,29 @@ fn own_covers(alloc: Global, items: &[Stretch]) -> Result<Vec<Cover>, AllocError
     Ok(covers)
 }
 
-/// The covers of stretches. Stretches that follow one another, as nearly all do, are their own covers.
-#[tactic(auto, using(crate::proofs::ApartLemmas::apart_runs, crate::proofs::ApartLemmas::covers_run, crate::proofs::ClassLemmas::fit_some))]
+/// The stretches by their first addresses.
+fn sorted_by_first(alloc: Global, items: &[Stretch]) -> Result<Vec<Stretch>, AllocError>
+    ensures { IfOk result (λ sorted. IsPermutation items.now sorted.items) }
+{
+    let mut sorted = Vec::with_capacity(alloc, items.len())?;
+    sorted.extend_from_slice(items)?;
+    sorted.sort_unstable_by_key(|item| item.first);
+    Ok(sorted)
+}
+
+/// The covers of stretches. Stretches that follow one another, as nearly all do once they are sorted, are their own covers.
+#[tactic(auto, using(crate::proofs::ApartLemmas::apart_runs, crate::proofs::ApartLemmas::sorted_runs, crate::proofs::ApartLemmas::covers_run, crate::proofs::ClassLemmas::fit_some))]
 pub fn covers_of(alloc: Global, items: &[Stretch]) -> Result<CoverList, OutOfMemory>
     requires { AreFit items.now }
     ensures { IfOk result (λ covers. IsRuns (between 0 18446744073709551616 (index_at items.now)) (map cover_run covers)) }
 {
     if is_apart(items) {
         let own = own_covers(alloc, items)?;
+        return Ok(ListOf::of(own));
+    }
+    let sorted = sorted_by_first(alloc, items)?;
+    if is_apart(sorted.as_slice()) {
+        let own = own_covers(alloc, sorted.as_slice())?;
         return Ok(ListOf::of(own));
     }
     covers(alloc, items)

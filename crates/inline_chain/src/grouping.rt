@@ -138,21 +138,26 @@ fn push_group(
     push_set(alloc, made, level, entry, set)
 }
 
-/// The records of sorted stretches, entry by entry.
-fn groups_of(alloc: Global, level: u32, items: &[Stretch]) -> Result<Vec<InlineRun>, OutOfMemory>
+/// Puts in the place of what was there the records of sorted stretches, entry by entry.
+fn fill_groups(
+    alloc: Global,
+    level: u32,
+    items: &[Stretch],
+    made: &mut Vec<InlineRun>,
+) -> Result<(), OutOfMemory>
     requires fit { AreFit items.now }
     requires sorted { SortedFrom 0 items.now }
-    ensures { IfOk result (λ made. IsMade level items.now made.items) }
+    ensures { OnOk result (IsMade level items.now made.new.items) }
 {
-    let mut made = Vec::new(alloc);
+    made.clear();
     let mut rest = items;
     'groups: while let Some((first, _)) = rest.split_first() {
         let entry = first.class;
         let (group, later) = rest.split_at(front_count(rest, entry));
-        push_group(alloc, &mut made, level, entry, group)?;
+        push_group(alloc, made, level, entry, group)?;
         rest = later;
     }
-    Ok(made)
+    Ok(())
 }
 
 /// The first address of a record.
@@ -176,20 +181,21 @@ fn sort_by_address(made: &mut Vec<InlineRun>, level: u32) -> Result<(), AllocErr
     Ok(())
 }
 
-/// Adds the records of a level.
+/// Adds the records of a level, which is sorted for that. What `made` holds does not matter: it is used again for the sake of its
+/// memory.
 pub fn push_level(
     alloc: Global,
     runs: &mut Vec<InlineRun>,
     level: u32,
-    items: Vec<Stretch>,
+    items: &mut Vec<Stretch>,
+    made: &mut Vec<InlineRun>,
 ) -> Result<(), OutOfMemory>
-    requires { AreFit items.items }
-    ensures { OnOk result (AddsLevel level items.items runs.old.items runs.new.items) }
+    requires { AreFit items.old.items }
+    ensures { OnOk result (AddsLevel level items.old.items runs.old.items runs.new.items) }
 {
-    let mut sorted = items;
-    sort_by_class(&mut sorted)?;
-    let mut made = groups_of(alloc, level, sorted.as_slice())?;
-    sort_by_address(&mut made, level)?;
-    runs.append(&mut made)?;
+    sort_by_class(items)?;
+    fill_groups(alloc, level, items.as_slice(), made)?;
+    sort_by_address(made, level)?;
+    runs.append(made)?;
     Ok(())
 }

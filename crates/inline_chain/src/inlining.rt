@@ -13,8 +13,27 @@ use crate::levels::level_under;
 use crate::trees::InlineTrees;
 use func_flatten::Piece;
 use std::alloc::Global;
+use std::mem::swap;
 use step_maps::Stretch;
 use sym_edges::{ListOf, OutOfMemory};
+
+/// Lists that each piece fills anew. They are kept for the sake of their memory: what they hold does not matter.
+#[derive(Drop)]
+pub struct LevelLists {
+    level: Vec<Stretch>,
+    next: Vec<Stretch>,
+    made: Vec<InlineRun>,
+}
+
+impl LevelLists {
+    pub fn new(alloc: Global) -> LevelLists {
+        LevelLists {
+            level: Vec::new(alloc),
+            next: Vec::new(alloc),
+            made: Vec::new(alloc),
+        }
+    }
+}
 
 /// The inlined copies on the chains of a piece's addresses, by level and first address: for each entry on a chain, at its level, the
 /// maximal ranges of its addresses in the piece, in records of at most 16,384 ranges.
@@ -22,6 +41,7 @@ pub fn inlines(
     alloc: Global,
     trees: &InlineTrees<'_, '_>,
     piece: &Piece,
+    levels: &mut LevelLists,
 ) -> Result<InlineRuns, OutOfMemory>
     ensures { IfOk result (λ runs. AreInlineRuns trees.now piece.now runs) }
 {
@@ -37,7 +57,7 @@ pub fn inlines(
         index: piece.entry,
         class: piece.entry,
     };
-    let runs = runs_under(alloc, tree, owner)?;
+    let runs = runs_under(alloc, tree, owner, levels)?;
     Ok(ListOf::of(runs))
 }
 
@@ -46,20 +66,27 @@ fn runs_under(
     alloc: Global,
     lists: &CoverLists,
     owner: Stretch,
+    levels: &mut LevelLists,
 ) -> Result<Vec<InlineRun>, OutOfMemory>
     requires fit { AreFit (owner ∷ []) }
     requires runs { HaveRuns lists.now }
     ensures { IfOk result (λ runs. (part : UnitRead) → IsTree part lists.now → AllRuns part owner runs.items) }
 {
     let mut runs = Vec::new(alloc);
-    let mut level = level_under(alloc, lists, &[owner])?;
+    level_under(lists, &[owner], &mut levels.level)?;
     'levels: for number in 0..u32::MAX {
-        if level.is_empty() {
+        if levels.level.is_empty() {
             return Ok(runs);
         }
-        let next = level_under(alloc, lists, level.as_slice())?;
-        push_level(alloc, &mut runs, number, level)?;
-        level = next;
+        level_under(lists, levels.level.as_slice(), &mut levels.next)?;
+        push_level(
+            alloc,
+            &mut runs,
+            number,
+            &mut levels.level,
+            &mut levels.made,
+        )?;
+        swap(&mut levels.level, &mut levels.next);
     }
     Err(OutOfMemory)
 }

@@ -1,5 +1,5 @@
 //! The levels of a piece, one below the other.
-ghost use Rattle.std.specs.Prelude.{◌≡◌, ℕ, ◌&&◌, ◌||◌, ◌≤◌, length, map, [], ◌∷◌, IfOk, OnOk};
+ghost use Rattle.std.specs.Prelude.{◌≡◌, ℕ, ◌&&◌, ◌||◌, ◌≤◌, length, map, [], ◌∷◌, OnOk};
 ghost use Rattle.std.specs.List.{list_any};
 ghost use Rattle.step_maps.specs.Runs.{AreRuns};
 ghost use Rattle.step_maps.specs.Covers.{reaches, cover_run};
@@ -8,7 +8,7 @@ ghost use Rattle.inline_chain.specs.Trees.{list_of};
 ghost use Rattle.inline_chain.specs.internal.Levels.{has_at, covers_at, reaches_under, cut, HaveRuns, StartsCovers};
 
 use crate::cover_lists::CoverLists;
-use std::alloc::{AllocError, Global};
+use std::alloc::AllocError;
 use step_maps::{Cover, Stretch};
 
 /// How many covers end below an address.
@@ -51,22 +51,22 @@ fn push_under(next: &mut Vec<Stretch>, covers: &[Cover], around: Stretch) -> Res
     Ok(())
 }
 
-/// What stands directly in the entries of a level, at the addresses at which these stand.
+/// Puts in the place of what was there what stands directly in the entries of a level, at the addresses at which these stand.
 pub fn level_under(
-    alloc: Global,
     lists: &CoverLists,
     level: &[Stretch],
-) -> Result<Vec<Stretch>, AllocError>
+    next: &mut Vec<Stretch>,
+) -> Result<(), AllocError>
     requires runs { HaveRuns lists.now }
     requires fit { AreFit level.now }
-    ensures fit { IfOk result (λ next. AreFit next.items) }
-    ensures at { IfOk result (λ next. (y a : ℕ) → has_at next.items y a ≡ list_any (reaches_under lists.now y a) level.now) }
+    ensures fit { OnOk result (AreFit next.new.items) }
+    ensures at { OnOk result ((y a : ℕ) → has_at next.new.items y a ≡ list_any (reaches_under lists.now y a) level.now) }
 {
-    let mut next = Vec::new(alloc);
+    next.clear();
     let mut rest = level;
     'level: while let Some((around, later)) = rest.split_first() {
-        push_under(&mut next, lists.get(around.class as usize), *around)?;
+        push_under(next, lists.get(around.class as usize), *around)?;
         rest = later;
     }
-    Ok(next)
+    Ok(())
 }

@@ -25,5 +25,5 @@ mod levels;
 mod trees;
 
 pub use crate::inline_run::{InlineRun, InlineRuns};
-pub use crate::inlining::inlines;
+pub use crate::inlining::{LevelLists, inlines};
 pub use crate::trees::InlineTrees;

@@ -1,5 +1,5 @@
 -- Stretches that follow one another are their own covers.
-use Rattle.std.specs.Prelude.{ℕ, ◌+◌, ◌-◌, ◌==◌, ◌&&◌, ◌||◌, not, nat_lt, Bool, true, false, List, [], ◌∷◌}
+use Rattle.std.specs.Prelude.{◌-◌, ◌==◌, ◌&&◌, ◌||◌, not, nat_lt, Bool, true, false, List, [], ◌∷◌}
 use Rattle.step_maps.specs.declared.stretch.Stretch.{Stretch}
 use Rattle.step_maps.specs.declared.stretch.Cover.{Cover}
 

@@ -7,7 +7,7 @@ use Rattle.inline_chain.proofs.inlining.runs_under.Given as goal
 
 abbrev pub invariant-levels : goal.invariant-levels
 invariant-levels l = record {
-  fit : AreFit l.level.items;
-  level : (part : UnitRead) → IsTree part l.lists → IsLevel part l.fn.owner (l.number + 1) l.level.items;
+  fit : AreFit l.levels.level.items;
+  level : (part : UnitRead) → IsTree part l.lists → IsLevel part l.fn.owner (l.number + 1) l.levels.level.items;
   runs : (part : UnitRead) → IsTree part l.lists → RunsTo part l.fn.owner l.number l.runs.items;
 }

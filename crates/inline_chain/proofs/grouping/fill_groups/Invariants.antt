@@ -2,7 +2,7 @@ use Rattle.std.proofs.Common.{length}
 use Rattle.step_maps.specs.SpanStretches.{AreFit}
 use Rattle.inline_chain.specs.internal.Copies.{SortedFrom}
 use Rattle.inline_chain.specs.internal.Levels.{Groups}
-use Rattle.inline_chain.proofs.grouping.groups_of.Given as goal
+use Rattle.inline_chain.proofs.grouping.fill_groups.Given as goal
 
 abbrev pub invariant-groups : goal.invariant-groups
 invariant-groups l = record {

@@ -1,10 +1,10 @@
 use Rattle.std.proofs.Common.{◌<◌, length}
 use Rattle.inline_chain.proofs.ClassLemmas.{front_inside, fit_take, fit_drop, sorted_behind}
 use Rattle.inline_chain.proofs.GroupLemmas.{groups_begin, groups_more, groups_end, sorted_own, sorted_low, has_first, drop_shorter}
-use Rattle.inline_chain.proofs.grouping.groups_of.Goals as goal
+use Rattle.inline_chain.proofs.grouping.fill_groups.Goals as goal
 
 pub groups-init : goal.groups-init
-groups-init c = record { fit = c.requires.fit; sorted = c.requires.sorted; groups = groups_begin _ _ _ c.new-made.ensures.items }
+groups-init c = record { fit = c.requires.fit; sorted = c.requires.sorted; groups = groups_begin _ _ _ c.clear.ensures.items }
 
 pub split_at-requires : goal.split_at-requires
 split_at-requires c = rw c.front_count.ensures (front_inside _ _)
