@@ -46,6 +46,14 @@ share_whole k xs rest is few = sym (take_all 512 rest few) ∙ ap (take 512) (is
 pub share_part : {A : Type 0} (k : ℕ) (xs rest here : List A) → rest ≡ drop (k * 512) xs → here ≡ take 512 rest → here ≡ share k xs
 share_part k xs rest here is front = front ∙ ap (take 512) (is ∙ ap (λ n. drop n xs) (let same : k * 512 ≡ 512 * k = omega arith in same))
 
+-- what is made of each share is made of all
+pub shares_mapped : {X A B : Type 0} (f : X → List B) (g : A → B) (shares : List X) (xs : List A) → length xs ≤ 512 * length shares → ((k : ℕ) (d : X) → k < length shares → f (get_or shares k d) ≡ map g (share k xs)) → flat_map f shares ≡ map g xs
+shares_mapped f g [] xs inside each = sym (ap (map g) (nil_from_length xs (omega (arith, inside))))
+shares_mapped f g (s ∷ shares) xs inside each =
+    ap (λ l. l ++ flat_map f shares) (each 0 s (omega arith) ∙ ap (map g) (share_first xs))
+    ∙ ap (λ l. map g (take 512 xs) ++ l) (shares_mapped f g shares (drop 512 xs) (omega (arith, inside, length-drop 512 xs)) (λ k d below. each (suc k) d (omega (arith, below)) ∙ ap (map g) (sym (share_next k xs))))
+    ∙ sym (map-append g (take 512 xs) (drop 512 xs)) ∙ ap (map g) (take-append-drop 512 xs)
+
 -- lists that are taken from the end of the reversed list
 pub pop_next : {X A : Type 0} (f : X → List A) (left less : List X) (one : X) (made more all : List A) → left ≡ less ++ one ∷ [] → more ≡ made ++ f one → made ++ flat_map f (reverse left) ≡ all → more ++ flat_map f (reverse less) ≡ all
 pop_next f left less one made more all is grown so =

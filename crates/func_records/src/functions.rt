@@ -44,7 +44,7 @@ pub fn add_functions<R: Threads + Sync>(
     let used = path_texts(alloc, units, shares)?;
     let ranked_paths = ranked_texts(alloc, used.as_slice())?;
     let paths = ranked_paths.sorted.as_slice();
-    let named = gather_names(alloc, units, shares)?;
+    let named = gather_names(rt, alloc, units, shares, workers)?;
     let texts = named.texts.as_slice();
     let slices = text_slices(alloc, texts)?;
     let ranked_names = ranked_texts(alloc, slices.as_slice())?;

@@ -53,6 +53,11 @@ pub record SpellerParts : Type 0 where
   pub shares : List FoundShare
   pub split : List (Bor (List ℕ))
 
+-- the units, and the entries whose names are made share by share
+pub record MakerParts : Type 0 where
+  pub units : List UnitRead
+  pub refs : List NameRef
+
 -- the numbers of the names that the entries of each share give
 abbrev pub AreSplit : Numbers → List UnitRead → List FoundShare → List (Bor (List ℕ)) → Type 0
 AreSplit numbers units [] [] = Unit {0}
