@@ -4,7 +4,7 @@ pub mod ChildLemmas
 pub mod CollectLemmas
 pub mod ClassLemmas
 pub mod ApartLemmas
-mod NumberLemmas
+mod EndLemmas
 mod TreeLemmas
 pub mod LevelLemmas
 pub mod PartLemmas

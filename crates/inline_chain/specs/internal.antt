@@ -2,4 +2,4 @@
 pub mod Levels
 pub mod Copies
 pub mod Apart
-pub mod CoverNumbers
+pub mod CoverEnds

@@ -1,5 +1,5 @@
 //! The covers of the inlined copies in one entry.
-ghost use Rattle.std.specs.Prelude.{◌≡◌, map, IfOk};
+ghost use Rattle.std.specs.Prelude.{◌≡◌, map, IfOk, OnOk};
 ghost use Rattle.std.specs.List.Sorted.{IsPermutation};
 ghost use Rattle.step_maps.specs.Runs.{IsRuns, between};
 ghost use Rattle.step_maps.specs.Covers.{index_at, cover_run};
@@ -7,8 +7,8 @@ ghost use Rattle.step_maps.specs.SpanStretches.{AreFit};
 ghost use Rattle.inline_chain.specs.internal.Apart.{follows, apart, own_cover};
 
 use std::alloc::{AllocError, Global};
-use step_maps::{Cover, CoverList, Stretch, covers};
-use sym_edges::{ListOf, OutOfMemory};
+use step_maps::{Cover, Stretch, covers};
+use sym_edges::OutOfMemory;
 
 /// Whether a stretch begins above the last address of another, and does not go on with its index.
 #[inline]
@@ -37,11 +37,11 @@ fn is_apart(items: &[Stretch]) -> bool
     true
 }
 
-/// The stretches as covers.
-fn own_covers(alloc: Global, items: &[Stretch]) -> Result<Vec<Cover>, AllocError>
-    ensures { IfOk result (λ covers. covers.items ≡ map own_cover items.now) }
+/// Puts the stretches as covers in the place of what was there.
+fn fill_own(items: &[Stretch], covers: &mut Vec<Cover>) -> Result<(), AllocError>
+    ensures { OnOk result (covers.new.items ≡ map own_cover items.now) }
 {
-    let mut covers = Vec::with_capacity(alloc, items.len())?;
+    covers.clear();
     let mut rest = items;
     'items: while let Some((item, later)) = rest.split_first() {
         covers.push(Cover {
@@ -52,7 +52,7 @@ fn own_covers(alloc: Global, items: &[Stretch]) -> Result<Vec<Cover>, AllocError
         })?;
         rest = later;
     }
-    Ok(covers)
+    Ok(())
 }
 
 /// The stretches by their first addresses.
@@ -65,20 +65,28 @@ fn sorted_by_first(alloc: Global, items: &[Stretch]) -> Result<Vec<Stretch>, All
     Ok(sorted)
 }
 
-/// The covers of stretches. Stretches that follow one another, as nearly all do once they are sorted, are their own covers.
+/// Puts the covers of stretches in the place of what was there. Stretches that follow one another, as nearly all do once they are sorted,
+/// are their own covers.
 #[tactic(auto, using(crate::proofs::ApartLemmas::apart_runs, crate::proofs::ApartLemmas::sorted_runs, crate::proofs::ApartLemmas::covers_run, crate::proofs::ClassLemmas::fit_some))]
-pub fn covers_of(alloc: Global, items: &[Stretch]) -> Result<CoverList, OutOfMemory>
+pub fn fill_covers(
+    alloc: Global,
+    items: &[Stretch],
+    own: &mut Vec<Cover>,
+) -> Result<(), OutOfMemory>
     requires { AreFit items.now }
-    ensures { IfOk result (λ covers. IsRuns (between 0 18446744073709551616 (index_at items.now)) (map cover_run covers)) }
+    ensures { OnOk result (IsRuns (between 0 18446744073709551616 (index_at items.now)) (map cover_run own.new.items)) }
 {
     if is_apart(items) {
-        let own = own_covers(alloc, items)?;
-        return Ok(ListOf::of(own));
+        fill_own(items, own)?;
+        return Ok(());
     }
     let sorted = sorted_by_first(alloc, items)?;
     if is_apart(sorted.as_slice()) {
-        let own = own_covers(alloc, sorted.as_slice())?;
-        return Ok(ListOf::of(own));
+        fill_own(sorted.as_slice(), own)?;
+        return Ok(());
     }
-    covers(alloc, items)
+    let list = covers(alloc, items)?;
+    own.clear();
+    own.extend_from_slice(list.as_slice())?;
+    Ok(())
 }

@@ -9,12 +9,12 @@ ghost use Rattle.inline_chain.specs.Trees.{IsTree, AreTrees};
 
 use crate::children::collect_copies;
 use crate::cover_lists::CoverLists;
-use crate::covering::covers_of;
+use crate::covering::fill_covers;
 use die_names::{UnitRead, Units};
 use std::alloc::{AllocError, Global};
 use std::marker::Model;
 use std::thread::Threads;
-use step_maps::Stretch;
+use step_maps::{Cover, Stretch};
 use sym_edges::OutOfMemory;
 use unit_workers::{NoGate, UnitJob, run_all};
 
@@ -169,16 +169,22 @@ pub(crate) fn front_count(items: &[Stretch], class: u32) -> usize
     count
 }
 
-/// Adds the covers of stretches.
+/// Adds the covers of stretches. What `own` holds does not matter: it is used again for the sake of its memory.
 #[tactic(auto, using(crate::proofs::ApartLemmas::no_cover))]
-fn push_covers(alloc: Global, lists: &mut CoverLists, group: &[Stretch]) -> Result<(), OutOfMemory>
+fn push_covers(
+    alloc: Global,
+    lists: &mut CoverLists,
+    group: &[Stretch],
+    own: &mut Vec<Cover>,
+) -> Result<(), OutOfMemory>
     requires { AreFit group.now }
     ensures { OnOk result (AddsCovers group.now lists.old lists.new) }
 {
     if group.is_empty() {
         return lists.push_none();
     }
-    lists.push(covers_of(alloc, group)?)
+    fill_covers(alloc, group, own)?;
+    lists.push(own.as_slice())
 }
 
 /// The covers of each class of sorted stretches, as far as there are any.
@@ -190,13 +196,14 @@ fn lists_of(alloc: Global, count: usize, items: &[Stretch]) -> Result<CoverLists
     ensures { IfOk result (λ lists. AreLists items.now lists) }
 {
     let mut lists = CoverLists::new(alloc);
+    let mut own = Vec::new(alloc);
     let mut rest = items;
     'classes: for class in 0..count {
         if rest.is_empty() {
             return Ok(lists);
         }
         let (group, later) = rest.split_at(front_count(rest, class as u32));
-        push_covers(alloc, &mut lists, group)?;
+        push_covers(alloc, &mut lists, group, &mut own)?;
         rest = later;
     }
     Ok(lists)

@@ -1,23 +1,30 @@
-use Rattle.std.proofs.Common.{◌≡◌, ◌<◌, ◌≤◌, ℕ, List, [], length, get_or, unwrap_or, sym, ap, subst, ◌∙◌, rules}
+use Rattle.std.proofs.Common.{◌≡◌, ◌<◌, ◌≤◌, ℕ, List, [], length, take, drop, get_or, unwrap_or, sym, ap, subst, ◌∙◌, rules, arith}
 use Rattle.std.specs.List.{slice_get}
 use Rattle.step_maps.specs.declared.stretch.Cover.{Cover}
 use Rattle.inline_chain.specs.Trees.{list_of}
-use Rattle.inline_chain.specs.internal.CoverNumbers.{covers_at}
-use Rattle.inline_chain.proofs.NumberLemmas.{number_inside, covers_there}
+use Rattle.inline_chain.specs.internal.CoverEnds.{begin_of}
+use Rattle.inline_chain.proofs.EndLemmas.{list_there, list_inside}
 use Rattle.inline_chain.proofs.cover_lists.CoverLists.get.Goals as goal
 
-pub list_at-requires : goal.list_at-requires
-list_at-requires c =
-    let there : c.args.entry < length c.self.inside.numbers.items = search rules in
-    let is : c.index-number.result.now ≡ get_or c.self.inside.numbers.items c.args.entry c.index-number.result.now = c.index-number.ensures in
-    subst (λ (lists : List (List Cover)). c.index-number.result.now ≤ length lists) (sym c.as_slice.ensures.value)
-    (subst (λ (n : ℕ). n ≤ length c.self.inside.lists.items) (sym is) (number_inside (length c.self.inside.lists.items) c.self.inside.numbers.items c.args.entry c.index-number.result.now c.self.invariant there))
+pub covers_between-requires-clause-start : goal.covers_between-requires-clause-start
+covers_between-requires-clause-start c =
+    let there : c.args.entry < length c.self.inside.ends.items = search rules in
+    let begin : c.begin_of-start.result ≡ begin_of 0 c.self.inside.ends.items c.args.entry = c.begin_of-start.ensures ∙ ap (λ (es : List ℕ). begin_of 0 es c.args.entry) c.as_slice.ensures.value in
+    rw begin (rw c.index-end.ensures (list_inside (length c.self.inside.covers.items) 0 c.self.inside.ends.items c.args.entry c.index-end.result.now c.self.invariant.0 there).0)
+
+pub covers_between-requires-clause-end : goal.covers_between-requires-clause-end
+covers_between-requires-clause-end c =
+    let there : c.args.entry < length c.self.inside.ends.items = search rules in
+    rw c.as_slice-2.ensures.value (rw c.index-end.ensures (list_inside (length c.self.inside.covers.items) 0 c.self.inside.ends.items c.args.entry c.index-end.result.now c.self.invariant.0 there).1)
 
 pub returns : goal.returns
 unfolding list_of
 returns c =
-    let there : c.args.entry < length c.self.inside.numbers.items = search rules in
-    let is : c.index-number.result.now ≡ get_or c.self.inside.numbers.items c.args.entry c.index-number.result.now = c.index-number.ensures in
-    c.list_at.ensures ∙ ap (λ (lists : List (List Cover)). covers_at lists c.index-number.result.now) c.as_slice.ensures.value ∙ ap (λ (n : ℕ). covers_at c.self.inside.lists.items n) is
-    ∙ ap (λ o. unwrap_or o []) (covers_there c.self.inside.lists.items c.self.inside.numbers.items c.args.entry c.index-number.result.now there
+    let there : c.args.entry < length c.self.inside.ends.items = search rules in
+    let begin : c.begin_of-start.result ≡ begin_of 0 c.self.inside.ends.items c.args.entry = c.begin_of-start.ensures ∙ ap (λ (es : List ℕ). begin_of 0 es c.args.entry) c.as_slice.ensures.value in
+    let end : c.index-end.result.now ≡ get_or c.self.inside.ends.items c.args.entry c.index-end.result.now = c.index-end.ensures in
+    c.covers_between.ensures ∙ ap (λ (cs : List Cover). drop c.begin_of-start.result (take c.index-end.result.now cs)) c.as_slice-2.ensures.value
+    ∙ ap (λ n. drop n (take c.index-end.result.now c.self.inside.covers.items)) begin
+    ∙ ap (λ n. drop (begin_of 0 c.self.inside.ends.items c.args.entry) (take n c.self.inside.covers.items)) end
+    ∙ ap (λ o. unwrap_or o []) (sym (list_there c.self.inside.covers.items 0 c.self.inside.ends.items c.args.entry c.index-end.result.now there)
     ∙ ap (λ (lists : List (List Cover)). slice_get lists c.args.entry) c.self.view_is)
