@@ -70,13 +70,13 @@ in_first x n (Some p) spans items a canonical = go (p == x) refl
         neither true = refl
         neither false = refl
 
-copy_first : (x n : ℕ) (die : DieFields) (above : Option ℕ) (spans : List Range) (items : List Stretch) (a : ℕ) → IsCanonical spans
+copy_first : (x n : ℕ) (die : DieFields) (above : Option ℕ) (spans : List Range) (items : List Stretch) (a : ℕ) → (is_inlined die ≡ true → IsCanonical spans)
     → index_at (of_class x (copy_by die above n spans) ++ items) a ≡ (if is_inlined die && (holds_any spans a && is_number x above) then Some n else index_at items a)
-copy_first x n die above spans items a canonical = go (is_inlined die)
+copy_first x n die above spans items a canonical = go (is_inlined die) canonical
   where
-    go : (b : Bool) → index_at (of_class x (if b then stretches_in n above spans else []) ++ items) a ≡ (if b && (holds_any spans a && is_number x above) then Some n else index_at items a)
-    go true = in_first x n above spans items a canonical
-    go false = refl
+    go : (b : Bool) → (b ≡ true → IsCanonical spans) → index_at (of_class x (if b then stretches_in n above spans else []) ++ items) a ≡ (if b && (holds_any spans a && is_number x above) then Some n else index_at items a)
+    go true are = in_first x n above spans items a (are refl)
+    go false are = refl
 
 pub index_children : (all : List DieFields) (x n : ℕ) (dies : List DieFields) (sets : List (List Range)) (a : ℕ) → HaveSets dies sets
     → index_at (of_class x (child_stretches all n dies sets)) a ≡ first_child all a x n dies sets

@@ -1,5 +1,5 @@
 -- What is collected of the inlined copies.
-use Rattle.std.proofs.Common.{◌≡◌, ℕ, zero, suc, ◌+◌, ◌<◌, ◌≤◌, ◌++◌, ◌⊎◌, Bool, true, false, if◌then◌else◌, List, [], ◌∷◌, length, drop, Option, None, Some, arith, refl, sym, ap, subst, ◌∙◌, ⊎_elim, inl}
+use Rattle.std.proofs.Common.{◌≡◌, ℕ, zero, suc, ◌+◌, ◌<◌, ◌≤◌, ◌++◌, Bool, true, false, if◌then◌else◌, List, [], ◌∷◌, length, drop, Option, None, Some, unwrap_or, arith, refl, sym, ap, subst, ◌∙◌, ⊎_elim}
 use Rattle.std.proofs.lemmas.Bool.{cases_lt}
 use Rattle.std.proofs.lemmas.List.{append_assoc, append-nil, drop_more, drop_all}
 use Rattle.std.specs.List.{slice_get}
@@ -10,7 +10,7 @@ use Rattle.die_walk.specs.EntryTable.{DieFields}
 use Rattle.die_walk.specs.EntryKinds.{is_inlined}
 use Rattle.die_names.specs.Owners.{inside_of}
 use Rattle.step_maps.specs.SpanStretches.{span_stretches, AreFit}
-use Rattle.inline_chain.specs.internal.Copies.{stretches_in, copy_by, copy_stretches, child_stretches, HaveClasses, HaveSets, SaysInside, Collects}
+use Rattle.inline_chain.specs.internal.Copies.{stretches_in, set_in, copy_by, copy_stretches, child_stretches, HaveClasses, HaveSets, SaysInside, Collects}
 use Rattle.inline_chain.proofs.InsideLemmas.{IsBelow, taken, inside_below}
 
 got_inside : {X : Type 0} (xs : List X) (k : ℕ) (x : X) → slice_get xs k ≡ Some x → k < length xs
@@ -60,9 +60,35 @@ inside_more all row k die above says is said = record {
 }
 
 -- the stretches of an entry, and those of the entries after
-child_left : (all : List DieFields) (k : ℕ) (dies : List DieFields) (sets : List (List Range)) (die : DieFields) (spans : List Range) → slice_get dies k ≡ Some die → slice_get sets k ≡ Some spans
-    → child_stretches all k (drop k dies) (drop k sets) ≡ copy_stretches all k die spans ++ child_stretches all (k + 1) (drop (k + 1) dies) (drop (k + 1) sets)
-child_left all k dies sets die spans is set_is = λ i. child_stretches all k ((dropped dies k die is) i) ((dropped sets k spans set_is) i)
+no_sets : (all : List DieFields) (k : ℕ) (dies : List DieFields) → child_stretches all k dies [] ≡ []
+no_sets all k [] = refl
+no_sets all k (die ∷ dies) = refl
+
+no_copy : (die : DieFields) (above : Option ℕ) (k : ℕ) → copy_by die above k [] ≡ []
+no_copy die above k = go (is_inlined die) above
+  where
+    go : (b : Bool) (o : Option ℕ) → (if b then stretches_in k o [] else []) ≡ []
+    go false o = refl
+    go true None = refl
+    go true (Some p) = refl
+
+child_left : (all : List DieFields) (k : ℕ) (dies : List DieFields) (sets : List (List Range)) (die : DieFields) → slice_get dies k ≡ Some die
+    → child_stretches all k (drop k dies) (drop k sets) ≡ copy_stretches all k die (set_in sets k) ++ child_stretches all (k + 1) (drop (k + 1) dies) (drop (k + 1) sets)
+child_left all k dies sets die is = go (slice_get sets k) refl
+  where
+    go : (o : Option (List Range)) → slice_get sets k ≡ o → child_stretches all k (drop k dies) (drop k sets) ≡ copy_stretches all k die (unwrap_or o []) ++ child_stretches all (k + 1) (drop (k + 1) dies) (drop (k + 1) sets)
+    go (Some spans) there = λ i. child_stretches all k ((dropped dies k die is) i) ((dropped sets k spans there) i)
+    go None there =
+        ap (child_stretches all k (drop k dies)) (dropped_none sets k there) ∙ no_sets all k (drop k dies)
+        ∙ sym (ap (λ l. l ++ child_stretches all (k + 1) (drop (k + 1) dies) (drop (k + 1) sets)) (no_copy die (inside_of all k die.parent) k)
+        ∙ ap (child_stretches all (k + 1) (drop (k + 1) dies)) (drop_all (k + 1) sets (omega (arith, got_none sets k there))) ∙ no_sets all (k + 1) (drop (k + 1) dies))
+
+sets_left : (all : List DieFields) (k : ℕ) (sets : List (List Range)) (die : DieFields) → slice_get all k ≡ Some die → (is_inlined die ≡ true → IsCanonical (set_in sets k)) → HaveSets (drop (k + 1) all) (drop (k + 1) sets) → HaveSets (drop k all) (drop k sets)
+sets_left all k sets die is canonical left = subst (λ l. HaveSets l (drop k sets)) (sym (dropped all k die is)) (go (slice_get sets k) refl canonical)
+  where
+    go : (o : Option (List Range)) → slice_get sets k ≡ o → (is_inlined die ≡ true → IsCanonical (unwrap_or o [])) → HaveSets (die ∷ drop (k + 1) all) (drop k sets)
+    go (Some spans) there are = subst (λ l. HaveSets (die ∷ drop (k + 1) all) l) (sym (dropped sets k spans there)) (are, left)
+    go None there are = subst (λ l. HaveSets (die ∷ drop (k + 1) all) l) (sym (dropped_none sets k there)) tt
 
 classes_joined : (n : ℕ) (xs ys : List Stretch) → HaveClasses n xs → HaveClasses n ys → HaveClasses n (xs ++ ys)
 classes_joined n [] ys p q = q
@@ -89,43 +115,32 @@ collects_begin all sets = record {
   sets_are = λ left. left;
 }
 
-pub collects_more : (all : List DieFields) (sets : List (List Range)) (k : ℕ) (row : List (Option ℕ)) (items made : List Stretch) (die : DieFields) (spans : List Range) (above : Option ℕ)
-    → Some die ≡ slice_get all k → Some spans ≡ slice_get sets k → k < length all → above ≡ inside_of all (length row) die.parent → IsCanonical spans → AreFit made → made ≡ items ++ copy_by die above k spans
+pub collects_more : (all : List DieFields) (sets : List (List Range)) (k : ℕ) (row : List (Option ℕ)) (items made : List Stretch) (die : DieFields) (above : Option ℕ)
+    → Some die ≡ slice_get all k → k < length all → above ≡ inside_of all (length row) die.parent → (is_inlined die ≡ true → IsCanonical (set_in sets k)) → AreFit made → made ≡ items ++ copy_by die above k (set_in sets k)
     → Collects all sets k row items → Collects all sets (k + 1) (row ++ above ∷ []) made
-collects_more all sets k row items made die spans above is set_is below said canonical fit grown c =
+collects_more all sets k row items made die above is below said canonical fit grown c =
     let here : above ≡ inside_of all k die.parent = said ∙ ap (λ n. inside_of all n die.parent) c.inside.many in
     record {
       inside = inside_more all row k die above c.inside (sym is) said;
       items_are =
           ap (λ l. l ++ child_stretches all (k + 1) (drop (k + 1) all) (drop (k + 1) sets)) grown
-          ∙ append_assoc items (copy_by die above k spans) (child_stretches all (k + 1) (drop (k + 1) all) (drop (k + 1) sets))
-          ∙ ap (λ o. items ++ (copy_by die o k spans ++ child_stretches all (k + 1) (drop (k + 1) all) (drop (k + 1) sets))) here
-          ∙ ap (λ l. items ++ l) (sym (child_left all k all sets die spans (sym is) (sym set_is)))
+          ∙ append_assoc items (copy_by die above k (set_in sets k)) (child_stretches all (k + 1) (drop (k + 1) all) (drop (k + 1) sets))
+          ∙ ap (λ o. items ++ (copy_by die o k (set_in sets k) ++ child_stretches all (k + 1) (drop (k + 1) all) (drop (k + 1) sets))) here
+          ∙ ap (λ l. items ++ l) (sym (child_left all k all sets die (sym is)))
           ∙ c.items_are;
       fit = fit;
-      below = subst (HaveClasses (length all)) (sym grown) (classes_joined (length all) items (copy_by die above k spans) c.below (copy_classes (length all) die k above spans (omega arith) (subst (IsBelow k) (sym here) (inside_below all k die.parent))));
-      sets_are = λ left. c.sets_are (subst (λ l. HaveSets l (drop k sets)) (sym (dropped all k die (sym is))) (subst (λ l. HaveSets (die ∷ drop (k + 1) all) l) (sym (dropped sets k spans (sym set_is))) (canonical, left)));
+      below = subst (HaveClasses (length all)) (sym grown) (classes_joined (length all) items (copy_by die above k (set_in sets k)) c.below (copy_classes (length all) die k above (set_in sets k) (omega arith) (subst (IsBelow k) (sym here) (inside_below all k die.parent))));
+      sets_are = λ left. c.sets_are (sets_left all k sets die (sym is) canonical left);
     }
 
--- where there is no entry, or no set, of a number, all is collected
-pub collects_end : (all : List DieFields) (sets : List (List Range)) (k : ℕ) (row : List (Option ℕ)) (items : List Stretch) → (None ≡ slice_get all k) ⊎ (None ≡ slice_get sets k) → Collects all sets k row items
+-- where there is no entry of a number, all is collected
+pub collects_end : (all : List DieFields) (sets : List (List Range)) (k : ℕ) (row : List (Option ℕ)) (items : List Stretch) → None ≡ slice_get all k → Collects all sets k row items
     → (items ≡ child_stretches all 0 all sets) × HaveSets all sets
 collects_end all sets k row items none c =
-    (sym (append-nil items) ∙ ap (λ l. items ++ l) (sym no_more) ∙ c.items_are, c.sets_are no_sets)
-  where
-    empty : (xs : List DieFields) → child_stretches all k xs [] ≡ []
-    empty [] = refl
-    empty (x ∷ xs) = refl
-
-    unset : (xs : List DieFields) → HaveSets xs []
-    unset [] = tt
-    unset (x ∷ xs) = tt
-
-    no_more : child_stretches all k (drop k all) (drop k sets) ≡ []
-    no_more = ⊎_elim (λ is. ap (λ l. child_stretches all k l (drop k sets)) (dropped_none all k (sym is))) (λ is. ap (λ l. child_stretches all k (drop k all) l) (dropped_none sets k (sym is)) ∙ empty (drop k all)) none
-
-    no_sets : HaveSets (drop k all) (drop k sets)
-    no_sets = ⊎_elim (λ is. subst (λ l. HaveSets l (drop k sets)) (sym (dropped_none all k (sym is))) tt) (λ is. subst (λ l. HaveSets (drop k all) l) (sym (dropped_none sets k (sym is))) (unset (drop k all))) none
+    let ended : drop k all ≡ [] = dropped_none all k (sym none) in (
+      sym (append-nil items) ∙ ap (λ l. items ++ l) (sym (ap (λ l. child_stretches all k l (drop k sets)) ended)) ∙ c.items_are,
+      c.sets_are (subst (λ l. HaveSets l (drop k sets)) (sym ended) tt),
+    )
 
 got_all : {X : Type 0} (xs : List X) (k : ℕ) → length xs ≤ k → None ≡ slice_get xs k
 got_all [] k outside = refl
@@ -134,4 +149,4 @@ got_all (x ∷ xs) (suc k) outside = got_all xs k (omega arith)
 
 pub collects_all : (all : List DieFields) (sets : List (List Range)) (k : ℕ) (row : List (Option ℕ)) (items : List Stretch) → length all ≤ k → Collects all sets k row items
     → (items ≡ child_stretches all 0 all sets) × HaveSets all sets
-collects_all all sets k row items over c = collects_end all sets k row items (inl (got_all all k over)) c
+collects_all all sets k row items over c = collects_end all sets k row items (got_all all k over) c

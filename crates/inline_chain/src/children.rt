@@ -1,10 +1,9 @@
 //! The addresses of inlined copies, each with the entry that it stands in.
-ghost use Rattle.std.specs.Prelude.{◌≡◌, ℕ, ◌<◌, ◌≤◌, ◌^◌, ◌++◌, length, IfOk, IfSome, OnOk};
-ghost use Rattle.std.specs.List.{slice_get};
-ghost use Rattle.std.specs.Option.{option_copied};
+ghost use Rattle.std.specs.Prelude.{◌≡◌, ◌<◌, ◌^◌, ◌++◌, true, length, IfOk, OnOk};
 ghost use Rattle.range_set.specs.Canonical.{IsCanonical};
+ghost use Rattle.die_walk.specs.EntryKinds.{is_inlined};
 ghost use Rattle.step_maps.specs.SpanStretches.{AreFit};
-ghost use Rattle.inline_chain.specs.internal.Copies.{HaveClasses, HaveSets, copy_by, child_stretches};
+ghost use Rattle.inline_chain.specs.internal.Copies.{HaveClasses, HaveSets, set_in, copy_by, child_stretches};
 
 use crate::inside::inside_of;
 use die_names::UnitRead;
@@ -14,29 +13,33 @@ use step_maps::{Stretch, push_spans};
 use sym_edges::Span;
 
 /// The addresses of the entry of a number.
-fn spans_in<'u>(part: &'u UnitRead<'_>, entry: usize) -> Option<&'u [Span]>
-    ensures spans { option_copied result ≡ slice_get part.now.spans entry }
-    ensures canonical { IfSome result (λ spans. IsCanonical spans.now) }
+fn spans_in<'u>(part: &'u UnitRead<'_>, entry: usize) -> &'u [Span]
+    ensures spans { result.now ≡ set_in part.now.spans entry }
+    ensures canonical { IsCanonical result.now }
 {
-    let set = part.ranges(entry)?;
-    Some(set.spans())
+    match part.ranges(entry) {
+        Some(set) => set.spans(),
+        None => &[],
+    }
 }
 
 /// Adds the stretches of an entry, where it is an inlined copy that stands in another entry.
 fn push_copy(
     stretches: &mut Vec<Stretch>,
+    part: &UnitRead<'_>,
     number: u32,
     die: &Die<'_, '_>,
     above: Option<u32>,
-    spans: &[Span],
 ) -> Result<(), AllocError>
     requires fit { AreFit stretches.old.items }
-    ensures same { OnOk result (stretches.new.items ≡ stretches.old.items ++ copy_by die.now above number spans.now) }
+    ensures same { OnOk result (stretches.new.items ≡ stretches.old.items ++ copy_by die.now above number (set_in part.now.spans number)) }
     ensures fit { OnOk result (AreFit stretches.new.items) }
+    ensures canonical { OnOk result (is_inlined die.now ≡ true → IsCanonical (set_in part.now.spans number)) }
 {
     if !die.is_inlined() {
         return Ok(());
     }
+    let spans = spans_in(part, number as usize);
     let Some(class) = above else {
         return Ok(());
     };
@@ -60,11 +63,8 @@ pub fn collect_copies(alloc: Global, part: &UnitRead<'_>) -> Result<Vec<Stretch>
         let Some(die) = part.entry(entry) else {
             return Ok(stretches);
         };
-        let Some(spans) = spans_in(part, entry) else {
-            return Ok(stretches);
-        };
         let above = inside_of(part, row.as_slice(), &die);
-        push_copy(&mut stretches, entry as u32, &die, above, spans)?;
+        push_copy(&mut stretches, part, entry as u32, &die, above)?;
         row.push(above)?;
     }
     Ok(stretches)

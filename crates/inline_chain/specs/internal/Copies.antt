@@ -1,5 +1,5 @@
 -- The inlined copies of a unit, as they are collected and sorted by the entries that they stand in.
-use Rattle.std.specs.Prelude.{◌≡◌, ℕ, suc, ◌+◌, ◌<◌, ◌≤◌, ◌==◌, if◌then◌else◌, List, [], ◌∷◌, ◌++◌, map, filter, drop, length, Option, None, Some}
+use Rattle.std.specs.Prelude.{◌≡◌, ℕ, suc, ◌+◌, ◌<◌, ◌≤◌, ◌==◌, if◌then◌else◌, List, [], ◌∷◌, ◌++◌, map, filter, drop, length, Option, None, Some, true, unwrap_or}
 use Rattle.std.specs.List.{slice_get}
 use Rattle.sym_edges.specs.Addresses.{Range}
 use Rattle.range_set.specs.Canonical.{IsCanonical}
@@ -54,9 +54,13 @@ pub record SaysInside (all : List DieFields) (row : List (Option ℕ)) (count : 
   pub many : length row ≡ count
   pub each : (k : ℕ) (die : DieFields) → k < count → slice_get all k ≡ Some die → slice_get row k ≡ Some (inside_of all k die.parent)
 
--- the sets of the entries are sorted and disjoint
+-- the addresses of an entry, none where it has no set
+abbrev pub set_in : List (List Range) → ℕ → List Range
+set_in sets k = unwrap_or (slice_get sets k) []
+
+-- the sets of the inlined copies are sorted and disjoint
 abbrev pub HaveSets : List DieFields → List (List Range) → Type 0
-HaveSets (die ∷ dies) (spans ∷ sets) = IsCanonical spans × HaveSets dies sets
+HaveSets (die ∷ dies) (spans ∷ sets) = (is_inlined die ≡ true → IsCanonical spans) × HaveSets dies sets
 HaveSets _ _ = Prim.Unit {0}
 
 -- what was collected of the first entries, and what is left, is all

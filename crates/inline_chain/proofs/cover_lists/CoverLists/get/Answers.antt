@@ -1,4 +1,4 @@
-use Rattle.std.proofs.Common.{◌≡◌, ◌<◌, ◌≤◌, ℕ, List, [], length, take, drop, get_or, unwrap_or, sym, ap, subst, ◌∙◌, rules, arith}
+use Rattle.std.proofs.Common.{◌≡◌, ◌<◌, ℕ, List, [], length, take, drop, get_or, unwrap_or, sym, ap, ◌∙◌, rules}
 use Rattle.std.specs.List.{slice_get}
 use Rattle.step_maps.specs.declared.stretch.Cover.{Cover}
 use Rattle.inline_chain.specs.Trees.{list_of}
