@@ -1,6 +1,8 @@
 -- What is collected of the functions.
-use Rattle.std.proofs.Common.{◌≡◌, ℕ, zero, suc, ◌+◌, ◌<◌, Bool, true, false, if◌then◌else◌, map, length, List, [], ◌∷◌, ◌++◌, arith, refl, sym, ap, ◌∙◌, append_assoc, append-nil, length-append, subst, drop, Some, None, get_or}
+use Rattle.std.proofs.Common.{◌≡◌, ℕ, zero, suc, ◌+◌, ◌<◌, Bool, true, false, if◌then◌else◌, map, length, List, [], ◌∷◌, ◌++◌, arith, refl, sym, ap, ◌∙◌, append_assoc, append-nil, length-append, subst, drop, Option, Some, None, get_or}
 use Rattle.std.specs.List.{slice_get}
+use Rattle.std.specs.Option.{option_map_or}
+use Rattle.std.proofs.lemmas.List.{drop_all}
 use Rattle.sym_edges.specs.Addresses.{Range}
 use Rattle.range_set.specs.Canonical.{IsCanonical}
 use Rattle.step_maps.specs.declared.stretch.Stretch.{Stretch}
@@ -12,7 +14,7 @@ use Rattle.die_names.specs.Owners.{Covering, unit_covering, covering_from}
 use Rattle.die_names.specs.declared.unit_read.EntryRef.{EntryRef}
 use Rattle.func_flatten.specs.Pieces.{place_of}
 use Rattle.step_maps.specs.SpanStretches.{span_stretches}
-use Rattle.func_flatten.specs.internal.Collecting.{functions_in, function_stretches, own_class, HaveSets, Collects}
+use Rattle.func_flatten.specs.internal.Collecting.{functions_in, entry_covering, function_stretches, own_class, HaveSets, Collects}
 
 pub collects_none : (old : List EntryRef) (before : List Stretch) (all : List Covering) → Collects old old before before all all
 collects_none old before all = record { places = refl; stretches = refl; sets = λ is. is }
@@ -37,13 +39,29 @@ passed_by true c old before is = absurd (cc)
 passed_by false c old before is = collects_none old before []
 
 -- the entry is a function, and its addresses and place were added
-pub entry_taken : (c : Covering) (old new : List EntryRef) (before after : List Stretch) → is_function c.die ≡ true → IsCanonical c.spans → after ≡ before ++ span_stretches (length old) (length old) c.spans → new ≡ old ++ place_of c ∷ [] → Collects old new before after (functions_in (c ∷ [])) []
+entry_taken : (c : Covering) (old new : List EntryRef) (before after : List Stretch) → is_function c.die ≡ true → IsCanonical c.spans → after ≡ before ++ span_stretches (length old) (length old) c.spans → new ≡ old ++ place_of c ∷ [] → Collects old new before after (functions_in (c ∷ [])) []
 entry_taken c old new before after is canonical stretched placed =
     taken_by (is_function c.die) c old new before after is
     (rw (stretched, placed) (collects_one old old before before (c ∷ []) [] c (collects_none old before (c ∷ [])) canonical))
 
-pub entry_passed : (c : Covering) (old : List EntryRef) (before : List Stretch) → is_function c.die ≡ false → Collects old old before before (functions_in (c ∷ [])) []
+entry_passed : (c : Covering) (old : List EntryRef) (before : List Stretch) → is_function c.die ≡ false → Collects old old before before (functions_in (c ∷ [])) []
 entry_passed c old before is = passed_by (is_function c.die) c old before is
+
+pub covering_passed : (place : EntryRef) (die : DieFields) (sets : List (List Range)) (old : List EntryRef) (before : List Stretch) → is_function die ≡ false → Collects old old before before (functions_in (entry_covering place die sets)) []
+covering_passed place die sets old before is = go (slice_get sets place.entry)
+  where
+    go : (o : Option (List Range)) → Collects old old before before (functions_in (option_map_or (λ set. record { unit = place.unit; entry = place.entry; die = die; spans = set } ∷ []) o [])) []
+    go None = collects_none old before []
+    go (Some set) = entry_passed (record { unit = place.unit; entry = place.entry; die = die; spans = set }) old before is
+
+pub covering_lost : (place : EntryRef) (die : DieFields) (sets : List (List Range)) (old : List EntryRef) (before : List Stretch) → None ≡ slice_get sets place.entry → Collects old old before before (functions_in (entry_covering place die sets)) []
+covering_lost place die sets old before none =
+    subst (λ (o : Option (List Range)). Collects old old before before (functions_in (option_map_or (λ set. record { unit = place.unit; entry = place.entry; die = die; spans = set } ∷ []) o [])) []) none (collects_none old before [])
+
+pub covering_taken : (place : EntryRef) (die : DieFields) (sets : List (List Range)) (set : List Range) (old new : List EntryRef) (before after : List Stretch) → Some set ≡ slice_get sets place.entry → is_function die ≡ true → IsCanonical set → after ≡ before ++ span_stretches (length old) (length old) set → new ≡ old ++ place ∷ [] → Collects old new before after (functions_in (entry_covering place die sets)) []
+covering_taken place die sets set old new before after there is canonical stretched placed =
+    subst (λ (o : Option (List Range)). Collects old new before after (functions_in (option_map_or (λ s. record { unit = place.unit; entry = place.entry; die = die; spans = s } ∷ []) o [])) []) there
+    (entry_taken (record { unit = place.unit; entry = place.entry; die = die; spans = set }) old new before after is canonical stretched placed)
 
 map_joined : (xs ys : List Covering) → map place_of (xs ++ ys) ≡ map place_of xs ++ map place_of ys
 map_joined [] ys = refl
@@ -104,30 +122,39 @@ drop_none [] (suc k) is = refl
 drop_none (y ∷ xs) zero is = cc
 drop_none (y ∷ xs) (suc k) is = drop_none xs k is
 
+drop_later : {A : Type 0} (xs : List A) (k : ℕ) → None ≡ slice_get xs k → drop (k + 1) xs ≡ []
+drop_later [] k is = drop_all (k + 1) [] (omega arith)
+drop_later (y ∷ xs) zero is = absurd (cc)
+drop_later (y ∷ xs) (suc k) is = (let same : suc k + 1 ≡ suc (k + 1) = omega arith in ap (λ n. drop n (y ∷ xs)) same ∙ drop_later xs k is)
+
 pub drop_index : {A : Type 0} (xs : List A) (k : ℕ) (x : A) → k < length xs → x ≡ get_or xs k x → drop k xs ≡ x ∷ drop (k + 1) xs
 drop_index [] k x inside is = absurd (omega arith)
 drop_index (y ∷ xs) zero x inside is = ap (λ z. z ∷ xs) (sym is)
 drop_index (y ∷ xs) (suc k) x inside is = (let same : suc (k + 1) ≡ suc k + 1 = omega arith in drop_index xs k x (omega arith) is ∙ ap (λ n. x ∷ drop n (y ∷ xs)) same)
 
 -- an entry of a unit was added
-pub entry_added : (old new newer : List EntryRef) (before after later : List Stretch) (all : List Covering) (unit entry : ℕ) (dies : List DieFields) (sets : List (List Range)) (die : DieFields) (set : List Range) → Some die ≡ slice_get dies entry → Some set ≡ slice_get sets entry
-    → Collects old new before after all (functions_in (unit_covering unit entry (drop entry dies) (drop entry sets))) → Collects new newer after later (functions_in (record { unit = unit; entry = entry; die = die; spans = set } ∷ [])) []
-    → Collects old newer before later all (functions_in (unit_covering unit (entry + 1) (drop (entry + 1) dies) (drop (entry + 1) sets)))
-entry_added old new newer before after later all unit entry dies sets die set one two k more =
-    let c : Covering = record { unit = unit; entry = entry; die = die; spans = set } in
-    let rest = unit_covering unit (entry + 1) (drop (entry + 1) dies) (drop (entry + 1) sets) in
-    collects_unit old new newer before after later all (functions_in (c ∷ [])) (functions_in rest) (functions_in (unit_covering unit entry (drop entry dies) (drop entry sets)))
-    (ap (λ l. functions_in (unit_covering unit entry l (drop entry sets))) (drop_get dies entry die one)
-    ∙ ap (λ l. functions_in (unit_covering unit entry (die ∷ drop (entry + 1) dies) l)) (drop_get sets entry set two)
-    ∙ functions_joined (c ∷ []) rest) k more
+no_sets : (unit entry : ℕ) (dies : List DieFields) → unit_covering unit entry dies [] ≡ []
+no_sets unit entry [] = refl
+no_sets unit entry (die ∷ dies) = refl
 
--- no entry is left that has a set
-pub entries_done : (old new : List EntryRef) (before after : List Stretch) (all : List Covering) (unit entry : ℕ) (dies : List DieFields) (sets : List (List Range)) (die : DieFields) → Some die ≡ slice_get dies entry → None ≡ slice_get sets entry
-    → Collects old new before after all (functions_in (unit_covering unit entry (drop entry dies) (drop entry sets))) → Collects old new before after all []
-entries_done old new before after all unit entry dies sets die one none k =
-    let P : List Covering → Type 0 = λ l. Collects old new before after all l in
-    subst P (ap (λ l. functions_in (unit_covering unit entry l (drop entry sets))) (drop_get dies entry die one)
-    ∙ ap (λ l. functions_in (unit_covering unit entry (die ∷ drop (entry + 1) dies) l)) (drop_none sets entry none)) k
+entry_left : (unit entry : ℕ) (dies : List DieFields) (sets : List (List Range)) (die : DieFields) → Some die ≡ slice_get dies entry
+    → unit_covering unit entry (drop entry dies) (drop entry sets) ≡ entry_covering (record { unit = unit; entry = entry }) die sets ++ unit_covering unit (entry + 1) (drop (entry + 1) dies) (drop (entry + 1) sets)
+entry_left unit entry dies sets die one = ap (λ l. unit_covering unit entry l (drop entry sets)) (drop_get dies entry die one) ∙ go (slice_get sets entry) refl
+  where
+    go : (o : Option (List Range)) → slice_get sets entry ≡ o → unit_covering unit entry (die ∷ drop (entry + 1) dies) (drop entry sets) ≡ option_map_or (λ set. record { unit = unit; entry = entry; die = die; spans = set } ∷ []) o [] ++ unit_covering unit (entry + 1) (drop (entry + 1) dies) (drop (entry + 1) sets)
+    go (Some set) there = ap (λ l. unit_covering unit entry (die ∷ drop (entry + 1) dies) l) (drop_get sets entry set (sym there))
+    go None there =
+        ap (λ l. unit_covering unit entry (die ∷ drop (entry + 1) dies) l) (drop_none sets entry (sym there))
+        ∙ sym (ap (unit_covering unit (entry + 1) (drop (entry + 1) dies)) (drop_later sets entry (sym there)) ∙ no_sets unit (entry + 1) (drop (entry + 1) dies))
+
+pub entry_added : (old new newer : List EntryRef) (before after later : List Stretch) (all : List Covering) (unit entry : ℕ) (dies : List DieFields) (sets : List (List Range)) (die : DieFields) → Some die ≡ slice_get dies entry
+    → Collects old new before after all (functions_in (unit_covering unit entry (drop entry dies) (drop entry sets))) → Collects new newer after later (functions_in (entry_covering (record { unit = unit; entry = entry }) die sets)) []
+    → Collects old newer before later all (functions_in (unit_covering unit (entry + 1) (drop (entry + 1) dies) (drop (entry + 1) sets)))
+entry_added old new newer before after later all unit entry dies sets die one k more =
+    let here = entry_covering (record { unit = unit; entry = entry }) die sets in
+    let rest = unit_covering unit (entry + 1) (drop (entry + 1) dies) (drop (entry + 1) sets) in
+    collects_unit old new newer before after later all (functions_in here) (functions_in rest) (functions_in (unit_covering unit entry (drop entry dies) (drop entry sets)))
+    (ap functions_in (entry_left unit entry dies sets die one) ∙ functions_joined here rest) k more
 
 -- a unit was added
 pub unit_added : (new newer : List EntryRef) (after later : List Stretch) (all : List Covering) (unit : ℕ) (units : List UnitRead) (part : UnitRead) → unit < length units → part ≡ get_or units unit part

@@ -1,13 +1,12 @@
 //! The functions of the units, and the stretches of their addresses.
-ghost use Rattle.std.specs.Prelude.{◌≡◌, ℕ, ◌+◌, ◌<◌, ◌≤◌, ◌^◌, ◌++◌, [], ◌∷◌, length, vec_len, IfOk, OnOk};
+ghost use Rattle.std.specs.Prelude.{◌≡◌, ℕ, ◌+◌, ◌<◌, ◌≤◌, ◌^◌, ◌++◌, [], length, vec_len, IfOk, OnOk};
 ghost use Rattle.die_names.specs.UnitEntries.{AreRead};
 ghost use Rattle.die_names.specs.Owners.{unit_covering};
 ghost use Rattle.step_maps.specs.SpanStretches.{AreFit};
-ghost use Rattle.func_flatten.specs.internal.Collecting.{functions_in, all_functions, Collects};
+ghost use Rattle.func_flatten.specs.internal.Collecting.{functions_in, all_functions, entry_covering, Collects};
 
 use die_names::{EntryRef, UnitRead};
 use die_walk::Die;
-use range_set::RangeSet;
 use std::alloc::{AllocError, Global};
 use step_maps::{Stretch, push_spans};
 
@@ -50,40 +49,33 @@ fn push_unit(
         let Some(die) = part.entry(entry) else {
             return Ok(());
         };
-        let Some(set) = part.ranges(entry) else {
-            return Ok(());
-        };
-        push_entry(
-            places,
-            stretches,
-            EntryRef {
-                unit,
-                entry: entry as u32,
-            },
-            &die,
-            set,
-        )?;
+        let entry = entry as u32;
+        push_entry(places, stretches, EntryRef { unit, entry }, part, &die)?;
     }
     Ok(())
 }
 
 /// Adds an entry, where it is a function.
+#[tactic(auto, using(crate::proofs::CollectLemmas::covering_passed, crate::proofs::CollectLemmas::covering_lost, crate::proofs::CollectLemmas::covering_taken))]
 fn push_entry(
     places: &mut Vec<EntryRef>,
     stretches: &mut Vec<Stretch>,
     place: EntryRef,
+    part: &UnitRead<'_>,
     die: &Die<'_, '_>,
-    set: &RangeSet,
 ) -> Result<(), AllocError>
     requires count { vec_len places.old < 2 ^ 32 }
     requires fit { AreFit stretches.old.items }
-    ensures all { OnOk result (Collects places.old.items places.new.items stretches.old.items stretches.new.items (functions_in (record { unit = place.unit; entry = place.entry; die = die.now; spans = set.now } ∷ [])) []) }
+    ensures all { OnOk result (Collects places.old.items places.new.items stretches.old.items stretches.new.items (functions_in (entry_covering place die.now part.now.spans)) []) }
     ensures fit { OnOk result (AreFit stretches.new.items) }
     ensures count { OnOk result (vec_len places.new ≤ vec_len places.old + 1) }
 {
     if !die.is_function() {
         return Ok(());
     }
+    let Some(set) = part.ranges(place.entry as usize) else {
+        return Ok(());
+    };
     let number = places.len() as u32;
     push_spans(stretches, number, number, set.spans())?;
     places.push(place)?;

@@ -1,6 +1,9 @@
 -- The functions of the units, and the stretches of their addresses.
 use Rattle.std.specs.Prelude.{◌≡◌, ℕ, ◌+◌, ◌<◌, ◌^◌, Bool, Option, None, Some, if◌then◌else◌, map, length, List, [], ◌∷◌, ◌++◌}
-use Rattle.std.specs.List.{slice_index_or}
+use Rattle.std.specs.List.{slice_get, slice_index_or}
+use Rattle.std.specs.Option.{option_map_or}
+use Rattle.sym_edges.specs.Addresses.{Range}
+use Rattle.die_walk.specs.EntryTable.{DieFields}
 use Rattle.range_set.specs.Canonical.{IsCanonical}
 use Rattle.range_set.specs.Members.{holds_any}
 use Rattle.step_maps.specs.declared.stretch.Stretch.{Stretch}
@@ -21,6 +24,10 @@ functions_in (c ∷ entries) = if is_function c.die then c ∷ functions_in entr
 -- those of all units, in the order of the section
 abbrev pub all_functions : List UnitRead → List Covering
 all_functions units = functions_in (covering_from 0 units)
+
+-- an entry with its addresses, where it has a set of them
+abbrev pub entry_covering : EntryRef → DieFields → List (List Range) → List Covering
+entry_covering place die sets = option_map_or (λ set. record { unit = place.unit; entry = place.entry; die = die; spans = set } ∷ []) (slice_get sets place.entry) []
 
 -- the stretches of functions that are numbered from `k`
 abbrev pub function_stretches : (ℕ → ℕ) → ℕ → List Covering → List Stretch
