@@ -11,7 +11,7 @@ use crate::numbers::{Numbers, number_of, number_rows, numbers_at, numbers_of};
 use crate::path_list::no_path;
 use crate::paths::path_texts;
 use crate::sorting::{ranked_texts, text_slices};
-use crate::speller::add_shares;
+use crate::speller::{FoundPieces, add_shares};
 use crate::writer::FuncWriter;
 use die_names::Units;
 use func_flatten::Piece;
@@ -68,15 +68,11 @@ pub fn add_functions<R: Threads + Sync>(
     let mut text = front;
     add_texts(alloc, Numbering::Files, paths, &mut text)?;
     add_texts(alloc, Numbering::Origins, names, &mut text)?;
-    let text = add_shares(
-        rt,
-        alloc,
-        &writer,
+    let spelled = FoundPieces {
         pieces,
         shares,
-        numbers.as_slice(),
-        workers,
-        text,
-    )?;
+        numbers: numbers.as_slice(),
+    };
+    let text = add_shares(rt, alloc, &writer, spelled, workers, text)?;
     Ok(text)
 }

@@ -136,23 +136,33 @@ fn join_shares(front: TextPieces, shares: Vec<TextPieces>) -> Result<TextPieces,
     Ok(text)
 }
 
-/// Adds the records of pieces, of what was found of them, and of their lines, spelled by `workers` workers, 1 to 64. `numbers` are those
-/// of the names that the entries of all shares give.
+/// Pieces, what was found of them share by share, and the numbers of the names that the entries of all shares give.
+#[derive(Clone, Copy)]
+pub struct FoundPieces<'s> {
+    pub pieces: &'s [Piece],
+    pub shares: &'s [FoundShare],
+    pub numbers: &'s [u32],
+}
+
+/// Adds the records of pieces, their inlined copies and their lines, spelled by `workers` workers, 1 to 64.
 pub fn add_shares<R: Threads + Sync>(
     rt: &R,
     alloc: Global,
     writer: &FuncWriter<'_, '_, '_>,
-    pieces: &[Piece],
-    shares: &[FoundShare],
-    numbers: &[u32],
+    found: FoundPieces<'_>,
     workers: usize,
     front: TextPieces,
 ) -> Result<TextPieces, OutOfMemory>
     requires workers { (1 ≤ workers) × (workers ≤ 64) }
-    requires found { AreFound writer.now.units.now pieces.now shares.now }
-    requires numbered { numbers.now ≡ ref_numbers writer.now.numbers writer.now.units.now (all_refs shares.now) }
-    ensures { IfOk result (λ text. AddsParts writer.now.base writer.now.numbers writer.now.units.now pieces.now (all_held shares.now) (text_bytes front) (text_bytes text)) }
+    requires found { AreFound writer.now.units.now found.pieces.now found.shares.now }
+    requires numbered { found.numbers.now ≡ ref_numbers writer.now.numbers writer.now.units.now (all_refs found.shares.now) }
+    ensures { IfOk result (λ text. AddsParts writer.now.base writer.now.numbers writer.now.units.now found.entry.pieces.now (all_held found.entry.shares.now) (text_bytes front) (text_bytes text)) }
 {
+    let FoundPieces {
+        pieces,
+        shares,
+        numbers,
+    } = found;
     let split = split_numbers(alloc, writer, shares, numbers)?;
     let speller = Speller::of(writer, pieces, shares, split.as_slice());
     let texts = run_all(rt, alloc, &speller, &NoGate, shares.len(), workers)?;

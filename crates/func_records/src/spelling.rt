@@ -72,15 +72,21 @@ fn add_owner(
     add_func(text, piece.many, address, size, 0, made.as_slice())
 }
 
-/// Adds the records of a piece, its inlined copies and its lines. What `ranges` and `runs` hold does not matter.
+/// Lists that each piece fills anew. They are kept for the sake of their memory: what they hold does not matter.
+#[derive(Drop)]
+struct PartLists {
+    ranges: Vec<Extent>,
+    runs: Vec<LineRun>,
+}
+
+/// Adds the records of a piece, its inlined copies and its lines.
 fn add_part(
     alloc: Global,
     writer: &FuncWriter<'_, '_, '_>,
     piece: &Piece,
     copies: &[InlineRun],
     origins: &[u32],
-    ranges: &mut Vec<Extent>,
-    runs: &mut Vec<LineRun>,
+    lists: &mut PartLists,
     text: &mut TextPieces,
 ) -> Result<(), OutOfMemory>
     requires numbered { origins.now ≡ copy_numbers writer.now.numbers writer.now.units.now piece.now.unit copies.now }
@@ -88,10 +94,11 @@ fn add_part(
     ensures { OnOk result (AddsPart writer.now.base writer.now.numbers writer.now.units.now piece.now copies.now (text_bytes text.old) (text_bytes text.new)) }
 {
     add_owner(alloc, writer, piece, &mut text.last)?;
+    let ranges = &mut lists.ranges;
     add_copies(writer, piece.unit, copies, origins, ranges, &mut text.last)?;
-    lines_of(writer.units, piece, runs)?;
+    lines_of(writer.units, piece, &mut lists.runs)?;
     let row = row_in(writer.numbers.rows, piece.unit as usize);
-    add_runs(&mut text.last, writer.base, row, runs.as_slice())?;
+    add_runs(&mut text.last, writer.base, row, lists.runs.as_slice())?;
     text.turn(alloc)?;
     Ok(())
 }
@@ -110,8 +117,10 @@ pub fn add_parts(
     requires short { AreAllShort held.now }
     ensures { OnOk result (AddsParts writer.now.base writer.now.numbers writer.now.units.now pieces.now held.now (text_bytes text.old) (text_bytes text.new)) }
 {
-    let mut ranges = Vec::new(alloc);
-    let mut runs = Vec::new(alloc);
+    let mut lists = PartLists {
+        ranges: Vec::new(alloc),
+        runs: Vec::new(alloc),
+    };
     let mut rest = origins;
     'pieces: for place in 0..pieces.len() {
         let copies = held[place].as_slice();
@@ -123,8 +132,7 @@ pub fn add_parts(
             &pieces[place],
             copies,
             here,
-            &mut ranges,
-            &mut runs,
+            &mut lists,
             text,
         )?;
     }
