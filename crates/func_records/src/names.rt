@@ -15,7 +15,7 @@ use std::thread::Threads;
 use sym_edges::OutOfMemory;
 use unit_workers::{NoGate, UnitJob, run_all};
 
-/// The entries that name the functions of inlined copies, mostly once each, with the name that each gives; and for each entry that was
+/// The entries that name the functions of inlined copies, once each, with the name that each gives; and for each entry that was
 /// found, share after share, its place among them.
 #[derive(Drop)]
 pub struct OriginNames<'a> {
@@ -24,16 +24,19 @@ pub struct OriginNames<'a> {
     pub texts: Vec<EntryNameText<'a>>,
 }
 
-/// How many entries were found.
-fn count_refs(shares: &[FoundShare]) -> usize {
+/// How many entries the units before each have, and how many all have.
+fn entry_starts(alloc: Global, units: &Units<'_>) -> Result<(Vec<usize>, usize), OutOfMemory> {
+    let parts = units.as_slice();
+    let mut starts = Vec::with_capacity(alloc, parts.len())?;
     let mut count: usize = 0;
-    'shares: for k in 0..shares.len() {
-        count = count.saturating_add(shares[k].refs.len());
+    'units: for unit in 0..parts.len() {
+        starts.push(count)?;
+        count = count.saturating_add(parts[unit].die.dies().len());
     }
-    count
+    Ok((starts, count))
 }
 
-/// The entries that were found.
+/// The entries that were found, once each.
 fn join_refs(
     alloc: Global,
     units: &Units<'_>,
@@ -41,9 +44,10 @@ fn join_refs(
 ) -> Result<OriginRefs, OutOfMemory>
     ensures { IfOk result (λ origins. RefsSay units.now origins (map (made_name units.now) (all_refs shares.now))) }
 {
-    let mut origins = OriginRefs::new(alloc, count_refs(shares).saturating_mul(2))?;
+    let (starts, count) = entry_starts(alloc, units)?;
+    let mut origins = OriginRefs::new(alloc, count)?;
     'shares: for k in 0..shares.len() {
-        origins.add_refs(shares[k].refs.as_slice())?;
+        origins.add_refs(starts.as_slice(), shares[k].refs.as_slice())?;
     }
     Ok(origins)
 }

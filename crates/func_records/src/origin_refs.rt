@@ -12,7 +12,7 @@ use std::alloc::Global;
 use std::marker::Model;
 use sym_edges::OutOfMemory;
 
-/// So many entries of a share are known again.
+/// So many slots are for the entries of a share.
 const SLOTS: usize = 8192;
 
 /// References to entries that name functions, mostly once each, and for each one that was added its place among them.
@@ -64,16 +64,24 @@ fn key_of(name: NameRef) -> u64 {
     u64::from(name.unit) << 32 | u64::from(name.entry)
 }
 
+/// The slot of an entry, where `starts` says how many entries the units before have.
+fn own_slot(starts: &[usize], name: NameRef) -> usize {
+    match starts.get(name.unit as usize) {
+        Some(start) => start.saturating_add(name.entry as usize),
+        None => 0,
+    }
+}
+
 /// The place of a reference, which is added where it is not known to be there.
 fn place_of(
     guesses: &mut PlaceGuesses,
+    slot: usize,
     refs: &mut Vec<NameRef>,
     name: NameRef,
 ) -> Result<u32, OutOfMemory>
     ensures { IfOk result (λ place. IsPlaced refs.old.items refs.new.items name place) }
 {
-    let key = key_of(name);
-    let place = guesses.guess(key);
+    let place = guesses.guess(slot);
     if stands_at(refs.as_slice(), place, name) {
         return Ok(place);
     }
@@ -82,12 +90,12 @@ fn place_of(
         return Err(OutOfMemory);
     }
     refs.push(name)?;
-    guesses.note(key, count as u32);
+    guesses.note(slot, count as u32);
     Ok(count as u32)
 }
 
 impl OriginRefs {
-    /// None yet. So many are known again.
+    /// None yet, and so many slots.
     pub fn new(alloc: Global, slots: usize) -> Result<OriginRefs, OutOfMemory>
         ensures { IfOk result (λ origins. origins ≡ record { refs = []; places = [] }) }
     {
@@ -111,21 +119,22 @@ impl OriginRefs {
         (refs, places)
     }
 
-    /// Adds the place of a reference.
-    fn add(&mut self, name: NameRef) -> Result<(), OutOfMemory>
+    /// Adds the place of a reference, which has a slot.
+    fn add(&mut self, slot: usize, name: NameRef) -> Result<(), OutOfMemory>
         ensures { OnOk result ((units : List UnitRead) (names : List (List ℕ)) → RefsSay units self.old names → RefsSay units self.new (names ++ made_name units name ∷ [])) }
     {
-        let place = place_of(&mut self.guesses, &mut self.refs, name)?;
+        let place = place_of(&mut self.guesses, slot, &mut self.refs, name)?;
         self.places.push(place)?;
         Ok(())
     }
 
-    /// Adds the places of references.
-    pub fn add_refs(&mut self, refs: &[NameRef]) -> Result<(), OutOfMemory>
+    /// Adds the places of references. Each entry has a slot of its own, where `starts` says how many entries the units before have.
+    pub fn add_refs(&mut self, starts: &[usize], refs: &[NameRef]) -> Result<(), OutOfMemory>
         ensures { OnOk result ((units : List UnitRead) (names : List (List ℕ)) → RefsSay units self.old names → RefsSay units self.new (names ++ map (made_name units) refs.now)) }
     {
         'refs: for place in 0..refs.len() {
-            self.add(refs[place])?;
+            let name = refs[place];
+            self.add(own_slot(starts, name), name)?;
         }
         Ok(())
     }
@@ -143,7 +152,8 @@ impl OriginRefs {
         'copies: for place in 0..copies.len() {
             let copy = &copies[place];
             let name = name_by(units, unit, copy.entry, links);
-            self.add(name)?;
+            let slot = self.guesses.slot_of(key_of(name));
+            self.add(slot, name)?;
         }
         Ok(())
     }

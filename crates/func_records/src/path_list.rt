@@ -120,8 +120,8 @@ impl PathList {
     pub fn add(&mut self, at: PathRef) -> Result<(), OutOfMemory>
         ensures { OnOk result ((units : List UnitRead) (path : List ℕ) → has_path units self.new path ≡ (has_path units self.old path || bytes_eq path (path_at units at))) }
     {
-        let key = key_of(at);
-        if stands_at(self.refs.as_slice(), self.guesses.guess(key), at) {
+        let slot = self.guesses.slot_of(key_of(at));
+        if stands_at(self.refs.as_slice(), self.guesses.guess(slot), at) {
             return Ok(());
         }
         let count = self.refs.len();
@@ -129,7 +129,7 @@ impl PathList {
             return Err(OutOfMemory);
         }
         self.refs.push(at)?;
-        self.guesses.note(key, count as u32);
+        self.guesses.note(slot, count as u32);
         Ok(())
     }
 }

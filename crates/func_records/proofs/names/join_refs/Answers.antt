@@ -12,7 +12,7 @@ shares-init c = refs_none c.args.units.now _ _ c.in_ok-origins.ensures refl
 pub shares-preserved : goal.shares-preserved
 shares-preserved c =
     share_said c.args.units.now c.args.shares.now c.shares.k _ _ (omega arith)
-    (subst (λ (rs : List NameRef). RefsSay c.args.units.now c.add_refs.new.self (map (made_name c.args.units.now) (all_refs (take c.shares.k c.args.shares.now)) ++ map (made_name c.args.units.now) rs)) c.as_slice.ensures.value
+    (subst (λ (rs : List NameRef). RefsSay c.args.units.now c.add_refs.new.self (map (made_name c.args.units.now) (all_refs (take c.shares.k c.args.shares.now)) ++ map (made_name c.args.units.now) rs)) c.as_slice-in-shares.ensures.value
     (c.in_ok-add_refs.ensures c.args.units.now (map (made_name c.args.units.now) (all_refs (take c.shares.k c.args.shares.now))) c.shares.invariant))
 
 pub returns : goal.returns
