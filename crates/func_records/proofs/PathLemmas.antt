@@ -1,5 +1,5 @@
 -- The paths that records name, as they are gathered.
-use Rattle.std.proofs.Common.{◌≡◌, ℕ, zero, suc, ◌<◌, Bool, true, false, ◌||◌, ◌&&◌, nat_le, nat_lt, cond, length, map, List, [], ◌∷◌, ◌++◌, Option, None, Some, arith, refl, sym, ap, subst, ◌∙◌, take, get_or, ◌+◌, Bor, append_assoc}
+use Rattle.std.proofs.Common.{◌≡◌, ℕ, zero, suc, ◌<◌, ◌≤◌, Bool, true, false, ◌||◌, ◌&&◌, nat_le, nat_lt, cond, length, map, List, [], ◌∷◌, ◌++◌, Option, None, Some, arith, refl, sym, ap, subst, ◌∙◌, take, get_or, ◌+◌, Bor, append_assoc}
 use Rattle.std.specs.List.{slice_get, list_any}
 use Rattle.std.specs.Option.{option_map}
 use Rattle.std.specs.Str.{bytes_eq}
@@ -53,11 +53,23 @@ text_next units refs n d old texts more t below is pushed so =
     ∙ append_assoc old (map (path_at units) (take n refs)) (path_at units (get_or refs n d) ∷ [])
     ∙ ap (λ l. old ++ l) (sym (map-append (path_at units) (take n refs) (get_or refs n d ∷ [])) ∙ ap (map (path_at units)) (sym (take_next refs n d below)))
 
-pub texts_next : (units : List UnitRead) (shares : List FoundShare) (k : ℕ) (d : FoundShare) (texts more : List (List ℕ)) → k < length shares → more ≡ texts ++ map (path_at units) (get_or shares k d).paths.items → texts ≡ map (path_at units) (all_paths (take k shares)) → more ≡ map (path_at units) (all_paths (take (k + 1) shares))
-texts_next units shares k d texts more below pushed so =
-    pushed ∙ ap (λ l. l ++ map (path_at units) (get_or shares k d).paths.items) so
-    ∙ sym (map-append (path_at units) (all_paths (take k shares)) (get_or shares k d).paths.items)
-    ∙ ap (map (path_at units)) (sym (flat_next (λ (f : FoundShare). f.paths.items) shares k d below))
+-- some paths more, one after another
+pub path_next : (units : List UnitRead) (refs : List PathRef) (n : ℕ) (d : PathRef) (old : Bool) (mid new : Bool) (path : List ℕ) → n < length refs → new ≡ (mid || bytes_eq path (path_at units (get_or refs n d))) → mid ≡ (old || has_path units (take n refs) path) → new ≡ (old || has_path units (take (n + 1) refs) path)
+path_next units refs n d old mid new path below is so =
+    is ∙ ap (λ b. b || bytes_eq path (path_at units (get_or refs n d))) so
+    ∙ or_assoc old (has_path units (take n refs) path) (bytes_eq path (path_at units (get_or refs n d)))
+    ∙ ap (λ b. old || b) (sym (ap (λ rs. has_path units rs path) (take_next refs n d below) ∙ path_added (take n refs) (take n refs ++ get_or refs n d ∷ []) (get_or refs n d) units path refl))
+
+pub path_start : (units : List UnitRead) (refs : List PathRef) (old : Bool) (path : List ℕ) → old ≡ (old || has_path units (take 0 refs) path)
+path_start units refs old path = sym (or_false old)
+
+pub path_end : (units : List UnitRead) (refs : List PathRef) (n : ℕ) (old new : Bool) (path : List ℕ) → length refs ≤ n → new ≡ (old || has_path units (take n refs) path) → new ≡ (old || has_path units refs path)
+path_end units refs n old new path all so = so ∙ ap (λ rs. old || has_path units rs path) (take_all n refs all)
+
+pub share_next : (units : List UnitRead) (shares : List FoundShare) (k : ℕ) (d : FoundShare) (mid new : Bool) (path : List ℕ) → k < length shares → new ≡ (mid || has_path units (get_or shares k d).paths.items path) → mid ≡ has_path units (all_paths (take k shares)) path → new ≡ has_path units (all_paths (take (k + 1) shares)) path
+share_next units shares k d mid new path below is so =
+    is ∙ ap (λ b. b || has_path units (get_or shares k d).paths.items path) so
+    ∙ sym (ap (λ rs. has_path units rs path) (flat_next (λ (f : FoundShare). f.paths.items) shares k d below) ∙ list_any-append (λ (r : PathRef). bytes_eq path (path_at units r)) (all_paths (take k shares)) (get_or shares k d).paths.items)
 
 -- the paths of one piece more
 gathered_one : (units : List UnitRead) (pieces : List Piece) (held : List (List InlineParts)) (piece : Piece) (copies : List InlineParts) (old new : List PathRef) → Gathered units pieces held (has_path units old) → AddsPiece units piece copies old new → Gathered units (pieces ++ piece ∷ []) (held ++ copies ∷ []) (has_path units new)

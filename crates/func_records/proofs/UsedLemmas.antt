@@ -54,8 +54,8 @@ paths_had units refs used path are = sym (bytes_had used path) ∙ ap (list_any 
     any_mapped [] = refl
     any_mapped (r ∷ rs) = ap (λ b. bytes_eq path (path_at units r) || b) (any_mapped rs)
 
-pub texts_gathered : (units : List UnitRead) (pieces : List Piece) (held : List (List InlineParts)) (refs : List PathRef) (used : List (Bor (List ℕ))) → bytes_of used ≡ map (path_at units) refs → Gathered units pieces held (has_path units refs) → Gathered units pieces held (has_text used)
-texts_gathered units pieces held refs used are so = record { parts = so.parts; pieces_are = so.pieces_are; copies_are = so.copies_are; lines_are = so.lines_are; known = so.known; same = λ path. paths_had units refs used path are ∙ so.same path }
+pub texts_gathered : (units : List UnitRead) (pieces : List Piece) (held : List (List InlineParts)) (refs : List PathRef) (used : List (Bor (List ℕ))) → ((path : List ℕ) → has_text used path ≡ has_path units refs path) → Gathered units pieces held (has_path units refs) → Gathered units pieces held (has_text used)
+texts_gathered units pieces held refs used are so = record { parts = so.parts; pieces_are = so.pieces_are; copies_are = so.copies_are; lines_are = so.lines_are; known = so.known; same = λ path. are path ∙ so.same path }
 
 -- the same texts
 same_true : (a b : Bool) → (a ≡ true → b ≡ true) → (b ≡ true → a ≡ true) → a ≡ b

@@ -13,9 +13,6 @@ use std::alloc::Global;
 use std::marker::Model;
 use sym_edges::OutOfMemory;
 
-/// So many paths are known again.
-const SLOTS: usize = 4096;
-
 /// The path of a number in the line table of a unit; without a number it is one that is not known.
 #[derive(Clone, Copy, Debug, PartialEq, Eq)]
 pub struct PathRef {
@@ -96,14 +93,25 @@ fn key_of(at: PathRef) -> u64 {
     }
 }
 
+/// The slot of a path, where `starts` says how many paths the units before have, and one more; the first is for paths that are not known.
+fn own_slot(starts: &[usize], at: PathRef) -> usize {
+    let Some(path) = at.path else {
+        return 0;
+    };
+    match starts.get(at.unit as usize) {
+        Some(start) => start.saturating_add(path as usize),
+        None => 0,
+    }
+}
+
 impl PathList {
-    /// None yet.
-    pub fn new(alloc: Global) -> Result<PathList, OutOfMemory>
+    /// None yet, and so many slots.
+    pub fn new(alloc: Global, slots: usize) -> Result<PathList, OutOfMemory>
         ensures { IfOk result (λ list. list ≡ []) }
     {
         Ok(PathList {
             refs: Vec::new(alloc),
-            guesses: PlaceGuesses::new(alloc, SLOTS)?,
+            guesses: PlaceGuesses::new(alloc, slots)?,
         })
     }
 
@@ -115,12 +123,11 @@ impl PathList {
         refs
     }
 
-    /// Adds a path, unless it is known to be there.
+    /// Adds a path, which has a slot, unless it is known to be there.
     #[tactic(auto, using(crate::proofs::PathLemmas::path_known, crate::proofs::PathLemmas::path_added))]
-    pub fn add(&mut self, at: PathRef) -> Result<(), OutOfMemory>
+    fn put(&mut self, slot: usize, at: PathRef) -> Result<(), OutOfMemory>
         ensures { OnOk result ((units : List UnitRead) (path : List ℕ) → has_path units self.new path ≡ (has_path units self.old path || bytes_eq path (path_at units at))) }
     {
-        let slot = self.guesses.slot_of(key_of(at));
         if stands_at(self.refs.as_slice(), self.guesses.guess(slot), at) {
             return Ok(());
         }
@@ -130,6 +137,25 @@ impl PathList {
         }
         self.refs.push(at)?;
         self.guesses.note(slot, count as u32);
+        Ok(())
+    }
+
+    /// Adds a path, unless it is known to be there.
+    pub fn add(&mut self, at: PathRef) -> Result<(), OutOfMemory>
+        ensures { OnOk result ((units : List UnitRead) (path : List ℕ) → has_path units self.new path ≡ (has_path units self.old path || bytes_eq path (path_at units at))) }
+    {
+        let slot = self.guesses.slot_of(key_of(at));
+        self.put(slot, at)
+    }
+
+    /// Adds paths. Each has a slot of its own, where `starts` says how many paths the units before have, and one more.
+    pub fn add_all(&mut self, starts: &[usize], refs: &[PathRef]) -> Result<(), OutOfMemory>
+        ensures { OnOk result ((units : List UnitRead) (path : List ℕ) → has_path units self.new path ≡ (has_path units self.old path || has_path units refs.now path)) }
+    {
+        'refs: for place in 0..refs.len() {
+            let at = refs[place];
+            self.put(own_slot(starts, at), at)?;
+        }
         Ok(())
     }
 }

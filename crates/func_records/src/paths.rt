@@ -1,7 +1,7 @@
 //! The paths that line records and calls name.
-ghost use Rattle.std.specs.Prelude.{◌≡◌, ℕ, List, ◌||◌, ◌++◌, length, map, IfOk, OnOk};
+ghost use Rattle.std.specs.Prelude.{◌≡◌, ℕ, List, ◌||◌, length, map, IfOk, OnOk};
 ghost use Rattle.die_names.specs.declared.unit_read.UnitRead.{UnitRead};
-ghost use Rattle.func_records.specs.internal.Gathering.{bytes_of, path_at, has_path, any_run, AddsPiece, Gathered};
+ghost use Rattle.func_records.specs.internal.Gathering.{bytes_of, has_text, path_at, has_path, any_run, AddsPiece, Gathered};
 ghost use Rattle.func_records.specs.internal.Shares.{all_paths};
 
 use crate::call_paths::gather_calls;
@@ -12,6 +12,9 @@ use func_flatten::{LineRun, Piece, lines_of};
 use inline_chain::{InlineRun, InlineRuns};
 use std::alloc::Global;
 use sym_edges::OutOfMemory;
+
+/// So many slots are for the paths of a share.
+const SLOTS: usize = 4096;
 
 /// Adds the paths of a piece's runs.
 fn gather_runs(unit: u32, runs: &[LineRun], paths: &mut PathList) -> Result<(), OutOfMemory>
@@ -52,7 +55,7 @@ pub fn gather_paths(
     requires { length held.now ≡ length pieces.now }
     ensures { IfOk result (λ refs. Gathered units.now pieces.now held.now (has_path units.now refs.items)) }
 {
-    let mut paths = PathList::new(alloc)?;
+    let mut paths = PathList::new(alloc, SLOTS)?;
     let mut runs = Vec::new(alloc);
     'pieces: for place in 0..pieces.len() {
         let copies = held[place].as_slice();
@@ -61,18 +64,47 @@ pub fn gather_paths(
     Ok(paths.into_refs())
 }
 
-/// Adds the texts of some paths.
-fn push_texts<'u>(
+/// The texts of some paths.
+fn texts_of<'u>(
+    alloc: Global,
     units: &'u Units<'_>,
     refs: &[PathRef],
-    texts: &mut Vec<&'u [u8]>,
-) -> Result<(), OutOfMemory>
-    ensures { OnOk result (bytes_of texts.new.items ≡ bytes_of texts.old.items ++ map (path_at units.now) refs.now) }
+) -> Result<Vec<&'u [u8]>, OutOfMemory>
+    ensures { IfOk result (λ texts. bytes_of texts.items ≡ map (path_at units.now) refs.now) }
 {
+    let mut texts = Vec::with_capacity(alloc, refs.len())?;
     'refs: for place in 0..refs.len() {
         texts.push(path_text(units, refs[place]))?;
     }
-    Ok(())
+    Ok(texts)
+}
+
+/// How many paths the units before each have, and how many all have; and one more.
+fn path_starts(alloc: Global, units: &Units<'_>) -> Result<(Vec<usize>, usize), OutOfMemory> {
+    let parts = units.as_slice();
+    let mut starts = Vec::with_capacity(alloc, parts.len())?;
+    let mut count: usize = 1;
+    'units: for unit in 0..parts.len() {
+        starts.push(count)?;
+        count = count.saturating_add(parts[unit].lines.path_count());
+    }
+    Ok((starts, count))
+}
+
+/// The paths that were found, once each.
+fn join_paths(
+    alloc: Global,
+    units: &Units<'_>,
+    shares: &[FoundShare],
+) -> Result<PathList, OutOfMemory>
+    ensures { IfOk result (λ list. (path : List ℕ) → has_path units.now list path ≡ has_path units.now (all_paths shares.now) path) }
+{
+    let (starts, count) = path_starts(alloc, units)?;
+    let mut list = PathList::new(alloc, count)?;
+    'shares: for k in 0..shares.len() {
+        list.add_all(starts.as_slice(), shares[k].paths.as_slice())?;
+    }
+    Ok(list)
 }
 
 /// The texts of the paths that were found.
@@ -81,11 +113,9 @@ pub fn path_texts<'u>(
     units: &'u Units<'_>,
     shares: &[FoundShare],
 ) -> Result<Vec<&'u [u8]>, OutOfMemory>
-    ensures { IfOk result (λ texts. bytes_of texts.items ≡ map (path_at units.now) (all_paths shares.now)) }
+    ensures { IfOk result (λ texts. (path : List ℕ) → has_text texts.items path ≡ has_path units.now (all_paths shares.now) path) }
 {
-    let mut texts = Vec::new(alloc);
-    'shares: for k in 0..shares.len() {
-        push_texts(units, shares[k].paths.as_slice(), &mut texts)?;
-    }
+    let refs = join_paths(alloc, units, shares)?.into_refs();
+    let texts = texts_of(alloc, units, refs.as_slice())?;
     Ok(texts)
 }
