@@ -4,7 +4,6 @@ use Rattle.std.proofs.Math.Seq.{take-append_seam, drop-append_seam}
 use Rattle.std.proofs.lemmas.List.{length-drop, length-append, map-append, take-append-drop, drop-drop, nil_from_length, reverse-append, take_all, drop_all}
 use Rattle.std.specs.List.{slice_get, list_any, flat_map}
 use Rattle.std.specs.Str.{bytes_eq}
-use Rattle.std.proofs.lemmas.List.Concat.{flat_map-append}
 use Rattle.std.proofs.lemmas.List.Folds.{list_any-append}
 use Rattle.sym_records.specs.Canon.{canon_text}
 use Rattle.sym_records.specs.Validity.{first_bad_from}
@@ -64,14 +63,6 @@ pop_next f left less one made more all is grown so =
 
 pub pop_all : {X A : Type 0} (f : X → List A) (left : List X) (made all : List A) → left ≡ [] → made ++ flat_map f (reverse left) ≡ all → made ≡ all
 pop_all f left made all none so = sym (append-nil made) ∙ ap (λ l. made ++ flat_map f (reverse l)) (sym none) ∙ so
-
--- one text after another
-pub joined : (front rest more whole : List (List ℕ)) (middle last : List ℕ) → more ≡ front ++ middle ∷ [] → whole ≡ more ++ rest → flat_map (λ piece. piece) whole ++ last ≡ (flat_map (λ piece. piece) front ++ middle) ++ (flat_map (λ piece. piece) rest ++ last)
-joined front rest more whole middle last pushed appended =
-    let pieces : List (List ℕ) → List ℕ = flat_map (λ piece. piece) in
-    ap (λ l. pieces l ++ last) (appended ∙ ap (λ l. l ++ rest) pushed)
-    ∙ ap (λ l. l ++ last) (flat_map-append (λ piece. piece) (front ++ middle ∷ []) rest ∙ ap (λ l. l ++ pieces rest) (flat_map-append (λ piece. piece) front (middle ∷ []) ∙ ap (λ l. pieces front ++ l) (append-nil middle)))
-    ∙ append_assoc (pieces front ++ middle) (pieces rest) last
 
 -- the copies of all shares
 held_joined : (units : List UnitRead) (pieces more : List Piece) (held others : List (List InlineParts)) → AreHeld units pieces held → AreHeld units more others → AreHeld units (pieces ++ more) (held ++ others)

@@ -35,4 +35,3 @@ mod spelling;
 mod writer;
 
 pub use functions::add_functions;
-pub use speller::join_texts;

@@ -16,7 +16,7 @@ use std::alloc::Global;
 use std::marker::Model;
 use std::thread::Threads;
 use sym_edges::OutOfMemory;
-use sym_records::{ByteText, TextPieces};
+use sym_records::TextPieces;
 use unit_workers::{NoGate, UnitJob, run_all};
 
 /// The numbers of the names that the entries of each share give.
@@ -108,21 +108,6 @@ impl<'s, 'u, 'a, 'n> UnitJob for Speller<'s, 'u, 'a, 'n> {
     }
 }
 
-/// One text after another.
-#[tactic(auto, using(crate::proofs::ShareLemmas::joined))]
-pub fn join_texts(front: TextPieces, rest: TextPieces) -> Result<TextPieces, OutOfMemory>
-    ensures { IfOk result (λ text. text_bytes text ≡ text_bytes front ++ text_bytes rest) }
-{
-    let TextPieces { mut full, last } = front;
-    full.push(ByteText::of(last))?;
-    let TextPieces {
-        full: mut more,
-        last,
-    } = rest;
-    full.append(&mut more)?;
-    Ok(TextPieces { full, last })
-}
-
 /// A text, and those of all shares after it.
 fn join_shares(front: TextPieces, shares: Vec<TextPieces>) -> Result<TextPieces, OutOfMemory>
     ensures { IfOk result (λ text. text_bytes text ≡ text_bytes front ++ flat_map text_bytes shares.items) }
@@ -131,7 +116,7 @@ fn join_shares(front: TextPieces, shares: Vec<TextPieces>) -> Result<TextPieces,
     left.reverse();
     let mut text = front;
     'shares: while let Some(one) = left.pop() {
-        text = join_texts(text, one)?;
+        text.append(one)?;
     }
     Ok(text)
 }
