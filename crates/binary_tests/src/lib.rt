@@ -7,9 +7,9 @@
 #![tactic(auto)]
 
 #[cfg(test)]
-mod comparing;
+mod comparison;
 #[cfg(test)]
-mod reading;
+mod files;
 #[cfg(test)]
 mod rows;
 #[cfg(test)]

@@ -1,7 +1,7 @@
 //! Entries with many rows, and with many rows remembered (`frame_rows`), and their records (`rule_postfix`).
 ghost use Rattle.std.specs.Prelude.{◌+◌, ◌<◌, ◌^◌};
 
-use crate::comparing::same;
+use crate::comparison::same;
 use frame_entries::Fde;
 use frame_rows::{CfaRule, CieState, Row, Stepper, inspect, rows};
 use rule_postfix::translate;

@@ -1,6 +1,6 @@
 //! `run` over stores and sinks in memory: the commands' rows, each call that fails in turn, and workers that meet. What each small
 //! file gives stands in the rows of the crate `worked` too.
-use crate::comparing::same;
+use crate::comparison::same;
 use crate::files::{Given, debug_file, file_by, joined};
 use crate::pairs::{BELOW, PAIR_ROWS, WITH_ITSELF};
 use crate::rows::{

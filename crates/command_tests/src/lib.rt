@@ -6,7 +6,7 @@
 #[cfg(test)]
 mod commands;
 #[cfg(test)]
-mod comparing;
+mod comparison;
 #[cfg(test)]
 mod files;
 #[cfg(test)]

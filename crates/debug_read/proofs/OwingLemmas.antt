@@ -1,4 +1,4 @@
--- For src/owing.rt and `read_unit_lines`: a line table has the same faults whichever unit names it.
+-- For src/owed_tables.rt and `read_unit_lines`: a line table has the same faults whichever unit names it.
 use Rattle.std.proofs.Common.{◌≡◌, ◌<◌, ◌≤◌, ℕ, zero, suc, nat_lt, Bool, true, false, cond, List, [], ◌∷◌, ◌++◌, drop, length, reverse, get_or, Option, None, Some, Result, Ok, Err, refl, sym, ap, subst, ◌∙◌, append_assoc, append-nil, arith}
 use Rattle.std.specs.List.{All}
 use Rattle.std.proofs.lemmas.Bool.{cond-false, le-ltb}
@@ -26,10 +26,10 @@ use Rattle.line_program.specs.LineMaps.{LineMap}
 use Rattle.line_program.specs.LineRows.{State, line_rows}
 use Rattle.line_program.specs.LineTables.{lines_of, lines_at, unit_lines, Says as SaysTable}
 use Rattle.die_names.specs.declared.unit_read.UnitRead.{UnitRead}
-use Rattle.debug_read.specs.declared.owing.UnitFound.{UnitFound}
-use Rattle.debug_read.specs.declared.owing.TableOutcome.{TableOutcome}
-use Rattle.debug_read.specs.declared.owing.TableRead.{TableRead}
-use Rattle.debug_read.specs.declared.owing.TableRead.TheVariants.{Missing, Whole, Owed}
+use Rattle.debug_read.specs.declared.owed_tables.UnitFound.{UnitFound}
+use Rattle.debug_read.specs.declared.owed_tables.TableOutcome.{TableOutcome}
+use Rattle.debug_read.specs.declared.owed_tables.TableRead.{TableRead}
+use Rattle.debug_read.specs.declared.owed_tables.TableRead.TheVariants.{Missing, Whole, Owed}
 use Rattle.debug_read.specs.Each.{Match, Says}
 use Rattle.debug_read.specs.UnitSays.{lines_by, root_lines, unit_says}
 use Rattle.debug_read.specs.UnitsRead.{no_lines, KeepsLines, IsUnitRead}

@@ -1,4 +1,4 @@
--- For src/sharing.rt: abbreviations do not depend on the unit that names them.
+-- For src/shared_abbrevs.rt: abbreviations do not depend on the unit that names them.
 use Rattle.std.proofs.Common.{◌≡◌, ◌<◌, ◌≤◌, ℕ, zero, suc, Bool, List, [], ◌∷◌, length, get_or, Option, None, Some, Result, Ok, sym, ap, subst, ◌∙◌, arith}
 use Rattle.std.specs.List.{slice_get}
 use Rattle.std.proofs.lemmas.Bool.{cond-false, le-ltb}

@@ -21,8 +21,8 @@ use Rattle.die_walk.proofs.EntryPlaceLemmas.{places_rise}
 use Rattle.debug_read.specs.Each.{each_of, Match, Says}
 use Rattle.debug_read.specs.UnitSays.{UnitSays, root_lines, unit_says}
 use Rattle.debug_read.specs.UnitsRead.{IsSet, has_function, KeepsLines, IsUnitRead}
-use Rattle.debug_read.specs.declared.owing.TableRead.{TableRead}
-use Rattle.debug_read.specs.declared.owing.TableRead.TheVariants.{Missing, Whole, Owed}
+use Rattle.debug_read.specs.declared.owed_tables.TableRead.{TableRead}
+use Rattle.debug_read.specs.declared.owed_tables.TableRead.TheVariants.{Missing, Whole, Owed}
 use Rattle.debug_read.specs.internal.Owing.{table_named, ByTable, HoldsLines, HoldsUnit}
 use Rattle.debug_read.proofs.EachLemmas.{says_first}
 use Rattle.debug_read.proofs.SetLemmas.{sets_alike, no_address}

@@ -22,21 +22,21 @@
 //! (`unit_workers`); what they found is then joined in the order of the units. All units are read, also after one that is
 //! refused. Abbreviations that several units name are read before, once.
 //!
-//! To read: `specs/UnitSays.antt`, `UnitsRead.antt` and `DebugSays.antt`; then `units` with `sharing`, `ranges` and `lines`,
-//! `owing`, and `reading`.
+//! To read: `specs/UnitSays.antt`, `UnitsRead.antt` and `DebugSays.antt`; then `units` with `shared_abbrevs`, `ranges` and `lines`,
+//! `owed_tables`, and `debug`.
 #![tactic(auto)]
 
+mod debug;
 mod fault;
 mod found;
 pub mod laws;
 mod lines;
-mod owing;
+mod owed_tables;
 mod ranges;
-mod reading;
 mod sections;
-mod sharing;
+mod shared_abbrevs;
 mod units;
 
+pub use crate::debug::read_debug;
 pub use crate::fault::DebugFault;
 pub use crate::found::DebugRead;
-pub use crate::reading::read_debug;

@@ -10,7 +10,7 @@ ghost use Rattle.debug_read.specs.UnitSays.{root_lines};
 ghost use Rattle.debug_read.specs.UnitsRead.{has_function};
 ghost use Rattle.debug_read.specs.internal.Owing.{HoldsLines};
 
-use crate::owing::TableRead;
+use crate::owed_tables::TableRead;
 use abbrev_units::{DwarfFault, Sections};
 use die_walk::{DieList, DieTable, Root};
 use line_program::{LineTable, read_lines};

@@ -14,9 +14,9 @@ ghost use Rattle.debug_read.specs.internal.Owing.{HoldsUnit, IsOwing, ReaderGive
 ghost use Rattle.abbrev_units.specs.Units.{units_in};
 
 use crate::lines::{LinesFound, read_unit_lines};
-use crate::owing::{UnitFound, settle_units};
+use crate::owed_tables::{UnitFound, settle_units};
 use crate::ranges::read_sets;
-use crate::sharing::{SharedAbbrevs, read_shared, unit_at};
+use crate::shared_abbrevs::{SharedAbbrevs, read_shared, unit_at};
 use abbrev_units::{Abbrevs, DwarfFault, Sections, Unit, UnitPart, read_abbrevs};
 use die_names::{UnitRead, Units};
 use die_walk::walk;

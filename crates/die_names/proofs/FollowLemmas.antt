@@ -6,9 +6,9 @@ use Rattle.std.proofs.lemmas.Bool.{cond-true, cond-false}
 use Rattle.std.proofs.lemmas.List.{length-append, length-map}
 use Rattle.std.proofs.lemmas.Option.{none-some}
 use Rattle.die_walk.specs.EntryTable.{DieFields}
-use Rattle.die_names.specs.declared.naming.How.TheVariants.{Linkage}
-use Rattle.die_names.specs.declared.naming.NameRef.{NameRef}
-use Rattle.die_names.specs.declared.finding.Standing.{Standing}
+use Rattle.die_names.specs.declared.name_source.How.TheVariants.{Linkage}
+use Rattle.die_names.specs.declared.name_source.NameRef.{NameRef}
+use Rattle.die_names.specs.declared.entry_search.Standing.{Standing}
 use Rattle.die_names.specs.declared.unit_read.EntryRef.{EntryRef}
 use Rattle.die_names.specs.declared.unit_read.UnitRead.{UnitRead}
 use Rattle.die_names.specs.UnitEntries.{Placed, AreRead, entry_in, entry_of, die_from, die_in, places}

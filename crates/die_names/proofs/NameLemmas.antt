@@ -7,8 +7,8 @@ use Rattle.std.proofs.lemmas.List.{append_assoc, length-append}
 use Rattle.clean_names.specs.Cleaning.{cleaned}
 use Rattle.die_walk.specs.Attributes.{or_else}
 use Rattle.die_walk.specs.EntryTable.{DieFields}
-use Rattle.die_names.specs.declared.naming.How.TheVariants.{Linkage, Joined, Omitted}
-use Rattle.die_names.specs.declared.naming.NameRef.{NameRef}
+use Rattle.die_names.specs.declared.name_source.How.TheVariants.{Linkage, Joined, Omitted}
+use Rattle.die_names.specs.declared.name_source.NameRef.{NameRef}
 use Rattle.die_names.specs.declared.unit_read.UnitRead.{UnitRead}
 use Rattle.die_names.specs.UnitEntries.{Placed, unit_entries, entries_from, entry_in, entry_at, entry_of}
 use Rattle.die_names.specs.Names.{way, linked_from, link_of, front_of, first_linkage, first_joined, entry_name}

@@ -4,9 +4,9 @@ use Rattle.std.specs.List.{slice_get, list_any}
 use Rattle.std.specs.Option.{option_map, option_map_or}
 use Rattle.std.proofs.lemmas.Bool.{cond-true, cond-false}
 use Rattle.die_walk.specs.EntryTable.{DieFields}
-use Rattle.die_names.specs.declared.naming.How.{How}
-use Rattle.die_names.specs.declared.naming.How.TheVariants.{Linkage, Joined, Omitted}
-use Rattle.die_names.specs.declared.naming.NameRef.{NameRef}
+use Rattle.die_names.specs.declared.name_source.How.{How}
+use Rattle.die_names.specs.declared.name_source.How.TheVariants.{Linkage, Joined, Omitted}
+use Rattle.die_names.specs.declared.name_source.NameRef.{NameRef}
 use Rattle.die_names.specs.declared.unit_read.UnitRead.{UnitRead}
 use Rattle.die_names.specs.UnitEntries.{Placed, entry_in, entry_of}
 use Rattle.die_walk.specs.EntryKinds.{is_scope}

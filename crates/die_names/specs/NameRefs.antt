@@ -2,9 +2,9 @@
 use Rattle.std.specs.Prelude.{ℕ, Bool, List, [], ◌∷◌, ◌++◌, codes, Option, None, Some, unwrap_or, option_and_then}
 use Rattle.std.specs.List.{find}
 use Rattle.std.specs.Option.{option_map, is_some}
-use Rattle.die_names.specs.declared.naming.How.{How}
-use Rattle.die_names.specs.declared.naming.How.TheVariants.{Linkage, Joined, Omitted}
-use Rattle.die_names.specs.declared.naming.NameRef.{NameRef}
+use Rattle.die_names.specs.declared.name_source.How.{How}
+use Rattle.die_names.specs.declared.name_source.How.TheVariants.{Linkage, Joined, Omitted}
+use Rattle.die_names.specs.declared.name_source.NameRef.{NameRef}
 use Rattle.die_names.specs.declared.unit_read.UnitRead.{UnitRead}
 use Rattle.die_names.specs.UnitEntries.{Placed, entry_of}
 use Rattle.die_names.specs.Names.{way, front_of}

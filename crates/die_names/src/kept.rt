@@ -5,8 +5,8 @@ ghost use Rattle.std.specs.Option.{option_copied};
 ghost use Rattle.clean_names.specs.Cleaning.{cleaned, shown_byte};
 ghost use Rattle.die_names.specs.NameRefs.{name_bytes};
 
-use crate::joining::name_slice;
-use crate::naming::NameRef;
+use crate::joined_name::name_slice;
+use crate::name_source::NameRef;
 use crate::unit_read::Units;
 use std::marker::Model;
 use sym_edges::ByteRun;

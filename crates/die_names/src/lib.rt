@@ -11,21 +11,21 @@
 //! Here also stands which function owns an address, which inlined copies are on its chain, and which line it has
 //! (`specs/Owners.antt`), for the crates above.
 //!
-//! To read: `specs/UnitEntries.antt`, `Names.antt` and `Owners.antt`; then `unit_read`, `guesses`, `finding`, `naming`, `joining` and `kept`.
+//! To read: `specs/UnitEntries.antt`, `Names.antt` and `Owners.antt`; then `unit_read`, `guesses`, `entry_search`, `name_source`, `joined_name` and `kept`.
 #![tactic(auto)]
 
-mod finding;
+mod entry_search;
 mod guesses;
-mod joining;
+mod joined_name;
 mod kept;
 pub mod laws;
-mod naming;
+mod name_source;
 mod span_sets;
 mod unit_read;
 
 pub use crate::guesses::LinkGuesses;
-pub use crate::joining::{name_slice, name_text};
+pub use crate::joined_name::{name_slice, name_text};
 pub use crate::kept::EntryNameText;
-pub use crate::naming::{How, NameRef, name_by, name_of};
+pub use crate::name_source::{How, NameRef, name_by, name_of};
 pub use crate::span_sets::SpanSets;
 pub use crate::unit_read::{EntryRef, UnitRead, Units};

@@ -17,9 +17,9 @@
 
 mod attributes;
 mod die;
+mod entry_heads;
 mod heads;
 pub mod laws;
-mod making;
 mod packed;
 mod picks;
 mod quick;

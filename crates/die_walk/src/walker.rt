@@ -5,8 +5,8 @@ ghost use Rattle.die_walk.specs.Marks.{value_fault};
 ghost use Rattle.die_walk.specs.Marks.Mark.{Close};
 ghost use Rattle.die_walk.specs.Steps.{innermost, keeps, opened, own_number, begun_by, entered_by, moved, rounded, entered_at, moved_at, step_at, Steps, Moves, IsShort, table_in};
 
+use crate::entry_heads::{has_no_site, make_head, make_site};
 use crate::heads::EntryList;
-use crate::making::{has_no_site, make_head, make_site};
 use crate::picks::{Picks, no_picks, read_picks};
 use crate::quick::{Quick, no_quick, read_quick};
 use crate::root::{Root, base_of, make_root};

@@ -13,7 +13,7 @@ use Rattle.std.specs.Option.{option_map, option_or}
 use Rattle.std.specs.Ordering.{nat_cmp, match_ordering, is_eq}
 use Rattle.std.specs.Str.{bytes_eq}
 use Rattle.step_maps.specs.declared.stretch.Stretch.{Stretch}
-use Rattle.func_flatten.specs.declared.classing.Names.{Names}
+use Rattle.func_flatten.specs.declared.name_classes.Names.{Names}
 use Rattle.func_flatten.specs.internal.Classes.{first_named, class_by, classed, class_where, last_class, name_number, Meets}
 
 or_none : {A : Type 0} (o : Option A) → option_or o None ≡ o

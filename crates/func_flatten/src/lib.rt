@@ -12,23 +12,23 @@
 //! function has too are given classes by their functions' names, and swept once more (`step_maps::first_items`). A name that stands
 //! clean in the file is compared where it stands. Lines are walked stop by stop, and sorted symbols are merged with the pieces.
 //!
-//! To read: `piece`, `collecting`, `classing`, `covering` and `owning`; then `line_run` and `lines`; then `public` and `uncovered`; last `laws`.
+//! To read: `piece`, `functions`, `name_classes`, `cover_marks` and `owners`; then `line_run` and `lines`; then `public` and `uncovered`; last `laws`.
 #![tactic(auto)]
 
-mod classing;
-mod collecting;
-mod covering;
+mod cover_marks;
+mod functions;
 pub mod laws;
 mod line_run;
 mod lines;
-mod owning;
+mod name_classes;
+mod owners;
 mod piece;
 mod public;
 mod uncovered;
 
 pub use crate::line_run::LineRun;
 pub use crate::lines::lines_of;
-pub use crate::owning::pieces;
+pub use crate::owners::pieces;
 pub use crate::piece::{Piece, PieceList};
 pub use crate::public::{PublicAt, PublicList};
 pub use crate::uncovered::publics;

@@ -12,7 +12,7 @@ use Rattle.sym_rules.proofs.BoolLemmas.{and_true}
 use Rattle.die_names.specs.declared.unit_read.UnitRead.{UnitRead}
 use Rattle.die_names.specs.Names.{entry_name}
 use Rattle.die_names.specs.NameRefs.{name_bytes, name_slice}
-use Rattle.die_names.specs.declared.naming.NameRef.{NameRef}
+use Rattle.die_names.specs.declared.name_source.NameRef.{NameRef}
 use Rattle.die_names.proofs.TextLemmas.{slice_bytes}
 use Rattle.func_flatten.specs.declared.piece.Piece.{Piece}
 use Rattle.func_flatten.specs.declared.line_run.LineRun.{LineRun}

@@ -14,8 +14,8 @@ use Rattle.func_records.specs.FuncRecords.{numbered_lines}
 use Rattle.func_records.specs.internal.Gathering.{bytes_of}
 use Rattle.func_records.specs.internal.Numbering.{numbered}
 use Rattle.clean_names.specs.Cleaning.{AreClean}
-use Rattle.func_records.specs.declared.numbering.Numbering.{Numbering}
-use Rattle.func_records.specs.declared.numbering.Numbering.TheVariants as by
+use Rattle.func_records.specs.declared.text_numbers.Numbering.{Numbering}
+use Rattle.func_records.specs.declared.text_numbers.Numbering.TheVariants as by
 use Rattle.func_records.proofs.ListLemmas.{take_more}
 use Rattle.func_records.proofs.CanonLemmas.{canon_none, canon_join, canon_more, none_here}
 

@@ -10,7 +10,7 @@ use Rattle.std.proofs.lemmas.Slice.Eq.{bytes_eq-Decides}
 use Rattle.std.proofs.lemmas.List.Folds.{Any-from_list_any, list_any-from_Any}
 use Rattle.clean_names.specs.Cleaning.{cleaned}
 use Rattle.die_names.specs.declared.unit_read.UnitRead.{UnitRead}
-use Rattle.die_names.specs.declared.naming.NameRef.{NameRef}
+use Rattle.die_names.specs.declared.name_source.NameRef.{NameRef}
 use Rattle.die_names.specs.NameRefs.{name_bytes}
 use Rattle.func_flatten.specs.declared.piece.Piece.{Piece}
 use Rattle.func_flatten.specs.declared.line_run.LineRun.{LineRun}

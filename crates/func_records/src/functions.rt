@@ -6,12 +6,12 @@ ghost use Rattle.func_records.specs.Adding.{AddsFunctions};
 
 use crate::finder::find_shares;
 use crate::names::gather_names;
-use crate::numbering::{Numbering, add_texts};
 use crate::numbers::{Numbers, number_of, number_rows, numbers_at, numbers_of};
 use crate::path_list::no_path;
 use crate::paths::path_texts;
-use crate::sorting::{ranked_texts, text_slices};
 use crate::speller::{FoundPieces, add_shares};
+use crate::text_numbers::{Numbering, add_texts};
+use crate::text_ranks::{ranked_texts, text_slices};
 use crate::writer::FuncWriter;
 use die_names::Units;
 use func_flatten::Piece;

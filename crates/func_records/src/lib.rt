@@ -10,7 +10,7 @@
 //! (`laws::records_have_no_findings`).
 //!
 //! To read: `functions` first, then `shares`, `found` and `finder`; `place_guesses`, `origin_refs` and `names`; `calls`, `path_list`,
-//! `call_paths` and `paths`; `sorting`, `gaps` and `numbers`; `numbering`, `inlines` and `spelling`; and `speller`.
+//! `call_paths` and `paths`; `text_ranks`, `gaps` and `numbers`; `text_numbers`, `inlines` and `parts`; and `speller`.
 #![tactic(auto)]
 
 mod call_paths;
@@ -22,16 +22,16 @@ mod gaps;
 mod inlines;
 pub mod laws;
 mod names;
-mod numbering;
 mod numbers;
 mod origin_refs;
+mod parts;
 mod path_list;
 mod paths;
 mod place_guesses;
 mod shares;
-mod sorting;
 mod speller;
-mod spelling;
+mod text_numbers;
+mod text_ranks;
 mod writer;
 
 pub use functions::add_functions;

@@ -8,8 +8,8 @@ ghost use Rattle.func_records.specs.internal.Shares.{share, all_held, all_refs, 
 
 use crate::found::FoundShare;
 use crate::numbers::numbers_at;
+use crate::parts::add_parts;
 use crate::shares::share_of;
-use crate::spelling::add_parts;
 use crate::writer::FuncWriter;
 use func_flatten::Piece;
 use std::alloc::Global;

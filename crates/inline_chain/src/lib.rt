@@ -10,20 +10,20 @@
 //! definitions there are for the code alone. For n ranges of inlined copies in a unit the trees take n log n turns, and a piece
 //! takes as many as there are ranges on its levels, each with a search.
 //!
-//! To read: `inline_run`, then `inside`, `children`, `covering`, `cover_lists` and `trees`, then `levels`, `grouping` and `inlining`.
+//! To read: `inline_run`, then `inside`, `children`, `cover_sweep`, `cover_lists` and `trees`, then `levels`, `groups` and `inline_list`.
 #![tactic(auto)]
 
 mod children;
 mod cover_lists;
-mod covering;
-mod grouping;
+mod cover_sweep;
+mod groups;
+mod inline_list;
 mod inline_run;
-mod inlining;
 mod inside;
 pub mod laws;
 mod levels;
 mod trees;
 
+pub use crate::inline_list::{LevelLists, inlines};
 pub use crate::inline_run::{InlineRun, InlineRuns};
-pub use crate::inlining::{LevelLists, inlines};
 pub use crate::trees::InlineTrees;

@@ -9,7 +9,7 @@ ghost use Rattle.inline_chain.specs.Trees.{IsTree, AreTrees};
 
 use crate::children::collect_copies;
 use crate::cover_lists::CoverLists;
-use crate::covering::fill_covers;
+use crate::cover_sweep::fill_covers;
 use die_names::{UnitRead, Units};
 use std::alloc::{AllocError, Global};
 use std::marker::Model;

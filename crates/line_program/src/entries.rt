@@ -7,7 +7,7 @@ ghost use Rattle.line_program.specs.FileTables.{old_entry_at, pair_at, value_at,
 use crate::entry_format::EntryFormat;
 use crate::fault::LineFault;
 use crate::file_entry::FileEntry;
-use crate::reading::read_file_behind;
+use crate::opcode_reader::read_file_behind;
 use abbrev_units::{DwarfKind, Sections, Value, read_form, read_place, read_text};
 use code_table::{DW_FORM_implicit_const, DW_FORM_line_strp, DW_FORM_udata};
 use leb_cursor::Cursor;

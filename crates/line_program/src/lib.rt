@@ -13,29 +13,29 @@
 //! see a table as `specs/LineMaps.antt` says: a step map of lines, and paths by numbers. The code sorts a sequence's
 //! rows only where they are not in order, lays the sequences over one another by halves, and paints their rows once.
 //!
-//! To read: `program`, `opcode`, `reading`, `machine` and `running`; then `header`, `entries`, `tables` and `paths`; then `sorting`,
-//! `counting`, `painting`, `numbering` and `table`; last `lines`.
+//! To read: `program`, `opcode`, `opcode_reader`, `machine` and `program_run`; then `header`, `entries`, `tables` and `paths`; then `row_order`,
+//! `stretches`, `line_map`, `path_numbers` and `table`; last `lines`.
 #![tactic(auto)]
 
-mod counting;
 mod entries;
 mod entry_format;
 mod fault;
 mod file_entry;
 mod header;
 pub mod laws;
+mod line_map;
 mod lines;
 mod machine;
-mod numbering;
 mod opcode;
-mod painting;
+mod opcode_reader;
 mod path_line;
+mod path_numbers;
 mod paths;
 mod program;
-mod reading;
+mod program_run;
 mod row;
-mod running;
-mod sorting;
+mod row_order;
+mod stretches;
 mod table;
 mod tables;
 

@@ -12,7 +12,7 @@ use crate::header::{Header, read_table};
 use crate::machine::{LineSequence, Machine};
 use crate::paths::Directories;
 use crate::program::Program;
-use crate::running::run_program;
+use crate::program_run::run_program;
 use crate::table::LineTable;
 use crate::tables::{Tables, read_tables};
 use abbrev_units::{DwarfFault, DwarfKind, Sections};

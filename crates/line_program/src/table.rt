@@ -7,12 +7,12 @@ ghost use Rattle.step_maps.specs.Stepping.{value_at};
 ghost use Rattle.line_program.specs.LineMaps.{no_line, shown, numbered_line, numbered_file, AreDistinct, SaysLines};
 ghost use Rattle.line_program.specs.internal.Numbered.{numbered_at};
 
-use crate::counting::{count_sequences, stretches_of};
+use crate::line_map::paint_all;
 use crate::machine::LineSequence;
-use crate::numbering::{Numbering, number_paths};
-use crate::painting::paint_all;
 use crate::path_line::{NO_LINE, PathLine, number_of};
-use crate::sorting::CountedSequence;
+use crate::path_numbers::{Numbering, number_paths};
+use crate::row_order::CountedSequence;
+use crate::stretches::{count_sequences, stretches_of};
 use range_set::Enclosing;
 use std::alloc::Global;
 use std::marker::Model;

@@ -3,7 +3,7 @@ ghost use Rattle.std.specs.Prelude.{◌≡◌, None, slice_get};
 ghost use Rattle.die_walk.specs.EntryKinds.{counts};
 ghost use Rattle.range_lists.specs.EntryRanges.{addresses_for, unit_base, list_bytes, list_by_number, list_place, list_of, end_of, bounds_by, pairs_of, pairs_at, IsRanges, IsGiven, HasNoList};
 
-use crate::gathering::set_of_pair;
+use crate::gatherer::set_of_pair;
 use crate::list::ranges_of_list;
 use crate::places::{Addresses, cursor_in, entry_fault, number_there, numbered_place};
 use abbrev_units::{DwarfFault, DwarfKind, Sections, Unit, Value};

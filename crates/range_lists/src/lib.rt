@@ -18,12 +18,12 @@
 //! A list is read once, its items one by one, and nothing is kept of it but the ranges. An entry without a
 //! list takes no memory, and neither does a list whose ranges touch or overlap one after the other.
 //!
-//! To read: `entry` first, then `list` and `gathering`, then `effect`, `item` and `places`.
+//! To read: `entry` first, then `list` and `gatherer`, then `effect`, `item` and `places`.
 #![tactic(auto)]
 
 mod effect;
 mod entry;
-mod gathering;
+mod gatherer;
 mod item;
 pub mod laws;
 mod list;

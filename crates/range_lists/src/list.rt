@@ -3,7 +3,7 @@ ghost use Rattle.range_lists.specs.ListPairs.{list_pairs};
 ghost use Rattle.range_lists.specs.EntryRanges.{IsRanges};
 
 use crate::effect::read_effect;
-use crate::gathering::Gathering;
+use crate::gatherer::Gathering;
 use crate::places::Addresses;
 use abbrev_units::DwarfFault;
 use leb_cursor::Cursor;

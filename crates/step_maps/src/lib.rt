@@ -16,21 +16,21 @@
 //! neighbours are equal has them between its stops ([`steps_are_runs`]). [`covers`] gives the runs of the first item's
 //! index, and with each [`Cover`] whether its first address is shared. [`push_spans`] makes the stretches of an item's ranges.
 //!
-//! To read: `steps` first, then `stretch` and `overlaying`, then `laying`, `joining` and `covering`; `laws` stand alone.
+//! To read: `steps` first, then `stretch` and `overlays`, then `layers`, `joins` and `cover_list`; `laws` stand alone.
 #![tactic(auto)]
 
-mod covering;
-mod joining;
+mod cover_list;
+mod joins;
 mod laws;
-mod laying;
-mod overlaying;
+mod layers;
+mod overlays;
 mod spans;
 mod steps;
 mod stretch;
 
-pub use covering::{covers, first_items};
+pub use cover_list::{covers, first_items};
 pub use laws::{runs_are_maximal, same_values_same_runs, steps_are_runs};
-pub use overlaying::overlay;
+pub use overlays::overlay;
 pub use spans::push_spans;
 pub use steps::StepMap;
 pub use stretch::{Cover, CoverList, FirstItem, Stretch};

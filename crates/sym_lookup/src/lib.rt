@@ -6,26 +6,26 @@
 //! `cfi_eval::frame_from`. [`Index::func_run`] and [`Index::init_run`] also say up to where the record is the same. [`answer_text`] shows an answer, a line for each frame, and [`Index::answer_text`] does so by halves. What an answer
 //! names is what `sym_meaning` says that a look-up in the text names ([`laws`]).
 //!
-//! To read: `answers`, `finding`, `texts` (on `named`, the records that others name by a number) and `laws`; then `index`, on `stretches` (step
-//! maps of records), `marks` (records in the order of a key), `numbers` and `under` (what stands under a `FUNC`), with `rising` (its line
+//! To read: `answers`, `scans`, `texts` (on `named`, the records that others name by a number) and `laws`; then `index`, on `stretches` (step
+//! maps of records), `marks` (records in the order of a key), `numbers` and `under` (what stands under a `FUNC`), with `line_runs` (its line
 //! records, where they rise), and `parts` (the same part by part).
 #![tactic(auto)]
 
 mod answers;
-mod finding;
 mod index;
 pub mod laws;
+mod line_runs;
 mod marks;
 mod named;
 mod numbers;
 mod parts;
-mod rising;
+mod scans;
 mod stretches;
 mod texts;
 mod under;
 
 pub use answers::{Answer, PlaceList, PlaceRun};
-pub use finding::answer_at;
 pub use index::Index;
 pub use parts::place_run;
+pub use scans::answer_at;
 pub use texts::answer_text;

@@ -9,8 +9,8 @@ ghost use Rattle.sym_lookup.specs.Answers.{chain_from, chain_places, line_place}
 ghost use Rattle.sym_lookup.specs.UnderOf.{chain_in, IsLineFinder, IsUnder, AreUnders, range_count, is_func, is_held, AreHeld};
 
 use crate::answers::{Answer, PlaceList};
-use crate::finding::{in_function, level_count, under_func};
-use crate::rising::{are_rising, inlines_in_front, line_by_halves};
+use crate::line_runs::{are_rising, inlines_in_front, line_by_halves};
+use crate::scans::{in_function, level_count, under_func};
 use crate::stretches::{Kind, PlaceMap, by_level, level_map, place_at, place_map};
 use std::alloc::Global;
 use sym_edges::OutOfMemory;

@@ -26,33 +26,33 @@ mod lengths;
 mod validity;
 
 // How they are spelled.
-mod adding;
 mod digits;
+mod file_writer;
+mod line_speller;
 mod pieces;
-mod rendering;
-mod spelling;
+mod rendered;
 mod text;
-mod writing;
+mod text_lines;
 
 // What holds of all of it.
 pub mod laws;
 
-pub use adding::{
-    add_file, add_func, add_info, add_inline, add_line, add_module, add_origin, add_public,
-    write_change, write_init,
-};
 pub use clean_names::clean;
 pub use digits::HexText;
 pub use fields::{is_field, is_name};
 pub use file::{NotValid, SymFile, file_of, file_of_valid, fits, leads};
+pub use file_writer::write_file;
 pub use keyword::Keyword;
 pub use line::{Binary, BoxedBinary, Extent, Extents, SymLine, SymLines};
 pub use pieces::TextPieces;
 pub use place::Place;
-pub use rendering::render;
+pub use rendered::render;
 pub use sym_rules::{
     ByteText, RuleName, RuleText, Rules, Target, TextFault, TextKind, Token, Tokens,
 };
 pub use text::SymText;
+pub use text_lines::{
+    add_file, add_func, add_info, add_inline, add_line, add_module, add_origin, add_public,
+    write_change, write_init,
+};
 pub use validity::is_valid;
-pub use writing::write_file;

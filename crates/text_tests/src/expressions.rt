@@ -1,5 +1,5 @@
 //! DWARF expressions as words of rules (`expr_postfix`), and the size of the place of one (`expr_steps`).
-use crate::comparing::same;
+use crate::comparison::same;
 use expr_postfix::{rule_tokens, tokens};
 use expr_steps::Place;
 use std::alloc::Global;

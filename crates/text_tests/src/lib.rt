@@ -7,7 +7,7 @@
 #![tactic(auto)]
 
 #[cfg(test)]
-mod comparing;
+mod comparison;
 #[cfg(test)]
 mod expressions;
 #[cfg(test)]

@@ -1,5 +1,5 @@
 //! A record of each kind, the longest lines and names, and the sizes of a record (`sym_records`) and of a finding (`sym_findings`).
-use crate::comparing::same;
+use crate::comparison::same;
 use std::alloc::Global;
 use std::mem::size_of;
 use std::process::Abort;

@@ -1,5 +1,5 @@
 //! Rules of one to four words, spelled in two ways, and sizes of types (`sym_rules`).
-use crate::comparing::same;
+use crate::comparison::same;
 use std::alloc::Global;
 use std::mem::size_of;
 use std::test::Fail;

@@ -1,5 +1,5 @@
 //! Sets of a thousand spans with ample memory, and the sizes of types (`range_set`).
-use crate::comparing::same;
+use crate::comparison::same;
 use range_set::{Enclosing, RangeSet, of_ranges};
 use std::alloc::{AllocError, Global};
 use std::mem::size_of;

@@ -2,7 +2,7 @@
 ghost use Rattle.std.specs.Prelude.{◌≤◌, IfOk};
 ghost use Rattle.step_maps.specs.Covers.{AreStretches};
 
-use crate::comparing::same;
+use crate::comparison::same;
 use std::alloc::{AllocError, Global};
 use std::test::Fail;
 use step_maps::{Cover, FirstItem, Stretch, covers, first_items, overlay};

@@ -1,6 +1,6 @@
 //! What the system's edge does with files and streams that are slow, interrupted or broken, and stores and sinks over memory
 //! (`sym_edges`).
-use crate::comparing::same;
+use crate::comparison::same;
 use crate::fakes::{Fake, FakeFiles, Turn};
 use std::alloc::{AllocError, Global};
 use std::fs::{self, Files};

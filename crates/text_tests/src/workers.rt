@@ -1,7 +1,7 @@
 //! Squares of numbers by one and by many workers, and a worker that is held (`unit_workers`).
 ghost use Rattle.std.specs.Prelude.{◌≡◌, ◌*◌, ◌%◌, ◌^◌};
 
-use crate::comparing::same;
+use crate::comparison::same;
 use std::alloc::Global;
 use std::sync::atomic::AtomicU64;
 use std::sync::atomic::Ordering::SeqCst;

@@ -10,10 +10,10 @@ use Rattle.line_program.specs.LineAt.{Lines}
 use Rattle.line_program.specs.LineMaps.{LineMap, EncloseAlike}
 use Rattle.line_program.specs.LineTables.{unit_lines}
 use Rattle.die_names.specs.declared.unit_read.UnitRead.{UnitRead}
-use Rattle.debug_read.specs.declared.owing.UnitFound.{UnitFound}
-use Rattle.debug_read.specs.declared.owing.TableOutcome.{TableOutcome}
-use Rattle.debug_read.specs.declared.owing.TableRead.{TableRead}
-use Rattle.debug_read.specs.declared.owing.TableRead.TheVariants.{Missing, Whole, Owed}
+use Rattle.debug_read.specs.declared.owed_tables.UnitFound.{UnitFound}
+use Rattle.debug_read.specs.declared.owed_tables.TableOutcome.{TableOutcome}
+use Rattle.debug_read.specs.declared.owed_tables.TableRead.{TableRead}
+use Rattle.debug_read.specs.declared.owed_tables.TableRead.TheVariants.{Missing, Whole, Owed}
 use Rattle.debug_read.specs.Each.{Says}
 use Rattle.debug_read.specs.UnitSays.{root_lines, unit_says}
 use Rattle.debug_read.specs.UnitsRead.{KeepsLines, IsUnitRead}

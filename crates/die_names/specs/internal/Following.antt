@@ -1,8 +1,8 @@
 -- The way of an entry, entry by entry.
 use Rattle.std.specs.Prelude.{Bool, true, false, ◌&&◌, if◌then◌else◌, List, [], ◌∷◌}
-use Rattle.die_names.specs.declared.naming.How.{How}
-use Rattle.die_names.specs.declared.naming.How.TheVariants.{Linkage, Joined, Omitted}
-use Rattle.die_names.specs.declared.naming.NameRef.{NameRef}
+use Rattle.die_names.specs.declared.name_source.How.{How}
+use Rattle.die_names.specs.declared.name_source.How.TheVariants.{Linkage, Joined, Omitted}
+use Rattle.die_names.specs.declared.name_source.NameRef.{NameRef}
 use Rattle.die_walk.specs.EntryTable.{DieFields}
 use Rattle.die_names.specs.declared.unit_read.EntryRef.{EntryRef}
 use Rattle.die_names.specs.UnitEntries.{Placed}

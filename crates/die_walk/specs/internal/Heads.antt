@@ -9,8 +9,8 @@ use Rattle.die_walk.specs.declared.heads.Link.TheVariants as link
 use Rattle.die_walk.specs.declared.heads.Rest.{Rest}
 use Rattle.die_walk.specs.declared.heads.Rest.TheVariants as rest
 use Rattle.die_walk.specs.declared.texts.Ending.TheVariants as ending
-use Rattle.die_walk.specs.declared.making.Fit.{Fit}
-use Rattle.die_walk.specs.declared.making.Fit.TheVariants as fit
+use Rattle.die_walk.specs.declared.entry_heads.Fit.{Fit}
+use Rattle.die_walk.specs.declared.entry_heads.Fit.TheVariants as fit
 use Rattle.die_walk.specs.Attributes.{as_low, as_high, as_ranges, as_number, line_of}
 use Rattle.die_walk.specs.EntryTable.{DieFields}
 use Rattle.die_walk.specs.internal.Packing.{where_said, text_said}

@@ -14,7 +14,7 @@ use Rattle.step_maps.specs.declared.stretch.Stretch.{Stretch}
 use Rattle.step_maps.specs.Covers.{reaches, first_at, cover_run, index_at}
 use Rattle.die_names.specs.declared.unit_read.UnitRead.{UnitRead}
 use Rattle.die_names.specs.Names.{entry_name}
-use Rattle.func_flatten.specs.declared.classing.Names.{Names}
+use Rattle.func_flatten.specs.declared.name_classes.Names.{Names}
 use Rattle.die_names.specs.declared.unit_read.EntryRef.{EntryRef}
 use Rattle.func_flatten.specs.Pieces.{is_many}
 

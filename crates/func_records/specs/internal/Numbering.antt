@@ -2,8 +2,8 @@
 use Rattle.std.specs.Prelude.{ℕ, List}
 use Rattle.sym_records.specs.declared.line.SymLine.{SymLine}
 use Rattle.sym_records.specs.declared.line.SymLine.TheVariants.{File, Origin}
-use Rattle.func_records.specs.declared.numbering.Numbering.{Numbering}
-use Rattle.func_records.specs.declared.numbering.Numbering.TheVariants as by
+use Rattle.func_records.specs.declared.text_numbers.Numbering.{Numbering}
+use Rattle.func_records.specs.declared.text_numbers.Numbering.TheVariants as by
 
 abbrev pub numbered : Numbering → ℕ → List ℕ → SymLine
 numbered by.Files = File

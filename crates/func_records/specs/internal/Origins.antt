@@ -4,7 +4,7 @@ use Rattle.std.specs.List.{slice_get, list_any}
 use Rattle.std.specs.Str.{bytes_eq}
 use Rattle.clean_names.specs.Cleaning.{cleaned}
 use Rattle.die_names.specs.declared.unit_read.UnitRead.{UnitRead}
-use Rattle.die_names.specs.declared.naming.NameRef.{NameRef}
+use Rattle.die_names.specs.declared.name_source.NameRef.{NameRef}
 use Rattle.die_names.specs.Names.{entry_name}
 use Rattle.die_names.specs.NameRefs.{name_bytes}
 use Rattle.func_flatten.specs.declared.piece.Piece.{Piece}

@@ -1,5 +1,5 @@
 use Rattle.std.proofs.Common.{take, map, arith, refl, subst}
-use Rattle.die_names.specs.declared.naming.NameRef.{NameRef}
+use Rattle.die_names.specs.declared.name_source.NameRef.{NameRef}
 use Rattle.std.proofs.Common.{List, ◌++◌}
 use Rattle.func_records.specs.internal.Origins.{made_name, RefsSay}
 use Rattle.func_records.specs.internal.Shares.{all_refs}

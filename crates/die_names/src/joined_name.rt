@@ -1,0 +1,182 @@
+//! The text of a name.
+ghost use Rattle.std.specs.Prelude.{◌≡◌, ◌++◌, ◌≤◌, ◌<◌, length, IfOk, OnOk};
+ghost use Rattle.std.specs.Option.{option_copied};
+ghost use Rattle.clean_names.specs.Cleaning.{cleaned};
+ghost use Rattle.die_walk.specs.EntryTable.{DieFields};
+ghost use Rattle.std.specs.List.{slice_get, list_any};
+ghost use Rattle.die_names.specs.Names.{around, scope_front, front_in};
+ghost use Rattle.die_names.specs.NameRefs.{name_bytes, name_slice};
+ghost use Rattle.die_names.specs.internal.Gathering.{is_scope_at};
+
+use crate::kept::{EntryNameText, whole_name};
+use crate::name_source::{How, NameRef};
+use crate::unit_read::Units;
+use clean_names::clean;
+use die_walk::{Die, DieList};
+use std::alloc::Global;
+use sym_edges::{ByteRun, OutOfMemory};
+
+/// The entry of a number.
+fn entry_in<'u, 'a>(dies: &'u DieList<'a>, entry: usize) -> Option<Die<'u, 'a>>
+    ensures { result ≡ slice_get dies.now entry }
+{
+    dies.get(entry)
+}
+
+/// Adds what an entry puts in front of a name.
+#[tactic(auto, unfolding(crate::specs::Names::scope_front))]
+fn add_front(text: &mut Vec<u8>, die: &Die<'_, '_>) -> Result<(), OutOfMemory>
+    ensures { OnOk result (text.new.items ≡ text.old.items ++ scope_front die.now) }
+{
+    if !die.is_scope() {
+        return Ok(());
+    }
+    text.extend_from_slice(die.name().unwrap_or(b"(anonymous)"))?;
+    text.extend_from_slice(b"::")?;
+    Ok(())
+}
+
+/// The numbers of the entries around one, the innermost first.
+#[tactic(auto, using(crate::proofs::JoinLemmas::gathered_more, crate::proofs::JoinLemmas::gathered_none, crate::proofs::JoinLemmas::gathered_past, crate::proofs::JoinLemmas::gathered_lost))]
+fn numbers_around(
+    alloc: Global,
+    dies: &DieList<'_>,
+    entry: usize,
+    parent: Option<u32>,
+) -> Result<Vec<u32>, OutOfMemory>
+    ensures { IfOk result (λ v. v.items ≡ around dies.now entry parent) }
+{
+    let mut numbers = Vec::new(alloc);
+    let mut limit = entry;
+    let mut next = parent;
+    'around: loop {
+        let Some(number) = next else {
+            return Ok(numbers);
+        };
+        if number as usize >= limit {
+            return Ok(numbers);
+        }
+        let Some(die) = entry_in(dies, number as usize) else {
+            return Ok(numbers);
+        };
+        numbers.push(number)?;
+        limit = number as usize;
+        next = die.parent();
+    }
+}
+
+/// Whether one of the entries around one is a scope.
+#[tactic(auto, using(crate::proofs::JoinLemmas::any_found, crate::proofs::JoinLemmas::any_more, crate::proofs::JoinLemmas::any_none, crate::proofs::JoinLemmas::any_past, crate::proofs::JoinLemmas::any_lost))]
+fn has_scope(dies: &DieList<'_>, entry: usize, parent: Option<u32>) -> bool
+    ensures { result ≡ list_any (is_scope_at dies.now) (around dies.now entry parent) }
+{
+    let mut limit = entry;
+    let mut next = parent;
+    'around: loop {
+        let Some(number) = next else {
+            return false;
+        };
+        if number as usize >= limit {
+            return false;
+        }
+        let Some(die) = entry_in(dies, number as usize) else {
+            return false;
+        };
+        if die.is_scope() {
+            return true;
+        }
+        limit = number as usize;
+        next = die.parent();
+    }
+}
+
+/// A name after the names of its scopes.
+#[tactic(auto, using(crate::proofs::JoinLemmas::fronts_more))]
+fn join(
+    alloc: Global,
+    dies: &DieList<'_>,
+    entry: usize,
+    parent: Option<u32>,
+    name: &[u8],
+) -> Result<Vec<u8>, OutOfMemory>
+    ensures { IfOk result (λ v. v.items ≡ front_in dies.now entry parent ++ name.now) }
+{
+    let mut numbers = numbers_around(alloc, dies, entry, parent)?;
+    let mut text = Vec::new(alloc);
+    'scopes: while let Some(number) = numbers.pop() {
+        if let Some(die) = entry_in(dies, number as usize) {
+            add_front(&mut text, &die)?;
+        }
+    }
+    text.extend_from_slice(name)?;
+    Ok(text)
+}
+
+/// The bytes of a name where they stand in the file as they are, before they are cleaned: a linkage name, or a name
+/// that has no scopes. Takes no memory.
+#[tactic(auto, using(crate::proofs::TextLemmas::slice_no_part, crate::proofs::TextLemmas::slice_no_die, crate::proofs::TextLemmas::slice_linkage, crate::proofs::TextLemmas::slice_omitted, crate::proofs::TextLemmas::slice_bare, crate::proofs::TextLemmas::slice_scoped))]
+pub fn name_slice<'a>(units: &Units<'a>, name: NameRef) -> Option<&'a [u8]>
+    ensures { option_copied result ≡ name_slice units.now name }
+{
+    let Some(part) = units.unit(name.unit) else {
+        return None;
+    };
+    let dies = part.die.dies();
+    let Some(die) = entry_in(dies, name.entry as usize) else {
+        return None;
+    };
+    match name.how {
+        How::Linkage => die.linkage(),
+        How::Joined => {
+            if has_scope(dies, name.entry as usize, die.parent()) {
+                None
+            } else {
+                die.name()
+            }
+        }
+        How::Omitted => None,
+    }
+}
+
+/// The text of a name, made as a record may carry it.
+#[tactic(auto, using(crate::proofs::TextLemmas::text_sliced, crate::proofs::TextLemmas::text_joined, crate::proofs::TextLemmas::text_no_part, crate::proofs::TextLemmas::text_no_die, crate::proofs::TextLemmas::text_no_name, crate::proofs::TextLemmas::text_no_linkage, crate::proofs::TextLemmas::text_omitted))]
+fn made_text(alloc: Global, units: &Units<'_>, name: NameRef) -> Result<ByteRun, OutOfMemory>
+    ensures { IfOk result (λ t. t ≡ cleaned (name_bytes units.now name)) }
+{
+    if let Some(bytes) = name_slice(units, name) {
+        return clean(alloc, bytes);
+    }
+    let Some(part) = units.unit(name.unit) else {
+        return clean(alloc, b"<name omitted>");
+    };
+    let dies = part.die.dies();
+    let Some(die) = entry_in(dies, name.entry as usize) else {
+        return clean(alloc, b"<name omitted>");
+    };
+    match name.how {
+        How::Joined => match die.name() {
+            Some(text) => {
+                let joined = join(alloc, dies, name.entry as usize, die.parent(), text)?;
+                clean(alloc, joined.as_slice())
+            }
+            None => clean(alloc, b"<name omitted>"),
+        },
+        How::Linkage => clean(alloc, b"<name omitted>"),
+        How::Omitted => clean(alloc, b"<name omitted>"),
+    }
+}
+
+/// The text of a name, as a record may carry it: `name_text` of what `name_of` gave is the name of the entry. Takes no memory where
+/// the name stands in the file as it is, and is clean.
+pub fn name_text<'a>(
+    alloc: Global,
+    units: &Units<'a>,
+    name: NameRef,
+) -> Result<EntryNameText<'a>, OutOfMemory>
+    ensures { IfOk result (λ t. t ≡ cleaned (name_bytes units.now name)) }
+{
+    if let Some(text) = whole_name(units, name) {
+        return Ok(text);
+    }
+    Ok(EntryNameText::of(made_text(alloc, units, name)?))
+}

@@ -1,0 +1,24 @@
+use Rattle.std.proofs.Common.{◌∙◌}
+use Rattle.step_maps.proofs.SpanLemmas.{fit_stretches}
+use Rattle.func_flatten.proofs.ClassLemmas.{classed_stretches, kept_stretches, starts_rise, covers_named}
+use Rattle.func_flatten.proofs.cover_marks.named_covers.Goals as goal
+
+pub covers-requires : goal.covers-requires
+covers-requires c = rw c.as_slice-stretches.ensures.value (fit_stretches _ c.requires.fit)
+
+pub stretches_at-requires : goal.stretches_at-requires
+stretches_at-requires c = rw (c.as_slice-2.ensures.value, c.in_ok-starts.ensures, c.as_slice.ensures) (starts_rise _ _ c.in_ok-apart.ensures)
+
+pub first_items-requires : goal.first_items-requires
+first_items-requires c =
+    rw (c.as_slice-5.ensures.value, c.in_ok-named.ensures)
+    (classed_stretches _ _ (rw (c.as_slice-4.ensures.value, c.in_ok-kept.ensures, c.as_slice-stretches.ensures.value) (kept_stretches _ _ (fit_stretches _ c.requires.fit))))
+
+pub returns : goal.returns
+returns c =
+    rw (c.of.ensures, c.mark_covers.ensures, c.into_vec.ensures)
+    (covers_named c.args.units.now c.args.all.now.places.items c.args.all.now.stretches.items c.as_slice-4.result.now c.as_slice-5.result.now _ _ c.requires.all
+    (rw c.as_slice-stretches.ensures.value at c.in_ok-apart.ensures)
+    (c.as_slice-4.ensures.value ∙ (rw (c.as_slice-2.ensures.value, c.in_ok-starts.ensures, c.as_slice.ensures, c.as_slice-stretches.ensures.value) at c.in_ok-kept.ensures))
+    (c.as_slice-5.ensures.value ∙ (rw c.as_slice-3.ensures.value at c.in_ok-named.ensures))
+    c.in_ok-items.ensures)

@@ -1,0 +1,48 @@
+//! Which function owns which addresses.
+ghost use Rattle.std.specs.Prelude.{◌≡◌, map, length, IfOk};
+ghost use Rattle.func_flatten.specs.Pieces.{ArePieces};
+ghost use Rattle.func_flatten.specs.internal.Collecting.{AreCut, piece_of};
+
+use crate::cover_marks::named_covers;
+use crate::functions::collect_all;
+use crate::piece::{Piece, PieceList};
+use die_names::{EntryRef, Units};
+use std::alloc::{AllocError, Global};
+use step_maps::Cover;
+use sym_edges::{ListOf, OutOfMemory};
+
+/// Who owns which addresses: for each maximal run of addresses with one owner a piece, by address. The owner of an address is
+/// the first function, in the order of `.debug_info`, whose addresses hold it (DWARF 5, 3.3). A piece's `many` says of its first
+/// address whether another function with another name, cleaned as a record carries it, has it too.
+///
+/// For n ranges of functions it takes n log n turns however they overlap, and n where they ascend; only functions that have the
+/// first address of a piece which another function has too are asked for their names.
+pub fn pieces(alloc: Global, units: &Units<'_>) -> Result<PieceList, OutOfMemory>
+    ensures { IfOk result (λ pieces. ArePieces units.now pieces) }
+{
+    let all = collect_all(alloc, units.as_slice())?;
+    let covers = named_covers(alloc, units, &all)?;
+    let pieces = pieces_of(alloc, covers.as_slice(), all.places.as_slice())?;
+    Ok(ListOf::of(pieces))
+}
+
+/// The covers as pieces.
+fn pieces_of(alloc: Global, covers: &[Cover], places: &[EntryRef]) -> Result<Vec<Piece>, AllocError>
+    requires { AreCut (length places.now) covers.now }
+    ensures { IfOk result (λ pieces. pieces.items ≡ map (piece_of places.now) covers.now) }
+{
+    let mut pieces = Vec::with_capacity(alloc, covers.len())?;
+    let mut rest = covers;
+    'covers: while let Some((cover, later)) = rest.split_first() {
+        let place = places[cover.index as usize];
+        pieces.push(Piece {
+            unit: place.unit,
+            entry: place.entry,
+            start: cover.first,
+            end: cover.last + 1,
+            many: cover.shared,
+        })?;
+        rest = later;
+    }
+    Ok(pieces)
+}

@@ -1,0 +1,92 @@
+//! The inlined copies of a piece.
+ghost use Rattle.std.specs.Prelude.{◌≡◌, ◌∷◌, [], ◌<◌, ◌≤◌, IfOk};
+ghost use Rattle.inline_chain.specs.InlineRuns.{AreInlineRuns};
+ghost use Rattle.die_names.specs.declared.unit_read.UnitRead.{UnitRead};
+ghost use Rattle.step_maps.specs.SpanStretches.{AreFit};
+ghost use Rattle.inline_chain.specs.Trees.{IsTree};
+ghost use Rattle.inline_chain.specs.internal.Levels.{HaveRuns, AllRuns};
+
+use crate::cover_lists::CoverLists;
+use crate::groups::push_level;
+use crate::inline_run::{InlineRun, InlineRuns};
+use crate::levels::level_under;
+use crate::trees::InlineTrees;
+use func_flatten::Piece;
+use std::alloc::Global;
+use std::mem::swap;
+use step_maps::Stretch;
+use sym_edges::{ListOf, OutOfMemory};
+
+/// Lists that each piece fills anew. They are kept for the sake of their memory: what they hold does not matter.
+#[derive(Drop)]
+pub struct LevelLists {
+    level: Vec<Stretch>,
+    next: Vec<Stretch>,
+    made: Vec<InlineRun>,
+}
+
+impl LevelLists {
+    pub fn new(alloc: Global) -> LevelLists {
+        LevelLists {
+            level: Vec::new(alloc),
+            next: Vec::new(alloc),
+            made: Vec::new(alloc),
+        }
+    }
+}
+
+/// The inlined copies on the chains of a piece's addresses, by level and first address: for each entry on a chain, at its level, the
+/// maximal ranges of its addresses in the piece, in records of at most 16,384 ranges.
+pub fn inlines(
+    alloc: Global,
+    trees: &InlineTrees<'_, '_>,
+    piece: &Piece,
+    levels: &mut LevelLists,
+) -> Result<InlineRuns, OutOfMemory>
+    ensures { IfOk result (λ runs. AreInlineRuns trees.now piece.now runs) }
+{
+    let Some(tree) = trees.tree(piece.unit) else {
+        return Ok(ListOf::of(Vec::new(alloc)));
+    };
+    if piece.end <= piece.start {
+        return Ok(ListOf::of(Vec::new(alloc)));
+    }
+    let owner = Stretch {
+        first: piece.start,
+        last: piece.end - 1,
+        index: piece.entry,
+        class: piece.entry,
+    };
+    let runs = runs_under(alloc, tree, owner, levels)?;
+    Ok(ListOf::of(runs))
+}
+
+/// The records of what stands in an owner, level by level.
+fn runs_under(
+    alloc: Global,
+    lists: &CoverLists,
+    owner: Stretch,
+    levels: &mut LevelLists,
+) -> Result<Vec<InlineRun>, OutOfMemory>
+    requires fit { AreFit (owner ∷ []) }
+    requires runs { HaveRuns lists.now }
+    ensures { IfOk result (λ runs. (part : UnitRead) → IsTree part lists.now → AllRuns part owner runs.items) }
+{
+    let mut runs = Vec::new(alloc);
+    level_under(lists, &[owner], &mut levels.level)?;
+    'levels: for number in 0..u32::MAX {
+        if levels.level.is_empty() {
+            return Ok(runs);
+        }
+        level_under(lists, levels.level.as_slice(), &mut levels.next)?;
+        push_level(
+            alloc,
+            &mut runs,
+            number,
+            &mut levels.level,
+            &mut levels.made,
+        )?;
+        swap(&mut levels.level, &mut levels.next);
+    }
+    Err(OutOfMemory)
+}

@@ -1,0 +1,5 @@
+use Rattle.line_program.proofs.PaintLemmas.{PaintsAll}
+use Rattle.line_program.proofs.line_map.paint_all.Given as goal
+
+abbrev pub invariant-loop-place : goal.invariant-loop-place
+invariant-loop-place l = PaintsAll l.kept l.stops l.items l.first l.numbers l.painted l.place

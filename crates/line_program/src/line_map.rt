@@ -1,0 +1,182 @@
+//! The map from addresses to lines, painted from the rows of sequences.
+ghost use Rattle.std.specs.Prelude.{◌≡◌, ℕ, ◌+◌, ◌<◌, ◌≤◌, nat_le, if◌then◌else◌, Option, Some, None, length, slice_get, IfOk, OnOk};
+ghost use Rattle.std.specs.Option.{option_copied};
+ghost use Rattle.step_maps.specs.Stepping.{last_from, held_from, value_at, IsStepping};
+ghost use Rattle.line_program.specs.LineMaps.{no_line};
+ghost use Rattle.line_program.specs.internal.Numbered.{numbered_line_of};
+ghost use Rattle.step_maps.specs.Ends.{BelowEnd, UpToEnd};
+ghost use Rattle.line_program.specs.internal.Painting.{SortedFrom, AllUpTo, last_at, covering, row_by};
+ghost use Rattle.line_program.specs.internal.RowsAbove.{Parts};
+
+use crate::path_line::{NO_LINE, PathLine, line_of};
+use crate::row::Row;
+use crate::row_order::CountedSequence;
+use std::alloc::Global;
+use step_maps::{FirstItem, StepMap};
+use sym_edges::OutOfMemory;
+
+/// A line, and the address from which on it holds.
+#[derive(Clone, Copy)]
+struct RowPainter {
+    from: u64,
+    line: PathLine,
+}
+
+/// The rows below an address.
+fn rows_below(rows: &[Row], end: u64) -> &[Row]
+    requires { SortedFrom 0 rows.now }
+    ensures sorted { SortedFrom 0 result.now }
+    ensures below { AllUpTo end result.now }
+    ensures same { (a : ℕ) → a < end → last_at result.now a ≡ last_at rows.now a }
+{
+    let count = rows.partition_point(|row| row.address < end);
+    &rows[..count]
+}
+
+/// The rows above an address, and the line of the last row at or below it.
+fn rows_above<'a>(rows: &'a [Row], first: u32, numbers: &[u32], start: u64) -> (PathLine, &'a [Row])
+    requires { SortedFrom 0 rows.now }
+    ensures { Parts first numbers.now rows.now start result.0 result.1.now }
+{
+    let count = rows.partition_point(|row| row.address <= start);
+    let (_, above) = rows.split_at(count);
+    if count == 0 {
+        return (NO_LINE, above);
+    }
+    (line_of(first, numbers, rows[count - 1]), above)
+}
+
+/// Paints a line from an address on, where another one holds up to now.
+#[inline]
+fn paint_line(
+    painted: &mut StepMap<PathLine>,
+    now: PathLine,
+    next: RowPainter,
+) -> Result<(), OutOfMemory>
+    requires last { last_from 0 painted.old.stops ≤ next.from }
+    requires now { (a : ℕ) → next.from ≤ a → value_at no_line painted.old a ≡ now }
+    ensures at { OnOk result ((a : ℕ) → value_at no_line painted.new a ≡ (if nat_le next.from a then next.line else value_at no_line painted.old a)) }
+    ensures last { OnOk result (last_from 0 painted.new.stops ≤ next.from) }
+{
+    if next.line.path == now.path && next.line.line == now.line {
+        return Ok(());
+    }
+    painted.set(next.from, next.line)?;
+    Ok(())
+}
+
+/// Paints rows from an address on.
+fn paint_rows(
+    painted: &mut StepMap<PathLine>,
+    rows: &[Row],
+    first: u32,
+    numbers: &[u32],
+    start: u64,
+) -> Result<(), OutOfMemory>
+    requires sorted { SortedFrom 0 rows.now }
+    requires last { last_from 0 painted.old.stops ≤ start }
+    ensures at { OnOk result ((a : ℕ) → value_at no_line painted.new a ≡ (if nat_le start a then numbered_line_of first numbers.now (last_at rows.now a) else value_at no_line painted.old a)) }
+    ensures last { OnOk result ((end : ℕ) → start ≤ end → AllUpTo end rows.now → last_from 0 painted.new.stops ≤ end) }
+{
+    let (line, above) = rows_above(rows, first, numbers, start);
+    painted.set(start, line)?;
+    let mut now = RowPainter { from: start, line };
+    let mut rest = above;
+    'rows: while let Some((row, after)) = rest.split_first() {
+        let next = RowPainter {
+            from: row.address,
+            line: line_of(first, numbers, *row),
+        };
+        paint_line(painted, now.line, next)?;
+        now = next;
+        rest = after;
+    }
+    Ok(())
+}
+
+/// The sequence that covers an address.
+fn covering(kept: &[CountedSequence], item: Option<FirstItem>) -> Option<&CountedSequence>
+    ensures { option_copied result ≡ covering kept.now item }
+{
+    match item {
+        None => None,
+        Some(item) => kept.get(item.index as usize),
+    }
+}
+
+/// Paints the sequence that covers a piece, or no line, from an address on and up to an end.
+fn paint_piece(
+    painted: &mut StepMap<PathLine>,
+    kept: &[CountedSequence],
+    first: u32,
+    numbers: &[u32],
+    item: Option<FirstItem>,
+    start: u64,
+    end: Option<u64>,
+) -> Result<(), OutOfMemory>
+    requires last { last_from 0 painted.old.stops ≤ start }
+    requires end { UpToEnd start end }
+    ensures before { OnOk result ((a : ℕ) → a < start → value_at no_line painted.new a ≡ value_at no_line painted.old a) }
+    ensures at { OnOk result ((a : ℕ) → start ≤ a → BelowEnd a end → value_at no_line painted.new a ≡ numbered_line_of first numbers.now (row_by (covering kept.now item) a)) }
+    ensures last { OnOk result (UpToEnd (last_from 0 painted.new.stops) end) }
+{
+    match covering(kept, item) {
+        None => {
+            painted.set(start, NO_LINE)?;
+            Ok(())
+        }
+        Some(sequence) => {
+            let rows = sequence.rows.as_slice();
+            match end {
+                None => {
+                    paint_rows(painted, rows, first, numbers, start)?;
+                    Ok(())
+                }
+                Some(end) => {
+                    paint_rows(painted, rows_below(rows, end), first, numbers, start)?;
+                    Ok(())
+                }
+            }
+        }
+    }
+}
+
+/// The stop after the one at a place, if there is one.
+fn next_stop(stops: &[u64], place: usize) -> Option<u64>
+    requires { place < length stops.now }
+    ensures { result ≡ slice_get stops.now (place + 1) }
+{
+    match stops.get(place + 1) {
+        Some(stop) => Some(*stop),
+        None => None,
+    }
+}
+
+/// Paints each piece of the addresses that sequences cover.
+pub fn paint_all(
+    alloc: Global,
+    room: usize,
+    kept: &[CountedSequence],
+    stops: &[u64],
+    items: &[Option<FirstItem>],
+    first: u32,
+    numbers: &[u32],
+) -> Result<StepMap<PathLine>, OutOfMemory>
+    requires { IsStepping stops.now items.now }
+    ensures { IfOk result (λ painted. (a : ℕ) → value_at no_line painted a ≡ numbered_line_of first numbers.now (row_by (covering kept.now (held_from None stops.now items.now a)) a)) }
+{
+    let mut painted = StepMap::with_room(alloc, room)?;
+    for place in 0..stops.len() {
+        let end = next_stop(stops, place);
+        paint_piece(
+            &mut painted,
+            kept,
+            first,
+            numbers,
+            items[place],
+            stops[place],
+            end,
+        )?;
+    }
+    Ok(painted)
+}
