@@ -16,7 +16,7 @@ pub of-requires : goal.of-requires
 of-requires g c =
     let lines : List SymLine = written_lines c.base.result (written c.code.result.now c.args.debug.now.first c.args.debug.now.second) in
     let front = c.in_ok-head.ensures in
-    whole_spelled (text_bytes c.in_ok-head.head) (text_bytes c.in_ok-framed.framed.text) (text_bytes c.append.new.head) (identity_lines c.args.image.now c.args.name.now ++ (front.functions ++ public_lines c.args.image.now c.in_ok-pieces.pieces)) lines
+    whole_spelled (text_bytes c.in_ok-head.head) (text_bytes c.in_ok-framed.framed.text) (text_bytes c.append.new.self) (identity_lines c.args.image.now c.args.name.now ++ (front.functions ++ public_lines c.args.image.now c.in_ok-pieces.pieces)) lines
     front.text_is front.valid c.in_ok-framed.ensures.text (written_valid c.base.result c.code.result.now c.args.debug.now.first c.args.debug.now.second) c.in_ok-append.ensures
 
 pub returns : goal.returns
@@ -26,7 +26,7 @@ returns g c =
     let head : List SymLine = identity_lines c.args.image.now c.args.name.now ++ (front.functions ++ public_lines c.args.image.now c.in_ok-pieces.pieces) in
     file_dumped c.args.image.now c.args.name.now c.args.debug.now c.in_ok-pieces.pieces c.of.result lines c.base.result c.code.result.now c.in_ok-framed.framed.omitted (text_bytes c.in_ok-head.head)
     c.requires.found c.code.ensures.above c.in_ok-pieces.ensures front c.base.ensures c.code.ensures.ranges refl c.in_ok-framed.ensures.omitted
-    (c.of.ensures ∙ whole_records (text_bytes c.in_ok-head.head) (text_bytes c.in_ok-framed.framed.text) (text_bytes c.append.new.head) head lines front.text_is front.valid c.in_ok-framed.ensures.text (written_valid c.base.result c.code.result.now c.args.debug.now.first c.args.debug.now.second) c.in_ok-append.ensures)
-    (spelled_reads (text_bytes c.append.new.head) c.of.result
-    (whole_spelled (text_bytes c.in_ok-head.head) (text_bytes c.in_ok-framed.framed.text) (text_bytes c.append.new.head) head lines front.text_is front.valid c.in_ok-framed.ensures.text (written_valid c.base.result c.code.result.now c.args.debug.now.first c.args.debug.now.second) c.in_ok-append.ensures)
+    (c.of.ensures ∙ whole_records (text_bytes c.in_ok-head.head) (text_bytes c.in_ok-framed.framed.text) (text_bytes c.append.new.self) head lines front.text_is front.valid c.in_ok-framed.ensures.text (written_valid c.base.result c.code.result.now c.args.debug.now.first c.args.debug.now.second) c.in_ok-append.ensures)
+    (spelled_reads (text_bytes c.append.new.self) c.of.result
+    (whole_spelled (text_bytes c.in_ok-head.head) (text_bytes c.in_ok-framed.framed.text) (text_bytes c.append.new.self) head lines front.text_is front.valid c.in_ok-framed.ensures.text (written_valid c.base.result c.code.result.now c.args.debug.now.first c.args.debug.now.second) c.in_ok-append.ensures)
     (sym c.of.ensures))
