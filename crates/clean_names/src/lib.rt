@@ -4,7 +4,7 @@
 //! makes a name of any bytes, as a list of its own, and `add_cleaned` adds the same name at the end of a text.
 #![tactic(auto)]
 
-mod cleaning;
+mod cleaner;
 pub mod laws;
 
-pub use cleaning::{add_cleaned, clean};
+pub use cleaner::{add_cleaned, clean};

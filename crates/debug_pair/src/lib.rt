@@ -5,9 +5,9 @@
 #![tactic(auto)]
 
 mod fault;
-mod pairing;
+mod pair_check;
 mod place;
 
 pub use fault::{PairFault, ShortId};
-pub use pairing::pair;
+pub use pair_check::pair;
 pub use place::debug_path;

@@ -8,8 +8,8 @@ use Rattle.sym_edges.specs.WholeFile.{AsksOnce, HoldsFile, IsWhole, IsLonger, Re
 use Rattle.sym_edges.specs.declared.fault.Stop.{Stop}
 use Rattle.sym_edges.specs.declared.fault.Stop.TheVariants.{Fault}
 use Rattle.sym_edges.specs.declared.fault.Stop.TheVariants as stop
-use Rattle.sym_edges.specs.declared.reading.ReadEnd.{ReadEnd}
-use Rattle.sym_edges.specs.declared.reading.ReadEnd.TheVariants.{CantOpen, CantRead, TooLong}
+use Rattle.sym_edges.specs.declared.whole_file.ReadEnd.{ReadEnd}
+use Rattle.sym_edges.specs.declared.whole_file.ReadEnd.TheVariants.{CantOpen, CantRead, TooLong}
 use Rattle.sym_records.specs.declared.line.SymLine.{SymLine}
 use Rattle.sym_findings.specs.Findings.{findings}
 use Rattle.sym_findings.specs.declared.kind.Finding.{Finding}

@@ -2,8 +2,8 @@
 use Rattle.std.proofs.Common.{◌≡◌, inl, inr, ℕ, suc, ◌+◌, ◌≤◌, ◌<◌, Bool, true, false, cond, List, [], ◌∷◌, ◌++◌, take, Option, Some, None, Ok, Err, Result, length, nat_lt, refl, sym, ◌∙◌, ap, arith, append-nil, append_assoc, subst, IfOk}
 use Rattle.sym_edges.specs.Outside.{Files, Tells}
 use Rattle.sym_edges.specs.WholeFile.{HoldsFile, AsksOnce, ReadAll}
-use Rattle.sym_edges.specs.declared.reading.ReadEnd.{ReadEnd}
-use Rattle.sym_edges.specs.declared.reading.ReadEnd.TheVariants.{CantOpen, CantRead, TooLong}
+use Rattle.sym_edges.specs.declared.whole_file.ReadEnd.{ReadEnd}
+use Rattle.sym_edges.specs.declared.whole_file.ReadEnd.TheVariants.{CantOpen, CantRead, TooLong}
 use Rattle.sym_edges.specs.declared.fault.Stop.{Stop}
 use Rattle.sym_edges.specs.declared.fault.Stop.TheVariants.{Fault}
 use Rattle.sym_edges.specs.declared.fault.Stop.TheVariants as stop

@@ -6,7 +6,7 @@ use Rattle.sym_edges.specs.Outside.{Files, Tells}
 use Rattle.sym_edges.specs.WholeFile.{HoldsFile, AsksOnce, IsWhole, ReadAll}
 use Rattle.sym_edges.specs.Results.{◌>>=◌}
 use Rattle.sym_edges.specs.declared.fault.Stop.{Stop}
-use Rattle.sym_edges.specs.declared.reading.ReadEnd.{ReadEnd}
+use Rattle.sym_edges.specs.declared.whole_file.ReadEnd.{ReadEnd}
 use Rattle.elf_sections.specs.Image.{ImageParts, image}
 use Rattle.elf_sections.specs.declared.fault.ElfFault.{ElfFault}
 use Rattle.debug_pair.specs.DebugPath.{debug_path}

@@ -8,14 +8,14 @@
 
 mod code;
 mod constants;
+mod debug_image;
 mod fault;
 mod header;
 mod image;
+mod image_reader;
 mod notes;
 mod numbers;
-mod pairing;
 mod program;
-mod reading;
 mod section;
 mod strings;
 mod symbols;
@@ -24,5 +24,5 @@ mod text_identity;
 
 pub use fault::ElfFault;
 pub use image::Image;
-pub use reading::read_image;
+pub use image_reader::read_image;
 pub use symbols::Symbol;

@@ -15,16 +15,16 @@
 //! `searching` and `law`; `outermost` stands alone.
 #![tactic(auto)]
 
-mod building;
-mod cutting;
-mod joining;
+mod builder;
+mod difference;
+mod intersection;
 mod law;
-mod meeting;
+mod merge;
 mod outermost;
-mod searching;
+mod search;
 mod set;
 
-pub use joining::{of_owned, of_ranges};
 pub use law::same_addresses_same_list;
+pub use merge::{of_owned, of_ranges};
 pub use outermost::Enclosing;
 pub use set::RangeSet;

@@ -4,7 +4,7 @@ ghost use Rattle.range_set.specs.Building.{AreAscending};
 ghost use Rattle.range_set.specs.Enclosing.{encloses};
 ghost use Rattle.range_set.specs.Building.{AreRising};
 
-use crate::joining::sorted_copy;
+use crate::merge::sorted_copy;
 use std::alloc::{AllocError, Global};
 use std::marker::Model;
 use sym_edges::{OutOfMemory, Span};

@@ -3,10 +3,10 @@ ghost use Rattle.std.specs.Option.{option_copied};
 ghost use Rattle.range_set.specs.Members.{holds_any};
 ghost use Rattle.range_set.specs.Canonical.{IsCanonical};
 
-use crate::cutting::minus_spans;
-use crate::joining::join_spans;
-use crate::meeting::meet_spans;
-use crate::searching::is_held;
+use crate::difference::minus_spans;
+use crate::intersection::meet_spans;
+use crate::merge::join_spans;
+use crate::search::is_held;
 use std::alloc::Global;
 use std::marker::Model;
 use std::slice;

@@ -9,7 +9,7 @@ use Rattle.sym_meaning.specs.TextNames.{is_file, is_origin}
 use Rattle.sym_meaning.specs.Findings.{run_of, func_run, has_file, has_origin, are_sized}
 use Rattle.sym_findings.specs.declared.kind.FindingKind.{FindingKind}
 use Rattle.sym_findings.specs.declared.kind.FindingKind.TheVariants as kind
-use Rattle.sym_findings.specs.declared.preceding.OpenInit.{OpenInit}
+use Rattle.sym_findings.specs.declared.records_before.OpenInit.{OpenInit}
 use Rattle.sym_findings.specs.FindingWords.{kinds}
 use Rattle.sym_findings.specs.Findings.{meets_any, is_given_before, meets_func, OpenFunc, with_line, open_func, leave, leaves_func, meets_line, init_run, meets_init, open_init, goes_on, is_outside, is_found, finding_if, findings_at, findings_from, findings}
 use Rattle.rust_names.specs.ShownRecords.{renamed}

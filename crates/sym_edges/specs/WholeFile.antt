@@ -2,8 +2,8 @@ use Rattle.std.specs.Prelude.{◌≡◌, ◌⊎◌, ℕ, ◌<◌, ◌≤◌, Lis
 use Rattle.sym_edges.specs.Outside.{Files, Rose}
 use Rattle.sym_edges.specs.declared.fault.Stop.{Stop}
 use Rattle.sym_edges.specs.declared.fault.Stop.TheVariants.{Fault, NoMemory}
-use Rattle.sym_edges.specs.declared.reading.ReadEnd.{ReadEnd}
-use Rattle.sym_edges.specs.declared.reading.ReadEnd.TheVariants.{CantOpen, CantRead, TooLong}
+use Rattle.sym_edges.specs.declared.whole_file.ReadEnd.{ReadEnd}
+use Rattle.sym_edges.specs.declared.whole_file.ReadEnd.TheVariants.{CantOpen, CantRead, TooLong}
 
 -- the name was asked for once; where memory ran out it may not have been
 abbrev pub AsksOnce : Result (List ℕ) (Stop ReadEnd) → List (List ℕ) → List ℕ → List (List ℕ) → Type 0

@@ -3,7 +3,7 @@ ghost use Rattle.sym_edges.specs.Outside.{MatchStop, OnFault, OnNoMemory, Rose};
 
 use crate::fault::{Failed, Stop};
 use crate::name::NameText;
-use crate::retrying::read_retrying;
+use crate::retry::read_retrying;
 use crate::store::Store;
 use std::alloc::Global;
 use std::fs;

@@ -1,7 +1,7 @@
 ghost use Rattle.std.specs.Prelude.{◌≡◌, None};
 
 use crate::fault::Failed;
-use crate::retrying::write_retrying;
+use crate::retry::write_retrying;
 use crate::sink::Sink;
 use std::io::Write;
 

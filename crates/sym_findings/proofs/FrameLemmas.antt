@@ -12,7 +12,7 @@ use Rattle.sym_rules.specs.declared.rules.RuleText.{RuleText}
 use Rattle.sym_meaning.specs.Inits.{init_covers, inits_at, AreNested}
 use Rattle.sym_meaning.specs.Findings.{run_of, is_sized, are_sized, meet, AreApart}
 use Rattle.sym_meaning.proofs.InitLemmas.{counted}
-use Rattle.sym_findings.specs.declared.preceding.OpenInit.{OpenInit}
+use Rattle.sym_findings.specs.declared.records_before.OpenInit.{OpenInit}
 use Rattle.sym_findings.specs.Findings.{meets_any, init_run, open_init, goes_on, is_outside}
 use Rattle.sym_findings.proofs.PairLemmas.{NoneOf, not_false, true_not}
 

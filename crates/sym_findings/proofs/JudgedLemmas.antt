@@ -13,9 +13,9 @@ use Rattle.sym_meaning.specs.Findings.{run_of, func_run, is_sized, meet}
 use Rattle.sym_edges.specs.Addresses.{Range}
 use Rattle.sym_findings.specs.declared.kind.FindingKind.TheVariants as kind
 use Rattle.sym_findings.specs.declared.kind.Finding.{Finding}
-use Rattle.sym_findings.specs.declared.preceding.OpenInit.{OpenInit}
-use Rattle.sym_findings.specs.declared.preceding.Preceding.{Preceding}
-use Rattle.sym_findings.specs.declared.preceding.Known.{Known}
+use Rattle.sym_findings.specs.declared.records_before.OpenInit.{OpenInit}
+use Rattle.sym_findings.specs.declared.records_before.Preceding.{Preceding}
+use Rattle.sym_findings.specs.declared.records_before.Known.{Known}
 use Rattle.sym_findings.specs.Findings.{OpenFunc, with_line, meets_any, open_func, open_init, init_run, leave, goes_on, finding_if, findings_at}
 use Rattle.sym_findings.specs.internal.Numbers.{has_number}
 use Rattle.sym_findings.specs.internal.Ranges.{is_met}

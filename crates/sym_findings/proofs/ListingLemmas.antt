@@ -3,7 +3,7 @@ use Rattle.std.proofs.Common.{◌≡◌, ℕ, ◌+◌, ◌<◌, ◌≤◌, suc, 
 use Rattle.std.proofs.lemmas.List.{take_more, drop_all, reverse-append}
 use Rattle.sym_records.specs.declared.line.SymLine.{SymLine}
 use Rattle.sym_findings.specs.declared.kind.Finding.{Finding}
-use Rattle.sym_findings.specs.declared.preceding.Preceding.{Preceding}
+use Rattle.sym_findings.specs.declared.records_before.Preceding.{Preceding}
 use Rattle.sym_findings.specs.Findings.{findings_at, findings_from, findings}
 use Rattle.sym_findings.specs.internal.Preceding.{Keeps, Judged, preceding_at}
 

@@ -12,7 +12,7 @@ use Rattle.sym_meaning.specs.Findings.{run_of, func_run, has_file, has_origin, a
 use Rattle.sym_findings.specs.declared.kind.FindingKind.{FindingKind}
 use Rattle.sym_findings.specs.declared.kind.FindingKind.TheVariants as kind
 use Rattle.sym_findings.specs.declared.kind.Finding.{Finding}
-use Rattle.sym_findings.specs.declared.preceding.OpenInit.{OpenInit}
+use Rattle.sym_findings.specs.declared.records_before.OpenInit.{OpenInit}
 use Rattle.sym_findings.specs.FindingWords.{kinds}
 
 -- whether the addresses meet those of a list

@@ -11,9 +11,9 @@ ghost use Rattle.sym_findings.specs.internal.Ranges.{is_met};
 ghost use Rattle.sym_findings.specs.internal.Preceding.{leaves_open, Knows, Keeps, Judged};
 
 use crate::kind::{Finding, FindingKind};
-use crate::meeting::MetRanges;
+use crate::met_ranges::MetRanges;
 use crate::numbers::GivenNumbers;
-use crate::preceding::{Known, OpenInit, Preceding};
+use crate::records_before::{Known, OpenInit, Preceding};
 use std::alloc::Global;
 use sym_edges::OutOfMemory;
 use sym_records::{Extent, SymLine};

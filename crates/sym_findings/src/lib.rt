@@ -14,18 +14,18 @@
 mod kind;
 
 // What the records before one say.
-mod meeting;
+mod met_ranges;
 mod numbers;
-mod preceding;
 mod ranges;
+mod records_before;
 
 // The findings of one record, and of all.
+mod finding_list;
 mod judgement;
-mod listing;
 
 // What holds of them.
 pub mod laws;
 
+pub use finding_list::findings;
 pub use kind::{Finding, FindingKind, FindingList};
-pub use listing::findings;
-pub use preceding::OpenInit;
+pub use records_before::OpenInit;

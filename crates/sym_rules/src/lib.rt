@@ -19,7 +19,7 @@ mod registers;
 mod sink_buffer;
 mod sink_rules;
 mod text_end;
-mod waiting;
+mod waiting_bytes;
 mod words;
 
 pub use backward::{write_byte, write_bytes, write_decimal, write_hex, write_last, write_signed};
@@ -30,5 +30,5 @@ pub use sink_rules::put_rules;
 pub use text_end::{add_rules, add_word};
 pub use text_fault::{TextFault, TextKind};
 pub use validity::{are_rules, are_unparted};
-pub use waiting::Waiting;
+pub use waiting_bytes::Waiting;
 pub use words::rules_length;

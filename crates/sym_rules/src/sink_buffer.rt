@@ -3,7 +3,7 @@ ghost use Rattle.std.specs.Prelude.{◌≡◌, ◌≤◌, [], ◌∷◌, OnOk, O
 ghost use Rattle.sym_edges.specs.Outside.{append_told, AddsFront, Rose};
 ghost use Rattle.sym_rules.specs.Buffer.{Hands};
 
-use crate::waiting::Waiting;
+use crate::waiting_bytes::Waiting;
 use sym_edges::{Failed, Sink, write_all};
 
 /// Hands on what waits.

@@ -6,7 +6,7 @@ ghost use Rattle.sym_rules.specs.Rules.{target_word, spelled_token, spelled_rule
 
 use crate::rules::{RuleText, Target, Token};
 use crate::sink_buffer::{put, put_word};
-use crate::waiting::Waiting;
+use crate::waiting_bytes::Waiting;
 use crate::words::{target_name, token_word};
 use itoa::Buffer;
 use sym_edges::{Failed, Sink};

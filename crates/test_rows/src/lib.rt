@@ -2,6 +2,6 @@
 #![tactic(auto)]
 
 pub mod elf;
-mod holding;
+mod held_gate;
 
-pub use holding::Holding;
+pub use held_gate::Holding;

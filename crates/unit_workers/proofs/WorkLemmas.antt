@@ -4,7 +4,7 @@ use Rattle.std.specs.Prelude.{option_to_list}
 use Rattle.std.specs.List.{All}
 use Rattle.std.proofs.lemmas.List.Elements.{All-push, All-pop}
 use Rattle.sym_edges.specs.declared.fault.OutOfMemory.{OutOfMemory}
-use Rattle.unit_workers.specs.declared.working.Worked.{Worked}
+use Rattle.unit_workers.specs.declared.worker.Worked.{Worked}
 use Rattle.unit_workers.specs.Held.{Roll, Held, held}
 use Rattle.unit_workers.specs.Working.{numbers, IsResult, IsWorked, AreWorked}
 use Rattle.unit_workers.proofs.NumberLemmas.{ceiling, ceiling_push, ceiling_le}

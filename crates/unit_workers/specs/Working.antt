@@ -2,7 +2,7 @@
 use Rattle.std.specs.Prelude.{◌≡◌, ℕ, ◌<◌, ◌≤◌, List, [], ◌∷◌, length, Option, Some, Result, IfSome, IfOk, IsSomeAnd, slice_index_or, slice_set}
 use Rattle.std.specs.List.{All}
 use Rattle.sym_edges.specs.declared.fault.OutOfMemory.{OutOfMemory}
-use Rattle.unit_workers.specs.declared.working.Worked.{Worked}
+use Rattle.unit_workers.specs.declared.worker.Worked.{Worked}
 use Rattle.unit_workers.specs.Numbers.{times}
 use Rattle.unit_workers.specs.Held.{Roll, Held, held}
 

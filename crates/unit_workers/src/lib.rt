@@ -39,16 +39,16 @@
 //! `running`.
 #![tactic(auto)]
 
-mod gathering;
 mod job;
 pub mod laws;
 mod lot;
+mod results;
 mod rule;
-mod running;
+mod runner;
 mod tickets;
 mod view;
-mod working;
+mod worker;
 
 pub use job::{Gate, NoGate, UnitJob};
-pub use running::run_all;
+pub use runner::run_all;
 pub use tickets::{Hand, Tickets, open_tickets};

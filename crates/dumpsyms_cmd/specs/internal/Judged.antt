@@ -4,8 +4,8 @@ use Rattle.sym_edges.specs.Outside.{Files, Tells, Rose}
 use Rattle.sym_edges.specs.declared.fault.Stop.{Stop}
 use Rattle.sym_edges.specs.declared.fault.Stop.TheVariants.{Fault}
 use Rattle.sym_edges.specs.declared.fault.Stop.TheVariants as stop
-use Rattle.sym_edges.specs.declared.reading.ReadEnd.{ReadEnd}
-use Rattle.sym_edges.specs.declared.reading.ReadEnd.TheVariants.{CantOpen, CantRead, TooLong}
+use Rattle.sym_edges.specs.declared.whole_file.ReadEnd.{ReadEnd}
+use Rattle.sym_edges.specs.declared.whole_file.ReadEnd.TheVariants.{CantOpen, CantRead, TooLong}
 use Rattle.sym_edges.specs.Results.{◌>>=◌}
 use Rattle.elf_sections.specs.Image.{ImageParts, image}
 use Rattle.debug_pair.specs.Pairing.{pair_of}

@@ -7,8 +7,8 @@ use Rattle.sym_records.specs.declared.line.SymLine.{SymLine}
 use Rattle.sym_meaning.specs.TextNames.{is_file, is_origin}
 use Rattle.sym_meaning.specs.Findings.{func_run, holds_run}
 use Rattle.sym_edges.specs.Addresses.{Range}
-use Rattle.sym_findings.specs.declared.preceding.Preceding.{Preceding}
-use Rattle.sym_findings.specs.declared.preceding.Known.{Known}
+use Rattle.sym_findings.specs.declared.records_before.Preceding.{Preceding}
+use Rattle.sym_findings.specs.declared.records_before.Known.{Known}
 use Rattle.sym_findings.specs.declared.kind.Finding.{Finding}
 use Rattle.sym_findings.specs.internal.Numbers.{has_number}
 use Rattle.sym_findings.specs.internal.Ranges.{is_met}

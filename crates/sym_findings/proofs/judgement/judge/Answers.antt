@@ -2,7 +2,7 @@ use Rattle.std.proofs.Common.{Option, Some, None, sym, subst}
 use Rattle.sym_records.specs.declared.line.SymLine.{SymLine}
 use Rattle.sym_records.specs.declared.line.SymLine.TheVariants.{Change}
 use Rattle.sym_meaning.specs.Findings.{run_of}
-use Rattle.sym_findings.specs.declared.preceding.OpenInit.{OpenInit}
+use Rattle.sym_findings.specs.declared.records_before.OpenInit.{OpenInit}
 use Rattle.sym_findings.specs.internal.Preceding.{Judged}
 use Rattle.sym_findings.proofs.JudgedLemmas.{judged_file, judged_origin, judged_func, judged_init, judged_runs, judged_line, judged_change, judged_module, judged_info, judged_public}
 use Rattle.sym_findings.proofs.judgement.judge.Goals as goal

@@ -1,9 +1,0 @@
-use Rattle.std.proofs.Common.{◌+◌, length}
-use Rattle.range_set.proofs.JoinLemmas.{Joins}
-use Rattle.range_set.proofs.joining.push_merged.Given as goal
-
-abbrev pub invariant-spans : goal.invariant-spans
-invariant-spans l = Joins l.left l.right l.built l.xs l.ys
-
-abbrev pub decreases-spans : goal.decreases-spans
-decreases-spans l = length l.xs + length l.ys

@@ -1,5 +1,0 @@
-use Rattle.sym_findings.proofs.ListingLemmas.{Lists}
-use Rattle.sym_findings.proofs.listing.found_in.Given as goal
-
-abbrev pub invariant-loop-index : goal.invariant-loop-index
-invariant-loop-index l = Lists l.lines l.index l.out.items l.kept

@@ -1,0 +1,61 @@
+ghost use Rattle.std.specs.Prelude.{◌≡◌, IfOk, [], ◌<◌};
+ghost use Rattle.sym_findings.specs.Findings.{findings};
+ghost use Rattle.sym_findings.specs.internal.Preceding.{Knows, Keeps};
+
+use crate::judgement::judge;
+use crate::kind::{Finding, FindingList};
+use crate::met_ranges::MetRanges;
+use crate::numbers::{GivenNumbers, KnownNumbers, numbers_in};
+use crate::records_before::{Known, Preceding};
+use std::alloc::Global;
+use sym_edges::{ListOf, OutOfMemory};
+use sym_records::{SymFile, SymLine};
+
+/// The numbers of all records.
+fn known_in(alloc: Global, lines: &[SymLine]) -> Result<Known, OutOfMemory>
+    ensures { IfOk result (λ known. Knows lines.now known) }
+{
+    let numbers = numbers_in(alloc, lines)?;
+    let files = KnownNumbers::of(numbers.files)?;
+    let origins = KnownNumbers::of(numbers.origins)?;
+    Ok(Known { files, origins })
+}
+
+/// Nothing is kept yet. Takes no memory.
+fn none_kept(alloc: Global) -> Preceding
+    ensures { Keeps [] result }
+{
+    Preceding {
+        files: GivenNumbers::new(alloc),
+        origins: GivenNumbers::new(alloc),
+        functions: MetRanges::new(alloc),
+        func: None,
+        lines: MetRanges::new(alloc),
+        inits: MetRanges::new(alloc),
+        init: None,
+    }
+}
+
+/// The findings in records whose numbers are known.
+fn found_in(alloc: Global, known: &Known, lines: &[SymLine]) -> Result<Vec<Finding>, OutOfMemory>
+    requires { Knows lines.now known.now }
+    ensures { IfOk result (λ found. found.items ≡ findings lines.now) }
+{
+    let mut kept = none_kept(alloc);
+    let mut out = Vec::new(alloc);
+    for (index, line) in lines.iter().enumerate() {
+        judge(alloc, &mut out, known, &mut kept, index, line)?;
+    }
+    Ok(out)
+}
+
+/// What a checker finds in the records of a file, by record and then kind. n log n turns at worst for n records and
+/// ranges.
+pub fn findings(alloc: Global, file: &SymFile) -> Result<FindingList, OutOfMemory>
+    ensures { IfOk result (λ found. found ≡ findings file.now) }
+{
+    let lines = file.as_slice();
+    let known = known_in(alloc, lines)?;
+    let found = found_in(alloc, &known, lines)?;
+    Ok(ListOf::of(found))
+}
