@@ -1,3 +1,4 @@
 pub mod OperandLemmas
+pub mod TakenLemmas
 pub mod Computing
 mod WorkedLayouts

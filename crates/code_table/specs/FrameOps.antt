@@ -1,6 +1,6 @@
 -- The call frame instructions whose operands stand after the opcode (DWARF 5, table 7.29, and
 -- DW_CFA_GNU_args_size of the GNU tools).
-use Rattle.std.specs.Prelude.{ℕ, List, [], ◌∷◌}
+use Rattle.std.specs.Prelude.{ℕ, ◌==◌, not, List, [], ◌∷◌, filter}
 use Rattle.code_table.specs.declared.kind.Kind.{Kind}
 use Rattle.code_table.specs.declared.kind.Kind.TheVariants.{Nothing, U8, U16, U32, Uleb, Sleb, BlockUleb}
 use Rattle.code_table.specs.declared.code_row.CodeRow.{CodeRow}
@@ -37,3 +37,7 @@ frame_opcodes =
     ∷ op 0x16 Uleb BlockUleb  -- DW_CFA_val_expression
     ∷ op 0x2e Uleb Nothing  -- DW_CFA_GNU_args_size
     ∷ []
+
+-- those but DW_CFA_set_loc
+unfoldable pub plain_opcodes : List CodeRow
+plain_opcodes = filter (λ row. not (row.code == 0x01)) frame_opcodes

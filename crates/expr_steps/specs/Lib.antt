@@ -2,5 +2,4 @@ pub mod Operations
 pub mod Steps
 pub mod Standing
 pub mod Places
-pub mod Operands
 pub mod internal

@@ -4,9 +4,9 @@ ghost use Rattle.std.specs.List.{All, list_all};
 ghost use Rattle.leb_cursor.specs.Ahead.{Ahead};
 ghost use Rattle.leb_cursor.specs.Lists.{list_at, list_cases};
 ghost use Rattle.code_table.specs.ExprOps.{expr_opcodes};
-ghost use Rattle.expr_steps.specs.Operands.{TakesOperands};
+ghost use Rattle.code_table.specs.Operands.{TakesOperands};
 ghost use Rattle.expr_steps.specs.declared.step.Step.{Step};
-ghost use Rattle.expr_steps.specs.Operations.{next_operation};
+ghost use Rattle.expr_steps.specs.Operations.{behind_opcode, next_operation};
 ghost use Rattle.expr_steps.specs.Steps.{steps};
 ghost use Rattle.expr_steps.specs.Standing.{has_bounds};
 
@@ -19,7 +19,7 @@ pub fn operations_follow()
 /// An operation takes the operands that the table of opcodes gives it.
 #[tactic(auto, using(crate::proofs::OperandLemmas::operands_taken))]
 pub fn operands_are_those_of_the_table()
-    ensures { All TakesOperands expr_opcodes }
+    ensures { All (TakesOperands behind_opcode) expr_opcodes }
 {}
 
 /// The registers of an expression's steps are the sixteen and rip, and their offsets are numbers of 64 bits.

@@ -1,7 +1,6 @@
 -- An instruction takes the operands that the table of opcodes gives it; for `operands_are_those_of_the_table`.
-use Rattle.std.proofs.Common.{◌≡◌, ℕ, ℤ, List, [], ◌∷◌, length, Result, Ok, Err, refl}
+use Rattle.std.proofs.Common.{◌≡◌, ℕ, ℤ, List, length, Result, Ok, Err, refl}
 use Rattle.std.specs.List.{All}
-use Rattle.std.proofs.lemmas.List.Elements.{All-nil, All-cons}
 use Rattle.sym_edges.specs.declared.reason.Reason.{Reason}
 use Rattle.sym_edges.specs.Results.{◌>>=◌}
 use Rattle.leb_cursor.specs.declared.fault.CursorFault.{CursorFault}
@@ -9,32 +8,15 @@ use Rattle.leb_cursor.specs.Ahead.{Ahead}
 use Rattle.leb_cursor.specs.Readings.{fixed_at, uleb_at, sleb_at, take_at}
 use Rattle.code_table.specs.declared.kind.Kind.TheVariants.{Nothing, Uleb, Sleb, BlockUleb}
 use Rattle.code_table.specs.declared.kind.Operand.{Operand}
-use Rattle.code_table.specs.declared.kind.Operand.TheVariants.{Num, Signed, Run}
+use Rattle.code_table.specs.declared.kind.Operand.TheVariants.{Num, Run}
 use Rattle.code_table.specs.declared.kind.Operands.{Operands}
-use Rattle.code_table.specs.declared.code_row.CodeRow.{CodeRow}
-use Rattle.code_table.specs.FrameOps.{frame_opcodes}
+use Rattle.code_table.specs.FrameOps.{frame_opcodes, plain_opcodes}
 use Rattle.code_table.specs.Layouts.{number_in, block_in, run_at, kind_at, shape_at}
+use Rattle.code_table.specs.Operands.{left, TakesOperands}
+use Rattle.code_table.proofs.TakenLemmas.{both, signed_in, one_number, one_signed, Taken, none, ◌then◌}
 use Rattle.frame_rows.specs.declared.instruction.Block.{Block}
 use Rattle.frame_rows.specs.declared.instruction.Instruction.{Instruction}
 use Rattle.frame_rows.specs.Instructions.{or_instruction, block_at, with_block, extended_at}
-use Rattle.frame_rows.specs.Operands.{left, TakesOperands, plain_opcodes}
-
--- both operands of a shape, of which the first was read
-abbrev both : Result (Operand × Ahead) CursorFault → (Ahead → Result (Operand × Ahead) CursorFault) → Result (Operands × Ahead) CursorFault
-both first second = first >>= λ x. second x.1 >>= λ y. Ok (record { first = x.0; second = y.0 }, y.1)
-
-abbrev signed_in : Result (ℤ × Ahead) CursorFault → Result (Operand × Ahead) CursorFault
-signed_in reading = reading >>= λ number. Ok (Signed number.0, number.1)
-
-one_number : (make : ℕ → Instruction) (reading : Result (ℕ × Ahead) CursorFault) → left {E = Reason} (or_instruction reading >>= λ x. Ok (make x.0, x.1)) ≡ left (both (number_in reading) (kind_at Nothing))
-unfolding kind_at
-one_number make (Ok x) = refl
-one_number make (Err fault) = refl
-
-one_signed : (make : ℤ → Instruction) (reading : Result (ℤ × Ahead) CursorFault) → left {E = Reason} (or_instruction reading >>= λ x. Ok (make x.0, x.1)) ≡ left (both (signed_in reading) (kind_at Nothing))
-unfolding kind_at
-one_signed make (Ok x) = refl
-one_signed make (Err fault) = refl
 
 second_number : (make : ℕ → Instruction) (first : Operand) (reading : Result (ℕ × Ahead) CursorFault) → left {E = Reason} (or_instruction reading >>= λ y. Ok (make y.0, y.1)) ≡ left (number_in reading >>= λ y. Ok (let pair : Operands = record { first = first; second = y.0 } in pair, y.1))
 second_number make first (Ok y) = refl
@@ -85,44 +67,33 @@ unfolding kind_at block_at
 number_then_block make (Ok x) = second_block (make x.0) (Num x.0) (uleb_at x.1)
 number_then_block make (Err fault) = refl
 
--- the fact of a row, and those of the rows after it
-pub record Taken (rows : List CodeRow) : Type 0 where
-  pub all : All TakesOperands rows
-
-none : Taken []
-none = record { all = All-nil TakesOperands }
-
-infixr 5 ◌then◌
-◌then◌ : {row : CodeRow} {rows : List CodeRow} → TakesOperands row → Taken rows → Taken (row ∷ rows)
-fact then later = record { all = All-cons TakesOperands _ _ fact later.all }
-
-each_taken : Taken plain_opcodes
+each_taken : (encoding base : ℕ) → Taken (TakesOperands (extended_at encoding base)) plain_opcodes
 unfolding plain_opcodes frame_opcodes extended_at block_at shape_at kind_at
-each_taken =
-    (λ encoding base c. refl)
-    then (λ encoding base c. one_number _ (fixed_at 1 c))
-    then (λ encoding base c. one_number _ (fixed_at 2 c))
-    then (λ encoding base c. one_number _ (fixed_at 4 c))
-    then (λ encoding base c. two_numbers _ (uleb_at c))
-    then (λ encoding base c. one_number _ (uleb_at c))
-    then (λ encoding base c. one_number _ (uleb_at c))
-    then (λ encoding base c. one_number _ (uleb_at c))
-    then (λ encoding base c. two_numbers _ (uleb_at c))
-    then (λ encoding base c. refl)
-    then (λ encoding base c. refl)
-    then (λ encoding base c. two_numbers _ (uleb_at c))
-    then (λ encoding base c. one_number _ (uleb_at c))
-    then (λ encoding base c. one_number _ (uleb_at c))
-    then (λ encoding base c. one_block _ (uleb_at c))
-    then (λ encoding base c. number_then_block _ (uleb_at c))
-    then (λ encoding base c. number_then_signed _ (uleb_at c))
-    then (λ encoding base c. number_then_signed _ (uleb_at c))
-    then (λ encoding base c. one_signed _ (sleb_at c))
-    then (λ encoding base c. two_numbers _ (uleb_at c))
-    then (λ encoding base c. number_then_signed _ (uleb_at c))
-    then (λ encoding base c. number_then_block _ (uleb_at c))
-    then (λ encoding base c. one_number _ (uleb_at c))
+each_taken encoding base =
+    (λ c. refl)
+    then (λ c. one_number _ _ (fixed_at 1 c))
+    then (λ c. one_number _ _ (fixed_at 2 c))
+    then (λ c. one_number _ _ (fixed_at 4 c))
+    then (λ c. two_numbers _ (uleb_at c))
+    then (λ c. one_number _ _ (uleb_at c))
+    then (λ c. one_number _ _ (uleb_at c))
+    then (λ c. one_number _ _ (uleb_at c))
+    then (λ c. two_numbers _ (uleb_at c))
+    then (λ c. refl)
+    then (λ c. refl)
+    then (λ c. two_numbers _ (uleb_at c))
+    then (λ c. one_number _ _ (uleb_at c))
+    then (λ c. one_number _ _ (uleb_at c))
+    then (λ c. one_block _ (uleb_at c))
+    then (λ c. number_then_block _ (uleb_at c))
+    then (λ c. number_then_signed _ (uleb_at c))
+    then (λ c. number_then_signed _ (uleb_at c))
+    then (λ c. one_signed _ _ (sleb_at c))
+    then (λ c. two_numbers _ (uleb_at c))
+    then (λ c. number_then_signed _ (uleb_at c))
+    then (λ c. number_then_block _ (uleb_at c))
+    then (λ c. one_number _ _ (uleb_at c))
     then none
 
-pub operands_taken : All TakesOperands plain_opcodes
-operands_taken = each_taken.all
+pub operands_taken : (encoding base : ℕ) → All (TakesOperands (extended_at encoding base)) plain_opcodes
+operands_taken encoding base = (each_taken encoding base).all

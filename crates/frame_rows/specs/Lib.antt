@@ -1,5 +1,4 @@
 pub mod Instructions
-pub mod Operands
 pub mod Machine
 pub mod Context
 pub mod Steps

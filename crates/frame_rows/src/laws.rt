@@ -2,11 +2,12 @@
 ghost use Rattle.std.specs.Prelude.{◌≡◌, ℕ, None};
 ghost use Rattle.std.specs.List.{All};
 ghost use Rattle.leb_cursor.specs.Ahead.{Ahead};
+ghost use Rattle.code_table.specs.FrameOps.{plain_opcodes};
+ghost use Rattle.code_table.specs.Operands.{TakesOperands};
 ghost use Rattle.frame_entries.specs.FdeFields.{FdeFields};
 ghost use Rattle.frame_entries.specs.SharedCies.{HaveOneCie};
 ghost use Rattle.frame_rows.specs.CieLeft.{cie_left};
-ghost use Rattle.frame_rows.specs.Instructions.{listed_at, listed_by};
-ghost use Rattle.frame_rows.specs.Operands.{TakesOperands, plain_opcodes};
+ghost use Rattle.frame_rows.specs.Instructions.{extended_at, listed_at, listed_by};
 ghost use Rattle.frame_rows.specs.Rows.{instruction_fault, row_at, rows_fault, HasCfa, IsSound};
 
 /// The instructions ahead are none where no byte is left, else the next one with those after it.
@@ -18,7 +19,7 @@ pub fn instructions_follow()
 /// An instruction takes the operands that the table of opcodes gives it.
 #[tactic(auto, using(crate::proofs::OperandLemmas::operands_taken))]
 pub fn operands_are_those_of_the_table()
-    ensures { All TakesOperands plain_opcodes }
+    ensures { (encoding base : ℕ) → All (TakesOperands (extended_at encoding base)) plain_opcodes }
 {}
 
 /// An entry that has rows: none of its instructions is bad, at each address of its range the row has a rule for the CFA, and text can say the

@@ -6,7 +6,6 @@ pub mod Headers
 pub mod FileFields
 pub mod LineTexts
 pub mod Opcodes
-pub mod Operands
 pub mod FileTables
 pub mod Paths
 pub mod LineRows

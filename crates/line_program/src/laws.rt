@@ -1,13 +1,13 @@
 //! Laws of the definitions. Each function does nothing: its contract is the law.
-ghost use Rattle.std.specs.Prelude.{◌≡◌, ℕ, ◌≤◌, Bool};
+ghost use Rattle.std.specs.Prelude.{◌≡◌, ℕ, ◌≤◌, Bool, List};
 ghost use Rattle.std.specs.List.{All};
 ghost use Rattle.leb_cursor.specs.Ahead.{Ahead};
 ghost use Rattle.leb_cursor.specs.Lists.{list_at, list_cases};
 ghost use Rattle.line_program.specs.FileTables.{old_entry_at};
 ghost use Rattle.code_table.specs.LineOps.{line_opcodes};
+ghost use Rattle.code_table.specs.Operands.{TakesOperands};
 ghost use Rattle.line_program.specs.LineMaps.{LineMap, NoStopBetween, numbered_line};
-ghost use Rattle.line_program.specs.Opcodes.{next_at, opcodes_at};
-ghost use Rattle.line_program.specs.Operands.{TakesOperands};
+ghost use Rattle.line_program.specs.Opcodes.{next_at, opcodes_at, standard_at};
 ghost use Rattle.line_program.specs.ProgramFields.{ProgramFields};
 
 /// The opcodes ahead are the next one in front of those after it, and none where no byte is left.
@@ -22,10 +22,10 @@ pub fn old_entries_follow()
     ensures { (of_files : Bool) (c : Ahead) → list_at (old_entry_at of_files) c ≡ list_cases (old_entry_at of_files) c }
 {}
 
-/// A standard opcode takes the operand that the table of opcodes gives it.
+/// A standard opcode takes the operand that the table of opcodes gives it, whatever the header says.
 #[tactic(auto, using(crate::proofs::OperandLemmas::operands_taken))]
 pub fn operands_are_those_of_the_table()
-    ensures { All TakesOperands line_opcodes }
+    ensures { (lengths : List ℕ) → All (TakesOperands (standard_at lengths)) line_opcodes }
 {}
 
 /// The line is the same at two addresses where no stop stands between them.
