@@ -5,6 +5,8 @@ use Rattle.std.specs.Option.{option_or}
 use Rattle.std.proofs.lemmas.Bool.{cases_lt, or_parts}
 use Rattle.std.proofs.lemmas.List.{length-drop, take_all, drop_all, map-append, take_more}
 use Rattle.std.proofs.lemmas.List.Folds.{list_any-append}
+use Rattle.unit_workers.specs.Shares.{share}
+use Rattle.unit_workers.proofs.ShareLemmas.{share_next}
 use Rattle.sym_edges.specs.Addresses.{Range}
 use Rattle.sym_edges.specs.Results.{unless}
 use Rattle.sym_edges.specs.declared.reason.Reason.{Reason}
@@ -19,41 +21,8 @@ use Rattle.rule_postfix.specs.declared.progress.Progress.{Progress}
 use Rattle.rule_postfix.specs.Overlaps.{meet, any_meets}
 use Rattle.rule_postfix.specs.Written.{Decided, range_of, is_code, rows_reason, reason_among, reason_behind, body_reason, reason_of, with_written, with_fields, with_decision, with_entry, with_entries, written_lines}
 use Rattle.rule_postfix.specs.internal.Deciding.{Shows, none_decided}
-use Rattle.rule_postfix.specs.internal.Shares.{share}
 use Rattle.rule_postfix.proofs.DecidedLemmas.{entries_append, lines_append}
 use Rattle.rule_postfix.proofs.SpellingLemmas.{canon_append}
-
--- where a share lies
-pub share_is : {A : Type 0} (size k from to : ℕ) (xs : List A) → length xs < 2 ^ 64 → from ≡ min (min (size * k) (2 ^ 64 - 1)) (length xs) → to ≡ min (min (from + size) (2 ^ 64 - 1)) (length xs) → take (to - from) (drop from xs) ≡ share size k xs
-share_is size k from to xs few at last =
-    elim (cases_lt (size * k) (length xs)) [
-      | inl less ↦
-          let same : from ≡ size * k = omega (arith, at, less, few) in
-          ap (λ n. take (to - from) (drop n xs)) same
-          ∙ elim (cases_lt (length (drop (size * k) xs)) size) [
-            | inl short ↦
-                let whole : length (drop (size * k) xs) ≤ to - from = omega (arith, last, same, less, few, short, length-drop (size * k) xs) in
-                take_all (to - from) (drop (size * k) xs) whole ∙ sym (take_all size (drop (size * k) xs) (omega (arith, short)))
-            | inr long ↦
-                let part : to - from ≡ size = omega (arith, last, same, less, few, long, length-drop (size * k) xs) in
-                ap (λ n. take n (drop (size * k) xs)) part
-          ]
-      | inr past ↦
-          let none : drop from xs ≡ [] = drop_all from xs (omega (arith, at, past, few)) in
-          let no_share : drop (size * k) xs ≡ [] = drop_all (size * k) xs past in
-          ap (take (to - from)) none ∙ take_all (to - from) [] (omega arith) ∙ sym (ap (take size) no_share ∙ take_all size [] (omega arith))
-    ]
-
--- the entries of the first shares, and one share more
-pub share_next : {A : Type 0} (size k : ℕ) (xs : List A) → take (size * (k + 1)) xs ≡ take (size * k) xs ++ share size k xs
-share_next size k xs = ap (λ n. take n xs) (let more : size * (k + 1) ≡ size * k + size = omega arith in more) ∙ take_plus (size * k) size xs
-  where
-    take_plus : {A : Type 0} (m n : ℕ) (xs : List A) → take (m + n) xs ≡ take m xs ++ take n (drop m xs)
-    take_plus zero n xs = ap (λ k. take k xs) (let same : zero + n ≡ n = omega arith in same)
-    take_plus (suc m) n [] = take_all (suc m + n) [] (omega arith) ∙ sym (take_all n [] (omega arith))
-    take_plus (suc m) n (x ∷ xs) =
-        let next : suc m + n ≡ suc (m + n) = omega arith in
-        ap (λ k. take k (x ∷ xs)) next ∙ ap (λ l. x ∷ l) (take_plus m n xs)
 
 pub on_share : (base : ℕ) (code : List Range) (entries : List Entry) (size k : ℕ) (p q r : Progress) →
     ((d : Decided) → Shows base p d → Shows base q (with_entries code (take (size * k) entries) d)) → ((d : Decided) → Shows base q d → Shows base r (with_entries code (share size k entries) d)) →

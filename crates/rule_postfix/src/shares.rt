@@ -2,11 +2,11 @@
 ghost use Rattle.std.specs.Prelude.{◌≡◌, ℕ, ◌*◌, ◌<◌, ◌≤◌, ◌^◌, ◌++◌, length, take, slice_index_or, false, OnOk};
 ghost use Rattle.std.specs.List.{list_any};
 ghost use Rattle.sym_edges.specs.Addresses.{Range};
+ghost use Rattle.unit_workers.specs.Shares.{share};
 ghost use Rattle.unit_workers.specs.Working.{AreInOrder};
 ghost use Rattle.rule_postfix.specs.Overlaps.{any_meets};
 ghost use Rattle.rule_postfix.specs.Written.{Decided, with_entries};
 ghost use Rattle.rule_postfix.specs.internal.Deciding.{LiesAbove, Shows, none_decided};
-ghost use Rattle.rule_postfix.specs.internal.Shares.{share};
 
 use crate::progress::{Progress, put_range};
 use crate::written_ranges::WrittenRanges;
@@ -17,7 +17,7 @@ use std::marker::Model;
 use std::mem::replace;
 use std::thread::Threads;
 use sym_edges::{OutOfMemory, Span};
-use unit_workers::{NoGate, UnitJob, run_all};
+use unit_workers::{NoGate, UnitJob, run_all, share_bounds};
 
 /// A share has at least so many entries, where a section has as many.
 const LEAST: usize = 512;
@@ -37,7 +37,7 @@ fn share_size(entries: usize, workers: usize) -> usize
 }
 
 /// Decides the entries of share `k`.
-#[tactic(auto, using(crate::proofs::ShareLemmas::share_is))]
+#[tactic(auto, using(unit_workers::proofs::ShareLemmas::share_between))]
 fn put_share(
     alloc: Global,
     progress: &mut Progress,
@@ -50,9 +50,7 @@ fn put_share(
     requires { LiesAbove base code.now }
     ensures { OnOk result ((d : Decided) → Shows base progress.old d → Shows base progress.new (with_entries code.now (share size k entries.now) d)) }
 {
-    let count = entries.len();
-    let from = size.saturating_mul(k).min(count);
-    let to = from.saturating_add(size).min(count);
+    let (from, to) = share_bounds(entries.len(), size, k);
     put_range(alloc, progress, entries, code, base, from, to)
 }
 

@@ -4,4 +4,5 @@ pub mod StepLemmas
 pub mod RuleLemmas
 pub mod WorkLemmas
 pub mod PlaceLemmas
+pub mod ShareLemmas
 mod WorkedRows

@@ -3,3 +3,4 @@ pub mod Held
 pub mod Drawing
 pub mod Steps
 pub mod Working
+pub mod Shares

@@ -9,6 +9,8 @@
 //! hands, one for each worker, and `join` takes them in again. A hand that stands for all workers and has no right left has
 //! drawn each number below the count exactly once: that is the clause of `close`.
 //!
+//! [`share_of`] is one of the shares of a list, where so many members after one another are one job, and [`share_bounds`] says where it lies.
+//!
 //! Whatever fails for lack of memory answers [`sym_edges::OutOfMemory`], and nothing else fails. That threads run beside each
 //! other, that the [`Gate`] is called, and who draws what, is not promised.
 //!
@@ -45,10 +47,12 @@ mod lot;
 mod results;
 mod rule;
 mod runner;
+mod shares;
 mod tickets;
 mod view;
 mod worker;
 
 pub use job::{Gate, NoGate, UnitJob};
 pub use runner::run_all;
+pub use shares::{share_bounds, share_of};
 pub use tickets::{Hand, Tickets, open_tickets};

@@ -1,7 +1,7 @@
 use Rattle.std.proofs.Common.{◌≡◌, ◌∙◌, ◌++◌, false, ap, sym}
 use Rattle.std.specs.List.{list_any}
 use Rattle.rule_postfix.specs.Overlaps.{any_meets}
-use Rattle.rule_postfix.specs.internal.Shares.{share}
+use Rattle.unit_workers.specs.Shares.{share}
 use Rattle.rule_postfix.proofs.ShareLemmas.{part_apart, part_joined}
 use Rattle.rule_postfix.proofs.shares.join_share.Goals as goal
 

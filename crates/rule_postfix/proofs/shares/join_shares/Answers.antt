@@ -3,7 +3,7 @@ use Rattle.std.proofs.lemmas.List.{length-set, get_or-set_other}
 use Rattle.rule_postfix.specs.declared.progress.Progress.{Progress}
 use Rattle.rule_postfix.specs.Written.{with_entries}
 use Rattle.rule_postfix.specs.internal.Deciding.{Shows, none_decided}
-use Rattle.rule_postfix.specs.internal.Shares.{share}
+use Rattle.unit_workers.specs.Shares.{share}
 use Rattle.rule_postfix.proofs.ShareLemmas.{on_none, on_share}
 use Rattle.rule_postfix.proofs.shares.join_shares.Goals as goal
 

@@ -2,7 +2,7 @@ use Rattle.std.proofs.Common.{◌≡◌, ◌*◌, ◌≤◌, ◌<◌, ℕ, lengt
 use Rattle.rule_postfix.specs.declared.progress.Progress.{Progress}
 use Rattle.rule_postfix.specs.Written.{Decided, with_entries}
 use Rattle.rule_postfix.specs.internal.Deciding.{Shows, none_decided}
-use Rattle.rule_postfix.specs.internal.Shares.{share}
+use Rattle.unit_workers.specs.Shares.{share}
 use Rattle.rule_postfix.proofs.shares.join_shares.Given as goal
 
 abbrev pub invariant-shares : goal.invariant-shares
