@@ -1,7 +1,7 @@
 -- For src/finder.rt and src/speller.rt: what holds of each share holds of all pieces.
 use Rattle.std.proofs.Common.{◌≡◌, ℕ, zero, suc, ◌+◌, ◌*◌, ◌<◌, ◌≤◌, ◌^◌, ◌||◌, map, length, take, drop, get_or, reverse, List, [], ◌∷◌, ◌++◌, unwrap_or, arith, refl, sym, ap, subst, ◌∙◌, Bor, append_assoc, append-nil}
 use Rattle.std.proofs.Math.Seq.{take-append_seam, drop-append_seam}
-use Rattle.std.proofs.lemmas.List.{length-drop, length-append, map-append, take-append-drop, drop-drop, nil_from_length, reverse-append, take_all, drop_all}
+use Rattle.std.proofs.lemmas.List.{length-drop, length-append, map-append, take-append-drop, drop-drop, nil_from_length, reverse-append, take_all}
 use Rattle.std.specs.List.{slice_get, list_any, flat_map}
 use Rattle.std.specs.Str.{bytes_eq}
 use Rattle.std.proofs.lemmas.List.Folds.{list_any-append}
@@ -21,7 +21,8 @@ use Rattle.func_records.specs.internal.Calls.{AreAllKnown}
 use Rattle.func_records.specs.internal.Gathering.{bytes_of, path_at, has_path, AreHeld, Gathered, copies_of}
 use Rattle.func_records.specs.internal.Origins.{made_name, entry_names, all_names, all_numbers, ref_numbers}
 use Rattle.func_records.specs.internal.Parts.{part_by, parts_by, AddsParts}
-use Rattle.func_records.specs.internal.Shares.{share, all_held, all_refs, all_paths, IsFound, AreFound, AreSplit}
+use Rattle.unit_workers.specs.Shares.{share}
+use Rattle.func_records.specs.internal.Shares.{all_held, all_refs, all_paths, IsFound, AreFound, AreSplit}
 use Rattle.func_records.specs.internal.Spelling.{number_or_0}
 use Rattle.func_records.proofs.ListLemmas.{take_next, drop_next}
 use Rattle.func_records.proofs.CanonLemmas.{canon_join}
@@ -30,23 +31,14 @@ use Rattle.func_records.proofs.OriginLemmas.{places_numbered}
 use Rattle.func_records.proofs.PathLemmas.{gathered_none}
 use Rattle.func_records.proofs.SpellLemmas.{parts_none}
 
-share_first : {A : Type 0} (xs : List A) → share 0 xs ≡ take 512 xs
+share_first : {A : Type 0} (xs : List A) → share 512 0 xs ≡ take 512 xs
 share_first xs = ap (λ n. take 512 (drop n xs)) (let none : 512 * 0 ≡ 0 = omega arith in none)
 
-share_next : {A : Type 0} (k : ℕ) (xs : List A) → share k (drop 512 xs) ≡ share (suc k) xs
+share_next : {A : Type 0} (k : ℕ) (xs : List A) → share 512 k (drop 512 xs) ≡ share 512 (suc k) xs
 share_next k xs = ap (take 512) (drop-drop (512 * k) 512 xs ∙ ap (λ n. drop n xs) (let more : 512 + 512 * k ≡ 512 * suc k = omega arith in more))
 
-pub share_none : {A : Type 0} (k : ℕ) (xs : List A) → length xs < 512 * k → [] ≡ share k xs
-share_none k xs past = sym (ap (take 512) (drop_all (512 * k) xs (omega (arith, past))))
-
-pub share_whole : {A : Type 0} (k : ℕ) (xs rest : List A) → rest ≡ drop (k * 512) xs → length rest ≤ 512 → rest ≡ share k xs
-share_whole k xs rest is few = sym (take_all 512 rest few) ∙ ap (take 512) (is ∙ ap (λ n. drop n xs) (let same : k * 512 ≡ 512 * k = omega arith in same))
-
-pub share_part : {A : Type 0} (k : ℕ) (xs rest here : List A) → rest ≡ drop (k * 512) xs → here ≡ take 512 rest → here ≡ share k xs
-share_part k xs rest here is front = front ∙ ap (take 512) (is ∙ ap (λ n. drop n xs) (let same : k * 512 ≡ 512 * k = omega arith in same))
-
 -- what is made of each share is made of all
-pub shares_mapped : {X A B : Type 0} (f : X → List B) (g : A → B) (shares : List X) (xs : List A) → length xs ≤ 512 * length shares → ((k : ℕ) (d : X) → k < length shares → f (get_or shares k d) ≡ map g (share k xs)) → flat_map f shares ≡ map g xs
+pub shares_mapped : {X A B : Type 0} (f : X → List B) (g : A → B) (shares : List X) (xs : List A) → length xs ≤ 512 * length shares → ((k : ℕ) (d : X) → k < length shares → f (get_or shares k d) ≡ map g (share 512 k xs)) → flat_map f shares ≡ map g xs
 shares_mapped f g [] xs inside each = sym (ap (map g) (nil_from_length xs (omega (arith, inside))))
 shares_mapped f g (s ∷ shares) xs inside each =
     ap (λ l. l ++ flat_map f shares) (each 0 s (omega arith) ∙ ap (map g) (share_first xs))
@@ -121,7 +113,7 @@ found_joined units pieces more s shares first second = record {
   paths = gathered_joined units pieces more s.held.items (all_held shares) s.paths.items (all_paths shares) first.paths second.paths;
 }
 
-found_shares : (units : List UnitRead) (shares : List FoundShare) (pieces : List Piece) → length pieces ≤ 512 * length shares → ((k : ℕ) (d : FoundShare) → k < length shares → IsFound units (share k pieces) (get_or shares k d)) → AreJoined units pieces shares
+found_shares : (units : List UnitRead) (shares : List FoundShare) (pieces : List Piece) → length pieces ≤ 512 * length shares → ((k : ℕ) (d : FoundShare) → k < length shares → IsFound units (share 512 k pieces) (get_or shares k d)) → AreJoined units pieces shares
 found_shares units [] pieces inside each = subst (λ (ps : List Piece). AreJoined units ps []) (sym (nil_from_length pieces (omega (arith, inside)))) (record { held = tt; names = λ name. refl; paths = gathered_none units [] refl })
 found_shares units (s ∷ shares) pieces inside each =
     subst (λ (ps : List Piece). AreJoined units ps (s ∷ shares)) (take-append-drop 512 pieces)
@@ -220,7 +212,7 @@ parts_joined base numbers units pieces more held others old mid new first second
   below = below_joined (2 ^ 64) pieces more first.below second.below;
 }
 
-shares_spelled : {X : Type 0} (f : X → List ℕ) (base : ℕ) (numbers : Numbers) (units : List UnitRead) (texts : List X) (shares : List FoundShare) (pieces : List Piece) → length texts ≡ length shares → length pieces ≤ 512 * length shares → ((k : ℕ) (d : X) (e : FoundShare) → k < length shares → AddsParts base numbers units (share k pieces) (get_or shares k e).held.items [] (f (get_or texts k d))) → AddsParts base numbers units pieces (all_held shares) [] (flat_map f texts)
+shares_spelled : {X : Type 0} (f : X → List ℕ) (base : ℕ) (numbers : Numbers) (units : List UnitRead) (texts : List X) (shares : List FoundShare) (pieces : List Piece) → length texts ≡ length shares → length pieces ≤ 512 * length shares → ((k : ℕ) (d : X) (e : FoundShare) → k < length shares → AddsParts base numbers units (share 512 k pieces) (get_or shares k e).held.items [] (f (get_or texts k d))) → AddsParts base numbers units pieces (all_held shares) [] (flat_map f texts)
 shares_spelled f base numbers units [] [] pieces same inside each =
     subst (λ (ps : List Piece). AddsParts base numbers units ps [] [] []) (sym (nil_from_length pieces (omega (arith, inside)))) (parts_none base numbers units [])
 shares_spelled f base numbers units [] (s ∷ shares) pieces same inside each = absurd (omega (arith, same))
@@ -235,7 +227,7 @@ shares_spelled f base numbers units (t ∷ texts) (s ∷ shares) pieces same ins
     subst (λ (ps : List Piece). AddsParts base numbers units ps (get_or shares k e).held.items [] (f (get_or texts k d))) (sym (share_next k pieces))
     (each (suc k) d e (omega (arith, below))))))
 
-pub shares_added : {X : Type 0} (f : X → List ℕ) (base : ℕ) (numbers : Numbers) (units : List UnitRead) (texts : List X) (shares : List FoundShare) (pieces : List Piece) (old new : List ℕ) → length texts ≡ length shares → length pieces ≤ 512 * length shares → ((k : ℕ) (d : X) (e : FoundShare) → k < length shares → AddsParts base numbers units (share k pieces) (get_or shares k e).held.items [] (f (get_or texts k d))) → new ≡ old ++ flat_map f texts → AddsParts base numbers units pieces (all_held shares) old new
+pub shares_added : {X : Type 0} (f : X → List ℕ) (base : ℕ) (numbers : Numbers) (units : List UnitRead) (texts : List X) (shares : List FoundShare) (pieces : List Piece) (old new : List ℕ) → length texts ≡ length shares → length pieces ≤ 512 * length shares → ((k : ℕ) (d : X) (e : FoundShare) → k < length shares → AddsParts base numbers units (share 512 k pieces) (get_or shares k e).held.items [] (f (get_or texts k d))) → new ≡ old ++ flat_map f texts → AddsParts base numbers units pieces (all_held shares) old new
 shares_added f base numbers units texts shares pieces old new same inside each is =
     subst (λ (t : List ℕ). AddsParts base numbers units pieces (all_held shares) old t) (sym is)
     (parts_joined base numbers units [] pieces [] (all_held shares) old old (flat_map f texts) (parts_none base numbers units old) (shares_spelled f base numbers units texts shares pieces same inside each))

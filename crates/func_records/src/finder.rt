@@ -1,12 +1,13 @@
 //! Inlined copies, their names and all paths, found share by share.
 ghost use Rattle.std.specs.Prelude.{◌≡◌, ◌≤◌, length, IfOk};
 ghost use Rattle.func_records.specs.internal.Gathering.{AreHeld};
-ghost use Rattle.func_records.specs.internal.Shares.{share, IsFound, AreFound};
+ghost use Rattle.unit_workers.specs.Shares.{share};
+ghost use Rattle.func_records.specs.internal.Shares.{IsFound, AreFound};
 
 use crate::found::FoundShare;
 use crate::origin_refs::gather_refs;
 use crate::paths::gather_paths;
-use crate::shares::{share_count, share_of};
+use crate::shares::{SHARE, share_count};
 use die_names::{LinkGuesses, Units};
 use func_flatten::Piece;
 use inline_chain::{InlineRuns, InlineTrees, LevelLists, inlines};
@@ -14,7 +15,7 @@ use std::alloc::Global;
 use std::marker::Model;
 use std::thread::Threads;
 use sym_edges::OutOfMemory;
-use unit_workers::{NoGate, UnitJob, run_all};
+use unit_workers::{NoGate, UnitJob, run_all, share_of};
 
 /// The inlined copies of some pieces, each.
 fn find_copies(
@@ -103,7 +104,7 @@ impl<'t, 'u, 'a> UnitJob for ShareFinder<'t, 'u, 'a> {
 
     type Scratch = FinderScratch;
 
-    ghost gives = { λ finder k found. IsFound finder.units (share k finder.pieces) found };
+    ghost gives = { λ finder k found. IsFound finder.units (share 512 k finder.pieces) found };
 
     fn scratch(&self, alloc: Global) -> Result<FinderScratch, OutOfMemory> {
         Ok(FinderScratch {
@@ -118,7 +119,7 @@ impl<'t, 'u, 'a> UnitJob for ShareFinder<'t, 'u, 'a> {
         k: usize,
         scratch: &mut FinderScratch,
     ) -> Result<FoundShare, OutOfMemory> {
-        let found = self.find(alloc, share_of(self.pieces, k), scratch)?;
+        let found = self.find(alloc, share_of(self.pieces, SHARE, k), scratch)?;
         Ok(found)
     }
 }

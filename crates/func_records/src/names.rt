@@ -3,17 +3,18 @@ ghost use Rattle.std.specs.Prelude.{◌≡◌, ℕ, ◌≤◌, List, map, IfOk};
 ghost use Rattle.std.specs.List.{list_any, flat_map};
 ghost use Rattle.std.specs.Str.{bytes_eq};
 ghost use Rattle.func_records.specs.internal.Origins.{made_name, AreAt, RefsSay};
-ghost use Rattle.func_records.specs.internal.Shares.{share, all_refs};
+ghost use Rattle.unit_workers.specs.Shares.{share};
+ghost use Rattle.func_records.specs.internal.Shares.{all_refs};
 
 use crate::found::FoundShare;
 use crate::origin_refs::OriginRefs;
-use crate::shares::{share_count, share_of};
+use crate::shares::{SHARE, share_count};
 use die_names::{EntryNameText, NameRef, Units, name_text};
 use std::alloc::Global;
 use std::marker::Model;
 use std::thread::Threads;
 use sym_edges::OutOfMemory;
-use unit_workers::{NoGate, UnitJob, run_all};
+use unit_workers::{NoGate, UnitJob, run_all, share_of};
 
 /// The entries that name the functions of inlined copies, once each, with the name that each gives; and for each entry that was
 /// found, share after share, its place among them.
@@ -97,7 +98,7 @@ impl<'t, 'a> UnitJob for NameMaker<'t, 'a> {
 
     type Scratch = ();
 
-    ghost gives = { λ maker k texts. texts.items ≡ map (made_name maker.units) (share k maker.refs) };
+    ghost gives = { λ maker k texts. texts.items ≡ map (made_name maker.units) (share 512 k maker.refs) };
 
     fn scratch(&self, _alloc: Global) -> Result<(), OutOfMemory> {
         Ok(())
@@ -109,7 +110,7 @@ impl<'t, 'a> UnitJob for NameMaker<'t, 'a> {
         k: usize,
         _scratch: &mut (),
     ) -> Result<Vec<EntryNameText<'a>>, OutOfMemory> {
-        let texts = make_names(alloc, self.units, share_of(self.refs, k))?;
+        let texts = make_names(alloc, self.units, share_of(self.refs, SHARE, k))?;
         Ok(texts)
     }
 }

@@ -4,12 +4,13 @@ ghost use Rattle.std.specs.List.{flat_map};
 ghost use Rattle.sym_records.specs.Spelled.{text_bytes};
 ghost use Rattle.func_records.specs.internal.Origins.{ref_numbers, all_numbers};
 ghost use Rattle.func_records.specs.internal.Parts.{AddsParts};
-ghost use Rattle.func_records.specs.internal.Shares.{share, all_held, all_refs, AreFound, AddsShare, AreSplit, CanSpell};
+ghost use Rattle.unit_workers.specs.Shares.{share};
+ghost use Rattle.func_records.specs.internal.Shares.{all_held, all_refs, AreFound, AddsShare, AreSplit, CanSpell};
 
 use crate::found::FoundShare;
 use crate::numbers::numbers_at;
 use crate::parts::add_parts;
-use crate::shares::share_of;
+use crate::shares::SHARE;
 use crate::writer::FuncWriter;
 use func_flatten::Piece;
 use std::alloc::Global;
@@ -17,7 +18,7 @@ use std::marker::Model;
 use std::thread::Threads;
 use sym_edges::OutOfMemory;
 use sym_records::TextPieces;
-use unit_workers::{NoGate, UnitJob, run_all};
+use unit_workers::{NoGate, UnitJob, run_all, share_of};
 
 /// The numbers of the names that the entries of each share give.
 fn split_numbers<'n>(
@@ -99,7 +100,7 @@ impl<'s, 'u, 'a, 'n> UnitJob for Speller<'s, 'u, 'a, 'n> {
         add_parts(
             alloc,
             self.writer,
-            share_of(self.pieces, k),
+            share_of(self.pieces, SHARE, k),
             found.held.as_slice(),
             origins.as_slice(),
             &mut text,

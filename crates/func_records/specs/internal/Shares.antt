@@ -1,7 +1,8 @@
--- The shares of pieces: so many after one another are one job.
-use Rattle.std.specs.Prelude.{◌≡◌, ℕ, ◌*◌, ◌<◌, ◌≤◌, ◌^◌, List, [], ◌∷◌, length, take, drop, slice_index_or}
+-- The shares of pieces, 512 each, which are the jobs of workers.
+use Rattle.std.specs.Prelude.{◌≡◌, ℕ, ◌*◌, ◌<◌, ◌≤◌, ◌^◌, List, [], ◌∷◌, length, slice_index_or}
 use Rattle.std.specs.List.{flat_map}
 use Rattle.std.proofs.Common.{Bor}
+use Rattle.unit_workers.specs.Shares.{share}
 use Rattle.die_names.specs.declared.unit_read.UnitRead.{UnitRead}
 use Rattle.die_names.specs.declared.name_source.NameRef.{NameRef}
 use Rattle.func_flatten.specs.declared.piece.Piece.{Piece}
@@ -12,10 +13,6 @@ use Rattle.func_records.specs.declared.found.FoundShare.{FoundShare}
 use Rattle.func_records.specs.internal.Gathering.{AreHeld, has_path, Gathered}
 use Rattle.func_records.specs.internal.Origins.{all_names, ref_numbers, RefsSay}
 use Rattle.func_records.specs.internal.Parts.{AddsParts}
-
--- 512 members, those of the shares before it left out; the last share may have fewer
-abbrev pub share : {A : Type 0} → ℕ → List A → List A
-share k items = take 512 (drop (512 * k) items)
 
 -- the units, and the pieces of which the copies and what they name are found share by share
 pub record FinderParts : Type 0 where
@@ -42,7 +39,7 @@ all_paths shares = flat_map (λ (f : FoundShare). f.paths.items) shares
 pub record AreFound (units : List UnitRead) (pieces : List Piece) (shares : List FoundShare) : Type 0 where
   pub enough : length pieces ≤ 512 * length shares
   pub few : length shares ≤ 2 ^ 32
-  pub each : (k : ℕ) (d : FoundShare) → k < length shares → IsFound units (share k pieces) (slice_index_or shares k d)
+  pub each : (k : ℕ) (d : FoundShare) → k < length shares → IsFound units (share 512 k pieces) (slice_index_or shares k d)
 
 -- what is spelled share by share: pieces, what was found of them, and for each share the numbers of its entries' names
 pub record SpellerParts : Type 0 where
@@ -70,4 +67,4 @@ pub record CanSpell (s : SpellerParts) : Type 0 where
 
 -- the records of a share are the text
 abbrev pub AddsShare : SpellerParts → ℕ → List ℕ → Type 0
-AddsShare s k text = (d : FoundShare) → k < length s.shares → AddsParts s.base s.numbers s.units (share k s.pieces) (slice_index_or s.shares k d).held.items [] text
+AddsShare s k text = (d : FoundShare) → k < length s.shares → AddsParts s.base s.numbers s.units (share 512 k s.pieces) (slice_index_or s.shares k d).held.items [] text
