@@ -94,25 +94,38 @@ fn cut(
     begin(alloc, fde, open, address, row)
 }
 
+/// A row of an entry, the row after it, and the address at which that begins.
+#[derive(Drop)]
+struct RowChange<'r> {
+    before: &'r Row,
+    after: &'r Row,
+    address: u64,
+}
+
 /// A row after another, where a rule may have more words than a line has room for.
 fn put_long_row(
     alloc: Global,
     fde: &Fde<'_>,
     text: &mut Vec<u8>,
     open: &mut OpenInit,
-    before: &Row,
-    address: u64,
-    after: &Row,
+    rows: &RowChange<'_>,
     base: u64,
 ) -> Result<(), OutOfMemory>
     requires above { base ≤ open.old.start }
-    requires rises { open.old.start ≤ address }
-    ensures { OnOk result ((front : List ℕ) (o : Open) → IsSpelled front base text.old.items open.old o → IsSpelled front base text.new.items open.new (with_row fde.now address before.now after.now o)) }
+    requires rises { open.old.start ≤ rows.now.address }
+    ensures { OnOk result ((front : List ℕ) (o : Open) → IsSpelled front base text.old.items open.old o → IsSpelled front base text.new.items open.new (with_row fde.now rows.now.address rows.now.before.now rows.now.after.now o)) }
 {
-    if lose_column(before, after) {
-        return cut(alloc, fde, text, open, address, after, base);
+    if lose_column(rows.before, rows.after) {
+        return cut(alloc, fde, text, open, rows.address, rows.after, base);
     }
-    add_change_record(alloc, fde, &mut open.body, address - base, before, after)
+    add_change_record(
+        alloc,
+        fde,
+        &mut open.body,
+        rows.address - base,
+        rows.before,
+        rows.after,
+    )
 }
 
 /// A row of an entry after another: where a column becomes unspecified, another INIT begins, else the changes are spelled. The two rows
@@ -123,22 +136,21 @@ fn put_row(
     text: &mut Vec<u8>,
     open: &mut OpenInit,
     columns: Columns,
-    before: &Row,
-    address: u64,
-    after: &Row,
+    rows: &RowChange<'_>,
     base: u64,
 ) -> Result<(), OutOfMemory>
-    requires alike { StayOutside columns before.now after.now }
+    requires alike { StayOutside columns rows.now.before.now rows.now.after.now }
     requires above { base ≤ open.old.start }
-    requires rises { open.old.start ≤ address }
-    ensures { OnOk result ((front : List ℕ) (o : Open) → IsSpelled front base text.old.items open.old o → IsSpelled front base text.new.items open.new (with_row fde.now address before.now after.now o)) }
+    requires rises { open.old.start ≤ rows.now.address }
+    ensures { OnOk result ((front : List ℕ) (o : Open) → IsSpelled front base text.old.items open.old o → IsSpelled front base text.new.items open.new (with_row fde.now rows.now.address rows.now.before.now rows.now.after.now o)) }
 {
-    match write_change_line(fde, address - base, columns, before, after, &mut open.line) {
+    let at = rows.address - base;
+    match write_change_line(fde, at, columns, rows.before, rows.after, &mut open.line) {
         Ok(at) => add_end(&mut open.body, &open.line, at),
-        Err(Unwritten::Unspecified) => cut(alloc, fde, text, open, address, after, base),
-        Err(Unwritten::Expression) => {
-            put_long_row(alloc, fde, text, open, before, address, after, base)
+        Err(Unwritten::Unspecified) => {
+            cut(alloc, fde, text, open, rows.address, rows.after, base)
         }
+        Err(Unwritten::Expression) => put_long_row(alloc, fde, text, open, rows, base),
     }
 }
 
@@ -214,7 +226,12 @@ pub fn spell_steps(
         };
         let address = stepper.address();
         let row = stepper.row();
-        put_row(alloc, fde, text, open, columns, &before, address, row, base)?;
+        let rows = RowChange {
+            before: &before,
+            after: row,
+            address,
+        };
+        put_row(alloc, fde, text, open, columns, &rows, base)?;
         before.follow(columns, row);
         lacking = lack_rule(lacking, row);
     }

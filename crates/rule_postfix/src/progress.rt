@@ -163,31 +163,6 @@ fn write(
     Ok(())
 }
 
-/// An entry whose range is free is written, or left out for its rows.
-fn put_free(
-    alloc: Global,
-    progress: &mut Progress,
-    state: &CieState,
-    entry: &Entry<'_>,
-    fde: &Fde<'_>,
-    code: &Enclosing,
-    end: u64,
-    base: u64,
-) -> Result<(), OutOfMemory>
-    requires good { entry.now.body ≡ Good fde.now }
-    requires behind { state.now ≡ cie_left fde.now }
-    requires ends { EndsAt fde.now end }
-    requires inside { encloses code.now fde.now.start end ≡ true }
-    requires above { LiesAbove base code.now }
-    requires apart { any_meets (record { start = fde.now.start; end = end }) progress.old.taken ≡ false }
-    ensures { OnOk result ((d : Decided) → Shows base progress.old d → Shows base progress.new (with_entry code.now entry.now d)) }
-{
-    match write(alloc, progress, state, fde, base) {
-        Ok(()) => Ok(()),
-        Err(stop) => leave_out_where_refused(progress, entry, stop),
-    }
-}
-
 /// An entry whose fields can be read is written or left out, where the state after its CIE is given.
 fn put_behind(
     alloc: Global,
@@ -215,7 +190,10 @@ fn put_behind(
         let why = reason_or(alloc, state, fde, Reason::Overlap)?;
         return leave_out(progress, entry, why);
     }
-    put_free(alloc, progress, state, entry, fde, code, end, base)
+    match write(alloc, progress, state, fde, base) {
+        Ok(()) => Ok(()),
+        Err(stop) => leave_out_where_refused(progress, entry, stop),
+    }
 }
 
 /// An entry whose fields can be read is written or left out. The state after its CIE is made where it is not there.
