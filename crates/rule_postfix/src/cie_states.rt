@@ -13,8 +13,13 @@ use std::alloc::Global;
 use std::collections::BTreeMap;
 use sym_edges::OutOfMemory;
 
-/// Of the CIEs whose instructions have at most so many bytes the state of one at a time is kept.
+/// The instructions of a CIE that is not long have at most so many bytes. Of these CIEs the state of one at a time is kept.
 const SHORT: usize = 64;
+
+/// Whether the CIE of an entry is long.
+pub fn is_long(fde: &Fde<'_>) -> bool {
+    fde.initial_instructions.len() > SHORT
+}
 
 /// The states after the CIEs at some places of a section. That of a long CIE is made once, however the entries of the CIEs
 /// alternate; of the short ones the last is kept, whose place is `short`, so that many of them take no memory.
@@ -49,7 +54,7 @@ impl CieStates {
     fn make_room(&mut self, fde: &Fde<'_>)
         ensures { (f : FdeFields) → KeptFor self.old f → KeptFor self.new f }
     {
-        if fde.initial_instructions.len() <= SHORT {
+        if !is_long(fde) {
             self.drop_short();
             self.short = Some(fde.cie);
         }

@@ -8,9 +8,10 @@ ghost use Rattle.rule_postfix.specs.Overlaps.{any_meets};
 ghost use Rattle.rule_postfix.specs.Written.{Decided, with_entries};
 ghost use Rattle.rule_postfix.specs.internal.Deciding.{LiesAbove, Shows, none_decided};
 
+use crate::cie_states::is_long;
 use crate::progress::{Progress, put_range};
 use crate::written_ranges::WrittenRanges;
-use frame_entries::EntryList;
+use frame_entries::{Body, EntryList};
 use range_set::Enclosing;
 use std::alloc::Global;
 use std::marker::Model;
@@ -25,15 +26,29 @@ const LEAST: usize = 512;
 /// The shares of a worker.
 const EACH: usize = 4;
 
-/// How many entries a share has: one worker has one share.
-fn share_size(entries: usize, workers: usize) -> usize
+/// Whether an entry has a long CIE, whose instructions each share that meets it would carry out anew.
+fn has_long_cie(entries: &EntryList<'_>) -> bool {
+    'entries: for i in 0..entries.len() {
+        let entry = entries.entry(i);
+        if let Body::Good(fde) = &entry.body {
+            if is_long(fde) {
+                return true;
+            }
+        }
+    }
+    false
+}
+
+/// How many entries a share has. There is one share for one worker, and where a CIE is long.
+fn share_size(entries: &EntryList<'_>, workers: usize) -> usize
     requires { (1 ≤ workers) × (workers ≤ 64) }
     ensures { 0 < result }
 {
-    if workers == 1 {
-        return entries.saturating_add(1);
+    let count = entries.len();
+    if workers == 1 || has_long_cie(entries) {
+        return count.saturating_add(1);
     }
-    (entries / (EACH * workers)).saturating_add(1).max(LEAST)
+    (count / (EACH * workers)).saturating_add(1).max(LEAST)
 }
 
 /// Decides the entries of share `k`.
@@ -210,7 +225,7 @@ pub fn put_entries<R: Threads + Sync>(
     requires workers { (1 ≤ workers) × (workers ≤ 64) }
     ensures { OnOk result ((d : Decided) → Shows base progress.old d → Shows base progress.new (with_entries code.now entries.now d)) }
 {
-    let size = share_size(entries.len(), workers);
+    let size = share_size(entries, workers);
     let count = (entries.len() / size).saturating_add(1);
     if count as u64 > 1 << 32 {
         return Err(OutOfMemory);
