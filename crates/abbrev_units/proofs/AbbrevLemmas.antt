@@ -11,8 +11,7 @@ use Rattle.leb_cursor.specs.Lists.{list_by, list_in, list_at, list_cases, GoesOn
 use Rattle.leb_cursor.proofs.PassLemmas.{fixed_passes, uleb_passes, sleb_passes, passes_then}
 use Rattle.leb_cursor.proofs.ListLemmas.{weaker, either_passes, behind, none_behind, list_more, list_ends, list_refused, list_follows, list_passes, goes_of, shorter_by}
 use Rattle.abbrev_units.specs.Faults.{GivesAt}
-use Rattle.abbrev_units.specs.SpecFields.{AttributeSpec, SpecFields}
-use Rattle.abbrev_units.specs.declared.abbrev.Abbrev.{Abbrev}
+use Rattle.abbrev_units.specs.SpecFields.{AttributeSpec, SpecFields, Abbrev}
 use Rattle.abbrev_units.specs.Abbreviations.{implicit_at, spec_at, abbrev_by, abbrev_at, used_spec, used_abbrev, used_at}
 use Rattle.abbrev_units.specs.internal.Used.{one_by, all_by, used_spec_at, used_specs_at, used_abbrev_at}
 

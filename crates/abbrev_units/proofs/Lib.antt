@@ -2,6 +2,7 @@ mod TextLemmas
 pub mod UnitLemmas
 pub mod UnitPlaceLemmas
 pub mod AbbrevLemmas
+pub mod ListedLemmas
 mod PlaceLemmas
 pub mod ValueLemmas
 pub mod FormLemmas

@@ -10,7 +10,7 @@ use Rattle.std.proofs.lemmas.Bool.Decides.{nat_tests}
 use Rattle.std.proofs.lemmas.Option.{slice_get_past}
 use Rattle.std.proofs.Math.ListN.{drop_of_length-le}
 use Rattle.std.proofs.lemmas.List.{drop_more}
-use Rattle.abbrev_units.specs.declared.abbrev.Abbrev.{Abbrev}
+use Rattle.abbrev_units.specs.SpecFields.{Abbrev}
 use Rattle.abbrev_units.specs.Abbreviations.{abbrev_of}
 use Rattle.abbrev_units.specs.Places.{first_place, Follow, IsDense, HasPlaces}
 
@@ -52,11 +52,15 @@ follow_more before n [] d front there is = absurd (omega arith)
 follow_more before zero (a ∷ rest) d front there is = (omega (arith, is), tt)
 follow_more before (suc n) (a ∷ rest) d front there is = (front.0, follow_more (before + 1) n rest d front.1 (omega arith) (omega (arith, is)))
 
-pub dense_more : (n : ℕ) (list : List Abbrev) (x : Abbrev) → IsDense n list → n < length list → x ≡ get_or list n x → x.code ≡ n + 1 → IsDense (n + 1) list
-dense_more n list x front there is code =
+-- an abbreviation that stands nowhere
+nowhere : Abbrev
+nowhere = record { code = 0; tag = 0; children = false; specs = [] }
+
+pub dense_more : (n : ℕ) (list : List Abbrev) (code : ℕ) → IsDense n list → n < length list → ((other : Abbrev) → code ≡ (get_or list n other).code) → code ≡ n + 1 → IsDense (n + 1) list
+dense_more n list code front there is number =
     let next : suc n ≡ n + 1 = omega arith in
-    let here : (get_or list n x).code ≡ 0 + n + 1 = ap (λ (a : Abbrev). a.code) (sym is) ∙ code ∙ omega arith in
-    subst (λ m. Follow 0 m list) next (follow_more 0 n list x front there here)
+    let here : (get_or list n nowhere).code ≡ 0 + n + 1 = sym (is nowhere) ∙ number ∙ omega arith in
+    subst (λ m. Follow 0 m list) next (follow_more 0 n list nowhere front there here)
 
 -- a code is one of the first so many, or it is not
 front_both : (code dense : ℕ) (low high : Bool) → nat_lt 0 code ≡ low → nat_le code dense ≡ high → (low && high) ≡ true → (0 < code) × (code ≤ dense)
@@ -114,12 +118,13 @@ placed_by n i rest code false found old is later =
     let next : (i + 1) + rest ≡ i + suc rest = omega arith in
     ap (λ o. unwrap_or o n) is ∙ later ∙ next
 
-pub places_more : (list : List Abbrev) (places more : BTreeMap ℕ ℕ) (i j : ℕ) (x : Abbrev) → HasPlaces places j list → j ≡ i + 1 → i < length list → x ≡ get_or list i x → Updates nat_cmp places more x.code (Some i) → HasPlaces more i list
+pub places_more : (list : List Abbrev) (places more : BTreeMap ℕ ℕ) (i j at : ℕ) → HasPlaces places j list → j ≡ i + 1 → i < length list → ((other : Abbrev) → at ≡ (get_or list i other).code) → Updates nat_cmp places more at (Some i) → HasPlaces more i list
 unfolding first_place
-places_more list places more i j x has next there is updated code =
-    let here : drop i list ≡ x ∷ drop (i + 1) list = drop_more list i x there ∙ ap (λ y. y ∷ drop (i + 1) list) (sym is) in
+places_more list places more i j at has next there is updated code =
+    let here : drop i list ≡ get_or list i nowhere ∷ drop (i + 1) list = drop_more list i nowhere there in
     let later : unwrap_or (get nat_cmp places code) (length list) ≡ (i + 1) + first_place code (drop (i + 1) list) = subst (λ k. unwrap_or (get nat_cmp places code) (length list) ≡ k + first_place code (drop k list)) next (has code) in
-    placed_by (length list) i (first_place code (drop (i + 1) list)) code (nat_eq x.code code) (get nat_cmp more code) (get nat_cmp places code)
-    (updated.0 code ∙ ap (λ b. cond b (Some i) (get nat_cmp places code)) (sym (same_code x.code code (is_at (nat_cmp x.code) code) refl)))
+    let same : is_at (nat_cmp at) code ≡ nat_eq (get_or list i nowhere).code code = sym (same_code at code (is_at (nat_cmp at) code) refl) ∙ ap (λ n. nat_eq n code) (is nowhere) in
+    placed_by (length list) i (first_place code (drop (i + 1) list)) code (nat_eq (get_or list i nowhere).code code) (get nat_cmp more code) (get nat_cmp places code)
+    (updated.0 code ∙ ap (λ b. cond b (Some i) (get nat_cmp places code)) same)
     later
     ∙ sym (ap (λ rest. i + first_place code rest) here)

@@ -4,7 +4,7 @@ use Prim.Native.String.{String}
 use Rattle.sym_edges.proofs.Hex.{hex}
 use Rattle.sym_edges.specs.declared.part.Sect.TheVariants as section
 use Rattle.sym_edges.specs.declared.located.Located.{Located}
-use Rattle.abbrev_units.specs.declared.abbrev.Abbrev.{Abbrev}
+use Rattle.abbrev_units.specs.SpecFields.{Abbrev}
 use Rattle.abbrev_units.specs.declared.fault.DwarfKind.{DwarfKind}
 use Rattle.abbrev_units.specs.declared.fault.DwarfKind.TheVariants as is
 use Rattle.abbrev_units.specs.declared.unit.Unit.{Unit}

@@ -10,8 +10,7 @@ use Rattle.leb_cursor.specs.Lists.{list_at}
 use Rattle.abbrev_units.specs.declared.fault.DwarfKind.{DwarfKind}
 use Rattle.abbrev_units.specs.declared.fault.DwarfKind.TheVariants as is
 use Rattle.abbrev_units.specs.declared.unit.Unit.{Unit}
-use Rattle.abbrev_units.specs.SpecFields.{AttributeSpec, SpecFields}
-use Rattle.abbrev_units.specs.declared.abbrev.Abbrev.{Abbrev}
+use Rattle.abbrev_units.specs.SpecFields.{AttributeSpec, SpecFields, Abbrev}
 use Rattle.abbrev_units.specs.DebugSections.{DebugSections}
 use Rattle.abbrev_units.specs.Faults.{read_in}
 use Rattle.abbrev_units.specs.Texts.{ahead_from}

@@ -1,29 +1,19 @@
 //! Reading abbreviations (DWARF 5, 7.5.3).
-ghost use Rattle.std.specs.Prelude.{◌≡◌, ◌++◌, ◌∷◌, [], OnOk};
+ghost use Rattle.std.specs.Prelude.{◌≡◌, [], OnOk};
 ghost use Rattle.leb_cursor.specs.Ahead.{gave};
-ghost use Rattle.abbrev_units.specs.Faults.{GivesAt};
 ghost use Rattle.abbrev_units.specs.Abbreviations.{implicit_at};
 ghost use Rattle.abbrev_units.specs.KeptTags.{is_kept_tag};
 ghost use Rattle.abbrev_units.specs.internal.Used.{used_spec_at, used_specs_at, used_abbrev_by, used_abbrev_at};
+ghost use Rattle.abbrev_units.specs.internal.Listed.{Grown, LeavesAt, ReadsAt};
 
-use crate::spec::{Spec, SpecList};
+use crate::lists::{Head, Lists};
+use crate::spec::Spec;
 use code_table::{
     DW_FORM_implicit_const, DW_TAG_class_type, DW_TAG_inlined_subroutine, DW_TAG_namespace,
     DW_TAG_structure_type, DW_TAG_subprogram, DW_TAG_union_type,
 };
 use leb_cursor::{Cursor, CursorFault};
-use std::alloc::Global;
-use sym_edges::{ListOf, OutOfMemory, Stop};
-
-/// An abbreviation: its code, the tag of its entries (DWARF 5, table 7.3), whether they have children,
-/// and their attributes.
-#[derive(Drop)]
-pub struct Abbrev {
-    pub code: u64,
-    pub tag: u64,
-    pub children: bool,
-    pub specs: SpecList,
-}
+use sym_edges::Stop;
 
 /// Reads the constant after a form that has it there.
 #[tactic(auto, unfolding(crate::specs::Abbreviations::implicit_at))]
@@ -50,35 +40,20 @@ fn read_spec(cursor: &mut Cursor<'_>, wide: bool) -> Result<Option<Spec>, Cursor
     Ok(Some(Spec::of(attribute, form, implicit, wide)))
 }
 
-/// Room for as many attributes as most abbreviations have.
-const USUAL_SPECS: usize = 8;
-
-/// Adds an attribute. The first one takes the usual room, so that an abbreviation without attributes takes none.
-#[inline]
-fn add_spec(specs: &mut Vec<Spec>, spec: Spec) -> Result<(), OutOfMemory>
-    ensures { OnOk result (specs.new.items ≡ specs.old.items ++ spec ∷ []) }
-{
-    if specs.is_empty() {
-        specs.reserve_exact(USUAL_SPECS)?;
-    }
-    specs.push(spec)?;
-    Ok(())
-}
-
 /// Reads attributes up to the end of their list.
 #[tactic(auto, using(crate::proofs::AbbrevLemmas::specs_begin, crate::proofs::AbbrevLemmas::specs_more, crate::proofs::AbbrevLemmas::specs_end, crate::proofs::AbbrevLemmas::specs_refused, crate::proofs::AbbrevLemmas::specs_shorter))]
 fn read_specs(
-    alloc: Global,
+    specs: &mut Vec<Spec>,
     cursor: &mut Cursor<'_>,
     wide: bool,
-) -> Result<ListOf<Spec>, Stop<CursorFault>>
-    ensures { GivesAt result cursor.new (used_specs_at wide cursor.old) }
+) -> Result<(), Stop<CursorFault>>
+    requires { specs.old.items ≡ [] }
+    ensures { LeavesAt result specs.new.items cursor.new (used_specs_at wide cursor.old) }
 {
-    let mut specs = Vec::new(alloc);
     'specs: loop {
         match read_spec(cursor, wide) {
-            Ok(Some(spec)) => add_spec(&mut specs, spec)?,
-            Ok(None) => return Ok(ListOf::of(specs)),
+            Ok(Some(spec)) => specs.push(spec)?,
+            Ok(None) => return Ok(()),
             Err(fault) => return Err(Stop::Fault(fault)),
         }
     }
@@ -101,15 +76,17 @@ pub fn is_kept_tag(tag: u64) -> bool
     )
 }
 
-/// Reads an abbreviation after its code.
+/// Reads an abbreviation after its code, by way of lists that are used for one after the other.
 #[tactic(auto, unfolding(crate::specs::internal::Used::used_abbrev_by, crate::specs::internal::Used::used_specs_at, crate::specs::Abbreviations::abbrev_by), using(crate::proofs::AbbrevLemmas::specs_given, crate::proofs::AbbrevLemmas::specs_fault))]
 fn read_behind(
-    alloc: Global,
+    lists: &mut Lists,
+    one: &mut Lists,
     cursor: &mut Cursor<'_>,
     wide: bool,
     code: u64,
-) -> Result<Option<Abbrev>, Stop<CursorFault>>
-    ensures { GivesAt result cursor.new (used_abbrev_by wide code cursor.old) }
+) -> Result<Option<Head>, Stop<CursorFault>>
+    ensures read { ReadsAt result lists.new cursor.new (used_abbrev_by wide code cursor.old) }
+    ensures grown { OnOk result (Grown lists.old lists.new) }
 {
     let tag = match cursor.uleb() {
         Ok(tag) => tag,
@@ -119,27 +96,26 @@ fn read_behind(
         Ok(children) => children != 0,
         Err(fault) => return Err(Stop::Fault(fault)),
     };
-    let specs = match read_specs(alloc, cursor, wide) {
-        Ok(specs) => specs.into_vec(),
+    one.clear();
+    match read_specs(&mut one.specs, cursor, wide) {
+        Ok(()) => {}
         Err(stop) => return Err(stop),
-    };
-    let specs = SpecList::of(alloc, specs, is_kept_tag(tag))?;
-    Ok(Some(Abbrev {
-        code,
-        tag,
-        children,
-        specs,
-    }))
+    }
+    let way = one.make_way(is_kept_tag(tag))?;
+    let head = lists.add(one, code, tag, children, way)?;
+    Ok(Some(head))
 }
 
-/// Reads an abbreviation, or the end of their list.
+/// Reads an abbreviation, or the end of their list, by way of lists that are used for one after the other.
 #[tactic(auto, unfolding(crate::specs::internal::Used::used_abbrev_at, crate::specs::internal::Used::used_abbrev_by, crate::specs::Abbreviations::abbrev_at))]
 pub fn read_abbrev(
-    alloc: Global,
+    lists: &mut Lists,
+    one: &mut Lists,
     cursor: &mut Cursor<'_>,
     wide: bool,
-) -> Result<Option<Abbrev>, Stop<CursorFault>>
-    ensures { GivesAt result cursor.new (used_abbrev_at wide cursor.old) }
+) -> Result<Option<Head>, Stop<CursorFault>>
+    ensures read { ReadsAt result lists.new cursor.new (used_abbrev_at wide cursor.old) }
+    ensures grown { OnOk result (Grown lists.old lists.new) }
 {
     let code = match cursor.uleb() {
         Ok(code) => code,
@@ -148,5 +124,5 @@ pub fn read_abbrev(
     if code == 0 {
         return Ok(None);
     }
-    read_behind(alloc, cursor, wide, code)
+    read_behind(lists, one, cursor, wide, code)
 }

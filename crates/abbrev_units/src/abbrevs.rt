@@ -1,52 +1,99 @@
 //! The abbreviations of a unit.
-ghost use Rattle.std.specs.Prelude.{◌≡◌, ◌&&◌, nat_lt, nat_le, slice_get, IfOk};
-ghost use Rattle.std.specs.Option.{option_copied};
+ghost use Rattle.std.specs.Prelude.{◌≡◌, ◌<◌, ◌&&◌, nat_lt, nat_le, length, get_or, slice_get, IfOk};
 ghost use Rattle.std.specs.Ordering.{nat_cmp};
 ghost use Rattle.std.specs.BTreeMap.{BTreeMap, get};
 ghost use Rattle.abbrev_units.specs.Faults.{Gives, GivesAt};
 ghost use Rattle.abbrev_units.specs.Abbreviations.{used_at, abbrevs_of, abbrev_of};
-ghost use Rattle.abbrev_units.specs.Places.{IsDense, HasPlaces, AreFound};
+ghost use Rattle.abbrev_units.specs.Places.{IsDense, HasPlaces};
+ghost use Rattle.abbrev_units.specs.SpecFields.{Abbrev};
 
-use crate::abbrev::{Abbrev, read_abbrev};
+use crate::abbrev::read_abbrev;
 use crate::fault::{DwarfFault, DwarfKind, in_section};
+use crate::lists::{Head, Lists};
 use crate::sections::Sections;
 use crate::text::cursor_from;
 use crate::unit::Unit;
+use crate::view::Abbrev;
 use leb_cursor::{Cursor, CursorFault};
 use std::alloc::Global;
 use std::collections::BTreeMap;
 use std::marker::Model;
-use sym_edges::{ListOf, Located, OutOfMemory, Sect, Stop};
+use sym_edges::{Located, OutOfMemory, Sect, Stop};
+
+/// Abbreviations, whose attributes stand in one list.
+#[derive(Drop)]
+struct AbbrevList {
+    heads: Vec<Head>,
+    lists: Lists,
+}
+
+impl Model for AbbrevList {
+    ghost use Rattle.std.specs.Prelude.{List};
+    ghost use Rattle.abbrev_units.specs.SpecFields.{Abbrev};
+    ghost use Rattle.abbrev_units.specs.internal.Listed.{AreHeld, abbrevs_in};
+
+    ghost Value = { List Abbrev };
+
+    ghost view = { λ a. abbrevs_in a.lists.specs.items a.heads.items };
+
+    ghost invariant = { λ a. AreHeld a.lists a.heads.items };
+}
+
+impl AbbrevList {
+    #[inline]
+    fn len(&self) -> usize
+        ensures { result ≡ length self.now }
+    {
+        self.heads.len()
+    }
+
+    fn code_at(&self, number: usize) -> u64
+        requires { number < length self.now }
+        ensures { (other : Abbrev) → result ≡ (get_or self.now number other).code }
+    {
+        self.heads[number].code
+    }
+
+    #[inline]
+    fn get(&self, number: usize) -> Option<Abbrev<'_>>
+        ensures { result ≡ slice_get self.now number }
+    {
+        match self.heads.as_slice().get(number) {
+            Some(head) => Some(Abbrev::of(&self.lists, head)),
+            None => None,
+        }
+    }
+}
 
 /// The abbreviations of a unit, which are found by their code. Producers number them 1, 2 and so on:
-/// such codes are indices; where others stand among them, a map has their places.
+/// such codes are indices; where others stand among them, a map has their numbers.
 #[derive(Drop)]
 pub struct Abbrevs {
-    list: Vec<Abbrev>,
+    list: AbbrevList,
     dense: usize,
     places: BTreeMap<u64, usize>,
 }
 
 impl Model for Abbrevs {
     ghost use Rattle.std.specs.Prelude.{List};
-    ghost use Rattle.abbrev_units.specs.declared.abbrev.Abbrev.{Abbrev};
+    ghost use Rattle.abbrev_units.specs.SpecFields.{Abbrev};
     ghost use Rattle.abbrev_units.specs.Places.{AreFound};
 
     ghost Value = { List Abbrev };
 
-    ghost view = { λ a. a.list.items };
+    ghost view = { λ a. a.list };
 
-    ghost invariant = { λ a. AreFound a.list.items a.dense a.places };
+    ghost invariant = { λ a. AreFound a.list a.dense a.places };
 }
 
 /// How many of the first codes are 1, 2 and so on.
 #[tactic(auto, using(crate::proofs::PlaceLemmas::dense_more))]
-fn count_dense(list: &[Abbrev]) -> usize
+fn count_dense(list: &AbbrevList) -> usize
     ensures { IsDense result list.now }
 {
     let mut count = 0;
     'dense: while count < list.len() {
-        if list[count].code != count as u64 + 1 {
+        if list.code_at(count) != count as u64 + 1 {
             return count;
         }
         count += 1;
@@ -56,25 +103,25 @@ fn count_dense(list: &[Abbrev]) -> usize
 
 /// The places of codes, those of the first abbreviations.
 #[tactic(auto, using(crate::proofs::PlaceLemmas::places_none, crate::proofs::PlaceLemmas::places_more))]
-fn find_places(alloc: Global, list: &[Abbrev]) -> Result<BTreeMap<u64, usize>, OutOfMemory>
+fn find_places(alloc: Global, list: &AbbrevList) -> Result<BTreeMap<u64, usize>, OutOfMemory>
     ensures { IfOk result (λ places. HasPlaces places 0 list.now) }
 {
     let mut places = BTreeMap::new(alloc);
     'places: for place in (0..list.len()).rev() {
-        let _earlier = places.insert(list[place].code, place)?;
+        let _earlier = places.insert(list.code_at(place), place)?;
     }
     Ok(places)
 }
 
 /// Makes abbreviations findable.
-fn index(alloc: Global, list: Vec<Abbrev>) -> Result<Abbrevs, OutOfMemory>
-    ensures { IfOk result (λ abbrevs. abbrevs ≡ list.items) }
+fn index(alloc: Global, list: AbbrevList) -> Result<Abbrevs, OutOfMemory>
+    ensures { IfOk result (λ abbrevs. abbrevs ≡ list) }
 {
-    let dense = count_dense(list.as_slice());
+    let dense = count_dense(&list);
     let places = if dense == list.len() {
         BTreeMap::new(alloc)
     } else {
-        find_places(alloc, list.as_slice())?
+        find_places(alloc, &list)?
     };
     Ok(Abbrevs {
         list,
@@ -92,13 +139,6 @@ fn is_front(dense: usize, code: u64) -> bool
 }
 
 #[inline]
-fn at_place(list: &[Abbrev], place: usize) -> Option<&Abbrev>
-    ensures { option_copied result ≡ slice_get list.now place }
-{
-    list.get(place)
-}
-
-#[inline]
 fn place_of(places: &BTreeMap<u64, usize>, code: u64) -> Option<usize>
     ensures { result ≡ get nat_cmp places.now code }
 {
@@ -112,44 +152,54 @@ impl Abbrevs {
     /// The first abbreviation of a code. Takes no memory.
     #[inline]
     #[tactic(auto, using(crate::proofs::PlaceLemmas::found_front, crate::proofs::PlaceLemmas::found_nowhere, crate::proofs::PlaceLemmas::found_by_map, crate::proofs::PlaceLemmas::missed_by_map))]
-    pub fn find(&self, code: u64) -> Option<&Abbrev>
-        ensures { option_copied result ≡ abbrev_of code self.now }
+    pub fn find(&self, code: u64) -> Option<Abbrev<'_>>
+        ensures { result ≡ abbrev_of code self.now }
     {
-        let list = self.list.as_slice();
         if is_front(self.dense, code) {
-            return at_place(list, code as usize - 1);
+            return self.list.get(code as usize - 1);
         }
-        if self.dense == list.len() {
+        if self.dense == self.list.len() {
             return None;
         }
         match place_of(&self.places, code) {
-            Some(place) => at_place(list, place),
+            Some(place) => self.list.get(place),
             None => None,
         }
     }
 
-    /// The abbreviations in their order.
-    pub fn as_slice(&self) -> &[Abbrev]
-        ensures { result.now ≡ self.now }
+    /// How many abbreviations there are.
+    #[inline]
+    pub fn len(&self) -> usize
+        ensures { result ≡ length self.now }
     {
-        self.list.as_slice()
+        self.list.len()
+    }
+
+    /// An abbreviation by its number in their order, from 0 on.
+    #[inline]
+    pub fn get(&self, number: usize) -> Option<Abbrev<'_>>
+        ensures { result ≡ slice_get self.now number }
+    {
+        self.list.get(number)
     }
 }
 
 /// Reads abbreviations up to the end of their list.
-#[tactic(auto, using(crate::proofs::AbbrevLemmas::abbrevs_begin, crate::proofs::AbbrevLemmas::abbrevs_more, crate::proofs::AbbrevLemmas::abbrevs_end, crate::proofs::AbbrevLemmas::abbrevs_stopped, crate::proofs::AbbrevLemmas::abbrevs_shorter))]
+#[tactic(auto, using(crate::proofs::AbbrevLemmas::abbrevs_shorter, crate::proofs::ListedLemmas::reads_begin, crate::proofs::ListedLemmas::reads_more, crate::proofs::ListedLemmas::reads_end, crate::proofs::ListedLemmas::reads_stopped))]
 fn read_list(
     alloc: Global,
     cursor: &mut Cursor<'_>,
     wide: bool,
-) -> Result<ListOf<Abbrev>, Stop<CursorFault>>
+) -> Result<AbbrevList, Stop<CursorFault>>
     ensures { GivesAt result cursor.new (used_at wide cursor.old) }
 {
-    let mut abbrevs = Vec::new(alloc);
+    let mut heads = Vec::new(alloc);
+    let mut lists = Lists::new(alloc);
+    let mut one = Lists::new(alloc);
     'abbrevs: loop {
-        match read_abbrev(alloc, cursor, wide) {
-            Ok(Some(abbrev)) => abbrevs.push(abbrev)?,
-            Ok(None) => return Ok(ListOf::of(abbrevs)),
+        match read_abbrev(&mut lists, &mut one, cursor, wide) {
+            Ok(Some(head)) => heads.push(head)?,
+            Ok(None) => return Ok(AbbrevList { heads, lists }),
             Err(stop) => return Err(stop),
         }
     }
@@ -175,7 +225,7 @@ pub fn read_abbrevs(
     }
     let mut cursor = cursor_from(sections.abbrevs, unit.abbrev_at as usize);
     match read_list(alloc, &mut cursor, unit.wide) {
-        Ok(list) => Ok(index(alloc, list.into_vec())?),
+        Ok(list) => Ok(index(alloc, list)?),
         Err(Stop::Fault(fault)) => Err(Stop::Fault(in_section(Sect::Abbrev, fault))),
         Err(Stop::NoMemory) => Err(Stop::NoMemory),
     }

@@ -4,8 +4,8 @@
 //! [`units`] gives the units of `.debug_info`: where each begins and ends, where its entries begin, its
 //! version, and where its abbreviations stand; or the first fault of their headers. [`read_abbrevs`] gives the
 //! abbreviations of a unit, and [`Abbrevs::find`] the first of a code. [`read_form`] reads the value of a form,
-//! [`Spec::read`] that of an attribute, whose form was looked up once, [`SpecList::skip`] passes the
-//! values that nobody asks for, [`SpecList::pass`] too where there is a short way, and [`SpecList::takes`] is a short way to
+//! [`Spec::read`] that of an attribute, whose form was looked up once, [`Abbrev::skip`] passes the
+//! values that nobody asks for, [`Abbrev::pass`] too where there is a short way, and [`Abbrev::takes`] is a short way to
 //! those that are asked for. [`read_text`] gives the text of a value, as a slice of the file.
 //!
 //! Each contract is an equation with a definition: `specs/Units.antt` has the headers field by field,
@@ -20,6 +20,7 @@ mod fault;
 mod form;
 pub mod laws;
 mod length;
+mod lists;
 mod plan;
 mod sections;
 mod spec;
@@ -28,16 +29,18 @@ mod text;
 mod unit;
 mod usual;
 mod value;
+mod view;
 
-pub use crate::abbrev::{Abbrev, is_kept_tag};
+pub use crate::abbrev::is_kept_tag;
 pub use crate::abbrevs::{Abbrevs, read_abbrevs};
 pub use crate::fault::{DwarfFault, DwarfKind, FormFault, HeaderFault, header_fault, in_section};
 pub use crate::form::read_form;
 pub use crate::length::{Contents, read_contents};
 pub use crate::sections::Sections;
-pub use crate::spec::{Spec, SpecList};
+pub use crate::spec::Spec;
 pub use crate::take::Take;
 pub use crate::text::{cursor_from, place_by_index, read_place, read_text, text_in};
 pub use crate::unit::{Unit, UnitList, UnitPart, units};
 pub use crate::usual::{KnownTake, Usual};
 pub use crate::value::{Given, Value};
+pub use crate::view::Abbrev;

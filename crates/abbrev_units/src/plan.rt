@@ -1,5 +1,5 @@
 //! A short way over the values of an entry: those of fixed size that stand together are passed at once.
-ghost use Rattle.std.specs.Prelude.{◌≡◌, true, Ok, Some, IfSome, IfOk, MatchOption};
+ghost use Rattle.std.specs.Prelude.{◌≡◌, true, Ok, Some, IfSome, IfOk, MatchOption, []};
 ghost use Rattle.leb_cursor.specs.Ahead.{Ahead};
 ghost use Rattle.code_table.specs.Layouts.{kind_at};
 ghost use Rattle.abbrev_units.specs.Faults.{left_by};
@@ -9,7 +9,6 @@ ghost use Rattle.abbrev_units.specs.internal.Plans.{step_at, steps_at, ended, Is
 use crate::spec::Spec;
 use code_table::{DW_FORM_indirect, FormRow, Kind, read_kind};
 use leb_cursor::{Cursor, CursorFault};
-use std::alloc::Global;
 use sym_edges::OutOfMemory;
 
 /// So many bytes, and then one operand.
@@ -48,20 +47,13 @@ pub fn form_size(form: u64, row: Option<FormRow>) -> Option<u8>
     }
 }
 
-/// The short way: steps, and so many bytes after the last of them.
-#[derive(Drop)]
-pub struct Plan {
-    pub steps: Vec<Step>,
-    pub tail: u64,
-}
-
-/// The short way over the values of attributes, where each has a layout that is known. It takes no memory where each value
-/// has a fixed size.
+/// Makes the steps of the short way over the values of attributes, and gives the bytes after the last of them, where each value has a
+/// layout that is known. It takes no memory where each value has a fixed size.
 #[tactic(auto, using(crate::proofs::PlanLemmas::plan_none, crate::proofs::PlanLemmas::plan_sized, crate::proofs::PlanLemmas::plan_read, crate::proofs::PlanLemmas::plan_end))]
-pub fn make_plan(alloc: Global, specs: &[Spec]) -> Result<Option<Plan>, OutOfMemory>
-    ensures { IfOk result (λ plan. IfSome plan (λ plan. IsPlan (ended plan.steps.items plan.tail) specs.now)) }
+pub fn make_plan(steps: &mut Vec<Step>, specs: &[Spec]) -> Result<Option<u64>, OutOfMemory>
+    requires { steps.old.items ≡ [] }
+    ensures { IfOk result (λ plan. IfSome plan (λ tail. IsPlan (ended steps.new.items tail) specs.now)) }
 {
-    let mut steps = Vec::new(alloc);
     let mut bytes: u64 = 0;
     'specs: for spec in specs {
         let Some(kind) = spec.layout() else {
@@ -77,7 +69,7 @@ pub fn make_plan(alloc: Global, specs: &[Spec]) -> Result<Option<Plan>, OutOfMem
         steps.push(Step { bytes, kind })?;
         bytes = 0;
     }
-    Ok(Some(Plan { steps, tail: bytes }))
+    Ok(Some(bytes))
 }
 
 /// A cursor behind an operand of any layout, where the operand is there.
@@ -158,15 +150,15 @@ pub fn pass_steps(cursor: &mut Cursor<'_>, steps: &[Step]) -> bool
     true
 }
 
-/// Goes a short way. Where it fails, nothing is said.
+/// Goes a short way, and passes so many bytes after the last step. Where it fails, nothing is said.
 #[inline(always)]
-pub fn pass_plan(cursor: &mut Cursor<'_>, plan: &Plan) -> bool
-    ensures { result ≡ true → steps_at (ended plan.now.steps.items plan.now.tail) cursor.old ≡ Ok cursor.new }
+pub fn pass_plan(cursor: &mut Cursor<'_>, steps: &[Step], tail: u64) -> bool
+    ensures { result ≡ true → steps_at (ended steps.now tail) cursor.old ≡ Ok cursor.new }
 {
-    if !pass_steps(cursor, plan.steps.as_slice()) {
+    if !pass_steps(cursor, steps) {
         return false;
     }
-    match cursor.take(plan.tail) {
+    match cursor.take(tail) {
         Ok(_run) => true,
         Err(_) => false,
     }

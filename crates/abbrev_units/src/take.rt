@@ -1,5 +1,5 @@
 //! A short way to those values of an entry that are asked for: what stands between them is passed.
-ghost use Rattle.std.specs.Prelude.{◌≡◌, ◌+◌, IfSome, IfOk, OnOk, reverse, unwrap_or, OnErr};
+ghost use Rattle.std.specs.Prelude.{◌≡◌, ◌+◌, true, [], IfSome, IfOk, OnOk, reverse, unwrap_or, OnErr};
 ghost use Rattle.leb_cursor.specs.Ahead.{gave};
 ghost use Rattle.abbrev_units.specs.Takes.{taken_at, is_asked, AreTakes};
 ghost use Rattle.abbrev_units.specs.internal.Plans.{IsPassed, no_take, in_front};
@@ -15,7 +15,6 @@ use code_table::{
     DW_AT_stmt_list, DW_AT_str_offsets_base, FormClass, FormRow, Kind, read_kind,
 };
 use leb_cursor::{Cursor, CursorFault};
-use std::alloc::Global;
 use sym_edges::OutOfMemory;
 
 /// So many bytes, which are passed, and then the value of an attribute.
@@ -128,43 +127,42 @@ fn put(later: &mut Vec<KnownTake>, first: Option<Take>) -> Result<(), OutOfMemor
     Ok(())
 }
 
-/// The takes of attributes, where the form of each is known, from the last to the first.
-fn make_takes(alloc: Global, specs: &[Spec]) -> Result<Option<Vec<KnownTake>>, OutOfMemory>
-    ensures { IfOk result (λ made. IfSome made (λ takes. AreTakes (reverse takes.items) specs.now)) }
+/// Makes the takes of attributes, from the last to the first; false where the form of one is not known.
+fn make_takes(later: &mut Vec<KnownTake>, specs: &[Spec]) -> Result<bool, OutOfMemory>
+    requires { later.old.items ≡ [] }
+    ensures { IfOk result (λ made. made ≡ true → AreTakes (reverse later.new.items) specs.now) }
 {
-    let mut later = Vec::with_capacity(alloc, specs.len())?;
     let mut first = None;
     'specs: for place in (0..specs.len()).rev() {
         let spec = &specs[place];
         let Some(row) = spec.row() else {
-            return Ok(None);
+            return Ok(false);
         };
         match passed_size(spec, row) {
             Some(size) => {
                 let Some(wide) = wider(first, size) else {
-                    return Ok(None);
+                    return Ok(false);
                 };
                 first = Some(wide);
             }
             None => {
-                put(&mut later, first)?;
+                put(later, first)?;
                 first = Some(take_of(spec, row));
             }
         }
     }
-    put(&mut later, first)?;
-    Ok(Some(later))
+    put(later, first)?;
+    Ok(true)
 }
 
-/// The takes of attributes, where the form of each is known.
-pub fn takes_of(alloc: Global, specs: &[Spec]) -> Result<Option<Vec<KnownTake>>, OutOfMemory>
-    ensures { IfOk result (λ made. IfSome made (λ takes. AreTakes takes.items specs.now)) }
+/// Makes the takes of attributes; false where the form of one is not known.
+pub fn takes_of(takes: &mut Vec<KnownTake>, specs: &[Spec]) -> Result<bool, OutOfMemory>
+    requires { takes.old.items ≡ [] }
+    ensures { IfOk result (λ made. made ≡ true → AreTakes takes.new.items specs.now) }
 {
-    match make_takes(alloc, specs)? {
-        Some(mut takes) => {
-            takes.reverse();
-            Ok(Some(takes))
-        }
-        None => Ok(None),
+    if !make_takes(takes, specs)? {
+        return Ok(false);
     }
+    takes.reverse();
+    Ok(true)
 }

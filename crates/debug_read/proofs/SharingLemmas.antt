@@ -6,7 +6,7 @@ use Rattle.sym_edges.specs.Results.{◌>>=◌}
 use Rattle.sym_edges.specs.declared.located.Located.{Located}
 use Rattle.sym_edges.specs.declared.part.Sect.TheVariants as section
 use Rattle.leb_cursor.specs.Ahead.{Ahead}
-use Rattle.abbrev_units.specs.declared.abbrev.Abbrev.{Abbrev}
+use Rattle.abbrev_units.specs.SpecFields.{Abbrev}
 use Rattle.abbrev_units.specs.declared.fault.DwarfKind.{DwarfKind}
 use Rattle.abbrev_units.specs.declared.unit.Unit.{Unit}
 use Rattle.abbrev_units.specs.Abbreviations.{used_at, abbrevs_of}

@@ -14,7 +14,7 @@ use Rattle.leb_cursor.specs.Readings.{uleb_at}
 use Rattle.leb_cursor.specs.Lists.{list_by, list_at, list_cases, GoesOn}
 use Rattle.leb_cursor.proofs.PassLemmas.{uleb_passes, passes_then}
 use Rattle.leb_cursor.proofs.ListLemmas.{either_passes, list_follows}
-use Rattle.abbrev_units.specs.declared.abbrev.Abbrev.{Abbrev}
+use Rattle.abbrev_units.specs.SpecFields.{Abbrev}
 use Rattle.abbrev_units.specs.declared.fault.DwarfKind.{DwarfKind}
 use Rattle.abbrev_units.specs.declared.fault.DwarfKind.TheVariants as is
 use Rattle.abbrev_units.specs.declared.fault.FormFault.{FormFault}

@@ -6,12 +6,11 @@ use Rattle.sym_edges.specs.declared.part.Sect.TheVariants.{Info}
 use Rattle.leb_cursor.specs.Ahead.{Ahead}
 use Rattle.leb_cursor.specs.Readings.{uleb_at}
 use Rattle.leb_cursor.specs.Lists.{list_at}
-use Rattle.abbrev_units.specs.declared.abbrev.Abbrev.{Abbrev}
+use Rattle.abbrev_units.specs.SpecFields.{Abbrev, SpecFields}
 use Rattle.abbrev_units.specs.declared.fault.DwarfKind.{DwarfKind}
 use Rattle.abbrev_units.specs.declared.fault.DwarfKind.TheVariants as is
 use Rattle.abbrev_units.specs.declared.fault.FormFault.{FormFault}
 use Rattle.abbrev_units.specs.declared.fault.FormFault.TheVariants as form
-use Rattle.abbrev_units.specs.SpecFields.{SpecFields}
 use Rattle.abbrev_units.specs.Faults.{in_section, read_in}
 use Rattle.abbrev_units.specs.Abbreviations.{abbrev_of}
 use Rattle.abbrev_units.specs.declared.value.Given.{Given}

@@ -2,7 +2,7 @@
 ghost use Rattle.std.specs.Prelude.{◌≡◌, ℕ, ◌≤◌, List, Ok, length};
 ghost use Rattle.leb_cursor.specs.Ahead.{Ahead};
 ghost use Rattle.leb_cursor.specs.Lists.{list_at, list_cases};
-ghost use Rattle.abbrev_units.specs.declared.abbrev.Abbrev.{Abbrev};
+ghost use Rattle.abbrev_units.specs.SpecFields.{Abbrev};
 ghost use Rattle.abbrev_units.specs.declared.unit.Unit.{Unit};
 ghost use Rattle.abbrev_units.specs.DebugSections.{DebugSections};
 ghost use Rattle.die_walk.specs.Marks.{next_mark};

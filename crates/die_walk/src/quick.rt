@@ -7,7 +7,7 @@ ghost use Rattle.die_walk.specs.internal.Packing.{pick_said, pick_in};
 
 use crate::packed::{Class, Packed, unpack};
 use crate::picks::Picks;
-use abbrev_units::{KnownTake, SpecList, Take, Usual, Value};
+use abbrev_units::{Abbrev, KnownTake, Take, Usual, Value};
 use code_table::{
     DW_AT_MIPS_linkage_name, DW_AT_abstract_origin, DW_AT_addr_base, DW_AT_call_file,
     DW_AT_call_line, DW_AT_comp_dir, DW_AT_declaration, DW_AT_high_pc, DW_AT_linkage_name,
@@ -334,11 +334,11 @@ fn note_takes(quick: &mut Quick, cursor: &mut Cursor<'_>, takes: &[KnownTake]) -
 /// Reads the values of an entry by a short way; false where there is none. Where it fails, nothing is said.
 #[inline(always)]
 #[tactic(auto, using(crate::proofs::TakeLemmas::short_way))]
-pub fn read_quick(quick: &mut Quick, cursor: &mut Cursor<'_>, specs: &SpecList) -> bool
+pub fn read_quick(quick: &mut Quick, cursor: &mut Cursor<'_>, found: &Abbrev<'_>) -> bool
     requires { quick.old ≡ no_picks }
-    ensures { result ≡ true → Ok (quick.new, cursor.new) ≡ picks_at no_picks specs.now cursor.old }
+    ensures { result ≡ true → Ok (quick.new, cursor.new) ≡ picks_at no_picks found.now.specs cursor.old }
 {
-    let Some(takes) = specs.takes() else {
+    let Some(takes) = found.takes() else {
         return false;
     };
     note_takes(quick, cursor, takes)

@@ -256,16 +256,16 @@ impl<'a> Walker<'a> {
         unit: &Unit,
         cursor: &mut Cursor<'a>,
         at: u32,
-        found: &Abbrev,
+        found: &Abbrev<'_>,
     ) -> Result<(), Stop<DwarfFault>>
         requires { keeps self.old found.now.tag ≡ true }
         ensures { Moves result self.new cursor.new (entered_at sections.now unit.now self.old at found.now cursor.old) }
     {
-        let picks = match read_picks(cursor, found.specs.as_slice()) {
+        let picks = match read_picks(cursor, found.specs()) {
             Ok(picks) => picks,
             Err(fault) => return Err(Stop::Fault(value_fault(fault))),
         };
-        self.add(sections, unit, at, found.tag, &picks)?;
+        self.add(sections, unit, at, found.tag(), &picks)?;
         Ok(())
     }
 
@@ -278,7 +278,7 @@ impl<'a> Walker<'a> {
         unit: &Unit,
         cursor: &mut Cursor<'a>,
         at: u32,
-        found: &Abbrev,
+        found: &Abbrev<'_>,
     ) -> Result<(), Stop<DwarfFault>>
         requires kept { keeps self.old found.now.tag ≡ true }
         requires strs { self.old.strs ≡ sections.now.strs }
@@ -289,10 +289,10 @@ impl<'a> Walker<'a> {
         if self.dies.is_empty() {
             return self.take_any(sections, unit, cursor, at, found);
         }
-        if !read_quick(&mut quick, &mut behind, &found.specs) {
+        if !read_quick(&mut quick, &mut behind, found) {
             return self.take_any(sections, unit, cursor, at, found);
         }
-        self.add_picked(sections, unit, at, found.tag, &quick)?;
+        self.add_picked(sections, unit, at, found.tag(), &quick)?;
         *cursor = behind;
         Ok(())
     }
@@ -307,12 +307,12 @@ impl<'a> Walker<'a> {
         unit: &Unit,
         cursor: &mut Cursor<'a>,
         at: u32,
-        found: &Abbrev,
+        found: &Abbrev<'_>,
     ) -> Result<(), Stop<DwarfFault>>
         requires { keeps self.old found.now.tag ≡ false }
         ensures { Moves result self.new cursor.new (entered_at sections.now unit.now self.old at found.now cursor.old) }
     {
-        match found.specs.skip(cursor) {
+        match found.skip(cursor) {
             Ok(()) => Ok(()),
             Err(fault) => Err(Stop::Fault(value_fault(fault))),
         }
@@ -327,15 +327,15 @@ impl<'a> Walker<'a> {
         unit: &Unit,
         cursor: &mut Cursor<'a>,
         at: u32,
-        found: &Abbrev,
+        found: &Abbrev<'_>,
     ) -> Result<(), Stop<DwarfFault>>
         requires { self.old.strs ≡ sections.now.strs }
         ensures { Moves result self.new cursor.new (entered_at sections.now unit.now self.old at found.now cursor.old) }
     {
-        if self.keeps(found.tag) {
+        if self.keeps(found.tag()) {
             return self.take_kept(sections, unit, cursor, at, found);
         }
-        if found.specs.pass(cursor) {
+        if found.pass(cursor) {
             return Ok(());
         }
         self.take_slowly(sections, unit, cursor, at, found)
@@ -368,16 +368,16 @@ impl<'a> Walker<'a> {
         unit: &Unit,
         cursor: &mut Cursor<'a>,
         at: u32,
-        found: &Abbrev,
+        found: &Abbrev<'_>,
     ) -> Result<(), Stop<DwarfFault>>
         requires few { length self.old.dies < 2 ^ 32 }
         requires strs { self.old.strs ≡ sections.now.strs }
         ensures { Moves result self.new cursor.new (moved_at sections.now unit.now self.old at found.now cursor.old) }
     {
-        if !found.children {
+        if !found.children() {
             return self.take_entry(sections, unit, cursor, at, found);
         }
-        let own = self.own_number(found.tag);
+        let own = self.own_number(found.tag());
         match self.take_entry(sections, unit, cursor, at, found) {
             Ok(()) => {}
             Err(stop) => return Err(stop),
@@ -419,7 +419,7 @@ impl<'a> Walker<'a> {
                 at,
             }));
         };
-        match self.enter(sections, unit, cursor, at as u32, found) {
+        match self.enter(sections, unit, cursor, at as u32, &found) {
             Ok(()) => Ok(true),
             Err(stop) => Err(stop),
         }

@@ -5,8 +5,7 @@ use Rattle.sym_edges.specs.Results.{◌>>=◌}
 use Rattle.leb_cursor.specs.declared.fault.CursorFault.{CursorFault}
 use Rattle.leb_cursor.specs.Ahead.{Ahead}
 use Rattle.leb_cursor.specs.Lists.{list_at}
-use Rattle.abbrev_units.specs.SpecFields.{SpecFields}
-use Rattle.abbrev_units.specs.declared.abbrev.Abbrev.{Abbrev}
+use Rattle.abbrev_units.specs.SpecFields.{SpecFields, Abbrev}
 use Rattle.abbrev_units.specs.Abbreviations.{spec_at, abbrev_by, abbrev_at, used_spec, used_abbrev}
 
 -- a member of a list, and a list, with a change of what was read

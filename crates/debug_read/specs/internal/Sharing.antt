@@ -1,7 +1,7 @@
 -- Abbreviations that several units name: they are read once.
 use Rattle.std.specs.Prelude.{◌≡◌, List, Option, None, Some, Result}
 use Rattle.sym_edges.specs.declared.located.Located.{Located}
-use Rattle.abbrev_units.specs.declared.abbrev.Abbrev.{Abbrev}
+use Rattle.abbrev_units.specs.SpecFields.{Abbrev}
 use Rattle.abbrev_units.specs.declared.fault.DwarfKind.{DwarfKind}
 use Rattle.abbrev_units.specs.declared.unit.Unit.{Unit}
 use Rattle.abbrev_units.specs.Abbreviations.{abbrevs_of}

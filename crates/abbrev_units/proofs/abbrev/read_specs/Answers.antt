@@ -8,4 +8,3 @@ pub returns-in-Ok-None : goal.returns-in-Ok-None
 returns-in-Ok-None c =
     specs_end c.args.wide c.specs.specs.items c.specs.cursor c.read_spec.new.cursor (used_specs_at c.args.wide c.args.cursor.now) c.specs.invariant
     (ap (λ (next : Option SpecFields). Ok (next, c.read_spec.new.cursor)) (sym c.in-Ok-None.field-0-is) ∙ c.in-Ok-None.ensures)
-    ∙ ap (λ specs. Ok (specs, c.read_spec.new.cursor)) (sym c.of.ensures)

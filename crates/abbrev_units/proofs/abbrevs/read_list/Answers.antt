@@ -1,11 +1,23 @@
-use Rattle.std.proofs.Common.{Ok, Option, sym, ap, ◌∙◌}
-use Rattle.abbrev_units.specs.declared.abbrev.Abbrev.{Abbrev}
+use Rattle.std.proofs.Common.{Ok, Option, subst}
+use Rattle.abbrev_units.specs.declared.lists.Head.{Head}
 use Rattle.abbrev_units.specs.Abbreviations.{used_at}
-use Rattle.abbrev_units.proofs.AbbrevLemmas.{abbrevs_end}
+use Rattle.abbrev_units.specs.internal.Used.{used_abbrev_at}
+use Rattle.abbrev_units.specs.internal.Listed.{ReadsAt}
+use Rattle.abbrev_units.proofs.ListedLemmas.{reads_more, reads_held, reads_end}
 use Rattle.abbrev_units.proofs.abbrevs.read_list.Goals as goal
+
+pub abbrevs-preserved : goal.abbrevs-preserved
+abbrevs-preserved c =
+    reads_more c.args.wide c.abbrevs.lists c.read_abbrev.new.lists c.abbrevs.heads.items c.push.new.self.items c.in-Ok-Some.head c.abbrevs.cursor c.read_abbrev.new.cursor (used_at c.args.wide c.args.cursor.now) c.abbrevs.invariant
+    (subst (λ (next : Option Head). ReadsAt (Ok next) c.read_abbrev.new.lists c.read_abbrev.new.cursor (used_abbrev_at c.args.wide c.abbrevs.cursor)) c.in-Ok-Some.field-0-is c.in-Ok-Some.ensures.read)
+    c.in-Ok-Some.ensures.grown c.in_ok-push-in-Ok-Some.ensures.items
+
+pub invariant_of-result : goal.invariant_of-result
+invariant_of-result c =
+    reads_held c.args.wide c.abbrevs.lists c.read_abbrev.new.lists c.abbrevs.heads.items c.abbrevs.cursor (used_at c.args.wide c.args.cursor.now) c.abbrevs.invariant c.in-Ok-None.ensures.grown
 
 pub returns-in-Ok-None : goal.returns-in-Ok-None
 returns-in-Ok-None c =
-    abbrevs_end c.args.wide c.abbrevs.abbrevs.items c.abbrevs.cursor c.read_abbrev.new.cursor (used_at c.args.wide c.args.cursor.now) c.abbrevs.invariant
-    (c.in-Ok-None.ensures ∙ ap (λ (next : Option Abbrev). Ok (next, c.read_abbrev.new.cursor)) c.in-Ok-None.field-0-is)
-    ∙ ap (λ abbrevs. Ok (abbrevs, c.read_abbrev.new.cursor)) (sym c.of.ensures)
+    reads_end c.args.wide c.abbrevs.lists c.read_abbrev.new.lists c.abbrevs.heads.items c.abbrevs.cursor c.read_abbrev.new.cursor (used_at c.args.wide c.args.cursor.now) c.abbrevs.invariant
+    (subst (λ (next : Option Head). ReadsAt (Ok next) c.read_abbrev.new.lists c.read_abbrev.new.cursor (used_abbrev_at c.args.wide c.abbrevs.cursor)) c.in-Ok-None.field-0-is c.in-Ok-None.ensures.read)
+    c.in-Ok-None.ensures.grown

@@ -1,11 +1,9 @@
-use Rattle.std.proofs.Common.{refl, sym, ap, ◌∙◌}
+use Rattle.std.proofs.Common.{refl, sym, ap}
 use Rattle.abbrev_units.specs.Values.{only_ahead}
-use Rattle.abbrev_units.specs.internal.Plans.{steps_at}
 use Rattle.abbrev_units.proofs.PlanLemmas.{tail_passed}
 use Rattle.abbrev_units.proofs.plan.pass_plan.Goals as goal
 
 pub returns-in-Ok : goal.returns-in-Ok
 returns-in-Ok c went =
-    tail_passed c.args.plan.now.steps.items c.args.plan.now.tail c.args.cursor.now c.pass_steps.new.cursor c.take.new.self
-    (ap (λ s. steps_at s c.args.cursor.now) (sym c.as_slice.ensures.value) ∙ c.if-not-pass_steps.ensures refl)
-    (ap only_ahead (sym c.in-Ok.ensures.read))
+    tail_passed c.args.steps.now c.args.tail c.args.cursor.now c.pass_steps.new.cursor c.take.new.self
+    (c.if-not-pass_steps.ensures refl) (ap only_ahead (sym c.in-Ok.ensures.read))

@@ -3,7 +3,7 @@ use Rattle.abbrev_units.proofs.TakeLemmas.{takes_begin, takes_wider, takes_next}
 use Rattle.abbrev_units.proofs.take.make_takes.Goals as goal
 
 pub specs-init : goal.specs-init
-specs-init c = takes_begin None c.in_ok-later.later.items c.args.specs.now (length c.args.specs.now) refl c.in_ok-later.ensures.items (omega arith)
+specs-init c = takes_begin None c.args.later.now.items c.args.specs.now (length c.args.specs.now) refl c.requires (omega arith)
 
 pub specs-preserved-in-Some-passed_size : goal.specs-preserved-in-Some-passed_size
 specs-preserved-in-Some-passed_size c =
