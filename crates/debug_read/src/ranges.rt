@@ -58,9 +58,10 @@ pub fn read_sets(
     let mut sets = SpanSets::with_room(alloc, count)?;
     'entries: for entry in 0..count {
         match read_set(alloc, sections, unit, table, entry as u32, base, code) {
-            Ok(set) => sets.push(set)?,
+            Ok(set) => sets.push(&set)?,
             Err(stop) => return Err(stop),
         }
     }
+    sets.shrink();
     Ok(sets)
 }

@@ -1,87 +1,71 @@
 //! The addresses of entries, of which most have none.
-ghost use Rattle.std.specs.Prelude.{◌≡◌, ◌≤◌, [], ◌∷◌, ◌++◌, length, IfOk, OnOk};
+ghost use Rattle.std.specs.Prelude.{◌≡◌, [], ◌∷◌, ◌++◌, IfOk, IfSome, OnOk};
 ghost use Rattle.std.specs.List.{slice_get};
 ghost use Rattle.std.specs.Option.{option_copied};
-ghost use Rattle.die_names.specs.internal.SetNumbers.{set_at};
+ghost use Rattle.range_set.specs.Canonical.{IsCanonical};
 
+use flat_lists::FlatLists;
 use range_set::RangeSet;
 use std::alloc::Global;
 use std::marker::Model;
-use sym_edges::OutOfMemory;
+use sym_edges::{OutOfMemory, Span};
 
-/// The addresses of a unit's entries, one set for each: empty for those that do not count. An entry without addresses has the number 0,
-/// and takes four bytes; another has that of its set, which are numbered from 1.
+/// The addresses of a unit's entries, one set for each: empty for those that do not count. An entry without addresses takes four bytes.
 #[derive(Drop)]
 pub struct SpanSets {
-    numbers: Vec<u32>,
-    sets: Vec<RangeSet>,
-    none: RangeSet,
+    sets: FlatLists<Span>,
 }
 
 impl Model for SpanSets {
-    ghost use Rattle.std.specs.Prelude.{List, ◌≡◌, [], map, length};
+    ghost use Rattle.std.specs.Prelude.{List};
+    ghost use Rattle.std.specs.List.{All};
     ghost use Rattle.sym_edges.specs.Addresses.{Range};
-    ghost use Rattle.die_names.specs.internal.SetNumbers.{set_at, AreNumbers};
+    ghost use Rattle.range_set.specs.Canonical.{IsCanonical};
 
     ghost Value = { List (List Range) };
 
-    ghost view = { λ s. map (set_at s.sets.items) s.numbers.items };
+    ghost view = { λ s. s.sets };
 
-    ghost invariant = { λ s. AreNumbers (length s.sets.items) s.numbers.items × (s.none ≡ []) };
-}
-
-/// The set of a number.
-fn set_of<'s>(sets: &'s [RangeSet], none: &'s RangeSet, number: u32) -> &'s RangeSet
-    requires inside { number ≤ length sets.now }
-    requires none { none.now ≡ [] }
-    ensures { result.now ≡ set_at sets.now number }
-{
-    if number == 0 {
-        return none;
-    }
-    &sets[number as usize - 1]
+    ghost invariant = { λ s. All IsCanonical s.sets };
 }
 
 impl SpanSets {
     /// No entry yet, and room for so many.
+    #[tactic(auto, using(crate::proofs::SetLemmas::none_canonical))]
     pub fn with_room(alloc: Global, count: usize) -> Result<SpanSets, OutOfMemory>
         ensures { IfOk result (λ sets. sets ≡ []) }
     {
         Ok(SpanSets {
-            numbers: Vec::with_capacity(alloc, count)?,
-            sets: Vec::new(alloc),
-            none: RangeSet::empty(),
+            sets: FlatLists::with_room(alloc, count)?,
         })
     }
 
     /// Adds the addresses of an entry.
-    #[tactic(auto, using(crate::proofs::SetLemmas::pushed_none, crate::proofs::SetLemmas::pushed_set, crate::proofs::SetLemmas::numbers_none, crate::proofs::SetLemmas::numbers_set, crate::proofs::SetLemmas::numbers_wider))]
-    pub fn push(&mut self, set: RangeSet) -> Result<(), OutOfMemory>
-        ensures { OnOk result (self.new ≡ self.old ++ set ∷ []) }
+    #[tactic(auto, using(crate::proofs::SetLemmas::canonical_added, crate::proofs::SetLemmas::canonical_kept))]
+    pub fn push(&mut self, set: &RangeSet) -> Result<(), OutOfMemory>
+        ensures { OnOk result (self.new ≡ self.old ++ set.now ∷ []) }
     {
-        if set.is_empty() {
-            self.numbers.push(0)?;
-            return Ok(());
-        }
-        let count = self.sets.len();
-        if count >= u32::MAX as usize {
-            return Err(OutOfMemory);
-        }
-        self.sets.push(set)?;
-        self.numbers.push(count as u32 + 1)?;
+        self.sets.push(set.spans())?;
         Ok(())
+    }
+
+    /// Gives back the room that no set took.
+    pub fn shrink(&mut self)
+        ensures { self.new ≡ self.old }
+    {
+        self.sets.shrink();
     }
 
     /// The addresses of the entry of a number.
     #[inline]
-    #[tactic(auto, using(crate::proofs::SetLemmas::number_inside, crate::proofs::SetLemmas::set_there, crate::proofs::SetLemmas::set_past))]
-    pub fn get(&self, entry: usize) -> Option<&RangeSet>
-        ensures { option_copied result ≡ slice_get self.now entry }
+    #[tactic(auto, using(crate::proofs::SetLemmas::canonical_there))]
+    pub fn get(&self, entry: usize) -> Option<&[Span]>
+        ensures set { option_copied result ≡ slice_get self.now entry }
+        ensures canonical { IfSome result (λ spans. IsCanonical spans.now) }
     {
-        if entry >= self.numbers.len() {
-            return None;
+        match self.sets.get(entry) {
+            Some(spans) => Some(spans),
+            None => None,
         }
-        let number = self.numbers[entry];
-        Some(set_of(self.sets.as_slice(), &self.none, number))
     }
 }

@@ -1,14 +1,15 @@
 //! The units of a file, as they were read.
-ghost use Rattle.std.specs.Prelude.{◌≡◌};
+ghost use Rattle.std.specs.Prelude.{◌≡◌, IfSome};
 ghost use Rattle.std.specs.List.{slice_get};
 ghost use Rattle.std.specs.Option.{option_copied};
+ghost use Rattle.range_set.specs.Canonical.{IsCanonical};
 ghost use Rattle.die_names.specs.UnitEntries.{AreRead, die_in};
 
 use crate::span_sets::SpanSets;
 use die_walk::{Die, DieTable};
 use line_program::LineTable;
-use range_set::RangeSet;
 use std::marker::Model;
+use sym_edges::Span;
 
 /// An entry: the number of its unit, and its own number there.
 #[derive(Clone, Copy, Debug, PartialEq, Eq)]
@@ -36,8 +37,9 @@ impl<'a> UnitRead<'a> {
 
     /// The addresses of the entry of a number.
     #[inline]
-    pub fn ranges(&self, entry: usize) -> Option<&RangeSet>
-        ensures { option_copied result ≡ slice_get self.now.spans entry }
+    pub fn ranges(&self, entry: usize) -> Option<&[Span]>
+        ensures set { option_copied result ≡ slice_get self.now.spans entry }
+        ensures canonical { IfSome result (λ spans. IsCanonical spans.now) }
     {
         self.spans.get(entry)
     }

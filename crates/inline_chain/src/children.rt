@@ -18,7 +18,7 @@ fn spans_in<'u>(part: &'u UnitRead<'_>, entry: usize) -> &'u [Span]
     ensures canonical { IsCanonical result.now }
 {
     match part.ranges(entry) {
-        Some(set) => set.spans(),
+        Some(spans) => spans,
         None => &[],
     }
 }

@@ -306,5 +306,7 @@ pub numbers_apart : (texts : List (List ℕ)) (file : ℕ) (firsts files : List 
 numbers_apart texts file firsts files numbers n = placed_distinct (picked texts firsts) n.placed
 
 -- a text that was read at a place
-pub text_at : (texts : List (List ℕ)) (file : ℕ) (text x : List ℕ) → text ≡ x → x ≡ get_or texts file x → text ≡ get_or texts file text
-text_at texts file text x is at = subst (λ t. t ≡ get_or texts file t) (sym is) at
+pub text_at : (texts : List (List ℕ)) (file : ℕ) (text : List ℕ) → Some text ≡ slice_get texts file → text ≡ get_or texts file text
+text_at [] file text there = absurd (cc)
+text_at (t ∷ texts) zero text there = cc
+text_at (t ∷ texts) (suc file) text there = text_at texts file text there

@@ -140,21 +140,16 @@ pub says_read : (code : List Range) (read : Result Lines Fault) (lines : Lines) 
 says_read code read lines table is says spans alike = subst (λ r. Says (encloses spans) r table) (sym is) (says_alike (encloses code) (encloses spans) lines table alike says)
 
 -- the same, where both lists were seen as slices
-pub of_says : (code : ℕ → ℕ → Bool) (sequences : List Sequence) (first : ℕ) (texts slice : List (List ℕ)) (firsts numbers numbers_slice : List ℕ) (lines : Stepping PathLine)
-    → slice ≡ texts → numbers_slice ≡ numbers → picked slice firsts ≡ distinct_paths slice → AreNumbered (picked slice firsts) numbers slice → ((a : ℕ) → a < 2 ^ 64 → value_at no_line lines a ≡ numbered_at code sequences first numbers_slice a)
+pub of_says : (code : ℕ → ℕ → Bool) (sequences : List Sequence) (first : ℕ) (texts : List (List ℕ)) (firsts numbers numbers_slice : List ℕ) (lines : Stepping PathLine)
+    → numbers_slice ≡ numbers → picked texts firsts ≡ distinct_paths texts → AreNumbered (picked texts firsts) numbers texts → ((a : ℕ) → a < 2 ^ 64 → value_at no_line lines a ≡ numbered_at code sequences first numbers_slice a)
     → SaysLines code (record { sequences = sequences; first = first; files = texts }) (record { lines = lines; paths = picked texts firsts; first = first; files = numbers })
-of_says code sequences first texts slice firsts numbers numbers_slice lines is_slice is_numbers paths are by_lines =
-    says_lines code sequences first texts firsts numbers lines
-    (subst (λ l. picked l firsts ≡ distinct_paths l) is_slice paths)
-    (subst (λ l. AreNumbered (picked l firsts) numbers l) is_slice are)
+of_says code sequences first texts firsts numbers numbers_slice lines is_numbers paths are by_lines =
+    says_lines code sequences first texts firsts numbers lines paths are
     (subst (λ l. (a : ℕ) → a < 2 ^ 64 → value_at no_line lines a ≡ numbered_at code sequences first l a) is_numbers by_lines)
 
-pub of_map : (code : ℕ → ℕ → Bool) (sequences : List Sequence) (first : ℕ) (texts slice : List (List ℕ)) (firsts numbers numbers_slice : List ℕ) (lines : Stepping PathLine)
-    → slice ≡ texts → numbers_slice ≡ numbers → AllBelow (length slice) firsts → AreDistinct (picked slice firsts) → AreNumbered (picked slice firsts) numbers slice → ((a : ℕ) → a < 2 ^ 64 → value_at no_line lines a ≡ numbered_at code sequences first numbers_slice a)
+pub of_map : (code : ℕ → ℕ → Bool) (sequences : List Sequence) (first : ℕ) (texts : List (List ℕ)) (firsts numbers numbers_slice : List ℕ) (lines : Stepping PathLine)
+    → numbers_slice ≡ numbers → AllBelow (length texts) firsts → AreDistinct (picked texts firsts) → AreNumbered (picked texts firsts) numbers texts → ((a : ℕ) → a < 2 ^ 64 → value_at no_line lines a ≡ numbered_at code sequences first numbers_slice a)
     → IsLineMap lines texts firsts numbers
-of_map code sequences first texts slice firsts numbers numbers_slice lines is_slice is_numbers there apart are by_lines =
-    is_line_map code sequences first texts firsts numbers lines
-    (subst (λ l. AllBelow (length l) firsts) is_slice there)
-    (subst (λ l. AreDistinct (picked l firsts)) is_slice apart)
-    (subst (λ l. AreNumbered (picked l firsts) numbers l) is_slice are)
+of_map code sequences first texts firsts numbers numbers_slice lines is_numbers there apart are by_lines =
+    is_line_map code sequences first texts firsts numbers lines there apart are
     (subst (λ l. (a : ℕ) → a < 2 ^ 64 → value_at no_line lines a ≡ numbered_at code sequences first l a) is_numbers by_lines)

@@ -16,18 +16,19 @@ use crate::program_run::run_program;
 use crate::table::LineTable;
 use crate::tables::{Tables, read_tables};
 use abbrev_units::{DwarfFault, DwarfKind, Sections};
+use flat_lists::FlatLists;
 use leb_cursor::Cursor;
 use range_set::Enclosing;
 use std::alloc::Global;
 use std::marker::Model;
-use sym_edges::{ByteRun, Located, OutOfMemory, Sect, Stop};
+use sym_edges::{Located, OutOfMemory, Sect, Stop};
 
 /// What a line table says: its sequences, the number of its first file, and the files' paths.
 #[derive(Drop)]
 struct Lines {
     sequences: Vec<LineSequence>,
     first: u32,
-    files: Vec<ByteRun>,
+    files: FlatLists<u8>,
 }
 
 impl Model for Lines {
@@ -35,7 +36,7 @@ impl Model for Lines {
 
     ghost Value = { Lines };
 
-    ghost view = { λ l. record { sequences = l.sequences.items; first = l.first; files = l.files.items } };
+    ghost view = { λ l. record { sequences = l.sequences.items; first = l.first; files = l.files } };
 }
 
 /// The paths of the files in the header's tables, and of those that the program defined after them.

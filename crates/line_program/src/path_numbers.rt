@@ -4,9 +4,10 @@ ghost use Rattle.leb_cursor.specs.Readings.{fixed_sum};
 ghost use Rattle.line_program.specs.LineMaps.{distinct_paths, AreDistinct};
 ghost use Rattle.line_program.specs.internal.Numbering.{picked, AreNumbered, AllBelow, ending_of};
 
+use flat_lists::FlatLists;
 use std::alloc::Global;
 use std::collections::BTreeMap;
-use sym_edges::{ByteRun, OutOfMemory};
+use sym_edges::OutOfMemory;
 
 /// Where each path first stands among the files' paths, and the number of each file's path.
 #[derive(Drop)]
@@ -40,7 +41,7 @@ fn ending_of(text: &[u8]) -> u64
 }
 
 /// Numbers paths in the order of the first file that has each.
-pub(crate) fn number_paths(alloc: Global, texts: &[ByteRun]) -> Result<Numbering, OutOfMemory>
+pub(crate) fn number_paths(alloc: Global, texts: &FlatLists<u8>) -> Result<Numbering, OutOfMemory>
     requires { length texts.now < 2 ^ 32 }
     ensures paths { IfOk result (λ n. picked texts.now n.firsts.items ≡ distinct_paths texts.now) }
     ensures files { IfOk result (λ n. AreNumbered (picked texts.now n.firsts.items) n.files.items texts.now) }
@@ -52,7 +53,7 @@ pub(crate) fn number_paths(alloc: Global, texts: &[ByteRun]) -> Result<Numbering
     // By their ends first, since many paths begin alike.
     let mut numbers: BTreeMap<(u64, &[u8]), u32> = BTreeMap::new(alloc);
     'files: for file in 0..texts.len() {
-        let text = texts[file].as_slice();
+        let text = texts.at(file);
         let key = (ending_of(text), text);
         match numbers.get(&key) {
             Some(number) => {

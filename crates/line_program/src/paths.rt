@@ -3,10 +3,11 @@ ghost use Rattle.std.specs.Prelude.{◌≡◌, ◌==◌, ◌-◌, map, length, s
 ghost use Rattle.line_program.specs.Paths.{joined, root_of, directories_of, path_under, file_path, is_rooted, ends_in_slash};
 
 use crate::file_entry::FileEntry;
-use clean_names::clean;
+use clean_names::add_cleaned;
+use flat_lists::FlatLists;
 use std::alloc::Global;
 use std::marker::Model;
-use sym_edges::{ByteRun, OutOfMemory};
+use sym_edges::OutOfMemory;
 
 /// The directories of a table, by their numbers: the first one, and those that stand in it.
 #[derive(Drop)]
@@ -161,16 +162,20 @@ impl<'t, 'a> Directories<'t, 'a> {
         &self,
         alloc: Global,
         files: &[FileEntry<'_>],
-    ) -> Result<Vec<ByteRun>, OutOfMemory>
-        ensures { IfOk result (λ paths. paths.items ≡ map (file_path self.now) files.now) }
+    ) -> Result<FlatLists<u8>, OutOfMemory>
+        ensures { IfOk result (λ paths. paths ≡ map (file_path self.now) files.now) }
     {
-        let mut paths = Vec::with_capacity(alloc, files.len())?;
+        let mut paths = FlatLists::with_room(alloc, files.len())?;
         let mut directory = Vec::new(alloc);
         let mut text = Vec::new(alloc);
+        let mut cleaned = Vec::new(alloc);
         for file in files {
             self.put_path(&mut directory, &mut text, file)?;
-            paths.push(clean(alloc, text.as_slice())?)?;
+            cleaned.clear();
+            add_cleaned(&mut cleaned, text.as_slice())?;
+            paths.push(cleaned.as_slice())?;
         }
+        paths.shrink();
         Ok(paths)
     }
 }

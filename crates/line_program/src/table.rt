@@ -13,17 +13,18 @@ use crate::path_line::{NO_LINE, PathLine, number_of};
 use crate::path_numbers::{Numbering, number_paths};
 use crate::row_order::CountedSequence;
 use crate::stretches::{count_sequences, stretches_of};
+use flat_lists::FlatLists;
 use range_set::Enclosing;
 use std::alloc::Global;
 use std::marker::Model;
 use step_maps::{StepMap, first_items};
-use sym_edges::{ByteRun, OutOfMemory};
+use sym_edges::OutOfMemory;
 
 /// Lines by address, and the files' paths by their numbers.
 #[derive(Drop)]
 pub struct LineTable {
     lines: StepMap<PathLine>,
-    texts: Vec<ByteRun>,
+    texts: FlatLists<u8>,
     firsts: Vec<u32>,
     first: u32,
     files: Vec<u32>,
@@ -37,12 +38,12 @@ impl Model for LineTable {
 
     ghost view = { λ t. record {
       lines = t.lines;
-      paths = picked t.texts.items t.firsts.items;
+      paths = picked t.texts t.firsts.items;
       first = t.first;
       files = t.files.items;
     } };
 
-    ghost invariant = { λ t. IsLineMap t.lines t.texts.items t.firsts.items t.files.items };
+    ghost invariant = { λ t. IsLineMap t.lines t.texts t.firsts.items t.files.items };
 }
 
 /// Path number and line, where there is a line.
@@ -101,7 +102,7 @@ impl LineTable {
     {
         LineTable {
             lines: StepMap::new(alloc),
-            texts: Vec::new(alloc),
+            texts: FlatLists::new(alloc),
             firsts: Vec::new(alloc),
             first: 0,
             files: Vec::new(alloc),
@@ -114,15 +115,16 @@ impl LineTable {
         code: &Enclosing,
         sequences: Vec<LineSequence>,
         first: u32,
-        texts: Vec<ByteRun>,
+        texts: FlatLists<u8>,
     ) -> Result<LineTable, OutOfMemory>
-        ensures says { IfOk result (λ table. SaysLines (encloses code.now) (record { sequences = sequences.items; first = first; files = texts.items }) table) }
-        ensures few { IfOk result (λ table. first + length texts.items < 2 ^ 32) }
+        ensures says { IfOk result (λ table. SaysLines (encloses code.now) (record { sequences = sequences.items; first = first; files = texts }) table) }
+        ensures few { IfOk result (λ table. first + length texts < 2 ^ 32) }
     {
-        if texts.len() as u64 + u64::from(first) >= 1 << 32 {
+        let count = texts.len() as u64;
+        if count >= 1 << 32 || count + u64::from(first) >= 1 << 32 {
             return Err(OutOfMemory);
         }
-        let Numbering { firsts, files } = number_paths(alloc, texts.as_slice())?;
+        let Numbering { firsts, files } = number_paths(alloc, &texts)?;
         let lines = paint_lines(alloc, code, sequences, first, files.as_slice())?;
         Ok(LineTable {
             lines,
@@ -176,7 +178,7 @@ impl LineTable {
         ensures distinct { AreDistinct self.now.paths }
     {
         let place = self.firsts[number as usize];
-        self.texts[place as usize].as_slice()
+        self.texts.at(place as usize)
     }
 
     /// The number of the path of a file, where the table has that file: files are numbered from 1 in versions 2 to 4, and

@@ -1,4 +1,7 @@
-use Rattle.std.proofs.Common.{◌≡◌, ◌<◌, length, arith, ap}
+use Rattle.std.proofs.Common.{◌≡◌, ◌<◌, length, arith, sym, ap, subst}
+use Rattle.range_lists.specs.EntryRanges.{pairs_of}
+use Rattle.debug_read.specs.Each.{each_of, Match, Says}
+use Rattle.debug_read.specs.UnitsRead.{IsSet}
 use Rattle.debug_read.proofs.SetLemmas.{sets_more, sets_all, sets_stopped}
 use Rattle.debug_read.proofs.ranges.read_sets.Goals as goal
 
@@ -15,4 +18,5 @@ entries-preserved c =
 pub returns : goal.returns
 returns c =
     let end : c.entries.entry ≡ length c.args.table.now.dies = omega (arith, c.len-count.ensures, ap length c.dies.ensures, c.entries-test.false, c.entries.auto.entry-end) in
-    sets_all c.args.sections.now c.args.unit.now c.args.table.now.root c.args.base c.args.code.now c.args.table.now.dies c.entries.entry c.entries.sets end c.entries.invariant
+    subst (λ sets. Says (Match (IsSet c.args.code.now)) (each_of (pairs_of c.args.sections.now c.args.unit.now c.args.table.now.root c.args.base) c.args.table.now.dies) sets) (sym c.shrink.ensures)
+    (sets_all c.args.sections.now c.args.unit.now c.args.table.now.root c.args.base c.args.code.now c.args.table.now.dies c.entries.entry c.entries.sets end c.entries.invariant)

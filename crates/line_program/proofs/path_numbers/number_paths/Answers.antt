@@ -7,13 +7,13 @@ files-init c = numbers_begin _ _ _ _ c.new-firsts.ensures.items c.in_ok-files.en
 
 pub files-preserved-in-Some : goal.files-preserved-in-Some
 files-preserved-in-Some c =
-    numbers_old c.args.texts.now c.files.file _ _ _ _ c.as_slice-text.result.now _ c.in-Some.number.now (omega arith) c.files.invariant
-    (text_at c.args.texts.now c.files.file c.as_slice-text.result.now c.index-texts-file.result c.as_slice-text.ensures c.index-texts-file.is) c.ending_of.ensures c.in-Some.ensures.value c.in_ok-push-in-Some.ensures.items
+    numbers_old c.args.texts.now c.files.file _ _ _ _ c.at-text.result.now _ c.in-Some.number.now (omega arith) c.files.invariant
+    (text_at c.args.texts.now c.files.file c.at-text.result.now c.at-text.ensures) c.ending_of.ensures c.in-Some.ensures.value c.in_ok-push-in-Some.ensures.items
 
 pub files-preserved : goal.files-preserved
 files-preserved c =
-    numbers_new c.args.texts.now c.files.file _ _ _ _ _ _ c.as_slice-text.result.now _ c.len-number.result (omega arith) c.files.invariant
-    (text_at c.args.texts.now c.files.file c.as_slice-text.result.now c.index-texts-file.result c.as_slice-text.ensures c.index-texts-file.is) c.ending_of.ensures c.in-None.ensures.value (omega arith) c.in_ok-push.ensures.items c.in_ok-insert.ensures.updates c.in_ok-push-2.ensures.items
+    numbers_new c.args.texts.now c.files.file _ _ _ _ _ _ c.at-text.result.now _ c.len-number.result (omega arith) c.files.invariant
+    (text_at c.args.texts.now c.files.file c.at-text.result.now c.at-text.ensures) c.ending_of.ensures c.in-None.ensures.value (omega arith) c.in_ok-push.ensures.items c.in_ok-insert.ensures.updates c.in_ok-push-2.ensures.items
 
 pub returns-clause-apart : goal.returns-clause-apart
 returns-clause-apart c = numbers_apart _ _ _ _ _ c.files.invariant

@@ -1,0 +1,131 @@
+//! Lists in one list, each up to its end.
+ghost use Rattle.std.specs.Prelude.{◌≡◌, ◌<◌, ◌≤◌, ◌-◌, [], ◌∷◌, ◌++◌, Some, length, take, drop, IfOk, OnOk, OnErr};
+ghost use Rattle.std.specs.List.{slice_get};
+ghost use Rattle.std.specs.Option.{option_copied};
+ghost use Rattle.flat_lists.specs.Ends.{begun};
+
+use std::alloc::Global;
+use std::marker::Model;
+use sym_edges::OutOfMemory;
+
+/// Lists that were added one after another. All have less than 2^32 members together: a list that would pass that is out of memory.
+#[derive(Drop)]
+pub struct FlatLists<T> {
+    ends: Vec<u32>,
+    members: Vec<T>,
+}
+
+impl<T> Model for FlatLists<T> {
+    ghost use Rattle.std.specs.Prelude.{List, length};
+    ghost use Rattle.flat_lists.specs.Ends.{lists_to, AreEnds};
+
+    ghost Value = { List (List T) };
+
+    ghost view = { λ l. lists_to 0 l.ends.items l.members.items };
+
+    ghost invariant = { λ l. AreEnds 0 l.ends.items (length l.members.items) };
+}
+
+/// Where the list of a number begins: at the end of the one before it.
+#[inline]
+fn begun(ends: &[u32], k: usize) -> u32
+    requires { k < length ends.now }
+    ensures { result ≡ begun 0 ends.now k }
+{
+    if k == 0 {
+        return 0;
+    }
+    ends[k - 1]
+}
+
+/// The members from one place up to another.
+#[inline]
+#[tactic(auto, using(crate::proofs::EndLemmas::part_is))]
+fn list_between<T>(members: &[T], start: usize, end: usize) -> &[T]
+    requires rising { start ≤ end }
+    requires inside { end ≤ length members.now }
+    ensures { result.now ≡ take (end - start) (drop start members.now) }
+{
+    let (front, _) = members.split_at(end);
+    let (_, list) = front.split_at(start);
+    list
+}
+
+impl<T: Copy> FlatLists<T> {
+    /// No list yet. Takes no memory.
+    pub fn new(alloc: Global) -> FlatLists<T>
+        ensures { result ≡ [] }
+    {
+        FlatLists {
+            ends: Vec::new(alloc),
+            members: Vec::new(alloc),
+        }
+    }
+
+    /// No list yet, and room for so many.
+    pub fn with_room(alloc: Global, count: usize) -> Result<FlatLists<T>, OutOfMemory>
+        ensures { IfOk result (λ lists. lists ≡ []) }
+    {
+        Ok(FlatLists {
+            ends: Vec::with_capacity(alloc, count)?,
+            members: Vec::new(alloc),
+        })
+    }
+
+    /// Adds a list. Where memory runs out, nothing changes.
+    #[tactic(auto, using(crate::proofs::EndLemmas::list_added, crate::proofs::EndLemmas::end_added))]
+    pub fn push(&mut self, list: &[T]) -> Result<(), OutOfMemory>
+        ensures added { OnOk result (self.new ≡ self.old ++ list.now ∷ []) }
+        ensures kept { OnErr result (self.new ≡ self.old) }
+    {
+        let end = self.members.len().saturating_add(list.len());
+        if end > u32::MAX as usize {
+            return Err(OutOfMemory);
+        }
+        self.ends.reserve(1)?;
+        self.members.extend_from_slice(list)?;
+        self.ends.push_reserved(end as u32);
+        Ok(())
+    }
+
+    /// Gives back the room that no list took.
+    pub fn shrink(&mut self)
+        ensures { self.new ≡ self.old }
+    {
+        self.ends.shrink_to_fit();
+        self.members.shrink_to_fit();
+    }
+
+    /// How many lists there are.
+    #[inline]
+    #[tactic(auto, using(crate::proofs::EndLemmas::count_is))]
+    pub fn len(&self) -> usize
+        ensures { result ≡ length self.now }
+    {
+        self.ends.len()
+    }
+
+    /// The list of a number.
+    #[inline]
+    pub fn get(&self, k: usize) -> Option<&[T]>
+        ensures { option_copied result ≡ slice_get self.now k }
+    {
+        let Some(end) = self.ends.get(k) else {
+            return None;
+        };
+        let start = begun(self.ends.as_slice(), k);
+        Some(list_between(self.members.as_slice(), start as usize, *end as usize))
+    }
+
+    /// The list of a number that there is.
+    #[inline]
+    pub fn at(&self, k: usize) -> &[T]
+        requires { k < length self.now }
+        ensures { Some result.now ≡ slice_get self.now k }
+    {
+        match self.get(k) {
+            Some(list) => list,
+            None => unreachable!(),
+        }
+    }
+}
