@@ -1,5 +1,5 @@
 -- What is collected of the functions.
-use Rattle.std.proofs.Common.{◌≡◌, ℕ, zero, suc, ◌+◌, ◌<◌, Bool, true, false, if◌then◌else◌, map, length, List, [], ◌∷◌, ◌++◌, arith, refl, sym, ap, ◌∙◌, append_assoc, append-nil, length-append, subst, drop, Option, Some, None, get_or}
+use Rattle.std.proofs.Common.{◌≡◌, ◌≢◌, ℕ, zero, suc, ◌+◌, ◌<◌, Bool, true, false, ◌&&◌, if◌then◌else◌, map, length, List, [], ◌∷◌, ◌++◌, arith, refl, sym, ap, ◌∙◌, append_assoc, append-nil, length-append, subst, drop, Option, Some, None, get_or}
 use Rattle.std.specs.List.{slice_get}
 use Rattle.std.specs.Option.{option_map_or}
 use Rattle.std.proofs.lemmas.List.{drop_all}
@@ -14,7 +14,7 @@ use Rattle.die_names.specs.Owners.{Covering, unit_covering, covering_from}
 use Rattle.die_names.specs.declared.unit_read.EntryRef.{EntryRef}
 use Rattle.func_flatten.specs.Pieces.{place_of}
 use Rattle.step_maps.specs.SpanStretches.{span_stretches}
-use Rattle.func_flatten.specs.internal.Collecting.{functions_in, entry_covering, function_stretches, own_class, HaveSets, Collects}
+use Rattle.func_flatten.specs.internal.Collecting.{is_some, has_code, functions_in, entry_covering, function_stretches, own_class, HaveSets, Collects}
 
 pub collects_none : (old : List EntryRef) (before : List Stretch) (all : List Covering) → Collects old old before before all all
 collects_none old before all = record { places = refl; stretches = refl; sets = λ is. is }
@@ -39,29 +39,54 @@ passed_by true c old before is = absurd (cc)
 passed_by false c old before is = collects_none old before []
 
 -- the entry is a function, and its addresses and place were added
-entry_taken : (c : Covering) (old new : List EntryRef) (before after : List Stretch) → is_function c.die ≡ true → IsCanonical c.spans → after ≡ before ++ span_stretches (length old) (length old) c.spans → new ≡ old ++ place_of c ∷ [] → Collects old new before after (functions_in (c ∷ [])) []
+entry_taken : (c : Covering) (old new : List EntryRef) (before after : List Stretch) → has_code c ≡ true → IsCanonical c.spans → after ≡ before ++ span_stretches (length old) (length old) c.spans → new ≡ old ++ place_of c ∷ [] → Collects old new before after (functions_in (c ∷ [])) []
 entry_taken c old new before after is canonical stretched placed =
-    taken_by (is_function c.die) c old new before after is
+    taken_by (has_code c) c old new before after is
     (rw (stretched, placed) (collects_one old old before before (c ∷ []) [] c (collects_none old before (c ∷ [])) canonical))
 
-entry_passed : (c : Covering) (old : List EntryRef) (before : List Stretch) → is_function c.die ≡ false → Collects old old before before (functions_in (c ∷ [])) []
-entry_passed c old before is = passed_by (is_function c.die) c old before is
+entry_passed : (c : Covering) (old : List EntryRef) (before : List Stretch) → has_code c ≡ false → Collects old old before before (functions_in (c ∷ [])) []
+entry_passed c old before is = passed_by (has_code c) c old before is
 
-pub covering_passed : (place : EntryRef) (die : DieFields) (sets : List (List Range)) (old : List EntryRef) (before : List Stretch) → is_function die ≡ false → Collects old old before before (functions_in (entry_covering place die sets)) []
-covering_passed place die sets old before is = go (slice_get sets place.entry)
-  where
-    go : (o : Option (List Range)) → Collects old old before before (functions_in (option_map_or (λ set. record { unit = place.unit; entry = place.entry; die = die; spans = set } ∷ []) o [])) []
-    go None = collects_none old before []
-    go (Some set) = entry_passed (record { unit = place.unit; entry = place.entry; die = die; spans = set }) old before is
+none_some : (set : List Range) → length set ≡ 0 → is_some set ≡ false
+none_some [] none = refl
+none_some (r ∷ set) none = absurd (omega (arith, none))
+
+some_some : (set : List Range) → length set ≢ 0 → is_some set ≡ true
+some_some [] some = absurd (some refl)
+some_some (r ∷ set) some = refl
+
+no_code : (b t : Bool) → b ≡ false → (b && t) ≡ false
+no_code true t other = absurd (cc)
+no_code false t other = refl
+
+no_spans : (b t : Bool) → t ≡ false → (b && t) ≡ false
+no_spans true t none = none
+no_spans false t none = refl
+
+both : (b t : Bool) → b ≡ true → t ≡ true → (b && t) ≡ true
+both true t is also = also
+both false t is also = absurd (cc)
+
+-- an entry that is no function, or has no addresses
+pub covering_passed : (place : EntryRef) (die : DieFields) (sets : List (List Range)) (set : List Range) (old : List EntryRef) (before : List Stretch) → Some set ≡ slice_get sets place.entry → (is_function die && is_some set) ≡ false → Collects old old before before (functions_in (entry_covering place die sets)) []
+covering_passed place die sets set old before there is =
+    subst (λ (o : Option (List Range)). Collects old old before before (functions_in (option_map_or (λ s. record { unit = place.unit; entry = place.entry; die = die; spans = s } ∷ []) o [])) []) there
+    (entry_passed (record { unit = place.unit; entry = place.entry; die = die; spans = set }) old before is)
+
+pub covering_empty : (place : EntryRef) (die : DieFields) (sets : List (List Range)) (set : List Range) (old : List EntryRef) (before : List Stretch) → Some set ≡ slice_get sets place.entry → length set ≡ 0 → Collects old old before before (functions_in (entry_covering place die sets)) []
+covering_empty place die sets set old before there none = covering_passed place die sets set old before there (no_spans (is_function die) (is_some set) (none_some set none))
+
+pub covering_other : (place : EntryRef) (die : DieFields) (sets : List (List Range)) (set : List Range) (old : List EntryRef) (before : List Stretch) → Some set ≡ slice_get sets place.entry → is_function die ≡ false → Collects old old before before (functions_in (entry_covering place die sets)) []
+covering_other place die sets set old before there other = covering_passed place die sets set old before there (no_code (is_function die) (is_some set) other)
 
 pub covering_lost : (place : EntryRef) (die : DieFields) (sets : List (List Range)) (old : List EntryRef) (before : List Stretch) → None ≡ slice_get sets place.entry → Collects old old before before (functions_in (entry_covering place die sets)) []
 covering_lost place die sets old before none =
     subst (λ (o : Option (List Range)). Collects old old before before (functions_in (option_map_or (λ set. record { unit = place.unit; entry = place.entry; die = die; spans = set } ∷ []) o [])) []) none (collects_none old before [])
 
-pub covering_taken : (place : EntryRef) (die : DieFields) (sets : List (List Range)) (set : List Range) (old new : List EntryRef) (before after : List Stretch) → Some set ≡ slice_get sets place.entry → is_function die ≡ true → IsCanonical set → after ≡ before ++ span_stretches (length old) (length old) set → new ≡ old ++ place ∷ [] → Collects old new before after (functions_in (entry_covering place die sets)) []
-covering_taken place die sets set old new before after there is canonical stretched placed =
+pub covering_taken : (place : EntryRef) (die : DieFields) (sets : List (List Range)) (set : List Range) (old new : List EntryRef) (before after : List Stretch) → Some set ≡ slice_get sets place.entry → length set ≢ 0 → is_function die ≡ true → IsCanonical set → after ≡ before ++ span_stretches (length old) (length old) set → new ≡ old ++ place ∷ [] → Collects old new before after (functions_in (entry_covering place die sets)) []
+covering_taken place die sets set old new before after there some is canonical stretched placed =
     subst (λ (o : Option (List Range)). Collects old new before after (functions_in (option_map_or (λ s. record { unit = place.unit; entry = place.entry; die = die; spans = s } ∷ []) o [])) []) there
-    (entry_taken (record { unit = place.unit; entry = place.entry; die = die; spans = set }) old new before after is canonical stretched placed)
+    (entry_taken (record { unit = place.unit; entry = place.entry; die = die; spans = set }) old new before after (both (is_function die) (is_some set) is (some_some set some)) canonical stretched placed)
 
 map_joined : (xs ys : List Covering) → map place_of (xs ++ ys) ≡ map place_of xs ++ map place_of ys
 map_joined [] ys = refl
@@ -87,7 +112,7 @@ functions_by false c xs ys l is = is
 
 pub functions_joined : (xs ys : List Covering) → functions_in (xs ++ ys) ≡ functions_in xs ++ functions_in ys
 functions_joined [] ys = refl
-functions_joined (x ∷ xs) ys = functions_by (is_function x.die) x (functions_in xs) (functions_in ys) (functions_in (xs ++ ys)) (functions_joined xs ys)
+functions_joined (x ∷ xs) ys = functions_by (has_code x) x (functions_in xs) (functions_in ys) (functions_in (xs ++ ys)) (functions_joined xs ys)
 
 -- a unit's functions were collected
 pub collects_unit : (old new newer : List EntryRef) (before after later : List Stretch) (all one left whole : List Covering) → whole ≡ one ++ left → Collects old new before after all whole → Collects new newer after later one [] → Collects old newer before later all left
@@ -147,14 +172,29 @@ entry_left unit entry dies sets die one = ap (λ l. unit_covering unit entry l (
         ap (λ l. unit_covering unit entry (die ∷ drop (entry + 1) dies) l) (drop_none sets entry (sym there))
         ∙ sym (ap (unit_covering unit (entry + 1) (drop (entry + 1) dies)) (drop_later sets entry (sym there)) ∙ no_sets unit (entry + 1) (drop (entry + 1) dies))
 
-pub entry_added : (old new newer : List EntryRef) (before after later : List Stretch) (all : List Covering) (unit entry : ℕ) (dies : List DieFields) (sets : List (List Range)) (die : DieFields) → Some die ≡ slice_get dies entry
+one_added : (old new newer : List EntryRef) (before after later : List Stretch) (all : List Covering) (unit entry : ℕ) (dies : List DieFields) (sets : List (List Range)) (die : DieFields) → Some die ≡ slice_get dies entry
     → Collects old new before after all (functions_in (unit_covering unit entry (drop entry dies) (drop entry sets))) → Collects new newer after later (functions_in (entry_covering (record { unit = unit; entry = entry }) die sets)) []
     → Collects old newer before later all (functions_in (unit_covering unit (entry + 1) (drop (entry + 1) dies) (drop (entry + 1) sets)))
-entry_added old new newer before after later all unit entry dies sets die one k more =
+one_added old new newer before after later all unit entry dies sets die one k more =
     let here = entry_covering (record { unit = unit; entry = entry }) die sets in
     let rest = unit_covering unit (entry + 1) (drop (entry + 1) dies) (drop (entry + 1) sets) in
     collects_unit old new newer before after later all (functions_in here) (functions_in rest) (functions_in (unit_covering unit entry (drop entry dies) (drop entry sets)))
     (ap functions_in (entry_left unit entry dies sets die one) ∙ functions_joined here rest) k more
+
+none_inside : (dies : List DieFields) (k : ℕ) → k < length dies → None ≢ slice_get dies k
+none_inside [] k inside none = omega (arith, inside)
+none_inside (die ∷ dies) zero inside none = cc
+none_inside (die ∷ dies) (suc k) inside none = none_inside dies k (omega (arith, inside)) none
+
+pub entry_added : (old new newer : List EntryRef) (before after later : List Stretch) (all : List Covering) (unit entry : ℕ) (dies : List DieFields) (sets : List (List Range)) → entry < length dies
+    → Collects old new before after all (functions_in (unit_covering unit entry (drop entry dies) (drop entry sets)))
+    → ((die : DieFields) → Some die ≡ slice_get dies entry → Collects new newer after later (functions_in (entry_covering (record { unit = unit; entry = entry }) die sets)) [])
+    → Collects old newer before later all (functions_in (unit_covering unit (entry + 1) (drop (entry + 1) dies) (drop (entry + 1) sets)))
+entry_added old new newer before after later all unit entry dies sets inside k more = go (slice_get dies entry) refl
+  where
+    go : (o : Option DieFields) → o ≡ slice_get dies entry → Collects old newer before later all (functions_in (unit_covering unit (entry + 1) (drop (entry + 1) dies) (drop (entry + 1) sets)))
+    go None none = absurd (none_inside dies entry inside none)
+    go (Some die) one = one_added old new newer before after later all unit entry dies sets die one k (more die one)
 
 -- a unit was added
 pub unit_added : (new newer : List EntryRef) (after later : List Stretch) (all : List Covering) (unit : ℕ) (units : List UnitRead) (part : UnitRead) → unit < length units → part ≡ get_or units unit part

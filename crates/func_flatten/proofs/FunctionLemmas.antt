@@ -16,7 +16,7 @@ use Rattle.die_names.specs.Owners.{Covering, covering_from, owner}
 use Rattle.func_flatten.specs.Pieces.{owns, covering_name, has_other, is_many}
 use Rattle.func_flatten.specs.internal.Classes.{has_other_name}
 use Rattle.step_maps.specs.SpanStretches.{span_stretches}
-use Rattle.func_flatten.specs.internal.Collecting.{functions_in, all_functions, function_stretches, own_class, HaveSets, has_address, Numbered, first_function}
+use Rattle.func_flatten.specs.internal.Collecting.{is_some, has_code, functions_in, all_functions, function_stretches, own_class, HaveSets, has_address, Numbered, first_function}
 
 reaches_range : (r : Range) (a : ℕ) → r.start < r.end → (nat_le r.start a && nat_le a (r.end - 1)) ≡ holds r a
 reaches_range r a some = grind (arith, nat_tests)
@@ -94,11 +94,20 @@ abbrev pub any_named : (Covering → List ℕ) → ℕ → List Covering → Opt
 any_named name a functions None = false
 any_named name a functions (Some m) = any_name name (name m.function) a functions
 
--- the functions among the entries
+-- an entry without addresses has none
+owned : (c : Covering) (a : ℕ) → (is_function c.die && holds_any c.spans a) ≡ (has_code c && holds_any c.spans a)
+owned c a = go (is_function c.die) c.spans
+  where
+    go : (b : Bool) (spans : List Range) → (b && holds_any spans a) ≡ ((b && is_some spans) && holds_any spans a)
+    go true [] = refl
+    go true (r ∷ spans) = refl
+    go false [] = refl
+    go false (r ∷ spans) = refl
+
 -- the owner is the first function that has the address
 owner_by : (entries : List Covering) (a k : ℕ) → find (owns a) entries ≡ option_map (λ m. m.function) (first_function a k (functions_in entries))
 owner_by [] a k = refl
-owner_by (c ∷ entries) a k = go (is_function c.die) (λ n. owner_by entries a n)
+owner_by (c ∷ entries) a k = ap (λ b. if b then Some c else find (owns a) entries) (owned c a) ∙ go (has_code c) (λ n. owner_by entries a n)
   where
     go : (b : Bool) → ((n : ℕ) → find (owns a) entries ≡ option_map (λ m. m.function) (first_function a n (functions_in entries))) → (if b && holds_any c.spans a then Some c else find (owns a) entries) ≡ option_map (λ m. m.function) (first_function a k (if b then c ∷ functions_in entries else functions_in entries))
     go true is = chosen (holds_any c.spans a) (is (k + 1))
@@ -115,8 +124,9 @@ owner_is units a = owner_by (covering_from 0 units) a 0
 other_by : (name : Covering → List ℕ) (n : List ℕ) (entries : List Covering) (a : ℕ) → list_any (λ d. owns a d && not (bytes_eq (name d) n)) entries ≡ any_name name n a (functions_in entries)
 other_by name n [] a = refl
 other_by name n (c ∷ entries) a =
-    go (is_function c.die) (holds_any c.spans a) (not (bytes_eq (name c) n)) (list_any (λ d. owns a d && not (bytes_eq (name d) n)) entries) (any_name name n a (functions_in entries)) (other_by name n entries a)
-    ∙ joined (is_function c.die)
+    ap (λ b. (b && not (bytes_eq (name c) n)) || list_any (λ d. owns a d && not (bytes_eq (name d) n)) entries) (owned c a)
+    ∙ go (has_code c) (holds_any c.spans a) (not (bytes_eq (name c) n)) (list_any (λ d. owns a d && not (bytes_eq (name d) n)) entries) (any_name name n a (functions_in entries)) (other_by name n entries a)
+    ∙ joined (has_code c)
   where
     go : (b t u rest later : Bool) → rest ≡ later → (((b && t) && u) || rest) ≡ (if b then ((t && u) || later) else later)
     go true t u rest later is = ap (λ r. (t && u) || r) is

@@ -12,14 +12,13 @@ use Rattle.step_maps.proofs.RunLemmas.{if_true, if_false}
 use Rattle.step_maps.proofs.MaximalLemmas.{maximal}
 use Rattle.die_walk.specs.EntryTable.{DieFields}
 use Rattle.die_names.specs.declared.unit_read.UnitRead.{UnitRead}
-use Rattle.die_walk.specs.EntryKinds.{is_function}
 use Rattle.die_names.specs.UnitEntries.{places, AreRead}
 use Rattle.die_names.specs.Owners.{Covering, unit_covering, covering_from}
 use Rattle.die_names.specs.declared.unit_read.EntryRef.{EntryRef}
 use Rattle.func_flatten.specs.declared.piece.Piece.{Piece}
 use Rattle.func_flatten.specs.Pieces.{place_of, owner_place, piece_run, AreMarked, ArePieces}
 use Rattle.step_maps.specs.SpanStretches.{AreFit}
-use Rattle.func_flatten.specs.internal.Collecting.{functions_in, all_functions, function_stretches, own_class, HaveSets, Numbered, first_function, Collects, piece_of, AreCut}
+use Rattle.func_flatten.specs.internal.Collecting.{has_code, functions_in, all_functions, function_stretches, own_class, HaveSets, Numbered, first_function, Collects, piece_of, AreCut}
 use Rattle.func_flatten.specs.internal.Classes.{TellMany, AreNamedCovers}
 use Rattle.func_flatten.proofs.MappedRuns.{map_run, AllValues, values_hold, runs_mapped}
 use Rattle.func_flatten.proofs.FunctionLemmas.{index_is, owner_is, first_at_number}
@@ -54,7 +53,7 @@ rise_joined low mid high (x ∷ xs) ys p q = (p.0, rise_joined (key (place_of x)
 -- those of some entries do
 rise_among : (low high : ℕ) (entries : List Covering) → Rise low high entries → Rise low high (functions_in entries)
 rise_among low high [] rise = rise
-rise_among low high (c ∷ entries) rise = go (is_function c.die) (rise_among (key (place_of c) + 1) high entries rise.1)
+rise_among low high (c ∷ entries) rise = go (has_code c) (rise_among (key (place_of c) + 1) high entries rise.1)
   where
     go : (b : Bool) → Rise (key (place_of c) + 1) high (functions_in entries) → Rise low high (if b then c ∷ functions_in entries else functions_in entries)
     go true rest = (rise.0, rest)

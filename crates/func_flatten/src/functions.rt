@@ -1,12 +1,13 @@
-//! The functions of the units, and the stretches of their addresses.
-ghost use Rattle.std.specs.Prelude.{◌≡◌, ℕ, ◌+◌, ◌<◌, ◌≤◌, ◌^◌, ◌++◌, [], length, vec_len, IfOk, OnOk};
+//! The functions with addresses of the units, and the stretches of these.
+ghost use Rattle.std.specs.Prelude.{◌≡◌, Some, ℕ, ◌+◌, ◌<◌, ◌≤◌, ◌^◌, ◌++◌, [], length, vec_len, IfOk, OnOk};
+ghost use Rattle.std.specs.List.{slice_get};
+ghost use Rattle.die_walk.specs.EntryTable.{DieFields};
 ghost use Rattle.die_names.specs.UnitEntries.{AreRead};
 ghost use Rattle.die_names.specs.Owners.{unit_covering};
 ghost use Rattle.step_maps.specs.SpanStretches.{AreFit};
 ghost use Rattle.func_flatten.specs.internal.Collecting.{functions_in, all_functions, entry_covering, Collects};
 
 use die_names::{EntryRef, UnitRead};
-use die_walk::Die;
 use std::alloc::{AllocError, Global};
 use step_maps::{Stretch, push_spans};
 
@@ -46,38 +47,40 @@ fn push_unit(
     ensures count { OnOk result (vec_len places.new ≤ vec_len places.old + length part.now.die.dies) }
 {
     'entries: for entry in 0..part.die.dies().len() {
-        let Some(die) = part.entry(entry) else {
-            return Ok(());
-        };
         let entry = entry as u32;
-        push_entry(places, stretches, EntryRef { unit, entry }, part, &die)?;
+        push_entry(places, stretches, EntryRef { unit, entry }, part)?;
     }
     Ok(())
 }
 
-/// Adds an entry, where it is a function.
-#[tactic(auto, using(crate::proofs::CollectLemmas::covering_passed, crate::proofs::CollectLemmas::covering_lost, crate::proofs::CollectLemmas::covering_taken))]
+/// Adds an entry, where it is a function with addresses.
 fn push_entry(
     places: &mut Vec<EntryRef>,
     stretches: &mut Vec<Stretch>,
     place: EntryRef,
     part: &UnitRead<'_>,
-    die: &Die<'_, '_>,
 ) -> Result<(), AllocError>
     requires count { vec_len places.old < 2 ^ 32 }
     requires fit { AreFit stretches.old.items }
-    ensures all { OnOk result (Collects places.old.items places.new.items stretches.old.items stretches.new.items (functions_in (entry_covering place die.now part.now.spans)) []) }
+    ensures all { OnOk result ((die : DieFields) → Some die ≡ slice_get part.now.die.dies place.entry → Collects places.old.items places.new.items stretches.old.items stretches.new.items (functions_in (entry_covering place die part.now.spans)) []) }
     ensures fit { OnOk result (AreFit stretches.new.items) }
     ensures count { OnOk result (vec_len places.new ≤ vec_len places.old + 1) }
 {
+    // Most entries have no addresses, which is told without looking at the entry.
+    let Some(spans) = part.ranges(place.entry as usize) else {
+        return Ok(());
+    };
+    if spans.is_empty() {
+        return Ok(());
+    }
+    let Some(die) = part.entry(place.entry as usize) else {
+        return Ok(());
+    };
     if !die.is_function() {
         return Ok(());
     }
-    let Some(set) = part.ranges(place.entry as usize) else {
-        return Ok(());
-    };
     let number = places.len() as u32;
-    push_spans(stretches, number, number, set.spans())?;
+    push_spans(stretches, number, number, spans)?;
     places.push(place)?;
     Ok(())
 }

@@ -1,5 +1,5 @@
 -- The functions of the units, and the stretches of their addresses.
-use Rattle.std.specs.Prelude.{◌≡◌, ℕ, ◌+◌, ◌<◌, ◌^◌, Bool, Option, None, Some, if◌then◌else◌, map, length, List, [], ◌∷◌, ◌++◌}
+use Rattle.std.specs.Prelude.{◌≡◌, ℕ, ◌+◌, ◌<◌, ◌^◌, Bool, true, false, ◌&&◌, Option, None, Some, if◌then◌else◌, map, length, List, [], ◌∷◌, ◌++◌}
 use Rattle.std.specs.List.{slice_get, slice_index_or}
 use Rattle.std.specs.Option.{option_map_or}
 use Rattle.sym_edges.specs.Addresses.{Range}
@@ -16,10 +16,18 @@ use Rattle.die_names.specs.declared.unit_read.EntryRef.{EntryRef}
 use Rattle.func_flatten.specs.declared.piece.Piece.{Piece}
 use Rattle.func_flatten.specs.Pieces.{place_of}
 
--- the functions among some entries
+abbrev pub is_some : List Range → Bool
+is_some [] = false
+is_some (range ∷ ranges) = true
+
+-- a function that has addresses
+abbrev pub has_code : Covering → Bool
+has_code c = is_function c.die && is_some c.spans
+
+-- the functions with addresses among some entries
 abbrev pub functions_in : List Covering → List Covering
 functions_in [] = []
-functions_in (c ∷ entries) = if is_function c.die then c ∷ functions_in entries else functions_in entries
+functions_in (c ∷ entries) = if has_code c then c ∷ functions_in entries else functions_in entries
 
 -- those of all units, in the order of the section
 abbrev pub all_functions : List UnitRead → List Covering
