@@ -21,3 +21,4 @@ pub mod AddLemmas
 mod WorkedRecords
 pub mod FindingLemmas
 pub mod AboveLemmas
+pub mod RowLemmas

@@ -6,8 +6,9 @@ ghost use Rattle.func_records.specs.Adding.{AddsFunctions};
 
 use crate::finder::find_shares;
 use crate::names::gather_names;
-use crate::numbers::{Numbers, number_of, number_rows, numbers_at, numbers_of};
+use crate::numbers::{Numbers, number_of, numbers_at, numbers_of};
 use crate::path_list::no_path;
+use crate::path_rows::number_rows;
 use crate::paths::path_texts;
 use crate::speller::{FoundPieces, add_shares};
 use crate::text_numbers::{Numbering, add_texts};
@@ -24,8 +25,8 @@ use sym_records::TextPieces;
 /// names, and an INLINE_ORIGIN record for each name of a function that was inlined, both sorted by bytes and numbered from 0; then for
 /// each piece its FUNC record, an INLINE record for each inlined copy on the chains of its addresses, and a line record for each run
 /// of its lines. The base is taken off all addresses. Inlined copies are held from the first pass to the second; line runs are made
-/// where they are spelled and not kept. Copies with what they name are found, and records spelled, by `workers` workers, 1 to 64,
-/// whose number changes nothing.
+/// where they are spelled and not kept. Copies with what they name are found, paths numbered, and records spelled, by `workers` workers,
+/// 1 to 64, whose number changes nothing.
 pub fn add_functions<R: Threads + Sync>(
     rt: &R,
     alloc: Global,
@@ -52,7 +53,7 @@ pub fn add_functions<R: Threads + Sync>(
     if paths.len() > u32::MAX as usize || names.len() > u32::MAX as usize {
         return Err(OutOfMemory);
     }
-    let rows = number_rows(alloc, units, paths)?;
+    let rows = number_rows(rt, alloc, units, paths, workers)?;
     let guesses = ranked_names.guesses.as_slice();
     let known = numbers_of(alloc, names, slices.as_slice(), guesses)?;
     let numbers = numbers_at(alloc, known.as_slice(), named.places.as_slice())?;

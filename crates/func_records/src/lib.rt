@@ -3,14 +3,14 @@
 //!
 //! [`add_functions`] goes over the pieces of functions twice, share by share. First it asks for the inlined copies of each piece and
 //! holds them, and gathers which entries name the functions that were inlined and which paths line records and calls will name; the
-//! names and the paths of all shares are sorted by their bytes and numbered. Then it spells the records of each piece, with
+//! names and the paths of all shares are sorted by their bytes and numbered, the paths unit by unit. Then it spells the records of each piece, with
 //! its line runs made on the spot. Nothing is held for a line record. `specs/FuncRecords.antt` says which records these are, and
 //! `specs/TextNames.antt` what a look-up in a text that has them names: at each address the function that owns it, the calls that are
 //! inlined there, and the line that it has in the file (`laws::names_are_kept`). A checker finds nothing in such a text
 //! (`laws::records_have_no_findings`).
 //!
 //! To read: `functions` first, then `shares`, `found` and `finder`; `place_guesses`, `origin_refs` and `names`; `calls`, `path_list`,
-//! `call_paths` and `paths`; `text_ranks`, `gaps` and `numbers`; `text_numbers`, `inlines` and `parts`; and `speller`.
+//! `call_paths` and `paths`; `text_ranks`, `gaps`, `numbers` and `path_rows`; `text_numbers`, `inlines` and `parts`; and `speller`.
 #![tactic(auto)]
 
 mod call_paths;
@@ -26,6 +26,7 @@ mod numbers;
 mod origin_refs;
 mod parts;
 mod path_list;
+mod path_rows;
 mod paths;
 mod place_guesses;
 mod shares;

@@ -2,14 +2,10 @@
 ghost use Rattle.std.specs.Prelude.{◌≡◌, ℕ, ◌<◌, ◌^◌, false, map, length, Any, slice_get, IfSome, IfNone, IfOk, true, vec_len, unwrap_or};
 ghost use Rattle.std.specs.Str.{bytes_eq};
 ghost use Rattle.std.specs.List.Sorted.{IsStrictlySortedBy};
-ghost use Rattle.line_program.specs.LineMaps.{LineMap};
 ghost use Rattle.func_records.specs.internal.Texts.{text_cmp};
 ghost use Rattle.func_records.specs.internal.Gathering.{bytes_of};
-ghost use Rattle.func_records.specs.internal.Spelling.{number_or_0, unit_numbers, row_of};
+ghost use Rattle.func_records.specs.internal.Spelling.{number_or_0, row_of};
 
-use crate::gaps::TextGaps;
-use die_names::Units;
-use line_program::LineTable;
 use std::alloc::Global;
 use sym_edges::{ListOf, OutOfMemory};
 
@@ -101,48 +97,6 @@ pub fn numbers_at(alloc: Global, numbers: &[u32], places: &[u32]) -> Result<Vec<
         rest = later;
     }
     Ok(found)
-}
-
-/// The numbers of the paths of a unit.
-fn number_row(
-    alloc: Global,
-    table: &LineTable,
-    sorted: &[&[u8]],
-    gaps: &mut TextGaps,
-) -> Result<ListOf<u32>, OutOfMemory>
-    requires sorted { IsStrictlySortedBy text_cmp sorted.now }
-    requires few { length sorted.now < 2 ^ 32 }
-    ensures { IfOk result (λ row. row ≡ map (number_or_0 (bytes_of sorted.now)) table.now.paths) }
-{
-    let count = table.path_count();
-    if count > u32::MAX as usize {
-        return Err(OutOfMemory);
-    }
-    let mut row = Vec::with_capacity(alloc, count)?;
-    'paths: for path in 0..count {
-        row.push(gaps.number_of(sorted, table.path(path as u32)))?;
-    }
-    Ok(ListOf::of(row))
-}
-
-/// The numbers of the paths of all units.
-pub fn number_rows(
-    alloc: Global,
-    units: &Units<'_>,
-    sorted: &[&[u8]],
-) -> Result<Vec<ListOf<u32>>, OutOfMemory>
-    requires sorted { IsStrictlySortedBy text_cmp sorted.now }
-    requires few { length sorted.now < 2 ^ 32 }
-    ensures { IfOk result (λ rows. rows.items ≡ unit_numbers (bytes_of sorted.now) units.now) }
-{
-    let mut rows = Vec::new(alloc);
-    let mut gaps = TextGaps::new(alloc)?;
-    let parts = units.as_slice();
-    'units: for unit in 0..parts.len() {
-        let part = &parts[unit];
-        rows.push(number_row(alloc, &part.lines, sorted, &mut gaps)?)?;
-    }
-    Ok(rows)
 }
 
 /// The FILE numbers of a unit's paths.

@@ -20,6 +20,9 @@ use sym_edges::OutOfMemory;
 use sym_records::TextPieces;
 use unit_workers::{NoGate, UnitJob, run_all, share_of};
 
+/// Room for the text of a share, which is then not copied as it grows. What it does not take is given back.
+const ROOM: usize = 1 << 20;
+
 /// The numbers of the names that the entries of each share give.
 fn split_numbers<'n>(
     alloc: Global,
@@ -96,7 +99,10 @@ impl<'s, 'u, 'a, 'n> UnitJob for Speller<'s, 'u, 'a, 'n> {
         }
         let found = &self.shares[k];
         let origins = numbers_at(alloc, self.numbers[k], found.places.as_slice())?;
-        let mut text = TextPieces::new(alloc);
+        let mut text = TextPieces {
+            full: Vec::new(alloc),
+            last: Vec::with_capacity(alloc, ROOM)?,
+        };
         add_parts(
             alloc,
             self.writer,
@@ -105,6 +111,7 @@ impl<'s, 'u, 'a, 'n> UnitJob for Speller<'s, 'u, 'a, 'n> {
             origins.as_slice(),
             &mut text,
         )?;
+        text.last.shrink_to_fit();
         Ok(text)
     }
 }

@@ -1,12 +1,15 @@
 -- The records of functions, as they are spelled.
-use Rattle.std.specs.Prelude.{ℕ, ◌-◌, if◌then◌else◌, List, [], map, unwrap_or}
+use Rattle.std.specs.Prelude.{ℕ, ◌<◌, ◌^◌, ◌-◌, if◌then◌else◌, List, [], map, length, unwrap_or}
 use Rattle.std.specs.List.{slice_get, list_any}
+use Rattle.std.specs.List.Sorted.{IsStrictlySortedBy}
+use Rattle.std.proofs.Common.{Bor}
 use Rattle.std.specs.Str.{bytes_eq}
 use Rattle.sym_records.specs.declared.line.SymLine.{SymLine}
 use Rattle.sym_records.specs.declared.line.SymLine.TheVariants.{Line}
 use Rattle.die_names.specs.declared.unit_read.UnitRead.{UnitRead}
 use Rattle.func_flatten.specs.declared.line_run.LineRun.{LineRun}
 use Rattle.func_records.specs.FuncRecords.{number_in}
+use Rattle.func_records.specs.internal.Texts.{text_cmp}
 
 -- the number of a path that is in use, and 0 for others
 abbrev pub number_or_0 : List (List ℕ) → List ℕ → ℕ
@@ -15,6 +18,16 @@ number_or_0 paths path = if list_any (bytes_eq path) paths then number_in paths 
 -- the numbers of the paths of each unit
 abbrev pub unit_numbers : List (List ℕ) → List UnitRead → List (List ℕ)
 unit_numbers paths units = map (λ (u : UnitRead). map (number_or_0 paths) u.lines.paths) units
+
+-- the units, and the sorted texts among which their paths are numbered
+pub record RowParts : Type 0 where
+  pub units : List UnitRead
+  pub sorted : List (Bor (List ℕ))
+
+-- texts in their order, once each, whose numbers have 32 bits
+pub record CanNumber (texts : List (Bor (List ℕ))) : Type 0 where
+  pub sorted : IsStrictlySortedBy text_cmp texts
+  pub few : length texts < 2 ^ 32
 
 -- a line record, where the numbers of the unit's paths are these
 abbrev pub line_by : ℕ → List ℕ → LineRun → SymLine
