@@ -34,13 +34,13 @@ inside_ends Frames (record_line.Change address rules) later is = never (sym is)
 inside_ends Frames _ later is = refl
 
 -- lists of equal members are equal
-list_true : {A : Type 0} (same : A → A → Bool) → ((a b : A) → same a b ≡ true → a ≡ b) → (front back : List A) → same_list same front back ≡ true → front ≡ back
+pub list_true : {A : Type 0} (same : A → A → Bool) → ((a b : A) → same a b ≡ true → a ≡ b) → (front back : List A) → same_list same front back ≡ true → front ≡ back
 list_true same tells [] [] is = refl
 list_true same tells [] (b ∷ back) is = never is
 list_true same tells (a ∷ front) [] is = never is
 list_true same tells (a ∷ front) (b ∷ back) is = ap (λ c. c ∷ front) (tells a b (and_left _ _ is)) ∙ ap (λ cs. b ∷ cs) (list_true same tells front back (and_right _ _ is))
 
-extent_true : (a b : Extent) → same_extent a b ≡ true → a ≡ b
+pub extent_true : (a b : Extent) → same_extent a b ≡ true → a ≡ b
 extent_true a b is =
     let p : a.address ≡ b.address = numbers a.address b.address (and_left _ _ is) in
     let q : a.size ≡ b.size = numbers a.size b.size (and_right _ _ is) in

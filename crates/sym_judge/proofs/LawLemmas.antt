@@ -190,5 +190,9 @@ unfolding first_unlike
 self_by lines Yes is = refl
 self_by lines (No a p) is = let none = aspects_self lines a (name_aspects ++ frame_aspects) in let met = is.differ in absurd (cc)
 
+pub yes_of_itself : (lines : List SymLine) → IsRuling lines lines Yes
+unfolding first_unlike
+yes_of_itself lines = λ x l. aspects_self lines x (name_aspects ++ frame_aspects)
+
 pub itself : (lines : List SymLine) (ruling : Ruling) → IsRuling lines lines ruling → ruling ≡ Yes
 itself lines ruling is = self_by lines ruling is

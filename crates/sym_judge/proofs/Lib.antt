@@ -20,6 +20,7 @@ pub mod SteadyLemmas
 pub mod StopListLemmas
 pub mod StopLemmas
 pub mod LawLemmas
+pub mod CopyLemmas
 mod WorkedForms
 mod WorkedAlike
 mod WorkedChains

@@ -57,7 +57,7 @@ fn is_same_rule_text(a: &RuleText, b: &RuleText) -> bool
 }
 
 /// Whether two lists have the same rules, word for word.
-fn are_same_rule_texts(a: &[RuleText], b: &[RuleText]) -> bool
+pub(crate) fn are_same_rule_texts(a: &[RuleText], b: &[RuleText]) -> bool
     ensures { result ≡ same_list same_rule_text a.now b.now }
 {
     let mut front = a;
@@ -75,7 +75,7 @@ fn are_same_rule_texts(a: &[RuleText], b: &[RuleText]) -> bool
     back.is_empty()
 }
 
-fn is_same_run(address: u64, size: u64, start: u64, many: u64) -> bool
+pub(crate) fn is_same_run(address: u64, size: u64, start: u64, many: u64) -> bool
     ensures { result ≡ same_run address size start many }
 {
     address == start && size == many
@@ -89,7 +89,7 @@ fn is_same_source(both: &Both<'_>, line: u32, file: u32, number: u32, path: u32)
 }
 
 /// Whether the ranges of two levels are the same.
-fn are_same_ranges(level: u32, ranges: &[Extent], depth: u32, extents: &[Extent]) -> bool
+pub(crate) fn are_same_ranges(level: u32, ranges: &[Extent], depth: u32, extents: &[Extent]) -> bool
     ensures { result ≡ same_ranges level ranges.now depth extents.now }
 {
     level == depth && ranges == extents

@@ -5,6 +5,7 @@ ghost use Rattle.sym_judge.specs.Rulings.{IsRuling};
 ghost use Rattle.sym_judge.specs.internal.Stops.{is_settled, with_found, with_stop, with_stops, sooner, Fits, IsHalfRuling};
 
 use crate::both::Both;
+use crate::copies::are_copies;
 use crate::doubts::doubts_of;
 use crate::pairs::Pair;
 use crate::ruling::{Aspect, Half, Ruling};
@@ -114,10 +115,13 @@ fn index_of(alloc: Global, file: &SymFile) -> Result<Index, OutOfMemory>
 }
 
 /// Whether two files say the same at every address, or the least address at which they differ and the first aspect there.
-#[tactic(auto, using(crate::proofs::StopLemmas::rulings_join))]
+#[tactic(auto, using(crate::proofs::StopLemmas::rulings_join, crate::proofs::CopyLemmas::copies_alike))]
 pub fn judge(alloc: Global, own: &SymFile, other: &SymFile) -> Result<Ruling, OutOfMemory>
     ensures { IfOk result (λ ruling. IsRuling own.now other.now ruling) }
 {
+    if are_copies(own.as_slice(), other.as_slice()) {
+        return Ok(Ruling::Yes);
+    }
     let first = index_of(alloc, own)?;
     let second = index_of(alloc, other)?;
     let both = Both::of(alloc, Side::of(own, &first), Side::of(other, &second))?;

@@ -11,15 +11,17 @@
 //!
 //! To read: `specs/Forms.antt`, `specs/Alike.antt`, `specs/Rulings.antt` and `specs/SameMeaning.antt`; then `terms` and `forms`, `tables` (the
 //! rules that count at an address), `rule_maps` (the same by halves, of an INIT with many), `held_forms` (those of long rules), `rule_aliases`
-//! (long rules in the same words) and `frames`, `names`, `blocks` and `doubts` (where records say the same in both files, nothing else is looked
-//! at), `chains` and `meetings` (what is found out once for two functions), and `stops` (the addresses at which both are looked up) and
-//! `judgement`, on `sides` (a file with its index), `ruled` (with rule maps) and `both` (two files), with `aliases` (the numbers of one name).
+//! (long rules in the same words) and `frames`, `names`, `copies` (files of the same records), `blocks` and `doubts` (where records say the same
+//! in both files, nothing else is looked at), `chains` and `meetings` (what is found out once for two functions), and `stops` (the addresses at
+//! which both are looked up) and `judgement`, on `sides` (a file with its index), `ruled` (with rule maps) and `both` (two files), with `aliases`
+//! (the numbers of one name).
 #![tactic(auto)]
 
 mod aliases;
 mod blocks;
 mod both;
 mod chains;
+mod copies;
 mod doubts;
 mod forms;
 mod frames;
