@@ -96,24 +96,30 @@ fn answer_line(made: Result<ByteText, AllocError>) -> Answer
     }
 }
 
+/// A root, and a build id that names the debug file below it.
+#[derive(Drop)]
+struct RootedId<'p> {
+    root: &'p str,
+    id: &'p [u8],
+}
+
 /// The answer by a root, below which a build id names the debug file.
 #[tactic(auto, using(crate::proofs::PairLemmas::placed_answered, crate::proofs::PairLemmas::placed_asked, crate::proofs::PairLemmas::short_answered, crate::proofs::JudgeLemmas::not_asked))]
 fn answer_id<R: Threads + Sync, S: Store, G: Gate + Sync>(
     rt: &R,
     alloc: Global,
     binary: &Image<'_>,
-    root: &str,
-    id: &[u8],
+    place: &RootedId<'_>,
     name: &[u8],
     store: &mut S,
     gate: &G,
 ) -> Answer
-    ensures asked { Asks (path_names (or_short (debug_path root.now id.now))) (S.asked store.old) (S.asked store.new) }
+    ensures asked { Asks (path_names (or_short (debug_path place.now.root.now place.now.id.now))) (S.asked store.old) (S.asked store.new) }
     ensures files { S.files store.new ≡ S.files store.old }
     ensures faults { S.faults store.old ≤ S.faults store.new }
-    ensures answered { AnswersImage result (then_file binary.now (or_short (debug_path root.now id.now))) name.now (S.files store.old) (S.faults store.old) (S.faults store.new) }
+    ensures answered { AnswersImage result (then_file binary.now (or_short (debug_path place.now.root.now place.now.id.now))) name.now (S.files store.old) (S.faults store.old) (S.faults store.new) }
 {
-    match debug_path(alloc, root, id) {
+    match debug_path(alloc, place.root, place.id) {
         Ok(path) => answer_file(rt, alloc, binary, path.as_str(), name, store, gate),
         Err(Stop::Fault(short)) => answer_line(pair_line(alloc, short.word())),
         Err(Stop::NoMemory) => Answer::NoMemory,
@@ -137,7 +143,7 @@ fn answer_below<R: Threads + Sync, S: Store, G: Gate + Sync>(
     ensures answered { AnswersImage result (then_file binary.now (path_below root.now binary.now.build_id)) name.now (S.files store.old) (S.faults store.old) (S.faults store.new) }
 {
     match binary.build_id() {
-        Some(id) => answer_id(rt, alloc, binary, root, id, name, store, gate),
+        Some(id) => answer_id(rt, alloc, binary, &RootedId { root, id }, name, store, gate),
         None => answer_line(pair_line(alloc, PairFault::NoBuildId.word())),
     }
 }
