@@ -6,7 +6,6 @@ pub mod RuleAliases
 pub mod Stacks
 pub mod Spots
 pub mod Blocks
-pub mod Copies
 pub mod Aliases
 pub mod HeldForms
 pub mod Chains

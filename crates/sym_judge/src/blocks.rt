@@ -5,7 +5,7 @@ ghost use Rattle.cfi_eval.specs.TextRules.{same_target};
 ghost use Rattle.sym_records.specs.declared.line.SymLine.{SymLine};
 ghost use Rattle.sym_records.specs.declared.line.SymLine.TheVariants as record_line;
 ghost use Rattle.sym_judge.specs.Alike.{same_list};
-ghost use Rattle.sym_judge.specs.internal.Blocks.{block_place, inside, is_inside, same_rule_text, same_run, same_source, same_ranges, same_site, same_record, same_head, same_inside, AreSameBlocks};
+ghost use Rattle.sym_judge.specs.internal.Blocks.{block_place, inside, is_inside, same_extent, same_rule_text, same_run, same_source, same_ranges, same_site, same_record, same_head, same_inside, AreSameBlocks};
 ghost use Rattle.sym_judge.specs.internal.Stops.{first_in};
 
 use crate::both::Both;
@@ -75,7 +75,7 @@ pub(crate) fn are_same_rule_texts(a: &[RuleText], b: &[RuleText]) -> bool
     back.is_empty()
 }
 
-pub(crate) fn is_same_run(address: u64, size: u64, start: u64, many: u64) -> bool
+fn is_same_run(address: u64, size: u64, start: u64, many: u64) -> bool
     ensures { result ≡ same_run address size start many }
 {
     address == start && size == many
@@ -88,11 +88,18 @@ fn is_same_source(both: &Both<'_>, line: u32, file: u32, number: u32, path: u32)
     line == number && both.is_same_path(file, path)
 }
 
+/// Whether two lists have the same ranges.
+pub(crate) fn are_same_extents(a: &[Extent], b: &[Extent]) -> bool
+    ensures { result ≡ same_list same_extent a.now b.now }
+{
+    a == b
+}
+
 /// Whether the ranges of two levels are the same.
-pub(crate) fn are_same_ranges(level: u32, ranges: &[Extent], depth: u32, extents: &[Extent]) -> bool
+fn are_same_ranges(level: u32, ranges: &[Extent], depth: u32, extents: &[Extent]) -> bool
     ensures { result ≡ same_ranges level ranges.now depth extents.now }
 {
-    level == depth && ranges == extents
+    level == depth && are_same_extents(ranges, extents)
 }
 
 /// Where a function is called that is inlined there: the line and the file of the call, and its origin.

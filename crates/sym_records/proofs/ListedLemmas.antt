@@ -1,14 +1,16 @@
 -- Fields by shape and fields as a list are the same.
-use Rattle.std.proofs.Common.{◌≡◌, ℕ, ◌&&◌, Bool, true, false, List, [], ◌∷◌, ◌++◌, length, drop, map, refl, sym, ◌∙◌, ap, arith, append-nil, ◌<◌}
+use Rattle.std.proofs.Common.{◌≡◌, ℕ, ◌&&◌, Bool, true, false, List, [], ◌∷◌, ◌++◌, length, drop, map, refl, sym, ◌∙◌, ap, subst, arith, append-nil, ◌<◌}
 use Rattle.std.specs.List.{list_all, flat_map}
 use Rattle.sym_records.specs.Canon.{body}
 use Rattle.sym_records.specs.Fields.{Middle, Word, Hex, Marked, Decimal, Shape, Name, Rules, Ranges, Last, Then, Held, Values, spelled, spelled_middle, fit, fits_middle}
 use Rattle.sym_records.specs.Listed.{Said, fields, spelled_field, fits_field, middle_said, listed, said}
-use Rattle.sym_records.specs.Records.{layout, headed, keyword, values}
+use Rattle.sym_records.specs.Records.{layout, headed, keyword, values, made}
 use Rattle.sym_records.specs.Validity.{has_fields}
 use Rattle.sym_records.specs.declared.field.Field.{Field}
+use Rattle.sym_records.specs.declared.keyword.Keyword.{Keyword}
 use Rattle.sym_records.specs.declared.line.SymLine.{SymLine}
 use Rattle.sym_records.specs.declared.line.SymLine.TheVariants as line
+use Rattle.sym_records.proofs.RecordLemmas.{made_back}
 
 -- a record's fields are those of its keyword
 fields_listed : (s : SymLine) → fields s ≡ listed (layout (keyword s)) (values s)
@@ -84,3 +86,31 @@ worded_body s fs list head some is first second =
     let spelling : flat_map (λ f. spelled_field (said f)) fs ≡ flat_map spelled_field (fields s) = spelled_said fs ∙ ap (flat_map spelled_field) (second ∙ first) in
     ap (λ l. l ++ flat_map (λ f. spelled_field (said f)) fs) is ∙ ap (λ l. drop 1 (headed (keyword s)) ++ l) spelling
     ∙ sym (behind_head (headed (keyword s)) (flat_map spelled_field (fields s)) some) ∙ fields_spell s
+
+-- fields of one shape that say the same are the same
+middle_tells : (m : Middle) (x y : Held m) → middle_said m x ≡ middle_said m y → x ≡ y
+middle_tells Word w v is = cc
+middle_tells Hex n k is = cc
+middle_tells Marked x y is =
+    let p : x.0 ≡ y.0 = cc in
+    let q : x.1 ≡ y.1 = cc in
+    ap (λ many. (many, x.1)) p ∙ ap (λ n. (y.0, n)) q
+middle_tells Decimal n k is = cc
+
+listed_tells : (shape : Shape) (v w : Values shape) → listed shape v ≡ listed shape w → v ≡ w
+listed_tells Name n m is = cc
+listed_tells Rules rs qs is = cc
+listed_tells Ranges rs qs is = cc
+listed_tells Last n k is = cc
+listed_tells (Then m rest) v w is =
+    let p : v.0 ≡ w.0 = middle_tells m v.0 w.0 cc in
+    let q : v.1 ≡ w.1 = listed_tells rest v.1 w.1 cc in
+    ap (λ x. (x, v.1)) p ∙ ap (λ xs. (w.0, xs)) q
+
+-- records of one keyword and the same fields are the same
+made_of : (a : SymLine) (k : Keyword) → keyword a ≡ k → (v : Values (layout k)) → fields a ≡ listed (layout k) v → a ≡ made k v
+made_of a k is = subst (λ k. (v : Values (layout k)) → fields a ≡ listed (layout k) v → a ≡ made k v) is
+    (λ v same. sym (made_back a) ∙ ap (made (keyword a)) (listed_tells (layout (keyword a)) (values a) v (sym (fields_listed a) ∙ same)))
+
+pub fields_tell : (a b : SymLine) → keyword a ≡ keyword b → fields a ≡ fields b → a ≡ b
+fields_tell a b is same = made_of a (keyword b) is (values b) (same ∙ fields_listed b) ∙ made_back b

@@ -1,4 +1,4 @@
--- No public clause cites this: the fields of a record as a list, as the code goes over them.
+-- The fields of a record as a list: what stands after its keyword, field by field.
 use Rattle.std.specs.Prelude.{ℕ, ◌^◌, Bool, nat_lt, List, [], ◌∷◌, ◌++◌}
 use Rattle.std.specs.List.{flat_map}
 use Rattle.std.specs.Fmt.{decimal}

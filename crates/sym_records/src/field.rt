@@ -3,13 +3,19 @@ use sym_rules::RuleText;
 
 /// A field of a record.
 #[derive(Clone, Copy)]
-pub(crate) enum Field<'a> {
+pub enum Field<'a> {
+    /// Bytes without a space.
     Word(&'a [u8]),
+    /// Bytes up to the end of the line.
     Name(&'a [u8]),
+    /// A hexadecimal number.
     Hex(u64),
     /// Perhaps `m`, then a hexadecimal number.
     Marked(bool, u64),
+    /// A decimal number.
     Decimal(u32),
+    /// Addresses and sizes.
     Ranges(&'a [Extent]),
+    /// Frame rules.
     Rules(&'a [RuleText]),
 }

@@ -6,6 +6,8 @@ ghost use Rattle.sym_records.specs.declared.place.Place.{Place};
 ghost use Rattle.sym_rules.specs.declared.rules.RuleText.{RuleText};
 ghost use Rattle.sym_records.specs.Canon.{canon, canon_text};
 ghost use Rattle.sym_records.specs.Fields.{is_name, is_range};
+ghost use Rattle.sym_records.specs.Listed.{fields};
+ghost use Rattle.sym_records.specs.Records.{keyword};
 ghost use Rattle.sym_records.specs.Spelled.{records_in, IsSpelled};
 ghost use Rattle.sym_records.specs.declared.line.Extent.{Extent};
 ghost use Rattle.sym_records.specs.Reading.{reading, fits, leads};
@@ -27,6 +29,12 @@ pub fn tests_say_validity()
     ensures record_is_passed { (s : SymLine) → IsValid s → fields_fit s ≡ true }
     ensures list_passes { (lines : List SymLine) → first_bad lines ≡ None → AreValid lines }
     ensures list_is_passed { (lines : List SymLine) → AreValid lines → first_bad lines ≡ None }
+{}
+
+/// Records with the same keyword and the same fields are the same.
+#[tactic(auto, using(crate::proofs::ListedLemmas::fields_tell))]
+pub fn keyword_and_fields_tell()
+    ensures { (a b : SymLine) → keyword a ≡ keyword b → fields a ≡ fields b → a ≡ b }
 {}
 
 /// A frame record of at most 18 rules passes the test, where each has one to four tokens and no names of its own.

@@ -14,7 +14,7 @@ mod keyword;
 mod line;
 mod place;
 
-// Their fields, as the code goes over them.
+// Their keywords and fields.
 mod field;
 mod listed;
 mod words;
@@ -39,11 +39,13 @@ pub mod laws;
 
 pub use clean_names::clean;
 pub use digits::HexText;
+pub use field::Field;
 pub use fields::{is_field, is_name};
 pub use file::{NotValid, SymFile, file_of, file_of_valid, fits, leads};
 pub use file_writer::write_file;
 pub use keyword::Keyword;
 pub use line::{Binary, BoxedBinary, Extent, Extents, SymLine, SymLines};
+pub use listed::{FieldList, fields_of};
 pub use pieces::TextPieces;
 pub use place::Place;
 pub use rendered::render;
@@ -56,3 +58,4 @@ pub use text_lines::{
     write_change, write_init,
 };
 pub use validity::is_valid;
+pub use words::keyword_of;

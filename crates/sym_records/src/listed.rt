@@ -5,9 +5,9 @@ use crate::field::Field;
 use crate::line::SymLine;
 use std::marker::Model;
 
-/// The fields of a record, at most five of them.
+/// The fields of a record, at most five of them. Contracts see what each says.
 #[derive(Drop)]
-pub(crate) struct FieldList<'a> {
+pub struct FieldList<'a> {
     held: [Field<'a>; 5],
     used: usize,
 }
@@ -60,15 +60,16 @@ impl<'a> FieldList<'a> {
         }
     }
 
-    pub(crate) fn as_slice(&self) -> &[Field<'a>]
+    /// The fields in the order in which they stand.
+    pub fn as_slice(&self) -> &[Field<'a>]
         ensures { map said result.now ≡ self.now }
     {
         &self.held[..self.used]
     }
 }
 
-/// The fields of a record.
-pub(crate) fn fields_of<'a>(line: &'a SymLine) -> FieldList<'a>
+/// The fields of a record (Breakpad's symbol_files.md): what stands after its keyword.
+pub fn fields_of<'a>(line: &'a SymLine) -> FieldList<'a>
     ensures { result ≡ fields line.now }
 {
     match line {

@@ -5,7 +5,7 @@ use crate::keyword::Keyword;
 use crate::line::SymLine;
 
 /// A record's keyword.
-pub(crate) fn keyword_of(line: &SymLine) -> Keyword
+pub fn keyword_of(line: &SymLine) -> Keyword
     ensures { result ≡ keyword line.now }
 {
     match line {
