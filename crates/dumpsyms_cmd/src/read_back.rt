@@ -1,43 +1,17 @@
 //! The records of a text that was spelled, as a reader gives them.
-ghost use Rattle.std.specs.Prelude.{◌≡◌, Some, Ok, IfOk};
+ghost use Rattle.std.specs.Prelude.{◌≡◌, Ok, IfOk};
 ghost use Rattle.sym_records.specs.Reading.{reading};
 
 use std::alloc::Global;
-use sym_edges::{Failed, OutOfMemory, Sink};
+use sym_edges::{Failed, OutOfMemory};
 use sym_grammar::Reader;
-use sym_records::{SymFile, SymText};
-
-/// A sink that keeps what it takes. It fails where memory runs out.
-#[derive(Drop)]
-struct Kept {
-    bytes: Vec<u8>,
-    faults: u64,
-}
-
-impl Sink for Kept {
-    ghost taken = { λ s. Some s.bytes.items };
-
-    ghost faults = { λ s. s.faults };
-
-    fn write(&mut self, piece: &[u8]) -> Result<usize, Failed> {
-        if piece.is_empty() {
-            return Ok(0);
-        }
-        match self.bytes.extend_from_slice(piece) {
-            Ok(()) => Ok(piece.len()),
-            Err(_) => {
-                self.faults = self.faults.saturating_add(1);
-                Err(Failed)
-            }
-        }
-    }
-}
+use sym_records::{ByteSink, SymFile, SymText};
 
 /// The bytes of a text, which read as its records.
 fn bytes_of(alloc: Global, text: &SymText) -> Result<Vec<u8>, OutOfMemory>
     ensures { IfOk result (λ bytes. reading bytes.items ≡ Ok text.now) }
 {
-    let mut sink = Kept {
+    let mut sink = ByteSink {
         bytes: Vec::new(alloc),
         faults: 0,
     };
@@ -45,7 +19,7 @@ fn bytes_of(alloc: Global, text: &SymText) -> Result<Vec<u8>, OutOfMemory>
         Ok(()) => {}
         Err(Failed) => return Err(OutOfMemory),
     }
-    let Kept { bytes, .. } = sink;
+    let ByteSink { bytes, .. } = sink;
     Ok(bytes)
 }
 

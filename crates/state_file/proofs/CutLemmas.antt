@@ -22,31 +22,6 @@ place_missing b bytes i most least before =
     let all : i ≡ length bytes = omega arith in
     sym all ∙ sym (position_or_len_is (λ x. x == b) bytes i 0 least (λ k h. ne_eqb (get_or bytes k 0) b (before k h)) (λ l. absurd (omega arith)))
 
--- what stands before a space, and from it on
-before_by : (t : Bool) (x : ℕ) (xs : List ℕ) (n : ℕ) → before 32 xs ≡ take n xs → cond t [] (x ∷ before 32 xs) ≡ take (cond (not t) (1 + n) 0) (x ∷ xs)
-before_by true x xs n h = refl
-before_by false x xs n h = rw (one_add n) (ap (λ l. x ∷ l) h)
-
-before_taken : (bytes : List ℕ) → before 32 bytes ≡ take (place_of 32 bytes) bytes
-unfolding before
-before_taken [] = refl
-before_taken (x ∷ xs) = before_by (x == 32) x xs (place_of 32 xs) (before_taken xs)
-
-from_by : (t : Bool) (x : ℕ) (xs : List ℕ) (n : ℕ) → from 32 xs ≡ drop n xs → cond t (x ∷ xs) (from 32 xs) ≡ drop (cond (not t) (1 + n) 0) (x ∷ xs)
-from_by true x xs n h = refl
-from_by false x xs n h = rw (one_add n) h
-
-from_dropped : (bytes : List ℕ) → from 32 bytes ≡ drop (place_of 32 bytes) bytes
-unfolding from
-from_dropped [] = refl
-from_dropped (x ∷ xs) = from_by (x == 32) x xs (place_of 32 xs) (from_dropped xs)
-
-pub before_is : (bytes : List ℕ) (n : ℕ) → n ≡ place_of 32 bytes → take n bytes ≡ before 32 bytes
-before_is bytes n e = ap (λ k. take k bytes) e ∙ sym (before_taken bytes)
-
-pub from_is : (bytes : List ℕ) (n : ℕ) → n ≡ place_of 32 bytes → drop n bytes ≡ from 32 bytes
-from_is bytes n e = ap (λ k. drop k bytes) e ∙ sym (from_dropped bytes)
-
 -- the lines of a text: the first one, and those behind its LF
 abbrev behind_lf : ℕ → List ℕ → List (List ℕ)
 behind_lf n bytes = cond (ltb n (length bytes)) (split_lines (drop (n + 1) bytes)) []

@@ -4,13 +4,14 @@ ghost use Rattle.sym_rules.specs.RuleReading.{words};
 ghost use Rattle.state_file.specs.StateText.{register_line, memory_line, two_fields, worded_line, line_read};
 ghost use Rattle.state_file.specs.internal.Parts.{HasRegister, Gives};
 
-use crate::cuts::{cut_key, is_blank, two_words};
+use crate::cuts::{cut_key, two_words};
 use crate::fault::StateKind;
 use crate::numbers::{bytes_of, hex_value};
 use crate::registers::named_register;
 use cfi_eval::MemRun;
 use std::alloc::Global;
 use sym_edges::Stop;
+use sym_rules::is_blank;
 
 /// What a line says.
 #[derive(Debug, Drop)]

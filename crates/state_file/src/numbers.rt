@@ -1,26 +1,13 @@
 //! Numbers and bytes by their hexadecimal digits.
-ghost use Rattle.std.specs.Prelude.{◌≡◌, ◌<◌, IfSome, ok_or};
-ghost use Rattle.sym_records.specs.FieldReading.{hex_digit, hex_value};
+ghost use Rattle.std.specs.Prelude.{◌≡◌, ok_or};
+ghost use Rattle.sym_records.specs.FieldReading.{hex_value};
 ghost use Rattle.state_file.specs.StateText.{byte_of, bytes_of};
 ghost use Rattle.state_file.specs.internal.Parts.{Gives};
 
 use crate::fault::StateKind;
 use std::alloc::Global;
 use sym_edges::{ByteRun, Stop};
-
-/// The value of a hexadecimal digit, in either case.
-#[tactic(auto, unfolding(sym_records::specs::FieldReading::hex_digit))]
-fn hex_digit(b: u8) -> Option<u8>
-    ensures digit { result ≡ hex_digit b }
-    ensures small { IfSome result (λ v. v < 16) }
-{
-    match b {
-        b'0'..=b'9' => Some(b - b'0'),
-        b'a'..=b'f' => Some(b - b'a' + 10),
-        b'A'..=b'F' => Some(b - b'A' + 10),
-        _ => None,
-    }
-}
+use sym_records::hex_digit;
 
 /// The number that at most 16 hexadecimal digits write.
 #[tactic(auto, using(crate::proofs::HexLemmas::hex_more, crate::proofs::HexLemmas::hex_bad, crate::proofs::HexLemmas::hex_end, crate::proofs::HexLemmas::hex_long))]

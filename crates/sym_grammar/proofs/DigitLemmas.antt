@@ -8,7 +8,7 @@ use Rattle.sym_rules.specs.Cuts.{before, from}
 use Rattle.sym_rules.specs.declared.text_fault.TextKind.{TextKind}
 use Rattle.sym_rules.specs.declared.text_fault.TextKind.TheVariants.{Hex}
 use Rattle.sym_records.specs.FieldReading.{hex_digit, hex_onto, hex_value, hex_of}
-use Rattle.sym_grammar.proofs.CutLemmas.{before_go, take_next, word_stop, rest_stop, word_end, rest_end}
+use Rattle.sym_rules.proofs.CutLemmas.{before_go, take_next, word_stop, rest_stop, word_end, rest_end}
 use Rattle.sym_grammar.proofs.NumberLemmas.{hex_long, hex_short}
 use Rattle.sym_grammar.specs.internal.Runs.{hex_field}
 

@@ -1,11 +1,11 @@
 -- Two pieces that were taken are one.
-use Rattle.std.proofs.Common.{◌≡◌, ◌≢◌, ℕ, ◌==◌, cond, true, false, List, [], ◌∷◌, ◌++◌, Result, Ok, Err, refl, sym, ◌∙◌, ap, append_assoc}
+use Rattle.std.proofs.Common.{◌≡◌, ℕ, ◌==◌, cond, true, false, List, [], ◌∷◌, ◌++◌, Result, Ok, Err, refl, sym, ◌∙◌, ap, append_assoc}
 use Rattle.sym_edges.specs.Results.{◌>>=◌}
 use Rattle.sym_rules.proofs.BoolLemmas.{elim_bool}
 use Rattle.sym_rules.specs.Cuts.{onto, split_lines}
 use Rattle.sym_records.specs.Reading.{Seen, next_number, with_text, numbered, with_lines}
 use Rattle.sym_rules.specs.declared.text_fault.TextFault.{TextFault}
-use Rattle.sym_grammar.proofs.PieceLemmas.{Lines, lines_of, split_none, split_byte, with_cons, with_none}
+use Rattle.sym_grammar.proofs.PieceLemmas.{lines_of, split_none, split_byte, with_cons, with_none}
 use Rattle.sym_grammar.specs.Answer.{Part, but_last, last_line, whole_lines, open_line, IsUpToDate}
 
 but_last_cons : (x y : List ℕ) (ys : List (List ℕ)) → but_last (x ∷ y ∷ ys) ≡ x ∷ but_last (y ∷ ys)

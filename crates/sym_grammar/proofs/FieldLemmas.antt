@@ -9,7 +9,7 @@ use Rattle.sym_rules.specs.declared.text_fault.TextKind.{TextKind}
 use Rattle.sym_rules.specs.declared.text_fault.TextKind.TheVariants as fault
 use Rattle.sym_records.specs.FieldReading.{field_of, word_at, name_of, hex_value, hex_at, hex_of, pairs_of, some_ranges, ranges_at, at_end}
 use Rattle.sym_records.specs.declared.line.Extent.{Extent}
-use Rattle.sym_grammar.proofs.CutLemmas.{before_nothing, from_nothing}
+use Rattle.sym_rules.proofs.CutLemmas.{before_nothing, from_nothing}
 use Rattle.sym_grammar.specs.internal.Runs.{behind, range_run}
 
 pub field_some : (xs : List ℕ) → length xs ≢ 0 → field_of xs ≡ Ok (before 32 xs, from 32 xs)

@@ -1,6 +1,6 @@
 -- A symbol file that is read in pieces; for `read_rest`, `read_file`.
 use Rattle.std.specs.Prelude.{⊤}
-use Rattle.std.proofs.Common.{◌≡◌, ℕ, zero, suc, ◌+◌, ◌-◌, ◌^◌, ◌<◌, ◌≤◌, min, cond, Bool, true, false, nat_lt, List, [], ◌∷◌, ◌++◌, length, take, drop, Option, Some, None, Result, Ok, Err, inl, inr, refl, sym, ◌∙◌, ap, arith, subst, append_assoc, append-nil, length-append}
+use Rattle.std.proofs.Common.{◌≡◌, ℕ, zero, suc, ◌+◌, ◌-◌, ◌^◌, ◌<◌, ◌≤◌, min, cond, true, false, nat_lt, List, [], ◌++◌, length, take, Option, Some, None, Result, Ok, Err, inl, inr, refl, sym, ◌∙◌, ap, arith, subst, append_assoc, append-nil, length-append}
 use Rattle.std.proofs.lemmas.Bool.{cases_lt}
 use Rattle.std.proofs.lemmas.Bool.Decides.{nat_tests}
 use Rattle.std.proofs.lemmas.List.{take_all, take-take, take-append-le, length-take}
@@ -13,7 +13,7 @@ use Rattle.sym_edges.specs.declared.fault.Stop.TheVariants.{Fault, NoMemory}
 use Rattle.sym_edges.specs.Outside.{MatchStop}
 use Rattle.sym_rules.specs.Cuts.{split_lines}
 use Rattle.sym_rules.specs.declared.text_fault.TextFault.{TextFault}
-use Rattle.sym_records.specs.Reading.{start, with_lines, reading}
+use Rattle.sym_records.specs.Reading.{with_lines, reading}
 use Rattle.sym_records.specs.declared.line.SymLine.{SymLine}
 use Rattle.sym_grammar.specs.Answer.{Part, Reads, answer, lifted, Feeds, but_last, last_line, whole_lines, open_line, IsUpToDate}
 use Rattle.sym_grammar.specs.Input.{decided, nothing, IfNone, whole_reading, front_reading, file_reading, IsReading, SymRead}

@@ -1,7 +1,6 @@
 pub mod CutLemmas
 pub mod NumberLemmas
 pub mod DigitLemmas
-pub mod WordLemmas
 pub mod FieldLemmas
 pub mod RunLemmas
 pub mod ShortWordLemmas

@@ -1,5 +1,5 @@
 -- The reading of a symbol file that may have so many bytes, and what a call that reads it from a store answers.
-use Rattle.std.specs.Prelude.{◌≡◌, ◌⊎◌, ℕ, ◌^◌, ⊤, Bool, nat_lt, if◌then◌else◌, List, [], ◌∷◌, ◌++◌, length, take, Option, Some, None, Result, Ok, Err}
+use Rattle.std.specs.Prelude.{◌≡◌, ◌⊎◌, ℕ, ◌^◌, ⊤, nat_lt, if◌then◌else◌, List, [], ◌∷◌, ◌++◌, length, take, Option, Some, None, Result, Ok, Err}
 use Rattle.sym_edges.specs.Outside.{Files, Rose}
 use Rattle.sym_edges.specs.WholeFile.{HoldsFile}
 use Rattle.sym_edges.specs.declared.fault.Stop.{Stop}

@@ -5,12 +5,11 @@ ghost use Rattle.sym_records.specs.FieldReading.{word_at, name_at, hex_at, mark_
 ghost use Rattle.sym_grammar.specs.internal.Given.{Gives};
 ghost use Rattle.sym_grammar.specs.internal.Runs.{range_run};
 
-use crate::cuts::{cut_word, skip_spaces};
 use crate::numbers::{decimal_value, hex_field};
 use std::alloc::Global;
 use sym_edges::Stop;
 use sym_records::{Extent, Extents};
-use sym_rules::{ByteText, TextKind};
+use sym_rules::{ByteText, TextKind, cut_word, skip_spaces};
 
 /// The next field.
 #[inline]

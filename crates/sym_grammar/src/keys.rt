@@ -4,10 +4,9 @@ ghost use Rattle.std.specs.List.{list_all};
 ghost use Rattle.sym_records.specs.Text.{is_hex_digit, cfi_key, stack_key, worded_key, key_at};
 ghost use Rattle.sym_grammar.specs.internal.Given.{Gives};
 
-use crate::cuts::{cut_word, skip_spaces};
 use sym_edges::Stop;
 use sym_records::Keyword;
-use sym_rules::TextKind;
+use sym_rules::{TextKind, cut_word, skip_spaces};
 
 /// Whether the bytes are hexadecimal digits alone.
 #[inline]

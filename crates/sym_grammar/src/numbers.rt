@@ -2,31 +2,17 @@
 ghost use Rattle.std.specs.Prelude.{◌≡◌, ◌^◌, ◌<◌, ◌≤◌, pos, neg_ℤ, IfSome, IfOk};
 ghost use Rattle.sym_rules.specs.RuleReading.{integer_of};
 ghost use Rattle.sym_rules.specs.Cuts.{from};
-ghost use Rattle.sym_records.specs.FieldReading.{hex_digit, decimal_value};
+ghost use Rattle.sym_records.specs.FieldReading.{decimal_value};
 ghost use Rattle.sym_grammar.specs.internal.Given.{Gives};
 ghost use Rattle.sym_grammar.specs.internal.Runs.{hex_field, ten_digit, digits_upto};
 
 use sym_edges::Stop;
+use sym_records::hex_digit;
 use sym_rules::TextKind;
-
-/// The value of a hexadecimal digit, in either case.
-#[inline]
-#[tactic(auto, unfolding(sym_records::specs::FieldReading::hex_digit))]
-fn hex_digit(b: u8) -> Option<u8>
-    ensures digit { result ≡ hex_digit b }
-    ensures small { IfSome result (λ v. v < 16) }
-{
-    match b {
-        b'0'..=b'9' => Some(b - b'0'),
-        b'a'..=b'f' => Some(b - b'a' + 10),
-        b'A'..=b'F' => Some(b - b'A' + 10),
-        _ => None,
-    }
-}
 
 /// The hexadecimal number that a field is, and what stands behind the field: one pass over its digits.
 #[inline]
-#[tactic(auto, using(crate::proofs::DigitLemmas::field_done, crate::proofs::DigitLemmas::field_end, crate::proofs::DigitLemmas::field_bad, crate::proofs::DigitLemmas::field_long, crate::proofs::CutLemmas::rest_stop, crate::proofs::CutLemmas::rest_end))]
+#[tactic(auto, using(crate::proofs::DigitLemmas::field_done, crate::proofs::DigitLemmas::field_end, crate::proofs::DigitLemmas::field_bad, crate::proofs::DigitLemmas::field_long, sym_rules::proofs::CutLemmas::rest_stop, sym_rules::proofs::CutLemmas::rest_end))]
 pub(crate) fn hex_field(field: &[u8]) -> Result<(u64, &[u8]), Stop<TextKind>>
     ensures number { Gives result (λ x. (x.0, x.1.now)) (hex_field field.now) }
     ensures rest { IfOk result (λ x. x.1.now ≡ from 32 field.now) }

@@ -7,13 +7,12 @@ ghost use Rattle.sym_records.specs.Validity.{fields_fit, first_bad_from};
 ghost use Rattle.sym_records.specs.declared.place.Place.TheVariants.{Start};
 ghost use Rattle.sym_grammar.specs.internal.Given.{Leaves};
 
-use crate::cuts::is_blank;
 use crate::records::{begins_module, line_read};
 use std::alloc::Global;
 use std::marker::Model;
 use sym_edges::Stop;
 use sym_records::{Place, SymLine, fits, leads};
-use sym_rules::{TextFault, TextKind};
+use sym_rules::{TextFault, TextKind, is_blank};
 
 /// What whole lines gave: their records, which are valid, the place behind them, and how many lines there were.
 #[derive(Debug, Drop)]

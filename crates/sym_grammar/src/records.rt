@@ -5,14 +5,13 @@ ghost use Rattle.sym_records.specs.Text.{key_of, record_of, record_at, line_read
 ghost use Rattle.sym_records.specs.declared.keyword.Keyword.TheVariants as key;
 ghost use Rattle.sym_grammar.specs.internal.Given.{Gives};
 
-use crate::cuts::{cut_word, is_blank, skip_spaces, trim_crs, trim_margin};
 use crate::fields::{decimal_at, hex_at, last_at, marked_at, name_at, ranges_at, word_at};
 use crate::keys::key_at;
 use crate::rules::rules_at;
 use std::alloc::Global;
 use sym_edges::Stop;
 use sym_records::{Binary, BoxedBinary, Keyword, SymLine};
-use sym_rules::{ByteText, TextKind};
+use sym_rules::{ByteText, TextKind, cut_word, is_blank, skip_spaces, trim_crs, trim_margin};
 
 /// `MODULE os arch id name`
 #[tactic(auto, unfolding(sym_records::specs::FieldReading::fields_at))]

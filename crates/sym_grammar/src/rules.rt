@@ -4,11 +4,10 @@ ghost use Rattle.sym_rules.specs.RuleReading.{words, rules_at};
 ghost use Rattle.sym_grammar.specs.internal.Given.{Gives, GivesNext};
 ghost use Rattle.sym_grammar.specs.internal.Runs.{token_run, rule_run, put_before};
 
-use crate::cuts::{cut_word, skip_spaces};
 use crate::words::{ends_in_colon, target_at, token_at};
 use std::alloc::Global;
 use sym_edges::Stop;
-use sym_rules::{RuleText, Rules, TextKind, Token, Tokens};
+use sym_rules::{RuleText, Rules, TextKind, Token, Tokens, cut_word, skip_spaces};
 
 /// The next token and what stands behind it, unless a rule or the end of the line is next.
 #[inline]

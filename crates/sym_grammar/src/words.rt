@@ -2,12 +2,11 @@
 ghost use Rattle.std.specs.Prelude.{◌≡◌, Ok, IfOk};
 ghost use Rattle.sym_rules.specs.RuleReading.{begins_symbol, is_symbol, ends_in_colon, named_target, target_at, sign_of, named_token, token_at};
 ghost use Rattle.sym_grammar.specs.internal.Given.{Gives};
-ghost use Rattle.sym_grammar.specs.internal.Runs.{register_in};
 
 use crate::numbers::integer_of;
 use std::alloc::Global;
 use sym_edges::{OutOfMemory, Stop};
-use sym_rules::{ByteText, RuleName, Target, TextKind, Token};
+use sym_rules::{ByteText, RuleName, Target, TextKind, Token, register_of};
 
 /// Whether the word ends with `:`.
 #[inline]
@@ -49,65 +48,8 @@ fn other_name(alloc: Global, name: &[u8]) -> Result<RuleName, OutOfMemory>
     RuleName::of(alloc, text)
 }
 
-/// The DWARF number of a register.
-#[inline]
-#[tactic(auto, unfolding(sym_edges::specs::Abi::register_names))]
-fn register_of(name: &[u8]) -> Option<u8>
-    ensures { result ≡ register_in name.now }
-{
-    if name == b"$rax".as_slice() {
-        return Some(0);
-    }
-    if name == b"$rdx".as_slice() {
-        return Some(1);
-    }
-    if name == b"$rcx".as_slice() {
-        return Some(2);
-    }
-    if name == b"$rbx".as_slice() {
-        return Some(3);
-    }
-    if name == b"$rsi".as_slice() {
-        return Some(4);
-    }
-    if name == b"$rdi".as_slice() {
-        return Some(5);
-    }
-    if name == b"$rbp".as_slice() {
-        return Some(6);
-    }
-    if name == b"$rsp".as_slice() {
-        return Some(7);
-    }
-    if name == b"$r8".as_slice() {
-        return Some(8);
-    }
-    if name == b"$r9".as_slice() {
-        return Some(9);
-    }
-    if name == b"$r10".as_slice() {
-        return Some(10);
-    }
-    if name == b"$r11".as_slice() {
-        return Some(11);
-    }
-    if name == b"$r12".as_slice() {
-        return Some(12);
-    }
-    if name == b"$r13".as_slice() {
-        return Some(13);
-    }
-    if name == b"$r14".as_slice() {
-        return Some(14);
-    }
-    if name == b"$r15".as_slice() {
-        return Some(15);
-    }
-    None
-}
-
 /// The target of a name.
-#[tactic(auto, using(crate::proofs::WordLemmas::register_some, crate::proofs::WordLemmas::register_none), unfolding(sym_rules::specs::RuleReading::named_target))]
+#[tactic(auto, unfolding(sym_rules::specs::RuleReading::named_target))]
 fn named_target(alloc: Global, name: &[u8]) -> Result<Target, Stop<TextKind>>
     ensures { Gives result (λ t. t) (Ok (named_target name.now)) }
 {
@@ -169,7 +111,7 @@ fn sign_of(word: &[u8]) -> Option<Token>
 }
 
 /// The token of a name.
-#[tactic(auto, using(crate::proofs::WordLemmas::register_some, crate::proofs::WordLemmas::register_none), unfolding(sym_rules::specs::RuleReading::named_token))]
+#[tactic(auto, unfolding(sym_rules::specs::RuleReading::named_token))]
 fn named_token(alloc: Global, name: &[u8]) -> Result<Token, Stop<TextKind>>
     ensures { Gives result (λ t. t) (Ok (named_token name.now)) }
 {

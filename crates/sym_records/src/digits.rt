@@ -1,4 +1,6 @@
-ghost use Rattle.std.specs.Prelude.{◌≡◌, ◌<◌, ◌≤◌, length};
+//! Hexadecimal digits.
+ghost use Rattle.std.specs.Prelude.{◌≡◌, ◌<◌, ◌≤◌, length, IfSome};
+ghost use Rattle.sym_records.specs.FieldReading.{hex_digit};
 ghost use Rattle.sym_records.specs.Fields.{hex};
 
 use std::marker::Model;
@@ -41,5 +43,20 @@ impl HexText {
         ensures { result ≡ length self.now }
     {
         16 - self.start
+    }
+}
+
+/// The value of a hexadecimal digit, in either case.
+#[inline]
+#[tactic(auto, unfolding(crate::specs::FieldReading::hex_digit))]
+pub fn hex_digit(b: u8) -> Option<u8>
+    ensures digit { result ≡ hex_digit b }
+    ensures small { IfSome result (λ v. v < 16) }
+{
+    match b {
+        b'0'..=b'9' => Some(b - b'0'),
+        b'a'..=b'f' => Some(b - b'a' + 10),
+        b'A'..=b'F' => Some(b - b'A' + 10),
+        _ => None,
     }
 }

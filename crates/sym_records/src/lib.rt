@@ -26,6 +26,7 @@ mod lengths;
 mod validity;
 
 // How they are spelled.
+mod byte_sink;
 mod digits;
 mod file_writer;
 mod line_speller;
@@ -37,8 +38,9 @@ mod text_lines;
 // What holds of all of it.
 pub mod laws;
 
+pub use byte_sink::ByteSink;
 pub use clean_names::clean;
-pub use digits::HexText;
+pub use digits::{HexText, hex_digit};
 pub use field::Field;
 pub use fields::{is_field, is_name};
 pub use file::{NotValid, SymFile, file_of, file_of_valid, fits, leads};

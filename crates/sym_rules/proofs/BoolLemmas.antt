@@ -1,5 +1,5 @@
 -- Tests and their cases; for the lemmas of DigitsLemmas, EndLemmas, PlainLemmas, RuleLemmas.
-use Rattle.std.proofs.Common.{◌≡◌, ℕ, ◌==◌, ◌&&◌, cond, Bool, true, false, not, List, ◌∷◌, length, nat_lt, ◌<◌, Result, Ok, Err, refl, arith, ◌⊎◌, inl, inr}
+use Rattle.std.proofs.Common.{◌≡◌, ℕ, ◌==◌, cond, Bool, true, false, not, List, length, nat_lt, ◌<◌, Result, Ok, Err, refl, arith, ◌⊎◌, inl, inr}
 use Rattle.std.proofs.lemmas.Bool.Decides.{nat_tests}
 use Rattle.sym_edges.specs.Results.{◌>>=◌}
 pub use Rattle.clean_names.proofs.BoolLemmas.{and_true, both, not_false, if_both, some_bytes}

@@ -1,5 +1,7 @@
 pub mod BoolLemmas
 pub mod EndLemmas
+pub mod CutLemmas
+pub mod RegisterLemmas
 pub mod WordLemmas
 pub mod RuleLemmas
 pub mod RuleListLemmas

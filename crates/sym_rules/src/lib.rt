@@ -3,7 +3,7 @@
 //! A rule says how a register of the caller is found: it has a target, whose name ends with `:`, and the words of a
 //! postfix expression (Breakpad's symbol_files.md). `are_rules` tests whether a line can carry rules, `rules_length` says
 //! how long they are, `add_rules` spells them at the end of a text, and `put_rules` through a buffer in front of a sink. The `write_`
-//! calls write numbers and names into a line from its end to its front.
+//! calls write numbers and names into a line from its end to its front. `cut_word` and the calls beside it cut a line into its fields.
 #![tactic(auto)]
 
 // The rules, and what may be wrong with a text that has them.
@@ -13,9 +13,12 @@ mod text_fault;
 // Which rules a text can spell.
 mod validity;
 
-// How they are spelled.
-mod backward;
+// The fields of a line, and the registers by their names.
+mod cuts;
 mod registers;
+
+// How rules are spelled.
+mod backward;
 mod sink_buffer;
 mod sink_rules;
 mod text_end;
@@ -23,7 +26,8 @@ mod waiting_bytes;
 mod words;
 
 pub use backward::{write_byte, write_bytes, write_decimal, write_hex, write_last, write_signed};
-pub use registers::{register_name, write_register};
+pub use cuts::{cut_word, is_blank, skip_spaces, trim_crs, trim_margin};
+pub use registers::{register_name, register_named, register_of, write_register};
 pub use rules::{ByteText, RuleName, RuleText, Rules, Target, Token, Tokens};
 pub use sink_buffer::{hand_on, put, put_word};
 pub use sink_rules::put_rules;

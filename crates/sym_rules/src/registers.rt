@@ -1,6 +1,8 @@
 //! The names of the registers of x86-64, by their DWARF numbers.
-ghost use Rattle.std.specs.Prelude.{◌≡◌, ◌+◌, ◌≤◌, ◌++◌, length, drop};
+ghost use Rattle.std.specs.Prelude.{◌≡◌, ◌+◌, ◌<◌, ◌≤◌, ◌∷◌, ◌++◌, length, drop, IfSome};
 ghost use Rattle.sym_edges.specs.Abi.{register_name};
+ghost use Rattle.sym_rules.specs.RuleReading.{register_of};
+ghost use Rattle.sym_rules.specs.internal.Registers.{register_in};
 
 use crate::backward::write_bytes;
 
@@ -96,4 +98,87 @@ pub fn write_register(number: u8, line: &mut [u8], end: usize) -> usize
     ensures written { drop result line.new ≡ register_name number ++ drop end line.old }
 {
     with_name!(number, name => write_bytes(name, line, end), end)
+}
+
+/// The number of one of the sixteen registers by its name without `$`.
+#[inline]
+#[tactic(auto, unfolding(sym_edges::specs::Abi::register_names))]
+fn register_in(name: &[u8]) -> Option<u8>
+    ensures number { result ≡ register_in name.now }
+    ensures small { IfSome result (λ register. register < 16) }
+{
+    if name == b"rax".as_slice() {
+        return Some(0);
+    }
+    if name == b"rdx".as_slice() {
+        return Some(1);
+    }
+    if name == b"rcx".as_slice() {
+        return Some(2);
+    }
+    if name == b"rbx".as_slice() {
+        return Some(3);
+    }
+    if name == b"rsi".as_slice() {
+        return Some(4);
+    }
+    if name == b"rdi".as_slice() {
+        return Some(5);
+    }
+    if name == b"rbp".as_slice() {
+        return Some(6);
+    }
+    if name == b"rsp".as_slice() {
+        return Some(7);
+    }
+    if name == b"r8".as_slice() {
+        return Some(8);
+    }
+    if name == b"r9".as_slice() {
+        return Some(9);
+    }
+    if name == b"r10".as_slice() {
+        return Some(10);
+    }
+    if name == b"r11".as_slice() {
+        return Some(11);
+    }
+    if name == b"r12".as_slice() {
+        return Some(12);
+    }
+    if name == b"r13".as_slice() {
+        return Some(13);
+    }
+    if name == b"r14".as_slice() {
+        return Some(14);
+    }
+    if name == b"r15".as_slice() {
+        return Some(15);
+    }
+    None
+}
+
+/// The DWARF number of a register by its name without `$`.
+#[inline]
+#[tactic(auto, using(crate::proofs::RegisterLemmas::register_is))]
+pub fn register_named(name: &[u8]) -> Option<u8>
+    ensures number { result ≡ register_of (36 ∷ name.now) }
+    ensures small { IfSome result (λ register. register < 16) }
+{
+    register_in(name)
+}
+
+/// The DWARF number of a register by its name.
+#[inline]
+#[tactic(auto, using(crate::proofs::RegisterLemmas::none_without_sign))]
+pub fn register_of(name: &[u8]) -> Option<u8>
+    ensures { result ≡ register_of name.now }
+{
+    let Some((sign, bare)) = name.split_first() else {
+        return None;
+    };
+    if *sign != b'$' {
+        return None;
+    }
+    register_named(bare)
 }

@@ -1,8 +1,6 @@
 -- The parts of a text as the code finds them.
 use Rattle.std.specs.Prelude.{◌≡◌, ◌<◌, ℕ, ◌==◌, List, [], ◌∷◌, Option, None, Some, Result, Ok, Err}
-use Rattle.std.specs.List.{position_or_len, position_from}
-use Rattle.std.specs.Str.{bytes_eq}
-use Rattle.sym_edges.specs.Abi.{register_names}
+use Rattle.std.specs.List.{position_or_len}
 use Rattle.sym_edges.specs.declared.fault.Stop.{Stop}
 use Rattle.sym_edges.specs.declared.fault.Stop.TheVariants.{Fault, NoMemory}
 use Rattle.sym_rules.specs.Cuts.{split_lines}
@@ -25,10 +23,6 @@ lines_behind (Some bytes) = split_lines bytes
 abbrev pub two_of : List (List ℕ) → Option (List ℕ × List ℕ)
 two_of (a ∷ b ∷ []) = Some (a, b)
 two_of _ = None
-
--- the number of one of the sixteen registers by its name without `$`
-abbrev pub register_in : List ℕ → Option ℕ
-register_in name = position_from (bytes_eq (36 ∷ name)) 0 register_names
 
 -- a state as the code holds it
 abbrev pub state : Regs → List MemRun → State

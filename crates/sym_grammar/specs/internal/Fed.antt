@@ -1,5 +1,5 @@
 -- What a reader was fed from a store.
-use Rattle.std.specs.Prelude.{◌≡◌, ℕ, ◌^◌, ⊤, List, [], ◌++◌, length, Option, Some, None, Result, Ok, Err, take}
+use Rattle.std.specs.Prelude.{◌≡◌, ℕ, ◌^◌, ⊤, List, [], ◌++◌, length, Option, None, Result, Ok, Err, take}
 use Rattle.sym_edges.specs.Outside.{Rose}
 use Rattle.sym_edges.specs.WholeFile.{IsParted}
 use Rattle.sym_edges.specs.declared.fault.Stop.{Stop}

@@ -1,9 +1,6 @@
 -- Digits and words taken one after another, as the loops take them.
 use Rattle.std.specs.Prelude.{ℕ, ◌+◌, ◌*◌, nat_le, nat_lt, ◌&&◌, if◌then◌else◌, List, [], ◌∷◌, ◌++◌, length, Option, Some, None, Result, Ok, Err}
-use Rattle.std.specs.List.{position_from}
 use Rattle.std.specs.Char.{digit_value}
-use Rattle.std.specs.Str.{bytes_eq}
-use Rattle.sym_edges.specs.Abi.{register_names}
 use Rattle.sym_records.specs.FieldReading.{hex_of, hex_at}
 use Rattle.sym_records.specs.declared.line.Extent.{Extent}
 use Rattle.sym_edges.specs.Results.{◌>>=◌}
@@ -56,10 +53,6 @@ rule_run (w ∷ ws) = do
 -- tokens in front of a run of tokens
 abbrev pub put_before : List Token → Result (List Token × List (List ℕ)) TextKind → Result (List Token × List (List ℕ)) TextKind
 put_before ts run = run >>= λ x. Ok (ts ++ x.0, x.1)
-
--- the number of a register by its name
-abbrev pub register_in : List ℕ → Option ℕ
-register_in name = position_from (bytes_eq name) 0 register_names
 
 -- the next range, and what stands behind it
 unfoldable pub range_run : List ℕ → Result (Extent × List ℕ) TextKind

@@ -25,19 +25,19 @@ some_from xs ys h e =
 pub returns-then-is_empty : goal.returns-then-is_empty
 returns-then-is_empty c =
     two_few c.args.bytes.now c.cut_word.result.0.now c.cut_word.result.1.now c.cut_word-2.result.0.now c.cut_word-2.result.1.now
-    (found _ _ _ _ _ _ _ c.skip_spaces.ensures c.cut_word.ensures.word c.cut_word.ensures.rest c.skip_spaces-2.ensures c.cut_word-2.ensures.word c.cut_word-2.ensures.rest)
+    (found _ _ _ _ _ _ _ c.skip_spaces.ensures.skipped c.cut_word.ensures.word c.cut_word.ensures.rest c.skip_spaces-2.ensures.skipped c.cut_word-2.ensures.word c.cut_word-2.ensures.rest)
     (none_from c.cut_word-2.result.0.now c.cut_word-2.result.0.now c.if-is_empty.ensures refl)
 
 pub returns-then-not-is_empty : goal.returns-then-not-is_empty
 returns-then-not-is_empty c =
     two_many c.args.bytes.now c.cut_word.result.0.now c.cut_word.result.1.now c.cut_word-2.result.0.now c.cut_word-2.result.1.now
-    (found _ _ _ _ _ _ _ c.skip_spaces.ensures c.cut_word.ensures.word c.cut_word.ensures.rest c.skip_spaces-2.ensures c.cut_word-2.ensures.word c.cut_word-2.ensures.rest)
+    (found _ _ _ _ _ _ _ c.skip_spaces.ensures.skipped c.cut_word.ensures.word c.cut_word.ensures.rest c.skip_spaces-2.ensures.skipped c.cut_word-2.ensures.word c.cut_word-2.ensures.rest)
     (some_from c.cut_word-2.result.0.now c.cut_word-2.result.0.now c.if-is_empty.ensures refl)
-    (some_from c.skip_spaces-3.result.now (skip is_space c.cut_word-2.result.1.now) (sym c.if-not-is_empty.true ∙ c.is_empty-2.ensures) c.skip_spaces-3.ensures)
+    (some_from c.skip_spaces-3.result.now (skip is_space c.cut_word-2.result.1.now) (sym c.if-not-is_empty.true ∙ c.is_empty-2.ensures) c.skip_spaces-3.ensures.skipped)
 
 pub returns : goal.returns
 returns c =
     two_exact c.args.bytes.now c.cut_word.result.0.now c.cut_word.result.1.now c.cut_word-2.result.0.now c.cut_word-2.result.1.now
-    (found _ _ _ _ _ _ _ c.skip_spaces.ensures c.cut_word.ensures.word c.cut_word.ensures.rest c.skip_spaces-2.ensures c.cut_word-2.ensures.word c.cut_word-2.ensures.rest)
+    (found _ _ _ _ _ _ _ c.skip_spaces.ensures.skipped c.cut_word.ensures.word c.cut_word.ensures.rest c.skip_spaces-2.ensures.skipped c.cut_word-2.ensures.word c.cut_word-2.ensures.rest)
     (some_from c.cut_word-2.result.0.now c.cut_word-2.result.0.now c.if-is_empty.ensures refl)
-    (none_from c.skip_spaces-3.result.now (skip is_space c.cut_word-2.result.1.now) (sym c.if-not-is_empty.false ∙ c.is_empty-2.ensures) c.skip_spaces-3.ensures)
+    (none_from c.skip_spaces-3.result.now (skip is_space c.cut_word-2.result.1.now) (sym c.if-not-is_empty.false ∙ c.is_empty-2.ensures) c.skip_spaces-3.ensures.skipped)

@@ -1,4 +1,4 @@
-use Rattle.std.proofs.Common.{rules, ◌≡◌, refl, sym, ◌∙◌, ap, arith, length}
+use Rattle.std.proofs.Common.{rules, ◌≡◌, refl, ◌∙◌, arith, length}
 use Rattle.std.specs.Prelude.{⊤}
 use Rattle.sym_grammar.proofs.InputLemmas.{start_read, next_read, stopped_read, ended_read, longer_read}
 use Rattle.sym_grammar.proofs.input.read_rest.Goals as goal

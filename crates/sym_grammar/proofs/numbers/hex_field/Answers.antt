@@ -1,5 +1,5 @@
 use Rattle.std.proofs.Common.{arith, rules}
-use Rattle.sym_grammar.proofs.CutLemmas.{word_more, rest_more}
+use Rattle.sym_rules.proofs.CutLemmas.{word_more, rest_more}
 use Rattle.sym_grammar.proofs.DigitLemmas.{digit_more, no_digit}
 use Rattle.sym_grammar.proofs.NumberLemmas.{hex_grows, hex_small}
 use Rattle.sym_grammar.proofs.numbers.hex_field.Goals as goal

@@ -1,6 +1,6 @@
 use Rattle.std.proofs.Common.{◌≡◌, ◌++◌, take, drop}
 use Rattle.sym_rules.specs.Cuts.{before, from}
-use Rattle.sym_grammar.proofs.cuts.cut_word.Given as goal
+use Rattle.sym_rules.proofs.cuts.cut_word.Given as goal
 
 abbrev pub invariant-loop-at : goal.invariant-loop-at
 invariant-loop-at l = record {

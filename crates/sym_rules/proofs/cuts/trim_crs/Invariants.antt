@@ -1,6 +1,6 @@
 use Rattle.std.proofs.Common.{◌≡◌, ◌≤◌, length, take}
 use Rattle.sym_rules.specs.Cuts.{is_cr, trim_end}
-use Rattle.sym_grammar.proofs.cuts.trim_crs.Given as goal
+use Rattle.sym_rules.proofs.cuts.trim_crs.Given as goal
 
 abbrev pub invariant-ends : goal.invariant-ends
 invariant-ends l = record {
