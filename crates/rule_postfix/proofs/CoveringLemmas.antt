@@ -15,7 +15,7 @@ use Rattle.sym_records.specs.declared.line.SymLine.TheVariants.{Init}
 use Rattle.sym_rules.specs.declared.rules.RuleText.{RuleText}
 use Rattle.rule_postfix.specs.RowRules.{some_becomes_unspecified, row_rules, changed_rules}
 use Rattle.rule_postfix.specs.FrameLines.{is_cut, first_cut, change, records_at, frame_lines}
-use Rattle.rule_postfix.specs.Overlaps.{meet, any_meets}
+use Rattle.range_union.specs.Ranges.{overlap, any_overlap}
 use Rattle.rule_postfix.specs.Written.{range_of, entry_lines, written_lines}
 use Rattle.sym_meaning.specs.Inits.{init_covers, inits_at}
 use Rattle.rule_postfix.specs.Covering.{holds_address, entries_at, AreDisjoint}
@@ -129,12 +129,12 @@ unfolding AreAbove
 above_more base [] e above le = (le, tt)
 above_more base (w ∷ entries) e above le = (above.0, above_more base entries e above.1 le)
 
-pub disjoint_more : (entries : List FdeFields) (e : FdeFields) → AreDisjoint entries → any_meets (range_of e) (map range_of entries) ≡ false → AreDisjoint (entries ++ e ∷ [])
-unfolding any_meets
+pub disjoint_more : (entries : List FdeFields) (e : FdeFields) → AreDisjoint entries → any_overlap (range_of e) (map range_of entries) ≡ false → AreDisjoint (entries ++ e ∷ [])
+unfolding any_overlap
 disjoint_more [] e apart none = (refl, tt)
 disjoint_more (w ∷ entries) e apart none =
-    let parts : (meet (range_of e) (range_of w) ≡ false) × (list_any (meet (range_of e)) (map range_of entries) ≡ false) = or_parts (meet (range_of e) (range_of w)) (list_any (meet (range_of e)) (map range_of entries)) none in (
-      ap (list_any (meet (range_of w))) (map-append range_of entries (e ∷ [])) ∙ list_any-append (meet (range_of w)) (map range_of entries) (range_of e ∷ [])
-          ∙ or_from (list_any (meet (range_of w)) (map range_of entries)) (meet (range_of w) (range_of e) || false) apart.0 (or_from (meet (range_of w) (range_of e)) false (and_comm (nat_lt w.start (e.start + e.size)) (nat_lt e.start (w.start + w.size)) ∙ parts.0) refl),
+    let parts : (overlap (range_of e) (range_of w) ≡ false) × (list_any (overlap (range_of e)) (map range_of entries) ≡ false) = or_parts (overlap (range_of e) (range_of w)) (list_any (overlap (range_of e)) (map range_of entries)) none in (
+      ap (list_any (overlap (range_of w))) (map-append range_of entries (e ∷ [])) ∙ list_any-append (overlap (range_of w)) (map range_of entries) (range_of e ∷ [])
+          ∙ or_from (list_any (overlap (range_of w)) (map range_of entries)) (overlap (range_of w) (range_of e) || false) apart.0 (or_from (overlap (range_of w) (range_of e)) false (and_comm (nat_lt w.start (e.start + e.size)) (nat_lt e.start (w.start + w.size)) ∙ parts.0) refl),
       disjoint_more entries e apart.1 parts.1,
     )

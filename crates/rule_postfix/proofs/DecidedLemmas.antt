@@ -24,7 +24,7 @@ use Rattle.sym_records.specs.declared.line.SymLine.{SymLine}
 use Rattle.sym_records.proofs.SpelledLemmas.{text_grown}
 use Rattle.rule_postfix.specs.declared.progress.Progress.{Progress}
 use Rattle.rule_postfix.specs.declared.omission.Omission.{Omission}
-use Rattle.rule_postfix.specs.Overlaps.{any_meets}
+use Rattle.range_union.specs.Ranges.{any_overlap}
 use Rattle.rule_postfix.specs.Written.{Decided, range_of, has_range, is_code, reason_among, reason_behind, rows_reason, body_reason, reason_of, left_out, with_written, with_fields, with_decision, with_entry, with_entries, decided_behind, decided_of, decided, written, omitted, entry_lines, written_lines}
 use Rattle.rule_postfix.specs.internal.Deciding.{LiesAbove, EndsAt, IfRefused, Shows, none_decided}
 use Rattle.frame_rows.specs.Rows.{rows_fault}
@@ -84,26 +84,26 @@ pub record IsFree (code taken : List Range) (e : FdeFields) : Type 0 where
   pub some : 0 < e.size
   pub fits : e.start + e.size < 2 ^ 64
   pub inside : encloses code e.start (e.start + e.size) ≡ true
-  pub apart : any_meets (range_of e) taken ≡ false
+  pub apart : any_overlap (range_of e) taken ≡ false
 
 pub is_free : (code taken : List Range) (e : FdeFields) → reason_among code taken e ≡ None → IsFree code taken e
 unfolding reason_among is_code has_range
 is_free code taken e none =
-    let later : option_or (unless (is_code code e) reason.Outside) (unless (not (any_meets (range_of e) taken)) reason.Overlap) ≡ None = or_right (rows_reason e) (option_or (unless (is_code code e) reason.Outside) (unless (not (any_meets (range_of e) taken)) reason.Overlap)) none in
-    let inside : is_code code e ≡ true = unless_true (is_code code e) reason.Outside (or_left (unless (is_code code e) reason.Outside) (unless (not (any_meets (range_of e) taken)) reason.Overlap) later) in
+    let later : option_or (unless (is_code code e) reason.Outside) (unless (not (any_overlap (range_of e) taken)) reason.Overlap) ≡ None = or_right (rows_reason e) (option_or (unless (is_code code e) reason.Outside) (unless (not (any_overlap (range_of e) taken)) reason.Overlap)) none in
+    let inside : is_code code e ≡ true = unless_true (is_code code e) reason.Outside (or_left (unless (is_code code e) reason.Outside) (unless (not (any_overlap (range_of e) taken)) reason.Overlap) later) in
     let ranged : has_range e ≡ true = (and_parts (has_range e) (encloses code e.start (e.start + e.size)) inside).0 in
     let parts : (nat_lt 0 e.size ≡ true) × (nat_lt (e.start + e.size) (2 ^ 64) ≡ true) = and_parts (nat_lt 0 e.size) (nat_lt (e.start + e.size) (2 ^ 64)) ranged in
     record {
       some = ltb-true 0 e.size parts.0;
       fits = ltb-true (e.start + e.size) (2 ^ 64) parts.1;
       inside = (and_parts (has_range e) (encloses code e.start (e.start + e.size)) inside).1;
-      apart = not-true (any_meets (range_of e) taken) (unless_true (not (any_meets (range_of e) taken)) reason.Overlap (or_right (unless (is_code code e) reason.Outside) (unless (not (any_meets (range_of e) taken)) reason.Overlap) later));
+      apart = not-true (any_overlap (range_of e) taken) (unless_true (not (any_overlap (range_of e) taken)) reason.Overlap (or_right (unless (is_code code e) reason.Outside) (unless (not (any_overlap (range_of e) taken)) reason.Overlap) later));
     }
 
 -- what is decided of an entry
 same_reason : (base : ℕ) (code : List Range) (p : Progress) (e : FdeFields) (d : Decided) → Shows base p d → reason_behind code d.written e ≡ reason_among code p.taken e
 unfolding reason_behind reason_among
-same_reason base code p e d so = ap (λ t. option_or (rows_reason e) (option_or (unless (is_code code e) reason.Outside) (unless (not t) reason.Overlap))) (sym (ap (any_meets (range_of e)) so.taken))
+same_reason base code p e d so = ap (λ t. option_or (rows_reason e) (option_or (unless (is_code code e) reason.Outside) (unless (not t) reason.Overlap))) (sym (ap (any_overlap (range_of e)) so.taken))
 
 pub entry_bad : (code : List Range) (entry : Entry) (why : Reason) (d : Decided) → entry.body ≡ Bad why → with_entry code entry d ≡ left_out entry why d
 unfolding with_entry reason_of
@@ -201,7 +201,7 @@ pub record SameCode (kept code : List Range) : Type 0 where
 
 same_behind : (kept code : List Range) (ws : List FdeFields) (e : FdeFields) → SameCode kept code → reason_behind kept ws e ≡ reason_behind code ws e
 unfolding reason_behind reason_among is_code
-same_behind kept code ws e same = ap (λ t. option_or (rows_reason e) (option_or (unless (has_range e && t) reason.Outside) (unless (not (any_meets (range_of e) (map range_of ws))) reason.Overlap))) (same.at e.start (e.start + e.size))
+same_behind kept code ws e same = ap (λ t. option_or (rows_reason e) (option_or (unless (has_range e && t) reason.Outside) (unless (not (any_overlap (range_of e) (map range_of ws))) reason.Overlap))) (same.at e.start (e.start + e.size))
 
 same_body : (kept code : List Range) (ws : List FdeFields) (b : Body) → SameCode kept code → body_reason kept ws b ≡ body_reason code ws b
 same_body kept code ws (Good e) same = same_behind kept code ws e same

@@ -25,7 +25,7 @@ use Rattle.cfi_eval.specs.declared.outcome.Outcome.TheVariants.{Undefined}
 use Rattle.cfi_eval.specs.declared.outcome.Frame.{Frame}
 use Rattle.cfi_eval.specs.TextValue.{text_register, frame_of, text_frame}
 use Rattle.rule_postfix.specs.FrameLines.{frame_lines as lines_of_rows}
-use Rattle.rule_postfix.specs.Overlaps.{any_meets}
+use Rattle.range_union.specs.Ranges.{any_overlap}
 use Rattle.rule_postfix.specs.RowValue.{value_in_row, row_frame}
 use Rattle.rule_postfix.specs.FrameMeaning.{IsFrameOf, SaysFrame, KeepsRows, KeepsFrames}
 use Rattle.rule_postfix.specs.Written.{written, entry_lines, written_lines}
@@ -135,7 +135,7 @@ entries_kept base code first second from = frames_kept base code first second []
 
 -- the records of one entry
 pub entry_kept : (base : ℕ) (e : FdeFields) → base ≤ e.start → rows_fault e ≡ None → KeepsRows base (lines_of_rows e (row_at e) e.start e.size base) e
-unfolding written_lines entry_lines any_meets AreAbove
+unfolding written_lines entry_lines any_overlap AreAbove
 entry_kept base e le none =
     let kept : AreKept base (e ∷ []) = record { above = (le, tt); apart = (refl, tt) } in
     let P : List SymLine → Type 0 = λ ls. KeepsRows base ls e in

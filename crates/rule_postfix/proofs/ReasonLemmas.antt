@@ -10,14 +10,14 @@ use Rattle.frame_entries.specs.FdeFields.{FdeFields}
 use Rattle.sym_edges.specs.Results.{unless}
 use Rattle.std.specs.Option.{option_or}
 use Rattle.frame_rows.specs.Rows.{rows_fault, instruction_fault}
-use Rattle.rule_postfix.specs.Overlaps.{any_meets}
+use Rattle.range_union.specs.Ranges.{any_overlap}
 use Rattle.rule_postfix.specs.Written.{range_of, has_range, rows_reason, is_code, reason_among}
 
 -- without a range the instructions decide, and then it is not code
 unranged : (code taken : List Range) (e : FdeFields) (why : Option Reason) → has_range e ≡ false → why ≡ instruction_fault e → reason_among code taken e ≡ option_or why (Some reason.Outside)
 unfolding reason_among rows_reason is_code
 unranged code taken e why none is =
-    ap (λ t. option_or (cond t (rows_fault e) (instruction_fault e)) (option_or (unless (t && encloses code e.start (e.start + e.size)) reason.Outside) (unless (not (any_meets (range_of e) taken)) reason.Overlap))) none
+    ap (λ t. option_or (cond t (rows_fault e) (instruction_fault e)) (option_or (unless (t && encloses code e.start (e.start + e.size)) reason.Outside) (unless (not (any_overlap (range_of e) taken)) reason.Overlap))) none
     ∙ ap (λ o. option_or o (Some reason.Outside)) (sym is)
 
 pub unranged_bad : (code taken : List Range) (e : FdeFields) (why : Reason) → has_range e ≡ false → Some why ≡ instruction_fault e → reason_among code taken e ≡ Some why
@@ -27,12 +27,12 @@ pub unranged_good : (code taken : List Range) (e : FdeFields) → has_range e �
 unranged_good code taken e none is = unranged code taken e None none is
 
 -- with a range its rows decide, then its place, then the ranges that are taken
-ranged : (code taken : List Range) (e : FdeFields) (why : Option Reason) (inside meets : Bool) → has_range e ≡ true → rows_fault e ≡ why → encloses code e.start (e.start + e.size) ≡ inside → any_meets (range_of e) taken ≡ meets → reason_among code taken e ≡ option_or why (option_or (unless inside reason.Outside) (unless (not meets) reason.Overlap))
+ranged : (code taken : List Range) (e : FdeFields) (why : Option Reason) (inside meets : Bool) → has_range e ≡ true → rows_fault e ≡ why → encloses code e.start (e.start + e.size) ≡ inside → any_overlap (range_of e) taken ≡ meets → reason_among code taken e ≡ option_or why (option_or (unless inside reason.Outside) (unless (not meets) reason.Overlap))
 unfolding reason_among rows_reason is_code
 ranged code taken e why inside meets has rows place met =
-    ap (λ t. option_or (cond t (rows_fault e) (instruction_fault e)) (option_or (unless (t && encloses code e.start (e.start + e.size)) reason.Outside) (unless (not (any_meets (range_of e) taken)) reason.Overlap))) has
-    ∙ ap (λ o. option_or o (option_or (unless (encloses code e.start (e.start + e.size)) reason.Outside) (unless (not (any_meets (range_of e) taken)) reason.Overlap))) rows
-    ∙ ap (λ t. option_or why (option_or (unless t reason.Outside) (unless (not (any_meets (range_of e) taken)) reason.Overlap))) place
+    ap (λ t. option_or (cond t (rows_fault e) (instruction_fault e)) (option_or (unless (t && encloses code e.start (e.start + e.size)) reason.Outside) (unless (not (any_overlap (range_of e) taken)) reason.Overlap))) has
+    ∙ ap (λ o. option_or o (option_or (unless (encloses code e.start (e.start + e.size)) reason.Outside) (unless (not (any_overlap (range_of e) taken)) reason.Overlap))) rows
+    ∙ ap (λ t. option_or why (option_or (unless t reason.Outside) (unless (not (any_overlap (range_of e) taken)) reason.Overlap))) place
     ∙ ap (λ t. option_or why (option_or (unless inside reason.Outside) (unless (not t) reason.Overlap))) met
 
 -- the reason that its rows give, or else a later one
@@ -43,18 +43,18 @@ pub first_reason : (rows : Option Reason) (later why : Reason) → rows ≡ Some
 first_reason rows later why is = ap (λ o. option_or o (Some later)) is
 
 pub no_rows : (code taken : List Range) (e : FdeFields) (why : Reason) → has_range e ≡ true → rows_fault e ≡ Some why → reason_among code taken e ≡ Some why
-no_rows code taken e why has rows = ranged code taken e (Some why) (encloses code e.start (e.start + e.size)) (any_meets (range_of e) taken) has rows refl refl
+no_rows code taken e why has rows = ranged code taken e (Some why) (encloses code e.start (e.start + e.size)) (any_overlap (range_of e) taken) has rows refl refl
 
 pub no_code : (code taken : List Range) (e : FdeFields) (end : ℕ) (why : Reason) → EndsAt e end → encloses code e.start end ≡ false → option_or (rows_fault e) (Some reason.Outside) ≡ Some why → reason_among code taken e ≡ Some why
-no_code code taken e end why ends place is = ranged code taken e (rows_fault e) false (any_meets (range_of e) taken) ends.ranged refl (ap (encloses code e.start) (sym ends.sum) ∙ place) refl ∙ is
+no_code code taken e end why ends place is = ranged code taken e (rows_fault e) false (any_overlap (range_of e) taken) ends.ranged refl (ap (encloses code e.start) (sym ends.sum) ∙ place) refl ∙ is
 
-pub at_end : (taken : List Range) (e : FdeFields) (end : ℕ) (meets : Bool) → EndsAt e end → any_meets (record { start = e.start; end = end }) taken ≡ meets → any_meets (range_of e) taken ≡ meets
-at_end taken e end meets ends met = ap (λ (k : ℕ). any_meets (record { start = e.start; end = k }) taken) (sym ends.sum) ∙ met
+pub at_end : (taken : List Range) (e : FdeFields) (end : ℕ) (meets : Bool) → EndsAt e end → any_overlap (record { start = e.start; end = end }) taken ≡ meets → any_overlap (range_of e) taken ≡ meets
+at_end taken e end meets ends met = ap (λ (k : ℕ). any_overlap (record { start = e.start; end = k }) taken) (sym ends.sum) ∙ met
 
-pub overlaps : (code taken : List Range) (e : FdeFields) (end : ℕ) (why : Reason) → EndsAt e end → encloses code e.start end ≡ true → any_meets (record { start = e.start; end = end }) taken ≡ true → option_or (rows_fault e) (Some reason.Overlap) ≡ Some why → reason_among code taken e ≡ Some why
+pub overlaps : (code taken : List Range) (e : FdeFields) (end : ℕ) (why : Reason) → EndsAt e end → encloses code e.start end ≡ true → any_overlap (record { start = e.start; end = end }) taken ≡ true → option_or (rows_fault e) (Some reason.Overlap) ≡ Some why → reason_among code taken e ≡ Some why
 overlaps code taken e end why ends place met is = ranged code taken e (rows_fault e) true true ends.ranged refl (ap (encloses code e.start) (sym ends.sum) ∙ place) (at_end taken e end true ends met) ∙ is
 
-pub no_reason : (code taken : List Range) (e : FdeFields) (end : ℕ) → EndsAt e end → rows_fault e ≡ None → encloses code e.start end ≡ true → any_meets (record { start = e.start; end = end }) taken ≡ false → reason_among code taken e ≡ None
+pub no_reason : (code taken : List Range) (e : FdeFields) (end : ℕ) → EndsAt e end → rows_fault e ≡ None → encloses code e.start end ≡ true → any_overlap (record { start = e.start; end = end }) taken ≡ false → reason_among code taken e ≡ None
 no_reason code taken e end ends rows place met = ranged code taken e None true false ends.ranged rows (ap (encloses code e.start) (sym ends.sum) ∙ place) (at_end taken e end false ends met)
 
 -- the range of an entry as its start and size say

@@ -18,7 +18,7 @@ use Rattle.sym_meaning.specs.Inits.{inits_at, is_frameless, AreNested}
 use Rattle.sym_meaning.proofs.InitLemmas.{counted, covers_after, nested_after, lines_sized}
 use Rattle.rule_postfix.specs.RowRules.{row_rules, changed_rules}
 use Rattle.rule_postfix.specs.FrameLines.{is_cut, change, records_at, frame_lines as lines_of_rows}
-use Rattle.rule_postfix.specs.Overlaps.{meet, any_meets}
+use Rattle.range_union.specs.Ranges.{overlap, any_overlap}
 use Rattle.rule_postfix.specs.Written.{range_of, written, entry_lines, written_lines}
 use Rattle.rule_postfix.specs.Covering.{holds_address, entries_at, AreDisjoint, SaysFrames}
 use Rattle.rule_postfix.proofs.WrittenLemmas.{AreWritten, written_are}
@@ -41,28 +41,28 @@ unfolding entries_at
 entries_more e entries a = sum_by-append (λ w. cond (holds_address a w) 1 0) (e ∷ []) entries ∙ ap (λ k. k + entries_at entries a) (counted (holds_address a e))
 
 -- at most one entry has an address
-both_meet : (a : ℕ) (e f : FdeFields) → holds_address a e ≡ true → holds_address a f ≡ true → meet (range_of e) (range_of f) ≡ true
+both_meet : (a : ℕ) (e f : FdeFields) → holds_address a e ≡ true → holds_address a f ≡ true → overlap (range_of e) (range_of f) ≡ true
 both_meet a e f first second = go (nat_le e.start a) refl (nat_lt a (e.start + e.size)) refl first (nat_le f.start a) refl (nat_lt a (f.start + f.size)) refl second
   where
-    go : (b : Bool) → nat_le e.start a ≡ b → (c : Bool) → nat_lt a (e.start + e.size) ≡ c → (b && c) ≡ true → (d : Bool) → nat_le f.start a ≡ d → (g : Bool) → nat_lt a (f.start + f.size) ≡ g → (d && g) ≡ true → meet (range_of e) (range_of f) ≡ true
+    go : (b : Bool) → nat_le e.start a ≡ b → (c : Bool) → nat_lt a (e.start + e.size) ≡ c → (b && c) ≡ true → (d : Bool) → nat_le f.start a ≡ d → (g : Bool) → nat_lt a (f.start + f.size) ≡ g → (d && g) ≡ true → overlap (range_of e) (range_of f) ≡ true
     go true low true high both true from true to all = grind (arith, nat_tests)
     go false low c high both d from g to all = absurd (cc)
     go true low false high both d from g to all = absurd (cc)
     go true low true high both false from g to all = absurd (cc)
     go true low true high both true from false to all = absurd (cc)
 
-no_other : (a : ℕ) (e : FdeFields) (entries : List FdeFields) → holds_address a e ≡ true → list_any (meet (range_of e)) (map range_of entries) ≡ false → entries_at entries a ≡ 0
+no_other : (a : ℕ) (e : FdeFields) (entries : List FdeFields) → holds_address a e ≡ true → list_any (overlap (range_of e)) (map range_of entries) ≡ false → entries_at entries a ≡ 0
 unfolding entries_at
 no_other a e [] held none = refl
-no_other a e (f ∷ entries) held none = entries_more f entries a ∙ go (holds_address a f) refl (meet (range_of e) (range_of f)) refl none (λ rest. no_other a e entries held rest)
+no_other a e (f ∷ entries) held none = entries_more f entries a ∙ go (holds_address a f) refl (overlap (range_of e) (range_of f)) refl none (λ rest. no_other a e entries held rest)
   where
-    go : (b : Bool) → holds_address a f ≡ b → (m : Bool) → meet (range_of e) (range_of f) ≡ m → (m || list_any (meet (range_of e)) (map range_of entries)) ≡ false → (list_any (meet (range_of e)) (map range_of entries) ≡ false → entries_at entries a ≡ 0) → cond b 1 0 + entries_at entries a ≡ 0
+    go : (b : Bool) → holds_address a f ≡ b → (m : Bool) → overlap (range_of e) (range_of f) ≡ m → (m || list_any (overlap (range_of e)) (map range_of entries)) ≡ false → (list_any (overlap (range_of e)) (map range_of entries) ≡ false → entries_at entries a ≡ 0) → cond b 1 0 + entries_at entries a ≡ 0
     go b has true meets all later = absurd (cc)
-    go true has false meets all later = let both : meet (range_of e) (range_of f) ≡ true = both_meet a e f held has in absurd (cc)
+    go true has false meets all later = let both : overlap (range_of e) (range_of f) ≡ true = both_meet a e f held has in absurd (cc)
     go false has false meets all later = let rest : entries_at entries a ≡ 0 = later all in omega (arith, rest)
 
 pub one_entry : (a : ℕ) (entries : List FdeFields) → AreDisjoint entries → entries_at entries a ≤ 1
-unfolding entries_at any_meets
+unfolding entries_at any_overlap
 one_entry a [] apart = omega arith
 one_entry a (e ∷ entries) apart =
     let more : entries_at (e ∷ entries) a ≡ cond (holds_address a e) 1 0 + entries_at entries a = entries_more e entries a in

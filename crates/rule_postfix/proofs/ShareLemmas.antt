@@ -1,9 +1,9 @@
 -- The entries of a section in shares; for `join_share`, `join_shares`, `meets_any`, `put_entries`, `put_share`, `take_all`.
-use Rattle.std.proofs.Common.{◌≡◌, ℕ, zero, suc, ◌+◌, ◌-◌, ◌*◌, ◌^◌, ◌<◌, ◌≤◌, ◌||◌, min, not, Bool, true, false, map, length, take, drop, get_or, List, [], ◌∷◌, ◌++◌, Option, Some, None, inl, inr, refl, ap, sym, subst, ◌∙◌, arith, append_assoc, append-nil}
+use Rattle.std.proofs.Common.{◌≡◌, ℕ, zero, suc, ◌+◌, ◌*◌, ◌<◌, ◌≤◌, ◌||◌, not, Bool, true, false, map, length, take, get_or, List, [], ◌∷◌, ◌++◌, Option, Some, None, refl, ap, sym, subst, ◌∙◌, arith, append_assoc, append-nil}
 use Rattle.std.specs.List.{list_any}
 use Rattle.std.specs.Option.{option_or}
-use Rattle.std.proofs.lemmas.Bool.{cases_lt, or_parts}
-use Rattle.std.proofs.lemmas.List.{length-drop, take_all, drop_all, map-append, take_more}
+use Rattle.std.proofs.lemmas.Bool.{or_parts}
+use Rattle.std.proofs.lemmas.List.{take_all, map-append, take_more}
 use Rattle.std.proofs.lemmas.List.Folds.{list_any-append}
 use Rattle.unit_workers.specs.Shares.{share}
 use Rattle.unit_workers.proofs.ShareLemmas.{share_next}
@@ -18,7 +18,7 @@ use Rattle.frame_entries.specs.FdeFields.{FdeFields}
 use Rattle.sym_records.specs.Canon.{canon_text}
 use Rattle.sym_records.specs.Spelled.{text_bytes}
 use Rattle.rule_postfix.specs.declared.progress.Progress.{Progress}
-use Rattle.rule_postfix.specs.Overlaps.{meet, any_meets}
+use Rattle.range_union.specs.Ranges.{overlap, any_overlap}
 use Rattle.rule_postfix.specs.Written.{Decided, range_of, is_code, rows_reason, reason_among, reason_behind, body_reason, reason_of, with_written, with_fields, with_decision, with_entry, with_entries, written_lines}
 use Rattle.rule_postfix.specs.internal.Deciding.{Shows, none_decided}
 use Rattle.rule_postfix.proofs.DecidedLemmas.{entries_append, lines_append}
@@ -44,25 +44,25 @@ on_all base code entries size k p q over so d first =
     subst P (take_all (size * k) entries over) (so d first)
 
 -- ranges of which one meets one that is taken
-pub met_here : (taken ranges : List Range) (k : ℕ) (r : Range) → k < length ranges → r ≡ get_or ranges k r → true ≡ any_meets r taken → true ≡ list_any (λ range. any_meets range taken) ranges
+pub met_here : (taken ranges : List Range) (k : ℕ) (r : Range) → k < length ranges → r ≡ get_or ranges k r → true ≡ any_overlap r taken → true ≡ list_any (λ range. any_overlap range taken) ranges
 met_here taken [] k r inside is met = absurd (omega (arith, inside))
-met_here taken (x ∷ ranges) zero r inside is met = ap (λ t. t || list_any (λ range. any_meets range taken) ranges) (met ∙ ap (λ y. any_meets y taken) is)
+met_here taken (x ∷ ranges) zero r inside is met = ap (λ t. t || list_any (λ range. any_overlap range taken) ranges) (met ∙ ap (λ y. any_overlap y taken) is)
 met_here taken (x ∷ ranges) (suc k) r inside is met =
-    met_here taken ranges k r (omega (arith, inside)) is met ∙ true_or (any_meets x taken) (list_any (λ range. any_meets range taken) ranges) (sym (met_here taken ranges k r (omega (arith, inside)) is met))
+    met_here taken ranges k r (omega (arith, inside)) is met ∙ true_or (any_overlap x taken) (list_any (λ range. any_overlap range taken) ranges) (sym (met_here taken ranges k r (omega (arith, inside)) is met))
   where
     true_or : (a b : Bool) → b ≡ true → b ≡ (a || b)
     true_or true b is = is
     true_or false b is = refl
 
-met_push : (taken ranges : List Range) (r : Range) → list_any (λ range. any_meets range taken) ranges ≡ false → any_meets r taken ≡ false → list_any (λ range. any_meets range taken) (ranges ++ r ∷ []) ≡ false
-met_push taken ranges r none free = list_any-append (λ range. any_meets range taken) ranges (r ∷ []) ∙ ap (λ t. t || (any_meets r taken || false)) none ∙ ap (λ t. t || false) free
+met_push : (taken ranges : List Range) (r : Range) → list_any (λ range. any_overlap range taken) ranges ≡ false → any_overlap r taken ≡ false → list_any (λ range. any_overlap range taken) (ranges ++ r ∷ []) ≡ false
+met_push taken ranges r none free = list_any-append (λ range. any_overlap range taken) ranges (r ∷ []) ∙ ap (λ t. t || (any_overlap r taken || false)) none ∙ ap (λ t. t || false) free
 
-pub met_next : (taken ranges : List Range) (k : ℕ) (r : Range) → list_any (λ range. any_meets range taken) (take k ranges) ≡ false → k < length ranges → r ≡ get_or ranges k r → any_meets r taken ≡ false → list_any (λ range. any_meets range taken) (take (k + 1) ranges) ≡ false
+pub met_next : (taken ranges : List Range) (k : ℕ) (r : Range) → list_any (λ range. any_overlap range taken) (take k ranges) ≡ false → k < length ranges → r ≡ get_or ranges k r → any_overlap r taken ≡ false → list_any (λ range. any_overlap range taken) (take (k + 1) ranges) ≡ false
 met_next taken ranges k r none inside is free =
-    ap (list_any (λ range. any_meets range taken)) (take_more ranges k r inside ∙ ap (λ x. take k ranges ++ x ∷ []) (sym is)) ∙ met_push taken (take k ranges) r none free
+    ap (list_any (λ range. any_overlap range taken)) (take_more ranges k r inside ∙ ap (λ x. take k ranges ++ x ∷ []) (sym is)) ∙ met_push taken (take k ranges) r none free
 
-pub met_never : (taken ranges : List Range) (k : ℕ) → list_any (λ range. any_meets range taken) (take k ranges) ≡ false → length ranges ≤ k → false ≡ list_any (λ range. any_meets range taken) ranges
-met_never taken ranges k none over = sym none ∙ ap (list_any (λ range. any_meets range taken)) (take_all k ranges over)
+pub met_never : (taken ranges : List Range) (k : ℕ) → list_any (λ range. any_overlap range taken) (take k ranges) ≡ false → length ranges ≤ k → false ≡ list_any (λ range. any_overlap range taken) ranges
+met_never taken ranges k none over = sym none ∙ ap (list_any (λ range. any_overlap range taken)) (take_all k ranges over)
 
 -- ranges that are taken one after another
 pub taken_next : (old new ranges taken : List Range) (k : ℕ) (r : Range) → taken ≡ old ++ take k ranges → k < length ranges → r ≡ get_or ranges k r → new ≡ taken ++ r ∷ [] → new ≡ old ++ take (k + 1) ranges
@@ -75,11 +75,11 @@ joined d l = record { written = d.written ++ l.written; omitted = d.omitted ++ l
 
 -- none of the ranges that one decision takes meets one that another took
 abbrev pub IsFreeOf : Decided → Decided → Type 0
-IsFreeOf d l = list_any (λ range. any_meets range (map range_of d.written)) (map range_of l.written) ≡ false
+IsFreeOf d l = list_any (λ range. any_overlap range (map range_of d.written)) (map range_of l.written) ≡ false
 
-free_push : (d l : Decided) (e : FdeFields) → IsFreeOf d (with_written e l) → IsFreeOf d l × (any_meets (range_of e) (map range_of d.written) ≡ false)
+free_push : (d l : Decided) (e : FdeFields) → IsFreeOf d (with_written e l) → IsFreeOf d l × (any_overlap (range_of e) (map range_of d.written) ≡ false)
 free_push d l e free =
-    let test : Range → Bool = λ range. any_meets range (map range_of d.written) in
+    let test : Range → Bool = λ range. any_overlap range (map range_of d.written) in
     let parts = or_parts (list_any test (map range_of l.written)) (list_any test (range_of e ∷ []))
     (sym (ap (list_any test) (map-append range_of l.written (e ∷ [])) ∙ list_any-append test (map range_of l.written) (range_of e ∷ [])) ∙ free) in
     (parts.0, (or_parts (test (range_of e)) false parts.1).0)
@@ -107,14 +107,14 @@ reason_by None None false t o is free = is
 reason_by None None true false None is free = let no : ◌≡◌ {A = Bool} true false = free refl in cc
 reason_by None None true false (Some why) is free = cc
 
-same_reason : (code : List Range) (d l : Decided) (e : FdeFields) (o : Option Reason) → reason_behind code l.written e ≡ o → (o ≡ None → any_meets (range_of e) (map range_of d.written) ≡ false) → reason_behind code (d.written ++ l.written) e ≡ o
-unfolding reason_behind reason_among any_meets
+same_reason : (code : List Range) (d l : Decided) (e : FdeFields) (o : Option Reason) → reason_behind code l.written e ≡ o → (o ≡ None → any_overlap (range_of e) (map range_of d.written) ≡ false) → reason_behind code (d.written ++ l.written) e ≡ o
+unfolding reason_behind reason_among any_overlap
 same_reason code d l e o is free =
     ap (λ t. option_or (rows_reason e) (option_or (unless (is_code code e) reason.Outside) (unless (not t) reason.Overlap)))
-    (ap (list_any (meet (range_of e))) (map-append range_of d.written l.written) ∙ list_any-append (meet (range_of e)) (map range_of d.written) (map range_of l.written))
-    ∙ reason_by (rows_reason e) (unless (is_code code e) reason.Outside) (any_meets (range_of e) (map range_of d.written)) (any_meets (range_of e) (map range_of l.written)) o is free
+    (ap (list_any (overlap (range_of e))) (map-append range_of d.written l.written) ∙ list_any-append (overlap (range_of e)) (map range_of d.written) (map range_of l.written))
+    ∙ reason_by (rows_reason e) (unless (is_code code e) reason.Outside) (any_overlap (range_of e) (map range_of d.written)) (any_overlap (range_of e) (map range_of l.written)) o is free
 
-free_good : (d l : Decided) (entry : Entry) (e : FdeFields) (o : Option Reason) → entry.body ≡ Good e → IsFreeOf d (with_decision entry o l) → o ≡ None → any_meets (range_of e) (map range_of d.written) ≡ false
+free_good : (d l : Decided) (entry : Entry) (e : FdeFields) (o : Option Reason) → entry.body ≡ Good e → IsFreeOf d (with_decision entry o l) → o ≡ None → any_overlap (range_of e) (map range_of d.written) ≡ false
 free_good d l entry e None body free none =
     let P : Body → Type 0 = λ b. IsFreeOf d (with_fields b l) in
     (free_push d l e (subst P body free)).1
@@ -147,11 +147,11 @@ none_joined : (d : Decided) → joined d none_decided ≡ d
 none_joined d = ap (λ es. record { written = es; omitted = d.omitted ++ [] }) (append-nil d.written) ∙ ap (λ os. record { written = d.written; omitted = os }) (append-nil d.omitted)
 
 -- what was decided as if nothing were taken is decided after the others too
-pub part_joined : (base : ℕ) (code : List Range) (entries : List Entry) (p part r : Progress) → list_any (λ range. any_meets range p.taken) part.taken ≡ false → Shows base part (with_entries code entries none_decided) →
+pub part_joined : (base : ℕ) (code : List Range) (entries : List Entry) (p part r : Progress) → list_any (λ range. any_overlap range p.taken) part.taken ≡ false → Shows base part (with_entries code entries none_decided) →
     text_bytes r.text ≡ text_bytes p.text ++ text_bytes part.text → r.omitted.items ≡ p.omitted.items ++ part.omitted.items → r.taken ≡ p.taken ++ part.taken → (d : Decided) → Shows base p d → Shows base r (with_entries code entries d)
 part_joined base code entries p part r free made text omitted taken d so =
     let m : Decided = with_entries code entries none_decided in
-    let apart : IsFreeOf d m = ap (λ rs. list_any (λ range. any_meets range rs) (map range_of m.written)) (sym so.taken) ∙ ap (list_any (λ range. any_meets range p.taken)) (sym made.taken) ∙ free in
+    let apart : IsFreeOf d m = ap (λ rs. list_any (λ range. any_overlap range rs) (map range_of m.written)) (sym so.taken) ∙ ap (list_any (λ range. any_overlap range p.taken)) (sym made.taken) ∙ free in
     let P : Decided → Type 0 = λ x. Shows base r x in
     subst P (sym (ap (with_entries code entries) (sym (none_joined d)) ∙ joined_entries code entries d none_decided apart))
     (record {
@@ -162,14 +162,14 @@ part_joined base code entries p part r free made text omitted taken d so =
     })
 
 -- a range of the other is free of those that are taken, and of those before it
-pub part_apart : (taken ranges : List Range) → list_any (λ range. any_meets range taken) ranges ≡ false → ((k : ℕ) (d : Range) → k < length ranges → any_meets (get_or ranges k d) (take k ranges) ≡ false) → (k : ℕ) (d : Range) → k < length ranges → any_meets (get_or ranges k d) (taken ++ take k ranges) ≡ false
-unfolding any_meets
+pub part_apart : (taken ranges : List Range) → list_any (λ range. any_overlap range taken) ranges ≡ false → ((k : ℕ) (d : Range) → k < length ranges → any_overlap (get_or ranges k d) (take k ranges) ≡ false) → (k : ℕ) (d : Range) → k < length ranges → any_overlap (get_or ranges k d) (taken ++ take k ranges) ≡ false
+unfolding any_overlap
 part_apart taken ranges free apart k d below =
-    list_any-append (meet (get_or ranges k d)) taken (take k ranges)
-    ∙ ap (λ t. t || list_any (meet (get_or ranges k d)) (take k ranges)) (each ranges k free below)
+    list_any-append (overlap (get_or ranges k d)) taken (take k ranges)
+    ∙ ap (λ t. t || list_any (overlap (get_or ranges k d)) (take k ranges)) (each ranges k free below)
     ∙ apart k d below
   where
-    each : (rs : List Range) (k : ℕ) → list_any (λ range. list_any (meet range) taken) rs ≡ false → k < length rs → list_any (meet (get_or rs k d)) taken ≡ false
+    each : (rs : List Range) (k : ℕ) → list_any (λ range. list_any (overlap range) taken) rs ≡ false → k < length rs → list_any (overlap (get_or rs k d)) taken ≡ false
     each [] k none less = absurd (omega (arith, less))
-    each (x ∷ rs) zero none less = (or_parts (list_any (meet x) taken) (list_any (λ range. list_any (meet range) taken) rs) none).0
-    each (x ∷ rs) (suc k) none less = each rs k (or_parts (list_any (meet x) taken) (list_any (λ range. list_any (meet range) taken) rs) none).1 (omega (arith, less))
+    each (x ∷ rs) zero none less = (or_parts (list_any (overlap x) taken) (list_any (λ range. list_any (overlap range) taken) rs) none).0
+    each (x ∷ rs) (suc k) none less = each rs k (or_parts (list_any (overlap x) taken) (list_any (λ range. list_any (overlap range) taken) rs) none).1 (omega (arith, less))

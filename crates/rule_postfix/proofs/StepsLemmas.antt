@@ -24,7 +24,7 @@ use Rattle.rule_postfix.specs.FrameLines.{change}
 use Rattle.rule_postfix.specs.internal.Writing.{Open, opened, closed, with_changes, with_row, with_rows, lines_of}
 use Rattle.rule_postfix.specs.internal.Spelling.{IsSpelled, lacks_rule}
 use Rattle.rule_postfix.proofs.WriterLemmas.{starts, aboves}
-use Rattle.rule_postfix.proofs.OverlapLemmas.{or_assoc_by}
+use Rattle.range_union.proofs.RangeLemmas.{or_assoc_by}
 use Rattle.rule_postfix.proofs.SpellingLemmas.{canon_append, more}
 
 canon_more : (line : SymLine) (lines : List SymLine) → canon_text (line ∷ lines) ≡ canon line ++ canon_text lines

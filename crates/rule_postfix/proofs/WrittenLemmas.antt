@@ -14,7 +14,7 @@ use Rattle.frame_rows.specs.Rows.{rows_fault, instruction_fault}
 use Rattle.sym_records.specs.declared.place.Place.TheVariants.{Inside}
 use Rattle.sym_records.specs.Validity.{first_bad_from}
 use Rattle.sym_records.proofs.JoiningLemmas.{join_behind}
-use Rattle.rule_postfix.specs.Overlaps.{any_meets}
+use Rattle.range_union.specs.Ranges.{any_overlap}
 use Rattle.rule_postfix.specs.Written.{Decided, range_of, has_range, rows_reason, reason_among, reason_behind, is_code, body_reason, reason_of, with_fields, with_decision, with_entry, with_entries, decided_behind, decided_of, decided, written, entry_lines, written_lines}
 use Rattle.rule_postfix.specs.internal.Deciding.{none_decided}
 use Rattle.rule_postfix.proofs.DecidedLemmas.{IsFree, is_free, or_left}
@@ -42,7 +42,7 @@ free_written : (code taken : List Range) (e : FdeFields) → reason_among code t
 unfolding reason_among rows_reason
 free_written code taken e none =
     let free : IsFree code taken e = is_free code taken e none in
-    let rows : cond (has_range e) (rows_fault e) (instruction_fault e) ≡ None = or_left (cond (has_range e) (rows_fault e) (instruction_fault e)) (option_or (unless (is_code code e) reason.Outside) (unless (not (any_meets (range_of e) taken)) reason.Overlap)) none in
+    let rows : cond (has_range e) (rows_fault e) (instruction_fault e) ≡ None = or_left (cond (has_range e) (rows_fault e) (instruction_fault e)) (option_or (unless (is_code code e) reason.Outside) (unless (not (any_overlap (range_of e) taken)) reason.Overlap)) none in
     record { rows = sym (ap (λ t. cond t (rows_fault e) (instruction_fault e)) (has_range_of e free.some free.fits)) ∙ rows; some = free.some; fits = free.fits }
 
 good_written : (code : List Range) (entry : Entry) (e : FdeFields) (o : Option Reason) (d : Decided) → entry.body ≡ Good e → reason_behind code d.written e ≡ o → AreWritten d.written → AreWritten (with_decision entry o d).written

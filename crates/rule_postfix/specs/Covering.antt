@@ -4,7 +4,7 @@ use Rattle.std.specs.List.{list_all}
 use Rattle.sym_records.specs.declared.line.SymLine.{SymLine}
 use Rattle.sym_meaning.specs.Inits.{inits_at, is_frameless, AreNested}
 use Rattle.frame_entries.specs.FdeFields.{FdeFields}
-use Rattle.rule_postfix.specs.Overlaps.{any_meets}
+use Rattle.range_union.specs.Ranges.{any_overlap}
 use Rattle.rule_postfix.specs.Written.{range_of, written_lines}
 
 -- the range of an entry holds an address
@@ -18,7 +18,7 @@ entries_at entries a = count_by (holds_address a) entries
 -- no two entries have an address in common
 abbrev pub AreDisjoint : List FdeFields → Type 0
 AreDisjoint [] = Unit {0}
-AreDisjoint (e ∷ entries) = (any_meets (range_of e) (map range_of entries) ≡ false) × AreDisjoint entries
+AreDisjoint (e ∷ entries) = (any_overlap (range_of e) (map range_of entries) ≡ false) × AreDisjoint entries
 
 -- what records say of frames: after records that say nothing of them stand those of the written entries, one entry after another; no two of
 -- these have an address in common; as many INITs cover an address as written entries hold it, so one or none; and the changes of

@@ -2,7 +2,6 @@ pub mod RowParts
 pub mod RowRules
 pub mod LongRules
 pub mod FrameLines
-pub mod Overlaps
 pub mod Written
 pub mod Covering
 pub mod Decision

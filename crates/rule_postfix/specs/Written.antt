@@ -16,7 +16,7 @@ use Rattle.frame_rows.specs.Rows.{row_at, rows_fault, instruction_fault}
 use Rattle.sym_records.specs.declared.line.SymLine.{SymLine}
 use Rattle.rule_postfix.specs.declared.omission.Omission.{Omission}
 use Rattle.rule_postfix.specs.FrameLines.{frame_lines}
-use Rattle.rule_postfix.specs.Overlaps.{any_meets}
+use Rattle.range_union.specs.Ranges.{any_overlap}
 
 -- the range of an entry; it is one of addresses where it is not empty and ends below 2^64
 abbrev pub range_of : FdeFields → Range
@@ -38,7 +38,7 @@ unfoldable pub reason_among : List Range → List Range → FdeFields → Option
 reason_among code taken e =
     option_or (rows_reason e)
     (option_or (unless (is_code code e) reason.Outside)
-    (unless (not (any_meets (range_of e) taken)) reason.Overlap))
+    (unless (not (any_overlap (range_of e) taken)) reason.Overlap))
 
 -- the ranges of the entries that are written before it are taken
 unfoldable pub reason_behind : List Range → List FdeFields → FdeFields → Option Reason

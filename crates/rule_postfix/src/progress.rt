@@ -8,7 +8,7 @@ ghost use Rattle.frame_entries.specs.FdeFields.{FdeFields};
 ghost use Rattle.frame_entries.specs.declared.description.Body.TheVariants.{Good};
 ghost use Rattle.frame_rows.specs.Rows.{rows_fault};
 ghost use Rattle.frame_rows.specs.CieLeft.{cie_left};
-ghost use Rattle.rule_postfix.specs.Overlaps.{any_meets};
+ghost use Rattle.range_union.specs.Ranges.{any_overlap};
 ghost use Rattle.rule_postfix.specs.Written.{Decided, has_range, range_of, reason_among, left_out, with_written, with_entry, with_entries};
 ghost use Rattle.rule_postfix.specs.internal.Keeping.{KeptFor, StaysKept};
 ghost use Rattle.rule_postfix.specs.internal.Deciding.{LiesAbove, EndsAt, IfRefused, Shows, none_decided};
@@ -136,7 +136,7 @@ fn write(
     requires some { 0 < fde.now.size }
     requires fits { fde.now.start + fde.now.size < 2 ^ 64 }
     requires based { base ≤ fde.now.start }
-    requires apart { any_meets (range_of fde.now) progress.old.taken ≡ false }
+    requires apart { any_overlap (range_of fde.now) progress.old.taken ≡ false }
     ensures shown { MatchStop result
         (λ _. (d : Decided) → Shows base progress.old d → Shows base progress.new (with_written fde.now d))
         (λ _. (b : ℕ) (d : Decided) → Shows b progress.old d → Shows b progress.new d)

@@ -4,7 +4,7 @@ ghost use Rattle.std.specs.List.{list_any};
 ghost use Rattle.sym_edges.specs.Addresses.{Range};
 ghost use Rattle.unit_workers.specs.Shares.{share};
 ghost use Rattle.unit_workers.specs.Working.{AreInOrder};
-ghost use Rattle.rule_postfix.specs.Overlaps.{any_meets};
+ghost use Rattle.range_union.specs.Ranges.{any_overlap};
 ghost use Rattle.rule_postfix.specs.Written.{Decided, with_entries};
 ghost use Rattle.rule_postfix.specs.internal.Deciding.{LiesAbove, Shows, none_decided};
 
@@ -137,7 +137,7 @@ impl<'s, 'a> UnitJob for Translator<'s, 'a> {
 /// Whether one of the ranges meets one that is taken.
 #[tactic(auto, using(crate::proofs::ShareLemmas::met_here, crate::proofs::ShareLemmas::met_never))]
 fn meets_any(taken: &WrittenRanges, spans: &[Span]) -> bool
-    ensures { result ≡ list_any (λ range. any_meets range taken.now) spans.now }
+    ensures { result ≡ list_any (λ range. any_overlap range taken.now) spans.now }
 {
     'spans: for k in 0..spans.len() {
         let span = spans[k];
@@ -150,7 +150,7 @@ fn meets_any(taken: &WrittenRanges, spans: &[Span]) -> bool
 
 /// The ranges are taken too. None meets one that is taken, or one before it.
 fn take_all(alloc: Global, taken: &mut WrittenRanges, spans: &[Span]) -> Result<(), OutOfMemory>
-    requires { (k : ℕ) (d : Range) → k < length spans.now → any_meets (slice_index_or spans.now k d) (taken.old ++ take k spans.now) ≡ false }
+    requires { (k : ℕ) (d : Range) → k < length spans.now → any_overlap (slice_index_or spans.now k d) (taken.old ++ take k spans.now) ≡ false }
     ensures { OnOk result (taken.new ≡ taken.old ++ spans.now) }
 {
     'spans: for k in 0..spans.len() {

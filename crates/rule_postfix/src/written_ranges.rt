@@ -1,20 +1,20 @@
 //! The ranges of the entries that are written.
 ghost use Rattle.std.specs.Prelude.{◌≡◌, ℕ, ◌<◌, ◌∷◌, [], ◌++◌, false, length, take, slice_index_or, Some, None, MatchOption, IfOk, OnOk};
 ghost use Rattle.sym_edges.specs.Addresses.{Range};
-ghost use Rattle.rule_postfix.specs.Overlaps.{any_meets, last_end_below};
-ghost use Rattle.rule_postfix.specs.internal.Taken.{AreRising, IsMap};
+ghost use Rattle.range_union.specs.Ranges.{any_overlap, range_to};
+ghost use Rattle.rule_postfix.specs.internal.Taken.{AreRising, AreAlike};
 
+use range_union::RangeUnion;
 use std::alloc::Global;
-use std::collections::BTreeMap;
 use std::marker::Model;
 use sym_edges::{OutOfMemory, Span};
 
 /// Ranges of addresses of which no two meet, in the order in which they were put, and an address at or above all their ends. From the first
-/// one on that starts below the end of another, a map has them by their starts, each with its end.
+/// one on that starts below the end of another, their union is held too.
 #[derive(Drop)]
 pub struct WrittenRanges {
     spans: Vec<Span>,
-    ends: Option<BTreeMap<u64, u64>>,
+    united: Option<RangeUnion>,
     top: u64,
 }
 
@@ -27,36 +27,14 @@ impl Model for WrittenRanges {
 
     ghost view = { λ t. t.spans.items };
 
-    ghost invariant = { λ t. AreTaken t.spans.items t.ends t.top };
-}
-
-/// The end of the last range that starts below an address.
-fn last_end(ends: &BTreeMap<u64, u64>, below: u64) -> Option<u64>
-    ensures { result ≡ last_end_below below ends.now.entries }
-{
-    match ends.range(..below).next_back() {
-        Some((_, end)) => Some(*end),
-        None => None,
-    }
-}
-
-/// Whether a range meets one of those in a map: the last that starts below its end decides.
-#[tactic(auto, using(crate::proofs::OverlapLemmas::meets_none, crate::proofs::OverlapLemmas::meets_last))]
-fn meets_in_map(ends: &BTreeMap<u64, u64>, spans: &[Span], start: u64, end: u64) -> bool
-    requires { IsMap spans.now ends.now.entries }
-    ensures { result ≡ any_meets (record { start = start; end = end }) spans.now }
-{
-    match last_end(ends, end) {
-        Some(last) => start < last,
-        None => false,
-    }
+    ghost invariant = { λ t. AreTaken t.spans.items t.united t.top };
 }
 
 /// Whether a range that is not empty meets one of a list that rises: the first that ends above its start decides.
 fn meets_rising(spans: &[Span], start: u64, end: u64) -> bool
     requires rising { AreRising 0 spans.now }
     requires some { start < end }
-    ensures { result ≡ any_meets (record { start = start; end = end }) spans.now }
+    ensures { result ≡ any_overlap (range_to start end) spans.now }
 {
     let first = spans.partition_point(|span| span.end() <= start);
     match spans.get(first) {
@@ -65,34 +43,34 @@ fn meets_rising(spans: &[Span], start: u64, end: u64) -> bool
     }
 }
 
-/// A map of ranges of which none meets one before it.
-fn map_of(alloc: Global, spans: &[Span]) -> Result<BTreeMap<u64, u64>, OutOfMemory>
-    requires { (k : ℕ) (d : Range) → k < length spans.now → any_meets (slice_index_or spans.now k d) (take k spans.now) ≡ false }
-    ensures { IfOk result (λ ends. IsMap spans.now ends.entries) }
+/// The union of ranges of which none meets one before it.
+fn union_of(alloc: Global, spans: &[Span]) -> Result<RangeUnion, OutOfMemory>
+    requires { (k : ℕ) (d : Range) → k < length spans.now → any_overlap (slice_index_or spans.now k d) (take k spans.now) ≡ false }
+    ensures { IfOk result (λ united. AreAlike spans.now united) }
 {
-    let mut ends = BTreeMap::new(alloc);
+    let mut united = RangeUnion::new(alloc);
     'spans: for k in 0..spans.len() {
         let span = spans[k];
-        ends.insert(span.start(), span.end())?;
+        united.add(u128::from(span.start()), u128::from(span.end()))?;
     }
-    Ok(ends)
+    Ok(united)
 }
 
-/// A map of such ranges, and of one more that meets none of them.
-fn map_with(
+/// The union of such ranges, and of one more that meets none of them.
+fn union_with(
     alloc: Global,
     spans: &[Span],
     start: u64,
     end: u64,
-) -> Result<BTreeMap<u64, u64>, OutOfMemory>
-    requires old { (k : ℕ) (d : Range) → k < length spans.now → any_meets (slice_index_or spans.now k d) (take k spans.now) ≡ false }
+) -> Result<RangeUnion, OutOfMemory>
+    requires old { (k : ℕ) (d : Range) → k < length spans.now → any_overlap (slice_index_or spans.now k d) (take k spans.now) ≡ false }
     requires some { start < end }
-    requires apart { any_meets (record { start = start; end = end }) spans.now ≡ false }
-    ensures { IfOk result (λ ends. IsMap (spans.now ++ record { start = start; end = end } ∷ []) ends.entries) }
+    requires apart { any_overlap (range_to start end) spans.now ≡ false }
+    ensures { IfOk result (λ united. AreAlike (spans.now ++ range_to start end ∷ []) united) }
 {
-    let mut ends = map_of(alloc, spans)?;
-    ends.insert(start, end)?;
-    Ok(ends)
+    let mut united = union_of(alloc, spans)?;
+    united.add(u128::from(start), u128::from(end))?;
+    Ok(united)
 }
 
 impl WrittenRanges {
@@ -101,7 +79,7 @@ impl WrittenRanges {
     {
         WrittenRanges {
             spans: Vec::new(alloc),
-            ends: None,
+            united: None,
             top: 0,
         }
     }
@@ -109,7 +87,7 @@ impl WrittenRanges {
     /// The ranges in the order in which they were put: none meets one before it.
     pub fn as_slice(&self) -> &[Span]
         ensures value { result.now ≡ self.now }
-        ensures apart { (k : ℕ) (d : Range) → k < length self.now → any_meets (slice_index_or self.now k d) (take k self.now) ≡ false }
+        ensures apart { (k : ℕ) (d : Range) → k < length self.now → any_overlap (slice_index_or self.now k d) (take k self.now) ≡ false }
     {
         self.spans.as_slice()
     }
@@ -118,13 +96,13 @@ impl WrittenRanges {
     #[tactic(auto, using(crate::proofs::OverlapLemmas::none_reaches))]
     pub fn meets(&self, start: u64, end: u64) -> bool
         requires { start < end }
-        ensures { result ≡ any_meets (record { start = start; end = end }) self.now }
+        ensures { result ≡ any_overlap (range_to start end) self.now }
     {
         if self.top <= start {
             return false;
         }
-        match &self.ends {
-            Some(ends) => meets_in_map(ends, self.spans.as_slice(), start, end),
+        match &self.united {
+            Some(united) => united.meets(u128::from(start), u128::from(end)),
             None => meets_rising(self.spans.as_slice(), start, end),
         }
     }
@@ -132,14 +110,14 @@ impl WrittenRanges {
     /// A range more, which is not empty and meets none of them.
     pub fn put(&mut self, alloc: Global, start: u64, end: u64) -> Result<(), OutOfMemory>
         requires some { start < end }
-        requires apart { any_meets (record { start = start; end = end }) self.old ≡ false }
-        ensures { OnOk result (self.new ≡ self.old ++ record { start = start; end = end } ∷ []) }
+        requires apart { any_overlap (range_to start end) self.old ≡ false }
+        ensures { OnOk result (self.new ≡ self.old ++ range_to start end ∷ []) }
     {
         self.spans.reserve(1)?;
-        if let Some(ends) = &mut self.ends {
-            ends.insert(start, end)?;
+        if let Some(united) = &mut self.united {
+            united.add(u128::from(start), u128::from(end))?;
         } else if start < self.top {
-            self.ends = Some(map_with(alloc, self.spans.as_slice(), start, end)?);
+            self.united = Some(union_with(alloc, self.spans.as_slice(), start, end)?);
         }
         self.spans.push_reserved(Span::new(start, end));
         self.top = self.top.max(end);

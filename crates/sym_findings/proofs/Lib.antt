@@ -1,5 +1,4 @@
 pub mod Computing
-pub mod RangeLemmas
 pub mod MeetingLemmas
 pub mod NumberLemmas
 pub mod JudgedLemmas

@@ -7,8 +7,9 @@ use Rattle.std.proofs.lemmas.Bool.Decides.{nat_tests}
 use Rattle.sym_records.specs.declared.line.Extent.{Extent}
 use Rattle.sym_edges.specs.Addresses.{Range}
 use Rattle.sym_meaning.specs.Findings.{run_of, meet}
-use Rattle.sym_findings.specs.internal.Ranges.{overlap, any_overlap, range_to, EndBy, IsTail, is_met}
-use Rattle.sym_findings.proofs.RangeLemmas.{or_assoc_by}
+use Rattle.range_union.specs.Ranges.{overlap, any_overlap, range_to}
+use Rattle.sym_findings.specs.internal.Ranges.{EndBy, IsTail, is_met}
+use Rattle.range_union.proofs.RangeLemmas.{or_assoc_by}
 
 -- before the first record
 pub tail_none : IsTail 0 0 0

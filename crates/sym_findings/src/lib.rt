@@ -16,7 +16,6 @@ mod kind;
 // What the records before one say.
 mod met_ranges;
 mod numbers;
-mod ranges;
 mod records_before;
 
 // The findings of one record, and of all.

@@ -2,9 +2,10 @@
 ghost use Rattle.std.specs.Prelude.{◌≡◌, ℕ, ◌<◌, ◌&&◌, ◌||◌, ◌∷◌, nat_lt, false, IfOk, OnOk};
 ghost use Rattle.sym_records.specs.declared.line.Extent.{Extent};
 ghost use Rattle.sym_meaning.specs.Findings.{run_of, meet};
-ghost use Rattle.sym_findings.specs.internal.Ranges.{overlap, any_overlap, range_to, is_met};
+ghost use Rattle.range_union.specs.Ranges.{overlap, any_overlap, range_to};
+ghost use Rattle.sym_findings.specs.internal.Ranges.{is_met};
 
-use crate::ranges::RangeUnion;
+use range_union::RangeUnion;
 use std::alloc::Global;
 use std::marker::Model;
 use sym_edges::OutOfMemory;
@@ -22,7 +23,8 @@ pub struct MetRanges {
 impl Model for MetRanges {
     ghost use Rattle.std.specs.Prelude.{List, ◌∷◌};
     ghost use Rattle.sym_edges.specs.Addresses.{Range};
-    ghost use Rattle.sym_findings.specs.internal.Ranges.{range_to, EndBy, IsTail};
+    ghost use Rattle.range_union.specs.Ranges.{range_to};
+    ghost use Rattle.sym_findings.specs.internal.Ranges.{EndBy, IsTail};
 
     ghost Value = { List Range };
 
@@ -32,7 +34,7 @@ impl Model for MetRanges {
 }
 
 /// Whether a range that is not empty meets the last one or an earlier one.
-#[tactic(auto, unfolding(crate::specs::internal::Ranges::any_overlap))]
+#[tactic(auto, unfolding(range_union::specs::Ranges::any_overlap))]
 fn overlaps_any(
     earlier: &RangeUnion,
     last_start: u128,

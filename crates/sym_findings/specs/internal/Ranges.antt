@@ -1,46 +1,8 @@
--- Ranges of addresses by their starts, of which no two meet; ends are whole numbers.
-use Rattle.std.specs.Prelude.{◌≡◌, ℕ, ◌+◌, ◌<◌, ◌≤◌, ◌&&◌, ◌||◌, Bool, true, false, nat_lt, if◌then◌else◌, List, [], ◌∷◌, length, map, Option, None, Some}
-use Rattle.std.specs.List.{list_any}
+-- The addresses of records, held as ranges.
+use Rattle.std.specs.Prelude.{◌≡◌, ℕ, ◌+◌, ◌<◌, ◌≤◌, ◌&&◌, Bool, false, nat_lt, List}
 use Rattle.sym_records.specs.declared.line.Extent.{Extent}
 use Rattle.sym_edges.specs.Addresses.{Range}
-
--- two ranges, none of them empty, have an address in common
-abbrev pub overlap : Range → Range → Bool
-overlap a b = nat_lt a.start b.end && nat_lt b.start a.end
-
--- some range of the list overlaps a range
-unfoldable pub any_overlap : Range → List Range → Bool
-any_overlap range ranges = list_any (overlap range) ranges
-
--- the addresses from a start up to an end
-abbrev pub range_to : ℕ → ℕ → Range
-range_to start end = record { start = start; end = end }
-
--- ranges by their starts, each with its end
-abbrev pub range_by : ℕ × ℕ → Range
-range_by entry = range_to entry.0 entry.1
-
-unfoldable pub ranges_by : List (ℕ × ℕ) → List Range
-ranges_by entries = map range_by entries
-
--- the first range, if there is one, starts at or above an address
-abbrev pub StartsFrom : ℕ → List (ℕ × ℕ) → Type 0
-StartsFrom a [] = Unit {0}
-StartsFrom a (entry ∷ entries) = a ≤ entry.0
-
--- no range is empty, and each ends at or below the start of the next
-abbrev pub AreApart : List (ℕ × ℕ) → Type 0
-AreApart [] = Unit {0}
-AreApart (entry ∷ entries) = (entry.0 < entry.1) × StartsFrom entry.1 entries × AreApart entries
-
--- the last range that starts below an address
-abbrev pub or_entry : Option (ℕ × ℕ) → Option (ℕ × ℕ) → Option (ℕ × ℕ)
-or_entry None other = other
-or_entry (Some entry) other = Some entry
-
-unfoldable pub last_below : ℕ → List (ℕ × ℕ) → Option (ℕ × ℕ)
-last_below below [] = None
-last_below below (entry ∷ entries) = or_entry (last_below below entries) (if nat_lt entry.0 below then Some entry else None)
+use Rattle.range_union.specs.Ranges.{any_overlap, range_to}
 
 -- no range overlaps one that begins at or above an address
 pub record EndBy (top : ℕ) (ranges : List Range) : Type 0 where
@@ -55,10 +17,3 @@ pub record IsTail (start end top : ℕ) : Type 0 where
 -- the addresses of a record, which may be empty, meet a range of a list
 unfoldable pub is_met : List Range → Extent → Bool
 is_met ranges e = nat_lt 0 e.size && any_overlap (range_to e.address (e.address + e.size)) ranges
-
--- a range that overlaps one from a start up to an end is taken out of a list
-pub record IsTaken (start end low high : ℕ) (old new : List (ℕ × ℕ)) : Type 0 where
-  pub some : low < high
-  pub overlaps : overlap (range_to start end) (range_to low high) ≡ true
-  pub rest : (q : Range) → any_overlap q (ranges_by old) ≡ (any_overlap q (ranges_by new) || overlap q (range_to low high))
-  pub fewer : length new < length old

@@ -1,7 +1,8 @@
 use Rattle.std.proofs.Common.{◌≡◌, ◌+◌, ◌||◌, false, ◌∷◌, ◌∙◌, ap}
 use Rattle.sym_records.specs.declared.line.Extent.{Extent}
 use Rattle.sym_meaning.specs.Findings.{run_of, meet}
-use Rattle.sym_findings.specs.internal.Ranges.{range_to, is_met}
+use Rattle.range_union.specs.Ranges.{range_to}
+use Rattle.sym_findings.specs.internal.Ranges.{is_met}
 use Rattle.sym_findings.proofs.MeetingLemmas.{at_run, empty_met, below_met, below_more, above_met, grown_more, joined_more}
 use Rattle.sym_findings.proofs.met_ranges.MetRanges.put.Goals as goal
 

@@ -1,6 +1,6 @@
 use Rattle.std.proofs.Common.{◌∙◌}
-use Rattle.sym_findings.proofs.RangeLemmas.{grown_apart, grown_more}
-use Rattle.sym_findings.proofs.ranges.put_range.Goals as goal
+use Rattle.range_union.proofs.RangeLemmas.{grown_apart, grown_more}
+use Rattle.range_union.proofs.ranges.put_range.Goals as goal
 
 pub returns-clause-apart : goal.returns-clause-apart
 returns-clause-apart c = grown_apart c.met.first c.met.last c.args.start c.args.end c.args.ends.now.entries c.met.ends.entries c.take_met.new.ends.entries c.insert.new.self.entries c.met.invariant c.in_default.ensures.taken.0 c.in_default.ensures.taken.1 c.in_ok-insert.ensures.entries

@@ -1,6 +1,8 @@
 //! Addresses as ranges of which no two meet.
-ghost use Rattle.std.specs.Prelude.{◌≡◌, ℕ, ◌<◌, ◌||◌, false, [], MatchOption, OnOk};
-ghost use Rattle.sym_findings.specs.internal.Ranges.{overlap, any_overlap, range_to, ranges_by, last_below, AreApart, IsTaken};
+ghost use Rattle.std.specs.Prelude.{◌≡◌, ℕ, ◌<◌, ◌||◌, false, [], MatchOption, OnOk, OnErr};
+ghost use Rattle.sym_edges.specs.Addresses.{Range};
+ghost use Rattle.range_union.specs.Ranges.{overlap, any_overlap, range_to};
+ghost use Rattle.range_union.specs.internal.Entries.{ranges_by, last_below, AreApart, IsTaken};
 
 use std::alloc::Global;
 use std::collections::BTreeMap;
@@ -16,7 +18,7 @@ pub struct RangeUnion {
 impl Model for RangeUnion {
     ghost use Rattle.std.specs.Prelude.{List};
     ghost use Rattle.sym_edges.specs.Addresses.{Range};
-    ghost use Rattle.sym_findings.specs.internal.Ranges.{ranges_by, AreApart};
+    ghost use Rattle.range_union.specs.internal.Entries.{ranges_by, AreApart};
 
     ghost Value = { List Range };
 
@@ -64,6 +66,29 @@ impl RangeUnion {
     {
         put_range(&mut self.ends, start, end)
     }
+
+    /// A range more, which is not empty and meets none of them.
+    pub fn add(&mut self, start: u128, end: u128) -> Result<(), OutOfMemory>
+        requires some { start < end }
+        requires apart { any_overlap (range_to start end) self.old ≡ false }
+        ensures more { OnOk result ((q : Range) → any_overlap q self.new ≡ (any_overlap q self.old || overlap q (range_to start end))) }
+        ensures kept { OnErr result (self.new ≡ self.old) }
+    {
+        add_range(&mut self.ends, start, end)
+    }
+}
+
+#[tactic(auto, using(crate::proofs::RangeLemmas::put_apart, crate::proofs::RangeLemmas::put_overlaps))]
+fn add_range(ends: &mut BTreeMap<u128, u128>, start: u128, end: u128) -> Result<(), OutOfMemory>
+    requires all { AreApart ends.old.entries }
+    requires some { start < end }
+    requires apart { any_overlap (range_to start end) (ranges_by ends.old.entries) ≡ false }
+    ensures all { AreApart ends.new.entries }
+    ensures more { OnOk result ((q : Range) → any_overlap q (ranges_by ends.new.entries) ≡ (any_overlap q (ranges_by ends.old.entries) || overlap q (range_to start end))) }
+    ensures kept { OnErr result (ends.new.entries ≡ ends.old.entries) }
+{
+    ends.insert(start, end)?;
+    Ok(())
 }
 
 /// Takes out the last range that meets one that is not empty, where one does.

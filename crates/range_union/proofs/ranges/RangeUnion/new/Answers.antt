@@ -1,6 +1,6 @@
 use Rattle.std.proofs.Common.{ap}
-use Rattle.sym_findings.specs.internal.Ranges.{ranges_by}
-use Rattle.sym_findings.proofs.ranges.RangeUnion.new.Goals as goal
+use Rattle.range_union.specs.internal.Entries.{ranges_by}
+use Rattle.range_union.proofs.ranges.RangeUnion.new.Goals as goal
 
 pub returns : goal.returns
 unfolding ranges_by

@@ -1,6 +1,6 @@
 use Rattle.std.proofs.Common.{length}
-use Rattle.sym_findings.proofs.RangeLemmas.{Grows}
-use Rattle.sym_findings.proofs.ranges.put_range.Given as goal
+use Rattle.range_union.proofs.RangeLemmas.{Grows}
+use Rattle.range_union.proofs.ranges.put_range.Given as goal
 
 abbrev pub invariant-met : goal.invariant-met
 invariant-met l = Grows l.first l.last l.ends.entries l.start l.end l.fn.ends.entries

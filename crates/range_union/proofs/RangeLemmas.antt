@@ -11,7 +11,8 @@ use Rattle.std.proofs.Math.Bool.{or_comm}
 use Rattle.std.proofs.lemmas.Bool.{cases_lt, cases_order, lt-ltb, le-ltb, ltb-true, ltb-false, ne_eqb, or_parts, or_from, and_right, and_cases, and_parts}
 use Rattle.std.proofs.lemmas.Bool.Decides.{nat_tests}
 use Rattle.sym_edges.specs.Addresses.{Range}
-use Rattle.sym_findings.specs.internal.Ranges.{overlap, any_overlap, range_to, range_by, ranges_by, StartsFrom, AreApart, or_entry, last_below, IsTaken}
+use Rattle.range_union.specs.Ranges.{overlap, any_overlap, range_to}
+use Rattle.range_union.specs.internal.Entries.{range_by, ranges_by, StartsFrom, AreApart, or_entry, last_below, IsTaken}
 
 or_none : (o : Option (ℕ × ℕ)) → or_entry o None ≡ o
 or_none None = refl

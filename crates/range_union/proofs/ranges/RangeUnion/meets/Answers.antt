@@ -1,7 +1,7 @@
 use Rattle.std.proofs.Common.{◌∙◌, ap, sym}
-use Rattle.sym_findings.specs.internal.Ranges.{any_overlap, range_to}
-use Rattle.sym_findings.proofs.RangeLemmas.{overlaps_last, overlaps_none}
-use Rattle.sym_findings.proofs.ranges.RangeUnion.meets.Goals as goal
+use Rattle.range_union.specs.Ranges.{any_overlap, range_to}
+use Rattle.range_union.proofs.RangeLemmas.{overlaps_last, overlaps_none}
+use Rattle.range_union.proofs.ranges.RangeUnion.meets.Goals as goal
 
 pub returns-in-Some : goal.returns-in-Some
 returns-in-Some c =
