@@ -13,7 +13,7 @@ use Rattle.sym_judge.specs.internal.Aliases.{name_of, AreAliases, AreAliasesOf}
 use Rattle.sym_judge.specs.internal.Blocks.{same_name, same_path, same_origin}
 use Rattle.sym_judge.proofs.SameLemmas.{Tells, never, numbers, bytes_tell, options_tell}
 
-texts_tell : Tells (same_option bytes_eq)
+pub texts_tell : Tells (same_option bytes_eq)
 texts_tell = options_tell bytes_eq bytes_tell
 
 pub alias_joined : (numbered : Numbered) (own lines : List SymLine) (aliases : List Alias) (a : Alias) (same : Bool) → same ≡ same_option bytes_eq (name_of numbered own a.first) (name_of numbered lines a.number) → same ≡ true

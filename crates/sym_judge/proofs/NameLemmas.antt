@@ -92,10 +92,6 @@ by_funcs own other x i j p q r h k e f g =
 pub funcs_differ : (own other : List SymLine) (x i j : ℕ) → func_place own x ≡ Some i → func_place other x ≡ Some j → bytes_eq (func_name_at own i) (func_name_at other j) ≡ false → Some Func ≡ first_in Names own other x
 funcs_differ own other x i j h k e = by_funcs own other x i j false _ _ h k e refl refl
 
-pub chains_differ : (own other : List SymLine) (x i j : ℕ) → func_place own x ≡ Some i → func_place other x ≡ Some j → bytes_eq (func_name_at own i) (func_name_at other j) ≡ true
-    → same_list same_call (map (call_at own) (chain_places own i x)) (map (call_at other) (chain_places other j x)) ≡ false → Some Chain ≡ first_in Names own other x
-chains_differ own other x i j h k e f = by_funcs own other x i j true false _ h k e f refl
-
 pub lines_differ : (own other : List SymLine) (x i j : ℕ) (line : Bool) → func_place own x ≡ Some i → func_place other x ≡ Some j → bytes_eq (func_name_at own i) (func_name_at other j) ≡ true
     → same_list same_call (map (call_at own) (chain_places own i x)) (map (call_at other) (chain_places other j x)) ≡ true → same_option same_line (line_at own (line_place own i x)) (line_at other (line_place other j x)) ≡ line
     → cond line None (Some Line) ≡ first_in Names own other x

@@ -32,7 +32,7 @@ and_both a b p q = ap (λ c. c && b) p ∙ q
 pub numbers : (a b : ℕ) → (a == b) ≡ true → a ≡ b
 numbers a b = (Decides-eqb a b).0
 
-number_self : (a : ℕ) → (a == a) ≡ true
+pub number_self : (a : ℕ) → (a == a) ≡ true
 number_self a = (Decides-eqb a a).1 refl
 
 pub bytes_tell : Tells bytes_eq

@@ -1,12 +1,18 @@
--- Worked files: what the levels of two functions say of their chains, and numbers of one name.
-use Rattle.std.proofs.Common.{◌≡◌, true, false, List, [], ◌++◌, codes, None, Some, Result, Ok, Err, refl}
+-- Worked files: calls under other numbers, the numbers of their chains, and numbers of one name.
+use Rattle.std.proofs.Common.{◌≡◌, true, false, ℕ, List, [], ◌∷◌, ◌++◌, codes, Option, None, Some, Result, Ok, Err, refl}
 use Prim.Native.String.{String}
 use Rattle.sym_records.specs.declared.line.SymLine.{SymLine}
 use Rattle.sym_records.specs.Reading.{reading}
+use Rattle.step_maps.specs.declared.stretch.FirstItem.{FirstItem}
+use Rattle.step_maps.specs.Stepping.{Stepping, held_from}
+use Rattle.sym_lookup.specs.AnswerTexts.{call_at}
 use Rattle.sym_judge.specs.declared.both.Numbered.TheVariants.{Files, Origins}
+use Rattle.sym_judge.specs.declared.names.CallSpot.{CallSpot}
+use Rattle.sym_judge.specs.declared.numbers.Entry.{Entry}
+use Rattle.sym_judge.specs.declared.numbers.Entry.TheVariants.{Call, Joined}
 use Rattle.sym_judge.specs.internal.Aliases.{name_of}
-use Rattle.sym_judge.specs.internal.Chains.{level_told, alike_by, told_within}
 use Rattle.sym_judge.proofs.Computing.{sym_judge_computes}
+use Rattle.sym_judge.specs.internal.Chains.{shown, shown_call, shown_calls, One, Two, calls_of_tree, IsNumberOf, is_full}
 
 abbrev records_in : {F : Type 0} → Result (List SymLine) F → List SymLine
 records_in (Ok records) = records
@@ -22,19 +28,44 @@ own = "FILE 0 a\nINLINE_ORIGIN 0 g\nFUNC 1000 40 0 f\nINLINE 0 7 0 0 1000 20\nIN
 abbrev other : String
 other = "FILE 9 a\nINLINE_ORIGIN 5 g\nFUNC 1000 40 0 f\nINLINE 1 8 9 5 1010 8\nINLINE 0 7 9 5 1000 20\n"
 
-the_same_call : level_told (records own) (records other) (Some 4) (Some 5) ≡ None
+the_same_call : shown (call_at (records own) 4) ≡ shown (call_at (records other) 5)
 unfolding records sym_judge_computes
 the_same_call = refl
 
-another_line : level_told (records own) (records other) (Some 5) (Some 5) ≡ Some 1
+-- by the numbers of the first file
+abbrev call : ℕ → CallSpot
+call line = record { origin = Some 0; spot = record { file = Some 0; line = line } }
+
+named_by_the_first : shown_call (records own) (call 7) ≡ shown (call_at (records other) 5)
 unfolding records sym_judge_computes
-another_line = refl
+named_by_the_first = refl
 
-both_end : level_told (records own) (records other) None None ≡ Some 0
-both_end = refl
+no_origin : shown_call (records own) (record { origin = None; spot = record { file = Some 0; line = 7 } }) ≡ (codes "<name omitted>", (Some (codes "a"), 7))
+unfolding records sym_judge_computes
+no_origin = refl
 
-one_ends : level_told (records own) (records other) (Some 4) None ≡ Some 1
-one_ends = refl
+the_same_chain : calls_of_tree (records own) (Two (One (call 7)) (One (call 8))) ≡ shown_calls (records other) (5 ∷ 4 ∷ [])
+unfolding records sym_judge_computes
+the_same_chain = refl
+
+-- the number 2 stands for the calls of 0 and 1, one in the other
+abbrev entries : List Entry
+entries = Call (call 7) ∷ Call (call 8) ∷ Joined 0 1 ∷ []
+
+of_two : IsNumberOf entries (Two (One (call 7)) (One (call 8))) 2
+of_two = (0, 1, refl, refl, refl)
+
+-- a level with a record from 16 on, below 32
+abbrev level : Stepping (Option FirstItem)
+level = record { stops = 16 ∷ 32 ∷ []; values = Some (record { index = 4; class = 0; shared = false }) ∷ None ∷ [] }
+
+within : is_full (level ∷ level ∷ []) 31 ≡ true
+unfolding held_from
+within = refl
+
+behind : is_full (level ∷ level ∷ []) 32 ≡ false
+unfolding held_from
+behind = refl
 
 one_name : name_of Origins (records own) 0 ≡ name_of Origins (records other) 5
 unfolding records sym_judge_computes
@@ -43,10 +74,3 @@ one_name = refl
 no_name : name_of Files (records own) 9 ≡ None
 unfolding records sym_judge_computes
 no_name = refl
-
--- the first that says something decides: a chain that has ended is not looked at further
-ended : alike_by (Some 0) false ≡ true
-ended = refl
-
-outside : told_within 0x1000 0x101f (Some 1) 0x1020 ≡ None
-outside = refl

@@ -154,6 +154,15 @@ pub(crate) fn no_aliases(alloc: Global) -> Aliases
     }
 }
 
+/// The same numbers.
+pub(crate) fn copied(aliases: &Aliases) -> Result<Aliases, OutOfMemory>
+    ensures { IfOk result (λ copy. (numbered : Numbered) (own other : List SymLine) → AreAliasesOf numbered own other aliases.now → AreAliasesOf numbered own other copy) }
+{
+    let mine = aliases.mine.clone()?;
+    let theirs = aliases.theirs.clone()?;
+    Ok(Aliases { mine, theirs })
+}
+
 /// Those of two files.
 pub(crate) fn aliases_of<'f>(
     alloc: Global,
@@ -172,7 +181,7 @@ pub(crate) fn aliases_of<'f>(
 }
 
 /// The first number of the name under a number, by halves.
-fn first_in(aliases: &[Alias], number: u32) -> Option<u32>
+pub(crate) fn first_in(aliases: &[Alias], number: u32) -> Option<u32>
     ensures { IfSome result (λ first. (numbered : Numbered) (own lines : List SymLine) → AreAliases numbered own lines aliases.now → name_of numbered own first ≡ name_of numbered lines number) }
 {
     let at = aliases.partition_point(|alias| alias.number < number);

@@ -3,7 +3,7 @@ ghost use Rattle.std.specs.Prelude.{◌≡◌, IfOk};
 ghost use Rattle.sym_judge.specs.internal.Aliases.{AreAliasesOf};
 ghost use Rattle.sym_judge.specs.internal.Blocks.{same_path, same_origin, same_name, AreTold, is_told, are_told};
 
-use crate::aliases::{Aliases, aliases_of, have_one_name, no_aliases};
+use crate::aliases::{Aliases, aliases_of, copied, have_one_name, no_aliases};
 use crate::names::is_same_text;
 use crate::sides::Side;
 use std::alloc::Global;
@@ -114,6 +114,23 @@ fn aliases_beside<'f>(
     aliases_of(alloc, numbered, own, other)
 }
 
+/// All numbers that have a name of the first file, by those that are known.
+fn aliases_by<'f>(
+    alloc: Global,
+    numbered: Numbered,
+    own: &Side<'f>,
+    other: &Side<'f>,
+    known: &Aliases,
+) -> Result<Aliases, OutOfMemory>
+    requires { AreAliasesOf numbered own.now other.now known.now }
+    ensures { IfOk result (λ aliases. AreAliasesOf numbered own.now other.now aliases) }
+{
+    if known.mine.is_empty() {
+        return aliases_of(alloc, numbered, own, other);
+    }
+    copied(known)
+}
+
 impl<'f> Both<'f> {
     /// Compares the names under each number.
     pub(crate) fn of(alloc: Global, own: Side<'f>, other: Side<'f>) -> Result<Both<'f>, OutOfMemory>
@@ -149,6 +166,28 @@ impl<'f> Both<'f> {
         ensures { result.now ≡ self.now.other }
     {
         &self.other
+    }
+
+    /// All numbers that have a name of the first file.
+    pub(crate) fn aliases(&self, alloc: Global, numbered: Numbered) -> Result<Aliases, OutOfMemory>
+        ensures { IfOk result (λ aliases. AreAliasesOf numbered self.now.own self.now.other aliases) }
+    {
+        match numbered {
+            Numbered::Files => aliases_by(
+                alloc,
+                numbered,
+                &self.own,
+                &self.other,
+                &self.path_aliases,
+            ),
+            Numbered::Origins => aliases_by(
+                alloc,
+                numbered,
+                &self.own,
+                &self.other,
+                &self.origin_aliases,
+            ),
+        }
     }
 
     /// Whether two `FILE` records have one name, or both are missing.

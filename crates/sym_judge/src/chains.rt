@@ -1,191 +1,334 @@
-//! Where two functions have the same chains of inlined calls, held as maps from addresses, so that a chain of many levels is compared once.
-ghost use Rattle.std.specs.Prelude.{◌≡◌, ◌≤◌, ◌<◌, ℕ, true, IfOk, OnOk, IfSome};
-ghost use Rattle.std.specs.Option.{option_or};
-ghost use Rattle.step_maps.specs.Covers.{AreStretches, index_at};
-ghost use Rattle.sym_lookup.specs.PlaceMaps.{IsBefore, place_in};
-ghost use Rattle.sym_judge.specs.internal.Chains.{level_told, level_at, alike_by, told_within, same_chain, IsChainMap};
+//! The chains of calls of functions with many levels, by their numbers: one map from addresses for each function, so that two chains are
+//! compared by two numbers.
+ghost use Rattle.std.specs.Prelude.{◌≡◌, ◌≤◌, ◌<◌, ◌^◌, ◌++◌, ◌&&◌, ℕ, Bool, true, false, [], ◌∷◌, List, Option, IfOk, OnOk, IfSome, length, slice_get, if◌then◌else◌};
+ghost use Rattle.std.specs.Bool.{OnTrue};
+ghost use Rattle.std.specs.Option.{is_some};
+ghost use Rattle.sym_records.specs.declared.line.SymLine.{SymLine};
+ghost use Rattle.step_maps.specs.Stepping.{Stepping, value_at};
+ghost use Rattle.step_maps.specs.declared.stretch.FirstItem.{FirstItem};
+ghost use Rattle.sym_lookup.specs.Answers.{chain_places};
+ghost use Rattle.sym_lookup.specs.PlaceMaps.{IsBefore};
+ghost use Rattle.sym_lookup.specs.UnderOf.{chain_in};
+ghost use Rattle.sym_judge.specs.declared.numbers.Entry.{Entry};
+ghost use Rattle.sym_judge.specs.declared.chains.ChainPart.TheVariants.{Nothing};
+ghost use Rattle.sym_judge.specs.internal.Chains.{Keeps, Shown, Means, IsPart, calls_there, AreMapped, IsChainMap, AreFuncChains};
 
-use crate::both::Both;
+use crate::calls::Calls;
 use crate::doubts::nearer;
-use crate::meetings::{Meeting, count_within};
-use crate::names::is_same_call;
+use crate::numbers::{Numbers, call_number, joined_number};
+use crate::sides::Side;
 use std::alloc::Global;
-use step_maps::{FirstItem, StepMap, Stretch, first_items};
+use step_maps::{FirstItem, StepMap};
 use sym_edges::OutOfMemory;
 use sym_lookup::place_run;
 
-/// Which `INLINE` of a level is the first at each address; or by the index of an item what is told there: 0 where chains are the same, 1 where
-/// they differ.
+/// Which `INLINE` of a level is the first at each address.
 pub(crate) type LevelMap = StepMap<Option<FirstItem>>;
+
+/// The calls that some levels have at an address.
+#[derive(Clone, Copy)]
+pub enum ChainPart {
+    /// The first level has none.
+    Nothing,
+    /// Each level has one, and their chain has this number.
+    Whole(u32),
+    /// Some level has none, and the chain of those above it has this number.
+    Ended(u32),
+    /// Their chain has no number: the first file does not have one of the calls.
+    Unlike,
+}
+
+/// The calls of some levels at each address.
+pub(crate) type ChainMap = StepMap<ChainPart>;
+
+/// The calls from an address up to an end above it.
+#[derive(Clone, Copy)]
+pub struct PartRun {
+    pub part: ChainPart,
+    pub end: Option<u64>,
+}
+
+/// The chains of the `FUNC` at a place.
+#[derive(Drop)]
+pub struct FuncChains {
+    pub func: usize,
+    pub chains: ChainMap,
+}
 
 /// Chains of at most so many levels are compared call by call, and nothing is held of them.
 const FEW: usize = 16;
 
-/// What a level says of two chains.
-fn level_told(both: &Both<'_>, a: Option<usize>, b: Option<usize>) -> Option<u32>
-    ensures { result ≡ level_told both.now.own both.now.other a b }
+fn stop_at(stops: &[u64], index: usize) -> Option<u64>
+    ensures { result ≡ slice_get stops.now index }
 {
-    match (a, b) {
-        (None, None) => Some(0),
-        (Some(a), Some(b)) => {
-            if is_same_call(both, a, b) {
-                return None;
-            }
-            Some(1)
+    stops.get(index).copied()
+}
+
+/// The calls of a map from an address on, and up to where they are the same.
+fn part_run(map: &ChainMap, address: u64) -> PartRun
+    ensures above { IsBefore result.end address }
+    ensures same { (y : ℕ) → address ≤ y → IsBefore result.end y → value_at Nothing map.now y ≡ result.part }
+{
+    let stops = map.stops();
+    let count = stops.partition_point(|stop| *stop <= address);
+    PartRun {
+        part: map.at(ChainPart::Nothing, address),
+        end: stop_at(stops, count),
+    }
+}
+
+/// Calls of a number, where each level has one.
+fn whole(number: Option<u32>) -> ChainPart
+    ensures { (own : List SymLine) (entries : List Entry) (calls : List Shown) → IfSome number (λ n. Means own entries n calls) → IsPart own entries calls true result }
+{
+    match number {
+        Some(number) => ChainPart::Whole(number),
+        None => ChainPart::Unlike,
+    }
+}
+
+/// Calls of a number, where some level has none.
+fn ended(number: Option<u32>) -> ChainPart
+    ensures { (own : List SymLine) (entries : List Entry) (calls : List Shown) → IfSome number (λ n. Means own entries n calls) → IsPart own entries calls false result }
+{
+    match number {
+        Some(number) => ChainPart::Ended(number),
+        None => ChainPart::Unlike,
+    }
+}
+
+/// The call of a level, by the place of its `INLINE`.
+fn level_part(
+    calls: &Calls<'_, '_>,
+    numbers: &mut Numbers,
+    place: Option<usize>,
+) -> Result<ChainPart, OutOfMemory>
+    ensures keeps { OnOk result (Keeps numbers.old.entries.items numbers.new.entries.items) }
+    ensures part { IfOk result (λ part. IsPart calls.now.own numbers.new.entries.items (calls_there calls.now.other place) (is_some place) part) }
+{
+    let Some(place) = place else {
+        return Ok(ChainPart::Nothing);
+    };
+    let Some(call) = calls.at(place) else {
+        return Ok(ChainPart::Unlike);
+    };
+    let number = call_number(numbers, call)?;
+    Ok(whole(number))
+}
+
+/// The calls of levels of which each in front has one, by their number and those of the others.
+fn longer_part(
+    numbers: &mut Numbers,
+    number: u32,
+    back: ChainPart,
+) -> Result<ChainPart, OutOfMemory>
+    ensures keeps { OnOk result (Keeps numbers.old.entries.items numbers.new.entries.items) }
+    ensures part { IfOk result (λ part. (own : List SymLine) (c d : List Shown) (g : Bool) → Means own numbers.old.entries.items number c → IsPart own numbers.old.entries.items d g back → IsPart own numbers.new.entries.items (c ++ d) g part) }
+{
+    match back {
+        ChainPart::Nothing => Ok(ChainPart::Ended(number)),
+        ChainPart::Whole(other) => Ok(whole(joined_number(numbers, number, other)?)),
+        ChainPart::Ended(other) => Ok(ended(joined_number(numbers, number, other)?)),
+        ChainPart::Unlike => Ok(ChainPart::Unlike),
+    }
+}
+
+/// The calls of levels, by those of the levels in front and those of the others.
+fn joined_part(
+    numbers: &mut Numbers,
+    front: ChainPart,
+    back: ChainPart,
+) -> Result<ChainPart, OutOfMemory>
+    ensures keeps { OnOk result (Keeps numbers.old.entries.items numbers.new.entries.items) }
+    ensures part { IfOk result (λ part. (own : List SymLine) (c d : List Shown) (f g : Bool) → IsPart own numbers.old.entries.items c f front → IsPart own numbers.old.entries.items d g back → IsPart own numbers.new.entries.items (if f then c ++ d else c) (f && g) part) }
+{
+    match front {
+        ChainPart::Whole(number) => longer_part(numbers, number, back),
+        other => Ok(other),
+    }
+}
+
+/// The calls of one level at each address.
+fn level_map(
+    alloc: Global,
+    calls: &Calls<'_, '_>,
+    numbers: &mut Numbers,
+    level: &LevelMap,
+) -> Result<ChainMap, OutOfMemory>
+    ensures keeps { OnOk result (Keeps numbers.old.entries.items numbers.new.entries.items) }
+    ensures mapped { IfOk result (λ map. AreMapped calls.now.own calls.now.other numbers.new.entries.items (level.now ∷ []) map) }
+{
+    let mut map = StepMap::new(alloc);
+    let mut address = 0;
+    'runs: loop {
+        let run = place_run(level, address);
+        let part = level_part(calls, numbers, run.place)?;
+        map.set(address, part)?;
+        match run.end {
+            None => return Ok(map),
+            Some(end) => address = end,
         }
-        _ => Some(1),
     }
 }
 
-/// The last address below an end and up to another one.
-fn last_before(end: Option<u64>, address: u64, last: u64) -> u64
-    requires within { address ≤ last }
-    requires before { IsBefore end address }
-    ensures above { address ≤ result }
-    ensures upto { result ≤ last }
-    ensures before { (x : ℕ) → x ≤ result → IsBefore end x }
+/// The calls of levels at each address, by those of the levels in front and those of the others.
+fn joined_map(
+    alloc: Global,
+    numbers: &mut Numbers,
+    front: &ChainMap,
+    back: &ChainMap,
+) -> Result<ChainMap, OutOfMemory>
+    ensures keeps { OnOk result (Keeps numbers.old.entries.items numbers.new.entries.items) }
+    ensures mapped { IfOk result (λ map. (own lines : List SymLine) (ms ns : List (Stepping (Option FirstItem))) → AreMapped own lines numbers.old.entries.items ms front.now → AreMapped own lines numbers.old.entries.items ns back.now → AreMapped own lines numbers.new.entries.items (ms ++ ns) map) }
 {
-    match end {
-        None => last,
-        Some(end) => (end - 1).min(last),
+    let mut map = StepMap::new(alloc);
+    let mut address = 0;
+    'runs: loop {
+        let mine = part_run(front, address);
+        let theirs = part_run(back, address);
+        let part = joined_part(numbers, mine.part, theirs.part)?;
+        map.set(address, part)?;
+        match nearer(mine.end, theirs.end) {
+            None => return Ok(map),
+            Some(end) => address = end,
+        }
     }
 }
 
-/// Adds what is told of some addresses.
-fn push_told(
-    items: &mut Vec<Stretch>,
-    first: u64,
-    last: u64,
-    told: Option<u32>,
+/// At how many levels more of them are cut: at the greatest power of two below their count, so that equal chains are cut alike.
+fn half_of(count: usize) -> usize
+    requires { 1 < count }
+    ensures some { 0 < result }
+    ensures less { result < count }
+{
+    let mut half = 1;
+    'doubled: while half < count - half {
+        half += half;
+    }
+    half
+}
+
+/// The calls of levels at each address, by halves of the levels.
+fn chain_map(
+    alloc: Global,
+    calls: &Calls<'_, '_>,
+    numbers: &mut Numbers,
+    levels: &[LevelMap],
+) -> Result<ChainMap, OutOfMemory>
+    requires { 0 < length levels.now }
+    ensures keeps { OnOk result (Keeps numbers.old.entries.items numbers.new.entries.items) }
+    ensures mapped { IfOk result (λ map. AreMapped calls.now.own calls.now.other numbers.new.entries.items levels.now map) }
+{
+    if levels.len() == 1 {
+        return level_map(alloc, calls, numbers, &levels[0]);
+    }
+    let (front, back) = levels.split_at(half_of(levels.len()));
+    let first = chain_map(alloc, calls, numbers, front)?;
+    let second = chain_map(alloc, calls, numbers, back)?;
+    joined_map(alloc, numbers, &first, &second)
+}
+
+/// The levels of a function with many.
+fn many_levels<'f>(side: &Side<'f>, func: usize) -> Option<&'f [LevelMap]>
+    ensures some { IfSome result (λ levels. 0 < length levels.now) }
+    ensures chain { IfSome result (λ levels. (x : ℕ) → x < 2 ^ 64 → chain_in levels.now x ≡ chain_places side.now func x) }
+{
+    let levels = side.levels(func)?;
+    if levels.len() <= FEW {
+        return None;
+    }
+    Some(levels)
+}
+
+/// Whether a function has many levels.
+pub(crate) fn has_many(side: &Side<'_>, func: usize) -> bool {
+    many_levels(side, func).is_some()
+}
+
+/// Adds the chains of a function with many levels.
+fn push_func(
+    alloc: Global,
+    calls: &Calls<'_, '_>,
+    numbers: &mut Numbers,
+    funcs: &mut Vec<FuncChains>,
+    func: usize,
 ) -> Result<(), OutOfMemory>
-    requires some { first ≤ last }
-    requires stretches { AreStretches items.old.items }
-    ensures stretches { OnOk result (AreStretches items.new.items) }
-    ensures told { OnOk result ((x : ℕ) → index_at items.new.items x ≡ option_or (index_at items.old.items x) (told_within first last told x)) }
+    requires { AreFuncChains calls.now.own calls.now.other numbers.old.entries.items funcs.old.items }
+    ensures keeps { OnOk result (Keeps numbers.old.entries.items numbers.new.entries.items) }
+    ensures are { OnOk result (AreFuncChains calls.now.own calls.now.other numbers.new.entries.items funcs.new.items) }
 {
-    let Some(index) = told else {
+    let Some(levels) = many_levels(calls.side(), func) else {
         return Ok(());
     };
-    items.push(Stretch {
-        first,
-        last,
-        index,
-        class: 0,
-    })?;
+    let chains = chain_map(alloc, calls, numbers, levels)?;
+    funcs.push(FuncChains { func, chains })?;
     Ok(())
 }
 
-/// Adds what a level says of two chains, from an address to another one.
-fn push_level(
-    items: &mut Vec<Stretch>,
-    both: &Both<'_>,
-    mine: &LevelMap,
-    theirs: &LevelMap,
-    first: u64,
-    last: u64,
-) -> Result<(), OutOfMemory>
-    requires some { first ≤ last }
-    requires stretches { AreStretches items.old.items }
-    ensures stretches { OnOk result (AreStretches items.new.items) }
-    ensures told { OnOk result ((x : ℕ) → first ≤ x → x ≤ last → index_at items.new.items x ≡ option_or (index_at items.old.items x) (level_at both.now.own both.now.other mine.now theirs.now x)) }
+/// The chains of functions with many levels, each once, of places in their order.
+pub(crate) fn func_chains(
+    alloc: Global,
+    calls: &Calls<'_, '_>,
+    numbers: &mut Numbers,
+    places: &[usize],
+) -> Result<Vec<FuncChains>, OutOfMemory>
+    ensures keeps { OnOk result (Keeps numbers.old.entries.items numbers.new.entries.items) }
+    ensures are { IfOk result (λ funcs. AreFuncChains calls.now.own calls.now.other numbers.new.entries.items funcs.items) }
 {
-    let mut address = first;
-    'runs: loop {
-        let a = place_run(mine, address);
-        let b = place_run(theirs, address);
-        let end = last_before(nearer(a.end, b.end), address, last);
-        push_told(items, address, end, level_told(both, a.place, b.place))?;
-        if end >= last {
-            return Ok(());
+    let mut funcs = Vec::new(alloc);
+    'places: for at in 0..places.len() {
+        if at > 0 && places[at - 1] == places[at] {
+            continue;
         }
-        address = end + 1;
+        push_func(alloc, calls, numbers, &mut funcs, places[at])?;
     }
+    Ok(funcs)
 }
 
-/// What the levels of two functions say of their chains, the first level first.
-fn chain_items(
-    alloc: Global,
-    both: &Both<'_>,
-    a: &[LevelMap],
-    b: &[LevelMap],
-    first: u64,
-    last: u64,
-) -> Result<Vec<Stretch>, OutOfMemory>
-    requires some { first ≤ last }
-    ensures stretches { IfOk result (λ items. AreStretches items.items) }
-    ensures same { IfOk result (λ items. (x : ℕ) → first ≤ x → x ≤ last → alike_by (index_at items.items x) true ≡ same_chain both.now.own both.now.other a.now b.now x) }
+/// The chains of the function at a place, by halves.
+pub(crate) fn chains_of(funcs: &[FuncChains], func: usize) -> Option<&ChainMap>
+    ensures { IfSome result (λ map. (own lines : List SymLine) (entries : List Entry) → AreFuncChains own lines entries funcs.now → IsChainMap own lines entries func map.now) }
 {
-    let none = StepMap::new(alloc);
-    let mut items = Vec::new(alloc);
-    let mut front = a;
-    let mut back = b;
-    'levels: while let Some((mine, deeper)) = front.split_first() {
-        let Some((theirs, others)) = back.split_first() else {
-            push_level(&mut items, both, mine, &none, first, last)?;
-            return Ok(items);
-        };
-        push_level(&mut items, both, mine, theirs, first, last)?;
-        front = deeper;
-        back = others;
+    let at = funcs.partition_point(|known| known.func < func);
+    if at >= funcs.len() {
+        return None;
     }
-    let Some((theirs, _)) = back.split_first() else {
-        return Ok(items);
-    };
-    push_level(&mut items, both, &none, theirs, first, last)?;
-    Ok(items)
+    let known = &funcs[at];
+    if known.func != func {
+        return None;
+    }
+    Some(&known.chains)
 }
 
-/// In how many pieces so many levels stand from an address to another one.
-fn pieces_within(levels: &[LevelMap], count: usize, first: u64, last: u64) -> usize {
-    let mut pieces = 0usize;
-    'levels: for map in levels.iter().take(count) {
-        pieces = pieces
-            .saturating_add(1)
-            .saturating_add(count_within(map.stops(), first, last));
-    }
-    pieces
-}
-
-/// Whether a map of two chains is worth its making: where the levels are in fewer pieces than they are compared at the stops.
-fn is_worth(a: &[LevelMap], b: &[LevelMap], met: &Meeting) -> bool {
-    let count = a.len().min(b.len());
-    if count <= FEW {
-        return false;
-    }
-    let pieces = pieces_within(a, count, met.first, met.last).saturating_add(pieces_within(
-        b, count, met.first, met.last,
-    ));
-    pieces < count.saturating_mul(met.stops)
-}
-
-/// Where the chains of two functions are the same from the first address at which they meet to the last, where a map is worth its making.
-pub(crate) fn chain_map(
-    alloc: Global,
-    both: &Both<'_>,
-    met: Meeting,
-) -> Result<Option<LevelMap>, OutOfMemory>
-    ensures { IfOk result (λ map. IfSome map (IsChainMap both.now.own both.now.other met.own met.other met.first met.last)) }
+/// Whether no calls are there.
+fn is_nothing(part: ChainPart) -> bool
+    ensures { OnTrue result ((own : List SymLine) (entries : List Entry) (calls : List Shown) (full : Bool) → IsPart own entries calls full part → calls ≡ []) }
 {
-    let Some(a) = both.own().levels(met.own) else {
-        return Ok(None);
-    };
-    let Some(b) = both.other().levels(met.other) else {
-        return Ok(None);
-    };
-    if met.first > met.last || !is_worth(a, b, &met) {
-        return Ok(None);
+    match part {
+        ChainPart::Nothing => true,
+        _ => false,
     }
-    let items = chain_items(alloc, both, a, b, met.first, met.last)?;
-    let map = first_items(alloc, items.as_slice())?;
-    Ok(Some(map))
 }
 
-/// Whether the chains are the same at an address that a map has.
-pub(crate) fn is_alike_at(map: &LevelMap, address: u64) -> bool
-    ensures { result ≡ alike_by (place_in map.now address) true }
+/// Whether calls have a number.
+fn has_number(part: ChainPart, number: u32) -> bool
+    ensures { OnTrue result ((own : List SymLine) (entries : List Entry) (calls : List Shown) (full : Bool) → IsPart own entries calls full part → Means own entries number calls) }
 {
-    match place_run(map, address).place {
-        None => true,
-        Some(told) => told == 0,
+    match part {
+        ChainPart::Whole(known) => known == number,
+        ChainPart::Ended(known) => known == number,
+        _ => false,
+    }
+}
+
+/// Whether calls have one number, or none are there.
+pub(crate) fn have_one_number(a: ChainPart, b: ChainPart) -> bool
+    ensures { OnTrue result ((own : List SymLine) (entries : List Entry) (c d : List Shown) (f g : Bool) → IsPart own entries c f a → IsPart own entries d g b → c ≡ d) }
+{
+    match a {
+        ChainPart::Nothing => is_nothing(b),
+        ChainPart::Whole(number) => has_number(b, number),
+        ChainPart::Ended(number) => has_number(b, number),
+        ChainPart::Unlike => false,
     }
 }

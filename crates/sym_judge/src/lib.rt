@@ -12,14 +12,15 @@
 //! To read: `specs/Forms.antt`, `specs/Alike.antt`, `specs/Rulings.antt` and `specs/SameMeaning.antt`; then `terms` and `forms`, `tables` (the
 //! rules that count at an address), `rule_maps` (the same by halves, of an INIT with many), `held_forms` (those of long rules), `rule_aliases`
 //! (long rules in the same words) and `frames`, `names`, `copies` (files of the same records), `blocks` and `doubts` (where records say the same
-//! in both files, nothing else is looked at), `chains` and `meetings` (what is found out once for two functions), and `stops` (the addresses at
-//! which both are looked up) and `judgement`, on `sides` (a file with its index), `ruled` (with rule maps) and `both` (two files), with `aliases`
-//! (the numbers of one name).
+//! in both files, nothing else is looked at), `numbers` (of chains of calls), `chains` and `meetings` (what is found out once for a function and
+//! for two), and `stops` (the addresses at which both are looked up) and `judgement`, on `sides` (a file with its index), `ruled` (with rule
+//! maps) and `both` (two files), with `aliases` (the numbers of one name) and `calls` (named by the numbers of the first file).
 #![tactic(auto)]
 
 mod aliases;
 mod blocks;
 mod both;
+mod calls;
 mod chains;
 mod copies;
 mod doubts;
@@ -30,6 +31,7 @@ mod judgement;
 pub mod laws;
 mod meetings;
 mod names;
+mod numbers;
 mod pairs;
 mod rule_aliases;
 mod rule_maps;

@@ -1,37 +1,42 @@
-//! Functions of both files that meet at addresses where the files may differ: what is found out once for two of them.
-ghost use Rattle.std.specs.Prelude.{◌≡◌, ◌≤◌, List, IfOk, OnOk, IfSome};
+//! Functions of both files that meet at addresses where the files may differ: what is found out once for one of them or for two.
+ghost use Rattle.std.specs.Prelude.{◌≡◌, List, IfOk, OnOk, IfSome};
 ghost use Rattle.std.specs.Str.{bytes_eq};
 ghost use Rattle.sym_lookup.specs.AnswerTexts.{func_name_at};
 ghost use Rattle.sym_records.specs.declared.line.SymLine.{SymLine};
-ghost use Rattle.sym_judge.specs.internal.Chains.{IsFuncPair, AreFuncPairs};
+ghost use Rattle.sym_judge.specs.internal.Chains.{IsFuncPair, AreFuncPairs, AreNumbered, AreFuncMeetings};
 
-use crate::both::Both;
-use crate::chains::{LevelMap, chain_map};
+use crate::both::{Both, Numbered};
+use crate::calls::Calls;
+use crate::chains::{FuncChains, func_chains, has_many};
 use crate::doubts::nearer;
 use crate::names::func_name_at;
+use crate::numbers::no_numbers;
 use crate::ruling::Half;
 use std::alloc::Global;
 use step_maps::StepMap;
 use sym_edges::OutOfMemory;
 
-/// Addresses from a first to a last one, and two functions that are the first of their files at some of them.
+/// Two functions that are the first of their files at some address.
 #[derive(Clone, Copy)]
 pub struct Meeting {
     pub key: u64,
     pub own: usize,
     pub other: usize,
-    pub first: u64,
-    pub last: u64,
-    /// At how many addresses from the first to the last they are compared.
-    pub stops: usize,
 }
 
-/// What is known of two functions: whether their names are the same, and, where both have many levels, where their chains are.
-#[derive(Drop)]
+/// Whether the names of two functions are the same.
+#[derive(Clone, Copy)]
 pub struct FuncPair {
     pub met: Meeting,
     pub same_name: bool,
-    pub chains: Option<LevelMap>,
+}
+
+/// What is known of functions that meet: of two with long names or many levels, and the chains of those with many levels, in their order.
+#[derive(Drop)]
+pub struct FuncMeetings {
+    pub pairs: Vec<FuncPair>,
+    pub own: Vec<FuncChains>,
+    pub other: Vec<FuncChains>,
 }
 
 /// Names of at most so many bytes are compared where they meet.
@@ -44,22 +49,11 @@ fn key_of(own: usize, other: usize) -> u64 {
         .wrapping_add(other as u64)
 }
 
-/// How many stops there are from an address to another one.
-pub(crate) fn count_within(stops: &[u64], first: u64, last: u64) -> usize {
-    let before = stops.partition_point(|stop| *stop < first);
-    stops
-        .partition_point(|stop| *stop <= last)
-        .saturating_sub(before)
-}
-
 /// Adds a meeting where both files have a function.
 fn push_meeting(
     meetings: &mut Vec<Meeting>,
     own: Option<usize>,
     other: Option<usize>,
-    first: u64,
-    last: u64,
-    stops: &[u64],
 ) -> Result<(), OutOfMemory> {
     let Some(own) = own else {
         return Ok(());
@@ -71,19 +65,8 @@ fn push_meeting(
         key: key_of(own, other),
         own,
         other,
-        first,
-        last,
-        stops: count_within(stops, first, last),
     })?;
     Ok(())
-}
-
-/// The last address below an end.
-fn last_below(end: Option<u64>) -> u64 {
-    match end {
-        None => u64::MAX,
-        Some(end) => end.saturating_sub(1),
-    }
 }
 
 /// The meetings at the addresses at which the files may differ, in the order of addresses.
@@ -91,111 +74,143 @@ fn meetings(
     alloc: Global,
     both: &Both<'_>,
     doubts: &StepMap<bool>,
-    stops: &[u64],
 ) -> Result<Vec<Meeting>, OutOfMemory> {
     let mut meetings = Vec::new(alloc);
     let mut address = 0;
     'runs: loop {
         let mine = both.own().run_at(Half::Names, address);
         let theirs = both.other().run_at(Half::Names, address);
-        let end = nearer(mine.end, theirs.end);
         if doubts.at(false, address) {
-            push_meeting(
-                &mut meetings,
-                mine.place,
-                theirs.place,
-                address,
-                last_below(end),
-                stops,
-            )?;
+            push_meeting(&mut meetings, mine.place, theirs.place)?;
         }
-        match end {
+        match nearer(mine.end, theirs.end) {
             None => return Ok(meetings),
             Some(end) => address = end,
         }
     }
 }
 
-/// Makes the last of some meetings reach to another one of the same functions, and says whether it is one of them.
-fn is_widened(meetings: &mut Vec<Meeting>, by: &Meeting) -> bool {
-    let count = meetings.len();
-    if count == 0 || meetings[count - 1].key != by.key {
-        return false;
-    }
-    let widest = &mut meetings[count - 1];
-    widest.first = widest.first.min(by.first);
-    widest.last = widest.last.max(by.last);
-    widest.stops = widest.stops.saturating_add(by.stops);
-    true
-}
-
-/// One meeting for each two functions, from the first address to the last of theirs; of meetings in the order of their functions.
-fn joined(alloc: Global, meetings: &[Meeting]) -> Result<Vec<Meeting>, OutOfMemory> {
-    let mut joined = Vec::new(alloc);
-    'meetings: for meeting in meetings {
-        if !is_widened(&mut joined, meeting) {
-            joined.push(*meeting)?;
+/// Each two functions once, of meetings in the order of their functions.
+fn distinct(alloc: Global, meetings: &[Meeting]) -> Result<Vec<Meeting>, OutOfMemory> {
+    let mut distinct = Vec::new(alloc);
+    'meetings: for at in 0..meetings.len() {
+        if at > 0 && meetings[at - 1].key == meetings[at].key {
+            continue;
         }
+        distinct.push(meetings[at])?;
     }
-    Ok(joined)
+    Ok(distinct)
 }
 
-/// Adds what is known of two functions, where they have long names or many levels.
+/// Whether two functions have many levels.
+fn have_many(both: &Both<'_>, met: &Meeting) -> bool {
+    has_many(both.own(), met.own) && has_many(both.other(), met.other)
+}
+
+/// Adds whether two functions have one name, where they have long names or many levels.
 #[tactic(auto, using(crate::proofs::MeetingLemmas::pairs_joined))]
-fn push_pair(
-    alloc: Global,
-    pairs: &mut Vec<FuncPair>,
-    both: &Both<'_>,
-    met: Meeting,
-) -> Result<(), OutOfMemory>
+fn push_pair(pairs: &mut Vec<FuncPair>, both: &Both<'_>, met: Meeting) -> Result<(), OutOfMemory>
     requires { AreFuncPairs both.now.own both.now.other pairs.old.items }
     ensures { OnOk result (AreFuncPairs both.now.own both.now.other pairs.new.items) }
 {
     let name = func_name_at(both.own().lines(), met.own);
     let called = func_name_at(both.other().lines(), met.other);
-    let chains = chain_map(alloc, both, met)?;
-    if chains.is_none() && (name.len() <= SHORT || called.len() <= SHORT) {
+    if !have_many(both, &met) && (name.len() <= SHORT || called.len() <= SHORT) {
         return Ok(());
     }
     let same_name = name == called;
-    pairs.push(FuncPair {
-        met,
-        same_name,
-        chains,
-    })?;
+    pairs.push(FuncPair { met, same_name })?;
     Ok(())
 }
 
-/// What is known of functions that meet, in their order. They are compared at the stops.
-pub(crate) fn func_pairs(
-    alloc: Global,
-    both: &Both<'_>,
-    doubts: &StepMap<bool>,
-    stops: &[u64],
-) -> Result<Vec<FuncPair>, OutOfMemory>
+/// Which functions that meet have one name, in their order.
+fn func_pairs(alloc: Global, both: &Both<'_>, met: &[Meeting]) -> Result<Vec<FuncPair>, OutOfMemory>
     ensures { IfOk result (λ pairs. AreFuncPairs both.now.own both.now.other pairs.items) }
 {
-    let mut met = meetings(alloc, both, doubts, stops)?;
-    met.sort_unstable_by_key(|meeting| meeting.key);
-    let met = joined(alloc, met.as_slice())?;
     let mut pairs = Vec::new(alloc);
     'meetings: for at in 0..met.len() {
-        push_pair(alloc, &mut pairs, both, met[at])?;
+        push_pair(&mut pairs, both, met[at])?;
     }
     Ok(pairs)
 }
 
-/// What is known of two functions, where an address is one of theirs.
-pub(crate) fn pair_at(
-    pairs: &[FuncPair],
-    own: usize,
-    other: usize,
-    address: u64,
-) -> Option<&FuncPair>
+/// The places of the functions with many levels that meet others with many, in their order.
+fn many_in(
+    alloc: Global,
+    both: &Both<'_>,
+    met: &[Meeting],
+) -> Result<(Vec<usize>, Vec<usize>), OutOfMemory> {
+    let mut own = Vec::new(alloc);
+    let mut other = Vec::new(alloc);
+    'meetings: for at in 0..met.len() {
+        if have_many(both, &met[at]) {
+            own.push(met[at].own)?;
+            other.push(met[at].other)?;
+        }
+    }
+    own.sort_unstable();
+    other.sort_unstable();
+    Ok((own, other))
+}
+
+/// The chains of the functions of both files that stand at places, by one numbering.
+fn numbered(
+    alloc: Global,
+    both: &Both<'_>,
+    mine: &[usize],
+    theirs: &[usize],
+) -> Result<(Vec<FuncChains>, Vec<FuncChains>), OutOfMemory>
+    ensures { IfOk result (λ chains. AreNumbered both.now.own both.now.other chains.0.items chains.1.items) }
+{
+    let paths = both.aliases(alloc, Numbered::Files)?;
+    let origins = both.aliases(alloc, Numbered::Origins)?;
+    let mut numbers = no_numbers(alloc);
+    let calls = Calls::of(both.own(), both.own(), paths.mine, origins.mine);
+    let own = func_chains(alloc, &calls, &mut numbers, mine)?;
+    let others = Calls::of(both.own(), both.other(), paths.theirs, origins.theirs);
+    let other = func_chains(alloc, &others, &mut numbers, theirs)?;
+    Ok((own, other))
+}
+
+/// What is known of functions of which none meet.
+pub(crate) fn no_meetings(alloc: Global) -> FuncMeetings
+    ensures { (own other : List SymLine) → AreFuncMeetings own other result }
+{
+    FuncMeetings {
+        pairs: Vec::new(alloc),
+        own: Vec::new(alloc),
+        other: Vec::new(alloc),
+    }
+}
+
+/// What is known of functions that meet.
+pub(crate) fn func_meetings(
+    alloc: Global,
+    both: &Both<'_>,
+    doubts: &StepMap<bool>,
+) -> Result<FuncMeetings, OutOfMemory>
+    ensures { IfOk result (λ met. AreFuncMeetings both.now.own both.now.other met) }
+{
+    let mut met = meetings(alloc, both, doubts)?;
+    met.sort_unstable_by_key(|meeting| meeting.key);
+    let met = distinct(alloc, met.as_slice())?;
+    let pairs = func_pairs(alloc, both, met.as_slice())?;
+    let (mine, theirs) = many_in(alloc, both, met.as_slice())?;
+    if mine.is_empty() {
+        return Ok(FuncMeetings {
+            pairs,
+            own: Vec::new(alloc),
+            other: Vec::new(alloc),
+        });
+    }
+    let (own, other) = numbered(alloc, both, mine.as_slice(), theirs.as_slice())?;
+    Ok(FuncMeetings { pairs, own, other })
+}
+
+/// Whether two functions have one name, where that is known.
+pub(crate) fn pair_of(pairs: &[FuncPair], own: usize, other: usize) -> Option<&FuncPair>
     ensures own { IfSome result (λ pair. pair.now.met.own ≡ own) }
     ensures other { IfSome result (λ pair. pair.now.met.other ≡ other) }
-    ensures first { IfSome result (λ pair. pair.now.met.first ≤ address) }
-    ensures last { IfSome result (λ pair. address ≤ pair.now.met.last) }
     ensures is { IfSome result (λ pair. (mine theirs : List SymLine) → AreFuncPairs mine theirs pairs.now → IsFuncPair mine theirs pair.now) }
 {
     let key = key_of(own, other);
@@ -204,8 +219,7 @@ pub(crate) fn pair_at(
         return None;
     }
     let pair = &pairs[at];
-    let met = pair.met;
-    if met.own != own || met.other != other || address < met.first || met.last < address {
+    if pair.met.own != own || pair.met.other != other {
         return None;
     }
     Some(pair)

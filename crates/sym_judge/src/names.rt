@@ -1,11 +1,12 @@
 //! Whether two files name the same at an address.
-ghost use Rattle.std.specs.Prelude.{◌≡◌, ◌≤◌, List, map, codes, if◌then◌else◌, None, Some, IfOk, IfSome};
+ghost use Rattle.std.specs.Prelude.{◌≡◌, List, map, codes, true, if◌then◌else◌, None, Some, IfOk, IfSome};
+ghost use Rattle.std.specs.Bool.{OnTrue};
 ghost use Rattle.std.specs.Option.{option_copied, option_map, option_and_then, unwrap_or};
 ghost use Rattle.std.specs.Str.{bytes_eq};
 ghost use Rattle.sym_meaning.specs.TextNames.{func_name, path_and_line, text_path, text_origin};
 ghost use Rattle.sym_records.specs.declared.line.SymLine.{SymLine};
 ghost use Rattle.sym_lookup.specs.Answers.{answer_of, func_place, chain_places, line_place};
-ghost use Rattle.sym_judge.specs.internal.Chains.{IsFuncPair, AreFuncPairs};
+ghost use Rattle.sym_judge.specs.internal.Chains.{IsFuncPair, AreFuncPairs, AreFuncMeetings};
 ghost use Rattle.sym_lookup.specs.AnswerTexts.{call_at, func_name_at, line_at, owner_of, calls_of, line_of};
 ghost use Rattle.sym_judge.specs.Alike.{same_option, same_list, same_line, same_call};
 ghost use Rattle.sym_judge.specs.declared.ruling.Half.TheVariants.{Names};
@@ -13,8 +14,8 @@ ghost use Rattle.sym_judge.specs.internal.Stops.{first_in};
 ghost use Rattle.sym_judge.specs.internal.Spots.{spot_view, call_spot_of, first_named};
 
 use crate::both::Both;
-use crate::chains::is_alike_at;
-use crate::meetings::{FuncPair, pair_at};
+use crate::chains::{ChainPart, chains_of, have_one_number};
+use crate::meetings::{FuncMeetings, FuncPair, pair_of};
 use crate::ruling::Aspect;
 use crate::sides::Side;
 use std::alloc::Global;
@@ -25,15 +26,15 @@ use sym_records::SymLine;
 /// The number of a file, where there is one, and a line.
 #[derive(Clone, Copy)]
 pub(crate) struct Spot {
-    file: Option<u32>,
-    line: u32,
+    pub file: Option<u32>,
+    pub line: u32,
 }
 
 /// An inlined call: the number of the function's origin, where there is one, and where the call is.
 #[derive(Clone, Copy)]
 pub(crate) struct CallSpot {
-    origin: Option<u32>,
-    spot: Spot,
+    pub origin: Option<u32>,
+    pub spot: Spot,
 }
 
 fn func_name(line: &SymLine) -> &[u8]
@@ -106,7 +107,7 @@ fn path_in<'f>(side: &Side<'f>, file: Option<u32>) -> Option<&'f [u8]>
 }
 
 /// The name of an origin under a number, where there is one.
-fn origin_in<'f>(side: &Side<'f>, origin: Option<u32>) -> Option<&'f [u8]>
+pub(crate) fn origin_in<'f>(side: &Side<'f>, origin: Option<u32>) -> Option<&'f [u8]>
     ensures { option_copied result ≡ option_and_then (text_origin side.now) origin }
 {
     match origin {
@@ -169,7 +170,7 @@ fn is_same_line(both: &Both<'_>, a: Option<usize>, b: Option<usize>) -> bool
 }
 
 /// The name of an inlined function.
-fn name_or_omitted(name: Option<&[u8]>) -> &[u8]
+pub(crate) fn name_or_omitted(name: Option<&[u8]>) -> &[u8]
     ensures { result.now ≡ unwrap_or (option_copied name.entry) (codes "<name omitted>") }
 {
     match name {
@@ -179,7 +180,7 @@ fn name_or_omitted(name: Option<&[u8]>) -> &[u8]
 }
 
 /// The call that the INLINE at a place says.
-fn call_at(side: &Side<'_>, place: usize) -> CallSpot
+pub(crate) fn call_at(side: &Side<'_>, place: usize) -> CallSpot
     ensures name { option_and_then (text_origin side.now) result.origin ≡ (call_at side.now place).name }
     ensures spot { spot_view side.now result.spot ≡ call_spot_of (call_at side.now place) }
 {
@@ -222,7 +223,7 @@ fn is_same_origin(both: &Both<'_>, a: Option<u32>, b: Option<u32>) -> bool
 }
 
 /// Whether two inlined calls are the same.
-pub(crate) fn is_same_call(both: &Both<'_>, a: usize, b: usize) -> bool
+fn is_same_call(both: &Both<'_>, a: usize, b: usize) -> bool
     ensures { result ≡ same_call (call_at both.now.own a) (call_at both.now.other b) }
 {
     let first = call_at(both.own(), a);
@@ -284,11 +285,10 @@ fn line_alone(same: bool) -> Option<Aspect>
     if same { None } else { Some(Aspect::Line) }
 }
 
-/// What two functions name differently at an address at which it is known whether their chains are the same, and the line records.
+/// What two functions of one chain name differently at an address, where the line records are known.
 fn first_in_funcs(
     both: &Both<'_>,
     pair: &FuncPair,
-    alike: bool,
     address: u64,
     a: Option<usize>,
     b: Option<usize>,
@@ -296,7 +296,7 @@ fn first_in_funcs(
     requires own { func_place both.now.own address ≡ Some pair.now.met.own }
     requires other { func_place both.now.other address ≡ Some pair.now.met.other }
     requires pair { IsFuncPair both.now.own both.now.other pair.now }
-    requires alike { alike ≡ same_list same_call (map (call_at both.now.own) (chain_places both.now.own pair.now.met.own address)) (map (call_at both.now.other) (chain_places both.now.other pair.now.met.other address)) }
+    requires alike { same_list same_call (map (call_at both.now.own) (chain_places both.now.own pair.now.met.own address)) (map (call_at both.now.other) (chain_places both.now.other pair.now.met.other address)) ≡ true }
     requires first { a ≡ line_place both.now.own pair.now.met.own address }
     requires second { b ≡ line_place both.now.other pair.now.met.other address }
     ensures { result ≡ first_in Names both.now.own both.now.other address }
@@ -304,28 +304,44 @@ fn first_in_funcs(
     if !pair.same_name {
         return Some(Aspect::Func);
     }
-    if alike {
-        return line_alone(is_same_line(both, a, b));
-    }
-    Some(Aspect::Chain)
+    line_alone(is_same_line(both, a, b))
 }
 
-/// What two functions that are the first at an address name differently there, where their chains are held.
-fn first_by_chains(both: &Both<'_>, pair: &FuncPair, address: u64) -> Option<Option<Aspect>>
+/// Whether the chains of two functions have one number at an address.
+fn have_one_chain(met: &FuncMeetings, pair: &FuncPair, address: u64) -> bool
+    ensures { OnTrue result ((own other : List SymLine) → AreFuncMeetings own other met.now → same_list same_call (map (call_at own) (chain_places own pair.now.met.own address)) (map (call_at other) (chain_places other pair.now.met.other address)) ≡ true) }
+{
+    let Some(mine) = chains_of(met.own.as_slice(), pair.met.own) else {
+        return false;
+    };
+    let Some(theirs) = chains_of(met.other.as_slice(), pair.met.other) else {
+        return false;
+    };
+    have_one_number(
+        mine.at(ChainPart::Nothing, address),
+        theirs.at(ChainPart::Nothing, address),
+    )
+}
+
+/// What two functions that are the first at an address name differently there, where their chains have one number.
+fn first_by_chains(
+    both: &Both<'_>,
+    met: &FuncMeetings,
+    pair: &FuncPair,
+    address: u64,
+) -> Option<Option<Aspect>>
     requires own { func_place both.now.own address ≡ Some pair.now.met.own }
     requires other { func_place both.now.other address ≡ Some pair.now.met.other }
-    requires first { pair.now.met.first ≤ address }
-    requires last { address ≤ pair.now.met.last }
+    requires met { AreFuncMeetings both.now.own both.now.other met.now }
     requires pair { IsFuncPair both.now.own both.now.other pair.now }
     ensures { IfSome result (λ found. found ≡ first_in Names both.now.own both.now.other address) }
 {
-    let Some(chains) = &pair.chains else {
+    if !have_one_chain(met, pair, address) {
         return None;
-    };
-    let alike = is_alike_at(chains, address);
+    }
     let a = both.own().line_at(pair.met.own, address)?;
     let b = both.other().line_at(pair.met.other, address)?;
-    Some(first_in_funcs(both, pair, alike, address, a, b))
+    Some(first_in_funcs(both, pair, address, a, b))
 }
 
 /// What the files name differently at an address, where it may be known whether the functions have one name.
@@ -352,8 +368,6 @@ fn first_by_answers(
 fn met_at<'p>(pairs: &'p [FuncPair], both: &Both<'_>, address: u64) -> Option<&'p FuncPair>
     ensures own { IfSome result (λ pair. func_place both.now.own address ≡ Some pair.now.met.own) }
     ensures other { IfSome result (λ pair. func_place both.now.other address ≡ Some pair.now.met.other) }
-    ensures first { IfSome result (λ pair. pair.now.met.first ≤ address) }
-    ensures last { IfSome result (λ pair. address ≤ pair.now.met.last) }
     ensures is { IfSome result (λ pair. (mine theirs : List SymLine) → AreFuncPairs mine theirs pairs.now → IsFuncPair mine theirs pair.now) }
 {
     if pairs.is_empty() {
@@ -361,23 +375,23 @@ fn met_at<'p>(pairs: &'p [FuncPair], both: &Both<'_>, address: u64) -> Option<&'
     }
     let own = both.own().func_at(address)?;
     let other = both.other().func_at(address)?;
-    pair_at(pairs, own, other, address)
+    pair_of(pairs, own, other)
 }
 
 /// What the files name differently at an address.
 pub(crate) fn first_name_aspect(
     alloc: Global,
-    pairs: &[FuncPair],
+    met: &FuncMeetings,
     both: &Both<'_>,
     address: u64,
 ) -> Result<Option<Aspect>, OutOfMemory>
-    requires { AreFuncPairs both.now.own both.now.other pairs.now }
+    requires { AreFuncMeetings both.now.own both.now.other met.now }
     ensures { IfOk result (λ found. found ≡ first_in Names both.now.own both.now.other address) }
 {
-    let Some(pair) = met_at(pairs, both, address) else {
+    let Some(pair) = met_at(met.pairs.as_slice(), both, address) else {
         return first_by_answers(alloc, both, None, address);
     };
-    match first_by_chains(both, pair, address) {
+    match first_by_chains(both, met, pair, address) {
         Some(found) => Ok(found),
         None => first_by_answers(alloc, both, Some(pair.same_name), address),
     }

@@ -1,12 +1,12 @@
 //! Two files that are compared in one half.
 ghost use Rattle.std.specs.Prelude.{◌≡◌, IfOk};
-ghost use Rattle.sym_judge.specs.internal.Chains.{AreFuncPairs};
+ghost use Rattle.sym_judge.specs.internal.Chains.{AreFuncMeetings};
 ghost use Rattle.sym_judge.specs.internal.RuleAliases.{AreRuleAliasesOf};
 ghost use Rattle.sym_judge.specs.internal.Stops.{first_in};
 
 use crate::both::Both;
 use crate::frames::first_frame_aspect;
-use crate::meetings::{FuncPair, func_pairs};
+use crate::meetings::{FuncMeetings, func_meetings, no_meetings};
 use crate::names::first_name_aspect;
 use crate::rule_aliases::{RuleAliases, no_rule_aliases, rule_aliases};
 use crate::ruled::Ruled;
@@ -22,7 +22,7 @@ use sym_edges::OutOfMemory;
 pub(crate) struct Pair<'a, 'f> {
     half: Half,
     both: &'a Both<'f>,
-    funcs: Vec<FuncPair>,
+    funcs: FuncMeetings,
     own: Ruled<'a, 'f>,
     other: Ruled<'a, 'f>,
     aliases: RuleAliases,
@@ -30,7 +30,7 @@ pub(crate) struct Pair<'a, 'f> {
 
 impl<'a, 'f> Model for Pair<'a, 'f> {
     ghost use Rattle.std.specs.Prelude.{◌≡◌};
-    ghost use Rattle.sym_judge.specs.internal.Chains.{AreFuncPairs};
+    ghost use Rattle.sym_judge.specs.internal.Chains.{AreFuncMeetings};
     ghost use Rattle.sym_judge.specs.internal.RuleAliases.{AreRuleAliasesOf};
     ghost use Rattle.sym_judge.specs.internal.Stops.{Compared};
 
@@ -38,7 +38,7 @@ impl<'a, 'f> Model for Pair<'a, 'f> {
 
     ghost view = { λ p. record { half = p.half; own = p.both.now.own; other = p.both.now.other } };
 
-    ghost invariant = { λ p. AreFuncPairs p.both.now.own p.both.now.other p.funcs.items × (p.own ≡ p.both.now.own) × (p.other ≡ p.both.now.other) × AreRuleAliasesOf p.both.now.own p.both.now.other p.aliases };
+    ghost invariant = { λ p. AreFuncMeetings p.both.now.own p.both.now.other p.funcs × (p.own ≡ p.both.now.own) × (p.other ≡ p.both.now.other) × AreRuleAliasesOf p.both.now.own p.both.now.other p.aliases };
 }
 
 /// What is known of functions that meet where names may differ.
@@ -48,15 +48,15 @@ fn funcs(
     both: &Both<'_>,
     doubts: &StepMap<bool>,
     stops: &[u64],
-) -> Result<Vec<FuncPair>, OutOfMemory>
-    ensures { IfOk result (λ funcs. AreFuncPairs both.now.own both.now.other funcs.items) }
+) -> Result<FuncMeetings, OutOfMemory>
+    ensures { IfOk result (λ funcs. AreFuncMeetings both.now.own both.now.other funcs) }
 {
     if stops.is_empty() {
-        return Ok(Vec::new(alloc));
+        return Ok(no_meetings(alloc));
     }
     match half {
-        Half::Names => func_pairs(alloc, both, doubts, stops),
-        Half::Frames => Ok(Vec::new(alloc)),
+        Half::Names => func_meetings(alloc, both, doubts),
+        Half::Frames => Ok(no_meetings(alloc)),
     }
 }
 
@@ -120,7 +120,7 @@ impl<'a, 'f> Pair<'a, 'f> {
         ensures { IfOk result (λ found. found ≡ first_in self.now.half self.now.own self.now.other address) }
     {
         match self.half {
-            Half::Names => first_name_aspect(alloc, self.funcs.as_slice(), self.both, address),
+            Half::Names => first_name_aspect(alloc, &self.funcs, self.both, address),
             Half::Frames => first_frame_aspect(
                 alloc,
                 &self.aliases,

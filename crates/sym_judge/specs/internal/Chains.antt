@@ -1,49 +1,111 @@
--- Where two functions have the same chains of inlined calls, as maps from addresses tell it.
-use Rattle.std.specs.Prelude.{◌≡◌, ℕ, ◌==◌, ◌&&◌, ◌≤◌, ◌<◌, ◌^◌, nat_le, Bool, true, if◌then◌else◌, List, [], ◌∷◌, map, Option, None, Some, IfSome}
+-- Chains of inlined calls by numbers, and what is known of two functions.
+use Rattle.std.specs.Prelude.{◌≡◌, ℕ, ◌<◌, ◌^◌, ◌++◌, Bool, true, false, List, [], ◌∷◌, map, codes, Option, Some, slice_get}
+use Rattle.std.specs.Option.{option_and_then, option_map_or, unwrap_or}
+use Rattle.std.specs.Str.{bytes_eq}
 use Rattle.sym_records.specs.declared.line.SymLine.{SymLine}
+use Rattle.sym_meaning.specs.TextNames.{Call, text_origin}
 use Rattle.step_maps.specs.declared.stretch.FirstItem.{FirstItem}
-use Rattle.step_maps.specs.Stepping.{Stepping}
+use Rattle.step_maps.specs.Stepping.{Stepping, value_at}
 use Rattle.sym_lookup.specs.Answers.{chain_places}
-use Rattle.sym_lookup.specs.AnswerTexts.{call_at, func_name_at}
+use Rattle.sym_lookup.specs.AnswerTexts.{call_at, call_name, func_name_at}
 use Rattle.sym_lookup.specs.PlaceMaps.{place_in}
 use Rattle.sym_lookup.specs.UnderOf.{chain_in}
-use Rattle.sym_judge.specs.Alike.{same_list, same_call}
-use Rattle.std.specs.Str.{bytes_eq}
+use Rattle.sym_judge.specs.declared.names.CallSpot.{CallSpot}
+use Rattle.sym_judge.specs.declared.numbers.Entry.{Entry}
+use Rattle.sym_judge.specs.declared.numbers.Entry.TheVariants as entry
+use Rattle.sym_judge.specs.declared.chains.ChainPart.{ChainPart}
+use Rattle.sym_judge.specs.declared.chains.ChainPart.TheVariants.{Nothing, Whole, Ended, Unlike}
+use Rattle.sym_judge.specs.declared.chains.FuncChains.{FuncChains}
 use Rattle.sym_judge.specs.declared.meetings.FuncPair.{FuncPair}
+use Rattle.sym_judge.specs.declared.meetings.FuncMeetings.{FuncMeetings}
+use Rattle.sym_judge.specs.internal.Spots.{spot_view, call_spot_of}
 
--- what a level says of two chains, by the INLINE records that each has there: nothing where both have the same call, 0 where both have ended, 1
--- where they differ
-abbrev pub level_told : List SymLine → List SymLine → Option ℕ → Option ℕ → Option ℕ
-level_told own other None None = Some 0
-level_told own other (Some a) (Some b) = if same_call (call_at own a) (call_at other b) then None else Some 1
-level_told own other _ _ = Some 1
+-- what is compared of a call: the name that is shown, and where it is
+abbrev pub Shown : Type 0
+Shown = List ℕ × (Option (List ℕ) × ℕ)
 
-abbrev pub level_at : List SymLine → List SymLine → Stepping (Option FirstItem) → Stepping (Option FirstItem) → ℕ → Option ℕ
-level_at own other a b x = level_told own other (place_in a x) (place_in b x)
+abbrev pub shown : Call → Shown
+shown call = (call_name call, call_spot_of call)
 
--- what is told of the addresses from one to another
-abbrev pub told_within : ℕ → ℕ → Option ℕ → ℕ → Option ℕ
-told_within first last told x = if nat_le first x && nat_le x last then told else None
+-- the same of a call that is named by a file's numbers
+abbrev pub shown_call : List SymLine → CallSpot → Shown
+shown_call own call = (unwrap_or (option_and_then (text_origin own) call.origin) (codes "<name omitted>"), spot_view own call.spot)
 
--- whether chains are the same, by what is told first; where nothing is told, by what the further levels say
-abbrev pub alike_by : Option ℕ → Bool → Bool
-alike_by None later = later
-alike_by (Some told) later = told == 0
+-- a chain as it is put together
+pub data ChainTree : Type 0 where
+  One : (call : CallSpot) → ChainTree
+  Two : (front back : ChainTree) → ChainTree
 
--- whether the chains are the same, by maps of their levels
-abbrev pub same_chain : List SymLine → List SymLine → List (Stepping (Option FirstItem)) → List (Stepping (Option FirstItem)) → ℕ → Bool
-same_chain own other a b x = same_list same_call (map (call_at own) (chain_in a x)) (map (call_at other) (chain_in b x))
+abbrev pub calls_of_tree : List SymLine → ChainTree → List Shown
+calls_of_tree own (One call) = shown_call own call ∷ []
+calls_of_tree own (Two front back) = calls_of_tree own front ++ calls_of_tree own back
 
--- at each address from one to another the chains of two functions are the same, or they are not, as a map tells
-pub record IsChainMap (own other : List SymLine) (i j first last : ℕ) (told : Stepping (Option FirstItem)) : Type 0 where
-  pub same : (x : ℕ) → first ≤ x → x ≤ last → x < 2 ^ 64 →
-      alike_by (place_in told x) true ≡ same_list same_call (map (call_at own) (chain_places own i x)) (map (call_at other) (chain_places other j x))
+-- the entry of a number, and those of the numbers in it, put a chain together so
+abbrev pub IsNumberOf : List Entry → ChainTree → ℕ → Type 0
+IsNumberOf entries (One call) n = slice_get entries n ≡ Some (entry.Call call)
+IsNumberOf entries (Two front back) n = (i : ℕ) × (j : ℕ) × (slice_get entries n ≡ Some (entry.Joined i j)) × IsNumberOf entries front i × IsNumberOf entries back j
 
--- what is known of two functions: whether their names are the same, and where their chains are
+-- a number stands for some calls
+pub record Means (own : List SymLine) (entries : List Entry) (n : ℕ) (calls : List Shown) : Type 0 where
+  pub tree : ChainTree
+  pub number : IsNumberOf entries tree n
+  pub are : calls ≡ calls_of_tree own tree
+
+-- each number keeps its entry
+abbrev pub Keeps : List Entry → List Entry → Type 0
+Keeps old new = (n : ℕ) (e : Entry) → slice_get old n ≡ Some e → slice_get new n ≡ Some e
+
+-- what is told of the calls of some levels, and of whether each level has one
+abbrev pub IsPart : List SymLine → List Entry → List Shown → Bool → ChainPart → Type 0
+IsPart own entries calls full Nothing = (calls ≡ []) × (full ≡ false)
+IsPart own entries calls full (Whole n) = Means own entries n calls × (full ≡ true)
+IsPart own entries calls full (Ended n) = Means own entries n calls × (full ≡ false)
+IsPart own entries calls full Unlike = Unit {0}
+
+-- the call of the INLINE at a place, where there is one, and those at some places
+abbrev pub calls_there : List SymLine → Option ℕ → List Shown
+calls_there lines place = option_map_or (λ place. shown (call_at lines place) ∷ []) place []
+
+abbrev pub shown_calls : List SymLine → List ℕ → List Shown
+shown_calls lines places = map (λ place. shown (call_at lines place)) places
+
+-- whether each level has a record at an address
+abbrev pub is_full : List (Stepping (Option FirstItem)) → ℕ → Bool
+is_full [] x = true
+is_full (level ∷ levels) x = option_map_or (λ place. is_full levels x) (place_in level x) false
+
+-- a map tells of the calls of some levels at each address
+pub record AreMapped (own lines : List SymLine) (entries : List Entry) (levels : List (Stepping (Option FirstItem))) (map : Stepping ChainPart) : Type 0 where
+  pub parts : (x : ℕ) → x < 2 ^ 64 → IsPart own entries (shown_calls lines (chain_in levels x)) (is_full levels x) (value_at Nothing map x)
+
+-- the same, whichever levels each have a call
+pub record IsPartOf (own : List SymLine) (entries : List Entry) (calls : List Shown) (part : ChainPart) : Type 0 where
+  pub full : Bool
+  pub is : IsPart own entries calls full part
+
+-- a map tells of the chain of a FUNC at each address
+pub record IsChainMap (own lines : List SymLine) (entries : List Entry) (func : ℕ) (map : Stepping ChainPart) : Type 0 where
+  pub parts : (x : ℕ) → x < 2 ^ 64 → IsPartOf own entries (shown_calls lines (chain_places lines func x)) (value_at Nothing map x)
+
+abbrev pub AreFuncChains : List SymLine → List SymLine → List Entry → List FuncChains → Type 0
+AreFuncChains own lines entries [] = Unit {0}
+AreFuncChains own lines entries (f ∷ funcs) = IsChainMap own lines entries f.func f.chains × AreFuncChains own lines entries funcs
+
+-- two functions have one name, or they do not
 pub record IsFuncPair (own other : List SymLine) (pair : FuncPair) : Type 0 where
   pub named : pair.same_name ≡ bytes_eq (func_name_at own pair.met.own) (func_name_at other pair.met.other)
-  pub chains : IfSome pair.chains (IsChainMap own other pair.met.own pair.met.other pair.met.first pair.met.last)
 
 abbrev pub AreFuncPairs : List SymLine → List SymLine → List FuncPair → Type 0
 AreFuncPairs own other [] = Unit {0}
 AreFuncPairs own other (p ∷ pairs) = IsFuncPair own other p × AreFuncPairs own other pairs
+
+-- the chains of functions of both files, by one numbering
+pub record AreNumbered (own other : List SymLine) (mine theirs : List FuncChains) : Type 0 where
+  pub entries : List Entry
+  pub first : AreFuncChains own own entries mine
+  pub second : AreFuncChains own other entries theirs
+
+-- what is known of functions that meet
+pub record AreFuncMeetings (own other : List SymLine) (met : FuncMeetings) : Type 0 where
+  pub pairs : AreFuncPairs own other met.pairs.items
+  pub chains : AreNumbered own other met.own.items met.other.items
