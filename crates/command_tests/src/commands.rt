@@ -86,23 +86,35 @@ fn answer<R: Threads + Sync, G: Gate + Sync>(
     Ok((status, out, err))
 }
 
-/// Words over the file `d/a.out` give this status and these texts.
+/// Words over the file `d/a.out`, and what they are called where something else comes of them.
+#[derive(Clone, Copy)]
+struct Asked<'a> {
+    label: &'a str,
+    words: &'a [&'a str],
+    file: &'a [u8],
+}
+
+/// The status and both texts that are wanted.
+#[derive(Clone, Copy)]
+struct Wanted<'a> {
+    status: u8,
+    out: &'a [u8],
+    err: &'a [u8],
+}
+
+/// Words give this status and these texts.
 fn expect<R: Abort + Threads + Sync, G: Gate + Sync>(
     rt: &R,
     gate: &G,
     alloc: Global,
-    label: &str,
-    words: &[&str],
-    file: &[u8],
+    asked: Asked<'_>,
     edges: Edges<'_>,
-    status: u8,
-    out: &[u8],
-    err: &[u8],
+    wanted: Wanted<'_>,
 ) -> Result<(), Fail> {
-    let (found, to_out, to_err) = answer(rt, gate, alloc, words, file, edges)?;
-    same(rt, label, &[found], &[status]);
-    same(rt, label, to_out.written(), out);
-    same(rt, label, to_err.written(), err);
+    let (found, to_out, to_err) = answer(rt, gate, alloc, asked.words, asked.file, edges)?;
+    same(rt, asked.label, &[found], &[wanted.status]);
+    same(rt, asked.label, to_out.written(), wanted.out);
+    same(rt, asked.label, to_err.written(), wanted.err);
     Ok(())
 }
 
@@ -110,37 +122,12 @@ fn expect<R: Abort + Threads + Sync, G: Gate + Sync>(
 fn expect_form<R: Abort + Threads + Sync>(
     rt: &R,
     alloc: Global,
-    label: &str,
-    words: &[&str],
-    file: &[u8],
-    status: u8,
-    out: &[u8],
-    err: &[u8],
+    asked: Asked<'_>,
+    wanted: Wanted<'_>,
 ) -> Result<(), Fail> {
     let slow = Edges { step: 1, ..SMOOTH };
-    expect(
-        rt, &NoGate, alloc, label, words, file, slow, status, out, err,
-    )?;
-    expect(
-        rt, &NoGate, alloc, label, words, file, SMOOTH, status, out, err,
-    )
-}
-
-/// The same of each of these words.
-fn expect_forms<R: Abort + Threads + Sync>(
-    rt: &R,
-    alloc: Global,
-    label: &str,
-    forms: &[Words],
-    file: &[u8],
-    status: u8,
-    out: &[u8],
-    err: &[u8],
-) -> Result<(), Fail> {
-    for words in forms {
-        expect_form(rt, alloc, label, words, file, status, out, err)?;
-    }
-    Ok(())
+    expect(rt, &NoGate, alloc, asked, slow, wanted)?;
+    expect(rt, &NoGate, alloc, asked, SMOOTH, wanted)
 }
 
 /// The row's status and texts, by each of its forms.
@@ -149,7 +136,20 @@ fn expect_row<R: Abort + Threads + Sync>(rt: &R, alloc: Global, row: Row) -> Res
     let file = file_by(alloc, given)?;
     let out = joined(alloc, out)?;
     let err = joined(alloc, err)?;
-    expect_forms(rt, alloc, label, forms, &file, status, &out, &err)
+    let wanted = Wanted {
+        status,
+        out: &out,
+        err: &err,
+    };
+    for words in forms {
+        let asked = Asked {
+            label,
+            words,
+            file: &file,
+        };
+        expect_form(rt, alloc, asked, wanted)?;
+    }
+    Ok(())
 }
 
 /// The same of rows.
@@ -185,18 +185,14 @@ fn samples_have_their_rows(rt: HostRuntime) -> Result<(), Fail> {
 fn expect_fronts<R: Abort + Threads + Sync>(
     rt: &R,
     alloc: Global,
-    label: &str,
-    words: &[&str],
-    file: &[u8],
+    asked: Asked<'_>,
     store: &[u64],
-    status: u8,
-    out: &[u8],
-    err: &[u8],
+    wanted: Wanted<'_>,
 ) -> Result<(), Fail> {
-    let whole = out.len().saturating_add(err.len());
+    let whole = wanted.out.len().saturating_add(wanted.err.len());
     for written in 0..=whole {
-        let to_out = written.min(out.len());
-        let to_err = written.saturating_sub(to_out).min(err.len());
+        let to_out = written.min(wanted.out.len());
+        let to_err = written.saturating_sub(to_out).min(wanted.err.len());
         let edges = Edges {
             step: 1,
             room: 1000,
@@ -204,11 +200,12 @@ fn expect_fronts<R: Abort + Threads + Sync>(
             out: &[(to_out as u64).saturating_add(1)],
             err: &[(to_err as u64).saturating_add(1)],
         };
-        let status = if written < whole { 4 } else { status };
-        let (out, err) = (out.split_at(to_out).0, err.split_at(to_err).0);
-        expect(
-            rt, &NoGate, alloc, label, words, file, edges, status, out, err,
-        )?;
+        let front = Wanted {
+            status: if written < whole { 4 } else { wanted.status },
+            out: wanted.out.split_at(to_out).0,
+            err: wanted.err.split_at(to_err).0,
+        };
+        expect(rt, &NoGate, alloc, asked, edges, front)?;
     }
     Ok(())
 }
@@ -220,7 +217,17 @@ fn each_call_that_fails_leaves_a_front(rt: HostRuntime) -> Result<(), Fail> {
         let file = file_by(alloc, given)?;
         let out = joined(alloc, out)?;
         let err = joined(alloc, err)?;
-        expect_fronts(&rt, alloc, label, words, &file, store, status, &out, &err)?;
+        let asked = Asked {
+            label,
+            words,
+            file: &file,
+        };
+        let wanted = Wanted {
+            status,
+            out: &out,
+            err: &err,
+        };
+        expect_fronts(&rt, alloc, asked, store, wanted)?;
     }
     Ok(())
 }
@@ -233,15 +240,23 @@ fn expect_unread<R: Abort + Threads + Sync>(
     file: &[u8],
     calls: usize,
 ) -> Result<(), Fail> {
+    let asked = Asked {
+        label: "store",
+        words,
+        file,
+    };
+    let wanted = Wanted {
+        status: 3,
+        out: b"",
+        err: UNREAD,
+    };
     for call in 1..=calls as u64 {
         let edges = Edges {
             step: 1,
             store: &[call],
             ..SMOOTH
         };
-        expect(
-            rt, &NoGate, alloc, "store", words, file, edges, 3, b"", UNREAD,
-        )?;
+        expect(rt, &NoGate, alloc, asked, edges, wanted)?;
     }
     Ok(())
 }
@@ -271,25 +286,23 @@ fn each_call_that_fails_has_its_status(rt: HostRuntime) -> Result<(), Fail> {
 fn a_sink_without_room_has_its_status(rt: HostRuntime) -> Result<(), Fail> {
     let file = small_and(rt.alloc(), NULL)?;
     let text = joined(rt.alloc(), &[FRONT, MAIN])?;
+    let asked = Asked {
+        label: "room",
+        words: DUMP,
+        file: &file,
+    };
     for room in 0..text.len() {
         let edges = Edges {
             step: 50,
             room,
             ..SMOOTH
         };
-        let out = text.split_at(room).0;
-        expect(
-            &rt,
-            &NoGate,
-            rt.alloc(),
-            "room",
-            DUMP,
-            &file,
-            edges,
-            4,
-            out,
-            b"",
-        )?;
+        let wanted = Wanted {
+            status: 4,
+            out: text.split_at(room).0,
+            err: b"",
+        };
+        expect(&rt, &NoGate, rt.alloc(), asked, edges, wanted)?;
     }
     Ok(())
 }
@@ -304,7 +317,17 @@ fn expect_meeting<R: Abort + Threads + Sync>(
     out: &[u8],
 ) -> Result<(), Fail> {
     let gate = Holding::new(0, others);
-    expect(rt, &gate, alloc, "held", words, file, SMOOTH, 0, out, b"")?;
+    let asked = Asked {
+        label: "held",
+        words,
+        file,
+    };
+    let wanted = Wanted {
+        status: 0,
+        out,
+        err: b"",
+    };
+    expect(rt, &gate, alloc, asked, SMOOTH, wanted)?;
     same(rt, "the others are reached", &gate.seen(), &[others, 0]);
     Ok(())
 }

@@ -23,7 +23,7 @@ fn bytes_of(alloc: Global, text: &SymText) -> Result<Vec<u8>, OutOfMemory>
     Ok(bytes)
 }
 
-/// The records of a text. It reads, so that only want of memory can stop the reader.
+/// The records of a text. It reads, so that only running out of memory can stop the reader.
 pub fn read_back(alloc: Global, text: &SymText) -> Result<SymFile, OutOfMemory>
     ensures { IfOk result (λ file. file ≡ text.now) }
 {

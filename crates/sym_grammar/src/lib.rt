@@ -3,11 +3,11 @@
 //! A `Reader` is fed a symbol file (Breakpad's symbol_files.md) in pieces of any size, and answers its records once the text has
 //! ended. Its contract speaks of what follows: what a reader will answer if the text goes on with some bytes and ends is the
 //! reading of all bytes, wherever they were cut. A fault comes as soon as the byte that decides it was fed, with the number
-//! of its line, and stays; so does want of memory. The reader holds the records and at most one line of 2^20 bytes: a line
+//! of its line, and stays; so does running out of memory. The reader holds the records and at most one line of 2^20 bytes: a line
 //! that lies wholly in a piece is read where it stands. `read_file` reads a symbol file of a store by it.
 #![tactic(auto)]
 
-// Where a text is cut into lines, and a line into fields.
+// Where a text is cut into lines.
 mod cuts;
 
 // The fields.

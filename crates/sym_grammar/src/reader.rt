@@ -54,7 +54,7 @@ impl Reader {
     /// Takes the next piece of the text, of any length.
     ///
     /// A fault comes as soon as the byte that decides it was fed: the LF of a line, or the byte that makes a line too long.
-    /// After a fault and after want of memory each call answers the same.
+    /// After a fault and after memory ran out each call answers the same.
     #[tactic(auto, using(crate::proofs::ReaderLemmas::fed, crate::proofs::DecidedLemmas::ok_decided, crate::proofs::DecidedLemmas::stop_decided))]
     pub fn feed(&mut self, alloc: Global, piece: &[u8]) -> Result<(), Stop<TextFault>>
         ensures feeds { Feeds result self.old piece.now self.new }

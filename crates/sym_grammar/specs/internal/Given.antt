@@ -6,7 +6,7 @@ use Rattle.sym_rules.specs.declared.rules.Token.{Token}
 use Rattle.sym_rules.specs.declared.text_fault.TextKind.{TextKind}
 use Rattle.sym_grammar.specs.internal.Runs.{grown, token_run}
 
--- the call gave what the definition reads, or its fault; want of memory is free
+-- the call gave what the definition reads, or its fault; that memory ran out is free
 abbrev pub Gives : {A B F : Type 0} → Result A (Stop F) → (A → B) → Result B F → Type 0
 Gives (Ok x) shown read = read ≡ Ok (shown x)
 Gives (Err (Fault fault)) shown read = read ≡ Err fault
