@@ -177,12 +177,12 @@ names_in_parts units name (p ∷ parts) =
     ∙ ap (λ b. names_origin units name p || b) (names_in_parts units name parts)
 
 -- all together
-pub functions_added : (base : ℕ) (units : List UnitRead) (pieces : List Piece) (held : List (List InlineParts)) (used sorted slices names : List (Bor (List ℕ))) (texts : List (List ℕ)) (numbers : Numbers) (old filed named new : List ℕ) → AreHeld units pieces held → Gathered units pieces held (has_text used) → IsStrictlySortedBy text_cmp sorted → SameTexts used sorted
-    → ((name : List ℕ) → list_any (bytes_eq name) texts ≡ list_any (bytes_eq name) (all_names units pieces held)) → bytes_of slices ≡ texts → IsStrictlySortedBy text_cmp names → SameTexts slices names
+pub functions_added : (base : ℕ) (units : List UnitRead) (pieces : List Piece) (held : List (List InlineParts)) (used sorted slices names : List (Bor (List ℕ))) (numbers : Numbers) (old filed named new : List ℕ) → AreHeld units pieces held → Gathered units pieces held (has_text used) → IsStrictlySortedBy text_cmp sorted → SameTexts used sorted
+    → ((name : List ℕ) → list_any (bytes_eq name) (bytes_of slices) ≡ list_any (bytes_eq name) (all_names units pieces held)) → IsStrictlySortedBy text_cmp names → SameTexts slices names
     → numbers.rows.now ≡ unit_numbers (bytes_of sorted) units → numbers.omitted ≡ number_or_0 (bytes_of sorted) no_path → numbers.names.now ≡ names
     → filed ≡ old ++ canon_text (file_lines 0 (bytes_of sorted)) → first_bad_from 0 Inside (file_lines 0 (bytes_of sorted)) ≡ None → named ≡ filed ++ canon_text (origin_lines 0 (bytes_of names)) → first_bad_from 0 Inside (origin_lines 0 (bytes_of names)) ≡ None
     → AddsParts base numbers units pieces held named new → AddsFunctions base units pieces old new
-functions_added base units pieces held used sorted slices names texts numbers old filed named new are gathered strict same all_texts slices_are names_strict names_same rows omitted names_are files files_fit origins origins_fit adds =
+functions_added base units pieces held used sorted slices names numbers old filed named new are gathered strict same all_texts names_strict names_same rows omitted names_are files files_fit origins origins_fit adds =
     let paths : List (List ℕ) = bytes_of sorted in
     let owners : List (List ℕ) = bytes_of names in
     let parts : gathered.parts ≡ adds.parts = one_parts units gathered.parts adds.parts (gathered.pieces_are ∙ sym adds.pieces_are) (gathered.copies_are ∙ sym adds.copies_are) gathered.lines_are adds.lines_are in
@@ -191,7 +191,7 @@ functions_added base units pieces held used sorted slices names texts numbers ol
     let path_same : (path : List ℕ) → list_any (bytes_eq path) paths ≡ list_any (names_path units path) adds.parts
     = λ path. same_used used sorted path same ∙ gathered.same path ∙ ap (list_any (names_path units path)) parts in
     let name_same : (name : List ℕ) → list_any (bytes_eq name) owners ≡ list_any (names_origin units name) adds.parts
-    = λ name. same_used slices names name names_same ∙ sym (bytes_had slices name) ∙ ap (list_any (bytes_eq name)) slices_are ∙ all_texts name
+    = λ name. same_used slices names name names_same ∙ sym (bytes_had slices name) ∙ all_texts name
     ∙ ap (λ (ps : List Piece). list_any (bytes_eq name) (all_names units ps held)) (sym adds.pieces_are)
     ∙ ap (λ (cs : List (List InlineParts)). list_any (bytes_eq name) (all_names units (pieces_of adds.parts) cs)) (sym adds.copies_are)
     ∙ names_in_parts units name adds.parts in

@@ -1,5 +1,5 @@
 -- The names of the functions that were inlined, as they are gathered and numbered.
-use Rattle.std.proofs.Common.{◌≡◌, ℕ, zero, suc, ◌+◌, ◌<◌, ◌≤◌, Bool, true, false, map, length, take, drop, get_or, List, [], ◌∷◌, ◌++◌, ◌||◌, Some, unwrap_or, option_map, inl, inr, arith, refl, sym, ap, subst, ◌∙◌, append_assoc, append-nil}
+use Rattle.std.proofs.Common.{◌≡◌, ℕ, zero, suc, ◌+◌, ◌<◌, ◌≤◌, Bool, true, false, map, length, take, drop, get_or, List, [], ◌∷◌, ◌++◌, ◌||◌, Some, unwrap_or, option_map, inl, inr, arith, refl, sym, ap, subst, ◌∙◌, append_assoc, append-nil, Bor}
 use Rattle.std.proofs.Math.Seq.{take-append_seam, drop-append_seam}
 use Rattle.std.proofs.lemmas.List.{length-take-le, length-append, length-map, map-append, take_all}
 use Rattle.std.proofs.lemmas.List.Folds.{list_any-append}
@@ -11,10 +11,9 @@ use Rattle.die_names.specs.declared.name_source.NameRef.{NameRef}
 use Rattle.die_names.specs.Names.{entry_name}
 use Rattle.func_flatten.specs.declared.piece.Piece.{Piece}
 use Rattle.inline_chain.specs.InlineRuns.{InlineParts}
-use Rattle.func_records.specs.declared.found.FoundShare.{FoundShare}
-use Rattle.func_records.specs.internal.Shares.{all_refs}
-use Rattle.func_records.specs.internal.Origins.{made_name, entry_names, all_names, RefParts, AreAt, RefsSay, IsPlaced}
-use Rattle.func_records.proofs.ListLemmas.{take_next, flat_next, get_front, get_last, or_right}
+use Rattle.func_records.specs.internal.Gathering.{bytes_of}
+use Rattle.func_records.specs.internal.Origins.{made_name, entry_names, all_names, RefParts, AreAt, TextsSay, RefsSay, IsPlaced}
+use Rattle.func_records.proofs.ListLemmas.{take_next, get_front, get_last, or_right}
 use Rattle.func_records.proofs.NumberLemmas.{there}
 
 -- the names of a piece more
@@ -122,59 +121,55 @@ get_made units [] k name is = absurd (cc)
 get_made units (r ∷ refs) zero name is = ap (λ o. option_map (made_name units) o) is
 get_made units (r ∷ refs) (suc k) name is = get_made units refs k name is
 
+-- a text more
+said_kept : (texts : List (List ℕ)) (places : List ℕ) (names : List (List ℕ)) (name : List ℕ) (k : ℕ) → slice_get texts k ≡ Some name → TextsSay texts places names → TextsSay texts (places ++ k ∷ []) (names ++ name ∷ [])
+said_kept texts places names name k at say = record {
+  at = at_push texts places names k name say.at at;
+  same = λ text. had_already texts names k name text at (say.same text);
+}
+
+said_added : (texts : List (List ℕ)) (places : List ℕ) (names : List (List ℕ)) (name : List ℕ) → TextsSay texts places names → TextsSay (texts ++ name ∷ []) (places ++ length texts ∷ []) (names ++ name ∷ [])
+said_added texts places names name say = record {
+  at = at_push (texts ++ name ∷ []) places names (length texts) name (at_more texts (name ∷ []) places names say.at) (get_last texts name);
+  same = λ text. had_more texts names name text (say.same text);
+}
+
+said_more : (texts more : List (List ℕ)) (places stands : List ℕ) (names : List (List ℕ)) (name : List ℕ) (k : ℕ) → IsPlaced texts more name k → stands ≡ places ++ k ∷ [] → TextsSay texts places names → TextsSay more stands (names ++ name ∷ [])
+said_more texts more places stands names name k (inl stood) is say = rw is (rw stood.0 (said_kept texts places names name k stood.1 say))
+said_more texts more places stands names name k (inr grown) is say = rw is (rw grown.0 (rw grown.1 (said_added texts places names name say)))
+
 -- no reference yet
 pub refs_none : (units : List UnitRead) (parts : RefParts) (names : List (List ℕ)) → parts ≡ record { refs = []; places = [] } → names ≡ [] → RefsSay units parts names
 refs_none units parts names is none = rw is (rw none (record { at = tt; same = λ name. refl }))
 
 -- the reference of a name more
-refs_kept : (units : List UnitRead) (refs : List NameRef) (places : List ℕ) (names : List (List ℕ)) (name : NameRef) (k : ℕ) → slice_get refs k ≡ Some name → RefsSay units (record { refs = refs; places = places }) names → RefsSay units (record { refs = refs; places = places ++ k ∷ [] }) (names ++ made_name units name ∷ [])
-refs_kept units refs places names name k at say = record {
-  at = at_push (map (made_name units) refs) places names k (made_name units name) say.at (get_made units refs k name at);
-  same = λ text. had_already (map (made_name units) refs) names k (made_name units name) text (get_made units refs k name at) (say.same text);
-}
-
-refs_added : (units : List UnitRead) (refs : List NameRef) (places : List ℕ) (names : List (List ℕ)) (name : NameRef) → RefsSay units (record { refs = refs; places = places }) names → RefsSay units (record { refs = refs ++ name ∷ []; places = places ++ length refs ∷ [] }) (names ++ made_name units name ∷ [])
-refs_added units refs places names name say =
-    let texts : List (List ℕ) = map (made_name units) refs in
-    let made : map (made_name units) (refs ++ name ∷ []) ≡ texts ++ made_name units name ∷ [] = map-append (made_name units) refs (name ∷ []) in
-    let last : slice_get (texts ++ made_name units name ∷ []) (length refs) ≡ Some (made_name units name) = ap (slice_get (texts ++ made_name units name ∷ [])) (sym (length-map refs (made_name units))) ∙ get_last texts (made_name units name) in
-    record {
-      at = subst (λ (ts : List (List ℕ)). AreAt ts (places ++ length refs ∷ []) (names ++ made_name units name ∷ [])) (sym made) (at_push (texts ++ made_name units name ∷ []) places names (length refs) (made_name units name) (at_more texts (made_name units name ∷ []) places names say.at) last);
-      same = λ text. ap (list_any (bytes_eq text)) made ∙ had_more texts names (made_name units name) text (say.same text);
-    }
+made_placed : (units : List UnitRead) (refs after : List NameRef) (name : NameRef) (k : ℕ) → IsPlaced refs after name k → IsPlaced (map (made_name units) refs) (map (made_name units) after) (made_name units name) k
+made_placed units refs after name k (inl stood) = inl (ap (map (made_name units)) stood.0, get_made units refs k name stood.1)
+made_placed units refs after name k (inr grown) = inr (ap (map (made_name units)) grown.0 ∙ map-append (made_name units) refs (name ∷ []), grown.1 ∙ sym (length-map refs (made_name units)))
 
 pub refs_more : (units : List UnitRead) (old new : RefParts) (names : List (List ℕ)) (name : NameRef) (made : List ℕ) (k : ℕ) → IsPlaced old.refs new.refs name k → new.places ≡ old.places ++ k ∷ [] → made_name units name ≡ made → RefsSay units old names → RefsSay units new (names ++ made ∷ [])
 refs_more units old new names name made k placed added said say =
-    subst (λ (t : List ℕ). RefsSay units new (names ++ t ∷ [])) said (parts_more units old.refs old.places new.refs new.places names name k placed added say)
-  where
-    parts_more : (us : List UnitRead) (refs : List NameRef) (places : List ℕ) (after : List NameRef) (stands : List ℕ) (ns : List (List ℕ)) (r : NameRef) (j : ℕ) → IsPlaced refs after r j → stands ≡ places ++ j ∷ [] → RefsSay us (record { refs = refs; places = places }) ns → RefsSay us (record { refs = after; places = stands }) (ns ++ made_name us r ∷ [])
-    parts_more us refs places after stands ns r j (inl stood) is so = rw is (rw stood.0 (refs_kept us refs places ns r j stood.1 so))
-    parts_more us refs places after stands ns r j (inr grown) is so = rw is (rw grown.0 (rw grown.1 (refs_added us refs places ns r so)))
+    subst (λ (t : List ℕ). RefsSay units new (names ++ t ∷ [])) said
+    (said_more (map (made_name units) old.refs) (map (made_name units) new.refs) old.places new.places names (made_name units name) k (made_placed units old.refs new.refs name k placed) added say)
 
--- the names of references, one more
-pub refs_start : (units : List UnitRead) (refs : List NameRef) (parts : RefParts) (names : List (List ℕ)) → RefsSay units parts names → RefsSay units parts (names ++ map (made_name units) (take 0 refs))
-refs_start units refs parts names say = subst (RefsSay units parts) (sym (append-nil names)) say
+-- the bytes of a text at a place
+pub get_bytes : (texts : List (Bor (List ℕ))) (k : ℕ) (text : Bor (List ℕ)) → slice_get texts k ≡ Some text → slice_get (bytes_of texts) k ≡ Some text.now
+get_bytes [] k text is = absurd (cc)
+get_bytes (t ∷ texts) zero text is = ap (λ o. option_map (λ u. u.now) o) is
+get_bytes (t ∷ texts) (suc k) text is = get_bytes texts k text is
 
-pub refs_next : (units : List UnitRead) (refs : List NameRef) (n : ℕ) (d : NameRef) (parts : RefParts) (names : List (List ℕ)) → n < length refs → RefsSay units parts ((names ++ map (made_name units) (take n refs)) ++ made_name units (get_or refs n d) ∷ []) → RefsSay units parts (names ++ map (made_name units) (take (n + 1) refs))
-refs_next units refs n d parts names below say =
-    subst (RefsSay units parts)
-    (append_assoc names (map (made_name units) (take n refs)) (made_name units (get_or refs n d) ∷ [])
-    ∙ ap (λ ns. names ++ ns) (sym (map-append (made_name units) (take n refs) (get_or refs n d ∷ [])) ∙ ap (map (made_name units)) (sym (take_next refs n d below))))
-    say
+-- the name at a place more
+pub said_none : (texts names : List (List ℕ)) (places : List ℕ) → texts ≡ [] → places ≡ [] → TextsSay texts places (take 0 names)
+said_none texts names places no_text no_place = rw no_text (rw no_place (record { at = tt; same = λ name. refl }))
 
-pub refs_all : (units : List UnitRead) (refs : List NameRef) (n : ℕ) (parts : RefParts) (names : List (List ℕ)) → length refs ≤ n → RefsSay units parts (names ++ map (made_name units) (take n refs)) → RefsSay units parts (names ++ map (made_name units) refs)
-refs_all units refs n parts names all say = subst (λ (rs : List NameRef). RefsSay units parts (names ++ map (made_name units) rs)) (take_all n refs all) say
+pub said_next : (texts more : List (List ℕ)) (places stands : List ℕ) (names : List (List ℕ)) (n : ℕ) (d name : List ℕ) (k : ℕ) → n < length names → name ≡ get_or names n d → IsPlaced texts more name k → stands ≡ places ++ k ∷ [] → TextsSay texts places (take n names) → TextsSay more stands (take (n + 1) names)
+said_next texts more places stands names n d name k below is placed added say =
+    subst (TextsSay more stands)
+    (ap (λ t. take n names ++ t ∷ []) is ∙ sym (take_next names n d below))
+    (said_more texts more places stands (take n names) name k placed added say)
 
--- those of a share more
-pub share_said : (units : List UnitRead) (shares : List FoundShare) (k : ℕ) (d : FoundShare) (parts : RefParts) → k < length shares → RefsSay units parts (map (made_name units) (all_refs (take k shares)) ++ map (made_name units) (get_or shares k d).refs.items) → RefsSay units parts (map (made_name units) (all_refs (take (k + 1) shares)))
-share_said units shares k d parts below say =
-    subst (RefsSay units parts)
-    (sym (map-append (made_name units) (all_refs (take k shares)) (get_or shares k d).refs.items)
-    ∙ ap (map (made_name units)) (sym (flat_next (λ (f : FoundShare). f.refs.items) shares k d below)))
-    say
-
-pub shares_said : (units : List UnitRead) (shares : List FoundShare) (k : ℕ) (parts : RefParts) → length shares ≤ k → RefsSay units parts (map (made_name units) (all_refs (take k shares))) → RefsSay units parts (map (made_name units) (all_refs shares))
-shares_said units shares k parts all say = subst (λ (ss : List FoundShare). RefsSay units parts (map (made_name units) (all_refs ss))) (take_all k shares all) say
+pub said_all : (texts : List (List ℕ)) (places : List ℕ) (names : List (List ℕ)) (n : ℕ) → length names ≤ n → TextsSay texts places (take n names) → TextsSay texts places names
+said_all texts places names n all say = subst (TextsSay texts places) (take_all n names all) say
 
 -- the names of a piece's copies, one more
 pub copies_none : (units : List UnitRead) (unit : ℕ) (copies : List InlineParts) (parts : RefParts) (names : List (List ℕ)) → RefsSay units parts names → RefsSay units parts (names ++ entry_names units unit (take 0 copies))
@@ -208,14 +203,3 @@ places_numbered f texts numbers (k ∷ places) (n ∷ names) are at =
     get_mapped g [] j t is = absurd (cc)
     get_mapped g (u ∷ ts) zero t is = ap (option_map g) is
     get_mapped g (u ∷ ts) (suc j) t is = get_mapped g ts j t is
-
--- what is known of all references
-texts_made : (units : List UnitRead) (parts : RefParts) (refs slice : List NameRef) (texts : List (List ℕ)) → refs ≡ parts.refs → slice ≡ refs → texts ≡ map (made_name units) slice → texts ≡ map (made_name units) parts.refs
-texts_made units parts refs slice texts are same made = made ∙ ap (map (made_name units)) (same ∙ are)
-
-pub names_placed : (units : List UnitRead) (parts : RefParts) (names : List (List ℕ)) (refs slice : List NameRef) (places : List ℕ) (texts : List (List ℕ)) → RefsSay units parts names → refs ≡ parts.refs → places ≡ parts.places → slice ≡ refs → texts ≡ map (made_name units) slice → AreAt texts places names
-names_placed units parts names refs slice places texts say are stand same made =
-    subst (λ ps. AreAt texts ps names) (sym stand) (subst (λ ts. AreAt ts parts.places names) (sym (texts_made units parts refs slice texts are same made)) say.at)
-
-pub names_had : (units : List UnitRead) (parts : RefParts) (names : List (List ℕ)) (refs slice : List NameRef) (texts : List (List ℕ)) (name : List ℕ) → RefsSay units parts names → refs ≡ parts.refs → slice ≡ refs → texts ≡ map (made_name units) slice → list_any (bytes_eq name) texts ≡ list_any (bytes_eq name) names
-names_had units parts names refs slice texts name say are same made = ap (list_any (bytes_eq name)) (texts_made units parts refs slice texts are same made) ∙ say.same name

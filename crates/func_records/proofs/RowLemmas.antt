@@ -1,5 +1,5 @@
 -- For src/path_rows.rt: what is numbered unit by unit is numbered of all units.
-use Rattle.std.proofs.Common.{◌≡◌, ℕ, zero, suc, ◌<◌, length, get_or, map, List, [], ◌∷◌, Some, arith, refl, sym, ap, ◌∙◌}
+use Rattle.std.proofs.Common.{◌≡◌, ℕ, zero, suc, ◌<◌, length, get_or, map, List, [], ◌∷◌, Some, arith, ap, ◌∙◌}
 use Rattle.std.specs.List.{slice_get}
 use Rattle.std.proofs.lemmas.List.{nil_from_length}
 use Rattle.die_names.specs.declared.unit_read.UnitRead.{UnitRead}

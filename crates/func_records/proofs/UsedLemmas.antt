@@ -149,8 +149,8 @@ made_clean : (units : List UnitRead) (refs : List NameRef) → AreClean (map (ma
 made_clean units [] = tt
 made_clean units (r ∷ refs) = (cleaned_again (name_bytes units r), made_clean units refs)
 
-pub names_clean : (units : List UnitRead) (refs : List NameRef) (texts : List (List ℕ)) (slices sorted : List (Bor (List ℕ))) → texts ≡ map (made_name units) refs → bytes_of slices ≡ texts → SameTexts slices sorted → AreClean (bytes_of sorted)
-names_clean units refs texts slices sorted made are same =
+pub names_clean : (units : List UnitRead) (refs : List NameRef) (slices sorted : List (Bor (List ℕ))) → ((name : List ℕ) → list_any (bytes_eq name) (bytes_of slices) ≡ list_any (bytes_eq name) (map (made_name units) refs)) → SameTexts slices sorted → AreClean (bytes_of sorted)
+names_clean units refs slices sorted made same =
     each_clean (bytes_of sorted) (λ name had.
     any_clean (map (made_name units) refs) name (made_clean units refs)
-    (sym (ap (list_any (bytes_eq name)) (are ∙ made)) ∙ (bytes_had slices name ∙ (sym (same_used slices sorted name same) ∙ had))))
+    (sym (made name) ∙ (bytes_had slices name ∙ (sym (same_used slices sorted name same) ∙ had))))

@@ -5,6 +5,7 @@ ghost use Rattle.die_names.specs.CleanPaths.{HaveCleanPaths};
 ghost use Rattle.func_records.specs.Adding.{AddsFunctions};
 
 use crate::finder::find_shares;
+use crate::made_names::{DistinctNames, distinct_names};
 use crate::names::gather_names;
 use crate::numbers::{Numbers, number_of, numbers_at, numbers_of};
 use crate::path_list::no_path;
@@ -12,7 +13,7 @@ use crate::path_rows::number_rows;
 use crate::paths::path_texts;
 use crate::speller::{FoundPieces, add_shares};
 use crate::text_numbers::{Numbering, add_texts};
-use crate::text_ranks::{ranked_texts, text_slices};
+use crate::text_ranks::ranked_texts;
 use crate::writer::FuncWriter;
 use die_names::Units;
 use func_flatten::Piece;
@@ -46,17 +47,16 @@ pub fn add_functions<R: Threads + Sync>(
     let ranked_paths = ranked_texts(alloc, used.as_slice())?;
     let paths = ranked_paths.sorted.as_slice();
     let named = gather_names(rt, alloc, units, shares, workers)?;
-    let texts = named.texts.as_slice();
-    let slices = text_slices(alloc, texts)?;
-    let ranked_names = ranked_texts(alloc, slices.as_slice())?;
+    let DistinctNames { texts, places } = distinct_names(alloc, named.as_slice())?;
+    let ranked_names = ranked_texts(alloc, texts.as_slice())?;
     let names = ranked_names.sorted.as_slice();
     if paths.len() > u32::MAX as usize || names.len() > u32::MAX as usize {
         return Err(OutOfMemory);
     }
     let rows = number_rows(rt, alloc, units, paths, workers)?;
     let guesses = ranked_names.guesses.as_slice();
-    let known = numbers_of(alloc, names, slices.as_slice(), guesses)?;
-    let numbers = numbers_at(alloc, known.as_slice(), named.places.as_slice())?;
+    let known = numbers_of(alloc, names, texts.as_slice(), guesses)?;
+    let numbers = numbers_at(alloc, known.as_slice(), places.as_slice())?;
     let writer = FuncWriter {
         base,
         units,

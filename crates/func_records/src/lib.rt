@@ -9,7 +9,7 @@
 //! inlined there, and the line that it has in the file (`laws::names_are_kept`). A checker finds nothing in such a text
 //! (`laws::records_have_no_findings`).
 //!
-//! To read: `functions` first, then `shares`, `found` and `finder`; `place_guesses`, `origin_refs` and `names`; `calls`, `path_list`,
+//! To read: `functions` first, then `shares`, `found` and `finder`; `place_guesses`, `origin_refs`, `made_names` and `names`; `calls`, `path_list`,
 //! `call_paths` and `paths`; `text_ranks`, `gaps`, `numbers` and `path_rows`; `text_numbers`, `inlines` and `parts`; and `speller`.
 #![tactic(auto)]
 
@@ -21,6 +21,7 @@ mod functions;
 mod gaps;
 mod inlines;
 pub mod laws;
+mod made_names;
 mod names;
 mod numbers;
 mod origin_refs;

@@ -64,14 +64,6 @@ fn key_of(name: NameRef) -> u64 {
     u64::from(name.unit) << 32 | u64::from(name.entry)
 }
 
-/// The slot of an entry, where `starts` says how many entries the units before have.
-fn own_slot(starts: &[usize], name: NameRef) -> usize {
-    match starts.get(name.unit as usize) {
-        Some(start) => start.saturating_add(name.entry as usize),
-        None => 0,
-    }
-}
-
 /// The place of a reference, which is added where it is not known to be there.
 fn place_of(
     guesses: &mut PlaceGuesses,
@@ -125,17 +117,6 @@ impl OriginRefs {
     {
         let place = place_of(&mut self.guesses, slot, &mut self.refs, name)?;
         self.places.push(place)?;
-        Ok(())
-    }
-
-    /// Adds the places of references. Each entry has a slot of its own, where `starts` says how many entries the units before have.
-    pub fn add_refs(&mut self, starts: &[usize], refs: &[NameRef]) -> Result<(), OutOfMemory>
-        ensures { OnOk result ((units : List UnitRead) (names : List (List ℕ)) → RefsSay units self.old names → RefsSay units self.new (names ++ map (made_name units) refs.now)) }
-    {
-        'refs: for place in 0..refs.len() {
-            let name = refs[place];
-            self.add(own_slot(starts, name), name)?;
-        }
         Ok(())
     }
 

@@ -2,9 +2,7 @@
 ghost use Rattle.std.specs.Prelude.{◌≡◌, ◌<◌, ◌^◌, map, length, IfOk};
 ghost use Rattle.std.specs.List.Sorted.{IsStrictlySortedBy};
 ghost use Rattle.func_records.specs.internal.Texts.{text_cmp, SameTexts};
-ghost use Rattle.func_records.specs.internal.Gathering.{bytes_of};
 
-use die_names::EntryNameText;
 use std::alloc::Global;
 use sym_edges::OutOfMemory;
 
@@ -77,18 +75,4 @@ pub fn ranked_texts<'t>(alloc: Global, texts: &[&'t [u8]]) -> Result<RankedTexts
     sorted.dedup();
     let guesses = guess_places(alloc, placed.as_slice())?;
     Ok(RankedTexts { sorted, guesses })
-}
-
-/// The bytes of texts.
-pub fn text_slices<'t>(
-    alloc: Global,
-    texts: &'t [EntryNameText<'_>],
-) -> Result<Vec<&'t [u8]>, OutOfMemory>
-    ensures { IfOk result (λ slices. bytes_of slices.items ≡ texts.now) }
-{
-    let mut slices = Vec::with_capacity(alloc, texts.len())?;
-    'texts: for place in 0..texts.len() {
-        slices.push(texts[place].as_slice())?;
-    }
-    Ok(slices)
 }

@@ -36,14 +36,18 @@ AreAt texts [] [] = Unit {0}
 AreAt texts (k ∷ places) (name ∷ names) = (slice_get texts k ≡ Some name) × AreAt texts places names
 AreAt texts _ _ = ⊥
 
--- the references give the names that were asked for and no others, and the places lead to them
-pub record RefsSay (units : List UnitRead) (parts : RefParts) (names : List (List ℕ)) : Type 0 where
-  pub at : AreAt (map (made_name units) parts.refs) parts.places names
-  pub same : (name : List ℕ) → list_any (bytes_eq name) (map (made_name units) parts.refs) ≡ list_any (bytes_eq name) names
+-- texts, mostly once each, are the names and no others, and the places lead from each name to its text
+pub record TextsSay (texts : List (List ℕ)) (places : List ℕ) (names : List (List ℕ)) : Type 0 where
+  pub at : AreAt texts places names
+  pub same : (name : List ℕ) → list_any (bytes_eq name) texts ≡ list_any (bytes_eq name) names
 
--- a reference stood at a place, or was added there
-abbrev pub IsPlaced : List NameRef → List NameRef → NameRef → ℕ → Type 0
-IsPlaced old new name place = ((new ≡ old) × (slice_get old place ≡ Some name)) ⊎ ((new ≡ old ++ name ∷ []) × (place ≡ length old))
+-- the references give the names that were asked for and no others, and the places lead to them
+abbrev pub RefsSay : List UnitRead → RefParts → List (List ℕ) → Type 0
+RefsSay units parts names = TextsSay (map (made_name units) parts.refs) parts.places names
+
+-- a member stood at a place, or was added there
+abbrev pub IsPlaced : {A : Type 0} → List A → List A → A → ℕ → Type 0
+IsPlaced old new one place = ((new ≡ old) × (slice_get old place ≡ Some one)) ⊎ ((new ≡ old ++ one ∷ []) × (place ≡ length old))
 
 -- the numbers of the names of a piece's inlined copies, and of those of all pieces
 abbrev pub copy_numbers : Numbers → List UnitRead → ℕ → List InlineParts → List ℕ
