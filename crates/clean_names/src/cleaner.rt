@@ -29,11 +29,15 @@ fn shown_byte(b: u8) -> u8
     if b < 0x20 || b == 0x7f { b'?' } else { b }
 }
 
-/// Whether there is no control byte.
+/// Whether there is no control byte. All bytes are looked at, since a loop without a way out takes many at once.
 fn are_shown(bytes: &[u8]) -> bool
     ensures { result ≡ list_all (λ b. shown_byte b == b) bytes.now }
 {
-    bytes.iter().all(|b| shown_byte(*b) == *b)
+    let mut shown = true;
+    for at in 0..bytes.len() {
+        shown = shown & (shown_byte(bytes[at]) == bytes[at]);
+    }
+    shown
 }
 
 /// The bytes with `?` for each control byte.
