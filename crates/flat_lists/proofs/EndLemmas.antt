@@ -52,3 +52,14 @@ ordered from (next ∷ ends) count (suc (suc k)) end are there is = ordered next
 pub part_is : {A : Type 0} (members front list : List A) (start end : ℕ) → start ≤ end → front ≡ take end members → list ≡ drop start front → list ≡ take (end - start) (drop start members)
 part_is members front list start end rising is rest =
     rest ∙ ap (drop start) (is ∙ ap (λ n. take n members) (let whole : end ≡ start + (end - start) = omega (arith, rising) in whole)) ∙ drop-take start (end - start) members
+
+-- a list between two ends that are the same, and one after the last
+pub empty_between : {A : Type 0} (from : ℕ) (ends : List ℕ) (members list : List A) (k end : ℕ) → k < length ends → end ≡ get_or ends k end → begun from ends k ≡ end → slice_get (lists_to from ends members) k ≡ Some list → list ≡ []
+empty_between from ends members list k end there is same found =
+    let none : end - begun from ends k ≡ 0 = omega (arith, same) in
+    let made : Some (take (end - begun from ends k) (drop (begun from ends k) members)) ≡ Some list = sym (list_there from ends members k end there is) ∙ found in
+    let own : take (end - begun from ends k) (drop (begun from ends k) members) ≡ list = cc in
+    sym own ∙ ap (λ n. take n (drop (begun from ends k) members)) none
+
+pub empty_past : {A : Type 0} (from : ℕ) (ends : List ℕ) (members list : List A) (k : ℕ) → length ends ≤ k → slice_get (lists_to from ends members) k ≡ Some list → list ≡ []
+empty_past from ends members list k past found = absurd (let lost : None ≡ Some list = none_there from ends members k past ∙ found in cc)

@@ -83,6 +83,14 @@ pub covering_lost : (place : EntryRef) (die : DieFields) (sets : List (List Rang
 covering_lost place die sets old before none =
     subst (λ (o : Option (List Range)). Collects old old before before (functions_in (option_map_or (λ set. record { unit = place.unit; entry = place.entry; die = die; spans = set } ∷ []) o [])) []) none (collects_none old before [])
 
+-- an entry of which the set, where there is one, is empty
+pub covering_none : (place : EntryRef) (die : DieFields) (sets : List (List Range)) (old : List EntryRef) (before : List Stretch) → ((set : List Range) → slice_get sets place.entry ≡ Some set → set ≡ []) → Collects old old before before (functions_in (entry_covering place die sets)) []
+covering_none place die sets old before none = go (slice_get sets place.entry) refl
+  where
+    go : (o : Option (List Range)) → slice_get sets place.entry ≡ o → Collects old old before before (functions_in (entry_covering place die sets)) []
+    go None is = covering_lost place die sets old before (sym is)
+    go (Some set) is = covering_empty place die sets set old before (sym is) (ap length (none set is))
+
 pub covering_taken : (place : EntryRef) (die : DieFields) (sets : List (List Range)) (set : List Range) (old new : List EntryRef) (before after : List Stretch) → Some set ≡ slice_get sets place.entry → length set ≢ 0 → is_function die ≡ true → IsCanonical set → after ≡ before ++ span_stretches (length old) (length old) set → new ≡ old ++ place ∷ [] → Collects old new before after (functions_in (entry_covering place die sets)) []
 covering_taken place die sets set old new before after there some is canonical stretched placed =
     subst (λ (o : Option (List Range)). Collects old new before after (functions_in (option_map_or (λ s. record { unit = place.unit; entry = place.entry; die = die; spans = s } ∷ []) o [])) []) there
