@@ -374,17 +374,12 @@ stack_spent z bytes at within =
     (λ is. (let next = next_read bytes (codes "CFI") at (omega arith) is in cfi_spent z (from 32 (skip is_space bytes)) (from_parted (skip is_space bytes)) (omega (arith, within, next.size))))
     (if_spent z (bytes_eq (next_word bytes) (codes "WIN")) (Err fault.Windows) (Err fault.Unknown) (λ _. tt) tt)
 
+stack_word : (z : List ℕ) → bytes_eq (before 32 z) (codes "STACK") ≡ true → IfSpent z (stack_key (from 32 z))
+stack_word z is = stack_spent z (from 32 z) (from_parted z) (omega (arith, letter_long (before 32 z) (codes "STACK") is, before_from z))
+
 worded_spent : (z : List ℕ) → IfSpent z (worded_key (before 32 z) (from 32 z))
 unfolding worded_key
-worded_spent z =
-    if_spent z (bytes_eq (before 32 z) (codes "FUNC")) _ _ (word_spent z key.Func (codes "FUNC") refl)
-    (if_spent z (bytes_eq (before 32 z) (codes "INLINE")) _ _ (word_spent z key.Inline (codes "INLINE") refl)
-    (if_spent z (bytes_eq (before 32 z) (codes "STACK")) _ _ (λ is. stack_spent z (from 32 z) (from_parted z) (omega (arith, letter_long (before 32 z) (codes "STACK") is, before_from z)))
-    (if_spent z (bytes_eq (before 32 z) (codes "FILE")) _ _ (word_spent z key.File (codes "FILE") refl)
-    (if_spent z (bytes_eq (before 32 z) (codes "INLINE_ORIGIN")) _ _ (word_spent z key.Origin (codes "INLINE_ORIGIN") refl)
-    (if_spent z (bytes_eq (before 32 z) (codes "PUBLIC")) _ _ (word_spent z key.Public (codes "PUBLIC") refl)
-    (if_spent z (bytes_eq (before 32 z) (codes "INFO")) _ _ (word_spent z key.Info (codes "INFO") refl)
-    (if_spent z (bytes_eq (before 32 z) (codes "MODULE")) _ (Err fault.Unknown) (word_spent z key.Module (codes "MODULE") refl) tt)))))))
+worded_spent z = search (if_spent z, word_spent z, stack_word z) depth 40
 
 key_spent : (z : List ℕ) → IfSpent z (key_at z)
 unfolding key_at keyed
@@ -399,15 +394,7 @@ was_spent z r found spent given = subst (λ (x : Result (Keyword × List ℕ) Te
 made_body : (k : Keyword) (v : Values (layout k)) → body (made k v) ≡ drop 1 (headed k ++ spelled (layout k) v)
 unfolding body
 made_body key.Module v = refl
-made_body key.Info v = refl
-made_body key.File v = refl
-made_body key.Origin v = refl
-made_body key.Func v = refl
-made_body key.Inline v = refl
-made_body key.Line v = refl
-made_body key.Public v = refl
-made_body key.Init v = refl
-made_body key.Change v = refl
+made_body k v = refl
 
 fields_spent : (shape : Shape) (bytes : List ℕ) (v : Values shape) → fields_at shape bytes ≡ Ok v → Spent bytes (spelled shape v)
 unfolding fields_at

@@ -2,8 +2,8 @@
 use Rattle.std.proofs.Common.{◌≡◌, ℕ, ◌+◌, ◌&&◌, cond, true, false, List, [], ◌∷◌, ◌++◌, Some, None, refl, sym, ◌∙◌, ap}
 use Rattle.std.specs.List.{list_all}
 use Rattle.sym_rules.proofs.BoolLemmas.{and_true, both, elim_bool}
-use Rattle.sym_records.specs.Places.{Role, First, Own, Owner, Owned, Frames, Changes, role, may_stand, place_behind_role, is_change_role}
-use Rattle.sym_records.specs.Records.{keyword}
+use Rattle.sym_records.specs.Places.{Role, First, Own, Owner, Owned, Frames, Changes, may_stand, place_behind_role, is_change_role}
+use Rattle.sym_records.specs.Records.{role, keyword}
 use Rattle.sym_records.specs.Reading.{fits, leads, is_start}
 use Rattle.sym_records.specs.Validity.{fields_fit, first_bad_from, first_bad, place_behind, is_change}
 use Rattle.sym_rules.specs.declared.rules.RuleText.{RuleText}

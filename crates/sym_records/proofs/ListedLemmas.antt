@@ -3,27 +3,20 @@ use Rattle.std.proofs.Common.{◌≡◌, ℕ, ◌&&◌, Bool, true, false, List,
 use Rattle.std.specs.List.{list_all, flat_map}
 use Rattle.sym_records.specs.Canon.{body}
 use Rattle.sym_records.specs.Fields.{Middle, Word, Hex, Marked, Decimal, Shape, Name, Rules, Ranges, Last, Then, Held, Values, spelled, spelled_middle, fit, fits_middle}
-use Rattle.sym_records.specs.Listed.{Said, fields, spelled_field, fits_field, middle_said, listed, said}
-use Rattle.sym_records.specs.Records.{layout, headed, keyword, values, made}
+use Rattle.sym_records.specs.Listed.{Said, fields, fields_in, spelled_field, fits_field, middle_said, listed, said}
+use Rattle.sym_records.specs.Records.{layout, headed, keyword, values, made, Parts, after, parts, keyword_in, values_in}
 use Rattle.sym_records.specs.Validity.{has_fields}
 use Rattle.sym_records.specs.declared.field.Field.{Field}
 use Rattle.sym_records.specs.declared.keyword.Keyword.{Keyword}
 use Rattle.sym_records.specs.declared.line.SymLine.{SymLine}
-use Rattle.sym_records.specs.declared.line.SymLine.TheVariants as line
 use Rattle.sym_records.proofs.RecordLemmas.{made_back}
 
 -- a record's fields are those of its keyword
+parts_listed : (p : Parts) → fields_in p ≡ listed (layout (keyword_in p)) (values_in p)
+parts_listed (after k v) = refl
+
 fields_listed : (s : SymLine) → fields s ≡ listed (layout (keyword s)) (values s)
-fields_listed (line.Module binary) = refl
-fields_listed (line.Info text) = refl
-fields_listed (line.File number name) = refl
-fields_listed (line.Origin number name) = refl
-fields_listed (line.Func many address size params name) = refl
-fields_listed (line.Inline level call_line call_file origin ranges) = refl
-fields_listed (line.Line address size number file) = refl
-fields_listed (line.Public many address params name) = refl
-fields_listed (line.Init address size rules) = refl
-fields_listed (line.Change address rules) = refl
+fields_listed s = parts_listed (parts s)
 
 middle_spelled : (m : Middle) (x : Held m) → spelled_field (middle_said m x) ≡ spelled_middle m x
 middle_spelled Word w = refl

@@ -64,18 +64,8 @@ unfolding lacks_module
 has_module Start (line.Module binary) fit stands =
     ap (λ k. is_start Start && not (is_blank (body (line.Module binary))) && not (bytes_eq k (codes "MODULE"))) (key_module binary fit)
     ∙ and_none (is_start Start && not (is_blank (body (line.Module binary))))
-has_module Start (line.Info text) fit stands = cc
-has_module Start (line.File number name) fit stands = cc
-has_module Start (line.Origin number name) fit stands = cc
-has_module Start (line.Func many address size params name) fit stands = cc
-has_module Start (line.Inline level call_line call_file origin ranges) fit stands = cc
-has_module Start (line.Line address size number file) fit stands = cc
-has_module Start (line.Public many address params name) fit stands = cc
-has_module Start (line.Init address size rules) fit stands = cc
-has_module Start (line.Change address rules) fit stands = cc
-has_module Inside s fit stands = refl
-has_module Function s fit stands = refl
-has_module Frame s fit stands = refl
+has_module Start s fit stands = cc
+has_module place s fit stands = refl
 
 text_added : (seen : Seen) (s : SymLine) → Stands seen.place s → with_text (2 ^ 20) seen (body s) ≡ Ok (added seen s)
 unfolding with_text added fields_fit

@@ -23,15 +23,7 @@ use Rattle.sym_records.specs.declared.keyword.Keyword.TheVariants as key
 -- a record is made of its keyword and its fields
 pub made_back : (s : SymLine) → made (keyword s) (values s) ≡ s
 made_back (line.Module binary) = refl
-made_back (line.Info text) = refl
-made_back (line.File number name) = refl
-made_back (line.Origin number name) = refl
-made_back (line.Func many address size params name) = refl
-made_back (line.Inline level call_line call_file origin ranges) = refl
-made_back (line.Line address size number file) = refl
-made_back (line.Public many address params name) = refl
-made_back (line.Init address size rules) = refl
-made_back (line.Change address rules) = refl
+made_back s = refl
 
 -- a line that begins and ends with bytes that count
 abbrev pub Starts : List ℕ → Type 0
@@ -137,19 +129,12 @@ change_line v fits =
     let later = (and_true {a = nat_lt v.0 (2 ^ 64)} fits).1 in
     worded key.Change 83 (codes "TACK CFI") v refl refl (change_key v.0 (spelled Rules v.1) small (opened Rules v.1 later)) fits
 
--- each keyword is found again; a record that joins adds a row
+-- each keyword is found again
 pub line_parts : (k : Keyword) (v : Values (layout k)) → fit (layout k) v ≡ true → Line k v
 unfolding key_at keyed worded_key stack_key cfi_key before from skip
-line_parts key.Module v fits = plain key.Module 77 (codes "ODULE") v refl refl (λ rest. refl) fits
-line_parts key.Info v fits = plain key.Info 73 (codes "NFO") v refl refl (λ rest. refl) fits
-line_parts key.File v fits = plain key.File 70 (codes "ILE") v refl refl (λ rest. refl) fits
-line_parts key.Origin v fits = plain key.Origin 73 (codes "NLINE_ORIGIN") v refl refl (λ rest. refl) fits
-line_parts key.Func v fits = plain key.Func 70 (codes "UNC") v refl refl (λ rest. refl) fits
-line_parts key.Inline v fits = plain key.Inline 73 (codes "NLINE") v refl refl (λ rest. refl) fits
 line_parts key.Line v fits = line_line v fits
-line_parts key.Public v fits = plain key.Public 80 (codes "UBLIC") v refl refl (λ rest. refl) fits
-line_parts key.Init v fits = plain key.Init 83 (codes "TACK CFI INIT") v refl refl (λ rest. refl) fits
 line_parts key.Change v fits = change_line v fits
+line_parts k v fits = plain k _ _ v refl refl (λ rest. refl) fits
 
 -- a record whose fields fit is read from its line
 pub line_back : (s : SymLine) → has_fields s ≡ true → line_read (body s) ≡ Ok (Some s)

@@ -35,15 +35,7 @@ use Rattle.sym_records.specs.declared.keyword.Keyword.TheVariants as key
 -- a record has the fields that it was made of
 made_fits : (k : Keyword) (v : Values (layout k)) → has_fields (made k v) ≡ fit (layout k) v
 made_fits key.Module v = refl
-made_fits key.Info v = refl
-made_fits key.File v = refl
-made_fits key.Origin v = refl
-made_fits key.Func v = refl
-made_fits key.Inline v = refl
-made_fits key.Line v = refl
-made_fits key.Public v = refl
-made_fits key.Init v = refl
-made_fits key.Change v = refl
+made_fits k v = refl
 
 fields_good : (shape : Shape) (bytes : List ℕ) (v : Values shape) → list_all is_within_line bytes ≡ true → fields_at shape bytes ≡ Ok v → fit shape v ≡ true
 unfolding fields_at
@@ -82,15 +74,7 @@ stack_found line bytes left =
 
 worded_found : (line word rest : List ℕ) → Behind line rest → IfFound line (worded_key word rest)
 unfolding worded_key
-worded_found line word rest left =
-    if_found line (bytes_eq word (codes "FUNC")) _ _ left
-    (if_found line (bytes_eq word (codes "INLINE")) _ _ left
-    (if_found line (bytes_eq word (codes "STACK")) _ _ (stack_found line rest left)
-    (if_found line (bytes_eq word (codes "FILE")) _ _ left
-    (if_found line (bytes_eq word (codes "INLINE_ORIGIN")) _ _ left
-    (if_found line (bytes_eq word (codes "PUBLIC")) _ _ left
-    (if_found line (bytes_eq word (codes "INFO")) _ _ left
-    (if_found line (bytes_eq word (codes "MODULE")) _ (Err fault.Unknown) left tt)))))))
+worded_found line word rest left = search (if_found line, stack_found line rest left) depth 40
 
 behind_from : (bytes : List ℕ) → Behind bytes (from 32 bytes)
 behind_from bytes = record { all = λ p all. all_from p 32 bytes all; ends = λ p ends. from_ends p 32 bytes ends }
@@ -186,15 +170,7 @@ spelled_line (Then m rest) v fits =
 
 headed_line : (k : Keyword) → list_all is_within_line (headed k) ≡ true
 headed_line key.Module = refl
-headed_line key.Info = refl
-headed_line key.File = refl
-headed_line key.Origin = refl
-headed_line key.Func = refl
-headed_line key.Inline = refl
-headed_line key.Line = refl
-headed_line key.Public = refl
-headed_line key.Init = refl
-headed_line key.Change = refl
+headed_line k = refl
 
 dropped_line : (xs : List ℕ) → list_all is_within_line xs ≡ true → list_all is_within_line (drop 1 xs) ≡ true
 dropped_line [] all = refl

@@ -1,6 +1,5 @@
 -- Worked lists (Breakpad's symbol_files.md): which records may stand where, which texts and names records may carry.
 use Rattle.std.proofs.Common.{◌≡◌, true, false, [], ◌∷◌, codes, Some, None, refl}
-use Rattle.sym_edges.proofs.Shown.{shown}
 use Rattle.sym_records.proofs.Computing.{sym_records_computes}
 use Rattle.sym_records.specs.Fields.{is_field, is_name}
 use Rattle.sym_records.specs.Validity.{first_bad}

@@ -1,9 +1,9 @@
 pub mod Fields
 pub mod FieldReading
+pub mod Places
 pub mod Records
 pub mod Canon
 pub mod Text
-pub mod Places
 pub mod Reading
 pub mod Validity
 pub mod Listed

@@ -9,7 +9,7 @@ use Rattle.sym_records.specs.Fields.{is_field, is_name}
 use Rattle.sym_rules.specs.declared.rules.RuleText.{RuleText}
 use Rattle.sym_records.specs.declared.line.Extent.{Extent}
 use Rattle.sym_records.specs.declared.line.SymLine.{SymLine}
-use Rattle.sym_records.specs.declared.line.SymLine.TheVariants as line
+use Rattle.sym_records.specs.Records.{layout, Parts, after, parts}
 use Rattle.sym_records.specs.declared.field.Field.{Field}
 use Rattle.sym_records.specs.declared.field.Field.TheVariants as held
 use Rattle.sym_records.specs.Fields.{Middle, Word, Hex, Marked, Decimal, Shape, Name, Rules, Ranges, Last, Then, Held, Values, mark, spelled_range, are_ranges}
@@ -34,20 +34,7 @@ said (held.Decimal n) = count n
 said (held.Ranges rs) = ranges rs.now
 said (held.Rules rs) = rules rs.now
 
--- a record's fields
-abbrev pub fields : SymLine → List Said
-fields (line.Module binary) = word binary.os ∷ word binary.arch ∷ word binary.id ∷ name binary.name ∷ []
-fields (line.Info text) = name text ∷ []
-fields (line.File n path) = count n ∷ name path ∷ []
-fields (line.Origin n origin) = count n ∷ name origin ∷ []
-fields (line.Func many address size params n) = marked many address ∷ number size ∷ number params ∷ name n ∷ []
-fields (line.Inline level call_line call_file origin rs) = count level ∷ count call_line ∷ count call_file ∷ count origin ∷ ranges rs ∷ []
-fields (line.Line address size n file) = number address ∷ number size ∷ count n ∷ count file ∷ []
-fields (line.Public many address params n) = marked many address ∷ number params ∷ name n ∷ []
-fields (line.Init address size rs) = number address ∷ number size ∷ rules rs ∷ []
-fields (line.Change address rs) = number address ∷ rules rs ∷ []
-
--- its spelling, with one space in front
+-- the spelling of a field, with one space in front
 abbrev pub spelled_field : Said → List ℕ
 spelled_field (word w) = 32 ∷ w
 spelled_field (name n) = 32 ∷ n
@@ -80,3 +67,10 @@ listed Rules rs = rules rs ∷ []
 listed Ranges rs = ranges rs ∷ []
 listed Last n = count n ∷ []
 listed (Then m rest) v = middle_said m v.0 ∷ listed rest v.1
+
+-- a record's fields
+abbrev pub fields_in : Parts → List Said
+fields_in (after k v) = listed (layout k) v
+
+abbrev pub fields : SymLine → List Said
+fields s = fields_in (parts s)

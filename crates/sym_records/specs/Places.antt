@@ -1,7 +1,5 @@
 -- Which record may follow which (Breakpad's symbol_files.md).
 use Rattle.std.specs.Prelude.{Bool, true, false}
-use Rattle.sym_records.specs.declared.keyword.Keyword.{Keyword}
-use Rattle.sym_records.specs.declared.keyword.Keyword.TheVariants as key
 use Rattle.sym_records.specs.declared.place.Place.{Place}
 use Rattle.sym_records.specs.declared.place.Place.TheVariants.{Start, Inside, Function, Frame}
 
@@ -13,19 +11,6 @@ pub data Role : Type 0 where
   Owned : Role
   Frames : Role
   Changes : Role
-
--- what the records of a keyword are
-abbrev pub role : Keyword → Role
-role key.Module = First
-role key.Info = Own
-role key.File = Own
-role key.Origin = Own
-role key.Func = Owner
-role key.Inline = Owned
-role key.Line = Owned
-role key.Public = Own
-role key.Init = Frames
-role key.Change = Changes
 
 -- which may stand at a place: the first at the start alone, parts of a function in a function alone, and a change directly after a frame record
 -- alone

@@ -3,8 +3,8 @@ use Rattle.std.specs.Prelude.{ℕ, ◌+◌, ◌-◌, ◌^◌, ◌&&◌, Bool, tr
 use Rattle.std.specs.Str.{bytes_eq}
 use Rattle.sym_edges.specs.Results.{◌>>=◌}
 use Rattle.sym_rules.specs.Cuts.{split_lines}
-use Rattle.sym_records.specs.Places.{role, may_stand, place_behind_role}
-use Rattle.sym_records.specs.Records.{keyword}
+use Rattle.sym_records.specs.Places.{may_stand, place_behind_role}
+use Rattle.sym_records.specs.Records.{role, keyword}
 use Rattle.sym_records.specs.Text.{is_blank, key_of, line_read}
 use Rattle.sym_records.specs.declared.line.SymLine.{SymLine}
 use Rattle.sym_records.specs.declared.place.Place.{Place}

@@ -1,72 +1,125 @@
 -- The records of a symbol file (Breakpad's symbol_files.md): each is a keyword and fields.
 use Rattle.std.specs.Prelude.{ℕ, List, [], codes}
 use Rattle.sym_records.specs.Fields.{Shape, Name, Rules, Ranges, Last, Then, Word, Hex, Marked, Decimal, Values}
+use Rattle.sym_records.specs.Places.{Role, First, Own, Owner, Owned, Frames, Changes}
 use Rattle.sym_records.specs.declared.line.SymLine.{SymLine}
 use Rattle.sym_records.specs.declared.line.SymLine.TheVariants as line
 use Rattle.sym_records.specs.declared.keyword.Keyword.{Keyword}
 use Rattle.sym_records.specs.declared.keyword.Keyword.TheVariants as key
 
+-- what belongs to a keyword: its words, with one space in front of each; the fields after it; what its records are to those around them; and the
+-- record of such fields
+pub record Row : Type 0 where
+  pub words : List ℕ
+  pub layout : Shape
+  pub role : Role
+  pub made : Values layout → SymLine
+
+-- the keywords; a line record has no words
+abbrev pub row : Keyword → Row
+row key.Module = record {
+  words = codes " MODULE";
+  layout = Then Word (Then Word (Then Word Name));
+  role = First;
+  made = λ v. line.Module (record { os = v.0; arch = v.1.0; id = v.1.1.0; name = v.1.1.1 });
+}
+row key.Info = record {
+  words = codes " INFO";
+  layout = Name;
+  role = Own;
+  made = λ v. line.Info v;
+}
+row key.File = record {
+  words = codes " FILE";
+  layout = Then Decimal Name;
+  role = Own;
+  made = λ v. line.File v.0 v.1;
+}
+row key.Origin = record {
+  words = codes " INLINE_ORIGIN";
+  layout = Then Decimal Name;
+  role = Own;
+  made = λ v. line.Origin v.0 v.1;
+}
+row key.Func = record {
+  words = codes " FUNC";
+  layout = Then Marked (Then Hex (Then Hex Name));
+  role = Owner;
+  made = λ v. line.Func v.0.0 v.0.1 v.1.0 v.1.1.0 v.1.1.1;
+}
+row key.Inline = record {
+  words = codes " INLINE";
+  layout = Then Decimal (Then Decimal (Then Decimal (Then Decimal Ranges)));
+  role = Owned;
+  made = λ v. line.Inline v.0 v.1.0 v.1.1.0 v.1.1.1.0 v.1.1.1.1;
+}
+row key.Line = record {
+  words = [];
+  layout = Then Hex (Then Hex (Then Decimal Last));
+  role = Owned;
+  made = λ v. line.Line v.0 v.1.0 v.1.1.0 v.1.1.1;
+}
+row key.Public = record {
+  words = codes " PUBLIC";
+  layout = Then Marked (Then Hex Name);
+  role = Own;
+  made = λ v. line.Public v.0.0 v.0.1 v.1.0 v.1.1;
+}
+row key.Init = record {
+  words = codes " STACK CFI INIT";
+  layout = Then Hex (Then Hex Rules);
+  role = Frames;
+  made = λ v. line.Init v.0 v.1.0 v.1.1;
+}
+row key.Change = record {
+  words = codes " STACK CFI";
+  layout = Then Hex Rules;
+  role = Changes;
+  made = λ v. line.Change v.0 v.1;
+}
+
+-- the words of a keyword
+abbrev pub headed : Keyword → List ℕ
+headed k = (row k).words
+
 -- the fields after a keyword
 abbrev pub layout : Keyword → Shape
-layout key.Module = Then Word (Then Word (Then Word Name))
-layout key.Info = Name
-layout key.File = Then Decimal Name
-layout key.Origin = Then Decimal Name
-layout key.Func = Then Marked (Then Hex (Then Hex Name))
-layout key.Inline = Then Decimal (Then Decimal (Then Decimal (Then Decimal Ranges)))
-layout key.Line = Then Hex (Then Hex (Then Decimal Last))
-layout key.Public = Then Marked (Then Hex Name)
-layout key.Init = Then Hex (Then Hex Rules)
-layout key.Change = Then Hex Rules
+layout k = (row k).layout
 
--- the words of a keyword, one space in front of each; a line record has none
-abbrev pub headed : Keyword → List ℕ
-headed key.Module = codes " MODULE"
-headed key.Info = codes " INFO"
-headed key.File = codes " FILE"
-headed key.Origin = codes " INLINE_ORIGIN"
-headed key.Func = codes " FUNC"
-headed key.Inline = codes " INLINE"
-headed key.Line = []
-headed key.Public = codes " PUBLIC"
-headed key.Init = codes " STACK CFI INIT"
-headed key.Change = codes " STACK CFI"
-
--- a record's keyword
-abbrev pub keyword : SymLine → Keyword
-keyword (line.Module binary) = key.Module
-keyword (line.Info text) = key.Info
-keyword (line.File number name) = key.File
-keyword (line.Origin number name) = key.Origin
-keyword (line.Func many address size params name) = key.Func
-keyword (line.Inline level call_line call_file origin ranges) = key.Inline
-keyword (line.Line address size number file) = key.Line
-keyword (line.Public many address params name) = key.Public
-keyword (line.Init address size rules) = key.Init
-keyword (line.Change address rules) = key.Change
-
--- a record's fields
-abbrev pub values : (s : SymLine) → Values (layout (keyword s))
-values (line.Module binary) = (binary.os, (binary.arch, (binary.id, binary.name)))
-values (line.Info text) = text
-values (line.File number name) = (number, name)
-values (line.Origin number name) = (number, name)
-values (line.Func many address size params name) = ((many, address), (size, (params, name)))
-values (line.Inline level call_line call_file origin ranges) = (level, (call_line, (call_file, (origin, ranges))))
-values (line.Line address size number file) = (address, (size, (number, file)))
-values (line.Public many address params name) = ((many, address), (params, name))
-values (line.Init address size rules) = (address, (size, rules))
-values (line.Change address rules) = (address, rules)
+-- what the records of a keyword are
+abbrev pub role : Keyword → Role
+role k = (row k).role
 
 -- the record of a keyword and fields
 abbrev pub made : (k : Keyword) → Values (layout k) → SymLine
-made key.Module v = line.Module (record { os = v.0; arch = v.1.0; id = v.1.1.0; name = v.1.1.1 })
-made key.Info v = line.Info v
-made key.File v = line.File v.0 v.1
-made key.Origin v = line.Origin v.0 v.1
-made key.Func v = line.Func v.0.0 v.0.1 v.1.0 v.1.1.0 v.1.1.1
-made key.Inline v = line.Inline v.0 v.1.0 v.1.1.0 v.1.1.1.0 v.1.1.1.1
-made key.Line v = line.Line v.0 v.1.0 v.1.1.0 v.1.1.1
-made key.Public v = line.Public v.0.0 v.0.1 v.1.0 v.1.1
-made key.Init v = line.Init v.0 v.1.0 v.1.1
-made key.Change v = line.Change v.0 v.1
+made k v = (row k).made v
+
+-- a record apart: its fields after its keyword
+pub data Parts : Type 0 where
+  after : (k : Keyword) → Values (layout k) → Parts
+
+abbrev pub parts : SymLine → Parts
+parts (line.Module binary) = after key.Module (binary.os, (binary.arch, (binary.id, binary.name)))
+parts (line.Info text) = after key.Info text
+parts (line.File number name) = after key.File (number, name)
+parts (line.Origin number name) = after key.Origin (number, name)
+parts (line.Func many address size params name) = after key.Func ((many, address), (size, (params, name)))
+parts (line.Inline level call_line call_file origin ranges) = after key.Inline (level, (call_line, (call_file, (origin, ranges))))
+parts (line.Line address size number file) = after key.Line (address, (size, (number, file)))
+parts (line.Public many address params name) = after key.Public ((many, address), (params, name))
+parts (line.Init address size rules) = after key.Init (address, (size, rules))
+parts (line.Change address rules) = after key.Change (address, rules)
+
+abbrev pub keyword_in : Parts → Keyword
+keyword_in (after k v) = k
+
+abbrev pub values_in : (p : Parts) → Values (layout (keyword_in p))
+values_in (after k v) = v
+
+-- a record's keyword
+abbrev pub keyword : SymLine → Keyword
+keyword s = keyword_in (parts s)
+
+-- a record's fields
+abbrev pub values : (s : SymLine) → Values (layout (keyword s))
+values s = values_in (parts s)

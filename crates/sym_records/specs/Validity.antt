@@ -3,8 +3,8 @@ use Rattle.std.specs.Prelude.{◌≡◌, ℕ, ◌+◌, ◌^◌, ◌&&◌, ◌≤
 use Rattle.std.specs.List.{list_all}
 use Rattle.sym_rules.specs.Cuts.{is_within_line}
 use Rattle.sym_records.specs.Fields.{fit}
-use Rattle.sym_records.specs.Places.{role, is_change_role}
-use Rattle.sym_records.specs.Records.{layout, keyword, values}
+use Rattle.sym_records.specs.Places.{is_change_role}
+use Rattle.sym_records.specs.Records.{layout, role, keyword, values}
 use Rattle.sym_records.specs.Canon.{body}
 use Rattle.sym_records.specs.Text.{line_read}
 use Rattle.sym_records.specs.Reading.{fits, leads}

@@ -7,8 +7,7 @@ ghost use Rattle.sym_records.specs.Listed.{said, spelled_field};
 use crate::digits::HexText;
 use crate::field::Field;
 use crate::line::{Extent, SymLine};
-use crate::listed::fields_of;
-use crate::words::{headed, keyword_of};
+use crate::table::{fields_of, headed, keyword_of};
 use itoa::Buffer;
 use sym_rules::rules_length;
 

@@ -17,7 +17,7 @@ mod place;
 // Their keywords and fields.
 mod field;
 mod listed;
-mod words;
+mod table;
 
 // Which records and lists a text can spell.
 mod fields;
@@ -47,17 +47,17 @@ pub use file::{NotValid, SymFile, file_of, file_of_valid, fits, leads};
 pub use file_writer::write_file;
 pub use keyword::Keyword;
 pub use line::{Binary, BoxedBinary, Extent, Extents, SymLine, SymLines};
-pub use listed::{FieldList, fields_of};
+pub use listed::FieldList;
 pub use pieces::TextPieces;
 pub use place::Place;
 pub use rendered::render;
 pub use sym_rules::{
     ByteText, RuleName, RuleText, Rules, Target, TextFault, TextKind, Token, Tokens,
 };
+pub use table::{fields_of, keyword_of};
 pub use text::SymText;
 pub use text_lines::{
     add_file, add_func, add_info, add_inline, add_line, add_module, add_origin, add_public,
     write_change, write_init,
 };
 pub use validity::is_valid;
-pub use words::keyword_of;

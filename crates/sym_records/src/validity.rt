@@ -8,7 +8,7 @@ use crate::field::Field;
 use crate::fields::{is_field, is_name};
 use crate::lengths::is_short;
 use crate::line::{Extent, SymLine};
-use crate::listed::fields_of;
+use crate::table::fields_of;
 use sym_rules::are_rules;
 
 /// A line has at most so many bytes without its LF.
