@@ -7,7 +7,7 @@ use Rattle.std.proofs.lemmas.Bool.Decides.{nat_tests}
 use Rattle.std.proofs.lemmas.List.Sums.{sum_by-append}
 use Rattle.sym_records.specs.declared.line.Extent.{Extent}
 use Rattle.sym_records.specs.declared.line.SymLine.{SymLine}
-use Rattle.sym_records.specs.declared.line.SymLine.TheVariants.{Module, Info, File, Origin, Func, Inline, Line, Public, Init, Change}
+use Rattle.sym_records.specs.declared.line.SymLine.TheVariants.{Func, Inline, Line, Init, Change}
 use Rattle.sym_rules.specs.declared.rules.RuleText.{RuleText}
 use Rattle.sym_meaning.specs.Inits.{init_covers, inits_at, AreNested}
 use Rattle.sym_meaning.specs.Findings.{run_of, is_sized, are_sized, meet, AreApart}
@@ -58,30 +58,14 @@ or_cases false b is = inr is
 
 both_covered : (e : Extent) (lines : List SymLine) → meets_any (flat_map init_run lines) e ≡ true → Both e lines
 both_covered e [] met = absurd (let false_is : false ≡ true = met in cc)
-both_covered e (Module binary ∷ lines) met = both_more e (Module binary) lines (both_covered e lines met)
-both_covered e (Info text ∷ lines) met = both_more e (Info text) lines (both_covered e lines met)
-both_covered e (File n name ∷ lines) met = both_more e (File n name) lines (both_covered e lines met)
-both_covered e (Origin n name ∷ lines) met = both_more e (Origin n name) lines (both_covered e lines met)
-both_covered e (Func many address size params name ∷ lines) met = both_more e (Func many address size params name) lines (both_covered e lines met)
-both_covered e (Inline level line file origin ranges ∷ lines) met = both_more e (Inline level line file origin ranges) lines (both_covered e lines met)
-both_covered e (Line address size line file ∷ lines) met = both_more e (Line address size line file) lines (both_covered e lines met)
-both_covered e (Public many address params name ∷ lines) met = both_more e (Public many address params name) lines (both_covered e lines met)
 both_covered e (Init address size rules ∷ lines) met = elim (or_cases (meet e (run_of address size)) (meets_any (flat_map init_run lines) e) met) [ inl first ↦ let parts = meet_has e.address e.size address size first in both_first e (Init address size rules) lines (max e.address address) parts.0 parts.1 | inr later ↦ both_more e (Init address size rules) lines (both_covered e lines later) ]
-both_covered e (Change address rules ∷ lines) met = both_more e (Change address rules) lines (both_covered e lines met)
+both_covered e (s ∷ lines) met = both_more e s lines (both_covered e lines met)
 
 none_covered : (e : Extent) (x : ℕ) (lines : List SymLine) → has e x ≡ true → meets_any (flat_map init_run lines) e ≡ false → inits_at lines x ≡ 0
 unfolding inits_at
 none_covered e x [] here apart = refl
-none_covered e x (Module binary ∷ lines) here apart = inits_more (Module binary) lines x ∙ ap (λ k. 0 + k) (none_covered e x lines here apart)
-none_covered e x (Info text ∷ lines) here apart = inits_more (Info text) lines x ∙ ap (λ k. 0 + k) (none_covered e x lines here apart)
-none_covered e x (File n name ∷ lines) here apart = inits_more (File n name) lines x ∙ ap (λ k. 0 + k) (none_covered e x lines here apart)
-none_covered e x (Origin n name ∷ lines) here apart = inits_more (Origin n name) lines x ∙ ap (λ k. 0 + k) (none_covered e x lines here apart)
-none_covered e x (Func many address size params name ∷ lines) here apart = inits_more (Func many address size params name) lines x ∙ ap (λ k. 0 + k) (none_covered e x lines here apart)
-none_covered e x (Inline level line file origin ranges ∷ lines) here apart = inits_more (Inline level line file origin ranges) lines x ∙ ap (λ k. 0 + k) (none_covered e x lines here apart)
-none_covered e x (Line address size line file ∷ lines) here apart = inits_more (Line address size line file) lines x ∙ ap (λ k. 0 + k) (none_covered e x lines here apart)
-none_covered e x (Public many address params name ∷ lines) here apart = inits_more (Public many address params name) lines x ∙ ap (λ k. 0 + k) (none_covered e x lines here apart)
 none_covered e x (Init address size rules ∷ lines) here apart = let parts = or_parts (meet e (run_of address size)) (meets_any (flat_map init_run lines) e) apart in inits_more (Init address size rules) lines x ∙ ap (λ t. cond t 1 0 + inits_at lines x) (apart_has e.address e.size address size x parts.0 here) ∙ ap (λ k. 0 + k) (none_covered e x lines here parts.1)
-none_covered e x (Change address rules ∷ lines) here apart = inits_more (Change address rules) lines x ∙ ap (λ k. 0 + k) (none_covered e x lines here apart)
+none_covered e x (s ∷ lines) here apart = inits_more s lines x ∙ ap (λ k. 0 + k) (none_covered e x lines here apart)
 
 rest_once : (s : SymLine) (lines : List SymLine) → ((x : ℕ) → inits_at (s ∷ lines) x ≤ 1) → (x : ℕ) → inits_at lines x ≤ 1
 rest_once s lines once x =
@@ -105,16 +89,8 @@ first_apart address size rules lines once =
 
 pub once_apart : (lines : List SymLine) → ((x : ℕ) → inits_at lines x ≤ 1) → AreApart (flat_map init_run lines)
 once_apart [] once = tt
-once_apart (Module binary ∷ lines) once = once_apart lines (rest_once (Module binary) lines once)
-once_apart (Info text ∷ lines) once = once_apart lines (rest_once (Info text) lines once)
-once_apart (File n name ∷ lines) once = once_apart lines (rest_once (File n name) lines once)
-once_apart (Origin n name ∷ lines) once = once_apart lines (rest_once (Origin n name) lines once)
-once_apart (Func many address size params name ∷ lines) once = once_apart lines (rest_once (Func many address size params name) lines once)
-once_apart (Inline level line file origin ranges ∷ lines) once = once_apart lines (rest_once (Inline level line file origin ranges) lines once)
-once_apart (Line address size line file ∷ lines) once = once_apart lines (rest_once (Line address size line file) lines once)
-once_apart (Public many address params name ∷ lines) once = once_apart lines (rest_once (Public many address params name) lines once)
 once_apart (Init address size rules ∷ lines) once = (first_apart address size rules lines once, once_apart lines (rest_once (Init address size rules) lines once))
-once_apart (Change address rules ∷ lines) once = once_apart lines (rest_once (Change address rules) lines once)
+once_apart (s ∷ lines) once = once_apart lines (rest_once s lines once)
 
 first_once : (address size : ℕ) (rules : List RuleText) (lines : List SymLine) (x : ℕ) → meets_any (flat_map init_run lines) (run_of address size) ≡ false → inits_at lines x ≤ 1 → inits_at (Init address size rules ∷ lines) x ≤ 1
 first_once address size rules lines x apart rest =
@@ -139,16 +115,8 @@ no_inits x = omega arith
 
 pub apart_once : (lines : List SymLine) (x : ℕ) → AreApart (flat_map init_run lines) → inits_at lines x ≤ 1
 apart_once [] x apart = no_inits x
-apart_once (Module binary ∷ lines) x apart = other_once (Module binary) lines x refl (apart_once lines x apart)
-apart_once (Info text ∷ lines) x apart = other_once (Info text) lines x refl (apart_once lines x apart)
-apart_once (File n name ∷ lines) x apart = other_once (File n name) lines x refl (apart_once lines x apart)
-apart_once (Origin n name ∷ lines) x apart = other_once (Origin n name) lines x refl (apart_once lines x apart)
-apart_once (Func many address size params name ∷ lines) x apart = other_once (Func many address size params name) lines x refl (apart_once lines x apart)
-apart_once (Inline level line file origin ranges ∷ lines) x apart = other_once (Inline level line file origin ranges) lines x refl (apart_once lines x apart)
-apart_once (Line address size line file ∷ lines) x apart = other_once (Line address size line file) lines x refl (apart_once lines x apart)
-apart_once (Public many address params name ∷ lines) x apart = other_once (Public many address params name) lines x refl (apart_once lines x apart)
 apart_once (Init address size rules ∷ lines) x apart = first_once address size rules lines x apart.0 (apart_once lines x apart.1)
-apart_once (Change address rules ∷ lines) x apart = other_once (Change address rules) lines x refl (apart_once lines x apart)
+apart_once (s ∷ lines) x apart = other_once s lines x refl (apart_once lines x apart)
 
 -- C9: the last address and the end of the INIT that is open
 abbrev last_at : Option OpenInit → ℕ
@@ -208,29 +176,18 @@ sized_some address size is = grind (arith, nat_tests)
 
 nested_of : (before lines : List SymLine) → list_all are_sized lines ≡ true → IsOpen (open_init before) → NoneOf is_outside before lines → AreNested (last_at (open_init before)) (end_at (open_init before)) lines
 nested_of before [] sized opened none = tt
-nested_of before (Module binary ∷ lines) sized opened none = nested_of (Module binary ∷ before) lines sized tt none.1
-nested_of before (Info text ∷ lines) sized opened none = nested_of (Info text ∷ before) lines sized tt none.1
-nested_of before (File n name ∷ lines) sized opened none = nested_of (File n name ∷ before) lines sized tt none.1
-nested_of before (Origin n name ∷ lines) sized opened none = nested_of (Origin n name ∷ before) lines sized tt none.1
 nested_of before (Func many address size params name ∷ lines) sized opened none = nested_of (Func many address size params name ∷ before) lines (and_parts (are_sized (Func many address size params name)) (list_all are_sized lines) sized).1 tt none.1
 nested_of before (Inline level line file origin ranges ∷ lines) sized opened none = nested_of (Inline level line file origin ranges ∷ before) lines (and_parts (are_sized (Inline level line file origin ranges)) (list_all are_sized lines) sized).1 tt none.1
 nested_of before (Line address size line file ∷ lines) sized opened none = nested_of (Line address size line file ∷ before) lines (and_parts (are_sized (Line address size line file)) (list_all are_sized lines) sized).1 tt none.1
-nested_of before (Public many address params name ∷ lines) sized opened none = nested_of (Public many address params name ∷ before) lines sized tt none.1
 nested_of before (Init address size rules ∷ lines) sized opened none = let parts = and_parts (are_sized (Init address size rules)) (list_all are_sized lines) sized in (sized_some address size parts.0, nested_of (Init address size rules ∷ before) lines parts.1 (omega arith) none.1)
 nested_of before (Change address rules ∷ lines) sized opened none = let goes = goes_of address (open_init before) (not_false (option_map_or (goes_on address) (open_init before) false) none.0) in (goes.above, (goes.below, subst (λ (a : ℕ). AreNested a (end_at (open_init before)) lines) goes.last (subst (λ (b : ℕ). AreNested (last_at (moved_to address (open_init before))) b lines) goes.end (nested_of (Change address rules ∷ before) lines sized goes.opened none.1))))
+nested_of before (s ∷ lines) sized opened none = nested_of (s ∷ before) lines sized tt none.1
 
 of_nested : (before lines : List SymLine) → IsOpen (open_init before) → AreNested (last_at (open_init before)) (end_at (open_init before)) lines → NoneOf is_outside before lines
 of_nested before [] opened nested = tt
-of_nested before (Module binary ∷ lines) opened nested = (refl, of_nested (Module binary ∷ before) lines tt nested)
-of_nested before (Info text ∷ lines) opened nested = (refl, of_nested (Info text ∷ before) lines tt nested)
-of_nested before (File n name ∷ lines) opened nested = (refl, of_nested (File n name ∷ before) lines tt nested)
-of_nested before (Origin n name ∷ lines) opened nested = (refl, of_nested (Origin n name ∷ before) lines tt nested)
-of_nested before (Func many address size params name ∷ lines) opened nested = (refl, of_nested (Func many address size params name ∷ before) lines tt nested)
-of_nested before (Inline level line file origin ranges ∷ lines) opened nested = (refl, of_nested (Inline level line file origin ranges ∷ before) lines tt nested)
-of_nested before (Line address size line file ∷ lines) opened nested = (refl, of_nested (Line address size line file ∷ before) lines tt nested)
-of_nested before (Public many address params name ∷ lines) opened nested = (refl, of_nested (Public many address params name ∷ before) lines tt nested)
 of_nested before (Init address size rules ∷ lines) opened nested = (refl, of_nested (Init address size rules ∷ before) lines (omega arith) nested.1)
 of_nested before (Change address rules ∷ lines) opened nested = let goes = of_goes address (open_init before) opened nested.0 nested.1.0 in (true_not (option_map_or (goes_on address) (open_init before) false) goes.0, of_nested (Change address rules ∷ before) lines goes.1.opened (subst (λ (a : ℕ). AreNested a (end_at (moved_to address (open_init before))) lines) (sym goes.1.last) (subst (λ (b : ℕ). AreNested address b lines) (sym goes.1.end) nested.1.1)))
+of_nested before (s ∷ lines) opened nested = (refl, of_nested (s ∷ before) lines tt nested)
 
 pub nested : (lines : List SymLine) → list_all are_sized lines ≡ true → NoneOf is_outside [] lines → AreNested 0 0 lines
 nested lines sized none = nested_of [] lines sized tt none

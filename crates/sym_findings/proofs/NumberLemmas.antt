@@ -15,7 +15,7 @@ use Rattle.std.proofs.lemmas.List.Sorted.{IsNonDecreasingBy-from_sort, list_any-
 use Rattle.std.proofs.lemmas.List.Folds.{list_any_at}
 use Rattle.std.proofs.lemmas.Option.{slice_get_within, get_or_from_slice_get}
 use Rattle.sym_records.specs.declared.line.SymLine.{SymLine}
-use Rattle.sym_records.specs.declared.line.SymLine.TheVariants.{Module, Info, File, Origin, Func, Inline, Line, Public, Init, Change}
+use Rattle.sym_records.specs.declared.line.SymLine.TheVariants.{File, Origin}
 use Rattle.sym_meaning.specs.TextNames.{is_file, is_origin}
 use Rattle.sym_findings.specs.internal.Numbers.{has_number, file_number, origin_number}
 
@@ -110,30 +110,14 @@ by_halves xs n (Err i) search rises = sym (not_in xs n i (searched xs n (Err i) 
 pub files_given : (n : ℕ) (lines : List SymLine) → has_number (flat_map file_number lines) n ≡ list_any (is_file n) lines
 unfolding has_number
 files_given n [] = refl
-files_given n (Module binary ∷ lines) = files_given n lines
-files_given n (Info text ∷ lines) = files_given n lines
 files_given n (File number name ∷ lines) = ap (λ t. (number == n) || t) (files_given n lines)
-files_given n (Origin number name ∷ lines) = files_given n lines
-files_given n (Func many address size params name ∷ lines) = files_given n lines
-files_given n (Inline level line number origin ranges ∷ lines) = files_given n lines
-files_given n (Line address size line number ∷ lines) = files_given n lines
-files_given n (Public many address params name ∷ lines) = files_given n lines
-files_given n (Init address size rules ∷ lines) = files_given n lines
-files_given n (Change address rules ∷ lines) = files_given n lines
+files_given n (s ∷ lines) = files_given n lines
 
 pub origins_given : (n : ℕ) (lines : List SymLine) → has_number (flat_map origin_number lines) n ≡ list_any (is_origin n) lines
 unfolding has_number
 origins_given n [] = refl
-origins_given n (Module binary ∷ lines) = origins_given n lines
-origins_given n (Info text ∷ lines) = origins_given n lines
-origins_given n (File number name ∷ lines) = origins_given n lines
 origins_given n (Origin number name ∷ lines) = ap (λ t. (number == n) || t) (origins_given n lines)
-origins_given n (Func many address size params name ∷ lines) = origins_given n lines
-origins_given n (Inline level line number origin ranges ∷ lines) = origins_given n lines
-origins_given n (Line address size line number ∷ lines) = origins_given n lines
-origins_given n (Public many address params name ∷ lines) = origins_given n lines
-origins_given n (Init address size rules ∷ lines) = origins_given n lines
-origins_given n (Change address rules ∷ lines) = origins_given n lines
+origins_given n (s ∷ lines) = origins_given n lines
 
 pub files_known : (lines : List SymLine) (known numbers : List ℕ) → ((n : ℕ) → has_number known n ≡ has_number numbers n) → numbers ≡ flat_map file_number lines → (n : ℕ) → has_number known n ≡ list_any (is_file n) lines
 files_known lines known numbers same is n = same n ∙ ap (λ xs. has_number xs n) is ∙ files_given n lines

@@ -5,7 +5,7 @@ use Rattle.std.proofs.lemmas.Bool.{or_parts, or_from, and_parts}
 use Rattle.std.proofs.lemmas.Bool.Decides.{nat_tests}
 use Rattle.sym_records.specs.declared.line.Extent.{Extent}
 use Rattle.sym_records.specs.declared.line.SymLine.{SymLine}
-use Rattle.sym_records.specs.declared.line.SymLine.TheVariants.{Module, Info, File, Origin, Func, Inline, Line, Public, Init, Change}
+use Rattle.sym_records.specs.declared.line.SymLine.TheVariants.{File, Origin, Func, Init}
 use Rattle.sym_meaning.specs.Findings.{func_run, AreGivenOnce, meet, AreApart}
 use Rattle.sym_findings.specs.declared.kind.FindingKind.{FindingKind}
 use Rattle.sym_findings.specs.declared.kind.FindingKind.TheVariants as kind
@@ -184,87 +184,41 @@ number_turns n m = grind (arith, nat_tests)
 files_before : (before lines : List SymLine) → NoneOf is_given_before before lines → NoneBefore same_number (flat_map file_number before) (flat_map file_number lines)
 unfolding has_number
 files_before before [] none = tt
-files_before before (Module binary ∷ lines) none = files_before (Module binary ∷ before) lines none.1
-files_before before (Info text ∷ lines) none = files_before (Info text ∷ before) lines none.1
 files_before before (File n name ∷ lines) none = (files_given n before ∙ none.0, files_before (File n name ∷ before) lines none.1)
-files_before before (Origin n name ∷ lines) none = files_before (Origin n name ∷ before) lines none.1
-files_before before (Func many address size params name ∷ lines) none = files_before (Func many address size params name ∷ before) lines none.1
-files_before before (Inline level line file origin ranges ∷ lines) none = files_before (Inline level line file origin ranges ∷ before) lines none.1
-files_before before (Line address size line file ∷ lines) none = files_before (Line address size line file ∷ before) lines none.1
-files_before before (Public many address params name ∷ lines) none = files_before (Public many address params name ∷ before) lines none.1
-files_before before (Init address size rules ∷ lines) none = files_before (Init address size rules ∷ before) lines none.1
-files_before before (Change address rules ∷ lines) none = files_before (Change address rules ∷ before) lines none.1
+files_before before (s ∷ lines) none = files_before (s ∷ before) lines none.1
 
 -- C1: the numbers of INLINE_ORIGIN records
 origins_before : (before lines : List SymLine) → NoneOf is_given_before before lines → NoneBefore same_number (flat_map origin_number before) (flat_map origin_number lines)
 unfolding has_number
 origins_before before [] none = tt
-origins_before before (Module binary ∷ lines) none = origins_before (Module binary ∷ before) lines none.1
-origins_before before (Info text ∷ lines) none = origins_before (Info text ∷ before) lines none.1
-origins_before before (File n name ∷ lines) none = origins_before (File n name ∷ before) lines none.1
 origins_before before (Origin n name ∷ lines) none = (origins_given n before ∙ none.0, origins_before (Origin n name ∷ before) lines none.1)
-origins_before before (Func many address size params name ∷ lines) none = origins_before (Func many address size params name ∷ before) lines none.1
-origins_before before (Inline level line file origin ranges ∷ lines) none = origins_before (Inline level line file origin ranges ∷ before) lines none.1
-origins_before before (Line address size line file ∷ lines) none = origins_before (Line address size line file ∷ before) lines none.1
-origins_before before (Public many address params name ∷ lines) none = origins_before (Public many address params name ∷ before) lines none.1
-origins_before before (Init address size rules ∷ lines) none = origins_before (Init address size rules ∷ before) lines none.1
-origins_before before (Change address rules ∷ lines) none = origins_before (Change address rules ∷ before) lines none.1
+origins_before before (s ∷ lines) none = origins_before (s ∷ before) lines none.1
 
 numbers_none : (before lines : List SymLine) → NoneBefore same_number (flat_map file_number before) (flat_map file_number lines) → NoneBefore same_number (flat_map origin_number before) (flat_map origin_number lines) → NoneOf is_given_before before lines
 unfolding has_number
 numbers_none before [] files origins = tt
-numbers_none before (Module binary ∷ lines) files origins = (refl, numbers_none (Module binary ∷ before) lines files origins)
-numbers_none before (Info text ∷ lines) files origins = (refl, numbers_none (Info text ∷ before) lines files origins)
 numbers_none before (File n name ∷ lines) files origins = (sym (files_given n before) ∙ files.0, numbers_none (File n name ∷ before) lines files.1 origins)
 numbers_none before (Origin n name ∷ lines) files origins = (sym (origins_given n before) ∙ origins.0, numbers_none (Origin n name ∷ before) lines files origins.1)
-numbers_none before (Func many address size params name ∷ lines) files origins = (refl, numbers_none (Func many address size params name ∷ before) lines files origins)
-numbers_none before (Inline level line file origin ranges ∷ lines) files origins = (refl, numbers_none (Inline level line file origin ranges ∷ before) lines files origins)
-numbers_none before (Line address size line file ∷ lines) files origins = (refl, numbers_none (Line address size line file ∷ before) lines files origins)
-numbers_none before (Public many address params name ∷ lines) files origins = (refl, numbers_none (Public many address params name ∷ before) lines files origins)
-numbers_none before (Init address size rules ∷ lines) files origins = (refl, numbers_none (Init address size rules ∷ before) lines files origins)
-numbers_none before (Change address rules ∷ lines) files origins = (refl, numbers_none (Change address rules ∷ before) lines files origins)
+numbers_none before (s ∷ lines) files origins = (refl, numbers_none (s ∷ before) lines files origins)
 
 once_of : (lines : List SymLine) → NoneBehind same_number (flat_map file_number lines) → NoneBehind same_number (flat_map origin_number lines) → AreGivenOnce lines
 unfolding has_number
 once_of [] files origins = tt
-once_of (Module binary ∷ lines) files origins = (refl, once_of lines files origins)
-once_of (Info text ∷ lines) files origins = (refl, once_of lines files origins)
 once_of (File n name ∷ lines) files origins = (sym (files_given n lines) ∙ files.0, once_of lines files.1 origins)
 once_of (Origin n name ∷ lines) files origins = (sym (origins_given n lines) ∙ origins.0, once_of lines files origins.1)
-once_of (Func many address size params name ∷ lines) files origins = (refl, once_of lines files origins)
-once_of (Inline level line file origin ranges ∷ lines) files origins = (refl, once_of lines files origins)
-once_of (Line address size line file ∷ lines) files origins = (refl, once_of lines files origins)
-once_of (Public many address params name ∷ lines) files origins = (refl, once_of lines files origins)
-once_of (Init address size rules ∷ lines) files origins = (refl, once_of lines files origins)
-once_of (Change address rules ∷ lines) files origins = (refl, once_of lines files origins)
+once_of (s ∷ lines) files origins = (refl, once_of lines files origins)
 
 files_once : (lines : List SymLine) → AreGivenOnce lines → NoneBehind same_number (flat_map file_number lines)
 unfolding has_number
 files_once [] once = tt
-files_once (Module binary ∷ lines) once = files_once lines once.1
-files_once (Info text ∷ lines) once = files_once lines once.1
 files_once (File n name ∷ lines) once = (files_given n lines ∙ once.0, files_once lines once.1)
-files_once (Origin n name ∷ lines) once = files_once lines once.1
-files_once (Func many address size params name ∷ lines) once = files_once lines once.1
-files_once (Inline level line file origin ranges ∷ lines) once = files_once lines once.1
-files_once (Line address size line file ∷ lines) once = files_once lines once.1
-files_once (Public many address params name ∷ lines) once = files_once lines once.1
-files_once (Init address size rules ∷ lines) once = files_once lines once.1
-files_once (Change address rules ∷ lines) once = files_once lines once.1
+files_once (s ∷ lines) once = files_once lines once.1
 
 origins_once : (lines : List SymLine) → AreGivenOnce lines → NoneBehind same_number (flat_map origin_number lines)
 unfolding has_number
 origins_once [] once = tt
-origins_once (Module binary ∷ lines) once = origins_once lines once.1
-origins_once (Info text ∷ lines) once = origins_once lines once.1
-origins_once (File n name ∷ lines) once = origins_once lines once.1
 origins_once (Origin n name ∷ lines) once = (origins_given n lines ∙ once.0, origins_once lines once.1)
-origins_once (Func many address size params name ∷ lines) once = origins_once lines once.1
-origins_once (Inline level line file origin ranges ∷ lines) once = origins_once lines once.1
-origins_once (Line address size line file ∷ lines) once = origins_once lines once.1
-origins_once (Public many address params name ∷ lines) once = origins_once lines once.1
-origins_once (Init address size rules ∷ lines) once = origins_once lines once.1
-origins_once (Change address rules ∷ lines) once = origins_once lines once.1
+origins_once (s ∷ lines) once = origins_once lines once.1
 
 pub given_once : (lines : List SymLine) → NoneOf is_given_before [] lines → AreGivenOnce lines
 given_once lines none =
@@ -281,29 +235,13 @@ once_given lines once =
 -- C5: the addresses of FUNC records
 funcs_before : (before lines : List SymLine) → NoneOf meets_func before lines → NoneBefore meet (flat_map func_run before) (flat_map func_run lines)
 funcs_before before [] none = tt
-funcs_before before (Module binary ∷ lines) none = funcs_before (Module binary ∷ before) lines none.1
-funcs_before before (Info text ∷ lines) none = funcs_before (Info text ∷ before) lines none.1
-funcs_before before (File n name ∷ lines) none = funcs_before (File n name ∷ before) lines none.1
-funcs_before before (Origin n name ∷ lines) none = funcs_before (Origin n name ∷ before) lines none.1
 funcs_before before (Func many address size params name ∷ lines) none = (none.0, funcs_before (Func many address size params name ∷ before) lines none.1)
-funcs_before before (Inline level line file origin ranges ∷ lines) none = funcs_before (Inline level line file origin ranges ∷ before) lines none.1
-funcs_before before (Line address size line file ∷ lines) none = funcs_before (Line address size line file ∷ before) lines none.1
-funcs_before before (Public many address params name ∷ lines) none = funcs_before (Public many address params name ∷ before) lines none.1
-funcs_before before (Init address size rules ∷ lines) none = funcs_before (Init address size rules ∷ before) lines none.1
-funcs_before before (Change address rules ∷ lines) none = funcs_before (Change address rules ∷ before) lines none.1
+funcs_before before (s ∷ lines) none = funcs_before (s ∷ before) lines none.1
 
 funcs_none : (before lines : List SymLine) → NoneBefore meet (flat_map func_run before) (flat_map func_run lines) → NoneOf meets_func before lines
 funcs_none before [] none = tt
-funcs_none before (Module binary ∷ lines) none = (refl, funcs_none (Module binary ∷ before) lines none)
-funcs_none before (Info text ∷ lines) none = (refl, funcs_none (Info text ∷ before) lines none)
-funcs_none before (File n name ∷ lines) none = (refl, funcs_none (File n name ∷ before) lines none)
-funcs_none before (Origin n name ∷ lines) none = (refl, funcs_none (Origin n name ∷ before) lines none)
 funcs_none before (Func many address size params name ∷ lines) none = (none.0, funcs_none (Func many address size params name ∷ before) lines none.1)
-funcs_none before (Inline level line file origin ranges ∷ lines) none = (refl, funcs_none (Inline level line file origin ranges ∷ before) lines none)
-funcs_none before (Line address size line file ∷ lines) none = (refl, funcs_none (Line address size line file ∷ before) lines none)
-funcs_none before (Public many address params name ∷ lines) none = (refl, funcs_none (Public many address params name ∷ before) lines none)
-funcs_none before (Init address size rules ∷ lines) none = (refl, funcs_none (Init address size rules ∷ before) lines none)
-funcs_none before (Change address rules ∷ lines) none = (refl, funcs_none (Change address rules ∷ before) lines none)
+funcs_none before (s ∷ lines) none = (refl, funcs_none (s ∷ before) lines none)
 
 pub funcs_apart : (lines : List SymLine) → NoneOf meets_func [] lines → AreApart (flat_map func_run lines)
 funcs_apart lines none = apart_all (flat_map func_run lines) (funcs_before [] lines none)
@@ -314,29 +252,13 @@ apart_funcs lines apart = funcs_none [] lines (all_apart (flat_map func_run line
 -- C8: the addresses of INIT records
 inits_before : (before lines : List SymLine) → NoneOf meets_init before lines → NoneBefore meet (flat_map init_run before) (flat_map init_run lines)
 inits_before before [] none = tt
-inits_before before (Module binary ∷ lines) none = inits_before (Module binary ∷ before) lines none.1
-inits_before before (Info text ∷ lines) none = inits_before (Info text ∷ before) lines none.1
-inits_before before (File n name ∷ lines) none = inits_before (File n name ∷ before) lines none.1
-inits_before before (Origin n name ∷ lines) none = inits_before (Origin n name ∷ before) lines none.1
-inits_before before (Func many address size params name ∷ lines) none = inits_before (Func many address size params name ∷ before) lines none.1
-inits_before before (Inline level line file origin ranges ∷ lines) none = inits_before (Inline level line file origin ranges ∷ before) lines none.1
-inits_before before (Line address size line file ∷ lines) none = inits_before (Line address size line file ∷ before) lines none.1
-inits_before before (Public many address params name ∷ lines) none = inits_before (Public many address params name ∷ before) lines none.1
 inits_before before (Init address size rules ∷ lines) none = (none.0, inits_before (Init address size rules ∷ before) lines none.1)
-inits_before before (Change address rules ∷ lines) none = inits_before (Change address rules ∷ before) lines none.1
+inits_before before (s ∷ lines) none = inits_before (s ∷ before) lines none.1
 
 inits_none : (before lines : List SymLine) → NoneBefore meet (flat_map init_run before) (flat_map init_run lines) → NoneOf meets_init before lines
 inits_none before [] none = tt
-inits_none before (Module binary ∷ lines) none = (refl, inits_none (Module binary ∷ before) lines none)
-inits_none before (Info text ∷ lines) none = (refl, inits_none (Info text ∷ before) lines none)
-inits_none before (File n name ∷ lines) none = (refl, inits_none (File n name ∷ before) lines none)
-inits_none before (Origin n name ∷ lines) none = (refl, inits_none (Origin n name ∷ before) lines none)
-inits_none before (Func many address size params name ∷ lines) none = (refl, inits_none (Func many address size params name ∷ before) lines none)
-inits_none before (Inline level line file origin ranges ∷ lines) none = (refl, inits_none (Inline level line file origin ranges ∷ before) lines none)
-inits_none before (Line address size line file ∷ lines) none = (refl, inits_none (Line address size line file ∷ before) lines none)
-inits_none before (Public many address params name ∷ lines) none = (refl, inits_none (Public many address params name ∷ before) lines none)
 inits_none before (Init address size rules ∷ lines) none = (none.0, inits_none (Init address size rules ∷ before) lines none.1)
-inits_none before (Change address rules ∷ lines) none = (refl, inits_none (Change address rules ∷ before) lines none)
+inits_none before (s ∷ lines) none = (refl, inits_none (s ∷ before) lines none)
 
 pub inits_apart : (lines : List SymLine) → NoneOf meets_init [] lines → AreApart (flat_map init_run lines)
 inits_apart lines none = apart_all (flat_map init_run lines) (inits_before [] lines none)

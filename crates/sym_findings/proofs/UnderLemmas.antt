@@ -5,7 +5,7 @@ use Rattle.std.specs.Option.{option_map, option_map_or}
 use Rattle.std.proofs.lemmas.Bool.{and_parts}
 use Rattle.sym_records.specs.declared.line.Extent.{Extent}
 use Rattle.sym_records.specs.declared.line.SymLine.{SymLine}
-use Rattle.sym_records.specs.declared.line.SymLine.TheVariants.{Module, Info, File, Origin, Func, Inline, Line, Public, Init, Change}
+use Rattle.sym_records.specs.declared.line.SymLine.TheVariants.{Func, Inline, Line}
 use Rattle.sym_meaning.specs.TextNames.{under}
 use Rattle.sym_meaning.specs.Findings.{run_of, line_run, runs_of, meet, holds_run, EachFunc, LieInside, HaveLinesApart}
 use Rattle.sym_findings.specs.Findings.{meets_any, OpenFunc, with_line, open_func, leave, leaves_func, meets_line}
@@ -61,56 +61,32 @@ inside_with (Some f) e records inside = inside
 -- C7
 lines_of : (before lines : List SymLine) → NoneOf meets_line before lines → OpenApart (open_func before) (flat_map line_run (under lines)) × EachFunc HaveLinesApart lines
 lines_of before [] none = (open_apart_none (open_func before), tt)
-lines_of before (Module binary ∷ lines) none = let later = lines_of (Module binary ∷ before) lines none.1 in (open_apart_none (open_func before), later.1)
-lines_of before (Info text ∷ lines) none = let later = lines_of (Info text ∷ before) lines none.1 in (open_apart_none (open_func before), later.1)
-lines_of before (File n name ∷ lines) none = let later = lines_of (File n name ∷ before) lines none.1 in (open_apart_none (open_func before), later.1)
-lines_of before (Origin n name ∷ lines) none = let later = lines_of (Origin n name ∷ before) lines none.1 in (open_apart_none (open_func before), later.1)
 lines_of before (Func many address size params name ∷ lines) none = let later = lines_of (Func many address size params name ∷ before) lines none.1 in (open_apart_none (open_func before), (apart_all (flat_map line_run (under lines)) later.0, later.1))
 lines_of before (Inline level line file origin ranges ∷ lines) none = lines_of (Inline level line file origin ranges ∷ before) lines none.1
 lines_of before (Line address size line file ∷ lines) none = let later = lines_of (Line address size line file ∷ before) lines none.1 in (line_apart (open_func before) (run_of address size) (flat_map line_run (under lines)) none.0 later.0, later.1)
-lines_of before (Public many address params name ∷ lines) none = let later = lines_of (Public many address params name ∷ before) lines none.1 in (open_apart_none (open_func before), later.1)
-lines_of before (Init address size rules ∷ lines) none = let later = lines_of (Init address size rules ∷ before) lines none.1 in (open_apart_none (open_func before), later.1)
-lines_of before (Change address rules ∷ lines) none = let later = lines_of (Change address rules ∷ before) lines none.1 in (open_apart_none (open_func before), later.1)
+lines_of before (s ∷ lines) none = let later = lines_of (s ∷ before) lines none.1 in (open_apart_none (open_func before), later.1)
 
 of_lines : (before lines : List SymLine) → OpenApart (open_func before) (flat_map line_run (under lines)) → EachFunc HaveLinesApart lines → NoneOf meets_line before lines
 of_lines before [] now each = tt
-of_lines before (Module binary ∷ lines) now each = (refl, of_lines (Module binary ∷ before) lines tt each)
-of_lines before (Info text ∷ lines) now each = (refl, of_lines (Info text ∷ before) lines tt each)
-of_lines before (File n name ∷ lines) now each = (refl, of_lines (File n name ∷ before) lines tt each)
-of_lines before (Origin n name ∷ lines) now each = (refl, of_lines (Origin n name ∷ before) lines tt each)
 of_lines before (Func many address size params name ∷ lines) now each = (refl, of_lines (Func many address size params name ∷ before) lines (all_apart (flat_map line_run (under lines)) each.0) each.1)
 of_lines before (Inline level line file origin ranges ∷ lines) now each = (refl, of_lines (Inline level line file origin ranges ∷ before) lines now each)
 of_lines before (Line address size line file ∷ lines) now each = let parts = apart_line (open_func before) (run_of address size) (flat_map line_run (under lines)) now in (parts.0, of_lines (Line address size line file ∷ before) lines parts.1 each)
-of_lines before (Public many address params name ∷ lines) now each = (refl, of_lines (Public many address params name ∷ before) lines tt each)
-of_lines before (Init address size rules ∷ lines) now each = (refl, of_lines (Init address size rules ∷ before) lines tt each)
-of_lines before (Change address rules ∷ lines) now each = (refl, of_lines (Change address rules ∷ before) lines tt each)
+of_lines before (s ∷ lines) now each = (refl, of_lines (s ∷ before) lines tt each)
 
 -- C6
 inside_of : (before lines : List SymLine) → NoneOf leaves_func before lines → OpenInside (open_func before) (under lines) × EachFunc LieInside lines
 inside_of before [] none = (open_inside_none (open_func before), tt)
-inside_of before (Module binary ∷ lines) none = let later = inside_of (Module binary ∷ before) lines none.1 in (open_inside_none (open_func before), later.1)
-inside_of before (Info text ∷ lines) none = let later = inside_of (Info text ∷ before) lines none.1 in (open_inside_none (open_func before), later.1)
-inside_of before (File n name ∷ lines) none = let later = inside_of (File n name ∷ before) lines none.1 in (open_inside_none (open_func before), later.1)
-inside_of before (Origin n name ∷ lines) none = let later = inside_of (Origin n name ∷ before) lines none.1 in (open_inside_none (open_func before), later.1)
 inside_of before (Func many address size params name ∷ lines) none = let later = inside_of (Func many address size params name ∷ before) lines none.1 in (open_inside_none (open_func before), (later.0, later.1))
 inside_of before (Inline level line file origin ranges ∷ lines) none = let later = inside_of (Inline level line file origin ranges ∷ before) lines none.1 in (one_inside (open_func before) ranges (Inline level line file origin ranges) (under lines) refl none.0 later.0, later.1)
 inside_of before (Line address size line file ∷ lines) none = let later = inside_of (Line address size line file ∷ before) lines none.1 in (one_inside (open_func before) (run_of address size ∷ []) (Line address size line file) (under lines) refl none.0 (with_inside (open_func before) (run_of address size) (under lines) later.0), later.1)
-inside_of before (Public many address params name ∷ lines) none = let later = inside_of (Public many address params name ∷ before) lines none.1 in (open_inside_none (open_func before), later.1)
-inside_of before (Init address size rules ∷ lines) none = let later = inside_of (Init address size rules ∷ before) lines none.1 in (open_inside_none (open_func before), later.1)
-inside_of before (Change address rules ∷ lines) none = let later = inside_of (Change address rules ∷ before) lines none.1 in (open_inside_none (open_func before), later.1)
+inside_of before (s ∷ lines) none = let later = inside_of (s ∷ before) lines none.1 in (open_inside_none (open_func before), later.1)
 
 of_inside : (before lines : List SymLine) → OpenInside (open_func before) (under lines) → EachFunc LieInside lines → NoneOf leaves_func before lines
 of_inside before [] now each = tt
-of_inside before (Module binary ∷ lines) now each = (refl, of_inside (Module binary ∷ before) lines tt each)
-of_inside before (Info text ∷ lines) now each = (refl, of_inside (Info text ∷ before) lines tt each)
-of_inside before (File n name ∷ lines) now each = (refl, of_inside (File n name ∷ before) lines tt each)
-of_inside before (Origin n name ∷ lines) now each = (refl, of_inside (Origin n name ∷ before) lines tt each)
 of_inside before (Func many address size params name ∷ lines) now each = (refl, of_inside (Func many address size params name ∷ before) lines each.0 each.1)
 of_inside before (Inline level line file origin ranges ∷ lines) now each = let parts = inside_one (open_func before) ranges (Inline level line file origin ranges) (under lines) refl now in (parts.0, of_inside (Inline level line file origin ranges ∷ before) lines parts.1 each)
 of_inside before (Line address size line file ∷ lines) now each = let parts = inside_one (open_func before) (run_of address size ∷ []) (Line address size line file) (under lines) refl now in (parts.0, of_inside (Line address size line file ∷ before) lines (inside_with (open_func before) (run_of address size) (under lines) parts.1) each)
-of_inside before (Public many address params name ∷ lines) now each = (refl, of_inside (Public many address params name ∷ before) lines tt each)
-of_inside before (Init address size rules ∷ lines) now each = (refl, of_inside (Init address size rules ∷ before) lines tt each)
-of_inside before (Change address rules ∷ lines) now each = (refl, of_inside (Change address rules ∷ before) lines tt each)
+of_inside before (s ∷ lines) now each = (refl, of_inside (s ∷ before) lines tt each)
 
 pub lines_apart : (lines : List SymLine) → NoneOf meets_line [] lines → EachFunc HaveLinesApart lines
 lines_apart lines none = (lines_of [] lines none).1

@@ -4,7 +4,7 @@ use Rattle.std.proofs.lemmas.List.Folds.{list_all-append}
 use Rattle.std.specs.List.{list_any, list_all, flat_map}
 use Rattle.sym_records.specs.declared.line.Extent.{Extent}
 use Rattle.sym_records.specs.declared.line.SymLine.{SymLine}
-use Rattle.sym_records.specs.declared.line.SymLine.TheVariants.{Module, Info, File, Origin, Func, Inline, Line, Public, Init, Change}
+use Rattle.sym_records.specs.declared.line.SymLine.TheVariants.{File, Origin, Func, Inline, Line}
 use Rattle.sym_meaning.specs.Plain.{IsPlain, ArePlain, HaveNoFile, HaveNoOrigin}
 use Rattle.sym_meaning.specs.TextNames.{is_file, is_origin}
 use Rattle.sym_meaning.specs.Findings.{func_run, AreGivenOnce, has_file, has_origin, EachFunc}
@@ -19,31 +19,19 @@ plain_all q [] each plain = refl
 plain_all q (s ∷ lines) each plain = ap (λ b. b && list_all q lines) (each s plain.0) ∙ plain_all q lines each plain.1
 
 plain_file : (all : List SymLine) (s : SymLine) → IsPlain s → has_file all s ≡ true
-plain_file all (Module binary) plain = refl
-plain_file all (Info text) plain = refl
-plain_file all (File number name) plain = refl
-plain_file all (Origin number name) plain = refl
 plain_file all (Func many address size params name) plain = absurd plain
 plain_file all (Inline level line file origin ranges) plain = absurd plain
 plain_file all (Line address size line file) plain = absurd plain
-plain_file all (Public many address params name) plain = refl
-plain_file all (Init address size rules) plain = refl
-plain_file all (Change address rules) plain = refl
+plain_file all s plain = refl
 
 pub plain_files : (all lines : List SymLine) → ArePlain lines → list_all (has_file all) lines ≡ true
 plain_files all lines plain = plain_all (has_file all) lines (plain_file all) plain
 
 plain_origin : (all : List SymLine) (s : SymLine) → IsPlain s → has_origin all s ≡ true
-plain_origin all (Module binary) plain = refl
-plain_origin all (Info text) plain = refl
-plain_origin all (File number name) plain = refl
-plain_origin all (Origin number name) plain = refl
 plain_origin all (Func many address size params name) plain = absurd plain
 plain_origin all (Inline level line file origin ranges) plain = absurd plain
 plain_origin all (Line address size line file) plain = absurd plain
-plain_origin all (Public many address params name) plain = refl
-plain_origin all (Init address size rules) plain = refl
-plain_origin all (Change address rules) plain = refl
+plain_origin all s plain = refl
 
 pub plain_origins : (all lines : List SymLine) → ArePlain lines → list_all (has_origin all) lines ≡ true
 plain_origins all lines plain = plain_all (has_origin all) lines (plain_origin all) plain
@@ -51,72 +39,37 @@ plain_origins all lines plain = plain_all (has_origin all) lines (plain_origin a
 -- records that are no FILE and no INLINE_ORIGIN give no number
 pub once_behind : (front rest : List SymLine) → HaveNoFile front → HaveNoOrigin front → AreGivenOnce rest → AreGivenOnce (front ++ rest)
 once_behind [] rest file origin once = once
-once_behind (Module binary ∷ front) rest file origin once = (refl, once_behind front rest file.1 origin.1 once)
-once_behind (Info text ∷ front) rest file origin once = (refl, once_behind front rest file.1 origin.1 once)
 once_behind (File number name ∷ front) rest file origin once = absurd file.0
 once_behind (Origin number name ∷ front) rest file origin once = absurd origin.0
-once_behind (Func many address size params name ∷ front) rest file origin once = (refl, once_behind front rest file.1 origin.1 once)
-once_behind (Inline level line number name ranges ∷ front) rest file origin once = (refl, once_behind front rest file.1 origin.1 once)
-once_behind (Line address size line number ∷ front) rest file origin once = (refl, once_behind front rest file.1 origin.1 once)
-once_behind (Public many address params name ∷ front) rest file origin once = (refl, once_behind front rest file.1 origin.1 once)
-once_behind (Init address size rules ∷ front) rest file origin once = (refl, once_behind front rest file.1 origin.1 once)
-once_behind (Change address rules ∷ front) rest file origin once = (refl, once_behind front rest file.1 origin.1 once)
+once_behind (s ∷ front) rest file origin once = (refl, once_behind front rest file.1 origin.1 once)
 
 pub none_given : (lines : List SymLine) → HaveNoFile lines → HaveNoOrigin lines → AreGivenOnce lines
 none_given lines file origin = subst (λ (l : List SymLine). AreGivenOnce l) (append-nil lines) (once_behind lines [] file origin tt)
 
 pub no_file : (n : ℕ) (lines : List SymLine) → HaveNoFile lines → list_any (is_file n) lines ≡ false
 no_file n [] none = refl
-no_file n (Module binary ∷ lines) none = no_file n lines none.1
-no_file n (Info text ∷ lines) none = no_file n lines none.1
 no_file n (File number name ∷ lines) none = absurd none.0
-no_file n (Origin number name ∷ lines) none = no_file n lines none.1
-no_file n (Func many address size params name ∷ lines) none = no_file n lines none.1
-no_file n (Inline level line file origin ranges ∷ lines) none = no_file n lines none.1
-no_file n (Line address size line file ∷ lines) none = no_file n lines none.1
-no_file n (Public many address params name ∷ lines) none = no_file n lines none.1
-no_file n (Init address size rules ∷ lines) none = no_file n lines none.1
-no_file n (Change address rules ∷ lines) none = no_file n lines none.1
+no_file n (s ∷ lines) none = no_file n lines none.1
 
 pub no_origin : (n : ℕ) (lines : List SymLine) → HaveNoOrigin lines → list_any (is_origin n) lines ≡ false
 no_origin n [] none = refl
-no_origin n (Module binary ∷ lines) none = no_origin n lines none.1
-no_origin n (Info text ∷ lines) none = no_origin n lines none.1
-no_origin n (File number name ∷ lines) none = no_origin n lines none.1
 no_origin n (Origin number name ∷ lines) none = absurd none.0
-no_origin n (Func many address size params name ∷ lines) none = no_origin n lines none.1
-no_origin n (Inline level line file origin ranges ∷ lines) none = no_origin n lines none.1
-no_origin n (Line address size line file ∷ lines) none = no_origin n lines none.1
-no_origin n (Public many address params name ∷ lines) none = no_origin n lines none.1
-no_origin n (Init address size rules ∷ lines) none = no_origin n lines none.1
-no_origin n (Change address rules ∷ lines) none = no_origin n lines none.1
+no_origin n (s ∷ lines) none = no_origin n lines none.1
 
 -- plain records have no FUNC
 pub func_runs_behind : (front rest : List SymLine) → ArePlain front → flat_map func_run (front ++ rest) ≡ flat_map func_run rest
 func_runs_behind [] rest plain = refl
-func_runs_behind (Module binary ∷ front) rest plain = func_runs_behind front rest plain.1
-func_runs_behind (Info text ∷ front) rest plain = func_runs_behind front rest plain.1
-func_runs_behind (File number name ∷ front) rest plain = func_runs_behind front rest plain.1
-func_runs_behind (Origin number name ∷ front) rest plain = func_runs_behind front rest plain.1
 func_runs_behind (Func many address size params name ∷ front) rest plain = absurd plain.0
 func_runs_behind (Inline level line file origin ranges ∷ front) rest plain = absurd plain.0
 func_runs_behind (Line address size line file ∷ front) rest plain = absurd plain.0
-func_runs_behind (Public many address params name ∷ front) rest plain = func_runs_behind front rest plain.1
-func_runs_behind (Init address size rules ∷ front) rest plain = func_runs_behind front rest plain.1
-func_runs_behind (Change address rules ∷ front) rest plain = func_runs_behind front rest plain.1
+func_runs_behind (s ∷ front) rest plain = func_runs_behind front rest plain.1
 
 pub each_behind : (P : Extent → List SymLine → Type 0) (front rest : List SymLine) → ArePlain front → EachFunc P rest → EachFunc P (front ++ rest)
 each_behind P [] rest plain each = each
-each_behind P (Module binary ∷ front) rest plain each = each_behind P front rest plain.1 each
-each_behind P (Info text ∷ front) rest plain each = each_behind P front rest plain.1 each
-each_behind P (File number name ∷ front) rest plain each = each_behind P front rest plain.1 each
-each_behind P (Origin number name ∷ front) rest plain each = each_behind P front rest plain.1 each
 each_behind P (Func many address size params name ∷ front) rest plain each = absurd plain.0
 each_behind P (Inline level line file origin ranges ∷ front) rest plain each = absurd plain.0
 each_behind P (Line address size line file ∷ front) rest plain each = absurd plain.0
-each_behind P (Public many address params name ∷ front) rest plain each = each_behind P front rest plain.1 each
-each_behind P (Init address size rules ∷ front) rest plain each = each_behind P front rest plain.1 each
-each_behind P (Change address rules ∷ front) rest plain each = each_behind P front rest plain.1 each
+each_behind P (s ∷ front) rest plain each = each_behind P front rest plain.1 each
 
 pub each_plain : (P : Extent → List SymLine → Type 0) (lines : List SymLine) → ArePlain lines → EachFunc P lines
 each_plain P lines plain = subst (λ (l : List SymLine). EachFunc P l) (append-nil lines) (each_behind P lines [] plain tt)

@@ -5,7 +5,7 @@ use Rattle.std.proofs.lemmas.Bool.Decides.{nat_tests}
 use Rattle.std.proofs.lemmas.List.Sums.{sum_by-append}
 use Rattle.std.specs.List.{fold, list_all}
 use Rattle.sym_records.specs.declared.line.SymLine.{SymLine}
-use Rattle.sym_records.specs.declared.line.SymLine.TheVariants.{Module, Info, File, Origin, Func, Inline, Line, Public, Init, Change}
+use Rattle.sym_records.specs.declared.line.SymLine.TheVariants.{Func, Inline, Line, Init, Change}
 use Rattle.sym_meaning.specs.Plain.{ArePlain}
 use Rattle.sym_meaning.specs.Findings.{are_sized}
 use Rattle.sym_meaning.specs.Inits.{init_covers, inits_at, AreNested, is_frameless}
@@ -20,15 +20,7 @@ both_frameless (x ∷ xs) ys first second =
 -- such records cover nothing
 line_plain : (x : ℕ) (s : SymLine) → is_frameless s ≡ true → init_covers x s ≡ false
 line_plain x (Init address size rules) plain = cc
-line_plain x (Change address rules) plain = refl
-line_plain x (Module binary) plain = refl
-line_plain x (Info text) plain = refl
-line_plain x (File number name) plain = refl
-line_plain x (Origin number name) plain = refl
-line_plain x (Func many address size params name) plain = refl
-line_plain x (Inline level line file origin ranges) plain = refl
-line_plain x (Line address size line file) plain = refl
-line_plain x (Public many address params name) plain = refl
+line_plain x s plain = refl
 
 covered_after : (x : ℕ) (front rest : List SymLine) → list_all is_frameless front ≡ true → count_by (init_covers x) (front ++ rest) ≡ count_by (init_covers x) rest
 covered_after x [] rest plain = refl
@@ -43,16 +35,9 @@ covers_after x front rest plain = covered_after x front rest plain
 -- nested records are nested after such ones
 pub nested_after : (front rest : List SymLine) → list_all is_frameless front ≡ true → AreNested 0 0 rest → AreNested 0 0 (front ++ rest)
 nested_after [] rest plain nested = nested
-nested_after (Module binary ∷ front) rest plain nested = nested_after front rest plain nested
-nested_after (Info text ∷ front) rest plain nested = nested_after front rest plain nested
-nested_after (File number name ∷ front) rest plain nested = nested_after front rest plain nested
-nested_after (Origin number name ∷ front) rest plain nested = nested_after front rest plain nested
-nested_after (Func many address size params name ∷ front) rest plain nested = nested_after front rest plain nested
-nested_after (Inline level line file origin ranges ∷ front) rest plain nested = nested_after front rest plain nested
-nested_after (Line address size line file ∷ front) rest plain nested = nested_after front rest plain nested
-nested_after (Public many address params name ∷ front) rest plain nested = nested_after front rest plain nested
 nested_after (Init address size rules ∷ front) rest plain nested = cc
 nested_after (Change address rules ∷ front) rest plain nested = cc
+nested_after (s ∷ front) rest plain nested = nested_after front rest plain nested
 
 -- one more in front is counted, where it has the address
 pub counted : (b : Bool) → 0 + cond b 1 0 ≡ cond b 1 0
@@ -88,15 +73,11 @@ init_sized limit address size s lines some below covered =
 
 pub lines_sized : (last end : ℕ) (lines : List SymLine) → ArePlain lines → AreNested last end lines → CoverBelow (2 ^ 64) lines → list_all are_sized lines ≡ true
 lines_sized last end [] plain nested below = refl
-lines_sized last end (Module binary ∷ lines) plain nested below = lines_sized 0 0 lines plain.1 nested (cover_rest (2 ^ 64) (Module binary) lines below)
-lines_sized last end (Info text ∷ lines) plain nested below = lines_sized 0 0 lines plain.1 nested (cover_rest (2 ^ 64) (Info text) lines below)
-lines_sized last end (File number name ∷ lines) plain nested below = lines_sized 0 0 lines plain.1 nested (cover_rest (2 ^ 64) (File number name) lines below)
-lines_sized last end (Origin number name ∷ lines) plain nested below = lines_sized 0 0 lines plain.1 nested (cover_rest (2 ^ 64) (Origin number name) lines below)
 lines_sized last end (Func many address size params name ∷ lines) plain nested below = absurd plain.0
 lines_sized last end (Inline level line file origin ranges ∷ lines) plain nested below = absurd plain.0
 lines_sized last end (Line address size line file ∷ lines) plain nested below = absurd plain.0
-lines_sized last end (Public many address params name ∷ lines) plain nested below = lines_sized 0 0 lines plain.1 nested (cover_rest (2 ^ 64) (Public many address params name) lines below)
 lines_sized last end (Init address size rules ∷ lines) plain nested below =
     ap (λ b. (b && true) && list_all are_sized lines) (sized_by (2 ^ 64) address size nested.0 (init_sized (2 ^ 64) address size (Init address size rules) lines nested.0 below (last_covered address size nested.0)))
     ∙ lines_sized address (address + size) lines plain.1 nested.1 (cover_rest (2 ^ 64) (Init address size rules) lines below)
 lines_sized last end (Change address rules ∷ lines) plain nested below = lines_sized address end lines plain.1 nested.1.1 (cover_rest (2 ^ 64) (Change address rules) lines below)
+lines_sized last end (s ∷ lines) plain nested below = lines_sized 0 0 lines plain.1 nested (cover_rest (2 ^ 64) s lines below)
