@@ -4,7 +4,7 @@ use Rattle.std.specs.List.{list_any, flat_map}
 use Rattle.std.specs.Option.{option_map, option_map_or}
 use Rattle.sym_records.specs.declared.line.Extent.{Extent}
 use Rattle.sym_records.specs.declared.line.SymLine.{SymLine}
-use Rattle.sym_records.specs.declared.line.SymLine.TheVariants.{Module, Info, File, Origin, Func, Inline, Line, Public, Init, Change}
+use Rattle.sym_records.specs.declared.line.SymLine.TheVariants.{File, Origin, Func, Inline, Line, Init, Change}
 use Rattle.sym_meaning.specs.TextNames.{is_file, is_origin}
 use Rattle.sym_meaning.specs.Findings.{run_of, func_run, has_file, has_origin, are_sized}
 use Rattle.sym_findings.specs.declared.kind.FindingKind.{FindingKind}
@@ -33,126 +33,50 @@ size_same : (f : List ℕ → List ℕ) (s : SymLine) → are_sized (renamed f s
 size_same f s = each_record f s (λ a b. are_sized a ≡ are_sized b) (λ _ _ _ _ _. refl) (λ _ _. refl) (λ _ _ _ _. refl) (λ _. refl)
 
 given_same : (f : List ℕ → List ℕ) (before : List SymLine) (s : SymLine) → is_given_before (map (renamed f) before) (renamed f s) ≡ is_given_before before s
-given_same f before (Module binary) = refl
-given_same f before (Info text) = refl
 given_same f before (File number name) = any_same f (is_file number) before (file_at f number)
 given_same f before (Origin number name) = any_same f (is_origin number) before (origin_at f number)
-given_same f before (Func many address size params name) = refl
-given_same f before (Inline level line file origin ranges) = refl
-given_same f before (Line address size line file) = refl
-given_same f before (Public many address params name) = refl
-given_same f before (Init address size rules) = refl
-given_same f before (Change address rules) = refl
+given_same f before s = refl
 
 has_file_same : (f : List ℕ → List ℕ) (all : List SymLine) (s : SymLine) → has_file (map (renamed f) all) (renamed f s) ≡ has_file all s
-has_file_same f all (Module binary) = refl
-has_file_same f all (Info text) = refl
-has_file_same f all (File number name) = refl
-has_file_same f all (Origin number name) = refl
-has_file_same f all (Func many address size params name) = refl
 has_file_same f all (Inline level line file origin ranges) = any_same f (is_file file) all (file_at f file)
 has_file_same f all (Line address size line file) = any_same f (is_file file) all (file_at f file)
-has_file_same f all (Public many address params name) = refl
-has_file_same f all (Init address size rules) = refl
-has_file_same f all (Change address rules) = refl
+has_file_same f all s = refl
 
 has_origin_same : (f : List ℕ → List ℕ) (all : List SymLine) (s : SymLine) → has_origin (map (renamed f) all) (renamed f s) ≡ has_origin all s
-has_origin_same f all (Module binary) = refl
-has_origin_same f all (Info text) = refl
-has_origin_same f all (File number name) = refl
-has_origin_same f all (Origin number name) = refl
-has_origin_same f all (Func many address size params name) = refl
 has_origin_same f all (Inline level line file origin ranges) = any_same f (is_origin origin) all (origin_at f origin)
-has_origin_same f all (Line address size line file) = refl
-has_origin_same f all (Public many address params name) = refl
-has_origin_same f all (Init address size rules) = refl
-has_origin_same f all (Change address rules) = refl
+has_origin_same f all s = refl
 
 meets_func_same : (f : List ℕ → List ℕ) (before : List SymLine) (s : SymLine) → meets_func (map (renamed f) before) (renamed f s) ≡ meets_func before s
-meets_func_same f before (Module binary) = refl
-meets_func_same f before (Info text) = refl
-meets_func_same f before (File number name) = refl
-meets_func_same f before (Origin number name) = refl
 meets_func_same f before (Func many address size params name) = ap (λ runs. meets_any runs (run_of address size)) (runs_same f func_run before (func_same f))
-meets_func_same f before (Inline level line file origin ranges) = refl
-meets_func_same f before (Line address size line file) = refl
-meets_func_same f before (Public many address params name) = refl
-meets_func_same f before (Init address size rules) = refl
-meets_func_same f before (Change address rules) = refl
+meets_func_same f before s = refl
 
 meets_init_same : (f : List ℕ → List ℕ) (before : List SymLine) (s : SymLine) → meets_init (map (renamed f) before) (renamed f s) ≡ meets_init before s
-meets_init_same f before (Module binary) = refl
-meets_init_same f before (Info text) = refl
-meets_init_same f before (File number name) = refl
-meets_init_same f before (Origin number name) = refl
-meets_init_same f before (Func many address size params name) = refl
-meets_init_same f before (Inline level line file origin ranges) = refl
-meets_init_same f before (Line address size line file) = refl
-meets_init_same f before (Public many address params name) = refl
 meets_init_same f before (Init address size rules) = ap (λ runs. meets_any runs (run_of address size)) (runs_same f init_run before (init_same f))
-meets_init_same f before (Change address rules) = refl
+meets_init_same f before s = refl
 
 open_func_same : (f : List ℕ → List ℕ) (before : List SymLine) → open_func (map (renamed f) before) ≡ open_func before
 open_func_same f [] = refl
-open_func_same f (Module binary ∷ before) = refl
-open_func_same f (Info text ∷ before) = refl
-open_func_same f (File number name ∷ before) = refl
-open_func_same f (Origin number name ∷ before) = refl
-open_func_same f (Func many address size params name ∷ before) = refl
 open_func_same f (Inline level line file origin ranges ∷ before) = open_func_same f before
 open_func_same f (Line address size line file ∷ before) = ap (option_map (with_line (run_of address size))) (open_func_same f before)
-open_func_same f (Public many address params name ∷ before) = refl
-open_func_same f (Init address size rules ∷ before) = refl
-open_func_same f (Change address rules ∷ before) = refl
+open_func_same f (s ∷ before) = refl
 
 open_init_same : (f : List ℕ → List ℕ) (before : List SymLine) → open_init (map (renamed f) before) ≡ open_init before
 open_init_same f [] = refl
-open_init_same f (Module binary ∷ before) = refl
-open_init_same f (Info text ∷ before) = refl
-open_init_same f (File number name ∷ before) = refl
-open_init_same f (Origin number name ∷ before) = refl
-open_init_same f (Func many address size params name ∷ before) = refl
-open_init_same f (Inline level line file origin ranges ∷ before) = refl
-open_init_same f (Line address size line file ∷ before) = refl
-open_init_same f (Public many address params name ∷ before) = refl
-open_init_same f (Init address size rules ∷ before) = refl
 open_init_same f (Change address rules ∷ before) = ap (option_map (λ (o : OpenInit). record o { last = address })) (open_init_same f before)
+open_init_same f (s ∷ before) = refl
 
 leaves_same : (f : List ℕ → List ℕ) (before : List SymLine) (s : SymLine) → leaves_func (map (renamed f) before) (renamed f s) ≡ leaves_func before s
-leaves_same f before (Module binary) = refl
-leaves_same f before (Info text) = refl
-leaves_same f before (File number name) = refl
-leaves_same f before (Origin number name) = refl
-leaves_same f before (Func many address size params name) = refl
 leaves_same f before (Inline level line file origin ranges) = ap (λ o. option_map_or (leave ranges) o false) (open_func_same f before)
 leaves_same f before (Line address size line file) = ap (λ o. option_map_or (leave (run_of address size ∷ [])) o false) (open_func_same f before)
-leaves_same f before (Public many address params name) = refl
-leaves_same f before (Init address size rules) = refl
-leaves_same f before (Change address rules) = refl
+leaves_same f before s = refl
 
 meets_line_same : (f : List ℕ → List ℕ) (before : List SymLine) (s : SymLine) → meets_line (map (renamed f) before) (renamed f s) ≡ meets_line before s
-meets_line_same f before (Module binary) = refl
-meets_line_same f before (Info text) = refl
-meets_line_same f before (File number name) = refl
-meets_line_same f before (Origin number name) = refl
-meets_line_same f before (Func many address size params name) = refl
-meets_line_same f before (Inline level line file origin ranges) = refl
 meets_line_same f before (Line address size line file) = ap (λ o. option_map_or (λ (a : OpenFunc). meets_any a.lines (run_of address size)) o false) (open_func_same f before)
-meets_line_same f before (Public many address params name) = refl
-meets_line_same f before (Init address size rules) = refl
-meets_line_same f before (Change address rules) = refl
+meets_line_same f before s = refl
 
 outside_same : (f : List ℕ → List ℕ) (before : List SymLine) (s : SymLine) → is_outside (map (renamed f) before) (renamed f s) ≡ is_outside before s
-outside_same f before (Module binary) = refl
-outside_same f before (Info text) = refl
-outside_same f before (File number name) = refl
-outside_same f before (Origin number name) = refl
-outside_same f before (Func many address size params name) = refl
-outside_same f before (Inline level line file origin ranges) = refl
-outside_same f before (Line address size line file) = refl
-outside_same f before (Public many address params name) = refl
-outside_same f before (Init address size rules) = refl
 outside_same f before (Change address rules) = ap (λ o. not (option_map_or (goes_on address) o false)) (open_init_same f before)
+outside_same f before s = refl
 
 found_same : (f : List ℕ → List ℕ) (all before : List SymLine) (s : SymLine) (k : FindingKind) → is_found (map (renamed f) all) (map (renamed f) before) (renamed f s) k ≡ is_found all before s k
 found_same f all before s kind.GivenAgain = given_same f before s

@@ -6,7 +6,7 @@ use Rattle.std.proofs.lemmas.List.{take_all, drop_all}
 use Rattle.sym_rules.proofs.BoolLemmas.{and_true, both, elim_bool}
 use Rattle.clean_names.specs.Names.{is_name}
 use Rattle.sym_records.specs.declared.line.SymLine.{SymLine}
-use Rattle.sym_records.specs.declared.line.SymLine.TheVariants.{Module, Info, File, Origin, Func, Inline, Line, Public, Init, Change}
+use Rattle.sym_records.specs.declared.line.SymLine.TheVariants.{Module, Origin, Func, Public}
 use Rattle.sym_records.specs.declared.place.Place.{Place}
 use Rattle.sym_records.specs.declared.place.Place.TheVariants.{Start}
 use Rattle.sym_records.specs.Reading.{fits, leads}
@@ -53,28 +53,14 @@ public_by many address params name new (inl is) fit =
     public_fits many address params new (ltb-true address (2 ^ 64) first.0) (ltb-true params (2 ^ 64) second.0) (is_named name new is) (omega (arith, is_short name new is))
 
 still_fits : (f : List ℕ → List ℕ) (s : SymLine) → ((name : List ℕ) → IsNameFor name (f name)) → fields_fit s ≡ true → fields_fit (renamed f s) ≡ true
-still_fits f (Module binary) names fit = fit
-still_fits f (Info text) names fit = fit
-still_fits f (File number name) names fit = fit
 still_fits f (Origin number name) names fit = origin_by number name (f name) (names name) fit
 still_fits f (Func many address size params name) names fit = func_by many address size params name (f name) (names name) fit
-still_fits f (Inline level line file origin ranges) names fit = fit
-still_fits f (Line address size line file) names fit = fit
 still_fits f (Public many address params name) names fit = public_by many address params name (f name) (names name) fit
-still_fits f (Init address size rules) names fit = fit
-still_fits f (Change address rules) names fit = fit
+still_fits f s names fit = fit
 
 still_stands : (f : List ℕ → List ℕ) (place : Place) (s : SymLine) → (fits place (renamed f s) ≡ fits place s) × (leads place (renamed f s) ≡ leads place s)
 still_stands f place (Module binary) = (refl, refl)
-still_stands f place (Info text) = (refl, refl)
-still_stands f place (File number name) = (refl, refl)
-still_stands f place (Origin number name) = (refl, refl)
-still_stands f place (Func many address size params name) = (refl, refl)
-still_stands f place (Inline level line file origin ranges) = (refl, refl)
-still_stands f place (Line address size line file) = (refl, refl)
-still_stands f place (Public many address params name) = (refl, refl)
-still_stands f place (Init address size rules) = (refl, refl)
-still_stands f place (Change address rules) = (refl, refl)
+still_stands f place s = (refl, refl)
 
 good_from : (f : List ℕ → List ℕ) (i : ℕ) (place : Place) (lines : List SymLine) → ((name : List ℕ) → IsNameFor name (f name)) → first_bad_from i place lines ≡ None → first_bad_from i place (map (renamed f) lines) ≡ None
 unfolding first_bad_from
@@ -114,16 +100,10 @@ same_name name a b (inr first) (inl second) = absurd (first.0 b second)
 same_name name a b (inr first) (inr second) = first.1 ∙ sym second.1
 
 same_record : (f g : List ℕ → List ℕ) (s : SymLine) → ((name : List ℕ) → f name ≡ g name) → renamed f s ≡ renamed g s
-same_record f g (Module binary) same = refl
-same_record f g (Info text) same = refl
-same_record f g (File number name) same = refl
 same_record f g (Origin number name) same = ap (λ n. Origin number n) (same name)
 same_record f g (Func many address size params name) same = ap (λ n. Func many address size params n) (same name)
-same_record f g (Inline level line file origin ranges) same = refl
-same_record f g (Line address size line file) same = refl
 same_record f g (Public many address params name) same = ap (λ n. Public many address params n) (same name)
-same_record f g (Init address size rules) same = refl
-same_record f g (Change address rules) same = refl
+same_record f g s same = refl
 
 same_records : (f g : List ℕ → List ℕ) (lines : List SymLine) → ((name : List ℕ) → f name ≡ g name) → map (renamed f) lines ≡ map (renamed g) lines
 same_records f g [] same = refl
