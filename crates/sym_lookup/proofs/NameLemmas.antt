@@ -4,7 +4,7 @@ use Rattle.std.specs.List.{find, position_from, slice_get}
 use Rattle.std.specs.Option.{option_map, option_map_or, option_and_then}
 use Rattle.std.proofs.lemmas.Iterator.Adapters.{position_from-zero}
 use Rattle.sym_records.specs.declared.line.SymLine.{SymLine}
-use Rattle.sym_records.specs.declared.line.SymLine.TheVariants.{Module, Info, File, Origin, Func, Inline, Line, Public, Init, Change}
+use Rattle.sym_records.specs.declared.line.SymLine.TheVariants.{Inline, Line}
 use Rattle.sym_meaning.specs.TextNames.{under, is_func_at, is_line_at, is_inline_at, Found, text_func, func_name, text_owner, text_line, text_chain, line_under, inlines_under, inlines_from, level_count, call_of, path_and_line}
 use Rattle.sym_lookup.specs.declared.answers.Answer.TheVariants as answer
 use Rattle.sym_lookup.specs.Answers.{chain_from, chain_places, line_place, func_place, public_place, answer_of}
@@ -54,16 +54,9 @@ part_from lines (s ∷ rest) n e =
 
 part_under : (lines rest : List SymLine) (n : ℕ) → IsPart lines n rest → IsPart lines n (under rest)
 part_under lines [] n part = tt
-part_under lines (Module binary ∷ rest) n part = tt
-part_under lines (Info text ∷ rest) n part = tt
-part_under lines (File number name ∷ rest) n part = tt
-part_under lines (Origin number name ∷ rest) n part = tt
-part_under lines (Func many address size params name ∷ rest) n part = tt
 part_under lines (Inline level line file origin ranges ∷ rest) n part = (part.0, part_under lines rest (n + 1) part.1)
 part_under lines (Line address size line file ∷ rest) n part = (part.0, part_under lines rest (n + 1) part.1)
-part_under lines (Public many address params name ∷ rest) n part = tt
-part_under lines (Init address size rules ∷ rest) n part = tt
-part_under lines (Change address rules ∷ rest) n part = tt
+part_under lines (s ∷ rest) n part = tt
 
 under_part : (lines : List SymLine) (n : ℕ) → IsPart lines n (under (drop n lines))
 under_part lines n = part_under lines (drop n lines) n (part_from lines (drop n lines) n refl)

@@ -6,22 +6,14 @@ use Rattle.std.proofs.lemmas.Bool.{cases_lt}
 use Rattle.std.proofs.lemmas.List.{get_or_default}
 use Rattle.std.proofs.lemmas.Bool.Decides.{nat_tests}
 use Rattle.sym_records.specs.declared.line.SymLine.{SymLine}
-use Rattle.sym_records.specs.declared.line.SymLine.TheVariants.{Module, Info, File, Origin, Func, Inline, Line, Public, Init, Change}
+use Rattle.sym_records.specs.declared.line.SymLine.TheVariants.{Inline, Line}
 use Rattle.sym_meaning.specs.TextNames.{is_line_at}
 use Rattle.sym_lookup.specs.internal.Risings.{line_start, line_end, AreRising, RisesTo, is_inline}
 use Rattle.sym_lookup.proofs.PlaceLemmas.{placed_more}
 
 rising_cons : (low end : ℕ) (s : SymLine) (records : List SymLine) → RisesTo low s (Some end) → AreRising end records → AreRising low (s ∷ records)
 rising_cons low end (Line address size line file) records h later = (h.0, subst (λ e. AreRising e records) h.1 later)
-rising_cons low end (Module binary) records h later = h
-rising_cons low end (Info text) records h later = h
-rising_cons low end (File number name) records h later = h
-rising_cons low end (Origin number name) records h later = h
-rising_cons low end (Func many address size params name) records h later = h
-rising_cons low end (Inline level line file origin ranges) records h later = h
-rising_cons low end (Public many address params name) records h later = h
-rising_cons low end (Init address size rules) records h later = h
-rising_cons low end (Change address rules) records h later = h
+rising_cons low end s records h later = h
 
 -- one more record
 pub rising_more : (low end at : ℕ) (records : List SymLine) (line : SymLine) → (AreRising low (drop at records) → AreRising 0 records) → line ≡ get_or records at line → at < length records → RisesTo low line (Some end) → AreRising end (drop (at + 1) records) → AreRising 0 records
@@ -58,28 +50,12 @@ from_low low (Line address size line file ∷ records) rises (suc k) d l =
     let one : address + size ≤ line_start (get_or records k d) = later.0 in
     let two : low ≤ address = rises.0 in
     (omega arith, later.1)
-from_low low (Module binary ∷ records) rises k d l = absurd rises
-from_low low (Info text ∷ records) rises k d l = absurd rises
-from_low low (File number name ∷ records) rises k d l = absurd rises
-from_low low (Origin number name ∷ records) rises k d l = absurd rises
-from_low low (Func many address size params name ∷ records) rises k d l = absurd rises
-from_low low (Inline level line file origin ranges ∷ records) rises k d l = absurd rises
-from_low low (Public many address params name ∷ records) rises k d l = absurd rises
-from_low low (Init address size rules ∷ records) rises k d l = absurd rises
-from_low low (Change address rules ∷ records) rises k d l = absurd rises
+from_low low (s ∷ records) rises k d l = absurd rises
 
 -- a later record begins at or behind the end of an earlier one
 tail_rises : (low : ℕ) (s : SymLine) (records : List SymLine) → AreRising low (s ∷ records) → AreRising (line_end s) records
 tail_rises low (Line address size line file) records rises = rises.1
-tail_rises low (Module binary) records rises = absurd rises
-tail_rises low (Info text) records rises = absurd rises
-tail_rises low (File number name) records rises = absurd rises
-tail_rises low (Origin number name) records rises = absurd rises
-tail_rises low (Func many address size params name) records rises = absurd rises
-tail_rises low (Inline level line file origin ranges) records rises = absurd rises
-tail_rises low (Public many address params name) records rises = absurd rises
-tail_rises low (Init address size rules) records rises = absurd rises
-tail_rises low (Change address rules) records rises = absurd rises
+tail_rises low s records rises = absurd rises
 
 apart : (low : ℕ) (records : List SymLine) → AreRising low records → (i j : ℕ) (d : SymLine) → i < j → j < length records → line_end (get_or records i d) ≤ line_start (get_or records j d)
 apart low [] rises i j d l h = absurd (omega arith)

@@ -4,7 +4,7 @@ use Rattle.std.specs.List.{position_from}
 use Rattle.std.specs.Option.{option_map_or}
 use Rattle.std.proofs.lemmas.List.{drop-take}
 use Rattle.sym_records.specs.declared.line.SymLine.{SymLine}
-use Rattle.sym_records.specs.declared.line.SymLine.TheVariants.{Module, Info, File, Origin, Func, Inline, Line, Public, Init, Change}
+use Rattle.sym_records.specs.declared.line.SymLine.TheVariants.{Inline, Line}
 use Rattle.sym_meaning.specs.TextNames.{under, is_line_at, is_inline_at, level_count}
 use Rattle.step_maps.specs.Stepping.{Stepping}
 use Rattle.step_maps.specs.declared.stretch.FirstItem.{FirstItem}
@@ -95,16 +95,9 @@ chain_all maps at x done all before l = sym (append-nil done) ∙ ap (λ ps. don
 -- what stands under a FUNC is the front of what stands behind it
 under_front : (rest : List SymLine) → under rest ≡ take (length (under rest)) rest
 under_front [] = refl
-under_front (Module binary ∷ rest) = refl
-under_front (Info text ∷ rest) = refl
-under_front (File number name ∷ rest) = refl
-under_front (Origin number name ∷ rest) = refl
-under_front (Func many address size params name ∷ rest) = refl
 under_front (Inline level line file origin ranges ∷ rest) = ap (λ rs. Inline level line file origin ranges ∷ rs) (under_front rest)
 under_front (Line address size line file ∷ rest) = ap (λ rs. Line address size line file ∷ rs) (under_front rest)
-under_front (Public many address params name ∷ rest) = refl
-under_front (Init address size rules ∷ rest) = refl
-under_front (Change address rules ∷ rest) = refl
+under_front (s ∷ rest) = refl
 
 drop_twice : (m n : ℕ) (lines : List SymLine) → drop n (drop m lines) ≡ drop (m + n) lines
 drop_twice zero n lines = let one : 0 + n ≡ n = omega arith in ap (λ k. drop k lines) (sym one)
