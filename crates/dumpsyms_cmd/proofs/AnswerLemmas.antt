@@ -20,7 +20,7 @@ use Rattle.sym_grammar.specs.declared.refusal.SymEnd.TheVariants as end
 use Rattle.state_file.specs.StateText.{state_of}
 use Rattle.state_file.specs.declared.state.State.{State}
 use Rattle.state_file.specs.declared.fault.StateFault.{StateFault}
-use Rattle.dumpsyms_cmd.specs.Words.{Asked, check, lookup, names, if_records, second_of, second_told}
+use Rattle.dumpsyms_cmd.specs.Words.{Asked, check, sym_command, state_command, if_records, second_of, second_told}
 use Rattle.dumpsyms_cmd.specs.Refusals.{too_long_line, state_line}
 use Rattle.dumpsyms_cmd.specs.Verdict.{Verdict, refused, LIMIT}
 use Rattle.dumpsyms_cmd.specs.Observed.{Asks}
@@ -31,15 +31,14 @@ use Rattle.dumpsyms_cmd.specs.commands.Check.{findings_verdict, check_answer}
 use Rattle.dumpsyms_cmd.specs.commands.Lookup.{lookup_answer}
 use Rattle.dumpsyms_cmd.specs.commands.Names.{names_answer}
 use Rattle.dumpsyms_cmd.specs.StateInput.{by_state, state_answer, both_answer, both_verdict, HasRecords, AnswersBoth, STATE_LIMIT}
-use Rattle.dumpsyms_cmd.specs.commands.Frame.{frame_answer}
 use Rattle.dumpsyms_cmd.specs.commands.Walk.{walk_or_refused, walk_answer}
-use Rattle.dumpsyms_cmd.specs.internal.Judged.{Refuses, IsJudged, AnswersCommand, AnswersStop, AnswersEnd, AnswersJudged, AnswersBytesOf, AnswersState, sym_command, sym_answer, query_command, query_answer}
+use Rattle.dumpsyms_cmd.specs.internal.Judged.{Refuses, IsJudged, AnswersCommand, AnswersStop, AnswersEnd, AnswersJudged, AnswersBytesOf, AnswersState, sym_answer, query_answer}
 use Rattle.stack_walk.specs.declared.steps.Walk.{Walk}
 use Rattle.stack_walk.specs.Walk.{walk_of}
-use Rattle.dumpsyms_cmd.specs.declared.symbol_input.SymQuery.{SymQuery}
-use Rattle.dumpsyms_cmd.specs.declared.symbol_input.SymQuery.TheVariants.{Check, Lookup, Names}
-use Rattle.dumpsyms_cmd.specs.declared.state_input.Query.{Query}
-use Rattle.dumpsyms_cmd.specs.declared.state_input.Query.TheVariants as query
+use Rattle.dumpsyms_cmd.specs.declared.words.SymQuery.{SymQuery}
+use Rattle.dumpsyms_cmd.specs.declared.words.SymQuery.TheVariants.{Check}
+use Rattle.dumpsyms_cmd.specs.declared.words.StateQuery.{StateQuery}
+use Rattle.dumpsyms_cmd.specs.declared.words.StateQuery.TheVariants as query
 use Rattle.dumpsyms_cmd.specs.declared.judgement.Output.{Output}
 use Rattle.dumpsyms_cmd.specs.declared.judgement.Output.TheVariants.{Nothing, Text, Bytes, Records}
 use Rattle.dumpsyms_cmd.specs.declared.judgement.Judgement.{Judgement}
@@ -84,8 +83,7 @@ if_ok (Err e) P Q f is = tt
 -- a command over a symbol file alone
 sym_low : (q : SymQuery) (lines : List SymLine) → (sym_answer q lines).status < 2
 sym_low Check lines = found_low (findings lines)
-sym_low (Lookup address) lines = omega arith
-sym_low Names lines = omega arith
+sym_low query lines = omega arith
 
 one_low : (q : SymQuery) (j : Judgement) (name : List ℕ) (files : Option Files) → AnswersBytes name (symbol_verdict (sym_answer q)) files j → j.status < 2
 one_low q j name files kept =
@@ -102,8 +100,7 @@ one_judged j command files low said kept = record { low = omega (arith, low); ro
 sym_judged : (q : SymQuery) (j : Judgement) (name : List ℕ) (files : Option Files) → AnswersBytes name (symbol_verdict (sym_answer q)) files j → IsJudged j (Some (sym_command q name)) files
 unfolding check_answer lookup_answer names_answer
 sym_judged Check j name files kept = one_judged j (check name) files (one_low Check j name files kept) (one_told j name check_answer files kept) kept
-sym_judged (Lookup address) j name files kept = one_judged j (lookup name address) files (one_low (Lookup address) j name files kept) (one_told j name (lookup_answer address) files kept) kept
-sym_judged Names j name files kept = one_judged j (names name) files (one_low Names j name files kept) (one_told j name names_answer files kept) kept
+sym_judged q j name files kept = one_judged j (sym_command q name) files (one_low q j name files kept) (one_told j name (symbol_verdict (sym_answer q)) files kept) kept
 
 pub sym_read : {F : Type 0} (answer : Answer) (judged : Result Judgement F) (q : SymQuery) (name : List ℕ) (files : Option Files) (before after : ℕ) (lines : List SymLine) → HoldsFile files name (IsReading LIMIT (Ok lines)) → AnswersJudged answer judged → IfOk judged (λ j. judgement_verdict j ≡ sym_answer q lines) → AnswersCommand answer (Some (sym_command q name)) files before after
 sym_read answer judged q name files before after lines holds is says =
@@ -223,11 +220,11 @@ walk_low : (lines : List SymLine) (walk : Option Walk) → (walk_or_refused line
 walk_low lines None = omega arith
 walk_low lines (Some walk) = omega arith
 
-query_low : (q : Query) (lines : List SymLine) (state : State) → (query_answer q lines state).status < 2
-query_low (query.Frame address) lines state = omega arith
+query_low : (q : StateQuery) (lines : List SymLine) (state : State) → (query_answer q lines state).status < 2
 query_low query.Walk lines state = walk_low lines (walk_of lines state)
+query_low other lines state = omega arith
 
-both_low : (q : Query) (j : Judgement) (name state : List ℕ) (files : Option Files) → AnswersBoth name state (query_answer q) files j → j.status < 2
+both_low : (q : StateQuery) (j : Judgement) (name state : List ℕ) (files : Option Files) → AnswersBoth name state (query_answer q) files j → j.status < 2
 both_low q j name state files kept =
     let s = status_of j (both_answer (query_answer q) kept.state_bytes kept.bytes) kept.is in
     let few = by_low (λ lines. state_answer (query_answer q) lines kept.state_bytes) (file_reading LIMIT kept.bytes) (λ lines. state_low (query_answer q) lines kept.state_bytes (query_low q lines)) in
@@ -236,13 +233,13 @@ both_low q j name state files kept =
 below_three : (n : ℕ) → n < 2 → n < 3
 below_three n low = omega arith
 
-query_judged : (q : Query) (j : Judgement) (name state : List ℕ) (files : Option Files) → AnswersBoth name state (query_answer q) files j → IsJudged j (Some (query_command q name state)) files
-query_judged (query.Frame address) j name state files kept =
-    let low = both_low (query.Frame address) j name state files kept in
-    record { low = below_three j.status low; row = λ some. low; told = both_told j name state (frame_answer address) files kept; kept = kept }
+query_judged : (q : StateQuery) (j : Judgement) (name state : List ℕ) (files : Option Files) → AnswersBoth name state (query_answer q) files j → IsJudged j (Some (state_command q name state)) files
 query_judged query.Walk j name state files kept =
     let low = both_low query.Walk j name state files kept in
     record { low = below_three j.status low; row = λ some. low; told = both_told j name state walk_answer files kept; kept = kept }
+query_judged q j name state files kept =
+    let low = both_low q j name state files kept in
+    record { low = below_three j.status low; row = λ some. low; told = both_told j name state (query_answer q) files kept; kept = kept }
 
 both_kept : (files : Option Files) (name state : List ℕ) (ask : List SymLine → State → Verdict) (lines : List SymLine) (j : Judgement) → HoldsFile files name (IsReading LIMIT (Ok lines)) → AnswersBytesOf lines ask state files j → AnswersBoth name state ask files j
 both_kept None name state ask lines j holds says = record {
@@ -286,16 +283,16 @@ rose_later before mid after first second rose = λ small. elim (cases_lt (mid + 
   | inr high ↦ omega (arith, high, small, second)
 ]
 
-pub query_read : (answer : Answer) (q : Query) (name state : List ℕ) (files files_mid : Option Files) (before mid after : ℕ) (lines : List SymLine) → HoldsFile files name (IsReading LIMIT (Ok lines)) → files_mid ≡ files → before ≤ mid → mid ≤ after → AnswersState answer lines (query_answer q) state files_mid mid after → AnswersCommand answer (Some (query_command q name state)) files before after
+pub query_read : (answer : Answer) (q : StateQuery) (name state : List ℕ) (files files_mid : Option Files) (before mid after : ℕ) (lines : List SymLine) → HoldsFile files name (IsReading LIMIT (Ok lines)) → files_mid ≡ files → before ≤ mid → mid ≤ after → AnswersState answer lines (query_answer q) state files_mid mid after → AnswersCommand answer (Some (state_command q name state)) files before after
 query_read answer q name state files files_mid before mid after lines holds same first second says =
     go answer (subst (λ (f : Option Files). AnswersState answer lines (query_answer q) state f mid after) same says)
   where
-    go : (answer : Answer) → AnswersState answer lines (query_answer q) state files mid after → AnswersCommand answer (Some (query_command q name state)) files before after
+    go : (answer : Answer) → AnswersState answer lines (query_answer q) state files mid after → AnswersCommand answer (Some (state_command q name state)) files before after
     go (Judged j) says = query_judged q j name state files (both_kept files name state (query_answer q) lines j holds says)
     go Unread says = (refl, rose_later before mid after first second says)
     go NoMemory says = refl
 
-pub query_ended : (answer : Answer) (stopped : Stop SymEnd) (q : Query) (name state : List ℕ) (files : Option Files) (before after : ℕ) → SymRead (Err stopped) files name LIMIT before after → AnswersEnd answer stopped → AnswersCommand answer (Some (query_command q name state)) files before after
+pub query_ended : (answer : Answer) (stopped : Stop SymEnd) (q : StateQuery) (name state : List ℕ) (files : Option Files) (before after : ℕ) → SymRead (Err stopped) files name LIMIT before after → AnswersEnd answer stopped → AnswersCommand answer (Some (state_command q name state)) files before after
 query_ended (Judged j) (Fault end.Unread) q name state files before after read says = absurd says
 query_ended (Judged j) (Fault (end.Refused why)) q name state files before after read says = query_judged q j name state files (both_refused files name state (query_answer q) why j read says)
 query_ended (Judged j) stop.NoMemory q name state files before after read says = absurd says

@@ -19,9 +19,9 @@ use Rattle.sym_records.specs.Reading.{reading}
 use Rattle.sym_records.specs.declared.line.SymLine.{SymLine}
 use Rattle.rule_postfix.specs.declared.omission.Omission.{Omission}
 use Rattle.rule_postfix.specs.Written.{omitted}
-use Rattle.dumpsyms_cmd.specs.Words.{Asked, dump, dump_pair, files_of, module_name}
+use Rattle.dumpsyms_cmd.specs.Words.{Asked, dump, dump_pair, files_of, module_name, usage_line}
 use Rattle.dumpsyms_cmd.specs.ElfInput.{DebugFile, or_refused, unless_longer, file_image, elf_image, pair_image}
-use Rattle.dumpsyms_cmd.specs.Refusals.{elf_line, debug_line, skipped_text, omitted_text, too_long_line, usage_line}
+use Rattle.dumpsyms_cmd.specs.Refusals.{elf_line, debug_line, skipped_text, omitted_text, too_long_line}
 use Rattle.dumpsyms_cmd.specs.Verdict.{Verdict, refused, LIMIT}
 use Rattle.dumpsyms_cmd.specs.commands.Dump.{IsDebugVerdict, IsPartsVerdict, IsDumpVerdict}
 use Rattle.dumpsyms_cmd.specs.Answers.{IsVerdict}

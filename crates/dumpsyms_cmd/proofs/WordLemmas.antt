@@ -1,9 +1,8 @@
-use Rattle.std.proofs.Common.{◌≡◌, ℕ, ◌+◌, ◌-◌, ◌*◌, ◌^◌, ◌<◌, ◌≤◌, ◌==◌, ◌&&◌, Bool, true, false, not, cond, nat_le, List, [], ◌∷◌, Option, Some, None, codes, length, drop, get_or, refl, sym, ◌∙◌, ap, arith, subst}
+use Rattle.std.proofs.Common.{◌≡◌, ℕ, ◌+◌, ◌-◌, ◌*◌, ◌^◌, ◌<◌, ◌≤◌, ◌==◌, ◌&&◌, Bool, true, false, not, cond, nat_le, List, [], ◌∷◌, Option, Some, None, length, drop, get_or, refl, sym, ◌∙◌, ap, arith, subst}
 use Rattle.std.proofs.lemmas.Bool.Decides.{nat_tests}
 use Rattle.std.specs.Char.{digit_value}
 use Rattle.std.specs.List.{list_all}
 use Rattle.std.specs.Option.{option_map}
-use Rattle.std.specs.Str.{bytes_eq}
 use Rattle.std.specs.Str.Parse.{AllDigits, IsNumeral, digits_value, digits_value_after, without_leading_plus}
 use Rattle.sym_rules.specs.RuleReading.{is_digit}
 use Rattle.sym_records.specs.FieldReading.{hex_value}
@@ -13,8 +12,7 @@ use Rattle.sym_rules.proofs.BoolLemmas.{both, and_true, if_both}
 use Rattle.std.proofs.lemmas.List.Sums.{suffix_len_is}
 use Rattle.memchr.specs.Find.{IsLastByte, is_byte}
 use Rattle.std.specs.List.{suffix_len}
-use Rattle.dumpsyms_cmd.specs.ElfInput.{at_path, below_root}
-use Rattle.dumpsyms_cmd.specs.Words.{Asked, dump, dump_pair, check, lookup, frame, walk, names, sample_of, address_of, is_number, number_upto, two_words, three_words, four_words, HasWorkers, is_slash, module_name, judge}
+use Rattle.dumpsyms_cmd.specs.Words.{Asked, dump, lookup, frame, sample_of, address_of, is_number, number_upto, two_words, three_words, four_words, HasWorkers, is_slash, module_name}
 
 passes_not : (t : Bool) → ((t ≡ true) → ⊥) → not t ≡ true
 passes_not t never = elim t as (λ v. ((v ≡ true) → ⊥) → not v ≡ true) [ true ↦ λ h. absurd (h refl) | false ↦ λ h. refl ] never
@@ -177,42 +175,32 @@ sample_workers None workers few some = tt
 sample_workers (Some units) None few some = tt
 sample_workers (Some units) (Some workers) few some = (few.1, some)
 
+usual_few : (elf : List ℕ) → HasWorkers (Some (dump elf 4))
+usual_few elf = (omega arith, omega arith)
+
+units_few : (units : List ℕ) → HasWorkers (sample_of (number_upto 20000 units) (Some 4))
+units_few units = sample_workers (number_upto 20000 units) (Some 4) (number_within 20000 units) (omega arith, omega arith)
+
 two_workers : (word name : List ℕ) → HasWorkers (two_words word name)
-two_workers word name =
-    let more : Option Asked = cond (bytes_eq word (codes "names")) (Some (names name)) None in
-    let sampled : Option Asked = sample_of (number_upto 20000 name) (Some 4) in
-    if_both HasWorkers (bytes_eq word (codes "dump")) (Some (dump name 4)) (cond (bytes_eq word (codes "check")) (Some (check name)) (cond (bytes_eq word (codes "sample")) sampled more)) (omega arith, omega arith)
-    (if_both HasWorkers (bytes_eq word (codes "check")) (Some (check name)) (cond (bytes_eq word (codes "sample")) sampled more) tt
-    (if_both HasWorkers (bytes_eq word (codes "sample")) sampled more (sample_workers (number_upto 20000 name) (Some 4) (number_within 20000 name) (omega arith, omega arith))
-    (if_both HasWorkers (bytes_eq word (codes "names")) (Some (names name)) None tt tt)))
+two_workers word name = search (if_both HasWorkers, usual_few name, units_few name) depth 40
 
 lookup_workers : (name : List ℕ) (o : Option ℕ) → HasWorkers (option_map (lookup name) o)
 lookup_workers name None = tt
 lookup_workers name (Some address) = tt
 
 three_workers : (word name third : List ℕ) → HasWorkers (three_words word name third)
-three_workers word name third =
-    if_both HasWorkers (bytes_eq word (codes "lookup")) (option_map (lookup name) (address_of third)) (cond (bytes_eq word (codes "walk")) (Some (walk name third)) (cond (bytes_eq word (codes "judge")) (Some (judge name third)) None)) (lookup_workers name (address_of third))
-    (if_both HasWorkers (bytes_eq word (codes "walk")) (Some (walk name third)) (cond (bytes_eq word (codes "judge")) (Some (judge name third)) None) tt
-    (if_both HasWorkers (bytes_eq word (codes "judge")) (Some (judge name third)) None tt tt))
+three_workers word name third = search (if_both HasWorkers, lookup_workers name (address_of third)) depth 40
 
 address_workers : (name state : List ℕ) (o : Option ℕ) → HasWorkers (option_map (λ address. frame name address state) o)
 address_workers name state None = tt
 address_workers name state (Some address) = tt
 
+both_few : (units workers : List ℕ) → HasWorkers (sample_of (number_upto 20000 units) (number_upto 64 workers))
+both_few units workers = sample_workers (number_upto 20000 units) (number_upto 64 workers) (number_within 20000 units) (number_within 64 workers)
+
 four_workers : (word name third fourth : List ℕ) → HasWorkers (four_words word name third fourth)
 four_workers word name third fourth =
-    let framed : Option Asked = option_map (λ address. frame name address fourth) (address_of third) in
-    let sampled : Option Asked = sample_of (number_upto 20000 name) (number_upto 64 fourth) in
-    let rooted : Option Asked = cond (bytes_eq word (codes "dump") && bytes_eq third (codes "--debug-root")) (Some (dump_pair name (below_root fourth))) None in
-    let paired : Option Asked = cond (bytes_eq word (codes "dump") && bytes_eq third (codes "--debug")) (Some (dump_pair name (at_path fourth))) rooted in
-    let more : Option Asked = cond (bytes_eq word (codes "frame")) framed paired in
-    if_both HasWorkers (bytes_eq word (codes "dump") && bytes_eq third (codes "--workers")) (option_map (dump name) (number_upto 64 fourth))
-    (cond (bytes_eq word (codes "sample") && bytes_eq third (codes "--workers")) sampled more) (number_workers name fourth)
-    (if_both HasWorkers (bytes_eq word (codes "sample") && bytes_eq third (codes "--workers")) sampled more (sample_workers (number_upto 20000 name) (number_upto 64 fourth) (number_within 20000 name) (number_within 64 fourth))
-    (if_both HasWorkers (bytes_eq word (codes "frame")) framed paired (address_workers name fourth (address_of third))
-    (if_both HasWorkers (bytes_eq word (codes "dump") && bytes_eq third (codes "--debug")) (Some (dump_pair name (at_path fourth))) rooted tt
-    (if_both HasWorkers (bytes_eq word (codes "dump") && bytes_eq third (codes "--debug-root")) (Some (dump_pair name (below_root fourth))) None tt tt))))
+    search (if_both HasWorkers, number_workers name fourth, both_few name fourth, address_workers name fourth (address_of third)) depth 40
 
 pub two_few : (view : Option Asked) (word name : List ℕ) → view ≡ two_words word name → HasWorkers view
 two_few view word name is = subst HasWorkers (sym is) (two_workers word name)

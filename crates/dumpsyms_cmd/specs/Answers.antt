@@ -1,9 +1,8 @@
 -- What the commands answer, and what each promises of its judgement: by the words and the files.
-use Rattle.std.specs.Prelude.{◌≡◌, Option, Some, None}
+use Rattle.std.specs.Prelude.{◌≡◌, [], Option, Some, None}
 use Rattle.sym_edges.specs.Outside.{Files}
-use Rattle.dumpsyms_cmd.specs.Words.{Asked, dump, dump_pair, check, lookup, frame, sample, walk, names, judge}
-use Rattle.dumpsyms_cmd.specs.Refusals.{usage_line}
-use Rattle.dumpsyms_cmd.specs.Verdict.{Verdict, usage}
+use Rattle.dumpsyms_cmd.specs.Words.{Asked, dump, dump_pair, check, lookup, frame, sample, walk, names, judge, usage_line}
+use Rattle.dumpsyms_cmd.specs.Verdict.{Verdict}
 use Rattle.dumpsyms_cmd.specs.Judgement.{err_bytes, judgement_verdict}
 use Rattle.dumpsyms_cmd.specs.SymbolInput.{file_verdict, AnswersBytes}
 use Rattle.dumpsyms_cmd.specs.commands.Dump.{IsFileVerdict, IsPairVerdict, DumpPromises, PairPromises}
@@ -17,6 +16,10 @@ use Rattle.dumpsyms_cmd.specs.commands.Judge.{IsJudgeVerdict, JudgePromises}
 use Rattle.dumpsyms_cmd.specs.commands.Names.{names_answer}
 use Rattle.dumpsyms_cmd.specs.declared.judgement.Output.TheVariants.{Nothing}
 use Rattle.dumpsyms_cmd.specs.declared.judgement.Judgement.{Judgement}
+
+-- the verdict of invalid arguments
+abbrev pub usage : Verdict
+usage = record { status = 2; out = []; err = usage_line }
 
 -- the verdict of a command: the number of workers does not matter
 abbrev pub IsVerdict : Option Asked → Files → Verdict → Type 0

@@ -53,10 +53,6 @@ too_long_line = line (codes "refused input too-long")
 abbrev pub unread_line : List ℕ
 unread_line = line (codes "cannot read input")
 
--- the arguments are invalid
-abbrev pub usage_line : List ℕ
-usage_line = line (codes "usage: dumpsyms dump ELF, check SYM, lookup SYM ADDR, frame SYM ADDR STATE, sample N, walk SYM STATE, judge ELF SYM, names SYM")
-
 -- a fault with a place: what is refused, the word of the kind, the section, and the place in hexadecimal
 abbrev pub located_line : List ℕ → List ℕ → Sect → ℕ → List ℕ
 located_line refused kind section at = line (spaced refused (kind ∷ section_word section ∷ hex at ∷ []))

@@ -1,6 +1,6 @@
 -- A status and two texts: what the program answers.
 use Rattle.std.specs.Prelude.{ℕ, ◌^◌, List, []}
-use Rattle.dumpsyms_cmd.specs.Refusals.{unread_line, usage_line}
+use Rattle.dumpsyms_cmd.specs.Refusals.{unread_line}
 
 -- a status, and the texts on standard output and standard error
 pub record Verdict : Type 0 where
@@ -11,10 +11,6 @@ pub record Verdict : Type 0 where
 -- the verdict of a refusal
 abbrev pub refused : List ℕ → Verdict
 refused text = record { status = 1; out = []; err = text }
-
--- the verdict of invalid arguments
-abbrev pub usage : Verdict
-usage = record { status = 2; out = []; err = usage_line }
 
 -- the verdict of a file that is not there
 abbrev pub unread : Verdict

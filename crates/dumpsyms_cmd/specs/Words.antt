@@ -14,9 +14,14 @@ use Rattle.sym_records.specs.FieldReading.{hex_value}
 use Rattle.sym_grammar.specs.Input.{file_reading}
 use Rattle.sym_grammar.specs.declared.refusal.SymRefusal.{SymRefusal}
 use Rattle.sym_records.specs.declared.line.SymLine.{SymLine}
+use Rattle.dumpsyms_cmd.specs.Refusals.{line}
 use Rattle.dumpsyms_cmd.specs.ElfInput.{DebugFile, at_path, below_root, debug_told}
 use Rattle.dumpsyms_cmd.specs.declared.words.Command.{Command}
-use Rattle.dumpsyms_cmd.specs.declared.words.Command.TheVariants.{Dump, DumpPair, Check, Lookup, Frame, Sample, Walk, Names, Judge}
+use Rattle.dumpsyms_cmd.specs.declared.words.Command.TheVariants.{Dump, DumpPair, Symbols, States, Sample, Judge}
+use Rattle.dumpsyms_cmd.specs.declared.words.SymQuery.{SymQuery}
+use Rattle.dumpsyms_cmd.specs.declared.words.SymQuery.TheVariants.{Check, Lookup, Names}
+use Rattle.dumpsyms_cmd.specs.declared.words.StateQuery.{StateQuery}
+use Rattle.dumpsyms_cmd.specs.declared.words.StateQuery.TheVariants.{Frame, Walk}
 use Rattle.dumpsyms_cmd.specs.declared.words.DebugPlace.{DebugPlace}
 use Rattle.dumpsyms_cmd.specs.declared.words.DebugPlace.TheVariants.{File, Root}
 
@@ -41,21 +46,27 @@ pub data Asked : Type 0 where
   -- a symbol file with its legacy Rust names in readable form
   names : (sym : List ℕ) → Asked
 
--- where a debug file is, and a command, as they are parsed
+-- where a debug file is, what is asked of a symbol file, or of one and a state file, and a command, as they are parsed
 abbrev pub debug_view : DebugPlace → DebugFile
 debug_view (File path) = at_path path.now
 debug_view (Root root) = below_root root.now
 
+abbrev pub sym_command : SymQuery → List ℕ → Asked
+sym_command Check sym = check sym
+sym_command (Lookup address) sym = lookup sym address
+sym_command Names sym = names sym
+
+abbrev pub state_command : StateQuery → List ℕ → List ℕ → Asked
+state_command (Frame address) sym state = frame sym address state
+state_command Walk sym state = walk sym state
+
 abbrev pub command_view : Command → Asked
 command_view (Dump elf workers) = dump elf.now workers
 command_view (DumpPair elf debug) = dump_pair elf.now (debug_view debug)
-command_view (Check sym) = check sym.now
-command_view (Lookup sym address) = lookup sym.now address
-command_view (Frame sym address state) = frame sym.now address state.now
+command_view (Symbols sym query) = sym_command query sym.now
+command_view (States sym query state) = state_command query sym.now state.now
 command_view (Sample units workers) = sample units workers
-command_view (Walk sym state) = walk sym.now state.now
 command_view (Judge elf sym) = judge elf.now sym.now
-command_view (Names sym) = names sym.now
 
 -- a number is decimal digits, without a sign, the first of them not 0
 abbrev pub is_number : List ℕ → Bool
@@ -123,18 +134,16 @@ command_of (word ∷ name ∷ third ∷ []) = three_words word name third
 command_of (word ∷ name ∷ third ∷ fourth ∷ []) = four_words word name third fourth
 command_of (word ∷ name ∷ third ∷ fourth ∷ more ∷ words) = None
 
+-- the line that answers other words
+abbrev pub usage_line : List ℕ
+usage_line = line (codes "usage: dumpsyms dump ELF, check SYM, lookup SYM ADDR, frame SYM ADDR STATE, sample N, walk SYM STATE, judge ELF SYM, names SYM")
+
 -- a dump has from one to 64 workers, and so has a sample, which has no more units than it may have
 abbrev pub HasWorkers : Option Asked → Type 0
 HasWorkers None = Unit {0}
 HasWorkers (Some (dump elf workers)) = (1 ≤ workers) × (workers ≤ MOST_WORKERS)
-HasWorkers (Some (dump_pair elf debug)) = Unit {0}
-HasWorkers (Some (check sym)) = Unit {0}
-HasWorkers (Some (lookup sym address)) = Unit {0}
-HasWorkers (Some (frame sym address state)) = Unit {0}
 HasWorkers (Some (sample units workers)) = (units ≤ MOST_UNITS) × ((1 ≤ workers) × (workers ≤ MOST_WORKERS))
-HasWorkers (Some (walk sym state)) = Unit {0}
-HasWorkers (Some (judge elf sym)) = Unit {0}
-HasWorkers (Some (names sym)) = Unit {0}
+HasWorkers (Some other) = Unit {0}
 
 -- the second file of a command over a symbol file is read only where that has records
 abbrev pub if_records : Result (List SymLine) SymRefusal → List ℕ → List (List ℕ)

@@ -13,11 +13,11 @@ use crate::dump::assemble;
 use crate::judge_input::answer_judge;
 use crate::judgement::{Answer, Judgement, Message, Output};
 use crate::pair_input::answer_pair;
-use crate::refusals::{TOO_LONG, USAGE, debug_line, fault_line};
+use crate::refusals::{TOO_LONG, debug_line, fault_line};
 use crate::sample::judge_sample;
-use crate::state_input::{Query, answer_query};
-use crate::symbol_input::{SymQuery, answer_judged, answer_symbols};
-use crate::words::{Command, name_of, parse_words};
+use crate::state_input::answer_query;
+use crate::symbol_input::{answer_judged, answer_symbols};
+use crate::words::{Command, USAGE, name_of, parse_words};
 use debug_read::{DebugRead, read_debug};
 use elf_sections::{Image, read_image};
 use std::alloc::Global;
@@ -187,19 +187,10 @@ pub fn answer_words<R: Threads + Sync, S: Store, G: Gate + Sync>(
         Some(Command::Dump { elf, workers }) => answer_dump(rt, alloc, elf, workers, store, gate),
         Some(Command::DumpPair { elf, debug }) => answer_pair(rt, alloc, elf, debug, store, gate),
         Some(Command::Sample { units, workers }) => answer_sample(rt, alloc, units, workers, gate),
-        Some(Command::Check { sym }) => answer_symbols(alloc, sym, SymQuery::Check, store),
-        Some(Command::Lookup { sym, address }) => {
-            answer_symbols(alloc, sym, SymQuery::Lookup { address }, store)
+        Some(Command::Symbols { sym, query }) => answer_symbols(alloc, sym, query, store),
+        Some(Command::States { sym, query, state }) => {
+            answer_query(alloc, sym, query, state, store)
         }
-        Some(Command::Names { sym }) => answer_symbols(alloc, sym, SymQuery::Names, store),
-        Some(
-            Command::Frame {
-                sym,
-                address,
-                state,
-            },
-        ) => answer_query(alloc, sym, Query::Frame { address }, state, store),
         Some(Command::Judge { elf, sym }) => answer_judge(rt, alloc, elf, sym, store, gate),
-        Some(Command::Walk { sym, state }) => answer_query(alloc, sym, Query::Walk, state, store),
     }
 }

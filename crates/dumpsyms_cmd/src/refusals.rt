@@ -23,10 +23,6 @@ pub const UNREAD: &[u8] = b"cannot read input\n";
 /// A state has no rip, at which a walk begins.
 pub const NO_RIP: &[u8] = b"refused walk no-rip\n";
 
-/// The arguments are invalid.
-pub const USAGE: &[u8] =
-    b"usage: dumpsyms dump ELF, check SYM, lookup SYM ADDR, frame SYM ADDR STATE, sample N, walk SYM STATE, judge ELF SYM, names SYM\n";
-
 /// A line of what is refused and of an image fault.
 fn image_line(
     alloc: Global,

@@ -1,10 +1,10 @@
 //! What is answered over a symbol file and a state file.
 ghost use Rattle.std.specs.Prelude.{◌≡◌, ◌≤◌, [], ◌∷◌, Some, IfOk, length};
-ghost use Rattle.dumpsyms_cmd.specs.Words.{second_told};
+ghost use Rattle.dumpsyms_cmd.specs.Words.{second_told, state_command};
 ghost use Rattle.dumpsyms_cmd.specs.Judgement.{judgement_verdict};
 ghost use Rattle.dumpsyms_cmd.specs.Observed.{Asks};
 ghost use Rattle.dumpsyms_cmd.specs.StateInput.{state_answer, STATE_LIMIT};
-ghost use Rattle.dumpsyms_cmd.specs.internal.Judged.{AnswersCommand, AnswersState, query_answer, query_command};
+ghost use Rattle.dumpsyms_cmd.specs.internal.Judged.{AnswersCommand, AnswersState, query_answer};
 
 use crate::commands::{answer_stop, refuse};
 use crate::frame::judge_frame;
@@ -12,6 +12,7 @@ use crate::judgement::{Answer, Judgement, Message};
 use crate::refusals::state_line;
 use crate::symbol_input::{answer_end, answer_judged};
 use crate::walk::judge_walk;
+use crate::words::StateQuery;
 use state_file::{State, read_state};
 use std::alloc::Global;
 use sym_edges::{FILE_LIMIT, OutOfMemory, Stop, Store, read_all};
@@ -21,27 +22,18 @@ use sym_records::SymFile;
 /// The greatest length of a state file: 2^24 bytes.
 const STATE_LIMIT: usize = 0x100_0000;
 
-/// What is asked of a symbol file and a state.
-#[derive(Clone, Copy, Debug)]
-pub enum Query {
-    /// `frame`: what the rules at an address evaluate to.
-    Frame { address: u64 },
-    /// `walk`: the frames of the stack.
-    Walk,
-}
-
 /// The answer of the records and the state.
 fn judge_query(
     alloc: Global,
     file: &SymFile,
-    query: Query,
+    query: StateQuery,
     state: &State,
 ) -> Result<Judgement, OutOfMemory>
     ensures { IfOk result (λ j. judgement_verdict j ≡ query_answer query file.now state.now) }
 {
     match query {
-        Query::Frame { address } => judge_frame(alloc, file, address, state),
-        Query::Walk => judge_walk(alloc, file, state),
+        StateQuery::Frame { address } => judge_frame(alloc, file, address, state),
+        StateQuery::Walk => judge_walk(alloc, file, state),
     }
 }
 
@@ -50,7 +42,7 @@ fn judge_query(
 fn judge_state(
     alloc: Global,
     file: &SymFile,
-    query: Query,
+    query: StateQuery,
     bytes: &[u8],
 ) -> Result<Judgement, OutOfMemory>
     requires { length bytes.now ≤ STATE_LIMIT }
@@ -68,7 +60,7 @@ fn judge_state(
 fn answer_state<S: Store>(
     alloc: Global,
     file: &SymFile,
-    query: Query,
+    query: StateQuery,
     state: &str,
     store: &mut S,
 ) -> Answer
@@ -88,14 +80,14 @@ fn answer_state<S: Store>(
 pub fn answer_query<S: Store>(
     alloc: Global,
     sym: &str,
-    query: Query,
+    query: StateQuery,
     state: &str,
     store: &mut S,
 ) -> Answer
     ensures asked { Asks (sym.now ∷ second_told (S.files store.old) sym.now state.now) (S.asked store.old) (S.asked store.new) }
     ensures files { S.files store.new ≡ S.files store.old }
     ensures faults { S.faults store.old ≤ S.faults store.new }
-    ensures answered { AnswersCommand result (Some (query_command query sym.now state.now)) (S.files store.old) (S.faults store.old) (S.faults store.new) }
+    ensures answered { AnswersCommand result (Some (state_command query sym.now state.now)) (S.files store.old) (S.faults store.old) (S.faults store.new) }
 {
     match read_file(alloc, store, sym, FILE_LIMIT) {
         Ok(file) => answer_state(alloc, &file, query, state, store),

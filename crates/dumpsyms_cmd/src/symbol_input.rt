@@ -2,7 +2,8 @@
 ghost use Rattle.std.specs.Prelude.{◌≡◌, ◌≤◌, [], ◌∷◌, Some, IfOk};
 ghost use Rattle.dumpsyms_cmd.specs.Judgement.{judgement_verdict};
 ghost use Rattle.dumpsyms_cmd.specs.Observed.{Asks};
-ghost use Rattle.dumpsyms_cmd.specs.internal.Judged.{AnswersCommand, AnswersEnd, AnswersJudged, sym_answer, sym_command};
+ghost use Rattle.dumpsyms_cmd.specs.Words.{sym_command};
+ghost use Rattle.dumpsyms_cmd.specs.internal.Judged.{AnswersCommand, AnswersEnd, AnswersJudged, sym_answer};
 
 use crate::check::judge_records;
 use crate::commands::refuse;
@@ -10,21 +11,11 @@ use crate::judgement::{Answer, Judgement, Message};
 use crate::lookup::judge_address;
 use crate::names::judge_names;
 use crate::refusals::{TOO_LONG, text_line};
+use crate::words::SymQuery;
 use std::alloc::Global;
 use sym_edges::{FILE_LIMIT, OutOfMemory, Stop, Store};
 use sym_grammar::{SymEnd, SymRefusal, read_file};
 use sym_records::SymFile;
-
-/// What is asked of a symbol file.
-#[derive(Clone, Copy, Debug)]
-pub enum SymQuery {
-    /// `check`: what a checker finds.
-    Check,
-    /// `lookup`: what it names at an address.
-    Lookup { address: u64 },
-    /// `names`: the file with its names shown.
-    Names,
-}
 
 /// The answer to a symbol file that is refused.
 #[tactic(auto, using(crate::proofs::AnswerLemmas::refuses_verdict))]

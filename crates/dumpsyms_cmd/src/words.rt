@@ -15,6 +15,10 @@ const MOST_WORKERS: usize = 64;
 /// The most units of a made file.
 const MOST_UNITS: usize = 20000;
 
+/// The line that answers other words.
+pub const USAGE: &[u8] =
+    b"usage: dumpsyms dump ELF, check SYM, lookup SYM ADDR, frame SYM ADDR STATE, sample N, walk SYM STATE, judge ELF SYM, names SYM\n";
+
 /// Where the separate debug file of a binary is: at a path, or below a root by the binary's build id.
 #[derive(Clone, Copy, Debug)]
 pub enum DebugPlace<'w> {
@@ -22,7 +26,27 @@ pub enum DebugPlace<'w> {
     Root { root: &'w str },
 }
 
-/// What the words ask for, one variant a command.
+/// What is asked of a symbol file.
+#[derive(Clone, Copy, Debug)]
+pub enum SymQuery {
+    /// `check SYM`: what a checker finds.
+    Check,
+    /// `lookup SYM ADDR`: what it names at an address.
+    Lookup { address: u64 },
+    /// `names SYM`: the file with its names shown.
+    Names,
+}
+
+/// What is asked of a symbol file and a state file.
+#[derive(Clone, Copy, Debug)]
+pub enum StateQuery {
+    /// `frame SYM ADDR STATE`: what the rules at an address evaluate to.
+    Frame { address: u64 },
+    /// `walk SYM STATE`: the frames of the stack.
+    Walk,
+}
+
+/// What the words ask for.
 #[derive(Clone, Copy, Debug)]
 pub enum Command<'w> {
     /// `dump ELF` and `dump ELF --workers N`
@@ -35,19 +59,15 @@ pub enum Command<'w> {
         elf: &'w str,
         debug: DebugPlace<'w>,
     },
-    /// `check SYM`
-    Check {
+    /// A command over a symbol file.
+    Symbols {
         sym: &'w str,
+        query: SymQuery,
     },
-    /// `lookup SYM ADDR`
-    Lookup {
+    /// A command over a symbol file and a state file.
+    States {
         sym: &'w str,
-        address: u64,
-    },
-    /// `frame SYM ADDR STATE`
-    Frame {
-        sym: &'w str,
-        address: u64,
+        query: StateQuery,
         state: &'w str,
     },
     /// `sample N` and `sample N --workers W`
@@ -55,18 +75,9 @@ pub enum Command<'w> {
         units: usize,
         workers: usize,
     },
-    /// `walk SYM STATE`
-    Walk {
-        sym: &'w str,
-        state: &'w str,
-    },
     /// `judge ELF SYM`
     Judge {
         elf: &'w str,
-        sym: &'w str,
-    },
-    /// `names SYM`
-    Names {
         sym: &'w str,
     },
 }
@@ -136,13 +147,19 @@ fn parse_two<'w>(word: &str, name: &'w str) -> Option<Command<'w>>
         });
     }
     if word == "check" {
-        return Some(Command::Check { sym: name });
+        return Some(Command::Symbols {
+            sym: name,
+            query: SymQuery::Check,
+        });
     }
     if word == "sample" {
         return parse_sample(name, Some(USUAL_WORKERS));
     }
     if word == "names" {
-        return Some(Command::Names { sym: name });
+        return Some(Command::Symbols {
+            sym: name,
+            query: SymQuery::Names,
+        });
     }
     None
 }
@@ -155,8 +172,9 @@ fn parse_three<'w>(word: &str, name: &'w str, third: &'w str) -> Option<Command<
         return parse_lookup(name, third);
     }
     if word == "walk" {
-        return Some(Command::Walk {
+        return Some(Command::States {
             sym: name,
+            query: StateQuery::Walk,
             state: third,
         });
     }
@@ -184,7 +202,10 @@ fn parse_lookup<'w>(sym: &'w str, address: &str) -> Option<Command<'w>>
     ensures { option_map command_view result ≡ option_map (lookup sym.now) (address_of address.now) }
 {
     match parse_address(address) {
-        Some(address) => Some(Command::Lookup { sym, address }),
+        Some(address) => Some(Command::Symbols {
+            sym,
+            query: SymQuery::Lookup { address },
+        }),
         None => None,
     }
 }
@@ -194,9 +215,9 @@ fn parse_frame<'w>(sym: &'w str, address: &str, state: &'w str) -> Option<Comman
     ensures { option_map command_view result ≡ option_map (λ a. frame sym.now a state.now) (address_of address.now) }
 {
     match parse_address(address) {
-        Some(address) => Some(Command::Frame {
+        Some(address) => Some(Command::States {
             sym,
-            address,
+            query: StateQuery::Frame { address },
             state,
         }),
         None => None,

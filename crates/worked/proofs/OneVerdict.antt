@@ -14,7 +14,7 @@ use Rattle.sym_records.specs.declared.line.SymLine.{SymLine}
 use Rattle.debug_read.specs.declared.fault.DebugFault.{DebugFault}
 use Rattle.debug_read.specs.DebugSays.{DebugSays, debug_says}
 use Rattle.debug_read.specs.Each.{Match}
-use Rattle.dumpsyms_cmd.specs.Words.{Asked, dump, dump_pair, command_of, module_name, check, lookup, frame, sample, walk, names, judge}
+use Rattle.dumpsyms_cmd.specs.Words.{Asked, dump, dump_pair, command_of, module_name, sample, judge}
 use Rattle.dumpsyms_cmd.specs.commands.Dump.{identity_lines, public_lines, frame_lines, CanonFile}
 use Rattle.dumpsyms_cmd.specs.Verdict.{Verdict, LIMIT}
 use Rattle.dumpsyms_cmd.specs.Refusals.{elf_line, debug_elf_line, pair_line}
@@ -186,25 +186,14 @@ alike (Some c) = refl
 -- the number of workers does not matter
 any_workers : (c : Asked) (files : Files) (v : Verdict) → IsVerdict (Some c) files v → IsVerdict (Some (by_one_worker c)) files v
 any_workers (dump elf workers) files v is = is
-any_workers (dump_pair elf debug) files v is = is
-any_workers (check sym) files v is = is
-any_workers (lookup sym address) files v is = is
-any_workers (frame sym address state) files v is = is
-any_workers (sample units workers) files v is = is
-any_workers (walk sym state) files v is = is
-any_workers (judge elf sym) files v is = is
-any_workers (names sym) files v is = is
+any_workers other files v is = is
 
 one_command : (c : Asked) (files : Files) (v w : Verdict) → IsVerdict (Some c) files v → IsVerdict (Some c) files w → v ≡ w
 one_command (dump elf workers) files v w p q = one_file elf (files elf) v w p q
 one_command (dump_pair elf debug) files v w p q = one_pair elf debug files v w p q
-one_command (check name) files v w p q = p ∙ sym q
-one_command (lookup name address) files v w p q = p ∙ sym q
-one_command (frame name address state) files v w p q = p ∙ sym q
 one_command (sample units workers) files v w p q = one_sample (image (made units)) v w (image_ends (made units)) p q
-one_command (walk name state) files v w p q = p ∙ sym q
 one_command (judge elf name) files v w p q = one_judged elf (files elf) (files name) v w p q
-one_command (names name) files v w p q = p ∙ sym q
+one_command other files v w p q = p ∙ sym q
 
 -- two commands that ask for the same have one verdict
 pub one_asked : (c d : Option Asked) (files : Files) (v w : Verdict) → AskAlike c d → IsVerdict c files v → IsVerdict d files w → v ≡ w

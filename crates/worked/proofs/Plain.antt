@@ -26,10 +26,10 @@ use Rattle.dumpsyms_cmd.specs.commands.Judge.{IsJudgeVerdict}
 use Rattle.dumpsyms_cmd.specs.commands.Names.{names_answer}
 use Rattle.dumpsyms_cmd.specs.Refusals.{debug_line}
 use Rattle.dumpsyms_cmd.specs.commands.Dump.{identity_lines, public_lines, frame_lines, CanonFile}
-use Rattle.dumpsyms_cmd.specs.Verdict.{Verdict, refused, usage}
+use Rattle.dumpsyms_cmd.specs.Verdict.{Verdict, refused}
 use Rattle.dumpsyms_cmd.specs.ElfInput.{elf_image, pair_image}
 use Rattle.dumpsyms_cmd.specs.commands.Dump.{left_out, GivesText, IsDebugVerdict, IsDumpVerdict}
-use Rattle.dumpsyms_cmd.specs.Answers.{IsVerdict}
+use Rattle.dumpsyms_cmd.specs.Answers.{IsVerdict, usage}
 use Rattle.worked.proofs.PlainJudge.{dumped_verdict, dumped_is}
 use Rattle.worked.proofs.OneVerdict.{one_verdict}
 
@@ -126,13 +126,9 @@ command_is : (command : Option Asked) (files : Files) (v : Verdict) → command_
 command_is None files v is = the_same is
 command_is (Some (dump elf workers)) files v is = image_is (elf_image elf files) (module_name elf) v is
 command_is (Some (dump_pair elf debug)) files v is = image_is (pair_image elf debug files) (module_name elf) v is
-command_is (Some (check name)) files v is = the_same is
-command_is (Some (lookup name address)) files v is = the_same is
-command_is (Some (frame name address state)) files v is = the_same is
 command_is (Some (sample units workers)) files v is = absurd (not_told is)
-command_is (Some (walk name state)) files v is = the_same is
 command_is (Some (judge elf name)) files v is = judge_is elf files (files name) v (image_verdict (elf_image elf files) (module_name elf)) refl is
-command_is (Some (names name)) files v is = the_same is
+command_is (Some other) files v is = the_same is
 
 -- a verdict that is computed is that of the words and files
 pub plain_is_verdict : (words : List (List ℕ)) (files : Files) (v : Verdict) → plain_verdict words files ≡ Some v → IsVerdict (command_of words) files v

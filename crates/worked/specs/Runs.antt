@@ -1,20 +1,14 @@
 -- Two runs of the program that ask for the same, and how they end.
 use Rattle.std.specs.Prelude.{◌≡◌, Option, None, Some}
 use Rattle.sym_edges.specs.Outside.{Files}
-use Rattle.dumpsyms_cmd.specs.Words.{Asked, dump, dump_pair, check, lookup, frame, sample, walk, names, judge}
+use Rattle.dumpsyms_cmd.specs.Words.{Asked, dump, sample}
 use Rattle.dumpsyms_cmd.specs.Program.{Run, command}
 
 -- what a command asks for, whatever the number of workers
 abbrev pub by_one_worker : Asked → Asked
 by_one_worker (dump elf workers) = dump elf 1
-by_one_worker (dump_pair elf debug) = dump_pair elf debug
-by_one_worker (check sym) = check sym
-by_one_worker (lookup sym address) = lookup sym address
-by_one_worker (frame sym address state) = frame sym address state
 by_one_worker (sample units workers) = sample units 1
-by_one_worker (walk sym state) = walk sym state
-by_one_worker (judge elf sym) = judge elf sym
-by_one_worker (names sym) = names sym
+by_one_worker other = other
 
 -- two commands that ask for the same, by any numbers of workers
 abbrev pub AskAlike : Option Asked → Option Asked → Type 0

@@ -13,7 +13,7 @@ use Rattle.sym_records.specs.declared.line.SymLine.{SymLine}
 use Rattle.sym_grammar.specs.declared.refusal.SymEnd.{SymEnd}
 use Rattle.sym_grammar.specs.declared.refusal.SymEnd.TheVariants as end
 use Rattle.state_file.specs.declared.state.State.{State}
-use Rattle.dumpsyms_cmd.specs.Words.{Asked, check, lookup, frame, walk, names}
+use Rattle.dumpsyms_cmd.specs.Words.{Asked}
 use Rattle.dumpsyms_cmd.specs.Refusals.{elf_line, debug_elf_line, pair_line, too_long_line}
 use Rattle.dumpsyms_cmd.specs.Verdict.{Verdict, refused, unread, no_memory}
 use Rattle.dumpsyms_cmd.specs.ElfInput.{or_refused}
@@ -28,10 +28,10 @@ use Rattle.dumpsyms_cmd.specs.commands.Walk.{walk_answer}
 use Rattle.dumpsyms_cmd.specs.commands.Judge.{JudgesSym}
 use Rattle.dumpsyms_cmd.specs.Answers.{IsVerdict, CommandPromises}
 use Rattle.dumpsyms_cmd.specs.commands.Dump.{IsPartsVerdict, IsDumpVerdict, DumpsParts, DumpsImage, ImagePromises}
-use Rattle.dumpsyms_cmd.specs.declared.symbol_input.SymQuery.{SymQuery}
-use Rattle.dumpsyms_cmd.specs.declared.symbol_input.SymQuery.TheVariants.{Check, Lookup, Names}
-use Rattle.dumpsyms_cmd.specs.declared.state_input.Query.{Query}
-use Rattle.dumpsyms_cmd.specs.declared.state_input.Query.TheVariants as query
+use Rattle.dumpsyms_cmd.specs.declared.words.SymQuery.{SymQuery}
+use Rattle.dumpsyms_cmd.specs.declared.words.SymQuery.TheVariants.{Check, Lookup, Names}
+use Rattle.dumpsyms_cmd.specs.declared.words.StateQuery.{StateQuery}
+use Rattle.dumpsyms_cmd.specs.declared.words.StateQuery.TheVariants.{Frame, Walk}
 use Rattle.dumpsyms_cmd.specs.declared.judgement.Output.TheVariants.{Nothing}
 use Rattle.dumpsyms_cmd.specs.declared.judgement.Judgement.{Judgement}
 use Rattle.dumpsyms_cmd.specs.declared.judgement.Answer.{Answer}
@@ -124,25 +124,16 @@ abbrev pub AnswersJudged : {F : Type 0} → Answer → Result Judgement F → Ty
 AnswersJudged answer (Ok j) = answer ≡ Judged j
 AnswersJudged answer (Err e) = answer ≡ NoMemory
 
--- what is asked of a symbol file, as a command, and what answers it
-abbrev pub sym_command : SymQuery → List ℕ → Asked
-sym_command Check sym = check sym
-sym_command (Lookup address) sym = lookup sym address
-sym_command Names sym = names sym
-
+-- what answers a symbol file
 abbrev pub sym_answer : SymQuery → List SymLine → Verdict
 sym_answer Check = records_checked
 sym_answer (Lookup address) = records_looked_up address
 sym_answer Names = records_named
 
--- what is asked of a symbol file and a state, as a command, and what answers it
-abbrev pub query_command : Query → List ℕ → List ℕ → Asked
-query_command (query.Frame address) sym state = frame sym address state
-query_command query.Walk sym state = walk sym state
-
-abbrev pub query_answer : Query → List SymLine → State → Verdict
-query_answer (query.Frame address) = frame_answer address
-query_answer query.Walk = walk_answer
+-- what answers a symbol file and a state
+abbrev pub query_answer : StateQuery → List SymLine → State → Verdict
+query_answer (Frame address) = frame_answer address
+query_answer Walk = walk_answer
 
 -- a judgement is what the command answers to the bytes of a state file, over the records of a symbol file
 pub record AnswersBytesOf (lines : List SymLine) (answer : List SymLine → State → Verdict) (name : List ℕ) (files : Option Files) (j : Judgement) : Type 0 where

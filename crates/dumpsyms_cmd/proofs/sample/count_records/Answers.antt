@@ -1,6 +1,5 @@
 use Rattle.std.proofs.Common.{ℕ, List, [], length, ◌∙◌, ap}
 use Rattle.sym_records.specs.declared.line.SymLine.{SymLine}
-use Rattle.dumpsyms_cmd.specs.Verdict.{Verdict}
 use Rattle.dumpsyms_cmd.specs.commands.Sample.{counts_line}
 use Rattle.dumpsyms_cmd.proofs.SampleLemmas.{given, records_counted}
 use Rattle.dumpsyms_cmd.proofs.sample.count_records.Goals as goal
