@@ -9,12 +9,12 @@ use Rattle.leb_cursor.specs.Passes.{Passes}
 use Rattle.leb_cursor.specs.Readings.{fixed_at, uleb_at, sleb_at, take_at}
 use Rattle.leb_cursor.proofs.PassLemmas.{fixed_passes, take_passes, uleb_passes, sleb_passes, passes_then}
 use Rattle.frame_entries.specs.declared.pointer.Format.{Format}
-use Rattle.frame_entries.specs.declared.pointer.Format.TheVariants.{U64, Uleb, U16, U32, Sleb, I16, I32}
+use Rattle.frame_entries.specs.declared.pointer.Format.TheVariants as format
 use Rattle.frame_entries.specs.Pointers.{format_of, number_at, pointer_at}
 use Rattle.frame_entries.specs.FrameEntries.{address_at}
 use Rattle.frame_rows.specs.declared.instruction.Block.{Block}
 use Rattle.frame_rows.specs.declared.instruction.Instruction.{Instruction}
-use Rattle.frame_rows.specs.Instructions.{Item, or_instruction, one, two, block_at, with_block, column_with_block, extended_at, behind_opcode, instruction_at, onto_later, listed_in, listed_at, listed_by}
+use Rattle.frame_rows.specs.Instructions.{Item, or_instruction, block_at, Operand, Ubyte, Uhalf, Uword, Uleb, Sleb, Exprloc, operand_at, Form, Alone, One, Two, Pointer, Unknown, one, form_at, form_of, instruction_at, onto_later, listed_in, listed_at, listed_by}
 
 -- how far a reading goes
 any : {A E : Type 0} (reading : Result (A × Ahead) E) (least : ℕ) (c : Ahead) → Passes least c reading → Passes 0 c reading
@@ -29,10 +29,6 @@ made_passes : {A B E : Type 0} (make : A × Ahead → B) (reading : Result (A ×
 made_passes make (Ok x) c goes = goes
 made_passes make (Err fault) c goes = tt
 
-either : {A E : Type 0} (test : Bool) (given other : Result (A × Ahead) E) (c : Ahead) → Passes 0 c given → Passes 0 c other → Passes 0 c (cond test given other)
-either true given other c first second = first
-either false given other c first second = second
-
 fixed_any : (width : ℕ) (c : Ahead) → Passes 0 c (fixed_at width c)
 fixed_any width c = any (fixed_at width c) width c (fixed_passes width c)
 
@@ -44,26 +40,17 @@ sleb_any c = any (sleb_at c) 1 c (sleb_passes c)
 
 number_passes : (format : Format) (c : Ahead) → Passes 0 c (number_at format c)
 unfolding number_at
-number_passes U64 c = fixed_any 8 c
-number_passes Uleb c = uleb_any c
-number_passes U16 c = fixed_any 2 c
-number_passes U32 c = fixed_any 4 c
-number_passes Sleb c = made_passes _ (sleb_at c) c (sleb_any c)
-number_passes I16 c = made_passes _ (fixed_at 2 c) c (fixed_any 2 c)
-number_passes I32 c = made_passes _ (fixed_at 4 c) c (fixed_any 4 c)
+number_passes format.U64 c = fixed_any 8 c
+number_passes format.Uleb c = uleb_any c
+number_passes format.U16 c = fixed_any 2 c
+number_passes format.U32 c = fixed_any 4 c
+number_passes format.Sleb c = made_passes _ (sleb_at c) c (sleb_any c)
+number_passes format.I16 c = made_passes _ (fixed_at 2 c) c (fixed_any 2 c)
+number_passes format.I32 c = made_passes _ (fixed_at 4 c) c (fixed_any 4 c)
 
 pointer_passes : (encoding address : ℕ) (c : Ahead) → Passes 0 c (pointer_at encoding address c)
 unfolding pointer_at
 pointer_passes encoding address c = made_passes _ (number_at (format_of encoding) c) c (number_passes (format_of encoding) c)
-
-one_passes : {A : Type 0} (operand : Ahead → Result (A × Ahead) CursorFault) (make : A → Instruction) (c : Ahead) → Passes 0 c (operand c) → Passes 0 c (one operand make c)
-one_passes operand make c goes = made_passes (λ x. make x.0) (or_instruction (operand c)) c (or_passes (operand c) 0 c goes)
-
-two_passes : {A B : Type 0} (first : Ahead → Result (A × Ahead) CursorFault) (second : Ahead → Result (B × Ahead) CursorFault) (make : A → B → Instruction) (c : Ahead) → ((d : Ahead) → Passes 0 d (first d)) → ((d : Ahead) → Passes 0 d (second d)) → Passes 0 c (two first second make c)
-two_passes first second make c goes further =
-    passes_then (or_instruction (first c)) (λ x. or_instruction (second x.1) >>= λ y. Ok (make x.0 y.0, y.1)) 0 0 c
-    (or_passes (first c) 0 c (goes c))
-    (λ x. made_passes (λ y. make x.0 y.0) (or_instruction (second x.1)) x.1 (or_passes (second x.1) 0 x.1 (further x.1)))
 
 block_passes : (c : Ahead) → Passes 0 c (block_at c)
 unfolding block_at
@@ -71,55 +58,32 @@ block_passes c =
     passes_then (or_instruction (uleb_at c)) _ 0 0 c (or_passes (uleb_at c) 0 c (uleb_any c))
     (λ len. made_passes (λ run. (let b : Block = record { start = len.1.at; len = len.0 } in b)) (or_instruction (take_at len.0 len.1)) len.1 (or_passes (take_at len.0 len.1) 0 len.1 (any (take_at len.0 len.1) len.0 len.1 (take_passes len.0 len.1))))
 
-with_block_passes : (make : Block → Instruction) (c : Ahead) → Passes 0 c (with_block make c)
-with_block_passes make c = made_passes (λ x. make x.0) (block_at c) c (block_passes c)
+operand_passes : (operand : Operand) (c : Ahead) → Passes 0 c (operand_at operand c)
+unfolding operand_at
+operand_passes Ubyte c = or_passes (fixed_at 1 c) 0 c (fixed_any 1 c)
+operand_passes Uhalf c = or_passes (fixed_at 2 c) 0 c (fixed_any 2 c)
+operand_passes Uword c = or_passes (fixed_at 4 c) 0 c (fixed_any 4 c)
+operand_passes Uleb c = or_passes (uleb_at c) 0 c (uleb_any c)
+operand_passes Sleb c = or_passes (sleb_at c) 0 c (sleb_any c)
+operand_passes Exprloc c = block_passes c
 
-column_with_block_passes : (make : ℕ → Block → Instruction) (c : Ahead) → Passes 0 c (column_with_block make c)
-column_with_block_passes make c =
-    passes_then (or_instruction (uleb_at c)) (λ column. with_block (make column.0) column.1) 0 0 c (or_passes (uleb_at c) 0 c (uleb_any c)) (λ column. with_block_passes (make column.0) column.1)
-
-extended_passes : (encoding base opcode : ℕ) (c : Ahead) → Passes 0 c (extended_at encoding base opcode c)
-unfolding extended_at
-extended_passes encoding base opcode c =
-    either (nat_eq opcode 0x00) _ _ c (omega arith, refl)
-    (either (nat_eq opcode 0x01) _ _ c (one_passes (pointer_at encoding (address_at base c.at)) _ c (pointer_passes encoding (address_at base c.at) c))
-    (either (nat_eq opcode 0x02) _ _ c (one_passes (fixed_at 1) _ c (fixed_any 1 c))
-    (either (nat_eq opcode 0x03) _ _ c (one_passes (fixed_at 2) _ c (fixed_any 2 c))
-    (either (nat_eq opcode 0x04) _ _ c (one_passes (fixed_at 4) _ c (fixed_any 4 c))
-    (either (nat_eq opcode 0x05) _ _ c (two_passes uleb_at uleb_at _ c uleb_any uleb_any)
-    (either (nat_eq opcode 0x06) _ _ c (one_passes uleb_at _ c (uleb_any c))
-    (either (nat_eq opcode 0x07) _ _ c (one_passes uleb_at _ c (uleb_any c))
-    (either (nat_eq opcode 0x08) _ _ c (one_passes uleb_at _ c (uleb_any c))
-    (either (nat_eq opcode 0x09) _ _ c (two_passes uleb_at uleb_at _ c uleb_any uleb_any)
-    (either (nat_eq opcode 0x0a) _ _ c (omega arith, refl)
-    (either (nat_eq opcode 0x0b) _ _ c (omega arith, refl)
-    (either (nat_eq opcode 0x0c) _ _ c (two_passes uleb_at uleb_at _ c uleb_any uleb_any)
-    (either (nat_eq opcode 0x0d) _ _ c (one_passes uleb_at _ c (uleb_any c))
-    (either (nat_eq opcode 0x0e) _ _ c (one_passes uleb_at _ c (uleb_any c))
-    (either (nat_eq opcode 0x0f) _ _ c (with_block_passes _ c)
-    (either (nat_eq opcode 0x10) _ _ c (column_with_block_passes _ c)
-    (either (nat_eq opcode 0x11) _ _ c (two_passes uleb_at sleb_at _ c uleb_any sleb_any)
-    (either (nat_eq opcode 0x12) _ _ c (two_passes uleb_at sleb_at _ c uleb_any sleb_any)
-    (either (nat_eq opcode 0x13) _ _ c (one_passes sleb_at _ c (sleb_any c))
-    (either (nat_eq opcode 0x14) _ _ c (two_passes uleb_at uleb_at _ c uleb_any uleb_any)
-    (either (nat_eq opcode 0x15) _ _ c (two_passes uleb_at sleb_at _ c uleb_any sleb_any)
-    (either (nat_eq opcode 0x16) _ _ c (column_with_block_passes _ c)
-    (either (nat_eq opcode 0x2e) _ _ c (one_passes uleb_at _ c (uleb_any c))
-    tt)))))))))))))))))))))))
-
-behind_passes : (encoding base opcode : ℕ) (c : Ahead) → Passes 0 c (behind_opcode encoding base opcode c)
-unfolding behind_opcode
-behind_passes encoding base opcode c =
-    either (nat_eq (opcode / 64) 1) _ _ c (omega arith, refl)
-    (either (nat_eq (opcode / 64) 2) _ _ c (one_passes uleb_at _ c (uleb_any c))
-    (either (nat_eq (opcode / 64) 3) _ _ c (omega arith, refl)
-    (extended_passes encoding base opcode c)))
+form_passes : (encoding base : ℕ) (form : Form) (c : Ahead) → Passes 0 c (form_at encoding base form c)
+unfolding form_at
+form_passes encoding base (Alone instruction) c = (omega arith, refl)
+form_passes encoding base (One operand make) c = made_passes (λ x. make x.0) (operand_at operand c) c (operand_passes operand c)
+form_passes encoding base (Two first second make) c =
+    passes_then (operand_at first c) (λ x. one (make x.0) (operand_at second x.1)) 0 0 c (operand_passes first c)
+    (λ x. made_passes (λ y. make x.0 y.0) (operand_at second x.1) x.1 (operand_passes second x.1))
+form_passes encoding base (Pointer make) c =
+    made_passes (λ x. make x.0) (or_instruction (pointer_at encoding (address_at base c.at) c)) c
+    (or_passes (pointer_at encoding (address_at base c.at) c) 0 c (pointer_passes encoding (address_at base c.at) c))
+form_passes encoding base Unknown c = tt
 
 pub instruction_passes : (encoding base : ℕ) (c : Ahead) → Passes 1 c (instruction_at encoding base c)
 unfolding instruction_at
 instruction_passes encoding base c =
-    passes_then (or_instruction (fixed_at 1 c)) (λ opcode. behind_opcode encoding base opcode.0 opcode.1) 1 0 c
-    (or_passes (fixed_at 1 c) 1 c (fixed_passes 1 c)) (λ opcode. behind_passes encoding base opcode.0 opcode.1)
+    passes_then (or_instruction (fixed_at 1 c)) (λ opcode. form_at encoding base (form_of opcode.0) opcode.1) 1 0 c
+    (or_passes (fixed_at 1 c) 1 c (fixed_passes 1 c)) (λ opcode. form_passes encoding base (form_of opcode.0) opcode.1)
 
 -- the list of what is ahead, whatever number of turns is allowed
 onto_same : (reading : Result (Instruction × Ahead) Reason) (c : Ahead) (f g : Ahead → List Item) → Passes 1 c reading → ((d : Ahead) → length d.bytes + 1 ≤ length c.bytes → f d ≡ g d) → onto_later reading f ≡ onto_later reading g

@@ -1,99 +1,94 @@
 -- An instruction takes the operands that the table of opcodes gives it; for `operands_are_those_of_the_table`.
-use Rattle.std.proofs.Common.{◌≡◌, ℕ, ℤ, List, length, Result, Ok, Err, refl}
+use Rattle.std.proofs.Common.{◌≡◌, ℕ, ℤ, List, [], ◌∷◌, map, length, Option, Some, None, IfSome, Result, Ok, Err, refl, ap, ◌∙◌, subst}
 use Rattle.std.specs.List.{All}
+use Rattle.std.proofs.lemmas.List.Elements.{All-nil, All-cons}
 use Rattle.sym_edges.specs.declared.reason.Reason.{Reason}
 use Rattle.sym_edges.specs.Results.{◌>>=◌}
 use Rattle.leb_cursor.specs.declared.fault.CursorFault.{CursorFault}
 use Rattle.leb_cursor.specs.Ahead.{Ahead}
 use Rattle.leb_cursor.specs.Readings.{fixed_at, uleb_at, sleb_at, take_at}
-use Rattle.code_table.specs.declared.kind.Kind.TheVariants.{Nothing, Uleb, Sleb, BlockUleb}
-use Rattle.code_table.specs.declared.kind.Operand.{Operand}
-use Rattle.code_table.specs.declared.kind.Operand.TheVariants.{Num, Run}
-use Rattle.code_table.specs.declared.kind.Operands.{Operands}
+use Rattle.code_table.specs.declared.kind.Kind.{Kind}
+use Rattle.code_table.specs.declared.kind.Kind.TheVariants as kind
+use Rattle.code_table.specs.declared.kind.Shape.{Shape}
+use Rattle.code_table.specs.declared.kind.Operand.TheVariants.{Run}
+use Rattle.code_table.specs.declared.code_row.CodeRow.{CodeRow}
 use Rattle.code_table.specs.FrameOps.{frame_opcodes, plain_opcodes}
 use Rattle.code_table.specs.Layouts.{number_in, block_in, run_at, kind_at, shape_at}
 use Rattle.code_table.specs.Operands.{left, TakesOperands}
-use Rattle.code_table.proofs.TakenLemmas.{both, signed_in, one_number, one_signed, Taken, none, ◌then◌}
+use Rattle.code_table.proofs.TakenLemmas.{signed_in}
 use Rattle.frame_rows.specs.declared.instruction.Block.{Block}
-use Rattle.frame_rows.specs.declared.instruction.Instruction.{Instruction}
-use Rattle.frame_rows.specs.Instructions.{or_instruction, block_at, with_block, extended_at}
+use Rattle.frame_rows.specs.Instructions.{or_instruction, block_at, Operand, Ubyte, Uhalf, Uword, Uleb, Sleb, Exprloc, operand_at, Form, Alone, One, Two, Pointer, Unknown, form_at, extended_form, extended_at}
 
-second_number : (make : ℕ → Instruction) (first : Operand) (reading : Result (ℕ × Ahead) CursorFault) → left {E = Reason} (or_instruction reading >>= λ y. Ok (make y.0, y.1)) ≡ left (number_in reading >>= λ y. Ok (let pair : Operands = record { first = first; second = y.0 } in pair, y.1))
-second_number make first (Ok y) = refl
-second_number make first (Err fault) = refl
+-- the layout of an operand, and those of a form
+abbrev layout : Operand → Kind
+layout Ubyte = kind.U8
+layout Uhalf = kind.U16
+layout Uword = kind.U32
+layout Uleb = kind.Uleb
+layout Sleb = kind.Sleb
+layout Exprloc = kind.BlockUleb
 
-second_signed : (make : ℤ → Instruction) (first : Operand) (reading : Result (ℤ × Ahead) CursorFault) → left {E = Reason} (or_instruction reading >>= λ y. Ok (make y.0, y.1)) ≡ left (signed_in reading >>= λ y. Ok (let pair : Operands = record { first = first; second = y.0 } in pair, y.1))
-second_signed make first (Ok y) = refl
-second_signed make first (Err fault) = refl
+abbrev shape : Form → Option Shape
+shape (Alone instruction) = Some (record { first = kind.Nothing; second = kind.Nothing })
+shape (One operand make) = Some (record { first = layout operand; second = kind.Nothing })
+shape (Two first second make) = Some (record { first = layout first; second = layout second })
+shape (Pointer make) = None
+shape Unknown = None
 
-two_numbers : (make : ℕ → ℕ → Instruction) (reading : Result (ℕ × Ahead) CursorFault) → left {E = Reason} (or_instruction reading >>= λ x. or_instruction (uleb_at x.1) >>= λ y. Ok (make x.0 y.0, y.1)) ≡ left (both (number_in reading) (kind_at Uleb))
-unfolding kind_at
-two_numbers make (Ok x) = second_number (make x.0) _ (uleb_at x.1)
-two_numbers make (Err fault) = refl
+-- readings that leave the same ahead, and what follows them
+number_left : (reading : Result (ℕ × Ahead) CursorFault) → left (or_instruction reading) ≡ left (number_in reading)
+number_left (Ok x) = refl
+number_left (Err fault) = refl
 
-number_then_signed : (make : ℕ → ℤ → Instruction) (reading : Result (ℕ × Ahead) CursorFault) → left {E = Reason} (or_instruction reading >>= λ x. or_instruction (sleb_at x.1) >>= λ y. Ok (make x.0 y.0, y.1)) ≡ left (both (number_in reading) (kind_at Sleb))
-unfolding kind_at
-number_then_signed make (Ok x) = second_signed (make x.0) _ (sleb_at x.1)
-number_then_signed make (Err fault) = refl
+signed_left : (reading : Result (ℤ × Ahead) CursorFault) → left (or_instruction reading) ≡ left (signed_in reading)
+signed_left (Ok x) = refl
+signed_left (Err fault) = refl
 
--- a block, whose length was read, and a block, alone and behind a number
-abbrev block_in_run : ℕ × Ahead → Result (List ℕ × Ahead) CursorFault → Result (Block × Ahead) Reason
-block_in_run len reading = or_instruction reading >>= λ run. Ok (record { start = len.1.at; len = len.0 }, run.1)
+then_left : {A B C D E F : Type 0} (r : Result (A × Ahead) E) (s : Result (B × Ahead) F) (f : A × Ahead → Result (C × Ahead) E) (g : B × Ahead → Result (D × Ahead) F) → left r ≡ left s → ((x : A × Ahead) (y : B × Ahead) → x.1 ≡ y.1 → left (f x) ≡ left (g y)) → left (r >>= f) ≡ left (s >>= g)
+then_left (Ok x) (Ok y) f g is later = later x y cc
+then_left (Ok x) (Err fault) f g is later = cc
+then_left (Err why) (Ok y) f g is later = cc
+then_left (Err why) (Err fault) f g is later = refl
 
-abbrev operand_in_run : ℕ × Ahead → Result (List ℕ × Ahead) CursorFault → Result (Operand × Ahead) CursorFault
-operand_in_run len reading = reading >>= λ run. Ok (Run len.1.at (length run.0), run.1)
+run_left : (n : ℕ) (start : ℕ) (reading : Result (List ℕ × Ahead) CursorFault) → left (or_instruction reading >>= λ run. Ok ((let b : Block = record { start = start; len = n } in b), run.1)) ≡ left (reading >>= λ run. Ok (Run start (length run.0), run.1))
+run_left n start (Ok run) = refl
+run_left n start (Err fault) = refl
 
-run_alone : (make : Block → Instruction) (len : ℕ × Ahead) (reading : Result (List ℕ × Ahead) CursorFault) → left {E = Reason} (block_in_run len reading >>= λ x. Ok (make x.0, x.1)) ≡ left (both (operand_in_run len reading) (kind_at Nothing))
-unfolding kind_at
-run_alone make len (Ok run) = refl
-run_alone make len (Err fault) = refl
-
-one_block : (make : Block → Instruction) (reading : Result (ℕ × Ahead) CursorFault) → left {E = Reason} ((or_instruction reading >>= λ len. block_in_run len (take_at len.0 len.1)) >>= λ x. Ok (make x.0, x.1)) ≡ left (both (block_in reading) (kind_at Nothing))
+block_left : (reading : Result (ℕ × Ahead) CursorFault) → left (or_instruction reading >>= λ len. or_instruction (take_at len.0 len.1) >>= λ run. Ok ((let b : Block = record { start = len.1.at; len = len.0 } in b), run.1)) ≡ left (block_in reading)
 unfolding run_at
-one_block make (Ok len) = run_alone make len (take_at len.0 len.1)
-one_block make (Err fault) = refl
+block_left (Ok len) = run_left len.0 len.1.at (take_at len.0 len.1)
+block_left (Err fault) = refl
 
-run_second : (make : Block → Instruction) (first : Operand) (len : ℕ × Ahead) (reading : Result (List ℕ × Ahead) CursorFault) → left {E = Reason} (block_in_run len reading >>= λ x. Ok (make x.0, x.1)) ≡ left (operand_in_run len reading >>= λ y. Ok (let pair : Operands = record { first = first; second = y.0 } in pair, y.1))
-run_second make first len (Ok run) = refl
-run_second make first len (Err fault) = refl
+operand_left : (operand : Operand) (c : Ahead) → left (operand_at operand c) ≡ left (kind_at (layout operand) c)
+unfolding operand_at block_at kind_at
+operand_left Ubyte c = number_left (fixed_at 1 c)
+operand_left Uhalf c = number_left (fixed_at 2 c)
+operand_left Uword c = number_left (fixed_at 4 c)
+operand_left Uleb c = number_left (uleb_at c)
+operand_left Sleb c = signed_left (sleb_at c)
+operand_left Exprloc c = block_left (uleb_at c)
 
-second_block : (make : Block → Instruction) (first : Operand) (reading : Result (ℕ × Ahead) CursorFault) → left {E = Reason} ((or_instruction reading >>= λ len. block_in_run len (take_at len.0 len.1)) >>= λ x. Ok (make x.0, x.1)) ≡ left (block_in reading >>= λ y. Ok (let pair : Operands = record { first = first; second = y.0 } in pair, y.1))
-unfolding run_at
-second_block make first (Ok len) = run_second make first len (take_at len.0 len.1)
-second_block make first (Err fault) = refl
+form_left : (encoding base : ℕ) (form : Form) (c : Ahead) → IfSome (shape form) (λ s. left (form_at encoding base form c) ≡ left (shape_at s c))
+unfolding form_at shape_at kind_at
+form_left encoding base (Alone instruction) c = refl
+form_left encoding base (One operand make) c = then_left (operand_at operand c) (kind_at (layout operand) c) _ _ (operand_left operand c) (λ x y is. ap Some is)
+form_left encoding base (Two first second make) c =
+    then_left (operand_at first c) (kind_at (layout first) c) _ _ (operand_left first c)
+    (λ x y is. then_left (operand_at second x.1) (kind_at (layout second) y.1) _ _ (operand_left second x.1 ∙ ap (λ d. left (kind_at (layout second) d)) is) (λ v w same. ap Some same))
+form_left encoding base (Pointer make) c = tt
+form_left encoding base Unknown c = tt
 
-number_then_block : (make : ℕ → Block → Instruction) (reading : Result (ℕ × Ahead) CursorFault) → left {E = Reason} (or_instruction reading >>= λ column. with_block (make column.0) column.1) ≡ left (both (number_in reading) (kind_at BlockUleb))
-unfolding kind_at block_at
-number_then_block make (Ok x) = second_block (make x.0) (Num x.0) (uleb_at x.1)
-number_then_block make (Err fault) = refl
+-- an opcode whose form has the layouts of its row takes the operands of the row
+row_taken : (encoding base : ℕ) (row : CodeRow) → shape (extended_form row.code) ≡ Some row.shape → TakesOperands (extended_at encoding base) row
+row_taken encoding base row is = λ c. subst (λ o. IfSome o (λ s. left (extended_at encoding base row.code c) ≡ left (shape_at s c))) is (form_left encoding base (extended_form row.code) c)
 
-each_taken : (encoding base : ℕ) → Taken (TakesOperands (extended_at encoding base)) plain_opcodes
-unfolding plain_opcodes frame_opcodes extended_at block_at shape_at kind_at
-each_taken encoding base =
-    (λ c. refl)
-    then (λ c. one_number _ _ (fixed_at 1 c))
-    then (λ c. one_number _ _ (fixed_at 2 c))
-    then (λ c. one_number _ _ (fixed_at 4 c))
-    then (λ c. two_numbers _ (uleb_at c))
-    then (λ c. one_number _ _ (uleb_at c))
-    then (λ c. one_number _ _ (uleb_at c))
-    then (λ c. one_number _ _ (uleb_at c))
-    then (λ c. two_numbers _ (uleb_at c))
-    then (λ c. refl)
-    then (λ c. refl)
-    then (λ c. two_numbers _ (uleb_at c))
-    then (λ c. one_number _ _ (uleb_at c))
-    then (λ c. one_number _ _ (uleb_at c))
-    then (λ c. one_block _ (uleb_at c))
-    then (λ c. number_then_block _ (uleb_at c))
-    then (λ c. number_then_signed _ (uleb_at c))
-    then (λ c. number_then_signed _ (uleb_at c))
-    then (λ c. one_signed _ _ (sleb_at c))
-    then (λ c. two_numbers _ (uleb_at c))
-    then (λ c. number_then_signed _ (uleb_at c))
-    then (λ c. number_then_block _ (uleb_at c))
-    then (λ c. one_number _ _ (uleb_at c))
-    then none
+rows_taken : (encoding base : ℕ) (rows : List CodeRow) → map (λ row. shape (extended_form row.code)) rows ≡ map (λ row. Some row.shape) rows → All (TakesOperands (extended_at encoding base)) rows
+rows_taken encoding base [] is = All-nil (TakesOperands (extended_at encoding base))
+rows_taken encoding base (row ∷ rows) is = All-cons (TakesOperands (extended_at encoding base)) row rows (row_taken encoding base row cc) (rows_taken encoding base rows cc)
+
+same_shapes : map (λ row. shape (extended_form row.code)) plain_opcodes ≡ map (λ row. Some row.shape) plain_opcodes
+unfolding plain_opcodes frame_opcodes extended_form
+same_shapes = refl
 
 pub operands_taken : (encoding base : ℕ) → All (TakesOperands (extended_at encoding base)) plain_opcodes
-operands_taken encoding base = (each_taken encoding base).all
+operands_taken encoding base = rows_taken encoding base plain_opcodes same_shapes

@@ -1,10 +1,11 @@
 -- The rows of an entry without a bad instruction are sound; for the lemmas of EntryLemmas.
-use Rattle.std.proofs.Common.{◌≡◌, ℕ, ℤ, pos, negsuc, zero, suc, ◌-◌, ◌*◌, ◌%◌, ◌^◌, ◌<◌, ◌==◌, ◌||◌, not, cond, Bool, true, false, List, [], ◌∷◌, take, drop, set, get_or, replicate, nat_lt, nat_le, Option, Some, None, is_some, Ok, Err, refl, ap, sym, ◌∙◌, arith}
+use Rattle.std.proofs.Common.{◌≡◌, ℕ, ℤ, pos, negsuc, zero, suc, ◌-◌, ◌*◌, ◌%◌, ◌^◌, ◌<◌, ◌==◌, ◌||◌, not, cond, Bool, true, false, List, [], ◌∷◌, take, drop, set, get_or, replicate, nat_lt, nat_le, Option, Some, None, is_some, Ok, Err, refl, ap, sym, ◌∙◌, arith, rules}
 use Rattle.std.proofs.lemmas.Bool.{and_from, and_parts, le-ltb, lt-ltb, ltb-false, ltb-true}
 use Rattle.std.proofs.lemmas.Bool.Decides.{nat_tests}
 use Rattle.std.specs.Int.{w64, cast_signed, cast_unsigned}
 use Rattle.sym_edges.specs.declared.reason.Reason.TheVariants as reason
 use Rattle.sym_edges.specs.Integers.{fits_i64}
+use Rattle.sym_edges.specs.Results.{unless}
 use Rattle.frame_entries.specs.FdeFields.{FdeFields}
 use Rattle.frame_rows.specs.declared.row.Rule.{Rule}
 use Rattle.frame_rows.specs.declared.row.Rule.TheVariants as rule
@@ -17,10 +18,10 @@ use Rattle.frame_rows.specs.declared.instruction.Block.{Block}
 use Rattle.frame_rows.specs.declared.row.Row.{Row}
 use Rattle.frame_rows.specs.Context.{Context}
 use Rattle.frame_rows.specs.declared.instruction.Instruction.{Instruction}
-use Rattle.frame_rows.specs.declared.instruction.Instruction.TheVariants.{SetLoc, AdvanceLoc, DefCfa, DefCfaSf, DefCfaRegister, DefCfaOffset, DefCfaOffsetSf, DefCfaExpression, Undefined, SameValue, Offset, OffsetExtendedSf, ValOffset, ValOffsetSf, Register, Expression, ValExpression, Restore, RememberState, RestoreState, Nop}
+use Rattle.frame_rows.specs.declared.instruction.Instruction.TheVariants.{Nop}
 use Rattle.frame_rows.specs.Instructions.{Item}
 use Rattle.frame_rows.specs.Machine.{Machine}
-use Rattle.frame_rows.specs.Steps.{Effect, MovesTo, MovesBy, DefinesCfa, DefinesCfaExpr, ChangesRegister, ChangesOffset, PutsRule, Remembers, TakesBack, DoesNothing, effect, done, effect_fault, plain, scaled, stepped, step_fault, register_fault, part_fault, put_cfa, put_cfa_expr, put_register, put_offset, put_rule, cfa_register, cfa_offset, place_of_block, can_say, rule_behind, top_or, under}
+use Rattle.frame_rows.specs.Steps.{Effect, MovesTo, MovesBy, DefinesCfa, DefinesCfaExpr, ChangesRegister, ChangesOffset, PutsRule, Remembers, TakesBack, DoesNothing, effect, done, effect_fault, plain, scaled, stepped, step_fault, register_fault, part_fault, put_cfa, put_cfa_expr, put_register, put_offset, put_rule, cfa_register, cfa_offset, place_of_block, can_say, expr_fault, column_expr_fault, rule_behind, top_or, under}
 use Rattle.frame_rows.specs.Rows.{item_stepped, item_fault, first_fault, all_stepped, replay, empty_row, cie_context, cie_items, cie_begin, cie_end, left_context, own_context, own_items, own_begin, row_at, instruction_fault, expr_bytes, is_sound_rule, is_sound_cfa, IsSound}
 use Rattle.frame_rows.proofs.TestLemmas.{elim_bool, neither}
 use Rattle.frame_rows.proofs.StepLemmas.{unless_none}
@@ -109,11 +110,11 @@ under_sound : (e : FdeFields) (stack : List Row) → AllSound e stack → AllSou
 under_sound e [] all = tt
 under_sound e (top ∷ rows) all = all.1
 
-same_named : (column : ℕ) → not (column == 16) ≡ true → column < 17 → nat_lt column 16 ≡ true
-same_named column other low = grind (arith, nat_tests)
+same_named : (column : ℕ) → unless (not (column == 16)) reason.Register ≡ None → column < 17 → nat_lt column 16 ≡ true
+same_named column good low = (let other : not (column == 16) ≡ true = unless_none _ _ good in grind (arith, nat_tests))
 
-source_named : (column register : ℕ) → (nat_lt 16 column || nat_lt register 16) ≡ true → column < 17 → nat_lt register 16 ≡ true
-source_named column register either low = grind (arith, nat_tests)
+source_named : (column register : ℕ) → unless (nat_lt 16 column || nat_lt register 16) reason.Register ≡ None → column < 17 → nat_lt register 16 ≡ true
+source_named column register good low = (let either : (nat_lt 16 column || nat_lt register 16) ≡ true = unless_none _ _ good in grind (arith, nat_tests))
 
 -- an expression that is carried out can be said: its bytes are those of the run
 either_run : (own : Bool) (run : List ℕ) → cond own run run ≡ run
@@ -124,14 +125,18 @@ bytes_here : (e : FdeFields) (s : Context) (block : Block) → IsOf e s → byte
 unfolding bytes_at
 bytes_here e s block of = ap (λ l. take block.len (drop block.start l)) (either_run (is_some s.initial) s.run ∙ of.run)
 
-said : (e : FdeFields) (s : Context) (over_cfa : Bool) (block : Block) → IsOf e s → can_say over_cfa s block ≡ true → is_some (standing over_cfa (expr_bytes e (place_of_block s block))) ≡ true
+can_said : (e : FdeFields) (s : Context) (over_cfa : Bool) (block : Block) → IsOf e s → can_say over_cfa s block ≡ true → is_some (standing over_cfa (expr_bytes e (place_of_block s block))) ≡ true
 unfolding can_say
-said e s over_cfa block of can =
+can_said e s over_cfa block of can =
     sym (ap (λ bytes. is_some (standing over_cfa bytes)) (bytes_here e s block of))
     ∙ (and_parts (nat_lt block.len (2 ^ 32)) _ (and_parts (nat_lt block.start (2 ^ 32)) _ can).1).1
 
-column_said : (column : ℕ) (can : Bool) → (nat_lt 16 column || can) ≡ true → column < 17 → can ≡ true
-column_said column can either low = sym (ap (λ t. t || can) (le-ltb 16 column (omega arith))) ∙ either
+said : (e : FdeFields) (s : Context) (over_cfa : Bool) (block : Block) → IsOf e s → expr_fault over_cfa s block ≡ None → is_some (standing over_cfa (expr_bytes e (place_of_block s block))) ≡ true
+said e s over_cfa block of good = can_said e s over_cfa block of (unless_none (can_say over_cfa s block) reason.Expression good)
+
+column_said : (e : FdeFields) (s : Context) (column : ℕ) (block : Block) → IsOf e s → column_expr_fault s column block ≡ None → column < 17 → is_some (standing true (expr_bytes e (place_of_block s block))) ≡ true
+column_said e s column block of good low =
+    can_said e s true block of (sym (ap (λ t. t || can_say true s block) (le-ltb 16 column (omega arith))) ∙ unless_none (nat_lt 16 column || can_say true s block) reason.Expression good)
 
 -- what an effect puts into a row is sound, unless there is a reason against it
 abbrev Puts : FdeFields → Effect → Type 0
@@ -142,27 +147,8 @@ Puts e (PutsRule column new why) = why ≡ None → column < 17 → is_sound_rul
 Puts e _ = Unit {0}
 
 puts : (e : FdeFields) (s : Context) (i : Instruction) → IsOf e s → Puts e (effect s i)
-puts e s (SetLoc address) of = tt
-puts e s (AdvanceLoc delta) of = tt
-puts e s (DefCfa register offset) of = plain_fits offset
-puts e s (DefCfaSf register factored) of = scaled_fits s factored
-puts e s (DefCfaRegister register) of = tt
-puts e s (DefCfaOffset offset) of = plain_fits offset
-puts e s (DefCfaOffsetSf factored) of = scaled_fits s factored
-puts e s (DefCfaExpression block) of = λ good. said e s false block of (unless_none (can_say false s block) reason.Expression good)
-puts e s (Undefined column) of = λ good low. refl
-puts e s (SameValue column) of = λ good low. same_named column (unless_none (not (column == 16)) reason.Register good) low
-puts e s (Offset column factored) of = λ good low. scaled_fits s (plain factored)
-puts e s (OffsetExtendedSf column factored) of = λ good low. scaled_fits s factored
-puts e s (ValOffset column factored) of = λ good low. scaled_fits s (plain factored)
-puts e s (ValOffsetSf column factored) of = λ good low. scaled_fits s factored
-puts e s (Register column register) of = λ good low. source_named column register (unless_none (nat_lt 16 column || nat_lt register 16) reason.Register good) low
-puts e s (Expression column block) of = λ good low. said e s true block of (column_said column (can_say true s block) (unless_none (nat_lt 16 column || can_say true s block) reason.Expression good) low)
-puts e s (ValExpression column block) of = λ good low. said e s true block of (column_said column (can_say true s block) (unless_none (nat_lt 16 column || can_say true s block) reason.Expression good) low)
-puts e s (Restore column) of = λ good low. behind_sound e s.initial column of.initial
-puts e s RememberState of = tt
-puts e s RestoreState of = tt
 puts e s Nop of = tt
+puts e s i of = search (rules, plain_fits, scaled_fits, same_named, source_named, said, column_said, behind_sound, of, of.initial)
 
 effect_sound : (e : FdeFields) (s : Context) (x : Effect) (m : Machine) → effect_fault s x m ≡ None → Puts e x → IsSoundState e m → IsSoundState e (done x m)
 effect_sound e s (MovesTo address) m good what names = record { row = names.row; stack = names.stack }

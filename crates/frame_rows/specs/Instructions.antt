@@ -1,5 +1,5 @@
 -- The call frame instructions in a run of bytes (DWARF 5, sections 6.4.2 and 7.24).
-use Rattle.std.specs.Prelude.{ℕ, zero, suc, ◌/◌, ◌%◌, ◌==◌, if◌then◌else◌, List, [], ◌∷◌, length, Result, Ok, Err}
+use Rattle.std.specs.Prelude.{ℕ, ℤ, zero, suc, ◌/◌, ◌%◌, ◌==◌, if◌then◌else◌, List, [], ◌∷◌, length, Result, Ok, Err}
 use Rattle.sym_edges.specs.declared.reason.Reason.{Reason}
 use Rattle.sym_edges.specs.declared.reason.Reason.TheVariants as reason
 use Rattle.leb_cursor.specs.declared.fault.CursorFault.{CursorFault}
@@ -18,63 +18,105 @@ abbrev pub or_instruction : {A : Type 0} → Result A CursorFault → Result A R
 or_instruction (Ok x) = Ok x
 or_instruction (Err fault) = Err reason.Instruction
 
--- an instruction without operands, with one operand, and with two, one after the other
-abbrev pub alone : Instruction → Ahead → Result (Instruction × Ahead) Reason
-alone instruction c = Ok (instruction, c)
-
-abbrev pub one : {A : Type 0} → (Ahead → Result (A × Ahead) CursorFault) → (A → Instruction) → Ahead → Result (Instruction × Ahead) Reason
-one operand make c = or_instruction (operand c) >>= λ x. Ok (make x.0, x.1)
-
-abbrev pub two : {A B : Type 0} → (Ahead → Result (A × Ahead) CursorFault) → (Ahead → Result (B × Ahead) CursorFault) → (A → B → Instruction) → Ahead → Result (Instruction × Ahead) Reason
-two first second make c = or_instruction (first c) >>= λ x. or_instruction (second x.1) >>= λ y. Ok (make x.0 y.0, y.1)
-
 -- a block, which a DWARF expression is: its length, then so many bytes; what is kept is where it starts, and its length
 unfoldable pub block_at : Ahead → Result (Block × Ahead) Reason
 block_at c = or_instruction (uleb_at c) >>= λ len. or_instruction (take_at len.0 len.1) >>= λ run. Ok (record { start = len.1.at; len = len.0 }, run.1)
 
-abbrev pub with_block : (Block → Instruction) → Ahead → Result (Instruction × Ahead) Reason
-with_block make c = block_at c >>= λ x. Ok (make x.0, x.1)
+-- what an operand is, by the standard's names: a number of one, two or four bytes, an unsigned or a signed LEB128, or a DWARF expression
+pub data Operand : Type 0 where
+  Ubyte : Operand
+  Uhalf : Operand
+  Uword : Operand
+  Uleb : Operand
+  Sleb : Operand
+  Exprloc : Operand
 
-abbrev pub column_with_block : (ℕ → Block → Instruction) → Ahead → Result (Instruction × Ahead) Reason
-column_with_block make c = or_instruction (uleb_at c) >>= λ column. with_block (make column.0) column.1
+-- what is read of it
+abbrev pub Value : Operand → Type 0
+Value Ubyte = ℕ
+Value Uhalf = ℕ
+Value Uword = ℕ
+Value Uleb = ℕ
+Value Sleb = ℤ
+Value Exprloc = Block
 
--- after an opcode without an operand in it: its operands, and what it means (DWARF 5, table 7.29); the operand of
--- DW_CFA_set_loc is a pointer in the entry's encoding
-unfoldable pub extended_at : ℕ → ℕ → ℕ → Ahead → Result (Instruction × Ahead) Reason
-extended_at encoding base opcode c =
-    if opcode == 0x00 then alone Nop c else  -- DW_CFA_nop
-    if opcode == 0x01 then one (pointer_at encoding (address_at base c.at)) SetLoc c else  -- DW_CFA_set_loc
-    if opcode == 0x02 then one (fixed_at 1) AdvanceLoc c else  -- DW_CFA_advance_loc1
-    if opcode == 0x03 then one (fixed_at 2) AdvanceLoc c else  -- DW_CFA_advance_loc2
-    if opcode == 0x04 then one (fixed_at 4) AdvanceLoc c else  -- DW_CFA_advance_loc4
-    if opcode == 0x05 then two uleb_at uleb_at Offset c else  -- DW_CFA_offset_extended
-    if opcode == 0x06 then one uleb_at Restore c else  -- DW_CFA_restore_extended
-    if opcode == 0x07 then one uleb_at Undefined c else  -- DW_CFA_undefined
-    if opcode == 0x08 then one uleb_at SameValue c else  -- DW_CFA_same_value
-    if opcode == 0x09 then two uleb_at uleb_at Register c else  -- DW_CFA_register
-    if opcode == 0x0a then alone RememberState c else  -- DW_CFA_remember_state
-    if opcode == 0x0b then alone RestoreState c else  -- DW_CFA_restore_state
-    if opcode == 0x0c then two uleb_at uleb_at DefCfa c else  -- DW_CFA_def_cfa
-    if opcode == 0x0d then one uleb_at DefCfaRegister c else  -- DW_CFA_def_cfa_register
-    if opcode == 0x0e then one uleb_at DefCfaOffset c else  -- DW_CFA_def_cfa_offset
-    if opcode == 0x0f then with_block DefCfaExpression c else  -- DW_CFA_def_cfa_expression
-    if opcode == 0x10 then column_with_block Expression c else  -- DW_CFA_expression
-    if opcode == 0x11 then two uleb_at sleb_at OffsetExtendedSf c else  -- DW_CFA_offset_extended_sf
-    if opcode == 0x12 then two uleb_at sleb_at DefCfaSf c else  -- DW_CFA_def_cfa_sf
-    if opcode == 0x13 then one sleb_at DefCfaOffsetSf c else  -- DW_CFA_def_cfa_offset_sf
-    if opcode == 0x14 then two uleb_at uleb_at ValOffset c else  -- DW_CFA_val_offset
-    if opcode == 0x15 then two uleb_at sleb_at ValOffsetSf c else  -- DW_CFA_val_offset_sf
-    if opcode == 0x16 then column_with_block ValExpression c else  -- DW_CFA_val_expression
-    if opcode == 0x2e then one uleb_at (λ size. Nop) c else  -- DW_CFA_GNU_args_size
-    Err reason.Instruction
+unfoldable pub operand_at : (operand : Operand) → Ahead → Result (Value operand × Ahead) Reason
+operand_at Ubyte c = or_instruction (fixed_at 1 c)
+operand_at Uhalf c = or_instruction (fixed_at 2 c)
+operand_at Uword c = or_instruction (fixed_at 4 c)
+operand_at Uleb c = or_instruction (uleb_at c)
+operand_at Sleb c = or_instruction (sleb_at c)
+operand_at Exprloc c = block_at c
 
--- after an opcode: in three of them the low six bits are an operand
-unfoldable pub behind_opcode : ℕ → ℕ → ℕ → Ahead → Result (Instruction × Ahead) Reason
-behind_opcode encoding base opcode c =
-    if opcode / 64 == 1 then alone (AdvanceLoc (opcode % 64)) c else  -- DW_CFA_advance_loc
-    if opcode / 64 == 2 then one uleb_at (Offset (opcode % 64)) c else  -- DW_CFA_offset
-    if opcode / 64 == 3 then alone (Restore (opcode % 64)) c else  -- DW_CFA_restore
-    extended_at encoding base opcode c
+-- what stands after an opcode, and the instruction that is made of it
+pub data Form : Type 0 where
+  -- nothing, one operand, or two
+  Alone : Instruction → Form
+  One : (operand : Operand) → (Value operand → Instruction) → Form
+  Two : (first second : Operand) → (Value first → Value second → Instruction) → Form
+  -- an address, as a pointer in the entry's encoding
+  Pointer : (ℕ → Instruction) → Form
+  -- there is no such opcode
+  Unknown : Form
+
+-- an instruction of one operand, where this is read, and of two, one after the other
+abbrev pub one : {A : Type 0} → (A → Instruction) → Result (A × Ahead) Reason → Result (Instruction × Ahead) Reason
+one make operand = operand >>= λ x. Ok (make x.0, x.1)
+
+abbrev pub two : {A B : Type 0} → (A → B → Instruction) → Result (A × Ahead) Reason → (Ahead → Result (B × Ahead) Reason) → Result (Instruction × Ahead) Reason
+two make first second = first >>= λ x. one (make x.0) (second x.1)
+
+-- an instruction by its form; `base` is the address of the first byte of the run
+unfoldable pub form_at : ℕ → ℕ → Form → Ahead → Result (Instruction × Ahead) Reason
+form_at encoding base (Alone instruction) c = Ok (instruction, c)
+form_at encoding base (One operand make) c = one make (operand_at operand c)
+form_at encoding base (Two first second make) c = two make (operand_at first c) (operand_at second)
+form_at encoding base (Pointer make) c = one make (or_instruction (pointer_at encoding (address_at base c.at) c))
+form_at encoding base Unknown c = Err reason.Instruction
+
+-- an opcode without an operand in it: its operands, and what it means (DWARF 5, table 7.29)
+unfoldable pub extended_form : ℕ → Form
+extended_form opcode =
+    if opcode == 0x00 then Alone Nop else  -- DW_CFA_nop
+    if opcode == 0x01 then Pointer SetLoc else  -- DW_CFA_set_loc
+    if opcode == 0x02 then One Ubyte AdvanceLoc else  -- DW_CFA_advance_loc1
+    if opcode == 0x03 then One Uhalf AdvanceLoc else  -- DW_CFA_advance_loc2
+    if opcode == 0x04 then One Uword AdvanceLoc else  -- DW_CFA_advance_loc4
+    if opcode == 0x05 then Two Uleb Uleb Offset else  -- DW_CFA_offset_extended
+    if opcode == 0x06 then One Uleb Restore else  -- DW_CFA_restore_extended
+    if opcode == 0x07 then One Uleb Undefined else  -- DW_CFA_undefined
+    if opcode == 0x08 then One Uleb SameValue else  -- DW_CFA_same_value
+    if opcode == 0x09 then Two Uleb Uleb Register else  -- DW_CFA_register
+    if opcode == 0x0a then Alone RememberState else  -- DW_CFA_remember_state
+    if opcode == 0x0b then Alone RestoreState else  -- DW_CFA_restore_state
+    if opcode == 0x0c then Two Uleb Uleb DefCfa else  -- DW_CFA_def_cfa
+    if opcode == 0x0d then One Uleb DefCfaRegister else  -- DW_CFA_def_cfa_register
+    if opcode == 0x0e then One Uleb DefCfaOffset else  -- DW_CFA_def_cfa_offset
+    if opcode == 0x0f then One Exprloc DefCfaExpression else  -- DW_CFA_def_cfa_expression
+    if opcode == 0x10 then Two Uleb Exprloc Expression else  -- DW_CFA_expression
+    if opcode == 0x11 then Two Uleb Sleb OffsetExtendedSf else  -- DW_CFA_offset_extended_sf
+    if opcode == 0x12 then Two Uleb Sleb DefCfaSf else  -- DW_CFA_def_cfa_sf
+    if opcode == 0x13 then One Sleb DefCfaOffsetSf else  -- DW_CFA_def_cfa_offset_sf
+    if opcode == 0x14 then Two Uleb Uleb ValOffset else  -- DW_CFA_val_offset
+    if opcode == 0x15 then Two Uleb Sleb ValOffsetSf else  -- DW_CFA_val_offset_sf
+    if opcode == 0x16 then Two Uleb Exprloc ValExpression else  -- DW_CFA_val_expression
+    if opcode == 0x2e then One Uleb (λ size. Nop) else  -- DW_CFA_GNU_args_size
+    Unknown
+
+-- an opcode: in three of them the low six bits are an operand
+unfoldable pub form_of : ℕ → Form
+form_of opcode =
+    if opcode / 64 == 1 then Alone (AdvanceLoc (opcode % 64)) else  -- DW_CFA_advance_loc
+    if opcode / 64 == 2 then One Uleb (Offset (opcode % 64)) else  -- DW_CFA_offset
+    if opcode / 64 == 3 then Alone (Restore (opcode % 64)) else  -- DW_CFA_restore
+    extended_form opcode
+
+-- what stands after an opcode, and after one without an operand in it
+abbrev pub behind_opcode : ℕ → ℕ → ℕ → Ahead → Result (Instruction × Ahead) Reason
+behind_opcode encoding base opcode c = form_at encoding base (form_of opcode) c
+
+abbrev pub extended_at : ℕ → ℕ → ℕ → Ahead → Result (Instruction × Ahead) Reason
+extended_at encoding base opcode c = form_at encoding base (extended_form opcode) c
 
 -- the next instruction, or the reason for which it cannot be read; `base` is the address of the first byte of the run
 unfoldable pub instruction_at : ℕ → ℕ → Ahead → Result (Instruction × Ahead) Reason

@@ -5,7 +5,7 @@ ghost use Rattle.frame_entries.specs.Pointers.{is_encoding, pointer_at};
 ghost use Rattle.frame_entries.specs.FrameEntries.{address_at};
 ghost use Rattle.leb_cursor.specs.Readings.{uleb_at};
 ghost use Rattle.frame_rows.specs.declared.instruction.Instruction.TheVariants.{SetLoc, DefCfaExpression, Expression, ValExpression, Nop};
-ghost use Rattle.frame_rows.specs.Instructions.{one, block_at, with_block, column_with_block, extended_at, behind_opcode, instruction_at};
+ghost use Rattle.frame_rows.specs.Instructions.{or_instruction, block_at, one, two, extended_at, behind_opcode, instruction_at};
 
 use crate::instruction::{Block, Instruction};
 use code_table::{
@@ -35,7 +35,7 @@ macro_rules! read {
 #[tactic(auto, unfolding(frame_entries::specs::FrameEntries::address_at))]
 fn read_set_loc(cursor: &mut Cursor<'_>, encoding: u8, base: u64) -> Result<Instruction, Reason>
     requires known { IsTrue (is_encoding encoding) }
-    ensures { gave result cursor.new ≡ one (pointer_at encoding (address_at base cursor.old.at)) SetLoc cursor.old }
+    ensures { gave result cursor.new ≡ one SetLoc (or_instruction (pointer_at encoding (address_at base cursor.old.at) cursor.old)) }
 {
     let address = base.wrapping_add(cursor.at() as u64);
     let Ok(address) = read_pointer(cursor, encoding, address) else {
@@ -46,7 +46,7 @@ fn read_set_loc(cursor: &mut Cursor<'_>, encoding: u8, base: u64) -> Result<Inst
 
 /// Passes over the operand of `DW_CFA_GNU_args_size`, which says nothing of the row.
 fn read_args_size(cursor: &mut Cursor<'_>) -> Result<Instruction, Reason>
-    ensures { gave result cursor.new ≡ one uleb_at (λ size. Nop) cursor.old }
+    ensures { gave result cursor.new ≡ one (λ size. Nop) (or_instruction (uleb_at cursor.old)) }
 {
     let Ok(_) = cursor.uleb() else {
         return Err(Reason::Instruction);
@@ -75,7 +75,7 @@ fn read_block(cursor: &mut Cursor<'_>) -> Result<Block, Reason>
 /// Reads the operand of `DW_CFA_def_cfa_expression`.
 #[inline(never)]
 fn read_cfa_expression(cursor: &mut Cursor<'_>) -> Result<Instruction, Reason>
-    ensures { gave result cursor.new ≡ with_block DefCfaExpression cursor.old }
+    ensures { gave result cursor.new ≡ one DefCfaExpression (block_at cursor.old) }
 {
     let block = read_block(cursor)?;
     Ok(Instruction::DefCfaExpression { block })
@@ -84,7 +84,7 @@ fn read_cfa_expression(cursor: &mut Cursor<'_>) -> Result<Instruction, Reason>
 /// Reads the operands of `DW_CFA_expression`, which fetches, or of `DW_CFA_val_expression`.
 #[inline(never)]
 fn read_expression(cursor: &mut Cursor<'_>, fetches: bool) -> Result<Instruction, Reason>
-    ensures { gave result cursor.new ≡ column_with_block (if fetches then Expression else ValExpression) cursor.old }
+    ensures { gave result cursor.new ≡ two (if fetches then Expression else ValExpression) (or_instruction (uleb_at cursor.old)) block_at }
 {
     let Ok(column) = cursor.uleb() else {
         return Err(Reason::Instruction);
@@ -98,7 +98,14 @@ fn read_expression(cursor: &mut Cursor<'_>, fetches: bool) -> Result<Instruction
 
 /// Reads the operands of an opcode that has none in itself.
 #[inline(always)]
-#[tactic(auto, unfolding(crate::specs::Instructions::extended_at))]
+#[tactic(
+    auto,
+    unfolding(
+        crate::specs::Instructions::extended_form,
+        crate::specs::Instructions::form_at,
+        crate::specs::Instructions::operand_at
+    )
+)]
 fn read_extended(
     cursor: &mut Cursor<'_>,
     encoding: u8,
@@ -140,7 +147,14 @@ fn read_extended(
 
 /// Reads what stands after an opcode.
 #[inline(always)]
-#[tactic(auto, unfolding(crate::specs::Instructions::behind_opcode))]
+#[tactic(
+    auto,
+    unfolding(
+        crate::specs::Instructions::form_of,
+        crate::specs::Instructions::form_at,
+        crate::specs::Instructions::operand_at
+    )
+)]
 fn read_behind(
     cursor: &mut Cursor<'_>,
     encoding: u8,
