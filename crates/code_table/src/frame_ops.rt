@@ -65,8 +65,8 @@ pub const DW_CFA_GNU_args_size: u64 = 0x2e;
 /// The rows of the table, made into what `$make` writes. The operand of `DW_CFA_set_loc` is a pointer,
 /// whose layout the augmentation gives: its row has none.
 macro_rules! frame_ops {
-    ($make:ident, $given:expr) => {
-        $make! { $given;
+    ($make:ident $(, $given:expr)?) => {
+        $make! { $($given)?;
             DW_CFA_nop: Nothing, Nothing;
             DW_CFA_set_loc: Nothing, Nothing;
             DW_CFA_advance_loc1: U8, Nothing;
@@ -95,8 +95,14 @@ macro_rules! frame_ops {
     };
 }
 
+macro_rules! count {
+    (; $($code:ident: $first:ident, $second:ident;)*) => {
+        [$($code),*].len()
+    };
+}
+
 macro_rules! rows {
-    ($table:expr; $($code:ident: $first:ident, $second:ident;)*) => {
+    (; $($code:ident: $first:ident, $second:ident;)*) => {
         [$(CodeRow { code: $code, shape: Shape { first: Kind::$first, second: Kind::$second } }),*]
     };
 }
@@ -110,9 +116,11 @@ macro_rules! shape_by {
     };
 }
 
+const FRAME_OP_COUNT: usize = frame_ops!(count);
+
 /// The instructions whose operands stand after the opcode.
-pub const FRAME_OPS: Table<24> = Table {
-    rows: frame_ops!(rows, 24),
+pub const FRAME_OPS: Table<FRAME_OP_COUNT> = Table {
+    rows: frame_ops!(rows),
 };
 
 /// The layout of a call frame instruction that the standard's table gives.
