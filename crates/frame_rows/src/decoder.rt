@@ -98,14 +98,7 @@ fn read_expression(cursor: &mut Cursor<'_>, fetches: bool) -> Result<Instruction
 
 /// Reads the operands of an opcode that has none in itself.
 #[inline(always)]
-#[tactic(
-    auto,
-    unfolding(
-        crate::specs::Instructions::extended_form,
-        crate::specs::Instructions::form_at,
-        crate::specs::Instructions::operand_at
-    )
-)]
+#[tactic(auto, unfolding(crate::specs::Instructions::extended_form, crate::specs::Instructions::form_at, crate::specs::Instructions::operand_at))]
 fn read_extended(
     cursor: &mut Cursor<'_>,
     encoding: u8,
@@ -147,14 +140,7 @@ fn read_extended(
 
 /// Reads what stands after an opcode.
 #[inline(always)]
-#[tactic(
-    auto,
-    unfolding(
-        crate::specs::Instructions::form_of,
-        crate::specs::Instructions::form_at,
-        crate::specs::Instructions::operand_at
-    )
-)]
+#[tactic(auto, unfolding(crate::specs::Instructions::form_of, crate::specs::Instructions::form_at, crate::specs::Instructions::operand_at))]
 fn read_behind(
     cursor: &mut Cursor<'_>,
     encoding: u8,
