@@ -1,9 +1,9 @@
 //! The addresses of entries, of which most have none.
-ghost use Rattle.std.specs.Prelude.{◌≡◌, true, List, [], ◌∷◌, ◌++◌, Some, IfOk, IfSome, OnOk};
+ghost use Rattle.std.specs.Prelude.{◌≡◌, [], ◌∷◌, ◌++◌, IfOk, IfSome, OnOk};
 ghost use Rattle.std.specs.List.{slice_get};
 ghost use Rattle.std.specs.Option.{option_copied};
 ghost use Rattle.range_set.specs.Canonical.{IsCanonical};
-ghost use Rattle.sym_edges.specs.Addresses.{Range};
+ghost use Rattle.flat_lists.specs.Ends.{has_none};
 
 use flat_lists::FlatLists;
 use range_set::RangeSet;
@@ -73,7 +73,7 @@ impl SpanSets {
     /// Whether the entry of a number has no addresses, or there is no such entry.
     #[inline]
     pub fn is_empty_at(&self, entry: usize) -> bool
-        ensures { result ≡ true → (spans : List Range) → slice_get self.now entry ≡ Some spans → spans ≡ [] }
+        ensures { result ≡ has_none (slice_get self.now entry) }
     {
         self.sets.is_empty_at(entry)
     }

@@ -1,9 +1,9 @@
 //! The units of a file, as they were read.
-ghost use Rattle.std.specs.Prelude.{◌≡◌, true, List, [], Some, IfSome};
+ghost use Rattle.std.specs.Prelude.{◌≡◌, IfSome};
 ghost use Rattle.std.specs.List.{slice_get};
 ghost use Rattle.std.specs.Option.{option_copied};
 ghost use Rattle.range_set.specs.Canonical.{IsCanonical};
-ghost use Rattle.sym_edges.specs.Addresses.{Range};
+ghost use Rattle.flat_lists.specs.Ends.{has_none};
 ghost use Rattle.die_names.specs.UnitEntries.{AreRead, die_in};
 
 use crate::span_sets::SpanSets;
@@ -48,7 +48,7 @@ impl<'a> UnitRead<'a> {
     /// Whether the entry of a number has no addresses, or there is no such entry.
     #[inline]
     pub fn has_no_ranges(&self, entry: usize) -> bool
-        ensures { result ≡ true → (spans : List Range) → slice_get self.now.spans entry ≡ Some spans → spans ≡ [] }
+        ensures { result ≡ has_none (slice_get self.now.spans entry) }
     {
         self.spans.is_empty_at(entry)
     }

@@ -1,8 +1,8 @@
 //! Lists in one list, each up to its end.
-ghost use Rattle.std.specs.Prelude.{◌≡◌, ◌<◌, ◌≤◌, ◌-◌, true, List, [], ◌∷◌, ◌++◌, Some, length, take, drop, IfOk, OnOk, OnErr};
+ghost use Rattle.std.specs.Prelude.{◌≡◌, ◌<◌, ◌≤◌, ◌-◌, [], ◌∷◌, ◌++◌, Some, length, take, drop, IfOk, OnOk, OnErr};
 ghost use Rattle.std.specs.List.{slice_get};
 ghost use Rattle.std.specs.Option.{option_copied};
-ghost use Rattle.flat_lists.specs.Ends.{begun};
+ghost use Rattle.flat_lists.specs.Ends.{begun, has_none};
 
 use std::alloc::Global;
 use std::marker::Model;
@@ -119,9 +119,9 @@ impl<T: Copy> FlatLists<T> {
 
     /// Whether the list of a number has no members, or there is none: told by two ends alone.
     #[inline]
-    #[tactic(auto, using(crate::proofs::EndLemmas::empty_between, crate::proofs::EndLemmas::empty_past))]
+    #[tactic(auto, using(crate::proofs::EndLemmas::none_between, crate::proofs::EndLemmas::none_past))]
     pub fn is_empty_at(&self, k: usize) -> bool
-        ensures { result ≡ true → (list : List T) → slice_get self.now k ≡ Some list → list ≡ [] }
+        ensures { result ≡ has_none (slice_get self.now k) }
     {
         let Some(end) = self.ends.get(k) else {
             return true;
