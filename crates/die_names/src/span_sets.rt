@@ -3,7 +3,6 @@ ghost use Rattle.std.specs.Prelude.{◌≡◌, [], ◌∷◌, ◌++◌, IfOk, If
 ghost use Rattle.std.specs.List.{slice_get};
 ghost use Rattle.std.specs.Option.{option_copied};
 ghost use Rattle.range_set.specs.Canonical.{IsCanonical};
-ghost use Rattle.flat_lists.specs.Ends.{has_none};
 
 use flat_lists::FlatLists;
 use range_set::RangeSet;
@@ -68,13 +67,5 @@ impl SpanSets {
             Some(spans) => Some(spans),
             None => None,
         }
-    }
-
-    /// Whether the entry of a number has no addresses, or there is no such entry.
-    #[inline]
-    pub fn is_empty_at(&self, entry: usize) -> bool
-        ensures { result ≡ has_none (slice_get self.now entry) }
-    {
-        self.sets.is_empty_at(entry)
     }
 }

@@ -3,7 +3,6 @@ ghost use Rattle.std.specs.Prelude.{◌≡◌, IfSome};
 ghost use Rattle.std.specs.List.{slice_get};
 ghost use Rattle.std.specs.Option.{option_copied};
 ghost use Rattle.range_set.specs.Canonical.{IsCanonical};
-ghost use Rattle.flat_lists.specs.Ends.{has_none};
 ghost use Rattle.die_names.specs.UnitEntries.{AreRead, die_in};
 
 use crate::span_sets::SpanSets;
@@ -43,14 +42,6 @@ impl<'a> UnitRead<'a> {
         ensures canonical { IfSome result (λ spans. IsCanonical spans.now) }
     {
         self.spans.get(entry)
-    }
-
-    /// Whether the entry of a number has no addresses, or there is no such entry.
-    #[inline]
-    pub fn has_no_ranges(&self, entry: usize) -> bool
-        ensures { result ≡ has_none (slice_get self.now.spans entry) }
-    {
-        self.spans.is_empty_at(entry)
     }
 }
 

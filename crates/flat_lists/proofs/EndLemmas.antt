@@ -1,9 +1,8 @@
 -- For src/lists.rt: a list more changes no other, and a list stands between two ends.
-use Rattle.std.proofs.Common.{◌≡◌, ◌<◌, ◌≤◌, ◌==◌, ◌+◌, ◌-◌, ℕ, true, zero, suc, List, [], ◌∷◌, ◌++◌, length, take, drop, Some, None, get_or, refl, sym, ap, ◌∙◌, arith, length-append}
+use Rattle.std.proofs.Common.{◌≡◌, ◌<◌, ◌≤◌, ◌+◌, ◌-◌, ℕ, zero, suc, List, [], ◌∷◌, ◌++◌, length, take, drop, Some, None, get_or, refl, sym, ap, ◌∙◌, arith, length-append}
 use Rattle.std.specs.List.{slice_get}
-use Rattle.std.proofs.lemmas.Bool.Decides.{nat_tests}
-use Rattle.std.proofs.lemmas.List.{length-take-le, take_all, take-append-le, drop-append-le, drop_all, drop-take, length-drop}
-use Rattle.flat_lists.specs.Ends.{lists_to, AreEnds, begun, has_none}
+use Rattle.std.proofs.lemmas.List.{take_all, take-append-le, drop-append-le, drop_all, drop-take, length-drop}
+use Rattle.flat_lists.specs.Ends.{lists_to, AreEnds, begun}
 
 pub within : (from : ℕ) (ends : List ℕ) (count : ℕ) → AreEnds from ends count → from ≤ count
 within from [] count are = omega (arith, are)
@@ -53,20 +52,3 @@ ordered from (next ∷ ends) count (suc (suc k)) end are there is = ordered next
 pub part_is : {A : Type 0} (members front list : List A) (start end : ℕ) → start ≤ end → front ≡ take end members → list ≡ drop start front → list ≡ take (end - start) (drop start members)
 part_is members front list start end rising is rest =
     rest ∙ ap (drop start) (is ∙ ap (λ n. take n members) (let whole : end ≡ start + (end - start) = omega (arith, rising) in whole)) ∙ drop-take start (end - start) members
-
--- a list between two ends has none where they are the same
-some_between : {A : Type 0} (members : List A) (start end : ℕ) → start ≤ end → end ≤ length members → (start == end) ≡ has_none (Some (take (end - start) (drop start members)))
-some_between members start end rising inside =
-    let long : length (take (end - start) (drop start members)) ≡ end - start = length-take-le (end - start) (drop start members) (omega (arith, inside, length-drop start members)) in
-    equal_by start end rising ∙ ap (λ n. n == 0) (sym long)
-  where
-    equal_by : (m n : ℕ) → m ≤ n → (m == n) ≡ (n - m == 0)
-    equal_by m n low = grind (arith, nat_tests)
-
-pub none_between : {A : Type 0} (ends : List ℕ) (members : List A) (k end : ℕ) → AreEnds 0 ends (length members) → k < length ends → end ≡ get_or ends k end → (begun 0 ends k == end) ≡ has_none (slice_get (lists_to 0 ends members) k)
-none_between ends members k end are there is =
-    let within_ends : (begun 0 ends k ≤ end) × (end ≤ length members) = ordered 0 ends (length members) k end are there is in
-    some_between members (begun 0 ends k) end within_ends.0 within_ends.1 ∙ ap has_none (sym (list_there 0 ends members k end there is))
-
-pub none_past : {A : Type 0} (ends : List ℕ) (members : List A) (k : ℕ) → length ends ≤ k → true ≡ has_none (slice_get (lists_to 0 ends members) k)
-none_past ends members k past = ap has_none (none_there 0 ends members k past)

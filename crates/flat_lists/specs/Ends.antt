@@ -1,5 +1,5 @@
 -- Lists in one list, each up to its end.
-use Rattle.std.specs.Prelude.{◌≡◌, ℕ, zero, suc, ◌-◌, ◌≤◌, ◌==◌, Bool, true, List, [], ◌∷◌, length, take, drop, Option, None, Some}
+use Rattle.std.specs.Prelude.{◌≡◌, ℕ, zero, suc, ◌-◌, ◌≤◌, List, [], ◌∷◌, take, drop}
 use Rattle.std.specs.List.{slice_index_or}
 
 -- the lists that end there, one after another from a place on
@@ -16,8 +16,3 @@ AreEnds from (end ∷ ends) count = (from ≤ end) × AreEnds end ends count
 abbrev pub begun : ℕ → List ℕ → ℕ → ℕ
 begun from ends zero = from
 begun from ends (suc k) = slice_index_or ends k 0
-
--- there is no such list, or it has no members
-abbrev pub has_none : {A : Type 0} → Option (List A) → Bool
-has_none None = true
-has_none (Some list) = length list == 0

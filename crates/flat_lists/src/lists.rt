@@ -2,7 +2,7 @@
 ghost use Rattle.std.specs.Prelude.{◌≡◌, ◌<◌, ◌≤◌, ◌-◌, [], ◌∷◌, ◌++◌, Some, length, take, drop, IfOk, OnOk, OnErr};
 ghost use Rattle.std.specs.List.{slice_get};
 ghost use Rattle.std.specs.Option.{option_copied};
-ghost use Rattle.flat_lists.specs.Ends.{begun, has_none};
+ghost use Rattle.flat_lists.specs.Ends.{begun};
 
 use std::alloc::Global;
 use std::marker::Model;
@@ -115,18 +115,6 @@ impl<T: Copy> FlatLists<T> {
         };
         let start = begun(self.ends.as_slice(), k);
         Some(list_between(self.members.as_slice(), start as usize, *end as usize))
-    }
-
-    /// Whether the list of a number has no members, or there is none: told by two ends alone.
-    #[inline]
-    #[tactic(auto, using(crate::proofs::EndLemmas::none_between, crate::proofs::EndLemmas::none_past))]
-    pub fn is_empty_at(&self, k: usize) -> bool
-        ensures { result ≡ has_none (slice_get self.now k) }
-    {
-        let Some(end) = self.ends.get(k) else {
-            return true;
-        };
-        begun(self.ends.as_slice(), k) == *end
     }
 
     /// The list of a number that there is.

@@ -2,7 +2,6 @@
 use Rattle.std.proofs.Common.{◌≡◌, ◌≢◌, ℕ, zero, suc, ◌+◌, ◌<◌, Bool, true, false, ◌&&◌, if◌then◌else◌, map, length, List, [], ◌∷◌, ◌++◌, arith, refl, sym, ap, ◌∙◌, append_assoc, append-nil, length-append, subst, drop, Option, Some, None, get_or}
 use Rattle.std.specs.List.{slice_get}
 use Rattle.std.specs.Option.{option_map_or}
-use Rattle.std.proofs.lemmas.Bool.{eqb-true}
 use Rattle.std.proofs.lemmas.List.{drop_all}
 use Rattle.sym_edges.specs.Addresses.{Range}
 use Rattle.range_set.specs.Canonical.{IsCanonical}
@@ -13,7 +12,6 @@ use Rattle.die_walk.specs.EntryKinds.{is_function}
 use Rattle.die_names.specs.UnitEntries.{places}
 use Rattle.die_names.specs.Owners.{Covering, unit_covering, covering_from}
 use Rattle.die_names.specs.declared.unit_read.EntryRef.{EntryRef}
-use Rattle.flat_lists.specs.Ends.{has_none}
 use Rattle.func_flatten.specs.Pieces.{place_of}
 use Rattle.step_maps.specs.SpanStretches.{span_stretches}
 use Rattle.func_flatten.specs.internal.Collecting.{is_some, has_code, functions_in, entry_covering, function_stretches, own_class, HaveSets, Collects}
@@ -84,17 +82,6 @@ covering_other place die sets set old before there other = covering_passed place
 pub covering_lost : (place : EntryRef) (die : DieFields) (sets : List (List Range)) (old : List EntryRef) (before : List Stretch) → None ≡ slice_get sets place.entry → Collects old old before before (functions_in (entry_covering place die sets)) []
 covering_lost place die sets old before none =
     subst (λ (o : Option (List Range)). Collects old old before before (functions_in (option_map_or (λ set. record { unit = place.unit; entry = place.entry; die = die; spans = set } ∷ []) o [])) []) none (collects_none old before [])
-
--- an entry without a set, or with one that is empty
-no_length : (set : List Range) → true ≡ has_none (Some set) → length set ≡ 0
-no_length set none = eqb-true (length set) 0 (sym none)
-
-pub covering_none : (place : EntryRef) (die : DieFields) (sets : List (List Range)) (old : List EntryRef) (before : List Stretch) → true ≡ has_none (slice_get sets place.entry) → Collects old old before before (functions_in (entry_covering place die sets)) []
-covering_none place die sets old before none = go (slice_get sets place.entry) refl none
-  where
-    go : (o : Option (List Range)) → slice_get sets place.entry ≡ o → true ≡ has_none o → Collects old old before before (functions_in (entry_covering place die sets)) []
-    go None is empty = covering_lost place die sets old before (sym is)
-    go (Some set) is empty = covering_empty place die sets set old before (sym is) (no_length set empty)
 
 pub covering_taken : (place : EntryRef) (die : DieFields) (sets : List (List Range)) (set : List Range) (old new : List EntryRef) (before after : List Stretch) → Some set ≡ slice_get sets place.entry → length set ≢ 0 → is_function die ≡ true → IsCanonical set → after ≡ before ++ span_stretches (length old) (length old) set → new ≡ old ++ place ∷ [] → Collects old new before after (functions_in (entry_covering place die sets)) []
 covering_taken place die sets set old new before after there some is canonical stretched placed =

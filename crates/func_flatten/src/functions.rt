@@ -67,9 +67,6 @@ fn push_entry(
     ensures count { OnOk result (vec_len places.new ≤ vec_len places.old + 1) }
 {
     // Most entries have no addresses, which is told without looking at the entry.
-    if part.has_no_ranges(place.entry as usize) {
-        return Ok(());
-    }
     let Some(spans) = part.ranges(place.entry as usize) else {
         return Ok(());
     };
