@@ -89,7 +89,7 @@ held_still before after head grown held =
           (subst (λ s. IsWay head.way s (part head.takes before.takes.items) (part head.specs before.specs.items)) steps held.way));
     }
 
-all_held : (before after : Lists) (heads : List Head) → Grown before after → AreHeld before heads → AreHeld after heads
+pub all_held : (before after : Lists) (heads : List Head) → Grown before after → AreHeld before heads → AreHeld after heads
 all_held before after [] grown held = tt
 all_held before after (head ∷ heads) grown held = (held_still before after head grown held.0, all_held before after heads grown held.1)
 

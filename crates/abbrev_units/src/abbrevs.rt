@@ -20,6 +20,9 @@ use std::collections::BTreeMap;
 use std::marker::Model;
 use sym_edges::{Located, OutOfMemory, Sect, Stop};
 
+/// Most tables have no more abbreviations.
+const USUAL: usize = 128;
+
 /// Abbreviations, whose attributes stand in one list.
 #[derive(Drop)]
 struct AbbrevList {
@@ -62,6 +65,14 @@ impl AbbrevList {
             Some(head) => Some(Abbrev::of(&self.lists, head)),
             None => None,
         }
+    }
+
+    /// Gives back the room that nothing took.
+    fn shrink(&mut self)
+        ensures { self.new ≡ self.old }
+    {
+        self.heads.shrink_to_fit();
+        self.lists.shrink();
     }
 }
 
@@ -114,9 +125,10 @@ fn find_places(alloc: Global, list: &AbbrevList) -> Result<BTreeMap<u64, usize>,
 }
 
 /// Makes abbreviations findable.
-fn index(alloc: Global, list: AbbrevList) -> Result<Abbrevs, OutOfMemory>
+fn index(alloc: Global, mut list: AbbrevList) -> Result<Abbrevs, OutOfMemory>
     ensures { IfOk result (λ abbrevs. abbrevs ≡ list) }
 {
+    list.shrink();
     let dense = count_dense(&list);
     let places = if dense == list.len() {
         BTreeMap::new(alloc)
@@ -193,8 +205,8 @@ fn read_list(
 ) -> Result<AbbrevList, Stop<CursorFault>>
     ensures { GivesAt result cursor.new (used_at wide cursor.old) }
 {
-    let mut heads = Vec::new(alloc);
-    let mut lists = Lists::new(alloc);
+    let mut heads = Vec::with_capacity(alloc, USUAL)?;
+    let mut lists = Lists::with_room(alloc)?;
     let mut one = Lists::new(alloc);
     'abbrevs: loop {
         match read_abbrev(&mut lists, &mut one, cursor, wide) {

@@ -95,6 +95,29 @@ impl Lists {
         }
     }
 
+    /// No list yet, and room for what most tables have.
+    pub fn with_room(alloc: Global) -> Result<Lists, OutOfMemory>
+        ensures specs { IfOk result (λ lists. lists.specs.items ≡ []) }
+        ensures steps { IfOk result (λ lists. lists.steps.items ≡ []) }
+        ensures takes { IfOk result (λ lists. lists.takes.items ≡ []) }
+    {
+        Ok(Lists {
+            specs: Vec::with_capacity(alloc, 1024)?,
+            steps: Vec::with_capacity(alloc, 256)?,
+            takes: Vec::with_capacity(alloc, 128)?,
+        })
+    }
+
+    /// Gives back the room that nothing took.
+    pub fn shrink(&mut self)
+        ensures specs { self.new.specs.items ≡ self.old.specs.items }
+        ensures held { Grown self.old self.new }
+    {
+        self.specs.shrink_to_fit();
+        self.steps.shrink_to_fit();
+        self.takes.shrink_to_fit();
+    }
+
     /// Empties the lists; they keep their memory.
     pub fn clear(&mut self)
         ensures specs { self.new.specs.items ≡ [] }

@@ -36,7 +36,7 @@ impl SpanSets {
         ensures { IfOk result (λ sets. sets ≡ []) }
     {
         Ok(SpanSets {
-            sets: FlatLists::with_room(alloc, count)?,
+            sets: FlatLists::with_room(alloc, count, 0)?,
         })
     }
 

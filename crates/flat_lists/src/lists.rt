@@ -62,13 +62,17 @@ impl<T: Copy> FlatLists<T> {
         }
     }
 
-    /// No list yet, and room for so many.
-    pub fn with_room(alloc: Global, count: usize) -> Result<FlatLists<T>, OutOfMemory>
+    /// No list yet, and room for so many with so many members.
+    pub fn with_room(
+        alloc: Global,
+        lists: usize,
+        members: usize,
+    ) -> Result<FlatLists<T>, OutOfMemory>
         ensures { IfOk result (λ lists. lists ≡ []) }
     {
         Ok(FlatLists {
-            ends: Vec::with_capacity(alloc, count)?,
-            members: Vec::new(alloc),
+            ends: Vec::with_capacity(alloc, lists)?,
+            members: Vec::with_capacity(alloc, members)?,
         })
     }
 

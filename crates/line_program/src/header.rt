@@ -120,6 +120,7 @@ fn read_program<'a>(cursor: &mut Cursor<'a>, version: u16) -> Result<Program<'a>
         minimum_length,
         line_base: line_base.cast_signed(),
         line_range,
+        line_factor: 65535 / u32::from(line_range) + 1,
         opcode_base,
         lengths,
     })

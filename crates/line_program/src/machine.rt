@@ -1,5 +1,5 @@
 //! Carrying out an opcode.
-ghost use Rattle.std.specs.Prelude.{◌≡◌, [], ◌∷◌, ◌++◌, OnOk};
+ghost use Rattle.std.specs.Prelude.{◌≡◌, [], ◌∷◌, ◌++◌, IfOk, OnOk};
 ghost use Rattle.line_program.specs.declared.opcode.Opcode.TheVariants.{EndSequence};
 ghost use Rattle.line_program.specs.LineRows.{first_state, row_of, advanced, line_on};
 ghost use Rattle.line_program.specs.internal.KeptRows.{kept_row, carried_kept};
@@ -10,7 +10,11 @@ use crate::program::Program;
 use crate::row::Row;
 use std::alloc::Global;
 use std::marker::Model;
+use std::mem::replace;
 use sym_edges::OutOfMemory;
+
+/// Most sequences have no more rows.
+const ROWS: usize = 1024;
 
 /// A sequence of rows, and the address after its last instruction.
 #[derive(Drop)]
@@ -71,18 +75,18 @@ fn advance_line(line: u32, by: i64) -> u32
 }
 
 impl<'a> Machine<'a> {
-    /// In front of the first opcode. Takes no memory.
-    pub fn new(alloc: Global) -> Machine<'a>
-        ensures { result ≡ first_state }
+    /// In front of the first opcode, with room for the rows of most sequences.
+    pub fn new(alloc: Global) -> Result<Machine<'a>, OutOfMemory>
+        ensures { IfOk result (λ machine. machine ≡ first_state) }
     {
-        Machine {
+        Ok(Machine {
             address: 0,
             file: 1,
             line: 1,
-            rows: Vec::new(alloc),
+            rows: Vec::with_capacity(alloc, ROWS)?,
             sequences: Vec::new(alloc),
             files: Vec::new(alloc),
-        }
+        })
     }
 
     /// The sequences that ended, and the files that were defined.
@@ -124,12 +128,12 @@ impl<'a> Machine<'a> {
     fn end_sequence(&mut self, alloc: Global, program: &Program<'_>) -> Result<(), OutOfMemory>
         ensures { OnOk result (self.new ≡ carried_kept program.now EndSequence self.old) }
     {
-        let rows = Vec::from_slice(alloc, self.rows.as_slice())?;
+        let mut rows = replace(&mut self.rows, Vec::with_capacity(alloc, ROWS)?);
+        rows.shrink_to_fit();
         self.sequences.push(LineSequence {
             rows,
             end: self.address,
         })?;
-        self.rows.clear();
         self.address = 0;
         self.file = 1;
         self.line = 1;
@@ -149,9 +153,9 @@ impl<'a> Machine<'a> {
     {
         match opcode {
             Opcode::Special { adjusted } => {
-                let count = u64::from(adjusted / program.line_range);
-                let by = i64::from(program.line_base) + i64::from(adjusted % program.line_range);
-                self.address = advance(program, self.address, count);
+                let (count, rest) = program.divide(adjusted);
+                let by = i64::from(program.line_base) + i64::from(rest);
+                self.address = advance(program, self.address, u64::from(count));
                 self.line = advance_line(self.line, by);
                 self.push_row()?;
             }

@@ -9,6 +9,9 @@ use std::alloc::Global;
 use std::marker::Model;
 use sym_edges::OutOfMemory;
 
+/// Most paths are shorter.
+const USUAL: usize = 64;
+
 /// The directories of a table, by their numbers: the first one, and those that stand in it.
 #[derive(Drop)]
 pub struct Directories<'t, 'a> {
@@ -165,7 +168,8 @@ impl<'t, 'a> Directories<'t, 'a> {
     ) -> Result<FlatLists<u8>, OutOfMemory>
         ensures { IfOk result (λ paths. paths ≡ map (file_path self.now) files.now) }
     {
-        let mut paths = FlatLists::with_room(alloc, files.len())?;
+        let count = files.len();
+        let mut paths = FlatLists::with_room(alloc, count, count.saturating_mul(USUAL))?;
         let mut directory = Vec::new(alloc);
         let mut text = Vec::new(alloc);
         let mut cleaned = Vec::new(alloc);

@@ -1,4 +1,6 @@
 //! What the header of a line table says of its program.
+ghost use Rattle.std.specs.Prelude.{◌≡◌, ◌+◌, ◌/◌, ◌%◌, ◌<◌};
+
 use std::marker::Model;
 
 /// The parts of the header by which the program is read (DWARF 5, 6.2.4).
@@ -10,12 +12,15 @@ pub struct Program<'a> {
     pub line_range: u8,
     pub opcode_base: u8,
 
+    /// By this a special opcode is divided by `line_range`.
+    pub line_factor: u32,
+
     /// How many operands each standard opcode has, from opcode 1 on.
     pub lengths: &'a [u8],
 }
 
 impl<'a> Model for Program<'a> {
-    ghost use Rattle.std.specs.Prelude.{◌≡◌, ◌+◌, ◌<◌, length};
+    ghost use Rattle.std.specs.Prelude.{◌≡◌, ◌+◌, ◌/◌, ◌<◌, length};
     ghost use Rattle.line_program.specs.ProgramFields.{ProgramFields};
 
     ghost Value = { ProgramFields };
@@ -29,5 +34,28 @@ impl<'a> Model for Program<'a> {
       lengths = p.lengths.now;
     } };
 
-    ghost invariant = { λ p. (0 < p.line_range) × (length p.lengths.now + 1 ≡ p.opcode_base) };
+    ghost invariant = { λ p. (0 < p.line_range) × (length p.lengths.now + 1 ≡ p.opcode_base) × (p.line_factor ≡ 65535 / p.line_range + 1) };
+}
+
+/// Quotient and rest of a byte by another, with the other's factor: a multiplication and a shift.
+#[inline]
+fn divided(number: u8, by: u8, factor: u32) -> (u8, u8)
+    requires some { 0 < by }
+    requires factor { factor ≡ 65535 / by + 1 }
+    ensures quotient { result.0 ≡ number / by }
+    ensures rest { result.1 ≡ number % by }
+{
+    let quotient = (u32::from(number) * factor / 65536) as u8;
+    (quotient, number - quotient * by)
+}
+
+impl<'a> Program<'a> {
+    /// What a special opcode says of the address and of the line: quotient and rest by `line_range`.
+    #[inline]
+    pub fn divide(&self, adjusted: u8) -> (u8, u8)
+        ensures quotient { result.0 ≡ adjusted / self.now.line_range }
+        ensures rest { result.1 ≡ adjusted % self.now.line_range }
+    {
+        divided(adjusted, self.line_range, self.line_factor)
+    }
 }

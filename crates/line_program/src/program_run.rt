@@ -19,7 +19,7 @@ pub fn run_program<'a>(
 ) -> Reading<Machine<'a>>
     ensures { IfOk result (λ run. run ≡ or_kept_state (line_rows program.now cursor.entry)) }
 {
-    let mut machine = Machine::new(alloc);
+    let mut machine = Machine::new(alloc)?;
     'opcodes: while !cursor.is_at_end() {
         let opcode = match Opcode::read(&mut cursor, program) {
             Ok(opcode) => opcode,

@@ -15,6 +15,9 @@ use leb_cursor::Cursor;
 use std::alloc::Global;
 use std::marker::Model;
 
+/// Most tables have no more entries.
+const USUAL: usize = 512;
+
 /// Both tables.
 #[derive(Drop)]
 pub struct Tables<'a> {
@@ -87,7 +90,7 @@ fn read_some_entries<'a>(
 ) -> Reading<Vec<FileEntry<'a>>>
     ensures { IfOk result (λ read. gave_as (λ entries. entries.items) read cursor.new ≡ several_at (entry_at sections.now pairs.now wide) count cursor.old) }
 {
-    let mut entries = Vec::new(alloc);
+    let mut entries = Vec::with_capacity(alloc, count.min(USUAL))?;
     'entries: for turn in 0..count {
         match read_entry(cursor, sections, pairs, wide) {
             Ok(entry) => entries.push(entry)?,
