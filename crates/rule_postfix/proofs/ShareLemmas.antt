@@ -64,6 +64,11 @@ met_next taken ranges k r none inside is free =
 pub met_never : (taken ranges : List Range) (k : ℕ) → list_any (λ range. any_overlap range taken) (take k ranges) ≡ false → length ranges ≤ k → false ≡ list_any (λ range. any_overlap range taken) ranges
 met_never taken ranges k none over = sym none ∙ ap (list_any (λ range. any_overlap range taken)) (take_all k ranges over)
 
+-- ranges that are taken where none is
+pub all_taken : (taken more : List Range) → length taken ≡ 0 → more ≡ taken ++ more
+all_taken [] more none = refl
+all_taken (x ∷ taken) more none = absurd (omega (arith, none))
+
 -- ranges that are taken one after another
 pub taken_next : (old new ranges taken : List Range) (k : ℕ) (r : Range) → taken ≡ old ++ take k ranges → k < length ranges → r ≡ get_or ranges k r → new ≡ taken ++ r ∷ [] → new ≡ old ++ take (k + 1) ranges
 taken_next old new ranges taken k r so inside is more =

@@ -1,7 +1,6 @@
 //! The entries of a section in shares, which workers translate side by side and which are joined in their order.
-ghost use Rattle.std.specs.Prelude.{◌≡◌, ℕ, ◌*◌, ◌<◌, ◌≤◌, ◌^◌, ◌++◌, length, take, slice_index_or, false, OnOk};
+ghost use Rattle.std.specs.Prelude.{◌≡◌, ◌*◌, ◌<◌, ◌≤◌, ◌++◌, length, false, OnOk};
 ghost use Rattle.std.specs.List.{list_any};
-ghost use Rattle.sym_edges.specs.Addresses.{Range};
 ghost use Rattle.unit_workers.specs.Shares.{share};
 ghost use Rattle.unit_workers.specs.Working.{AreInOrder};
 ghost use Rattle.range_union.specs.Ranges.{any_overlap};
@@ -148,11 +147,21 @@ fn meets_any(taken: &WrittenRanges, spans: &[Span]) -> bool
     false
 }
 
-/// The ranges are taken too. None meets one that is taken, or one before it.
-fn take_all(alloc: Global, taken: &mut WrittenRanges, spans: &[Span]) -> Result<(), OutOfMemory>
-    requires { (k : ℕ) (d : Range) → k < length spans.now → any_overlap (slice_index_or spans.now k d) (taken.old ++ take k spans.now) ≡ false }
-    ensures { OnOk result (taken.new ≡ taken.old ++ spans.now) }
+/// The ranges are taken too, as a whole where none is taken. None meets one that is taken.
+#[tactic(auto, using(crate::proofs::ShareLemmas::part_apart, crate::proofs::ShareLemmas::all_taken))]
+fn take_all(
+    alloc: Global,
+    taken: &mut WrittenRanges,
+    more: WrittenRanges,
+) -> Result<(), OutOfMemory>
+    requires { list_any (λ range. any_overlap range taken.old) more ≡ false }
+    ensures { OnOk result (taken.new ≡ taken.old ++ more) }
 {
+    if taken.as_slice().is_empty() {
+        *taken = more;
+        return Ok(());
+    }
+    let spans = more.as_slice();
     'spans: for k in 0..spans.len() {
         let span = spans[k];
         taken.put(alloc, span.start(), span.end())?;
@@ -182,12 +191,13 @@ fn join_share(
             k,
         );
     }
-    take_all(alloc, &mut progress.taken, part.taken.as_slice())?;
     let Progress {
         text,
         mut omitted,
+        taken,
         ..
     } = part;
+    take_all(alloc, &mut progress.taken, taken)?;
     progress.text.append(text)?;
     progress.omitted.append(&mut omitted)?;
     Ok(())
