@@ -1,10 +1,12 @@
 -- Numbers by their digits; for `write_hex`.
-use Rattle.std.proofs.Common.{◌≡◌, ◌≢◌, ℕ, ◌+◌, ◌-◌, ◌/◌, ◌%◌, ◌^◌, ◌*◌, ◌<◌, ◌≤◌, ◌==◌, zero, suc, false, cond, List, [], ◌∷◌, length, set, ◌++◌, append_assoc, drop, get_or, map, codes, refl, sym, ◌∙◌, ap, arith, subst}
-use Rattle.std.specs.List.{range_with_len}
-use Rattle.std.proofs.lemmas.Grind.{common_steps, drop-set_at}
-use Rattle.std.proofs.lemmas.List.FromFn.{get_or-map-range_with_len}
+use Rattle.std.proofs.Common.{◌≡◌, ◌≢◌, ℕ, ◌+◌, ◌-◌, ◌/◌, ◌%◌, ◌^◌, ◌*◌, ◌<◌, ◌≤◌, ◌==◌, nat_lt, zero, suc, false, cond, List, [], ◌∷◌, length, ◌++◌, append_assoc, drop, get_or, inl, inr, refl, sym, ◌∙◌, ap, arith, subst}
+use Rattle.std.specs.Int.{from_bool}
+use Rattle.std.proofs.lemmas.Bool.{cases_lt, lt-ltb, le-ltb}
 use Rattle.std.proofs.lemmas.Bool.Decides.{nat_tests}
+use Rattle.std.proofs.Math.Nat.{pow-suc}
+use Rattle.std.proofs.lemmas.List.{drop-drop}
 use Rattle.std.specs.Fmt.{digits_onto, digit_glyph, digits}
+use Rattle.sym_rules.specs.declared.backward.TheConstants.{PAIRS}
 use Rattle.sym_rules.proofs.BoolLemmas.{elim_bool}
 
 -- at most so many hexadecimal digits of a number, in front of others
@@ -44,42 +46,70 @@ hex_last count n acc some is = let k : count ≡ suc (count - 1) = omega arith i
 pub hex_more : (count less n : ℕ) (acc : List ℕ) → count ≡ less + 1 → n / 16 ≢ 0 → hex_left count n acc ≡ hex_left less (n / 16) (digit_glyph false (n % 16) ∷ acc)
 hex_more count less n acc is some = let k : count ≡ suc less = omega arith in ap (λ c. hex_left c n acc) k ∙ more_by less n acc some
 
--- the table has the digits
-pub glyph_is : (d : ℕ) → d < 16 → get_or (codes "0123456789abcdef") d 0 ≡ digit_glyph false d
-glyph_is d below =
-    let table : codes "0123456789abcdef" ≡ map (digit_glyph false) (range_with_len 0 16) = refl in
-    ap (λ t. get_or t d 0) table ∙ get_or-map-range_with_len (digit_glyph false) 0 16 d d 0 below (omega arith)
+-- the two digits of a byte, and those of so many bytes from one on
+abbrev pub pair : ℕ → List ℕ
+pair byte = digit_glyph false (byte / 16) ∷ digit_glyph false (byte % 16) ∷ []
 
--- the digit that was put in front
-put_first : (line : List ℕ) (start end g : ℕ) → start + 1 ≡ end → end ≤ length line → drop start (set line start g) ≡ g ∷ drop end line
-put_first line start end g is within =
-    let place : start < length line = omega arith in
-    drop-set_at line start start g refl place ∙ ap (λ k. g ∷ drop k line) is
+pairs : ℕ → ℕ → List ℕ
+pairs from zero = []
+pairs from (suc n) = pair from ++ pairs (from + 1) n
 
--- with its last digit the text of the number is whole
-pub last_put : (line whole : List ℕ) (end done rest : ℕ) → end ≤ length line → 16 ≤ end → done < 16 → hex_left (64 - done) rest (drop (end - done) line) ≡ whole → rest / 16 ≡ 0 → drop (end - 1 - done) (set line (end - 1 - done) (get_or (codes "0123456789abcdef") (rest % 16) 0)) ≡ whole
-last_put line whole end done rest within room below written none =
-    put_first line (end - 1 - done) (end - done) (get_or (codes "0123456789abcdef") (rest % 16) 0) (omega arith) (omega arith)
-    ∙ ap (λ g. g ∷ drop (end - done) line) (glyph_is (rest % 16) (omega arith))
-    ∙ sym (hex_last (64 - done) rest (drop (end - done) line) (omega arith) none) ∙ written
+pair_at : (from n k : ℕ) → k < n → get_or (pairs from n) (k * 2) 0 ∷ get_or (pairs from n) (k * 2 + 1) 0 ∷ [] ≡ pair (from + k)
+unfolding pairs
+pair_at from zero k below = absurd (omega (arith, below))
+pair_at from (suc n) zero below = let first : from + 0 ≡ from = omega arith in rw first refl
+pair_at from (suc n) (suc k) below =
+    let next : from + suc k ≡ from + 1 + k = omega arith in
+    let high : suc k * 2 ≡ suc (suc (k * 2)) = omega arith in
+    let low : suc (suc (k * 2)) + 1 ≡ suc (suc (k * 2 + 1)) = omega arith in
+    rw (next, high, low) (pair_at (from + 1) n k (omega (arith, below)))
 
--- with another digit the rest of the number is left
-pub more_put : (line whole : List ℕ) (end done rest : ℕ) → end ≤ length line → 16 ≤ end → done < 16 → hex_left (64 - done) rest (drop (end - done) line) ≡ whole → rest / 16 ≢ 0 → hex_left (64 - (done + 1)) (rest / 16) (drop (end - (done + 1)) (set line (end - 1 - done) (get_or (codes "0123456789abcdef") (rest % 16) 0))) ≡ whole
-more_put line whole end done rest within room below written some =
-    let at : end - (done + 1) ≡ end - 1 - done = omega arith in
-    ap (λ k. hex_left (64 - (done + 1)) (rest / 16) (drop k (set line (end - 1 - done) (get_or (codes "0123456789abcdef") (rest % 16) 0)))) at
-    ∙ ap (hex_left (64 - (done + 1)) (rest / 16)) (put_first line (end - 1 - done) (end - done) (get_or (codes "0123456789abcdef") (rest % 16) 0) (omega arith) (omega arith)
-    ∙ ap (λ g. g ∷ drop (end - done) line) (glyph_is (rest % 16) (omega arith)))
-    ∙ sym (hex_more (64 - done) (64 - (done + 1)) rest (drop (end - done) line) (omega arith) some) ∙ written
+-- the table has the digits of each byte
+pub pair_put : (text behind acc : List ℕ) (byte : ℕ) → byte < 256 → text ≡ get_or PAIRS (byte * 2) 0 ∷ behind → behind ≡ get_or PAIRS (byte * 2 + 1) 0 ∷ acc → text ≡ pair byte ++ acc
+unfolding pairs
+pair_put text behind acc byte below high low =
+    let plain : 0 + byte ≡ byte = omega arith in
+    high ∙ ap (λ l. get_or PAIRS (byte * 2) 0 ∷ l) low ∙ ap (λ l. l ++ acc) (pair_at 0 256 byte below ∙ ap pair plain)
 
-pow_step : (k : ℕ) → 16 ^ suc k ≡ 16 ^ k * 16
-pow_step k = grind (arith, common_steps)
+-- two more digits
+hex_two : (count less n : ℕ) (acc : List ℕ) → count ≡ less + 2 → n / 256 ≢ 0 → hex_left count n acc ≡ hex_left less (n / 256) (pair (n % 256) ++ acc)
+hex_two count less n acc is some =
+    let left : n / 16 / 16 ≡ n / 256 = omega arith in
+    let high : n / 16 % 16 ≡ n % 256 / 16 = omega arith in
+    let low : n % 16 ≡ n % 256 % 16 = omega arith in
+    hex_more count (less + 1) n acc (omega (arith, is)) (λ none. some (omega (arith, none)))
+    ∙ hex_more (less + 1) less (n / 16) (digit_glyph false (n % 16) ∷ acc) refl (λ none. some (omega (arith, none)))
+    ∙ rw (left, high, low) refl
 
--- sixteen digits are enough
-pub less_left : (rest done : ℕ) → rest < 16 ^ (16 - done) → done < 16 → rest / 16 < 16 ^ (16 - (done + 1))
+-- the last digits, of which the first is left out where it is 0
+hex_end : (count n : ℕ) (acc : List ℕ) → 1 < count → n / 256 ≡ 0 → hex_left count n acc ≡ drop (from_bool (nat_lt (n % 256) 16)) (pair (n % 256) ++ acc)
+hex_end count n acc some none =
+    let byte : n % 256 ≡ n = omega (arith, none) in
+    rw byte (elim (cases_lt n 16) [
+      | inl one ↦ rw (lt-ltb n 16 one) (hex_last count n acc (omega (arith, some)) (omega (arith, one)))
+      | inr two ↦
+          let high : n / 16 % 16 ≡ n / 16 = omega (arith, none) in
+          rw (le-ltb n 16 two) (hex_more count (count - 1) n acc (omega (arith, some)) (λ zero. omega (arith, zero, two))
+          ∙ hex_last (count - 1) (n / 16) (digit_glyph false (n % 16) ∷ acc) (omega (arith, some)) (omega (arith, none))
+          ∙ ap (λ d. digit_glyph false d ∷ digit_glyph false (n % 16) ∷ acc) high)
+    ])
+
+-- with its last digits the text of the number is whole
+pub last_put : (new acc whole : List ℕ) (start count rest : ℕ) → 1 < count → hex_left count rest acc ≡ whole → drop start new ≡ pair (rest % 256) ++ acc → rest / 256 ≡ 0 → drop (start + from_bool (nat_lt (rest % 256) 16)) new ≡ whole
+last_put new acc whole start count rest some written put none =
+    sym (drop-drop (from_bool (nat_lt (rest % 256) 16)) start new) ∙ ap (drop (from_bool (nat_lt (rest % 256) 16))) put
+    ∙ sym (hex_end count rest acc some none) ∙ written
+
+-- with two more digits the rest of the number is left
+pub more_put : (new acc whole : List ℕ) (start at count less rest : ℕ) → count ≡ less + 2 → at ≡ start → hex_left count rest acc ≡ whole → drop start new ≡ pair (rest % 256) ++ acc → rest / 256 ≢ 0 → hex_left less (rest / 256) (drop at new) ≡ whole
+more_put new acc whole start at count less rest is same written put some =
+    ap (λ k. hex_left less (rest / 256) (drop k new)) same ∙ ap (hex_left less (rest / 256)) put ∙ sym (hex_two count less rest acc is some) ∙ written
+
+-- eight bytes are enough
+pub less_left : (rest done : ℕ) → rest < 256 ^ (8 - done) → done < 8 → rest / 256 < 256 ^ (8 - (done + 1))
 less_left rest done small below =
-    let more : 16 - done ≡ suc (16 - (done + 1)) = omega arith in
-    let whole : rest < 16 ^ (16 - (done + 1)) * 16 = subst (λ (p : ℕ). rest < p) (ap (λ k. 16 ^ k) more ∙ pow_step (16 - (done + 1))) small in
+    let more : 8 - done ≡ suc (8 - (done + 1)) = omega arith in
+    let whole : rest < 256 ^ (8 - (done + 1)) * 256 = subst (λ (p : ℕ). rest < p) (ap (λ k. 256 ^ k) more ∙ pow-suc 256 (8 - (done + 1))) small in
     omega (arith, whole)
 
 -- how many digits a number has
@@ -90,7 +120,7 @@ length_left (suc count) zero n acc small =
     let none : n / 16 ≡ 0 = omega arith in
     omega (arith, ap length (last_by count n acc none))
 length_left (suc count) (suc k) n acc small =
-    let less : n / 16 < 16 ^ suc k = (let whole : n < 16 ^ suc k * 16 = subst (λ (p : ℕ). n < p) (pow_step (suc k)) small in omega (arith, whole)) in
+    let less : n / 16 < 16 ^ suc k = (let whole : n < 16 ^ suc k * 16 = subst (λ (p : ℕ). n < p) (pow-suc 16 (suc k)) small in omega (arith, whole)) in
     elim_bool (n / 16 == 0) (λ t. length (cond t (digit_glyph false (n % 16) ∷ acc) (hex_left count (n / 16) (digit_glyph false (n % 16) ∷ acc))) ≤ suc (suc k) + length acc)
     (λ _. omega arith)
     (λ _. omega (arith, length_left count k (n / 16) (digit_glyph false (n % 16) ∷ acc) less))

@@ -5,7 +5,24 @@ ghost use Rattle.std.specs.Fmt.{decimal, signed_decimal, digits};
 
 use itoa::write_digits;
 
-const GLYPHS: &[u8; 16] = b"0123456789abcdef";
+/// The two hexadecimal digits of each byte.
+static PAIRS: [u8; 512] = *b"\
+    000102030405060708090a0b0c0d0e0f\
+    101112131415161718191a1b1c1d1e1f\
+    202122232425262728292a2b2c2d2e2f\
+    303132333435363738393a3b3c3d3e3f\
+    404142434445464748494a4b4c4d4e4f\
+    505152535455565758595a5b5c5d5e5f\
+    606162636465666768696a6b6c6d6e6f\
+    707172737475767778797a7b7c7d7e7f\
+    808182838485868788898a8b8c8d8e8f\
+    909192939495969798999a9b9c9d9e9f\
+    a0a1a2a3a4a5a6a7a8a9aaabacadaeaf\
+    b0b1b2b3b4b5b6b7b8b9babbbcbdbebf\
+    c0c1c2c3c4c5c6c7c8c9cacbcccdcecf\
+    d0d1d2d3d4d5d6d7d8d9dadbdcdddedf\
+    e0e1e2e3e4e5e6e7e8e9eaebecedeeef\
+    f0f1f2f3f4f5f6f7f8f9fafbfcfdfeff";
 
 /// Writes the last byte.
 #[inline]
@@ -57,12 +74,13 @@ pub fn write_hex(number: u64, line: &mut [u8], end: usize) -> usize
     ensures written { drop result line.new ≡ digits 16 false number ++ drop end line.old }
 {
     let mut rest = number;
-    for done in 0..16 {
-        let start = end - 1 - done;
-        line[start] = GLYPHS[(rest % 16) as usize];
-        rest /= 16;
+    for done in 0..8 {
+        let byte = (rest % 256) as usize;
+        let at = write_byte(PAIRS[byte * 2 + 1], line, end - 2 * done);
+        let start = write_byte(PAIRS[byte * 2], line, at);
+        rest /= 256;
         if rest == 0 {
-            return start;
+            return start + usize::from(byte < 16);
         }
     }
     unreachable!()
