@@ -10,7 +10,7 @@ use Rattle.std.proofs.ByRecursion.{all_shuffled}
 use Rattle.step_maps.specs.declared.stretch.Stretch.{Stretch}
 use Rattle.step_maps.specs.Covers.{AreStretches}
 use Rattle.step_maps.specs.SpanStretches.{AreFit}
-use Rattle.inline_chain.specs.internal.Copies.{of_class, HaveClasses, SortedFrom, front_count}
+use Rattle.inline_chain.specs.internal.Copies.{of_class, SortedFrom, front_count}
 
 pub tie_is : (v w : ℕ) → (not (is_lt (nat_cmp v w)) && not (is_lt (nat_cmp w v))) ≡ (w == v)
 tie_is v w = grind (arith, nat_tests)
@@ -44,17 +44,6 @@ fit_all (s ∷ items) fit = (fit.0.0, fit.0.1, fit_all items fit.1)
 
 pub fit_sorted : (xs ys : List Stretch) → IsPermutation xs ys → AreFit xs → AreFit ys
 fit_sorted xs ys moved fit = fit_all ys (all_shuffled IsFit xs ys moved (all_fit xs fit))
-
-all_below : (count : ℕ) (items : List Stretch) → HaveClasses count items → AllByRecursion (λ (s : Stretch). s.class < count) items
-all_below count [] below = tt
-all_below count (s ∷ items) below = (below.0, all_below count items below.1)
-
-below_all : (count : ℕ) (items : List Stretch) → AllByRecursion (λ (s : Stretch). s.class < count) items → HaveClasses count items
-below_all count [] below = tt
-below_all count (s ∷ items) below = (below.0, below_all count items below.1)
-
-pub below_sorted : (xs ys : List Stretch) → IsPermutation xs ys → (count : ℕ) → HaveClasses count xs → HaveClasses count ys
-below_sorted xs ys moved count below = below_all count ys (all_shuffled (λ (s : Stretch). s.class < count) xs ys moved (all_below count xs below))
 
 pub fit_take : (k : ℕ) (items : List Stretch) → AreFit items → AreFit (take k items)
 fit_take zero items fit = tt

@@ -9,9 +9,9 @@ use Rattle.step_maps.specs.declared.stretch.Stretch.{Stretch}
 use Rattle.die_walk.specs.EntryTable.{DieFields}
 use Rattle.die_walk.specs.EntryKinds.{is_inlined}
 use Rattle.die_names.specs.Owners.{inside_of}
-use Rattle.step_maps.specs.SpanStretches.{span_stretches, AreFit}
-use Rattle.inline_chain.specs.internal.Copies.{stretches_in, set_in, copy_by, copy_stretches, child_stretches, HaveClasses, HaveSets, SaysInside, Collects}
-use Rattle.inline_chain.proofs.InsideLemmas.{IsBelow, taken, inside_below}
+use Rattle.step_maps.specs.SpanStretches.{AreFit}
+use Rattle.inline_chain.specs.internal.Copies.{stretches_in, set_in, copy_by, copy_stretches, child_stretches, HaveSets, SaysInside, Collects}
+use Rattle.inline_chain.proofs.InsideLemmas.{taken}
 
 got_inside : {X : Type 0} (xs : List X) (k : ℕ) (x : X) → slice_get xs k ≡ Some x → k < length xs
 got_inside [] k x is = absurd (cc)
@@ -90,35 +90,18 @@ sets_left all k sets die is canonical left = subst (λ l. HaveSets l (drop k set
     go (Some spans) there are = subst (λ l. HaveSets (die ∷ drop (k + 1) all) l) (sym (dropped sets k spans there)) (are, left)
     go None there are = subst (λ l. HaveSets (die ∷ drop (k + 1) all) l) (sym (dropped_none sets k there)) tt
 
-classes_joined : (n : ℕ) (xs ys : List Stretch) → HaveClasses n xs → HaveClasses n ys → HaveClasses n (xs ++ ys)
-classes_joined n [] ys p q = q
-classes_joined n (x ∷ xs) ys p q = (p.0, classes_joined n xs ys p.1 q)
-
-span_classes : (n index class : ℕ) (spans : List Range) → class < n → HaveClasses n (span_stretches index class spans)
-span_classes n index class [] below = tt
-span_classes n index class (r ∷ spans) below = (below, span_classes n index class spans below)
-
-copy_classes : (n : ℕ) (die : DieFields) (k : ℕ) (above : Option ℕ) (spans : List Range) → k ≤ n → IsBelow k above → HaveClasses n (copy_by die above k spans)
-copy_classes n die k above spans less below = go (is_inlined die) above below
-  where
-    go : (b : Bool) (o : Option ℕ) → IsBelow k o → HaveClasses n (if b then stretches_in k o spans else [])
-    go false o is = tt
-    go true None is = tt
-    go true (Some p) is = span_classes n k p spans (omega (arith, is))
-
 pub collects_begin : (all : List DieFields) (sets : List (List Range)) → Collects all sets 0 [] []
 collects_begin all sets = record {
   inside = record { many = refl; each = λ k die below found. absurd (omega arith) };
   items_are = refl;
   fit = tt;
-  below = tt;
   sets_are = λ left. left;
 }
 
 pub collects_more : (all : List DieFields) (sets : List (List Range)) (k : ℕ) (row : List (Option ℕ)) (items made : List Stretch) (die : DieFields) (above : Option ℕ)
-    → Some die ≡ slice_get all k → k < length all → above ≡ inside_of all (length row) die.parent → (is_inlined die ≡ true → IsCanonical (set_in sets k)) → AreFit made → made ≡ items ++ copy_by die above k (set_in sets k)
+    → Some die ≡ slice_get all k → above ≡ inside_of all (length row) die.parent → (is_inlined die ≡ true → IsCanonical (set_in sets k)) → AreFit made → made ≡ items ++ copy_by die above k (set_in sets k)
     → Collects all sets k row items → Collects all sets (k + 1) (row ++ above ∷ []) made
-collects_more all sets k row items made die above is below said canonical fit grown c =
+collects_more all sets k row items made die above is said canonical fit grown c =
     let here : above ≡ inside_of all k die.parent = said ∙ ap (λ n. inside_of all n die.parent) c.inside.many in
     record {
       inside = inside_more all row k die above c.inside (sym is) said;
@@ -129,7 +112,6 @@ collects_more all sets k row items made die above is below said canonical fit gr
           ∙ ap (λ l. items ++ l) (sym (child_left all k all sets die (sym is)))
           ∙ c.items_are;
       fit = fit;
-      below = subst (HaveClasses (length all)) (sym grown) (classes_joined (length all) items (copy_by die above k (set_in sets k)) c.below (copy_classes (length all) die k above (set_in sets k) (omega arith) (subst (IsBelow k) (sym here) (inside_below all k die.parent))));
       sets_are = λ left. c.sets_are (sets_left all k sets die (sym is) canonical left);
     }
 

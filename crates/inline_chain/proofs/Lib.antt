@@ -3,6 +3,7 @@ pub mod ChainLemmas
 pub mod ChildLemmas
 pub mod CollectLemmas
 pub mod ClassLemmas
+mod LinkLemmas
 pub mod ApartLemmas
 mod EndLemmas
 mod TreeLemmas

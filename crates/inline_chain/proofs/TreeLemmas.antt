@@ -1,5 +1,5 @@
 -- The trees of units.
-use Rattle.std.proofs.Common.{◌≡◌, ℕ, zero, suc, ◌+◌, ◌<◌, ◌≤◌, ◌&&◌, ◌++◌, Bool, true, false, if◌then◌else◌, nat_le, nat_lt, List, [], ◌∷◌, length, take, drop, get_or, map, Option, None, Some, unwrap_or, arith, refl, sym, ap, subst, ◌∙◌, ⊎_elim}
+use Rattle.std.proofs.Common.{◌≡◌, ℕ, zero, suc, ◌+◌, ◌<◌, ◌≤◌, ◌==◌, ◌&&◌, ◌++◌, Bool, true, false, if◌then◌else◌, nat_le, nat_lt, List, [], ◌∷◌, length, get_or, map, Option, None, Some, unwrap_or, arith, refl, sym, ap, subst, ◌∙◌, ⊎_elim}
 use Rattle.std.specs.List.{slice_get}
 use Rattle.std.proofs.lemmas.Bool.{cond-false, ne_eqb, cases_lt}
 use Rattle.std.proofs.lemmas.List.{length-append}
@@ -11,11 +11,10 @@ use Rattle.die_walk.specs.EntryTable.{DieFields}
 use Rattle.die_names.specs.declared.unit_read.UnitRead.{UnitRead}
 use Rattle.die_names.specs.UnitEntries.{places}
 use Rattle.step_maps.specs.SpanStretches.{AreFit}
-use Rattle.inline_chain.specs.internal.Copies.{of_class, HaveClasses, SortedFrom, front_count, IsList, AreLists, ListsTo, HaveSets, child_stretches, TreeFor, AddsCovers}
+use Rattle.inline_chain.specs.internal.Copies.{of_class, HaveClasses, IsList, AreLists, ListsTo, HaveSets, child_stretches, TreeFor, AddsCovers}
 use Rattle.inline_chain.specs.Trees.{list_of, child_at, IsTree, AreTrees}
 use Rattle.inline_chain.proofs.ChildLemmas.{index_children}
 use Rattle.inline_chain.proofs.CollectLemmas.{got_front, got_last}
-use Rattle.inline_chain.proofs.ClassLemmas.{take_front, drop_front, sorted_behind, fit_drop}
 
 same_runs : {V : Type 0} (f g : ℕ → Option V) (runs : List (Run V)) → ((a : ℕ) → f a ≡ g a) → IsRuns f runs → IsRuns g runs
 same_runs f g runs same is = record { apart = is.apart; values = λ a. is.values a ∙ same a }
@@ -35,33 +34,36 @@ got_past [] k outside = refl
 got_past (x ∷ xs) zero outside = absurd (omega arith)
 got_past (x ∷ xs) (suc k) outside = got_past xs k (omega arith)
 
-pub lists_begin : (items : List Stretch) (lists : List (List Cover)) → lists ≡ [] → SortedFrom 0 items → AreFit items → ListsTo items items lists 0
-lists_begin items lists none sorted fit = record { many = ap length none; each = λ x below. absurd (omega arith); ahead = λ x up. refl; sorted = sorted; fit = fit }
+pub fit_class : (x : ℕ) (items : List Stretch) → AreFit items → AreFit (of_class x items)
+fit_class x [] fit = tt
+fit_class x (s ∷ items) fit = go (s.class == x) (fit_class x items fit.2)
+  where
+    go : (b : Bool) → AreFit (of_class x items) → AreFit (if b then s ∷ of_class x items else of_class x items)
+    go true rest = (fit.0, fit.1, rest)
+    go false rest = rest
 
-lists_grown : (items rest : List Stretch) (lists : List (List Cover)) (count : ℕ) (group later : List Stretch) (covers : List Cover) → group ≡ take (front_count count rest) rest → later ≡ drop (front_count count rest) rest
-    → IsRuns (between 0 18446744073709551616 (index_at group)) (map cover_run covers) → ListsTo items rest lists count → ListsTo items later (lists ++ covers ∷ []) (count + 1)
+pub lists_begin : (items : List Stretch) (lists : List (List Cover)) → lists ≡ [] → ListsTo items lists 0
+lists_begin items lists none = record { many = ap length none; each = λ x below. absurd (omega arith) }
+
+lists_grown : (items group : List Stretch) (lists : List (List Cover)) (count : ℕ) (covers : List Cover) → group ≡ of_class count items
+    → IsRuns (between 0 18446744073709551616 (index_at group)) (map cover_run covers) → ListsTo items lists count → ListsTo items (lists ++ covers ∷ []) (count + 1)
 unfolding list_of
-lists_grown items rest lists count group later covers front back runs to = record {
+lists_grown items group lists count covers is runs to = record {
   many = length-append lists (covers ∷ []) ∙ omega (arith, to.many);
   each = λ x below. ⊎_elim
       (λ less. subst (λ o. IsRuns (between 0 18446744073709551616 (index_at (of_class x items))) (map cover_run (unwrap_or o []))) (sym (got_front lists x covers (omega (arith, to.many)))) (to.each x less))
       (λ from.
       let here : length lists ≡ x = omega (arith, to.many) in
-      let class_is : group ≡ of_class x items = front ∙ take_front count rest to.sorted ∙ to.ahead count (omega arith) ∙ ap (λ n. of_class n items) (let e : count ≡ x = omega (arith, to.many) in e) in
+      let class_is : group ≡ of_class x items = is ∙ ap (λ n. of_class n items) (let e : count ≡ x = omega (arith, to.many) in e) in
       subst (λ o. IsRuns (between 0 18446744073709551616 (index_at (of_class x items))) (map cover_run (unwrap_or o [])))
       (sym (ap (slice_get (lists ++ covers ∷ [])) (sym here) ∙ got_last lists covers))
       (same_runs _ _ (map cover_run covers) (between_same 0 18446744073709551616 (index_at group) (index_at (of_class x items)) (λ a. ap (λ l. index_at l a) class_is)) runs))
       (cases_lt x count);
-  ahead = λ x up. ap (of_class x) back ∙ drop_front count x rest (λ (e : count ≡ x). absurd (omega arith)) ∙ to.ahead x (omega arith);
-  sorted = subst (SortedFrom (count + 1)) (sym back) (sorted_behind count rest to.sorted);
-  fit = subst AreFit (sym back) (fit_drop (front_count count rest) rest to.fit);
 }
 
-pub lists_more : (items rest : List Stretch) (lists : List (List Cover)) (count : ℕ) (group later : List Stretch) (new : List (List Cover)) → group ≡ take (front_count count rest) rest → later ≡ drop (front_count count rest) rest
-    → AddsCovers group lists new → ListsTo items rest lists count → ListsTo items later new (count + 1)
-lists_more items rest lists count group later new front back made to =
-    subst (λ (ls : List (List Cover)). ListsTo items later ls (count + 1)) (sym made.added)
-    (lists_grown items rest lists count group later made.covers front back made.runs to)
+pub lists_more : (items group : List Stretch) (lists new : List (List Cover)) (count : ℕ) → group ≡ of_class count items → AddsCovers group lists new → ListsTo items lists count → ListsTo items new (count + 1)
+lists_more items group lists new count is made to =
+    subst (λ (ls : List (List Cover)). ListsTo items ls (count + 1)) (sym made.added) (lists_grown items group lists count made.covers is made.runs to)
 
 none_of : (x count : ℕ) (items : List Stretch) → HaveClasses count items → count ≤ x → of_class x items ≡ []
 none_of x count [] below up = refl
@@ -73,21 +75,16 @@ empty_list items lists x past none =
     subst (λ o. IsRuns (between 0 18446744073709551616 (index_at (of_class x items))) (map cover_run (unwrap_or o []))) (sym (got_past lists x past))
     (no_runs 0 18446744073709551616 (index_at (of_class x items)) (λ a. ap (λ l. index_at l a) none))
 
-pub lists_out : (items rest : List Stretch) (lists : List (List Cover)) (count : ℕ) → length rest ≡ 0 → ListsTo items rest lists count → AreLists items lists
-lists_out items [] lists count out to x = ⊎_elim (λ less. to.each x less) (λ from. empty_list items lists x (omega (arith, to.many)) (sym (to.ahead x from))) (cases_lt x count)
-lists_out items (s ∷ rest) lists count out to x = absurd (omega arith)
-
-pub lists_all : (items rest : List Stretch) (lists : List (List Cover)) (n count : ℕ) → n ≤ count → HaveClasses n items → ListsTo items rest lists count → AreLists items lists
-lists_all items rest lists n count less below to x = ⊎_elim (λ less. to.each x less) (λ from. empty_list items lists x (omega (arith, to.many)) (none_of x n items below (omega arith))) (cases_lt x count)
+pub lists_all : (items : List Stretch) (lists : List (List Cover)) (n count : ℕ) → n ≤ count → HaveClasses n items → ListsTo items lists count → AreLists items lists
+lists_all items lists n count less below to x = ⊎_elim (λ less. to.each x less) (λ from. empty_list items lists x (omega (arith, to.many)) (none_of x n items below (omega arith))) (cases_lt x count)
 
 -- the lists of a unit's copies are its tree
-pub tree_is : (part : UnitRead) (items sorted : List Stretch) (lists : List (List Cover)) → items ≡ child_stretches part.die.dies 0 part.die.dies part.spans → HaveSets part.die.dies part.spans
-    → ((x : ℕ) → of_class x sorted ≡ of_class x items) → AreLists sorted lists → IsTree part lists
+pub tree_is : (part : UnitRead) (items : List Stretch) (lists : List (List Cover)) → items ≡ child_stretches part.die.dies 0 part.die.dies part.spans → HaveSets part.die.dies part.spans → AreLists items lists → IsTree part lists
 unfolding child_at
-tree_is part items sorted lists items_are sets same are x =
+tree_is part items lists items_are sets are x =
     same_runs _ _ (map cover_run (list_of lists x))
-    (between_same 0 18446744073709551616 (index_at (of_class x sorted)) (child_at part x)
-    (λ a. ap (λ l. index_at l a) (same x ∙ ap (of_class x) items_are) ∙ index_children part.die.dies x 0 part.die.dies part.spans a sets))
+    (between_same 0 18446744073709551616 (index_at (of_class x items)) (child_at part x)
+    (λ a. ap (λ l. index_at (of_class x l) a) items_are ∙ index_children part.die.dies x 0 part.die.dies part.spans a sets))
     (are x)
 
 -- the trees of the first units

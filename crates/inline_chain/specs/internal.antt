@@ -1,5 +1,6 @@
 -- What serves the functions and loops of this crate alone: no public clause names it.
 pub mod Levels
 pub mod Copies
+pub mod Links
 pub mod Apart
 pub mod CoverEnds

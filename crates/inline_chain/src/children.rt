@@ -3,7 +3,7 @@ ghost use Rattle.std.specs.Prelude.{◌≡◌, ◌<◌, ◌^◌, ◌++◌, true,
 ghost use Rattle.range_set.specs.Canonical.{IsCanonical};
 ghost use Rattle.die_walk.specs.EntryKinds.{is_inlined};
 ghost use Rattle.step_maps.specs.SpanStretches.{AreFit};
-ghost use Rattle.inline_chain.specs.internal.Copies.{HaveClasses, HaveSets, set_in, copy_by, child_stretches};
+ghost use Rattle.inline_chain.specs.internal.Copies.{HaveSets, set_in, copy_by, child_stretches};
 
 use crate::inside::inside_of;
 use die_names::UnitRead;
@@ -54,7 +54,6 @@ pub fn collect_copies(alloc: Global, part: &UnitRead<'_>) -> Result<Vec<Stretch>
     ensures items { IfOk result (λ items. items.items ≡ child_stretches part.now.die.dies 0 part.now.die.dies part.now.spans) }
     ensures fit { IfOk result (λ items. AreFit items.items) }
     ensures sets { IfOk result (λ items. HaveSets part.now.die.dies part.now.spans) }
-    ensures below { IfOk result (λ items. HaveClasses (length part.now.die.dies) items.items) }
 {
     let count = part.die.dies().len();
     let mut row = Vec::with_capacity(alloc, count)?;

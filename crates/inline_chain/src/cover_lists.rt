@@ -1,5 +1,5 @@
 //! The covers of entries, of which most have none.
-ghost use Rattle.std.specs.Prelude.{◌≡◌, ◌≤◌, ◌<◌, [], ◌∷◌, ◌++◌, length, take, drop, OnOk};
+ghost use Rattle.std.specs.Prelude.{◌≡◌, ◌≤◌, ◌<◌, [], ◌∷◌, ◌++◌, length, take, drop, IfOk, OnOk};
 ghost use Rattle.inline_chain.specs.Trees.{list_of};
 ghost use Rattle.inline_chain.specs.internal.CoverEnds.{begin_of};
 
@@ -51,14 +51,14 @@ fn covers_between(covers: &[Cover], start: usize, end: usize) -> &[Cover]
 }
 
 impl CoverLists {
-    /// No entry yet.
-    pub fn new(alloc: Global) -> CoverLists
-        ensures { result ≡ [] }
+    /// No entry yet, and room for so many.
+    pub fn with_room(alloc: Global, count: usize) -> Result<CoverLists, OutOfMemory>
+        ensures { IfOk result (λ lists. lists ≡ []) }
     {
-        CoverLists {
-            ends: Vec::new(alloc),
+        Ok(CoverLists {
+            ends: Vec::with_capacity(alloc, count)?,
             covers: Vec::new(alloc),
-        }
+        })
     }
 
     /// Adds an entry without copies.

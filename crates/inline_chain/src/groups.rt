@@ -6,11 +6,10 @@ ghost use Rattle.range_set.specs.Canonical.{IsCanonical};
 ghost use Rattle.step_maps.specs.Covers.{reaches};
 ghost use Rattle.step_maps.specs.SpanStretches.{AreFit};
 ghost use Rattle.inline_chain.specs.InlineRuns.{IsOrdered, spans_of, first_address};
-ghost use Rattle.inline_chain.specs.internal.Copies.{SortedFrom};
+ghost use Rattle.inline_chain.specs.internal.Copies.{SortedFrom, of_class, front_count};
 ghost use Rattle.inline_chain.specs.internal.Levels.{AddsGroup, AddsParts, IsMade, AddsLevel, Rising, AreOfLevel};
 
 use crate::inline_run::InlineRun;
-use crate::trees::{front_count, sort_by_class};
 use range_set::{RangeSet, of_ranges};
 use std::alloc::{AllocError, Global};
 use step_maps::Stretch;
@@ -136,6 +135,32 @@ fn push_group(
     // That the set is the one list of its addresses is said by this call.
     let _held = set.spans();
     push_set(alloc, made, level, entry, set)
+}
+
+/// Sorts stretches by class; those of one class stay in their order.
+fn sort_by_class(items: &mut Vec<Stretch>) -> Result<(), AllocError>
+    ensures same { OnOk result ((x : ℕ) → of_class x items.new.items ≡ of_class x items.old.items) }
+    ensures sorted { OnOk result (SortedFrom 0 items.new.items) }
+    ensures fit { OnOk result (AreFit items.old.items → AreFit items.new.items) }
+{
+    items.sort_by_key(|item| item.class)?;
+    Ok(())
+}
+
+/// How many stretches at the front are of a class.
+fn front_count(items: &[Stretch], class: u32) -> usize
+    ensures { result ≡ front_count class items.now }
+{
+    let mut count: usize = 0;
+    let mut rest = items;
+    'items: while let Some((item, later)) = rest.split_first() {
+        if item.class != class {
+            return count;
+        }
+        count += 1;
+        rest = later;
+    }
+    count
 }
 
 /// Puts in the place of what was there the records of sorted stretches, entry by entry.

@@ -4,14 +4,15 @@ ghost use Rattle.step_maps.specs.SpanStretches.{AreFit};
 ghost use Rattle.std.specs.List.{slice_get};
 ghost use Rattle.std.specs.Option.{option_copied};
 ghost use Rattle.die_names.specs.UnitEntries.{AreRead};
-ghost use Rattle.inline_chain.specs.internal.Copies.{HaveClasses, SortedFrom, of_class, front_count, AreLists, TreeFor, AddsCovers};
+ghost use Rattle.inline_chain.specs.internal.Copies.{AreLists, TreeFor, AddsCovers};
 ghost use Rattle.inline_chain.specs.Trees.{IsTree, AreTrees};
 
 use crate::children::collect_copies;
+use crate::class_links::{fill_class, links_of};
 use crate::cover_lists::CoverLists;
 use crate::cover_sweep::fill_covers;
 use die_names::{UnitRead, Units};
-use std::alloc::{AllocError, Global};
+use std::alloc::Global;
 use std::marker::Model;
 use std::thread::Threads;
 use step_maps::{Cover, Stretch};
@@ -136,37 +137,9 @@ fn tree_of(alloc: Global, part: &UnitRead<'_>) -> Result<CoverLists, OutOfMemory
     requires { length part.now.die.dies < 2 ^ 32 }
     ensures { IfOk result (λ lists. IsTree part.now lists) }
 {
-    let mut items = collect_copies(alloc, part)?;
-    sort_by_class(&mut items)?;
-    let lists = lists_of(alloc, part.die.dies().len(), items.as_slice())?;
+    let items = collect_copies(alloc, part)?;
+    let lists = lists_of(alloc, items.as_slice())?;
     Ok(lists)
-}
-
-/// Sorts stretches by class; those of one class stay in their order.
-pub(crate) fn sort_by_class(items: &mut Vec<Stretch>) -> Result<(), AllocError>
-    ensures same { OnOk result ((x : ℕ) → of_class x items.new.items ≡ of_class x items.old.items) }
-    ensures sorted { OnOk result (SortedFrom 0 items.new.items) }
-    ensures fit { OnOk result (AreFit items.old.items → AreFit items.new.items) }
-    ensures below { OnOk result ((count : ℕ) → HaveClasses count items.old.items → HaveClasses count items.new.items) }
-{
-    items.sort_by_key(|item| item.class)?;
-    Ok(())
-}
-
-/// How many stretches at the front are of a class.
-pub(crate) fn front_count(items: &[Stretch], class: u32) -> usize
-    ensures { result ≡ front_count class items.now }
-{
-    let mut count: usize = 0;
-    let mut rest = items;
-    'items: while let Some((item, later)) = rest.split_first() {
-        if item.class != class {
-            return count;
-        }
-        count += 1;
-        rest = later;
-    }
-    count
 }
 
 /// Adds the covers of stretches. What `own` holds does not matter: it is used again for the sake of its memory.
@@ -187,24 +160,18 @@ fn push_covers(
     lists.push(own.as_slice())
 }
 
-/// The covers of each class of sorted stretches, as far as there are any.
-fn lists_of(alloc: Global, count: usize, items: &[Stretch]) -> Result<CoverLists, OutOfMemory>
-    requires few { count < 2 ^ 32 }
-    requires fit { AreFit items.now }
-    requires sorted { SortedFrom 0 items.now }
-    requires below { HaveClasses count items.now }
+/// The covers of each class, as far as there are any.
+fn lists_of(alloc: Global, items: &[Stretch]) -> Result<CoverLists, OutOfMemory>
+    requires { AreFit items.now }
     ensures { IfOk result (λ lists. AreLists items.now lists) }
 {
-    let mut lists = CoverLists::new(alloc);
+    let links = links_of(alloc, items)?;
+    let mut lists = CoverLists::with_room(alloc, links.firsts.len())?;
+    let mut group = Vec::new(alloc);
     let mut own = Vec::new(alloc);
-    let mut rest = items;
-    'classes: for class in 0..count {
-        if rest.is_empty() {
-            return Ok(lists);
-        }
-        let (group, later) = rest.split_at(front_count(rest, class as u32));
-        push_covers(alloc, &mut lists, group, &mut own)?;
-        rest = later;
+    'classes: for class in 0..links.firsts.len() {
+        fill_class(items, &links, class, &mut group)?;
+        push_covers(alloc, &mut lists, group.as_slice(), &mut own)?;
     }
     Ok(lists)
 }

@@ -68,7 +68,6 @@ pub record Collects (all : List DieFields) (sets : List (List Range)) (count : �
   pub inside : SaysInside all row count
   pub items_are : items ++ child_stretches all count (drop count all) (drop count sets) ≡ child_stretches all 0 all sets
   pub fit : AreFit items
-  pub below : HaveClasses (length all) items
   pub sets_are : HaveSets (drop count all) (drop count sets) → HaveSets all sets
 
 -- the list of a class has the runs of the first stretch's index
@@ -84,13 +83,10 @@ pub record AddsCovers (group : List Stretch) (old new : List (List Cover)) : Typ
 abbrev pub AreLists : List Stretch → List (List Cover) → Type 0
 AreLists items lists = (x : ℕ) → IsList items lists x
 
--- those of the first classes; the other stretches are left
-pub record ListsTo (items rest : List Stretch) (lists : List (List Cover)) (count : ℕ) : Type 0 where
+-- those of the first classes
+pub record ListsTo (items : List Stretch) (lists : List (List Cover)) (count : ℕ) : Type 0 where
   pub many : length lists ≡ count
   pub each : (x : ℕ) → x < count → IsList items lists x
-  pub ahead : (x : ℕ) → count ≤ x → of_class x rest ≡ of_class x items
-  pub sorted : SortedFrom count rest
-  pub fit : AreFit rest
 
 -- the tree of a unit, where there is that unit
 abbrev pub TreeFor : Option UnitRead → Option (List (List Cover)) → Type 0

@@ -1,8 +1,6 @@
-use Rattle.std.proofs.Common.{sym}
-use Rattle.std.proofs.lemmas.Option.{slice_get_within}
 use Rattle.inline_chain.proofs.CollectLemmas.{collects_more}
 use Rattle.inline_chain.proofs.children.collect_copies.Goals as goal
 
 pub entries-preserved : goal.entries-preserved
 entries-preserved c = rw c.in_ok-push.ensures.items
-    (collects_more _ _ _ _ _ _ _ _ c.in-Some.ensures (slice_get_within _ _ _ (sym c.in-Some.ensures)) (rw c.as_slice.ensures.value at c.inside_of-above.ensures) c.in_ok-push_copy.ensures.canonical c.in_ok-push_copy.ensures.fit c.in_ok-push_copy.ensures.same c.entries.invariant)
+    (collects_more _ _ _ _ _ _ _ _ c.in-Some.ensures (rw c.as_slice.ensures.value at c.inside_of-above.ensures) c.in_ok-push_copy.ensures.canonical c.in_ok-push_copy.ensures.fit c.in_ok-push_copy.ensures.same c.entries.invariant)

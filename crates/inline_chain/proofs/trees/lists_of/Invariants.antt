@@ -2,4 +2,4 @@ use Rattle.inline_chain.specs.internal.Copies.{ListsTo}
 use Rattle.inline_chain.proofs.trees.lists_of.Given as goal
 
 abbrev pub invariant-classes : goal.invariant-classes
-invariant-classes l = ListsTo l.items l.rest l.lists l.class
+invariant-classes l = ListsTo l.items l.lists l.class

@@ -1,6 +1,6 @@
 use Rattle.std.proofs.Common.{arith, ap, length}
 use Rattle.inline_chain.proofs.ClassLemmas.{counted_none, counted_one, counted_other}
-use Rattle.inline_chain.proofs.trees.front_count.Goals as goal
+use Rattle.inline_chain.proofs.groups.front_count.Goals as goal
 
 pub returns-then-item-class : goal.returns-then-item-class
 returns-then-item-class c = counted_other _ _ _ _ _ _ c.in-Some.ensures.cases.0 c.if-item-class.true c.items.invariant.counted

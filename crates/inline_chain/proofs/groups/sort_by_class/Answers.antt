@@ -1,7 +1,7 @@
 use Rattle.std.proofs.Common.{rules}
 use Rattle.std.proofs.lemmas.List.Sorted.{answers_always, IsNonDecreasingBy-from_sort_by_key}
-use Rattle.inline_chain.proofs.ClassLemmas.{same_sorted, sorted_of, fit_sorted, below_sorted}
-use Rattle.inline_chain.proofs.trees.sort_by_class.Goals as goal
+use Rattle.inline_chain.proofs.ClassLemmas.{same_sorted, sorted_of, fit_sorted}
+use Rattle.inline_chain.proofs.groups.sort_by_class.Goals as goal
 
 pub returns-clause-same : goal.returns-clause-same
 returns-clause-same c = same_sorted _ _ (c.in_ok-sort_by_key.ensures.stable (λ s. s.class) (answers_always _ _ _ (λ f a r g h. search rules)))
@@ -11,6 +11,3 @@ returns-clause-sorted c = sorted_of _ (IsNonDecreasingBy-from_sort_by_key (λ s.
 
 pub returns-clause-fit : goal.returns-clause-fit
 returns-clause-fit c = fit_sorted _ _ c.in_ok-sort_by_key.ensures.permutation
-
-pub returns-clause-below : goal.returns-clause-below
-returns-clause-below c = below_sorted _ _ c.in_ok-sort_by_key.ensures.permutation

@@ -1,6 +1,6 @@
 use Rattle.std.proofs.Common.{◌≡◌, ◌+◌, length}
 use Rattle.inline_chain.specs.internal.Copies.{front_count}
-use Rattle.inline_chain.proofs.trees.front_count.Given as goal
+use Rattle.inline_chain.proofs.groups.front_count.Given as goal
 
 abbrev pub invariant-items : goal.invariant-items
 invariant-items l = record {
