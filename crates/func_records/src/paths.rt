@@ -1,6 +1,8 @@
 //! The paths that line records and calls name.
-ghost use Rattle.std.specs.Prelude.{◌≡◌, ℕ, List, ◌||◌, length, map, IfOk, OnOk};
+ghost use Rattle.std.specs.Prelude.{◌≡◌, ℕ, List, ◌||◌, true, length, map, IfOk, OnOk};
+ghost use Rattle.std.specs.Str.{bytes_eq};
 ghost use Rattle.die_names.specs.declared.unit_read.UnitRead.{UnitRead};
+ghost use Rattle.func_records.specs.FuncRecords.{path_in};
 ghost use Rattle.func_records.specs.internal.Gathering.{bytes_of, has_text, path_at, has_path, any_run, AddsPiece, Gathered};
 ghost use Rattle.func_records.specs.internal.Shares.{all_paths};
 
@@ -16,14 +18,27 @@ use sym_edges::OutOfMemory;
 /// So many slots are for the paths of a share.
 const SLOTS: usize = 4096;
 
-/// Adds the paths of a piece's runs.
+/// Whether the first of some runs has a path.
+#[tactic(auto, using(crate::proofs::PathLemmas::path_begun))]
+fn begins_with(runs: &[LineRun], path: u32) -> bool
+    ensures { result ≡ true → (units : List UnitRead) (unit : ℕ) (text : List ℕ) → any_run units unit runs.now text ≡ (bytes_eq text (path_in units unit path) || any_run units unit runs.now text) }
+{
+    match runs.split_first() {
+        Some((run, _)) => run.path == path,
+        None => false,
+    }
+}
+
+/// Adds the paths of a piece's runs. A path that the next run has too is left to that run.
 fn gather_runs(unit: u32, runs: &[LineRun], paths: &mut PathList) -> Result<(), OutOfMemory>
     ensures { OnOk result ((units : List UnitRead) (path : List ℕ) → has_path units paths.new path ≡ (has_path units paths.old path || any_run units unit runs.now path)) }
 {
     let mut rest = runs;
     'runs: while let Some((run, later)) = rest.split_first() {
-        let path = Some(run.path);
-        paths.add(PathRef { unit, path })?;
+        if !begins_with(later, run.path) {
+            let path = Some(run.path);
+            paths.add(PathRef { unit, path })?;
+        }
         rest = later;
     }
     Ok(())
