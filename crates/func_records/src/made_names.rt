@@ -90,13 +90,7 @@ fn place_of<'t>(
     if stands_at(texts.as_slice(), place, text) {
         return Ok(place);
     }
-    let count = texts.len();
-    if count >= u32::MAX as usize {
-        return Err(OutOfMemory);
-    }
-    texts.push(text)?;
-    guesses.note(slot, count as u32);
-    Ok(count as u32)
+    guesses.add(slot, texts, text)
 }
 
 /// Names once each, but for those whose keys get into each other's way.

@@ -77,13 +77,7 @@ fn place_of(
     if stands_at(refs.as_slice(), place, name) {
         return Ok(place);
     }
-    let count = refs.len();
-    if count >= u32::MAX as usize {
-        return Err(OutOfMemory);
-    }
-    refs.push(name)?;
-    guesses.note(slot, count as u32);
-    Ok(count as u32)
+    guesses.add(slot, refs, name)
 }
 
 impl OriginRefs {

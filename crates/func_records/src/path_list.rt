@@ -131,12 +131,7 @@ impl PathList {
         if stands_at(self.refs.as_slice(), self.guesses.guess(slot), at) {
             return Ok(());
         }
-        let count = self.refs.len();
-        if count >= u32::MAX as usize {
-            return Err(OutOfMemory);
-        }
-        self.refs.push(at)?;
-        self.guesses.note(slot, count as u32);
+        self.guesses.add(slot, &mut self.refs, at)?;
         Ok(())
     }
 

@@ -1,4 +1,6 @@
 //! Where in a list what was met before may stand.
+ghost use Rattle.std.specs.Prelude.{◌≡◌, [], ◌∷◌, ◌++◌, length, IfOk, OnOk};
+
 use std::alloc::Global;
 use sym_edges::OutOfMemory;
 
@@ -31,10 +33,24 @@ impl PlaceGuesses {
         }
     }
 
-    /// Gives a slot its place.
-    pub fn note(&mut self, slot: usize, place: u32) {
-        if slot < self.slots.len() {
-            self.slots[slot] = place;
+    /// Adds to a list what has a slot; its place.
+    pub fn add<T: Drop>(
+        &mut self,
+        slot: usize,
+        list: &mut Vec<T>,
+        one: T,
+    ) -> Result<u32, OutOfMemory>
+        ensures added { OnOk result (list.new.items ≡ list.old.items ++ one ∷ []) }
+        ensures place { IfOk result (λ place. place ≡ length list.old.items) }
+    {
+        let place = list.len();
+        if place >= u32::MAX as usize {
+            return Err(OutOfMemory);
         }
+        list.push(one)?;
+        if slot < self.slots.len() {
+            self.slots[slot] = place as u32;
+        }
+        Ok(place as u32)
     }
 }
