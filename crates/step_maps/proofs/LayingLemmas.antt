@@ -94,11 +94,11 @@ pub record InOrder (items : List Stretch) (steps : Stepping (Option FirstItem)) 
   pub up : ascends_from last rest ≡ true
   pub some : AreStretches rest
 
-and_left : (p q : Bool) → (p && q) ≡ true → p ≡ true
+pub and_left : (p q : Bool) → (p && q) ≡ true → p ≡ true
 and_left true q is = refl
 and_left false q is = is
 
-and_right : (p q : Bool) → (p && q) ≡ true → q ≡ true
+pub and_right : (p q : Bool) → (p && q) ≡ true → q ≡ true
 and_right true q is = is
 and_right false q is = absurd (cc)
 

@@ -8,6 +8,7 @@ pub mod StretchLemmas
 pub mod IndexLemmas
 pub mod SpanLemmas
 pub mod LayingLemmas
+pub mod SortedLemmas
 pub mod FirstLemmas
 pub mod JoiningLemmas
 pub mod Computing

@@ -1,4 +1,5 @@
-ghost use Rattle.std.specs.Prelude.{◌≡◌, ℕ, ◌+◌, ◌^◌, ◌<◌, ◌≤◌, true, false, nat_le, nat_lt, if◌then◌else◌, None, Some, IfOk, OnOk};
+ghost use Rattle.std.specs.Prelude.{◌≡◌, ℕ, ◌+◌, ◌^◌, ◌<◌, ◌≤◌, true, false, nat_le, nat_lt, if◌then◌else◌, None, Some, IfSome, IfOk, OnOk};
+ghost use Rattle.std.specs.List.Sorted.{IsPermutation};
 ghost use Rattle.step_maps.specs.Stepping.{last_from, value_at};
 ghost use Rattle.step_maps.specs.Covers.{reaches, AreStretches};
 ghost use Rattle.step_maps.specs.Ends.{BelowEnd};
@@ -13,11 +14,52 @@ use sym_edges::OutOfMemory;
 /// So many stretches are laid down address by address of a change, and need no map for each half.
 const FEW: usize = 4;
 
-/// The first item at each address: as the stretches stand where they ascend, else of each half, one laid over the other.
+/// Up to so many stretches are sorted on the way, besides the whole list: more would be sorted too often.
+const SHORT: usize = 64;
+
+/// The first item at each address: one after another where no stretches overlap, else of each half, one laid over the other.
 pub(crate) fn layered(
     alloc: Global,
     items: &[Stretch],
 ) -> Result<StepMap<Option<FirstItem>>, OutOfMemory>
+    requires { AreStretches items.now }
+    ensures { IfOk result (λ steps. (a : ℕ) → a < 2 ^ 64 → value_at None steps a ≡ laid items.now a) }
+{
+    if items.len() > SHORT && !is_ascending(items) {
+        if let Some(steps) = disjoint(alloc, items)? {
+            return Ok(steps);
+        }
+    }
+    halved(alloc, items)
+}
+
+/// The stretches one after another, in whatever order they stand, if none overlap.
+#[tactic(auto, using(crate::proofs::SortedLemmas::stretches_moved, crate::proofs::SortedLemmas::sorted_laid))]
+fn disjoint(
+    alloc: Global,
+    items: &[Stretch],
+) -> Result<Option<StepMap<Option<FirstItem>>>, OutOfMemory>
+    requires { AreStretches items.now }
+    ensures { IfOk result (λ found. IfSome found (λ steps. (a : ℕ) → a < 2 ^ 64 → value_at None steps a ≡ laid items.now a)) }
+{
+    let sorted = sorted_by_first(alloc, items)?;
+    if !is_ascending(sorted.as_slice()) {
+        return Ok(None);
+    }
+    let steps = in_order(alloc, sorted.as_slice())?;
+    Ok(Some(steps))
+}
+
+fn sorted_by_first(alloc: Global, items: &[Stretch]) -> Result<Vec<Stretch>, OutOfMemory>
+    ensures { IfOk result (λ sorted. IsPermutation items.now sorted.items) }
+{
+    let mut sorted = Vec::from_slice(alloc, items)?;
+    sorted.sort_unstable_by_key(|item| item.first);
+    Ok(sorted)
+}
+
+/// As the stretches stand where they ascend, else of each half, one laid over the other.
+fn halved(alloc: Global, items: &[Stretch]) -> Result<StepMap<Option<FirstItem>>, OutOfMemory>
     requires { AreStretches items.now }
     ensures { IfOk result (λ steps. (a : ℕ) → a < 2 ^ 64 → value_at None steps a ≡ laid items.now a) }
 {
@@ -29,9 +71,14 @@ pub(crate) fn layered(
         let steps = one_by_one(alloc, items)?;
         return Ok(steps);
     }
+    if items.len() <= SHORT {
+        if let Some(steps) = disjoint(alloc, items)? {
+            return Ok(steps);
+        }
+    }
     let (front, back) = items.split_at(items.len() / 2);
-    let upper = layered(alloc, front)?;
-    let lower = layered(alloc, back)?;
+    let upper = halved(alloc, front)?;
+    let lower = halved(alloc, back)?;
     let both = overlay(alloc, &upper, &lower)?;
     Ok(both)
 }

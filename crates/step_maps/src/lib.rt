@@ -7,9 +7,9 @@
 //! Items have numbers, and classes that several may share; a [`Stretch`] is the addresses from a first to a last one, both
 //! included, of one item. Of stretches that overlap the first in the list counts. [`first_items`] gives at each address the
 //! first item there, and whether an item of another class is there too ([`FirstItem`]); [`overlay`] lays one such map over
-//! another by one merge. Stretches that ascend are laid down as they stand; other lists are cut in two, and the map of the
-//! front half is laid over that of the back half. So n stretches take n log n turns however they overlap, and n where they
-//! ascend.
+//! another by one merge. Stretches that ascend are laid down as they stand, and those that only stand in another order once
+//! a copy is sorted; other lists are cut in two, and the map of the front half is laid over that of the back half. So n
+//! stretches take n log n turns however they overlap, and n where they ascend.
 //!
 //! The runs of a function are the maximal intervals on which it is defined and constant. A function has one list of runs
 //! only ([`same_values_same_runs`]), each of them can't be made longer ([`runs_are_maximal`]), and a step map in which no two
