@@ -49,7 +49,7 @@ pub entry_begins : (sections : DebugSections) (pairs : List EntryFormat) (wide :
 unfolding entry_at
 entry_begins sections pairs wide c = refl
 
-abbrev kept_by : Option Value → ℕ → ℕ → Value → Option Value
+abbrev pub kept_by : Option Value → ℕ → ℕ → Value → Option Value
 kept_by kept content of value = option_or kept (cond (of == content) (Some value) None)
 
 found_by : (t : Bool) (kept : Option Value) (x : Content) (later : Option Content) → option_or kept (option_map (λ v. v.value) (cond t (Some x) later)) ≡ option_or (option_or kept (cond t (Some x.value) None)) (option_map (λ v. v.value) later)
@@ -61,7 +61,7 @@ content_step : (kept : Option Value) (content : ℕ) (x : Content) (later : List
 unfolding content_of
 content_step kept content x later = found_by (x.content == content) kept x (find (λ v. v.content == content) later)
 
-entry_step : (sections : DebugSections) (path directory : Option Value) (x : Content) (later : Result (List Content × Ahead) Fault) → entry_from sections path directory (later >>= λ values. Ok (x ∷ values.0, values.1)) ≡ entry_from sections (kept_by path 1 x.content x.value) (kept_by directory 2 x.content x.value) later
+pub entry_step : (sections : DebugSections) (path directory : Option Value) (x : Content) (later : Result (List Content × Ahead) Fault) → entry_from sections path directory (later >>= λ values. Ok (x ∷ values.0, values.1)) ≡ entry_from sections (kept_by path 1 x.content x.value) (kept_by directory 2 x.content x.value) later
 entry_step sections path directory x (Ok values) =
     ap (λ p. Ok (entry_of sections p (option_or directory (content_of 2 (x ∷ values.0))), values.1)) (content_step path 1 x values.0)
     ∙ ap (λ d. Ok (entry_of sections (option_or (kept_by path 1 x.content x.value) (content_of 1 values.0)) d, values.1)) (content_step directory 2 x values.0)

@@ -6,6 +6,7 @@ pub mod RunLemmas
 pub mod HeaderLemmas
 pub mod ListLemmas
 pub mod EntryLemmas
+pub mod NeededLemmas
 pub mod PathLemmas
 pub mod NumberingLemmas
 pub mod SortLemmas

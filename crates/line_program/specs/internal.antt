@@ -5,3 +5,4 @@ pub mod RowsAbove
 pub mod Directories
 pub mod Numbering
 pub mod KeptRows
+pub mod Needed

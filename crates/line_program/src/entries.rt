@@ -3,19 +3,20 @@ ghost use Rattle.std.specs.Prelude.{◌≡◌, ◌==◌, Some, None, if◌then�
 ghost use Rattle.std.specs.Option.{option_copied, option_or};
 ghost use Rattle.leb_cursor.specs.Ahead.{gave};
 ghost use Rattle.line_program.specs.FileTables.{old_entry_at, pair_at, value_at, path_in, directory_in, entry_at};
+ghost use Rattle.line_program.specs.internal.Needed.{is_idle};
 
 use crate::entry_format::EntryFormat;
 use crate::fault::LineFault;
 use crate::file_entry::FileEntry;
 use crate::opcode_reader::read_file_behind;
 use abbrev_units::{DwarfKind, Sections, Value, read_form, read_place, read_text};
-use code_table::{DW_FORM_implicit_const, DW_FORM_line_strp, DW_FORM_udata};
+use code_table::{DW_FORM_flag_present, DW_FORM_implicit_const, DW_FORM_line_strp, DW_FORM_udata};
 use leb_cursor::Cursor;
 
 // The contents of version 5 that are read (DWARF 5, table 7.27).
-const DW_LNCT_path: u64 = 1;
+pub const DW_LNCT_path: u64 = 1;
 
-const DW_LNCT_directory_index: u64 = 2;
+pub const DW_LNCT_directory_index: u64 = 2;
 
 /// Reads an entry of versions 2 to 4: a directory's, or a file's, which has more after its path.
 #[tactic(auto, unfolding(crate::specs::FileTables::old_entry_at))]
@@ -106,6 +107,21 @@ fn directory_in(directory: Option<Value>) -> u64
     match directory {
         Some(Value::Num(number)) => number,
         _ => 0,
+    }
+}
+
+/// Whether a pair changes no entry: its values take no bytes, and none of them is the first of a path or a directory.
+#[tactic(auto, unfolding(crate::specs::internal::Needed::is_idle))]
+pub fn is_idle(path: bool, directory: bool, pair: EntryFormat) -> bool
+    ensures { result ≡ is_idle path directory pair }
+{
+    if pair.form != DW_FORM_flag_present {
+        return false;
+    }
+    match pair.content {
+        DW_LNCT_path => path,
+        DW_LNCT_directory_index => directory,
+        _ => true,
     }
 }
 

@@ -1,11 +1,14 @@
 //! The tables of directories and files.
-ghost use Rattle.std.specs.Prelude.{◌≡◌, IfOk};
+ghost use Rattle.std.specs.Prelude.{◌≡◌, ◌==◌, ◌||◌, false, IfOk};
 ghost use Rattle.leb_cursor.specs.Ahead.{gave_as};
 ghost use Rattle.leb_cursor.specs.Lists.{list_at};
 ghost use Rattle.line_program.specs.FileTables.{old_entry_at, old_tables_at, pair_at, pairs_at, entry_at, counted_at, entries_at, new_tables_at, tables_at};
 ghost use Rattle.line_program.specs.Lists.{several_at};
+ghost use Rattle.line_program.specs.internal.Needed.{needed};
 
-use crate::entries::{read_entry, read_old_entry, read_pair};
+use crate::entries::{
+    DW_LNCT_directory_index, DW_LNCT_path, is_idle, read_entry, read_old_entry, read_pair,
+};
 use crate::entry_format::EntryFormat;
 use crate::fault::{LineFault, Reading};
 use crate::file_entry::FileEntry;
@@ -14,6 +17,7 @@ use abbrev_units::{DwarfKind, Sections};
 use leb_cursor::Cursor;
 use std::alloc::Global;
 use std::marker::Model;
+use sym_edges::OutOfMemory;
 
 /// Most tables have no more entries.
 const USUAL: usize = 512;
@@ -78,6 +82,33 @@ fn read_pairs(alloc: Global, cursor: &mut Cursor<'_>) -> Reading<Vec<EntryFormat
     }
 }
 
+/// Whether a content was seen before or is this one.
+fn is_seen(before: bool, content: u64, of: u64) -> bool
+    ensures { result ≡ (before || (content == of)) }
+{
+    before || content == of
+}
+
+/// The pairs by which entries are read: of those whose values take no bytes only the first of a content that is asked for.
+#[tactic(auto, using(crate::proofs::NeededLemmas::needed_begins, crate::proofs::NeededLemmas::needed_idle, crate::proofs::NeededLemmas::needed_one, crate::proofs::NeededLemmas::needed_all))]
+fn needed_pairs(alloc: Global, pairs: &[EntryFormat]) -> Result<Vec<EntryFormat>, OutOfMemory>
+    ensures { IfOk result (λ kept. kept.items ≡ needed false false pairs.now) }
+{
+    let mut needed = Vec::with_capacity(alloc, pairs.len())?;
+    let mut path = false;
+    let mut directory = false;
+    'pairs: for place in 0..pairs.len() {
+        let pair = pairs[place];
+        if is_idle(path, directory, pair) {
+            continue;
+        }
+        path = is_seen(path, pair.content, DW_LNCT_path);
+        directory = is_seen(directory, pair.content, DW_LNCT_directory_index);
+        needed.push(pair)?;
+    }
+    Ok(needed)
+}
+
 /// Reads so many entries of version 5.
 #[tactic(auto, using(crate::proofs::EntryLemmas::entries_begin, crate::proofs::EntryLemmas::entries_one, crate::proofs::EntryLemmas::entries_done, crate::proofs::EntryLemmas::entries_cut))]
 fn read_some_entries<'a>(
@@ -121,7 +152,7 @@ fn read_counted<'a>(
 }
 
 /// Reads a table of version 5.
-#[tactic(auto, unfolding(crate::specs::FileTables::entries_at))]
+#[tactic(auto, using(crate::proofs::NeededLemmas::counted_same), unfolding(crate::specs::FileTables::entries_at))]
 fn read_entries<'a>(
     alloc: Global,
     cursor: &mut Cursor<'a>,
@@ -135,9 +166,10 @@ fn read_entries<'a>(
         Ok(pairs) => pairs,
         Err(fault) => return Ok(Err(fault)),
     };
+    let needed = needed_pairs(alloc, pairs.as_slice())?;
     match cursor.uleb() {
         Ok(count) => {
-            let pairs = pairs.as_slice();
+            let pairs = needed.as_slice();
             read_counted(alloc, cursor, sections, start, pairs, wide, count)
         }
         Err(fault) => Ok(Err(fault.into())),

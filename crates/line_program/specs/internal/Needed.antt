@@ -1,0 +1,15 @@
+-- The pairs of a format without those that change no entry.
+use Rattle.std.specs.Prelude.{◌==◌, ◌||◌, Bool, true, false, if◌then◌else◌, List, [], ◌∷◌}
+use Rattle.line_program.specs.declared.entry_format.EntryFormat.{EntryFormat}
+
+-- values of DW_FORM_flag_present (0x19) take no bytes; of a path (1) or a directory (2) the first value counts
+unfoldable pub is_idle : Bool → Bool → EntryFormat → Bool
+is_idle path directory pair =
+    if pair.form == 0x19 then (if pair.content == 1 then path else if pair.content == 2 then directory else true) else false
+
+-- whether a path and a directory stand before these
+unfoldable pub needed : Bool → Bool → List EntryFormat → List EntryFormat
+needed path directory [] = []
+needed path directory (pair ∷ pairs) =
+    if is_idle path directory pair then needed path directory pairs
+    else pair ∷ needed (path || (pair.content == 1)) (directory || (pair.content == 2)) pairs
