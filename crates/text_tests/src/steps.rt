@@ -33,6 +33,19 @@ fn falling(alloc: Global, count: u32) -> Result<Vec<Stretch>, AllocError>
     Ok(items)
 }
 
+/// Stretches of four addresses in no order: the first 70 are apart, and each of the next 70 lies on one of them.
+#[tactic(auto, using(step_maps::proofs::StretchLemmas::stretches_push))]
+fn scattered(alloc: Global, count: u32) -> Result<Vec<Stretch>, AllocError>
+    ensures { IfOk result (λ items. AreStretches items.items) }
+{
+    let mut items = Vec::new(alloc);
+    for k in 0..count {
+        let first = (k as u64 * 37 % 70) * 8;
+        items.push(stretch(first, first + 3, k, k % 3))?;
+    }
+    Ok(items)
+}
+
 /// The number of covers, and where the first and the last of them begin and end.
 fn outermost(found: &[Cover]) -> [u64; 5] {
     let mut ends = [found.len() as u64, 0, 0, 0, 0];
@@ -62,6 +75,27 @@ fn mark(item: Option<FirstItem>) -> u64 {
         None => 0,
         Some(item) => (u64::from(item.index) + 1) * 10 + u64::from(item.shared),
     }
+}
+
+/// The covers of scattered stretches, and the first items at addresses.
+fn both_of_scattered(alloc: Global, count: u32) -> Result<Vec<u64>, OutOfMemory> {
+    let items = scattered(alloc, count)?;
+    let found = covers(alloc, items.as_slice())?;
+    let steps = first_items(alloc, items.as_slice())?;
+    let mut both = Vec::from_slice(alloc, &outermost(found.as_slice()))?;
+    for place in [0, 3, 4, 8, 555, 556] {
+        both.push(mark(steps.at(None, place)))?;
+    }
+    Ok(both)
+}
+
+#[test]
+fn stretches_that_are_apart_need_no_order(rt: HostRuntime) -> Result<(), Fail> {
+    let wanted = [70, 0, 3, 552, 555, 10, 10, 0, 540, 180, 0];
+    same(&rt, "apart", &both_of_scattered(rt.alloc(), 70)?, &wanted);
+    let wanted = [70, 0, 3, 552, 555, 11, 11, 0, 540, 180, 0];
+    same(&rt, "but two", &both_of_scattered(rt.alloc(), 71)?, &wanted);
+    Ok(())
 }
 
 /// The first items at addresses of the map that is laid over itself.
