@@ -1,8 +1,9 @@
-// The same in plain Rust: the same stretches, and covers made by the same halves and merges.
+// The same in plain Rust: the same stretches, and covers made by the same sorts, halves and merges.
 use std::time::Instant;
 
 const COUNT: u64 = 1000000;
 const FEW: usize = 4;
+const SHORT: usize = 64;
 
 #[derive(Clone, Copy)]
 struct Stretch {
@@ -124,15 +125,39 @@ fn one_by_one(items: &[Stretch]) -> StepMap {
     steps
 }
 
+fn is_ascending(items: &[Stretch]) -> bool {
+    items.windows(2).all(|pair| pair[0].last < pair[1].first)
+}
+
+fn disjoint(items: &[Stretch]) -> Option<StepMap> {
+    let mut sorted = items.to_vec();
+    sorted.sort_unstable_by_key(|item| item.first);
+    is_ascending(&sorted).then(|| in_order(&sorted))
+}
+
 fn layered(items: &[Stretch]) -> StepMap {
-    if items.windows(2).all(|pair| pair[0].last < pair[1].first) {
+    if items.len() > SHORT && !is_ascending(items) {
+        if let Some(steps) = disjoint(items) {
+            return steps;
+        }
+    }
+    halved(items)
+}
+
+fn halved(items: &[Stretch]) -> StepMap {
+    if is_ascending(items) {
         return in_order(items);
     }
     if items.len() <= FEW {
         return one_by_one(items);
     }
+    if items.len() <= SHORT {
+        if let Some(steps) = disjoint(items) {
+            return steps;
+        }
+    }
     let (front, back) = items.split_at(items.len() / 2);
-    overlay(&layered(front), &layered(back))
+    overlay(&halved(front), &halved(back))
 }
 
 fn covers(items: &[Stretch]) -> Vec<Cover> {
