@@ -12,7 +12,7 @@ use Rattle.abbrev_units.specs.declared.value.Value.{Value}
 use Rattle.abbrev_units.specs.declared.value.Value.TheVariants as value
 use Rattle.abbrev_units.specs.DebugSections.{DebugSections}
 use Rattle.die_walk.specs.EntryTable.{DieFields, RootFields}
-use Rattle.range_lists.specs.EntryRanges.{unit_base, pairs_of, in_ranges}
+use Rattle.range_lists.specs.EntryRanges.{unit_base, pairs_of, in_ranges, place_of_list}
 use Rattle.range_lists.proofs.Computing.{range_lists_computes}
 
 -- the address 0x5000 after a header of eight bytes, then seven bytes of another; two lists of version 5 after a header of twelve
@@ -316,3 +316,24 @@ pairs_that_overlap = refl
 pairs_in_falling_order : given (pair 0x2000 0x2010 ∷ pair 0x1000 0x1010 ∷ []) (0x1000 ∷ 0x1010 ∷ 0x1fff ∷ 0x2000 ∷ 0x2010 ∷ []) ≡ Ok true ∷ Ok false ∷ Ok false ∷ Ok true ∷ Ok false ∷ []
 unfolding range_lists_computes given
 pairs_in_falling_order = refl
+
+-- where lists stand: by their place, by their number, and nowhere
+stands_at_its_place : place_of_list sections (unit 5 false) root (die None None (Some (value.SecOffset 20))) ≡ Some 20
+unfolding range_lists_computes unit root die sections
+stands_at_its_place = refl
+
+stands_by_its_number : place_of_list sections (unit 5 false) root (die None None (Some (value.ListIndex 0))) ≡ Some 20
+unfolding range_lists_computes unit root die sections
+stands_by_its_number = refl
+
+stands_nowhere : place_of_list sections (unit 5 false) root (die (Some (value.Addr 0x1000)) (Some (value.Num 0x10)) None) ≡ None
+unfolding range_lists_computes unit root die sections
+stands_nowhere = refl
+
+declared_stands_nowhere : place_of_list sections (unit 5 false) root (record (die None None (Some (value.SecOffset 20))) { declaration = true }) ≡ None
+unfolding range_lists_computes unit root die sections
+declared_stands_nowhere = refl
+
+without_a_base_stands_nowhere : place_of_list sections (unit 5 false) (record root { rnglists_base = None }) (die None None (Some (value.ListIndex 0))) ≡ None
+unfolding range_lists_computes unit root die sections
+without_a_base_stands_nowhere = refl

@@ -128,3 +128,18 @@ IsGiven (Err NoMemory) = ⊥
 abbrev pub HasNoList : Option DieFields → Type 0
 HasNoList None = Prim.Unit {0}
 HasNoList (Some die) = die.ranges ≡ None
+
+-- a place that is told without a fault
+abbrev pub told_place : Result (Option ℕ) (Located DwarfKind) → Option ℕ
+told_place (Ok place) = place
+told_place (Err fault) = None
+
+-- where the list of an entry stands in its section; nowhere where the entry does not count, has no list, or has a fault at its place
+unfoldable pub place_of_list : DebugSections → Unit → RootFields → DieFields → Option ℕ
+place_of_list sections unit root die =
+    if counts die then told_place (list_place sections unit root die.at die.ranges) else None
+
+-- where the list of the entry of a number stands; after the last there is none
+abbrev pub listed_at : DebugSections → Unit → RootFields → Option DieFields → Option ℕ
+listed_at sections unit root None = None
+listed_at sections unit root (Some die) = place_of_list sections unit root die

@@ -1,7 +1,7 @@
 //! The addresses of entries.
 ghost use Rattle.std.specs.Prelude.{◌≡◌, None, slice_get};
 ghost use Rattle.die_walk.specs.EntryKinds.{counts};
-ghost use Rattle.range_lists.specs.EntryRanges.{addresses_for, unit_base, list_bytes, list_by_number, list_place, list_of, end_of, bounds_by, pairs_of, pairs_at, IsRanges, IsGiven, HasNoList};
+ghost use Rattle.range_lists.specs.EntryRanges.{addresses_for, unit_base, list_bytes, list_by_number, list_place, list_of, end_of, bounds_by, pairs_of, pairs_at, place_of_list, listed_at, IsRanges, IsGiven, HasNoList};
 
 use crate::gatherer::set_of_pair;
 use crate::list::ranges_of_list;
@@ -213,5 +213,41 @@ pub fn ranges_of(
     match table.dies().get(entry as usize) {
         Some(die) => ranges_of_die(alloc, sections, unit, table.root(), base, &die, code),
         None => Ok(RangeSet::empty()),
+    }
+}
+
+/// Where the list of an entry stands.
+#[tactic(auto, unfolding(crate::specs::EntryRanges::place_of_list))]
+fn place_of_list(
+    sections: &Sections<'_>,
+    unit: &Unit,
+    root: &Root<'_>,
+    die: &Die<'_, '_>,
+) -> Option<u128>
+    ensures { result ≡ place_of_list sections.now unit.now root.now die.now }
+{
+    if !counts(die) {
+        return None;
+    }
+    match list_place(sections, unit, root, die.at() as usize, die.ranges()) {
+        Ok(place) => place,
+        Err(_) => None,
+    }
+}
+
+/// Where the list of an entry stands in its section, by the entry's number in the table: `None` where the
+/// entry does not count, has no list, or its place has a fault, and after the last entry. Entries of one unit
+/// whose lists stand at one place have one set: [`lists_at_one_place`](crate::laws::lists_at_one_place).
+pub fn listed_at(
+    sections: &Sections<'_>,
+    unit: &Unit,
+    table: &DieTable<'_>,
+    entry: u32,
+) -> Option<u128>
+    ensures { result ≡ listed_at sections.now unit.now table.now.root (slice_get table.now.dies entry) }
+{
+    match table.dies().get(entry as usize) {
+        Some(die) => place_of_list(sections, unit, table.root(), &die),
+        None => None,
     }
 }

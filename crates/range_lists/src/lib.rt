@@ -7,7 +7,9 @@
 //! where it has both DW_AT_low_pc and DW_AT_high_pc. A range counts only where it is not empty and one range
 //! of the code encloses it; others are left out whole, so that what a linker took away is not taken for
 //! code. The ranges of code are an [`Enclosing`](range_set::Enclosing), which is made once for an image.
-//! [`unit_base`] gives the address from which the offsets of a unit's lists count.
+//! [`unit_base`] gives the address from which the offsets of a unit's lists count. [`listed_at`] says where
+//! an entry's list stands: entries of one unit whose lists stand at one place have one set, so that who asks
+//! for many sets need not read a list twice.
 //!
 //! The contracts are exact in both directions. `specs/EntryRanges.antt` says which pairs of addresses an
 //! entry gives, or what its first fault is; whether an address is among its ranges is a test of this one
@@ -29,4 +31,4 @@ pub mod laws;
 mod list;
 mod places;
 
-pub use crate::entry::{ranges_of, unit_base};
+pub use crate::entry::{listed_at, ranges_of, unit_base};
