@@ -1,23 +1,128 @@
--- For `SpanSets`: each set is listed in the one way.
-use Rattle.std.proofs.Common.{◌≡◌, ◌<◌, ℕ, zero, suc, List, [], ◌∷◌, ◌++◌, length, get_or, Some, arith, sym, subst}
+-- For `SpanSets`: sets by their numbers, each listed in the one way.
+use Rattle.std.proofs.Common.{◌≡◌, ◌<◌, ◌+◌, ℕ, zero, suc, nat_eq, true, List, [], ◌∷◌, ◌++◌, length, Some, None, refl, arith, sym, ap, subst, ◌∙◌, length-append}
 use Rattle.std.specs.List.{All, slice_get}
-use Rattle.std.proofs.lemmas.List.Elements.{All-nil, All-push}
+use Rattle.std.proofs.lemmas.List.{get_or_append_left, nil_from_length}
+use Rattle.std.proofs.lemmas.List.Elements.{All-nil, All-push, All-weaker, All-get_or, All-head, All-tail}
+use Rattle.std.proofs.lemmas.Option.{slice_get_within, slice_get-get_or, get_or_from_slice_get}
+use Rattle.std.proofs.lemmas.Bool.Decides.{nat_tests}
+use Rattle.std.proofs.Math.Seq.{get_or-append_seam}
 use Rattle.sym_edges.specs.Addresses.{Range}
 use Rattle.range_set.specs.Canonical.{IsCanonical}
+use Rattle.die_names.specs.internal.NumberedSets.{set_of, sets_of, AreNumbered}
 
-pub none_canonical : All IsCanonical []
-none_canonical = All-nil IsCanonical
+-- no entry yet: the empty set alone
+pub none_numbered : (sets before : List (List Range)) (numbers : List ℕ) → before ≡ [] → sets ≡ before ++ [] ∷ [] → numbers ≡ [] → AreNumbered sets numbers
+none_numbered sets before numbers none is empty =
+    let one : sets ≡ [] ∷ [] = is ∙ ap (λ (s : List (List Range)). s ++ [] ∷ []) none in
+    subst (λ (n : List ℕ). AreNumbered sets n) (sym empty)
+    (subst (λ (s : List (List Range)). AreNumbered s []) (sym one)
+    (record { there = All-nil (λ number. number < 1); canonical = All-push IsCanonical [] [] (All-nil IsCanonical) tt; some = omega arith; empty = refl }))
 
-pub canonical_added : (sets more : List (List Range)) (set : List Range) → All IsCanonical sets → IsCanonical set → more ≡ sets ++ set ∷ [] → All IsCanonical more
-canonical_added sets more set are here is = subst (All IsCanonical) (sym is) (All-push IsCanonical sets set are here)
+pub numbered_kept : (sets more : List (List Range)) (numbers later : List ℕ) → AreNumbered sets numbers → more ≡ sets → later ≡ numbers → AreNumbered more later
+numbered_kept sets more numbers later are same kept =
+    subst (λ (n : List ℕ). AreNumbered more n) (sym kept) (subst (λ (s : List (List Range)). AreNumbered s numbers) (sym same) are)
 
-pub canonical_kept : (sets more : List (List Range)) → All IsCanonical sets → more ≡ sets → All IsCanonical more
-canonical_kept sets more are is = subst (All IsCanonical) (sym is) are
+-- a number more, of a set that there is
+pub number_added : (sets : List (List Range)) (numbers more : List ℕ) (number : ℕ) → AreNumbered sets numbers → number < length sets → more ≡ numbers ++ number ∷ [] → AreNumbered sets more
+number_added sets numbers more number are there is = record {
+  there = subst (All (λ n. n < length sets)) (sym is) (All-push (λ n. n < length sets) numbers number are.there there);
+  canonical = are.canonical;
+  some = are.some;
+  empty = are.empty;
+}
 
-there_at : (sets : List (List Range)) (k : ℕ) (set d : List Range) → Some set ≡ slice_get sets k → (k < length sets) × (get_or sets k d ≡ set)
-there_at [] k set d there = absurd (cc)
-there_at (s ∷ sets) zero set d there = (omega arith, (let same : s ≡ set = cc in same))
-there_at (s ∷ sets) (suc k) set d there = let later = there_at sets k set d there in (omega (arith, later.0), later.1)
+sets_and : (sets : List (List Range)) (numbers : List ℕ) (number : ℕ) → sets_of sets (numbers ++ number ∷ []) ≡ sets_of sets numbers ++ set_of sets number ∷ []
+sets_and sets [] number = refl
+sets_and sets (n ∷ numbers) number = ap (λ later. set_of sets n ∷ later) (sets_and sets numbers number)
 
-pub canonical_there : (sets : List (List Range)) (k : ℕ) (set : List Range) → All IsCanonical sets → Some set ≡ slice_get sets k → IsCanonical set
-canonical_there sets k set are there = let at = there_at sets k set [] there in subst IsCanonical at.1 (are k [] at.0)
+pub none_listed : (set spans : List Range) → spans ≡ set → nat_eq (length spans) 0 ≡ true → set ≡ []
+none_listed set spans same none = sym same ∙ nil_from_length spans (grind (arith, nat_tests))
+
+pub empty_added : (sets : List (List Range)) (numbers more : List ℕ) (set : List Range) → AreNumbered sets numbers → set ≡ [] → more ≡ numbers ++ 0 ∷ [] → sets_of sets more ≡ sets_of sets numbers ++ set ∷ []
+empty_added sets numbers more set are none is =
+    ap (sets_of sets) is ∙ sets_and sets numbers 0 ∙ ap (λ s. sets_of sets numbers ++ s ∷ []) (are.empty ∙ sym none)
+
+-- a set more, with its number
+same_sets : (sets : List (List Range)) (set : List Range) (numbers : List ℕ) → All (λ n. n < length sets) numbers → sets_of (sets ++ set ∷ []) numbers ≡ sets_of sets numbers
+same_sets sets set [] there = refl
+same_sets sets set (n ∷ numbers) there =
+    ap (λ s. s ∷ sets_of (sets ++ set ∷ []) numbers) (get_or_append_left sets (set ∷ []) [] n (All-head (λ n. n < length sets) n numbers there))
+    ∙ ap (λ later. set_of sets n ∷ later) (same_sets sets set numbers (All-tail (λ n. n < length sets) n numbers there))
+
+one_longer : (sets : List (List Range)) (set : List Range) → length (sets ++ set ∷ []) ≡ length sets + 1
+one_longer sets set = length-append sets (set ∷ [])
+
+pub set_numbered : (sets more : List (List Range)) (numbers later : List ℕ) (set : List Range) (number : ℕ) → AreNumbered sets numbers → IsCanonical set → number ≡ length sets → more ≡ sets ++ set ∷ [] → later ≡ numbers ++ number ∷ [] → AreNumbered more later
+set_numbered sets more numbers later set number are canonical at is grown =
+    subst (λ (s : List (List Range)). AreNumbered s later) (sym is)
+    (number_added (sets ++ set ∷ []) numbers later number
+    (record {
+      there = All-weaker (λ n. n < length sets) (λ n. n < length (sets ++ set ∷ [])) (λ n below. omega (arith, below, one_longer sets set)) numbers are.there;
+      canonical = All-push IsCanonical sets set are.canonical canonical;
+      some = omega (arith, are.some, one_longer sets set);
+      empty = get_or_append_left sets (set ∷ []) [] 0 are.some ∙ are.empty;
+    })
+    (omega (arith, at, one_longer sets set)) grown)
+
+pub set_added : (sets more : List (List Range)) (numbers later : List ℕ) (set : List Range) (number : ℕ) → AreNumbered sets numbers → number ≡ length sets → more ≡ sets ++ set ∷ [] → later ≡ numbers ++ number ∷ [] → sets_of more later ≡ sets_of sets numbers ++ set ∷ []
+set_added sets more numbers later set number are at is grown =
+    ap (λ (s : List (List Range)). sets_of s later) is
+    ∙ ap (sets_of (sets ++ set ∷ [])) grown
+    ∙ sets_and (sets ++ set ∷ []) numbers number
+    ∙ ap (λ xs. xs ++ set_of (sets ++ set ∷ []) number ∷ []) (same_sets sets set numbers are.there)
+    ∙ ap (λ s. sets_of sets numbers ++ s ∷ []) (ap (set_of (sets ++ set ∷ [])) at ∙ get_or-append_seam sets set [] [])
+
+some_same : {A : Type 0} {x y : A} → Some x ≡ Some y → x ≡ y
+some_same is = cc
+
+-- the set of an entry's number
+pub count_is : (sets : List (List Range)) (numbers : List ℕ) → length (sets_of sets numbers) ≡ length numbers
+count_is sets [] = refl
+count_is sets (n ∷ numbers) = ap suc (count_is sets numbers)
+
+pub set_there : (sets : List (List Range)) (numbers : List ℕ) (entry number : ℕ) → Some number ≡ slice_get numbers entry → slice_get (sets_of sets numbers) entry ≡ Some (set_of sets number)
+set_there sets [] entry number is = absurd (cc)
+set_there sets (n ∷ numbers) zero number is = let same : number ≡ n = cc in ap (λ m. Some (set_of sets m)) (sym same)
+set_there sets (n ∷ numbers) (suc entry) number is = set_there sets numbers entry number is
+
+pub none_there : (sets : List (List Range)) (numbers : List ℕ) (entry : ℕ) → None ≡ slice_get numbers entry → None ≡ slice_get (sets_of sets numbers) entry
+none_there sets [] entry is = refl
+none_there sets (n ∷ numbers) zero is = absurd (cc)
+none_there sets (n ∷ numbers) (suc entry) is = none_there sets numbers entry is
+
+there_in : (sets : List (List Range)) (numbers : List ℕ) (entry number : ℕ) → All (λ n. n < length sets) numbers → Some number ≡ slice_get numbers entry → number < length sets
+there_in sets [] entry number are is = absurd (cc)
+there_in sets (n ∷ numbers) zero number are is =
+    let same : number ≡ n = cc in subst (λ m. m < length sets) (sym same) (All-head (λ m. m < length sets) n numbers are)
+there_in sets (n ∷ numbers) (suc entry) number are is = there_in sets numbers entry number (All-tail (λ m. m < length sets) n numbers are) is
+
+pub number_there : (sets : List (List Range)) (numbers : List ℕ) (entry number : ℕ) → AreNumbered sets numbers → Some number ≡ slice_get numbers entry → number < length sets
+number_there sets numbers entry number are is = there_in sets numbers entry number are.there is
+
+pub empty_there : (sets : List (List Range)) (numbers : List ℕ) (entry number : ℕ) → AreNumbered sets numbers → Some number ≡ slice_get numbers entry → number ≡ 0 → Some [] ≡ slice_get (sets_of sets numbers) entry
+empty_there sets numbers entry number are is none =
+    sym (set_there sets numbers entry number is ∙ ap (λ n. Some (set_of sets n)) none ∙ ap Some are.empty)
+
+pub by_number : (sets : List (List Range)) (numbers : List ℕ) (entry number : ℕ) → AreNumbered sets numbers → Some number ≡ slice_get numbers entry → slice_get sets number ≡ slice_get (sets_of sets numbers) entry
+by_number sets numbers entry number are is =
+    slice_get-get_or sets number [] (number_there sets numbers entry number are is) ∙ sym (set_there sets numbers entry number is)
+
+pub canonical_there : (sets : List (List Range)) (numbers : List ℕ) (k : ℕ) (set : List Range) → AreNumbered sets numbers → Some set ≡ slice_get sets k → IsCanonical set
+canonical_there sets numbers k set are there =
+    subst IsCanonical (get_or_from_slice_get sets k set [] (sym there)) (All-get_or IsCanonical sets k [] (slice_get_within sets k set (sym there)) are.canonical)
+
+-- an entry more with the set of an earlier one
+pub never_past : (sets : List (List Range)) (numbers : List ℕ) (entry : ℕ) → entry < length (sets_of sets numbers) → None ≡ slice_get numbers entry → ⊥
+never_past sets [] entry there none = omega arith
+never_past sets (n ∷ numbers) zero there none = cc
+never_past sets (n ∷ numbers) (suc entry) there none = never_past sets numbers entry (omega (arith, there)) none
+
+pub again_added : (sets : List (List Range)) (numbers more : List ℕ) (entry number : ℕ) (set : List Range) → Some number ≡ slice_get numbers entry → more ≡ numbers ++ number ∷ [] → slice_get (sets_of sets numbers) entry ≡ Some set → sets_of sets more ≡ sets_of sets numbers ++ set ∷ []
+again_added sets numbers more entry number set is grown there =
+    let same : set_of sets number ≡ set = some_same (sym (set_there sets numbers entry number is) ∙ there) in
+    ap (sets_of sets) grown ∙ sets_and sets numbers number ∙ ap (λ s. sets_of sets numbers ++ s ∷ []) same
+
+-- entries with one number
+pub same_there : (sets : List (List Range)) (numbers : List ℕ) (one other first second : ℕ) → Some first ≡ slice_get numbers one → Some second ≡ slice_get numbers other → first ≡ second → slice_get (sets_of sets numbers) one ≡ slice_get (sets_of sets numbers) other
+same_there sets numbers one other first second at there same =
+    set_there sets numbers one first at ∙ ap (λ n. Some (set_of sets n)) same ∙ sym (set_there sets numbers other second there)

@@ -1,7 +1,8 @@
-//! The addresses of entries, of which most have none.
-ghost use Rattle.std.specs.Prelude.{◌≡◌, [], ◌∷◌, ◌++◌, IfOk, IfSome, OnOk};
+//! The addresses of entries, of which most have none, and many have those of another entry.
+ghost use Rattle.std.specs.Prelude.{◌≡◌, ◌<◌, [], ◌∷◌, ◌++◌, Some, true, length, IfOk, IfSome, OnOk, List};
 ghost use Rattle.std.specs.List.{slice_get};
 ghost use Rattle.std.specs.Option.{option_copied};
+ghost use Rattle.sym_edges.specs.Addresses.{Range};
 ghost use Rattle.range_set.specs.Canonical.{IsCanonical};
 
 use flat_lists::FlatLists;
@@ -10,62 +11,134 @@ use std::alloc::Global;
 use std::marker::Model;
 use sym_edges::{OutOfMemory, Span};
 
-/// The addresses of a unit's entries, one set for each: empty for those that do not count. An entry without addresses takes four bytes.
+/// The addresses of a unit's entries, one set for each: empty for those that do not count. An entry without addresses takes four
+/// bytes, and so does one with the set of an earlier entry: sets have numbers, and number 0 is the empty set.
 #[derive(Drop)]
 pub struct SpanSets {
+    numbers: Vec<u32>,
     sets: FlatLists<Span>,
 }
 
 impl Model for SpanSets {
     ghost use Rattle.std.specs.Prelude.{List};
-    ghost use Rattle.std.specs.List.{All};
     ghost use Rattle.sym_edges.specs.Addresses.{Range};
-    ghost use Rattle.range_set.specs.Canonical.{IsCanonical};
+    ghost use Rattle.die_names.specs.internal.NumberedSets.{sets_of, AreNumbered};
 
     ghost Value = { List (List Range) };
 
-    ghost view = { λ s. s.sets };
+    ghost view = { λ s. sets_of s.sets s.numbers.items };
 
-    ghost invariant = { λ s. All IsCanonical s.sets };
+    ghost invariant = { λ s. AreNumbered s.sets s.numbers.items };
+}
+
+/// The number of an entry's set.
+#[inline]
+fn number_of(numbers: &[u32], entry: usize) -> Option<u32>
+    ensures { result ≡ slice_get numbers.now entry }
+{
+    match numbers.get(entry) {
+        Some(number) => Some(*number),
+        None => None,
+    }
 }
 
 impl SpanSets {
     /// No entry yet, and room for so many.
-    #[tactic(auto, using(crate::proofs::SetLemmas::none_canonical))]
+    #[tactic(auto, using(crate::proofs::SetLemmas::none_numbered))]
     pub fn with_room(alloc: Global, count: usize) -> Result<SpanSets, OutOfMemory>
         ensures { IfOk result (λ sets. sets ≡ []) }
     {
+        let mut sets = FlatLists::new(alloc);
+        sets.push(&[])?;
         Ok(SpanSets {
-            sets: FlatLists::with_room(alloc, count, 0)?,
+            numbers: Vec::with_capacity(alloc, count)?,
+            sets,
         })
     }
 
     /// Adds the addresses of an entry.
-    #[tactic(auto, using(crate::proofs::SetLemmas::canonical_added, crate::proofs::SetLemmas::canonical_kept))]
+    #[tactic(auto, using(crate::proofs::SetLemmas::numbered_kept, crate::proofs::SetLemmas::number_added, crate::proofs::SetLemmas::empty_added, crate::proofs::SetLemmas::set_numbered, crate::proofs::SetLemmas::set_added))]
     pub fn push(&mut self, set: &RangeSet) -> Result<(), OutOfMemory>
         ensures { OnOk result (self.new ≡ self.old ++ set.now ∷ []) }
     {
-        self.sets.push(set.spans())?;
+        let spans = set.spans();
+        if spans.is_empty() {
+            self.numbers.push(0)?;
+            return Ok(());
+        }
+        let number = self.sets.len();
+        if number > u32::MAX as usize {
+            return Err(OutOfMemory);
+        }
+        self.numbers.reserve(1)?;
+        self.sets.push(spans)?;
+        self.numbers.push_reserved(number as u32);
+        Ok(())
+    }
+
+    /// Adds an entry that has the addresses of an earlier one.
+    #[tactic(auto, using(crate::proofs::SetLemmas::numbered_kept, crate::proofs::SetLemmas::number_added, crate::proofs::SetLemmas::number_there, crate::proofs::SetLemmas::again_added))]
+    pub fn push_again(&mut self, entry: usize) -> Result<(), OutOfMemory>
+        requires { entry < length self.old }
+        ensures { OnOk result ((set : List Range) → slice_get self.old entry ≡ Some set → self.new ≡ self.old ++ set ∷ []) }
+    {
+        let number = match number_of(self.numbers.as_slice(), entry) {
+            Some(number) => number,
+            None => unreachable!(),
+        };
+        self.numbers.push(number)?;
         Ok(())
     }
 
     /// Gives back the room that no set took.
+    #[tactic(auto, using(crate::proofs::SetLemmas::numbered_kept))]
     pub fn shrink(&mut self)
         ensures { self.new ≡ self.old }
     {
+        self.numbers.shrink_to_fit();
         self.sets.shrink();
     }
 
     /// The addresses of the entry of a number.
     #[inline]
-    #[tactic(auto, using(crate::proofs::SetLemmas::canonical_there))]
+    #[tactic(auto, using(crate::proofs::SetLemmas::none_there, crate::proofs::SetLemmas::empty_there, crate::proofs::SetLemmas::by_number, crate::proofs::SetLemmas::canonical_there))]
     pub fn get(&self, entry: usize) -> Option<&[Span]>
         ensures set { option_copied result ≡ slice_get self.now entry }
         ensures canonical { IfSome result (λ spans. IsCanonical spans.now) }
     {
-        match self.sets.get(entry) {
+        let Some(number) = number_of(self.numbers.as_slice(), entry) else {
+            return None;
+        };
+        if number == 0 {
+            return Some(&[]);
+        }
+        match self.sets.get(number as usize) {
             Some(spans) => Some(spans),
             None => None,
         }
+    }
+
+    /// A number of the entry's set: entries of one number have one set. 0 after the last entry.
+    #[inline]
+    pub fn number(&self, entry: usize) -> usize {
+        match number_of(self.numbers.as_slice(), entry) {
+            Some(number) => number as usize,
+            None => 0,
+        }
+    }
+
+    /// Whether both entries are there and have one number, so that their sets are one. Sets that were added apart count as two.
+    #[inline]
+    #[tactic(auto, using(crate::proofs::SetLemmas::same_there))]
+    pub fn are_same(&self, one: usize, other: usize) -> bool
+        ensures { result ≡ true → slice_get self.now one ≡ slice_get self.now other }
+    {
+        let Some(first) = number_of(self.numbers.as_slice(), one) else {
+            return false;
+        };
+        let Some(second) = number_of(self.numbers.as_slice(), other) else {
+            return false;
+        };
+        first == second
     }
 }
