@@ -1,6 +1,7 @@
 -- The set of an entry.
-use Rattle.std.proofs.Common.{◌≡◌, ℕ, suc, ◌+◌, ◌<◌, Bool, true, false, List, [], ◌∷◌, ◌++◌, drop, length, Option, Result, Ok, Err, refl, sym, ap, subst, ◌∙◌, add-one, arith}
+use Rattle.std.proofs.Common.{◌≡◌, ℕ, zero, suc, ◌+◌, ◌<◌, Bool, true, false, List, [], ◌∷◌, ◌++◌, drop, length, get_or, Option, Some, None, Result, Ok, Err, refl, sym, ap, subst, ◌∙◌, add-one, length-append, arith}
 use Rattle.std.proofs.lemmas.Bool.Decides.{nat_tests}
+use Rattle.std.proofs.lemmas.Option.{slice_get-get_or}
 use Rattle.std.specs.List.{slice_get}
 use Rattle.abbrev_units.specs.declared.unit.Unit.{Unit}
 use Rattle.abbrev_units.specs.DebugSections.{DebugSections}
@@ -16,7 +17,7 @@ use Rattle.range_set.specs.Members.{holds_any}
 use Rattle.range_lists.specs.EntryRanges.{in_pairs, in_ranges, IsRanges, pairs_of, pairs_at}
 use Rattle.debug_read.specs.Each.{each_of, Match, Says}
 use Rattle.debug_read.specs.UnitsRead.{IsSet}
-use Rattle.debug_read.proofs.EachLemmas.{Going, going_more, going_ends, going_stops}
+use Rattle.debug_read.proofs.EachLemmas.{Going, going_begins, going_more, going_ends, going_stops}
 
 true_is_not_false : true ≡ false → ⊥
 true_is_not_false same = grind (arith, same)
@@ -43,25 +44,74 @@ abbrev pub Sets : DebugSections → Unit → RootFields → ℕ → List Range �
 Sets sections unit root base code dies i made =
     Going (IsSet code) (each_of (pairs_of sections unit root base) dies) (each_of (pairs_of sections unit root base) (drop i dies)) made
 
-pub sets_more : (sections : DebugSections) (unit : Unit) (root : RootFields) (base : ℕ) (code : List Range) (dies : List DieFields) (i : ℕ) (made more : List (List Range)) (set : List Range) → i < length dies → Sets sections unit root base code dies i made → Says (IsSet code) (pairs_at sections unit root base (slice_get dies i)) set → more ≡ made ++ set ∷ [] → Sets sections unit root base code dies (i + 1) more
-sets_more sections unit root base code dies i made more set inside going one is =
+-- the same, with the set of each entry by its number
+pub record SetsRead (sections : DebugSections) (unit : Unit) (root : RootFields) (base : ℕ) (code : List Range) (dies : List DieFields) (i : ℕ) (made : List (List Range)) : Type 0 where
+  pub going : Sets sections unit root base code dies i made
+  pub count : length made ≡ i
+  pub each : (k : ℕ) (set : List Range) → slice_get made k ≡ Some set → Says (IsSet code) (pairs_at sections unit root base (slice_get dies k)) set
+
+none_at : {A : Type 0} (made : List A) (k : ℕ) (x : A) → made ≡ [] → slice_get made k ≡ Some x → ⊥
+none_at made k x none there = let past : None ≡ Some x = ap (λ (m : List _). slice_get m k) (sym none) ∙ there in cc
+
+pub sets_none : (sections : DebugSections) (unit : Unit) (root : RootFields) (base : ℕ) (code : List Range) (dies : List DieFields) (i : ℕ) (made : List (List Range)) → i ≡ 0 → made ≡ [] → SetsRead sections unit root base code dies i made
+sets_none sections unit root base code dies i made start none =
+    subst (λ (n : ℕ). SetsRead sections unit root base code dies n made) (sym start)
+    (record {
+      going = going_begins (IsSet code) (each_of (pairs_of sections unit root base) dies) made none;
+      count = ap length none;
+      each = λ k set there. absurd (none_at made k set none there);
+    })
+
+some_same : {A : Type 0} {x y : A} → Some x ≡ Some y → x ≡ y
+some_same is = cc
+
+-- what holds of each, and of one more
+each_more : {A : Type 0} (P : ℕ → A → Type 0) (made : List A) (one : A) → ((k : ℕ) (x : A) → slice_get made k ≡ Some x → P k x) → P (length made) one → (k : ℕ) (x : A) → slice_get (made ++ one ∷ []) k ≡ Some x → P k x
+each_more P [] one each last zero x is = subst (P 0) (some_same is) last
+each_more P [] one each last (suc k) x is = absurd (cc)
+each_more P (m ∷ made) one each last zero x is = each zero x is
+each_more P (m ∷ made) one each last (suc k) x is =
+    each_more (λ n. P (suc n)) made one (λ n y there. each (suc n) y there) last k x is
+
+pub sets_more : (sections : DebugSections) (unit : Unit) (root : RootFields) (base : ℕ) (code : List Range) (dies : List DieFields) (i : ℕ) (made more : List (List Range)) (set : List Range) → i < length dies → SetsRead sections unit root base code dies i made → Says (IsSet code) (pairs_at sections unit root base (slice_get dies i)) set → more ≡ made ++ set ∷ [] → SetsRead sections unit root base code dies (i + 1) more
+sets_more sections unit root base code dies i made more set inside read one is =
     let gives = pairs_of sections unit root base in
-    subst (λ (n : ℕ). Sets sections unit root base code dies n more) (sym (add-one i))
-    (subst (λ (m : List (List Range)). Sets sections unit root base code dies (suc i) m) (sym is)
-    (going_more (IsSet code) gives dies i (each_of gives dies) made set inside going
-    (λ die there. subst (λ (o : Option DieFields). Says (IsSet code) (pairs_at sections unit root base o) set) there one)))
+    let says : ℕ → List Range → Type 0 = λ k set. Says (IsSet code) (pairs_at sections unit root base (slice_get dies k)) set in
+    subst (λ (n : ℕ). SetsRead sections unit root base code dies n more) (sym (add-one i))
+    (subst (λ (m : List (List Range)). SetsRead sections unit root base code dies (suc i) m) (sym is)
+    (record {
+      going = going_more (IsSet code) gives dies i (each_of gives dies) made set inside read.going
+          (λ die there. subst (λ (o : Option DieFields). Says (IsSet code) (pairs_at sections unit root base o) set) there one);
+      count = length-append made (set ∷ []) ∙ add-one (length made) ∙ ap suc read.count;
+      each = each_more says made set read.each (subst (λ (n : ℕ). says n set) (sym read.count) one);
+    }))
 
-pub sets_all : (sections : DebugSections) (unit : Unit) (root : RootFields) (base : ℕ) (code : List Range) (dies : List DieFields) (i : ℕ) (made : List (List Range)) → i ≡ length dies → Sets sections unit root base code dies i made → Says (Match (IsSet code)) (each_of (pairs_of sections unit root base) dies) made
-sets_all sections unit root base code dies i made end going = going_ends (IsSet code) (pairs_of sections unit root base) dies i (each_of (pairs_of sections unit root base) dies) made end going
+-- an entry that gives the pairs of an earlier one has its set
+says_again : (code : List Range) (given again : Result (List Range) (Located DwarfKind)) (set : List Range) → ((pairs : List Range) → given ≡ Ok pairs → again ≡ Ok pairs) → Says (IsSet code) given set → Says (IsSet code) again set
+says_again code (Ok pairs) again set same says = subst (λ (r : Result (List Range) (Located DwarfKind)). Says (IsSet code) r set) (sym (same pairs refl)) says
+says_again code (Err fault) again set same says = absurd says
 
-pub sets_stopped : (sections : DebugSections) (unit : Unit) (root : RootFields) (base : ℕ) (code : List Range) (dies : List DieFields) (i : ℕ) (made : List (List Range)) (stop : Stop (Located DwarfKind)) → i < length dies → Sets sections unit root base code dies i made
+pub sets_again : (sections : DebugSections) (unit : Unit) (root : RootFields) (base : ℕ) (code : List Range) (dies : List DieFields) (i : ℕ) (made more : List (List Range)) (earlier : ℕ) → i < length dies → SetsRead sections unit root base code dies i made → earlier < i
+    → ((pairs : List Range) → pairs_at sections unit root base (slice_get dies earlier) ≡ Ok pairs → pairs_at sections unit root base (slice_get dies i) ≡ Ok pairs)
+    → ((set : List Range) → slice_get made earlier ≡ Some set → more ≡ made ++ set ∷ [])
+    → SetsRead sections unit root base code dies (i + 1) more
+sets_again sections unit root base code dies i made more earlier inside read below same is =
+    let there : slice_get made earlier ≡ Some (get_or made earlier []) = slice_get-get_or made earlier [] (omega (arith, below, read.count)) in
+    sets_more sections unit root base code dies i made more (get_or made earlier []) inside read
+    (says_again code (pairs_at sections unit root base (slice_get dies earlier)) (pairs_at sections unit root base (slice_get dies i)) (get_or made earlier []) same (read.each earlier (get_or made earlier []) there))
+    (is (get_or made earlier []) there)
+
+pub sets_all : (sections : DebugSections) (unit : Unit) (root : RootFields) (base : ℕ) (code : List Range) (dies : List DieFields) (i : ℕ) (made : List (List Range)) → i ≡ length dies → SetsRead sections unit root base code dies i made → Says (Match (IsSet code)) (each_of (pairs_of sections unit root base) dies) made
+sets_all sections unit root base code dies i made end read = going_ends (IsSet code) (pairs_of sections unit root base) dies i (each_of (pairs_of sections unit root base) dies) made end read.going
+
+pub sets_stopped : (sections : DebugSections) (unit : Unit) (root : RootFields) (base : ℕ) (code : List Range) (dies : List DieFields) (i : ℕ) (made : List (List Range)) (stop : Stop (Located DwarfKind)) → i < length dies → SetsRead sections unit root base code dies i made
     → MatchStop {A = List Range} (Err stop) (λ set. Says (IsSet code) (pairs_at sections unit root base (slice_get dies i)) set) (λ fault. pairs_at sections unit root base (slice_get dies i) ≡ Err fault) (Prim.Unit {0})
     → MatchStop {A = List (List Range)} (Err stop) (λ sets. Says (Match (IsSet code)) (each_of (pairs_of sections unit root base) dies) sets) (λ fault. each_of (pairs_of sections unit root base) dies ≡ Err fault) (Prim.Unit {0})
-sets_stopped sections unit root base code dies i made (Fault fault) inside going is =
+sets_stopped sections unit root base code dies i made (Fault fault) inside read is =
     let gives = pairs_of sections unit root base in
-    going_stops (IsSet code) gives dies i (each_of gives dies) made fault inside going
+    going_stops (IsSet code) gives dies i (each_of gives dies) made fault inside read.going
     (λ die there. subst (λ (o : Option DieFields). pairs_at sections unit root base o ≡ Err fault) there is)
-sets_stopped sections unit root base code dies i made NoMemory inside going is = tt
+sets_stopped sections unit root base code dies i made NoMemory inside read is = tt
 
 -- ranges of code are asked for nothing but what they enclose
 same_answer : (code other pairs : List Range) (a : ℕ) → in_ranges code (Ok pairs) a ≡ in_ranges other (Ok pairs) a → in_pairs code pairs a ≡ in_pairs other pairs a

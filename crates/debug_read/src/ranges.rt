@@ -1,17 +1,20 @@
 //! The addresses of a unit's entries.
-ghost use Rattle.std.specs.Prelude.{◌≡◌, ◌<◌, ◌^◌, length, slice_get};
+ghost use Rattle.std.specs.Prelude.{◌≡◌, ◌<◌, ◌^◌, ℕ, true, List, length, slice_get, Some, Ok, IfOk, IfSome};
+ghost use Rattle.sym_edges.specs.Addresses.{Range};
 ghost use Rattle.sym_edges.specs.Outside.{MatchStop};
-ghost use Rattle.range_lists.specs.EntryRanges.{pairs_of, pairs_at};
+ghost use Rattle.range_lists.specs.EntryRanges.{pairs_of, pairs_at, listed_at};
 ghost use Rattle.debug_read.specs.Each.{each_of, Match, Says};
 ghost use Rattle.debug_read.specs.UnitsRead.{IsSet};
 
 use abbrev_units::{DwarfFault, Sections, Unit};
 use die_names::SpanSets;
 use die_walk::DieTable;
-use range_lists::ranges_of;
+use range_lists::laws::lists_at_one_place;
+use range_lists::{listed_at, ranges_of};
 use range_set::{Enclosing, RangeSet};
 use std::alloc::Global;
-use sym_edges::Stop;
+use std::collections::BTreeMap;
+use sym_edges::{OutOfMemory, Stop};
 
 /// The addresses of an entry, by its number in the table.
 #[tactic(auto, using(crate::proofs::SetLemmas::set_found, crate::proofs::SetLemmas::set_refused))]
@@ -39,7 +42,107 @@ fn read_set(
     }
 }
 
-/// The addresses of all entries, or the first fault, entry by entry.
+/// Where a list stands that was read, and the entry that it was read for.
+#[derive(Clone, Copy, Debug, PartialEq, Eq)]
+struct ListRead {
+    place: u32,
+    entry: u32,
+}
+
+/// The lists that were read: those that stood after all before them in the order of their places, and the others. What is found
+/// here is a guess, which counts only where the entry's list is seen to stand there.
+#[derive(Drop)]
+struct ListsRead {
+    rising: Vec<ListRead>,
+    others: BTreeMap<u32, u32>,
+}
+
+impl ListsRead {
+    fn new(alloc: Global) -> ListsRead {
+        ListsRead {
+            rising: Vec::new(alloc),
+            others: BTreeMap::new(alloc),
+        }
+    }
+
+    /// Whether a place is after all those that rise.
+    #[inline]
+    fn rises(&self, place: u32) -> bool {
+        match self.rising.last() {
+            Some(last) => last.place < place,
+            None => true,
+        }
+    }
+
+    /// The entry of a list that is not after all others.
+    fn find(&self, place: u32) -> Option<u32> {
+        if let Ok(k) = self.rising.binary_search_by_key(&place, |one| one.place) {
+            return Some(self.rising[k].entry);
+        }
+        match self.others.get(&place) {
+            Some(entry) => Some(*entry),
+            None => None,
+        }
+    }
+
+    /// The entry of the list at a place; where there is none, the list is that of this entry from now on.
+    fn find_or_add(&mut self, place: u32, entry: u32) -> Result<Option<u32>, OutOfMemory> {
+        if self.rises(place) {
+            self.rising.push(ListRead { place, entry })?;
+            return Ok(None);
+        }
+        if let Some(earlier) = self.find(place) {
+            return Ok(Some(earlier));
+        }
+        self.others.insert(place, entry)?;
+        Ok(None)
+    }
+}
+
+/// Whether the list of an entry stands at a place.
+fn is_listed_at(
+    sections: &Sections<'_>,
+    unit: &Unit,
+    table: &DieTable<'_>,
+    entry: u32,
+    place: u128,
+) -> bool
+    ensures { result ≡ true → listed_at sections.now unit.now table.now.root (slice_get table.now.dies entry) ≡ Some place }
+{
+    match listed_at(sections, unit, table, entry) {
+        Some(there) => there == place,
+        None => false,
+    }
+}
+
+/// An earlier entry whose list stands where this entry's does.
+fn find_earlier(
+    sections: &Sections<'_>,
+    unit: &Unit,
+    table: &DieTable<'_>,
+    entry: u32,
+    lists: &mut ListsRead,
+) -> Result<Option<u32>, OutOfMemory>
+    ensures below { IfOk result (λ found. IfSome found (λ earlier. earlier < entry)) }
+    ensures same { IfOk result (λ found. IfSome found (λ earlier. (base : ℕ) (pairs : List Range) → pairs_at sections.now unit.now table.now.root base (slice_get table.now.dies earlier) ≡ Ok pairs → pairs_at sections.now unit.now table.now.root base (slice_get table.now.dies entry) ≡ Ok pairs)) }
+{
+    let Some(place) = listed_at(sections, unit, table, entry) else {
+        return Ok(None);
+    };
+    if place > u128::from(u32::MAX) {
+        return Ok(None);
+    }
+    let Some(earlier) = lists.find_or_add(place as u32, entry)? else {
+        return Ok(None);
+    };
+    if earlier >= entry || !is_listed_at(sections, unit, table, earlier, place) {
+        return Ok(None);
+    }
+    lists_at_one_place();
+    Ok(Some(earlier))
+}
+
+/// The addresses of all entries, or the first fault, entry by entry. A list that several entries share is read once.
 pub fn read_sets(
     alloc: Global,
     sections: &Sections<'_>,
@@ -56,7 +159,12 @@ pub fn read_sets(
 {
     let count = table.dies().len();
     let mut sets = SpanSets::with_room(alloc, count)?;
+    let mut lists = ListsRead::new(alloc);
     'entries: for entry in 0..count {
+        if let Some(earlier) = find_earlier(sections, unit, table, entry as u32, &mut lists)? {
+            sets.push_again(earlier as usize)?;
+            continue;
+        }
         match read_set(alloc, sections, unit, table, entry as u32, base, code) {
             Ok(set) => sets.push(&set)?,
             Err(stop) => return Err(stop),
