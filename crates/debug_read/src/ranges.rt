@@ -43,7 +43,7 @@ fn read_set(
 }
 
 /// Where a list stands that was read, and the entry that it was read for.
-#[derive(Clone, Copy, Debug, PartialEq, Eq)]
+#[derive(Clone, Copy)]
 struct ListRead {
     place: u32,
     entry: u32,
