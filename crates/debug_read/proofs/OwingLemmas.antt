@@ -1,5 +1,5 @@
--- For src/owed_tables.rt and `read_unit_lines`: a line table has the same faults whichever unit names it.
-use Rattle.std.proofs.Common.{◌≡◌, ◌<◌, ◌≤◌, ℕ, zero, suc, nat_lt, Bool, true, false, cond, List, [], ◌∷◌, ◌++◌, drop, length, reverse, get_or, Option, None, Some, Result, Ok, Err, refl, sym, ap, subst, ◌∙◌, append_assoc, append-nil, arith}
+-- For src/named_tables.rt and src/owed_tables.rt: a line table has the same faults whichever unit names it.
+use Rattle.std.proofs.Common.{◌≡◌, ◌<◌, ◌≤◌, ℕ, nat_lt, Bool, true, false, cond, List, [], ◌∷◌, ◌++◌, drop, length, reverse, get_or, Option, None, Some, Result, Ok, Err, refl, sym, ap, subst, ◌∙◌, append_assoc, append-nil, arith}
 use Rattle.std.specs.List.{All}
 use Rattle.std.proofs.lemmas.Bool.{cond-false, le-ltb}
 use Rattle.std.proofs.lemmas.List.{reverse-append, reverse-reverse}
@@ -22,19 +22,21 @@ use Rattle.line_program.specs.HeaderFields.{HeaderFields}
 use Rattle.line_program.specs.FileTables.{Tables, tables_at}
 use Rattle.line_program.specs.Headers.{table_at}
 use Rattle.line_program.specs.LineAt.{Lines}
+use Rattle.range_set.specs.Enclosing.{encloses}
 use Rattle.line_program.specs.LineMaps.{LineMap}
 use Rattle.line_program.specs.LineRows.{State, line_rows}
 use Rattle.line_program.specs.LineTables.{lines_of, lines_at, unit_lines, Says as SaysTable}
 use Rattle.die_names.specs.declared.unit_read.UnitRead.{UnitRead}
 use Rattle.debug_read.specs.declared.owed_tables.UnitFound.{UnitFound}
 use Rattle.debug_read.specs.declared.owed_tables.TableOutcome.{TableOutcome}
-use Rattle.debug_read.specs.declared.owed_tables.TableRead.{TableRead}
-use Rattle.debug_read.specs.declared.owed_tables.TableRead.TheVariants.{Missing, Whole, Owed}
+use Rattle.debug_read.specs.declared.named_tables.TableRead.{TableRead}
+use Rattle.debug_read.specs.declared.named_tables.TableRead.TheVariants.{Whole}
 use Rattle.debug_read.specs.Each.{Match, Says}
-use Rattle.debug_read.specs.UnitSays.{lines_by, root_lines, unit_says}
-use Rattle.debug_read.specs.UnitsRead.{no_lines, KeepsLines, IsUnitRead}
+use Rattle.debug_read.specs.UnitSays.{lines_by, root_lines}
+use Rattle.debug_read.specs.UnitsRead.{no_lines, KeepsLines}
 use Rattle.debug_read.specs.internal.Jobs.{IsFound}
-use Rattle.debug_read.specs.internal.Owing.{IsOk, IsSound, OutcomeBy, IsOutcome, table_named, TableIs, ByTable, HoldsLines, HoldsUnit, IsOwing, TableSound, HasSound, Settles}
+use Rattle.debug_read.specs.internal.Owing.{IsOk, IsSound, OutcomeBy, IsOutcome, TableBy, table_named, TableIs, TableSays, LinesAre, IsOwing, Settles}
+use Rattle.debug_read.proofs.LineLemmas.{table_whole, table_refused}
 
 abbrev LineFault : Type 0
 LineFault = Located DwarfKind
@@ -137,17 +139,37 @@ table_sound sections code offset at comp_dir table says = sound_of sections offs
 pub table_ok : (sections : DebugSections) (code : ℕ → ℕ → Bool) (offset at : ℕ) (comp_dir : List ℕ) (table : LineMap) → SaysTable code (unit_lines sections offset at comp_dir) table → IsOk (unit_lines sections offset at comp_dir)
 table_ok sections code offset at comp_dir table says = says_ok code (unit_lines sections offset at comp_dir) table says
 
--- a table whose faults are looked for later
-owed_by : (spans : List Range) (read : Result Lines LineFault) (lines : LineMap) → lines ≡ no_lines → ByTable read (Says (KeepsLines spans false) (read >>= λ ls. Ok (Some ls)) lines) (λ fault. (read >>= λ ls. Ok (Some ls)) ≡ Err fault)
-owed_by spans (Ok ls) lines is = is
-owed_by spans (Err fault) lines is = refl
+-- a table inside the section is the same whichever unit with that compilation directory names it
+pub whole_by : (spans : List Range) (sections : DebugSections) (offset at other : ℕ) (comp_dir : List ℕ) (table kept : LineMap) → offset ≤ length sections.line → kept ≡ table → SaysTable (encloses spans) (unit_lines sections offset at comp_dir) table → SaysTable (encloses spans) (unit_lines sections offset other comp_dir) kept
+whole_by spans sections offset at other comp_dir table kept inside same says =
+    subst (λ (t : LineMap). SaysTable (encloses spans) (unit_lines sections offset other comp_dir) t) (sym same)
+    (subst (λ (r : Result Lines LineFault). SaysTable (encloses spans) r table) (inside_is sections offset at comp_dir inside ∙ sym (inside_is sections offset other comp_dir inside)) says)
 
-pub table_owed : (sections : DebugSections) (root : RootFields) (offset : ℕ) (spans : List Range) (asked : Bool) (lines : LineMap) → root.stmt_list ≡ Some offset → asked ≡ false → lines ≡ no_lines → HoldsLines spans sections root asked lines (Owed offset)
+-- of its table, a unit without a function keeps nothing
+unasked_by : (spans : List Range) (read : Result Lines LineFault) (lines : LineMap) → IsOk read → lines ≡ no_lines → Says (KeepsLines spans false) (read >>= λ ls. Ok (Some ls)) lines
+unasked_by spans (Ok ls) lines ok is = is
+unasked_by spans (Err fault) lines ok is = absurd ok
+
+pub unasked_lines : (sections : DebugSections) (root : RootFields) (offset : ℕ) (found : Option LineFault) (spans : List Range) (asked : Bool) (lines : LineMap) → root.stmt_list ≡ Some offset → asked ≡ false → TableIs (table_named sections root offset) found → found ≡ None → lines ≡ no_lines → Says (KeepsLines spans asked) (root_lines sections root) lines
 unfolding root_lines
-table_owed sections root offset spans asked lines there none is =
-    subst (λ (a : Bool). ByTable (table_named sections root offset) (Says (KeepsLines spans a) (lines_by sections root root.stmt_list) lines) (λ fault. lines_by sections root root.stmt_list ≡ Err fault)) (sym none)
-    (subst (λ (o : Option ℕ). ByTable (table_named sections root offset) (Says (KeepsLines spans false) (lines_by sections root o) lines) (λ fault. lines_by sections root o ≡ Err fault)) (sym there)
-    (owed_by spans (table_named sections root offset) lines is))
+unasked_lines sections root offset found spans asked lines there none fits sound is =
+    subst (λ (a : Bool). Says (KeepsLines spans a) (lines_by sections root root.stmt_list) lines) (sym none)
+    (subst (λ (o : Option ℕ). Says (KeepsLines spans false) (lines_by sections root o) lines) (sym there)
+    (unasked_by spans (table_named sections root offset) lines (subst (λ (f : Option LineFault). TableIs (table_named sections root offset) f) sound fits) is))
+
+pub unasked_fault : (sections : DebugSections) (root : RootFields) (offset : ℕ) (found : Option LineFault) (fault : LineFault) → root.stmt_list ≡ Some offset → TableIs (table_named sections root offset) found → found ≡ Some fault → root_lines sections root ≡ Err fault
+unasked_fault sections root offset found fault there fits is =
+    table_refused sections root offset fault there (subst (λ (f : Option LineFault). TableIs (table_named sections root offset) f) is fits)
+
+pub asked_lines : (sections : DebugSections) (root : RootFields) (offset : ℕ) (spans : List Range) (asked : Bool) (read : Result LineMap LineFault) → root.stmt_list ≡ Some offset → asked ≡ true → TableSays spans (table_named sections root offset) read → LinesAre spans sections root asked read
+asked_lines sections root offset spans asked (Ok table) there some says = table_whole sections root offset spans asked table there some says
+asked_lines sections root offset spans asked (Err fault) there some is = table_refused sections root offset fault there is
+
+-- the outcome of a table that was read
+pub whole_outcome : (code : List Range) (sections : DebugSections) (offset : ℕ) (comp_dir : List ℕ) (read : TableRead) (table : LineMap) → read ≡ Whole table → TableBy code sections offset comp_dir read → IsSound sections offset
+whole_outcome code sections offset comp_dir read table whole is =
+    table_sound sections (encloses code) offset 0 comp_dir table
+    (subst (λ (r : TableRead). TableBy code sections offset comp_dir r) whole is code 0 (λ start end. refl))
 
 pub outcome_is : (sections : DebugSections) (offset at : ℕ) (comp_dir : List ℕ) (fault : Option LineFault) → OutcomeBy sections offset fault → TableIs (unit_lines sections offset at comp_dir) fault
 outcome_is sections offset at comp_dir None is = is at comp_dir
@@ -158,76 +180,45 @@ pub outcome_at : (sections : DebugSections) (checked : List TableOutcome) (k off
 outcome_at sections checked k offset d inside all is =
     subst (λ (o : ℕ). OutcomeBy sections o (get_or checked k d).fault) is (All-get_or (IsOutcome sections) checked k d inside all)
 
-sound_one : (spans : List Range) (sections : DebugSections) (unit : Unit) (part : UnitRead) (table : TableRead) → HoldsUnit spans sections unit part table → TableSound sections table
-sound_one spans sections unit part Missing holds = tt
-sound_one spans sections unit part (Whole offset) holds = holds.1
-sound_one spans sections unit part (Owed offset) holds = tt
-
-sound_first : (spans : List Range) (sections : DebugSections) (unit : Unit) (one : Result UnitFound LineFault) → IsOwing spans sections unit one → HasSound sections one
-sound_first spans sections unit (Ok found) holds = sound_one spans sections unit found.part found.table holds
-sound_first spans sections unit (Err fault) holds = tt
-
-pub sound_all : (spans : List Range) (sections : DebugSections) (units : List Unit) (found : List (Result UnitFound LineFault)) → Match (IsOwing spans sections) units found → All (HasSound sections) found
-sound_all spans sections [] [] match k d inside = absurd (omega (arith, inside))
-sound_all spans sections [] (one ∷ found) match k d inside = absurd match
-sound_all spans sections (unit ∷ units) [] match k d inside = absurd match
-sound_all spans sections (unit ∷ units) (one ∷ found) match zero d inside = sound_first spans sections unit one match.0
-sound_all spans sections (unit ∷ units) (one ∷ found) match (suc k) d inside = sound_all spans sections units found match.1 k d (omega (arith, inside))
-
 -- settling
-abbrev pub out_of : UnitRead → Option LineFault → Result UnitRead LineFault
-out_of part None = Ok part
-out_of part (Some fault) = Err fault
+pub unit_settles : (spans : List Range) (sections : DebugSections) (found : UnitFound) (lines : LineMap) → Says (KeepsLines spans found.function) (root_lines sections found.die.root) lines → Settles spans sections (Ok found) (Ok (record { die = found.die; spans = found.spans; lines = lines }))
+unit_settles spans sections found lines keeps unit holds = holds.kept lines keeps
 
-settled_by : (spans : List Range) (sections : DebugSections) (unit : Unit) (part : UnitRead) (read : Result Lines LineFault) (fault : Option LineFault) → TableIs read fault → ByTable read (Says (IsUnitRead spans) (unit_says sections unit) part) (λ f. unit_says sections unit ≡ Err f) → IsFound spans sections unit (out_of part fault)
-settled_by spans sections unit part (Ok lines) None is holds = holds
-settled_by spans sections unit part (Err f) None is holds = absurd is
-settled_by spans sections unit part (Ok lines) (Some fault) is holds = absurd (grind (arith, is))
-settled_by spans sections unit part (Err f) (Some fault) is holds = holds ∙ ap Err (ap (fault_or f) is)
+pub unit_refused : (spans : List Range) (sections : DebugSections) (found : UnitFound) (fault : LineFault) → root_lines sections found.die.root ≡ Err fault → Settles spans sections (Ok found) (Err fault)
+unit_refused spans sections found fault is unit holds = holds.fault fault is
 
-pub owed_settles : (sections : DebugSections) (part : UnitRead) (offset : ℕ) (fault : Option LineFault) → TableIs (table_named sections part.die.root offset) fault → Settles sections (Ok (record { part = part; table = Owed offset })) (out_of part fault)
-owed_settles sections part offset fault is spans unit holds = settled_by spans sections unit part (table_named sections part.die.root offset) fault is holds
-
-pub fault_settles : (sections : DebugSections) (fault : LineFault) → Settles sections (Err fault) (Err fault)
-fault_settles sections fault spans unit holds = holds
-
-plain_by : (spans : List Range) (sections : DebugSections) (unit : Unit) (part : UnitRead) (table : TableRead) → ((offset : ℕ) → table ≡ Owed offset → ⊥) → HoldsUnit spans sections unit part table → Says (IsUnitRead spans) (unit_says sections unit) part
-plain_by spans sections unit part Missing not holds = holds
-plain_by spans sections unit part (Whole offset) not holds = holds.0
-plain_by spans sections unit part (Owed offset) not holds = absurd (not offset refl)
-
-pub plain_settles : (sections : DebugSections) (part : UnitRead) (table : TableRead) → ((offset : ℕ) → table ≡ Owed offset → ⊥) → Settles sections (Ok (record { part = part; table = table })) (Ok part)
-plain_settles sections part table not spans unit holds = plain_by spans sections unit part table not holds
+pub fault_settles : (spans : List Range) (sections : DebugSections) (fault : LineFault) → Settles spans sections (Err fault) (Err fault)
+fault_settles spans sections fault unit holds = holds
 
 -- all of them, from the end of the reversed list
-pub record Settling (sections : DebugSections) (found left : List (Result UnitFound LineFault)) (made : List (Result UnitRead LineFault)) : Type 0 where
-  pub rest : (later : List (Result UnitRead LineFault)) → Match (Settles sections) (reverse left) later → Match (Settles sections) found (made ++ later)
+pub record Settling (spans : List Range) (sections : DebugSections) (found left : List (Result UnitFound LineFault)) (made : List (Result UnitRead LineFault)) : Type 0 where
+  pub rest : (later : List (Result UnitRead LineFault)) → Match (Settles spans sections) (reverse left) later → Match (Settles spans sections) found (made ++ later)
 
-pub settling_begins : (sections : DebugSections) (found left : List (Result UnitFound LineFault)) (made : List (Result UnitRead LineFault)) → left ≡ reverse found → made ≡ [] → Settling sections found left made
-settling_begins sections found left made is none = record {
+pub settling_begins : (spans : List Range) (sections : DebugSections) (found left : List (Result UnitFound LineFault)) (made : List (Result UnitRead LineFault)) → left ≡ reverse found → made ≡ [] → Settling spans sections found left made
+settling_begins spans sections found left made is none = record {
   rest = λ later match.
-      subst (λ (m : List (Result UnitRead LineFault)). Match (Settles sections) found (m ++ later)) (sym none)
-      (subst (λ (l : List (Result UnitFound LineFault)). Match (Settles sections) l later) (ap reverse is ∙ reverse-reverse found) match);
+      subst (λ (m : List (Result UnitRead LineFault)). Match (Settles spans sections) found (m ++ later)) (sym none)
+      (subst (λ (l : List (Result UnitFound LineFault)). Match (Settles spans sections) l later) (ap reverse is ∙ reverse-reverse found) match);
 }
 
-pub settling_more : (sections : DebugSections) (found left less : List (Result UnitFound LineFault)) (made more : List (Result UnitRead LineFault)) (one : Result UnitFound LineFault) (out : Result UnitRead LineFault) → Settling sections found left made → left ≡ less ++ one ∷ [] → Settles sections one out → more ≡ made ++ out ∷ [] → Settling sections found less more
-settling_more sections found left less made more one out so_far is settles grown = record {
+pub settling_more : (spans : List Range) (sections : DebugSections) (found left less : List (Result UnitFound LineFault)) (made more : List (Result UnitRead LineFault)) (one : Result UnitFound LineFault) (out : Result UnitRead LineFault) → Settling spans sections found left made → left ≡ less ++ one ∷ [] → Settles spans sections one out → more ≡ made ++ out ∷ [] → Settling spans sections found less more
+settling_more spans sections found left less made more one out so_far is settles grown = record {
   rest = λ later match.
-      subst (λ (m : List (Result UnitRead LineFault)). Match (Settles sections) found m) (sym (ap (λ (m : List (Result UnitRead LineFault)). m ++ later) grown ∙ append_assoc made (out ∷ []) later))
+      subst (λ (m : List (Result UnitRead LineFault)). Match (Settles spans sections) found m) (sym (ap (λ (m : List (Result UnitRead LineFault)). m ++ later) grown ∙ append_assoc made (out ∷ []) later))
       (so_far.rest (out ∷ later)
-      (subst (λ (l : List (Result UnitFound LineFault)). Match (Settles sections) l (out ∷ later)) (sym (ap reverse is ∙ reverse-append less (one ∷ []))) (settles, match)));
+      (subst (λ (l : List (Result UnitFound LineFault)). Match (Settles spans sections) l (out ∷ later)) (sym (ap reverse is ∙ reverse-append less (one ∷ []))) (settles, match)));
 }
 
-pub settling_ends : (sections : DebugSections) (found left : List (Result UnitFound LineFault)) (made : List (Result UnitRead LineFault)) → Settling sections found left made → left ≡ [] → Match (Settles sections) found made
-settling_ends sections found left made so_far none =
-    subst (λ (m : List (Result UnitRead LineFault)). Match (Settles sections) found m) (append-nil made)
-    (so_far.rest [] (subst (λ (l : List (Result UnitFound LineFault)). Match (Settles sections) (reverse l) []) (sym none) tt))
+pub settling_ends : (spans : List Range) (sections : DebugSections) (found left : List (Result UnitFound LineFault)) (made : List (Result UnitRead LineFault)) → Settling spans sections found left made → left ≡ [] → Match (Settles spans sections) found made
+settling_ends spans sections found left made so_far none =
+    subst (λ (m : List (Result UnitRead LineFault)). Match (Settles spans sections) found m) (append-nil made)
+    (so_far.rest [] (subst (λ (l : List (Result UnitFound LineFault)). Match (Settles spans sections) (reverse l) []) (sym none) tt))
 
-pub settled_all : (spans : List Range) (sections : DebugSections) (units : List Unit) (found : List (Result UnitFound LineFault)) (settled : List (Result UnitRead LineFault)) → Match (IsOwing spans sections) units found → Match (Settles sections) found settled → Match (IsFound spans sections) units settled
+pub settled_all : (spans : List Range) (sections : DebugSections) (units : List Unit) (found : List (Result UnitFound LineFault)) (settled : List (Result UnitRead LineFault)) → Match (IsOwing spans sections) units found → Match (Settles spans sections) found settled → Match (IsFound spans sections) units settled
 settled_all spans sections [] [] [] owing settles = tt
 settled_all spans sections [] [] (out ∷ settled) owing settles = absurd settles
 settled_all spans sections [] (one ∷ found) settled owing settles = absurd owing
 settled_all spans sections (unit ∷ units) [] settled owing settles = absurd owing
 settled_all spans sections (unit ∷ units) (one ∷ found) [] owing settles = absurd settles
 settled_all spans sections (unit ∷ units) (one ∷ found) (out ∷ settled) owing settles =
-    (settles.0 spans unit owing.0, settled_all spans sections units found settled owing.1 settles.1)
+    (settles.0 unit owing.0, settled_all spans sections units found settled owing.1 settles.1)

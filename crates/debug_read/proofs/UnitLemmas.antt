@@ -21,9 +21,7 @@ use Rattle.die_walk.proofs.EntryPlaceLemmas.{places_rise}
 use Rattle.debug_read.specs.Each.{each_of, Match, Says}
 use Rattle.debug_read.specs.UnitSays.{UnitSays, root_lines, unit_says}
 use Rattle.debug_read.specs.UnitsRead.{IsSet, has_function, KeepsLines, IsUnitRead}
-use Rattle.debug_read.specs.declared.owed_tables.TableRead.{TableRead}
-use Rattle.debug_read.specs.declared.owed_tables.TableRead.TheVariants.{Missing, Whole, Owed}
-use Rattle.debug_read.specs.internal.Owing.{table_named, ByTable, HoldsLines, HoldsUnit}
+use Rattle.debug_read.specs.internal.Owing.{HoldsUnit}
 use Rattle.debug_read.proofs.EachLemmas.{says_first}
 use Rattle.debug_read.proofs.SetLemmas.{sets_alike, no_address}
 
@@ -80,7 +78,7 @@ unit_kept sections unit code spans abbrevs table base sets lines abbrevs_is tabl
     subst (λ (r : Result UnitSays Fault). Says (IsUnitRead spans) r (record { die = table; spans = sets; lines = lines })) (sym all)
     (says_pairs sections code spans table (each_of (pairs_of sections unit table.root base) table.dies) sets lines same match keeps)
 
--- a unit with its table
+-- a unit whose table is still to be read
 pairs_fault : (sections : DebugSections) (code : List Range) (table : EntryTable) (read : Result (List (List Range)) Fault) (sets : List (List Range)) (fault : Fault) → Says (Match (IsSet code)) read sets → root_lines sections table.root ≡ Err fault → (read >>= with_pairs sections table) ≡ Err fault
 pairs_fault sections code table (Ok pairs) sets fault match is = ap (λ (r : Result (Option Lines) Fault). r >>= with_lines table pairs) is
 pairs_fault sections code table (Err other) sets fault match is = absurd match
@@ -94,21 +92,15 @@ unit_fault sections unit code abbrevs table base sets fault abbrevs_is table_is 
     ∙ ap (λ (r : Result ℕ Fault). r >>= with_base sections unit table) (sym base_is)
     ∙ pairs_fault sections code table (each_of (pairs_of sections unit table.root base) table.dies) sets fault match is
 
-by_table : {A F : Type 0} {P R : Type 0} {Q S : F → Type 0} (read : Result A F) → ByTable read P Q → (P → R) → ((fault : F) → Q fault → S fault) → ByTable read R S
-by_table (Ok x) holds one two = one holds
-by_table (Err fault) holds one two = two fault holds
-
-pub unit_held : (sections : DebugSections) (unit : Unit) (code spans : List Range) (abbrevs : List Abbrev) (table : EntryTable) (base : ℕ) (sets : List (List Range)) (lines : LineMap) (named : TableRead) → abbrevs_of sections unit ≡ Ok abbrevs → entry_table sections unit abbrevs ≡ Ok table → Ok base ≡ unit_base sections table.root
+pub unit_held : (sections : DebugSections) (unit : Unit) (code spans : List Range) (abbrevs : List Abbrev) (table : EntryTable) (base : ℕ) (sets : List (List Range)) (function : Bool) → abbrevs_of sections unit ≡ Ok abbrevs → entry_table sections unit abbrevs ≡ Ok table → Ok base ≡ unit_base sections table.root
     → ((given : Result (List Range) Fault) (a : ℕ) → in_ranges code given a ≡ in_ranges spans given a)
-    → Says (Match (IsSet code)) (each_of (pairs_of sections unit table.root base) table.dies) sets → HoldsLines spans sections table.root (has_function table.dies) lines named → HoldsUnit spans sections unit (record { die = table; spans = sets; lines = lines }) named
-unit_held sections unit code spans abbrevs table base sets lines Missing abbrevs_is table_is base_is same match keeps =
-    unit_kept sections unit code spans abbrevs table base sets lines abbrevs_is table_is base_is same match keeps
-unit_held sections unit code spans abbrevs table base sets lines (Whole offset) abbrevs_is table_is base_is same match keeps =
-    (unit_kept sections unit code spans abbrevs table base sets lines abbrevs_is table_is base_is same match keeps.0, keeps.1)
-unit_held sections unit code spans abbrevs table base sets lines (Owed offset) abbrevs_is table_is base_is same match keeps =
-    by_table (table_named sections table.root offset) keeps
-    (λ kept. unit_kept sections unit code spans abbrevs table base sets lines abbrevs_is table_is base_is same match kept)
-    (λ fault is. unit_fault sections unit code abbrevs table base sets fault abbrevs_is table_is base_is match is)
+    → Says (Match (IsSet code)) (each_of (pairs_of sections unit table.root base) table.dies) sets → function ≡ has_function table.dies → HoldsUnit spans sections unit (record { die = table; spans = sets; function = function })
+unit_held sections unit code spans abbrevs table base sets function abbrevs_is table_is base_is same match told = record {
+  kept = λ lines keeps.
+      unit_kept sections unit code spans abbrevs table base sets lines abbrevs_is table_is base_is same match
+      (subst (λ (asked : Bool). Says (KeepsLines spans asked) (root_lines sections table.root) lines) told keeps);
+  fault = λ fault is. unit_fault sections unit code abbrevs table base sets fault abbrevs_is table_is base_is match is;
+}
 
 -- entries that do not count have no addresses
 plain_by : (spans set : List Range) (counted : Bool) (given : Result (List Range) Fault) → counted ≡ false → Says (IsSet spans) (cond counted given (Ok [])) set → set ≡ []

@@ -15,15 +15,16 @@
 //!
 //! A unit's line table is kept only where the unit has a function that is not merely declared, since lines are asked of
 //! the units of functions alone; the table of another unit is read for its faults, and the empty one stands in its place.
-//! A table's faults are the same whichever unit names it, so these tables are looked at after the units, each offset once,
-//! and not where a unit with a function kept the same.
+//! Line tables are read after the units, once for each offset and compilation directory, and all units that name a table share
+//! what was read. Its faults are the same whichever unit names it, so a table of which nothing is kept is looked at once for
+//! its offset, and not where one at that offset was read for a unit with a function.
 //!
 //! Each worker reads the units that it draws, one at a time, by a function of the file and the unit's number
-//! (`unit_workers`); what they found is then joined in the order of the units. All units are read, also after one that is
-//! refused. Abbreviations that several units name are read before, once.
+//! (`unit_workers`); what they found is then joined with the line tables in the order of the units. All units are read, also
+//! after one that is refused. Abbreviations that several units name are read before, once.
 //!
-//! To read: `specs/UnitSays.antt`, `UnitsRead.antt` and `DebugSays.antt`; then `units` with `shared_abbrevs`, `ranges` and `lines`,
-//! `owed_tables`, and `debug`.
+//! To read: `specs/UnitSays.antt`, `UnitsRead.antt` and `DebugSays.antt`; then `units` with `shared_abbrevs` and `ranges`; `lines`,
+//! `named_tables` and `owed_tables`; and `debug`.
 #![tactic(auto)]
 
 mod debug;
@@ -31,6 +32,7 @@ mod fault;
 mod found;
 pub mod laws;
 mod lines;
+mod named_tables;
 mod owed_tables;
 mod ranges;
 mod sections;

@@ -1,4 +1,4 @@
-//! The line table of a unit.
+//! The line table that a unit names, and whether lines are asked of the unit.
 ghost use Rattle.std.specs.Prelude.{◌≡◌, if◌then◌else◌, List, [], unwrap_or, Err};
 ghost use Rattle.std.specs.List.{list_any};
 ghost use Rattle.sym_edges.specs.Addresses.{Range};
@@ -6,13 +6,10 @@ ghost use Rattle.sym_edges.specs.Outside.{MatchStop};
 ghost use Rattle.range_set.specs.Enclosing.{encloses};
 ghost use Rattle.line_program.specs.LineMaps.{EncloseAlike};
 ghost use Rattle.line_program.specs.LineTables.{unit_lines, Says as SaysTable};
-ghost use Rattle.debug_read.specs.UnitSays.{root_lines};
 ghost use Rattle.debug_read.specs.UnitsRead.{has_function};
-ghost use Rattle.debug_read.specs.internal.Owing.{HoldsLines};
 
-use crate::owed_tables::TableRead;
 use abbrev_units::{DwarfFault, Sections};
-use die_walk::{DieList, DieTable, Root};
+use die_walk::{DieList, Root};
 use line_program::{LineTable, read_lines};
 use range_set::Enclosing;
 use std::alloc::Global;
@@ -20,7 +17,7 @@ use sym_edges::Stop;
 
 /// Whether one of the entries is a function.
 #[tactic(auto, using(crate::proofs::LineLemmas::function_here, crate::proofs::LineLemmas::function_later, crate::proofs::LineLemmas::no_function, crate::proofs::LineLemmas::function_lost))]
-fn has_function(dies: &DieList<'_>) -> bool
+pub fn has_function(dies: &DieList<'_>) -> bool
     ensures { result ≡ has_function dies.now }
 {
     'entries: for entry in 0..dies.len() {
@@ -35,7 +32,7 @@ fn has_function(dies: &DieList<'_>) -> bool
 }
 
 /// The directory of the compilation, or the empty text.
-fn comp_dir_of<'a>(root: &Root<'a>) -> &'a [u8]
+pub fn comp_dir_of<'a>(root: &Root<'a>) -> &'a [u8]
     ensures { result.now ≡ unwrap_or root.now.comp_dir [] }
 {
     match root.comp_dir {
@@ -65,46 +62,4 @@ pub fn read_table(
         comp_dir_of(root),
         code,
     )
-}
-
-/// The lines that are kept of a unit, and which table they come from.
-#[derive(Drop)]
-pub struct LinesFound {
-    pub lines: LineTable,
-    pub table: TableRead,
-}
-
-/// Reads the line table of a unit, where the unit has a function; the faults of another are still to be looked for.
-#[tactic(auto, using(crate::proofs::LineLemmas::no_table, crate::proofs::LineLemmas::table_refused))]
-pub fn read_unit_lines(
-    alloc: Global,
-    sections: &Sections<'_>,
-    table: &DieTable<'_>,
-    code: &Enclosing,
-) -> Result<LinesFound, Stop<DwarfFault>>
-    ensures { MatchStop result
-        (λ found. (spans : List Range) → EncloseAlike code.now spans → HoldsLines spans sections.now table.now.root (has_function table.now.dies) found.lines found.table)
-        (λ fault. root_lines sections.now table.now.root ≡ Err fault)
-        (Prim.Unit {0}) }
-{
-    let root = table.root();
-    let Some(offset) = root.stmt_list else {
-        return Ok(LinesFound {
-            lines: LineTable::empty(alloc),
-            table: TableRead::Missing,
-        });
-    };
-    if !has_function(table.dies()) {
-        return Ok(LinesFound {
-            lines: LineTable::empty(alloc),
-            table: TableRead::Owed(offset),
-        });
-    }
-    match read_table(alloc, sections, root, offset, code) {
-        Ok(lines) => Ok(LinesFound {
-            lines,
-            table: TableRead::Whole(offset),
-        }),
-        Err(stop) => Err(stop),
-    }
 }

@@ -13,7 +13,7 @@ ghost use Rattle.abbrev_units.specs.Abbreviations.{abbrevs_of};
 ghost use Rattle.debug_read.specs.internal.Owing.{HoldsUnit, IsOwing, ReaderGives};
 ghost use Rattle.abbrev_units.specs.Units.{units_in};
 
-use crate::lines::{LinesFound, read_unit_lines};
+use crate::lines::has_function;
 use crate::owed_tables::{UnitFound, settle_units};
 use crate::ranges::read_sets;
 use crate::shared_abbrevs::{SharedAbbrevs, read_shared, unit_at};
@@ -51,7 +51,7 @@ fn pick_read(alloc: Global, units: &[Unit]) -> Result<Vec<Unit>, OutOfMemory>
     Ok(read)
 }
 
-/// Reads a unit by its abbreviations: its entries, the base of its range lists, the ranges entry by entry, its line table.
+/// Reads a unit by its abbreviations, all but its line table: its entries, the base of its range lists, the ranges entry by entry.
 #[tactic(auto, unfolding(crate::specs::UnitSays::unit_says))]
 fn read_entries<'a>(
     alloc: Global,
@@ -64,7 +64,7 @@ fn read_entries<'a>(
     requires small { length sections.now.info ≤ 2 ^ 29 }
     requires abbrevs { abbrevs_of sections.now unit.now ≡ Ok abbrevs.now }
     ensures { MatchStop result
-        (λ found. (spans : List Range) → EncloseAlike code.now spans → HoldsUnit spans sections.now unit.now found.part found.table)
+        (λ found. (spans : List Range) → EncloseAlike code.now spans → HoldsUnit spans sections.now unit.now found)
         (λ fault. unit_says sections.now unit.now ≡ Err fault)
         (Prim.Unit {0}) }
 {
@@ -81,13 +81,11 @@ fn read_entries<'a>(
         Ok(spans) => spans,
         Err(stop) => return Err(stop),
     };
-    let LinesFound { lines, table } = match read_unit_lines(alloc, sections, &die, code) {
-        Ok(found) => found,
-        Err(stop) => return Err(stop),
-    };
+    let function = has_function(die.dies());
     Ok(UnitFound {
-        part: UnitRead { die, spans, lines },
-        table,
+        die,
+        spans,
+        function,
     })
 }
 
@@ -102,7 +100,7 @@ fn read_alone<'a>(
     requires inside { IsInside (length sections.now.info) unit.now }
     requires small { length sections.now.info ≤ 2 ^ 29 }
     ensures { MatchStop result
-        (λ found. (spans : List Range) → EncloseAlike code.now spans → HoldsUnit spans sections.now unit.now found.part found.table)
+        (λ found. (spans : List Range) → EncloseAlike code.now spans → HoldsUnit spans sections.now unit.now found)
         (λ fault. unit_says sections.now unit.now ≡ Err fault)
         (Prim.Unit {0}) }
 {
@@ -126,7 +124,7 @@ fn read_unit<'a>(
     requires small { length sections.now.info ≤ 2 ^ 29 }
     requires shared { Match (IsRead sections.now) shared.now.firsts shared.now.tables }
     ensures { MatchStop result
-        (λ found. (spans : List Range) → EncloseAlike code.now spans → HoldsUnit spans sections.now unit.now found.part found.table)
+        (λ found. (spans : List Range) → EncloseAlike code.now spans → HoldsUnit spans sections.now unit.now found)
         (λ fault. unit_says sections.now unit.now ≡ Err fault)
         (Prim.Unit {0}) }
 {

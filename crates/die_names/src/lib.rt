@@ -1,6 +1,7 @@
 //! The units of a file together, and the names of their entries (DWARF 5, 2.15 and 3.3.8).
 //!
-//! [`Units`] are what was read of each unit, in the order of their places: its entries, the addresses of each, its line table.
+//! [`Units`] are what was read of each unit, in the order of their places: its entries, the addresses of each, its line table,
+//! which units that name the same one share ([`SharedLines`]).
 //! The way of an entry is itself and the entries that at most 16 links lead to, by DW_AT_abstract_origin or else by
 //! DW_AT_specification, into any unit. Its name is the first linkage name on the way, or else the first name, after the names
 //! of the classes, structures, unions and namespaces around the entry that has it, joined by `::`; or else `<name omitted>`.
@@ -20,6 +21,7 @@ mod joined_name;
 mod kept;
 pub mod laws;
 mod name_source;
+mod shared_lines;
 mod span_sets;
 mod unit_read;
 
@@ -27,5 +29,6 @@ pub use crate::guesses::LinkGuesses;
 pub use crate::joined_name::{name_slice, name_text};
 pub use crate::kept::EntryNameText;
 pub use crate::name_source::{How, NameRef, name_by, name_of};
+pub use crate::shared_lines::SharedLines;
 pub use crate::span_sets::SpanSets;
 pub use crate::unit_read::{EntryRef, UnitRead, Units};

@@ -5,9 +5,9 @@ ghost use Rattle.std.specs.Option.{option_copied};
 ghost use Rattle.range_set.specs.Canonical.{IsCanonical};
 ghost use Rattle.die_names.specs.UnitEntries.{AreRead, die_in};
 
+use crate::shared_lines::SharedLines;
 use crate::span_sets::SpanSets;
 use die_walk::{Die, DieTable};
-use line_program::LineTable;
 use std::marker::Model;
 use sym_edges::Span;
 
@@ -23,7 +23,7 @@ pub struct EntryRef {
 pub struct UnitRead<'a> {
     pub die: DieTable<'a>,
     pub spans: SpanSets,
-    pub lines: LineTable,
+    pub lines: SharedLines,
 }
 
 impl<'a> UnitRead<'a> {

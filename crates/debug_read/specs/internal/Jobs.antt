@@ -26,6 +26,11 @@ pub record IsReader (reader : ReaderParts) : Type 0 where
   pub small : length reader.sections.info ≤ 2 ^ 29
   pub shared : Match (IsRead reader.sections) reader.shared.firsts reader.shared.tables
 
+-- line tables that are read by their numbers, of these sections, where ranges of these spans are code
+pub record NameParts : Type 0 where
+  pub sections : DebugSections
+  pub code : List Range
+
 -- a unit's result is what is kept of it, or its first fault
 abbrev pub IsFound : List Range → DebugSections → Unit → Result UnitRead (Located DwarfKind) → Type 0
 IsFound code sections unit (Ok part) = Says (IsUnitRead code) (unit_says sections unit) part

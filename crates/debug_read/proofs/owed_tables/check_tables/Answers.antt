@@ -11,4 +11,4 @@ returns g c =
     All-permutation (IsOutcome sections) c.add_outcomes.new.checked.items c.sort_unstable_by_key.new.self.items c.sort_unstable_by_key.ensures.permutation
     (c.in_ok-add_outcomes.ensures sections
     (subst (λ os. All (λ one. IfSome one (IsOutcome sections)) os) (sym c.as_slice-3.ensures.value) each)
-    (c.in_ok-checked.ensures sections c.requires.sound))
+    (c.in_ok-checked.ensures c.args.code.now sections c.requires.tables))

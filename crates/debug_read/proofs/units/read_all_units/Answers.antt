@@ -2,12 +2,8 @@ use Rattle.abbrev_units.specs.UnitPlaces.{read_units}
 use Rattle.die_names.proofs.ReadLemmas.{are_read}
 use Rattle.debug_read.proofs.UnitLemmas.{parts_are}
 use Rattle.debug_read.proofs.JobLemmas.{joined_all, joined_stop}
-use Rattle.debug_read.proofs.OwingLemmas.{sound_all, settled_all}
+use Rattle.debug_read.proofs.OwingLemmas.{settled_all}
 use Rattle.debug_read.proofs.units.read_all_units.Goals as goal
-
-pub settle_units-requires-clause-sound : goal.settle_units-requires-clause-sound
-settle_units-requires-clause-sound g c κs within =
-    sound_all c.args.code.now c.args.sections.now (read_units c.args.headers.now) c.in_ok-found.found.items c.in_ok-found.ensures
 
 pub of-requires : goal.of-requires
 of-requires g c =

@@ -1,3 +1,5 @@
+use Rattle.std.proofs.Common.{ap, ◌∙◌}
+use Rattle.debug_read.specs.UnitsRead.{has_function}
 use Rattle.debug_read.proofs.UnitLemmas.{few_dies, unit_held}
 use Rattle.debug_read.proofs.units.read_entries.Goals as goal
 
@@ -6,5 +8,5 @@ read_sets-requires c = few_dies c.args.sections.now c.args.unit.now c.args.abbre
 
 pub returns : goal.returns
 returns c = λ spans same.
-    unit_held c.args.sections.now c.args.unit.now c.args.code.now spans c.args.abbrevs.now c.in-Ok.die c.in-Ok-unit_base.base c.in-Ok-read_sets.spans c.in-Ok-read_unit_lines.found.lines c.in-Ok-read_unit_lines.found.table
-    c.requires.abbrevs c.in-Ok.ensures c.in-Ok-unit_base.ensures (c.code_by_what_it_encloses.ensures c.args.code.now spans same) c.in-Ok-read_sets.ensures (c.in-Ok-read_unit_lines.ensures spans same)
+    unit_held c.args.sections.now c.args.unit.now c.args.code.now spans c.args.abbrevs.now c.in-Ok.die c.in-Ok-unit_base.base c.in-Ok-read_sets.spans c.has_function-function.result
+    c.requires.abbrevs c.in-Ok.ensures c.in-Ok-unit_base.ensures (c.code_by_what_it_encloses.ensures c.args.code.now spans same) c.in-Ok-read_sets.ensures (c.has_function-function.ensures ∙ ap has_function c.dies.ensures)
