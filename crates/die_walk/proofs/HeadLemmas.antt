@@ -21,12 +21,12 @@ pub drop_past : (place : ℕ) (bytes : List ℕ) → length bytes < place → []
 drop_past place bytes past = sym (drop_of_length-le bytes (omega (arith, past)))
 
 -- what stands in a list stays where more is added
-get_before : {X : Type 0} (xs ys : List X) (n : ℕ) → n < length xs → slice_get (xs ++ ys) n ≡ slice_get xs n
+pub get_before : {X : Type 0} (xs ys : List X) (n : ℕ) → n < length xs → slice_get (xs ++ ys) n ≡ slice_get xs n
 get_before [] ys n there = absurd (omega arith)
 get_before (x ∷ xs) ys zero there = refl
 get_before (x ∷ xs) ys (suc n) there = get_before xs ys n (omega arith)
 
-get_last : {X : Type 0} (xs : List X) (x : X) → slice_get (xs ++ x ∷ []) (length xs) ≡ Some x
+pub get_last : {X : Type 0} (xs : List X) (x : X) → slice_get (xs ++ x ∷ []) (length xs) ≡ Some x
 get_last [] x = refl
 get_last (y ∷ xs) x = get_last xs x
 

@@ -1,5 +1,6 @@
 mod HeldLemmas
 mod HeadLemmas
+mod ScopeLemmas
 mod TakeLemmas
 mod PickLemmas
 mod StepLemmas

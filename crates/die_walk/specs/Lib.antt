@@ -4,6 +4,7 @@ pub mod Attributes
 pub mod EntryTable
 pub mod EntryPlaces
 pub mod EntryKinds
+pub mod Scopes
 pub mod Picking
 pub mod Steps
 pub mod internal

@@ -2,3 +2,4 @@
 pub mod Packing
 pub mod Sites
 pub mod Heads
+pub mod Near

@@ -24,6 +24,7 @@ mod packed;
 mod picks;
 mod quick;
 mod root;
+mod scopes;
 mod table;
 mod texts;
 mod walker;

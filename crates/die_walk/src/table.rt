@@ -4,11 +4,14 @@ ghost use Rattle.std.specs.List.{slice_get};
 ghost use Rattle.sym_edges.specs.Rising.{RisesFrom, StandBelow};
 ghost use Rattle.abbrev_units.specs.Faults.{Gives};
 ghost use Rattle.die_walk.specs.EntryTable.{DieFields, EntryTable, entries_ahead, entry_table};
+ghost use Rattle.die_walk.specs.Scopes.{scope_of};
 ghost use Rattle.die_walk.specs.Steps.{TableOf};
+ghost use Rattle.die_walk.specs.internal.Near.{AreNear};
 
 use crate::die::Die;
 use crate::heads::EntryList;
 use crate::root::Root;
+use crate::scopes::scope_of;
 use crate::walker::Walker;
 use abbrev_units::{Abbrevs, DwarfFault, Sections, Unit};
 use leb_cursor::Cursor;
@@ -16,19 +19,23 @@ use std::alloc::Global;
 use std::marker::Model;
 use sym_edges::{FILE_LIMIT, OutOfMemory, Stop};
 
-/// Kept entries in their order.
+/// Kept entries in their order, and where their tree is deep, the nearest scope around each.
 #[derive(Drop)]
 pub struct DieList<'a> {
     entries: EntryList<'a>,
+    near: Vec<Option<u32>>,
 }
 
 impl<'a> Model for DieList<'a> {
     ghost use Rattle.std.specs.Prelude.{List};
     ghost use Rattle.die_walk.specs.EntryTable.{DieFields};
+    ghost use Rattle.die_walk.specs.internal.Near.{AreNear};
 
     ghost Value = { List DieFields };
 
     ghost view = { λ l. l.entries.dies };
+
+    ghost invariant = { λ l. AreNear l.entries.dies l.near.items };
 }
 
 impl<'a> DieList<'a> {
@@ -55,6 +62,14 @@ impl<'a> DieList<'a> {
     {
         self.entries.count_before(place)
     }
+
+    /// The nearest class, structure, union or namespace around the entry of a number, in a few steps however deep the entry lies.
+    #[inline]
+    pub fn scope_around(&self, entry: usize) -> Option<u32>
+        ensures { result ≡ scope_of self.now entry }
+    {
+        scope_of(&self.entries, self.near.as_slice(), entry)
+    }
 }
 
 /// The root of a unit and its kept entries, of which the root is the first.
@@ -73,12 +88,14 @@ impl<'a> Model for DieTable<'a> {
 }
 
 impl<'a> DieTable<'a> {
-    pub(crate) fn of(root: Root<'a>, entries: EntryList<'a>) -> DieTable<'a>
+    /// A table of these entries, with a list of the nearest scopes around the first of them.
+    pub(crate) fn of(root: Root<'a>, entries: EntryList<'a>, near: Vec<Option<u32>>) -> DieTable<'a>
+        requires { AreNear entries.dies near.items }
         ensures { result ≡ record { root = root.entry; dies = entries.entry.dies } }
     {
         DieTable {
             root,
-            dies: DieList { entries },
+            dies: DieList { entries, near },
         }
     }
 
@@ -156,7 +173,7 @@ pub fn walk<'a>(
     let room = unit.end.saturating_sub(unit.body) / BYTES_A_KEPT_ENTRY;
     let mut walker = Walker::with_room(alloc, sections.strs, room as usize)?;
     match walk_all(sections, unit, abbrevs, &mut walker) {
-        Ok(()) => Ok(walker.into_table()),
+        Ok(()) => Ok(walker.into_table(alloc)?),
         Err(stop) => Err(stop),
     }
 }

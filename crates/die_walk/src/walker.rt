@@ -10,6 +10,7 @@ use crate::heads::EntryList;
 use crate::picks::{Picks, no_picks, read_picks};
 use crate::quick::{Quick, no_quick, read_quick};
 use crate::root::{Root, base_of, make_root};
+use crate::scopes::list_scopes;
 use crate::table::DieTable;
 use crate::whole::make_whole;
 use abbrev_units::{
@@ -19,6 +20,9 @@ use leb_cursor::Cursor;
 use std::alloc::Global;
 use std::marker::Model;
 use sym_edges::{Located, OutOfMemory, Sect, Stop};
+
+/// So many levels of a tree are walked up one by one.
+const SHALLOW: usize = 64;
 
 /// The kept entries so far, what the root said, and for each open list of children the number of the
 /// nearest kept entry around it.
@@ -117,13 +121,18 @@ impl<'a> Walker<'a> {
         self.begin(sections, unit, unit.body as u32, 0, &picks)
     }
 
-    /// The table that the walk made.
-    pub fn into_table(self) -> DieTable<'a>
-        ensures { result ≡ table_in self.entry }
+    /// The table that the walk made. The room for open lists of children has doubled as they were opened, so it says whether the tree is deep.
+    pub fn into_table(self, alloc: Global) -> Result<DieTable<'a>, OutOfMemory>
+        ensures { IfOk result (λ table. table ≡ table_in self.entry) }
     {
-        let Walker { mut dies, root, .. } = self;
+        let Walker {
+            mut dies,
+            root,
+            open_levels,
+        } = self;
         dies.shrink();
-        DieTable::of(root, dies)
+        let near = list_scopes(alloc, &dies, open_levels.capacity() > SHALLOW)?;
+        Ok(DieTable::of(root, dies, near))
     }
 
     /// Whether an entry is kept: by its tag, or since it is the first.

@@ -1,0 +1,82 @@
+//! The nearest scopes around entries.
+ghost use Rattle.std.specs.Prelude.{◌≡◌, [], IfOk};
+ghost use Rattle.die_walk.specs.Scopes.{scope_around, scope_of};
+ghost use Rattle.die_walk.specs.internal.Near.{AreNear};
+
+use crate::heads::EntryList;
+use std::alloc::Global;
+use sym_edges::OutOfMemory;
+
+/// The nearest scope around an entry with this parent. It goes from parent to parent up to a scope, or to an entry of which the list knows it.
+fn scope_from(
+    entries: &EntryList<'_>,
+    near: &[Option<u32>],
+    entry: usize,
+    parent: Option<u32>,
+) -> Option<u32>
+    requires { AreNear entries.now.dies near.now }
+    ensures { result ≡ scope_around entries.now.dies entry parent }
+{
+    let mut limit = entry;
+    let mut next = parent;
+    'around: loop {
+        let Some(number) = next else {
+            return None;
+        };
+        if number as usize >= limit {
+            return None;
+        }
+        let Some(die) = entries.get(number as usize) else {
+            return None;
+        };
+        if die.is_scope() {
+            return Some(number);
+        }
+        if let Some(known) = near.get(number as usize) {
+            return *known;
+        }
+        limit = number as usize;
+        next = die.parent();
+    }
+}
+
+/// The nearest scope around the entry of a number, with what a list knows of some of them.
+#[inline]
+#[tactic(auto, using(crate::proofs::ScopeLemmas::of_entry, crate::proofs::ScopeLemmas::of_none))]
+pub fn scope_of(entries: &EntryList<'_>, near: &[Option<u32>], entry: usize) -> Option<u32>
+    requires { AreNear entries.now.dies near.now }
+    ensures { result ≡ scope_of entries.now.dies entry }
+{
+    match entries.get(entry) {
+        Some(die) => scope_from(entries, near, entry, die.parent()),
+        None => None,
+    }
+}
+
+/// The nearest scope around each entry.
+#[tactic(auto, using(crate::proofs::ScopeLemmas::near_none, crate::proofs::ScopeLemmas::near_more))]
+fn all_scopes(alloc: Global, entries: &EntryList<'_>) -> Result<Vec<Option<u32>>, OutOfMemory>
+    ensures { IfOk result (λ near. AreNear entries.now.dies near.items) }
+{
+    let mut near = Vec::with_capacity(alloc, entries.len())?;
+    'entries: for entry in 0..entries.len() {
+        let scope = scope_of(entries, near.as_slice(), entry);
+        near.push(scope)?;
+    }
+    Ok(near)
+}
+
+/// The nearest scope around each entry where the tree is deep, and of none where the way up is short.
+#[tactic(auto, using(crate::proofs::ScopeLemmas::near_none))]
+pub fn list_scopes(
+    alloc: Global,
+    entries: &EntryList<'_>,
+    is_deep: bool,
+) -> Result<Vec<Option<u32>>, OutOfMemory>
+    ensures { IfOk result (λ near. AreNear entries.now.dies near.items) }
+{
+    if !is_deep {
+        return Ok(Vec::new(alloc));
+    }
+    all_scopes(alloc, entries)
+}
