@@ -1,89 +1,140 @@
--- The entries around one, and what they put in front of a name.
-use Rattle.std.proofs.Common.{◌≡◌, ◌<◌, ◌≤◌, ◌++◌, ◌||◌, ℕ, zero, suc, Bool, true, false, List, [], ◌∷◌, Option, None, Some, refl, sym, ap, subst, ◌∙◌, arith, ⊎_elim, append-nil}
-use Rattle.std.specs.List.{slice_get, list_any}
+-- The scopes around an entry, and what they put in front of a name.
+use Rattle.std.proofs.Common.{◌≡◌, ◌<◌, ◌++◌, ◌==◌, if◌then◌else◌, ℕ, zero, suc, Bool, true, false, List, [], ◌∷◌, Option, None, Some, option_and_then, refl, sym, ap, ◌∙◌, arith, append-nil}
+use Rattle.std.specs.List.{slice_get, filter}
 use Rattle.std.specs.Option.{option_map_or}
-use Rattle.std.proofs.lemmas.Bool.{cond-true, cond-false, eq-eqb, ne_eqb, cases_lt}
+use Rattle.std.proofs.lemmas.Bool.{cond-true, cond-false}
 use Rattle.std.proofs.lemmas.List.{append_assoc}
 use Rattle.die_walk.specs.EntryTable.{DieFields}
 use Rattle.die_walk.specs.EntryKinds.{is_scope}
-use Rattle.die_names.specs.Names.{around, scope_front, front_at, fronts}
-use Rattle.die_names.specs.internal.Gathering.{is_scope_at}
+use Rattle.die_walk.specs.Scopes.{scope_around, scope_of}
+use Rattle.die_names.specs.Names.{around, scope_front, front_at, fronts, front_in}
+use Rattle.die_names.specs.internal.Gathering.{is_scope_at, scopes_of}
 
-around_none : (dies : List DieFields) (limit : ℕ) → around dies limit None ≡ []
-unfolding around
-around_none dies zero = refl
-around_none dies (suc limit) = around_none dies limit
+-- the scopes among the entries around one
+abbrev pub scopes_in : List DieFields → ℕ → Option ℕ → List ℕ
+scopes_in dies limit parent = filter (is_scope_at dies) (around dies limit parent)
 
-around_past : (dies : List DieFields) (limit number : ℕ) → limit ≤ number → around dies limit (Some number) ≡ []
-unfolding around
-around_past dies zero number past = refl
-around_past dies (suc limit) number past = cond-false _ _ _ (ne_eqb _ _ (λ (e : number ≡ limit). absurd (omega arith))) ∙ around_past dies limit number (omega arith)
+-- a scope and the scopes around it
+abbrev pub hopped : List DieFields → Option ℕ → List ℕ
+hopped dies None = []
+hopped dies (Some number) = number ∷ scopes_of dies number
 
-around_step : (dies : List DieFields) (limit number : ℕ) (d : DieFields) → number < limit → slice_get dies number ≡ Some d → around dies limit (Some number) ≡ number ∷ around dies number d.parent
-unfolding around
-around_step dies zero number d below is = absurd (omega arith)
-around_step dies (suc limit) number d below is =
-    ⊎_elim
-    (λ less. cond-false _ _ _ (ne_eqb _ _ (λ (e : number ≡ limit). absurd (omega arith))) ∙ around_step dies limit number d less is)
-    (λ from.
-    let here : limit ≡ number = omega arith in
-    cond-true _ _ _ (eq-eqb _ _ (sym here))
-    ∙ subst (λ n. option_map_or (λ die. n ∷ around dies n die.parent) (slice_get dies n) [] ≡ number ∷ around dies number d.parent) (sym here)
-    (ap (λ o. option_map_or (λ die. number ∷ around dies number die.parent) o []) is))
-    (cases_lt number limit)
+abbrev is_parent : Option ℕ → ℕ → Bool
+is_parent parent number = option_map_or (λ p. p == number) parent false
 
-around_lost : (dies : List DieFields) (limit number : ℕ) → number < limit → slice_get dies number ≡ None → around dies limit (Some number) ≡ []
-unfolding around
-around_lost dies zero number below is = absurd (omega arith)
-around_lost dies (suc limit) number below is =
-    ⊎_elim
-    (λ less. cond-false _ _ _ (ne_eqb _ _ (λ (e : number ≡ limit). absurd (omega arith))) ∙ around_lost dies limit number less is)
-    (λ from.
-    let here : limit ≡ number = omega arith in
-    cond-true _ _ _ (eq-eqb _ _ (sym here))
-    ∙ subst (λ n. option_map_or (λ die. n ∷ around dies n die.parent) (slice_get dies n) [] ≡ []) (sym here)
-    (ap (λ o. option_map_or (λ die. number ∷ around dies number die.parent) o []) is))
-    (cases_lt number limit)
+abbrev from_here : List DieFields → ℕ → DieFields → Option ℕ
+from_here dies number die = if is_scope die then Some number else scope_around dies number die.parent
 
-pub gathered_lost : (dies : List DieFields) (done : List ℕ) (limit number : ℕ) (next : Option ℕ) (whole : List ℕ) → next ≡ Some number → number < limit → None ≡ slice_get dies number → done ++ around dies limit next ≡ whole → done ≡ whole
-gathered_lost dies done limit number next whole to below is rest =
-    sym (append-nil done) ∙ ap (λ l. done ++ l) (sym (around_lost dies limit number below (sym is))) ∙ ap (λ o. done ++ around dies limit o) (sym to) ∙ rest
+pub scopes_are : (dies : List DieFields) (entry : ℕ) (o : Option DieFields) → slice_get dies entry ≡ o → scopes_of dies entry ≡ option_map_or (λ (die : DieFields). scopes_in dies entry die.parent) o []
+unfolding scopes_of
+scopes_are dies entry o is = ap (λ (found : Option DieFields). option_map_or (λ (die : DieFields). scopes_in dies entry die.parent) found []) is
 
-pub gathered_more : (dies : List DieFields) (done added : List ℕ) (limit number : ℕ) (d : DieFields) (next after : Option ℕ) (whole : List ℕ) → next ≡ Some number → number < limit → Some d ≡ slice_get dies number → done ++ around dies limit next ≡ whole → added ≡ done ++ (number ∷ []) → after ≡ d.parent
-    → added ++ around dies number after ≡ whole
-gathered_more dies done added limit number d next after whole to below is rest adding going =
-    ap (λ l. l ++ around dies number after) adding ∙ ap (λ o. (done ++ (number ∷ [])) ++ around dies number o) going
-    ∙ append_assoc done (number ∷ []) (around dies number d.parent) ∙ ap (λ l. done ++ l) (sym (around_step dies limit number d below (sym is))) ∙ ap (λ o. done ++ around dies limit o) (sym to) ∙ rest
+by_kind : (dies : List DieFields) (number : ℕ) (d : DieFields) (scope : Bool) → slice_get dies number ≡ Some d → is_scope d ≡ scope
+    → ((parent : Option ℕ) → scopes_in dies number parent ≡ hopped dies (scope_around dies number parent))
+    → filter (is_scope_at dies) (number ∷ around dies number d.parent) ≡ hopped dies (from_here dies number d)
+by_kind dies number d true is says below =
+    cond-true _ _ _ (ap (λ (o : Option DieFields). option_map_or is_scope o false) is ∙ says)
+    ∙ ap (λ (outer : List ℕ). number ∷ outer) (sym (scopes_are dies number (Some d) is))
+    ∙ ap (hopped dies) (sym (cond-true _ _ _ says))
+by_kind dies number d false is says below =
+    cond-false _ _ _ (ap (λ (o : Option DieFields). option_map_or is_scope o false) is ∙ says)
+    ∙ below d.parent
+    ∙ ap (hopped dies) (sym (cond-false _ _ _ says))
 
-pub gathered_none : (dies : List DieFields) (done : List ℕ) (limit : ℕ) (next : Option ℕ) (whole : List ℕ) → next ≡ None → done ++ around dies limit next ≡ whole → done ≡ whole
-gathered_none dies done limit next whole to rest = sym (append-nil done) ∙ ap (λ l. done ++ l) (sym (around_none dies limit)) ∙ ap (λ o. done ++ around dies limit o) (sym to) ∙ rest
+by_entry : (dies : List DieFields) (number : ℕ) (o : Option DieFields) → slice_get dies number ≡ o
+    → ((parent : Option ℕ) → scopes_in dies number parent ≡ hopped dies (scope_around dies number parent))
+    → filter (is_scope_at dies) (option_map_or (λ (die : DieFields). number ∷ around dies number die.parent) o []) ≡ hopped dies (option_and_then (from_here dies number) o)
+by_entry dies number None is below = refl
+by_entry dies number (Some d) is below = by_kind dies number d (is_scope d) is refl below
 
-pub gathered_past : (dies : List DieFields) (done : List ℕ) (limit number : ℕ) (next : Option ℕ) (whole : List ℕ) → next ≡ Some number → limit ≤ number → done ++ around dies limit next ≡ whole → done ≡ whole
-gathered_past dies done limit number next whole to past rest = sym (append-nil done) ∙ ap (λ l. done ++ l) (sym (around_past dies limit number past)) ∙ ap (λ o. done ++ around dies limit o) (sym to) ∙ rest
+by_parent : (dies : List DieFields) (number : ℕ) (parent : Option ℕ) (here : Bool) → is_parent parent number ≡ here
+    → ((next : Option ℕ) → scopes_in dies number next ≡ hopped dies (scope_around dies number next))
+    → scopes_in dies (suc number) parent ≡ hopped dies (scope_around dies (suc number) parent)
+unfolding around scope_around
+by_parent dies number parent true is below =
+    ap (filter (is_scope_at dies)) (cond-true _ _ _ is) ∙ by_entry dies number (slice_get dies number) refl below ∙ ap (hopped dies) (sym (cond-true _ _ _ is))
+by_parent dies number parent false is below =
+    ap (filter (is_scope_at dies)) (cond-false _ _ _ is) ∙ below parent ∙ ap (hopped dies) (sym (cond-false _ _ _ is))
 
-abbrev any : List DieFields → ℕ → Option ℕ → Bool
-any dies limit parent = list_any (is_scope_at dies) (around dies limit parent)
+pub scopes_next : (dies : List DieFields) (limit : ℕ) (parent : Option ℕ) → scopes_in dies limit parent ≡ hopped dies (scope_around dies limit parent)
+unfolding around scope_around
+scopes_next dies zero parent = refl
+scopes_next dies (suc number) parent = by_parent dies number parent (is_parent parent number) refl (scopes_next dies number)
 
-any_step : (dies : List DieFields) (limit number : ℕ) (d : DieFields) (scope : Bool) → number < limit → slice_get dies number ≡ Some d → is_scope d ≡ scope → any dies limit (Some number) ≡ (scope || any dies number d.parent)
-any_step dies limit number d scope below is says =
-    ap (list_any (is_scope_at dies)) (around_step dies limit number d below is)
-    ∙ ap (λ o. option_map_or is_scope o false || any dies number d.parent) is
-    ∙ ap (λ b. b || any dies number d.parent) says
+hop_by : (dies : List DieFields) (entry : ℕ) (o : Option DieFields) → option_map_or (λ (die : DieFields). scopes_in dies entry die.parent) o [] ≡ hopped dies (option_and_then (λ (die : DieFields). scope_around dies entry die.parent) o)
+hop_by dies entry None = refl
+hop_by dies entry (Some d) = scopes_next dies entry d.parent
 
-pub any_found : (dies : List DieFields) (limit number : ℕ) (d : DieFields) (next : Option ℕ) (whole : Bool) → next ≡ Some number → number < limit → Some d ≡ slice_get dies number → is_scope d ≡ true → any dies limit next ≡ whole → true ≡ whole
-any_found dies limit number d next whole to below is says rest = sym (any_step dies limit number d true below (sym is) says) ∙ ap (any dies limit) (sym to) ∙ rest
+scopes_hop : (dies : List DieFields) (entry : ℕ) → scopes_of dies entry ≡ hopped dies (scope_of dies entry)
+scopes_hop dies entry = scopes_are dies entry (slice_get dies entry) refl ∙ hop_by dies entry (slice_get dies entry)
 
-pub any_more : (dies : List DieFields) (limit number : ℕ) (d : DieFields) (next after : Option ℕ) (whole : Bool) → next ≡ Some number → number < limit → Some d ≡ slice_get dies number → is_scope d ≡ false → any dies limit next ≡ whole → after ≡ d.parent → any dies number after ≡ whole
-any_more dies limit number d next after whole to below is says rest going = ap (any dies number) going ∙ sym (any_step dies limit number d false below (sym is) says) ∙ ap (any dies limit) (sym to) ∙ rest
+pub gathered_all : (dies : List DieFields) (done : List ℕ) (limit : ℕ) (whole : List ℕ) → None ≡ scope_of dies limit → done ++ scopes_of dies limit ≡ whole → done ≡ whole
+gathered_all dies done limit whole none rest =
+    sym (append-nil done) ∙ ap (λ (o : Option ℕ). done ++ hopped dies o) none ∙ ap (λ (l : List ℕ). done ++ l) (sym (scopes_hop dies limit)) ∙ rest
 
-pub any_none : (dies : List DieFields) (limit : ℕ) (next : Option ℕ) (whole : Bool) → next ≡ None → any dies limit next ≡ whole → false ≡ whole
-any_none dies limit next whole to rest = ap (list_any (is_scope_at dies)) (sym (around_none dies limit)) ∙ ap (any dies limit) (sym to) ∙ rest
+pub gathered_more : (dies : List DieFields) (done added : List ℕ) (limit number : ℕ) (whole : List ℕ) → Some number ≡ scope_of dies limit → done ++ scopes_of dies limit ≡ whole → added ≡ done ++ (number ∷ []) → added ++ scopes_of dies number ≡ whole
+gathered_more dies done added limit number whole to rest adding =
+    ap (λ (l : List ℕ). l ++ scopes_of dies number) adding
+    ∙ append_assoc done (number ∷ []) (scopes_of dies number)
+    ∙ ap (λ (o : Option ℕ). done ++ hopped dies o) to
+    ∙ ap (λ (l : List ℕ). done ++ l) (sym (scopes_hop dies limit)) ∙ rest
 
-pub any_past : (dies : List DieFields) (limit number : ℕ) (next : Option ℕ) (whole : Bool) → next ≡ Some number → limit ≤ number → any dies limit next ≡ whole → false ≡ whole
-any_past dies limit number next whole to past rest = ap (list_any (is_scope_at dies)) (sym (around_past dies limit number past)) ∙ ap (any dies limit) (sym to) ∙ rest
+-- a scope stands before what it is around
+before_by : (dies : List DieFields) (number found : ℕ) (d : DieFields) (scope : Bool) → is_scope d ≡ scope
+    → ((parent : Option ℕ) → scope_around dies number parent ≡ Some found → found < number)
+    → from_here dies number d ≡ Some found → found < suc number
+before_by dies number found d true says below is =
+    let same : Some number ≡ Some found = sym (cond-true _ _ _ says) ∙ is in
+    let equal : number ≡ found = cc in
+    omega (arith, equal)
+before_by dies number found d false says below is = omega (arith, below d.parent (sym (cond-false _ _ _ says) ∙ is))
 
-pub any_lost : (dies : List DieFields) (limit number : ℕ) (next : Option ℕ) (whole : Bool) → next ≡ Some number → number < limit → None ≡ slice_get dies number → any dies limit next ≡ whole → false ≡ whole
-any_lost dies limit number next whole to below is rest = ap (list_any (is_scope_at dies)) (sym (around_lost dies limit number below (sym is))) ∙ ap (any dies limit) (sym to) ∙ rest
+before_entry : (dies : List DieFields) (number found : ℕ) (o : Option DieFields)
+    → ((parent : Option ℕ) → scope_around dies number parent ≡ Some found → found < number)
+    → option_and_then (from_here dies number) o ≡ Some found → found < suc number
+before_entry dies number found None below is = absurd (cc)
+before_entry dies number found (Some d) below is = before_by dies number found d (is_scope d) refl below is
+
+before_parent : (dies : List DieFields) (number found : ℕ) (parent : Option ℕ) (here : Bool) → is_parent parent number ≡ here
+    → ((next : Option ℕ) → scope_around dies number next ≡ Some found → found < number)
+    → scope_around dies (suc number) parent ≡ Some found → found < suc number
+unfolding scope_around
+before_parent dies number found parent true says below is = before_entry dies number found (slice_get dies number) below (sym (cond-true _ _ _ says) ∙ is)
+before_parent dies number found parent false says below is = omega (arith, below parent (sym (cond-false _ _ _ says) ∙ is))
+
+none_before : (dies : List DieFields) (found : ℕ) (parent : Option ℕ) → scope_around dies zero parent ≡ Some found → found < zero
+unfolding scope_around
+none_before dies found parent is = absurd (cc)
+
+around_before : (dies : List DieFields) (limit found : ℕ) (parent : Option ℕ) → scope_around dies limit parent ≡ Some found → found < limit
+around_before dies zero found parent is = none_before dies found parent is
+around_before dies (suc number) found parent is = before_parent dies number found parent (is_parent parent number) refl (around_before dies number found) is
+
+before_of : (dies : List DieFields) (entry found : ℕ) (o : Option DieFields) → option_and_then (λ (die : DieFields). scope_around dies entry die.parent) o ≡ Some found → found < entry
+before_of dies entry found None is = absurd (cc)
+before_of dies entry found (Some d) is = around_before dies entry found d.parent is
+
+pub scope_before : (dies : List DieFields) (entry found : ℕ) → Some found ≡ scope_of dies entry → found < entry
+scope_before dies entry found is = before_of dies entry found (slice_get dies entry) (sym is)
+
+-- entries that are no scopes put nothing in front of a name
+bare_by : (die : Option DieFields) → option_map_or is_scope die false ≡ false → option_map_or scope_front die [] ≡ []
+unfolding scope_front
+bare_by None bare = refl
+bare_by (Some die) bare = cond-false _ _ _ bare
+
+kept_by : (dies : List DieFields) (number : ℕ) (outer : List ℕ) (scope : Bool) → is_scope_at dies number ≡ scope → fronts dies (filter (is_scope_at dies) outer) ≡ fronts dies outer
+    → fronts dies (filter (is_scope_at dies) (number ∷ outer)) ≡ fronts dies (number ∷ outer)
+kept_by dies number outer true is same = ap (fronts dies) (cond-true _ _ _ is) ∙ ap (λ (front : List ℕ). front ++ front_at dies number) same
+kept_by dies number outer false is same =
+    ap (fronts dies) (cond-false _ _ _ is) ∙ same ∙ sym (append-nil (fronts dies outer)) ∙ ap (λ (front : List ℕ). fronts dies outer ++ front) (sym (bare_by (slice_get dies number) is))
+
+fronts_kept : (dies : List DieFields) (numbers : List ℕ) → fronts dies (filter (is_scope_at dies) numbers) ≡ fronts dies numbers
+fronts_kept dies [] = refl
+fronts_kept dies (number ∷ outer) = kept_by dies number outer (is_scope_at dies number) refl (fronts_kept dies outer)
+
+pub fronts_of : (dies : List DieFields) (entry : ℕ) (d : DieFields) → Some d ≡ slice_get dies entry → fronts dies (scopes_of dies entry) ≡ front_in dies entry d.parent
+fronts_of dies entry d is = ap (fronts dies) (scopes_are dies entry (Some d) (sym is)) ∙ fronts_kept dies (around dies entry d.parent)
 
 fronts_last : (dies : List DieFields) (numbers : List ℕ) (k : ℕ) → fronts dies (numbers ++ (k ∷ [])) ≡ front_at dies k ++ fronts dies numbers
 fronts_last dies [] k = sym (append-nil (front_at dies k))

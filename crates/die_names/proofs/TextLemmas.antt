@@ -1,7 +1,7 @@
 -- The bytes of a name.
 use Rattle.std.proofs.Common.{◌≡◌, ◌++◌, ◌||◌, ℕ, Bool, true, false, true≢false, List, [], ◌∷◌, codes, Option, None, Some, unwrap_or, option_and_then, refl, sym, ap, ◌∙◌}
-use Rattle.std.specs.List.{slice_get, list_any}
-use Rattle.std.specs.Option.{option_map, option_map_or}
+use Rattle.std.specs.List.{slice_get, list_any, filter}
+use Rattle.std.specs.Option.{option_map, option_map_or, is_some}
 use Rattle.std.proofs.lemmas.Bool.{cond-true, cond-false}
 use Rattle.die_walk.specs.EntryTable.{DieFields}
 use Rattle.die_names.specs.declared.name_source.How.{How}
@@ -12,7 +12,9 @@ use Rattle.die_names.specs.UnitEntries.{Placed, entry_in, entry_of}
 use Rattle.die_walk.specs.EntryKinds.{is_scope}
 use Rattle.die_names.specs.Names.{around, scope_front, front_at, fronts, front_in, front_of, dies_of}
 use Rattle.die_names.specs.NameRefs.{bytes_by, name_bytes, unless_front, slice_by, name_slice}
-use Rattle.die_names.specs.internal.Gathering.{is_scope_at}
+use Rattle.die_walk.specs.Scopes.{scope_around, scope_of}
+use Rattle.die_names.specs.internal.Gathering.{is_scope_at, scopes_of}
+use Rattle.die_names.proofs.JoinLemmas.{hopped, scopes_next, fronts_of}
 
 abbrev omitted_text : List ℕ
 omitted_text = codes "<name omitted>"
@@ -43,6 +45,28 @@ fronts_full dies (n ∷ numbers) =
     full_append (fronts dies numbers) (front_at dies n)
     ∙ ap (λ b. b || is_full (fronts dies numbers)) (at_full (slice_get dies n))
     ∙ ap (λ b. is_scope_at dies n || b) (fronts_full dies numbers)
+
+-- a name has a front where there is a scope around its entry
+any_by : (test : ℕ → Bool) (x : ℕ) (xs : List ℕ) (passes : Bool) → test x ≡ passes → list_any test xs ≡ is_full (filter test xs) → list_any test (x ∷ xs) ≡ is_full (filter test (x ∷ xs))
+any_by test x xs true is same = ap (λ (b : Bool). b || list_any test xs) is ∙ ap is_full (sym (cond-true _ _ _ is))
+any_by test x xs false is same = ap (λ (b : Bool). b || list_any test xs) is ∙ same ∙ ap is_full (sym (cond-false _ _ _ is))
+
+any_kept : (test : ℕ → Bool) (xs : List ℕ) → list_any test xs ≡ is_full (filter test xs)
+any_kept test [] = refl
+any_kept test (x ∷ xs) = any_by test x xs (test x) refl (any_kept test xs)
+
+hopped_full : (dies : List DieFields) (scope : Option ℕ) → is_full (hopped dies scope) ≡ is_some scope
+hopped_full dies None = refl
+hopped_full dies (Some number) = refl
+
+front_full : (dies : List DieFields) (entry : ℕ) (die : DieFields) (scope : Option ℕ) → Some die ≡ slice_get dies entry → scope ≡ scope_of dies entry → is_full (front_in dies entry die.parent) ≡ is_some scope
+front_full dies entry die scope got is =
+    fronts_full dies (around dies entry die.parent)
+    ∙ any_kept (is_scope_at dies) (around dies entry die.parent)
+    ∙ ap is_full (scopes_next dies entry die.parent)
+    ∙ hopped_full dies (scope_around dies entry die.parent)
+    ∙ ap (λ (o : Option DieFields). is_some (option_and_then (λ (d : DieFields). scope_around dies entry d.parent) o)) got
+    ∙ ap is_some (sym is)
 
 unless_bare : (front : List ℕ) (name : Option (List ℕ)) → is_full front ≡ false → unless_front front name ≡ name
 unless_bare [] name bare = refl
@@ -93,17 +117,17 @@ pub slice_omitted : (units : List UnitRead) (name : NameRef) (part : UnitRead) (
 slice_omitted units name part die by is got = sym (slice_is units name part die Omitted by is got)
 
 pub slice_bare : (units : List UnitRead) (name : NameRef) (part : UnitRead) (die : DieFields) (text : Option (List ℕ)) → name.how ≡ Joined → Some part ≡ slice_get units name.unit → Some die ≡ slice_get part.die.dies name.entry
-    → list_any (is_scope_at part.die.dies) (around part.die.dies name.entry die.parent) ≡ false → text ≡ die.name → text ≡ name_slice units name
+    → None ≡ scope_of part.die.dies name.entry → text ≡ die.name → text ≡ name_slice units name
 slice_bare units name part die text by is got bare same =
     same
-    ∙ sym (unless_bare (front_in part.die.dies name.entry die.parent) die.name (fronts_full part.die.dies (around part.die.dies name.entry die.parent) ∙ bare))
+    ∙ sym (unless_bare (front_in part.die.dies name.entry die.parent) die.name (front_full part.die.dies name.entry die None got bare))
     ∙ ap (λ f. unless_front f die.name) (sym (front_is units name part die is))
     ∙ sym (slice_is units name part die Joined by is got)
 
-pub slice_scoped : (units : List UnitRead) (name : NameRef) (part : UnitRead) (die : DieFields) → name.how ≡ Joined → Some part ≡ slice_get units name.unit → Some die ≡ slice_get part.die.dies name.entry
-    → list_any (is_scope_at part.die.dies) (around part.die.dies name.entry die.parent) ≡ true → None ≡ name_slice units name
-slice_scoped units name part die by is got scoped =
-    sym (unless_full (front_in part.die.dies name.entry die.parent) die.name (fronts_full part.die.dies (around part.die.dies name.entry die.parent) ∙ scoped))
+pub slice_scoped : (units : List UnitRead) (name : NameRef) (part : UnitRead) (die : DieFields) (scope : ℕ) → name.how ≡ Joined → Some part ≡ slice_get units name.unit → Some die ≡ slice_get part.die.dies name.entry
+    → Some scope ≡ scope_of part.die.dies name.entry → None ≡ name_slice units name
+slice_scoped units name part die scope by is got scoped =
+    sym (unless_full (front_in part.die.dies name.entry die.parent) die.name (front_full part.die.dies name.entry die (Some scope) got scoped))
     ∙ ap (λ f. unless_front f die.name) (sym (front_is units name part die is))
     ∙ sym (slice_is units name part die Joined by is got)
 
@@ -136,9 +160,10 @@ text_is units name part die how by is got =
     ∙ ap (λ h. unwrap_or (bytes_by units h (placed name die)) omitted_text) by
 
 pub text_joined : (units : List UnitRead) (name : NameRef) (part : UnitRead) (die : DieFields) (text joined : List ℕ) → name.how ≡ Joined → Some part ≡ slice_get units name.unit → Some die ≡ slice_get part.die.dies name.entry
-    → Some text ≡ die.name → joined ≡ front_in part.die.dies name.entry die.parent ++ text → joined ≡ name_bytes units name
+    → Some text ≡ die.name → joined ≡ fronts part.die.dies (scopes_of part.die.dies name.entry) ++ text → joined ≡ name_bytes units name
 text_joined units name part die text joined by is got has same =
     same
+    ∙ ap (λ (front : List ℕ). front ++ text) (fronts_of part.die.dies name.entry die got)
     ∙ ap (λ f. f ++ text) (sym (front_is units name part die is))
     ∙ ap (λ o. unwrap_or (option_map (λ n. front_of units (placed name die) ++ n) o) omitted_text) has
     ∙ sym (text_is units name part die Joined by is got)

@@ -3,10 +3,10 @@ ghost use Rattle.std.specs.Prelude.{◌≡◌, ◌++◌, ◌≤◌, ◌<◌, len
 ghost use Rattle.std.specs.Option.{option_copied};
 ghost use Rattle.clean_names.specs.Cleaning.{cleaned};
 ghost use Rattle.die_walk.specs.EntryTable.{DieFields};
-ghost use Rattle.std.specs.List.{slice_get, list_any};
-ghost use Rattle.die_names.specs.Names.{around, scope_front, front_in};
+ghost use Rattle.std.specs.List.{slice_get};
+ghost use Rattle.die_names.specs.Names.{scope_front, fronts};
 ghost use Rattle.die_names.specs.NameRefs.{name_bytes, name_slice};
-ghost use Rattle.die_names.specs.internal.Gathering.{is_scope_at};
+ghost use Rattle.die_names.specs.internal.Gathering.{scopes_of};
 
 use crate::kept::{EntryNameText, whole_name};
 use crate::name_source::{How, NameRef};
@@ -36,57 +36,18 @@ fn add_front(text: &mut Vec<u8>, die: &Die<'_, '_>) -> Result<(), OutOfMemory>
     Ok(())
 }
 
-/// The numbers of the entries around one, the innermost first.
-#[tactic(auto, using(crate::proofs::JoinLemmas::gathered_more, crate::proofs::JoinLemmas::gathered_none, crate::proofs::JoinLemmas::gathered_past, crate::proofs::JoinLemmas::gathered_lost))]
-fn numbers_around(
-    alloc: Global,
-    dies: &DieList<'_>,
-    entry: usize,
-    parent: Option<u32>,
-) -> Result<Vec<u32>, OutOfMemory>
-    ensures { IfOk result (λ v. v.items ≡ around dies.now entry parent) }
+/// The numbers of the scopes around the entry of a number, the innermost first.
+fn scopes_around(alloc: Global, dies: &DieList<'_>, entry: usize) -> Result<Vec<u32>, OutOfMemory>
+    ensures { IfOk result (λ v. v.items ≡ scopes_of dies.now entry) }
 {
     let mut numbers = Vec::new(alloc);
     let mut limit = entry;
-    let mut next = parent;
     'around: loop {
-        let Some(number) = next else {
-            return Ok(numbers);
-        };
-        if number as usize >= limit {
-            return Ok(numbers);
-        }
-        let Some(die) = entry_in(dies, number as usize) else {
+        let Some(number) = dies.scope_around(limit) else {
             return Ok(numbers);
         };
         numbers.push(number)?;
         limit = number as usize;
-        next = die.parent();
-    }
-}
-
-/// Whether one of the entries around one is a scope.
-#[tactic(auto, using(crate::proofs::JoinLemmas::any_found, crate::proofs::JoinLemmas::any_more, crate::proofs::JoinLemmas::any_none, crate::proofs::JoinLemmas::any_past, crate::proofs::JoinLemmas::any_lost))]
-fn has_scope(dies: &DieList<'_>, entry: usize, parent: Option<u32>) -> bool
-    ensures { result ≡ list_any (is_scope_at dies.now) (around dies.now entry parent) }
-{
-    let mut limit = entry;
-    let mut next = parent;
-    'around: loop {
-        let Some(number) = next else {
-            return false;
-        };
-        if number as usize >= limit {
-            return false;
-        }
-        let Some(die) = entry_in(dies, number as usize) else {
-            return false;
-        };
-        if die.is_scope() {
-            return true;
-        }
-        limit = number as usize;
-        next = die.parent();
     }
 }
 
@@ -96,12 +57,11 @@ fn join(
     alloc: Global,
     dies: &DieList<'_>,
     entry: usize,
-    parent: Option<u32>,
     name: &[u8],
 ) -> Result<Vec<u8>, OutOfMemory>
-    ensures { IfOk result (λ v. v.items ≡ front_in dies.now entry parent ++ name.now) }
+    ensures { IfOk result (λ v. v.items ≡ fronts dies.now (scopes_of dies.now entry) ++ name.now) }
 {
-    let mut numbers = numbers_around(alloc, dies, entry, parent)?;
+    let mut numbers = scopes_around(alloc, dies, entry)?;
     let mut text = Vec::new(alloc);
     'scopes: while let Some(number) = numbers.pop() {
         if let Some(die) = entry_in(dies, number as usize) {
@@ -127,13 +87,10 @@ pub fn name_slice<'a>(units: &Units<'a>, name: NameRef) -> Option<&'a [u8]>
     };
     match name.how {
         How::Linkage => die.linkage(),
-        How::Joined => {
-            if has_scope(dies, name.entry as usize, die.parent()) {
-                None
-            } else {
-                die.name()
-            }
-        }
+        How::Joined => match dies.scope_around(name.entry as usize) {
+            Some(_) => None,
+            None => die.name(),
+        },
         How::Omitted => None,
     }
 }
@@ -156,7 +113,7 @@ fn made_text(alloc: Global, units: &Units<'_>, name: NameRef) -> Result<ByteRun,
     match name.how {
         How::Joined => match die.name() {
             Some(text) => {
-                let joined = join(alloc, dies, name.entry as usize, die.parent(), text)?;
+                let joined = join(alloc, dies, name.entry as usize, text)?;
                 clean(alloc, joined.as_slice())
             }
             None => clean(alloc, b"<name omitted>"),

@@ -1,7 +1,8 @@
 use Rattle.std.proofs.Common.{◌≡◌, ◌++◌, ℕ, List, IfOk, subst, ap, ◌∙◌}
 use Rattle.std.specs.List.{slice_get}
 use Rattle.clean_names.specs.Cleaning.{cleaned}
-use Rattle.die_names.specs.Names.{front_in}
+use Rattle.die_names.specs.Names.{fronts}
+use Rattle.die_names.specs.internal.Gathering.{scopes_of}
 use Rattle.die_names.proofs.TextLemmas.{text_joined, text_no_name, text_no_linkage, text_omitted}
 use Rattle.die_names.proofs.joined_name.made_text.Goals as goal
 
@@ -12,8 +13,7 @@ returns-in_ok-joined-in-Some-name c =
     ∙ text_joined c.args.units.now c.args.name c.in-Some-unit.part.now c.in-Some-entry_in.die c.in-Some-name.text.now _ c.in-Joined.is c.in-Some-unit.ensures
     (c.in-Some-entry_in.ensures ∙ ap (λ ds. slice_get ds c.args.name.entry) c.dies-dies.ensures) c.in-Some-name.ensures
     (c.in_ok-joined-in-Some-name.ensures
-    ∙ ap (λ ds. front_in ds c.args.name.entry c.parent.result ++ c.in-Some-name.text.now) c.dies-dies.ensures
-    ∙ ap (λ p. front_in c.in-Some-unit.part.now.die.dies c.args.name.entry p ++ c.in-Some-name.text.now) c.parent.ensures))
+    ∙ ap (λ ds. fronts ds (scopes_of ds c.args.name.entry) ++ c.in-Some-name.text.now) c.dies-dies.ensures))
     c.clean-in-Some-name.ensures.cleaned
 
 pub returns-in-None : goal.returns-in-None
