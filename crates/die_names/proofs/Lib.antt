@@ -3,6 +3,7 @@ mod AmongLemmas
 mod FollowLemmas
 mod NameLemmas
 mod JoinLemmas
+mod CutLemmas
 mod SetLemmas
 pub mod TextLemmas
 pub mod Computing

@@ -1,5 +1,5 @@
 //! The text of a name.
-ghost use Rattle.std.specs.Prelude.{◌≡◌, ◌++◌, ◌≤◌, ◌<◌, length, IfOk, OnOk};
+ghost use Rattle.std.specs.Prelude.{◌≡◌, ℕ, List, true, ◌++◌, ◌≤◌, ◌<◌, length, IfOk, OnOk};
 ghost use Rattle.std.specs.Option.{option_copied};
 ghost use Rattle.clean_names.specs.Cleaning.{cleaned};
 ghost use Rattle.die_walk.specs.EntryTable.{DieFields};
@@ -51,19 +51,52 @@ fn scopes_around(alloc: Global, dies: &DieList<'_>, entry: usize) -> Result<Vec<
     }
 }
 
-/// A name after the names of its scopes.
-#[tactic(auto, using(crate::proofs::JoinLemmas::fronts_more))]
+/// A name has at most so many bytes.
+const NAME_LIMIT: usize = 65_536;
+
+/// The first place from this one on where no space stands, or the end.
+fn past_spaces(text: &[u8], from: usize) -> usize
+    ensures { from ≤ result }
+{
+    let mut place = from;
+    'spaces: while place < text.len() && text[place] == b' ' {
+        place += 1;
+    }
+    place
+}
+
+/// Whether a name keeps nothing of what follows these bytes: at this place stands no space, and so many bytes that the name is cut.
+#[tactic(auto, using(crate::proofs::CutLemmas::cleaned_cut))]
+fn is_full(text: &[u8], place: usize) -> bool
+    ensures { result ≡ true → (more : List ℕ) → cleaned (text.now ++ more) ≡ cleaned text.now }
+{
+    if place >= text.len() {
+        return false;
+    }
+    if text[place] == b' ' {
+        return false;
+    }
+    text.len() - place >= NAME_LIMIT
+}
+
+/// A name after the names of its scopes, as far as cleaning keeps them.
+#[tactic(auto, using(crate::proofs::JoinLemmas::fronts_more, crate::proofs::CutLemmas::cut_whole, crate::proofs::CutLemmas::uncut))]
 fn join(
     alloc: Global,
     dies: &DieList<'_>,
     entry: usize,
     name: &[u8],
 ) -> Result<Vec<u8>, OutOfMemory>
-    ensures { IfOk result (λ v. v.items ≡ fronts dies.now (scopes_of dies.now entry) ++ name.now) }
+    ensures { IfOk result (λ v. cleaned v.items ≡ cleaned (fronts dies.now (scopes_of dies.now entry) ++ name.now)) }
 {
     let mut numbers = scopes_around(alloc, dies, entry)?;
     let mut text = Vec::new(alloc);
+    let mut first = 0;
     'scopes: while let Some(number) = numbers.pop() {
+        first = past_spaces(text.as_slice(), first);
+        if is_full(text.as_slice(), first) {
+            return Ok(text);
+        }
         if let Some(die) = entry_in(dies, number as usize) {
             add_front(&mut text, &die)?;
         }

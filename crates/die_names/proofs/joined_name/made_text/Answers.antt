@@ -1,4 +1,4 @@
-use Rattle.std.proofs.Common.{◌≡◌, ◌++◌, ℕ, List, IfOk, subst, ap, ◌∙◌}
+use Rattle.std.proofs.Common.{◌≡◌, ◌++◌, ℕ, List, IfOk, subst, refl, ap, ◌∙◌}
 use Rattle.std.specs.List.{slice_get}
 use Rattle.clean_names.specs.Cleaning.{cleaned}
 use Rattle.die_names.specs.Names.{fronts}
@@ -8,12 +8,12 @@ use Rattle.die_names.proofs.joined_name.made_text.Goals as goal
 
 pub returns-in_ok-joined-in-Some-name : goal.returns-in_ok-joined-in-Some-name
 returns-in_ok-joined-in-Some-name c =
-    subst (λ (b : List ℕ). IfOk c.clean-in-Some-name.result (λ t. t ≡ cleaned b))
-    (c.as_slice.ensures.value
-    ∙ text_joined c.args.units.now c.args.name c.in-Some-unit.part.now c.in-Some-entry_in.die c.in-Some-name.text.now _ c.in-Joined.is c.in-Some-unit.ensures
-    (c.in-Some-entry_in.ensures ∙ ap (λ ds. slice_get ds c.args.name.entry) c.dies-dies.ensures) c.in-Some-name.ensures
-    (c.in_ok-joined-in-Some-name.ensures
-    ∙ ap (λ ds. fronts ds (scopes_of ds c.args.name.entry) ++ c.in-Some-name.text.now) c.dies-dies.ensures))
+    subst (λ (b : List ℕ). IfOk c.clean-in-Some-name.result (λ t. t ≡ b))
+    (ap cleaned c.as_slice.ensures.value
+    ∙ c.in_ok-joined-in-Some-name.ensures
+    ∙ ap (λ ds. cleaned (fronts ds (scopes_of ds c.args.name.entry) ++ c.in-Some-name.text.now)) c.dies-dies.ensures
+    ∙ ap cleaned (text_joined c.args.units.now c.args.name c.in-Some-unit.part.now c.in-Some-entry_in.die c.in-Some-name.text.now _ c.in-Joined.is c.in-Some-unit.ensures
+    (c.in-Some-entry_in.ensures ∙ ap (λ ds. slice_get ds c.args.name.entry) c.dies-dies.ensures) c.in-Some-name.ensures refl))
     c.clean-in-Some-name.ensures.cleaned
 
 pub returns-in-None : goal.returns-in-None
