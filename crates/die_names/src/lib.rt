@@ -28,7 +28,7 @@ mod unit_read;
 pub use crate::guesses::LinkGuesses;
 pub use crate::joined_name::{name_slice, name_text};
 pub use crate::kept::EntryNameText;
-pub use crate::name_source::{How, NameRef, name_by, name_of};
+pub use crate::name_source::{How, NameRef, is_same_ref, name_by, name_of};
 pub use crate::shared_lines::SharedLines;
 pub use crate::span_sets::SpanSets;
 pub use crate::unit_read::{EntryRef, UnitRead, Units};

@@ -1,5 +1,5 @@
 //! Which entry gives a name.
-ghost use Rattle.std.specs.Prelude.{◌≡◌, if◌then◌else◌};
+ghost use Rattle.std.specs.Prelude.{◌≡◌, true, if◌then◌else◌};
 ghost use Rattle.clean_names.specs.Cleaning.{cleaned};
 ghost use Rattle.die_names.specs.UnitEntries.{entry_of};
 ghost use Rattle.die_names.specs.Names.{way, entry_name, linked_from};
@@ -29,6 +29,24 @@ pub struct NameRef {
     pub unit: u32,
     pub entry: u32,
     pub how: How,
+}
+
+/// Whether both give a name in the same way.
+fn gives_alike(one: How, other: How) -> bool
+    ensures { result ≡ true → one ≡ other }
+{
+    match one {
+        How::Linkage => matches!(other, How::Linkage),
+        How::Joined => matches!(other, How::Joined),
+        How::Omitted => matches!(other, How::Omitted),
+    }
+}
+
+/// Whether both are one entry, which gives a name in the same way: then they are one name. Two that are not may still have one text.
+pub fn is_same_ref(one: NameRef, other: NameRef) -> bool
+    ensures { result ≡ true → one ≡ other }
+{
+    one.unit == other.unit && (one.entry == other.entry && gives_alike(one.how, other.how))
 }
 
 /// So many links are followed.

@@ -4,7 +4,7 @@ use Rattle.std.proofs.lemmas.Bool.Decides.{nat_tests}
 use Rattle.std.proofs.lemmas.List.Edits.{map_over_more}
 use Rattle.std.proofs.lemmas.Map.Views.{any-filter_same}
 use Rattle.std.proofs.lemmas.Slice.Eq.{bytes_eq-Decides}
-use Rattle.std.specs.List.{find, filter, list_any, slice_get}
+use Rattle.std.specs.List.{find, filter, list_any}
 use Rattle.std.specs.Option.{option_map, option_map_or}
 use Rattle.std.specs.Str.{bytes_eq}
 use Rattle.sym_edges.specs.Addresses.{Range}
@@ -23,28 +23,25 @@ use Rattle.die_names.specs.Owners.{Covering}
 use Rattle.die_names.specs.declared.unit_read.EntryRef.{EntryRef}
 use Rattle.func_flatten.specs.Pieces.{place_of, covering_name, is_many}
 use Rattle.step_maps.specs.SpanStretches.{span_stretches}
-use Rattle.func_flatten.specs.internal.Collecting.{all_functions, function_stretches, own_class, Collects}
+use Rattle.func_flatten.specs.internal.Collecting.{function_stretches, own_class}
+use Rattle.func_flatten.specs.internal.Standing.{IsCollected}
 use Rattle.func_flatten.specs.internal.Classes.{number_name, has_other_name, shared_starts, reaches_any, first_named, class_by, classed, shared_in, marked, TellMany, AreNamedCovers}
 use Rattle.func_flatten.proofs.FunctionLemmas.{many_is, other_name_is}
-use Rattle.func_flatten.proofs.PieceLemmas.{places_are, stretches_are}
+use Rattle.func_flatten.proofs.StandLemmas.{name_get}
+use Rattle.func_flatten.proofs.PieceLemmas.{stand_all}
 
 equal_by : (b c : Bool) → (b ≡ true → c ≡ true) → (c ≡ true → b ≡ true) → b ≡ c
 equal_by true c one two = sym (one refl)
 equal_by false true one two = two refl
 equal_by false false one two = refl
 
-name_get : (units : List UnitRead) (functions : List Covering) (k : ℕ) (c : Covering) → slice_get functions k ≡ Some c → number_name units (map place_of functions) k ≡ covering_name units c
-name_get units [] k c is = absurd (cc)
-name_get units (d ∷ functions) zero c is = (let same : d ≡ c = cc in ap (covering_name units) same)
-name_get units (d ∷ functions) (suc k) c is = name_get units functions k c is
-
 -- a stretch of another name is there just where a function of another name is
-other_is : (units : List UnitRead) (places : List EntryRef) (stretches : List Stretch) (a : ℕ) → Collects [] places [] stretches (all_functions units) [] → has_other_name (number_name units places) stretches a ≡ is_many units a
-other_is units places stretches a c =
-    ap (λ l. has_other_name (number_name units l) stretches a) (places_are places stretches (all_functions units) c)
-    ∙ ap (λ l. has_other_name (number_name units (map place_of (all_functions units))) l a) (stretches_are places stretches (all_functions units) c)
-    ∙ other_name_is (number_name units (map place_of (all_functions units))) (covering_name units) (all_functions units) a (c.sets tt) (λ j d at. name_get units (all_functions units) j d at)
-    ∙ sym (many_is units a)
+other_is : (units : List UnitRead) (places : List EntryRef) (stretches : List Stretch) (low a : ℕ) → IsCollected units places stretches low [] → has_other_name (number_name units places) stretches a ≡ is_many units a
+other_is units places stretches low a c =
+    ap (λ l. has_other_name (number_name units l) stretches a) c.placed
+    ∙ ap (λ l. has_other_name (number_name units (map place_of c.functions)) l a) c.stretched
+    ∙ other_name_is (number_name units (map place_of c.functions)) (covering_name units) c.functions a c.sets (λ j d at. name_get units c.functions j d at)
+    ∙ sym (many_is units c.functions a (stand_all units places stretches low c))
 
 -- what holds of each stretch holds of the one that is found
 abbrev AllOf : (Stretch → Type 0) → List Stretch → Type 0
@@ -266,23 +263,22 @@ shared_item items a = go (first_at items a)
     go (Some s) = refl
 
 -- what was found at a shared first address tells of names
-found_other : (units : List UnitRead) (places : List EntryRef) (stretches kept named : List Stretch) (addresses : List ℕ) (items : Stepping (Option FirstItem)) (a : ℕ) → Collects [] places [] stretches (all_functions units) []
+found_other : (units : List UnitRead) (places : List EntryRef) (stretches kept named : List Stretch) (addresses : List ℕ) (items : Stepping (Option FirstItem)) (low a : ℕ) → IsCollected units places stretches low []
     → kept ≡ filter (reaches_any addresses) stretches → named ≡ map (classed (class_by (number_name units places) kept)) kept → value_at None items a ≡ first_item named a → IsKept addresses a → shared_in (value_at None items a) ≡ is_many units a
-found_other units places stretches kept named addresses items a c keeps classes found all =
+found_other units places stretches kept named addresses items low a c keeps classes found all =
     ap shared_in found
     ∙ shared_item named a
     ∙ ap (λ l. is_shared l a) classes
     ∙ shared_classed (number_name units places) kept a
     ∙ ap (λ l. has_other_name (number_name units places) l a) keeps
     ∙ other_kept (number_name units places) (reaches_any addresses) a stretches all
-    ∙ other_is units places stretches a c
+    ∙ other_is units places stretches low a c
 
 -- where a cover is not shared no other name is
-found_none : (units : List UnitRead) (places : List EntryRef) (stretches : List Stretch) (a : ℕ) → Collects [] places [] stretches (all_functions units) [] → is_shared stretches a ≡ false → is_many units a ≡ false
-found_none units places stretches a c none =
-    let one = stretches_are places stretches (all_functions units) c in
-    sym (other_is units places stretches a c)
-    ∙ other_none (number_name units places) stretches a (subst (λ l. AllOf (λ t. t.class ≡ t.index) l) (sym one) (own_classes 0 (all_functions units))) none
+found_none : (units : List UnitRead) (places : List EntryRef) (stretches : List Stretch) (low a : ℕ) → IsCollected units places stretches low [] → is_shared stretches a ≡ false → is_many units a ≡ false
+found_none units places stretches low a c none =
+    sym (other_is units places stretches low a c)
+    ∙ other_none (number_name units places) stretches a (subst (λ l. AllOf (λ t. t.class ≡ t.index) l) (sym c.stretched) (own_classes 0 c.functions)) none
 
 abbrev AreLow : List Cover → Type 0
 AreLow [] = Unit {0}
@@ -315,13 +311,13 @@ marked_runs items [] = refl
 marked_runs items (c ∷ covers) = ap (λ l. cover_run c ∷ l) (marked_runs items covers)
 
 -- covers that are marked by what was found among the stretches that are kept
-pub covers_named : (units : List UnitRead) (places : List EntryRef) (stretches kept named : List Stretch) (covers : List Cover) (items : Stepping (Option FirstItem)) → Collects [] places [] stretches (all_functions units) [] → AreCovers stretches covers
+pub covers_named : (units : List UnitRead) (places : List EntryRef) (stretches kept named : List Stretch) (covers : List Cover) (items : Stepping (Option FirstItem)) → (low : ℕ) × IsCollected units places stretches low [] → AreCovers stretches covers
     → kept ≡ filter (reaches_any (shared_starts covers)) stretches → named ≡ map (classed (class_by (number_name units places) kept)) kept → ((a : ℕ) → a < 18446744073709551616 → value_at None items a ≡ first_item named a)
     → AreNamedCovers units stretches (map (marked items) covers)
 covers_named units places stretches kept named covers items c is keeps classes found = record {
   runs = subst (λ l. IsRuns (between 0 18446744073709551616 (index_at stretches)) l) (sym (marked_runs items covers)) is.runs;
-  marks = tell_all units stretches items (shared_starts covers) covers (λ a none. found_none units places stretches a c none)
-      (λ a low all. found_other units places stretches kept named (shared_starts covers) items a c keeps classes (found a low) all)
+  marks = tell_all units stretches items (shared_starts covers) covers (λ a none. found_none units places stretches c.0 a c.1 none)
+      (λ a low all. found_other units places stretches kept named (shared_starts covers) items c.0 a c.1 keeps classes (found a low) all)
       is.marks (kept_starts covers) (low_all (index_at stretches) covers (maximal (between 0 18446744073709551616 (index_at stretches)) (map cover_run covers) is.runs));
 }
 

@@ -1,7 +1,9 @@
 -- What is collected of the functions.
-use Rattle.std.proofs.Common.{◌≡◌, ◌≢◌, ℕ, zero, suc, ◌+◌, ◌<◌, Bool, true, false, ◌&&◌, if◌then◌else◌, map, length, List, [], ◌∷◌, ◌++◌, arith, refl, sym, ap, ◌∙◌, append_assoc, append-nil, length-append, subst, drop, Option, Some, None, get_or}
+use Rattle.std.proofs.Common.{◌≡◌, ◌≢◌, ◌⊎◌, inl, inr, ℕ, zero, suc, ◌+◌, ◌<◌, ◌≤◌, ◌==◌, Bool, true, false, ◌&&◌, if◌then◌else◌, map, length, List, [], ◌∷◌, ◌++◌, arith, refl, sym, ap, ◌∙◌, append_assoc, append-nil, length-append, subst, drop, Option, Some, None, get_or}
+use Rattle.std.proofs.lemmas.Bool.Decides.{nat_tests}
 use Rattle.std.specs.List.{slice_get}
 use Rattle.std.specs.Option.{option_map_or}
+use Rattle.std.specs.Str.{bytes_eq}
 use Rattle.std.proofs.lemmas.List.{drop_all}
 use Rattle.sym_edges.specs.Addresses.{Range}
 use Rattle.range_set.specs.Canonical.{IsCanonical}
@@ -12,40 +14,13 @@ use Rattle.die_walk.specs.EntryKinds.{is_function}
 use Rattle.die_names.specs.UnitEntries.{places}
 use Rattle.die_names.specs.Owners.{Covering, unit_covering, covering_from}
 use Rattle.die_names.specs.declared.unit_read.EntryRef.{EntryRef}
-use Rattle.func_flatten.specs.Pieces.{place_of}
+use Rattle.func_flatten.specs.Pieces.{place_of, covering_name}
 use Rattle.step_maps.specs.SpanStretches.{span_stretches}
-use Rattle.func_flatten.specs.internal.Collecting.{is_some, has_code, functions_in, entry_covering, function_stretches, own_class, HaveSets, Collects}
-
-pub collects_none : (old : List EntryRef) (before : List Stretch) (all : List Covering) → Collects old old before before all all
-collects_none old before all = record { places = refl; stretches = refl; sets = λ is. is }
-
--- one function was collected
-pub collects_one : (old new : List EntryRef) (before after : List Stretch) (all left : List Covering) (c : Covering) → Collects old new before after all (c ∷ left) → IsCanonical c.spans → Collects old (new ++ place_of c ∷ []) before (after ++ span_stretches (length new) (length new) c.spans) all left
-collects_one old new before after all left c k canonical = record {
-  places = append_assoc new (place_of c ∷ []) (map place_of left) ∙ k.places;
-  stretches =
-      append_assoc after (span_stretches (length new) (length new) c.spans) (function_stretches own_class (length (new ++ place_of c ∷ [])) left)
-      ∙ ap (λ n. after ++ (span_stretches (length new) (length new) c.spans ++ function_stretches own_class n left)) (length-append new (place_of c ∷ []))
-      ∙ k.stretches;
-  sets = λ rest. k.sets (canonical, rest);
-}
-
-taken_by : (b : Bool) (c : Covering) (old new : List EntryRef) (before after : List Stretch) → b ≡ true → Collects old new before after (c ∷ []) [] → Collects old new before after (if b then c ∷ [] else []) []
-taken_by true c old new before after is k = k
-taken_by false c old new before after is k = absurd (cc)
-
-passed_by : (b : Bool) (c : Covering) (old : List EntryRef) (before : List Stretch) → b ≡ false → Collects old old before before (if b then c ∷ [] else []) []
-passed_by true c old before is = absurd (cc)
-passed_by false c old before is = collects_none old before []
-
--- the entry is a function, and its addresses and place were added
-entry_taken : (c : Covering) (old new : List EntryRef) (before after : List Stretch) → has_code c ≡ true → IsCanonical c.spans → after ≡ before ++ span_stretches (length old) (length old) c.spans → new ≡ old ++ place_of c ∷ [] → Collects old new before after (functions_in (c ∷ [])) []
-entry_taken c old new before after is canonical stretched placed =
-    taken_by (has_code c) c old new before after is
-    (rw (stretched, placed) (collects_one old old before before (c ∷ []) [] c (collects_none old before (c ∷ [])) canonical))
-
-entry_passed : (c : Covering) (old : List EntryRef) (before : List Stretch) → has_code c ≡ false → Collects old old before before (functions_in (c ∷ [])) []
-entry_passed c old before is = passed_by (has_code c) c old before is
+use Rattle.func_flatten.specs.declared.set_owners.Meeting.TheVariants.{Known}
+use Rattle.func_flatten.specs.internal.Classes.{place_name, place_at, number_name}
+use Rattle.func_flatten.specs.internal.Collecting.{is_some, has_code, functions_in, all_functions, entry_covering, function_stretches, own_class, HaveSets}
+use Rattle.func_flatten.specs.internal.Standing.{IsCollected, HasSet, Meets, StandFor, place_key, set_in}
+use Rattle.func_flatten.proofs.StandLemmas.{stand_none, stand_more, stand_same, stand_two, rise_higher, rise_more, map_length, get_mapped, name_get, get_inside, there_get, there_more}
 
 none_some : (set : List Range) → length set ≡ 0 → is_some set ≡ false
 none_some [] none = refl
@@ -67,74 +42,194 @@ both : (b t : Bool) → b ≡ true → t ≡ true → (b && t) ≡ true
 both true t is also = also
 both false t is also = absurd (cc)
 
--- an entry that is no function, or has no addresses
-pub covering_passed : (place : EntryRef) (die : DieFields) (sets : List (List Range)) (set : List Range) (old : List EntryRef) (before : List Stretch) → Some set ≡ slice_get sets place.entry → (is_function die && is_some set) ≡ false → Collects old old before before (functions_in (entry_covering place die sets)) []
-covering_passed place die sets set old before there is =
-    subst (λ (o : Option (List Range)). Collects old old before before (functions_in (option_map_or (λ s. record { unit = place.unit; entry = place.entry; die = die; spans = s } ∷ []) o [])) []) there
-    (entry_passed (record { unit = place.unit; entry = place.entry; die = die; spans = set }) old before is)
-
-pub covering_empty : (place : EntryRef) (die : DieFields) (sets : List (List Range)) (set : List Range) (old : List EntryRef) (before : List Stretch) → Some set ≡ slice_get sets place.entry → length set ≡ 0 → Collects old old before before (functions_in (entry_covering place die sets)) []
-covering_empty place die sets set old before there none = covering_passed place die sets set old before there (no_spans (is_function die) (is_some set) (none_some set none))
-
-pub covering_other : (place : EntryRef) (die : DieFields) (sets : List (List Range)) (set : List Range) (old : List EntryRef) (before : List Stretch) → Some set ≡ slice_get sets place.entry → is_function die ≡ false → Collects old old before before (functions_in (entry_covering place die sets)) []
-covering_other place die sets set old before there other = covering_passed place die sets set old before there (no_code (is_function die) (is_some set) other)
-
-pub covering_lost : (place : EntryRef) (die : DieFields) (sets : List (List Range)) (old : List EntryRef) (before : List Stretch) → None ≡ slice_get sets place.entry → Collects old old before before (functions_in (entry_covering place die sets)) []
-covering_lost place die sets old before none =
-    subst (λ (o : Option (List Range)). Collects old old before before (functions_in (option_map_or (λ set. record { unit = place.unit; entry = place.entry; die = die; spans = set } ∷ []) o [])) []) none (collects_none old before [])
-
-pub covering_taken : (place : EntryRef) (die : DieFields) (sets : List (List Range)) (set : List Range) (old new : List EntryRef) (before after : List Stretch) → Some set ≡ slice_get sets place.entry → length set ≢ 0 → is_function die ≡ true → IsCanonical set → after ≡ before ++ span_stretches (length old) (length old) set → new ≡ old ++ place ∷ [] → Collects old new before after (functions_in (entry_covering place die sets)) []
-covering_taken place die sets set old new before after there some is canonical stretched placed =
-    subst (λ (o : Option (List Range)). Collects old new before after (functions_in (option_map_or (λ s. record { unit = place.unit; entry = place.entry; die = die; spans = s } ∷ []) o [])) []) there
-    (entry_taken (record { unit = place.unit; entry = place.entry; die = die; spans = set }) old new before after (both (is_function die) (is_some set) is (some_some set some)) canonical stretched placed)
-
-map_joined : (xs ys : List Covering) → map place_of (xs ++ ys) ≡ map place_of xs ++ map place_of ys
-map_joined [] ys = refl
-map_joined (x ∷ xs) ys = ap (λ l. place_of x ∷ l) (map_joined xs ys)
-
 stretches_joined : (k : ℕ) (xs ys : List Covering) → function_stretches own_class k (xs ++ ys) ≡ function_stretches own_class k xs ++ function_stretches own_class (k + length xs) ys
 stretches_joined k [] ys = ap (λ n. function_stretches own_class n ys) (omega arith)
 stretches_joined k (x ∷ xs) ys =
     ap (λ l. span_stretches k k x.spans ++ l) (stretches_joined (k + 1) xs ys ∙ ap (λ n. function_stretches own_class (k + 1) xs ++ function_stretches own_class n ys) (omega arith))
     ∙ sym (append_assoc (span_stretches k k x.spans) (function_stretches own_class (k + 1) xs) (function_stretches own_class (k + length (x ∷ xs)) ys))
 
-sets_joined : (xs ys : List Covering) → HaveSets xs → HaveSets ys → HaveSets (xs ++ ys)
-sets_joined [] ys p q = q
-sets_joined (x ∷ xs) ys p q = (p.0, sets_joined xs ys p.1 q)
+pub collected_none : (units : List UnitRead) → IsCollected units [] [] 0 (covering_from 0 units)
+collected_none units = record {
+  functions = [];
+  passed = [];
+  whole = refl;
+  placed = refl;
+  stretched = refl;
+  sets = tt;
+  stand = stand_none (covering_name units);
+  rise = omega arith;
+  there = tt;
+}
 
-length_map : (xs : List Covering) → length (map place_of xs) ≡ length xs
-length_map [] = refl
-length_map (x ∷ xs) = omega (arith, length_map xs)
+pub collected_raised : (units : List UnitRead) (places : List EntryRef) (stretches : List Stretch) (low high : ℕ) (left : List Covering) → low ≤ high → IsCollected units places stretches low left → IsCollected units places stretches high left
+collected_raised units places stretches low high left less c = record {
+  functions = c.functions;
+  passed = c.passed;
+  whole = c.whole;
+  placed = c.placed;
+  stretched = c.stretched;
+  sets = c.sets;
+  stand = c.stand;
+  rise = rise_higher 0 low high c.functions less c.rise;
+  there = c.there;
+}
 
-functions_by : (b : Bool) (c : Covering) (xs ys l : List Covering) → l ≡ xs ++ ys → (if b then c ∷ l else l) ≡ (if b then c ∷ xs else xs) ++ ys
-functions_by true c xs ys l is = ap (λ k. c ∷ k) is
-functions_by false c xs ys l is = is
+-- an entry that is no function, or has no addresses
+other_passed : (units : List UnitRead) (places : List EntryRef) (stretches : List Stretch) (low : ℕ) (c : Covering) (left : List Covering) → has_code c ≡ false → IsCollected units places stretches low (c ∷ left) → IsCollected units places stretches low left
+other_passed units places stretches low c left none k = record {
+  functions = k.functions;
+  passed = k.passed;
+  whole = ap (λ b. k.passed ++ (if b then c ∷ functions_in left else functions_in left)) (sym none) ∙ k.whole;
+  placed = k.placed;
+  stretched = k.stretched;
+  sets = k.sets;
+  stand = k.stand;
+  rise = k.rise;
+  there = k.there;
+}
 
-pub functions_joined : (xs ys : List Covering) → functions_in (xs ++ ys) ≡ functions_in xs ++ functions_in ys
-functions_joined [] ys = refl
-functions_joined (x ∷ xs) ys = functions_by (has_code x) x (functions_in xs) (functions_in ys) (functions_in (xs ++ ys)) (functions_joined xs ys)
+passed_one : (passed left all : List Covering) (c : Covering) → has_code c ≡ true → passed ++ functions_in (c ∷ left) ≡ all → (passed ++ c ∷ []) ++ functions_in left ≡ all
+passed_one passed left all c is whole = append_assoc passed (c ∷ []) (functions_in left) ∙ ap (λ b. passed ++ (if b then c ∷ functions_in left else functions_in left)) (sym is) ∙ whole
 
--- a unit's functions were collected
-pub collects_unit : (old new newer : List EntryRef) (before after later : List Stretch) (all one left whole : List Covering) → whole ≡ one ++ left → Collects old new before after all whole → Collects new newer after later one [] → Collects old newer before later all left
-collects_unit old new newer before after later all one left whole is c d =
-    let joined : Collects old new before after all (one ++ left) = (let P : List Covering → Type 0 = λ l. Collects old new before after all l in subst P is c) in
-    let places : newer ≡ new ++ map place_of one = sym (append-nil newer) ∙ d.places in
-    let stretches : later ≡ after ++ function_stretches own_class (length new) one = sym (append-nil later) ∙ d.stretches in
-    let count : length newer ≡ length new + length one = ap length places ∙ length-append new (map place_of one) ∙ ap (λ n. length new + n) (length_map one) in
+stretches_more : (k : ℕ) (functions : List Covering) (c : Covering) → function_stretches own_class 0 (functions ++ c ∷ []) ≡ function_stretches own_class 0 functions ++ span_stretches (length functions) (length functions) c.spans
+stretches_more k functions c =
+    stretches_joined 0 functions (c ∷ [])
+    ∙ ap (λ l. function_stretches own_class 0 functions ++ l) (append-nil (span_stretches (0 + length functions) (0 + length functions) c.spans) ∙ ap (λ n. span_stretches n n c.spans) (let same : 0 + length functions ≡ length functions = omega arith in same))
+
+have_more : (functions : List Covering) (c : Covering) → HaveSets functions → IsCanonical c.spans → HaveSets (functions ++ c ∷ [])
+have_more [] c all is = (is, tt)
+have_more (d ∷ functions) c all is = (all.0, have_more functions c all.1 is)
+
+places_more : (functions : List Covering) (c : Covering) → map place_of (functions ++ c ∷ []) ≡ map place_of functions ++ place_of c ∷ []
+places_more [] c = refl
+places_more (d ∷ functions) c = ap (λ l. place_of d ∷ l) (places_more functions c)
+
+-- a function is collected
+taken : (units : List UnitRead) (places new : List EntryRef) (before after : List Stretch) (c : Covering) (left : List Covering) → has_code c ≡ true → IsCanonical c.spans → set_in c.entry (slice_get units c.unit) ≡ Some c.spans
+    → after ≡ before ++ span_stretches (length places) (length places) c.spans → new ≡ places ++ place_of c ∷ [] → IsCollected units places before (place_key (place_of c)) (c ∷ left) → IsCollected units new after (place_key (place_of c) + 1) left
+taken units places new before after c left is canonical here stretched placed k =
+    let count : length places ≡ length k.functions = ap length k.placed ∙ map_length k.functions in
     record {
-      places =
-          ap (λ l. l ++ map place_of left) places
-          ∙ append_assoc new (map place_of one) (map place_of left)
-          ∙ ap (λ l. new ++ l) (sym (map_joined one left))
-          ∙ joined.places;
-      stretches =
-          ap (λ l. l ++ function_stretches own_class (length newer) left) stretches
-          ∙ append_assoc after (function_stretches own_class (length new) one) (function_stretches own_class (length newer) left)
-          ∙ ap (λ k. after ++ (function_stretches own_class (length new) one ++ function_stretches own_class k left)) count
-          ∙ ap (λ l. after ++ l) (sym (stretches_joined (length new) one left))
-          ∙ joined.stretches;
-      sets = λ rest. joined.sets (sets_joined one left (d.sets tt) rest);
+      functions = k.functions ++ c ∷ [];
+      passed = k.passed ++ c ∷ [];
+      whole = passed_one k.passed left (all_functions units) c is k.whole;
+      placed = placed ∙ ap (λ l. l ++ place_of c ∷ []) k.placed ∙ sym (places_more k.functions c);
+      stretched =
+          stretched ∙ ap (λ l. l ++ span_stretches (length places) (length places) c.spans) k.stretched
+          ∙ ap (λ n. function_stretches own_class 0 k.functions ++ span_stretches n n c.spans) count
+          ∙ sym (stretches_more 0 k.functions c);
+      sets = have_more k.functions c k.sets canonical;
+      stand = stand_more (covering_name units) k.passed k.functions c k.stand;
+      rise = rise_more (place_key (place_of c)) k.functions c (omega arith) k.rise;
+      there = there_more units k.functions c k.there here;
     }
+
+-- the function of a number that has the set of another
+record Kept (units : List UnitRead) (functions : List Covering) (places : List EntryRef) (c : Covering) (k : ℕ) : Type 0 where
+  function : Covering
+  at : slice_get functions k ≡ Some function
+  set : function.spans ≡ c.spans
+  named : number_name units places k ≡ covering_name units function
+
+some_same : {A : Type 0} (x y : A) → Some x ≡ Some y → x ≡ y
+some_same x y is = cc
+
+kept_there : (units : List UnitRead) (part : UnitRead) (places : List EntryRef) (functions : List Covering) (c : Covering) (k : ℕ) → slice_get units c.unit ≡ Some part → slice_get part.spans c.entry ≡ Some c.spans → places ≡ map place_of functions
+    → ((j : ℕ) (d : Covering) → slice_get functions j ≡ Some d → set_in d.entry (slice_get units d.unit) ≡ Some d.spans) → HasSet part.spans places c.unit c.entry k → Kept units functions places c k
+kept_there units part places functions c k one here placed there has =
+    let inside : k < length functions = (let less : k < length places = has.known in let count : length places ≡ length functions = ap length placed ∙ map_length functions in omega arith) in
+    let found = get_inside functions k inside in
+    let at : place_at places k ≡ place_of found.0 = ap (λ l. place_at l k) placed ∙ get_mapped functions k found.0 found.1 in
+    let unit : found.0.unit ≡ c.unit = sym (ap (λ p. p.unit) at) ∙ has.here in
+    let entry : (place_at places k).entry ≡ found.0.entry = ap (λ p. p.entry) at in
+    record {
+      function = found.0;
+      at = found.1;
+      set = some_same found.0.spans c.spans
+          (sym (there k found.0 found.1)
+          ∙ ap (λ u. set_in found.0.entry (slice_get units u)) unit
+          ∙ ap (set_in found.0.entry) one
+          ∙ ap (slice_get part.spans) (sym entry)
+          ∙ has.set
+          ∙ here);
+      named = ap (λ l. number_name units l k) placed ∙ name_get units functions k found.0 found.1;
+    }
+
+-- others stand for a function
+known : (units : List UnitRead) (part : UnitRead) (places : List EntryRef) (stretches : List Stretch) (c : Covering) (left : List Covering) (k : ℕ) → has_code c ≡ true → slice_get units c.unit ≡ Some part → slice_get part.spans c.entry ≡ Some c.spans
+    → Meets units part.spans places (place_of c) (Known k) → IsCollected units places stretches (place_key (place_of c)) (c ∷ left) → IsCollected units places stretches (place_key (place_of c) + 1) left
+known units part places stretches c left k is one here meets q = record {
+  functions = q.functions;
+  passed = q.passed ++ c ∷ [];
+  whole = passed_one q.passed left (all_functions units) c is q.whole;
+  placed = q.placed;
+  stretched = q.stretched;
+  sets = q.sets;
+  stand = stands meets.1;
+  rise = rise_higher 0 (place_key (place_of c)) (place_key (place_of c) + 1) q.functions (omega arith) q.rise;
+  there = q.there;
+}
+  where
+    one_kept : (j : ℕ) → HasSet part.spans places c.unit c.entry j → Kept units q.functions places c j
+    one_kept j has = kept_there units part places q.functions c j one here q.placed (λ i d at. there_get units q.functions i d q.there at) has
+
+    stands : (bytes_eq (place_name units (place_of c)) (number_name units places k) ≡ true) ⊎ ((l : ℕ) × HasSet part.spans places c.unit c.entry l × (bytes_eq (number_name units places l) (number_name units places k) ≡ false)) → StandFor (covering_name units) (q.passed ++ c ∷ []) q.functions
+    stands which = elim which [
+      | inl same ↦ (let f = one_kept k meets.0 in stand_same (covering_name units) q.passed q.functions c f.function k q.stand f.at f.set (ap (bytes_eq (covering_name units c)) (sym f.named) ∙ same))
+      | inr two ↦
+          (let f = one_kept k meets.0 in
+          let g = one_kept two.0 two.1 in
+          stand_two (covering_name units) q.passed q.functions c f.function g.function k two.0 q.stand f.at g.at f.set g.set (ap (λ n. bytes_eq n (covering_name units f.function)) (sym g.named) ∙ ap (bytes_eq (number_name units places two.0)) (sym f.named) ∙ two.2))
+    ]
+
+-- an entry without a set, or with an empty one, or no function
+covered_by : (place : EntryRef) (die : DieFields) (sets : List (List Range)) (left : List Covering) (o : Option (List Range)) → o ≡ slice_get sets place.entry → option_map_or (λ s. record { unit = place.unit; entry = place.entry; die = die; spans = s } ∷ []) o [] ++ left ≡ entry_covering place die sets ++ left
+covered_by place die sets left o there = ap (λ o. option_map_or (λ s. record { unit = place.unit; entry = place.entry; die = die; spans = s } ∷ []) o [] ++ left) there
+
+left_by : (units : List UnitRead) (places : List EntryRef) (stretches : List Stretch) (low : ℕ) (place : EntryRef) (die : DieFields) (sets : List (List Range)) (left : List Covering) (o : Option (List Range)) → o ≡ slice_get sets place.entry
+    → IsCollected units places stretches low (entry_covering place die sets ++ left) → IsCollected units places stretches low (option_map_or (λ s. record { unit = place.unit; entry = place.entry; die = die; spans = s } ∷ []) o [] ++ left)
+left_by units places stretches low place die sets left o there c = subst (IsCollected units places stretches low) (sym (covered_by place die sets left o there)) c
+
+pub entry_without : (units : List UnitRead) (places : List EntryRef) (stretches : List Stretch) (place : EntryRef) (die : DieFields) (sets : List (List Range)) (left : List Covering) → None ≡ slice_get sets place.entry
+    → IsCollected units places stretches (place_key place) (entry_covering place die sets ++ left) → IsCollected units places stretches (place_key place + 1) left
+entry_without units places stretches place die sets left none c = collected_raised units places stretches (place_key place) (place_key place + 1) left (omega arith) (left_by units places stretches (place_key place) place die sets left None none c)
+
+pub entry_empty : (units : List UnitRead) (places : List EntryRef) (stretches : List Stretch) (place : EntryRef) (die : DieFields) (sets : List (List Range)) (set : List Range) (left : List Covering) → Some set ≡ slice_get sets place.entry → length set ≡ 0
+    → IsCollected units places stretches (place_key place) (entry_covering place die sets ++ left) → IsCollected units places stretches (place_key place + 1) left
+entry_empty units places stretches place die sets set left there none c =
+    collected_raised units places stretches (place_key place) (place_key place + 1) left (omega arith)
+    (other_passed units places stretches (place_key place) (record { unit = place.unit; entry = place.entry; die = die; spans = set }) left (no_spans (is_function die) (is_some set) (none_some set none)) (left_by units places stretches (place_key place) place die sets left (Some set) there c))
+
+pub entry_other : (units : List UnitRead) (places : List EntryRef) (stretches : List Stretch) (place : EntryRef) (die : DieFields) (sets : List (List Range)) (set : List Range) (left : List Covering) → Some set ≡ slice_get sets place.entry → is_function die ≡ false
+    → IsCollected units places stretches (place_key place) (entry_covering place die sets ++ left) → IsCollected units places stretches (place_key place + 1) left
+entry_other units places stretches place die sets set left there other c =
+    collected_raised units places stretches (place_key place) (place_key place + 1) left (omega arith)
+    (other_passed units places stretches (place_key place) (record { unit = place.unit; entry = place.entry; die = die; spans = set }) left (no_code (is_function die) (is_some set) other) (left_by units places stretches (place_key place) place die sets left (Some set) there c))
+
+pub no_length : (set : List Range) → true ≡ (length set == 0) → length set ≡ 0
+no_length [] is = refl
+no_length (r ∷ set) is = absurd (grind (arith, nat_tests, is))
+
+pub one_die : (dies : List DieFields) (k : ℕ) (x y : DieFields) → Some x ≡ slice_get dies k → Some y ≡ slice_get dies k → x ≡ y
+one_die dies k x y one other = some_same x y (one ∙ sym other)
+
+-- a function with its addresses
+pub entry_found : (units : List UnitRead) (places new : List EntryRef) (before after : List Stretch) (place : EntryRef) (die : DieFields) (sets : List (List Range)) (set : List Range) (left : List Covering) → Some set ≡ slice_get sets place.entry
+    → IsCollected units places before (place_key place) (entry_covering place die sets ++ left)
+    → (IsCollected units places before (place_key place) (record { unit = place.unit; entry = place.entry; die = die; spans = set } ∷ left) → IsCollected units new after (place_key place + 1) left)
+    → IsCollected units new after (place_key place + 1) left
+entry_found units places new before after place die sets set left there c more = more (left_by units places before (place_key place) place die sets left (Some set) there c)
+
+pub function_known : (units : List UnitRead) (part : UnitRead) (places : List EntryRef) (stretches : List Stretch) (place : EntryRef) (die : DieFields) (set : List Range) (left : List Covering) (k : ℕ) → is_function die ≡ true → length set ≢ 0 → slice_get units place.unit ≡ Some part → slice_get part.spans place.entry ≡ Some set
+    → Meets units part.spans places place (Known k) → IsCollected units places stretches (place_key place) (record { unit = place.unit; entry = place.entry; die = die; spans = set } ∷ left) → IsCollected units places stretches (place_key place + 1) left
+function_known units part places stretches place die set left k is some one here meets c =
+    known units part places stretches (record { unit = place.unit; entry = place.entry; die = die; spans = set }) left k (both (is_function die) (is_some set) is (some_some set some)) one here meets c
+
+pub function_taken : (units : List UnitRead) (part : UnitRead) (places new : List EntryRef) (before after : List Stretch) (place : EntryRef) (die : DieFields) (set : List Range) (left : List Covering) → is_function die ≡ true → length set ≢ 0 → IsCanonical set → slice_get units place.unit ≡ Some part → slice_get part.spans place.entry ≡ Some set
+    → after ≡ before ++ span_stretches (length places) (length places) set → new ≡ places ++ place ∷ []
+    → IsCollected units places before (place_key place) (record { unit = place.unit; entry = place.entry; die = die; spans = set } ∷ left) → IsCollected units new after (place_key place + 1) left
+function_taken units part places new before after place die set left is some canonical one here stretched placed c =
+    taken units places new before after (record { unit = place.unit; entry = place.entry; die = die; spans = set }) left (both (is_function die) (is_some set) is (some_some set some)) canonical (ap (set_in place.entry) one ∙ here) stretched placed c
 
 pub drop_get : {A : Type 0} (xs : List A) (k : ℕ) (x : A) → Some x ≡ slice_get xs k → drop k xs ≡ x ∷ drop (k + 1) xs
 drop_get [] k x is = cc
@@ -172,37 +267,46 @@ entry_left unit entry dies sets die one = ap (λ l. unit_covering unit entry l (
         ap (λ l. unit_covering unit entry (die ∷ drop (entry + 1) dies) l) (drop_none sets entry (sym there))
         ∙ sym (ap (unit_covering unit (entry + 1) (drop (entry + 1) dies)) (drop_later sets entry (sym there)) ∙ no_sets unit (entry + 1) (drop (entry + 1) dies))
 
-one_added : (old new newer : List EntryRef) (before after later : List Stretch) (all : List Covering) (unit entry : ℕ) (dies : List DieFields) (sets : List (List Range)) (die : DieFields) → Some die ≡ slice_get dies entry
-    → Collects old new before after all (functions_in (unit_covering unit entry (drop entry dies) (drop entry sets))) → Collects new newer after later (functions_in (entry_covering (record { unit = unit; entry = entry }) die sets)) []
-    → Collects old newer before later all (functions_in (unit_covering unit (entry + 1) (drop (entry + 1) dies) (drop (entry + 1) sets)))
-one_added old new newer before after later all unit entry dies sets die one k more =
-    let here = entry_covering (record { unit = unit; entry = entry }) die sets in
-    let rest = unit_covering unit (entry + 1) (drop (entry + 1) dies) (drop (entry + 1) sets) in
-    collects_unit old new newer before after later all (functions_in here) (functions_in rest) (functions_in (unit_covering unit entry (drop entry dies) (drop entry sets)))
-    (ap functions_in (entry_left unit entry dies sets die one) ∙ functions_joined here rest) k more
-
 none_inside : (dies : List DieFields) (k : ℕ) → k < length dies → None ≢ slice_get dies k
 none_inside [] k inside none = omega (arith, inside)
 none_inside (die ∷ dies) zero inside none = cc
 none_inside (die ∷ dies) (suc k) inside none = none_inside dies k (omega (arith, inside)) none
 
-pub entry_added : (old new newer : List EntryRef) (before after later : List Stretch) (all : List Covering) (unit entry : ℕ) (dies : List DieFields) (sets : List (List Range)) → entry < length dies
-    → Collects old new before after all (functions_in (unit_covering unit entry (drop entry dies) (drop entry sets)))
-    → ((die : DieFields) → Some die ≡ slice_get dies entry → Collects new newer after later (functions_in (entry_covering (record { unit = unit; entry = entry }) die sets)) [])
-    → Collects old newer before later all (functions_in (unit_covering unit (entry + 1) (drop (entry + 1) dies) (drop (entry + 1) sets)))
-entry_added old new newer before after later all unit entry dies sets inside k more = go (slice_get dies entry) refl
+pub entry_added : (units : List UnitRead) (old new : List EntryRef) (before after : List Stretch) (low high unit entry : ℕ) (dies : List DieFields) (sets : List (List Range)) (rest : List Covering) → entry < length dies
+    → IsCollected units old before low (unit_covering unit entry (drop entry dies) (drop entry sets) ++ rest)
+    → ((left : List Covering) (die : DieFields) → Some die ≡ slice_get dies entry → IsCollected units old before low (entry_covering (record { unit = unit; entry = entry }) die sets ++ left) → IsCollected units new after high left)
+    → IsCollected units new after high (unit_covering unit (entry + 1) (drop (entry + 1) dies) (drop (entry + 1) sets) ++ rest)
+entry_added units old new before after low high unit entry dies sets rest inside k more = go (slice_get dies entry) refl
   where
-    go : (o : Option DieFields) → o ≡ slice_get dies entry → Collects old newer before later all (functions_in (unit_covering unit (entry + 1) (drop (entry + 1) dies) (drop (entry + 1) sets)))
-    go None none = absurd (none_inside dies entry inside none)
-    go (Some die) one = one_added old new newer before after later all unit entry dies sets die one k (more die one)
+    later : List Covering
+    later = unit_covering unit (entry + 1) (drop (entry + 1) dies) (drop (entry + 1) sets)
 
--- a unit was added
-pub unit_added : (new newer : List EntryRef) (after later : List Stretch) (all : List Covering) (unit : ℕ) (units : List UnitRead) (part : UnitRead) → unit < length units → part ≡ get_or units unit part
-    → Collects [] new [] after all (functions_in (covering_from unit (drop unit units))) → Collects new newer after later (functions_in (unit_covering unit 0 part.die.dies part.spans)) []
-    → Collects [] newer [] later all (functions_in (covering_from (unit + 1) (drop (unit + 1) units)))
-unit_added new newer after later all unit units part inside is k more =
-    collects_unit [] new newer [] after later all (functions_in (unit_covering unit 0 part.die.dies part.spans)) (functions_in (covering_from (unit + 1) (drop (unit + 1) units))) (functions_in (covering_from unit (drop unit units)))
-    (ap (λ l. functions_in (covering_from unit l)) (drop_index units unit part inside is) ∙ functions_joined (unit_covering unit 0 part.die.dies part.spans) (covering_from (unit + 1) (drop (unit + 1) units))) k more
+    go : (o : Option DieFields) → o ≡ slice_get dies entry → IsCollected units new after high (later ++ rest)
+    go None none = absurd (none_inside dies entry inside none)
+    go (Some die) one =
+        more (later ++ rest) die one
+        (subst (IsCollected units old before low) (ap (λ l. l ++ rest) (entry_left unit entry dies sets die one) ∙ append_assoc (entry_covering (record { unit = unit; entry = entry }) die sets) later rest) k)
+
+covering_end : (unit entry : ℕ) (sets : List (List Range)) → unit_covering unit entry [] sets ≡ []
+covering_end unit entry sets = refl
+
+pub entries_ended : (units : List UnitRead) (places : List EntryRef) (stretches : List Stretch) (low unit entry : ℕ) (dies : List DieFields) (sets : List (List Range)) (rest : List Covering) → length dies ≤ entry
+    → IsCollected units places stretches low (unit_covering unit entry (drop entry dies) (drop entry sets) ++ rest) → IsCollected units places stretches low rest
+entries_ended units places stretches low unit entry dies sets rest past k =
+    subst (IsCollected units places stretches low) (ap (λ l. unit_covering unit entry l (drop entry sets) ++ rest) (drop_all entry dies past) ∙ ap (λ l. l ++ rest) (covering_end unit entry (drop entry sets))) k
+
+-- a unit is next
+pub unit_next : (units : List UnitRead) (places : List EntryRef) (stretches : List Stretch) (low unit : ℕ) (part : UnitRead) → unit < length units → part ≡ get_or units unit part
+    → IsCollected units places stretches low (covering_from unit (drop unit units)) → IsCollected units places stretches low (unit_covering unit 0 part.die.dies part.spans ++ covering_from (unit + 1) (drop (unit + 1) units))
+unit_next units places stretches low unit part inside is k = subst (IsCollected units places stretches low) (ap (covering_from unit) (drop_index units unit part inside is)) k
+
+pub units_ended : (units : List UnitRead) (places : List EntryRef) (stretches : List Stretch) (low unit : ℕ) → length units ≤ unit → IsCollected units places stretches low (covering_from unit (drop unit units)) → IsCollected units places stretches low []
+units_ended units places stretches low unit past k = subst (IsCollected units places stretches low) (ap (covering_from unit) (drop_all unit units past)) k
+
+pub unit_there : (units : List UnitRead) (unit : ℕ) (part : UnitRead) → unit < length units → part ≡ get_or units unit part → slice_get units unit ≡ Some part
+unit_there [] unit part inside is = absurd (omega arith)
+unit_there (x ∷ units) zero part inside is = ap Some (sym is)
+unit_there (x ∷ units) (suc unit) part inside is = unit_there units unit part (omega arith) is
 
 length_dies : (dies : List DieFields) → length (map (λ die. die.at) dies) ≡ length dies
 length_dies [] = refl

@@ -17,6 +17,7 @@ use Rattle.func_flatten.specs.Pieces.{owns, covering_name, has_other, is_many}
 use Rattle.func_flatten.specs.internal.Classes.{has_other_name}
 use Rattle.step_maps.specs.SpanStretches.{span_stretches}
 use Rattle.func_flatten.specs.internal.Collecting.{is_some, has_code, functions_in, all_functions, function_stretches, own_class, HaveSets, has_address, Numbered, first_function}
+use Rattle.func_flatten.specs.internal.Standing.{any_name, StandFor}
 
 reaches_range : (r : Range) (a : ℕ) → r.start < r.end → (nat_le r.start a && nat_le a (r.end - 1)) ≡ holds r a
 reaches_range r a some = grind (arith, nat_tests)
@@ -86,10 +87,7 @@ any_functions class passes k (c ∷ functions) a all =
     ∙ ap (λ b. b || list_any (λ t. reaches t a && passes t.index) (function_stretches class (k + 1) functions)) (any_spans passes k (class k) c.spans a all.0)
     ∙ ap (λ b. (has_address a c && passes k) || b) (any_functions class passes (k + 1) functions a all.1)
 
--- whether a function that has the address has another name
-abbrev pub any_name : (Covering → List ℕ) → List ℕ → ℕ → List Covering → Bool
-any_name name n a functions = list_any (λ d. has_address a d && not (bytes_eq (name d) n)) functions
-
+-- whether a function that has the address has another name than one
 abbrev pub any_named : (Covering → List ℕ) → ℕ → List Covering → Option Numbered → Bool
 any_named name a functions None = false
 any_named name a functions (Some m) = any_name name (name m.function) a functions
@@ -117,9 +115,18 @@ owner_by (c ∷ entries) a k = ap (λ b. if b then Some c else find (owns a) ent
         chosen false later = later
     go false is = is k
 
-pub owner_is : (units : List UnitRead) (a : ℕ) → owner units a ≡ option_map (λ m. m.function) (first_function a 0 (all_functions units))
+found_first : (functions : List Covering) (a k : ℕ) → find (has_address a) functions ≡ option_map (λ m. m.function) (first_function a k functions)
+found_first [] a k = refl
+found_first (c ∷ functions) a k = go (has_address a c) (found_first functions a (k + 1))
+  where
+    go : (b : Bool) → find (has_address a) functions ≡ option_map (λ m. m.function) (first_function a (k + 1) functions) → (if b then Some c else find (has_address a) functions) ≡ option_map (λ m. m.function) (if b then Some (record { number = k; function = c }) else first_function a (k + 1) functions)
+    go true later = refl
+    go false later = later
+
+-- also by functions that stand for all
+pub owner_is : (units : List UnitRead) (functions : List Covering) (a : ℕ) → StandFor (covering_name units) (all_functions units) functions → owner units a ≡ option_map (λ m. m.function) (first_function a 0 functions)
 unfolding owner
-owner_is units a = owner_by (covering_from 0 units) a 0
+owner_is units functions a s = owner_by (covering_from 0 units) a 0 ∙ sym (found_first (all_functions units) a 0) ∙ sym (s.first a) ∙ found_first functions a 0
 
 other_by : (name : Covering → List ℕ) (n : List ℕ) (entries : List Covering) (a : ℕ) → list_any (λ d. owns a d && not (bytes_eq (name d) n)) entries ≡ any_name name n a (functions_in entries)
 other_by name n [] a = refl
@@ -136,13 +143,13 @@ other_by name n (c ∷ entries) a =
     joined true = refl
     joined false = refl
 
-named_by : (units : List UnitRead) (a : ℕ) (o : Option Numbered) → has_other units a (option_map (λ m. m.function) o) ≡ any_named (covering_name units) a (all_functions units) o
-named_by units a None = refl
-named_by units a (Some m) = other_by (covering_name units) (covering_name units m.function) (covering_from 0 units) a
+named_by : (units : List UnitRead) (functions : List Covering) (a : ℕ) (o : Option Numbered) → StandFor (covering_name units) (all_functions units) functions → has_other units a (option_map (λ m. m.function) o) ≡ any_named (covering_name units) a functions o
+named_by units functions a None s = refl
+named_by units functions a (Some m) s = other_by (covering_name units) (covering_name units m.function) (covering_from 0 units) a ∙ sym (s.other a (covering_name units m.function))
 
-pub many_is : (units : List UnitRead) (a : ℕ) → is_many units a ≡ any_named (covering_name units) a (all_functions units) (first_function a 0 (all_functions units))
+pub many_is : (units : List UnitRead) (functions : List Covering) (a : ℕ) → StandFor (covering_name units) (all_functions units) functions → is_many units a ≡ any_named (covering_name units) a functions (first_function a 0 functions)
 unfolding is_many
-many_is units a = ap (has_other units a) (owner_is units a) ∙ named_by units a (first_function a 0 (all_functions units))
+many_is units functions a s = ap (has_other units a) (owner_is units functions a s) ∙ named_by units functions a (first_function a 0 functions) s
 
 -- the number of the first function is its place in the list
 first_get : (a k : ℕ) (functions : List Covering) (m : Numbered) → first_function a k functions ≡ Some m → (i : ℕ) × (m.number ≡ k + i) × (slice_get functions i ≡ Some m.function)

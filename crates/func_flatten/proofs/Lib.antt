@@ -1,3 +1,4 @@
+pub mod StandLemmas
 pub mod CollectLemmas
 pub mod MappedRuns
 pub mod FunctionLemmas

@@ -3,3 +3,4 @@ pub mod Collecting
 pub mod Classes
 pub mod Growing
 pub mod Grouping
+pub mod Standing

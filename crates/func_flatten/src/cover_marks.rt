@@ -5,7 +5,7 @@ ghost use Rattle.step_maps.specs.Covers.{first_item, AreCovers};
 ghost use Rattle.sym_edges.specs.Rising.{RisesFrom};
 ghost use Rattle.step_maps.specs.Stepping.{value_at};
 ghost use Rattle.step_maps.specs.SpanStretches.{AreFit};
-ghost use Rattle.func_flatten.specs.internal.Collecting.{all_functions, Collects};
+ghost use Rattle.func_flatten.specs.internal.Standing.{IsCollected};
 ghost use Rattle.func_flatten.specs.internal.Classes.{shared_starts, reaches_any, shared_in, marked, AreNamedCovers};
 
 use crate::functions::Collected;
@@ -100,7 +100,7 @@ pub fn named_covers(
     units: &Units<'_>,
     all: &Collected,
 ) -> Result<CoverList, OutOfMemory>
-    requires all { Collects [] all.now.places.items [] all.now.stretches.items (all_functions units.now) [] }
+    requires all { (low : ℕ) × IsCollected units.now all.now.places.items all.now.stretches.items low [] }
     requires fit { AreFit all.now.stretches.items }
     ensures { IfOk result (λ covers. AreNamedCovers units.now all.now.stretches.items covers) }
 {

@@ -1,70 +1,88 @@
 //! The functions with addresses of the units, and the stretches of these.
-ghost use Rattle.std.specs.Prelude.{◌≡◌, Some, ℕ, ◌+◌, ◌<◌, ◌≤◌, ◌^◌, ◌++◌, [], length, vec_len, IfOk, OnOk};
-ghost use Rattle.std.specs.List.{slice_get};
+ghost use Rattle.std.specs.Prelude.{◌≡◌, ◌≢◌, Some, ℕ, ◌+◌, ◌*◌, ◌<◌, ◌≤◌, ◌^◌, ◌++◌, ◌∷◌, [], true, length, vec_len, List, slice_get, IfOk, OnOk};
+ghost use Rattle.std.specs.List.{All};
 ghost use Rattle.die_walk.specs.EntryTable.{DieFields};
-ghost use Rattle.die_names.specs.UnitEntries.{AreRead};
-ghost use Rattle.die_names.specs.Owners.{unit_covering};
+ghost use Rattle.die_walk.specs.EntryKinds.{is_function};
+ghost use Rattle.range_set.specs.Canonical.{IsCanonical};
+ghost use Rattle.die_names.specs.UnitEntries.{AreRead, places};
+ghost use Rattle.die_names.specs.Owners.{Covering, unit_covering, covering_from};
 ghost use Rattle.step_maps.specs.SpanStretches.{AreFit};
-ghost use Rattle.func_flatten.specs.internal.Collecting.{functions_in, all_functions, entry_covering, Collects};
+ghost use Rattle.func_flatten.specs.internal.Collecting.{entry_covering};
+ghost use Rattle.func_flatten.specs.internal.Standing.{IsCollected, AreApart, place_key};
 
-use die_names::{EntryRef, UnitRead};
-use std::alloc::{AllocError, Global};
+use crate::set_owners::{Meeting, SetOwners, meet, note_owners, owners_of};
+use die_names::{EntryRef, UnitRead, Units};
+use std::alloc::Global;
 use step_maps::{Stretch, push_spans};
+use sym_edges::{OutOfMemory, Span};
 
-/// The functions' places, and the stretches of their addresses, each with the number of its function as its index and class.
+/// The functions' places, and the stretches of their addresses, each with the number of its function as its index and class; and the
+/// functions of the sets of the unit that is looked at, by the numbers of the sets.
 #[derive(Drop)]
 pub struct Collected {
     pub places: Vec<EntryRef>,
     pub stretches: Vec<Stretch>,
+    pub sets: Vec<SetOwners>,
 }
 
-/// Collects the functions of all units.
-pub fn collect_all(alloc: Global, units: &[UnitRead<'_>]) -> Result<Collected, AllocError>
-    requires { AreRead units.now }
-    ensures all { IfOk result (λ c. Collects [] c.places.items [] c.stretches.items (all_functions units.now) []) }
+/// Collects the functions of all units. Of those in a unit that have one set, the first is collected, and the first that has another name:
+/// the others own nothing, and tell of no other name where these do not.
+pub fn collect_all(alloc: Global, units: &Units<'_>) -> Result<Collected, OutOfMemory>
+    ensures all { IfOk result (λ c. (low : ℕ) × IsCollected units.now c.places.items c.stretches.items low []) }
     ensures fit { IfOk result (λ c. AreFit c.stretches.items) }
 {
-    let mut places = Vec::new(alloc);
-    let mut stretches = Vec::new(alloc);
-    'units: for unit in 0..units.len() {
-        let part = &units[unit];
-        push_unit(&mut places, &mut stretches, unit as u32, part)?;
+    let mut kept = Collected {
+        places: Vec::new(alloc),
+        stretches: Vec::new(alloc),
+        sets: Vec::new(alloc),
+    };
+    let parts = units.as_slice();
+    'units: for unit in 0..parts.len() {
+        let part = &parts[unit];
+        push_unit(alloc, units, &mut kept, unit as u32, part)?;
     }
-    Ok(Collected { places, stretches })
+    Ok(kept)
 }
 
 /// Adds the functions of a unit.
 fn push_unit(
-    places: &mut Vec<EntryRef>,
-    stretches: &mut Vec<Stretch>,
+    alloc: Global,
+    units: &Units<'_>,
+    kept: &mut Collected,
     unit: u32,
     part: &UnitRead<'_>,
-) -> Result<(), AllocError>
-    requires count { vec_len places.old + length part.now.die.dies < 2 ^ 32 }
-    requires fit { AreFit stretches.old.items }
-    ensures all { OnOk result (Collects places.old.items places.new.items stretches.old.items stretches.new.items (functions_in (unit_covering unit 0 part.now.die.dies part.now.spans)) []) }
-    ensures fit { OnOk result (AreFit stretches.new.items) }
-    ensures count { OnOk result (vec_len places.new ≤ vec_len places.old + length part.now.die.dies) }
+) -> Result<(), OutOfMemory>
+    requires part { slice_get units.now unit ≡ Some part.now }
+    requires count { vec_len kept.old.places + length part.now.die.dies < 2 ^ 32 }
+    requires fit { AreFit kept.old.stretches.items }
+    ensures all { OnOk result ((left : List Covering) → IsCollected units.now kept.old.places.items kept.old.stretches.items (unit * 4294967296) (unit_covering unit 0 part.now.die.dies part.now.spans ++ left) → IsCollected units.now kept.new.places.items kept.new.stretches.items (unit * 4294967296 + length part.now.die.dies) left) }
+    ensures fit { OnOk result (AreFit kept.new.stretches.items) }
+    ensures count { OnOk result (vec_len kept.new.places ≤ vec_len kept.old.places + length part.now.die.dies) }
 {
+    kept.sets.clear();
     'entries: for entry in 0..part.die.dies().len() {
         let entry = entry as u32;
-        push_entry(places, stretches, EntryRef { unit, entry }, part)?;
+        push_entry(alloc, units, kept, EntryRef { unit, entry }, part)?;
     }
     Ok(())
 }
 
 /// Adds an entry, where it is a function with addresses.
 fn push_entry(
-    places: &mut Vec<EntryRef>,
-    stretches: &mut Vec<Stretch>,
+    alloc: Global,
+    units: &Units<'_>,
+    kept: &mut Collected,
     place: EntryRef,
     part: &UnitRead<'_>,
-) -> Result<(), AllocError>
-    requires count { vec_len places.old < 2 ^ 32 }
-    requires fit { AreFit stretches.old.items }
-    ensures all { OnOk result ((die : DieFields) → Some die ≡ slice_get part.now.die.dies place.entry → Collects places.old.items places.new.items stretches.old.items stretches.new.items (functions_in (entry_covering place die part.now.spans)) []) }
-    ensures fit { OnOk result (AreFit stretches.new.items) }
-    ensures count { OnOk result (vec_len places.new ≤ vec_len places.old + 1) }
+) -> Result<(), OutOfMemory>
+    requires part { slice_get units.now place.unit ≡ Some part.now }
+    requires apart { All (AreApart units.now kept.old.places.items) kept.old.sets.items }
+    requires count { vec_len kept.old.places < 2 ^ 32 }
+    requires fit { AreFit kept.old.stretches.items }
+    ensures all { OnOk result ((left : List Covering) (die : DieFields) → Some die ≡ slice_get part.now.die.dies place.entry → IsCollected units.now kept.old.places.items kept.old.stretches.items (place_key place) (entry_covering place die part.now.spans ++ left) → IsCollected units.now kept.new.places.items kept.new.stretches.items (place_key place + 1) left) }
+    ensures apart { OnOk result (All (AreApart units.now kept.new.places.items) kept.new.sets.items) }
+    ensures fit { OnOk result (AreFit kept.new.stretches.items) }
+    ensures count { OnOk result (vec_len kept.new.places ≤ vec_len kept.old.places + 1) }
 {
     // Most entries have no addresses, which is told without looking at the entry.
     let Some(spans) = part.ranges(place.entry as usize) else {
@@ -79,8 +97,46 @@ fn push_entry(
     if !die.is_function() {
         return Ok(());
     }
-    let number = places.len() as u32;
-    push_spans(stretches, number, number, spans)?;
-    places.push(place)?;
+    push_function(alloc, units, kept, place, part, spans)
+}
+
+/// Adds a function with its addresses, unless others stand for it.
+fn push_function(
+    alloc: Global,
+    units: &Units<'_>,
+    kept: &mut Collected,
+    place: EntryRef,
+    part: &UnitRead<'_>,
+    spans: &[Span],
+) -> Result<(), OutOfMemory>
+    requires part { slice_get units.now place.unit ≡ Some part.now }
+    requires set { slice_get part.now.spans place.entry ≡ Some spans.now }
+    requires canonical { IsCanonical spans.now }
+    requires some { length spans.now ≢ 0 }
+    requires apart { All (AreApart units.now kept.old.places.items) kept.old.sets.items }
+    requires count { vec_len kept.old.places < 2 ^ 32 }
+    requires fit { AreFit kept.old.stretches.items }
+    ensures all { OnOk result ((left : List Covering) (die : DieFields) → is_function die ≡ true → IsCollected units.now kept.old.places.items kept.old.stretches.items (place_key place) (record { unit = place.unit; entry = place.entry; die = die; spans = spans.now } ∷ left) → IsCollected units.now kept.new.places.items kept.new.stretches.items (place_key place + 1) left) }
+    ensures apart { OnOk result (All (AreApart units.now kept.new.places.items) kept.new.sets.items) }
+    ensures fit { OnOk result (AreFit kept.new.stretches.items) }
+    ensures count { OnOk result (vec_len kept.new.places ≤ vec_len kept.old.places + 1) }
+{
+    let set = part.spans.number(place.entry as usize);
+    let known = owners_of(kept.sets.as_slice(), set);
+    let number = kept.places.len() as u32;
+    let owners = match meet(alloc, units, part, kept.places.as_slice(), known, place)? {
+        Meeting::Known(_) => return Ok(()),
+        Meeting::New => SetOwners {
+            first: number,
+            second: None,
+        },
+        Meeting::Second(first) => SetOwners {
+            first,
+            second: Some(number),
+        },
+    };
+    push_spans(&mut kept.stretches, number, number, spans)?;
+    kept.places.push(place)?;
+    note_owners(&mut kept.sets, set, owners)?;
     Ok(())
 }

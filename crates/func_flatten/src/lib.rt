@@ -24,6 +24,7 @@ mod name_classes;
 mod owners;
 mod piece;
 mod public;
+mod set_owners;
 mod uncovered;
 
 pub use crate::line_run::LineRun;

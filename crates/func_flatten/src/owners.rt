@@ -20,7 +20,7 @@ use sym_edges::{ListOf, OutOfMemory};
 pub fn pieces(alloc: Global, units: &Units<'_>) -> Result<PieceList, OutOfMemory>
     ensures { IfOk result (λ pieces. ArePieces units.now pieces) }
 {
-    let all = collect_all(alloc, units.as_slice())?;
+    let all = collect_all(alloc, units)?;
     let covers = named_covers(alloc, units, &all)?;
     let pieces = pieces_of(alloc, covers.as_slice(), all.places.as_slice())?;
     Ok(ListOf::of(pieces))

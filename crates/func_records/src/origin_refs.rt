@@ -5,7 +5,7 @@ ghost use Rattle.die_names.specs.declared.unit_read.UnitRead.{UnitRead};
 ghost use Rattle.func_records.specs.internal.Origins.{made_name, entry_names, all_names, IsPlaced, RefsSay};
 
 use crate::place_guesses::PlaceGuesses;
-use die_names::{How, LinkGuesses, NameRef, Units, name_by};
+use die_names::{LinkGuesses, NameRef, Units, is_same_ref, name_by};
 use func_flatten::Piece;
 use inline_chain::{InlineRun, InlineRuns};
 use std::alloc::Global;
@@ -31,30 +31,12 @@ impl Model for OriginRefs {
     ghost view = { λ o. record { refs = o.refs.items; places = o.places.items } };
 }
 
-/// Whether both give a name in the same way.
-fn gives_alike(one: How, other: How) -> bool
-    ensures { result ≡ true → one ≡ other }
-{
-    match one {
-        How::Linkage => matches!(other, How::Linkage),
-        How::Joined => matches!(other, How::Joined),
-        How::Omitted => matches!(other, How::Omitted),
-    }
-}
-
-/// Whether an entry gives both names in the same way.
-fn is_same(one: NameRef, other: NameRef) -> bool
-    ensures { result ≡ true → one ≡ other }
-{
-    one.unit == other.unit && (one.entry == other.entry && gives_alike(one.how, other.how))
-}
-
 /// Whether a reference stands at a place.
 fn stands_at(refs: &[NameRef], place: u32, name: NameRef) -> bool
     ensures { result ≡ true → slice_get refs.now place ≡ Some name }
 {
     match refs.get(place as usize) {
-        Some(known) => is_same(*known, name),
+        Some(known) => is_same_ref(*known, name),
         None => false,
     }
 }

@@ -1,5 +1,5 @@
 -- The functions of the units, and the stretches of their addresses.
-use Rattle.std.specs.Prelude.{◌≡◌, ℕ, ◌+◌, ◌<◌, ◌^◌, Bool, true, false, ◌&&◌, Option, None, Some, if◌then◌else◌, map, length, List, [], ◌∷◌, ◌++◌}
+use Rattle.std.specs.Prelude.{ℕ, ◌+◌, ◌<◌, ◌^◌, Bool, true, false, ◌&&◌, Option, None, Some, if◌then◌else◌, List, [], ◌∷◌, ◌++◌}
 use Rattle.std.specs.List.{slice_get, slice_index_or}
 use Rattle.std.specs.Option.{option_map_or}
 use Rattle.sym_edges.specs.Addresses.{Range}
@@ -14,7 +14,6 @@ use Rattle.die_walk.specs.EntryKinds.{is_function}
 use Rattle.die_names.specs.Owners.{Covering, covering_from}
 use Rattle.die_names.specs.declared.unit_read.EntryRef.{EntryRef}
 use Rattle.func_flatten.specs.declared.piece.Piece.{Piece}
-use Rattle.func_flatten.specs.Pieces.{place_of}
 
 abbrev pub is_some : List Range → Bool
 is_some [] = false
@@ -63,12 +62,6 @@ pub record Numbered : Type 0 where
 abbrev pub first_function : ℕ → ℕ → List Covering → Option Numbered
 first_function a k [] = None
 first_function a k (c ∷ functions) = if has_address a c then Some (record { number = k; function = c }) else first_function a (k + 1) functions
-
--- what was collected and what is left is all
-pub record Collects (old new : List EntryRef) (before after : List Stretch) (all left : List Covering) : Type 0 where
-  pub places : new ++ map place_of left ≡ old ++ map place_of all
-  pub stretches : after ++ function_stretches own_class (length new) left ≡ before ++ function_stretches own_class (length old) all
-  pub sets : HaveSets left → HaveSets all
 
 abbrev pub piece_of : List EntryRef → Cover → Piece
 piece_of places c = record {

@@ -1,0 +1,72 @@
+-- Functions that stand for all: of those with one set of addresses, no more are collected than tell who is first and whether names differ.
+use Rattle.std.specs.Prelude.{◌≡◌, ◌⊎◌, ℕ, ◌+◌, ◌*◌, ◌<◌, ◌≤◌, Bool, true, false, not, ◌&&◌, Option, None, Some, IfSome, map, length, List, [], ◌∷◌, ◌++◌}
+use Rattle.std.specs.List.{slice_get, find, list_any}
+use Rattle.std.specs.Str.{bytes_eq}
+use Rattle.sym_edges.specs.Addresses.{Range}
+use Rattle.step_maps.specs.declared.stretch.Stretch.{Stretch}
+use Rattle.die_names.specs.declared.unit_read.UnitRead.{UnitRead}
+use Rattle.die_names.specs.declared.unit_read.EntryRef.{EntryRef}
+use Rattle.die_names.specs.Owners.{Covering}
+use Rattle.func_flatten.specs.Pieces.{place_of, covering_name}
+use Rattle.func_flatten.specs.declared.set_owners.SetOwners.{SetOwners}
+use Rattle.func_flatten.specs.declared.set_owners.Meeting.{Meeting}
+use Rattle.func_flatten.specs.declared.set_owners.Meeting.TheVariants.{New, Second, Known}
+use Rattle.func_flatten.specs.internal.Classes.{place_name, place_at, number_name}
+use Rattle.func_flatten.specs.internal.Collecting.{functions_in, all_functions, function_stretches, own_class, HaveSets, has_address}
+
+-- whether a function of another name has the address
+abbrev pub any_name : (Covering → List ℕ) → List ℕ → ℕ → List Covering → Bool
+any_name name text a functions = list_any (λ d. has_address a d && not (bytes_eq (name d) text)) functions
+
+-- some functions stand for all: at each address the first of all is the first of these, and one of another name is there just where one of these is
+pub record StandFor (name : Covering → List ℕ) (all kept : List Covering) : Type 0 where
+  pub first : (a : ℕ) → find (has_address a) kept ≡ find (has_address a) all
+  pub other : (a : ℕ) (text : List ℕ) → any_name name text a kept ≡ any_name name text a all
+
+-- the order of places in `.debug_info`
+abbrev pub place_key : EntryRef → ℕ
+place_key p = p.unit * 4294967296 + p.entry
+
+-- the functions' places rise, from a number up to and without another
+abbrev pub Rise : ℕ → ℕ → List Covering → Type 0
+Rise low high [] = low ≤ high
+Rise low high (c ∷ functions) = (low ≤ place_key (place_of c)) × Rise (place_key (place_of c) + 1) high functions
+
+-- the addresses of the entry at a place
+abbrev pub set_in : ℕ → Option UnitRead → Option (List Range)
+set_in entry None = None
+set_in entry (Some part) = slice_get part.spans entry
+
+-- the functions have the addresses of their entries
+abbrev pub AreThere : List UnitRead → List Covering → Type 0
+AreThere units [] = Unit {0}
+AreThere units (c ∷ functions) = (set_in c.entry (slice_get units c.unit) ≡ Some c.spans) × AreThere units functions
+
+-- what was collected stands for what was passed, whose places are below a number; what is left follows
+pub record IsCollected (units : List UnitRead) (places : List EntryRef) (stretches : List Stretch) (low : ℕ) (left : List Covering) : Type 0 where
+  pub functions : List Covering
+  pub passed : List Covering
+  pub whole : passed ++ functions_in left ≡ all_functions units
+  pub placed : places ≡ map place_of functions
+  pub stretched : stretches ≡ function_stretches own_class 0 functions
+  pub sets : HaveSets functions
+  pub stand : StandFor (covering_name units) passed functions
+  pub rise : Rise 0 low functions
+  pub there : AreThere units functions
+
+-- the function of a number is of this unit, and has the set of this entry
+pub record HasSet (sets : List (List Range)) (places : List EntryRef) (unit entry k : ℕ) : Type 0 where
+  pub known : k < length places
+  pub here : (place_at places k).unit ≡ unit
+  pub set : slice_get sets (place_at places k).entry ≡ slice_get sets entry
+
+-- the first function of a set and the second have different names
+abbrev pub AreApart : List UnitRead → List EntryRef → SetOwners → Type 0
+AreApart units places one = IfSome one.second (λ k. (one.first < length places) × (k < length places) × (bytes_eq (number_name units places k) (number_name units places one.first) ≡ false))
+
+-- how a function meets those that were collected: it is to be collected, also as the second one of its set, or these stand for it
+abbrev pub Meets : List UnitRead → List (List Range) → List EntryRef → EntryRef → Meeting → Type 0
+Meets units sets places place New = Unit {0}
+Meets units sets places place (Second k) = (k < length places) × (bytes_eq (place_name units place) (number_name units places k) ≡ false)
+Meets units sets places place (Known k) = HasSet sets places place.unit place.entry k
+    × ((bytes_eq (place_name units place) (number_name units places k) ≡ true) ⊎ ((l : ℕ) × HasSet sets places place.unit place.entry l × (bytes_eq (number_name units places l) (number_name units places k) ≡ false)))
