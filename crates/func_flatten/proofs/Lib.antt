@@ -5,6 +5,7 @@ pub mod FunctionLemmas
 pub mod PieceLemmas
 pub mod ClassLemmas
 pub mod NameLemmas
+pub mod BlockLemmas
 pub mod GrowingRuns
 pub mod LineLemmas
 pub mod PublicLemmas

@@ -4,3 +4,4 @@ pub mod Classes
 pub mod Growing
 pub mod Grouping
 pub mod Standing
+pub mod NameBlocks

@@ -20,6 +20,7 @@ mod functions;
 pub mod laws;
 mod line_run;
 mod lines;
+mod name_blocks;
 mod name_classes;
 mod owners;
 mod piece;
