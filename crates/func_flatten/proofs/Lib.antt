@@ -6,6 +6,7 @@ pub mod PieceLemmas
 pub mod ClassLemmas
 pub mod NameLemmas
 pub mod BlockLemmas
+pub mod FrontLemmas
 pub mod GrowingRuns
 pub mod LineLemmas
 pub mod PublicLemmas

@@ -5,3 +5,4 @@ pub mod Growing
 pub mod Grouping
 pub mod Standing
 pub mod NameBlocks
+pub mod ScopeFronts

@@ -25,6 +25,7 @@ mod name_classes;
 mod owners;
 mod piece;
 mod public;
+mod scope_keys;
 mod set_owners;
 mod uncovered;
 

@@ -1,0 +1,248 @@
+-- What scopes put in front of names, and its keys.
+use Rattle.std.proofs.Common.{◌≡◌, ℕ, zero, suc, ◌^◌, ◌<◌, ◌≤◌, ◌==◌, Bool, true, false, cond, List, [], ◌∷◌, ◌++◌, codes, Option, None, Some, unwrap_or, IfSome, take, refl, sym, ap, subst, ◌∙◌, arith, ⊎_elim, append-nil}
+use Rattle.std.proofs.lemmas.Bool.{cond-true, cond-false, eq-eqb, ne_eqb, cases_lt}
+use Rattle.std.proofs.lemmas.Bool.Decides.{nat_tests}
+use Rattle.std.proofs.lemmas.List.{append_assoc}
+use Rattle.std.specs.BTreeMap.{BTreeMap, get, is_at, Updates}
+use Rattle.std.specs.List.{slice_get}
+use Rattle.std.specs.Map.{lookup}
+use Rattle.std.specs.Option.{option_map_or}
+use Rattle.std.specs.Ordering.{nat_cmp}
+use Rattle.die_walk.specs.EntryKinds.{is_scope}
+use Rattle.die_walk.specs.EntryTable.{DieFields}
+use Rattle.die_names.specs.declared.unit_read.EntryRef.{EntryRef}
+use Rattle.die_names.specs.declared.unit_read.UnitRead.{UnitRead}
+use Rattle.die_names.specs.Names.{around, scope_front, front_at, fronts, dies_of, front_of}
+use Rattle.die_names.specs.UnitEntries.{Placed, die_from, die_in}
+use Rattle.func_flatten.specs.declared.name_blocks.NameKey.{NameKey}
+use Rattle.clean_names.specs.Names.{skip}
+use Rattle.func_flatten.specs.internal.NameBlocks.{kept_upto, kept, kept_more, BlockNumbers, Grows, IsKey}
+use Rattle.func_flatten.specs.internal.ScopeFronts.{unit_dies, outer, outer_front, inner_front, place_of, AreFronts, IsHalfway}
+use Rattle.func_flatten.proofs.BlockLemmas.{kept_joined, key_grows}
+
+-- ---- entries
+
+die_by : (o : Option UnitRead) (entry : ℕ) → die_from entry o ≡ slice_get (dies_of o) entry
+die_by None entry = refl
+die_by (Some part) entry = refl
+
+pub entry_is : (units : List UnitRead) (s : EntryRef) → die_in units s ≡ slice_get (unit_dies units s.unit) s.entry
+entry_is units s = die_by (slice_get units s.unit) s.entry
+
+-- ---- the entries around one
+
+around_none : (dies : List DieFields) (limit : ℕ) → around dies limit None ≡ []
+unfolding around
+around_none dies zero = refl
+around_none dies (suc limit) = around_none dies limit
+
+around_past : (dies : List DieFields) (limit number : ℕ) → limit ≤ number → around dies limit (Some number) ≡ []
+unfolding around
+around_past dies zero number past = refl
+around_past dies (suc limit) number past = cond-false _ _ _ (ne_eqb _ _ (λ (e : number ≡ limit). absurd (omega arith))) ∙ around_past dies limit number (omega arith)
+
+-- where the entry of the parent's number is this
+around_found : (dies : List DieFields) (limit number : ℕ) (o : Option DieFields) → number < limit → slice_get dies number ≡ o → around dies limit (Some number) ≡ option_map_or (λ d. number ∷ around dies number d.parent) o []
+unfolding around
+around_found dies zero number o below is = absurd (omega arith)
+around_found dies (suc limit) number o below is =
+    ⊎_elim
+    (λ less. cond-false _ _ _ (ne_eqb _ _ (λ (e : number ≡ limit). absurd (omega arith))) ∙ around_found dies limit number o less is)
+    (λ from.
+    let here : limit ≡ number = omega arith in
+    cond-true _ _ _ (eq-eqb _ _ (sym here))
+    ∙ subst (λ n. option_map_or (λ d. n ∷ around dies n d.parent) (slice_get dies n) [] ≡ option_map_or (λ d. number ∷ around dies number d.parent) o []) (sym here)
+    (ap (λ x. option_map_or (λ d. number ∷ around dies number d.parent) x []) is))
+    (cases_lt number limit)
+
+pub outer_nowhere : (dies : List DieFields) (entry : ℕ) → None ≡ slice_get dies entry → outer dies entry ≡ []
+unfolding outer
+outer_nowhere dies entry is = ap (λ o. option_map_or (λ d. around dies entry d.parent) o []) (sym is)
+
+pub outer_is : (dies : List DieFields) (entry : ℕ) (d : DieFields) → Some d ≡ slice_get dies entry → outer dies entry ≡ around dies entry d.parent
+unfolding outer
+outer_is dies entry d is = ap (λ o. option_map_or (λ d. around dies entry d.parent) o []) (sym is)
+
+pub outer_top : (dies : List DieFields) (entry : ℕ) (d : DieFields) → Some d ≡ slice_get dies entry → None ≡ d.parent → outer dies entry ≡ []
+outer_top dies entry d is top = outer_is dies entry d is ∙ ap (around dies entry) (sym top) ∙ around_none dies entry
+
+pub outer_past : (dies : List DieFields) (entry number : ℕ) (d : DieFields) → Some d ≡ slice_get dies entry → Some number ≡ d.parent → entry ≤ number → outer dies entry ≡ []
+outer_past dies entry number d is to past = outer_is dies entry d is ∙ ap (around dies entry) (sym to) ∙ around_past dies entry number past
+
+pub outer_lost : (dies : List DieFields) (entry number : ℕ) (d : DieFields) → Some d ≡ slice_get dies entry → Some number ≡ d.parent → number < entry → None ≡ slice_get dies number → outer dies entry ≡ []
+outer_lost dies entry number d is to below none = outer_is dies entry d is ∙ ap (around dies entry) (sym to) ∙ around_found dies entry number None below (sym none)
+
+pub outer_step : (dies : List DieFields) (entry number : ℕ) (d above : DieFields) → Some d ≡ slice_get dies entry → Some number ≡ d.parent → number < entry → Some above ≡ slice_get dies number → outer dies entry ≡ number ∷ outer dies number
+outer_step dies entry number d above is to below there =
+    outer_is dies entry d is ∙ ap (around dies entry) (sym to) ∙ around_found dies entry number (Some above) below (sym there) ∙ ap (λ l. number ∷ l) (sym (outer_is dies number above there))
+
+-- what follows one of the entries around another are those around that one
+tail_found : (dies : List DieFields) (number : ℕ) (o : Option DieFields) (xs : List ℕ) (n : ℕ) (rest : List ℕ) → slice_get dies number ≡ o
+    → ((d : DieFields) (ys : List ℕ) → o ≡ Some d → around dies number d.parent ≡ ys ++ n ∷ rest → rest ≡ outer dies n)
+    → option_map_or (λ d. number ∷ around dies number d.parent) o [] ≡ xs ++ n ∷ rest → rest ≡ outer dies n
+tail_found dies number None [] n rest at later is = absurd (cc)
+tail_found dies number None (x ∷ xs) n rest at later is = absurd (cc)
+tail_found dies number (Some d) [] n rest at later is =
+    let same : number ≡ n = cc in
+    let tail : around dies number d.parent ≡ rest = cc in
+    sym tail ∙ sym (outer_is dies number d (sym at)) ∙ ap (outer dies) same
+tail_found dies number (Some d) (x ∷ xs) n rest at later is = later d xs refl cc
+
+around_tail : (dies : List DieFields) (limit : ℕ) (parent : Option ℕ) (xs : List ℕ) (n : ℕ) (rest : List ℕ) → around dies limit parent ≡ xs ++ n ∷ rest → rest ≡ outer dies n
+unfolding around
+around_tail dies zero parent [] n rest is = absurd (cc)
+around_tail dies zero parent (x ∷ xs) n rest is = absurd (cc)
+around_tail dies (suc number) parent xs n rest is =
+    go (option_map_or (λ p. p == number) parent false) is (λ d ys later. around_tail dies number d.parent ys n rest later) (around_tail dies number parent xs n rest)
+  where
+    go : (t : Bool) → cond t (option_map_or (λ d. number ∷ around dies number d.parent) (slice_get dies number) []) (around dies number parent) ≡ xs ++ n ∷ rest
+        → ((d : DieFields) (ys : List ℕ) → around dies number d.parent ≡ ys ++ n ∷ rest → rest ≡ outer dies n)
+        → (around dies number parent ≡ xs ++ n ∷ rest → rest ≡ outer dies n) → rest ≡ outer dies n
+    go true so inside past = tail_found dies number (slice_get dies number) xs n rest refl (λ d ys at later. inside d ys later) so
+    go false so inside past = past so
+
+outer_tail : (dies : List DieFields) (entry : ℕ) (xs : List ℕ) (n : ℕ) (rest : List ℕ) → outer dies entry ≡ xs ++ n ∷ rest → rest ≡ outer dies n
+unfolding outer
+outer_tail dies entry xs n rest is = go (slice_get dies entry) xs is
+  where
+    go : (o : Option DieFields) (ys : List ℕ) → option_map_or (λ d. around dies entry d.parent) o [] ≡ ys ++ n ∷ rest → rest ≡ outer dies n
+    go None [] so = absurd (cc)
+    go None (y ∷ ys) so = absurd (cc)
+    go (Some d) ys so = around_tail dies entry d.parent ys n rest so
+
+-- ---- keys of fronts
+
+-- what is kept of two pieces more
+kept_twice : (text a b : List ℕ) → kept_more (kept_more (kept text) a) b ≡ kept (text ++ (a ++ b))
+kept_twice text a b = ap (λ l. kept_more l b) (sym (kept_joined text a)) ∙ sym (kept_joined (text ++ a) b) ∙ ap kept (append_assoc text a b)
+
+-- the key after what a scope puts in front
+pub key_scope : (old mid new : BlockNumbers) (first second third : NameKey) (d : DieFields) (name : List ℕ) → is_scope d ≡ true → name ≡ unwrap_or d.name (codes "(anonymous)")
+    → ((text : List ℕ) → IsKey old first text → IsKey mid second (kept_more text name)) → ((text : List ℕ) → IsKey mid second text → IsKey new third (kept_more text (codes "::")))
+    → (text : List ℕ) → IsKey old first (kept text) → IsKey new third (kept (text ++ scope_front d))
+unfolding scope_front
+key_scope old mid new first second third d name is named add next text of =
+    let front : scope_front d ≡ unwrap_or d.name (codes "(anonymous)") ++ codes "::" = cond-true _ _ _ is in
+    subst (IsKey new third)
+    (kept_twice text name (codes "::") ∙ ap (λ n. kept (text ++ (n ++ codes "::"))) named ∙ ap (λ f. kept (text ++ f)) (sym front))
+    (next (kept_more (kept text) name) (add (kept text) of))
+
+-- the key after what another entry does
+pub key_bare : (numbers : BlockNumbers) (key : NameKey) (d : DieFields) → is_scope d ≡ false → (text : List ℕ) → IsKey numbers key (kept text) → IsKey numbers key (kept (text ++ scope_front d))
+unfolding scope_front
+key_bare numbers key d is text of =
+    let front : scope_front d ≡ [] = cond-false _ _ _ is in
+    subst (λ l. IsKey numbers key (kept l)) (sym (append-nil text) ∙ ap (λ l. text ++ l) (sym front)) of
+
+pub key_none : (numbers : BlockNumbers) (key : NameKey) (dies : List DieFields) (k : ℕ) → None ≡ slice_get dies k → (text : List ℕ) → IsKey numbers key (kept text) → IsKey numbers key (kept (text ++ front_at dies k))
+key_none numbers key dies k is text of =
+    let front : front_at dies k ≡ [] = ap (λ o. option_map_or scope_front o []) (sym is) in
+    subst (λ l. IsKey numbers key (kept l)) (sym (append-nil text) ∙ ap (λ l. text ++ l) (sym front)) of
+
+pub front_some : (dies : List DieFields) (k : ℕ) (d : DieFields) → Some d ≡ slice_get dies k → front_at dies k ≡ scope_front d
+front_some dies k d is = ap (λ o. option_map_or scope_front o []) (sym is)
+
+-- ---- the keys that are known
+
+pub fronts_none : (units : List UnitRead) (numbers : BlockNumbers) (known : BTreeMap ℕ NameKey) → known.entries ≡ [] → AreFronts units numbers known
+unfolding AreFronts
+fronts_none units numbers known empty unit entry key few low is =
+    let none : None ≡ Some key = sym (ap (λ es. lookup (is_at (nat_cmp (place_of unit entry))) es) empty) ∙ is in
+    absurd (cc)
+
+pub fronts_grow : (units : List UnitRead) (old new : BlockNumbers) (known : BTreeMap ℕ NameKey) → Grows old new → AreFronts units old known → AreFronts units new known
+unfolding AreFronts
+fronts_grow units old new known grows are unit entry key few low is = key_grows old new key (kept (inner_front units unit entry)) grows (are unit entry key few low is)
+
+pub front_known : (units : List UnitRead) (numbers : BlockNumbers) (known : BTreeMap ℕ NameKey) (unit entry place : ℕ) (key : NameKey) → AreFronts units numbers known → unit < 2 ^ 32 → entry < 2 ^ 32 → place ≡ place_of unit entry → Some key ≡ get nat_cmp known place → IsKey numbers key (kept (inner_front units unit entry))
+unfolding AreFronts
+front_known units numbers known unit entry place key are few low at is = are unit entry key few low (ap (get nat_cmp known) (sym at) ∙ sym is)
+
+at_place : (a b : ℕ) (t : Bool) → is_at (nat_cmp a) b ≡ t → (a == b) ≡ t
+at_place a b t is = grind (arith, nat_tests, is)
+
+one_place : (unit entry other more : ℕ) → entry < 2 ^ 32 → more < 2 ^ 32 → place_of unit entry ≡ place_of other more → (unit ≡ other) × (entry ≡ more)
+one_place unit entry other more low short same = (omega arith, omega arith)
+
+pub fronts_noted : (units : List UnitRead) (numbers : BlockNumbers) (known noted : BTreeMap ℕ NameKey) (unit entry place : ℕ) (key : NameKey) → AreFronts units numbers known → entry < 2 ^ 32 → place ≡ place_of unit entry → IsKey numbers key (kept (inner_front units unit entry)) → Updates nat_cmp known noted place (Some key) → AreFronts units numbers noted
+unfolding AreFronts
+fronts_noted units numbers known noted unit entry place key are low at of updates other more found few short is =
+    go (is_at (nat_cmp place) (place_of other more)) refl (sym (updates.0 (place_of other more)) ∙ is)
+  where
+    go : (t : Bool) → is_at (nat_cmp place) (place_of other more) ≡ t → cond t (Some key) (get nat_cmp known (place_of other more)) ≡ Some found → IsKey numbers found (kept (inner_front units other more))
+    go false there so = are other more found few short so
+    go true there so =
+        (let equal : (place == place_of other more) ≡ true = at_place place (place_of other more) true there in
+        let same : place ≡ place_of other more = grind (arith, nat_tests) in
+        let both = one_place unit entry other more low short (sym at ∙ same) in
+        let one : key ≡ found = cc in
+        subst (λ k. IsKey numbers k (kept (inner_front units other more))) one
+        (subst (λ u. IsKey numbers key (kept (inner_front units u more))) both.0 (subst (λ e. IsKey numbers key (kept (inner_front units unit e))) both.1 of)))
+
+-- ---- the walk
+
+take_none : (n : ℕ) (xs : List ℕ) → xs ≡ [] → take n xs ≡ []
+take_none zero xs is = refl
+take_none (suc n) [] is = refl
+take_none (suc n) (x ∷ xs) is = absurd (cc)
+
+kept_upto_none : (limit : ℕ) → kept_upto limit [] ≡ []
+unfolding kept_upto skip
+kept_upto_none limit = take_none limit [] refl
+
+kept_none : kept [] ≡ []
+unfolding kept
+kept_none = kept_upto_none 65536
+
+-- no entry is around the last
+pub half_top : (dies : List DieFields) (numbers : BlockNumbers) (entry at : ℕ) (way : List ℕ) (key : NameKey) → way ++ outer dies at ≡ outer dies entry → outer dies at ≡ [] → IsKey numbers key [] → IsHalfway dies numbers entry way key
+half_top dies numbers entry at way key so_far none of = record {
+  rest = [];
+  around = ap (λ l. way ++ l) (sym none) ∙ so_far;
+  key_is = subst (IsKey numbers key) (sym kept_none) of;
+}
+
+-- the key of the next one is known
+pub half_known : (units : List UnitRead) (numbers : BlockNumbers) (unit entry at number : ℕ) (way : List ℕ) (key : NameKey) (found : Option NameKey) → way ++ outer (unit_dies units unit) at ≡ outer (unit_dies units unit) entry → outer (unit_dies units unit) at ≡ number ∷ outer (unit_dies units unit) number
+    → found ≡ Some key → IfSome found (λ k. IsKey numbers k (kept (inner_front units unit number))) → IsHalfway (unit_dies units unit) numbers entry way key
+unfolding inner_front
+half_known units numbers unit entry at number way key found so_far is some of = record {
+  rest = number ∷ outer (unit_dies units unit) number;
+  around = ap (λ l. way ++ l) (sym is) ∙ so_far;
+  key_is = subst (λ o. IfSome o (λ k. IsKey numbers k (kept (inner_front units unit number)))) some of;
+}
+
+-- the key after what an entry puts in front
+pub key_inner : (units : List UnitRead) (numbers : BlockNumbers) (unit entry : ℕ) (key : NameKey) → IsKey numbers key (kept (outer_front units unit entry ++ front_at (unit_dies units unit) entry)) → IsKey numbers key (kept (inner_front units unit entry))
+unfolding outer_front inner_front
+key_inner units numbers unit entry key of = of
+
+half_split : (dies : List DieFields) (numbers : BlockNumbers) (entry number : ℕ) (way last : List ℕ) (key : NameKey) → way ≡ last ++ number ∷ [] → (half : IsHalfway dies numbers entry way key) → last ++ number ∷ half.rest ≡ outer dies entry
+half_split dies numbers entry number way last key popped half = sym (append_assoc last (number ∷ []) half.rest) ∙ ap (λ l. l ++ half.rest) (sym popped) ∙ half.around
+
+-- the key where an entry is entered
+pub half_outer : (units : List UnitRead) (numbers : BlockNumbers) (unit entry number : ℕ) (way last : List ℕ) (key : NameKey) → way ≡ last ++ number ∷ [] → IsHalfway (unit_dies units unit) numbers entry way key → IsKey numbers key (kept (outer_front units unit number))
+unfolding outer_front
+half_outer units numbers unit entry number way last key popped half =
+    subst (λ l. IsKey numbers key (kept (fronts (unit_dies units unit) l))) (outer_tail (unit_dies units unit) entry last number half.rest (sym (half_split (unit_dies units unit) numbers entry number way last key popped half))) half.key_is
+
+pub half_more : (units : List UnitRead) (old new : BlockNumbers) (unit entry number : ℕ) (way last : List ℕ) (key more : NameKey) → way ≡ last ++ number ∷ [] → IsHalfway (unit_dies units unit) old entry way key → IsKey new more (kept (inner_front units unit number)) → IsHalfway (unit_dies units unit) new entry last more
+unfolding inner_front
+half_more units old new unit entry number way last key more popped half of =
+    let split = half_split (unit_dies units unit) old entry number way last key popped half in
+    let tail = outer_tail (unit_dies units unit) entry last number half.rest (sym split) in
+    record {
+      rest = number ∷ outer (unit_dies units unit) number;
+      around = ap (λ l. last ++ number ∷ l) (sym tail) ∙ split;
+      key_is = of;
+    }
+
+pub half_end : (units : List UnitRead) (numbers : BlockNumbers) (unit entry : ℕ) (way : List ℕ) (key : NameKey) → way ≡ [] → IsHalfway (unit_dies units unit) numbers entry way key → IsKey numbers key (kept (outer_front units unit entry))
+unfolding outer_front
+half_end units numbers unit entry way key none half =
+    subst (λ l. IsKey numbers key (kept (fronts (unit_dies units unit) l))) (ap (λ l. l ++ half.rest) (sym none) ∙ half.around) half.key_is
+
+-- an entry's front, as its name has it
+pub outer_front_is : (units : List UnitRead) (p : Placed) → slice_get (unit_dies units p.unit) p.entry ≡ Some p.die → outer_front units p.unit p.entry ≡ front_of units p
+unfolding outer_front front_of
+outer_front_is units p is = ap (fronts (unit_dies units p.unit)) (outer_is (unit_dies units p.unit) p.entry p.die (sym is))
