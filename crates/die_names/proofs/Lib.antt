@@ -6,6 +6,7 @@ mod JoinLemmas
 mod CutLemmas
 mod SetLemmas
 pub mod TextLemmas
+pub mod PartLemmas
 pub mod Computing
 pub mod MadeUnits
 mod WorkedNames

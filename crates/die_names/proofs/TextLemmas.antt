@@ -88,7 +88,7 @@ no_die : (units : List UnitRead) (name : NameRef) (part : UnitRead) → Some par
 unfolding entry_of
 no_die units name part is none = ap (entry_in name.unit name.entry) (sym is) ∙ ap (option_map (placed name)) (sym none)
 
-named : (units : List UnitRead) (name : NameRef) (part : UnitRead) (die : DieFields) → Some part ≡ slice_get units name.unit → Some die ≡ slice_get part.die.dies name.entry → entry_of units name.unit name.entry ≡ Some (placed name die)
+pub named : (units : List UnitRead) (name : NameRef) (part : UnitRead) (die : DieFields) → Some part ≡ slice_get units name.unit → Some die ≡ slice_get part.die.dies name.entry → entry_of units name.unit name.entry ≡ Some (placed name die)
 unfolding entry_of
 named units name part die is got = ap (entry_in name.unit name.entry) (sym is) ∙ ap (option_map (placed name)) (sym got)
 
@@ -153,7 +153,7 @@ slice_bytes units name bytes is = ap (λ o. unwrap_or o (codes "<name omitted>")
 pub text_sliced : (units : List UnitRead) (name : NameRef) (text : List ℕ) → Some text ≡ name_slice units name → text ≡ name_bytes units name
 text_sliced units name text is = sym (slice_bytes units name text (sym is))
 
-text_is : (units : List UnitRead) (name : NameRef) (part : UnitRead) (die : DieFields) (how : How) → name.how ≡ how → Some part ≡ slice_get units name.unit → Some die ≡ slice_get part.die.dies name.entry → name_bytes units name ≡ unwrap_or (bytes_by units how (placed name die)) omitted_text
+pub text_is : (units : List UnitRead) (name : NameRef) (part : UnitRead) (die : DieFields) (how : How) → name.how ≡ how → Some part ≡ slice_get units name.unit → Some die ≡ slice_get part.die.dies name.entry → name_bytes units name ≡ unwrap_or (bytes_by units how (placed name die)) omitted_text
 unfolding name_bytes
 text_is units name part die how by is got =
     ap (λ o. unwrap_or (option_and_then (bytes_by units name.how) o) omitted_text) (named units name part die is got)

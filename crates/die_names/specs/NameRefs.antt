@@ -1,7 +1,7 @@
 -- Which entry gives a name, and how.
-use Rattle.std.specs.Prelude.{ℕ, Bool, List, [], ◌∷◌, ◌++◌, codes, Option, None, Some, unwrap_or, option_and_then}
+use Rattle.std.specs.Prelude.{ℕ, Bool, if◌then◌else◌, List, [], ◌∷◌, ◌++◌, codes, Option, None, Some, unwrap_or, option_and_then}
 use Rattle.std.specs.List.{find}
-use Rattle.std.specs.Option.{option_map, is_some}
+use Rattle.std.specs.Option.{option_map, option_map_or, is_some}
 use Rattle.die_names.specs.declared.name_source.How.{How}
 use Rattle.die_names.specs.declared.name_source.How.TheVariants.{Linkage, Joined, Omitted}
 use Rattle.die_names.specs.declared.name_source.NameRef.{NameRef}
@@ -53,3 +53,11 @@ slice_by units Omitted p = None
 
 unfoldable pub name_slice : List UnitRead → NameRef → Option (List ℕ)
 name_slice units name = option_and_then (slice_by units name.how) (entry_of units name.unit name.entry)
+
+-- what the scopes around the entry of a name put in front
+abbrev pub scopes_of : List UnitRead → NameRef → List ℕ
+scopes_of units name = option_map_or (front_of units) (entry_of units name.unit name.entry) []
+
+-- bytes, after the names of the scopes where they are joined with them
+abbrev pub joined_bytes : List UnitRead → NameRef → Bool → List ℕ → List ℕ
+joined_bytes units name joined bytes = if joined then scopes_of units name ++ bytes else bytes

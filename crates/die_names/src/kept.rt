@@ -95,13 +95,21 @@ fn is_clean(bytes: &[u8]) -> bool
     are_shown(bytes)
 }
 
+/// The bytes of a name that stands in the file as a record may carry it. Takes no memory.
+pub fn clean_slice<'a>(units: &Units<'a>, name: NameRef) -> Option<&'a [u8]>
+    ensures name { IfSome result (λ bytes. bytes.now ≡ cleaned (name_bytes units.now name)) }
+    ensures clean { IfSome result (λ bytes. cleaned bytes.now ≡ bytes.now) }
+{
+    let bytes = name_slice(units, name)?;
+    if is_clean(bytes) {
+        return Some(bytes);
+    }
+    None
+}
+
 /// A name that stands in the file as a record may carry it.
 pub(crate) fn whole_name<'a>(units: &Units<'a>, name: NameRef) -> Option<EntryNameText<'a>>
     ensures { IfSome result (λ text. text ≡ cleaned (name_bytes units.now name)) }
 {
-    let bytes = name_slice(units, name)?;
-    if is_clean(bytes) {
-        return Some(EntryNameText::in_file(bytes));
-    }
-    None
+    Some(EntryNameText::in_file(clean_slice(units, name)?))
 }

@@ -12,7 +12,8 @@
 //! Here also stands which function owns an address, which inlined copies are on its chain, and which line it has
 //! (`specs/Owners.antt`), for the crates above.
 //!
-//! To read: `specs/UnitEntries.antt`, `Names.antt` and `Owners.antt`; then `unit_read`, `guesses`, `entry_search`, `name_source`, `joined_name` and `kept`.
+//! To read: `specs/UnitEntries.antt`, `Names.antt` and `Owners.antt`; then `unit_read`, `guesses`, `entry_search`, `name_source`, `joined_name`, `kept`
+//! and `parts`.
 #![tactic(auto)]
 
 mod entry_search;
@@ -21,14 +22,16 @@ mod joined_name;
 mod kept;
 pub mod laws;
 mod name_source;
+mod parts;
 mod shared_lines;
 mod span_sets;
 mod unit_read;
 
 pub use crate::guesses::LinkGuesses;
 pub use crate::joined_name::{name_slice, name_text};
-pub use crate::kept::EntryNameText;
+pub use crate::kept::{EntryNameText, clean_slice};
 pub use crate::name_source::{How, NameRef, is_same_ref, name_by, name_of};
+pub use crate::parts::{NameParts, name_parts};
 pub use crate::shared_lines::SharedLines;
 pub use crate::span_sets::SpanSets;
 pub use crate::unit_read::{EntryRef, UnitRead, Units};

@@ -142,7 +142,7 @@ grown_byte f g grow (Some held) b key is = go (length held == 67) is
     go true some = found (f block) refl some
     go false some = some
 
-grown_bytes : (f g : List ℕ → Option ℕ) → Grown f g → (held : Option (List ℕ)) (bytes key : List ℕ) → with_bytes f held bytes ≡ Some key → with_bytes g held bytes ≡ Some key
+pub grown_bytes : (f g : List ℕ → Option ℕ) → Grown f g → (held : Option (List ℕ)) (bytes key : List ℕ) → with_bytes f held bytes ≡ Some key → with_bytes g held bytes ≡ Some key
 grown_bytes f g grow held [] key is = is
 grown_bytes f g grow held (b ∷ bytes) key is = go (with_byte f held b) refl is (λ h. grown_bytes f g grow (Some h) bytes key)
   where
@@ -287,7 +287,7 @@ or_none None = refl
 or_none (Some x) = refl
 
 -- what is found after a new entry
-abbrev with_block : Option ℕ → List ℕ → List ℕ → ℕ → Option ℕ
+abbrev pub with_block : Option ℕ → List ℕ → List ℕ → ℕ → Option ℕ
 with_block found text block number = option_or found (if bytes_eq text block then Some number else None)
 
 abbrev entry_at : List (Vec ℕ × ℕ) → List ℕ → Option ℕ
@@ -314,23 +314,23 @@ inserted (e ∷ entries) key number text none = go (slice_cmp nat_cmp key.items 
     go Greater gone later_is = ap (λ o. cond (is_eq (slice_cmp nat_cmp text e.0.items)) (Some e.1) o) (later_is gone) ∙ behind (is_eq (slice_cmp nat_cmp text e.0.items))
 
 -- a block has the number that it had, or it is the new one
-data Given (old : BlockNumbers) (block key : List ℕ) (number n : ℕ) : Type 0 where
+pub data Given (old : BlockNumbers) (block key : List ℕ) (number n : ℕ) : Type 0 where
   Old : number_at old block ≡ Some n → Given old block key number n
   New : block ≡ key → number ≡ n → Given old block key number n
 
 -- a map with one more block
-record HasMore (old new : BlockNumbers) (key : List ℕ) (number : ℕ) : Type 0 where
-  more : (block : List ℕ) → number_at new block ≡ with_block (number_at old block) block key number
-  none : number_at old key ≡ None
+pub record HasMore (old new : BlockNumbers) (key : List ℕ) (number : ℕ) : Type 0 where
+  pub more : (block : List ℕ) → number_at new block ≡ with_block (number_at old block) block key number
+  pub none : number_at old key ≡ None
 
-has_more : (old new : BlockNumbers) (key : Vec ℕ) (number : ℕ) → number_at old key.items ≡ None → new.entries ≡ tree.insert_entry (λ x y. slice_cmp nat_cmp x.items y.items) old.entries key number → HasMore old new key.items number
+pub has_more : (old new : BlockNumbers) (key : Vec ℕ) (number : ℕ) → number_at old key.items ≡ None → new.entries ≡ tree.insert_entry (λ x y. slice_cmp nat_cmp x.items y.items) old.entries key number → HasMore old new key.items number
 unfolding number_at
 has_more old new key number none added = record {
   more = λ block. ap (λ l. entry_at l block) added ∙ inserted old.entries key number block none;
   none = none;
 }
 
-given : (old new : BlockNumbers) (key : List ℕ) (number : ℕ) → HasMore old new key number → (block : List ℕ) (n : ℕ) → number_at new block ≡ Some n → Given old block key number n
+pub given : (old new : BlockNumbers) (key : List ℕ) (number : ℕ) → HasMore old new key number → (block : List ℕ) (n : ℕ) → number_at new block ≡ Some n → Given old block key number n
 given old new key number has block n is = go (number_at old block) refl (bytes_eq block key) refl (sym (has.more block) ∙ is)
   where
     go : (o : Option ℕ) → number_at old block ≡ o → (b : Bool) → bytes_eq block key ≡ b → option_or o (if b then Some number else None) ≡ Some n → Given old block key number n
@@ -362,10 +362,10 @@ grows_same numbers = record { numbers = λ block n is. is }
 pub grows_twice : (old mid new : BlockNumbers) → Grows old mid → Grows mid new → Grows old new
 grows_twice old mid new first second = record { numbers = λ block n is. second.numbers block n (first.numbers block n is) }
 
-grows_more : (old new : BlockNumbers) (key : List ℕ) (number : ℕ) → HasMore old new key number → Grows old new
+pub grows_more : (old new : BlockNumbers) (key : List ℕ) (number : ℕ) → HasMore old new key number → Grows old new
 grows_more old new key number has = record { numbers = λ block n is. has.more block ∙ ap (λ o. with_block o block key number) is }
 
-newest : (old new : BlockNumbers) (key : List ℕ) (number : ℕ) → HasMore old new key number → number_at new key ≡ Some number
+pub newest : (old new : BlockNumbers) (key : List ℕ) (number : ℕ) → HasMore old new key number → number_at new key ≡ Some number
 newest old new key number has = has.more key ∙ ap (λ o. with_block o key key number) has.none ∙ ap (λ b. if b then Some number else None) ((bytes_eq-Decides key key).1 refl)
 
 -- a block that had no number has one

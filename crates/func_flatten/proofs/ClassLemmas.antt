@@ -1,5 +1,5 @@
 -- Where functions of different names share an address.
-use Rattle.std.proofs.Common.{◌≡◌, ℕ, zero, suc, ◌+◌, ◌-◌, ◌<◌, ◌≤◌, ◌==◌, Bool, true, false, not, ◌||◌, ◌&&◌, nat_le, nat_lt, if◌then◌else◌, map, List, [], ◌∷◌, ◌++◌, Option, None, Some, arith, refl, sym, ap, ◌∙◌, subst, eq-eqb, append_assoc, unwrap_or, length, get_or, take, drop, set}
+use Rattle.std.proofs.Common.{◌≡◌, ℕ, zero, suc, ◌+◌, ◌-◌, ◌<◌, ◌≤◌, ◌==◌, Bool, true, false, not, ◌||◌, ◌&&◌, nat_le, nat_lt, if◌then◌else◌, map, List, [], ◌∷◌, ◌++◌, Option, None, Some, arith, refl, sym, ap, ◌∙◌, subst, eq-eqb, length, get_or, take, drop, set}
 use Rattle.std.proofs.lemmas.Bool.Decides.{nat_tests}
 use Rattle.std.proofs.lemmas.List.Edits.{map_over_more}
 use Rattle.std.proofs.lemmas.Map.Views.{any-filter_same}
@@ -25,7 +25,8 @@ use Rattle.func_flatten.specs.Pieces.{place_of, covering_name, is_many}
 use Rattle.step_maps.specs.SpanStretches.{span_stretches}
 use Rattle.func_flatten.specs.internal.Collecting.{function_stretches, own_class}
 use Rattle.func_flatten.specs.internal.Standing.{IsCollected}
-use Rattle.func_flatten.specs.internal.Classes.{number_name, has_other_name, shared_starts, reaches_any, first_named, class_by, classed, shared_in, marked, TellMany, AreNamedCovers}
+use Rattle.func_flatten.specs.internal.MetNames.{AreNamed, IsClass}
+use Rattle.func_flatten.specs.internal.Classes.{number_name, has_other_name, shared_starts, reaches_any, classed, shared_in, marked, TellMany, AreNamedCovers}
 use Rattle.func_flatten.proofs.FunctionLemmas.{many_is, other_name_is}
 use Rattle.func_flatten.proofs.StandLemmas.{name_get}
 use Rattle.func_flatten.proofs.PieceLemmas.{stand_all}
@@ -122,39 +123,6 @@ other_kept name keep a items all =
     go None = refl
     go (Some s) = any-filter_same (λ t. reaches t a && not (bytes_eq (name t.index) (name s.index))) keep true (λ t is. all t (first_true (reaches t a) (not (bytes_eq (name t.index) (name s.index))) is)) items
 
--- the first function that has a name has it
-found_name : (name : ℕ → List ℕ) (items : List Stretch) (text : List ℕ) (k : ℕ) → first_named name items text ≡ Some k → name k ≡ text
-found_name name [] text k is = absurd (cc)
-found_name name (s ∷ items) text k is = go (bytes_eq text (name s.index)) refl is (λ found. found_name name items text k found)
-  where
-    go : (b : Bool) → bytes_eq text (name s.index) ≡ b → option_map (λ t. t.index) (if b then Some s else find (λ t. bytes_eq text (name t.index)) items) ≡ Some k → (first_named name items text ≡ Some k → name k ≡ text) → name k ≡ text
-    go true has found later = (let same : s.index ≡ k = cc in ap name (sym same) ∙ sym ((bytes_eq-Decides text (name s.index)).0 has))
-    go false has found later = later found
-
--- each of the stretches has a name among them
-some_name : (name : ℕ → List ℕ) (front later : List Stretch) (s : Stretch) → first_named name (front ++ s ∷ later) (name s.index) ≡ None → false ≡ true
-some_name name [] later s none = go (bytes_eq (name s.index) (name s.index)) ((bytes_eq-Decides (name s.index) (name s.index)).1 refl) none
-  where
-    go : (b : Bool) → b ≡ true → option_map (λ t. t.index) (if b then Some s else find (λ t. bytes_eq (name s.index) (name t.index)) later) ≡ None → false ≡ true
-    go true same is = absurd (cc)
-    go false same is = same
-some_name name (t ∷ front) later s none = go (bytes_eq (name s.index) (name t.index)) none (λ is. some_name name front later s is)
-  where
-    go : (b : Bool) → option_map (λ u. u.index) (if b then Some t else find (λ u. bytes_eq (name s.index) (name u.index)) (front ++ s ∷ later)) ≡ None → (first_named name (front ++ s ∷ later) (name s.index) ≡ None → false ≡ true) → false ≡ true
-    go true is rest = absurd (cc)
-    go false is rest = rest is
-
-class_name : (name : ℕ → List ℕ) (items front later : List Stretch) (s : Stretch) → items ≡ front ++ s ∷ later → name (class_by name items s.index) ≡ name s.index
-class_name name items front later s is = go (first_named name items (name s.index)) refl
-  where
-    go : (o : Option ℕ) → first_named name items (name s.index) ≡ o → name (unwrap_or o 0) ≡ name s.index
-    go None none = (let wrong : false ≡ true = some_name name front later s (ap (λ l. first_named name l (name s.index)) (sym is) ∙ none) in absurd (cc))
-    go (Some k) found = found_name name items (name s.index) k found
-
-class_names : (name : ℕ → List ℕ) (items front later : List Stretch) → items ≡ front ++ later → AllOf (λ s. name (class_by name items s.index) ≡ name s.index) later
-class_names name items front [] is = tt
-class_names name items front (s ∷ later) is = (class_name name items front later s is, class_names name items (front ++ s ∷ []) later (is ∙ sym (append_assoc front (s ∷ []) later)))
-
 found_classed : (class : ℕ → ℕ) (a : ℕ) (items : List Stretch) → find (λ s. reaches s a) (map (classed class) items) ≡ option_map (classed class) (find (λ s. reaches s a) items)
 found_classed class a [] = refl
 found_classed class a (s ∷ items) = go (reaches s a) (found_classed class a items)
@@ -177,22 +145,26 @@ any_classed name class s a (t ∷ items) same here all =
     ap (λ b. (reaches t a && not b) || list_any (λ u. reaches u a && not (u.class == class s.index)) (map (classed class) items)) (equal_class name class t.index s.index same all.0 here)
     ∙ ap (λ b. (reaches t a && not (bytes_eq (name t.index) (name s.index))) || b) (any_classed name class s a items same here all.1)
 
+named_all : (name : ℕ → List ℕ) (class : ℕ → ℕ) (items : List Stretch) → AreNamed name class items → AllOf (λ t. name (class t.index) ≡ name t.index) items
+named_all name class [] all = tt
+named_all name class (s ∷ items) all = (all.0, named_all name class items all.1)
+
 -- by these classes another class is there just where another name is
-shared_classed : (name : ℕ → List ℕ) (items : List Stretch) (a : ℕ) → is_shared (map (classed (class_by name items)) items) a ≡ has_other_name name items a
+shared_classed : (name : ℕ → List ℕ) (class : ℕ → ℕ) (items : List Stretch) (a : ℕ) → IsClass name class items → is_shared (map (classed class) items) a ≡ has_other_name name items a
 unfolding is_shared has_other_name first_at
-shared_classed name items a =
-    ap (λ o. option_map_or (λ s. list_any (λ t. reaches t a && not (t.class == s.class)) (map (classed (class_by name items)) items)) o false) (found_classed (class_by name items) a items)
+shared_classed name class items a is =
+    ap (λ o. option_map_or (λ s. list_any (λ t. reaches t a && not (t.class == s.class)) (map (classed class) items)) o false) (found_classed class a items)
     ∙ go (find (λ s. reaches s a) items) refl
   where
-    names : AllOf (λ t. name (class_by name items t.index) ≡ name t.index) items
-    names = class_names name items [] items refl
+    names : AllOf (λ t. name (class t.index) ≡ name t.index) items
+    names = named_all name class items is.named
 
-    go : (o : Option Stretch) → find (λ s. reaches s a) items ≡ o → option_map_or (λ s. list_any (λ t. reaches t a && not (t.class == s.class)) (map (classed (class_by name items)) items)) (option_map (classed (class_by name items)) o) false
+    go : (o : Option Stretch) → find (λ s. reaches s a) items ≡ o → option_map_or (λ s. list_any (λ t. reaches t a && not (t.class == s.class)) (map (classed class) items)) (option_map (classed class) o) false
         ≡ option_map_or (λ s. list_any (λ t. reaches t a && not (bytes_eq (name t.index) (name s.index))) items) o false
-    go None is = refl
-    go (Some s) is =
-        any_classed name (class_by name items) s a items (λ i l same. ap (λ n. unwrap_or (first_named name items n) 0) same)
-        (of_found (λ t. name (class_by name items t.index) ≡ name t.index) (λ t. reaches t a) items s names is) names
+    go None found = refl
+    go (Some s) found =
+        any_classed name class s a items is.alike
+        (of_found (λ t. name (class t.index) ≡ name t.index) (λ t. reaches t a) items s names found) names
 
 pub classed_stretches : (class : ℕ → ℕ) (items : List Stretch) → AreStretches items → AreStretches (map (classed class) items)
 classed_stretches class [] all = tt
@@ -264,12 +236,12 @@ shared_item items a = go (first_at items a)
 
 -- what was found at a shared first address tells of names
 found_other : (units : List UnitRead) (places : List EntryRef) (stretches kept named : List Stretch) (addresses : List ℕ) (items : Stepping (Option FirstItem)) (low a : ℕ) → IsCollected units places stretches low []
-    → kept ≡ filter (reaches_any addresses) stretches → named ≡ map (classed (class_by (number_name units places) kept)) kept → value_at None items a ≡ first_item named a → IsKept addresses a → shared_in (value_at None items a) ≡ is_many units a
+    → kept ≡ filter (reaches_any addresses) stretches → (class : ℕ → ℕ) × IsClass (number_name units places) class kept × (named ≡ map (classed class) kept) → value_at None items a ≡ first_item named a → IsKept addresses a → shared_in (value_at None items a) ≡ is_many units a
 found_other units places stretches kept named addresses items low a c keeps classes found all =
     ap shared_in found
     ∙ shared_item named a
-    ∙ ap (λ l. is_shared l a) classes
-    ∙ shared_classed (number_name units places) kept a
+    ∙ ap (λ l. is_shared l a) classes.2
+    ∙ shared_classed (number_name units places) classes.0 kept a classes.1
     ∙ ap (λ l. has_other_name (number_name units places) l a) keeps
     ∙ other_kept (number_name units places) (reaches_any addresses) a stretches all
     ∙ other_is units places stretches low a c
@@ -312,7 +284,7 @@ marked_runs items (c ∷ covers) = ap (λ l. cover_run c ∷ l) (marked_runs ite
 
 -- covers that are marked by what was found among the stretches that are kept
 pub covers_named : (units : List UnitRead) (places : List EntryRef) (stretches kept named : List Stretch) (covers : List Cover) (items : Stepping (Option FirstItem)) → (low : ℕ) × IsCollected units places stretches low [] → AreCovers stretches covers
-    → kept ≡ filter (reaches_any (shared_starts covers)) stretches → named ≡ map (classed (class_by (number_name units places) kept)) kept → ((a : ℕ) → a < 18446744073709551616 → value_at None items a ≡ first_item named a)
+    → kept ≡ filter (reaches_any (shared_starts covers)) stretches → (class : ℕ → ℕ) × IsClass (number_name units places) class kept × (named ≡ map (classed class) kept) → ((a : ℕ) → a < 18446744073709551616 → value_at None items a ≡ first_item named a)
     → AreNamedCovers units stretches (map (marked items) covers)
 covers_named units places stretches kept named covers items c is keeps classes found = record {
   runs = subst (λ l. IsRuns (between 0 18446744073709551616 (index_at stretches)) l) (sym (marked_runs items covers)) is.runs;

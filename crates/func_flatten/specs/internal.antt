@@ -6,3 +6,4 @@ pub mod Grouping
 pub mod Standing
 pub mod NameBlocks
 pub mod ScopeFronts
+pub mod MetNames

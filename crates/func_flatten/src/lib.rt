@@ -22,6 +22,7 @@ mod line_run;
 mod lines;
 mod name_blocks;
 mod name_classes;
+mod name_met;
 mod owners;
 mod piece;
 mod public;

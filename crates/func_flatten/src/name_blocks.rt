@@ -143,7 +143,7 @@ impl NameKey {
 
 /// The number of a block, where it has one.
 #[tactic(auto, unfolding(crate::specs::internal::NameBlocks::number_at))]
-fn number_at(numbers: &BTreeMap<Vec<u8>, u32>, block: &[u8]) -> Option<u32>
+pub(crate) fn number_at(numbers: &BTreeMap<Vec<u8>, u32>, block: &[u8]) -> Option<u32>
     ensures { result ≡ number_at numbers.now block.now }
 {
     numbers.get(block).copied()

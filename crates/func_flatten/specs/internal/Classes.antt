@@ -1,10 +1,7 @@
 -- Where functions of different names share an address.
-use Rattle.std.specs.Prelude.{◌≡◌, ℕ, ◌==◌, ◌&&◌, Bool, false, not, List, [], ◌∷◌, Option, None, Some, map, if◌then◌else◌, ◌-◌, length, unwrap_or, slice_get, slice_index_or}
-use Rattle.std.specs.BTreeMap as tree
-use Rattle.std.specs.Cmp.Lexicographic.{slice_cmp}
-use Rattle.std.specs.List.{find, list_any}
-use Rattle.std.specs.Option.{option_map, option_map_or, option_or}
-use Rattle.std.specs.Ordering.{nat_cmp}
+use Rattle.std.specs.Prelude.{◌≡◌, ℕ, ◌==◌, ◌&&◌, Bool, false, not, List, [], ◌∷◌, Option, None, Some, map, if◌then◌else◌, ◌-◌, length, slice_get, slice_index_or}
+use Rattle.std.specs.List.{list_any}
+use Rattle.std.specs.Option.{option_map_or}
 use Rattle.std.specs.Str.{bytes_eq}
 use Rattle.step_maps.specs.Runs.{IsRuns, between}
 use Rattle.step_maps.specs.Stepping.{Stepping, value_at}
@@ -14,7 +11,6 @@ use Rattle.step_maps.specs.declared.stretch.Stretch.{Stretch}
 use Rattle.step_maps.specs.Covers.{reaches, first_at, cover_run, index_at}
 use Rattle.die_names.specs.declared.unit_read.UnitRead.{UnitRead}
 use Rattle.die_names.specs.Names.{entry_name}
-use Rattle.func_flatten.specs.declared.name_classes.Names.{Names}
 use Rattle.die_names.specs.declared.unit_read.EntryRef.{EntryRef}
 use Rattle.func_flatten.specs.Pieces.{is_many}
 
@@ -42,14 +38,6 @@ shared_starts (c ∷ covers) = if c.shared then c.first ∷ shared_starts covers
 abbrev pub reaches_any : List ℕ → Stretch → Bool
 reaches_any addresses s = list_any (λ a. reaches s a) addresses
 
--- the number of the first function of some stretches that has the name
-abbrev pub first_named : (ℕ → List ℕ) → List Stretch → List ℕ → Option ℕ
-first_named name items text = option_map (λ s. s.index) (find (λ s. bytes_eq text (name s.index)) items)
-
--- the class of a function is the number of the first one that has its name
-abbrev pub class_by : (ℕ → List ℕ) → List Stretch → ℕ → ℕ
-class_by name items k = unwrap_or (first_named name items (name k)) 0
-
 abbrev pub classed : (ℕ → ℕ) → Stretch → Stretch
 classed class s = record { first = s.first; last = s.last; index = s.index; class = class s.index }
 
@@ -60,15 +48,6 @@ class_where k (Some s) = if s.index == k then Some s.class else None
 -- the class of the last stretch, where that is of the function of this number
 abbrev pub last_class : List Stretch → ℕ → Option ℕ
 last_class items k = class_where k (slice_get items (length items - 1))
-
--- the number beside a name
-abbrev pub name_number : Names → List ℕ → Option ℕ
-name_number names text = option_or (tree.get_by (λ k. slice_cmp nat_cmp text k.now) names.whole) (tree.get_by (λ k. slice_cmp nat_cmp text k.items) names.made)
-
--- a name was met: a number stands beside it, this one where there was none, and the other names are as they were
-pub record Meets (old new : Names) (name : List ℕ) (number class : ℕ) : Type 0 where
-  pub class_is : Some class ≡ option_or (name_number old name) (Some number)
-  pub names : (text : List ℕ) → name_number new text ≡ option_or (name_number old text) (if bytes_eq text name then Some number else None)
 
 abbrev pub shared_in : Option FirstItem → Bool
 shared_in None = false

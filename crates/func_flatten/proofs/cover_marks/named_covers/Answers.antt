@@ -11,14 +11,16 @@ stretches_at-requires c = rw (c.as_slice-2.ensures.value, c.in_ok-starts.ensures
 
 pub first_items-requires : goal.first_items-requires
 first_items-requires c =
-    rw (c.as_slice-5.ensures.value, c.in_ok-named.ensures)
-    (classed_stretches _ _ (rw (c.as_slice-4.ensures.value, c.in_ok-kept.ensures, c.as_slice-stretches.ensures.value) (kept_stretches _ _ (fit_stretches _ c.requires.fit))))
+    let found = c.in_ok-named.ensures in
+    rw (c.as_slice-5.ensures.value, found.2)
+    (classed_stretches found.0 _ (rw (c.as_slice-4.ensures.value, c.in_ok-kept.ensures, c.as_slice-stretches.ensures.value) (kept_stretches _ _ (fit_stretches _ c.requires.fit))))
 
 pub returns : goal.returns
 returns c =
+    let found = rw c.as_slice-3.ensures.value at c.in_ok-named.ensures in
     rw (c.of.ensures, c.mark_covers.ensures, c.into_vec.ensures)
     (covers_named c.args.units.now c.args.all.now.places.items c.args.all.now.stretches.items c.as_slice-4.result.now c.as_slice-5.result.now _ _ c.requires.all
     (rw c.as_slice-stretches.ensures.value at c.in_ok-apart.ensures)
     (c.as_slice-4.ensures.value ∙ (rw (c.as_slice-2.ensures.value, c.in_ok-starts.ensures, c.as_slice.ensures, c.as_slice-stretches.ensures.value) at c.in_ok-kept.ensures))
-    (c.as_slice-5.ensures.value ∙ (rw c.as_slice-3.ensures.value at c.in_ok-named.ensures))
+    (found.0, found.1, c.as_slice-5.ensures.value ∙ found.2)
     c.in_ok-items.ensures)

@@ -1,0 +1,47 @@
+//! The parts of a name.
+ghost use Rattle.std.specs.Prelude.{◌≡◌};
+ghost use Rattle.die_names.specs.NameRefs.{name_bytes, joined_bytes};
+
+use crate::name_source::{How, NameRef};
+use crate::unit_read::Units;
+
+/// The bytes of a name as they stand in the file, and whether the names of the scopes around its entry go in front of them.
+#[derive(Clone, Copy, Debug)]
+pub struct NameParts<'a> {
+    pub is_joined: bool,
+    pub bytes: &'a [u8],
+}
+
+/// The parts of a name, before it is cleaned. Takes no memory.
+#[tactic(auto, using(crate::proofs::PartLemmas::part_no_unit, crate::proofs::PartLemmas::part_no_die, crate::proofs::PartLemmas::part_linkage, crate::proofs::PartLemmas::part_no_linkage, crate::proofs::PartLemmas::part_joined, crate::proofs::PartLemmas::part_no_name, crate::proofs::PartLemmas::part_omitted))]
+pub fn name_parts<'a>(units: &Units<'a>, name: NameRef) -> NameParts<'a>
+    ensures { name_bytes units.now name ≡ joined_bytes units.now name result.is_joined result.bytes.now }
+{
+    let omitted = NameParts {
+        is_joined: false,
+        bytes: b"<name omitted>",
+    };
+    let Some(part) = units.unit(name.unit) else {
+        return omitted;
+    };
+    let Some(die) = part.entry(name.entry as usize) else {
+        return omitted;
+    };
+    match name.how {
+        How::Linkage => match die.linkage() {
+            Some(bytes) => NameParts {
+                is_joined: false,
+                bytes,
+            },
+            None => omitted,
+        },
+        How::Joined => match die.name() {
+            Some(bytes) => NameParts {
+                is_joined: true,
+                bytes,
+            },
+            None => omitted,
+        },
+        How::Omitted => omitted,
+    }
+}
