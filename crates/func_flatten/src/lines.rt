@@ -28,8 +28,9 @@ pub fn lines_of(
     if piece.end <= piece.start {
         return Ok(());
     }
-    put_runs(&part.lines, piece.start, piece.end, runs)?;
-    tell_apart(&part.lines, runs.as_slice());
+    let table = part.lines.table();
+    put_runs(table, piece.start, piece.end, runs)?;
+    tell_apart(table, runs.as_slice());
     Ok(())
 }
 
