@@ -41,7 +41,7 @@ pub fn call_site(units: &Units<'_>, unit: u32, entry: u32) -> CallSite
         };
     };
     CallSite {
-        path: number_of_file(&part.lines, die.call_file()),
+        path: number_of_file(part.lines.table(), die.call_file()),
         line: die.call_line(),
     }
 }

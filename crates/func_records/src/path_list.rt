@@ -52,10 +52,11 @@ fn path_in<'u>(units: &'u Units<'_>, unit: u32, path: u32) -> &'u [u8]
     let Some(part) = units.unit(unit) else {
         return &[];
     };
-    if path as usize >= part.lines.path_count() {
+    let table = part.lines.table();
+    if path as usize >= table.path_count() {
         return &[];
     }
-    part.lines.path(path)
+    table.path(path)
 }
 
 /// The text of a path.

@@ -86,7 +86,7 @@ impl<'s, 'a> UnitJob for RowMaker<'s, 'a> {
         let Some(part) = self.units.as_slice().get(k) else {
             return Err(OutOfMemory);
         };
-        number_row(alloc, &part.lines, self.sorted, gaps)
+        number_row(alloc, part.lines.table(), self.sorted, gaps)
     }
 }
 

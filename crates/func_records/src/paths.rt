@@ -101,7 +101,7 @@ fn path_starts(alloc: Global, units: &Units<'_>) -> Result<(Vec<usize>, usize), 
     let mut count: usize = 1;
     'units: for unit in 0..parts.len() {
         starts.push(count)?;
-        count = count.saturating_add(parts[unit].lines.path_count());
+        count = count.saturating_add(parts[unit].lines.table().path_count());
     }
     Ok((starts, count))
 }
