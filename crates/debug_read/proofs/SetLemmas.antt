@@ -86,6 +86,10 @@ sets_more sections unit root base code dies i made more set inside read one is =
       each = each_more says made set read.each (subst (λ (n : ℕ). says n set) (sym read.count) one);
     }))
 
+-- an entry that gives nothing has the empty set
+pub says_none : (code : List Range) (given : Result (List Range) (Located DwarfKind)) → given ≡ Ok [] → Says (IsSet code) given []
+says_none code given none = subst (λ (r : Result (List Range) (Located DwarfKind)). Says (IsSet code) r []) (sym none) (record { canonical = tt; each = λ a. refl })
+
 -- an entry that gives the pairs of an earlier one has its set
 says_again : (code : List Range) (given again : Result (List Range) (Located DwarfKind)) (set : List Range) → ((pairs : List Range) → given ≡ Ok pairs → again ≡ Ok pairs) → Says (IsSet code) given set → Says (IsSet code) again set
 says_again code (Ok pairs) again set same says = subst (λ (r : Result (List Range) (Located DwarfKind)). Says (IsSet code) r set) (sym (same pairs refl)) says

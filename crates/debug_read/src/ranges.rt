@@ -10,7 +10,7 @@ use abbrev_units::{DwarfFault, Sections, Unit};
 use die_names::SpanSets;
 use die_walk::DieTable;
 use range_lists::laws::lists_at_one_place;
-use range_lists::{listed_at, ranges_of};
+use range_lists::{counts_at, listed_at, ranges_of};
 use range_set::{Enclosing, RangeSet};
 use std::alloc::Global;
 use std::collections::BTreeMap;
@@ -161,6 +161,10 @@ pub fn read_sets(
     let mut sets = SpanSets::with_room(alloc, count)?;
     let mut lists = ListsRead::new(alloc);
     'entries: for entry in 0..count {
+        if !counts_at(table, entry as u32) {
+            sets.push(&RangeSet::empty())?;
+            continue;
+        }
         if let Some(earlier) = find_earlier(sections, unit, table, entry as u32, &mut lists)? {
             sets.push_again(earlier as usize)?;
             continue;

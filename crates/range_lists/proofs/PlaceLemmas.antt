@@ -1,5 +1,7 @@
 -- Lists that stand at one place: what they give names no entry, only their faults do.
 use Rattle.std.proofs.Common.{◌≡◌, ℕ, zero, suc, ◌+◌, ◌*◌, nat_lt, Bool, true, false, cond, List, [], ◌∷◌, length, Option, None, Some, Result, Ok, Err, refl, sym, ap, subst, ◌∙◌}
+use Rattle.std.specs.List.{slice_get}
+use Rattle.std.proofs.lemmas.Bool.{cond-false}
 use Rattle.sym_edges.specs.Addresses.{Range}
 use Rattle.sym_edges.specs.Results.{◌>>=◌}
 use Rattle.sym_edges.specs.declared.located.Located.{Located}
@@ -164,3 +166,15 @@ one_place sections unit root base place (Some one) (Some other) pairs first seco
     pairs_listed sections unit root base place other second
     ∙ read_alike (pairs_there sections unit root base place one.at) (pairs_there sections unit root base place other.at) pairs
     (there_alike sections unit root base place one.at other.at) (sym (pairs_listed sections unit root base place one first) ∙ gives)
+
+-- an entry that does not count gives nothing
+not_counted : (sections : DebugSections) (unit : Unit) (root : RootFields) (base : ℕ) (die : DieFields) → counts die ≡ false → pairs_of sections unit root base die ≡ Ok []
+unfolding pairs_of
+not_counted sections unit root base die none = cond-false _ _ _ none
+
+pub none_counted : (root : RootFields) (dies : List DieFields) (entry : ℕ) (die : DieFields) (b : Bool) → Some die ≡ slice_get dies entry → b ≡ counts die → b ≡ false → (sections : DebugSections) (unit : Unit) (base : ℕ) → pairs_at sections unit root base (slice_get dies entry) ≡ Ok []
+none_counted root dies entry die b there is none sections unit base =
+    subst (λ (o : Option DieFields). pairs_at sections unit root base o ≡ Ok []) there (not_counted sections unit root base die (sym is ∙ none))
+
+pub none_there : (root : RootFields) (dies : List DieFields) (entry : ℕ) → None ≡ slice_get dies entry → (sections : DebugSections) (unit : Unit) (base : ℕ) → pairs_at sections unit root base (slice_get dies entry) ≡ Ok []
+none_there root dies entry there sections unit base = subst (λ (o : Option DieFields). pairs_at sections unit root base o ≡ Ok []) there refl

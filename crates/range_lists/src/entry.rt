@@ -1,5 +1,7 @@
 //! The addresses of entries.
-ghost use Rattle.std.specs.Prelude.{◌≡◌, None, slice_get};
+ghost use Rattle.std.specs.Prelude.{◌≡◌, ℕ, [], None, Ok, false, slice_get};
+ghost use Rattle.abbrev_units.specs.DebugSections.{DebugSections};
+ghost use Rattle.abbrev_units.specs.declared.unit.Unit.{Unit as UnitHead};
 ghost use Rattle.die_walk.specs.EntryKinds.{counts};
 ghost use Rattle.range_lists.specs.EntryRanges.{addresses_for, unit_base, list_bytes, list_by_number, list_place, list_of, end_of, bounds_by, pairs_of, pairs_at, place_of_list, listed_at, IsRanges, IsGiven, HasNoList};
 
@@ -232,6 +234,18 @@ fn place_of_list(
     match list_place(sections, unit, root, die.at() as usize, die.ranges()) {
         Ok(place) => place,
         Err(_) => None,
+    }
+}
+
+/// Whether an entry counts, by its number in the table; after the last entry there is none. An entry that does not count gives no
+/// addresses.
+#[inline]
+pub fn counts_at(table: &DieTable<'_>, entry: u32) -> bool
+    ensures { result ≡ false → (sections : DebugSections) (unit : UnitHead) (base : ℕ) → pairs_at sections unit table.now.root base (slice_get table.now.dies entry) ≡ Ok [] }
+{
+    match table.dies().get(entry as usize) {
+        Some(die) => counts(&die),
+        None => false,
     }
 }
 

@@ -31,4 +31,4 @@ pub mod laws;
 mod list;
 mod places;
 
-pub use crate::entry::{listed_at, ranges_of, unit_base};
+pub use crate::entry::{counts_at, listed_at, ranges_of, unit_base};
