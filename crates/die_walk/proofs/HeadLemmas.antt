@@ -8,7 +8,7 @@ use Rattle.die_walk.specs.declared.heads.Head.{Head}
 use Rattle.die_walk.specs.declared.heads.Rest.{Rest}
 use Rattle.die_walk.specs.declared.heads.Rest.TheVariants as rest
 use Rattle.die_walk.specs.internal.Sites.{SiteFields}
-use Rattle.die_walk.specs.internal.Heads.{no_site, slim, site_by, site_in, whole_in, held_by, held_in, IsThere, AreThere, origin_said, spec_said, place_said}
+use Rattle.die_walk.specs.internal.Heads.{no_site, slim, site_by, site_in, whole_in, has_parent, has_name, has_linkage, is_declaration, held_by, held_in, IsThere, AreThere, origin_said, spec_said, place_said}
 use Rattle.die_walk.specs.internal.Packing.{where_said}
 use Rattle.die_walk.specs.Attributes.{as_reference, as_flag, is_yes, or_else}
 use Rattle.die_walk.specs.Picking.{text_by, die_by}
@@ -152,10 +152,10 @@ stand_held strs sites wholes (head ∷ heads) bound count stand = stand_some str
 
 -- a head that says what the values give
 pub head_is : (sections : DebugSections) (unit : Unit) (base : Option ℕ) (at : ℕ) (parent : Option ℕ) (tag : ℕ) (picks : Picks) (head : Head)
-    → head.at ≡ at → head.tag ≡ tag → where_said head.has_parent head.parent ≡ parent → head.declaration ≡ is_yes (option_and_then as_flag picks.declaration)
+    → head.at ≡ at → head.tag ≡ tag → where_said (has_parent head) head.parent ≡ parent → is_declaration head ≡ is_yes (option_and_then as_flag picks.declaration)
     → origin_said head.link head.target ≡ option_and_then (as_reference unit) picks.origin → spec_said head.link head.target ≡ option_and_then (as_reference unit) picks.spec
-    → place_said sections.strs head.has_name head.name ≡ text_by sections unit base picks.name
-    → place_said sections.strs head.has_linkage head.linkage ≡ or_else (text_by sections unit base picks.linkage) (text_by sections unit base picks.old_linkage)
+    → place_said sections.strs (has_name head) head.name ≡ text_by sections unit base picks.name
+    → place_said sections.strs (has_linkage head) head.linkage ≡ or_else (text_by sections unit base picks.linkage) (text_by sections unit base picks.old_linkage)
     → slim sections.strs head (site_by picks) ≡ die_by sections unit base at parent tag picks
 unfolding die_by
 head_is sections unit base at parent tag picks head e1 e2 e3 e4 e5 e6 e7 e8 = cc

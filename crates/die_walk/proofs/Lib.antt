@@ -1,4 +1,5 @@
 mod HeldLemmas
+mod FlagLemmas
 mod HeadLemmas
 mod ScopeLemmas
 mod TakeLemmas

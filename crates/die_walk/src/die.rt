@@ -140,7 +140,7 @@ impl<'t, 'a> Die<'t, 'a> {
         if let Some(whole) = whole_of(self.parts, self.head) {
             return whole.parent();
         }
-        if self.head.has_parent {
+        if self.head.has_parent() {
             return Some(self.head.parent);
         }
         None
@@ -152,7 +152,7 @@ impl<'t, 'a> Die<'t, 'a> {
     {
         match whole_of(self.parts, self.head) {
             Some(whole) => whole.declaration(),
-            None => self.head.declaration,
+            None => self.head.is_declaration(),
         }
     }
 
@@ -224,7 +224,7 @@ impl<'t, 'a> Die<'t, 'a> {
     {
         match whole_of(self.parts, self.head) {
             Some(whole) => whole.name().is_some(),
-            None => self.head.has_name,
+            None => self.head.has_name(),
         }
     }
 
@@ -233,7 +233,7 @@ impl<'t, 'a> Die<'t, 'a> {
     {
         match whole_of(self.parts, self.head) {
             Some(whole) => whole.name(),
-            None => text_from(self.parts.strs, self.head.has_name, self.head.name),
+            None => text_from(self.parts.strs, self.head.has_name(), self.head.name),
         }
     }
 
@@ -244,7 +244,7 @@ impl<'t, 'a> Die<'t, 'a> {
     {
         match whole_of(self.parts, self.head) {
             Some(whole) => whole.linkage().is_some(),
-            None => self.head.has_linkage,
+            None => self.head.has_linkage(),
         }
     }
 
@@ -253,7 +253,7 @@ impl<'t, 'a> Die<'t, 'a> {
     {
         match whole_of(self.parts, self.head) {
             Some(whole) => whole.linkage(),
-            None => text_from(self.parts.strs, self.head.has_linkage, self.head.linkage),
+            None => text_from(self.parts.strs, self.head.has_linkage(), self.head.linkage),
         }
     }
 

@@ -6,7 +6,7 @@ ghost use Rattle.die_walk.specs.Picking.{text_by, die_by};
 ghost use Rattle.die_walk.specs.internal.Packing.{pick_said, value_in};
 ghost use Rattle.die_walk.specs.internal.Heads.{FitsText, FitsNumber, no_site, site_by, slim, origin_said, spec_said, place_said};
 
-use crate::heads::{Head, Link, Rest, Site};
+use crate::heads::{Head, Link, Rest, Site, flags_of};
 use crate::packed::Class;
 use crate::quick::{Pick, Quick};
 use crate::texts::is_closed;
@@ -272,9 +272,11 @@ pub fn make_head(
         tag: tag as u8,
         rest: Rest::Nothing,
         link,
-        has_parent,
-        has_name,
-        has_linkage,
-        declaration: says_yes(quick.declaration),
+        flags: flags_of(
+            has_parent,
+            has_name,
+            has_linkage,
+            says_yes(quick.declaration),
+        ),
     })
 }

@@ -1,10 +1,10 @@
-//! Kept entries in two parts: a head of 32 bytes, and what does not fit into it.
+//! Kept entries in two parts: a head of 28 bytes, and what does not fit into it.
 ghost use Rattle.std.specs.Prelude.{◌≡◌, ◌<◌, ◌^◌, ◌++◌, ◌==◌, ◌∷◌, [], length, map, IfOk, OnOk};
 ghost use Rattle.std.specs.List.{slice_get};
 ghost use Rattle.std.specs.Option.{option_copied};
 ghost use Rattle.sym_edges.specs.Rising.{RisesFrom, StandBelow};
 ghost use Rattle.die_walk.specs.EntryTable.{DieFields};
-ghost use Rattle.die_walk.specs.internal.Heads.{no_site, slim, site_in, whole_in};
+ghost use Rattle.die_walk.specs.internal.Heads.{flag_if, flag_in, has_parent, has_name, has_linkage, is_declaration, no_site, slim, site_in, whole_in};
 
 use crate::die::Die;
 use crate::packed::{Class, Packed, unpack};
@@ -30,7 +30,38 @@ pub enum Link {
     Spec,
 }
 
-/// The head of an entry: names are places in `.debug_str`, `number` is that of its rest.
+const PARENT: u8 = 1;
+
+const NAME: u8 = 2;
+
+const LINKAGE: u8 = 4;
+
+const DECLARATION: u8 = 8;
+
+/// A flag where something is so.
+#[inline]
+fn flag_if(so: bool, flag: u8) -> u8
+    ensures { result ≡ flag_if so flag }
+{
+    if so { flag } else { 0 }
+}
+
+/// The flags of a head: whether it has a parent, a name and a linkage name, and whether it is a declaration.
+#[inline]
+#[tactic(auto, using(crate::proofs::FlagLemmas::parent_made, crate::proofs::FlagLemmas::name_made, crate::proofs::FlagLemmas::linkage_made, crate::proofs::FlagLemmas::declaration_made))]
+pub fn flags_of(parent: bool, name: bool, linkage: bool, declaration: bool) -> u8
+    ensures parent { flag_in 1 result ≡ parent }
+    ensures name { flag_in 2 result ≡ name }
+    ensures linkage { flag_in 4 result ≡ linkage }
+    ensures declaration { flag_in 8 result ≡ declaration }
+{
+    flag_if(parent, PARENT)
+        | flag_if(name, NAME)
+        | flag_if(linkage, LINKAGE)
+        | flag_if(declaration, DECLARATION)
+}
+
+/// The head of an entry: names are places in `.debug_str`, `number` is that of its rest. It takes 28 bytes.
 #[derive(Clone, Copy)]
 pub struct Head {
     pub at: u32,
@@ -42,10 +73,37 @@ pub struct Head {
     pub tag: u8,
     pub rest: Rest,
     pub link: Link,
-    pub has_parent: bool,
-    pub has_name: bool,
-    pub has_linkage: bool,
-    pub declaration: bool,
+    pub flags: u8,
+}
+
+impl Head {
+    #[inline]
+    pub fn has_parent(&self) -> bool
+        ensures { result ≡ has_parent self.now }
+    {
+        self.flags & PARENT != 0
+    }
+
+    #[inline]
+    pub fn has_name(&self) -> bool
+        ensures { result ≡ has_name self.now }
+    {
+        self.flags & NAME != 0
+    }
+
+    #[inline]
+    pub fn has_linkage(&self) -> bool
+        ensures { result ≡ has_linkage self.now }
+    {
+        self.flags & LINKAGE != 0
+    }
+
+    #[inline]
+    pub fn is_declaration(&self) -> bool
+        ensures { result ≡ is_declaration self.now }
+    {
+        self.flags & DECLARATION != 0
+    }
 }
 
 /// The addresses of an entry, and where it is called.
@@ -278,10 +336,7 @@ impl<'a> EntryList<'a> {
             tag: 0,
             rest: Rest::Whole,
             link: Link::Missing,
-            has_parent: false,
-            has_name: false,
-            has_linkage: false,
-            declaration: false,
+            flags: 0,
         })?;
         Ok(())
     }

@@ -1,5 +1,5 @@
 -- How a table holds a kept entry: a head, and what does not fit into it in a list of its own.
-use Rattle.std.specs.Prelude.{ℕ, ◌<◌, ◌≡◌, Bool, true, false, List, [], ◌∷◌, drop, Option, None, Some, unwrap_or}
+use Rattle.std.specs.Prelude.{ℕ, ◌<◌, ◌≡◌, ◌==◌, bit_and, Bool, true, false, not, if◌then◌else◌, List, [], ◌∷◌, drop, Option, None, Some, unwrap_or}
 use Rattle.std.specs.List.{slice_get}
 use Rattle.std.specs.Option.{option_and_then}
 use Rattle.die_walk.specs.declared.picks.Picks.{Picks}
@@ -45,20 +45,39 @@ abbrev pub place_said : List ℕ → Bool → ℕ → Option (List ℕ)
 place_said strs true place = text_said ending.Open (drop place strs)
 place_said strs false place = None
 
+-- flags of a head, a bit each
+abbrev pub flag_if : Bool → ℕ → ℕ
+flag_if so flag = if so then flag else 0
+
+abbrev pub flag_in : ℕ → ℕ → Bool
+flag_in flag flags = not (bit_and flags flag == 0)
+
+abbrev pub has_parent : Head → Bool
+has_parent head = flag_in 1 head.flags
+
+abbrev pub has_name : Head → Bool
+has_name head = flag_in 2 head.flags
+
+abbrev pub has_linkage : Head → Bool
+has_linkage head = flag_in 4 head.flags
+
+abbrev pub is_declaration : Head → Bool
+is_declaration head = flag_in 8 head.flags
+
 -- an entry by its head and its site
 abbrev pub slim : List ℕ → Head → SiteFields → DieFields
 slim strs head site = record {
   at = head.at;
   tag = head.tag;
-  parent = where_said head.has_parent head.parent;
-  declaration = head.declaration;
+  parent = where_said (has_parent head) head.parent;
+  declaration = is_declaration head;
   low = site.low;
   high = site.high;
   ranges = site.ranges;
   origin = origin_said head.link head.target;
   spec = spec_said head.link head.target;
-  name = place_said strs head.has_name head.name;
-  linkage = place_said strs head.has_linkage head.linkage;
+  name = place_said strs (has_name head) head.name;
+  linkage = place_said strs (has_linkage head) head.linkage;
   call_file = site.call_file;
   call_line = site.call_line;
 }
