@@ -261,6 +261,44 @@ def units():
         expect(f"a fault, workers: {workers}", 1, "", f"refused dwarf ends debug_info {len(read) + 12:x}\n", words)
 
 
+def shared():
+    """Functions and copies that share a list, names that are alike in namespaces and beside them, and units that share a line table."""
+    table = (ABBREVS[:-1] + b"\x06\x2e\0\x03\x08\x55\x17\0\0\x07\x1d\0\x03\x08\x55\x17\x58\x0b\x59\x0b\0\0\x08\x39\x01\x03\x08\0\0\0")
+
+    def made(info, rows=b"", listed=b""):
+        write([NULL, ID, code(0x2000), debug("info", info), debug("abbrev", table), debug("line", lines_of(rows)), debug("ranges", listed)])
+
+    listed = b"".join(struct.pack("<QQ", 0x1000 + 16 * k, 0x1008 + 16 * k) for k in range(300)) + bytes(16)
+    for names, many in ((b"a" * 300, ""), (b"ab" * 150, "m "), (b"a" * 299 + b"b", "m "), (b"abc" * 100, "m "), (b"a", "")):
+        made(unit(ROOT + b"".join(b"\x06" + names[k : k + 1] + bytes(5) for k in range(len(names))) + b"\0"), listed=listed)
+        expect(f"{len(names)} functions of one list, {names[:3]}", 0, FRONT + "".join(f"FUNC {many}{0x1000 + 16 * k:x} 8 0 a\n" for k in range(300)))
+    copies = b"".join(b"\x07" + bytes([97 + k % 2, 0]) + bytes(4) + bytes([1, k % 100 + 5]) for k in range(300))
+    made(unit(ROOT + function(b"f", 0x1000, 16 * 300, 4) + copies + b"\0\0"), listed=listed)
+    expect("300 copies of one list", 0, f"{FRONT}FILE 0 /s/a.c\nINLINE_ORIGIN 0 a\nFUNC 1000 {16 * 300:x} 0 f\nINLINE 0 5 0 0"
+           + "".join(f" {0x1000 + 16 * k:x} 8" for k in range(300)) + "\n")
+
+    # The k-th function stands in k + 1 namespaces, in two units; in a third one its name is spelled as it is.
+    inner = b"".join(b"\x08n\0" + function(b"f", 0x1000 + 16 * k, 8) for k in range(300)) + bytes(300)
+    for label, last, many in (("one name", b"f", ""), ("two names", b"g", "m ")):
+        beside = b"".join(function(b"n::" * (k + 1) + last, 0x1000 + 16 * k, 8) for k in range(300))
+        for order, units in (("behind", [inner, inner, beside]), ("in front", [beside, inner, inner])):
+            made(b"".join(unit(ROOT + one + b"\0") for one in units))
+            name = "f" if order == "behind" else last.decode()
+            expect(f"functions in namespaces, {label}, {order}", 0, FRONT + "".join(f"FUNC {many}{0x1000 + 16 * k:x} 8 0 {'n::' * (k + 1)}{name}\n" for k in range(300)))
+    for length, many in ((65_533, "m "), (65_534, "")):
+        made(unit(ROOT + b"\x08" + b"n" * length + b"\0" + function(b"f", 0x1000, 8) + function(b"g", 0x1000, 8) + b"\0\0"))
+        expect(f"a namespace of {length} bytes", 0, f"{FRONT}FUNC {many}1000 8 0 {('n' * length + '::f')[:65_536]}\n")
+    made(unit(ROOT + b"\x08n\0" + function(b"a\x01b", 0x1000, 8) + b"\0" + function(b"n::a?b", 0x1000, 8) + b"\0"))
+    expect("control bytes in a namespace", 0, FRONT + "FUNC 1000 8 0 n::a?b\n")
+
+    rows = set_address(0x1000) + b"\x03\x02\x01\x02" + leb(16 * 300) + b"\0\x01\x01"
+    info = b"".join(unit(b"\x01" + bytes(4) + b"/" + b"st"[k % 2 : k % 2 + 1] + b"\0" + function(b"f", 0x1000 + 16 * k, 8) + b"\0") for k in range(300))
+    made(info, rows)
+    for workers in ("1", "8"):
+        expect(f"units of one line table, workers: {workers}", 0, FRONT + "FILE 0 /s/a.c\nFILE 1 /t/a.c\n"
+               + "".join(f"FUNC {a:x} 8 0 f\n{a:x} 8 3 {k % 2}\n" for k, a in ((k, 0x1000 + 16 * k) for k in range(300))), words=("dump", "a.out", "--workers", workers))
+
+
 CIE = b"\x14\0\0\0\0\0\0\0\x01\0\x01\x78\x10\x0c\x07\x08\x90\x01\0\0\0\0\0\0"
 CALLED = ".cfa: $rsp 8 + .ra: .cfa -8 + ^\n"
 
@@ -311,6 +349,6 @@ def frames():
             expect(f"entries that meet, workers: {workers}", 0, out, left_out, ("dump", "a.out", "--workers", workers))
 
 
-for part in (sections_and_segments, names_and_code, functions, abbreviations, entries, lines, ranges, units, frames):
+for part in (sections_and_segments, names_and_code, functions, abbreviations, entries, lines, ranges, units, shared, frames):
     part()
 print(f"long files: {passed} passed, {failed} failed")
