@@ -10,6 +10,7 @@ pub mod NameLemmas
 pub mod SiteLemmas
 pub mod HoldLemmas
 pub mod PathLemmas
+pub mod LinePathLemmas
 pub mod NumberLemmas
 pub mod GapLemmas
 pub mod OriginLemmas

@@ -46,16 +46,6 @@ path_added old new at units path added =
     ∙ list_any-append (λ (r : PathRef). bytes_eq path (path_at units r)) old (at ∷ [])
     ∙ ap (λ b. has_path units old path || b) (or_false (bytes_eq path (path_at units at)))
 
--- the path of the first run is that of some run
-pub path_begun : (units : List UnitRead) (unit path : ℕ) (runs later : List LineRun) (r : LineRun) (text : List ℕ) → runs ≡ r ∷ later → r.path ≡ path → any_run units unit runs text ≡ (bytes_eq text (path_in units unit path) || any_run units unit runs text)
-path_begun units unit path runs later r text is same =
-    ap (λ rs. any_run units unit rs text) is ∙ once (bytes_eq text (path_in units unit r.path)) (any_run units unit later text)
-    ∙ (λ i. bytes_eq text (path_in units unit (same i)) || any_run units unit (sym is i) text)
-  where
-    once : (b c : Bool) → (b || c) ≡ (b || (b || c))
-    once true c = refl
-    once false c = refl
-
 -- the texts of paths
 pub text_next : (units : List UnitRead) (refs : List PathRef) (n : ℕ) (d : PathRef) (old : List (List ℕ)) (texts more : List (Bor (List ℕ))) (t : Bor (List ℕ)) → n < length refs → t.now ≡ path_at units (get_or refs n d) → more ≡ texts ++ t ∷ [] → bytes_of texts ≡ old ++ map (path_at units) (take n refs) → bytes_of more ≡ old ++ map (path_at units) (take (n + 1) refs)
 text_next units refs n d old texts more t below is pushed so =

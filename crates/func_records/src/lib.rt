@@ -10,7 +10,7 @@
 //! (`laws::records_have_no_findings`).
 //!
 //! To read: `functions` first, then `shares`, `found` and `finder`; `place_guesses`, `origin_refs`, `made_names` and `names`; `calls`, `path_list`,
-//! `call_paths` and `paths`; `text_ranks`, `gaps`, `numbers` and `path_rows`; `text_numbers`, `inlines` and `parts`; and `speller`.
+//! `line_paths`, `call_paths` and `paths`; `text_ranks`, `gaps`, `numbers` and `path_rows`; `text_numbers`, `inlines` and `parts`; and `speller`.
 #![tactic(auto)]
 
 mod call_paths;
@@ -21,6 +21,7 @@ mod functions;
 mod gaps;
 mod inlines;
 pub mod laws;
+mod line_paths;
 mod made_names;
 mod names;
 mod numbers;

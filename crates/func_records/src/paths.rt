@@ -1,16 +1,14 @@
 //! The paths that line records and calls name.
-ghost use Rattle.std.specs.Prelude.{◌≡◌, ℕ, List, ◌||◌, true, length, map, IfOk, OnOk};
-ghost use Rattle.std.specs.Str.{bytes_eq};
-ghost use Rattle.die_names.specs.declared.unit_read.UnitRead.{UnitRead};
-ghost use Rattle.func_records.specs.FuncRecords.{path_in};
-ghost use Rattle.func_records.specs.internal.Gathering.{bytes_of, has_text, path_at, has_path, any_run, AddsPiece, Gathered};
+ghost use Rattle.std.specs.Prelude.{◌≡◌, ℕ, List, length, map, IfOk, OnOk};
+ghost use Rattle.func_records.specs.internal.Gathering.{bytes_of, has_text, path_at, has_path, AddsPiece, Gathered};
 ghost use Rattle.func_records.specs.internal.Shares.{all_paths};
 
 use crate::call_paths::gather_calls;
 use crate::found::FoundShare;
+use crate::line_paths::gather_lines;
 use crate::path_list::{PathList, PathRef, path_text};
 use die_names::Units;
-use func_flatten::{LineRun, Piece, lines_of};
+use func_flatten::Piece;
 use inline_chain::{InlineRun, InlineRuns};
 use std::alloc::Global;
 use sym_edges::OutOfMemory;
@@ -18,44 +16,17 @@ use sym_edges::OutOfMemory;
 /// So many slots are for the paths of a share.
 const SLOTS: usize = 4096;
 
-/// Whether the first of some runs has a path.
-#[tactic(auto, using(crate::proofs::PathLemmas::path_begun))]
-fn begins_with(runs: &[LineRun], path: u32) -> bool
-    ensures { result ≡ true → (units : List UnitRead) (unit : ℕ) (text : List ℕ) → any_run units unit runs.now text ≡ (bytes_eq text (path_in units unit path) || any_run units unit runs.now text) }
-{
-    match runs.split_first() {
-        Some((run, _)) => run.path == path,
-        None => false,
-    }
-}
-
-/// Adds the paths of a piece's runs. A path that the next run has too is left to that run.
-fn gather_runs(unit: u32, runs: &[LineRun], paths: &mut PathList) -> Result<(), OutOfMemory>
-    ensures { OnOk result ((units : List UnitRead) (path : List ℕ) → has_path units paths.new path ≡ (has_path units paths.old path || any_run units unit runs.now path)) }
-{
-    let mut rest = runs;
-    'runs: while let Some((run, later)) = rest.split_first() {
-        if !begins_with(later, run.path) {
-            let path = Some(run.path);
-            paths.add(PathRef { unit, path })?;
-        }
-        rest = later;
-    }
-    Ok(())
-}
-
-/// Adds the paths of a piece. What `runs` holds does not matter: it is used again for the sake of its memory.
+/// Adds the paths of a piece.
+#[tactic(auto, using(crate::proofs::LinePathLemmas::adds_piece))]
 fn gather_piece(
     units: &Units<'_>,
     piece: &Piece,
     copies: &[InlineRun],
-    runs: &mut Vec<LineRun>,
     paths: &mut PathList,
 ) -> Result<(), OutOfMemory>
     ensures { OnOk result (AddsPiece units.now piece.now copies.now paths.old paths.new) }
 {
-    lines_of(units, piece, runs)?;
-    gather_runs(piece.unit, runs.as_slice(), paths)?;
+    gather_lines(units, piece, paths)?;
     gather_calls(units, piece.unit, copies, paths)?;
     Ok(())
 }
@@ -71,10 +42,9 @@ pub fn gather_paths(
     ensures { IfOk result (λ refs. Gathered units.now pieces.now held.now (has_path units.now refs.items)) }
 {
     let mut paths = PathList::new(alloc, SLOTS)?;
-    let mut runs = Vec::new(alloc);
     'pieces: for place in 0..pieces.len() {
         let copies = held[place].as_slice();
-        gather_piece(units, &pieces[place], copies, &mut runs, &mut paths)?;
+        gather_piece(units, &pieces[place], copies, &mut paths)?;
     }
     Ok(paths.into_refs())
 }
