@@ -70,7 +70,7 @@ in_first x n (Some p) spans items a canonical = go (p == x) refl
         neither true = refl
         neither false = refl
 
-copy_first : (x n : ℕ) (die : DieFields) (above : Option ℕ) (spans : List Range) (items : List Stretch) (a : ℕ) → (is_inlined die ≡ true → IsCanonical spans)
+pub copy_first : (x n : ℕ) (die : DieFields) (above : Option ℕ) (spans : List Range) (items : List Stretch) (a : ℕ) → (is_inlined die ≡ true → IsCanonical spans)
     → index_at (of_class x (copy_by die above n spans) ++ items) a ≡ (if is_inlined die && (holds_any spans a && is_number x above) then Some n else index_at items a)
 copy_first x n die above spans items a canonical = go (is_inlined die) canonical
   where

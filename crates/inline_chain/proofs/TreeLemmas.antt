@@ -11,7 +11,7 @@ use Rattle.die_walk.specs.EntryTable.{DieFields}
 use Rattle.die_names.specs.declared.unit_read.UnitRead.{UnitRead}
 use Rattle.die_names.specs.UnitEntries.{places}
 use Rattle.step_maps.specs.SpanStretches.{AreFit}
-use Rattle.inline_chain.specs.internal.Copies.{of_class, HaveClasses, IsList, AreLists, ListsTo, HaveSets, child_stretches, TreeFor, AddsCovers}
+use Rattle.inline_chain.specs.internal.Copies.{of_class, HaveClasses, IsList, AreLists, ListsTo, HaveSets, TellChildren, TreeFor, AddsCovers}
 use Rattle.inline_chain.specs.Trees.{list_of, child_at, IsTree, AreTrees}
 use Rattle.inline_chain.proofs.ChildLemmas.{index_children}
 use Rattle.inline_chain.proofs.CollectLemmas.{got_front, got_last}
@@ -79,12 +79,12 @@ pub lists_all : (items : List Stretch) (lists : List (List Cover)) (n count : �
 lists_all items lists n count less below to x = ⊎_elim (λ less. to.each x less) (λ from. empty_list items lists x (omega (arith, to.many)) (none_of x n items below (omega arith))) (cases_lt x count)
 
 -- the lists of a unit's copies are its tree
-pub tree_is : (part : UnitRead) (items : List Stretch) (lists : List (List Cover)) → items ≡ child_stretches part.die.dies 0 part.die.dies part.spans → HaveSets part.die.dies part.spans → AreLists items lists → IsTree part lists
+pub tree_is : (part : UnitRead) (items : List Stretch) (lists : List (List Cover)) → TellChildren part.die.dies part.spans items → HaveSets part.die.dies part.spans → AreLists items lists → IsTree part lists
 unfolding child_at
-tree_is part items lists items_are sets are x =
+tree_is part items lists told sets are x =
     same_runs _ _ (map cover_run (list_of lists x))
     (between_same 0 18446744073709551616 (index_at (of_class x items)) (child_at part x)
-    (λ a. ap (λ l. index_at (of_class x l) a) items_are ∙ index_children part.die.dies x 0 part.die.dies part.spans a sets))
+    (λ a. told x a ∙ index_children part.die.dies x 0 part.die.dies part.spans a sets))
     (are x)
 
 -- the trees of the first units

@@ -1,11 +1,12 @@
 //! The addresses of inlined copies, each with the entry that it stands in.
-ghost use Rattle.std.specs.Prelude.{◌≡◌, ◌<◌, ◌^◌, ◌++◌, true, length, IfOk, OnOk};
+ghost use Rattle.std.specs.Prelude.{◌≡◌, ◌<◌, ◌^◌, true, length, IfOk, OnOk};
 ghost use Rattle.range_set.specs.Canonical.{IsCanonical};
 ghost use Rattle.die_walk.specs.EntryKinds.{is_inlined};
 ghost use Rattle.step_maps.specs.SpanStretches.{AreFit};
-ghost use Rattle.inline_chain.specs.internal.Copies.{HaveSets, set_in, copy_by, child_stretches};
+ghost use Rattle.inline_chain.specs.internal.Copies.{SaysInside, HaveSets, set_in, AddsCopy, TellChildren};
 
 use crate::inside::inside_of;
+use crate::met_copies::MetCopies;
 use die_names::UnitRead;
 use die_walk::Die;
 use std::alloc::{AllocError, Global};
@@ -23,16 +24,19 @@ fn spans_in<'u>(part: &'u UnitRead<'_>, entry: usize) -> &'u [Span]
     }
 }
 
-/// Adds the stretches of an entry, where it is an inlined copy that stands in another entry.
+/// Adds the stretches of an entry, where it is an inlined copy that stands in another entry, unless an earlier copy there has its set.
+#[tactic(auto, using(crate::proofs::CollectLemmas::adds_other, crate::proofs::CollectLemmas::adds_nowhere, crate::proofs::CollectLemmas::adds_earlier, crate::proofs::CollectLemmas::adds_spans))]
 fn push_copy(
+    met: &mut MetCopies,
     stretches: &mut Vec<Stretch>,
     part: &UnitRead<'_>,
+    row: &[Option<u32>],
     number: u32,
     die: &Die<'_, '_>,
     above: Option<u32>,
 ) -> Result<(), AllocError>
     requires fit { AreFit stretches.old.items }
-    ensures same { OnOk result (stretches.new.items ≡ stretches.old.items ++ copy_by die.now above number (set_in part.now.spans number)) }
+    ensures same { OnOk result (AddsCopy part.now.die.dies part.now.spans row.now number die.now above stretches.old.items stretches.new.items) }
     ensures fit { OnOk result (AreFit stretches.new.items) }
     ensures canonical { OnOk result (is_inlined die.now ≡ true → IsCanonical (set_in part.now.spans number)) }
 {
@@ -43,27 +47,39 @@ fn push_copy(
     let Some(class) = above else {
         return Ok(());
     };
+    if met.meet(part, row, number, class)? {
+        return Ok(());
+    }
     push_spans(stretches, number, class, spans)?;
     Ok(())
 }
 
 /// The stretches of the inlined copies of a unit, in the order of their entries; the class of each is the number of the entry that it
-/// stands in.
+/// stands in. Of copies directly in one entry that have one set, only the first is collected: the others are the first nowhere.
 pub fn collect_copies(alloc: Global, part: &UnitRead<'_>) -> Result<Vec<Stretch>, AllocError>
     requires { length part.now.die.dies < 2 ^ 32 }
-    ensures items { IfOk result (λ items. items.items ≡ child_stretches part.now.die.dies 0 part.now.die.dies part.now.spans) }
+    ensures items { IfOk result (λ items. TellChildren part.now.die.dies part.now.spans items.items) }
     ensures fit { IfOk result (λ items. AreFit items.items) }
     ensures sets { IfOk result (λ items. HaveSets part.now.die.dies part.now.spans) }
 {
     let count = part.die.dies().len();
     let mut row = Vec::with_capacity(alloc, count)?;
+    let mut met = MetCopies::new(alloc);
     let mut stretches = Vec::new(alloc);
     'entries: for entry in 0..count {
         let Some(die) = part.entry(entry) else {
             return Ok(stretches);
         };
         let above = inside_of(part, row.as_slice(), &die);
-        push_copy(&mut stretches, part, entry as u32, &die, above)?;
+        push_copy(
+            &mut met,
+            &mut stretches,
+            part,
+            row.as_slice(),
+            entry as u32,
+            &die,
+            above,
+        )?;
         row.push(above)?;
     }
     Ok(stretches)

@@ -1,7 +1,8 @@
 -- The inlined copies of a unit, as they are collected and sorted by the entries that they stand in.
-use Rattle.std.specs.Prelude.{◌≡◌, ℕ, suc, ◌+◌, ◌<◌, ◌≤◌, ◌==◌, if◌then◌else◌, List, [], ◌∷◌, ◌++◌, map, filter, drop, length, Option, None, Some, true, unwrap_or}
+use Rattle.std.specs.Prelude.{◌≡◌, ◌⊎◌, ℕ, suc, ◌+◌, ◌<◌, ◌≤◌, ◌==◌, ◌&&◌, Bool, if◌then◌else◌, List, [], ◌∷◌, ◌++◌, map, filter, drop, length, Option, None, Some, true, unwrap_or}
 use Rattle.std.specs.List.{slice_get}
 use Rattle.sym_edges.specs.Addresses.{Range}
+use Rattle.range_set.specs.Members.{holds_any}
 use Rattle.range_set.specs.Canonical.{IsCanonical}
 use Rattle.step_maps.specs.Runs.{IsRuns, between}
 use Rattle.step_maps.specs.declared.stretch.Stretch.{Stretch}
@@ -12,7 +13,7 @@ use Rattle.die_names.specs.declared.unit_read.UnitRead.{UnitRead}
 use Rattle.die_walk.specs.EntryKinds.{is_inlined}
 use Rattle.die_names.specs.Owners.{inside_of}
 use Rattle.step_maps.specs.SpanStretches.{span_stretches, AreFit}
-use Rattle.inline_chain.specs.Trees.{list_of, IsTree}
+use Rattle.inline_chain.specs.Trees.{is_number, list_of, IsTree}
 
 -- the addresses of the entry of a number, of the class of the entry that it stands in
 abbrev pub stretches_in : ℕ → Option ℕ → List Range → List Stretch
@@ -63,10 +64,37 @@ abbrev pub HaveSets : List DieFields → List (List Range) → Type 0
 HaveSets (die ∷ dies) (spans ∷ sets) = (is_inlined die ≡ true → IsCanonical spans) × HaveSets dies sets
 HaveSets _ _ = Prim.Unit {0}
 
--- what was collected of the first entries, and what is left, is all
+-- the entry is an inlined copy with the address that stands in that entry
+abbrev pub is_copy_in : DieFields → Option ℕ → List Range → ℕ → ℕ → Bool
+is_copy_in die above spans x a = is_inlined die && (holds_any spans a && is_number x above)
+
+-- there is one
+abbrev pub IsFound : Option ℕ → Type 0
+IsFound None = ⊥
+IsFound (Some n) = Prim.Unit {0}
+
+-- the first stretch of a class that has an address is of the entry that it is of among the stretches of all copies
+abbrev pub TellChildren : List DieFields → List (List Range) → List Stretch → Type 0
+TellChildren all sets items = (x a : ℕ) → index_at (of_class x items) a ≡ index_at (of_class x (child_stretches all 0 all sets)) a
+
+-- an entry that was passed is an inlined copy in the same entry as that of a number, and has its set
+pub record HasEarlier (all : List DieFields) (sets : List (List Range)) (row : List (Option ℕ)) (number : ℕ) (above : Option ℕ) : Type 0 where
+  pub entry : ℕ
+  pub die : DieFields
+  pub there : slice_get all entry ≡ Some die
+  pub inlined : is_inlined die ≡ true
+  pub beside : slice_get row entry ≡ Some above
+  pub set : slice_get sets entry ≡ slice_get sets number
+
+-- the stretches of an entry are added, unless an earlier one stands for it
+abbrev pub AddsCopy : List DieFields → List (List Range) → List (Option ℕ) → ℕ → DieFields → Option ℕ → List Stretch → List Stretch → Type 0
+AddsCopy all sets row number die above old new = (new ≡ old ++ copy_by die above number (set_in sets number)) ⊎ ((new ≡ old) × HasEarlier all sets row number above)
+
+-- what was collected of the first entries tells, with what is left, the same as all, and tells of each copy's addresses
 pub record Collects (all : List DieFields) (sets : List (List Range)) (count : ℕ) (row : List (Option ℕ)) (items : List Stretch) : Type 0 where
   pub inside : SaysInside all row count
-  pub items_are : items ++ child_stretches all count (drop count all) (drop count sets) ≡ child_stretches all 0 all sets
+  pub same : (x a : ℕ) → index_at (of_class x (items ++ child_stretches all count (drop count all) (drop count sets))) a ≡ index_at (of_class x (child_stretches all 0 all sets)) a
+  pub held : (k : ℕ) (die : DieFields) (x a : ℕ) → k < count → slice_get all k ≡ Some die → is_copy_in die (inside_of all k die.parent) (set_in sets k) x a ≡ true → IsFound (index_at (of_class x items) a)
   pub fit : AreFit items
   pub sets_are : HaveSets (drop count all) (drop count sets) → HaveSets all sets
 

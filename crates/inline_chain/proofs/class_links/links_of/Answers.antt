@@ -1,5 +1,4 @@
-use Rattle.std.proofs.Common.{ap, length, arith}
-use Rattle.std.proofs.lemmas.List.{length-append}
+use Rattle.std.proofs.Common.{arith}
 use Rattle.inline_chain.proofs.LinkLemmas.{links_begin, class_inside, links_few, links_more}
 use Rattle.inline_chain.proofs.class_links.links_of.Goals as goal
 
