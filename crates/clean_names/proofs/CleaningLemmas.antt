@@ -33,7 +33,7 @@ shown_cond true b bytes is = is
 shown_cond false b bytes is = refl
 
 -- spaces go before or after the bytes are shown
-skip_shown : (bytes : List ℕ) → skip is_space (map shown_byte bytes) ≡ map shown_byte (skip is_space bytes)
+pub skip_shown : (bytes : List ℕ) → skip is_space (map shown_byte bytes) ≡ map shown_byte (skip is_space bytes)
 unfolding skip
 skip_shown [] = refl
 skip_shown (b ∷ bytes) = ap (λ t. cond t (skip is_space (map shown_byte bytes)) (shown_byte b ∷ map shown_byte bytes)) (shown_space b) ∙ shown_cond (b == 32) b bytes (skip_shown bytes)

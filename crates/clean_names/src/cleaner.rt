@@ -9,9 +9,9 @@ use sym_edges::{ByteRun, OutOfMemory};
 /// A name has at most so many bytes.
 const NAME_LIMIT: usize = 65_536;
 
-/// The bytes without the spaces in front.
+/// The bytes without the spaces in front. Takes no memory.
 #[tactic(auto, using(crate::proofs::SkipLemmas::skip_stop, crate::proofs::SkipLemmas::skip_more, crate::proofs::SkipLemmas::skip_end))]
-fn unspaced(bytes: &[u8]) -> &[u8]
+pub fn unspaced(bytes: &[u8]) -> &[u8]
     ensures { result.now ≡ skip is_space bytes.now }
 {
     for (at, b) in bytes.iter().enumerate() {
@@ -23,7 +23,8 @@ fn unspaced(bytes: &[u8]) -> &[u8]
 }
 
 /// The byte, or `?` for a control byte.
-fn shown_byte(b: u8) -> u8
+#[inline]
+pub fn shown_byte(b: u8) -> u8
     ensures { result ≡ shown_byte b }
 {
     if b < 0x20 || b == 0x7f { b'?' } else { b }

@@ -15,6 +15,7 @@ use Rattle.std.specs.Map.{lookup}
 use Rattle.std.specs.Option.{option_map, option_or}
 use Rattle.std.specs.Ordering.{nat_cmp, match_ordering, is_eq}
 use Rattle.std.specs.Str.{bytes_eq}
+use Rattle.clean_names.proofs.CleaningLemmas.{skip_shown}
 use Rattle.clean_names.specs.Names.{is_space, skip}
 use Rattle.clean_names.specs.Cleaning.{shown_byte, or_omitted, cleaned_upto, cleaned}
 use Rattle.func_flatten.specs.declared.name_blocks.NameKey.{NameKey}
@@ -22,19 +23,6 @@ use Rattle.func_flatten.specs.declared.name_blocks.NameBlocks.{NameBlocks}
 use Rattle.func_flatten.specs.internal.NameBlocks.{kept_upto, kept, kept_more_upto, kept_more, begun, kept_part, BlockNumbers, number_bytes, number_at, with_byte, with_bytes, text_key, AreNumbered, Grows, IsKey}
 
 -- ---- what is kept
-
-shown_space : (b : ℕ) → (shown_byte b == 32) ≡ (b == 32)
-shown_space b = grind (arith, nat_tests)
-
-shown_cond : (t : Bool) (b : ℕ) (bytes : List ℕ) → skip is_space (map shown_byte bytes) ≡ map shown_byte (skip is_space bytes) → cond t (skip is_space (map shown_byte bytes)) (shown_byte b ∷ map shown_byte bytes) ≡ map shown_byte (cond t (skip is_space bytes) (b ∷ bytes))
-shown_cond true b bytes is = is
-shown_cond false b bytes is = refl
-
--- spaces go before or after the bytes are shown
-skip_shown : (bytes : List ℕ) → skip is_space (map shown_byte bytes) ≡ map shown_byte (skip is_space bytes)
-unfolding skip
-skip_shown [] = refl
-skip_shown (b ∷ bytes) = ap (λ t. cond t (skip is_space (map shown_byte bytes)) (shown_byte b ∷ map shown_byte bytes)) (shown_space b) ∙ shown_cond (b == 32) b bytes (skip_shown bytes)
 
 -- a cleaned name is what is kept, where anything is
 pub cleaned_kept : (bytes : List ℕ) → cleaned bytes ≡ or_omitted (kept bytes)

@@ -12,7 +12,8 @@
 //! function has too are given classes by their functions' names, and swept once more (`step_maps::first_items`). A name that stands
 //! clean in the file is compared where it stands. Lines are walked stop by stop, and sorted symbols are merged with the pieces.
 //!
-//! To read: `piece`, `functions`, `name_classes`, `cover_marks` and `owners`; then `line_run` and `lines`; then `public` and `uncovered`; last `laws`.
+//! To read: `piece`, `set_owners`, `functions`; for names `name_blocks`, `scope_keys`, `name_met` and `name_classes`; then `cover_marks` and `owners`; `line_run`
+//! and `lines`; `public` and `uncovered`; last `laws`.
 #![tactic(auto)]
 
 mod cover_marks;

@@ -8,6 +8,7 @@ ghost use Rattle.clean_names.specs.Names.{is_space, skip};
 ghost use Rattle.clean_names.specs.Cleaning.{shown_byte};
 ghost use Rattle.func_flatten.specs.internal.NameBlocks.{kept, kept_more, begun, kept_part, BlockNumbers, number_bytes, number_at, with_byte, with_bytes, text_key, AreNumbered, Grows, IsKey};
 
+use clean_names::{shown_byte, unspaced};
 use std::alloc::Global;
 use std::collections::BTreeMap;
 use sym_edges::OutOfMemory;
@@ -32,26 +33,6 @@ pub(crate) struct NameBlocks {
     numbers: BTreeMap<Vec<u8>, u32>,
     count: u32,
     ghost numbered: { AreNumbered numbers count },
-}
-
-/// The bytes without the spaces in front.
-#[tactic(auto, using(clean_names::proofs::SkipLemmas::skip_stop, clean_names::proofs::SkipLemmas::skip_more, clean_names::proofs::SkipLemmas::skip_end))]
-fn unspaced(bytes: &[u8]) -> &[u8]
-    ensures { result.now ≡ skip is_space bytes.now }
-{
-    for (at, b) in bytes.iter().enumerate() {
-        if *b != b' ' {
-            return bytes.split_at(at).1;
-        }
-    }
-    &[]
-}
-
-/// The byte, or `?` for a control byte.
-fn shown_byte(b: u8) -> u8
-    ensures { result ≡ shown_byte b }
-{
-    if b < 0x20 || b == 0x7f { b'?' } else { b }
 }
 
 /// Without spaces in front where the text has no bytes yet.
