@@ -1,4 +1,4 @@
--- Pairs that change no entry are passed over, for tables::needed_pairs.
+-- Pairs that change no entry are passed over, for tables::keep_needed.
 use Rattle.std.proofs.Common.{◌≡◌, ◌<◌, ◌≤◌, ℕ, zero, suc, ◌+◌, ◌==◌, ◌||◌, Bool, cond, true, false, List, [], ◌∷◌, ◌++◌, append_assoc, append-nil, length, get_or, drop, nat_lt, Option, Some, None, Result, Ok, Err, refl, sym, ◌∙◌, ap, arith}
 use Rattle.std.specs.Option.{option_or}
 use Rattle.std.proofs.lemmas.List.{drop_more, drop_all}

@@ -226,8 +226,8 @@ all_more kept stops covers first numbers painted more place number d end steppin
   last = λ some. up_to_end stops (place + 1) (last_from 0 more.stops) (subst (UpToEnd (last_from 0 more.stops)) at_end last) some;
 }
 
-pub all_done : (kept : List Counted) (stops : List ℕ) (covers : List (Option FirstItem)) (first : ℕ) (numbers : List ℕ) (painted : Stepping PathLine) (place : ℕ) → PaintsAll kept stops covers first numbers painted place → length stops ≤ place → (a : ℕ) → value_at no_line painted a ≡ wanted kept stops covers first numbers a
-all_done kept stops covers first numbers painted place p all a = p.done a (λ h. absurd (omega arith))
+pub all_done : (kept : List Counted) (stops : List ℕ) (covers : List (Option FirstItem)) (first : ℕ) (numbers : List ℕ) (painted shrunk : Stepping PathLine) (place : ℕ) → PaintsAll kept stops covers first numbers painted place → length stops ≤ place → shrunk ≡ painted → (a : ℕ) → value_at no_line shrunk a ≡ wanted kept stops covers first numbers a
+all_done kept stops covers first numbers painted shrunk place p all same a = ap (λ steps. value_at no_line steps a) same ∙ p.done a (λ h. absurd (omega arith))
 
 pub piece_last : (last : ℕ) (end : Option ℕ) (at : ℕ) → end ≡ Some at → last ≤ at → UpToEnd last end
 piece_last last end at is le = subst (UpToEnd last) (sym is) le

@@ -6,7 +6,7 @@
 //! whose range is code and has the address counts, in it the rows at or below the address, of these the greatest address, and of
 //! these the last ([`LineTable::line_at`]). Lines change at [`LineTable::stops`] alone; whoever goes over the addresses of a
 //! function walks these with [`LineTable::line_from`]. Each file has a path ([`LineTable::file`], [`LineTable::path`]),
-//! joined with its directory and cleaned, and each path has one number.
+//! joined with its directory and cleaned, and each path has one number. Tables are read one after another in a [`LineScratch`].
 //!
 //! The definitions stand in `specs/`, in the standard's order: `Headers`, `FileTables`, `Paths`; `Opcodes` (how they are read) and
 //! `LineRows` (what they do); `LineAt` (the line of an address, by a search of all rows); `LineTables` (all of it). Contracts
@@ -14,7 +14,7 @@
 //! rows only where they are not in order, lays the sequences over one another by halves, and paints their rows once.
 //!
 //! To read: `program`, `opcode`, `opcode_reader`, `machine` and `program_run`; then `header`, `entries`, `tables` and `paths`; then `row_order`,
-//! `stretches`, `line_map`, `path_numbers` and `table`; last `lines`.
+//! `stretches`, `line_map`, `path_numbers` and `table`; last `scratch` and `lines`.
 #![tactic(auto)]
 
 mod entries;
@@ -35,9 +35,11 @@ mod program;
 mod program_run;
 mod row;
 mod row_order;
+mod scratch;
 mod stretches;
 mod table;
 mod tables;
 
 pub use crate::lines::read_lines;
+pub use crate::scratch::LineScratch;
 pub use crate::table::LineTable;

@@ -178,5 +178,6 @@ pub fn paint_all(
             end,
         )?;
     }
+    painted.shrink();
     Ok(painted)
 }

@@ -13,6 +13,7 @@ use crate::machine::{LineSequence, Machine};
 use crate::paths::Directories;
 use crate::program::Program;
 use crate::program_run::run_program;
+use crate::scratch::LineScratch;
 use crate::table::LineTable;
 use crate::tables::{Tables, read_tables};
 use abbrev_units::{DwarfFault, DwarfKind, Sections};
@@ -21,6 +22,7 @@ use leb_cursor::Cursor;
 use range_set::Enclosing;
 use std::alloc::Global;
 use std::marker::Model;
+use std::mem::replace;
 use sym_edges::{Located, OutOfMemory, Sect, Stop};
 
 /// What a line table says: its sequences, the number of its first file, and the files' paths.
@@ -43,6 +45,7 @@ impl Model for Lines {
 #[tactic(auto, unfolding(crate::specs::LineTables::lines_of))]
 fn name_files<'a>(
     alloc: Global,
+    scratch: &mut LineScratch,
     comp_dir: &[u8],
     version: u16,
     tables: Tables<'a>,
@@ -54,10 +57,11 @@ fn name_files<'a>(
         directories,
         mut files,
     } = tables;
-    let (sequences, mut defined) = machine.into_parts();
+    let (sequences, mut defined, rows) = machine.into_parts();
+    scratch.rows = rows;
     files.append(&mut defined)?;
     let directories = Directories::of(alloc, version, comp_dir, directories.as_slice())?;
-    let files = directories.paths_of(alloc, files.as_slice())?;
+    let files = directories.paths_of(alloc, &mut scratch.texts, files.as_slice())?;
     Ok(Lines {
         sequences,
         first: if version == 5 { 0 } else { 1 },
@@ -69,6 +73,7 @@ fn name_files<'a>(
 #[tactic(auto, using(crate::proofs::KeptLemmas::lines_read, crate::proofs::KeptLemmas::lines_refused))]
 fn read_rows<'a>(
     alloc: Global,
+    scratch: &mut LineScratch,
     comp_dir: &[u8],
     program: &Program<'a>,
     tables: Tables<'a>,
@@ -76,11 +81,12 @@ fn read_rows<'a>(
 ) -> Reading<Lines>
     ensures { IfOk result (λ read. read ≡ or_kept_lines (program_lines comp_dir.now program.now tables.entry opcodes.entry)) }
 {
-    let machine = match run_program(alloc, program, opcodes)? {
+    let rows = replace(&mut scratch.rows, Vec::new(alloc));
+    let machine = match run_program(alloc, rows, program, opcodes)? {
         Ok(machine) => machine,
         Err(fault) => return Ok(Err(fault)),
     };
-    let lines = name_files(alloc, comp_dir, program.version, tables, machine)?;
+    let lines = name_files(alloc, scratch, comp_dir, program.version, tables, machine)?;
     Ok(Ok(lines))
 }
 
@@ -88,6 +94,7 @@ fn read_rows<'a>(
 #[tactic(auto, unfolding(crate::specs::LineTables::lines_at))]
 fn read_ahead<'a>(
     alloc: Global,
+    scratch: &mut LineScratch,
     sections: &Sections<'a>,
     comp_dir: &[u8],
     cursor: Cursor<'a>,
@@ -99,7 +106,7 @@ fn read_ahead<'a>(
         Ok(header) => header,
         Err(fault) => return Ok(Err(LineFault::of_header(start, fault))),
     };
-    let tables = match read_tables(alloc, sections, start, &header)? {
+    let tables = match read_tables(alloc, &mut scratch.formats, sections, start, &header)? {
         Ok(tables) => tables,
         Err(fault) => return Ok(Err(fault)),
     };
@@ -109,7 +116,7 @@ fn read_ahead<'a>(
         tables: _,
         opcodes,
     } = header;
-    let lines = read_rows(alloc, comp_dir, &program, tables, opcodes)?;
+    let lines = read_rows(alloc, scratch, comp_dir, &program, tables, opcodes)?;
     Ok(lines)
 }
 
@@ -130,6 +137,7 @@ fn table_of(alloc: Global, code: &Enclosing, lines: Lines) -> Result<LineTable, 
 #[tactic(auto, using(crate::proofs::LinesLemmas::refused_kept))]
 fn read_at(
     alloc: Global,
+    scratch: &mut LineScratch,
     sections: &Sections<'_>,
     comp_dir: &[u8],
     cursor: Cursor<'_>,
@@ -140,7 +148,7 @@ fn read_at(
         (λ fault. lines_at sections.now comp_dir.now cursor.entry ≡ Err fault)
         (Unit {0}) }
 {
-    match read_ahead(alloc, sections, comp_dir, cursor)? {
+    match read_ahead(alloc, scratch, sections, comp_dir, cursor)? {
         Ok(lines) => {
             let table = table_of(alloc, code, lines)?;
             Ok(table)
@@ -151,7 +159,7 @@ fn read_at(
 
 /// Reads the line table at an offset in `.debug_line`: the offset of a unit whose root stands at `place` of `.debug_info`.
 /// `comp_dir` is the unit's compilation directory, empty where it has none. Whether a sequence is code is asked of
-/// `code`, which may be made once for an image.
+/// `code`, which may be made once for an image. Whoever reads many tables hands in the same `scratch` for each.
 ///
 /// Versions 2 to 5 are read, in both formats. Faults are in `.debug_line`, but for `OffsetOutside`, which is in `.debug_info` at
 /// `place`. At the table's start: `Ends` where the length leaves the section, `Reserved`, `LineVersion`, and `LineHeader` where a field
@@ -160,6 +168,7 @@ fn read_at(
 #[tactic(auto, using(crate::proofs::LinesLemmas::offset_outside, crate::proofs::LinesLemmas::inside_reads))]
 pub fn read_lines(
     alloc: Global,
+    scratch: &mut LineScratch,
     sections: &Sections<'_>,
     offset: u64,
     place: usize,
@@ -179,5 +188,5 @@ pub fn read_lines(
         }));
     }
     let cursor = Cursor::new(sections.line, offset as usize, sections.line.len());
-    read_at(alloc, sections, comp_dir, cursor, code)
+    read_at(alloc, scratch, sections, comp_dir, cursor, code)
 }

@@ -1,5 +1,5 @@
 //! Carrying out an opcode.
-ghost use Rattle.std.specs.Prelude.{◌≡◌, [], ◌∷◌, ◌++◌, IfOk, OnOk};
+ghost use Rattle.std.specs.Prelude.{◌≡◌, [], ◌∷◌, ◌++◌, OnOk};
 ghost use Rattle.line_program.specs.declared.opcode.Opcode.TheVariants.{EndSequence};
 ghost use Rattle.line_program.specs.LineRows.{first_state, row_of, advanced, line_on};
 ghost use Rattle.line_program.specs.internal.KeptRows.{kept_row, carried_kept};
@@ -10,11 +10,7 @@ use crate::program::Program;
 use crate::row::Row;
 use std::alloc::Global;
 use std::marker::Model;
-use std::mem::replace;
 use sym_edges::OutOfMemory;
-
-/// Most sequences have no more rows.
-const ROWS: usize = 1024;
 
 /// A sequence of rows, and the address after its last instruction.
 #[derive(Drop)]
@@ -31,7 +27,7 @@ impl Model for LineSequence {
     ghost view = { λ s. record { rows = s.rows.items; end = s.end } };
 }
 
-/// The state between two opcodes.
+/// The state between two opcodes. The list of rows stays from one sequence to the next.
 #[derive(Drop)]
 pub struct Machine<'a> {
     address: u64,
@@ -75,22 +71,23 @@ fn advance_line(line: u32, by: i64) -> u32
 }
 
 impl<'a> Machine<'a> {
-    /// In front of the first opcode, with room for the rows of most sequences.
-    pub fn new(alloc: Global) -> Result<Machine<'a>, OutOfMemory>
-        ensures { IfOk result (λ machine. machine ≡ first_state) }
+    /// In front of the first opcode. The rows of each sequence are gathered in a list that is handed in.
+    pub fn new(alloc: Global, mut rows: Vec<Row>) -> Machine<'a>
+        ensures { result ≡ first_state }
     {
-        Ok(Machine {
+        rows.clear();
+        Machine {
             address: 0,
             file: 1,
             line: 1,
-            rows: Vec::with_capacity(alloc, ROWS)?,
+            rows,
             sequences: Vec::new(alloc),
             files: Vec::new(alloc),
-        })
+        }
     }
 
-    /// The sequences that ended, and the files that were defined.
-    pub fn into_parts(self) -> (Vec<LineSequence>, Vec<FileEntry<'a>>)
+    /// The sequences that ended, the files that were defined, and the list in which rows were gathered.
+    pub fn into_parts(self) -> (Vec<LineSequence>, Vec<FileEntry<'a>>, Vec<Row>)
         ensures sequences { result.0.items ≡ self.entry.sequences }
         ensures files { result.1.items ≡ self.entry.files }
     {
@@ -98,11 +95,11 @@ impl<'a> Machine<'a> {
             address: _,
             file: _,
             line: _,
-            rows: _,
+            rows,
             sequences,
             files,
         } = self;
-        (sequences, files)
+        (sequences, files, rows)
     }
 
     /// Adds the row of the registers. No table has so many files as the greatest number that a row keeps.
@@ -128,12 +125,12 @@ impl<'a> Machine<'a> {
     fn end_sequence(&mut self, alloc: Global, program: &Program<'_>) -> Result<(), OutOfMemory>
         ensures { OnOk result (self.new ≡ carried_kept program.now EndSequence self.old) }
     {
-        let mut rows = replace(&mut self.rows, Vec::with_capacity(alloc, ROWS)?);
-        rows.shrink_to_fit();
+        let rows = Vec::from_slice(alloc, self.rows.as_slice())?;
         self.sequences.push(LineSequence {
             rows,
             end: self.address,
         })?;
+        self.rows.clear();
         self.address = 0;
         self.file = 1;
         self.line = 1;

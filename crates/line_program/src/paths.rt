@@ -12,6 +12,24 @@ use sym_edges::OutOfMemory;
 /// Most paths are shorter.
 const USUAL: usize = 64;
 
+/// The texts in which the path of a file is made: that of its directory, the path, and the path cleaned.
+#[derive(Drop)]
+pub struct PathTexts {
+    directory: Vec<u8>,
+    path: Vec<u8>,
+    cleaned: Vec<u8>,
+}
+
+impl PathTexts {
+    pub fn new(alloc: Global) -> PathTexts {
+        PathTexts {
+            directory: Vec::new(alloc),
+            path: Vec::new(alloc),
+            cleaned: Vec::new(alloc),
+        }
+    }
+}
+
 /// The directories of a table, by their numbers: the first one, and those that stand in it.
 #[derive(Drop)]
 pub struct Directories<'t, 'a> {
@@ -164,20 +182,18 @@ impl<'t, 'a> Directories<'t, 'a> {
     pub fn paths_of(
         &self,
         alloc: Global,
+        texts: &mut PathTexts,
         files: &[FileEntry<'_>],
     ) -> Result<FlatLists<u8>, OutOfMemory>
         ensures { IfOk result (λ paths. paths ≡ map (file_path self.now) files.now) }
     {
         let count = files.len();
         let mut paths = FlatLists::with_room(alloc, count, count.saturating_mul(USUAL))?;
-        let mut directory = Vec::new(alloc);
-        let mut text = Vec::new(alloc);
-        let mut cleaned = Vec::new(alloc);
         for file in files {
-            self.put_path(&mut directory, &mut text, file)?;
-            cleaned.clear();
-            add_cleaned(&mut cleaned, text.as_slice())?;
-            paths.push(cleaned.as_slice())?;
+            self.put_path(&mut texts.directory, &mut texts.path, file)?;
+            texts.cleaned.clear();
+            add_cleaned(&mut texts.cleaned, texts.path.as_slice())?;
+            paths.push(texts.cleaned.as_slice())?;
         }
         paths.shrink();
         Ok(paths)

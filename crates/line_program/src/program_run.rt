@@ -7,19 +7,21 @@ use crate::fault::Reading;
 use crate::machine::Machine;
 use crate::opcode::Opcode;
 use crate::program::Program;
+use crate::row::Row;
 use leb_cursor::Cursor;
 use std::alloc::Global;
 
-/// The rows of a program.
+/// The rows of a program; those of a sequence are gathered in a list that is handed in.
 #[tactic(auto, using(crate::proofs::RunLemmas::run_begins, crate::proofs::RunLemmas::run_more, crate::proofs::RunLemmas::run_ended, crate::proofs::RunLemmas::run_cut, crate::proofs::OpcodeLemmas::opcode_shorter))]
 pub fn run_program<'a>(
     alloc: Global,
+    rows: Vec<Row>,
     program: &Program<'_>,
     mut cursor: Cursor<'a>,
 ) -> Reading<Machine<'a>>
     ensures { IfOk result (λ run. run ≡ or_kept_state (line_rows program.now cursor.entry)) }
 {
-    let mut machine = Machine::new(alloc)?;
+    let mut machine = Machine::new(alloc, rows);
     'opcodes: while !cursor.is_at_end() {
         let opcode = match Opcode::read(&mut cursor, program) {
             Ok(opcode) => opcode,

@@ -1,5 +1,5 @@
 //! The tables of directories and files.
-ghost use Rattle.std.specs.Prelude.{◌≡◌, ◌==◌, ◌||◌, false, IfOk};
+ghost use Rattle.std.specs.Prelude.{◌≡◌, ◌==◌, ◌||◌, false, IfOk, OnOk};
 ghost use Rattle.leb_cursor.specs.Ahead.{gave_as};
 ghost use Rattle.leb_cursor.specs.Lists.{list_at};
 ghost use Rattle.line_program.specs.FileTables.{old_entry_at, old_tables_at, pair_at, pairs_at, entry_at, counted_at, entries_at, new_tables_at, tables_at};
@@ -21,6 +21,22 @@ use sym_edges::OutOfMemory;
 
 /// Most tables have no more entries.
 const USUAL: usize = 512;
+
+/// The pairs of a format of version 5, and those of them by which entries are read.
+#[derive(Drop)]
+pub struct FormatLists {
+    pairs: Vec<EntryFormat>,
+    needed: Vec<EntryFormat>,
+}
+
+impl FormatLists {
+    pub fn new(alloc: Global) -> FormatLists {
+        FormatLists {
+            pairs: Vec::new(alloc),
+            needed: Vec::new(alloc),
+        }
+    }
+}
 
 /// Both tables.
 #[derive(Drop)]
@@ -56,28 +72,28 @@ fn read_old_entries<'a>(
     }
 }
 
-/// Reads so many pairs of a format.
+/// Reads so many pairs of a format over others.
 #[tactic(auto, using(crate::proofs::EntryLemmas::pairs_begin, crate::proofs::EntryLemmas::pairs_one, crate::proofs::EntryLemmas::pairs_done, crate::proofs::EntryLemmas::pairs_cut))]
-fn read_some_pairs(alloc: Global, cursor: &mut Cursor<'_>, count: u8) -> Reading<Vec<EntryFormat>>
-    ensures { IfOk result (λ read. gave_as (λ pairs. pairs.items) read cursor.new ≡ several_at pair_at count cursor.old) }
+fn read_some_pairs(cursor: &mut Cursor<'_>, pairs: &mut Vec<EntryFormat>, count: u8) -> Reading<()>
+    ensures { IfOk result (λ read. gave_as (λ u. pairs.new.items) read cursor.new ≡ several_at pair_at count cursor.old) }
 {
-    let mut pairs = Vec::with_capacity(alloc, usize::from(count))?;
+    pairs.clear();
     'pairs: for turn in 0..count {
         match read_pair(cursor) {
             Ok(pair) => pairs.push(pair)?,
             Err(fault) => return Ok(Err(fault)),
         }
     }
-    Ok(Ok(pairs))
+    Ok(Ok(()))
 }
 
-/// Reads the pairs of a format, after their count.
+/// Reads the pairs of a format, after their count, over others.
 #[tactic(auto, unfolding(crate::specs::FileTables::pairs_at))]
-fn read_pairs(alloc: Global, cursor: &mut Cursor<'_>) -> Reading<Vec<EntryFormat>>
-    ensures { IfOk result (λ read. gave_as (λ pairs. pairs.items) read cursor.new ≡ pairs_at cursor.old) }
+fn read_pairs(cursor: &mut Cursor<'_>, pairs: &mut Vec<EntryFormat>) -> Reading<()>
+    ensures { IfOk result (λ read. gave_as (λ u. pairs.new.items) read cursor.new ≡ pairs_at cursor.old) }
 {
     match cursor.u8() {
-        Ok(count) => read_some_pairs(alloc, cursor, count),
+        Ok(count) => read_some_pairs(cursor, pairs, count),
         Err(fault) => Ok(Err(fault.into())),
     }
 }
@@ -89,12 +105,13 @@ fn is_seen(before: bool, content: u64, of: u64) -> bool
     before || content == of
 }
 
-/// The pairs by which entries are read: of those whose values take no bytes only the first of a content that is asked for.
+/// Writes over others the pairs by which entries are read: of those whose values take no bytes only the first of a content
+/// that is asked for.
 #[tactic(auto, using(crate::proofs::NeededLemmas::needed_begins, crate::proofs::NeededLemmas::needed_idle, crate::proofs::NeededLemmas::needed_one, crate::proofs::NeededLemmas::needed_all))]
-fn needed_pairs(alloc: Global, pairs: &[EntryFormat]) -> Result<Vec<EntryFormat>, OutOfMemory>
-    ensures { IfOk result (λ kept. kept.items ≡ needed false false pairs.now) }
+fn keep_needed(kept: &mut Vec<EntryFormat>, pairs: &[EntryFormat]) -> Result<(), OutOfMemory>
+    ensures { OnOk result (kept.new.items ≡ needed false false pairs.now) }
 {
-    let mut needed = Vec::with_capacity(alloc, pairs.len())?;
+    kept.clear();
     let mut path = false;
     let mut directory = false;
     'pairs: for place in 0..pairs.len() {
@@ -104,9 +121,9 @@ fn needed_pairs(alloc: Global, pairs: &[EntryFormat]) -> Result<Vec<EntryFormat>
         }
         path = is_seen(path, pair.content, DW_LNCT_path);
         directory = is_seen(directory, pair.content, DW_LNCT_directory_index);
-        needed.push(pair)?;
+        kept.push(pair)?;
     }
-    Ok(needed)
+    Ok(())
 }
 
 /// Reads so many entries of version 5.
@@ -155,6 +172,7 @@ fn read_counted<'a>(
 #[tactic(auto, using(crate::proofs::NeededLemmas::counted_same), unfolding(crate::specs::FileTables::entries_at))]
 fn read_entries<'a>(
     alloc: Global,
+    formats: &mut FormatLists,
     cursor: &mut Cursor<'a>,
     sections: &Sections<'a>,
     start: usize,
@@ -162,14 +180,14 @@ fn read_entries<'a>(
 ) -> Reading<Vec<FileEntry<'a>>>
     ensures { IfOk result (λ read. gave_as (λ entries. entries.items) read cursor.new ≡ entries_at sections.now start wide cursor.old) }
 {
-    let pairs = match read_pairs(alloc, cursor)? {
-        Ok(pairs) => pairs,
+    match read_pairs(cursor, &mut formats.pairs)? {
+        Ok(()) => {}
         Err(fault) => return Ok(Err(fault)),
-    };
-    let needed = needed_pairs(alloc, pairs.as_slice())?;
+    }
+    keep_needed(&mut formats.needed, formats.pairs.as_slice())?;
     match cursor.uleb() {
         Ok(count) => {
-            let pairs = needed.as_slice();
+            let pairs = formats.needed.as_slice();
             read_counted(alloc, cursor, sections, start, pairs, wide, count)
         }
         Err(fault) => Ok(Err(fault.into())),
@@ -195,6 +213,7 @@ fn read_old_tables<'a>(alloc: Global, mut cursor: Cursor<'a>) -> Reading<Tables<
 #[tactic(auto, unfolding(crate::specs::FileTables::new_tables_at))]
 fn read_new_tables<'a>(
     alloc: Global,
+    formats: &mut FormatLists,
     mut cursor: Cursor<'a>,
     sections: &Sections<'a>,
     start: usize,
@@ -202,11 +221,11 @@ fn read_new_tables<'a>(
 ) -> Reading<Tables<'a>>
     ensures { IfOk result (λ read. read ≡ new_tables_at sections.now start wide cursor.entry) }
 {
-    let directories = match read_entries(alloc, &mut cursor, sections, start, wide)? {
+    let directories = match read_entries(alloc, formats, &mut cursor, sections, start, wide)? {
         Ok(directories) => directories,
         Err(fault) => return Ok(Err(fault)),
     };
-    match read_entries(alloc, &mut cursor, sections, start, wide)? {
+    match read_entries(alloc, formats, &mut cursor, sections, start, wide)? {
         Ok(files) => Ok(Ok(Tables { directories, files })),
         Err(fault) => Ok(Err(fault)),
     }
@@ -216,6 +235,7 @@ fn read_new_tables<'a>(
 #[tactic(auto, unfolding(crate::specs::FileTables::tables_at))]
 pub fn read_tables<'a>(
     alloc: Global,
+    formats: &mut FormatLists,
     sections: &Sections<'a>,
     start: usize,
     header: &Header<'a>,
@@ -224,7 +244,7 @@ pub fn read_tables<'a>(
 {
     let cursor = header.tables.fork();
     if header.program.version == 5 {
-        read_new_tables(alloc, cursor, sections, start, header.wide)
+        read_new_tables(alloc, formats, cursor, sections, start, header.wide)
     } else {
         read_old_tables(alloc, cursor)
     }

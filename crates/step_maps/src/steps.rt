@@ -54,6 +54,14 @@ impl<V: Copy + Drop> StepMap<V> {
         push_step(&mut self.stops, &mut self.values, from, value)
     }
 
+    /// Gives back the room that no stop took.
+    pub fn shrink(&mut self)
+        ensures { self.new ≡ self.old }
+    {
+        self.stops.shrink_to_fit();
+        self.values.shrink_to_fit();
+    }
+
     /// The value at an address, by halves; `before` below the first stop.
     pub fn at(&self, before: V, a: u64) -> V
         ensures { result ≡ value_at before self.now a }

@@ -13,4 +13,4 @@ loop-place-preserved c =
     all_more _ _ _ _ _ _ _ _ _ _ _ c.requires (omega arith) c.loop-place.invariant refl c.next_stop-end.ensures c.in_ok-paint_piece.ensures.before c.in_ok-paint_piece.ensures.at c.in_ok-paint_piece.ensures.last
 
 pub returns : goal.returns
-returns c = all_done _ _ _ _ _ _ _ c.loop-place.invariant (omega arith)
+returns c = all_done _ _ _ _ _ _ _ _ c.loop-place.invariant (omega arith) c.shrink.ensures
