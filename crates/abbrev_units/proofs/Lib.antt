@@ -6,6 +6,7 @@ pub mod ListedLemmas
 mod PlaceLemmas
 pub mod ValueLemmas
 pub mod FormLemmas
+pub mod FormTableLemmas
 mod PlanLemmas
 mod TakeLemmas
 mod UsualLemmas

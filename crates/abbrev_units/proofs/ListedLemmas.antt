@@ -11,11 +11,10 @@ use Rattle.abbrev_units.specs.declared.take.Take.{Take}
 use Rattle.abbrev_units.specs.declared.lists.Lists.{Lists}
 use Rattle.abbrev_units.specs.declared.lists.Run.{Run}
 use Rattle.abbrev_units.specs.declared.lists.Head.{Head}
-use Rattle.abbrev_units.specs.Faults.{GivesAt}
 use Rattle.abbrev_units.specs.SpecFields.{SpecFields, Abbrev}
 use Rattle.abbrev_units.specs.Abbreviations.{used_at}
 use Rattle.abbrev_units.specs.internal.Used.{used_abbrev_at}
-use Rattle.abbrev_units.specs.internal.Listed.{part, IsInside, abbrev_in, abbrevs_in, IsHeld, AreHeld, Starts, Grown, ReadsAt}
+use Rattle.abbrev_units.specs.internal.Listed.{part, IsInside, abbrev_in, abbrevs_in, IsHeld, AreHeld, Starts, Grown, LeavesAt, ReadsAt}
 use Rattle.abbrev_units.specs.internal.Ways.{IsWay}
 use Rattle.abbrev_units.proofs.AbbrevLemmas.{abbrevs_behind, abbrevs_begin, abbrevs_more, abbrevs_end, abbrevs_stopped}
 
@@ -132,6 +131,6 @@ pub reads_end : (wide : Bool) (lists more : Lists) (heads : List Head) (c d : Ah
 reads_end wide lists more heads c d want so_far is grown =
     abbrevs_end wide (abbrevs_in lists.specs.items heads) c d want so_far.rest is ∙ ap (λ (found : List Abbrev). Ok (found, d)) (same_abbrevs lists more heads grown so_far.held)
 
-pub reads_stopped : (wide : Bool) (lists more : Lists) (heads : List Head) (c d e : Ahead) (stop : Stop CursorFault) (want : Result (List Abbrev × Ahead) CursorFault) → Reads wide lists heads c want → ReadsAt (Err stop) more d (used_abbrev_at wide c) → GivesAt {A = List Abbrev} (Err stop) e want
-reads_stopped wide lists more heads c d e (Fault fault) want so_far is = abbrevs_stopped wide (abbrevs_in lists.specs.items heads) c d e (Fault fault) want so_far.rest is
-reads_stopped wide lists more heads c d e NoMemory want so_far is = tt
+pub reads_stopped : (wide : Bool) (lists more : Lists) (heads : List Head) (c d e : Ahead) (found : List Abbrev) (stop : Stop CursorFault) (want : Result (List Abbrev × Ahead) CursorFault) → Reads wide lists heads c want → ReadsAt (Err stop) more d (used_abbrev_at wide c) → LeavesAt {U = Prim.Unit {0}} (Err stop) found e want
+reads_stopped wide lists more heads c d e found (Fault fault) want so_far is = abbrevs_stopped wide (abbrevs_in lists.specs.items heads) c d e (Fault fault) want so_far.rest is
+reads_stopped wide lists more heads c d e found NoMemory want so_far is = tt

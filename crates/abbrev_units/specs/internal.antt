@@ -3,3 +3,4 @@ pub mod Plans
 pub mod Listed
 pub mod Used
 pub mod Ways
+pub mod FormRows

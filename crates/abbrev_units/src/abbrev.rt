@@ -6,6 +6,7 @@ ghost use Rattle.abbrev_units.specs.KeptTags.{is_kept_tag};
 ghost use Rattle.abbrev_units.specs.internal.Used.{used_spec_at, used_specs_at, used_abbrev_by, used_abbrev_at};
 ghost use Rattle.abbrev_units.specs.internal.Listed.{Grown, LeavesAt, ReadsAt};
 
+use crate::form_table::FormTable;
 use crate::lists::{Head, Lists};
 use crate::spec::Spec;
 use code_table::{
@@ -28,8 +29,8 @@ fn read_implicit(cursor: &mut Cursor<'_>, form: u64) -> Result<i64, CursorFault>
 
 /// Reads an attribute and its form, or the end of their list.
 #[tactic(auto, unfolding(crate::specs::internal::Used::used_spec_at, crate::specs::Abbreviations::spec_at))]
-fn read_spec(cursor: &mut Cursor<'_>, wide: bool) -> Result<Option<Spec>, CursorFault>
-    ensures { gave result cursor.new ≡ used_spec_at wide cursor.old }
+fn read_spec(cursor: &mut Cursor<'_>, forms: &FormTable) -> Result<Option<Spec>, CursorFault>
+    ensures { gave result cursor.new ≡ used_spec_at forms.now cursor.old }
 {
     let attribute = cursor.uleb()?;
     let form = cursor.uleb()?;
@@ -37,7 +38,7 @@ fn read_spec(cursor: &mut Cursor<'_>, wide: bool) -> Result<Option<Spec>, Cursor
     if attribute == 0 && form == 0 {
         return Ok(None);
     }
-    Ok(Some(Spec::of(attribute, form, implicit, wide)))
+    Ok(Some(Spec::of(forms, attribute, form, implicit)))
 }
 
 /// Reads attributes up to the end of their list.
@@ -45,13 +46,13 @@ fn read_spec(cursor: &mut Cursor<'_>, wide: bool) -> Result<Option<Spec>, Cursor
 fn read_specs(
     specs: &mut Vec<Spec>,
     cursor: &mut Cursor<'_>,
-    wide: bool,
+    forms: &FormTable,
 ) -> Result<(), Stop<CursorFault>>
     requires { specs.old.items ≡ [] }
-    ensures { LeavesAt result specs.new.items cursor.new (used_specs_at wide cursor.old) }
+    ensures { LeavesAt result specs.new.items cursor.new (used_specs_at forms.now cursor.old) }
 {
     'specs: loop {
-        match read_spec(cursor, wide) {
+        match read_spec(cursor, forms) {
             Ok(Some(spec)) => specs.push(spec)?,
             Ok(None) => return Ok(()),
             Err(fault) => return Err(Stop::Fault(fault)),
@@ -82,10 +83,10 @@ fn read_behind(
     lists: &mut Lists,
     one: &mut Lists,
     cursor: &mut Cursor<'_>,
-    wide: bool,
+    forms: &FormTable,
     code: u64,
 ) -> Result<Option<Head>, Stop<CursorFault>>
-    ensures read { ReadsAt result lists.new cursor.new (used_abbrev_by wide code cursor.old) }
+    ensures read { ReadsAt result lists.new cursor.new (used_abbrev_by forms.now code cursor.old) }
     ensures grown { OnOk result (Grown lists.old lists.new) }
 {
     let tag = match cursor.uleb() {
@@ -97,7 +98,7 @@ fn read_behind(
         Err(fault) => return Err(Stop::Fault(fault)),
     };
     one.clear();
-    match read_specs(&mut one.specs, cursor, wide) {
+    match read_specs(&mut one.specs, cursor, forms) {
         Ok(()) => {}
         Err(stop) => return Err(stop),
     }
@@ -112,9 +113,9 @@ pub fn read_abbrev(
     lists: &mut Lists,
     one: &mut Lists,
     cursor: &mut Cursor<'_>,
-    wide: bool,
+    forms: &FormTable,
 ) -> Result<Option<Head>, Stop<CursorFault>>
-    ensures read { ReadsAt result lists.new cursor.new (used_abbrev_at wide cursor.old) }
+    ensures read { ReadsAt result lists.new cursor.new (used_abbrev_at forms.now cursor.old) }
     ensures grown { OnOk result (Grown lists.old lists.new) }
 {
     let code = match cursor.uleb() {
@@ -124,5 +125,5 @@ pub fn read_abbrev(
     if code == 0 {
         return Ok(None);
     }
-    read_behind(lists, one, cursor, wide, code)
+    read_behind(lists, one, cursor, forms, code)
 }

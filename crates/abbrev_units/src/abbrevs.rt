@@ -1,14 +1,17 @@
 //! The abbreviations of a unit.
-ghost use Rattle.std.specs.Prelude.{◌≡◌, ◌<◌, ◌&&◌, nat_lt, nat_le, length, get_or, slice_get, IfOk};
+ghost use Rattle.std.specs.Prelude.{◌≡◌, ◌⊎◌, ◌<◌, ◌&&◌, nat_lt, nat_le, [], length, get_or, slice_get, Ok, Err, IfOk, OnOk, OnErr};
 ghost use Rattle.std.specs.Ordering.{nat_cmp};
 ghost use Rattle.std.specs.BTreeMap.{BTreeMap, get};
-ghost use Rattle.abbrev_units.specs.Faults.{Gives, GivesAt};
+ghost use Rattle.sym_edges.specs.Outside.{MatchStop};
+ghost use Rattle.abbrev_units.specs.Faults.{Gives};
 ghost use Rattle.abbrev_units.specs.Abbreviations.{used_at, abbrevs_of, abbrev_of};
 ghost use Rattle.abbrev_units.specs.Places.{IsDense, HasPlaces};
 ghost use Rattle.abbrev_units.specs.SpecFields.{Abbrev};
+ghost use Rattle.abbrev_units.specs.internal.Listed.{AreHeld, LeavesAt, abbrevs_in};
 
 use crate::abbrev::read_abbrev;
 use crate::fault::{DwarfFault, DwarfKind, in_section};
+use crate::form_table::FormTable;
 use crate::lists::{Head, Lists};
 use crate::sections::Sections;
 use crate::text::cursor_from;
@@ -42,7 +45,38 @@ impl Model for AbbrevList {
     ghost invariant = { λ a. AreHeld a.lists a.heads.items };
 }
 
+/// Reads abbreviations up to the end of their list, by way of lists that are used for one after the other.
+#[tactic(auto, using(crate::proofs::AbbrevLemmas::abbrevs_shorter, crate::proofs::ListedLemmas::reads_begin, crate::proofs::ListedLemmas::reads_more, crate::proofs::ListedLemmas::reads_end, crate::proofs::ListedLemmas::reads_stopped))]
+fn read_list(
+    heads: &mut Vec<Head>,
+    lists: &mut Lists,
+    one: &mut Lists,
+    cursor: &mut Cursor<'_>,
+    forms: &FormTable,
+) -> Result<(), Stop<CursorFault>>
+    requires { heads.old.items ≡ [] }
+    ensures held { OnOk result (AreHeld lists.new heads.new.items) }
+    ensures read { LeavesAt result (abbrevs_in lists.new.specs.items heads.new.items) cursor.new (used_at forms.now cursor.old) }
+{
+    'abbrevs: loop {
+        match read_abbrev(lists, one, cursor, forms) {
+            Ok(Some(head)) => heads.push(head)?,
+            Ok(None) => return Ok(()),
+            Err(stop) => return Err(stop),
+        }
+    }
+}
+
 impl AbbrevList {
+    fn new(alloc: Global) -> AbbrevList
+        ensures { result ≡ [] }
+    {
+        AbbrevList {
+            heads: Vec::new(alloc),
+            lists: Lists::new(alloc),
+        }
+    }
+
     #[inline]
     fn len(&self) -> usize
         ensures { result ≡ length self.now }
@@ -73,6 +107,37 @@ impl AbbrevList {
     {
         self.heads.shrink_to_fit();
         self.lists.shrink();
+    }
+
+    /// Leaves no abbreviation; the lists keep their memory.
+    fn clear(&mut self)
+        ensures { self.new ≡ [] }
+    {
+        self.heads.clear();
+        self.lists.clear();
+    }
+
+    /// Reads abbreviations in place of those before. A refused call leaves none.
+    fn read(
+        &mut self,
+        one: &mut Lists,
+        cursor: &mut Cursor<'_>,
+        forms: &FormTable,
+    ) -> Result<(), Stop<CursorFault>>
+        ensures read { LeavesAt result self.new cursor.new (used_at forms.now cursor.old) }
+        ensures none { OnErr result (self.new ≡ []) }
+    {
+        self.heads.clear();
+        self.lists.clear();
+        self.heads.reserve(USUAL)?;
+        self.lists.reserve()?;
+        match read_list(&mut self.heads, &mut self.lists, one, cursor, forms) {
+            Ok(()) => Ok(()),
+            Err(stop) => {
+                self.heads.clear();
+                Err(stop)
+            }
+        }
     }
 }
 
@@ -124,22 +189,18 @@ fn find_places(alloc: Global, list: &AbbrevList) -> Result<BTreeMap<u64, usize>,
     Ok(places)
 }
 
-/// Makes abbreviations findable.
-fn index(alloc: Global, mut list: AbbrevList) -> Result<Abbrevs, OutOfMemory>
-    ensures { IfOk result (λ abbrevs. abbrevs ≡ list) }
+/// The places of codes, where not all are dense.
+fn places_of(
+    alloc: Global,
+    list: &AbbrevList,
+    dense: usize,
+) -> Result<BTreeMap<u64, usize>, OutOfMemory>
+    ensures { IfOk result (λ places. (dense ≡ length list.now) ⊎ HasPlaces places 0 list.now) }
 {
-    list.shrink();
-    let dense = count_dense(&list);
-    let places = if dense == list.len() {
-        BTreeMap::new(alloc)
-    } else {
-        find_places(alloc, &list)?
-    };
-    Ok(Abbrevs {
-        list,
-        dense,
-        places,
-    })
+    if dense == list.len() {
+        return Ok(BTreeMap::new(alloc));
+    }
+    find_places(alloc, list)
 }
 
 /// Whether a code is one of the first so many, which are dense.
@@ -161,6 +222,52 @@ fn place_of(places: &BTreeMap<u64, usize>, code: u64) -> Option<usize>
 }
 
 impl Abbrevs {
+    fn new(alloc: Global) -> Abbrevs
+        ensures { result ≡ [] }
+    {
+        Abbrevs {
+            list: AbbrevList::new(alloc),
+            dense: 0,
+            places: BTreeMap::new(alloc),
+        }
+    }
+
+    /// Gives back the room that nothing took.
+    fn shrink(&mut self)
+        ensures { self.new ≡ self.old }
+    {
+        self.list.shrink();
+    }
+
+    /// Reads abbreviations in place of those before. A refused call leaves none.
+    fn read(
+        &mut self,
+        alloc: Global,
+        one: &mut Lists,
+        cursor: &mut Cursor<'_>,
+        forms: &FormTable,
+    ) -> Result<(), Stop<CursorFault>>
+        ensures { LeavesAt result self.new cursor.new (used_at forms.now cursor.old) }
+    {
+        self.dense = 0;
+        match self.list.read(one, cursor, forms) {
+            Ok(()) => {}
+            Err(stop) => return Err(stop),
+        }
+        let dense = count_dense(&self.list);
+        match places_of(alloc, &self.list, dense) {
+            Ok(places) => {
+                self.dense = dense;
+                self.places = places;
+                Ok(())
+            }
+            Err(OutOfMemory) => {
+                self.list.clear();
+                Err(Stop::NoMemory)
+            }
+        }
+    }
+
     /// The first abbreviation of a code. Takes no memory.
     #[inline]
     #[tactic(auto, using(crate::proofs::PlaceLemmas::found_front, crate::proofs::PlaceLemmas::found_nowhere, crate::proofs::PlaceLemmas::found_by_map, crate::proofs::PlaceLemmas::missed_by_map))]
@@ -196,31 +303,87 @@ impl Abbrevs {
     }
 }
 
-/// Reads abbreviations up to the end of their list.
-#[tactic(auto, using(crate::proofs::AbbrevLemmas::abbrevs_shorter, crate::proofs::ListedLemmas::reads_begin, crate::proofs::ListedLemmas::reads_more, crate::proofs::ListedLemmas::reads_end, crate::proofs::ListedLemmas::reads_stopped))]
-fn read_list(
-    alloc: Global,
-    cursor: &mut Cursor<'_>,
-    wide: bool,
-) -> Result<AbbrevList, Stop<CursorFault>>
-    ensures { GivesAt result cursor.new (used_at wide cursor.old) }
-{
-    let mut heads = Vec::with_capacity(alloc, USUAL)?;
-    let mut lists = Lists::with_room(alloc)?;
-    let mut one = Lists::new(alloc);
-    'abbrevs: loop {
-        match read_abbrev(&mut lists, &mut one, cursor, wide) {
-            Ok(Some(head)) => heads.push(head)?,
-            Ok(None) => return Ok(AbbrevList { heads, lists }),
-            Err(stop) => return Err(stop),
+/// Memory in which the abbreviations of one unit after another are read.
+#[derive(Drop)]
+pub struct AbbrevScratch {
+    abbrevs: Abbrevs,
+    one: Lists,
+    forms: FormTable,
+}
+
+impl Model for AbbrevScratch {
+    ghost use Rattle.std.specs.Prelude.{List};
+    ghost use Rattle.abbrev_units.specs.SpecFields.{Abbrev};
+
+    ghost Value = { List Abbrev };
+
+    ghost view = { λ s. s.abbrevs };
+}
+
+impl AbbrevScratch {
+    /// No abbreviations yet. Takes no memory.
+    pub fn new(alloc: Global) -> AbbrevScratch
+        ensures { result ≡ [] }
+    {
+        AbbrevScratch {
+            abbrevs: Abbrevs::new(alloc),
+            one: Lists::new(alloc),
+            forms: FormTable::new(alloc),
         }
+    }
+
+    /// Reads the abbreviations of a unit (DWARF 5, 7.5.3) in place of those before, or gives the first
+    /// fault: `OffsetOutside` in `.debug_info` at the start of the unit, where their place lies after the
+    /// end of `.debug_abbrev`; and `Ends` or `LebLong` in `.debug_abbrev`. What a refused call leaves is
+    /// not said.
+    #[tactic(auto, unfolding(crate::specs::Abbreviations::abbrevs_of))]
+    pub fn read(
+        &mut self,
+        alloc: Global,
+        sections: &Sections<'_>,
+        unit: &Unit,
+    ) -> Result<(), Stop<DwarfFault>>
+        ensures { MatchStop result
+            (λ _. abbrevs_of sections.now unit.now ≡ Ok self.new)
+            (λ fault. abbrevs_of sections.now unit.now ≡ Err fault)
+            (Prim.Unit {0}) }
+    {
+        if unit.abbrev_at > sections.abbrevs.len() as u64 {
+            return Err(Stop::Fault(Located {
+                kind: DwarfKind::OffsetOutside,
+                section: Sect::Info,
+                at: unit.start as usize,
+            }));
+        }
+        let mut cursor = cursor_from(sections.abbrevs, unit.abbrev_at as usize);
+        self.forms.set(alloc, unit.wide)?;
+        let one = &mut self.one;
+        match self.abbrevs.read(alloc, one, &mut cursor, &self.forms) {
+            Ok(()) => Ok(()),
+            Err(Stop::Fault(fault)) => Err(Stop::Fault(in_section(Sect::Abbrev, fault))),
+            Err(Stop::NoMemory) => Err(Stop::NoMemory),
+        }
+    }
+
+    /// The abbreviations that were read last.
+    #[inline]
+    pub fn abbrevs(&self) -> &Abbrevs
+        ensures { result.now ≡ self.now }
+    {
+        &self.abbrevs
+    }
+
+    /// The abbreviations that were read last, without room for more.
+    fn into_abbrevs(self) -> Abbrevs
+        ensures { result ≡ self }
+    {
+        let mut abbrevs = self.abbrevs;
+        abbrevs.shrink();
+        abbrevs
     }
 }
 
-/// The abbreviations of a unit (DWARF 5, 7.5.3), or the first fault: `OffsetOutside` in `.debug_info` at
-/// the start of the unit, where their place lies after the end of `.debug_abbrev`; and `Ends` or
-/// `LebLong` in `.debug_abbrev`.
-#[tactic(auto, unfolding(crate::specs::Abbreviations::abbrevs_of))]
+/// The abbreviations of a unit (DWARF 5, 7.5.3), or the first fault, as [`AbbrevScratch::read`] has it.
 pub fn read_abbrevs(
     alloc: Global,
     sections: &Sections<'_>,
@@ -228,17 +391,9 @@ pub fn read_abbrevs(
 ) -> Result<Abbrevs, Stop<DwarfFault>>
     ensures { Gives result (abbrevs_of sections.now unit.now) }
 {
-    if unit.abbrev_at > sections.abbrevs.len() as u64 {
-        return Err(Stop::Fault(Located {
-            kind: DwarfKind::OffsetOutside,
-            section: Sect::Info,
-            at: unit.start as usize,
-        }));
-    }
-    let mut cursor = cursor_from(sections.abbrevs, unit.abbrev_at as usize);
-    match read_list(alloc, &mut cursor, unit.wide) {
-        Ok(list) => Ok(index(alloc, list)?),
-        Err(Stop::Fault(fault)) => Err(Stop::Fault(in_section(Sect::Abbrev, fault))),
-        Err(Stop::NoMemory) => Err(Stop::NoMemory),
+    let mut scratch = AbbrevScratch::new(alloc);
+    match scratch.read(alloc, sections, unit) {
+        Ok(()) => Ok(scratch.into_abbrevs()),
+        Err(stop) => Err(stop),
     }
 }

@@ -3,7 +3,8 @@
 //!
 //! [`units`] gives the units of `.debug_info`: where each begins and ends, where its entries begin, its
 //! version, and where its abbreviations stand; or the first fault of their headers. [`read_abbrevs`] gives the
-//! abbreviations of a unit, and [`Abbrevs::find`] the first of a code. [`read_form`] reads the value of a form,
+//! abbreviations of a unit, [`AbbrevScratch::read`] reads them in the memory of those before, and
+//! [`Abbrevs::find`] gives the first of a code. [`read_form`] reads the value of a form,
 //! [`Spec::read`] that of an attribute, whose form was looked up once, [`Abbrev::skip`] passes the
 //! values that nobody asks for, [`Abbrev::pass`] too where there is a short way, and [`Abbrev::takes`] is a short way to
 //! those that are asked for. [`read_text`] gives the text of a value, as a slice of the file.
@@ -18,6 +19,7 @@ mod abbrev;
 mod abbrevs;
 mod fault;
 mod form;
+mod form_table;
 pub mod laws;
 mod length;
 mod lists;
@@ -32,7 +34,7 @@ mod value;
 mod view;
 
 pub use crate::abbrev::is_kept_tag;
-pub use crate::abbrevs::{Abbrevs, read_abbrevs};
+pub use crate::abbrevs::{AbbrevScratch, Abbrevs, read_abbrevs};
 pub use crate::fault::{DwarfFault, DwarfKind, FormFault, HeaderFault, header_fault, in_section};
 pub use crate::form::read_form;
 pub use crate::length::{Contents, read_contents};

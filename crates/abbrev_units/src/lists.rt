@@ -95,17 +95,16 @@ impl Lists {
         }
     }
 
-    /// No list yet, and room for what most tables have.
-    pub fn with_room(alloc: Global) -> Result<Lists, OutOfMemory>
-        ensures specs { IfOk result (λ lists. lists.specs.items ≡ []) }
-        ensures steps { IfOk result (λ lists. lists.steps.items ≡ []) }
-        ensures takes { IfOk result (λ lists. lists.takes.items ≡ []) }
+    /// Takes the room that most tables need, where it is not there yet.
+    pub fn reserve(&mut self) -> Result<(), OutOfMemory>
+        ensures specs { self.new.specs.items ≡ self.old.specs.items }
+        ensures steps { self.new.steps.items ≡ self.old.steps.items }
+        ensures takes { self.new.takes.items ≡ self.old.takes.items }
     {
-        Ok(Lists {
-            specs: Vec::with_capacity(alloc, 1024)?,
-            steps: Vec::with_capacity(alloc, 256)?,
-            takes: Vec::with_capacity(alloc, 128)?,
-        })
+        self.specs.reserve(1024)?;
+        self.steps.reserve(256)?;
+        self.takes.reserve(128)?;
+        Ok(())
     }
 
     /// Gives back the room that nothing took.

@@ -10,6 +10,7 @@ ghost use Rattle.abbrev_units.specs.internal.Plans.{HasLayout, HasRow, row_said}
 
 use crate::fault::FormFault;
 use crate::form::{read_indirect, read_known};
+use crate::form_table::FormTable;
 use crate::plan::form_size;
 use crate::value::Value;
 use code_table::{DW_FORM_indirect, FormClass, FormRow, Kind, find_form};
@@ -60,7 +61,7 @@ fn pass_run(cursor: &mut Cursor<'_>, size: u8) -> Result<(), FormFault>
 /// What is known of a form.
 #[inline]
 #[tactic(auto, using(crate::proofs::FormLemmas::row_known))]
-fn find_known(form: u64, wide: bool) -> Option<Known>
+pub fn find_known(form: u64, wide: bool) -> Option<Known>
     ensures { row_said form result ≡ form_row form (forms wide) }
 {
     match find_form(form, wide) {
@@ -73,15 +74,16 @@ fn find_known(form: u64, wide: bool) -> Option<Known>
 }
 
 impl Spec {
-    pub(crate) fn of(attribute: u64, form: u64, implicit: i64, wide: bool) -> Spec
-        ensures { result ≡ record { attribute = attribute; form = form; implicit = implicit; wide = wide } }
+    #[inline]
+    pub(crate) fn of(forms: &FormTable, attribute: u64, form: u64, implicit: i64) -> Spec
+        ensures { result ≡ record { attribute = attribute; form = form; implicit = implicit; wide = forms.now } }
     {
         Spec {
             attribute,
             form,
             implicit,
-            wide,
-            known: find_known(form, wide),
+            wide: forms.is_wide(),
+            known: forms.known(form),
         }
     }
 

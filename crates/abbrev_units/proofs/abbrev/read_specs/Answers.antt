@@ -6,5 +6,5 @@ use Rattle.abbrev_units.proofs.abbrev.read_specs.Goals as goal
 
 pub returns-in-Ok-None : goal.returns-in-Ok-None
 returns-in-Ok-None c =
-    specs_end c.args.wide c.specs.specs.items c.specs.cursor c.read_spec.new.cursor (used_specs_at c.args.wide c.args.cursor.now) c.specs.invariant
+    specs_end c.args.forms.now c.specs.specs.items c.specs.cursor c.read_spec.new.cursor (used_specs_at c.args.forms.now c.args.cursor.now) c.specs.invariant
     (ap (λ (next : Option SpecFields). Ok (next, c.read_spec.new.cursor)) (sym c.in-Ok-None.field-0-is) ∙ c.in-Ok-None.ensures)

@@ -4,7 +4,7 @@ use Rattle.abbrev_units.proofs.AbbrevLemmas.{specs_behind}
 use Rattle.abbrev_units.proofs.abbrev.read_specs.Given as goal
 
 abbrev pub invariant-specs : goal.invariant-specs
-invariant-specs l = specs_behind l.wide l.specs.items l.cursor ≡ used_specs_at l.wide l.initial.cursor
+invariant-specs l = specs_behind l.forms l.specs.items l.cursor ≡ used_specs_at l.forms l.initial.cursor
 
 abbrev pub decreases-specs : goal.decreases-specs
 decreases-specs l = length l.cursor.bytes

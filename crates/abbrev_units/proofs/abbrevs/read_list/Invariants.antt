@@ -4,7 +4,7 @@ use Rattle.abbrev_units.proofs.ListedLemmas.{Reads}
 use Rattle.abbrev_units.proofs.abbrevs.read_list.Given as goal
 
 abbrev pub invariant-abbrevs : goal.invariant-abbrevs
-invariant-abbrevs l = Reads l.wide l.lists l.heads.items l.cursor (used_at l.wide l.initial.cursor)
+invariant-abbrevs l = Reads l.forms l.lists l.heads.items l.cursor (used_at l.forms l.initial.cursor)
 
 abbrev pub decreases-abbrevs : goal.decreases-abbrevs
 decreases-abbrevs l = length l.cursor.bytes

@@ -1,0 +1,99 @@
+//! What the rows of forms say, looked up once for all attributes.
+ghost use Rattle.std.specs.Prelude.{◌≡◌, IfOk, IfSome};
+ghost use Rattle.std.specs.List.{slice_get};
+ghost use Rattle.std.specs.Option.{option_copied};
+ghost use Rattle.code_table.specs.Forms.{forms, form_row};
+ghost use Rattle.abbrev_units.specs.internal.Plans.{row_said};
+ghost use Rattle.abbrev_units.specs.internal.FormRows.{AreRows};
+
+use crate::spec::{Known, find_known};
+use std::alloc::Global;
+use std::marker::Model;
+use sym_edges::OutOfMemory;
+
+/// The codes of all but two forms of the GNU tools are below it (DWARF 5, table 7.6).
+const CODES: u64 = 0x30;
+
+/// The rows of the forms, in units of the 64-bit format where `wide`.
+#[derive(Drop)]
+pub struct FormTable {
+    wide: bool,
+    rows: Vec<Option<Known>>,
+}
+
+impl Model for FormTable {
+    ghost use Rattle.std.specs.Prelude.{Bool};
+    ghost use Rattle.abbrev_units.specs.internal.FormRows.{AreRows};
+
+    ghost Value = { Bool };
+
+    ghost view = { λ t. t.wide };
+
+    ghost invariant = { λ t. AreRows t.wide t.rows.items };
+}
+
+/// The row of the form of a code, where the list has it.
+#[inline]
+fn row_at(rows: &[Option<Known>], form: u64) -> Option<Option<Known>>
+    ensures { result ≡ slice_get rows.now form }
+{
+    match rows.get(form as usize) {
+        Some(row) => Some(*row),
+        None => None,
+    }
+}
+
+/// The rows of the forms whose codes are low.
+#[tactic(auto, using(crate::proofs::FormTableLemmas::rows_none, crate::proofs::FormTableLemmas::rows_more))]
+fn list_rows(alloc: Global, wide: bool) -> Result<Vec<Option<Known>>, OutOfMemory>
+    ensures { IfOk result (λ rows. AreRows wide rows.items) }
+{
+    let mut rows = Vec::with_capacity(alloc, CODES as usize)?;
+    'codes: for code in 0..CODES {
+        rows.push(find_known(code, wide))?;
+    }
+    Ok(rows)
+}
+
+impl FormTable {
+    /// No row yet: each is looked up when it is asked for. Takes no memory.
+    #[tactic(auto, using(crate::proofs::FormTableLemmas::rows_none))]
+    pub fn new(alloc: Global) -> FormTable {
+        FormTable {
+            wide: false,
+            rows: Vec::new(alloc),
+        }
+    }
+
+    /// Looks the rows up for units of this format, where they are not there.
+    pub fn set(&mut self, alloc: Global, wide: bool) -> Result<(), OutOfMemory>
+        ensures { IfOk result (λ u. self.new ≡ wide) }
+    {
+        if self.wide == wide && !self.rows.is_empty() {
+            return Ok(());
+        }
+        let rows = list_rows(alloc, wide)?;
+        self.wide = wide;
+        self.rows = rows;
+        Ok(())
+    }
+
+    /// Whether the rows are those of the 64-bit format.
+    #[inline]
+    pub fn is_wide(&self) -> bool
+        ensures { result ≡ self.now }
+    {
+        self.wide
+    }
+
+    /// What the row of a form says.
+    #[inline]
+    pub fn known(&self, form: u64) -> Option<Known>
+        ensures { row_said form result ≡ form_row form (forms self.now) }
+    {
+        match row_at(self.rows.as_slice(), form) {
+            Some(known) => known,
+            None => find_known(form, self.wide),
+        }
+    }
+}
