@@ -3,6 +3,7 @@ mod FlagLemmas
 mod HeadLemmas
 mod ScopeLemmas
 mod TakeLemmas
+mod NamedLemmas
 mod PickLemmas
 mod StepLemmas
 mod TreeLemmas

@@ -115,7 +115,7 @@ parted picks c (Err fault) = (picks, c)
 abbrev one_noted : Picks → ℕ → Value × Ahead → Result (Picks × Ahead) CursorFault
 one_noted picks attribute first = Ok (noted picks attribute first.0, first.1)
 
-one_more : (reading : Result (Value × Ahead) CursorFault) (picks more : Picks) (attribute : ℕ) (rest : List Take) (c d : Ahead) → (reading >>= one_noted picks attribute) ≡ Ok (more, d) → (reading >>= λ first. noted_at (noted picks attribute first.0) rest first.1) ≡ noted_at more rest d
+pub one_more : (reading : Result (Value × Ahead) CursorFault) (picks more : Picks) (attribute : ℕ) (rest : List Take) (c d : Ahead) → (reading >>= one_noted picks attribute) ≡ Ok (more, d) → (reading >>= λ first. noted_at (noted picks attribute first.0) rest first.1) ≡ noted_at more rest d
 one_more (Ok x) picks more attribute rest c d is = ap (λ r. noted_at (parted picks c r).0 rest (parted picks c r).1) is
 one_more (Err fault) picks more attribute rest c d is = absurd (grind (arith, is))
 

@@ -35,7 +35,7 @@ fn fit_number(number: u64) -> Fit
 /// The text at a place of the section of texts.
 #[inline]
 #[tactic(auto, using(crate::proofs::HeldLemmas::open_text))]
-fn fit_place(strs: &[u8], place: u64) -> Fit
+pub fn fit_place(strs: &[u8], place: u64) -> Fit
     ensures { FitsText strs.now result (text_in strs.now place) }
 {
     if place < strs.len() as u64 && (place <= u64::from(u32::MAX) && is_closed(strs)) {

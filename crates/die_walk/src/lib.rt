@@ -20,6 +20,7 @@ mod die;
 mod entry_heads;
 mod heads;
 pub mod laws;
+mod named;
 mod packed;
 mod picks;
 mod quick;

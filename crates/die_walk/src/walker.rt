@@ -1,12 +1,14 @@
 //! The walk over the entries of a unit.
-ghost use Rattle.std.specs.Prelude.{◌≡◌, ◌<◌, ◌^◌, ◌==◌, true, false, [], length, OnOk, IfOk};
+ghost use Rattle.std.specs.Prelude.{◌≡◌, ◌<◌, ◌^◌, ◌==◌, true, false, [], length, Ok, OnOk, IfOk};
 ghost use Rattle.abbrev_units.specs.KeptTags.{is_kept_tag};
 ghost use Rattle.die_walk.specs.Marks.{value_fault};
 ghost use Rattle.die_walk.specs.Marks.Mark.{Close};
+ghost use Rattle.die_walk.specs.internal.Named.{name_alone};
 ghost use Rattle.die_walk.specs.Steps.{innermost, keeps, opened, own_number, begun_by, entered_by, moved, rounded, entered_at, moved_at, step_at, Steps, Moves, IsShort, table_in};
 
 use crate::entry_heads::{has_no_site, make_head, make_site};
 use crate::heads::EntryList;
+use crate::named::{named_head, read_name_alone};
 use crate::picks::{Picks, no_picks, read_picks};
 use crate::quick::{Quick, no_quick, read_quick};
 use crate::root::{Root, base_of, make_root};
@@ -278,9 +280,90 @@ impl<'a> Walker<'a> {
         Ok(())
     }
 
-    /// Takes a kept entry in, without its children. It stands alone, so that entries that are not kept need no places for values.
+    /// Adds a kept entry that is not the first, of which the name at this place matters and nothing else; false where it does not fit, and
+    /// nothing is added.
+    #[inline(always)]
+    #[tactic(auto, unfolding(crate::specs::Steps::entered_by))]
+    fn add_named(
+        &mut self,
+        sections: &Sections<'a>,
+        unit: &Unit,
+        at: u32,
+        tag: u64,
+        place: u64,
+    ) -> Result<bool, OutOfMemory>
+        requires kept { is_kept_tag tag ≡ true }
+        requires later { (length self.old.dies == 0) ≡ false }
+        requires strs { self.old.strs ≡ sections.now.strs }
+        ensures added { IfOk result (λ fits. fits ≡ true → self.new ≡ entered_by sections.now unit.now self.old at tag (name_alone place)) }
+        ensures same { IfOk result (λ fits. fits ≡ false → self.new ≡ self.old) }
+    {
+        let parent = innermost(self.open_levels.as_slice());
+        let Some(head) = named_head(sections, at, parent, tag, place) else {
+            return Ok(false);
+        };
+        self.dies.push_alone(head)?;
+        Ok(true)
+    }
+
+    /// Takes a kept entry in that is not the first, without its children, where a name matters and nothing else; false where it is
+    /// another, and nothing is taken.
+    #[inline(always)]
+    fn take_named(
+        &mut self,
+        sections: &Sections<'a>,
+        unit: &Unit,
+        cursor: &mut Cursor<'a>,
+        at: u32,
+        found: &Abbrev<'_>,
+    ) -> Result<bool, OutOfMemory>
+        requires kept { is_kept_tag found.now.tag ≡ true }
+        requires later { (length self.old.dies == 0) ≡ false }
+        requires strs { self.old.strs ≡ sections.now.strs }
+        ensures taken { IfOk result (λ took. took ≡ true → entered_at sections.now unit.now self.old at found.now cursor.old ≡ Ok (self.new, cursor.new)) }
+        ensures same { IfOk result (λ took. took ≡ false → self.new ≡ self.old) }
+        ensures still { IfOk result (λ took. took ≡ false → cursor.new ≡ cursor.old) }
+    {
+        let mut behind = cursor.fork();
+        let Some(place) = read_name_alone(&mut behind, found) else {
+            return Ok(false);
+        };
+        if !self.add_named(sections, unit, at, found.tag(), place)? {
+            return Ok(false);
+        }
+        *cursor = behind;
+        Ok(true)
+    }
+
+    /// Takes a kept entry in that is not the first, without its children. It stands alone, so that entries with a name alone need no
+    /// places for values.
     #[inline(never)]
     #[tactic(auto, using(crate::proofs::StepLemmas::taken))]
+    fn take_picked(
+        &mut self,
+        sections: &Sections<'a>,
+        unit: &Unit,
+        cursor: &mut Cursor<'a>,
+        at: u32,
+        found: &Abbrev<'_>,
+    ) -> Result<(), Stop<DwarfFault>>
+        requires kept { keeps self.old found.now.tag ≡ true }
+        requires later { (length self.old.dies == 0) ≡ false }
+        requires strs { self.old.strs ≡ sections.now.strs }
+        ensures { Moves result self.new cursor.new (entered_at sections.now unit.now self.old at found.now cursor.old) }
+    {
+        let mut quick = no_quick();
+        let mut behind = cursor.fork();
+        if !read_quick(&mut quick, &mut behind, found) {
+            return self.take_any(sections, unit, cursor, at, found);
+        }
+        self.add_picked(sections, unit, at, found.tag(), &quick)?;
+        *cursor = behind;
+        Ok(())
+    }
+
+    /// Takes a kept entry in, without its children. It stands alone, so that the way past entries that are not kept stays short.
+    #[inline(never)]
     fn take_kept(
         &mut self,
         sections: &Sections<'a>,
@@ -293,17 +376,13 @@ impl<'a> Walker<'a> {
         requires strs { self.old.strs ≡ sections.now.strs }
         ensures { Moves result self.new cursor.new (entered_at sections.now unit.now self.old at found.now cursor.old) }
     {
-        let mut quick = no_quick();
-        let mut behind = cursor.fork();
         if self.dies.is_empty() {
             return self.take_any(sections, unit, cursor, at, found);
         }
-        if !read_quick(&mut quick, &mut behind, found) {
-            return self.take_any(sections, unit, cursor, at, found);
+        if self.take_named(sections, unit, cursor, at, found)? {
+            return Ok(());
         }
-        self.add_picked(sections, unit, at, found.tag(), &quick)?;
-        *cursor = behind;
-        Ok(())
+        self.take_picked(sections, unit, cursor, at, found)
     }
 
     /// Passes an entry that is not kept, without its children. It stands alone, so that what it answers is not in the way of entries

@@ -2,7 +2,7 @@ use Rattle.std.proofs.Common.{ℕ, ap, ◌∙◌}
 use Rattle.die_walk.specs.Picking.{no_picks, picks_at}
 use Rattle.die_walk.specs.Steps.{entered_by}
 use Rattle.die_walk.proofs.StepLemmas.{taken}
-use Rattle.die_walk.proofs.walker.Walker.take_kept.Goals as goal
+use Rattle.die_walk.proofs.walker.Walker.take_picked.Goals as goal
 
 pub returns : goal.returns
 returns c =
