@@ -5,6 +5,7 @@ use Rattle.std.proofs.lemmas.Option.{slice_get-get_or}
 use Rattle.std.specs.List.{slice_get}
 use Rattle.abbrev_units.specs.declared.unit.Unit.{Unit}
 use Rattle.abbrev_units.specs.DebugSections.{DebugSections}
+use Rattle.abbrev_units.proofs.FormTableLemmas.{each_more, none_at}
 use Rattle.die_walk.specs.EntryTable.{DieFields, RootFields}
 use Rattle.range_set.specs.Canonical.{IsCanonical}
 use Rattle.sym_edges.specs.Addresses.{Range}
@@ -50,9 +51,6 @@ pub record SetsRead (sections : DebugSections) (unit : Unit) (root : RootFields)
   pub count : length made ≡ i
   pub each : (k : ℕ) (set : List Range) → slice_get made k ≡ Some set → Says (IsSet code) (pairs_at sections unit root base (slice_get dies k)) set
 
-none_at : {A : Type 0} (made : List A) (k : ℕ) (x : A) → made ≡ [] → slice_get made k ≡ Some x → ⊥
-none_at made k x none there = let past : None ≡ Some x = ap (λ (m : List _). slice_get m k) (sym none) ∙ there in cc
-
 pub sets_none : (sections : DebugSections) (unit : Unit) (root : RootFields) (base : ℕ) (code : List Range) (dies : List DieFields) (i : ℕ) (made : List (List Range)) → i ≡ 0 → made ≡ [] → SetsRead sections unit root base code dies i made
 sets_none sections unit root base code dies i made start none =
     subst (λ (n : ℕ). SetsRead sections unit root base code dies n made) (sym start)
@@ -61,17 +59,6 @@ sets_none sections unit root base code dies i made start none =
       count = ap length none;
       each = λ k set there. absurd (none_at made k set none there);
     })
-
-some_same : {A : Type 0} {x y : A} → Some x ≡ Some y → x ≡ y
-some_same is = cc
-
--- what holds of each, and of one more
-each_more : {A : Type 0} (P : ℕ → A → Type 0) (made : List A) (one : A) → ((k : ℕ) (x : A) → slice_get made k ≡ Some x → P k x) → P (length made) one → (k : ℕ) (x : A) → slice_get (made ++ one ∷ []) k ≡ Some x → P k x
-each_more P [] one each last zero x is = subst (P 0) (some_same is) last
-each_more P [] one each last (suc k) x is = absurd (cc)
-each_more P (m ∷ made) one each last zero x is = each zero x is
-each_more P (m ∷ made) one each last (suc k) x is =
-    each_more (λ n. P (suc n)) made one (λ n y there. each (suc n) y there) last k x is
 
 pub sets_more : (sections : DebugSections) (unit : Unit) (root : RootFields) (base : ℕ) (code : List Range) (dies : List DieFields) (i : ℕ) (made more : List (List Range)) (set : List Range) → i < length dies → SetsRead sections unit root base code dies i made → Says (IsSet code) (pairs_at sections unit root base (slice_get dies i)) set → more ≡ made ++ set ∷ [] → SetsRead sections unit root base code dies (i + 1) more
 sets_more sections unit root base code dies i made more set inside read one is =

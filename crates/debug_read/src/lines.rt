@@ -10,7 +10,7 @@ ghost use Rattle.debug_read.specs.UnitsRead.{has_function};
 
 use abbrev_units::{DwarfFault, Sections};
 use die_walk::{DieList, Root};
-use line_program::{LineTable, read_lines};
+use line_program::{LineScratch, LineTable, read_lines};
 use range_set::Enclosing;
 use std::alloc::Global;
 use sym_edges::Stop;
@@ -54,8 +54,10 @@ pub fn read_table(
         (λ fault. unit_lines sections.now offset root.now.at (unwrap_or root.now.comp_dir []) ≡ Err fault)
         (Prim.Unit {0}) }
 {
+    let mut scratch = LineScratch::new(alloc);
     read_lines(
         alloc,
+        &mut scratch,
         sections,
         offset,
         root.at as usize,

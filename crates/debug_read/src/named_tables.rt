@@ -10,7 +10,7 @@ use crate::lines::comp_dir_of;
 use crate::owed_tables::UnitFound;
 use abbrev_units::{DwarfFault, Sections};
 use die_names::SharedLines;
-use line_program::read_lines;
+use line_program::{LineScratch, read_lines};
 use range_set::Enclosing;
 use std::alloc::Global;
 use std::cmp::Ordering;
@@ -44,6 +44,7 @@ pub struct NamedTable<'a> {
 /// Reads the line table of a name.
 fn read_named<'a>(
     alloc: Global,
+    scratch: &mut LineScratch,
     sections: &Sections<'a>,
     name: TableName<'a>,
     code: &Enclosing,
@@ -57,7 +58,7 @@ fn read_named<'a>(
             read: TableRead::Outside,
         });
     }
-    match read_lines(alloc, sections, offset, 0, comp_dir, code) {
+    match read_lines(alloc, scratch, sections, offset, 0, comp_dir, code) {
         Ok(table) => {
             let lines = SharedLines::of(alloc, table)?;
             Ok(NamedTable {
@@ -108,12 +109,12 @@ impl<'s, 'a> NameReader<'s, 'a> {
 impl<'s, 'a> UnitJob for NameReader<'s, 'a> {
     type Out = NamedTable<'a>;
 
-    type Scratch = ();
+    type Scratch = LineScratch;
 
     ghost gives = { λ reader k out. IsTable reader.code reader.sections out };
 
-    fn scratch(&self, _alloc: Global) -> Result<(), OutOfMemory> {
-        Ok(())
+    fn scratch(&self, alloc: Global) -> Result<LineScratch, OutOfMemory> {
+        Ok(LineScratch::new(alloc))
     }
 
     /// A number after the last name, which no worker draws, has no result.
@@ -121,10 +122,10 @@ impl<'s, 'a> UnitJob for NameReader<'s, 'a> {
         &self,
         alloc: Global,
         k: usize,
-        _scratch: &mut (),
+        scratch: &mut LineScratch,
     ) -> Result<NamedTable<'a>, OutOfMemory> {
         match self.names.get(k) {
-            Some(name) => read_named(alloc, self.sections, *name, self.code),
+            Some(name) => read_named(alloc, scratch, self.sections, *name, self.code),
             None => Err(OutOfMemory),
         }
     }

@@ -13,7 +13,7 @@ use crate::named_tables::{NamedTable, TableRead, find_table, read_tables};
 use abbrev_units::{DwarfFault, Sections};
 use die_names::{SharedLines, SpanSets, UnitRead};
 use die_walk::{DieTable, Root};
-use line_program::{LineTable, read_lines};
+use line_program::{LineScratch, LineTable, read_lines};
 use range_set::Enclosing;
 use std::alloc::Global;
 use std::marker::Model;
@@ -42,6 +42,7 @@ fn let_go(_table: LineTable) {}
 /// Reads the line table at an offset for its faults; one that leaves the section has no outcome of its own.
 fn check_table(
     alloc: Global,
+    scratch: &mut LineScratch,
     sections: &Sections<'_>,
     offset: u64,
     code: &Enclosing,
@@ -51,7 +52,7 @@ fn check_table(
     if offset > sections.line.len() as u64 {
         return Ok(None);
     }
-    match read_lines(alloc, sections, offset, 0, &[], code) {
+    match read_lines(alloc, scratch, sections, offset, 0, &[], code) {
         Ok(table) => {
             let_go(table);
             Ok(Some(TableOutcome {
@@ -102,22 +103,22 @@ impl<'s, 'a> TableReader<'s, 'a> {
 impl<'s, 'a> UnitJob for TableReader<'s, 'a> {
     type Out = Option<TableOutcome>;
 
-    type Scratch = ();
+    type Scratch = LineScratch;
 
     ghost gives = { λ reader k out. IfSome out (IsOutcome reader) };
 
-    fn scratch(&self, _alloc: Global) -> Result<(), OutOfMemory> {
-        Ok(())
+    fn scratch(&self, alloc: Global) -> Result<LineScratch, OutOfMemory> {
+        Ok(LineScratch::new(alloc))
     }
 
     fn run(
         &self,
         alloc: Global,
         k: usize,
-        _scratch: &mut (),
+        scratch: &mut LineScratch,
     ) -> Result<Option<TableOutcome>, OutOfMemory> {
         match self.offsets.get(k) {
-            Some(offset) => check_table(alloc, self.sections, *offset, self.code),
+            Some(offset) => check_table(alloc, scratch, self.sections, *offset, self.code),
             None => Ok(None),
         }
     }

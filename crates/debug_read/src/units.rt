@@ -17,7 +17,7 @@ use crate::lines::has_function;
 use crate::owed_tables::{UnitFound, settle_units};
 use crate::ranges::read_sets;
 use crate::shared_abbrevs::{SharedAbbrevs, read_shared, unit_at};
-use abbrev_units::{Abbrevs, DwarfFault, Sections, Unit, UnitPart, read_abbrevs};
+use abbrev_units::{AbbrevScratch, Abbrevs, DwarfFault, Sections, Unit, UnitPart};
 use die_names::{UnitRead, Units};
 use die_walk::walk;
 use range_lists::laws::code_by_what_it_encloses;
@@ -89,13 +89,14 @@ fn read_entries<'a>(
     })
 }
 
-/// Reads a unit whose abbreviations no other names.
+/// Reads a unit whose abbreviations no other names: they are read in place of those before.
 #[tactic(auto, unfolding(crate::specs::UnitSays::unit_says))]
 fn read_alone<'a>(
     alloc: Global,
     sections: &Sections<'a>,
     unit: &Unit,
     code: &Enclosing,
+    scratch: &mut AbbrevScratch,
 ) -> Result<UnitFound<'a>, Stop<DwarfFault>>
     requires inside { IsInside (length sections.now.info) unit.now }
     requires small { length sections.now.info ≤ 2 ^ 29 }
@@ -104,8 +105,8 @@ fn read_alone<'a>(
         (λ fault. unit_says sections.now unit.now ≡ Err fault)
         (Prim.Unit {0}) }
 {
-    match read_abbrevs(alloc, sections, unit) {
-        Ok(abbrevs) => read_entries(alloc, sections, unit, code, &abbrevs),
+    match scratch.read(alloc, sections, unit) {
+        Ok(()) => read_entries(alloc, sections, unit, code, scratch.abbrevs()),
         Err(stop) => Err(stop),
     }
 }
@@ -119,6 +120,7 @@ fn read_unit<'a>(
     code: &Enclosing,
     shared: &SharedAbbrevs,
     k: usize,
+    scratch: &mut AbbrevScratch,
 ) -> Result<UnitFound<'a>, Stop<DwarfFault>>
     requires inside { IsInside (length sections.now.info) unit.now }
     requires small { length sections.now.info ≤ 2 ^ 29 }
@@ -129,7 +131,7 @@ fn read_unit<'a>(
         (Prim.Unit {0}) }
 {
     let Some(table) = shared.table(sections, unit, k) else {
-        return read_alone(alloc, sections, unit, code);
+        return read_alone(alloc, sections, unit, code, scratch);
     };
     match table {
         Ok(abbrevs) => read_entries(alloc, sections, unit, code, abbrevs),
@@ -178,12 +180,12 @@ impl<'s, 'a> UnitReader<'s, 'a> {
 impl<'s, 'a> UnitJob for UnitReader<'s, 'a> {
     type Out = Result<UnitFound<'a>, DwarfFault>;
 
-    type Scratch = ();
+    type Scratch = AbbrevScratch;
 
     ghost gives = { λ reader k out. ReaderGives reader (slice_get reader.units k) out };
 
-    fn scratch(&self, _alloc: Global) -> Result<(), OutOfMemory> {
-        Ok(())
+    fn scratch(&self, alloc: Global) -> Result<AbbrevScratch, OutOfMemory> {
+        Ok(AbbrevScratch::new(alloc))
     }
 
     /// A number after the last unit, which no worker draws, has no result.
@@ -191,12 +193,20 @@ impl<'s, 'a> UnitJob for UnitReader<'s, 'a> {
         &self,
         alloc: Global,
         k: usize,
-        _scratch: &mut (),
+        scratch: &mut AbbrevScratch,
     ) -> Result<Result<UnitFound<'a>, DwarfFault>, OutOfMemory> {
         let Some(unit) = unit_at(self.units, k) else {
             return Err(OutOfMemory);
         };
-        match read_unit(alloc, self.sections, unit, self.code, self.shared, k) {
+        match read_unit(
+            alloc,
+            self.sections,
+            unit,
+            self.code,
+            self.shared,
+            k,
+            scratch,
+        ) {
             Ok(found) => Ok(Ok(found)),
             Err(Stop::Fault(fault)) => Ok(Err(fault)),
             Err(Stop::NoMemory) => Err(OutOfMemory),
