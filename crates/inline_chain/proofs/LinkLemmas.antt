@@ -1,10 +1,10 @@
 -- Links that lead through the stretches of each class.
-use Rattle.std.proofs.Common.{◌≡◌, ℕ, suc, ◌-◌, ◌<◌, ◌≤◌, ◌==◌, Bool, true, false, if◌then◌else◌, List, [], ◌∷◌, ◌++◌, length, get_or, set, replicate, arith, refl, sym, ap, subst, ◌∙◌, inl, inr, append_assoc, append-nil}
+use Rattle.std.proofs.Common.{◌≡◌, ℕ, suc, ◌-◌, ◌<◌, ◌≤◌, ◌==◌, Bool, true, false, if◌then◌else◌, List, [], ◌∷◌, ◌++◌, length, take, get_or, set, replicate, arith, refl, sym, ap, subst, ◌∙◌, inl, inr, append_assoc, append-nil}
 use Rattle.std.proofs.Math.Seq.{get_or-append_seam}
 use Rattle.std.proofs.lemmas.Bool.{cond-true, cond-false}
 use Rattle.std.proofs.lemmas.Bool.Decides.{eqb_tells}
 use Rattle.std.proofs.lemmas.Grind.{get_or-set_at}
-use Rattle.std.proofs.lemmas.List.{length-append, length-replicate, length-set, get_or_append_left, get_or-set_other, get_or-replicate}
+use Rattle.std.proofs.lemmas.List.{take_all, length-append, length-replicate, length-set, get_or_append_left, get_or-set_other, get_or-replicate}
 use Rattle.step_maps.specs.declared.stretch.Stretch.{Stretch}
 use Rattle.inline_chain.specs.internal.Copies.{of_class, HaveClasses}
 use Rattle.inline_chain.specs.internal.Links.{first_place, nexts_of, AreLinked, Linking, Walks}
@@ -107,6 +107,13 @@ walk_more x items group more nexts place next d e some are pushed said w =
 
 pub walk_ends : (x : ℕ) (items group : List Stretch) (place : ℕ) → place ≡ 0 → Walks x items group place → group ≡ of_class x items
 walk_ends x items group place none w = sym (append-nil group) ∙ ap (λ l. group ++ l) (sym (no_first x w.rest (sym none ∙ w.place_is))) ∙ w.group_is
+
+-- a list that was emptied and filled with zeros
+pub zeros_are : (n had : ℕ) (before firsts : List ℕ) → before ≡ [] → had ≡ 0 → firsts ≡ take n before ++ replicate (n - had) 0 → firsts ≡ replicate n 0
+zeros_are n had before firsts none empty made =
+    let front : take n before ≡ [] = ap (take n) none ∙ take_all n [] (omega arith) in
+    let count : n - had ≡ n = omega (arith, empty) in
+    made ∙ (λ i. front i ++ replicate (count i) 0)
 
 -- the links are made from the last stretch to the first
 pub links_begin : (items : List Stretch) (firsts nexts : List ℕ) (n : ℕ) → firsts ≡ replicate n 0 → nexts ≡ [] → HaveClasses n items → Linking items items firsts nexts

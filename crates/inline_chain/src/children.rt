@@ -1,5 +1,5 @@
 //! The addresses of inlined copies, each with the entry that it stands in.
-ghost use Rattle.std.specs.Prelude.{◌≡◌, ◌<◌, ◌^◌, true, length, IfOk, OnOk};
+ghost use Rattle.std.specs.Prelude.{◌≡◌, ◌<◌, ◌^◌, true, length, OnOk};
 ghost use Rattle.range_set.specs.Canonical.{IsCanonical};
 ghost use Rattle.die_walk.specs.EntryKinds.{is_inlined};
 ghost use Rattle.step_maps.specs.SpanStretches.{AreFit};
@@ -9,7 +9,7 @@ use crate::inside::inside_of;
 use crate::met_copies::MetCopies;
 use die_names::UnitRead;
 use die_walk::Die;
-use std::alloc::{AllocError, Global};
+use std::alloc::AllocError;
 use step_maps::{Stretch, push_spans};
 use sym_edges::Span;
 
@@ -54,26 +54,33 @@ fn push_copy(
     Ok(())
 }
 
-/// The stretches of the inlined copies of a unit, in the order of their entries; the class of each is the number of the entry that it
-/// stands in. Of copies directly in one entry that have one set, only the first is collected: the others are the first nowhere.
-pub fn collect_copies(alloc: Global, part: &UnitRead<'_>) -> Result<Vec<Stretch>, AllocError>
+/// Puts in the place of what was there the stretches of the inlined copies of a unit, in the order of their entries; the class of each
+/// is the number of the entry that it stands in. Of copies directly in one entry that have one set, only the first is collected: the
+/// others are the first nowhere. `row` and `met` are used again for the sake of their memory.
+pub fn collect_copies(
+    part: &UnitRead<'_>,
+    row: &mut Vec<Option<u32>>,
+    met: &mut MetCopies,
+    stretches: &mut Vec<Stretch>,
+) -> Result<(), AllocError>
     requires { length part.now.die.dies < 2 ^ 32 }
-    ensures items { IfOk result (λ items. TellChildren part.now.die.dies part.now.spans items.items) }
-    ensures fit { IfOk result (λ items. AreFit items.items) }
-    ensures sets { IfOk result (λ items. HaveSets part.now.die.dies part.now.spans) }
+    ensures items { OnOk result (TellChildren part.now.die.dies part.now.spans stretches.new.items) }
+    ensures fit { OnOk result (AreFit stretches.new.items) }
+    ensures sets { OnOk result (HaveSets part.now.die.dies part.now.spans) }
 {
     let count = part.die.dies().len();
-    let mut row = Vec::with_capacity(alloc, count)?;
-    let mut met = MetCopies::new(alloc);
-    let mut stretches = Vec::new(alloc);
+    row.clear();
+    row.reserve(count)?;
+    met.clear();
+    stretches.clear();
     'entries: for entry in 0..count {
         let Some(die) = part.entry(entry) else {
-            return Ok(stretches);
+            return Ok(());
         };
         let above = inside_of(part, row.as_slice(), &die);
         push_copy(
-            &mut met,
-            &mut stretches,
+            met,
+            stretches,
             part,
             row.as_slice(),
             entry as u32,
@@ -82,5 +89,5 @@ pub fn collect_copies(alloc: Global, part: &UnitRead<'_>) -> Result<Vec<Stretch>
         )?;
         row.push(above)?;
     }
-    Ok(stretches)
+    Ok(())
 }

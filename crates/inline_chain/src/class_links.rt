@@ -1,5 +1,5 @@
 //! Links that lead through the stretches of each class.
-ghost use Rattle.std.specs.Prelude.{◌≡◌, ◌<◌, length, IfOk, OnOk};
+ghost use Rattle.std.specs.Prelude.{◌≡◌, ◌<◌, length, OnOk};
 ghost use Rattle.inline_chain.specs.internal.Copies.{HaveClasses, of_class};
 ghost use Rattle.inline_chain.specs.internal.Links.{AreLinked};
 
@@ -15,6 +15,16 @@ pub struct ClassLinks {
     pub nexts: Vec<u32>,
 }
 
+impl ClassLinks {
+    /// No links yet. Takes no memory.
+    pub fn new(alloc: Global) -> ClassLinks {
+        ClassLinks {
+            firsts: Vec::new(alloc),
+            nexts: Vec::new(alloc),
+        }
+    }
+}
+
 /// A number above all classes; 0 where there are none.
 fn class_end(items: &[Stretch]) -> usize
     ensures { HaveClasses result items.now }
@@ -28,23 +38,25 @@ fn class_end(items: &[Stretch]) -> usize
     end
 }
 
-/// The links of some stretches.
-pub fn links_of(alloc: Global, items: &[Stretch]) -> Result<ClassLinks, OutOfMemory>
-    ensures { IfOk result (λ links. AreLinked items.now links.firsts.items links.nexts.items) }
+/// Puts the links of some stretches in the place of what was there.
+pub fn fill_links(items: &[Stretch], links: &mut ClassLinks) -> Result<(), OutOfMemory>
+    ensures { OnOk result (AreLinked items.now links.new.firsts.items links.new.nexts.items) }
 {
     if items.len() > u32::MAX as usize {
         return Err(OutOfMemory);
     }
-    let mut firsts = vec![in alloc; 0; class_end(items)]?;
-    let mut nexts = Vec::with_capacity(alloc, items.len())?;
+    links.firsts.clear();
+    links.firsts.resize(class_end(items), 0)?;
+    links.nexts.clear();
+    links.nexts.reserve(items.len())?;
     let mut rest = items;
     'items: while let Some((item, before)) = rest.split_last() {
         let class = item.class as usize;
-        nexts.push(firsts[class])?;
-        firsts[class] = nexts.len() as u32;
+        links.nexts.push(links.firsts[class])?;
+        links.firsts[class] = links.nexts.len() as u32;
         rest = before;
     }
-    Ok(ClassLinks { firsts, nexts })
+    Ok(())
 }
 
 /// Puts in the place of what was there the stretches of a class, in their order.

@@ -51,13 +51,33 @@ fn covers_between(covers: &[Cover], start: usize, end: usize) -> &[Cover]
 }
 
 impl CoverLists {
-    /// No entry yet, and room for so many.
-    pub fn with_room(alloc: Global, count: usize) -> Result<CoverLists, OutOfMemory>
-        ensures { IfOk result (λ lists. lists ≡ []) }
+    /// No entry yet. Takes no memory.
+    pub fn new(alloc: Global) -> CoverLists
+        ensures { result ≡ [] }
+    {
+        CoverLists {
+            ends: Vec::new(alloc),
+            covers: Vec::new(alloc),
+        }
+    }
+
+    /// Forgets what was there, and makes room for so many entries.
+    pub fn begin(&mut self, count: usize) -> Result<(), OutOfMemory>
+        ensures { OnOk result (self.new ≡ []) }
+    {
+        self.ends.clear();
+        self.covers.clear();
+        self.ends.reserve(count)?;
+        Ok(())
+    }
+
+    /// The same lists, in no more room than they take.
+    pub fn copied(&self, alloc: Global) -> Result<CoverLists, OutOfMemory>
+        ensures { IfOk result (λ lists. lists ≡ self.now) }
     {
         Ok(CoverLists {
-            ends: Vec::with_capacity(alloc, count)?,
-            covers: Vec::new(alloc),
+            ends: Vec::from_slice(alloc, self.ends.as_slice())?,
+            covers: Vec::from_slice(alloc, self.covers.as_slice())?,
         })
     }
 

@@ -1,5 +1,5 @@
 //! The covers of the inlined copies in one entry.
-ghost use Rattle.std.specs.Prelude.{◌≡◌, map, IfOk, OnOk};
+ghost use Rattle.std.specs.Prelude.{◌≡◌, map, OnOk};
 ghost use Rattle.std.specs.List.Sorted.{IsPermutation};
 ghost use Rattle.step_maps.specs.Runs.{IsRuns, between};
 ghost use Rattle.step_maps.specs.Covers.{index_at, cover_run};
@@ -55,22 +55,23 @@ fn fill_own(items: &[Stretch], covers: &mut Vec<Cover>) -> Result<(), AllocError
     Ok(())
 }
 
-/// The stretches by their first addresses.
-fn sorted_by_first(alloc: Global, items: &[Stretch]) -> Result<Vec<Stretch>, AllocError>
-    ensures { IfOk result (λ sorted. IsPermutation items.now sorted.items) }
+/// Puts in the place of what was there the stretches by their first addresses.
+fn fill_sorted(items: &[Stretch], sorted: &mut Vec<Stretch>) -> Result<(), AllocError>
+    ensures { OnOk result (IsPermutation items.now sorted.new.items) }
 {
-    let mut sorted = Vec::with_capacity(alloc, items.len())?;
+    sorted.clear();
     sorted.extend_from_slice(items)?;
     sorted.sort_unstable_by_key(|item| item.first);
-    Ok(sorted)
+    Ok(())
 }
 
 /// Puts the covers of stretches in the place of what was there. Stretches that follow one another, as nearly all do once they are sorted,
-/// are their own covers.
+/// are their own covers. `sorted` is used again for the sake of its memory.
 #[tactic(auto, using(crate::proofs::ApartLemmas::apart_runs, crate::proofs::ApartLemmas::sorted_runs, crate::proofs::ApartLemmas::covers_run, crate::proofs::ClassLemmas::fit_some))]
 pub fn fill_covers(
     alloc: Global,
     items: &[Stretch],
+    sorted: &mut Vec<Stretch>,
     own: &mut Vec<Cover>,
 ) -> Result<(), OutOfMemory>
     requires { AreFit items.now }
@@ -80,7 +81,7 @@ pub fn fill_covers(
         fill_own(items, own)?;
         return Ok(());
     }
-    let sorted = sorted_by_first(alloc, items)?;
+    fill_sorted(items, sorted)?;
     if is_apart(sorted.as_slice()) {
         fill_own(sorted.as_slice(), own)?;
         return Ok(());

@@ -10,7 +10,7 @@
 //! definitions there are for the code alone. For n ranges of inlined copies in a unit the trees take n log n turns, and a piece
 //! takes as many as there are ranges on its levels, each with a search.
 //!
-//! To read: `inline_run`, then `inside`, `met_copies`, `children`, `class_links`, `cover_sweep`, `cover_lists` and `trees`, then `levels`, `groups`
+//! To read: `inline_run`, then `inside`, `met_copies`, `children`, `class_links`, `cover_sweep`, `cover_lists`, `tree_scratch` and `trees`, then `levels`, `groups`
 //! and `inline_list`.
 #![tactic(auto)]
 
@@ -25,6 +25,7 @@ mod inside;
 pub mod laws;
 mod levels;
 mod met_copies;
+mod tree_scratch;
 mod trees;
 
 pub use crate::inline_list::{LevelLists, inlines};

@@ -54,12 +54,18 @@ fn first_of(firsts: &[u32], set: usize) -> Option<u32> {
 }
 
 impl MetCopies {
-    /// None yet.
+    /// None yet. Takes no memory.
     pub fn new(alloc: Global) -> MetCopies {
         MetCopies {
             firsts: Vec::new(alloc),
             others: BTreeMap::new(alloc),
         }
+    }
+
+    /// Forgets what was met, and keeps the list's memory.
+    pub fn clear(&mut self) {
+        self.firsts.clear();
+        self.others.clear();
     }
 
     /// Notes the first copy that has a set. Numbers of sets rise, so that this fills the list up to there.

@@ -5,12 +5,14 @@ ghost use Rattle.std.specs.List.{slice_get};
 ghost use Rattle.std.specs.Option.{option_copied};
 ghost use Rattle.die_names.specs.UnitEntries.{AreRead};
 ghost use Rattle.inline_chain.specs.internal.Copies.{AreLists, TreeFor, AddsCovers};
+ghost use Rattle.inline_chain.specs.internal.Links.{AreLinked};
 ghost use Rattle.inline_chain.specs.Trees.{IsTree, AreTrees};
 
 use crate::children::collect_copies;
-use crate::class_links::{fill_class, links_of};
+use crate::class_links::{ClassLinks, fill_class, fill_links};
 use crate::cover_lists::CoverLists;
 use crate::cover_sweep::fill_covers;
+use crate::tree_scratch::{ClassScratch, TreeScratch};
 use die_names::{UnitRead, Units};
 use std::alloc::Global;
 use std::marker::Model;
@@ -99,18 +101,23 @@ fn unit_at<'u, 'a>(units: &'u [UnitRead<'a>], k: usize) -> Option<&'u UnitRead<'
 impl<'u, 'a> UnitJob for TreeMaker<'u, 'a> {
     type Out = CoverLists;
 
-    type Scratch = ();
+    type Scratch = TreeScratch;
 
     ghost gives = { λ units k lists. TreeFor (slice_get units k) (Some lists) };
 
-    fn scratch(&self, _alloc: Global) -> Result<(), OutOfMemory> {
-        Ok(())
+    fn scratch(&self, alloc: Global) -> Result<TreeScratch, OutOfMemory> {
+        Ok(TreeScratch::new(alloc))
     }
 
     /// A number after the last unit, which no worker draws, has no result.
-    fn run(&self, alloc: Global, k: usize, _scratch: &mut ()) -> Result<CoverLists, OutOfMemory> {
+    fn run(
+        &self,
+        alloc: Global,
+        k: usize,
+        scratch: &mut TreeScratch,
+    ) -> Result<CoverLists, OutOfMemory> {
         match unit_at(self.units.as_slice(), k) {
-            Some(part) => tree_of(alloc, part),
+            Some(part) => tree_of(alloc, part, scratch),
             None => Err(OutOfMemory),
         }
     }
@@ -133,21 +140,40 @@ fn all_trees<R: Threads + Sync>(
 }
 
 /// The tree of a unit.
-fn tree_of(alloc: Global, part: &UnitRead<'_>) -> Result<CoverLists, OutOfMemory>
+fn tree_of(
+    alloc: Global,
+    part: &UnitRead<'_>,
+    scratch: &mut TreeScratch,
+) -> Result<CoverLists, OutOfMemory>
     requires { length part.now.die.dies < 2 ^ 32 }
     ensures { IfOk result (λ lists. IsTree part.now lists) }
 {
-    let items = collect_copies(alloc, part)?;
-    let lists = lists_of(alloc, items.as_slice())?;
+    collect_copies(
+        part,
+        &mut scratch.row,
+        &mut scratch.met,
+        &mut scratch.stretches,
+    )?;
+    let items = scratch.stretches.as_slice();
+    fill_links(items, &mut scratch.links)?;
+    fill_lists(
+        alloc,
+        items,
+        &scratch.links,
+        &mut scratch.class,
+        &mut scratch.lists,
+    )?;
+    let lists = scratch.lists.copied(alloc)?;
     Ok(lists)
 }
 
-/// Adds the covers of stretches. What `own` holds does not matter: it is used again for the sake of its memory.
+/// Adds the covers of stretches. `sorted` and `own` are used again for the sake of their memory.
 #[tactic(auto, using(crate::proofs::ApartLemmas::no_cover))]
 fn push_covers(
     alloc: Global,
     lists: &mut CoverLists,
     group: &[Stretch],
+    sorted: &mut Vec<Stretch>,
     own: &mut Vec<Cover>,
 ) -> Result<(), OutOfMemory>
     requires { AreFit group.now }
@@ -156,22 +182,32 @@ fn push_covers(
     if group.is_empty() {
         return lists.push_none();
     }
-    fill_covers(alloc, group, own)?;
+    fill_covers(alloc, group, sorted, own)?;
     lists.push(own.as_slice())
 }
 
-/// The covers of each class, as far as there are any.
-fn lists_of(alloc: Global, items: &[Stretch]) -> Result<CoverLists, OutOfMemory>
-    requires { AreFit items.now }
-    ensures { IfOk result (λ lists. AreLists items.now lists) }
+/// Puts in the place of what was there the covers of each class, as far as there are any.
+fn fill_lists(
+    alloc: Global,
+    items: &[Stretch],
+    links: &ClassLinks,
+    class_lists: &mut ClassScratch,
+    lists: &mut CoverLists,
+) -> Result<(), OutOfMemory>
+    requires fit { AreFit items.now }
+    requires linked { AreLinked items.now links.now.firsts.items links.now.nexts.items }
+    ensures { OnOk result (AreLists items.now lists.new) }
 {
-    let links = links_of(alloc, items)?;
-    let mut lists = CoverLists::with_room(alloc, links.firsts.len())?;
-    let mut group = Vec::new(alloc);
-    let mut own = Vec::new(alloc);
+    lists.begin(links.firsts.len())?;
     'classes: for class in 0..links.firsts.len() {
-        fill_class(items, &links, class, &mut group)?;
-        push_covers(alloc, &mut lists, group.as_slice(), &mut own)?;
+        fill_class(items, links, class, &mut class_lists.group)?;
+        push_covers(
+            alloc,
+            lists,
+            class_lists.group.as_slice(),
+            &mut class_lists.sorted,
+            &mut class_lists.own,
+        )?;
     }
-    Ok(lists)
+    Ok(())
 }

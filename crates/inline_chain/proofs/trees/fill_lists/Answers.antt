@@ -1,12 +1,12 @@
 use Rattle.std.proofs.Common.{arith}
 use Rattle.inline_chain.proofs.TreeLemmas.{fit_class, lists_more, lists_all}
-use Rattle.inline_chain.proofs.trees.lists_of.Goals as goal
+use Rattle.inline_chain.proofs.trees.fill_lists.Goals as goal
 
 pub push_covers-requires : goal.push_covers-requires
-push_covers-requires c = rw (c.as_slice.ensures.value, c.in_ok-fill_class.ensures) (fit_class _ _ c.requires)
+push_covers-requires c = rw (c.as_slice.ensures.value, c.in_ok-fill_class.ensures) (fit_class _ _ c.requires.fit)
 
 pub classes-preserved : goal.classes-preserved
 classes-preserved c = lists_more _ _ _ _ _ (rw c.in_ok-fill_class.ensures at c.as_slice.ensures.value) c.in_ok-push_covers.ensures c.classes.invariant
 
 pub returns : goal.returns
-returns c = lists_all _ _ _ _ (omega arith) c.in_ok-links.ensures.below c.classes.invariant
+returns c = lists_all _ _ _ _ (omega arith) c.requires.linked.below c.classes.invariant

@@ -1,0 +1,43 @@
+//! What a worker keeps from the tree of one unit to that of the next.
+use crate::class_links::ClassLinks;
+use crate::cover_lists::CoverLists;
+use crate::met_copies::MetCopies;
+use std::alloc::Global;
+use step_maps::{Cover, Stretch};
+
+/// Lists that each unit fills anew. They are kept for the sake of their memory: what they hold when a unit is begun does not matter.
+#[derive(Drop)]
+pub struct TreeScratch {
+    pub row: Vec<Option<u32>>,
+    pub met: MetCopies,
+    pub stretches: Vec<Stretch>,
+    pub links: ClassLinks,
+    pub class: ClassScratch,
+    pub lists: CoverLists,
+}
+
+/// Lists that each class of a unit fills anew.
+#[derive(Drop)]
+pub struct ClassScratch {
+    pub group: Vec<Stretch>,
+    pub sorted: Vec<Stretch>,
+    pub own: Vec<Cover>,
+}
+
+impl TreeScratch {
+    /// Empty lists. Takes no memory.
+    pub fn new(alloc: Global) -> TreeScratch {
+        TreeScratch {
+            row: Vec::new(alloc),
+            met: MetCopies::new(alloc),
+            stretches: Vec::new(alloc),
+            links: ClassLinks::new(alloc),
+            class: ClassScratch {
+                group: Vec::new(alloc),
+                sorted: Vec::new(alloc),
+                own: Vec::new(alloc),
+            },
+            lists: CoverLists::new(alloc),
+        }
+    }
+}
