@@ -1,7 +1,7 @@
--- Lists that grow keep what stands in them, for lists::Lists::add and abbrevs::read_list.
+-- Lists that grow keep what stands in them.
 use Rattle.std.proofs.Common.{◌≡◌, ◌≤◌, ◌-◌, ℕ, Bool, List, [], ◌∷◌, ◌++◌, length, take, drop, None, Some, Result, Ok, Err, refl, sym, ap, subst, ◌∙◌, arith}
-use Rattle.std.specs.Prelude.{slice_range}
-use Rattle.std.proofs.lemmas.List.{length-append, length-drop, take-append-le, drop-append-le, take_all, drop_at}
+use Rattle.std.proofs.lemmas.List.{length-append, length-drop, append-nil, append_assoc, take-append-le, drop-append-le, take_all, drop_at}
+use Rattle.std.proofs.Math.ListN.{drop_of_length-le}
 use Rattle.sym_edges.specs.declared.fault.Stop.{Stop}
 use Rattle.sym_edges.specs.declared.fault.Stop.TheVariants.{Fault, NoMemory}
 use Rattle.leb_cursor.specs.declared.fault.CursorFault.{CursorFault}
@@ -10,26 +10,37 @@ use Rattle.abbrev_units.specs.declared.plan.Step.{Step}
 use Rattle.abbrev_units.specs.declared.take.Take.{Take}
 use Rattle.abbrev_units.specs.declared.lists.Lists.{Lists}
 use Rattle.abbrev_units.specs.declared.lists.Run.{Run}
+use Rattle.abbrev_units.specs.declared.lists.ShortWay.{ShortWay}
+use Rattle.abbrev_units.specs.declared.lists.ShortWay.TheVariants.{Missing, Over, To}
 use Rattle.abbrev_units.specs.declared.lists.Head.{Head}
 use Rattle.abbrev_units.specs.SpecFields.{SpecFields, Abbrev}
 use Rattle.abbrev_units.specs.Abbreviations.{used_at}
 use Rattle.abbrev_units.specs.internal.Used.{used_abbrev_at}
-use Rattle.abbrev_units.specs.internal.Listed.{part, IsInside, abbrev_in, abbrevs_in, IsHeld, AreHeld, Starts, Grown, LeavesAt, ReadsAt}
-use Rattle.abbrev_units.specs.internal.Ways.{IsWay}
+use Rattle.abbrev_units.specs.Takes.{AreTakes}
+use Rattle.abbrev_units.specs.KeptTags.{is_kept_tag}
+use Rattle.abbrev_units.specs.internal.Plans.{ended, IsPlan}
+use Rattle.abbrev_units.specs.internal.Listed.{part, IsInside, IsWay, abbrev_in, abbrevs_in, IsHeld, AreHeld, Starts, Grown, LeavesAt, ReadsAt}
 use Rattle.abbrev_units.proofs.AbbrevLemmas.{abbrevs_behind, abbrevs_begin, abbrevs_more, abbrevs_end, abbrevs_stopped}
 
--- what was added is the last part
-pub part_added : {A : Type 0} (before after more : List A) (from to : ℕ) → after ≡ before ++ more → from ≡ length before → to ≡ length after → slice_range after from to ≡ more
-part_added before after more from to is start end =
-    let rest : drop from after ≡ more = ap (drop from) is ∙ drop_at before more from (sym start) in
-    let long : length more ≤ to - from = omega (arith, start, end, ap length is, length-append before more) in
-    ap (take (to - from)) rest ∙ take_all (to - from) more long
-
-pub part_inside : {A : Type 0} (before after more : List A) (from to : ℕ) → after ≡ before ++ more → from ≡ length before → to ≡ length after → (from ≤ to) × (to ≤ length after)
-part_inside before after more from to is start end = (omega (arith, start, end, ap length is, length-append before more), omega (arith, end))
-
-pub starts_by : {A : Type 0} (before after more : List A) → after ≡ before ++ more → Starts before after
+-- lists that others begin
+starts_by : {A : Type 0} (before after more : List A) → after ≡ before ++ more → Starts before after
 starts_by before after more is = is ∙ ap (λ rest. before ++ rest) (sym (ap (drop (length before)) is ∙ drop_at before more (length before) refl))
+
+pub none_added : {A : Type 0} (xs : List A) → drop (length xs) xs ≡ []
+none_added xs = drop_of_length-le xs (omega arith)
+
+pub starts_here : {A : Type 0} (xs : List A) → Starts xs xs
+starts_here xs = starts_by xs xs [] (sym (append-nil xs))
+
+starts_below : {A : Type 0} (before after : List A) → Starts before after → length before ≤ length after
+starts_below before after starts = omega (arith, ap length starts, length-append before (drop (length before) after))
+
+pub starts_more : {A : Type 0} (before after longer more : List A) → Starts before after → longer ≡ after ++ more → Starts before longer
+starts_more before after longer more starts is =
+    starts_by before longer (drop (length before) after ++ more) (is ∙ ap (λ xs. xs ++ more) starts ∙ append_assoc before (drop (length before) after) more)
+
+pub added_more : {A : Type 0} (before after longer more : List A) → Starts before after → longer ≡ after ++ more → drop (length before) longer ≡ drop (length before) after ++ more
+added_more before after longer more starts is = ap (drop (length before)) is ∙ drop-append-le (length before) after more (starts_below before after starts)
 
 -- a part stays
 kept_part : {A : Type 0} (before more : List A) (run : Run) → IsInside run before → part run (before ++ more) ≡ part run before
@@ -45,48 +56,58 @@ still_inside : {A : Type 0} (before after : List A) (run : Run) → Starts befor
 still_inside before after run starts inside =
     (inside.0, omega (arith, inside.1, ap length starts, length-append before (drop (length before) after)))
 
--- the parts of an abbreviation that was added last
-pub grown_by : (before after : Lists) (specs : List SpecFields) (steps : List Step) (takes : List Take) → after.specs.items ≡ before.specs.items ++ specs → after.steps.items ≡ before.steps.items ++ steps → after.takes.items ≡ before.takes.items ++ takes → Grown before after
-grown_by before after specs steps takes a b c = record {
-  specs = starts_by before.specs.items after.specs.items specs a;
-  steps = starts_by before.steps.items after.steps.items steps b;
-  takes = starts_by before.takes.items after.takes.items takes c;
+-- what stands from a number on, as a run
+part_rest : {A : Type 0} (xs : List A) (run : Run) (from : ℕ) → run.from ≡ from → run.to ≡ length xs → drop from xs ≡ part run xs
+part_rest xs run from start end =
+    sym (ap (take (run.to - run.from)) (ap (λ n. drop n xs) start) ∙ take_all (run.to - run.from) (drop from xs) (omega (arith, start, end, length-drop from xs)))
+
+rest_inside : {A : Type 0} (xs : List A) (run : Run) (from : ℕ) → run.from ≡ from → run.to ≡ length xs → from ≤ length xs → IsInside run xs
+rest_inside xs run from start end inside = (omega (arith, start, end, inside), omega (arith, end))
+
+pub way_over : (steps : List Step) (takes : List Take) (specs : List SpecFields) (run : Run) (from tail : ℕ) → run.from ≡ from → run.to ≡ length steps → from ≤ length steps → IsPlan (ended (drop from steps) tail) specs → IsWay (Over run tail) steps takes specs
+way_over steps takes specs run from tail start end inside plan =
+    (rest_inside steps run from start end inside, subst (λ s. IsPlan (ended s tail) specs) (part_rest steps run from start end) plan)
+
+pub way_to : (steps : List Step) (takes : List Take) (specs : List SpecFields) (run : Run) (from : ℕ) → run.from ≡ from → run.to ≡ length takes → from ≤ length takes → AreTakes (drop from takes) specs → IsWay (To run) steps takes specs
+way_to steps takes specs run from start end inside gives =
+    (rest_inside takes run from start end inside, subst (λ t. AreTakes t specs) (part_rest takes run from start end) gives)
+
+pub abbrev_rest : (specs : List SpecFields) (head : Head) (from : ℕ) → head.specs.from ≡ from → head.specs.to ≡ length specs → abbrev_in specs head ≡ record { code = head.code; tag = head.tag; children = head.children; specs = drop from specs }
+abbrev_rest specs head from start end =
+    ap (λ (s : List SpecFields). record { code = head.code; tag = head.tag; children = head.children; specs = s }) (sym (part_rest specs head.specs from start end))
+
+pub held_rest : (lists : Lists) (head : Head) (from : ℕ) → head.kept ≡ is_kept_tag head.tag → head.specs.from ≡ from → head.specs.to ≡ length lists.specs.items → from ≤ length lists.specs.items → IsWay head.way lists.steps.items lists.takes.items (drop from lists.specs.items) → IsHeld lists head
+held_rest lists head from kept start end inside way = record {
+  kept = kept;
+  specs = rest_inside lists.specs.items head.specs from start end inside;
+  way = subst (λ s. IsWay head.way lists.steps.items lists.takes.items s) (part_rest lists.specs.items head.specs from start end) way;
 }
 
-pub abbrev_added : (before after : Lists) (head : Head) (specs : List SpecFields) → after.specs.items ≡ before.specs.items ++ specs → head.specs.from ≡ length before.specs.items → head.specs.to ≡ length after.specs.items
-    → abbrev_in after.specs.items head ≡ record { code = head.code; tag = head.tag; children = head.children; specs = specs }
-abbrev_added before after head specs is from to =
-    ap (λ (s : List SpecFields). record { code = head.code; tag = head.tag; children = head.children; specs = s }) (part_added before.specs.items after.specs.items specs head.specs.from head.specs.to is from to)
-
-pub held_new : (before after : Lists) (head : Head) (specs : List SpecFields) (steps : List Step) (takes : List Take) → after.specs.items ≡ before.specs.items ++ specs → after.steps.items ≡ before.steps.items ++ steps → after.takes.items ≡ before.takes.items ++ takes
-    → head.specs.from ≡ length before.specs.items → head.specs.to ≡ length after.specs.items → head.steps.from ≡ length before.steps.items → head.steps.to ≡ length after.steps.items → head.takes.from ≡ length before.takes.items → head.takes.to ≡ length after.takes.items
-    → IsWay head.way steps takes specs → IsHeld after head
-held_new before after head specs steps takes a b c a0 a1 b0 b1 c0 c1 way = record {
-  specs = part_inside before.specs.items after.specs.items specs head.specs.from head.specs.to a a0 a1;
-  steps = part_inside before.steps.items after.steps.items steps head.steps.from head.steps.to b b0 b1;
-  takes = part_inside before.takes.items after.takes.items takes head.takes.from head.takes.to c c0 c1;
-  way = subst (λ s. IsWay head.way (part head.steps after.steps.items) (part head.takes after.takes.items) s) (sym (part_added before.specs.items after.specs.items specs head.specs.from head.specs.to a a0 a1))
-      (subst (λ t. IsWay head.way (part head.steps after.steps.items) t specs) (sym (part_added before.takes.items after.takes.items takes head.takes.from head.takes.to c c0 c1))
-      (subst (λ s. IsWay head.way s takes specs) (sym (part_added before.steps.items after.steps.items steps head.steps.from head.steps.to b b0 b1)) way));
+pub grown_by : (before after : Lists) (specs : List SpecFields) → Starts before.specs.items specs → after.specs.items ≡ specs → Starts before.steps.items after.steps.items → Starts before.takes.items after.takes.items → Grown before after
+grown_by before after specs a same b c = record {
+  specs = subst (λ s. Starts before.specs.items s) (sym same) a;
+  steps = b;
+  takes = c;
 }
 
 same_abbrev : (before after : Lists) (head : Head) → Grown before after → IsHeld before head → abbrev_in before.specs.items head ≡ abbrev_in after.specs.items head
 same_abbrev before after head grown held =
     ap (λ (specs : List SpecFields). record { code = head.code; tag = head.tag; children = head.children; specs = specs }) (same_part before.specs.items after.specs.items head.specs grown.specs held.specs)
 
+way_still : (before after : Lists) (way : ShortWay) (specs : List SpecFields) → Grown before after → IsWay way before.steps.items before.takes.items specs → IsWay way after.steps.items after.takes.items specs
+way_still before after Missing specs grown held = tt
+way_still before after (Over run tail) specs grown held =
+    (still_inside before.steps.items after.steps.items run grown.steps held.0, subst (λ s. IsPlan (ended s tail) specs) (same_part before.steps.items after.steps.items run grown.steps held.0) held.1)
+way_still before after (To run) specs grown held =
+    (still_inside before.takes.items after.takes.items run grown.takes held.0, subst (λ t. AreTakes t specs) (same_part before.takes.items after.takes.items run grown.takes held.0) held.1)
+
 held_still : (before after : Lists) (head : Head) → Grown before after → IsHeld before head → IsHeld after head
-held_still before after head grown held =
-    let specs = same_part before.specs.items after.specs.items head.specs grown.specs held.specs in
-    let steps = same_part before.steps.items after.steps.items head.steps grown.steps held.steps in
-    let takes = same_part before.takes.items after.takes.items head.takes grown.takes held.takes in
-    record {
-      specs = still_inside before.specs.items after.specs.items head.specs grown.specs held.specs;
-      steps = still_inside before.steps.items after.steps.items head.steps grown.steps held.steps;
-      takes = still_inside before.takes.items after.takes.items head.takes grown.takes held.takes;
-      way = subst (λ s. IsWay head.way (part head.steps after.steps.items) (part head.takes after.takes.items) s) specs
-          (subst (λ t. IsWay head.way (part head.steps after.steps.items) t (part head.specs before.specs.items)) takes
-          (subst (λ s. IsWay head.way s (part head.takes before.takes.items) (part head.specs before.specs.items)) steps held.way));
-    }
+held_still before after head grown held = record {
+  kept = held.kept;
+  specs = still_inside before.specs.items after.specs.items head.specs grown.specs held.specs;
+  way = subst (λ s. IsWay head.way after.steps.items after.takes.items s) (same_part before.specs.items after.specs.items head.specs grown.specs held.specs)
+      (way_still before after head.way (part head.specs before.specs.items) grown held.way);
+}
 
 pub all_held : (before after : Lists) (heads : List Head) → Grown before after → AreHeld before heads → AreHeld after heads
 all_held before after [] grown held = tt

@@ -1,7 +1,7 @@
 -- For `make_takes` and `Spec::row`: a short way to the values that are asked for grows from its end.
 use Rattle.std.proofs.Common.{◌≡◌, ◌<◌, ◌≤◌, ◌+◌, ℕ, ℤ, nat_eq, false, cond, List, [], ◌∷◌, ◌++◌, length, drop, get_or, reverse, Option, None, Some, Result, Ok, Err, refl, sym, ap, ◌∙◌, arith, subst, unwrap_or}
 use Rattle.std.proofs.lemmas.Bool.{cond-false, le-ltb}
-use Rattle.std.proofs.lemmas.List.{drop_more, reverse-append}
+use Rattle.std.proofs.lemmas.List.{append-nil, drop_more, reverse-append}
 use Rattle.std.proofs.Math.ListN.{drop_of_length-le}
 use Rattle.sym_edges.specs.Results.{◌>>=◌}
 use Rattle.leb_cursor.specs.declared.fault.CursorFault.{CursorFault}
@@ -21,7 +21,9 @@ use Rattle.abbrev_units.specs.FormValue.{value_of, value_by, direct_at, form_at}
 use Rattle.abbrev_units.specs.SpecFields.{SpecFields}
 use Rattle.abbrev_units.specs.Values.{value_at, values_at, only_ahead}
 use Rattle.abbrev_units.specs.Takes.{is_asked, asked_of, with_asked, taken_at, takes_at, AreTakes}
+use Rattle.abbrev_units.specs.internal.Listed.{Starts}
 use Rattle.abbrev_units.specs.internal.Plans.{HasRow, IsPassed, no_take, in_front}
+use Rattle.abbrev_units.proofs.ListedLemmas.{added_more}
 use Rattle.abbrev_units.proofs.PlanLemmas.{take_passed, take_fits, passed_none, passed_two, long_enough}
 
 pub direct_row : (spec : SpecFields) (row : FormRow) → nat_eq spec.form 0x16 ≡ false → Some row ≡ form_row spec.form (forms spec.wide) → HasRow spec row
@@ -155,8 +157,16 @@ takes_begin first later specs place is none all =
     subst (λ (s : List SpecFields). AreTakes (in_front first (reverse later)) s) (sym (drop_of_length-le specs all))
     (subst (λ (l : List Take). AreTakes (in_front first (reverse l)) []) (sym none) (subst (λ (t : Option Take). AreTakes (in_front t []) []) (sym is) begun))
 
-pub put_front : (whole later : List Take) (first : Take) → whole ≡ later ++ first ∷ [] → reverse whole ≡ first ∷ reverse later
-put_front whole later first is = ap reverse is ∙ reverse-append later (first ∷ [])
+front_first : (later : List Take) (first : Option Take) → reverse (later ++ in_front first []) ≡ in_front first (reverse later)
+front_first later None = ap reverse (append-nil later)
+front_first later (Some first) = reverse-append later (first ∷ [])
+
+pub put_front : (before later whole : List Take) (first : Option Take) → Starts before later → whole ≡ later ++ in_front first [] → reverse (drop (length before) whole) ≡ in_front first (reverse (drop (length before) later))
+put_front before later whole first starts is = ap reverse (added_more before later whole (in_front first []) starts is) ∙ front_first (drop (length before) later) first
+
+pub takes_end : (first : Option Take) (later more : List Take) (specs : List SpecFields) (place : ℕ) → AreTakes (in_front first (reverse later)) (drop place specs) → place ≡ 0 → reverse more ≡ in_front first (reverse later) → AreTakes (reverse more) specs
+takes_end first later more specs place so_far none added =
+    subst (λ (l : List Take). AreTakes l specs) (sym added) (subst (λ (n : ℕ). AreTakes (in_front first (reverse later)) (drop n specs)) none so_far)
 
 -- the value of an attribute by the row of its form
 abbrev row_value : FormRow → ℤ → Operand × Ahead → Result (Value × Ahead) FormFault

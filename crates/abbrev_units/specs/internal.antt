@@ -2,5 +2,4 @@
 pub mod Plans
 pub mod Listed
 pub mod Used
-pub mod Ways
 pub mod FormRows

@@ -1,18 +1,14 @@
 //! Reading abbreviations (DWARF 5, 7.5.3).
-ghost use Rattle.std.specs.Prelude.{◌≡◌, [], OnOk};
+ghost use Rattle.std.specs.Prelude.{◌≡◌, length, drop, OnOk};
 ghost use Rattle.leb_cursor.specs.Ahead.{gave};
 ghost use Rattle.abbrev_units.specs.Abbreviations.{implicit_at};
-ghost use Rattle.abbrev_units.specs.KeptTags.{is_kept_tag};
 ghost use Rattle.abbrev_units.specs.internal.Used.{used_spec_at, used_specs_at, used_abbrev_by, used_abbrev_at};
-ghost use Rattle.abbrev_units.specs.internal.Listed.{Grown, LeavesAt, ReadsAt};
+ghost use Rattle.abbrev_units.specs.internal.Listed.{Starts, Grown, LeavesAt, ReadsAt};
 
 use crate::form_table::FormTable;
 use crate::lists::{Head, Lists};
 use crate::spec::Spec;
-use code_table::{
-    DW_FORM_implicit_const, DW_TAG_class_type, DW_TAG_inlined_subroutine, DW_TAG_namespace,
-    DW_TAG_structure_type, DW_TAG_subprogram, DW_TAG_union_type,
-};
+use code_table::DW_FORM_implicit_const;
 use leb_cursor::{Cursor, CursorFault};
 use sym_edges::Stop;
 
@@ -41,15 +37,15 @@ fn read_spec(cursor: &mut Cursor<'_>, forms: &FormTable) -> Result<Option<Spec>,
     Ok(Some(Spec::of(forms, attribute, form, implicit)))
 }
 
-/// Reads attributes up to the end of their list.
-#[tactic(auto, using(crate::proofs::AbbrevLemmas::specs_begin, crate::proofs::AbbrevLemmas::specs_more, crate::proofs::AbbrevLemmas::specs_end, crate::proofs::AbbrevLemmas::specs_refused, crate::proofs::AbbrevLemmas::specs_shorter))]
+/// Reads attributes up to the end of their list, and puts them to the end of another.
+#[tactic(auto, using(crate::proofs::ListedLemmas::none_added, crate::proofs::ListedLemmas::starts_here, crate::proofs::ListedLemmas::starts_more, crate::proofs::ListedLemmas::added_more, crate::proofs::AbbrevLemmas::specs_begin, crate::proofs::AbbrevLemmas::specs_more, crate::proofs::AbbrevLemmas::specs_refused, crate::proofs::AbbrevLemmas::specs_shorter))]
 fn read_specs(
     specs: &mut Vec<Spec>,
     cursor: &mut Cursor<'_>,
     forms: &FormTable,
 ) -> Result<(), Stop<CursorFault>>
-    requires { specs.old.items ≡ [] }
-    ensures { LeavesAt result specs.new.items cursor.new (used_specs_at forms.now cursor.old) }
+    ensures starts { OnOk result (Starts specs.old.items specs.new.items) }
+    ensures read { LeavesAt result (drop (length specs.old.items) specs.new.items) cursor.new (used_specs_at forms.now cursor.old) }
 {
     'specs: loop {
         match read_spec(cursor, forms) {
@@ -60,28 +56,10 @@ fn read_specs(
     }
 }
 
-/// Whether entries of a tag are kept: their values are asked for.
-#[inline]
-#[tactic(auto, unfolding(crate::specs::KeptTags::is_kept_tag))]
-pub fn is_kept_tag(tag: u64) -> bool
-    ensures { result ≡ is_kept_tag tag }
-{
-    matches!(
-        tag,
-        DW_TAG_class_type
-            | DW_TAG_structure_type
-            | DW_TAG_union_type
-            | DW_TAG_inlined_subroutine
-            | DW_TAG_subprogram
-            | DW_TAG_namespace
-    )
-}
-
-/// Reads an abbreviation after its code, by way of lists that are used for one after the other.
-#[tactic(auto, unfolding(crate::specs::internal::Used::used_abbrev_by, crate::specs::internal::Used::used_specs_at, crate::specs::Abbreviations::abbrev_by), using(crate::proofs::AbbrevLemmas::specs_given, crate::proofs::AbbrevLemmas::specs_fault))]
+/// Reads an abbreviation after its code.
+#[tactic(auto, unfolding(crate::specs::internal::Used::used_abbrev_by, crate::specs::internal::Used::used_specs_at, crate::specs::Abbreviations::abbrev_by), using(crate::proofs::AbbrevLemmas::specs_given, crate::proofs::AbbrevLemmas::specs_fault, crate::proofs::ListedLemmas::grown_by))]
 fn read_behind(
     lists: &mut Lists,
-    one: &mut Lists,
     cursor: &mut Cursor<'_>,
     forms: &FormTable,
     code: u64,
@@ -97,21 +75,19 @@ fn read_behind(
         Ok(children) => children != 0,
         Err(fault) => return Err(Stop::Fault(fault)),
     };
-    one.clear();
-    match read_specs(&mut one.specs, cursor, forms) {
+    let from = lists.specs.len();
+    match read_specs(&mut lists.specs, cursor, forms) {
         Ok(()) => {}
         Err(stop) => return Err(stop),
     }
-    let way = one.make_way(is_kept_tag(tag))?;
-    let head = lists.add(one, code, tag, children, way)?;
+    let head = lists.add(from, code, tag, children)?;
     Ok(Some(head))
 }
 
-/// Reads an abbreviation, or the end of their list, by way of lists that are used for one after the other.
+/// Reads an abbreviation, or the end of their list.
 #[tactic(auto, unfolding(crate::specs::internal::Used::used_abbrev_at, crate::specs::internal::Used::used_abbrev_by, crate::specs::Abbreviations::abbrev_at))]
 pub fn read_abbrev(
     lists: &mut Lists,
-    one: &mut Lists,
     cursor: &mut Cursor<'_>,
     forms: &FormTable,
 ) -> Result<Option<Head>, Stop<CursorFault>>
@@ -125,5 +101,5 @@ pub fn read_abbrev(
     if code == 0 {
         return Ok(None);
     }
-    read_behind(lists, one, cursor, forms, code)
+    read_behind(lists, cursor, forms, code)
 }

@@ -45,12 +45,11 @@ impl Model for AbbrevList {
     ghost invariant = { λ a. AreHeld a.lists a.heads.items };
 }
 
-/// Reads abbreviations up to the end of their list, by way of lists that are used for one after the other.
+/// Reads abbreviations up to the end of their list.
 #[tactic(auto, using(crate::proofs::AbbrevLemmas::abbrevs_shorter, crate::proofs::ListedLemmas::reads_begin, crate::proofs::ListedLemmas::reads_more, crate::proofs::ListedLemmas::reads_end, crate::proofs::ListedLemmas::reads_stopped))]
 fn read_list(
     heads: &mut Vec<Head>,
     lists: &mut Lists,
-    one: &mut Lists,
     cursor: &mut Cursor<'_>,
     forms: &FormTable,
 ) -> Result<(), Stop<CursorFault>>
@@ -59,7 +58,7 @@ fn read_list(
     ensures read { LeavesAt result (abbrevs_in lists.new.specs.items heads.new.items) cursor.new (used_at forms.now cursor.old) }
 {
     'abbrevs: loop {
-        match read_abbrev(lists, one, cursor, forms) {
+        match read_abbrev(lists, cursor, forms) {
             Ok(Some(head)) => heads.push(head)?,
             Ok(None) => return Ok(()),
             Err(stop) => return Err(stop),
@@ -118,12 +117,7 @@ impl AbbrevList {
     }
 
     /// Reads abbreviations in place of those before. A refused call leaves none.
-    fn read(
-        &mut self,
-        one: &mut Lists,
-        cursor: &mut Cursor<'_>,
-        forms: &FormTable,
-    ) -> Result<(), Stop<CursorFault>>
+    fn read(&mut self, cursor: &mut Cursor<'_>, forms: &FormTable) -> Result<(), Stop<CursorFault>>
         ensures read { LeavesAt result self.new cursor.new (used_at forms.now cursor.old) }
         ensures none { OnErr result (self.new ≡ []) }
     {
@@ -131,7 +125,7 @@ impl AbbrevList {
         self.lists.clear();
         self.heads.reserve(USUAL)?;
         self.lists.reserve()?;
-        match read_list(&mut self.heads, &mut self.lists, one, cursor, forms) {
+        match read_list(&mut self.heads, &mut self.lists, cursor, forms) {
             Ok(()) => Ok(()),
             Err(stop) => {
                 self.heads.clear();
@@ -243,14 +237,13 @@ impl Abbrevs {
     fn read(
         &mut self,
         alloc: Global,
-        one: &mut Lists,
         cursor: &mut Cursor<'_>,
         forms: &FormTable,
     ) -> Result<(), Stop<CursorFault>>
         ensures { LeavesAt result self.new cursor.new (used_at forms.now cursor.old) }
     {
         self.dense = 0;
-        match self.list.read(one, cursor, forms) {
+        match self.list.read(cursor, forms) {
             Ok(()) => {}
             Err(stop) => return Err(stop),
         }
@@ -307,7 +300,6 @@ impl Abbrevs {
 #[derive(Drop)]
 pub struct AbbrevScratch {
     abbrevs: Abbrevs,
-    one: Lists,
     forms: FormTable,
 }
 
@@ -327,7 +319,6 @@ impl AbbrevScratch {
     {
         AbbrevScratch {
             abbrevs: Abbrevs::new(alloc),
-            one: Lists::new(alloc),
             forms: FormTable::new(alloc),
         }
     }
@@ -357,8 +348,7 @@ impl AbbrevScratch {
         }
         let mut cursor = cursor_from(sections.abbrevs, unit.abbrev_at as usize);
         self.forms.set(alloc, unit.wide)?;
-        let one = &mut self.one;
-        match self.abbrevs.read(alloc, one, &mut cursor, &self.forms) {
+        match self.abbrevs.read(alloc, &mut cursor, &self.forms) {
             Ok(()) => Ok(()),
             Err(Stop::Fault(fault)) => Err(Stop::Fault(in_section(Sect::Abbrev, fault))),
             Err(Stop::NoMemory) => Err(Stop::NoMemory),

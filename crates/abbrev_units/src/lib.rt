@@ -33,7 +33,6 @@ mod usual;
 mod value;
 mod view;
 
-pub use crate::abbrev::is_kept_tag;
 pub use crate::abbrevs::{AbbrevScratch, Abbrevs, read_abbrevs};
 pub use crate::fault::{DwarfFault, DwarfKind, FormFault, HeaderFault, header_fault, in_section};
 pub use crate::form::read_form;

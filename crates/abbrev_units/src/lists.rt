@@ -1,12 +1,16 @@
 //! The attributes of a table's abbreviations in one list, and the steps and takes of short ways in one list each.
-ghost use Rattle.std.specs.Prelude.{◌≡◌, [], IfOk, OnOk};
-ghost use Rattle.abbrev_units.specs.internal.Ways.{IsWay};
-ghost use Rattle.abbrev_units.specs.internal.Listed.{IsHeld, Grown, abbrev_in};
+ghost use Rattle.std.specs.Prelude.{◌≡◌, ◌≤◌, [], length, drop, IfOk, OnOk};
+ghost use Rattle.abbrev_units.specs.KeptTags.{is_kept_tag};
+ghost use Rattle.abbrev_units.specs.internal.Listed.{IsWay, IsHeld, Starts, Grown, abbrev_in};
 
 use crate::plan::{Step, make_plan};
 use crate::spec::Spec;
 use crate::take::takes_of;
 use crate::usual::KnownTake;
+use code_table::{
+    DW_TAG_class_type, DW_TAG_inlined_subroutine, DW_TAG_namespace, DW_TAG_structure_type,
+    DW_TAG_subprogram, DW_TAG_union_type,
+};
 use std::alloc::Global;
 use sym_edges::OutOfMemory;
 
@@ -25,32 +29,33 @@ pub struct Run {
     pub to: u32,
 }
 
-/// A short way over the values of attributes, with so many bytes after its last step, or to those that are asked for.
+/// A short way: by steps over the values of attributes, with so many bytes after the last step, or by takes to those that are asked
+/// for.
 #[derive(Clone, Copy)]
 pub enum ShortWay {
     Missing,
-    Over(u64),
-    To,
+    Over(Run, u64),
+    To(Run),
 }
 
-/// An abbreviation: its code, the tag of its entries, whether they have children, and where its attributes and its short way stand
-/// in the lists.
+/// An abbreviation: its code, the tag of its entries, whether they have children and are kept, where its attributes stand in the lists,
+/// and its short way.
 #[derive(Clone, Copy)]
 pub struct Head {
     pub code: u64,
     pub tag: u64,
     pub children: bool,
-    pub way: ShortWay,
+    pub kept: bool,
     pub specs: Run,
-    pub steps: Run,
-    pub takes: Run,
+    pub way: ShortWay,
 }
 
-/// Members from one number to another, which have to be below 2^32.
+/// Members from one number to another, which has to be below 2^32.
 fn run_of(from: usize, to: usize) -> Result<Run, OutOfMemory>
+    requires { from ≤ to }
     ensures { IfOk result (λ run. (run.from ≡ from) × (run.to ≡ to)) }
 {
-    if from as u64 >= 1 << 32 || to as u64 >= 1 << 32 {
+    if to as u64 >= 1 << 32 {
         return Err(OutOfMemory);
     }
     Ok(Run {
@@ -59,25 +64,46 @@ fn run_of(from: usize, to: usize) -> Result<Run, OutOfMemory>
     })
 }
 
-/// The short way to values is made where they are `asked` for, and that over them where they are not.
+/// Whether entries of a tag are kept: their values are asked for.
+#[inline]
+#[tactic(auto, unfolding(crate::specs::KeptTags::is_kept_tag))]
+fn is_kept_tag(tag: u64) -> bool
+    ensures { result ≡ is_kept_tag tag }
+{
+    matches!(
+        tag,
+        DW_TAG_class_type
+            | DW_TAG_structure_type
+            | DW_TAG_union_type
+            | DW_TAG_inlined_subroutine
+            | DW_TAG_subprogram
+            | DW_TAG_namespace
+    )
+}
+
+/// The short way to values is made where they are `asked` for, and that over them where they are not. Its steps or takes are put to
+/// the end of a list.
+#[tactic(auto, using(crate::proofs::ListedLemmas::way_over, crate::proofs::ListedLemmas::way_to, crate::proofs::ListedLemmas::starts_here))]
 fn make_way(
     steps: &mut Vec<Step>,
     takes: &mut Vec<KnownTake>,
     specs: &[Spec],
     asked: bool,
 ) -> Result<ShortWay, OutOfMemory>
-    requires steps { steps.old.items ≡ [] }
-    requires takes { takes.old.items ≡ [] }
-    ensures { IfOk result (λ way. IsWay way steps.new.items takes.new.items specs.now) }
+    ensures way { IfOk result (λ way. IsWay way steps.new.items takes.new.items specs.now) }
+    ensures steps { OnOk result (Starts steps.old.items steps.new.items) }
+    ensures takes { OnOk result (Starts takes.old.items takes.new.items) }
 {
     if asked {
+        let from = takes.len();
         if takes_of(takes, specs)? {
-            return Ok(ShortWay::To);
+            return Ok(ShortWay::To(run_of(from, takes.len())?));
         }
         return Ok(ShortWay::Missing);
     }
+    let from = steps.len();
     match make_plan(steps, specs)? {
-        Some(tail) => Ok(ShortWay::Over(tail)),
+        Some(tail) => Ok(ShortWay::Over(run_of(from, steps.len())?, tail)),
         None => Ok(ShortWay::Missing),
     }
 }
@@ -128,54 +154,38 @@ impl Lists {
         self.takes.clear();
     }
 
-    /// Makes the short way of the attributes in the lists.
-    pub fn make_way(&mut self, asked: bool) -> Result<ShortWay, OutOfMemory>
-        requires steps { self.old.steps.items ≡ [] }
-        requires takes { self.old.takes.items ≡ [] }
-        ensures way { IfOk result (λ way. IsWay way self.new.steps.items self.new.takes.items self.new.specs.items) }
-        ensures same { self.new.specs.items ≡ self.old.specs.items }
-    {
-        let way = make_way(
-            &mut self.steps,
-            &mut self.takes,
-            self.specs.as_slice(),
-            asked,
-        )?;
-        Ok(way)
-    }
-
-    /// Moves the lists of one abbreviation to the end of these.
-    #[tactic(auto, using(crate::proofs::ListedLemmas::abbrev_added, crate::proofs::ListedLemmas::grown_by, crate::proofs::ListedLemmas::held_new))]
+    /// Makes an abbreviation of the attributes from a number on: the short way to their values where entries are kept, and that over them
+    /// where they are not.
+    #[tactic(auto, using(crate::proofs::ListedLemmas::abbrev_rest, crate::proofs::ListedLemmas::held_rest))]
     pub fn add(
         &mut self,
-        one: &mut Lists,
+        from: usize,
         code: u64,
         tag: u64,
         children: bool,
-        way: ShortWay,
     ) -> Result<Head, OutOfMemory>
-        requires { IsWay way one.old.steps.items one.old.takes.items one.old.specs.items }
-        ensures given { IfOk result (λ head. abbrev_in self.new.specs.items head ≡ record { code = code; tag = tag; children = children; specs = one.old.specs.items }) }
+        requires { from ≤ length self.old.specs.items }
+        ensures given { IfOk result (λ head. abbrev_in self.new.specs.items head ≡ record { code = code; tag = tag; children = children; specs = drop from self.old.specs.items }) }
         ensures held { IfOk result (λ head. IsHeld self.new head) }
-        ensures grown { OnOk result (Grown self.old self.new) }
+        ensures specs { self.new.specs.items ≡ self.old.specs.items }
+        ensures steps { OnOk result (Starts self.old.steps.items self.new.steps.items) }
+        ensures takes { OnOk result (Starts self.old.takes.items self.new.takes.items) }
     {
-        let specs = self.specs.len();
-        let steps = self.steps.len();
-        let takes = self.takes.len();
-        self.specs.append(&mut one.specs)?;
-        self.steps.append(&mut one.steps)?;
-        self.takes.append(&mut one.takes)?;
-        let specs = run_of(specs, self.specs.len())?;
-        let steps = run_of(steps, self.steps.len())?;
-        let takes = run_of(takes, self.takes.len())?;
+        let kept = is_kept_tag(tag);
+        let way = make_way(
+            &mut self.steps,
+            &mut self.takes,
+            &self.specs.as_slice()[from..],
+            kept,
+        )?;
+        let specs = run_of(from, self.specs.len())?;
         Ok(Head {
             code,
             tag,
             children,
-            way,
+            kept,
             specs,
-            steps,
-            takes,
+            way,
         })
     }
 }

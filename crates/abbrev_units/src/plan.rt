@@ -1,9 +1,10 @@
 //! A short way over the values of an entry: those of fixed size that stand together are passed at once.
-ghost use Rattle.std.specs.Prelude.{◌≡◌, true, Ok, Some, IfSome, IfOk, MatchOption, []};
+ghost use Rattle.std.specs.Prelude.{◌≡◌, true, Ok, Some, length, drop, IfSome, IfOk, OnOk, MatchOption};
 ghost use Rattle.leb_cursor.specs.Ahead.{Ahead};
 ghost use Rattle.code_table.specs.Layouts.{kind_at};
 ghost use Rattle.abbrev_units.specs.Faults.{left_by};
 ghost use Rattle.abbrev_units.specs.Values.{only_ahead};
+ghost use Rattle.abbrev_units.specs.internal.Listed.{Starts};
 ghost use Rattle.abbrev_units.specs.internal.Plans.{step_at, steps_at, ended, IsPlan, HasLayout, HasSize, SizeOf};
 
 use crate::spec::Spec;
@@ -47,12 +48,12 @@ pub fn form_size(form: u64, row: Option<FormRow>) -> Option<u8>
     }
 }
 
-/// Makes the steps of the short way over the values of attributes, and gives the bytes after the last of them, where each value has a
-/// layout that is known. It takes no memory where each value has a fixed size.
-#[tactic(auto, using(crate::proofs::PlanLemmas::plan_none, crate::proofs::PlanLemmas::plan_sized, crate::proofs::PlanLemmas::plan_read, crate::proofs::PlanLemmas::plan_end))]
+/// Puts the steps of the short way over the values of attributes to the end of a list, and gives the bytes after the last of them,
+/// where each value has a layout that is known. It takes no memory where each value has a fixed size.
+#[tactic(auto, using(crate::proofs::ListedLemmas::none_added, crate::proofs::ListedLemmas::starts_here, crate::proofs::PlanLemmas::plan_none, crate::proofs::PlanLemmas::plan_end))]
 pub fn make_plan(steps: &mut Vec<Step>, specs: &[Spec]) -> Result<Option<u64>, OutOfMemory>
-    requires { steps.old.items ≡ [] }
-    ensures { IfOk result (λ plan. IfSome plan (λ tail. IsPlan (ended steps.new.items tail) specs.now)) }
+    ensures starts { OnOk result (Starts steps.old.items steps.new.items) }
+    ensures plan { IfOk result (λ plan. IfSome plan (λ tail. IsPlan (ended (drop (length steps.old.items) steps.new.items) tail) specs.now)) }
 {
     let mut bytes: u64 = 0;
     'specs: for spec in specs {

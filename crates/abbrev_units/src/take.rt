@@ -1,7 +1,8 @@
 //! A short way to those values of an entry that are asked for: what stands between them is passed.
-ghost use Rattle.std.specs.Prelude.{◌≡◌, ◌+◌, true, [], IfSome, IfOk, OnOk, reverse, unwrap_or, OnErr};
+ghost use Rattle.std.specs.Prelude.{◌≡◌, ◌+◌, true, [], ◌++◌, length, drop, IfSome, IfOk, OnOk, reverse, unwrap_or, OnErr};
 ghost use Rattle.leb_cursor.specs.Ahead.{gave};
 ghost use Rattle.abbrev_units.specs.Takes.{taken_at, is_asked, AreTakes};
+ghost use Rattle.abbrev_units.specs.internal.Listed.{Starts};
 ghost use Rattle.abbrev_units.specs.internal.Plans.{IsPassed, no_take, in_front};
 
 use crate::plan::size_of;
@@ -117,9 +118,8 @@ fn wider(first: Option<Take>, size: u8) -> Option<Take>
 
 /// Puts a take to those behind it, which stand from the last to the first.
 #[inline]
-#[tactic(auto, using(crate::proofs::TakeLemmas::put_front))]
 fn put(later: &mut Vec<KnownTake>, first: Option<Take>) -> Result<(), OutOfMemory>
-    ensures { OnOk result (reverse later.new.items ≡ in_front first (reverse later.old.items)) }
+    ensures { OnOk result (later.new.items ≡ later.old.items ++ in_front first []) }
 {
     if let Some(take) = first {
         later.push(KnownTake::of(take))?;
@@ -127,10 +127,10 @@ fn put(later: &mut Vec<KnownTake>, first: Option<Take>) -> Result<(), OutOfMemor
     Ok(())
 }
 
-/// Makes the takes of attributes, from the last to the first; false where the form of one is not known.
+/// Puts the takes of attributes to the end of a list, from the last to the first; false where the form of one is not known.
 fn make_takes(later: &mut Vec<KnownTake>, specs: &[Spec]) -> Result<bool, OutOfMemory>
-    requires { later.old.items ≡ [] }
-    ensures { IfOk result (λ made. made ≡ true → AreTakes (reverse later.new.items) specs.now) }
+    ensures starts { OnOk result (Starts later.old.items later.new.items) }
+    ensures takes { IfOk result (λ made. made ≡ true → AreTakes (reverse (drop (length later.old.items) later.new.items)) specs.now) }
 {
     let mut first = None;
     'specs: for place in (0..specs.len()).rev() {
@@ -155,14 +155,15 @@ fn make_takes(later: &mut Vec<KnownTake>, specs: &[Spec]) -> Result<bool, OutOfM
     Ok(true)
 }
 
-/// Makes the takes of attributes; false where the form of one is not known.
+/// Puts the takes of attributes to the end of a list; false where the form of one is not known.
 pub fn takes_of(takes: &mut Vec<KnownTake>, specs: &[Spec]) -> Result<bool, OutOfMemory>
-    requires { takes.old.items ≡ [] }
-    ensures { IfOk result (λ made. made ≡ true → AreTakes takes.new.items specs.now) }
+    ensures starts { OnOk result (Starts takes.old.items takes.new.items) }
+    ensures takes { IfOk result (λ made. made ≡ true → AreTakes (drop (length takes.old.items) takes.new.items) specs.now) }
 {
+    let from = takes.len();
     if !make_takes(takes, specs)? {
         return Ok(false);
     }
-    takes.reverse();
+    takes.as_mut_slice()[from..].reverse();
     Ok(true)
 }

@@ -2,6 +2,7 @@
 ghost use Rattle.std.specs.Prelude.{◌≡◌, true, false, Ok, IfSome, OnErr};
 ghost use Rattle.abbrev_units.specs.Faults.{left_by};
 ghost use Rattle.abbrev_units.specs.Values.{behind_values};
+ghost use Rattle.abbrev_units.specs.KeptTags.{is_kept_tag};
 ghost use Rattle.abbrev_units.specs.Takes.{AreTakes};
 ghost use Rattle.abbrev_units.specs.internal.Listed.{IsHeld, abbrev_in};
 
@@ -55,6 +56,17 @@ impl<'t> Abbrev<'t> {
         Abbrev { lists, head }
     }
 
+    /// The same abbreviation again.
+    #[inline(always)]
+    pub fn fork(&self) -> Abbrev<'t>
+        ensures { result ≡ self.now }
+    {
+        Abbrev {
+            lists: self.lists,
+            head: self.head,
+        }
+    }
+
     #[inline(always)]
     pub fn code(&self) -> u64
         ensures { result ≡ self.now.code }
@@ -67,6 +79,14 @@ impl<'t> Abbrev<'t> {
         ensures { result ≡ self.now.tag }
     {
         self.head.tag
+    }
+
+    /// Whether the entries are kept, by their tag.
+    #[inline(always)]
+    pub fn is_kept(&self) -> bool
+        ensures { result ≡ is_kept_tag self.now.tag }
+    {
+        self.head.kept
     }
 
     #[inline(always)]
@@ -88,10 +108,11 @@ impl<'t> Abbrev<'t> {
     pub fn takes(&self) -> Option<&'t [KnownTake]>
         ensures { IfSome result (λ takes. AreTakes takes.now self.now.specs) }
     {
-        let run = self.head.takes;
         match self.head.way {
-            ShortWay::To => Some(&self.lists.takes.as_slice()[run.from as usize..run.to as usize]),
-            ShortWay::Missing | ShortWay::Over(_) => None,
+            ShortWay::To(run) => Some(
+                &self.lists.takes.as_slice()[run.from as usize..run.to as usize],
+            ),
+            ShortWay::Missing | ShortWay::Over(_, _) => None,
         }
     }
 
@@ -103,10 +124,9 @@ impl<'t> Abbrev<'t> {
         ensures passed { result ≡ true → Ok cursor.new ≡ behind_values self.now.specs cursor.old }
         ensures kept { result ≡ false → cursor.new ≡ cursor.old }
     {
-        let ShortWay::Over(tail) = self.head.way else {
+        let ShortWay::Over(run, tail) = self.head.way else {
             return false;
         };
-        let run = self.head.steps;
         let steps = &self.lists.steps.as_slice()[run.from as usize..run.to as usize];
         let mut probe = cursor.fork();
         if !pass_plan(&mut probe, steps, tail) {
