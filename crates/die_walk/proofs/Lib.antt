@@ -3,7 +3,6 @@ mod FlagLemmas
 mod HeadLemmas
 mod ScopeLemmas
 mod TakeLemmas
-mod NamedLemmas
 mod PickLemmas
 mod StepLemmas
 mod TreeLemmas

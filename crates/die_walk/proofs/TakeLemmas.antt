@@ -1,4 +1,4 @@
--- For `note_takes` and `read_picks`: the short way picks what the plain one picks.
+-- For `note_takes`, `note_few` and `read_picks`: the short way picks what the plain one picks.
 use Rattle.std.proofs.Common.{◌≡◌, ◌<◌, ◌≤◌, ◌+◌, ℕ, Bool, true, false, cond, List, [], ◌∷◌, length, drop, get_or, Result, Ok, Err, refl, sym, ap, ◌∙◌, arith}
 use Rattle.std.proofs.Math.ListN.{drop_of_length-le}
 use Rattle.std.proofs.lemmas.List.{drop_more}
@@ -142,3 +142,21 @@ none_by picks attribute (Err fault) d none is = absurd (grind (arith, is))
 
 pub noted_none : (picks : Picks) (take : Take) (c d : Ahead) → (is_asked take.attribute ≡ false) × (take.kind ≡ kind.BlockUleb) → only_ahead (taken_at take c) ≡ Ok d → noted_one picks take c ≡ Ok (picks, d)
 noted_none picks take c d usual passed = none_by picks take.attribute (taken_at take c) d usual.0 passed
+
+-- one take, and two
+pub one_take : (takes : List Take) (x fill : Take) (picks : Picks) (c : Ahead) → 1 ≤ length takes → length takes < 2 → x ≡ get_or takes 0 fill → noted_at picks takes c ≡ noted_one picks x c
+unfolding noted_at
+one_take [] x fill picks c some few is = absurd (omega arith)
+one_take (first ∷ []) x fill picks c some few is = ap (λ (take : Take). noted_one picks take c) (sym is)
+one_take (first ∷ second ∷ later) x fill picks c some few is = absurd (omega arith)
+
+first_of_two : (first second : Take) (picks more last : Picks) (c d e : Ahead) → noted_one picks first c ≡ Ok (more, d) → noted_one more second d ≡ Ok (last, e) → noted_at picks (first ∷ second ∷ []) c ≡ Ok (last, e)
+unfolding noted_at
+first_of_two first second picks more last c d e one two = one_more (taken_at first c) picks more first.attribute (second ∷ []) c d one ∙ two
+
+pub two_takes : (takes : List Take) (x y fill gap : Take) (picks more last : Picks) (c d e : Ahead) → 2 ≤ length takes → length takes < 3 → x ≡ get_or takes 0 fill → y ≡ get_or takes 1 gap → noted_one picks x c ≡ Ok (more, d) → noted_one more y d ≡ Ok (last, e) → noted_at picks takes c ≡ Ok (last, e)
+two_takes [] x y fill gap picks more last c d e some few one two first second = absurd (omega arith)
+two_takes (only ∷ []) x y fill gap picks more last c d e some few one two first second = absurd (omega arith)
+two_takes (front ∷ other ∷ []) x y fill gap picks more last c d e some few one two first second =
+    first_of_two front other picks more last c d e (ap (λ (take : Take). noted_one picks take c) (sym one) ∙ first) (ap (λ (take : Take). noted_one more take d) (sym two) ∙ second)
+two_takes (front ∷ other ∷ third ∷ later) x y fill gap picks more last c d e some few one two first second = absurd (omega arith)

@@ -3,4 +3,3 @@ pub mod Packing
 pub mod Sites
 pub mod Heads
 pub mod Near
-pub mod Named

@@ -22,7 +22,7 @@ pub enum Fit {
 }
 
 /// A number, where it is below 2^32.
-#[inline]
+#[inline(always)]
 fn fit_number(number: u64) -> Fit
     ensures { FitsNumber result (Some number) }
 {
@@ -33,9 +33,9 @@ fn fit_number(number: u64) -> Fit
 }
 
 /// The text at a place of the section of texts.
-#[inline]
+#[inline(always)]
 #[tactic(auto, using(crate::proofs::HeldLemmas::open_text))]
-pub fn fit_place(strs: &[u8], place: u64) -> Fit
+fn fit_place(strs: &[u8], place: u64) -> Fit
     ensures { FitsText strs.now result (text_in strs.now place) }
 {
     if place < strs.len() as u64 && (place <= u64::from(u32::MAX) && is_closed(strs)) {
@@ -45,7 +45,7 @@ pub fn fit_place(strs: &[u8], place: u64) -> Fit
 }
 
 /// The text of a pick.
-#[inline]
+#[inline(always)]
 #[tactic(auto, unfolding(abbrev_units::specs::Texts::text_of, crate::specs::internal::Packing::pick_said))]
 fn fit_text(sections: &Sections<'_>, unit: &Unit, base: Option<u64>, pick: Pick) -> Fit
     ensures { FitsText sections.now.strs result (text_by sections.now unit.now base (pick_said pick)) }
@@ -58,7 +58,7 @@ fn fit_text(sections: &Sections<'_>, unit: &Unit, base: Option<u64>, pick: Pick)
 }
 
 /// The text of one pick, or else of another.
-#[inline]
+#[inline(always)]
 fn fit_either(first: Fit, second: Fit) -> Fit
     ensures { (strs : List ℕ) (x y : Option (List ℕ)) → FitsText strs first x → FitsText strs second y → FitsText strs result (or_else x y) }
 {
@@ -70,7 +70,7 @@ fn fit_either(first: Fit, second: Fit) -> Fit
 }
 
 /// The reference of a pick.
-#[inline]
+#[inline(always)]
 #[tactic(auto, unfolding(crate::specs::internal::Packing::pick_said))]
 fn fit_reference(unit: &Unit, pick: Pick) -> Fit
     ensures { FitsNumber result (option_and_then (as_reference unit.now) (pick_said pick)) }
@@ -175,7 +175,7 @@ fn is_missing(pick: Pick) -> bool
 }
 
 /// Whether the entry has no addresses and no call.
-#[inline]
+#[inline(always)]
 pub fn has_no_site(quick: &Quick) -> bool
     ensures { result ≡ true → site_by quick.now ≡ no_site }
 {
@@ -186,7 +186,7 @@ pub fn has_no_site(quick: &Quick) -> bool
 }
 
 /// The addresses of an entry and its call, where they fit.
-#[inline]
+#[inline(always)]
 pub fn make_site(quick: &Quick) -> Option<Site>
     ensures { IfSome result (λ site. site ≡ site_by quick.now) }
 {
@@ -209,7 +209,7 @@ pub fn make_site(quick: &Quick) -> Option<Site>
 }
 
 /// What an entry is linked to, where it fits.
-#[inline]
+#[inline(always)]
 fn make_link(origin: Fit, spec: Fit) -> Option<(Link, u32)>
     ensures { IfSome result (λ made. (x y : Option ℕ) → FitsNumber origin x → FitsNumber spec y → (origin_said made.0 made.1 ≡ x) × (spec_said made.0 made.1 ≡ y)) }
 {
@@ -222,7 +222,7 @@ fn make_link(origin: Fit, spec: Fit) -> Option<(Link, u32)>
 }
 
 /// A name, where it fits.
-#[inline]
+#[inline(always)]
 fn make_name(fit: Fit) -> Option<(bool, u32)>
     ensures { IfSome result (λ made. (strs : List ℕ) (x : Option (List ℕ)) → FitsText strs fit x → place_said strs made.0 made.1 ≡ x) }
 {
@@ -235,7 +235,7 @@ fn make_name(fit: Fit) -> Option<(bool, u32)>
 
 /// The head of an entry with its place, its parent, its tag and its values, where all but its site fits; `base` is the unit's
 /// str_offsets_base.
-#[inline]
+#[inline(always)]
 #[tactic(auto, unfolding(crate::specs::Picking::die_by))]
 pub fn make_head(
     sections: &Sections<'_>,

@@ -238,7 +238,7 @@ impl<'a> Model for EntryList<'a> {
 }
 
 impl<'a> EntryList<'a> {
-    /// No entry yet, and room for so many; names are in this section.
+    /// No entry yet, and room for so many, for the root and for some sites; names are in this section.
     pub fn with_room(
         alloc: Global,
         strs: &'a [u8],
@@ -250,8 +250,8 @@ impl<'a> EntryList<'a> {
             heads: Vec::with_capacity(alloc, room)?,
             parts: DieParts {
                 strs,
-                sites: Vec::new(alloc),
-                wholes: Vec::new(alloc),
+                sites: Vec::with_capacity(alloc, (room / 4).max(8).min(64))?,
+                wholes: Vec::with_capacity(alloc, 1)?,
             },
         })
     }

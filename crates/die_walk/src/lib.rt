@@ -20,7 +20,6 @@ mod die;
 mod entry_heads;
 mod heads;
 pub mod laws;
-mod named;
 mod packed;
 mod picks;
 mod quick;

@@ -266,6 +266,32 @@ fn note_other(quick: &mut Quick, cursor: &mut Cursor<'_>, take: Take) -> bool
     }
 }
 
+/// Notes a name of `.debug_str`; false where a take has something else. Where it fails, nothing is said.
+#[inline(always)]
+fn note_name(quick: &mut Quick, cursor: &mut Cursor<'_>, take: &KnownTake) -> bool
+    ensures { result ≡ true → noted_one quick.old take.now cursor.old ≡ Ok (quick.new, cursor.new) }
+{
+    match take.usual() {
+        Usual::Name => note_number(quick, DW_AT_name, Class::StrAt, take.u32(cursor)),
+        _ => false,
+    }
+}
+
+/// Notes that the entry is a declaration, or passes what nobody asks for; false where a take has something else. Where it fails, nothing
+/// is said.
+#[inline(always)]
+fn note_last(quick: &mut Quick, cursor: &mut Cursor<'_>, take: &KnownTake) -> bool
+    ensures { result ≡ true → noted_one quick.old take.now cursor.old ≡ Ok (quick.new, cursor.new) }
+{
+    match take.usual() {
+        Usual::Unasked => take.pass(cursor),
+        Usual::Declaration => {
+            take.pass(cursor) && note_number(quick, DW_AT_declaration, Class::Flag, Some(1))
+        }
+        _ => false,
+    }
+}
+
 /// Notes the value of a take: one step for each usual value. Where it fails, nothing is said.
 #[inline(always)]
 #[tactic(auto, using(crate::proofs::TakeLemmas::noted_none))]
@@ -273,13 +299,10 @@ fn note_take(quick: &mut Quick, cursor: &mut Cursor<'_>, take: &KnownTake) -> bo
     ensures { result ≡ true → noted_one quick.old take.now cursor.old ≡ Ok (quick.new, cursor.new) }
 {
     match take.usual() {
-        Usual::Unasked => take.pass(cursor),
+        Usual::Unasked | Usual::Declaration => note_last(quick, cursor, take),
         Usual::UnaskedBlock => take.pass_block(cursor),
-        Usual::Name => note_number(quick, DW_AT_name, Class::StrAt, take.u32(cursor)),
+        Usual::Name => note_name(quick, cursor, take),
         Usual::Linkage => note_number(quick, DW_AT_linkage_name, Class::StrAt, take.u32(cursor)),
-        Usual::Declaration => {
-            take.pass(cursor) && note_number(quick, DW_AT_declaration, Class::Flag, Some(1))
-        }
         Usual::Origin => {
             note_number(
                 quick,
@@ -329,6 +352,36 @@ fn note_takes(quick: &mut Quick, cursor: &mut Cursor<'_>, takes: &[KnownTake]) -
         }
     }
     true
+}
+
+/// Notes what one take or two say, of which the first may be a name. Where it fails, nothing is said.
+#[inline(always)]
+#[tactic(auto, using(crate::proofs::TakeLemmas::one_take))]
+fn note_few(quick: &mut Quick, cursor: &mut Cursor<'_>, takes: &[KnownTake]) -> bool
+    ensures { result ≡ true → noted_at quick.old takes.now cursor.old ≡ Ok (quick.new, cursor.new) }
+{
+    match takes {
+        [only] => match only.usual() {
+            Usual::Name => note_name(quick, cursor, only),
+            _ => note_last(quick, cursor, only),
+        },
+        [name, last] => note_name(quick, cursor, name) && note_last(quick, cursor, last),
+        _ => false,
+    }
+}
+
+/// Reads the values of an entry of which a name and whether it is a declaration matter and nothing else, as most structures of C are;
+/// false where it is another. Where it fails, nothing is said. Where it is inlined, all other picks stay constants.
+#[inline(always)]
+#[tactic(auto, using(crate::proofs::TakeLemmas::short_way))]
+pub fn read_brief(quick: &mut Quick, cursor: &mut Cursor<'_>, found: &Abbrev<'_>) -> bool
+    requires { quick.old ≡ no_picks }
+    ensures { result ≡ true → Ok (quick.new, cursor.new) ≡ picks_at no_picks found.now.specs cursor.old }
+{
+    let Some(takes) = found.takes() else {
+        return false;
+    };
+    note_few(quick, cursor, takes)
 }
 
 /// Reads the values of an entry by a short way; false where there is none. Where it fails, nothing is said.

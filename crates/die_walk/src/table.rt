@@ -121,7 +121,8 @@ fn entries_of<'a>(sections: &Sections<'a>, unit: &Unit) -> Cursor<'a>
     Cursor::new(sections.info, unit.body as usize, unit.end as usize)
 }
 
-/// The walk from a state that has nothing yet.
+/// The walk from a state that has nothing yet. It stands alone, so that its loop has the registers for itself.
+#[inline(never)]
 #[tactic(auto, using(crate::proofs::WalkLemmas::walked_start, crate::proofs::WalkLemmas::walked_more, crate::proofs::WalkLemmas::walked_end, crate::proofs::WalkLemmas::walked_stopped, crate::proofs::WalkLemmas::step_short, crate::proofs::WalkLemmas::step_shorter, crate::proofs::WalkLemmas::short_start))]
 fn walk_all<'a>(
     sections: &Sections<'a>,

@@ -3,21 +3,17 @@ ghost use Rattle.std.specs.Prelude.{◌≡◌, ◌<◌, ◌^◌, ◌==◌, true,
 ghost use Rattle.abbrev_units.specs.KeptTags.{is_kept_tag};
 ghost use Rattle.die_walk.specs.Marks.{value_fault};
 ghost use Rattle.die_walk.specs.Marks.Mark.{Close};
-ghost use Rattle.die_walk.specs.internal.Named.{name_alone};
 ghost use Rattle.die_walk.specs.Steps.{innermost, keeps, opened, own_number, begun_by, entered_by, moved, rounded, entered_at, moved_at, step_at, Steps, Moves, IsShort, table_in};
 
 use crate::entry_heads::{has_no_site, make_head, make_site};
 use crate::heads::EntryList;
-use crate::named::{named_head, read_name_alone};
 use crate::picks::{Picks, no_picks, read_picks};
-use crate::quick::{Quick, no_quick, read_quick};
+use crate::quick::{Quick, no_quick, read_brief, read_quick};
 use crate::root::{Root, base_of, make_root};
 use crate::scopes::list_scopes;
 use crate::table::DieTable;
 use crate::whole::make_whole;
-use abbrev_units::{
-    Abbrev, Abbrevs, DwarfFault, DwarfKind, FormFault, Sections, Unit, in_section, is_kept_tag,
-};
+use abbrev_units::{Abbrev, Abbrevs, DwarfFault, DwarfKind, FormFault, Sections, Unit, in_section};
 use leb_cursor::Cursor;
 use std::alloc::Global;
 use std::marker::Model;
@@ -137,12 +133,12 @@ impl<'a> Walker<'a> {
         Ok(DieTable::of(root, dies, near))
     }
 
-    /// Whether an entry is kept: by its tag, or since it is the first.
+    /// Whether an entry of an abbreviation is kept: by its tag, or since it is the first.
     #[inline]
-    fn keeps(&self, tag: u64) -> bool
-        ensures { result ≡ keeps self.now tag }
+    fn keeps(&self, found: &Abbrev<'_>) -> bool
+        ensures { result ≡ keeps self.now found.now.tag }
     {
-        self.dies.is_empty() || is_kept_tag(tag)
+        self.dies.is_empty() || found.is_kept()
     }
 
     /// Adds a kept entry.
@@ -177,7 +173,7 @@ impl<'a> Walker<'a> {
     }
 
     /// Adds a kept entry that is not the first, by what was picked; false where it does not fit, and nothing is added.
-    #[inline]
+    #[inline(always)]
     #[tactic(auto, unfolding(crate::specs::Steps::entered_by))]
     fn add_quick(
         &mut self,
@@ -280,36 +276,10 @@ impl<'a> Walker<'a> {
         Ok(())
     }
 
-    /// Adds a kept entry that is not the first, of which the name at this place matters and nothing else; false where it does not fit, and
-    /// nothing is added.
+    /// Takes a kept entry in that is not the first, without its children, where a name and whether it is a declaration matter and nothing
+    /// else; false where it is another, and nothing is taken.
     #[inline(always)]
-    #[tactic(auto, unfolding(crate::specs::Steps::entered_by))]
-    fn add_named(
-        &mut self,
-        sections: &Sections<'a>,
-        unit: &Unit,
-        at: u32,
-        tag: u64,
-        place: u64,
-    ) -> Result<bool, OutOfMemory>
-        requires kept { is_kept_tag tag ≡ true }
-        requires later { (length self.old.dies == 0) ≡ false }
-        requires strs { self.old.strs ≡ sections.now.strs }
-        ensures added { IfOk result (λ fits. fits ≡ true → self.new ≡ entered_by sections.now unit.now self.old at tag (name_alone place)) }
-        ensures same { IfOk result (λ fits. fits ≡ false → self.new ≡ self.old) }
-    {
-        let parent = innermost(self.open_levels.as_slice());
-        let Some(head) = named_head(sections, at, parent, tag, place) else {
-            return Ok(false);
-        };
-        self.dies.push_alone(head)?;
-        Ok(true)
-    }
-
-    /// Takes a kept entry in that is not the first, without its children, where a name matters and nothing else; false where it is
-    /// another, and nothing is taken.
-    #[inline(always)]
-    fn take_named(
+    fn take_brief(
         &mut self,
         sections: &Sections<'a>,
         unit: &Unit,
@@ -324,21 +294,21 @@ impl<'a> Walker<'a> {
         ensures same { IfOk result (λ took. took ≡ false → self.new ≡ self.old) }
         ensures still { IfOk result (λ took. took ≡ false → cursor.new ≡ cursor.old) }
     {
+        let mut quick = no_quick();
         let mut behind = cursor.fork();
-        let Some(place) = read_name_alone(&mut behind, found) else {
+        if !read_brief(&mut quick, &mut behind, found) {
             return Ok(false);
-        };
-        if !self.add_named(sections, unit, at, found.tag(), place)? {
+        }
+        if !self.add_quick(sections, unit, at, found.tag(), &quick)? {
             return Ok(false);
         }
         *cursor = behind;
         Ok(true)
     }
 
-    /// Takes a kept entry in that is not the first, without its children. It stands alone, so that entries with a name alone need no
-    /// places for values.
+    /// Takes a kept entry in that is not the first, without its children, by a short way; false where there is none, and nothing is taken.
+    /// It stands alone, so that the entries that `take_brief` takes need no places for values.
     #[inline(never)]
-    #[tactic(auto, using(crate::proofs::StepLemmas::taken))]
     fn take_picked(
         &mut self,
         sections: &Sections<'a>,
@@ -346,47 +316,25 @@ impl<'a> Walker<'a> {
         cursor: &mut Cursor<'a>,
         at: u32,
         found: &Abbrev<'_>,
-    ) -> Result<(), Stop<DwarfFault>>
-        requires kept { keeps self.old found.now.tag ≡ true }
+    ) -> Result<bool, OutOfMemory>
+        requires kept { is_kept_tag found.now.tag ≡ true }
         requires later { (length self.old.dies == 0) ≡ false }
         requires strs { self.old.strs ≡ sections.now.strs }
-        ensures { Moves result self.new cursor.new (entered_at sections.now unit.now self.old at found.now cursor.old) }
+        ensures taken { IfOk result (λ took. took ≡ true → entered_at sections.now unit.now self.old at found.now cursor.old ≡ Ok (self.new, cursor.new)) }
+        ensures same { IfOk result (λ took. took ≡ false → self.new ≡ self.old) }
+        ensures still { IfOk result (λ took. took ≡ false → cursor.new ≡ cursor.old) }
     {
         let mut quick = no_quick();
         let mut behind = cursor.fork();
         if !read_quick(&mut quick, &mut behind, found) {
-            return self.take_any(sections, unit, cursor, at, found);
+            return Ok(false);
         }
         self.add_picked(sections, unit, at, found.tag(), &quick)?;
         *cursor = behind;
-        Ok(())
+        Ok(true)
     }
 
-    /// Takes a kept entry in, without its children. It stands alone, so that the way past entries that are not kept stays short.
-    #[inline(never)]
-    fn take_kept(
-        &mut self,
-        sections: &Sections<'a>,
-        unit: &Unit,
-        cursor: &mut Cursor<'a>,
-        at: u32,
-        found: &Abbrev<'_>,
-    ) -> Result<(), Stop<DwarfFault>>
-        requires kept { keeps self.old found.now.tag ≡ true }
-        requires strs { self.old.strs ≡ sections.now.strs }
-        ensures { Moves result self.new cursor.new (entered_at sections.now unit.now self.old at found.now cursor.old) }
-    {
-        if self.dies.is_empty() {
-            return self.take_any(sections, unit, cursor, at, found);
-        }
-        if self.take_named(sections, unit, cursor, at, found)? {
-            return Ok(());
-        }
-        self.take_picked(sections, unit, cursor, at, found)
-    }
-
-    /// Passes an entry that is not kept, without its children. It stands alone, so that what it answers is not in the way of entries
-    /// that the short way passes.
+    /// Passes an entry that is not kept, without its children, whatever its values may be.
     #[inline(never)]
     #[tactic(auto, using(crate::proofs::StepLemmas::passed_over, crate::proofs::StepLemmas::passed_refused))]
     fn take_slowly(
@@ -406,6 +354,56 @@ impl<'a> Walker<'a> {
         }
     }
 
+    /// Takes in an entry that the short way does not pass, without its children. It stands alone, so that the way past entries that are not
+    /// kept stays short.
+    #[inline(never)]
+    fn take_other(
+        &mut self,
+        sections: &Sections<'a>,
+        unit: &Unit,
+        cursor: &mut Cursor<'a>,
+        at: u32,
+        found: &Abbrev<'_>,
+    ) -> Result<(), Stop<DwarfFault>>
+        requires { self.old.strs ≡ sections.now.strs }
+        ensures { Moves result self.new cursor.new (entered_at sections.now unit.now self.old at found.now cursor.old) }
+    {
+        if !self.keeps(found) {
+            return self.take_slowly(sections, unit, cursor, at, found);
+        }
+        if self.dies.is_empty() {
+            return self.take_any(sections, unit, cursor, at, found);
+        }
+        if self.take_brief(sections, unit, cursor, at, found)? {
+            return Ok(());
+        }
+        if self.take_picked(sections, unit, cursor, at, found)? {
+            return Ok(());
+        }
+        self.take_any(sections, unit, cursor, at, found)
+    }
+
+    /// Takes in an entry that the short way does not pass, without its children, with a cursor and an abbreviation of its own: so those of the
+    /// loop over entries stay in registers.
+    #[inline(always)]
+    fn take_apart(
+        &mut self,
+        sections: &Sections<'a>,
+        unit: &Unit,
+        cursor: &mut Cursor<'a>,
+        at: u32,
+        found: &Abbrev<'_>,
+    ) -> Result<(), Stop<DwarfFault>>
+        requires { self.old.strs ≡ sections.now.strs }
+        ensures { Moves result self.new cursor.new (entered_at sections.now unit.now self.old at found.now cursor.old) }
+    {
+        let mut behind = cursor.fork();
+        let other = found.fork();
+        let taken = self.take_other(sections, unit, &mut behind, at, &other);
+        *cursor = behind;
+        taken
+    }
+
     /// Takes an entry in, without its children.
     #[inline(always)]
     #[tactic(auto, using(crate::proofs::StepLemmas::passed_over))]
@@ -420,21 +418,18 @@ impl<'a> Walker<'a> {
         requires { self.old.strs ≡ sections.now.strs }
         ensures { Moves result self.new cursor.new (entered_at sections.now unit.now self.old at found.now cursor.old) }
     {
-        if self.keeps(found.tag()) {
-            return self.take_kept(sections, unit, cursor, at, found);
-        }
-        if found.pass(cursor) {
+        if !self.keeps(found) && found.pass(cursor) {
             return Ok(());
         }
-        self.take_slowly(sections, unit, cursor, at, found)
+        self.take_apart(sections, unit, cursor, at, found)
     }
 
     /// The number of the nearest kept entry around an entry's children.
-    fn own_number(&self, tag: u64) -> Option<u32>
+    fn own_number(&self, found: &Abbrev<'_>) -> Option<u32>
         requires { length self.now.dies < 2 ^ 32 }
-        ensures { result ≡ own_number self.now tag }
+        ensures { result ≡ own_number self.now found.now.tag }
     {
-        if self.keeps(tag) {
+        if self.keeps(found) {
             return Some(self.dies.len() as u32);
         }
         innermost(self.open_levels.as_slice())
@@ -465,7 +460,7 @@ impl<'a> Walker<'a> {
         if !found.children() {
             return self.take_entry(sections, unit, cursor, at, found);
         }
-        let own = self.own_number(found.tag());
+        let own = self.own_number(found);
         match self.take_entry(sections, unit, cursor, at, found) {
             Ok(()) => {}
             Err(stop) => return Err(stop),
