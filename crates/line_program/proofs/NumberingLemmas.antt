@@ -242,6 +242,28 @@ numbers_old texts file firsts files more numbers text long number inside n at co
       placed = n.placed;
     }
 
+keep_by : (t : Bool) (text q : List ℕ) (numbers : BTreeMap (ℕ × Bor (List ℕ)) ℕ) (number next : ℕ) → bytes_eq text q ≡ t → Some number ≡ number_in numbers text → cond t (Some number) (cond t (Some next) (number_in numbers q)) ≡ number_in numbers q
+keep_by true text q numbers number next is found = found ∙ ap (number_in numbers) (equal text q is)
+keep_by false text q numbers number next is found = refl
+
+-- a number that was written over and put back
+pub numbers_back : (texts : List (List ℕ)) (file : ℕ) (firsts files : List ℕ) (numbers once twice : BTreeMap (ℕ × Bor (List ℕ)) ℕ) (text : List ℕ) (long number next : ℕ) → Numbers texts file firsts files numbers → long ≡ ending_of text → Some number ≡ tree.get_by (with_key long text) numbers
+    → tree.UpdatesBy key_cmp (with_key long text) numbers once (Some next) → tree.UpdatesBy key_cmp (with_key long text) once twice (Some number) → Numbers texts file firsts files twice
+numbers_back texts file firsts files numbers once twice text long number next n size known over back =
+    let found : Some number ≡ number_in numbers text = known ∙ ap (λ k. tree.get_by (with_key k text) numbers) size in
+    record {
+      paths = n.paths;
+      few = n.few;
+      there = n.there;
+      are = n.are;
+      places =
+          λ q. updated_by (bytes_eq text q) long text q once twice (Some number) refl size back
+          ∙ ap (cond (bytes_eq text q) (Some number)) (updated_by (bytes_eq text q) long text q numbers once (Some next) refl size over)
+          ∙ keep_by (bytes_eq text q) text q numbers number next refl found
+          ∙ n.places q;
+      placed = n.placed;
+    }
+
 picked_push : (texts : List (List ℕ)) (firsts : List ℕ) (file : ℕ) → picked texts (firsts ++ file ∷ []) ≡ picked texts firsts ++ get_or texts file [] ∷ []
 picked_push texts [] file = refl
 picked_push texts (k ∷ firsts) file = ap (λ l. get_or texts k [] ∷ l) (picked_push texts firsts file)

@@ -1,8 +1,8 @@
 -- The lines of a table, from the sequences that count.
-use Rattle.std.proofs.Common.{◌≡◌, ℕ, ◌<◌, ◌≤◌, ◌^◌, nat_le, ◌+◌, Bool, true, false, cond, List, [], ◌∷◌, ◌++◌, length, get_or, drop, Option, Some, None, refl, sym, ◌∙◌, ap, ◌⊎◌, inl, inr, append_assoc, append-nil, arith}
+use Rattle.std.proofs.Common.{◌≡◌, ℕ, ◌<◌, ◌≤◌, ◌^◌, nat_le, ◌+◌, ◌-◌, Bool, true, false, not, ◌&&◌, cond, List, [], ◌∷◌, ◌++◌, length, get_or, drop, Option, Some, None, refl, sym, ◌∙◌, ap, ◌⊎◌, inl, inr, append_assoc, append-nil, arith}
 use Rattle.std.specs.List.{slice_get}
 use Rattle.std.specs.Option.{option_map}
-use Rattle.std.proofs.lemmas.Bool.{le-leb, lt-leb}
+use Rattle.std.proofs.lemmas.Bool.{cases_lt, le-leb, lt-leb}
 use Rattle.std.proofs.lemmas.List.{length_push, drop_more, drop_all}
 use Rattle.step_maps.specs.declared.stretch.Stretch.{Stretch}
 use Rattle.step_maps.specs.declared.stretch.FirstItem.{FirstItem}
@@ -68,17 +68,68 @@ items_count kept a =
     ap (λ o. row_by o a) (covering_index kept (first_item (stretches_from 0 kept) a) ∙ ap (by_index kept) (item_index (first_at (stretches_from 0 kept) a) (is_shared (stretches_from 0 kept) a)))
     ∙ items_from [] kept 0 a refl
 
-pub table_is : (code : ℕ → ℕ → Bool) (sequences : List Sequence) (kept kept_slice : List Counted) (stretches stretches_slice : List Stretch) (covers : Stepping (Option FirstItem)) (stops : List ℕ) (items : List (Option FirstItem)) (lines : Stepping PathLine) (first : ℕ) (numbers : List ℕ)
-    → ((a : ℕ) → counted_row kept a ≡ row_in code sequences a) → kept_slice ≡ kept → stretches ≡ stretches_from 0 kept_slice → stretches_slice ≡ stretches
+pub several_lines : (kept : List Counted) (stretches stretches_slice : List Stretch) (covers : Stepping (Option FirstItem)) (stops : List ℕ) (items : List (Option FirstItem)) (lines : Stepping PathLine) (first : ℕ) (numbers : List ℕ)
+    → stretches ≡ stretches_from 0 kept → stretches_slice ≡ stretches
     → ((a : ℕ) → a < 2 ^ 64 → value_at None covers a ≡ first_item stretches_slice a) → stops ≡ covers.stops → items ≡ covers.values
-    → ((a : ℕ) → value_at no_line lines a ≡ numbered_line_of first numbers (row_by (covering kept_slice (held_from None stops items a)) a))
+    → ((a : ℕ) → value_at no_line lines a ≡ numbered_line_of first numbers (row_by (covering kept (held_from None stops items a)) a))
+    → (a : ℕ) → a < 2 ^ 64 → value_at no_line lines a ≡ numbered_line_of first numbers (counted_row kept a)
+several_lines kept stretches stretches_slice covers stops items lines first numbers is_stretches is_slice by_covers is_stops is_items by_lines a low =
+    by_lines a
+    ∙ ap (λ n. numbered_line_of first numbers (row_by (covering kept n) a))
+    (ap (λ l. held_from None l items a) is_stops ∙ ap (λ l. held_from None covers.stops l a) is_items ∙ by_covers a low ∙ ap (λ l. first_item l a) (is_slice ∙ is_stretches))
+    ∙ ap (numbered_line_of first numbers) (items_count kept a)
+
+-- a single sequence covers the addresses from its first one up to its last
+one_by : (reached inside past : Bool) (k : Counted) (item : FirstItem) (a : ℕ) → item.index ≡ 0 → past ≡ not inside → row_by (covering (k ∷ []) (cond past None (cond reached (Some item) None))) a ≡ cond (reached && inside) (last_at k.rows a) None
+one_by true true false k item a index is = ap (λ n. row_by (slice_get (k ∷ []) n) a) index
+one_by true false true k item a index is = refl
+one_by false true false k item a index is = refl
+one_by false false true k item a index is = refl
+one_by reached true true k item a index is = cc
+one_by reached false false k item a index is = cc
+
+past_last : (last a : ℕ) → nat_le (last + 1) a ≡ not (nat_le a last)
+past_last last a = elim (cases_lt last a) [
+  | inl past ↦ le-leb (last + 1) a (omega arith) ∙ sym (ap not (lt-leb a last past))
+  | inr up ↦ lt-leb (last + 1) a (omega arith) ∙ sym (ap not (le-leb a last up))
+]
+
+only : (kept : List Counted) (d : Counted) → length kept ≡ 1 → kept ≡ get_or kept 0 d ∷ []
+only [] d one = absurd (omega arith)
+only (k ∷ []) d one = refl
+only (k ∷ l ∷ kept) d one = absurd (omega arith)
+
+abbrev pub one_held : (stops : List ℕ) (items : List (Option FirstItem)) (kept : List Counted) (lines : Stepping PathLine) (first : ℕ) (numbers : List ℕ) → Type 0
+one_held stops items kept lines first numbers = (a : ℕ) → value_at no_line lines a ≡ numbered_line_of first numbers (row_by (covering kept (held_from None stops items a)) a)
+
+pub one_ends : (kept : List Counted) (k d : Counted) (item : FirstItem) (lines : Stepping PathLine) (first : ℕ) (numbers : List ℕ) → length kept ≡ 1 → k ≡ get_or kept 0 d → item.index ≡ 0
+    → one_held (k.first ∷ (k.last + 1) ∷ []) (Some item ∷ None ∷ []) kept lines first numbers
+    → (a : ℕ) → a < 2 ^ 64 → value_at no_line lines a ≡ numbered_line_of first numbers (counted_row kept a)
+unfolding held_from counted_row
+one_ends kept k d item lines first numbers one at index held a low =
+    let all : kept ≡ k ∷ [] = only kept d one ∙ ap (λ x. x ∷ []) (sym at) in
+    held a
+    ∙ ap (λ l. numbered_line_of first numbers (row_by (covering l (cond (nat_le (k.last + 1) a) None (cond (nat_le k.first a) (Some item) None))) a)) all
+    ∙ ap (numbered_line_of first numbers) (one_by (nat_le k.first a) (nat_le a k.last) (nat_le (k.last + 1) a) k item a index (past_last k.last a) ∙ ap (λ l. counted_row l a) (sym all))
+
+pub one_to_the_end : (kept : List Counted) (k d : Counted) (item : FirstItem) (lines : Stepping PathLine) (first : ℕ) (numbers : List ℕ) → length kept ≡ 1 → k ≡ get_or kept 0 d → item.index ≡ 0 → k.last ≡ 2 ^ 64 - 1
+    → one_held (k.first ∷ []) (Some item ∷ []) kept lines first numbers
+    → (a : ℕ) → a < 2 ^ 64 → value_at no_line lines a ≡ numbered_line_of first numbers (counted_row kept a)
+unfolding held_from counted_row
+one_to_the_end kept k d item lines first numbers one at index last held a low =
+    let all : kept ≡ k ∷ [] = only kept d one ∙ ap (λ x. x ∷ []) (sym at) in
+    held a
+    ∙ ap (λ l. numbered_line_of first numbers (row_by (covering l (cond (nat_le k.first a) (Some item) None)) a)) all
+    ∙ ap (numbered_line_of first numbers) (one_by (nat_le k.first a) (nat_le a k.last) false k item a index (sym (ap not (le-leb a k.last (omega arith)))) ∙ ap (λ l. counted_row l a) (sym all))
+
+-- the lines of the sequences that count are those of all
+pub counted_lines : (code : ℕ → ℕ → Bool) (sequences : List Sequence) (kept kept_slice : List Counted) (lines : Stepping PathLine) (first : ℕ) (numbers : List ℕ)
+    → ((a : ℕ) → counted_row kept a ≡ row_in code sequences a) → kept_slice ≡ kept
+    → ((a : ℕ) → a < 2 ^ 64 → value_at no_line lines a ≡ numbered_line_of first numbers (counted_row kept_slice a))
     → (a : ℕ) → a < 2 ^ 64 → value_at no_line lines a ≡ numbered_at code sequences first numbers a
 unfolding numbered_at
-table_is code sequences kept kept_slice stretches stretches_slice covers stops items lines first numbers counted is_kept is_stretches is_slice by_covers is_stops is_items by_lines a low =
-    by_lines a
-    ∙ ap (λ n. numbered_line_of first numbers (row_by (covering kept_slice n) a))
-    (ap (λ l. held_from None l items a) is_stops ∙ ap (λ l. held_from None covers.stops l a) is_items ∙ by_covers a low ∙ ap (λ l. first_item l a) (is_slice ∙ is_stretches))
-    ∙ ap (numbered_line_of first numbers) (items_count kept_slice a ∙ ap (λ l. counted_row l a) is_kept ∙ counted a)
+counted_lines code sequences kept kept_slice lines first numbers counted is_kept by_lines a low =
+    by_lines a low ∙ ap (numbered_line_of first numbers) (ap (λ l. counted_row l a) is_kept ∙ counted a)
 
 -- the stretches so far, and those still to come
 pub stretches_begin : (kept : List Counted) (stretches : List Stretch) → stretches ≡ [] → stretches ++ stretches_from 0 (drop 0 kept) ≡ stretches_from 0 kept

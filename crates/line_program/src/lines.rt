@@ -60,7 +60,12 @@ fn name_files<'a>(
     let (sequences, mut defined, rows) = machine.into_parts();
     scratch.rows = rows;
     files.append(&mut defined)?;
-    let directories = Directories::of(alloc, version, comp_dir, directories.as_slice())?;
+    let directories = Directories::of(
+        &mut scratch.root,
+        version,
+        comp_dir,
+        directories.as_slice(),
+    )?;
     let files = directories.paths_of(alloc, &mut scratch.texts, files.as_slice())?;
     Ok(Lines {
         sequences,
@@ -82,7 +87,8 @@ fn read_rows<'a>(
     ensures { IfOk result (λ read. read ≡ or_kept_lines (program_lines comp_dir.now program.now tables.entry opcodes.entry)) }
 {
     let rows = replace(&mut scratch.rows, Vec::new(alloc));
-    let machine = match run_program(alloc, rows, program, opcodes)? {
+    let sequences = replace(&mut scratch.sequences, Vec::new(alloc));
+    let machine = match run_program(alloc, rows, sequences, &mut scratch.spare, program, opcodes)? {
         Ok(machine) => machine,
         Err(fault) => return Ok(Err(fault)),
     };
@@ -121,7 +127,12 @@ fn read_ahead<'a>(
 }
 
 /// The table of what was read.
-fn table_of(alloc: Global, code: &Enclosing, lines: Lines) -> Result<LineTable, OutOfMemory>
+fn table_of(
+    alloc: Global,
+    scratch: &mut LineScratch,
+    code: &Enclosing,
+    lines: Lines,
+) -> Result<LineTable, OutOfMemory>
     ensures says { IfOk result (λ table. SaysLines (encloses code.now) lines table) }
     ensures few { IfOk result (λ table. lines.first + length lines.files < 2 ^ 32) }
 {
@@ -130,7 +141,7 @@ fn table_of(alloc: Global, code: &Enclosing, lines: Lines) -> Result<LineTable, 
         first,
         files,
     } = lines;
-    LineTable::of(alloc, code, sequences, first, files)
+    LineTable::of(alloc, scratch, code, sequences, first, files)
 }
 
 /// Reads the table that stands ahead, and paints its lines.
@@ -150,7 +161,7 @@ fn read_at(
 {
     match read_ahead(alloc, scratch, sections, comp_dir, cursor)? {
         Ok(lines) => {
-            let table = table_of(alloc, code, lines)?;
+            let table = table_of(alloc, scratch, code, lines)?;
             Ok(table)
         }
         Err(fault) => Err(Stop::Fault(fault.into_fault())),

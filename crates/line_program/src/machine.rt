@@ -1,5 +1,5 @@
 //! Carrying out an opcode.
-ghost use Rattle.std.specs.Prelude.{◌≡◌, [], ◌∷◌, ◌++◌, OnOk};
+ghost use Rattle.std.specs.Prelude.{◌≡◌, [], ◌∷◌, ◌++◌, IfOk, OnOk};
 ghost use Rattle.line_program.specs.declared.opcode.Opcode.TheVariants.{EndSequence};
 ghost use Rattle.line_program.specs.LineRows.{first_state, row_of, advanced, line_on};
 ghost use Rattle.line_program.specs.internal.KeptRows.{kept_row, carried_kept};
@@ -51,6 +51,23 @@ impl<'a> Model for Machine<'a> {
     } };
 }
 
+/// A copy of rows, in a list that was used before where there is one.
+fn copy_rows(
+    alloc: Global,
+    spare: &mut Vec<Vec<Row>>,
+    rows: &[Row],
+) -> Result<Vec<Row>, OutOfMemory>
+    ensures { IfOk result (λ copy. copy.items ≡ rows.now) }
+{
+    let mut copy = match spare.pop() {
+        Some(list) => list,
+        None => Vec::new(alloc),
+    };
+    copy.clear();
+    copy.extend_from_slice(rows)?;
+    Ok(copy)
+}
+
 /// An address that goes on by so many instructions.
 #[inline]
 #[tactic(auto, using(crate::proofs::NumberLemmas::sums))]
@@ -71,17 +88,18 @@ fn advance_line(line: u32, by: i64) -> u32
 }
 
 impl<'a> Machine<'a> {
-    /// In front of the first opcode. The rows of each sequence are gathered in a list that is handed in.
-    pub fn new(alloc: Global, mut rows: Vec<Row>) -> Machine<'a>
+    /// In front of the first opcode. The rows of each sequence, and the sequences, are gathered in lists that are handed in.
+    pub fn new(alloc: Global, mut rows: Vec<Row>, mut sequences: Vec<LineSequence>) -> Machine<'a>
         ensures { result ≡ first_state }
     {
         rows.clear();
+        sequences.clear();
         Machine {
             address: 0,
             file: 1,
             line: 1,
             rows,
-            sequences: Vec::new(alloc),
+            sequences,
             files: Vec::new(alloc),
         }
     }
@@ -120,12 +138,17 @@ impl<'a> Machine<'a> {
         Ok(())
     }
 
-    /// Ends the sequence, and begins another.
+    /// Ends the sequence, whose rows may go into a spare list, and begins another.
     #[tactic(auto, unfolding(crate::specs::internal::KeptRows::carried_kept, crate::specs::LineRows::carried, crate::specs::LineRows::moved))]
-    fn end_sequence(&mut self, alloc: Global, program: &Program<'_>) -> Result<(), OutOfMemory>
+    fn end_sequence(
+        &mut self,
+        alloc: Global,
+        spare: &mut Vec<Vec<Row>>,
+        program: &Program<'_>,
+    ) -> Result<(), OutOfMemory>
         ensures { OnOk result (self.new ≡ carried_kept program.now EndSequence self.old) }
     {
-        let rows = Vec::from_slice(alloc, self.rows.as_slice())?;
+        let rows = copy_rows(alloc, spare, self.rows.as_slice())?;
         self.sequences.push(LineSequence {
             rows,
             end: self.address,
@@ -143,6 +166,7 @@ impl<'a> Machine<'a> {
     pub fn carry_out(
         &mut self,
         alloc: Global,
+        spare: &mut Vec<Vec<Row>>,
         program: &Program<'_>,
         opcode: Opcode<'a>,
     ) -> Result<(), OutOfMemory>
@@ -176,7 +200,7 @@ impl<'a> Machine<'a> {
                 self.address = self.address.wrapping_add(u64::from(by));
             }
             Opcode::EndSequence => {
-                self.end_sequence(alloc, program)?;
+                self.end_sequence(alloc, spare, program)?;
             }
             Opcode::SetAddress { address } => {
                 self.address = address;

@@ -48,24 +48,22 @@ pub(crate) fn number_paths(alloc: Global, texts: &FlatLists<u8>) -> Result<Numbe
     ensures there { IfOk result (λ n. AllBelow (length texts.now) n.firsts.items) }
     ensures apart { IfOk result (λ n. AreDistinct (picked texts.now n.firsts.items)) }
 {
-    let mut firsts = Vec::new(alloc);
+    let mut firsts = Vec::with_capacity(alloc, texts.len())?;
     let mut files = Vec::with_capacity(alloc, texts.len())?;
     // By their ends first, since many paths begin alike.
     let mut numbers: BTreeMap<(u64, &[u8]), u32> = BTreeMap::new(alloc);
     'files: for file in 0..texts.len() {
         let text = texts.at(file);
         let key = (ending_of(text), text);
-        match numbers.get(&key) {
-            Some(number) => {
-                files.push(*number)?;
-                continue;
-            }
-            None => {}
-        }
         let number = firsts.len() as u32;
+        if let Some(earlier) = numbers.insert(key, number)? {
+            numbers.insert(key, earlier)?;
+            files.push(earlier)?;
+            continue;
+        }
         firsts.push(file as u32)?;
-        numbers.insert(key, number)?;
         files.push(number)?;
     }
+    firsts.shrink_to_fit();
     Ok(Numbering { firsts, files })
 }

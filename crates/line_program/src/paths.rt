@@ -34,7 +34,7 @@ impl PathTexts {
 #[derive(Drop)]
 pub struct Directories<'t, 'a> {
     some: bool,
-    root: Vec<u8>,
+    root: &'t [u8],
     entries: &'t [FileEntry<'a>],
 }
 
@@ -44,7 +44,7 @@ impl<'t, 'a> Model for Directories<'t, 'a> {
 
     ghost Value = { List (List ℕ) };
 
-    ghost view = { λ d. directories_in d.some d.root.items d.entries.now };
+    ghost view = { λ d. directories_in d.some d.root.now d.entries.now };
 }
 
 fn is_rooted(path: &[u8]) -> bool
@@ -96,42 +96,43 @@ fn put_joined(text: &mut Vec<u8>, directory: &[u8], path: &[u8]) -> Result<(), O
     Ok(())
 }
 
-/// The first directory of version 5.
+/// The first directory of version 5, in a text where it is joined.
 #[tactic(auto, unfolding(crate::specs::Paths::root_of))]
-fn root_of(alloc: Global, comp_dir: &[u8], path: &[u8]) -> Result<Vec<u8>, OutOfMemory>
-    ensures { IfOk result (λ root. root.items ≡ root_of comp_dir.now path.now) }
+fn root_of<'t>(
+    text: &'t mut Vec<u8>,
+    comp_dir: &[u8],
+    path: &'t [u8],
+) -> Result<&'t [u8], OutOfMemory>
+    ensures { IfOk result (λ root. root.now ≡ root_of comp_dir.now path.now) }
 {
-    let mut root = Vec::new(alloc);
     if path == comp_dir {
-        put_text(&mut root, path)?;
-        return Ok(root);
+        return Ok(path);
     }
-    put_joined(&mut root, comp_dir, path)?;
-    Ok(root)
+    put_joined(text, comp_dir, path)?;
+    Ok(text.as_slice())
 }
 
 impl<'t, 'a> Directories<'t, 'a> {
-    /// The directories that a table has in a unit with that compilation directory.
+    /// The directories that a table has in a unit with that compilation directory; a text holds the first where it is joined.
     #[tactic(auto, unfolding(crate::specs::Paths::directories_of))]
     pub fn of(
-        alloc: Global,
+        text: &'t mut Vec<u8>,
         version: u16,
-        comp_dir: &[u8],
+        comp_dir: &'t [u8],
         entries: &'t [FileEntry<'a>],
     ) -> Result<Directories<'t, 'a>, OutOfMemory>
         ensures { IfOk result (λ directories. directories ≡ directories_of version comp_dir.now entries.now) }
     {
         if version != 5 {
-            let root = Vec::from_slice(alloc, comp_dir)?;
             return Ok(Directories {
                 some: true,
-                root,
+                root: comp_dir,
                 entries,
             });
         }
         match entries.split_first() {
             Some((first, rest)) => {
-                let root = root_of(alloc, comp_dir, first.path)?;
+                let root = root_of(text, comp_dir, first.path)?;
                 Ok(Directories {
                     some: true,
                     root,
@@ -140,7 +141,7 @@ impl<'t, 'a> Directories<'t, 'a> {
             }
             None => Ok(Directories {
                 some: false,
-                root: Vec::new(alloc),
+                root: comp_dir,
                 entries,
             }),
         }
@@ -161,12 +162,12 @@ impl<'t, 'a> Directories<'t, 'a> {
             return Ok(());
         }
         if file.directory == 0 {
-            put_joined(text, self.root.as_slice(), file.path)?;
+            put_joined(text, self.root, file.path)?;
             return Ok(());
         }
         match self.entries.get((file.directory - 1) as usize) {
             Some(entry) => {
-                put_joined(directory, self.root.as_slice(), entry.path)?;
+                put_joined(directory, self.root, entry.path)?;
                 put_joined(text, directory.as_slice(), file.path)?;
                 Ok(())
             }

@@ -1,16 +1,19 @@
 //! The sequences that count.
-ghost use Rattle.std.specs.Prelude.{◌≡◌, ℕ, ◌^◌, ◌<◌, None, if◌then◌else◌, length, IfOk, OnOk};
+ghost use Rattle.std.specs.Prelude.{◌≡◌, ℕ, ◌^◌, ◌<◌, None, if◌then◌else◌, length, OnOk};
 ghost use Rattle.range_set.specs.Enclosing.{encloses};
 ghost use Rattle.step_maps.specs.Covers.{AreStretches};
 ghost use Rattle.line_program.specs.LineAt.{covers, row_at, row_in};
 ghost use Rattle.line_program.specs.internal.Painting.{back_row, counted_row, stretches_from};
 
 use crate::machine::LineSequence;
+use crate::row::Row;
 use crate::row_order::{CountedSequence, least_address, sort_rows};
 use range_set::Enclosing;
-use std::alloc::Global;
 use step_maps::Stretch;
 use sym_edges::OutOfMemory;
+
+/// So many lists of rows are kept for the next table, and no more.
+const SPARE: usize = 16;
 
 /// Keeps a sequence, with its rows in order, where it counts.
 #[tactic(auto, using(crate::proofs::CountLemmas::not_kept, crate::proofs::CountLemmas::not_code))]
@@ -41,31 +44,54 @@ fn count_sequence(
     Ok(())
 }
 
-/// The sequences that count, in their order.
+/// Writes the sequences that count, in their order, over others.
 pub fn count_sequences(
-    alloc: Global,
     code: &Enclosing,
-    sequences: Vec<LineSequence>,
-) -> Result<Vec<CountedSequence>, OutOfMemory>
-    ensures { IfOk result (λ kept. (a : ℕ) → counted_row kept.items a ≡ row_in (encloses code.now) sequences.items a) }
+    sequences: &mut Vec<LineSequence>,
+    kept: &mut Vec<CountedSequence>,
+) -> Result<(), OutOfMemory>
+    ensures { OnOk result ((a : ℕ) → counted_row kept.new.items a ≡ row_in (encloses code.now) sequences.old.items a) }
 {
-    let mut left = sequences;
-    let mut kept = Vec::new(alloc);
-    'sequences: while let Some(sequence) = left.pop() {
-        count_sequence(code, sequence, &mut kept)?;
+    kept.clear();
+    'sequences: while let Some(sequence) = sequences.pop() {
+        count_sequence(code, sequence, kept)?;
     }
     kept.reverse();
-    Ok(kept)
+    Ok(())
 }
 
-/// The addresses of sequences that count, with the sequences' numbers.
+/// Drops sequences, and keeps the lists of some of their rows.
+pub fn keep_lists(
+    kept: &mut Vec<CountedSequence>,
+    spare: &mut Vec<Vec<Row>>,
+) -> Result<(), OutOfMemory> {
+    for turn in 0..SPARE {
+        let Some(sequence) = kept.pop() else {
+            return Ok(());
+        };
+        let CountedSequence {
+            first: _,
+            last: _,
+            rows,
+        } = sequence;
+        spare.push(rows)?;
+    }
+    kept.clear();
+    Ok(())
+}
+
+/// Writes the addresses of sequences that count, with the sequences' numbers, over others.
 #[tactic(auto, using(crate::proofs::TableLemmas::stretches_begin, crate::proofs::TableLemmas::stretches_more, crate::proofs::TableLemmas::stretches_all, step_maps::proofs::StretchLemmas::stretches_push))]
-pub fn stretches_of(alloc: Global, kept: &[CountedSequence]) -> Result<Vec<Stretch>, OutOfMemory>
+pub fn put_stretches(
+    stretches: &mut Vec<Stretch>,
+    kept: &[CountedSequence],
+) -> Result<(), OutOfMemory>
     requires { length kept.now < 2 ^ 32 }
-    ensures same { IfOk result (λ stretches. stretches.items ≡ stretches_from 0 kept.now) }
-    ensures some { IfOk result (λ stretches. AreStretches stretches.items) }
+    ensures same { OnOk result (stretches.new.items ≡ stretches_from 0 kept.now) }
+    ensures some { OnOk result (AreStretches stretches.new.items) }
 {
-    let mut stretches = Vec::with_capacity(alloc, kept.len())?;
+    stretches.clear();
+    stretches.reserve(kept.len())?;
     for (index, sequence) in kept.iter().enumerate() {
         stretches.push(Stretch {
             first: sequence.first,
@@ -74,5 +100,5 @@ pub fn stretches_of(alloc: Global, kept: &[CountedSequence]) -> Result<Vec<Stret
             class: 0,
         })?;
     }
-    Ok(stretches)
+    Ok(())
 }

@@ -5,19 +5,21 @@ ghost use Rattle.range_set.specs.Enclosing.{encloses};
 ghost use Rattle.sym_edges.specs.Rising.{RisesFrom};
 ghost use Rattle.step_maps.specs.Stepping.{value_at};
 ghost use Rattle.line_program.specs.LineMaps.{no_line, shown, numbered_line, numbered_file, AreDistinct, SaysLines};
-ghost use Rattle.line_program.specs.internal.Numbered.{numbered_at};
+ghost use Rattle.line_program.specs.internal.Numbered.{numbered_line_of, numbered_at};
+ghost use Rattle.line_program.specs.internal.Painting.{counted_row};
 
 use crate::line_map::paint_all;
 use crate::machine::LineSequence;
 use crate::path_line::{NO_LINE, PathLine, number_of};
 use crate::path_numbers::{Numbering, number_paths};
 use crate::row_order::CountedSequence;
-use crate::stretches::{count_sequences, stretches_of};
+use crate::scratch::LineScratch;
+use crate::stretches::{count_sequences, keep_lists, put_stretches};
 use flat_lists::FlatLists;
 use range_set::Enclosing;
 use std::alloc::Global;
 use std::marker::Model;
-use step_maps::{StepMap, first_items};
+use step_maps::{FirstItem, StepMap, Stretch, first_items};
 use sym_edges::OutOfMemory;
 
 /// Lines by address, and the files' paths by their numbers.
@@ -57,18 +59,78 @@ fn shown(at: PathLine) -> Option<(u32, u32)>
     Some((at.path, at.line))
 }
 
-/// How many rows there are at the most.
-fn row_count(kept: &[CountedSequence]) -> usize {
-    let mut count: usize = 0;
+/// How many lines there are at the most: one for each row, and none behind each sequence.
+fn line_count(kept: &[CountedSequence]) -> usize {
+    let mut count = kept.len();
     for sequence in kept {
         count = count.saturating_add(sequence.rows.len());
     }
     count
 }
 
+/// The lines of one sequence.
+fn paint_one(
+    alloc: Global,
+    counted: &[CountedSequence],
+    first: u32,
+    numbers: &[u32],
+) -> Result<StepMap<PathLine>, OutOfMemory>
+    requires { length counted.now ≡ 1 }
+    ensures { IfOk result (λ lines. (a : ℕ) → a < 2 ^ 64 → value_at no_line lines a ≡ numbered_line_of first numbers.now (counted_row counted.now a)) }
+{
+    let sequence = &counted[0];
+    let item = Some(FirstItem {
+        index: 0,
+        class: 0,
+        shared: false,
+    });
+    let room = line_count(counted);
+    if sequence.last == u64::MAX {
+        let stops = [sequence.first];
+        let items = [item];
+        let lines = paint_all(alloc, room, counted, &stops, &items, first, numbers)?;
+        return Ok(lines);
+    }
+    let stops = [sequence.first, sequence.last + 1];
+    let items = [item, None];
+    let lines = paint_all(alloc, room, counted, &stops, &items, first, numbers)?;
+    Ok(lines)
+}
+
+/// The lines of sequences that count.
+fn paint_counted(
+    alloc: Global,
+    stretches: &mut Vec<Stretch>,
+    counted: &[CountedSequence],
+    first: u32,
+    numbers: &[u32],
+) -> Result<StepMap<PathLine>, OutOfMemory>
+    ensures { IfOk result (λ lines. (a : ℕ) → a < 2 ^ 64 → value_at no_line lines a ≡ numbered_line_of first numbers.now (counted_row counted.now a)) }
+{
+    if counted.len() == 1 {
+        return paint_one(alloc, counted, first, numbers);
+    }
+    if counted.len() as u64 >= 1 << 32 {
+        return Err(OutOfMemory);
+    }
+    put_stretches(stretches, counted)?;
+    let covers = first_items(alloc, stretches.as_slice())?;
+    let lines = paint_all(
+        alloc,
+        line_count(counted),
+        counted,
+        covers.stops(),
+        covers.values(),
+        first,
+        numbers,
+    )?;
+    Ok(lines)
+}
+
 /// The lines of these sequences; files are numbered from `first`, and each has the number of its path.
 fn paint_lines(
     alloc: Global,
+    scratch: &mut LineScratch,
     code: &Enclosing,
     sequences: Vec<LineSequence>,
     first: u32,
@@ -76,22 +138,12 @@ fn paint_lines(
 ) -> Result<StepMap<PathLine>, OutOfMemory>
     ensures { IfOk result (λ lines. (a : ℕ) → a < 2 ^ 64 → value_at no_line lines a ≡ numbered_at (encloses code.now) sequences.items first numbers.now a) }
 {
-    let kept = count_sequences(alloc, code, sequences)?;
-    if kept.len() as u64 >= 1 << 32 {
-        return Err(OutOfMemory);
-    }
-    let counted = kept.as_slice();
-    let stretches = stretches_of(alloc, counted)?;
-    let covers = first_items(alloc, stretches.as_slice())?;
-    let lines = paint_all(
-        alloc,
-        row_count(counted),
-        counted,
-        covers.stops(),
-        covers.values(),
-        first,
-        numbers,
-    )?;
+    let mut left = sequences;
+    count_sequences(code, &mut left, &mut scratch.counted)?;
+    scratch.sequences = left;
+    let counted = scratch.counted.as_slice();
+    let lines = paint_counted(alloc, &mut scratch.stretches, counted, first, numbers)?;
+    keep_lists(&mut scratch.counted, &mut scratch.spare)?;
     Ok(lines)
 }
 
@@ -112,6 +164,7 @@ impl LineTable {
     /// The table of these sequences, and of files with these paths, which are numbered from `first`.
     pub(crate) fn of(
         alloc: Global,
+        scratch: &mut LineScratch,
         code: &Enclosing,
         sequences: Vec<LineSequence>,
         first: u32,
@@ -125,7 +178,7 @@ impl LineTable {
             return Err(OutOfMemory);
         }
         let Numbering { firsts, files } = number_paths(alloc, &texts)?;
-        let lines = paint_lines(alloc, code, sequences, first, files.as_slice())?;
+        let lines = paint_lines(alloc, scratch, code, sequences, first, files.as_slice())?;
         Ok(LineTable {
             lines,
             texts,

@@ -1,7 +1,7 @@
 use Rattle.std.proofs.Common.{◌≡◌, ◌++◌, drop}
 use Rattle.step_maps.specs.Covers.{AreStretches}
 use Rattle.line_program.specs.internal.Painting.{stretches_from}
-use Rattle.line_program.proofs.stretches.stretches_of.Given as goal
+use Rattle.line_program.proofs.stretches.put_stretches.Given as goal
 
 abbrev pub invariant-loop-index : goal.invariant-loop-index
 invariant-loop-index l = record {
