@@ -74,28 +74,18 @@ impl ListsRead {
         }
     }
 
-    /// The entry of a list that is not after all others.
-    fn find(&self, place: u32) -> Option<u32> {
-        if let Ok(k) = self.rising.binary_search_by_key(&place, |one| one.place) {
-            return Some(self.rising[k].entry);
-        }
-        match self.others.get(&place) {
-            Some(entry) => Some(*entry),
-            None => None,
-        }
-    }
-
-    /// The entry of the list at a place; where there is none, the list is that of this entry from now on.
+    /// An earlier entry whose list stood at that place. Where there is none, the list is that of this entry from now on, and it may be so
+    /// where there is one.
     fn find_or_add(&mut self, place: u32, entry: u32) -> Result<Option<u32>, OutOfMemory> {
         if self.rises(place) {
             self.rising.push(ListRead { place, entry })?;
             return Ok(None);
         }
-        if let Some(earlier) = self.find(place) {
-            return Ok(Some(earlier));
+        if let Ok(k) = self.rising.binary_search_by_key(&place, |one| one.place) {
+            return Ok(Some(self.rising[k].entry));
         }
-        self.others.insert(place, entry)?;
-        Ok(None)
+        let earlier = self.others.insert(place, entry)?;
+        Ok(earlier)
     }
 }
 
@@ -162,7 +152,7 @@ pub fn read_sets(
     let mut lists = ListsRead::new(alloc);
     'entries: for entry in 0..count {
         if !counts_at(table, entry as u32) {
-            sets.push(&RangeSet::empty())?;
+            sets.push_none()?;
             continue;
         }
         if let Some(earlier) = find_earlier(sections, unit, table, entry as u32, &mut lists)? {

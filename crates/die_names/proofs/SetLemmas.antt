@@ -1,10 +1,9 @@
 -- For `SpanSets`: sets by their numbers, each listed in the one way.
-use Rattle.std.proofs.Common.{◌≡◌, ◌<◌, ◌+◌, ℕ, zero, suc, nat_eq, true, List, [], ◌∷◌, ◌++◌, length, Some, None, refl, arith, sym, ap, subst, ◌∙◌, length-append}
+use Rattle.std.proofs.Common.{◌≡◌, ◌<◌, ◌+◌, ℕ, zero, suc, List, [], ◌∷◌, ◌++◌, length, Some, None, refl, arith, sym, ap, subst, ◌∙◌, length-append}
 use Rattle.std.specs.List.{All, slice_get}
-use Rattle.std.proofs.lemmas.List.{get_or_append_left, nil_from_length}
+use Rattle.std.proofs.lemmas.List.{get_or_append_left}
 use Rattle.std.proofs.lemmas.List.Elements.{All-nil, All-push, All-weaker, All-get_or, All-head, All-tail}
 use Rattle.std.proofs.lemmas.Option.{slice_get_within, slice_get-get_or, get_or_from_slice_get}
-use Rattle.std.proofs.lemmas.Bool.Decides.{nat_tests}
 use Rattle.std.proofs.Math.Seq.{get_or-append_seam}
 use Rattle.sym_edges.specs.Addresses.{Range}
 use Rattle.range_set.specs.Canonical.{IsCanonical}
@@ -35,12 +34,8 @@ sets_and : (sets : List (List Range)) (numbers : List ℕ) (number : ℕ) → se
 sets_and sets [] number = refl
 sets_and sets (n ∷ numbers) number = ap (λ later. set_of sets n ∷ later) (sets_and sets numbers number)
 
-pub none_listed : (set spans : List Range) → spans ≡ set → nat_eq (length spans) 0 ≡ true → set ≡ []
-none_listed set spans same none = sym same ∙ nil_from_length spans (grind (arith, nat_tests))
-
-pub empty_added : (sets : List (List Range)) (numbers more : List ℕ) (set : List Range) → AreNumbered sets numbers → set ≡ [] → more ≡ numbers ++ 0 ∷ [] → sets_of sets more ≡ sets_of sets numbers ++ set ∷ []
-empty_added sets numbers more set are none is =
-    ap (sets_of sets) is ∙ sets_and sets numbers 0 ∙ ap (λ s. sets_of sets numbers ++ s ∷ []) (are.empty ∙ sym none)
+pub empty_added : (sets : List (List Range)) (numbers more : List ℕ) → AreNumbered sets numbers → more ≡ numbers ++ 0 ∷ [] → sets_of sets more ≡ sets_of sets numbers ++ [] ∷ []
+empty_added sets numbers more are is = ap (sets_of sets) is ∙ sets_and sets numbers 0 ∙ ap (λ s. sets_of sets numbers ++ s ∷ []) are.empty
 
 -- a set more, with its number
 same_sets : (sets : List (List Range)) (set : List Range) (numbers : List ℕ) → All (λ n. n < length sets) numbers → sets_of (sets ++ set ∷ []) numbers ≡ sets_of sets numbers

@@ -11,6 +11,9 @@ use std::alloc::Global;
 use std::marker::Model;
 use sym_edges::{OutOfMemory, Span};
 
+/// Room for so many sets, and for as many ranges, is taken at once.
+const USUAL: usize = 16;
+
 /// The addresses of a unit's entries, one set for each: empty for those that do not count. An entry without addresses takes four
 /// bytes, and so does one with the set of an earlier entry: sets have numbers, and number 0 is the empty set.
 #[derive(Drop)]
@@ -48,7 +51,7 @@ impl SpanSets {
     pub fn with_room(alloc: Global, count: usize) -> Result<SpanSets, OutOfMemory>
         ensures { IfOk result (λ sets. sets ≡ []) }
     {
-        let mut sets = FlatLists::new(alloc);
+        let mut sets = FlatLists::with_room(alloc, USUAL, USUAL)?;
         sets.push(&[])?;
         Ok(SpanSets {
             numbers: Vec::with_capacity(alloc, count)?,
@@ -56,15 +59,24 @@ impl SpanSets {
         })
     }
 
+    /// Adds an entry without addresses.
+    #[inline]
+    #[tactic(auto, using(crate::proofs::SetLemmas::number_added, crate::proofs::SetLemmas::empty_added))]
+    pub fn push_none(&mut self) -> Result<(), OutOfMemory>
+        ensures { OnOk result (self.new ≡ self.old ++ [] ∷ []) }
+    {
+        self.numbers.push(0)?;
+        Ok(())
+    }
+
     /// Adds the addresses of an entry.
-    #[tactic(auto, using(crate::proofs::SetLemmas::numbered_kept, crate::proofs::SetLemmas::number_added, crate::proofs::SetLemmas::empty_added, crate::proofs::SetLemmas::set_numbered, crate::proofs::SetLemmas::set_added))]
+    #[tactic(auto, using(crate::proofs::SetLemmas::numbered_kept, crate::proofs::SetLemmas::number_added, crate::proofs::SetLemmas::set_numbered, crate::proofs::SetLemmas::set_added))]
     pub fn push(&mut self, set: &RangeSet) -> Result<(), OutOfMemory>
         ensures { OnOk result (self.new ≡ self.old ++ set.now ∷ []) }
     {
         let spans = set.spans();
         if spans.is_empty() {
-            self.numbers.push(0)?;
-            return Ok(());
+            return self.push_none();
         }
         let number = self.sets.len();
         if number > u32::MAX as usize {

@@ -15,7 +15,7 @@ returns-in-Err c =
 pub entries-preserved : goal.entries-preserved
 entries-preserved c =
     let inside : c.entries.entry < length c.args.table.now.dies = omega (arith, c.len-count.ensures, ap length c.dies.ensures, c.entries-test.true) in
-    sets_more c.args.sections.now c.args.unit.now c.args.table.now.root c.args.base c.args.code.now c.args.table.now.dies c.entries.entry c.entries.sets c.push-in-Ok.new.self c.in-Ok.set inside c.entries.invariant c.in-Ok.ensures c.in_ok-push-in-Ok.ensures
+    sets_more c.args.sections.now c.args.unit.now c.args.table.now.root c.args.base c.args.code.now c.args.table.now.dies c.entries.entry c.entries.sets c.push.new.self c.in-Ok.set inside c.entries.invariant c.in-Ok.ensures c.in_ok-push-in-Ok.ensures
 
 pub entries-preserved-in-Some : goal.entries-preserved-in-Some
 entries-preserved-in-Some c =
@@ -34,6 +34,6 @@ returns c =
 pub entries-preserved-then-not-counts_at : goal.entries-preserved-then-not-counts_at
 entries-preserved-then-not-counts_at c =
     let inside : c.entries.entry < length c.args.table.now.dies = omega (arith, c.len-count.ensures, ap length c.dies.ensures, c.entries-test.true) in
-    sets_more c.args.sections.now c.args.unit.now c.args.table.now.root c.args.base c.args.code.now c.args.table.now.dies c.entries.entry c.entries.sets c.push-then-not-counts_at.new.self [] inside c.entries.invariant
+    sets_more c.args.sections.now c.args.unit.now c.args.table.now.root c.args.base c.args.code.now c.args.table.now.dies c.entries.entry c.entries.sets c.push_none.new.self [] inside c.entries.invariant
     (says_none c.args.code.now (pairs_at c.args.sections.now c.args.unit.now c.args.table.now.root c.args.base (slice_get c.args.table.now.dies c.entries.entry)) (c.counts_at.ensures c.if-not-counts_at.true c.args.sections.now c.args.unit.now c.args.base))
-    (rw c.empty.ensures at c.in_ok-push.ensures)
+    c.in_ok-push_none.ensures
