@@ -18,7 +18,7 @@ first_inside x (s ∷ items) = go (s.class == x) (first_inside x items)
     go true less = omega arith
     go false less = omega (arith, less)
 
-no_first : (x : ℕ) (items : List Stretch) → 0 ≡ first_place x items → of_class x items ≡ []
+pub no_first : (x : ℕ) (items : List Stretch) → 0 ≡ first_place x items → of_class x items ≡ []
 unfolding first_place
 no_first x [] none = refl
 no_first x (s ∷ items) none = elim (eqb_tells s.class x) [

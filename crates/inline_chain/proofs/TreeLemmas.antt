@@ -12,9 +12,12 @@ use Rattle.die_names.specs.declared.unit_read.UnitRead.{UnitRead}
 use Rattle.die_names.specs.UnitEntries.{places}
 use Rattle.step_maps.specs.SpanStretches.{AreFit}
 use Rattle.inline_chain.specs.internal.Copies.{of_class, HaveClasses, IsList, AreLists, ListsTo, HaveSets, TellChildren, TreeFor, AddsCovers}
+use Rattle.inline_chain.specs.internal.Links.{AreLinked}
 use Rattle.inline_chain.specs.Trees.{list_of, child_at, IsTree, AreTrees}
+use Rattle.inline_chain.proofs.ApartLemmas.{no_cover}
 use Rattle.inline_chain.proofs.ChildLemmas.{index_children}
 use Rattle.inline_chain.proofs.CollectLemmas.{got_front, got_last}
+use Rattle.inline_chain.proofs.LinkLemmas.{no_first}
 
 same_runs : {V : Type 0} (f g : ℕ → Option V) (runs : List (Run V)) → ((a : ℕ) → f a ≡ g a) → IsRuns f runs → IsRuns g runs
 same_runs f g runs same is = record { apart = is.apart; values = λ a. is.values a ∙ same a }
@@ -64,6 +67,12 @@ lists_grown items group lists count covers is runs to = record {
 pub lists_more : (items group : List Stretch) (lists new : List (List Cover)) (count : ℕ) → group ≡ of_class count items → AddsCovers group lists new → ListsTo items lists count → ListsTo items new (count + 1)
 lists_more items group lists new count is made to =
     subst (λ (ls : List (List Cover)). ListsTo items ls (count + 1)) (sym made.added) (lists_grown items group lists count made.covers is made.runs to)
+
+-- a class without stretches
+pub lists_none : (items : List Stretch) (lists new : List (List Cover)) (firsts nexts : List ℕ) (count d : ℕ) → AreLinked items firsts nexts → count < length firsts → get_or firsts count d ≡ 0 → new ≡ lists ++ [] ∷ [] → ListsTo items lists count → ListsTo items new (count + 1)
+lists_none items lists new firsts nexts count d linked inside none added to =
+    let empty : of_class count items ≡ [] = no_first count items (sym none ∙ linked.firsts_are count d inside) in
+    lists_more items (of_class count items) lists new count refl (no_cover (of_class count items) lists new (ap length empty) added) to
 
 none_of : (x count : ℕ) (items : List Stretch) → HaveClasses count items → count ≤ x → of_class x items ≡ []
 none_of x count [] below up = refl

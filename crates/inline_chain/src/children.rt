@@ -56,7 +56,9 @@ fn push_copy(
 
 /// Puts in the place of what was there the stretches of the inlined copies of a unit, in the order of their entries; the class of each
 /// is the number of the entry that it stands in. Of copies directly in one entry that have one set, only the first is collected: the
-/// others are the first nowhere. `row` and `met` are used again for the sake of their memory.
+/// others are the first nowhere. `row` and `met` are used again for the sake of their memory. It stands alone, so that its loop has the
+/// registers for itself.
+#[inline(never)]
 pub fn collect_copies(
     part: &UnitRead<'_>,
     row: &mut Vec<Option<u32>>,

@@ -18,18 +18,18 @@ use sym_edges::{OutOfMemory, Span};
 /// A record has at most so many ranges.
 const RANGES: usize = 16384;
 
-/// The stretches as spans.
-fn spans_of(alloc: Global, group: &[Stretch]) -> Result<Vec<Span>, AllocError>
+/// Puts in the place of what was there the stretches as spans.
+fn fill_spans(group: &[Stretch], spans: &mut Vec<Span>) -> Result<(), AllocError>
     requires { AreFit group.now }
-    ensures { IfOk result (λ spans. (a : ℕ) → holds_any spans.items a ≡ list_any (λ s. reaches s a) group.now) }
+    ensures { OnOk result ((a : ℕ) → holds_any spans.new.items a ≡ list_any (λ s. reaches s a) group.now) }
 {
-    let mut spans = Vec::with_capacity(alloc, group.len())?;
+    spans.clear();
     let mut rest = group;
     'group: while let Some((stretch, later)) = rest.split_first() {
         spans.push(Span::new(stretch.first, stretch.last + 1))?;
         rest = later;
     }
-    Ok(spans)
+    Ok(())
 }
 
 /// The set of ranges that are sorted and disjoint.
@@ -116,10 +116,11 @@ fn push_one(
     Ok(())
 }
 
-/// Adds the records of the stretches of one entry.
+/// Adds the records of the stretches of one entry. `spans` is used again for the sake of its memory.
 fn push_group(
     alloc: Global,
     made: &mut Vec<InlineRun>,
+    spans: &mut Vec<Span>,
     level: u32,
     entry: u32,
     group: &[Stretch],
@@ -130,7 +131,7 @@ fn push_group(
     if let [one] = group {
         return push_one(made, level, entry, *one);
     }
-    let spans = spans_of(alloc, group)?;
+    fill_spans(group, spans)?;
     let set = of_ranges(alloc, spans.as_slice())?;
     // That the set is the one list of its addresses is said by this call.
     let _held = set.spans();
@@ -169,6 +170,7 @@ fn fill_groups(
     level: u32,
     items: &[Stretch],
     made: &mut Vec<InlineRun>,
+    spans: &mut Vec<Span>,
 ) -> Result<(), OutOfMemory>
     requires fit { AreFit items.now }
     requires sorted { SortedFrom 0 items.now }
@@ -179,7 +181,7 @@ fn fill_groups(
     'groups: while let Some((first, _)) = rest.split_first() {
         let entry = first.class;
         let (group, later) = rest.split_at(front_count(rest, entry));
-        push_group(alloc, made, level, entry, group)?;
+        push_group(alloc, made, spans, level, entry, group)?;
         rest = later;
     }
     Ok(())
@@ -206,20 +208,21 @@ fn sort_by_address(made: &mut Vec<InlineRun>, level: u32) -> Result<(), AllocErr
     Ok(())
 }
 
-/// Adds the records of a level, which is sorted for that. What `made` holds does not matter: it is used again for the sake of its
-/// memory.
+/// Adds the records of a level, which is sorted for that. What `made` and `spans` hold does not matter: they are used again for the sake
+/// of their memory.
 pub fn push_level(
     alloc: Global,
     runs: &mut Vec<InlineRun>,
     level: u32,
     items: &mut Vec<Stretch>,
     made: &mut Vec<InlineRun>,
+    spans: &mut Vec<Span>,
 ) -> Result<(), OutOfMemory>
     requires { AreFit items.old.items }
     ensures { OnOk result (AddsLevel level items.old.items runs.old.items runs.new.items) }
 {
     sort_by_class(items)?;
-    fill_groups(alloc, level, items.as_slice(), made)?;
+    fill_groups(alloc, level, items.as_slice(), made, spans)?;
     sort_by_address(made, level)?;
     runs.append(made)?;
     Ok(())

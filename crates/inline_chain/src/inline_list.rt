@@ -15,7 +15,7 @@ use func_flatten::Piece;
 use std::alloc::Global;
 use std::mem::swap;
 use step_maps::Stretch;
-use sym_edges::{ListOf, OutOfMemory};
+use sym_edges::{ListOf, OutOfMemory, Span};
 
 /// Lists that each piece fills anew. They are kept for the sake of their memory: what they hold does not matter.
 #[derive(Drop)]
@@ -23,6 +23,8 @@ pub struct LevelLists {
     level: Vec<Stretch>,
     next: Vec<Stretch>,
     made: Vec<InlineRun>,
+    spans: Vec<Span>,
+    runs: Vec<InlineRun>,
 }
 
 impl LevelLists {
@@ -31,6 +33,8 @@ impl LevelLists {
             level: Vec::new(alloc),
             next: Vec::new(alloc),
             made: Vec::new(alloc),
+            spans: Vec::new(alloc),
+            runs: Vec::new(alloc),
         }
     }
 }
@@ -61,6 +65,15 @@ pub fn inlines(
     Ok(ListOf::of(runs))
 }
 
+/// Moves records to a list without room for more.
+fn in_exact_room(alloc: Global, runs: &mut Vec<InlineRun>) -> Result<Vec<InlineRun>, OutOfMemory>
+    ensures { IfOk result (λ exact. exact.items ≡ runs.old.items) }
+{
+    let mut exact = Vec::with_capacity(alloc, runs.len())?;
+    exact.append(runs)?;
+    Ok(exact)
+}
+
 /// The records of what stands in an owner, level by level.
 fn runs_under(
     alloc: Global,
@@ -72,19 +85,21 @@ fn runs_under(
     requires runs { HaveRuns lists.now }
     ensures { IfOk result (λ runs. (part : UnitRead) → IsTree part lists.now → AllRuns part owner runs.items) }
 {
-    let mut runs = Vec::new(alloc);
+    levels.runs.clear();
     level_under(lists, &[owner], &mut levels.level)?;
     'levels: for number in 0..u32::MAX {
         if levels.level.is_empty() {
-            return Ok(runs);
+            let exact = in_exact_room(alloc, &mut levels.runs)?;
+            return Ok(exact);
         }
         level_under(lists, levels.level.as_slice(), &mut levels.next)?;
         push_level(
             alloc,
-            &mut runs,
+            &mut levels.runs,
             number,
             &mut levels.level,
             &mut levels.made,
+            &mut levels.spans,
         )?;
         swap(&mut levels.level, &mut levels.next);
     }

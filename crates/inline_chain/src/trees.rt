@@ -168,7 +168,6 @@ fn tree_of(
 }
 
 /// Adds the covers of stretches. `sorted` and `own` are used again for the sake of their memory.
-#[tactic(auto, using(crate::proofs::ApartLemmas::no_cover))]
 fn push_covers(
     alloc: Global,
     lists: &mut CoverLists,
@@ -179,14 +178,12 @@ fn push_covers(
     requires { AreFit group.now }
     ensures { OnOk result (AddsCovers group.now lists.old lists.new) }
 {
-    if group.is_empty() {
-        return lists.push_none();
-    }
     fill_covers(alloc, group, sorted, own)?;
     lists.push(own.as_slice())
 }
 
-/// Puts in the place of what was there the covers of each class, as far as there are any.
+/// Puts in the place of what was there the covers of each class, as far as there are any. It stands alone, as `collect_copies` does.
+#[inline(never)]
 fn fill_lists(
     alloc: Global,
     items: &[Stretch],
@@ -200,6 +197,10 @@ fn fill_lists(
 {
     lists.begin(links.firsts.len())?;
     'classes: for class in 0..links.firsts.len() {
+        if links.firsts[class] == 0 {
+            lists.push_none()?;
+            continue;
+        }
         fill_class(items, links, class, &mut class_lists.group)?;
         push_covers(
             alloc,

@@ -8,11 +8,11 @@ pub levels-init : goal.levels-init
 levels-init c = record {
   fit = c.in_ok-level_under.ensures.fit;
   level = λ part tree. next_level part _ c.args.owner 0 (c.args.owner ∷ []) _ tree c.requires.fit.1 (first_level part c.args.owner) c.in_ok-level_under.ensures.at;
-  runs = λ part tree. runs_begin part c.args.owner _ c.new-runs.ensures.items;
+  runs = λ part tree. runs_begin part c.args.owner _ c.clear.ensures.items;
 }
 
 pub returns-then-is_empty : goal.returns-then-is_empty
-returns-then-is_empty c part tree = runs_end _ _ _ _ _ (let none : length c.levels.levels.level.items ≡ 0 = grind (arith, nat_tests) in none) (c.levels.invariant.level part tree) (c.levels.invariant.runs part tree)
+returns-then-is_empty c part tree = rw c.in_ok-exact.ensures (runs_end _ _ _ _ _ (let none : length c.levels.levels.level.items ≡ 0 = grind (arith, nat_tests) in none) (c.levels.invariant.level part tree) (c.levels.invariant.runs part tree))
 
 pub levels-preserved : goal.levels-preserved
 levels-preserved c = record {

@@ -9,5 +9,5 @@ abbrev pub invariant-levels : goal.invariant-levels
 invariant-levels l = record {
   fit : AreFit l.levels.level.items;
   level : (part : UnitRead) → IsTree part l.lists → IsLevel part l.fn.owner (l.number + 1) l.levels.level.items;
-  runs : (part : UnitRead) → IsTree part l.lists → RunsTo part l.fn.owner l.number l.runs.items;
+  runs : (part : UnitRead) → IsTree part l.lists → RunsTo part l.fn.owner l.number l.levels.runs.items;
 }

@@ -1,7 +1,7 @@
 use Rattle.std.proofs.Common.{◌∙◌}
 use Rattle.inline_chain.proofs.LevelLemmas.{first_fit}
 use Rattle.inline_chain.proofs.PartLemmas.{group_more, group_ends}
-use Rattle.inline_chain.proofs.groups.spans_of.Goals as goal
+use Rattle.inline_chain.proofs.groups.fill_spans.Goals as goal
 
 pub group-preserved : goal.group-preserved
 group-preserved c = rw (c.in_ok-push.ensures.items, c.new.ensures) (record {

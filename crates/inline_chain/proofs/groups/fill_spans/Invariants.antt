@@ -3,7 +3,7 @@ use Rattle.std.specs.List.{list_any}
 use Rattle.range_set.specs.Members.{holds_any}
 use Rattle.step_maps.specs.Covers.{reaches}
 use Rattle.step_maps.specs.SpanStretches.{AreFit}
-use Rattle.inline_chain.proofs.groups.spans_of.Given as goal
+use Rattle.inline_chain.proofs.groups.fill_spans.Given as goal
 
 abbrev pub invariant-group : goal.invariant-group
 invariant-group l = record {
