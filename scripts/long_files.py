@@ -159,14 +159,24 @@ def functions():
         info = unit(ROOT + b"".join(entries) + b"\0")
         write([NULL, ID, code(count * apart + 32), debug("info", info), debug("abbrev", ABBREVS), debug("line", lines_of(rows))])
         out = text()
-        funcs = re.findall(r"^FUNC (m )?[0-9a-f]+ ([0-9a-f]+) 0 (.*)$", out, re.M)
-        found = (len(funcs), sum(bool(many) for many, _, _ in funcs), sum(int(size, 16) for _, size, _ in funcs),
-                 len(re.findall(r"^[0-9a-f]+ [0-9a-f]+ [0-9]+ [0-9]+$", out, re.M)), out.count("\nINLINE "), sum(len(name) for _, _, name in funcs))
+        funcs = re.findall(r"^FUNC (m )?([0-9a-f]+) ([0-9a-f]+) 0 (.*)$", out, re.M)
+        found = (len(funcs), sum(bool(many) for many, *_ in funcs), sum(int(size, 16) for _, _, size, _ in funcs),
+                 len(re.findall(r"^[0-9a-f]+ [0-9a-f]+ [0-9]+ [0-9]+$", out, re.M)), out.count("\nINLINE "), sum(len(name) for *_, name in funcs))
         check(f"{count} functions, {apart} apart", found == wanted, found)
+        if apart >= 8:
+            check("their order", [int(start, 16) for _, start, *_ in funcs] == [0x1000 + k * apart for k in range(count)], funcs)
         if apart == 16:
             blocks = (f"FUNC {a:x} 8 0 {'ab'[k % 2]}\nINLINE 0 5 0 {k % 2} {a:x} 4\n" + {0: "1000 4 3 0\n1004 4 9 0\n", 1: "1010 8 4 0\n"}.get(k, "")
                       for k, a in ((k, 0x1000 + 16 * k) for k in range(1000)))
             check("their text", out == FRONT + "FILE 0 /s/a.c\nINLINE_ORIGIN 0 a\nINLINE_ORIGIN 1 b\n" + "".join(blocks), out)
+
+
+def functions_of_one_name():
+    """Half a million functions, sixteen apart: each is a record of its own, in their order. Whoever scans them all for each does not come to an end."""
+    first, many = 1 << 24, range(500_000)
+    info = unit(ROOT + b"".join(function(b"f", first + 16 * k, 8) for k in many) + b"\0")
+    write([NULL, ID, (".text", 1, 6, first, 0, bytes(16 * len(many))), debug("info", info), debug("abbrev", ABBREVS), debug("line", lines_of(b""))])
+    expect("functions of one name", 0, FRONT + "".join(f"FUNC {first + 16 * k:x} 8 0 f\n" for k in many))
 
 
 def abbreviations():
@@ -317,6 +327,9 @@ def frames():
         section += struct.pack("<IIQQ", 23, 0, 0x1000 + 16 * k, 16) + b"\x0c\x07\x08"
     frames_of(section, 16_000, ".debug_frame")
     expect("a thousand entries", 0, FRONT + "".join(f"STACK CFI INIT {0x1000 + 16 * k:x} 10 .cfa: $rsp 8 +\n" for k in range(1000)))
+    high = 0xfffffffffffff000
+    write([NULL, ID, (".text", 1, 6, high, 0, b"\x90" * 0xfff), (".eh_frame", 1, 2, 0x2000, 0, CIE + fde(len(CIE), high, 0xfff))])
+    expect("an entry up to the last address", 0, f"{FRONT}STACK CFI INIT {high:x} fff {CALLED}")
     own = b"".join(b"\x41\x0e\x10" if k % 2 else b"\x41\x0e\x18" for k in range(1, 400_001))
     frames_of(CIE + fde(len(CIE), 0x1000, 500_000, own), 500_000)
     changes = (f"STACK CFI {0x1000 + k:x} .cfa: $rsp {16 if k % 2 else 24} +\n" for k in range(1, 400_001))
@@ -349,6 +362,6 @@ def frames():
             expect(f"entries that meet, workers: {workers}", 0, out, left_out, ("dump", "a.out", "--workers", workers))
 
 
-for part in (sections_and_segments, names_and_code, functions, abbreviations, entries, lines, ranges, units, shared, frames):
+for part in (sections_and_segments, names_and_code, functions, functions_of_one_name, abbreviations, entries, lines, ranges, units, shared, frames):
     part()
 print(f"long files: {passed} passed, {failed} failed")
