@@ -220,7 +220,7 @@ ref_sup4_cut : reads 0x1c false "785634" ≡ Err (Cursor (Ends 1))
 unfolding abbrev_units_computes reads
 ref_sup4_cut = refl
 
-strp_sup : reads 0x1d false "78563412" ≡ Ok (value.Other, 5)
+strp_sup : reads 0x1d false "78563412" ≡ Ok (value.SupStrAt 0x12345678, 5)
 unfolding abbrev_units_computes reads
 strp_sup = refl
 
@@ -352,7 +352,7 @@ gnu_ref_alt_cut : reads 0x1f20 false "785634" ≡ Err (Cursor (Ends 1))
 unfolding abbrev_units_computes reads
 gnu_ref_alt_cut = refl
 
-gnu_strp_alt : reads 0x1f21 false "78563412" ≡ Ok (value.Other, 5)
+gnu_strp_alt : reads 0x1f21 false "78563412" ≡ Ok (value.SupStrAt 0x12345678, 5)
 unfolding abbrev_units_computes reads
 gnu_strp_alt = refl
 
@@ -384,7 +384,7 @@ sec_offset_wide_cut : reads 0x17 true "f0debc9a785634" ≡ Err (Cursor (Ends 1))
 unfolding abbrev_units_computes reads
 sec_offset_wide_cut = refl
 
-strp_sup_wide : reads 0x1d true "f0debc9a 78563412" ≡ Ok (value.Other, 9)
+strp_sup_wide : reads 0x1d true "f0debc9a 78563412" ≡ Ok (value.SupStrAt 0x123456789abcdef0, 9)
 unfolding abbrev_units_computes reads
 strp_sup_wide = refl
 
@@ -408,7 +408,7 @@ gnu_ref_alt_wide_cut : reads 0x1f20 true "f0debc9a785634" ≡ Err (Cursor (Ends 
 unfolding abbrev_units_computes reads
 gnu_ref_alt_wide_cut = refl
 
-gnu_strp_alt_wide : reads 0x1f21 true "f0debc9a 78563412" ≡ Ok (value.Other, 9)
+gnu_strp_alt_wide : reads 0x1f21 true "f0debc9a 78563412" ≡ Ok (value.SupStrAt 0x123456789abcdef0, 9)
 unfolding abbrev_units_computes reads
 gnu_strp_alt_wide = refl
 

@@ -29,6 +29,7 @@ value_of is.Present implicit _ = value.Flag true
 value_of is.InlineText implicit (operand.Run start len) = value.InlineText start len
 value_of is.TextPlace implicit (operand.Num n) = value.StrAt n
 value_of is.LineTextPlace implicit (operand.Num n) = value.LineStrAt n
+value_of is.SupTextPlace implicit (operand.Num n) = value.SupStrAt n
 value_of is.TextIndex implicit (operand.Num n) = value.StrIndex n
 value_of is.UnitReference implicit (operand.Num n) = value.UnitRef n
 value_of is.InfoReference implicit (operand.Num n) = value.InfoRef n

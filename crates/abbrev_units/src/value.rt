@@ -29,6 +29,9 @@ pub enum Value {
     /// A place in `.debug_line_str`.
     LineStrAt(u64),
 
+    /// A place in the `.debug_str` of the supplementary file (DWARF 5, 7.3.6).
+    SupStrAt(u64),
+
     /// The number of a text in `.debug_str_offsets`.
     StrIndex(u64),
 
@@ -76,6 +79,7 @@ pub fn value_of(class: FormClass, implicit: i64, operand: Operand) -> Value
         (FormClass::InlineText, Operand::Run { start, len }) => Value::InlineText { start, len },
         (FormClass::TextPlace, Operand::Num(n)) => Value::StrAt(n),
         (FormClass::LineTextPlace, Operand::Num(n)) => Value::LineStrAt(n),
+        (FormClass::SupTextPlace, Operand::Num(n)) => Value::SupStrAt(n),
         (FormClass::TextIndex, Operand::Num(n)) => Value::StrIndex(n),
         (FormClass::UnitReference, Operand::Num(n)) => Value::UnitRef(n),
         (FormClass::InfoReference, Operand::Num(n)) => Value::InfoRef(n),

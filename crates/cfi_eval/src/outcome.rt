@@ -1,3 +1,5 @@
+//! What comes of a rule: a value, none, or the cause for which there is none.
+
 /// Why a rule has no value.
 #[derive(Clone, Copy, Debug, PartialEq, Eq)]
 pub enum Cause {

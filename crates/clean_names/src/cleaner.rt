@@ -1,4 +1,5 @@
-ghost use Rattle.std.specs.Prelude.{◌≡◌, ◌≤◌, ◌==◌, ◌++◌, map, length, true, IfOk, OnOk, take};
+//! The cleaning of names.
+ghost use Rattle.std.specs.Prelude.{◌≡◌, ◌≤◌, ◌==◌, ◌++◌, codes, map, length, true, IfOk, OnOk, take};
 ghost use Rattle.std.specs.List.{list_all};
 ghost use Rattle.clean_names.specs.Names.{is_space, skip, is_name};
 ghost use Rattle.clean_names.specs.Cleaning.{shown_byte, cleaned, cleaned_upto};
@@ -6,8 +7,16 @@ ghost use Rattle.clean_names.specs.Cleaning.{shown_byte, cleaned, cleaned_upto};
 use std::alloc::{AllocError, Global};
 use sym_edges::{ByteRun, OutOfMemory};
 
-/// A name has at most so many bytes.
-const NAME_LIMIT: usize = 65_536;
+/// How many bytes a name has at most.
+pub const NAME_LIMIT: usize = 65_536;
+
+/// What stands for a name that is empty or not known.
+#[inline]
+pub fn name_omitted() -> &'static [u8]
+    ensures { result.now ≡ codes "<name omitted>" }
+{
+    b"<name omitted>"
+}
 
 /// The bytes without the spaces in front. Takes no memory.
 #[tactic(auto, using(crate::proofs::SkipLemmas::skip_stop, crate::proofs::SkipLemmas::skip_more, crate::proofs::SkipLemmas::skip_end))]
@@ -76,7 +85,7 @@ pub fn add_cleaned(text: &mut Vec<u8>, bytes: &[u8]) -> Result<(), OutOfMemory>
     let rest = unspaced(bytes);
     let front = rest.split_at(NAME_LIMIT.min(rest.len())).0;
     if front.is_empty() {
-        text.extend_from_slice(b"<name omitted>")?;
+        text.extend_from_slice(name_omitted())?;
         return Ok(());
     }
     add_shown(text, front)
@@ -89,7 +98,7 @@ fn clean_upto(alloc: Global, limit: usize, bytes: &[u8]) -> Result<ByteRun, OutO
     let rest = unspaced(bytes);
     let front = rest.split_at(limit.min(rest.len())).0;
     if front.is_empty() {
-        return Ok(ByteRun::of(Vec::from_slice(alloc, b"<name omitted>")?));
+        return Ok(ByteRun::of(Vec::from_slice(alloc, name_omitted())?));
     }
     Ok(ByteRun::of(shown(alloc, front)?))
 }

@@ -8,4 +8,4 @@
 mod cleaner;
 pub mod laws;
 
-pub use cleaner::{add_cleaned, clean, shown_byte, unspaced};
+pub use cleaner::{NAME_LIMIT, add_cleaned, clean, name_omitted, shown_byte, unspaced};

@@ -46,7 +46,7 @@ forms wide =
     ∷ form 0x1a Uleb is.TextIndex  -- DW_FORM_strx
     ∷ form 0x1b Uleb is.AddressIndex  -- DW_FORM_addrx
     ∷ form 0x1c U32 is.Other  -- DW_FORM_ref_sup4
-    ∷ form 0x1d (place wide) is.Other  -- DW_FORM_strp_sup
+    ∷ form 0x1d (place wide) is.SupTextPlace  -- DW_FORM_strp_sup
     ∷ form 0x1e Bytes16 is.Other  -- DW_FORM_data16
     ∷ form 0x1f (place wide) is.LineTextPlace  -- DW_FORM_line_strp
     ∷ form 0x20 U64 is.Other  -- DW_FORM_ref_sig8
@@ -63,7 +63,7 @@ forms wide =
     ∷ form 0x2b U24 is.AddressIndex  -- DW_FORM_addrx3
     ∷ form 0x2c U32 is.AddressIndex  -- DW_FORM_addrx4
     ∷ form 0x1f20 (place wide) is.Other  -- DW_FORM_GNU_ref_alt
-    ∷ form 0x1f21 (place wide) is.Other  -- DW_FORM_GNU_strp_alt
+    ∷ form 0x1f21 (place wide) is.SupTextPlace  -- DW_FORM_GNU_strp_alt
     ∷ []
 
 -- the row of a form, where there is one

@@ -133,6 +133,9 @@ pub enum FormClass {
     /// A place in `.debug_line_str`.
     LineTextPlace,
 
+    /// A place in the `.debug_str` of another file, which several files share (DWARF 5, 7.3.6).
+    SupTextPlace,
+
     /// A number in `.debug_str_offsets`.
     TextIndex,
 
@@ -151,7 +154,7 @@ pub enum FormClass {
     /// The form, whose value follows.
     Indirect,
 
-    /// What is passed over: a location list, what another file has, or a number of 16 bytes.
+    /// What is passed over: a location list, an entry of another file, or a number of 16 bytes.
     Other,
 }
 
@@ -194,7 +197,7 @@ macro_rules! forms {
             DW_FORM_strx: Kind::Uleb, TextIndex;
             DW_FORM_addrx: Kind::Uleb, AddressIndex;
             DW_FORM_ref_sup4: Kind::U32, Other;
-            DW_FORM_strp_sup: $place, Other;
+            DW_FORM_strp_sup: $place, SupTextPlace;
             DW_FORM_data16: Kind::Bytes16, Other;
             DW_FORM_line_strp: $place, LineTextPlace;
             DW_FORM_ref_sig8: Kind::U64, Other;
@@ -211,7 +214,7 @@ macro_rules! forms {
             DW_FORM_addrx3: Kind::U24, AddressIndex;
             DW_FORM_addrx4: Kind::U32, AddressIndex;
             DW_FORM_GNU_ref_alt: $place, Other;
-            DW_FORM_GNU_strp_alt: $place, Other;
+            DW_FORM_GNU_strp_alt: $place, SupTextPlace;
         }
     };
 }

@@ -1,7 +1,4 @@
 //! The opcodes of call frame instructions (DWARF 5, table 7.29), by the standard's names.
-ghost use Rattle.std.specs.Prelude.{◌≡◌};
-ghost use Rattle.code_table.specs.Rows.{shape_of};
-ghost use Rattle.code_table.specs.FrameOps.{frame_opcodes};
 
 use crate::code_row::CodeRow;
 use crate::kind::{Kind, Shape};
@@ -65,8 +62,8 @@ pub const DW_CFA_GNU_args_size: u64 = 0x2e;
 /// The rows of the table, made into what `$make` writes. The operand of `DW_CFA_set_loc` is a pointer,
 /// whose layout the augmentation gives: its row has none.
 macro_rules! frame_ops {
-    ($make:ident $(, $given:expr)?) => {
-        $make! { $($given)?;
+    ($make:ident) => {
+        $make! {
             DW_CFA_nop: Nothing, Nothing;
             DW_CFA_set_loc: Nothing, Nothing;
             DW_CFA_advance_loc1: U8, Nothing;
@@ -96,23 +93,14 @@ macro_rules! frame_ops {
 }
 
 macro_rules! count {
-    (; $($code:ident: $first:ident, $second:ident;)*) => {
+    ($($code:ident: $first:ident, $second:ident;)*) => {
         [$($code),*].len()
     };
 }
 
 macro_rules! rows {
-    (; $($code:ident: $first:ident, $second:ident;)*) => {
+    ($($code:ident: $first:ident, $second:ident;)*) => {
         [$(CodeRow { code: $code, shape: Shape { first: Kind::$first, second: Kind::$second } }),*]
-    };
-}
-
-macro_rules! shape_by {
-    ($given:expr; $($code:ident: $first:ident, $second:ident;)*) => {
-        match $given {
-            $($code => Some(Shape { first: Kind::$first, second: Kind::$second }),)*
-            _ => None,
-        }
     };
 }
 
@@ -122,12 +110,3 @@ const FRAME_OP_COUNT: usize = frame_ops!(count);
 pub const FRAME_OPS: Table<FRAME_OP_COUNT> = Table {
     rows: frame_ops!(rows),
 };
-
-/// The layout of a call frame instruction that the standard's table gives.
-#[inline]
-#[tactic(auto, unfolding(crate::specs::FrameOps::frame_opcodes, crate::specs::Rows::shape_of))]
-pub fn frame_shape(code: u64) -> Option<Shape>
-    ensures { result ≡ shape_of code frame_opcodes }
-{
-    frame_ops!(shape_by, code)
-}

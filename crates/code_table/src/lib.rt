@@ -7,7 +7,7 @@
 //! answers and what is left afterwards are what `specs/Layouts.antt` gives for what was left before,
 //! each refusal with the place of the number, text or run of bytes that fails, and a refused call
 //! leaves the cursor as it was. The rows of [`FRAME_OPS`] are the standard's, which
-//! `specs/FrameOps.antt` writes out (`laws` says so); [`frame_shape`] is the same table as a match.
+//! `specs/FrameOps.antt` writes out (`laws` says so).
 //! No call takes memory.
 #![tactic(auto)]
 
@@ -201,7 +201,6 @@ pub use crate::frame_ops::DW_CFA_val_expression;
 pub use crate::frame_ops::DW_CFA_val_offset;
 pub use crate::frame_ops::DW_CFA_val_offset_sf;
 pub use crate::frame_ops::FRAME_OPS;
-pub use crate::frame_ops::frame_shape;
 pub use crate::kind::Kind;
 pub use crate::kind::Operand;
 pub use crate::kind::Operands;

@@ -2,20 +2,23 @@
 //! file gives stands in the rows of the crate `worked` too.
 use crate::comparison::same;
 use crate::files::{Given, debug_file, file_by, joined};
+use crate::hello::{OTHER_ID, Parts, hello};
+use crate::large::{STEPS, framed, functions};
 use crate::pairs::{BELOW, PAIR_ROWS, WITH_ITSELF};
 use crate::rows::{
-    BY_TWO, CHECK, DUMP, FRAME, FRONT, FRONTS, MAIN, PUSHED, ROWS, Row, SHOW, STACK, STATE, TEXT,
-    TEXT_ROWS, THREE_PATHS, UNREAD, WALK, Words,
+    BY_TWO, CHECK, DUMP, FRAME, FRONT, FRONTS, FUNCTION_ROWS, INLINED, MAIN, PUSH_RBP, PUSHED,
+    ROWS, Row, SEVEN, SHOW, STACK, STATE, TEXT, TEXT_ROWS, THREE_PATHS, UNREAD, WALK, Words,
 };
 use crate::samples::{SAMPLE_ROWS, THOUSAND, TWO};
 use dumpsyms_cmd::run;
 use std::alloc::{AllocError, Global};
 use std::process::Abort;
+use std::sync::atomic::AtomicU64;
 use std::test::Fail;
 use std::thread::Threads;
 use sym_edges::{ByteRun, CallList, FileList, MemSink, MemStore, NameText, NamedFile};
-use test_rows::Holding;
-use test_rows::elf::{NULL, small_and};
+use test_rows::elf::{ID, NULL, small_and};
+use test_rows::{Holding, Recording};
 use unit_workers::{Gate, NoGate};
 
 /// How many bytes a call moves, the room of out, and the numbers of the calls of the store, of out and of err that fail.
@@ -47,7 +50,8 @@ fn named(alloc: Global, name: &str, bytes: &[u8]) -> Result<NamedFile, AllocErro
     })
 }
 
-/// A store of the file `d/a.out`, of the states `d/state` and `d/stack`, of the symbol file `d/text`, and of a debug file, also below the root `d`.
+/// A store of the file `d/a.out`, of the states `d/state` and `d/stack`, of the symbol files `d/text` and `d/seven`, of a debug file, also below
+/// the root `d`, and of the debug files of a program of this build and of another.
 fn store_of(alloc: Global, file: &[u8], edges: Edges<'_>) -> Result<MemStore, AllocError> {
     let mut files = Vec::new(alloc);
     files.push(named(alloc, "d/a.out", file)?)?;
@@ -57,6 +61,11 @@ fn store_of(alloc: Global, file: &[u8], edges: Edges<'_>) -> Result<MemStore, Al
     let debug = debug_file(alloc)?;
     files.push(named(alloc, "d/debug", &debug)?)?;
     files.push(named(alloc, BELOW, &debug)?)?;
+    files.push(named(alloc, "d/seven", SEVEN)?)?;
+    let debug = hello(alloc, ID, Parts::Debug)?;
+    files.push(named(alloc, "d/hello", &debug)?)?;
+    let debug = hello(alloc, OTHER_ID, Parts::Debug)?;
+    files.push(named(alloc, "d/other-hello", &debug)?)?;
     let fail = calls(alloc, edges.store)?;
     Ok(MemStore::new(alloc, FileList::of(files), edges.step.max(1), fail))
 }
@@ -171,6 +180,11 @@ fn elf_files_have_their_rows(rt: HostRuntime) -> Result<(), Fail> {
 }
 
 #[test]
+fn functions_have_their_rows(rt: HostRuntime) -> Result<(), Fail> {
+    expect_rows(&rt, rt.alloc(), &FUNCTION_ROWS)
+}
+
+#[test]
 fn pairs_have_their_rows(rt: HostRuntime) -> Result<(), Fail> {
     expect_rows(&rt, rt.alloc(), &PAIR_ROWS)
 }
@@ -232,13 +246,13 @@ fn each_call_that_fails_leaves_a_front(rt: HostRuntime) -> Result<(), Fail> {
     Ok(())
 }
 
-/// Each of so many calls of the store that fails in turn: the status is 3.
+/// Each of so many calls of the store that fails in turn, where a call moves at most so many bytes: the status is 3.
 fn expect_unread<R: Abort + Threads + Sync>(
     rt: &R,
     alloc: Global,
     words: &[&str],
     file: &[u8],
-    calls: usize,
+    (step, calls): (usize, usize),
 ) -> Result<(), Fail> {
     let asked = Asked {
         label: "store",
@@ -252,7 +266,7 @@ fn expect_unread<R: Abort + Threads + Sync>(
     };
     for call in 1..=calls as u64 {
         let edges = Edges {
-            step: 1,
+            step,
             store: &[call],
             ..SMOOTH
         };
@@ -261,23 +275,25 @@ fn expect_unread<R: Abort + Threads + Sync>(
     Ok(())
 }
 
-/// Words that read the file so often, and how many calls of the store another file takes. A file takes the opening, a call for each byte, and
-/// the one that finds the end.
-const READS: [(Words, Given, usize, usize); 6] = [
-    (DUMP, Given::Small, 1, 0),
-    (WITH_ITSELF, Given::Code(b"\x90"), 2, 0),
-    (CHECK, Given::Bytes(PUSHED), 1, 0),
-    (SHOW, Given::Bytes(PUSHED), 1, 0),
-    (FRAME, Given::Bytes(PUSHED), 1, STATE.len() + 2),
-    (WALK, Given::Bytes(PUSHED), 1, STACK.len() + 2),
+/// Words, how many bytes a call moves, how often the file is read, and how many calls of the store another file takes. A file takes the opening, a
+/// call for each piece, and the one that finds the end.
+const READS: [(Words, Given, usize, usize, usize); 6] = [
+    (DUMP, Given::Units(&[], PUSH_RBP), 7, 1, 0),
+    (WITH_ITSELF, Given::Code(b"\x90"), 1, 2, 0),
+    (CHECK, Given::Bytes(INLINED), 1, 1, 0),
+    (SHOW, Given::Bytes(PUSHED), 1, 1, 0),
+    (FRAME, Given::Bytes(PUSHED), 1, 1, STATE.len() + 2),
+    (WALK, Given::Bytes(PUSHED), 1, 1, STACK.len() + 2),
 ];
 
 #[test]
 fn each_call_that_fails_has_its_status(rt: HostRuntime) -> Result<(), Fail> {
-    for (words, given, times, more) in READS {
+    for (words, given, step, times, more) in READS {
         let file = file_by(rt.alloc(), given)?;
-        let calls = file.len().saturating_add(2).saturating_mul(times);
-        expect_unread(&rt, rt.alloc(), words, &file, calls.saturating_add(more))?;
+        let pieces = file.len().div_ceil(step.max(1));
+        let calls = pieces.saturating_add(2).saturating_mul(times);
+        let calls = calls.saturating_add(more);
+        expect_unread(&rt, rt.alloc(), words, &file, (step, calls))?;
     }
     Ok(())
 }
@@ -305,6 +321,36 @@ fn a_sink_without_room_has_its_status(rt: HostRuntime) -> Result<(), Fail> {
         expect(&rt, &NoGate, rt.alloc(), asked, edges, wanted)?;
     }
     Ok(())
+}
+
+#[test]
+fn large_files_are_answered(rt: HostRuntime) -> Result<(), Fail> {
+    let alloc = rt.alloc();
+    let (file, records) = framed(alloc)?;
+    let text = joined(alloc, &[FRONT, &records])?;
+    let asked = Asked {
+        label: "frames of more than 65,535 bytes",
+        words: DUMP,
+        file: &file,
+    };
+    let wanted = Wanted {
+        status: 0,
+        out: &text,
+        err: b"",
+    };
+    expect(&rt, &NoGate, alloc, asked, SMOOTH, wanted)?;
+    let file = functions(alloc)?;
+    let asked = Asked {
+        label: "more than 65,535 records",
+        words: WALK,
+        file: &file,
+    };
+    let wanted = Wanted {
+        status: 0,
+        out: STEPS,
+        err: b"",
+    };
+    expect(&rt, &NoGate, alloc, asked, SMOOTH, wanted)
 }
 
 /// Of two workers the one that draws the first unit waits until the other has reached the second.
@@ -341,5 +387,25 @@ fn two_workers_meet(rt: HostRuntime) -> Result<(), Fail> {
     let words = &["sample", "2", "--workers", "2"];
     expect_meeting(&rt, alloc, words, &file, 1, TWO)?;
     let words = &["sample", "1000", "--workers", "2"];
-    expect_meeting(&rt, alloc, words, &file, 999, THOUSAND)
+    expect_meeting(&rt, alloc, words, &file, 999, THOUSAND)?;
+    let mut reached = Vec::new(alloc);
+    for _ in 0..1000 {
+        reached.push(AtomicU64::new(0))?;
+    }
+    let gate = Recording {
+        reached: reached.as_slice(),
+    };
+    let asked = Asked {
+        label: "each unit once",
+        words: &["sample", "1000"],
+        file: &file,
+    };
+    let wanted = Wanted {
+        status: 0,
+        out: THOUSAND,
+        err: b"",
+    };
+    expect(&rt, &gate, alloc, asked, SMOOTH, wanted)?;
+    same(&rt, "each unit once", &[gate.once()], &[1000]);
+    Ok(())
 }

@@ -1,4 +1,5 @@
 //! The files of the rows.
+use crate::hello::{Parts, hello, whole};
 use std::alloc::{AllocError, Global};
 use test_rows::elf::{
     A_C, EIGHT_OR_FOUR, ENTRIES, FUNCTIONS, ID, LINES, LONG_CODE, NOPS, NULL, Section, THREE_ROWS,
@@ -28,12 +29,18 @@ pub enum Given {
     Entries(&'static [Entry]),
     /// The same in the 64-bit format.
     WideEntries(&'static [Entry]),
+    /// The same as `Entries`, with code from 1000 to 2020.
+    InLongCode(&'static [Entry]),
     /// `f` with the lines of two files, and `g` in another unit with those of the same table, if so, or of one after it.
     TwoUnits(bool),
     /// The function `f` of eight bytes at this address, and the symbol of the small file.
     Covered(u64),
     /// Code from 1000 to 1020 and frames alone.
     Stripped(&'static [u8]),
+    /// The program of a C compiler.
+    Hello,
+    /// The same without debug information and symbols.
+    HelloStripped,
 }
 
 /// Texts one after the other.
@@ -114,11 +121,18 @@ fn of_wide_entries(alloc: Global, entries: &[Entry]) -> Result<Vec<u8>, AllocErr
     with_functions(alloc, NOPS, &unit, &lines)
 }
 
-fn of_entries(alloc: Global, entries: &[Entry]) -> Result<Vec<u8>, AllocError> {
+/// A unit with these entries, in code from 1000 on.
+fn of_entries(alloc: Global, code: &[u8], entries: &[Entry]) -> Result<Vec<u8>, AllocError> {
     let bytes = bytes_of(alloc, entries)?;
     let unit = unit_of(alloc, 0, &bytes)?;
     let lines = line_table(alloc, A_C, THREE_ROWS)?;
-    with_functions(alloc, NOPS, &unit, &lines)
+    with_functions(alloc, code, &unit, &lines)
+}
+
+/// The same, with code from 1000 to 2020.
+fn in_long_code(alloc: Global, entries: &[Entry]) -> Result<Vec<u8>, AllocError> {
+    let code = Vec::from_elem(alloc, 0x90u8, 0x1020)?;
+    of_entries(alloc, code.as_slice(), entries)
 }
 
 /// The units and the line tables of `f` and `g`.
@@ -185,10 +199,13 @@ pub fn file_by(alloc: Global, given: Given) -> Result<Vec<u8>, AllocError> {
         Given::Code(bytes) => of_code(alloc, bytes),
         Given::Units(units, frames) => of_units(alloc, &joined(alloc, units)?, frames),
         Given::Symbols => two_at_one_address(alloc),
-        Given::Entries(entries) => of_entries(alloc, entries),
+        Given::Entries(entries) => of_entries(alloc, NOPS, entries),
+        Given::InLongCode(entries) => in_long_code(alloc, entries),
         Given::WideEntries(entries) => of_wide_entries(alloc, entries),
         Given::TwoUnits(is_one_table) => of_two_units(alloc, is_one_table),
         Given::Covered(first) => with_symbols(alloc, first),
         Given::Stripped(frames) => stripped(alloc, frames),
+        Given::Hello => whole(alloc),
+        Given::HelloStripped => hello(alloc, ID, Parts::Stripped),
     }
 }

@@ -1,5 +1,6 @@
 //! The rows of `dump` with a separate debug file.
 use crate::files::Given;
+use crate::hello::HELLO;
 use crate::rows::{FRONT, MAIN, PUSH_RBP, PUSH_RBP_LINES, Row, THREE_PATHS, UNREAD, USAGE, Words};
 
 /// The debug file below the root `d`.
@@ -12,7 +13,7 @@ pub const WITH_ITSELF: Words = &["dump", "d/a.out", "--debug", "d/a.out"];
 const WITH_ROOT: Words = &["dump", "d/a.out", "--debug-root", "d"];
 
 /// Functions and lines of the debug file, and frames of the stripped file.
-pub const PAIR_ROWS: [Row; 6] = [
+pub const PAIR_ROWS: [Row; 8] = [
     (
         "a debug file",
         &[WITH_DEBUG, WITH_ROOT],
@@ -55,6 +56,22 @@ pub const PAIR_ROWS: [Row; 6] = [
         1,
         &[],
         &[b"refused pair no-build-id\n"],
+    ),
+    (
+        "a program and its debug file",
+        &[&["dump", "d/a.out", "--debug", "d/hello"]],
+        Given::HelloStripped,
+        0,
+        &[FRONT, HELLO],
+        &[],
+    ),
+    (
+        "the debug file of another build",
+        &[&["dump", "d/a.out", "--debug", "d/other-hello"]],
+        Given::HelloStripped,
+        1,
+        &[],
+        &[b"refused pair build-id\n"],
     ),
     (
         "other words",

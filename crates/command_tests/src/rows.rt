@@ -1,5 +1,6 @@
 //! The rows of the commands.
-use crate::files::Given;
+use crate::files::{Entry, Given};
+use crate::hello::HELLO;
 use test_rows::elf::{CUT_UNIT, UNIT, VERSION_3};
 
 pub const FRONT: &[u8] = b"MODULE Linux x86_64 030201000504070608090A0B0C0D0E0F0 a.out\n\
@@ -65,7 +66,20 @@ const APART: &[u8] = b"MODULE Linux x86_64 0 a\nFUNC 1000 10 0 f\nFUNC 1010 10 0
 const MEETS: &[u8] = b"C5 record 3\n";
 
 /// A function with a copy that is inlined in it.
-const INLINED: &[u8] = b"MODULE Linux x86_64 0 a\nFILE 0 /s/a.c\nINLINE_ORIGIN 0 g\n\
+pub const INLINED: &[u8] = b"MODULE Linux x86_64 0 a\nFILE 0 /s/a.c\nINLINE_ORIGIN 0 g\n\
+    FUNC 1000 20 0 _Z1fv\nINLINE 0 4 0 0 1004 8\n1000 4 3 0\n1004 8 9 0\n100c 14 4 0\n";
+
+/// The same with another number for its file, as the symbol file `d/seven`.
+pub const SEVEN: &[u8] = b"MODULE Linux x86_64 0 a\nFILE 7 /s/a.c\nINLINE_ORIGIN 0 g\n\
+    FUNC 1000 20 0 _Z1fv\nINLINE 0 4 7 0 1004 8\n1000 4 3 7\n1004 8 9 7\n100c 14 4 7\n";
+
+/// Its entries, and the records that they have.
+const COPY: &[Entry] = &[
+    (4, b"_Z1fv\0", 0x1000, 0x20, b""),
+    (3, b"g\0", 0x1004, 8, b"\x01\x04\0"),
+];
+
+const COPY_RECORDS: &[u8] = b"FILE 0 /s/a.c\nINLINE_ORIGIN 0 g\n\
     FUNC 1000 20 0 _Z1fv\nINLINE 0 4 0 0 1004 8\n1000 4 3 0\n1004 8 9 0\n100c 14 4 0\n";
 
 /// Rust's legacy names of a function and of a symbol, and how they are shown.
@@ -142,11 +156,11 @@ pub const PUSH_RBP_LINES: &[u8] = b"STACK CFI INIT 1000 20 .cfa: $rsp 8 + .ra: .
     STACK CFI 1004 .cfa: $rbp 16 +\n\
     STACK CFI 100e .cfa: $rsp 8 +\n";
 
-/// The same, where the entry has a `restore_state` without a row that is remembered.
-pub const BAD_RBP: &[u8] = &[
+/// The same CIE, and an entry of the same range with a `restore_state` alone, of which no row is remembered.
+pub const RESTORING: &[u8] = &[
     0x14, 0, 0, 0, 0, 0, 0, 0, 0x01, 0x7a, 0x52, 0, 0x01, 0x78, 0x10, 0x01, 0x1b, 0x0c, 0x07, 0x08,
-    0x90, 0x01, 0, 0, 0x1c, 0, 0, 0, 0x1c, 0, 0, 0, 0xe0, 0xef, 0xff, 0xff, 0x20, 0, 0, 0, 0, 0x41,
-    0x0b, 0x10, 0x86, 0x02, 0x43, 0x0d, 0x06, 0x4a, 0x0c, 0x07, 0x08, 0, 0, 0, 0, 0, 0, 0,
+    0x90, 0x01, 0, 0, 0x0e, 0, 0, 0, 0x1c, 0, 0, 0, 0xe0, 0xef, 0xff, 0xff, 0x20, 0, 0, 0, 0, 0x0b,
+    0, 0, 0, 0,
 ];
 
 /// A command's row: its name, its words in several forms, the file `d/a.out`, and the status and both texts that are wanted.
@@ -315,7 +329,7 @@ pub const TEXT_ROWS: [Row; 17] = [
 ];
 
 /// Words, and ELF files.
-pub const ROWS: [Row; 38] = [
+pub const ROWS: [Row; 23] = [
     ("usage", NO_ROWS, Given::Small, 2, &[], &[USAGE]),
     (
         "another file",
@@ -333,7 +347,23 @@ pub const ROWS: [Row; 38] = [
         &[b"yes\n"],
         &[],
     ),
+    (
+        "a judgement by another number",
+        &[&["judge", "d/a.out", "d/seven"]],
+        Given::Entries(COPY),
+        0,
+        &[b"yes\n"],
+        &[],
+    ),
     ("main", DUMPS, Given::Small, 0, &[FRONT, MAIN], &[]),
+    (
+        "a program of a compiler",
+        DUMPS,
+        Given::Hello,
+        0,
+        &[FRONT, HELLO],
+        &[],
+    ),
     (
         "b and a",
         DUMPS,
@@ -361,7 +391,7 @@ pub const ROWS: [Row; 38] = [
     (
         "left out",
         DUMPS,
-        Given::Units(&[], BAD_RBP),
+        Given::Units(&[], RESTORING),
         0,
         &[FRONT],
         &[OMITTED],
@@ -451,11 +481,15 @@ pub const ROWS: [Row; 38] = [
     (
         "both left out",
         DUMPS,
-        Given::Units(&[VERSION_3], BAD_RBP),
+        Given::Units(&[VERSION_3], RESTORING),
         0,
         &[FRONT],
         &[SKIPPED, OMITTED],
     ),
+];
+
+/// The rows of ELF files with functions and lines.
+pub const FUNCTION_ROWS: [Row; 20] = [
     (
         "one",
         DUMPS,
@@ -481,6 +515,17 @@ pub const ROWS: [Row; 38] = [
             A,
             b"FUNC m 1000 10 0 a\n1000 4 3 0\n1004 8 9 0\n100c 4 4 0\n",
         ],
+        &[],
+    ),
+    (
+        "of one range without lines",
+        DUMPS,
+        Given::InLongCode(&[
+            (2, b"a\0", 0x2000, 0x10, b""),
+            (2, b"b\0", 0x2000, 0x10, b""),
+        ]),
+        0,
+        &[FRONT, b"FUNC m 2000 10 0 a\n"],
         &[],
     ),
     (
@@ -570,30 +615,50 @@ pub const ROWS: [Row; 38] = [
     (
         "a copy",
         DUMPS,
-        Given::Entries(&[
-            (4, b"f\0", 0x1000, 0x20, b""),
-            (3, b"g\0", 0x1004, 8, b"\x01\x04\0"),
-        ]),
+        Given::Entries(COPY),
         0,
-        &[
-            FRONT,
-            A,
-            b"INLINE_ORIGIN 0 g\nFUNC 1000 20 0 f\nINLINE 0 4 0 0 1004 8\n1000 4 3 0\n1004 8 9 0\n100c 14 4 0\n",
-        ],
+        &[FRONT, COPY_RECORDS],
         &[],
     ),
     (
         "a copy, in the 64-bit format",
         DUMPS,
-        Given::WideEntries(&[
+        Given::WideEntries(COPY),
+        0,
+        &[FRONT, COPY_RECORDS],
+        &[],
+    ),
+    (
+        "a copy that does not say where it is called",
+        DUMPS,
+        Given::Entries(&[
             (4, b"f\0", 0x1000, 0x20, b""),
-            (3, b"g\0", 0x1004, 8, b"\x01\x04\0"),
+            (7, b"g\0", 0x1004, 8, b"\0"),
         ]),
         0,
         &[
             FRONT,
             A,
-            b"INLINE_ORIGIN 0 g\nFUNC 1000 20 0 f\nINLINE 0 4 0 0 1004 8\n1000 4 3 0\n1004 8 9 0\n100c 14 4 0\n",
+            b"FILE 1 <name omitted>\nINLINE_ORIGIN 0 g\nFUNC 1000 20 0 f\nINLINE 0 0 1 0 1004 8\n1000 4 3 0\n1004 8 9 0\n100c 14 4 0\n",
+        ],
+        &[],
+    ),
+    (
+        "copies that overlap",
+        DUMPS,
+        Given::InLongCode(&[
+            (4, b"f\0", 0x1000, 0x40, b""),
+            (6, b"a\0", 0x1000, 0x10, b"\x01\x04"),
+            (3, b"c\0", 0x1004, 0x1c, b"\x01\x05\0"),
+            (3, b"b\0", 0x1008, 0x10, b"\x01\x06\0"),
+        ]),
+        0,
+        &[
+            FRONT,
+            A,
+            b"INLINE_ORIGIN 0 a\nINLINE_ORIGIN 1 b\nINLINE_ORIGIN 2 c\nFUNC 1000 40 0 f\n\
+            INLINE 0 4 0 0 1000 10\nINLINE 0 6 0 1 1010 8\nINLINE 1 5 0 2 1004 c\n\
+            1000 4 3 0\n1004 8 9 0\n100c 14 4 0\n",
         ],
         &[],
     ),
@@ -683,7 +748,7 @@ pub type Front = (
     &'static [&'static [u8]],
 );
 
-pub const FRONTS: [Front; 8] = [
+pub const FRONTS: [Front; 9] = [
     (
         &[],
         "findings",
@@ -696,9 +761,18 @@ pub const FRONTS: [Front; 8] = [
     (&[], "main", DUMP, Given::Small, 0, &[FRONT, MAIN], &[]),
     (
         &[],
+        "push rbp",
+        DUMP,
+        Given::Units(&[], PUSH_RBP),
+        0,
+        &[FRONT, PUSH_RBP_LINES],
+        &[],
+    ),
+    (
+        &[],
         "left out",
         DUMP,
-        Given::Units(&[], BAD_RBP),
+        Given::Units(&[], RESTORING),
         0,
         &[FRONT],
         &[OMITTED],

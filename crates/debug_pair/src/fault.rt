@@ -1,3 +1,5 @@
+//! Why two files are no pair, or a build id leads to no path.
+
 /// Why two files are not a binary and its debug file.
 #[derive(Clone, Copy, Debug, PartialEq, Eq)]
 pub enum PairFault {

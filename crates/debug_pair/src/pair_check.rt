@@ -1,3 +1,4 @@
+//! A binary and its debug file as one image.
 ghost use Rattle.std.specs.Prelude.{◌≡◌, Some, None, Ok, Err};
 ghost use Rattle.std.specs.Option.{option_copied};
 ghost use Rattle.sym_edges.specs.Outside.{MatchStop};

@@ -12,3 +12,5 @@ pub mod KeptLemmas
 pub mod PathLemmas
 pub mod OwnerLemmas
 mod SaidLemmas
+mod SaidNameLemmas
+pub mod SameLemmas

@@ -16,7 +16,8 @@ use Rattle.line_program.specs.LineMaps.{LineMap}
 use Rattle.line_program.specs.LineTables.{unit_lines, Says as SaysTable}
 use Rattle.debug_read.specs.Each.{Says}
 use Rattle.debug_read.specs.UnitSays.{lines_by, root_lines}
-use Rattle.debug_read.specs.UnitsRead.{no_lines, KeepsLines, has_function}
+use Rattle.debug_read.specs.UnitsRead.{KeepsLines, has_function}
+use Rattle.line_program.specs.LineMaps.{no_lines}
 
 kept_by : (spans : List Range) (asked : Bool) (read : Result Lines (Located DwarfKind)) (table : LineMap) → SaysTable (encloses spans) read table → Says (KeepsLines spans asked) (read >>= λ lines. Ok (Some lines)) (if asked then table else no_lines)
 kept_by spans true (Ok lines) table says = says

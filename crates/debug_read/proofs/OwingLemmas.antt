@@ -33,7 +33,8 @@ use Rattle.debug_read.specs.declared.named_tables.TableRead.{TableRead}
 use Rattle.debug_read.specs.declared.named_tables.TableRead.TheVariants.{Whole}
 use Rattle.debug_read.specs.Each.{Match, Says}
 use Rattle.debug_read.specs.UnitSays.{lines_by, root_lines}
-use Rattle.debug_read.specs.UnitsRead.{no_lines, KeepsLines}
+use Rattle.debug_read.specs.UnitsRead.{KeepsLines}
+use Rattle.line_program.specs.LineMaps.{no_lines}
 use Rattle.debug_read.specs.internal.Jobs.{IsFound}
 use Rattle.debug_read.specs.internal.Owing.{IsOk, IsSound, OutcomeBy, IsOutcome, TableBy, table_named, TableIs, TableSays, LinesAre, IsOwing, Settles}
 use Rattle.debug_read.proofs.LineLemmas.{table_whole, table_refused}

@@ -16,13 +16,14 @@ use Rattle.die_names.specs.declared.unit_read.UnitRead.{UnitRead}
 use Rattle.die_names.specs.Owners.{Covering, unit_covering, covering_from, owner, inside_of, chain_from, chain_by, chain_under, entry_chain, chain, line_in, line_under, line}
 use Rattle.debug_read.specs.Each.{Match}
 use Rattle.debug_read.specs.UnitSays.{UnitSays}
-use Rattle.debug_read.specs.UnitsRead.{IsSet, IsUnitRead, KeepsLines, has_function, no_lines}
+use Rattle.debug_read.specs.UnitsRead.{IsSet, IsUnitRead, KeepsLines, has_function}
+use Rattle.line_program.specs.LineMaps.{no_lines}
 use Rattle.debug_read.specs.SaidOwners.{SaidEntry, numbered_entries, said_entries, is_at, said_owner, said_inside, said_by, said_under, said_chain, said_line_in, said_line_under, said_line, said_place, kept_place}
 
 -- an entry that was said and one that is kept, at an address
-record IsAlike (code : List Range) (a : ℕ) (e : SaidEntry) (c : Covering) : Type 0 where
-  place : said_place e ≡ kept_place c
-  held : holds_any c.spans a ≡ in_pairs code e.pairs a
+pub record IsAlike (code : List Range) (a : ℕ) (e : SaidEntry) (c : Covering) : Type 0 where
+  pub place : said_place e ≡ kept_place c
+  pub held : holds_any c.spans a ≡ in_pairs code e.pairs a
 
 match_append : {A B : Type 0} (R : A → B → Type 0) (xs us : List A) (ys vs : List B) → Match R xs ys → Match R us vs → Match R (xs ++ us) (ys ++ vs)
 match_append R [] us [] vs first later = later
@@ -52,7 +53,7 @@ all_alike code a unit (said ∷ says) (part ∷ units) are =
     (read_alike code a unit said part are.0) (all_alike code a (unit + 1) says units are.1)
 
 -- the owner
-abbrev said_owns : List Range → ℕ → SaidEntry → Bool
+abbrev pub said_owns : List Range → ℕ → SaidEntry → Bool
 said_owns code a e = is_function e.die && is_at code a e
 
 abbrev owns : ℕ → Covering → Bool
@@ -68,7 +69,7 @@ owns_alike code a e c is =
     cc
 
 -- what a search finds in both lists: entries that are alike, or none
-abbrev BothAlike : List Range → ℕ → Option SaidEntry → Option Covering → Type 0
+abbrev pub BothAlike : List Range → ℕ → Option SaidEntry → Option Covering → Type 0
 BothAlike code a None None = Prim.Unit {0}
 BothAlike code a (Some e) (Some c) = IsAlike code a e c
 BothAlike code a _ _ = ⊥
@@ -85,7 +86,7 @@ find_alike code a (e ∷ es) (c ∷ cs) are = go (said_owns code a e) (owns a c)
     go true false same later = absurd (cc)
     go false true same later = absurd (cc)
 
-owners_alike : (code : List Range) (says : List UnitSays) (units : List UnitRead) (a : ℕ) → Match (IsUnitRead code) says units → BothAlike code a (said_owner code says a) (owner units a)
+pub owners_alike : (code : List Range) (says : List UnitSays) (units : List UnitRead) (a : ℕ) → Match (IsUnitRead code) says units → BothAlike code a (said_owner code says a) (owner units a)
 unfolding said_owner owner
 owners_alike code says units a are = find_alike code a (said_entries 0 says) (covering_from 0 units) (all_alike code a 0 says units are)
 
@@ -99,12 +100,12 @@ pub owners_same : (code : List Range) (says : List UnitSays) (units : List UnitR
 owners_same code says units a are = same_place code a (said_owner code says a) (owner units a) (owners_alike code says units a are)
 
 -- the unit of a number
-abbrev BothRead : List Range → Option UnitSays → Option UnitRead → Type 0
+abbrev pub BothRead : List Range → Option UnitSays → Option UnitRead → Type 0
 BothRead code None None = Prim.Unit {0}
 BothRead code (Some says) (Some part) = IsUnitRead code says part
 BothRead code _ _ = ⊥
 
-both_read : (code : List Range) (says : List UnitSays) (units : List UnitRead) (n : ℕ) → Match (IsUnitRead code) says units → BothRead code (slice_get says n) (slice_get units n)
+pub both_read : (code : List Range) (says : List UnitSays) (units : List UnitRead) (n : ℕ) → Match (IsUnitRead code) says units → BothRead code (slice_get says n) (slice_get units n)
 both_read code [] [] n are = tt
 both_read code [] (part ∷ units) n are = absurd are
 both_read code (said ∷ says) [] n are = absurd are
@@ -150,7 +151,7 @@ by_alike code unit entry a (Some said) (Some part) are =
     subst (λ (t : EntryTable). map said_place (said_by code unit entry a (Some said)) ≡ map kept_place (chain_from t.dies a entry (unit_covering unit 0 part.die.dies part.spans))) (sym are.die)
     (chain_alike code said.table.dies a entry (numbered_entries unit 0 said.table.dies said.pairs) (unit_covering unit 0 part.die.dies part.spans) (read_alike code a unit said part are))
 
-under_alike : (code : List Range) (says : List UnitSays) (units : List UnitRead) (a : ℕ) (e : Option SaidEntry) (c : Option Covering) → Match (IsUnitRead code) says units → BothAlike code a e c → map said_place (said_under code says a e) ≡ map kept_place (chain_under units a c)
+pub under_alike : (code : List Range) (says : List UnitSays) (units : List UnitRead) (a : ℕ) (e : Option SaidEntry) (c : Option Covering) → Match (IsUnitRead code) says units → BothAlike code a e c → map said_place (said_under code says a e) ≡ map kept_place (chain_under units a c)
 unfolding entry_chain
 under_alike code says units a None None are is = refl
 under_alike code says units a None (Some c) are is = absurd is
@@ -182,10 +183,10 @@ function_there code a unit entry (die ∷ dies) (own ∷ pairs) e is = go (is_fu
     go true its false found later = ((later found).0, refl)
     go false its h found later = later found
 
-abbrev HasFunction : List UnitSays → ℕ → Type 0
+abbrev pub HasFunction : List UnitSays → ℕ → Type 0
 HasFunction says n = (said : UnitSays) → slice_get says n ≡ Some said → has_function said.table.dies ≡ true
 
-owner_function : (code : List Range) (a unit : ℕ) (says : List UnitSays) (e : SaidEntry) → find (said_owns code a) (said_entries unit says) ≡ Some e → (k : ℕ) → (unit ≤ e.unit) × (e.unit ≡ unit + k → HasFunction says k)
+pub owner_function : (code : List Range) (a unit : ℕ) (says : List UnitSays) (e : SaidEntry) → find (said_owns code a) (said_entries unit says) ≡ Some e → (k : ℕ) → (unit ≤ e.unit) × (e.unit ≡ unit + k → HasFunction says k)
 unfolding has_function
 owner_function code a unit [] e is k = absurd (cc)
 owner_function code a unit (said ∷ says) e is k =

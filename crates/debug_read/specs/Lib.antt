@@ -3,5 +3,7 @@ pub mod ImageSections
 pub mod UnitSays
 pub mod UnitsRead
 pub mod SaidOwners
+pub mod SaidNames
+pub mod SameUnits
 pub mod DebugSays
 pub mod internal

@@ -1,14 +1,16 @@
 -- What is kept of a unit.
-use Rattle.std.specs.Prelude.{◌≡◌, ℕ, Bool, true, false, List, [], Option, None, Some}
+use Rattle.std.specs.Prelude.{◌≡◌, ℕ, Bool, true, false, List, [], Option, None, Some, Result, Ok, Err}
 use Rattle.std.specs.List.{list_any}
 use Rattle.sym_edges.specs.Addresses.{Range}
+use Rattle.sym_edges.specs.declared.located.Located.{Located}
+use Rattle.abbrev_units.specs.declared.fault.DwarfKind.{DwarfKind}
 use Rattle.range_set.specs.Canonical.{IsCanonical}
 use Rattle.range_set.specs.Enclosing.{encloses}
 use Rattle.range_set.specs.Members.{holds_any}
 use Rattle.die_walk.specs.EntryTable.{DieFields}
 use Rattle.range_lists.specs.EntryRanges.{in_pairs}
 use Rattle.line_program.specs.LineAt.{Lines}
-use Rattle.line_program.specs.LineMaps.{LineMap, SaysLines}
+use Rattle.line_program.specs.LineMaps.{LineMap, no_lines, SaysLines}
 use Rattle.die_names.specs.declared.unit_read.UnitRead.{UnitRead}
 use Rattle.die_walk.specs.EntryKinds.{is_function}
 use Rattle.debug_read.specs.Each.{Match}
@@ -23,10 +25,6 @@ pub record IsSet (code pairs set : List Range) : Type 0 where
 unfoldable pub has_function : List DieFields → Bool
 has_function dies = list_any is_function dies
 
--- no line and no file
-abbrev pub no_lines : LineMap
-no_lines = record { lines = record { stops = []; values = [] }; paths = []; first = 0; files = [] }
-
 -- a unit's line table is kept where the unit has a function, since lines are asked of an owner's unit alone
 abbrev pub KeepsLines : List Range → Bool → Option Lines → LineMap → Type 0
 KeepsLines code true (Some lines) kept = SaysLines (encloses code) lines kept
@@ -38,3 +36,9 @@ pub record IsUnitRead (code : List Range) (says : UnitSays) (part : UnitRead) : 
   pub die : part.die ≡ says.table
   pub spans : Match (IsSet code) says.pairs part.spans
   pub lines : KeepsLines code (has_function says.table.dies) says.lines part.lines
+
+-- what the reading of a unit may answer: what is kept of what the unit says, or its first fault
+abbrev pub IsUnitAnswer : List Range → Result UnitSays (Located DwarfKind) → Result UnitRead (Located DwarfKind) → Type 0
+IsUnitAnswer code (Ok says) (Ok part) = IsUnitRead code says part
+IsUnitAnswer code (Err fault) (Err answered) = answered ≡ fault
+IsUnitAnswer code _ _ = ⊥

@@ -2,6 +2,7 @@ mod FindLemmas
 mod AmongLemmas
 mod FollowLemmas
 mod NameLemmas
+pub mod AloneLemmas
 mod JoinLemmas
 mod CutLemmas
 mod SetLemmas

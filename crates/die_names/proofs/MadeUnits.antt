@@ -17,6 +17,7 @@ bare_entry tag = record {
   origin = None;
   spec = None;
   name = None;
+  name_elsewhere = false;
   linkage = None;
   call_file = None;
   call_line = 0;

@@ -10,7 +10,7 @@ use Rattle.die_names.specs.declared.name_source.NameRef.{NameRef}
 use Rattle.die_names.specs.declared.unit_read.UnitRead.{UnitRead}
 use Rattle.die_names.specs.UnitEntries.{Placed, entry_in, entry_of}
 use Rattle.die_walk.specs.EntryKinds.{is_scope}
-use Rattle.die_names.specs.Names.{around, scope_front, front_at, fronts, front_in, front_of, dies_of}
+use Rattle.die_names.specs.Names.{around, scope_name, scope_front, front_at, fronts, front_in, front_of, dies_of}
 use Rattle.die_names.specs.NameRefs.{bytes_by, name_bytes, unless_front, slice_by, name_slice}
 use Rattle.die_walk.specs.Scopes.{scope_around, scope_of}
 use Rattle.die_names.specs.internal.Gathering.{is_scope_at, scopes_of}
@@ -32,7 +32,7 @@ full_append (x ∷ xs) (y ∷ ys) = refl
 
 front_full_by : (die : DieFields) (scope : Bool) → is_scope die ≡ scope → is_full (scope_front die) ≡ scope
 unfolding scope_front
-front_full_by die true is = ap is_full (cond-true _ _ _ is) ∙ full_append (unwrap_or die.name (codes "(anonymous)")) (codes "::")
+front_full_by die true is = ap is_full (cond-true _ _ _ is) ∙ full_append (scope_name die) (codes "::")
 front_full_by die false is = ap is_full (cond-false _ _ _ is)
 
 at_full : (die : Option DieFields) → is_full (option_map_or scope_front die []) ≡ option_map_or is_scope die false

@@ -1,5 +1,5 @@
 -- Worked rows: the names of entries.
-use Rattle.std.proofs.Common.{◌≡◌, ℕ, List, [], ◌∷◌, map, Option, Some, None, codes, suc, zero, ◌+◌, refl}
+use Rattle.std.proofs.Common.{◌≡◌, ℕ, List, [], ◌∷◌, map, Option, Some, None, codes, suc, zero, ◌+◌, true, refl}
 use Rattle.die_walk.specs.EntryTable.{DieFields}
 use Rattle.die_names.specs.declared.unit_read.UnitRead.{UnitRead}
 use Rattle.die_names.specs.Names.{entry_name}
@@ -54,6 +54,19 @@ of_seventeen_links : entry_name (unit (root 11 ∷ links 100 17) ∷ []) 0 1 ≡
 unfolding die_names_computes links root unit die
 of_seventeen_links = refl
 
+-- the same chain by specifications
+unfoldable specified : ℕ → ℕ → List DieFields
+specified at zero = die at 0x2e (Some 0) None None (Some (codes "last")) None ∷ []
+specified at (suc more) = die at 0x2e (Some 0) None (Some (at + 1)) None None ∷ specified (at + 1) more
+
+of_sixteen_specifications : entry_name (unit (root 11 ∷ specified 100 16) ∷ []) 0 1 ≡ codes "last"
+unfolding die_names_computes specified root unit die
+of_sixteen_specifications = refl
+
+of_seventeen_specifications : entry_name (unit (root 11 ∷ specified 100 17) ∷ []) 0 1 ≡ codes "<name omitted>"
+unfolding die_names_computes specified root unit die
+of_seventeen_specifications = refl
+
 -- entries that lead into another unit, to no entry, one byte beside one
 unfoldable leading : ℕ → List UnitRead
 leading place = unit (root 11 ∷ die 20 0x2e (Some 0) (Some place) None None None ∷ []) ∷ unit (root 111 ∷ die 120 0x39 (Some 0) None None (Some (codes "m")) None ∷ die 130 0x2e (Some 1) None None (Some (codes "g")) None ∷ []) ∷ []
@@ -101,6 +114,25 @@ scoped name tag = unit (root 11 ∷ die 20 0x02 (Some 0) None None (Some (codes 
 unnamed_scope : entry_name (scoped None 0x17) 0 3 ≡ codes "C::(anonymous)::f"
 unfolding die_names_computes scoped root unit die
 unnamed_scope = refl
+
+-- a scope whose name stands in the supplementary file
+unfoldable elsewhere : ℕ → List UnitRead
+elsewhere tag = unit (root 11 ∷ record (die 20 tag (Some 0) None None None None) { name_elsewhere = true } ∷ die 30 0x2e (Some 1) None None (Some (codes "f")) None ∷ []) ∷ []
+
+outermost_elsewhere : entry_name (elsewhere 0x39) 0 2 ≡ codes "<name omitted>::f"
+unfolding die_names_computes elsewhere root unit die
+outermost_elsewhere = refl
+
+unfoldable scoped_elsewhere : ℕ → List UnitRead
+scoped_elsewhere tag = unit (root 11 ∷ die 20 0x02 (Some 0) None None (Some (codes "C")) None ∷ record (die 30 tag (Some 1) None None None None) { name_elsewhere = true } ∷ die 40 0x2e (Some 2) None None (Some (codes "f")) None ∷ []) ∷ []
+
+scope_elsewhere : entry_name (scoped_elsewhere 0x39) 0 3 ≡ codes "C::<name omitted>::f"
+unfolding die_names_computes scoped_elsewhere root unit die
+scope_elsewhere = refl
+
+a_function_elsewhere : entry_name (scoped_elsewhere 0x2e) 0 2 ≡ codes "<name omitted>"
+unfolding die_names_computes scoped_elsewhere root unit die
+a_function_elsewhere = refl
 
 empty_scope : entry_name (scoped (Some []) 0x39) 0 3 ≡ codes "C::::f"
 unfolding die_names_computes scoped root unit die

@@ -4,4 +4,6 @@ pub mod Names
 pub mod NameRefs
 pub mod Owners
 pub mod CleanPaths
+pub mod CallPaths
+pub mod EntriesAlone
 pub mod internal

@@ -30,9 +30,13 @@ around dies (suc number) parent =
     then option_map_or (λ die. number ∷ around dies number die.parent) (slice_get dies number) []
     else around dies number parent
 
+-- the name of a scope: one that stands in the supplementary file is not known, and one that is not given is none
+abbrev pub scope_name : DieFields → List ℕ
+scope_name die = unwrap_or die.name (if die.name_elsewhere then codes "<name omitted>" else codes "(anonymous)")
+
 -- what a scope puts in front of a name
 unfoldable pub scope_front : DieFields → List ℕ
-scope_front die = if is_scope die then unwrap_or die.name (codes "(anonymous)") ++ codes "::" else []
+scope_front die = if is_scope die then scope_name die ++ codes "::" else []
 
 abbrev pub front_at : List DieFields → ℕ → List ℕ
 front_at dies number = option_map_or scope_front (slice_get dies number) []

@@ -75,32 +75,6 @@ fn find_among(units: &[UnitRead<'_>], place: u64) -> Option<Standing>
     }
 }
 
-/// The entry that begins at a place, where it is in the unit of a number.
-fn find_near(units: &[UnitRead<'_>], near: usize, place: u64) -> Option<Standing>
-    requires { RisesFrom 0 (places units.now) }
-    ensures found { IfSome result (λ s. (first : ℕ) → found_from first units.now (Some s) ≡ find (is_at place) (entries_from first units.now)) }
-    ensures inside { IfSome result (λ s. IsInside units.now s) }
-{
-    if near >= units.len() {
-        return None;
-    }
-    let (left, right) = units.split_at(near);
-    let Some((part, rest)) = right.split_first() else {
-        return None;
-    };
-    let dies = part.die.dies();
-    let Some(die) = dies.get(0) else {
-        return None;
-    };
-    if u64::from(die.at()) > place {
-        return None;
-    }
-    match find_in_unit(dies, place) {
-        Some(entry) => Some(Standing { unit: near, entry }),
-        None => None,
-    }
-}
-
 /// A number of an entry of a unit, where the entry begins at a place.
 #[tactic(auto, using(crate::proofs::FindLemmas::guess_here, crate::proofs::FindLemmas::die_inside))]
 fn guess_in_unit(dies: &DieList<'_>, guess: usize, place: u64) -> Option<usize>
@@ -117,13 +91,29 @@ fn guess_in_unit(dies: &DieList<'_>, guess: usize, place: u64) -> Option<usize>
     Some(guess)
 }
 
-/// The entry that begins at a place, where it is this one.
-fn find_guessed(units: &[UnitRead<'_>], guess: EntryRef, place: u64) -> Option<Standing>
+/// The number of the entry of a unit that begins at a place; where one is guessed, only if it is that one.
+fn look_in_unit(dies: &DieList<'_>, guess: Option<usize>, place: u64) -> Option<usize>
+    requires { RisesFrom 0 (map (λ (d : DieFields). d.at) dies.now) }
+    ensures found { IfSome result (λ entry. (unit : ℕ) → found_in unit dies.now (Some entry) ≡ find (is_at place) (unit_entries unit 0 dies.now)) }
+    ensures inside { IfSome result (λ entry. entry < length dies.now) }
+{
+    match guess {
+        Some(guess) => guess_in_unit(dies, guess, place),
+        None => find_in_unit(dies, place),
+    }
+}
+
+/// The entry that begins at a place, where it is in the unit of a number, and, where a number of an entry is guessed, is that one.
+fn find_near(
+    units: &[UnitRead<'_>],
+    near: usize,
+    guess: Option<usize>,
+    place: u64,
+) -> Option<Standing>
     requires { RisesFrom 0 (places units.now) }
     ensures found { IfSome result (λ s. (first : ℕ) → found_from first units.now (Some s) ≡ find (is_at place) (entries_from first units.now)) }
     ensures inside { IfSome result (λ s. IsInside units.now s) }
 {
-    let near = guess.unit as usize;
     if near >= units.len() {
         return None;
     }
@@ -138,7 +128,7 @@ fn find_guessed(units: &[UnitRead<'_>], guess: EntryRef, place: u64) -> Option<S
     if u64::from(die.at()) > place {
         return None;
     }
-    match guess_in_unit(dies, guess.entry as usize, place) {
+    match look_in_unit(dies, guess, place) {
         Some(entry) => Some(Standing { unit: near, entry }),
         None => None,
     }
@@ -150,7 +140,7 @@ fn find_from(units: &[UnitRead<'_>], near: usize, place: u64) -> Option<Standing
     ensures found { (first : ℕ) → found_from first units.now result ≡ find (is_at place) (entries_from first units.now) }
     ensures inside { IfSome result (λ s. IsInside units.now s) }
 {
-    match find_near(units, near, place) {
+    match find_near(units, near, None, place) {
         Some(standing) => Some(standing),
         None => find_among(units, place),
     }
@@ -170,7 +160,12 @@ fn find_from_guess(
     let Some(guess) = guess else {
         return find_from(units, near, place);
     };
-    match find_guessed(units, guess, place) {
+    match find_near(
+        units,
+        guess.unit as usize,
+        Some(guess.entry as usize),
+        place,
+    ) {
         Some(standing) => Some(standing),
         None => find_from(units, near, place),
     }

@@ -4,14 +4,14 @@ ghost use Rattle.std.specs.Option.{option_copied};
 ghost use Rattle.clean_names.specs.Cleaning.{cleaned};
 ghost use Rattle.die_walk.specs.EntryTable.{DieFields};
 ghost use Rattle.std.specs.List.{slice_get};
-ghost use Rattle.die_names.specs.Names.{scope_front, fronts};
+ghost use Rattle.die_names.specs.Names.{scope_name, scope_front, fronts};
 ghost use Rattle.die_names.specs.NameRefs.{name_bytes, name_slice};
 ghost use Rattle.die_names.specs.internal.Gathering.{scopes_of};
 
 use crate::kept::{EntryNameText, whole_name};
 use crate::name_source::{How, NameRef};
 use crate::unit_read::Units;
-use clean_names::clean;
+use clean_names::{NAME_LIMIT, clean, name_omitted};
 use die_walk::{Die, DieList};
 use std::alloc::Global;
 use sym_edges::{ByteRun, OutOfMemory};
@@ -23,6 +23,17 @@ fn entry_in<'u, 'a>(dies: &'u DieList<'a>, entry: usize) -> Option<Die<'u, 'a>>
     dies.get(entry)
 }
 
+/// The name that a scope puts in front of others. One that stands in the supplementary file is not known.
+pub fn scope_name<'a>(die: &Die<'_, 'a>) -> &'a [u8]
+    ensures { result.now ≡ scope_name die.now }
+{
+    match die.name() {
+        Some(name) => name,
+        None if die.is_named_elsewhere() => name_omitted(),
+        None => b"(anonymous)",
+    }
+}
+
 /// Adds what an entry puts in front of a name.
 #[tactic(auto, unfolding(crate::specs::Names::scope_front))]
 fn add_front(text: &mut Vec<u8>, die: &Die<'_, '_>) -> Result<(), OutOfMemory>
@@ -31,7 +42,7 @@ fn add_front(text: &mut Vec<u8>, die: &Die<'_, '_>) -> Result<(), OutOfMemory>
     if !die.is_scope() {
         return Ok(());
     }
-    text.extend_from_slice(die.name().unwrap_or(b"(anonymous)"))?;
+    text.extend_from_slice(scope_name(die))?;
     text.extend_from_slice(b"::")?;
     Ok(())
 }
@@ -50,9 +61,6 @@ fn scopes_around(alloc: Global, dies: &DieList<'_>, entry: usize) -> Result<Vec<
         limit = number as usize;
     }
 }
-
-/// A name has at most so many bytes.
-const NAME_LIMIT: usize = 65_536;
 
 /// The first place from this one on where no space stands, or the end.
 fn past_spaces(text: &[u8], from: usize) -> usize
@@ -137,11 +145,11 @@ fn made_text(alloc: Global, units: &Units<'_>, name: NameRef) -> Result<ByteRun,
         return clean(alloc, bytes);
     }
     let Some(part) = units.unit(name.unit) else {
-        return clean(alloc, b"<name omitted>");
+        return clean(alloc, name_omitted());
     };
     let dies = part.die.dies();
     let Some(die) = entry_in(dies, name.entry as usize) else {
-        return clean(alloc, b"<name omitted>");
+        return clean(alloc, name_omitted());
     };
     match name.how {
         How::Joined => match die.name() {
@@ -149,10 +157,10 @@ fn made_text(alloc: Global, units: &Units<'_>, name: NameRef) -> Result<ByteRun,
                 let joined = join(alloc, dies, name.entry as usize, text)?;
                 clean(alloc, joined.as_slice())
             }
-            None => clean(alloc, b"<name omitted>"),
+            None => clean(alloc, name_omitted()),
         },
-        How::Linkage => clean(alloc, b"<name omitted>"),
-        How::Omitted => clean(alloc, b"<name omitted>"),
+        How::Linkage => clean(alloc, name_omitted()),
+        How::Omitted => clean(alloc, name_omitted()),
     }
 }
 

@@ -1,5 +1,5 @@
 //! Names as records carry them.
-ghost use Rattle.std.specs.Prelude.{◌≡◌, ◌==◌, true, IfSome, MatchResult};
+ghost use Rattle.std.specs.Prelude.{◌≡◌, ◌==◌, true, IfSome};
 ghost use Rattle.std.specs.List.{list_all};
 ghost use Rattle.std.specs.Option.{option_copied};
 ghost use Rattle.clean_names.specs.Cleaning.{cleaned, shown_byte};
@@ -8,6 +8,7 @@ ghost use Rattle.die_names.specs.NameRefs.{name_bytes};
 use crate::joined_name::name_slice;
 use crate::name_source::NameRef;
 use crate::unit_read::Units;
+use clean_names::NAME_LIMIT;
 use std::marker::Model;
 use sym_edges::ByteRun;
 
@@ -60,16 +61,6 @@ impl<'a> EntryNameText<'a> {
             KeptName::Made(text) => text.as_slice(),
         }
     }
-
-    /// The bytes that were made, or else those of the file.
-    pub fn into_made(self) -> Result<ByteRun, &'a [u8]>
-        ensures { MatchResult result (λ text. text ≡ self.entry) (λ bytes. bytes.now ≡ self.entry) }
-    {
-        match self.kept {
-            KeptName::Whole(bytes) => Err(bytes),
-            KeptName::Made(text) => Ok(text),
-        }
-    }
 }
 
 /// Whether no byte is a control byte.
@@ -86,7 +77,7 @@ fn is_clean(bytes: &[u8]) -> bool
     if bytes.is_empty() {
         return false;
     }
-    if bytes.len() > 65_536 {
+    if bytes.len() > NAME_LIMIT {
         return false;
     }
     if bytes[0] == b' ' {

@@ -4,6 +4,7 @@ ghost use Rattle.die_names.specs.NameRefs.{name_bytes, joined_bytes};
 
 use crate::name_source::{How, NameRef};
 use crate::unit_read::Units;
+use clean_names::name_omitted;
 
 /// The bytes of a name as they stand in the file, and whether the names of the scopes around its entry go in front of them.
 #[derive(Clone, Copy, Debug)]
@@ -19,7 +20,7 @@ pub fn name_parts<'a>(units: &Units<'a>, name: NameRef) -> NameParts<'a>
 {
     let omitted = NameParts {
         is_joined: false,
-        bytes: b"<name omitted>",
+        bytes: name_omitted(),
     };
     let Some(part) = units.unit(name.unit) else {
         return omitted;

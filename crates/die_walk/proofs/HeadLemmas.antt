@@ -1,5 +1,5 @@
 -- For `EntryList`: an entry more changes no other.
-use Rattle.std.proofs.Common.{◌≡◌, ◌<◌, ◌≤◌, ℕ, zero, suc, List, [], ◌∷◌, ◌++◌, length, map, drop, Option, None, Some, refl, sym, ap, ◌∙◌, arith, length-append, get_or, option_and_then}
+use Rattle.std.proofs.Common.{◌≡◌, ◌<◌, ◌≤◌, ℕ, zero, suc, false, List, [], ◌∷◌, ◌++◌, length, map, drop, Option, None, Some, refl, sym, ap, ◌∙◌, arith, length-append, get_or, option_and_then}
 use Rattle.std.specs.List.{slice_get}
 use Rattle.std.proofs.Math.ListN.{drop_of_length-le}
 use Rattle.std.proofs.lemmas.List.{map-append}
@@ -10,7 +10,7 @@ use Rattle.die_walk.specs.declared.heads.Rest.TheVariants as rest
 use Rattle.die_walk.specs.internal.Sites.{SiteFields}
 use Rattle.die_walk.specs.internal.Heads.{no_site, slim, site_by, site_in, whole_in, has_parent, has_name, has_linkage, is_declaration, held_by, held_in, IsThere, AreThere, origin_said, spec_said, place_said}
 use Rattle.die_walk.specs.internal.Packing.{where_said}
-use Rattle.die_walk.specs.Attributes.{as_reference, as_flag, is_yes, or_else}
+use Rattle.die_walk.specs.Attributes.{as_reference, as_flag, is_elsewhere, is_yes, or_else}
 use Rattle.die_walk.specs.Picking.{text_by, die_by}
 use Rattle.die_walk.specs.declared.picks.Picks.{Picks}
 use Rattle.abbrev_units.specs.declared.unit.Unit.{Unit}
@@ -156,6 +156,7 @@ pub head_is : (sections : DebugSections) (unit : Unit) (base : Option ℕ) (at :
     → origin_said head.link head.target ≡ option_and_then (as_reference unit) picks.origin → spec_said head.link head.target ≡ option_and_then (as_reference unit) picks.spec
     → place_said sections.strs (has_name head) head.name ≡ text_by sections unit base picks.name
     → place_said sections.strs (has_linkage head) head.linkage ≡ or_else (text_by sections unit base picks.linkage) (text_by sections unit base picks.old_linkage)
+    → is_elsewhere picks.name ≡ false
     → slim sections.strs head (site_by picks) ≡ die_by sections unit base at parent tag picks
 unfolding die_by
-head_is sections unit base at parent tag picks head e1 e2 e3 e4 e5 e6 e7 e8 = cc
+head_is sections unit base at parent tag picks head e1 e2 e3 e4 e5 e6 e7 e8 e9 = cc

@@ -155,6 +155,22 @@ name_by_number : (die (given 0x03 (value.StrIndex 1) ∷ [])).name ≡ Some (cod
 unfolding die_walk_computes die unit sections
 name_by_number = refl
 
+name_elsewhere : (die (given 0x03 (value.SupStrAt 0) ∷ [])).name_elsewhere ≡ true
+unfolding die_walk_computes die unit sections
+name_elsewhere = refl
+
+no_text_elsewhere : (die (given 0x03 (value.SupStrAt 0) ∷ [])).name ≡ None
+unfolding die_walk_computes die unit sections
+no_text_elsewhere = refl
+
+name_here : (die (given 0x03 (value.StrAt 0) ∷ given 0x03 (value.SupStrAt 0) ∷ [])).name_elsewhere ≡ false
+unfolding die_walk_computes die unit sections
+name_here = refl
+
+no_name_at_all : (die (given 0x6e (value.SupStrAt 0) ∷ [])).name_elsewhere ≡ false
+unfolding die_walk_computes die unit sections
+no_name_at_all = refl
+
 -- a linkage name, or else the older one
 linkage : (die (given 0x6e (value.StrAt 0) ∷ [])).linkage ≡ Some (codes "ab")
 unfolding die_walk_computes die unit sections

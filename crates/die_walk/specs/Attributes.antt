@@ -58,6 +58,11 @@ as_number _ = None
 abbrev pub picked : {A : Type 0} → (Value → Option A) → ℕ → List Given → Option A
 picked class attribute values = option_and_then class (first_of attribute values)
 
+-- whether a text stands in the supplementary file (DWARF 5, 7.3.6): by DW_FORM_strp_sup, or as dwz wrote it before, DW_FORM_GNU_strp_alt
+abbrev pub is_elsewhere : Option Value → Bool
+is_elsewhere (Some (value.SupStrAt place)) = true
+is_elsewhere _ = false
+
 -- yes only where it is said
 abbrev pub is_yes : Option Bool → Bool
 is_yes (Some true) = true

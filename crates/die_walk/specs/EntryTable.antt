@@ -11,9 +11,9 @@ use Rattle.abbrev_units.specs.DebugSections.{DebugSections}
 use Rattle.abbrev_units.specs.declared.value.Given.{Given}
 use Rattle.die_walk.specs.Marks.{Mark, marks_at}
 use Rattle.die_walk.specs.EntryTree.{Item, Kept, items_from, kept_from, rooted}
-use Rattle.die_walk.specs.Attributes.{picked, as_low, as_high, as_ranges, as_place, as_reference, as_flag, as_number, is_yes, line_of, or_else, text_in_entry}
+use Rattle.die_walk.specs.Attributes.{first_of, picked, as_low, as_high, as_ranges, as_place, as_reference, as_flag, as_number, is_elsewhere, is_yes, line_of, or_else, text_in_entry}
 
--- a kept entry: `parent` is the number of its nearest kept ancestor
+-- a kept entry: `parent` is the number of its nearest kept ancestor, and `name_elsewhere` says that its name stands in another file
 pub record DieFields : Type 0 where
   pub at : ℕ
   pub tag : ℕ
@@ -25,6 +25,7 @@ pub record DieFields : Type 0 where
   pub origin : Option ℕ
   pub spec : Option ℕ
   pub name : Option (List ℕ)
+  pub name_elsewhere : Bool
   pub linkage : Option (List ℕ)
   pub call_file : Option ℕ
   pub call_line : ℕ
@@ -64,6 +65,7 @@ die_of sections unit base kept = record {
   origin = picked (as_reference unit) 0x31 kept.item.values;  -- abstract_origin
   spec = picked (as_reference unit) 0x47 kept.item.values;  -- specification
   name = text_in_entry sections unit base 0x03 kept.item.values;  -- name
+  name_elsewhere = is_elsewhere (first_of 0x03 kept.item.values);
   linkage = linkage_of sections unit base kept.item.values;
   call_file = picked as_number 0x58 kept.item.values;  -- call_file
   call_line = line_of (picked as_number 0x59 kept.item.values);  -- call_line

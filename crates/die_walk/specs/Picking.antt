@@ -14,7 +14,7 @@ use Rattle.die_walk.specs.declared.picks.Picks.{Picks}
 use Rattle.abbrev_units.specs.declared.unit.Unit.{Unit}
 use Rattle.abbrev_units.specs.DebugSections.{DebugSections}
 use Rattle.abbrev_units.specs.Texts.{text_of}
-use Rattle.die_walk.specs.Attributes.{first_of, as_low, as_high, as_ranges, as_place, as_reference, as_flag, as_number, is_yes, line_of, or_else}
+use Rattle.die_walk.specs.Attributes.{first_of, as_low, as_high, as_ranges, as_place, as_reference, as_flag, as_number, is_elsewhere, is_yes, line_of, or_else}
 use Rattle.die_walk.specs.EntryTable.{DieFields, RootFields}
 
 abbrev pub no_picks : Picks
@@ -120,6 +120,7 @@ die_by sections unit base at parent tag picks = record {
   origin = option_and_then (as_reference unit) picks.origin;
   spec = option_and_then (as_reference unit) picks.spec;
   name = text_by sections unit base picks.name;
+  name_elsewhere = is_elsewhere picks.name;
   linkage = or_else (text_by sections unit base picks.linkage) (text_by sections unit base picks.old_linkage);
   call_file = option_and_then as_number picks.call_file;
   call_line = line_of (option_and_then as_number picks.call_line);

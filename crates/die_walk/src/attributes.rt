@@ -2,7 +2,7 @@
 ghost use Rattle.std.specs.Prelude.{◌≡◌, option_and_then};
 ghost use Rattle.std.specs.Option.{option_copied};
 ghost use Rattle.abbrev_units.specs.Texts.{text_of};
-ghost use Rattle.die_walk.specs.Attributes.{as_place, as_reference, as_flag, as_number, is_yes, line_of};
+ghost use Rattle.die_walk.specs.Attributes.{as_place, as_reference, as_flag, as_number, is_elsewhere, is_yes, line_of};
 
 use abbrev_units::{Sections, Unit, Value, read_text};
 
@@ -26,6 +26,14 @@ pub fn reference_of(unit: &Unit, value: Option<Value>) -> Option<u64>
         Some(Value::InfoRef(n)) => Some(n),
         _ => None,
     }
+}
+
+/// Whether a text stands in the supplementary file.
+#[inline]
+pub fn is_elsewhere(value: Option<Value>) -> bool
+    ensures { result ≡ is_elsewhere value }
+{
+    matches!(value, Some(Value::SupStrAt(_)))
 }
 
 /// Whether an attribute says yes.

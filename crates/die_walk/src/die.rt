@@ -237,6 +237,17 @@ impl<'t, 'a> Die<'t, 'a> {
         }
     }
 
+    /// Whether the name stands in the supplementary file (DWARF 5, 7.3.6), where it is not looked for.
+    #[inline]
+    pub fn is_named_elsewhere(&self) -> bool
+        ensures { result ≡ self.now.name_elsewhere }
+    {
+        match whole_of(self.parts, self.head) {
+            Some(whole) => whole.is_named_elsewhere(),
+            None => false,
+        }
+    }
+
     /// Whether there is a linkage name.
     #[inline]
     pub fn has_linkage(&self) -> bool

@@ -1,10 +1,10 @@
 //! Heads and sites from the values of an entry.
-ghost use Rattle.std.specs.Prelude.{◌≡◌, ℕ, true, List, Option, None, Some, IfSome, option_and_then};
+ghost use Rattle.std.specs.Prelude.{◌≡◌, ℕ, Bool, true, false, List, Option, None, Some, IfSome, option_and_then};
 ghost use Rattle.abbrev_units.specs.Texts.{text_in};
-ghost use Rattle.die_walk.specs.Attributes.{as_low, as_high, as_ranges, as_reference, as_flag, as_number, is_yes, line_of, or_else};
+ghost use Rattle.die_walk.specs.Attributes.{as_low, as_high, as_ranges, as_reference, as_flag, as_number, is_elsewhere, is_yes, line_of, or_else};
 ghost use Rattle.die_walk.specs.Picking.{text_by, die_by};
 ghost use Rattle.die_walk.specs.internal.Packing.{pick_said, value_in};
-ghost use Rattle.die_walk.specs.internal.Heads.{FitsText, FitsNumber, no_site, site_by, slim, origin_said, spec_said, place_said};
+ghost use Rattle.die_walk.specs.internal.Heads.{FitsText, FitsHere, FitsNumber, no_site, site_by, slim, origin_said, spec_said, place_said};
 
 use crate::heads::{Head, Link, Rest, Site, flags_of};
 use crate::packed::Class;
@@ -48,7 +48,8 @@ fn fit_place(strs: &[u8], place: u64) -> Fit
 #[inline(always)]
 #[tactic(auto, unfolding(abbrev_units::specs::Texts::text_of, crate::specs::internal::Packing::pick_said))]
 fn fit_text(sections: &Sections<'_>, unit: &Unit, base: Option<u64>, pick: Pick) -> Fit
-    ensures { FitsText sections.now.strs result (text_by sections.now unit.now base (pick_said pick)) }
+    ensures text { FitsText sections.now.strs result (text_by sections.now unit.now base (pick_said pick)) }
+    ensures here { FitsHere result (is_elsewhere (pick_said pick)) }
 {
     match pick.class {
         Class::Missing => Fit::Missing,
@@ -224,7 +225,8 @@ fn make_link(origin: Fit, spec: Fit) -> Option<(Link, u32)>
 /// A name, where it fits.
 #[inline(always)]
 fn make_name(fit: Fit) -> Option<(bool, u32)>
-    ensures { IfSome result (λ made. (strs : List ℕ) (x : Option (List ℕ)) → FitsText strs fit x → place_said strs made.0 made.1 ≡ x) }
+    ensures name { IfSome result (λ made. (strs : List ℕ) (x : Option (List ℕ)) → FitsText strs fit x → place_said strs made.0 made.1 ≡ x) }
+    ensures here { IfSome result (λ _. (elsewhere : Bool) → FitsHere fit elsewhere → elsewhere ≡ false) }
 {
     match fit {
         Fit::Missing => Some((false, 0)),

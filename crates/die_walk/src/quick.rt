@@ -137,6 +137,7 @@ fn pick_of(value: Value) -> Option<Pick>
         Value::InlineText { start, len } => run(Class::InlineText, start, len),
         Value::StrAt(n) => Some(numbered(Class::StrAt, n)),
         Value::LineStrAt(n) => Some(numbered(Class::LineStrAt, n)),
+        Value::SupStrAt(n) => Some(numbered(Class::SupStrAt, n)),
         Value::StrIndex(n) => Some(numbered(Class::StrIndex, n)),
         Value::AddrIndex(n) => Some(numbered(Class::AddrIndex, n)),
         Value::UnitRef(n) => Some(numbered(Class::UnitRef, n)),

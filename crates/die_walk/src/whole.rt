@@ -5,7 +5,7 @@ ghost use Rattle.die_walk.specs.Attributes.{or_else};
 ghost use Rattle.die_walk.specs.internal.Packing.{where_said, text_said};
 ghost use Rattle.die_walk.specs.Picking.{text_by, die_by};
 
-use crate::attributes::{line_of, number_of, reference_of, says_yes};
+use crate::attributes::{is_elsewhere, line_of, number_of, reference_of, says_yes};
 use crate::packed::{Class, Packed, pack_high, pack_low, pack_ranges, unpack};
 use crate::picks::Picks;
 use crate::texts::{Ending, Held, hold_text, text_where};
@@ -31,6 +31,7 @@ pub struct WholeDie<'a> {
     high_class: Class,
     ranges_class: Class,
     declaration: bool,
+    name_elsewhere: bool,
     has_parent: bool,
     has_origin: bool,
     has_spec: bool,
@@ -56,6 +57,7 @@ impl<'a> Model for WholeDie<'a> {
       origin = where_said d.has_origin d.origin;
       spec = where_said d.has_spec d.spec;
       name = text_said d.name_ending d.name.now;
+      name_elsewhere = d.name_elsewhere;
       linkage = text_said d.linkage_ending d.linkage.now;
       call_file = where_said d.has_call_file d.call_file;
       call_line = d.call_line;
@@ -154,6 +156,13 @@ impl<'a> WholeDie<'a> {
         ensures { option_copied result ≡ self.now.name }
     {
         text_where(self.name_ending, self.name)
+    }
+
+    #[inline]
+    pub fn is_named_elsewhere(&self) -> bool
+        ensures { result ≡ self.now.name_elsewhere }
+    {
+        self.name_elsewhere
     }
 
     #[inline]
@@ -260,6 +269,7 @@ pub fn make_whole<'a>(
         high_class: high.class,
         ranges_class: ranges.class,
         declaration: says_yes(picks.declaration),
+        name_elsewhere: is_elsewhere(picks.name),
         has_parent,
         has_origin,
         has_spec,

@@ -11,6 +11,7 @@ use Rattle.sym_edges.specs.declared.fault.Stop.TheVariants as stop
 use Rattle.sym_edges.specs.declared.whole_file.ReadEnd.{ReadEnd}
 use Rattle.sym_edges.specs.declared.whole_file.ReadEnd.TheVariants.{CantOpen, CantRead, TooLong}
 use Rattle.sym_records.specs.declared.line.SymLine.{SymLine}
+use Rattle.sym_records.specs.Validity.{AreValid}
 use Rattle.sym_findings.specs.Findings.{findings}
 use Rattle.sym_findings.specs.declared.kind.Finding.{Finding}
 use Rattle.sym_grammar.specs.Input.{file_reading, IsReading, SymRead, AsksName}
@@ -20,7 +21,7 @@ use Rattle.sym_grammar.specs.declared.refusal.SymEnd.TheVariants as end
 use Rattle.state_file.specs.StateText.{state_of}
 use Rattle.state_file.specs.declared.state.State.{State}
 use Rattle.state_file.specs.declared.fault.StateFault.{StateFault}
-use Rattle.dumpsyms_cmd.specs.Words.{Asked, check, sym_command, state_command, if_records, second_of, second_told}
+use Rattle.dumpsyms_cmd.specs.Words.{Asked, check, names, reads_files, sym_command, state_command, if_records, second_of, second_told}
 use Rattle.dumpsyms_cmd.specs.Refusals.{too_long_line, state_line}
 use Rattle.dumpsyms_cmd.specs.Verdict.{Verdict, refused, LIMIT}
 use Rattle.dumpsyms_cmd.specs.Observed.{Asks}
@@ -36,7 +37,7 @@ use Rattle.dumpsyms_cmd.specs.internal.Judged.{Refuses, IsJudged, AnswersCommand
 use Rattle.stack_walk.specs.declared.steps.Walk.{Walk}
 use Rattle.stack_walk.specs.Walk.{walk_of}
 use Rattle.dumpsyms_cmd.specs.declared.words.SymQuery.{SymQuery}
-use Rattle.dumpsyms_cmd.specs.declared.words.SymQuery.TheVariants.{Check}
+use Rattle.dumpsyms_cmd.specs.declared.words.SymQuery.TheVariants.{Check, Lookup, Names}
 use Rattle.dumpsyms_cmd.specs.declared.words.StateQuery.{StateQuery}
 use Rattle.dumpsyms_cmd.specs.declared.words.StateQuery.TheVariants as query
 use Rattle.dumpsyms_cmd.specs.declared.judgement.Output.{Output}
@@ -45,6 +46,7 @@ use Rattle.dumpsyms_cmd.specs.declared.judgement.Judgement.{Judgement}
 use Rattle.dumpsyms_cmd.specs.declared.judgement.Answer.{Answer}
 use Rattle.dumpsyms_cmd.specs.declared.judgement.Answer.TheVariants.{Judged, Unread, NoMemory}
 use Rattle.dumpsyms_cmd.proofs.JudgedLemmas.{told}
+use Rattle.dumpsyms_cmd.proofs.NameLemmas.{names_read_back}
 
 -- a refusal is the verdict of its line
 abbrev given : ℕ → List ℕ → List ℕ → Verdict
@@ -97,21 +99,52 @@ one_told j name answer files kept =
 one_judged : (j : Judgement) (command : Asked) (files : Option Files) → j.status < 2 → Tells files (λ f. IsVerdict (Some command) f (judgement_verdict j)) → CommandPromises (Some command) files j → IsJudged j (Some command) files
 one_judged j command files low said kept = record { low = omega (arith, low); row = λ some. low; told = said; kept = kept }
 
-sym_judged : (q : SymQuery) (j : Judgement) (name : List ℕ) (files : Option Files) → AnswersBytes name (symbol_verdict (sym_answer q)) files j → IsJudged j (Some (sym_command q name)) files
+sym_judged : (q : SymQuery) (j : Judgement) (name : List ℕ) (files : Option Files) (kept : AnswersBytes name (symbol_verdict (sym_answer q)) files j) → ((lines : List SymLine) → file_reading LIMIT kept.bytes ≡ Ok lines → AreValid lines) → IsJudged j (Some (sym_command q name)) files
 unfolding check_answer lookup_answer names_answer
-sym_judged Check j name files kept = one_judged j (check name) files (one_low Check j name files kept) (one_told j name check_answer files kept) kept
-sym_judged q j name files kept = one_judged j (sym_command q name) files (one_low q j name files kept) (one_told j name (symbol_verdict (sym_answer q)) files kept) kept
+sym_judged Check j name files kept valid = one_judged j (check name) files (one_low Check j name files kept) (one_told j name check_answer files kept) kept
+sym_judged Names j name files kept valid =
+    one_judged j (names name) files (one_low Names j name files kept) (one_told j name names_answer files kept) (record { answers = kept; reads_back = λ lines is. names_read_back lines (valid lines is) })
+sym_judged q j name files kept valid = one_judged j (sym_command q name) files (one_low q j name files kept) (one_told j name (symbol_verdict (sym_answer q)) files kept) kept
 
-pub sym_read : {F : Type 0} (answer : Answer) (judged : Result Judgement F) (q : SymQuery) (name : List ℕ) (files : Option Files) (before after : ℕ) (lines : List SymLine) → HoldsFile files name (IsReading LIMIT (Ok lines)) → AnswersJudged answer judged → IfOk judged (λ j. judgement_verdict j ≡ sym_answer q lines) → AnswersCommand answer (Some (sym_command q name)) files before after
-sym_read answer judged q name files before after lines holds is says =
+-- commands over symbol files read files
+sym_reads : (q : SymQuery) (name : List ℕ) → reads_files (sym_command q name) ≡ true
+sym_reads Check name = refl
+sym_reads (Lookup address) name = refl
+sym_reads Names name = refl
+
+state_reads : (q : StateQuery) (name state : List ℕ) → reads_files (state_command q name state) ≡ true
+state_reads (query.Frame address) name state = refl
+state_reads query.Walk name state = refl
+
+-- the records that were read are valid, and a file that is refused has none
+read_is : (a b : List SymLine) (read : Result (List SymLine) SymRefusal) → read ≡ Ok a → read ≡ Ok b → a ≡ b
+read_is a b read first second = cc
+
+refused_none : (why : SymRefusal) (lines : List SymLine) (read : Result (List SymLine) SymRefusal) → read ≡ Err why → read ≡ Ok lines → ⊥
+refused_none why lines read first second = cc
+
+held_valid : (files : Option Files) (name : List ℕ) (answer : List SymLine → Verdict) (held : List SymLine) (j : Judgement) (holds : HoldsFile files name (IsReading LIMIT (Ok held))) (is : judgement_verdict j ≡ by_records answer (Ok held))
+    → AreValid held → (lines : List SymLine) → file_reading LIMIT (by_reading files name answer (Ok held) j holds is).bytes ≡ Ok lines → AreValid lines
+unfolding by_reading
+held_valid None name answer held j holds is valid lines read = subst AreValid (read_is held lines (file_reading LIMIT holds.0) holds.1 read) valid
+held_valid (Some files) name answer held j holds is valid lines read = subst AreValid (read_is held lines (file_reading LIMIT holds.0) holds.2 read) valid
+
+refused_valid : (files : Option Files) (name : List ℕ) (answer : List SymLine → Verdict) (why : SymRefusal) (j : Judgement) (holds : HoldsFile files name (IsReading LIMIT (Err why))) (is : judgement_verdict j ≡ by_records answer (Err why))
+    → (lines : List SymLine) → file_reading LIMIT (by_reading files name answer (Err why) j holds is).bytes ≡ Ok lines → AreValid lines
+unfolding by_reading
+refused_valid None name answer why j holds is lines read = absurd (refused_none why lines (file_reading LIMIT holds.0) holds.1 read)
+refused_valid (Some files) name answer why j holds is lines read = absurd (refused_none why lines (file_reading LIMIT holds.0) holds.2 read)
+
+pub sym_read : {F : Type 0} (answer : Answer) (judged : Result Judgement F) (q : SymQuery) (name : List ℕ) (files : Option Files) (before after : ℕ) (lines : List SymLine) → AreValid lines → HoldsFile files name (IsReading LIMIT (Ok lines)) → AnswersJudged answer judged → IfOk judged (λ j. judgement_verdict j ≡ sym_answer q lines) → AnswersCommand answer (Some (sym_command q name)) files before after
+sym_read answer judged q name files before after lines valid holds is says =
     answered answer judged (λ a. AnswersCommand a (Some (sym_command q name)) files before after) is
-    (if_ok judged (λ j. judgement_verdict j ≡ sym_answer q lines) (λ j. IsJudged j (Some (sym_command q name)) files) (λ j same. sym_judged q j name files (by_reading files name (sym_answer q) (Ok lines) j holds same)) says) refl
+    (if_ok judged (λ j. judgement_verdict j ≡ sym_answer q lines) (λ j. IsJudged j (Some (sym_command q name)) files) (λ j same. sym_judged q j name files (by_reading files name (sym_answer q) (Ok lines) j holds same) (held_valid files name (sym_answer q) lines j holds same valid)) says) refl
 
 pub sym_ended : (answer : Answer) (stopped : Stop SymEnd) (q : SymQuery) (name : List ℕ) (files : Option Files) (before after : ℕ) → SymRead (Err stopped) files name LIMIT before after → AnswersEnd answer stopped → AnswersCommand answer (Some (sym_command q name)) files before after
 sym_ended (Judged j) (Fault end.Unread) q name files before after read says = absurd says
-sym_ended (Judged j) (Fault (end.Refused why)) q name files before after read says = sym_judged q j name files (by_reading files name (sym_answer q) (Err why) j read says)
+sym_ended (Judged j) (Fault (end.Refused why)) q name files before after read says = sym_judged q j name files (by_reading files name (sym_answer q) (Err why) j read says) (refused_valid files name (sym_answer q) why j read says)
 sym_ended (Judged j) stop.NoMemory q name files before after read says = absurd says
-sym_ended Unread (Fault end.Unread) q name files before after read says = (refl, read)
+sym_ended Unread (Fault end.Unread) q name files before after read says = (sym_reads q name, read)
 sym_ended Unread (Fault (end.Refused why)) q name files before after read says = absurd says
 sym_ended Unread stop.NoMemory q name files before after read says = absurd says
 sym_ended NoMemory stopped q name files before after read says = refl
@@ -289,14 +322,14 @@ query_read answer q name state files files_mid before mid after lines holds same
   where
     go : (answer : Answer) → AnswersState answer lines (query_answer q) state files mid after → AnswersCommand answer (Some (state_command q name state)) files before after
     go (Judged j) says = query_judged q j name state files (both_kept files name state (query_answer q) lines j holds says)
-    go Unread says = (refl, rose_later before mid after first second says)
+    go Unread says = (state_reads q name state, rose_later before mid after first second says)
     go NoMemory says = refl
 
 pub query_ended : (answer : Answer) (stopped : Stop SymEnd) (q : StateQuery) (name state : List ℕ) (files : Option Files) (before after : ℕ) → SymRead (Err stopped) files name LIMIT before after → AnswersEnd answer stopped → AnswersCommand answer (Some (state_command q name state)) files before after
 query_ended (Judged j) (Fault end.Unread) q name state files before after read says = absurd says
 query_ended (Judged j) (Fault (end.Refused why)) q name state files before after read says = query_judged q j name state files (both_refused files name state (query_answer q) why j read says)
 query_ended (Judged j) stop.NoMemory q name state files before after read says = absurd says
-query_ended Unread (Fault end.Unread) q name state files before after read says = (refl, read)
+query_ended Unread (Fault end.Unread) q name state files before after read says = (state_reads q name state, read)
 query_ended Unread (Fault (end.Refused why)) q name state files before after read says = absurd says
 query_ended Unread stop.NoMemory q name state files before after read says = absurd says
 query_ended NoMemory stopped q name state files before after read says = refl

@@ -10,7 +10,9 @@ pub mod FindingLemmas
 pub mod CanonLemmas
 pub mod CheckLemmas
 pub mod FrameTextLemmas
+pub mod NameLemmas
 pub mod AnswerLemmas
+pub mod SteadyLemmas
 pub mod WalkLemmas
 pub mod SampleLemmas
 pub mod JudgeLemmas

@@ -1,11 +1,11 @@
 -- The promises of a run, by the three kinds of answer.
 use Rattle.std.proofs.Common.{◌≡◌, ◌⊎◌, inl, inr, ℕ, ◌<◌, ◌≤◌, Bool, true, false, Option, Some, None, IsSome, refl, sym, ◌∙◌, ap, arith}
 use Rattle.sym_edges.specs.Outside.{Files, Rose}
-use Rattle.dumpsyms_cmd.specs.Words.{Asked}
+use Rattle.dumpsyms_cmd.specs.Words.{Asked, ReadsFiles}
 use Rattle.dumpsyms_cmd.specs.Verdict.{Verdict, unread, no_memory}
 use Rattle.dumpsyms_cmd.specs.Observed.{SinkSeen, Stood, StoreFailed, SinkFailed, SinkStood, ReceivedWhole, AsksFor}
 use Rattle.dumpsyms_cmd.specs.Judgement.{is_some_output, judgement_verdict}
-use Rattle.dumpsyms_cmd.specs.internal.Judged.{has_output, answer_verdict, IsJudged, AnswersCommand}
+use Rattle.dumpsyms_cmd.specs.internal.Judged.{has_output, answer_verdict, IsJudged, AnswersCommand, IsSteadyAnswer}
 use Rattle.dumpsyms_cmd.specs.Answers.{IsUsage}
 use Rattle.dumpsyms_cmd.specs.internal.Writes.{Writes}
 use Rattle.dumpsyms_cmd.specs.Program.{Run, command, WasWritten, WasJudged, WasNotRead, HadNoMemory, Promises}
@@ -49,8 +49,8 @@ written : (run : Run) (v : Verdict) (has : Bool) → Writes run.status v has run
 written run v has (inl whole) = inl whole
 written run v has (inr failed) = inr (failed.0, failed.1, some_failed has run.out run.err failed.2)
 
-judged_run : (j : Judgement) (run : Run) → IsJudged j (command run) run.store.files → Writes run.status (judgement_verdict j) (is_some_output j.out) run.out run.err → WasJudged run
-judged_run j run judged writes = record { judgement = j; promised = judged.kept; verdict = judged.told; written = written run (judgement_verdict j) (is_some_output j.out) writes }
+judged_run : (j : Judgement) (run : Run) → run.store.faults_after ≡ run.store.faults → IsJudged j (command run) run.store.files → Writes run.status (judgement_verdict j) (is_some_output j.out) run.out run.err → WasJudged run
+judged_run j run steady judged writes = record { steady = steady; judgement = j; promised = judged.kept; verdict = judged.told; written = written run (judgement_verdict j) (is_some_output j.out) writes }
 
 -- the status is the one of what was written, or 4
 unlike : (run : Run) (v : Verdict) (has : Bool) (n : ℕ) → Writes run.status v has run.out run.err → run.status ≡ n → (v.status ≡ n → ⊥) → (n ≡ 4 → ⊥) → ⊥
@@ -88,14 +88,14 @@ status_said run v has (inl whole) quiet calm = whole.0
 status_said run v has (inr failed) quiet calm = absurd (no_failure run.out run.err quiet calm (some_failed has run.out run.err failed.2))
 
 -- a judgement
-by_judgement : (j : Judgement) (run : Run) → IsJudged j (command run) run.store.files → AsksFor run.store (command run) → Writes run.status (judgement_verdict j) (is_some_output j.out) run.out run.err → Promises run
-by_judgement j run judged asks writes =
+by_judgement : (j : Judgement) (run : Run) → run.store.faults_after ≡ run.store.faults → IsJudged j (command run) run.store.files → AsksFor run.store (command run) → Writes run.status (judgement_verdict j) (is_some_output j.out) run.out run.err → Promises run
+by_judgement j run steady judged asks writes =
     let low : j.status < 3 = judged.low in
     let v : Verdict = judgement_verdict j in
     let has : Bool = is_some_output j.out in
     record {
-      found = inl (judged_run j run judged writes);
-      judged = λ below. (row_run j run judged writes below, judged_run j run judged writes);
+      found = inl (judged_run j run steady judged writes);
+      judged = λ below. (row_run j run judged writes below, judged_run j run steady judged writes);
       usage = usage_run j run judged writes;
       no_row = no_row_run j run judged writes;
       not_read = λ three. absurd (unlike run v has 3 writes three (λ is. omega arith) (λ is. omega arith));
@@ -107,14 +107,18 @@ by_judgement j run judged asks writes =
     }
 
 -- a file that could not be read
-by_unread : (run : Run) → IsSome (command run) → StoreFailed run.store → AsksFor run.store (command run) → Writes run.status unread false run.out run.err → Promises run
-by_unread run some failed asks writes =
-    let not_read : WasNotRead run = record { row = some; failed = failed; written = written run unread false writes } in
+reads_some : (o : Option Asked) → ReadsFiles o → IsSome o
+reads_some None reads = absurd reads
+reads_some (Some asked) reads = refl
+
+by_unread : (run : Run) → ReadsFiles (command run) → StoreFailed run.store → AsksFor run.store (command run) → Writes run.status unread false run.out run.err → Promises run
+by_unread run reads failed asks writes =
+    let not_read : WasNotRead run = record { row = reads; failed = failed; written = written run unread false writes } in
     record {
       found = inr (inl not_read);
       judged = λ low. absurd (unlike run unread false run.status writes refl (λ is. omega arith) (λ is. omega arith));
       usage = λ two. absurd (unlike run unread false 2 writes two (λ is. omega arith) (λ is. omega arith));
-      no_row = λ none. absurd (none_some (command run) none some);
+      no_row = λ none. absurd (none_some (command run) none (reads_some (command run) reads));
       not_read = λ three. not_read;
       not_written = unwritten_run run unread false writes (λ is. omega arith);
       out_of_memory = λ five. absurd (unlike run unread false 5 writes five (λ is. omega arith) (λ is. omega arith));
@@ -128,10 +132,10 @@ whole_nothing : (run : Run) → Writes run.status no_memory false run.out run.er
 whole_nothing run (inl whole) five = whole.1
 whole_nothing run (inr failed) five = absurd (let is = failed.0 in omega arith)
 
-by_no_memory : (run : Run) → IsSome (command run) → run.status ≡ 5 → AsksFor run.store (command run) → Writes run.status no_memory false run.out run.err → Promises run
-by_no_memory run some five asks writes =
+by_no_memory : (run : Run) → IsSome (command run) → run.store.faults_after ≡ run.store.faults → run.status ≡ 5 → AsksFor run.store (command run) → Writes run.status no_memory false run.out run.err → Promises run
+by_no_memory run some steady five asks writes =
     let texts : ReceivedWhole run.out run.err no_memory = whole_nothing run writes five in
-    let none_left : HadNoMemory run = record { row = some; status = five; out = texts.out_text ∙ nothing run.out.taken; err = texts.err_text ∙ nothing run.err.taken } in
+    let none_left : HadNoMemory run = record { row = some; steady = steady; status = five; out = texts.out_text ∙ nothing run.out.taken; err = texts.err_text ∙ nothing run.err.taken } in
     record {
       found = inr (inr none_left);
       judged = λ low. absurd (omega (arith, low, five));
@@ -145,7 +149,7 @@ by_no_memory run some five asks writes =
       complete = λ stood quiet calm. inr five;
     }
 
-pub promises : (answer : Answer) (run : Run) → AnswersCommand answer (command run) run.store.files run.store.faults run.store.faults_after → AsksFor run.store (command run) → Writes run.status (answer_verdict answer) (has_output answer) run.out run.err → (answer ≡ NoMemory → run.status ≡ 5) → Promises run
-promises (Judged j) run says asks writes quiet = by_judgement j run says asks writes
-promises Unread run says asks writes quiet = by_unread run says.0 says.1 asks writes
-promises NoMemory run says asks writes quiet = by_no_memory run says (quiet refl) asks writes
+pub promises : (answer : Answer) (run : Run) → AnswersCommand answer (command run) run.store.files run.store.faults run.store.faults_after → IsSteadyAnswer answer run.store.faults run.store.faults_after → AsksFor run.store (command run) → Writes run.status (answer_verdict answer) (has_output answer) run.out run.err → (answer ≡ NoMemory → run.status ≡ 5) → Promises run
+promises (Judged j) run says steady asks writes quiet = by_judgement j run steady says asks writes
+promises Unread run says steady asks writes quiet = by_unread run says.0 says.1 asks writes
+promises NoMemory run says steady asks writes quiet = by_no_memory run says steady (quiet refl) asks writes

@@ -13,7 +13,7 @@ use Rattle.dumpsyms_cmd.specs.commands.Frame.{frame_answer}
 use Rattle.dumpsyms_cmd.specs.commands.Sample.{IsSampleVerdict}
 use Rattle.dumpsyms_cmd.specs.commands.Walk.{walk_answer}
 use Rattle.dumpsyms_cmd.specs.commands.Judge.{IsJudgeVerdict, JudgePromises}
-use Rattle.dumpsyms_cmd.specs.commands.Names.{names_answer}
+use Rattle.dumpsyms_cmd.specs.commands.Names.{names_answer, NamesPromises}
 use Rattle.dumpsyms_cmd.specs.declared.judgement.Output.TheVariants.{Nothing}
 use Rattle.dumpsyms_cmd.specs.declared.judgement.Judgement.{Judgement}
 
@@ -51,4 +51,4 @@ CommandPromises (Some (frame sym address state)) files j = AnswersBoth sym state
 CommandPromises (Some (sample units workers)) files j = IsSampleVerdict units (judgement_verdict j)
 CommandPromises (Some (walk sym state)) files j = AnswersBoth sym state walk_answer files j
 CommandPromises (Some (judge elf sym)) files j = JudgePromises elf sym files j
-CommandPromises (Some (names sym)) files j = AnswersBytes sym names_answer files j
+CommandPromises (Some (names sym)) files j = NamesPromises sym files j

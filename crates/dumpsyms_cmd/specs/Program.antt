@@ -1,7 +1,7 @@
 -- What the program promises of its status, its two texts and the names that it asks for.
 use Rattle.std.specs.Prelude.{◌≡◌, ◌⊎◌, ℕ, ◌<◌, ◌≤◌, List, Option, None, IsSome}
 use Rattle.sym_edges.specs.Outside.{Tells}
-use Rattle.dumpsyms_cmd.specs.Words.{Asked, command_of}
+use Rattle.dumpsyms_cmd.specs.Words.{Asked, ReadsFiles, command_of}
 use Rattle.dumpsyms_cmd.specs.Verdict.{Verdict, unread}
 use Rattle.dumpsyms_cmd.specs.Answers.{IsVerdict}
 use Rattle.dumpsyms_cmd.specs.Observed.{StoreSeen, SinkSeen, StoreFailed, SinkFailed, StoreStood, SinkStood, ReceivedNothing, ReceivedWhole, ReceivedFronts, AsksFor}
@@ -28,22 +28,25 @@ WasWritten run v =
     ((run.status ≡ v.status) × ReceivedWhole run.out run.err v)
     ⊎ ((run.status ≡ 4) × ReceivedFronts run.out run.err v × (SinkFailed run.out ⊎ SinkFailed run.err))
 
--- the run judged: a judgement that keeps what the command promises, and that is the verdict where the store tells its files, was written
+-- the run judged: a judgement that keeps what the command promises, and that is the verdict where the store tells its files, was written; the
+-- store did not fail
 pub record WasJudged (run : Run) : Type 0 where
+  pub steady : run.store.faults_after ≡ run.store.faults
   pub judgement : Judgement
   pub promised : CommandPromises (command run) run.store.files judgement
   pub verdict : Tells run.store.files (λ files. IsVerdict (command run) files (judgement_verdict judgement))
   pub written : WasWritten run (judgement_verdict judgement)
 
--- a file could not be read: the store failed, and the line that says so was written
+-- a file of a command that reads files could not be read: the store failed, and the line that says so was written
 pub record WasNotRead (run : Run) : Type 0 where
-  pub row : IsSome (command run)
+  pub row : ReadsFiles (command run)
   pub failed : StoreFailed run.store
   pub written : WasWritten run unread
 
--- memory ran out: status 5, and no sink received anything
+-- memory ran out: status 5, no sink received anything, and the store did not fail
 pub record HadNoMemory (run : Run) : Type 0 where
   pub row : IsSome (command run)
+  pub steady : run.store.faults_after ≡ run.store.faults
   pub status : run.status ≡ 5
   pub out : ReceivedNothing run.out
   pub err : ReceivedNothing run.err

@@ -1,5 +1,5 @@
 -- The words of the program, and what they ask for.
-use Rattle.std.specs.Prelude.{ℕ, ◌≤◌, ◌==◌, ◌^◌, ◌&&◌, Bool, false, not, nat_le, nat_lt, length, List, [], ◌∷◌, Option, Some, None, Result, Ok, Err, codes, if◌then◌else◌}
+use Rattle.std.specs.Prelude.{◌≡◌, ℕ, ◌≤◌, ◌==◌, ◌^◌, ◌&&◌, Bool, true, false, not, nat_le, nat_lt, length, List, [], ◌∷◌, Option, Some, None, Result, Ok, Err, codes, if◌then◌else◌}
 use Rattle.std.specs.List.{after_last, list_all}
 use Rattle.std.specs.Option.{option_map}
 use Rattle.std.specs.Str.{bytes_eq}
@@ -45,6 +45,22 @@ pub data Asked : Type 0 where
   judge : (elf : List ℕ) → (sym : List ℕ) → Asked
   -- a symbol file with its legacy Rust names in readable form
   names : (sym : List ℕ) → Asked
+
+-- all commands read files, but `sample`
+abbrev pub reads_files : Asked → Bool
+reads_files (dump elf workers) = true
+reads_files (dump_pair elf debug) = true
+reads_files (check sym) = true
+reads_files (lookup sym address) = true
+reads_files (frame sym address state) = true
+reads_files (sample units workers) = false
+reads_files (walk sym state) = true
+reads_files (judge elf sym) = true
+reads_files (names sym) = true
+
+abbrev pub ReadsFiles : Option Asked → Type 0
+ReadsFiles None = ⊥
+ReadsFiles (Some asked) = reads_files asked ≡ true
 
 -- where a debug file is, what is asked of a symbol file, or of one and a state file, and a command, as they are parsed
 abbrev pub debug_view : DebugPlace → DebugFile

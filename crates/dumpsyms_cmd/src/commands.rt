@@ -6,7 +6,7 @@ ghost use Rattle.elf_sections.specs.Image.{image};
 ghost use Rattle.dumpsyms_cmd.specs.Words.{command_of, dump, sample};
 ghost use Rattle.debug_read.specs.DebugSays.{IsDebugRead};
 ghost use Rattle.dumpsyms_cmd.specs.Judgement.{err_bytes};
-ghost use Rattle.dumpsyms_cmd.specs.internal.Judged.{Refuses, JudgesParts, JudgesBytes, AnswersStop, AnswersCommand};
+ghost use Rattle.dumpsyms_cmd.specs.internal.Judged.{Refuses, JudgesParts, JudgesBytes, AnswersStop, AnswersCommand, IsSteadyAnswer};
 ghost use Rattle.dumpsyms_cmd.specs.Observed.{Asks, AsksRow};
 
 use crate::dump::assemble;
@@ -109,7 +109,7 @@ pub fn answer_stop(stop: Stop<ReadEnd>) -> Answer
 }
 
 /// The answer to `dump ELF`, by some workers.
-#[tactic(auto, using(crate::proofs::JudgedLemmas::stop_command, crate::proofs::JudgedLemmas::asks_one))]
+#[tactic(auto, using(crate::proofs::JudgedLemmas::stop_command, crate::proofs::JudgedLemmas::asks_one, crate::proofs::SteadyLemmas::stop_steady))]
 fn answer_dump<R: Threads + Sync, S: Store, G: Gate + Sync>(
     rt: &R,
     alloc: Global,
@@ -122,6 +122,7 @@ fn answer_dump<R: Threads + Sync, S: Store, G: Gate + Sync>(
     ensures asked { Asks (elf.now ∷ []) (S.asked store.old) (S.asked store.new) }
     ensures files { S.files store.new ≡ S.files store.old }
     ensures faults { S.faults store.old ≤ S.faults store.new }
+    ensures steady { IsSteadyAnswer result (S.faults store.old) (S.faults store.new) }
     ensures answered { AnswersCommand result (Some (dump elf.now workers)) (S.files store.old) (S.faults store.old) (S.faults store.new) }
 {
     match read_all(alloc, store, elf, FILE_LIMIT) {
@@ -169,7 +170,7 @@ fn answer_usage() -> Answer
 }
 
 /// The answer to the words, over the files of the store. All memory that the program needs is taken here.
-#[tactic(auto, using(crate::proofs::JudgedLemmas::asks_none, crate::proofs::JudgedLemmas::asks_row, crate::proofs::SampleLemmas::asks_nothing))]
+#[tactic(auto, using(crate::proofs::JudgedLemmas::asks_none, crate::proofs::JudgedLemmas::asks_row, crate::proofs::SampleLemmas::asks_nothing, crate::proofs::SteadyLemmas::any_steady))]
 pub fn answer_words<R: Threads + Sync, S: Store, G: Gate + Sync>(
     rt: &R,
     alloc: Global,
@@ -180,6 +181,7 @@ pub fn answer_words<R: Threads + Sync, S: Store, G: Gate + Sync>(
     ensures asked { AsksRow (command_of (map string_bytes words.now)) (S.files store.old) (S.asked store.old) (S.asked store.new) }
     ensures files { S.files store.new ≡ S.files store.old }
     ensures faults { S.faults store.old ≤ S.faults store.new }
+    ensures steady { IsSteadyAnswer result (S.faults store.old) (S.faults store.new) }
     ensures answered { AnswersCommand result (command_of (map string_bytes words.now)) (S.files store.old) (S.faults store.old) (S.faults store.new) }
 {
     match parse_words(words) {

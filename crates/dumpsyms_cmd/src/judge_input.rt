@@ -3,7 +3,7 @@ ghost use Rattle.std.specs.Prelude.{◌≡◌, ◌≤◌, ℕ, List, [], ◌∷�
 ghost use Rattle.dumpsyms_cmd.specs.Words.{dumped_told, judge};
 ghost use Rattle.dumpsyms_cmd.specs.commands.Dump.{DumpPromises};
 ghost use Rattle.dumpsyms_cmd.specs.Observed.{Asks};
-ghost use Rattle.dumpsyms_cmd.specs.internal.Judged.{AnswersCommand, AnswersSym};
+ghost use Rattle.dumpsyms_cmd.specs.internal.Judged.{AnswersCommand, AnswersSym, IsSteadyAnswer};
 
 use crate::commands::{answer_stop, judge_bytes};
 use crate::judge::judge_files;
@@ -22,11 +22,12 @@ use unit_workers::Gate;
 const WORKERS: usize = 4;
 
 /// The answer to a symbol file, against records.
-#[tactic(auto, using(crate::proofs::JudgeLemmas::sym_read, crate::proofs::JudgeLemmas::sym_ended, crate::proofs::AnswerLemmas::asks_symbols))]
+#[tactic(auto, using(crate::proofs::JudgeLemmas::sym_read, crate::proofs::JudgeLemmas::sym_ended, crate::proofs::AnswerLemmas::asks_symbols, crate::proofs::SteadyLemmas::end_steady, crate::proofs::SteadyLemmas::any_steady))]
 fn answer_sym<S: Store>(alloc: Global, own: &SymFile, sym: &str, store: &mut S) -> Answer
     ensures asked { Asks (sym.now ∷ []) (S.asked store.old) (S.asked store.new) }
     ensures files { S.files store.new ≡ S.files store.old }
     ensures faults { S.faults store.old ≤ S.faults store.new }
+    ensures steady { IsSteadyAnswer result (S.faults store.old) (S.faults store.new) }
     ensures answered { AnswersSym result own.now sym.now (S.files store.old) (S.faults store.old) (S.faults store.new) }
 {
     match read_file(alloc, store, sym, FILE_LIMIT) {
@@ -41,6 +42,7 @@ fn answer_dumped<S: Store>(alloc: Global, dumped: Judgement, sym: &str, store: &
     ensures asked { (elf : List ℕ) → DumpPromises elf (S.files store.old) dumped → Asks (dumped_told (S.files store.old) elf sym.now) (S.asked store.old) (S.asked store.new) }
     ensures files { S.files store.new ≡ S.files store.old }
     ensures faults { S.faults store.old ≤ S.faults store.new }
+    ensures steady { IsSteadyAnswer result (S.faults store.old) (S.faults store.new) }
     ensures answered { (elf : List ℕ) → DumpPromises elf (S.files store.old) dumped → AnswersCommand result (Some (judge elf sym.now)) (S.files store.old) (S.faults store.old) (S.faults store.new) }
 {
     let Output::Text(text) = &dumped.out else {
@@ -53,7 +55,7 @@ fn answer_dumped<S: Store>(alloc: Global, dumped: Judgement, sym: &str, store: &
 }
 
 /// The answer to `judge ELF SYM`. The ELF file is read and dumped first.
-#[tactic(auto, using(crate::proofs::JudgeLemmas::asks_elf, crate::proofs::JudgeLemmas::stop_judged))]
+#[tactic(auto, using(crate::proofs::JudgeLemmas::asks_elf, crate::proofs::JudgeLemmas::stop_judged, crate::proofs::SteadyLemmas::stop_steady, crate::proofs::SteadyLemmas::steady_behind))]
 pub(crate) fn answer_judge<R: Threads + Sync, S: Store, G: Gate + Sync>(
     rt: &R,
     alloc: Global,
@@ -65,6 +67,7 @@ pub(crate) fn answer_judge<R: Threads + Sync, S: Store, G: Gate + Sync>(
     ensures asked { Asks (elf.now ∷ dumped_told (S.files store.old) elf.now sym.now) (S.asked store.old) (S.asked store.new) }
     ensures files { S.files store.new ≡ S.files store.old }
     ensures faults { S.faults store.old ≤ S.faults store.new }
+    ensures steady { IsSteadyAnswer result (S.faults store.old) (S.faults store.new) }
     ensures answered { AnswersCommand result (Some (judge elf.now sym.now)) (S.files store.old) (S.faults store.old) (S.faults store.new) }
 {
     match read_all(alloc, store, elf, FILE_LIMIT) {

@@ -8,7 +8,7 @@ ghost use Rattle.dumpsyms_cmd.specs.Refusals.{line, elf_line, pair_line};
 ghost use Rattle.dumpsyms_cmd.specs.Words.{dump_pair, debug_view};
 ghost use Rattle.dumpsyms_cmd.specs.ElfInput.{or_refused, or_short, path_below, path_of, path_names, names_behind, with_file, then_file, then_debug};
 ghost use Rattle.dumpsyms_cmd.specs.Observed.{Asks, AsksRow};
-ghost use Rattle.dumpsyms_cmd.specs.internal.Judged.{JudgesImage, JudgesPair, AnswersCommand, AnswersImage, AnswersMade};
+ghost use Rattle.dumpsyms_cmd.specs.internal.Judged.{JudgesImage, JudgesPair, AnswersCommand, AnswersImage, AnswersMade, IsSteadyAnswer};
 
 use crate::commands::{answer_stop, judge_image, refuse};
 use crate::judgement::{Answer, Judgement, Message};
@@ -65,7 +65,7 @@ fn judge_debug<R: Threads + Sync, G: Gate + Sync>(
 }
 
 /// The answer by a debug file that is still to be read.
-#[tactic(auto, using(crate::proofs::PairLemmas::debug_read, crate::proofs::PairLemmas::debug_stopped, crate::proofs::JudgedLemmas::asks_one))]
+#[tactic(auto, using(crate::proofs::PairLemmas::debug_read, crate::proofs::PairLemmas::debug_stopped, crate::proofs::JudgedLemmas::asks_one, crate::proofs::SteadyLemmas::stop_steady, crate::proofs::SteadyLemmas::any_steady))]
 fn answer_file<R: Threads + Sync, S: Store, G: Gate + Sync>(
     rt: &R,
     alloc: Global,
@@ -78,6 +78,7 @@ fn answer_file<R: Threads + Sync, S: Store, G: Gate + Sync>(
     ensures asked { Asks (path.now ∷ []) (S.asked store.old) (S.asked store.new) }
     ensures files { S.files store.new ≡ S.files store.old }
     ensures faults { S.faults store.old ≤ S.faults store.new }
+    ensures steady { IsSteadyAnswer result (S.faults store.old) (S.faults store.new) }
     ensures answered { AnswersImage result (λ f. with_file binary.now (f path.now)) name.now (S.files store.old) (S.faults store.old) (S.faults store.new) }
 {
     match read_all(alloc, store, path, FILE_LIMIT) {
@@ -104,7 +105,7 @@ struct RootedId<'p> {
 }
 
 /// The answer by a root, below which a build id names the debug file.
-#[tactic(auto, using(crate::proofs::PairLemmas::placed_answered, crate::proofs::PairLemmas::placed_asked, crate::proofs::PairLemmas::short_answered, crate::proofs::JudgeLemmas::not_asked))]
+#[tactic(auto, using(crate::proofs::PairLemmas::placed_answered, crate::proofs::PairLemmas::placed_asked, crate::proofs::PairLemmas::short_answered, crate::proofs::JudgeLemmas::not_asked, crate::proofs::SteadyLemmas::any_steady))]
 fn answer_id<R: Threads + Sync, S: Store, G: Gate + Sync>(
     rt: &R,
     alloc: Global,
@@ -117,6 +118,7 @@ fn answer_id<R: Threads + Sync, S: Store, G: Gate + Sync>(
     ensures asked { Asks (path_names (or_short (debug_path place.now.root.now place.now.id.now))) (S.asked store.old) (S.asked store.new) }
     ensures files { S.files store.new ≡ S.files store.old }
     ensures faults { S.faults store.old ≤ S.faults store.new }
+    ensures steady { IsSteadyAnswer result (S.faults store.old) (S.faults store.new) }
     ensures answered { AnswersImage result (then_file binary.now (or_short (debug_path place.now.root.now place.now.id.now))) name.now (S.files store.old) (S.faults store.old) (S.faults store.new) }
 {
     match debug_path(alloc, place.root, place.id) {
@@ -127,7 +129,7 @@ fn answer_id<R: Threads + Sync, S: Store, G: Gate + Sync>(
 }
 
 /// The same by the binary's build id, where it has one.
-#[tactic(auto, using(crate::proofs::PairLemmas::id_answered, crate::proofs::PairLemmas::id_asked, crate::proofs::PairLemmas::none_answered, crate::proofs::JudgeLemmas::not_asked))]
+#[tactic(auto, using(crate::proofs::PairLemmas::id_answered, crate::proofs::PairLemmas::id_asked, crate::proofs::PairLemmas::none_answered, crate::proofs::JudgeLemmas::not_asked, crate::proofs::SteadyLemmas::any_steady))]
 fn answer_below<R: Threads + Sync, S: Store, G: Gate + Sync>(
     rt: &R,
     alloc: Global,
@@ -140,6 +142,7 @@ fn answer_below<R: Threads + Sync, S: Store, G: Gate + Sync>(
     ensures asked { Asks (path_names (path_below root.now binary.now.build_id)) (S.asked store.old) (S.asked store.new) }
     ensures files { S.files store.new ≡ S.files store.old }
     ensures faults { S.faults store.old ≤ S.faults store.new }
+    ensures steady { IsSteadyAnswer result (S.faults store.old) (S.faults store.new) }
     ensures answered { AnswersImage result (then_file binary.now (path_below root.now binary.now.build_id)) name.now (S.files store.old) (S.faults store.old) (S.faults store.new) }
 {
     match binary.build_id() {
@@ -161,6 +164,7 @@ fn answer_binary<R: Threads + Sync, S: Store, G: Gate + Sync>(
     ensures asked { Asks (path_names (path_of (debug_view debug.entry) binary.now)) (S.asked store.old) (S.asked store.new) }
     ensures files { S.files store.new ≡ S.files store.old }
     ensures faults { S.faults store.old ≤ S.faults store.new }
+    ensures steady { IsSteadyAnswer result (S.faults store.old) (S.faults store.new) }
     ensures answered { AnswersImage result (then_file binary.now (path_of (debug_view debug.entry) binary.now)) name.now (S.files store.old) (S.faults store.old) (S.faults store.new) }
 {
     match debug {
@@ -170,7 +174,7 @@ fn answer_binary<R: Threads + Sync, S: Store, G: Gate + Sync>(
 }
 
 /// The same over the bytes of the binary.
-#[tactic(auto, using(crate::proofs::PairLemmas::binary_answered, crate::proofs::PairLemmas::binary_refused, crate::proofs::PairLemmas::binary_asked, crate::proofs::JudgeLemmas::not_asked))]
+#[tactic(auto, using(crate::proofs::PairLemmas::binary_answered, crate::proofs::PairLemmas::binary_refused, crate::proofs::PairLemmas::binary_asked, crate::proofs::JudgeLemmas::not_asked, crate::proofs::SteadyLemmas::any_steady))]
 fn answer_bytes<R: Threads + Sync, S: Store, G: Gate + Sync>(
     rt: &R,
     alloc: Global,
@@ -183,6 +187,7 @@ fn answer_bytes<R: Threads + Sync, S: Store, G: Gate + Sync>(
     ensures asked { Asks (names_behind (debug_view debug.entry) (or_refused elf_line (image bytes.now))) (S.asked store.old) (S.asked store.new) }
     ensures files { S.files store.new ≡ S.files store.old }
     ensures faults { S.faults store.old ≤ S.faults store.new }
+    ensures steady { IsSteadyAnswer result (S.faults store.old) (S.faults store.new) }
     ensures answered { AnswersImage result (then_debug (debug_view debug.entry) (or_refused elf_line (image bytes.now))) name.now (S.files store.old) (S.faults store.old) (S.faults store.new) }
 {
     match read_image(alloc, bytes) {
@@ -194,7 +199,7 @@ fn answer_bytes<R: Threads + Sync, S: Store, G: Gate + Sync>(
 
 /// The answer to `dump ELF --debug FILE` and `dump ELF --debug-root DIR`. The ELF file is read first, and the debug file only where
 /// that has an image and says where it is.
-#[tactic(auto, using(crate::proofs::PairLemmas::elf_stopped, crate::proofs::PairLemmas::elf_not_read))]
+#[tactic(auto, using(crate::proofs::PairLemmas::elf_stopped, crate::proofs::PairLemmas::elf_not_read, crate::proofs::SteadyLemmas::stop_steady, crate::proofs::SteadyLemmas::steady_behind))]
 pub(crate) fn answer_pair<R: Threads + Sync, S: Store, G: Gate + Sync>(
     rt: &R,
     alloc: Global,
@@ -206,6 +211,7 @@ pub(crate) fn answer_pair<R: Threads + Sync, S: Store, G: Gate + Sync>(
     ensures asked { AsksRow (Some (dump_pair elf.now (debug_view debug.entry))) (S.files store.old) (S.asked store.old) (S.asked store.new) }
     ensures files { S.files store.new ≡ S.files store.old }
     ensures faults { S.faults store.old ≤ S.faults store.new }
+    ensures steady { IsSteadyAnswer result (S.faults store.old) (S.faults store.new) }
     ensures answered { AnswersCommand result (Some (dump_pair elf.now (debug_view debug.entry))) (S.files store.old) (S.faults store.old) (S.faults store.new) }
 {
     match read_all(alloc, store, elf, FILE_LIMIT) {

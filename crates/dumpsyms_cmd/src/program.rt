@@ -1,3 +1,4 @@
+//! A run of the program: it decides by words and files, and then writes.
 ghost use Rattle.std.specs.Prelude.{◌≡◌, true, map, OnOk, OnErr};
 ghost use Rattle.std.specs.String.{string_bytes};
 ghost use Rattle.sym_edges.specs.Outside.{append_told, AddsFront, Rose};

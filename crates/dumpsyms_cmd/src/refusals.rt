@@ -1,3 +1,4 @@
+//! The lines by which files are refused.
 ghost use Rattle.std.specs.Prelude.{◌≡◌, ◌++◌, ◌∷◌, [], map, codes, IfOk, OnOk};
 ghost use Rattle.sym_records.specs.Canon.{spaced};
 ghost use Rattle.elf_sections.specs.FaultWords.{fault_word};

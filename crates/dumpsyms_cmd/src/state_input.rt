@@ -4,7 +4,7 @@ ghost use Rattle.dumpsyms_cmd.specs.Words.{second_told, state_command};
 ghost use Rattle.dumpsyms_cmd.specs.Judgement.{judgement_verdict};
 ghost use Rattle.dumpsyms_cmd.specs.Observed.{Asks};
 ghost use Rattle.dumpsyms_cmd.specs.StateInput.{state_answer, STATE_LIMIT};
-ghost use Rattle.dumpsyms_cmd.specs.internal.Judged.{AnswersCommand, AnswersState, query_answer};
+ghost use Rattle.dumpsyms_cmd.specs.internal.Judged.{AnswersCommand, AnswersState, query_answer, IsSteadyAnswer};
 
 use crate::commands::{answer_stop, refuse};
 use crate::frame::judge_frame;
@@ -56,7 +56,7 @@ fn judge_state(
 }
 
 /// The same over a state file that is still to be read.
-#[tactic(auto, using(crate::proofs::AnswerLemmas::state_read, crate::proofs::AnswerLemmas::state_stopped, crate::proofs::AnswerLemmas::asks_state))]
+#[tactic(auto, using(crate::proofs::AnswerLemmas::state_read, crate::proofs::AnswerLemmas::state_stopped, crate::proofs::AnswerLemmas::asks_state, crate::proofs::SteadyLemmas::stop_steady, crate::proofs::SteadyLemmas::any_steady))]
 fn answer_state<S: Store>(
     alloc: Global,
     file: &SymFile,
@@ -67,6 +67,7 @@ fn answer_state<S: Store>(
     ensures asked { Asks (state.now ∷ []) (S.asked store.old) (S.asked store.new) }
     ensures files { S.files store.new ≡ S.files store.old }
     ensures faults { S.faults store.old ≤ S.faults store.new }
+    ensures steady { IsSteadyAnswer result (S.faults store.old) (S.faults store.new) }
     ensures answered { AnswersState result file.now (query_answer query) state.now (S.files store.old) (S.faults store.old) (S.faults store.new) }
 {
     match read_all(alloc, store, state, STATE_LIMIT) {
@@ -76,7 +77,7 @@ fn answer_state<S: Store>(
 }
 
 /// The answer to a command over a symbol file and a state file, of which the symbol file is read first.
-#[tactic(auto, using(crate::proofs::AnswerLemmas::query_read, crate::proofs::AnswerLemmas::query_ended, crate::proofs::AnswerLemmas::asks_symbols, crate::proofs::AnswerLemmas::asks_both))]
+#[tactic(auto, using(crate::proofs::AnswerLemmas::query_read, crate::proofs::AnswerLemmas::query_ended, crate::proofs::AnswerLemmas::asks_symbols, crate::proofs::AnswerLemmas::asks_both, crate::proofs::SteadyLemmas::end_steady, crate::proofs::SteadyLemmas::steady_behind))]
 pub fn answer_query<S: Store>(
     alloc: Global,
     sym: &str,
@@ -87,6 +88,7 @@ pub fn answer_query<S: Store>(
     ensures asked { Asks (sym.now ∷ second_told (S.files store.old) sym.now state.now) (S.asked store.old) (S.asked store.new) }
     ensures files { S.files store.new ≡ S.files store.old }
     ensures faults { S.faults store.old ≤ S.faults store.new }
+    ensures steady { IsSteadyAnswer result (S.faults store.old) (S.faults store.new) }
     ensures answered { AnswersCommand result (Some (state_command query sym.now state.now)) (S.files store.old) (S.faults store.old) (S.faults store.new) }
 {
     match read_file(alloc, store, sym, FILE_LIMIT) {

@@ -1,9 +1,13 @@
 //! What is answered over a symbol file.
-ghost use Rattle.std.specs.Prelude.{◌≡◌, ◌≤◌, [], ◌∷◌, Some, IfOk};
+ghost use Rattle.std.specs.Prelude.{◌≡◌, ◌≤◌, ℕ, List, [], ◌∷◌, Option, Some, Ok, IfOk};
+ghost use Rattle.sym_edges.specs.Outside.{Files};
+ghost use Rattle.sym_edges.specs.WholeFile.{HoldsFile};
+ghost use Rattle.sym_grammar.specs.Input.{IsReading};
+ghost use Rattle.dumpsyms_cmd.specs.Verdict.{LIMIT};
 ghost use Rattle.dumpsyms_cmd.specs.Judgement.{judgement_verdict};
 ghost use Rattle.dumpsyms_cmd.specs.Observed.{Asks};
 ghost use Rattle.dumpsyms_cmd.specs.Words.{sym_command};
-ghost use Rattle.dumpsyms_cmd.specs.internal.Judged.{AnswersCommand, AnswersEnd, AnswersJudged, sym_answer};
+ghost use Rattle.dumpsyms_cmd.specs.internal.Judged.{AnswersCommand, AnswersEnd, AnswersJudged, sym_answer, IsSteadyAnswer};
 
 use crate::check::judge_records;
 use crate::commands::refuse;
@@ -63,16 +67,26 @@ fn judge_symbols(alloc: Global, file: SymFile, query: SymQuery) -> Result<Judgem
     }
 }
 
+/// The answer to a symbol file that was read.
+fn answer_file(alloc: Global, file: SymFile, query: SymQuery) -> Answer
+    ensures { (files : Option Files) (name : List ℕ) (before after : ℕ) → HoldsFile files name (IsReading LIMIT (Ok file)) → AnswersCommand result (Some (sym_command query name)) files before after }
+{
+    // `as_slice` says that the records are valid.
+    let _lines = file.as_slice();
+    answer_judged(judge_symbols(alloc, file, query))
+}
+
 /// The answer to a command over a symbol file alone.
-#[tactic(auto, using(crate::proofs::AnswerLemmas::sym_read, crate::proofs::AnswerLemmas::sym_ended, crate::proofs::AnswerLemmas::asks_symbols))]
+#[tactic(auto, using(crate::proofs::AnswerLemmas::sym_ended, crate::proofs::AnswerLemmas::asks_symbols, crate::proofs::SteadyLemmas::end_steady, crate::proofs::SteadyLemmas::any_steady))]
 pub fn answer_symbols<S: Store>(alloc: Global, sym: &str, query: SymQuery, store: &mut S) -> Answer
     ensures asked { Asks (sym.now ∷ []) (S.asked store.old) (S.asked store.new) }
     ensures files { S.files store.new ≡ S.files store.old }
     ensures faults { S.faults store.old ≤ S.faults store.new }
+    ensures steady { IsSteadyAnswer result (S.faults store.old) (S.faults store.new) }
     ensures answered { AnswersCommand result (Some (sym_command query sym.now)) (S.files store.old) (S.faults store.old) (S.faults store.new) }
 {
     match read_file(alloc, store, sym, FILE_LIMIT) {
-        Ok(file) => answer_judged(judge_symbols(alloc, file, query)),
+        Ok(file) => answer_file(alloc, file, query),
         Err(end) => answer_end(alloc, end),
     }
 }

@@ -1,3 +1,4 @@
+//! The addresses that are code: those of sections with the flags ALLOC and EXECINSTR.
 ghost use Rattle.std.specs.Prelude.{◌≡◌, IfOk};
 ghost use Rattle.std.specs.List.{filter_map};
 ghost use Rattle.range_set.specs.Starts.{AllFrom};

@@ -1,3 +1,5 @@
+//! Numbers of ELF64 and of the System V ABI for AMD64, by their names there.
+
 // Values of header fields, by their names in the System V ABI.
 pub const EI_CLASS: usize = 4;
 

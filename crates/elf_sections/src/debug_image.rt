@@ -1,3 +1,4 @@
+//! The image of a binary and its separate debug file.
 ghost use Rattle.std.specs.Prelude.{◌≡◌, IfOk, map};
 ghost use Rattle.std.specs.List.{filter};
 ghost use Rattle.elf_sections.specs.Programs.{is_in_code};

@@ -1,3 +1,4 @@
+//! Why a file has no image.
 use thiserror::Error;
 
 /// Why a file is no image that is read, in the order in which faults are looked for.

@@ -1,3 +1,4 @@
+//! The file header (ELF64).
 ghost use Rattle.std.specs.Prelude.{◌≡◌, ◌≤◌, ◌+◌, ◌*◌, ℕ, nat_le, None, Some, length, MatchResult, IfOk, OnOk, IsTrue};
 ghost use Rattle.elf_sections.specs.FileHeader.{header_of, header_fault, ident_fault, has_sections};
 ghost use Rattle.elf_sections.specs.ElfNumbers.{file_header_size, section_header_size};

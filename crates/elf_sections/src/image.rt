@@ -1,3 +1,4 @@
+//! The image: what the rest of the program reads of an ELF file.
 ghost use Rattle.std.specs.Prelude.{◌≡◌, ◌≤◌, [], length, unwrap_or, map};
 ghost use Rattle.std.specs.Option.{option_copied};
 ghost use Rattle.range_set.specs.Starts.{AllFrom};

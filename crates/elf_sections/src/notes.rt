@@ -1,3 +1,4 @@
+//! Notes, and the build id among them.
 ghost use Rattle.std.specs.Prelude.{◌≡◌, ◌+◌, ◌≤◌, ℕ, List, [], ◌∷◌, if◌then◌else◌, length, drop, find, filter, true, false, Some, None, IsTrue, IfOk, OnOk, IfSome, MatchOption};
 ghost use Rattle.std.specs.List.{flat_map};
 ghost use Rattle.std.specs.Option.{option_copied, option_map};

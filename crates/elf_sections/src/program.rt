@@ -1,3 +1,4 @@
+//! Program headers (ELF64), and the base: the address of the first loaded segment.
 ghost use Rattle.std.specs.Prelude.{◌≡◌, ◌+◌, ◌*◌, ◌<◌, ◌≤◌, IsTrue, ◌==◌, None, Some, MatchResult, length, find};
 ghost use Rattle.std.specs.Option.{option_map_or};
 ghost use Rattle.elf_sections.specs.FileHeader.{header_of};

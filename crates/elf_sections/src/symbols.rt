@@ -1,3 +1,4 @@
+//! Function symbols of the symbol table.
 ghost use Rattle.std.specs.Prelude.{◌≡◌, ◌≤◌, IfOk, ◌+◌, ◌*◌, ◌/◌, ◌==◌, Some, None, length, find, option_and_then, slice_get};
 ghost use Rattle.std.specs.List.{filter_map, list_any};
 ghost use Rattle.std.specs.Option.{option_copied, option_map};

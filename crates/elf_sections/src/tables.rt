@@ -1,3 +1,4 @@
+//! The file header, the section headers and their names, as they were read.
 ghost use Rattle.std.specs.Prelude.{◌≡◌, ◌+◌, ◌*◌, ◌≤◌, ◌<◌, ◌^◌, not, ℕ, List, Some, None, IfOk, length, position, drop, option_and_then, slice_get, nat_le, nat_eq, is_none, find, ◌==◌};
 ghost use Rattle.std.specs.List.{list_any, starts_with};
 ghost use Rattle.std.specs.Option.{option_copied, option_map, option_or};

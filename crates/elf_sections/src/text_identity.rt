@@ -1,3 +1,4 @@
+//! The identity of a file without a build id, from the first bytes of its code.
 ghost use Rattle.std.specs.Prelude.{◌≡◌, ◌≤◌, length};
 ghost use Rattle.elf_sections.specs.Identity.{folded, front16, folded_byte};
 

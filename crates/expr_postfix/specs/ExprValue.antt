@@ -1,5 +1,7 @@
 -- The value of a DWARF expression (DWARF 5, 2.5.1): its operations go from left to right over a stack of numbers below 2^64, the last one
--- first; the first failure counts, and the value is the last number at the end.
+-- first; the first failure counts, and the value is the last number at the end. Before the expression of a register's rule the standard
+-- pushes the CFA (6.4.2.3), always; before that of the CFA's own rule nothing (6.4.2.2). An expression that never takes a number from below its
+-- own has the same value with the CFA and without it; here it begins without it, so that it has a value where the CFA has none.
 use Rattle.std.specs.Prelude.{ℕ, ◌+◌, ◌-◌, ◌*◌, ◌%◌, ◌^◌, ◌==◌, bit_and, Bool, if◌then◌else◌, List, [], ◌∷◌, Option, None, Some, Result, Ok, Err, ℤ, int_lt}
 use Rattle.std.specs.Int.{w64, cast_signed, cast_unsigned}
 use Rattle.std.specs.List.{slice_index_or}
@@ -75,7 +77,7 @@ unfoldable pub value_over : Regs → List MemRun → List Operation → List ℕ
 value_over regs memory [] stack = top_value stack
 value_over regs memory (operation ∷ later) stack = go_on (with_operation regs memory operation stack) (value_over regs memory later)
 
--- with what the stack begins (DWARF 5, 6.4.2.3): with the CFA, where the expression needs it
+-- with what the stack begins: with the CFA, where the expression takes numbers from below its own
 abbrev pub beginning : Outcome → Option Standing → Result (List ℕ) Cause
 beginning cfa None = Ok []
 beginning cfa (Some Free) = Ok []

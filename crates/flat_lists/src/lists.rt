@@ -92,6 +92,26 @@ impl<T: Copy> FlatLists<T> {
         Ok(())
     }
 
+    /// Forgets all lists, and makes room for so many: the memory of those before is used again.
+    pub fn clear(&mut self, lists: usize) -> Result<(), OutOfMemory>
+        ensures { OnOk result (self.new ≡ []) }
+    {
+        self.ends.clear();
+        self.members.clear();
+        self.ends.reserve(lists)?;
+        Ok(())
+    }
+
+    /// The same lists, in no more room than they take.
+    pub fn copied(&self, alloc: Global) -> Result<FlatLists<T>, OutOfMemory>
+        ensures { IfOk result (λ lists. lists ≡ self.now) }
+    {
+        Ok(FlatLists {
+            ends: Vec::from_slice(alloc, self.ends.as_slice())?,
+            members: Vec::from_slice(alloc, self.members.as_slice())?,
+        })
+    }
+
     /// Gives back the room that no list took.
     pub fn shrink(&mut self)
         ensures { self.new ≡ self.old }

@@ -12,7 +12,7 @@ use Rattle.die_walk.specs.EntryKinds.{is_scope}
 use Rattle.die_walk.specs.EntryTable.{DieFields}
 use Rattle.die_names.specs.declared.unit_read.EntryRef.{EntryRef}
 use Rattle.die_names.specs.declared.unit_read.UnitRead.{UnitRead}
-use Rattle.die_names.specs.Names.{around, scope_front, front_at, fronts, dies_of, front_of}
+use Rattle.die_names.specs.Names.{around, scope_name, scope_front, front_at, fronts, dies_of, front_of}
 use Rattle.die_names.specs.UnitEntries.{Placed, die_from, die_in}
 use Rattle.func_flatten.specs.declared.name_blocks.NameKey.{NameKey}
 use Rattle.clean_names.specs.Names.{skip}
@@ -117,12 +117,12 @@ kept_twice : (text a b : List ℕ) → kept_more (kept_more (kept text) a) b ≡
 kept_twice text a b = ap (λ l. kept_more l b) (sym (kept_joined text a)) ∙ sym (kept_joined (text ++ a) b) ∙ ap kept (append_assoc text a b)
 
 -- the key after what a scope puts in front
-pub key_scope : (old mid new : BlockNumbers) (first second third : NameKey) (d : DieFields) (name : List ℕ) → is_scope d ≡ true → name ≡ unwrap_or d.name (codes "(anonymous)")
+pub key_scope : (old mid new : BlockNumbers) (first second third : NameKey) (d : DieFields) (name : List ℕ) → is_scope d ≡ true → name ≡ scope_name d
     → ((text : List ℕ) → IsKey old first text → IsKey mid second (kept_more text name)) → ((text : List ℕ) → IsKey mid second text → IsKey new third (kept_more text (codes "::")))
     → (text : List ℕ) → IsKey old first (kept text) → IsKey new third (kept (text ++ scope_front d))
 unfolding scope_front
 key_scope old mid new first second third d name is named add next text of =
-    let front : scope_front d ≡ unwrap_or d.name (codes "(anonymous)") ++ codes "::" = cond-true _ _ _ is in
+    let front : scope_front d ≡ scope_name d ++ codes "::" = cond-true _ _ _ is in
     subst (IsKey new third)
     (kept_twice text name (codes "::") ∙ ap (λ n. kept (text ++ (n ++ codes "::"))) named ∙ ap (λ f. kept (text ++ f)) (sym front))
     (next (kept_more (kept text) name) (add (kept text) of))

@@ -8,13 +8,10 @@ ghost use Rattle.clean_names.specs.Names.{is_space, skip};
 ghost use Rattle.clean_names.specs.Cleaning.{shown_byte};
 ghost use Rattle.func_flatten.specs.internal.NameBlocks.{kept, kept_more, begun, kept_part, BlockNumbers, number_bytes, number_at, with_byte, with_bytes, text_key, AreNumbered, Grows, IsKey};
 
-use clean_names::{shown_byte, unspaced};
+use clean_names::{NAME_LIMIT, shown_byte, unspaced};
 use std::alloc::Global;
 use std::collections::BTreeMap;
 use sym_edges::OutOfMemory;
-
-/// A name has at most so many bytes.
-const NAME_LIMIT: usize = 65_536;
 
 /// A block with the number in front of it.
 const BLOCK: usize = 68;

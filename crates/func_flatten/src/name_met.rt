@@ -9,6 +9,7 @@ ghost use Rattle.func_flatten.specs.internal.MetNames.{IsMet};
 
 use crate::name_blocks::NameKey;
 use crate::scope_keys::ScopeKeys;
+use clean_names::name_omitted;
 use die_names::{EntryRef, NameRef, Units, clean_slice, name_of, name_parts};
 use std::alloc::Global;
 use sym_edges::OutOfMemory;
@@ -85,7 +86,7 @@ fn made_name(
     if !key.is_empty() {
         return Ok(key);
     }
-    keys.blocks.add(&mut key, b"<name omitted>")?;
+    keys.blocks.add(&mut key, name_omitted())?;
     Ok(key)
 }
 

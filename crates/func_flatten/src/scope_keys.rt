@@ -1,5 +1,5 @@
 //! The keys of what scopes put in front of names, each entry walked once for all names.
-ghost use Rattle.std.specs.Prelude.{◌≡◌, ℕ, ◌++◌, List, codes, unwrap_or, IfOk, IfSome, OnOk, ◌<◌};
+ghost use Rattle.std.specs.Prelude.{◌≡◌, ℕ, ◌++◌, List, IfOk, IfSome, OnOk, ◌<◌};
 ghost use Rattle.std.specs.List.{slice_get};
 ghost use Rattle.die_names.specs.declared.unit_read.UnitRead.{UnitRead};
 ghost use Rattle.die_names.specs.Names.{scope_front, front_at};
@@ -7,7 +7,7 @@ ghost use Rattle.func_flatten.specs.internal.NameBlocks.{kept, Grows, IsKey};
 ghost use Rattle.func_flatten.specs.internal.ScopeFronts.{unit_dies, outer, outer_from, outer_front, inner_front, place_of, AreFronts, IsHalfway};
 
 use crate::name_blocks::{NameBlocks, NameKey};
-use die_names::{EntryRef, Units};
+use die_names::{EntryRef, Units, scope_name};
 use die_walk::Die;
 use std::alloc::Global;
 use std::collections::BTreeMap;
@@ -61,13 +61,6 @@ fn place_of(unit: u32, entry: u32) -> u64
     ensures { result ≡ place_of unit entry }
 {
     u64::from(unit) * 0x1_0000_0000 + u64::from(entry)
-}
-
-/// The name that a scope puts in front.
-fn scope_name<'a>(die: &Die<'_, 'a>) -> &'a [u8]
-    ensures { result.now ≡ unwrap_or die.now.name (codes "(anonymous)") }
-{
-    die.name().unwrap_or(b"(anonymous)")
 }
 
 /// Lets what an entry puts in front follow the text of a key.

@@ -17,7 +17,8 @@ use Rattle.die_names.specs.Owners.{Covering, entry_chain}
 use Rattle.func_flatten.specs.declared.line_run.LineRun.{LineRun}
 use Rattle.func_flatten.specs.Publics.{is_inside}
 use Rattle.inline_chain.specs.InlineRuns.{InlineParts, AreInlineRuns}
-use Rattle.func_records.specs.FuncRecords.{Part, no_path, number_in, path_of_call, call_path, call_line, extent, inline_record, line_record}
+use Rattle.func_records.specs.FuncRecords.{Part, number_in, call_path, call_line, extent, inline_record, line_record}
+use Rattle.die_names.specs.CallPaths.{no_path, path_of_call}
 use Rattle.func_records.specs.TextNames.{call_in}
 use Rattle.func_records.proofs.ChainLemmas.{IsEntry, chain_entry, is_copy_at, Agree, found_any, copies_agree, AllRanges, AllOfRuns, Good, copies_good}
 

@@ -18,7 +18,8 @@ use Rattle.func_flatten.specs.LineRuns.{unit_paths}
 use Rattle.inline_chain.specs.InlineRuns.{InlineParts}
 use Rattle.func_records.specs.declared.path_list.PathRef.{PathRef}
 use Rattle.func_records.specs.internal.Texts.{text_cmp, SameTexts}
-use Rattle.func_records.specs.FuncRecords.{Part, path_in, no_path, call_path, AreLined, names_path}
+use Rattle.func_records.specs.FuncRecords.{Part, path_in, call_path, AreLined, names_path}
+use Rattle.die_names.specs.CallPaths.{no_path}
 use Rattle.func_records.specs.internal.Calls.{call_number, path_or, IsPathed, AreKnown, AreAllKnown}
 use Rattle.func_records.specs.internal.Gathering.{bytes_of, has_text, path_at, has_path, ArePathed, Gathered}
 use Rattle.clean_names.specs.Cleaning.{AreClean}

@@ -1,5 +1,5 @@
 -- The records of functions (Breakpad's symbol_files.md): FILE, INLINE_ORIGIN, FUNC, INLINE and line records.
-use Rattle.std.specs.Prelude.{◌≡◌, ℕ, ◌+◌, ◌-◌, ◌≤◌, ◌<◌, ◌||◌, if◌then◌else◌, map, List, [], ◌∷◌, ◌++◌, Bool, Option, None, Some, unwrap_or, option_and_then, codes}
+use Rattle.std.specs.Prelude.{◌≡◌, ℕ, ◌+◌, ◌-◌, ◌≤◌, ◌<◌, ◌||◌, if◌then◌else◌, map, List, [], ◌∷◌, ◌++◌, Bool, Option, unwrap_or}
 use Rattle.std.specs.List.{slice_get, list_any}
 use Rattle.std.specs.Option.{option_map_or}
 use Rattle.std.specs.Ordering.{nat_cmp}
@@ -10,11 +10,10 @@ use Rattle.sym_edges.specs.Addresses.{Range}
 use Rattle.sym_records.specs.declared.line.Extent.{Extent}
 use Rattle.sym_records.specs.declared.line.SymLine.{SymLine}
 use Rattle.sym_records.specs.declared.line.SymLine.TheVariants.{File, Origin, Func, Inline, Line}
-use Rattle.die_walk.specs.EntryTable.{DieFields}
-use Rattle.line_program.specs.LineMaps.{LineMap, numbered_file}
 use Rattle.die_names.specs.declared.unit_read.UnitRead.{UnitRead}
 use Rattle.die_names.specs.UnitEntries.{Placed, entry_of}
 use Rattle.die_names.specs.Names.{entry_name}
+use Rattle.die_names.specs.CallPaths.{no_path, path_of_call}
 use Rattle.func_flatten.specs.declared.piece.Piece.{Piece}
 use Rattle.func_flatten.specs.declared.line_run.LineRun.{LineRun}
 use Rattle.func_flatten.specs.LineRuns.{unit_paths, AreLineRuns}
@@ -32,22 +31,6 @@ pieces_of parts = map (λ (p : Part). p.piece) parts
 -- the path of a number in a unit's line table
 abbrev pub path_in : List UnitRead → ℕ → ℕ → List ℕ
 path_in units unit path = unwrap_or (slice_get (unit_paths units unit) path) []
-
--- what stands in the place of a path that is not there
-unfoldable pub no_path : List ℕ
-no_path = codes "<name omitted>"
-
--- the path of a file's number, where a line table has that file
-abbrev pub file_path : LineMap → ℕ → Option (List ℕ)
-file_path table file = option_and_then (slice_get table.paths) (numbered_file table file)
-
-abbrev pub file_path_in : ℕ → Option UnitRead → Option (List ℕ)
-file_path_in file None = None
-file_path_in file (Some part) = file_path part.lines file
-
--- the path of the call of an inlined copy, by DW_AT_call_file (DWARF 5, 3.3.8.2) and the line table of its unit
-unfoldable pub path_of_call : List UnitRead → ℕ → DieFields → List ℕ
-path_of_call units unit die = unwrap_or (option_and_then (λ file. file_path_in file (slice_get units unit)) die.call_file) no_path
 
 -- path and line of the call, by the number of the inlined copy in its unit
 abbrev pub call_path : List UnitRead → ℕ → ℕ → List ℕ

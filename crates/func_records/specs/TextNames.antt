@@ -6,7 +6,7 @@ use Rattle.sym_meaning.specs.TextNames.{text_owner, text_line, Call, text_chain}
 use Rattle.die_names.specs.declared.unit_read.UnitRead.{UnitRead}
 use Rattle.die_names.specs.Names.{entry_name}
 use Rattle.die_names.specs.Owners.{Covering, owner, chain, line}
-use Rattle.func_records.specs.FuncRecords.{path_of_call}
+use Rattle.die_names.specs.CallPaths.{path_of_call}
 
 abbrev pub name_of : List UnitRead → Covering → List ℕ
 name_of units c = entry_name units c.unit c.entry

@@ -4,10 +4,12 @@ ghost use Rattle.std.specs.List.{slice_get};
 ghost use Rattle.std.specs.Str.{bytes_eq};
 ghost use Rattle.die_names.specs.declared.unit_read.UnitRead.{UnitRead};
 ghost use Rattle.func_flatten.specs.LineRuns.{unit_paths};
-ghost use Rattle.func_records.specs.FuncRecords.{no_path, path_in};
+ghost use Rattle.func_records.specs.FuncRecords.{path_in};
+ghost use Rattle.die_names.specs.CallPaths.{no_path};
 ghost use Rattle.func_records.specs.internal.Gathering.{path_at, has_path};
 
 use crate::place_guesses::PlaceGuesses;
+use clean_names::name_omitted;
 use die_names::Units;
 use std::alloc::Global;
 use std::marker::Model;
@@ -37,11 +39,11 @@ impl Model for PathList {
 }
 
 /// What stands in the place of a path that is not known.
-#[tactic(auto, unfolding(crate::specs::FuncRecords::no_path))]
+#[tactic(auto, unfolding(die_names::specs::CallPaths::no_path))]
 pub fn no_path() -> &'static [u8]
     ensures { result.now ≡ no_path }
 {
-    b"<name omitted>"
+    name_omitted()
 }
 
 /// The path of a number in a unit's line table.

@@ -5,7 +5,6 @@ pub mod CollectLemmas
 pub mod ClassLemmas
 mod LinkLemmas
 pub mod ApartLemmas
-mod EndLemmas
 mod TreeLemmas
 pub mod LevelLemmas
 pub mod PartLemmas

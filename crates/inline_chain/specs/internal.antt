@@ -3,4 +3,3 @@ pub mod Levels
 pub mod Copies
 pub mod Links
 pub mod Apart
-pub mod CoverEnds

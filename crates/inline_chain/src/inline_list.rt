@@ -6,15 +6,15 @@ ghost use Rattle.step_maps.specs.SpanStretches.{AreFit};
 ghost use Rattle.inline_chain.specs.Trees.{IsTree};
 ghost use Rattle.inline_chain.specs.internal.Levels.{HaveRuns, AllRuns};
 
-use crate::cover_lists::CoverLists;
 use crate::groups::push_level;
 use crate::inline_run::{InlineRun, InlineRuns};
 use crate::levels::level_under;
 use crate::trees::InlineTrees;
+use flat_lists::FlatLists;
 use func_flatten::Piece;
 use std::alloc::Global;
 use std::mem::swap;
-use step_maps::Stretch;
+use step_maps::{Cover, Stretch};
 use sym_edges::{ListOf, OutOfMemory, Span};
 
 /// Lists that each piece fills anew. They are kept for the sake of their memory: what they hold does not matter.
@@ -77,7 +77,7 @@ fn in_exact_room(alloc: Global, runs: &mut Vec<InlineRun>) -> Result<Vec<InlineR
 /// The records of what stands in an owner, level by level.
 fn runs_under(
     alloc: Global,
-    lists: &CoverLists,
+    lists: &FlatLists<Cover>,
     owner: Stretch,
     levels: &mut LevelLists,
 ) -> Result<Vec<InlineRun>, OutOfMemory>

@@ -7,7 +7,7 @@ ghost use Rattle.step_maps.specs.SpanStretches.{AreFit};
 ghost use Rattle.inline_chain.specs.Trees.{list_of};
 ghost use Rattle.inline_chain.specs.internal.Levels.{has_at, covers_at, reaches_under, cut, HaveRuns, StartsCovers};
 
-use crate::cover_lists::CoverLists;
+use flat_lists::FlatLists;
 use std::alloc::AllocError;
 use step_maps::{Cover, Stretch};
 
@@ -51,9 +51,20 @@ fn push_under(next: &mut Vec<Stretch>, covers: &[Cover], around: Stretch) -> Res
     Ok(())
 }
 
+/// The covers of the copies directly in an entry.
+#[tactic(auto, unfolding(crate::specs::Trees::list_of))]
+fn covers_in(lists: &FlatLists<Cover>, entry: usize) -> &[Cover]
+    ensures { result.now ≡ list_of lists.now entry }
+{
+    match lists.get(entry) {
+        Some(covers) => covers,
+        None => &[],
+    }
+}
+
 /// Puts in the place of what was there what stands directly in the entries of a level, at the addresses at which these stand.
 pub fn level_under(
-    lists: &CoverLists,
+    lists: &FlatLists<Cover>,
     level: &[Stretch],
     next: &mut Vec<Stretch>,
 ) -> Result<(), AllocError>
@@ -65,7 +76,7 @@ pub fn level_under(
     next.clear();
     let mut rest = level;
     'level: while let Some((around, later)) = rest.split_first() {
-        push_under(next, lists.get(around.class as usize), *around)?;
+        push_under(next, covers_in(lists, around.class as usize), *around)?;
         rest = later;
     }
     Ok(())

@@ -10,13 +10,12 @@
 //! definitions there are for the code alone. For n ranges of inlined copies in a unit the trees take n log n turns, and a piece
 //! takes as many as there are ranges on its levels, each with a search.
 //!
-//! To read: `inline_run`, then `inside`, `met_copies`, `children`, `class_links`, `cover_sweep`, `cover_lists`, `tree_scratch` and `trees`, then `levels`, `groups`
+//! To read: `inline_run`, then `inside`, `met_copies`, `children`, `class_links`, `cover_sweep`, `tree_scratch` and `trees`, then `levels`, `groups`
 //! and `inline_list`.
 #![tactic(auto)]
 
 mod children;
 mod class_links;
-mod cover_lists;
 mod cover_sweep;
 mod groups;
 mod inline_list;

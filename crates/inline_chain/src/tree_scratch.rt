@@ -1,7 +1,7 @@
 //! What a worker keeps from the tree of one unit to that of the next.
 use crate::class_links::ClassLinks;
-use crate::cover_lists::CoverLists;
 use crate::met_copies::MetCopies;
+use flat_lists::FlatLists;
 use std::alloc::Global;
 use step_maps::{Cover, Stretch};
 
@@ -13,7 +13,7 @@ pub struct TreeScratch {
     pub stretches: Vec<Stretch>,
     pub links: ClassLinks,
     pub class: ClassScratch,
-    pub lists: CoverLists,
+    pub lists: FlatLists<Cover>,
 }
 
 /// Lists that each class of a unit fills anew.
@@ -37,7 +37,7 @@ impl TreeScratch {
                 sorted: Vec::new(alloc),
                 own: Vec::new(alloc),
             },
-            lists: CoverLists::new(alloc),
+            lists: FlatLists::new(alloc),
         }
     }
 }

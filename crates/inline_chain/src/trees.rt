@@ -10,10 +10,10 @@ ghost use Rattle.inline_chain.specs.Trees.{IsTree, AreTrees};
 
 use crate::children::collect_copies;
 use crate::class_links::{ClassLinks, fill_class, fill_links};
-use crate::cover_lists::CoverLists;
 use crate::cover_sweep::fill_covers;
 use crate::tree_scratch::{ClassScratch, TreeScratch};
 use die_names::{UnitRead, Units};
+use flat_lists::FlatLists;
 use std::alloc::Global;
 use std::marker::Model;
 use std::thread::Threads;
@@ -25,7 +25,7 @@ use unit_workers::{NoGate, UnitJob, run_all};
 #[derive(Drop)]
 pub struct InlineTrees<'u, 'a> {
     units: &'u Units<'a>,
-    trees: Vec<CoverLists>,
+    trees: Vec<FlatLists<Cover>>,
 }
 
 impl<'u, 'a> Model for InlineTrees<'u, 'a> {
@@ -56,14 +56,14 @@ impl<'u, 'a> InlineTrees<'u, 'a> {
     }
 
     /// The covers of the entries of a unit.
-    pub(crate) fn tree(&self, unit: u32) -> Option<&CoverLists>
+    pub(crate) fn tree(&self, unit: u32) -> Option<&FlatLists<Cover>>
         ensures { TreeFor (slice_get self.now unit) (option_copied result) }
     {
         tree_in(self.trees.as_slice(), unit as usize)
     }
 }
 
-fn tree_in(trees: &[CoverLists], unit: usize) -> Option<&CoverLists>
+fn tree_in(trees: &[FlatLists<Cover>], unit: usize) -> Option<&FlatLists<Cover>>
     ensures { option_copied result ≡ slice_get trees.now unit }
 {
     trees.get(unit)
@@ -99,7 +99,7 @@ fn unit_at<'u, 'a>(units: &'u [UnitRead<'a>], k: usize) -> Option<&'u UnitRead<'
 }
 
 impl<'u, 'a> UnitJob for TreeMaker<'u, 'a> {
-    type Out = CoverLists;
+    type Out = FlatLists<Cover>;
 
     type Scratch = TreeScratch;
 
@@ -115,7 +115,7 @@ impl<'u, 'a> UnitJob for TreeMaker<'u, 'a> {
         alloc: Global,
         k: usize,
         scratch: &mut TreeScratch,
-    ) -> Result<CoverLists, OutOfMemory> {
+    ) -> Result<FlatLists<Cover>, OutOfMemory> {
         match unit_at(self.units.as_slice(), k) {
             Some(part) => tree_of(alloc, part, scratch),
             None => Err(OutOfMemory),
@@ -129,7 +129,7 @@ fn all_trees<R: Threads + Sync>(
     alloc: Global,
     units: &Units<'_>,
     workers: usize,
-) -> Result<Vec<CoverLists>, OutOfMemory>
+) -> Result<Vec<FlatLists<Cover>>, OutOfMemory>
     requires workers { (1 ≤ workers) × (workers ≤ 64) }
     ensures { IfOk result (λ trees. AreTrees units.now trees.items) }
 {
@@ -144,7 +144,7 @@ fn tree_of(
     alloc: Global,
     part: &UnitRead<'_>,
     scratch: &mut TreeScratch,
-) -> Result<CoverLists, OutOfMemory>
+) -> Result<FlatLists<Cover>, OutOfMemory>
     requires { length part.now.die.dies < 2 ^ 32 }
     ensures { IfOk result (λ lists. IsTree part.now lists) }
 {
@@ -170,7 +170,7 @@ fn tree_of(
 /// Adds the covers of stretches. `sorted` and `own` are used again for the sake of their memory.
 fn push_covers(
     alloc: Global,
-    lists: &mut CoverLists,
+    lists: &mut FlatLists<Cover>,
     group: &[Stretch],
     sorted: &mut Vec<Stretch>,
     own: &mut Vec<Cover>,
@@ -189,16 +189,16 @@ fn fill_lists(
     items: &[Stretch],
     links: &ClassLinks,
     class_lists: &mut ClassScratch,
-    lists: &mut CoverLists,
+    lists: &mut FlatLists<Cover>,
 ) -> Result<(), OutOfMemory>
     requires fit { AreFit items.now }
     requires linked { AreLinked items.now links.now.firsts.items links.now.nexts.items }
     ensures { OnOk result (AreLists items.now lists.new) }
 {
-    lists.begin(links.firsts.len())?;
+    lists.clear(links.firsts.len())?;
     'classes: for class in 0..links.firsts.len() {
         if links.firsts[class] == 0 {
-            lists.push_none()?;
+            lists.push(&[])?;
             continue;
         }
         fill_class(items, links, class, &mut class_lists.group)?;

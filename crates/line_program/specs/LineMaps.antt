@@ -16,6 +16,10 @@ pub record LineMap : Type 0 where
   pub first : ℕ
   pub files : List ℕ
 
+-- no line and no file
+abbrev pub no_lines : LineMap
+no_lines = record { lines = record { stops = []; values = [] }; paths = []; first = 0; files = [] }
+
 -- no line
 abbrev pub no_line : PathLine
 no_line = record { path = 0; line = 0 }

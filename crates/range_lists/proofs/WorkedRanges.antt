@@ -58,6 +58,7 @@ die low high ranges = record {
   origin = None;
   spec = None;
   name = None;
+  name_elsewhere = false;
   linkage = None;
   call_file = None;
   call_line = 0;

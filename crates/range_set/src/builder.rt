@@ -1,3 +1,4 @@
+//! Making a set from spans in the order of their starts.
 ghost use Rattle.std.specs.Prelude.{◌≡◌, ℕ, ◌<◌, ◌≤◌, ◌||◌, ◌&&◌, max, nat_le, nat_lt, List, [], length, IsOk, IfOk, OnOk};
 ghost use Rattle.range_set.specs.Members.{holds, holds_any};
 ghost use Rattle.range_set.specs.Building.{last_start};

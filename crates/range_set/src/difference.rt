@@ -1,3 +1,4 @@
+//! The difference of two sets.
 ghost use Rattle.std.specs.Prelude.{◌≡◌, ℕ, ◌≤◌, ◌<◌, ◌||◌, ◌&&◌, nat_le, nat_lt, max, not, IfOk, OnOk};
 ghost use Rattle.range_set.specs.Members.{holds, holds_any};
 ghost use Rattle.range_set.specs.Canonical.{IsCanonical};

@@ -1,3 +1,4 @@
+//! The intersection of two sets.
 ghost use Rattle.std.specs.Prelude.{◌≡◌, ℕ, ◌≤◌, ◌||◌, ◌&&◌, max, true, IfOk, OnOk};
 ghost use Rattle.range_set.specs.Members.{holds, holds_any};
 ghost use Rattle.range_set.specs.Canonical.{IsCanonical};

@@ -1,3 +1,4 @@
+//! The law that a set of addresses has one list.
 ghost use Rattle.std.specs.Prelude.{◌≡◌, ℕ, List};
 ghost use Rattle.sym_edges.specs.Addresses.{Range};
 ghost use Rattle.range_set.specs.Members.{holds_any};

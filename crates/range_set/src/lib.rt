@@ -11,8 +11,8 @@
 //!
 //! A set of one span, by far the most frequent, and the empty one take no memory beyond the struct.
 //!
-//! To read: `set` first, then `building`, on which the merges stand, the merges `joining`, `meeting` and `cutting`, then
-//! `searching` and `law`; `outermost` stands alone.
+//! To read: `set` first, then `builder`, on which the merges stand, the merges `merge`, `intersection` and `difference`, then
+//! `search` and `law`; `outermost` stands alone.
 #![tactic(auto)]
 
 mod builder;

@@ -1,3 +1,4 @@
+//! The union of spans, and of two sets.
 ghost use Rattle.std.specs.Prelude.{◌≡◌, ℕ, ◌≤◌, ◌||◌, true, [], length, IfOk, OnOk, IsOk};
 ghost use Rattle.std.specs.List.Sorted.{IsNonDecreasingBy, IsPermutation};
 ghost use Rattle.range_set.specs.Members.{holds_any};

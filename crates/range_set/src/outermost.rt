@@ -1,3 +1,4 @@
+//! Whether some span encloses a range of addresses.
 ghost use Rattle.std.specs.Prelude.{◌≡◌, ℕ, List, IfOk};
 ghost use Rattle.sym_edges.specs.Addresses.{Range};
 ghost use Rattle.range_set.specs.Building.{AreAscending};

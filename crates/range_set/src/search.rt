@@ -1,3 +1,4 @@
+//! Finding an address in a set, by halves.
 ghost use Rattle.std.specs.Prelude.{◌≡◌};
 ghost use Rattle.range_set.specs.Members.{holds_any};
 ghost use Rattle.range_set.specs.Canonical.{IsCanonical};

@@ -1,3 +1,4 @@
+//! Sets of addresses.
 ghost use Rattle.std.specs.Prelude.{◌≡◌, ℕ, ◌&&◌, ◌||◌, ◌==◌, not, [], ◌∷◌, length, slice_get, IfOk};
 ghost use Rattle.std.specs.Option.{option_copied};
 ghost use Rattle.range_set.specs.Members.{holds_any};

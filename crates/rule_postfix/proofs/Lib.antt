@@ -27,6 +27,7 @@ pub mod ShownLemmas
 pub mod FoundLemmas
 pub mod ValueLemmas
 pub mod MeaningLemmas
+pub mod CfaLemmas
 pub mod ComputingBelow
 pub mod Computing
 pub mod WorkedSections

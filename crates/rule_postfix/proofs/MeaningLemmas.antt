@@ -77,10 +77,10 @@ unfolding AreAbove
 above_parts base [] e ys above = (tt, above.0)
 above_parts base (f ∷ xs) e ys above = let rest = above_parts base xs e ys above.1 in ((above.0, rest.0), rest.1)
 
-low_held : (a : ℕ) (e : FdeFields) → holds_address a e ≡ true → e.start ≤ a
+pub low_held : (a : ℕ) (e : FdeFields) → holds_address a e ≡ true → e.start ≤ a
 low_held a e held = leb-true e.start a (and_parts (nat_le e.start a) (nat_lt a (e.start + e.size)) held).0
 
-high_held : (a : ℕ) (e : FdeFields) → holds_address a e ≡ true → a < e.start + e.size
+pub high_held : (a : ℕ) (e : FdeFields) → holds_address a e ≡ true → a < e.start + e.size
 high_held a e held = ltb-true a (e.start + e.size) (and_parts (nat_le e.start a) (nat_lt a (e.start + e.size)) held).1
 
 -- what is known of the entries that are written

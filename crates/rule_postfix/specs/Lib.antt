@@ -7,4 +7,5 @@ pub mod Covering
 pub mod Decision
 pub mod RowValue
 pub mod FrameMeaning
+pub mod KnownCfa
 pub mod internal

@@ -1,6 +1,6 @@
 //! Laws of the definitions, for readers and for proofs above. Each function does nothing: its contract is the law.
 ghost use Rattle.std.specs.Prelude.{◌≡◌, ℕ, ◌+◌, ◌<◌, ◌≤◌, ◌^◌, true, None, List, [], ◌∷◌, ◌++◌, length};
-ghost use Rattle.std.specs.List.{list_all};
+ghost use Rattle.std.specs.List.{AllByRecursion, list_all};
 ghost use Rattle.sym_edges.specs.Addresses.{Range};
 ghost use Rattle.frame_entries.specs.declared.description.Entry.{Entry};
 ghost use Rattle.frame_entries.specs.FdeFields.{FdeFields};
@@ -18,6 +18,7 @@ ghost use Rattle.rule_postfix.specs.Written.{decided_behind, decided_of, reason_
 ghost use Rattle.rule_postfix.specs.Covering.{SaysFrames};
 ghost use Rattle.rule_postfix.specs.Decision.{omission_for, fields_for};
 ghost use Rattle.rule_postfix.specs.FrameMeaning.{KeepsFrames};
+ghost use Rattle.rule_postfix.specs.KnownCfa.{HasKnownCfa};
 
 /// An entry is left out with a reason exactly where that is its reason after the entries written before it, and is written
 /// exactly where it has none: what is decided at its place depends on nothing else, and is followed by what is decided of
@@ -63,10 +64,16 @@ pub fn frames_have_no_findings()
     ensures apart { (base : ℕ) (entries : List FdeFields) (lines : List SymLine) → SaysFrames base entries lines → (x : ℕ) → inits_at lines x ≤ 1 }
 {}
 
+/// At each address of a written entry, for all registers and all memory of bytes, the CFA of the entry's row is a number of 64 bits, or fails:
+/// it is never undefined.
+pub fn written_entries_have_a_cfa()
+    ensures { (code : List Range) (first second : List Entry) → AllByRecursion HasKnownCfa (written code first second) }
+{}
+
 /// The records of the written entries, after records that say nothing of frames, mean what the rows of the entries mean: at each address of a
 /// written entry, for all registers and all memory, evaluating the rules gives the CFA, the return address and the registers that DWARF's
-/// row gives, each failure with its cause; and no rule stands at any other address. One thing no rule can say: that rbx, rbp, rsp or
-/// one of r12 to r15 is undefined.
+/// row gives, each failure with its cause; and no rule stands at any other address. One thing the records do not say: that rbx, rbp, rsp
+/// or one of r12 to r15 is undefined.
 #[tactic(auto, using(crate::proofs::MeaningLemmas::frames_kept))]
 pub fn frames_are_kept()
     ensures { (base : ℕ) (code : List Range) (first second : List Entry) (front : List SymLine) → AllFrom base code → list_all is_frameless front ≡ true →

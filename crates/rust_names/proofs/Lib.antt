@@ -6,8 +6,8 @@ mod NameLemmas
 mod ShownLemmas
 mod WholeLemmas
 mod VisibleLemmas
-mod RecordLemmas
+pub mod RecordLemmas
 mod LookupLemmas
-mod FindingLemmas
+pub mod FindingLemmas
 pub mod Computing
 mod WorkedNames

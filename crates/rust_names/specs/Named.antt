@@ -1,5 +1,5 @@
--- The name for a name, as a function: what the name shows, where it shows something, and itself elsewhere. It is found by reading the name
--- from left to right; a law (`names_are_shown`) says that it is the name for it of `IsNameFor`.
+-- The name for a name, as a function: the law `names_are_shown` says of it `IsNameFor name (named name)`, and `IsNameFor` (`ShownRecords`) leaves
+-- one name alone. So it is what the name shows, where it shows something, and the name itself elsewhere; how `shown_of` finds it needs no reading.
 use Rattle.std.specs.Prelude.{ℕ, List}
 use Rattle.std.specs.Option.{option_map_or}
 use Rattle.rust_names.specs.internal.Reading.{shown_of}

@@ -72,7 +72,7 @@ abbrev pub begins_with_digit : List ℕ → Bool
 begins_with_digit [] = false
 begins_with_digit (b ∷ bytes) = is_digit b
 
--- the `_` that stands in front of a part's first `$` says nothing
+-- the `_` that is left out begins the part, and a `$` follows it
 abbrev pub undashed : List ℕ → List ℕ
 undashed bytes = if starts_with nat_eq bytes (codes "_$") then drop 1 bytes else bytes
 

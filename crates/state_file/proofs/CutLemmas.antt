@@ -1,43 +1,43 @@
--- Lemmas on the place of a byte, on lines and on words.
-use Rattle.std.proofs.Common.{◌≡◌, ◌+◌, ◌-◌, ◌<◌, ◌≤◌, ◌==◌, ℕ, suc, ltb, cond, Bool, true, false, not, ◌⊎◌, inl, inr, List, [], ◌∷◌, length, get_or, take, drop, None, Some, refl, sym, ap, ◌∙◌, arith}
+-- Lemmas on lines and on words.
+use Rattle.std.proofs.Common.{◌≡◌, ◌+◌, ◌<◌, ◌==◌, ℕ, zero, suc, cond, Bool, true, false, ◌⊎◌, inl, inr, List, [], ◌∷◌, length, get_or, take, drop, None, Some, refl, sym, ap, ◌∙◌, arith}
 use Rattle.clean_names.proofs.SkipLemmas.{Begins, begins_skip}
-use Rattle.std.proofs.lemmas.Bool.{lt-ltb, le-ltb, ne_eqb, eq-eqb, eqb-true, eqb-false}
-use Rattle.std.proofs.lemmas.Bool.Decides.{nat_tests}
-use Rattle.std.proofs.lemmas.List.{take_rest, drop-drop, nil_from_length}
-use Rattle.std.proofs.lemmas.List.Sums.{position_or_len_is}
+use Rattle.std.proofs.lemmas.Bool.{false_from_ne_true}
+use Rattle.std.proofs.lemmas.List.{nil_from_length}
+use Rattle.memchr.specs.Find.{IsFirstByte, is_byte}
 use Rattle.sym_rules.specs.Cuts.{is_space, before, from, skip, onto, split_lines}
 use Rattle.sym_rules.specs.RuleReading.{words}
-use Rattle.state_file.specs.internal.Parts.{place_of, two_of}
+use Rattle.state_file.specs.internal.Parts.{two_of}
 
-one_add : (n : ℕ) → 1 + n ≡ suc n
-one_add n = omega arith
-
--- the search for a byte
-pub place_found : (b : ℕ) (bytes : List ℕ) (i : ℕ) → i < length bytes → get_or bytes i 0 ≡ b → ((k : ℕ) → k < i → get_or bytes k 0 ≡ b → ⊥) → i ≡ place_of b bytes
-place_found b bytes i l e before =
-    sym (position_or_len_is (λ x. x == b) bytes i 0 (omega arith) (λ k h. ne_eqb (get_or bytes k 0) b (before k h)) (λ _. eq-eqb (get_or bytes i 0) b e))
-
-pub place_missing : (b : ℕ) (bytes : List ℕ) (i : ℕ) → length bytes ≤ i → i ≤ length bytes → ((k : ℕ) → k < i → get_or bytes k 0 ≡ b → ⊥) → length bytes ≡ place_of b bytes
-place_missing b bytes i most least before =
-    let all : i ≡ length bytes = omega arith in
-    sym all ∙ sym (position_or_len_is (λ x. x == b) bytes i 0 least (λ k h. ne_eqb (get_or bytes k 0) b (before k h)) (λ l. absurd (omega arith)))
-
--- the lines of a text: the first one, and those behind its LF
-abbrev behind_lf : ℕ → List ℕ → List (List ℕ)
-behind_lf n bytes = cond (ltb n (length bytes)) (split_lines (drop (n + 1) bytes)) []
-
-lines_by : (t : Bool) (x : ℕ) (xs : List ℕ) (n : ℕ) → split_lines xs ≡ take n xs ∷ behind_lf n xs
-    → cond t ([] ∷ split_lines xs) (onto x (split_lines xs)) ≡ take (cond (not t) (1 + n) 0) (x ∷ xs) ∷ behind_lf (cond (not t) (1 + n) 0) (x ∷ xs)
-lines_by true x xs n h = rw (lt-ltb 0 (suc (length xs)) (omega arith)) refl
-lines_by false x xs n h =
-    let test : ltb (suc n) (suc (length xs)) ≡ ltb n (length xs) = grind (arith, nat_tests) in
-    let next : suc n + 1 ≡ suc (n + 1) = omega arith in
-    rw (one_add n, test, next) (ap (onto x) h)
-
-pub lines_cut : (bytes : List ℕ) → split_lines bytes ≡ take (place_of 10 bytes) bytes ∷ behind_lf (place_of 10 bytes) bytes
+-- the lines of a text: a byte other than LF stands in the first one
+split_within : (b : ℕ) (bytes : List ℕ) → ((b == 10) ≡ true → ⊥) → split_lines (b ∷ bytes) ≡ onto b (split_lines bytes)
 unfolding split_lines
-lines_cut [] = refl
-lines_cut (x ∷ xs) = lines_by (x == 10) x xs (place_of 10 xs) (lines_cut xs)
+split_within b bytes within = ap (λ t. cond t ([] ∷ split_lines bytes) (onto b (split_lines bytes))) (false_from_ne_true (b == 10) within)
+
+-- a text with no LF is one line
+one_line : (bytes : List ℕ) → ((k : ℕ) → k < length bytes → (get_or bytes k 0 == 10) ≡ true → ⊥) → split_lines bytes ≡ bytes ∷ []
+unfolding split_lines
+one_line [] none = refl
+one_line (b ∷ bytes) none = split_within b bytes (none 0 (omega arith)) ∙ ap (onto b) (one_line bytes (λ k lt. none (suc k) (omega arith)))
+
+-- the first line ends before the first LF
+first_line : (bytes : List ℕ) (n : ℕ) → n < length bytes → ((k : ℕ) → k < n → (get_or bytes k 0 == 10) ≡ true → ⊥) → (get_or bytes n 0 == 10) ≡ true
+    → split_lines bytes ≡ take n bytes ∷ split_lines (drop (n + 1) bytes)
+unfolding split_lines
+first_line [] n within before is = absurd (omega arith)
+first_line (b ∷ bytes) zero within before is = ap (λ t. cond t ([] ∷ split_lines bytes) (onto b (split_lines bytes))) is
+first_line (b ∷ bytes) (suc n) within before is =
+    let next : suc n + 1 ≡ suc (n + 1) = omega arith in
+    rw next (split_within b bytes (before 0 (omega arith))
+    ∙ ap (onto b) (first_line bytes n (omega arith) (λ k lt. before (suc k) (omega arith)) is))
+
+-- the last line, and one with others behind it, by the search for LF
+pub line_last : (bytes : List ℕ) → IsFirstByte (is_byte 10) bytes None → split_lines bytes ≡ bytes ∷ []
+line_last bytes none = one_line bytes (λ k lt. none k (omega arith) lt)
+
+pub line_first : (bytes front behind : List ℕ) (n : ℕ) → IsFirstByte (is_byte 10) bytes (Some n) → front ≡ take n bytes → behind ≡ drop (n + 1) bytes → split_lines bytes ≡ front ∷ split_lines behind
+line_first bytes front behind n found f b =
+    first_line bytes n found.0.high (λ k lt. found.0.before k (omega arith) lt) found.1
+    ∙ ap (λ l. l ∷ split_lines (drop (n + 1) bytes)) (sym f) ∙ ap (λ l. front ∷ split_lines l) (sym b)
 
 -- the words of bytes: spaces in front do not count, and the first word ends at a space
 skip_by : (t : Bool) (x : ℕ) (xs : List ℕ) → t ≡ (x == 32) → words xs ≡ words (skip is_space xs) → words (x ∷ xs) ≡ words (cond t (skip is_space xs) (x ∷ xs))
@@ -142,19 +142,3 @@ two_exact bytes first behind second rest f some none = rw (parts bytes first beh
 
 pub two_many : (bytes first behind second rest : List ℕ) → Found bytes first behind second rest → 0 < length second → 0 < length (skip is_space rest) → None ≡ two_of (words bytes)
 two_many bytes first behind second rest f some more = rw (parts bytes first behind second rest f some) (many_words first second rest more (words_seen rest))
-
--- the last line, and one with others behind it
-pub line_last : (bytes front behind : List ℕ) (n : ℕ) → n ≡ place_of 10 bytes → front ≡ take n bytes → behind ≡ drop n bytes → length behind + n ≡ length bytes → true ≡ (length behind == 0) → split_lines bytes ≡ front ∷ []
-line_last bytes front behind n e f b long h =
-    let none : length behind ≡ 0 = eqb-true (length behind) 0 (sym h) in
-    let past : ltb n (length bytes) ≡ false = le-ltb n (length bytes) (omega arith) in
-    lines_cut bytes ∙ ap (λ k. take k bytes ∷ behind_lf k bytes) (sym e) ∙ ap (λ t. take n bytes ∷ cond t (split_lines (drop (n + 1) bytes)) []) past ∙ ap (λ l. l ∷ []) (sym f)
-
-pub line_first : (bytes front behind : List ℕ) (n : ℕ) → n ≡ place_of 10 bytes → front ≡ take n bytes → behind ≡ drop n bytes → length behind + n ≡ length bytes → false ≡ (length behind == 0)
-    → split_lines bytes ≡ front ∷ split_lines (take (length behind - 1) (drop 1 behind))
-line_first bytes front behind n e f b long h =
-    let some : length behind ≡ 0 → ⊥ = eqb-false (length behind) 0 (sym h) in
-    let within : ltb n (length bytes) ≡ true = lt-ltb n (length bytes) (omega arith) in
-    let later : drop (n + 1) bytes ≡ take (length behind - 1) (drop 1 behind) = sym (take_rest behind 1 ∙ ap (drop 1) b ∙ drop-drop 1 n bytes) in
-    lines_cut bytes ∙ ap (λ k. take k bytes ∷ behind_lf k bytes) (sym e) ∙ ap (λ t. take n bytes ∷ cond t (split_lines (drop (n + 1) bytes)) []) within
-    ∙ ap (λ l. l ∷ split_lines (drop (n + 1) bytes)) (sym f) ∙ ap (λ l. front ∷ split_lines l) later

@@ -1,10 +1,16 @@
 -- Lemmas on numbers and bytes by their hexadecimal digits.
-use Rattle.std.proofs.Common.{◌≡◌, ℕ, ◌+◌, ◌*◌, ◌^◌, ◌<◌, ◌≤◌, cond, List, [], ◌∷◌, ◌++◌, length, drop, get_or, Option, Some, None, refl, sym, ◌∙◌, ap, arith, append_assoc, append-nil}
+use Rattle.std.proofs.Common.{◌≡◌, ℕ, ◌+◌, ◌*◌, ◌%◌, ◌^◌, ◌<◌, ◌≤◌, cond, ◌⊎◌, inl, inr, List, [], ◌∷◌, length, drop, get_or, Option, Some, None, Result, Ok, Err, refl, sym, ◌∙◌, ap, arith}
 use Rattle.std.specs.Option.{option_map, option_and_then}
+use Rattle.std.specs.Result.{result_ok}
 use Rattle.std.proofs.Math.Nat.{pow-le-pow_right}
-use Rattle.std.proofs.lemmas.List.{at_drop_more, at_drop_all, drop_more, drop_all}
-use Rattle.std.proofs.lemmas.Bool.{lt-ltb, le-ltb}
+use Rattle.std.proofs.lemmas.List.{at_drop_more, at_drop_all}
+use Rattle.std.proofs.lemmas.Bool.{lt-ltb, le-ltb, cases_eq}
+use Rattle.std.proofs.lemmas.Bool.Decides.{nat_tests}
 use Rattle.std.proofs.lemmas.Grind.{common_steps}
+use Rattle.hex.specs.Hex.{hex_digit_value, decode_of, decode_pairs, digit_or_error, ◌>>=◌}
+use Rattle.hex.specs.declared.error.FromHexError.{FromHexError}
+use Rattle.hex.specs.declared.error.FromHexError.TheVariants.{OutOfMemory}
+use Rattle.hex.proofs.HexLemmas.{decode_of-even, decode_of-odd}
 use Rattle.sym_records.specs.FieldReading.{hex_digit, hex_onto, hex_value}
 use Rattle.state_file.specs.StateText.{byte_of, bytes_of}
 
@@ -38,35 +44,48 @@ hex_grows n v i less small = grind (arith, common_steps)
 pub hex_room : (n i : ℕ) → n < 16 ^ i → i < 16 → n < 2 ^ 60
 hex_room n i less few = let most : 16 ^ i ≤ 16 ^ 15 = pow-le-pow_right {n = 16} (omega arith) {i = i} {j = 15} (omega arith) in omega arith
 
--- bytes by pairs of digits
-pair_at : (ds : List ℕ) (i : ℕ) → i + 1 < length ds → bytes_of (drop i ds) ≡ option_and_then (λ byte. option_map (λ bytes. byte ∷ bytes) (bytes_of (drop (i + 2) ds))) (byte_of (get_or ds i 0) (get_or ds (i + 1) 0))
+-- the digits of the crate `hex` are those of a state file
+same_digit : (d : ℕ) → hex_digit_value d ≡ hex_digit d
+unfolding hex_digit
+same_digit d = grind (arith, nat_tests)
+
+-- two digits, and what stands behind them
+pair_by : (a b i : ℕ) (high low : Option ℕ) (later : Result (List ℕ) FromHexError)
+    → result_ok (digit_or_error a i high >>= (λ h. digit_or_error b (i + 1) low >>= (λ l. Ok (h * 16 + l))) >>= (λ byte. later >>= (λ bytes. Ok (byte ∷ bytes))))
+    ≡ option_and_then (λ byte. option_map (λ bytes. byte ∷ bytes) (result_ok later)) (option_and_then (λ h. option_map (λ l. h * 16 + l) low) high)
+pair_by a b i None low later = refl
+pair_by a b i (Some h) None later = refl
+pair_by a b i (Some h) (Some l) (Ok bytes) = refl
+pair_by a b i (Some h) (Some l) (Err e) = refl
+
+pairs_are : (i : ℕ) (ds : List ℕ) → result_ok (decode_pairs i ds) ≡ bytes_of ds
+unfolding decode_pairs bytes_of
+pairs_are i [] = refl
+pairs_are i (a ∷ []) = refl
+pairs_are i (a ∷ b ∷ ds) = rw (← pairs_are (i + 2) ds, ← same_digit a, ← same_digit b) (pair_by a b i (hex_digit_value a) (hex_digit_value b) (decode_pairs (i + 2) ds))
+
+-- an odd number of digits is no run of bytes
+no_bytes : (byte : Option ℕ) → option_and_then (λ b. option_map (λ bytes. b ∷ bytes) None) byte ≡ None
+no_bytes None = refl
+no_bytes (Some b) = refl
+
+odd_run : (ds : List ℕ) → length ds % 2 ≡ 1 → bytes_of ds ≡ None
 unfolding bytes_of
-pair_at ds i within =
-    let next : i + 1 + 1 ≡ i + 2 = omega arith in
-    let two : drop i ds ≡ get_or ds i 0 ∷ get_or ds (i + 1) 0 ∷ drop (i + 2) ds =
-    drop_more ds i 0 (omega arith) ∙ ap (λ l. get_or ds i 0 ∷ l) (drop_more ds (i + 1) 0 within ∙ ap (λ k. get_or ds (i + 1) 0 ∷ drop k ds) next) in
-    ap bytes_of two
+odd_run [] odd = absurd (omega arith)
+odd_run (a ∷ []) odd = refl
+odd_run (a ∷ b ∷ ds) odd = rw (odd_run ds (omega arith)) (no_bytes (byte_of a b))
 
-pub pairs_bad : (ds items : List ℕ) (i : ℕ) → i + 1 < length ds → None ≡ byte_of (get_or ds i 0) (get_or ds (i + 1) 0) → bytes_of ds ≡ option_map (λ later. items ++ later) (bytes_of (drop i ds)) → bytes_of ds ≡ None
-pairs_bad ds items i within is so_far =
-    so_far ∙ ap (option_map (λ later. items ++ later)) (pair_at ds i within ∙ ap (option_and_then (λ byte. option_map (λ bytes. byte ∷ bytes) (bytes_of (drop (i + 2) ds)))) (sym is))
+decoded : (ds : List ℕ) → result_ok (decode_of ds) ≡ bytes_of ds
+decoded ds =
+    elim (cases_eq (length ds % 2) 1) [
+      | inl odd ↦ ap result_ok (decode_of-odd ds odd) ∙ sym (odd_run ds odd)
+      | inr even ↦ ap result_ok (decode_of-even ds (omega arith)) ∙ pairs_are 0 ds
+    ]
 
-joined : (items more : List ℕ) (byte : ℕ) (o : Option (List ℕ)) → more ≡ items ++ byte ∷ [] → option_map (λ later. items ++ later) (option_map (λ bytes. byte ∷ bytes) o) ≡ option_map (λ later. more ++ later) o
-joined items more byte None e = refl
-joined items more byte (Some later) e = ap Some (sym (append_assoc items (byte ∷ []) later) ∙ ap (λ l. l ++ later) (sym e))
+-- what the crate answers says what the digits are
+pub bytes_are : (ds bytes : List ℕ) → decode_of ds ≡ Ok bytes → bytes_of ds ≡ Some bytes
+bytes_are ds bytes is = sym (decoded ds) ∙ ap result_ok is
 
-pub pairs_more : (ds items more : List ℕ) (i byte : ℕ) → i + 1 < length ds → Some byte ≡ byte_of (get_or ds i 0) (get_or ds (i + 1) 0) → bytes_of ds ≡ option_map (λ later. items ++ later) (bytes_of (drop i ds)) → more ≡ items ++ byte ∷ []
-    → bytes_of ds ≡ option_map (λ later. more ++ later) (bytes_of (drop (i + 2) ds))
-pairs_more ds items more i byte within is so_far e =
-    so_far ∙ ap (option_map (λ later. items ++ later)) (pair_at ds i within ∙ ap (option_and_then (λ b. option_map (λ bytes. b ∷ bytes) (bytes_of (drop (i + 2) ds)))) (sym is))
-    ∙ joined items more byte (bytes_of (drop (i + 2) ds)) e
-
-pub pairs_odd : (ds items : List ℕ) (i : ℕ) → i < length ds → length ds ≤ i + 1 → bytes_of ds ≡ option_map (λ later. items ++ later) (bytes_of (drop i ds)) → bytes_of ds ≡ None
-unfolding bytes_of
-pairs_odd ds items i within past so_far =
-    let one : drop i ds ≡ get_or ds i 0 ∷ [] = drop_more ds i 0 within ∙ ap (λ l. get_or ds i 0 ∷ l) (drop_all (i + 1) ds past) in
-    so_far ∙ ap (λ l. option_map (λ later. items ++ later) (bytes_of l)) one
-
-pub pairs_end : (ds items : List ℕ) (i : ℕ) → length ds ≤ i → bytes_of ds ≡ option_map (λ later. items ++ later) (bytes_of (drop i ds)) → bytes_of ds ≡ Some items
-unfolding bytes_of
-pairs_end ds items i past so_far = so_far ∙ ap (λ l. option_map (λ later. items ++ later) (bytes_of l)) (drop_all i ds past) ∙ ap Some (append-nil items)
+pub no_run : (ds : List ℕ) (e : FromHexError) → (e ≡ OutOfMemory) ⊎ (decode_of ds ≡ Err e) → (e ≡ OutOfMemory → ⊥) → bytes_of ds ≡ None
+no_run ds e (inl short) other = absurd (other short)
+no_run ds e (inr is) other = sym (decoded ds) ∙ ap result_ok is

@@ -1,36 +1,23 @@
 //! Where a state file is cut into lines, and a line into words.
-ghost use Rattle.std.specs.Prelude.{◌≡◌, ◌<◌, ◌≤◌, ◌∷◌, length, IfSome};
+ghost use Rattle.std.specs.Prelude.{◌≡◌, ◌<◌, ◌∷◌, length, IfSome};
 ghost use Rattle.std.specs.Option.{option_copied, option_map};
 ghost use Rattle.sym_rules.specs.Cuts.{is_margin, from, trim_end, split_lines};
 ghost use Rattle.sym_rules.specs.RuleReading.{words};
 ghost use Rattle.sym_records.specs.Text.{key_of, trimmed};
-ghost use Rattle.state_file.specs.internal.Parts.{place_of, lines_behind, two_of};
+ghost use Rattle.state_file.specs.internal.Parts.{lines_behind, two_of};
 
+use memchr::memchr;
 use sym_rules::{cut_word, skip_spaces, trim_crs, trim_margin};
-
-/// The first place of a byte, and the length where it is not there.
-fn place_of(bytes: &[u8], byte: u8) -> usize
-    ensures place { result ≡ place_of byte bytes.now }
-    ensures within { result ≤ length bytes.now }
-{
-    'bytes: for (at, b) in bytes.iter().enumerate() {
-        if *b == byte {
-            return at;
-        }
-    }
-    bytes.len()
-}
 
 /// The first line without its LF, and what stands behind that, where there is one.
 pub(crate) fn cut_line(bytes: &[u8]) -> (&[u8], Option<&[u8]>)
     ensures lines { split_lines bytes.now ≡ result.0.now ∷ lines_behind (option_copied result.1) }
     ensures shorter { IfSome result.1 (λ behind. length behind.now < length bytes.now) }
 {
-    let (line, behind) = bytes.split_at(place_of(bytes, b'\n'));
-    if behind.is_empty() {
-        return (line, None);
+    match memchr(b'\n', bytes) {
+        Some(at) => (bytes.split_at(at).0, Some(bytes.split_at(at + 1).1)),
+        None => (bytes, None),
     }
-    (line, Some(&behind[1..]))
 }
 
 /// The first word of a line, and what stands behind it without the spaces and CRs at the end.

@@ -1,10 +1,11 @@
 //! Numbers and bytes by their hexadecimal digits.
 ghost use Rattle.std.specs.Prelude.{◌≡◌, ok_or};
 ghost use Rattle.sym_records.specs.FieldReading.{hex_value};
-ghost use Rattle.state_file.specs.StateText.{byte_of, bytes_of};
+ghost use Rattle.state_file.specs.StateText.{bytes_of};
 ghost use Rattle.state_file.specs.internal.Parts.{Gives};
 
 use crate::fault::StateKind;
+use hex::FromHexError;
 use std::alloc::Global;
 use sym_edges::{ByteRun, Stop};
 use sym_records::hex_digit;
@@ -27,31 +28,15 @@ pub fn hex_value(word: &[u8]) -> Option<u64>
     Some(n)
 }
 
-/// The byte of two digits.
-fn byte_of(high: u8, low: u8) -> Option<u8>
-    ensures { result ≡ byte_of high low }
-{
-    match (hex_digit(high), hex_digit(low)) {
-        (Some(h), Some(l)) => Some(h * 16 + l),
-        _ => None,
-    }
-}
-
 /// The bytes that pairs of digits are.
 pub(crate) fn bytes_of(alloc: Global, digits: &[u8]) -> Result<ByteRun, Stop<StateKind>>
     ensures { Gives result (ok_or (bytes_of digits.now) StateKind.Hex) }
 {
-    let mut bytes = Vec::with_capacity(alloc, digits.len() / 2)?;
-    let mut at = 0;
-    'pairs: while at + 1 < digits.len() {
-        match byte_of(digits[at], digits[at + 1]) {
-            Some(byte) => bytes.push(byte)?,
-            None => return Err(Stop::Fault(StateKind::Hex)),
-        }
-        at += 2;
+    match hex::decode(alloc, digits) {
+        Ok(bytes) => Ok(ByteRun::of(bytes)),
+        Err(error) => match error {
+            FromHexError::OutOfMemory => Err(Stop::NoMemory),
+            _ => Err(Stop::Fault(StateKind::Hex)),
+        },
     }
-    if at < digits.len() {
-        return Err(Stop::Fault(StateKind::Hex));
-    }
-    Ok(ByteRun::of(bytes))
 }

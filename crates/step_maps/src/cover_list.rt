@@ -1,3 +1,4 @@
+//! The first of several stretches at each address.
 ghost use Rattle.std.specs.Prelude.{◌≡◌, ℕ, ◌^◌, ◌<◌, None, IfOk};
 ghost use Rattle.step_maps.specs.Stepping.{value_at};
 ghost use Rattle.step_maps.specs.Covers.{AreStretches, AreCovers, first_item};

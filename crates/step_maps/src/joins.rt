@@ -1,3 +1,4 @@
+//! Covers from changes of the index.
 ghost use Rattle.std.specs.Prelude.{◌≡◌, ◌-◌, ◌^◌, ◌++◌, [], None, IfOk, OnOk};
 ghost use Rattle.step_maps.specs.internal.Joining.{is_same_index, with_cover, covers_from};
 

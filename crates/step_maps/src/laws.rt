@@ -1,3 +1,4 @@
+//! Laws of runs: they are maximal, and a function has one list of them.
 ghost use Rattle.std.specs.Prelude.{◌≡◌, ℕ, ◌<◌, List, Option, None};
 ghost use Rattle.step_maps.specs.Stepping.{Stepping, IsStepping, last_from, value_at};
 ghost use Rattle.step_maps.specs.Runs.{Run, IsRuns, AreMaximal, between};

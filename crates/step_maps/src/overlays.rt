@@ -1,3 +1,4 @@
+//! One map of first items laid over another.
 ghost use Rattle.std.specs.Prelude.{◌≡◌, ℕ, ◌+◌, ◌<◌, ◌≤◌, length, slice_index, None, IfOk, MatchBool};
 ghost use Rattle.step_maps.specs.Stepping.{IsStepping, held_from, value_at};
 ghost use Rattle.step_maps.specs.Overlays.{over};

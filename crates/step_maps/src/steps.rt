@@ -1,3 +1,4 @@
+//! Functions of addresses that change at their stops.
 ghost use Rattle.std.specs.Prelude.{◌≡◌, ℕ, ◌^◌, ◌<◌, ◌≤◌, nat_le, if◌then◌else◌, [], length, OnOk, OnErr, IfOk};
 ghost use Rattle.sym_edges.specs.Rising.{RisesFrom};
 ghost use Rattle.step_maps.specs.Stepping.{IsStepping, last_from, held_from, value_at};

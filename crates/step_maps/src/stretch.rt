@@ -1,3 +1,4 @@
+//! Stretches of addresses, and which of several is the first.
 use sym_edges::ListOf;
 
 /// The addresses from `first` to `last`, both included, of one numbered item, and the item's class.

@@ -30,6 +30,14 @@ IsParted (Some whole) bytes left = (rest : List ℕ) × (left ≡ Some rest) × 
 abbrev pub LeavesEnd : Option (List ℕ) → Option (List ℕ) → Type 0
 LeavesEnd whole left = (bytes : List ℕ) × IsParted whole bytes left
 
+-- the count of faults stands still, unless the file could not be opened or read
+abbrev pub IsSteady : Result (List ℕ) (Stop ReadEnd) → ℕ → ℕ → Type 0
+IsSteady (Ok bytes) before after = after ≡ before
+IsSteady (Err (Fault CantOpen)) before after = Unit {0}
+IsSteady (Err (Fault CantRead)) before after = Unit {0}
+IsSteady (Err (Fault TooLong)) before after = after ≡ before
+IsSteady (Err NoMemory) before after = after ≡ before
+
 -- what a reading of the rest of a file answers, and when
 abbrev pub ReadRest : Result (List ℕ) (Stop ReadEnd) → Option (List ℕ) → Option (List ℕ) → ℕ → ℕ → ℕ → Type 0
 ReadRest (Ok bytes) left left_after limit before after = IsWhole left bytes limit

@@ -1,3 +1,4 @@
+//! A store over the system's files.
 ghost use Rattle.std.specs.Prelude.{◌≡◌, ℕ, ◌≤◌, ◌<◌, List, [], None};
 ghost use Rattle.sym_edges.specs.Outside.{MatchStop, OnFault, OnNoMemory, Rose};
 

@@ -1,3 +1,4 @@
+//! Lists, which contracts see by their members.
 ghost use Rattle.std.specs.Prelude.{◌≡◌, ◌==◌, length, slice_get};
 ghost use Rattle.std.specs.Option.{option_copied};
 

@@ -1,3 +1,4 @@
+//! A sink over memory.
 ghost use Rattle.std.specs.Prelude.{◌≡◌, ℕ, ◌≤◌, ◌<◌, List, [], length, take, true, false, Some, Ok, IfOk, OnErr, MatchResult};
 ghost use Rattle.sym_edges.specs.Outside.{append_told, Rose};
 ghost use Rattle.sym_edges.specs.Memory.{write_fails, write_count, after_failed_write, after_write};

@@ -1,3 +1,4 @@
+//! A store over memory.
 ghost use Rattle.std.specs.Prelude.{◌≡◌, ◌==◌, ◌+◌, ℕ, ◌≤◌, ◌<◌, ◌^◌, Some, List, [], ◌∷◌, ◌++◌, true, false, length, take, drop, position, IfOk, OnOk, OnErr, MatchResult, nat_lt};
 ghost use Rattle.std.specs.Str.{bytes_eq};
 ghost use Rattle.sym_edges.specs.Outside.{Opens, Reads, MatchStop, OnFault, OnNoMemory, Rose};
@@ -130,6 +131,7 @@ impl Store for MemStore {
         ensures opened { OnOk result (Opens (Some (files_of self.old.files)) name.now (Some self.new.left)) }
         ensures left { OnErr result (Some self.new.left ≡ Some self.old.left) }
         ensures faults { self.old.faults ≤ self.new.faults }
+        ensures steady { OnOk result (self.new.faults ≡ self.old.faults) }
         ensures cause { OnFault result (Rose self.old.faults self.new.faults) }
         ensures no_memory { OnNoMemory result (self.new.faults ≡ self.old.faults) }
         ensures exact { MatchStop result
@@ -165,6 +167,7 @@ impl Store for MemStore {
         ensures asked { self.new.asked ≡ self.old.asked }
         ensures files { Some (files_of self.new.files) ≡ Some (files_of self.old.files) }
         ensures faults { self.old.faults ≤ self.new.faults }
+        ensures steady { OnOk result (self.new.faults ≡ self.old.faults) }
         ensures cause { OnErr result (Rose self.old.faults self.new.faults) }
         ensures exact { MatchResult result
             (λ n. (is_failing self.old.fail (next_call self.old.calls) ≡ false)

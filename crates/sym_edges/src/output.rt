@@ -1,3 +1,4 @@
+//! Writing all bytes to a sink.
 ghost use Rattle.std.specs.Prelude.{◌≡◌, ◌≤◌, OnOk, OnErr};
 ghost use Rattle.sym_edges.specs.Outside.{append_told, AddsFront, Rose};
 

@@ -1,3 +1,5 @@
+//! The names of the sections that are read.
+
 /// The sections of an ELF file that the program reads by name (`Info` is `.debug_info`, and so on).
 #[derive(Clone, Copy, Debug, PartialEq, Eq)]
 pub enum Sect {

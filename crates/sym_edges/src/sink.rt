@@ -1,3 +1,4 @@
+//! What a place that takes bytes promises.
 ghost use Rattle.std.specs.Prelude.{◌≡◌, ℕ, ◌≤◌, ◌<◌, List, Option, length, take, Ok, IfOk, OnErr};
 ghost use Rattle.sym_edges.specs.Outside.{append_told, Rose};
 

@@ -1,3 +1,4 @@
+//! Spans of addresses.
 ghost use Rattle.std.specs.Prelude.{◌≡◌, ◌<◌};
 
 use std::marker::Model;

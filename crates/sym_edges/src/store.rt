@@ -1,3 +1,4 @@
+//! What a place that has files promises.
 ghost use Rattle.std.specs.Prelude.{◌≡◌, ℕ, ◌≤◌, ◌<◌, ◌↔◌, List, [], ◌∷◌, ◌++◌, Option, length, take, IfOk, OnOk, OnErr};
 ghost use Rattle.sym_edges.specs.Outside.{Files, Opens, Reads, MatchStop, OnFault, OnNoMemory, Rose};
 
@@ -6,7 +7,7 @@ use crate::fault::{Failed, Stop};
 /// Named files, opened and read one after the other.
 ///
 /// A store means four things: the names that `open_file` was asked for, in order; its files, where it tells
-/// them; what is left of the open file, where it tells that; and a count of faults that never falls.
+/// them; what is left of the open file, where it tells that; and a count of faults, which rises where a call fails and at no other time.
 pub trait Store {
     ghost asked: { Self → List (List ℕ) };
 
@@ -26,6 +27,7 @@ pub trait Store {
         ensures opened { OnOk result (Opens (files self.old) name.now (left self.new)) }
         ensures left { OnErr result (left self.new ≡ left self.old) }
         ensures faults { faults self.old ≤ faults self.new }
+        ensures steady { OnOk result (faults self.new ≡ faults self.old) }
         ensures cause { OnFault result (Rose (faults self.old) (faults self.new)) }
         ensures no_memory { OnNoMemory result (faults self.new ≡ faults self.old) };
 
@@ -37,5 +39,6 @@ pub trait Store {
         ensures asked { asked self.new ≡ asked self.old }
         ensures files { files self.new ≡ files self.old }
         ensures faults { faults self.old ≤ faults self.new }
+        ensures steady { OnOk result (faults self.new ≡ faults self.old) }
         ensures cause { OnErr result (Rose (faults self.old) (faults self.new)) };
 }

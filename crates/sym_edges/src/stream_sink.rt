@@ -1,3 +1,4 @@
+//! A sink over a stream of the system.
 ghost use Rattle.std.specs.Prelude.{◌≡◌, None};
 
 use crate::fault::Failed;

@@ -1,6 +1,7 @@
+//! Reading a file whole, up to a limit.
 ghost use Rattle.std.specs.Prelude.{◌≡◌, ℕ, ◌≤◌, ◌<◌, List, [], ◌∷◌, ◌++◌, Option, length, IfOk, OnOk};
 ghost use Rattle.sym_edges.specs.Outside.{MatchStop, Rose};
-ghost use Rattle.sym_edges.specs.WholeFile.{AsksOnce, HoldsFile, ReadAll, ReadRest};
+ghost use Rattle.sym_edges.specs.WholeFile.{AsksOnce, HoldsFile, IsSteady, ReadAll, ReadRest};
 
 use crate::fault::{Failed, Stop};
 use crate::list::ByteRun;
@@ -27,7 +28,7 @@ const PIECE: usize = 65536;
 
 /// The whole file of that name, which has at most `limit` bytes. The store is asked for this name alone, at most once.
 ///
-/// `CantOpen` and `CantRead` come only where the store's count of faults rose: before `CantRead` the file was opened, and after
+/// `CantOpen` and `CantRead` come only where the store's count of faults rose, and it stands still where anything else comes: before `CantRead` the file was opened, and after
 /// `CantOpen` what was left of an earlier file still is. `TooLong` comes exactly where more than `limit` bytes were taken.
 pub fn read_all<S: Store>(
     alloc: Global,
@@ -38,6 +39,7 @@ pub fn read_all<S: Store>(
     ensures asked { AsksOnce result (S.asked store.old) name.now (S.asked store.new) }
     ensures files { S.files store.new ≡ S.files store.old }
     ensures faults { S.faults store.old ≤ S.faults store.new }
+    ensures steady { IsSteady result (S.faults store.old) (S.faults store.new) }
     ensures read { ReadAll result (S.files store.old) name.now limit (S.left store.old) (S.left store.new) (S.faults store.old) (S.faults store.new) }
 {
     match store.open_file(name) {
@@ -59,6 +61,7 @@ fn read_rest<S: Store>(
     ensures asked { S.asked store.new ≡ S.asked store.old }
     ensures files { S.files store.new ≡ S.files store.old }
     ensures faults { S.faults store.old ≤ S.faults store.new }
+    ensures steady { IsSteady result (S.faults store.old) (S.faults store.new) }
     ensures read { ReadRest result (S.left store.old) (S.left store.new) limit (S.faults store.old) (S.faults store.new) }
 {
     let mut bytes = Vec::new(alloc);

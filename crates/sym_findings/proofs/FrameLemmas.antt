@@ -2,7 +2,7 @@
 use Rattle.std.proofs.Common.{◌≡◌, ℕ, ◌+◌, ◌<◌, ◌≤◌, ◌&&◌, ◌||◌, nat_lt, nat_le, min, max, Bool, true, false, cond, List, [], ◌∷◌, Option, None, Some, refl, ap, sym, ◌∙◌, ◌⊎◌, inl, inr, subst, arith}
 use Rattle.std.specs.List.{list_all, flat_map}
 use Rattle.std.specs.Option.{option_map, option_map_or}
-use Rattle.std.proofs.lemmas.Bool.{or_parts, and_parts, lt-ltb, ltb-true}
+use Rattle.std.proofs.lemmas.Bool.{or_parts, and_parts, lt-ltb, ltb-true, leb-true, le-leb}
 use Rattle.std.proofs.lemmas.Bool.Decides.{nat_tests}
 use Rattle.std.proofs.lemmas.List.Sums.{sum_by-append}
 use Rattle.sym_records.specs.declared.line.Extent.{Extent}
@@ -154,8 +154,8 @@ three_from a b c first second third = ap (λ t. (t && b) && c) first ∙ ap (λ 
 goes_of : (address : ℕ) (o : Option OpenInit) → option_map_or (goes_on address) o false ≡ true → GoesOn address o
 goes_of address None is = absurd (let false_is : false ≡ true = is in cc)
 goes_of address (Some o) is =
-    let parts = three_parts (nat_lt o.init.address address) (nat_lt address (o.init.address + o.init.size)) (nat_lt o.last address) is in
-    let first : o.init.address < address = ltb-true o.init.address address parts.0 in
+    let parts = three_parts (nat_le o.init.address address) (nat_lt address (o.init.address + o.init.size)) (nat_lt o.last address) is in
+    let first : o.init.address ≤ address = leb-true o.init.address address parts.0 in
     record {
       above = ltb-true o.last address parts.2;
       below = ltb-true address (o.init.address + o.init.size) parts.1;
@@ -167,7 +167,7 @@ goes_of address (Some o) is =
 of_goes : (address : ℕ) (o : Option OpenInit) → IsOpen o → last_at o < address → address < end_at o → (option_map_or (goes_on address) o false ≡ true) × GoesOn address o
 of_goes address None opened above below = absurd (omega (arith, below))
 of_goes address (Some o) opened above below = (
-  three_from (nat_lt o.init.address address) (nat_lt address (o.init.address + o.init.size)) (nat_lt o.last address) (lt-ltb o.init.address address (omega (arith, opened, above))) (lt-ltb address (o.init.address + o.init.size) below) (lt-ltb o.last address above),
+  three_from (nat_le o.init.address address) (nat_lt address (o.init.address + o.init.size)) (nat_lt o.last address) (le-leb o.init.address address (omega (arith, opened, above))) (lt-ltb address (o.init.address + o.init.size) below) (lt-ltb o.last address above),
   record { above = above; below = below; last = refl; end = refl; opened = omega (arith, opened, above) },
 )
 

@@ -189,7 +189,8 @@ inits_touch : findings (file_of (Init 0x10 0x10 [] ∷ Change 0x11 [] ∷ file 1
 unfolding sym_findings_computes
 inits_touch = refl
 
--- C9: at its INIT's own address, at its end, below it, and not above the record before it
+-- C9: at its INIT's own address, at its end, below it, and not above the record before it; behind one that lies below its INIT, one at the
+-- INIT's own address is above the record before it
 change_at_init : findings (file_of (Init 0x10 0x10 [] ∷ Change 0x10 [] ∷ [])) ≡ at kind.ChangeOutside 4 ∷ []
 unfolding sym_findings_computes
 change_at_init = refl
@@ -206,7 +207,7 @@ change_twice : findings (file_of (Init 0x10 0x10 [] ∷ Change 0x12 [] ∷ Chang
 unfolding sym_findings_computes
 change_twice = refl
 
-change_below : findings (file_of (Init 0x10 0x10 [] ∷ Change 8 [] ∷ Change 0x10 [] ∷ Change 0x11 [] ∷ [])) ≡ at kind.ChangeOutside 4 ∷ at kind.ChangeOutside 5 ∷ []
+change_below : findings (file_of (Init 0x10 0x10 [] ∷ Change 8 [] ∷ Change 0x10 [] ∷ Change 0x11 [] ∷ [])) ≡ at kind.ChangeOutside 4 ∷ []
 unfolding sym_findings_computes
 change_below = refl
 

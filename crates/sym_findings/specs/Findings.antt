@@ -1,7 +1,7 @@
 -- What a checker finds in the records of a symbol file (Breakpad's symbol_files.md): nine kinds of finding, each a condition on a record
 -- and the records before it, C2 and C3 on all records. Records before a record stand nearest first. Ends are whole numbers, and an empty
 -- range meets nothing.
-use Rattle.std.specs.Prelude.{ℕ, ◌+◌, ◌&&◌, nat_lt, not, Bool, true, false, List, [], ◌∷◌, ◌++◌, Option, None, Some}
+use Rattle.std.specs.Prelude.{ℕ, ◌+◌, ◌&&◌, nat_lt, nat_le, not, Bool, true, false, List, [], ◌∷◌, ◌++◌, Option, None, Some}
 use Rattle.std.specs.List.{list_any, list_all, flat_map}
 use Rattle.std.specs.Option.{option_map, option_map_or}
 use Rattle.sym_records.specs.declared.line.Extent.{Extent}
@@ -76,9 +76,9 @@ open_init (Init address size rules ∷ before) = Some (record { init = run_of ad
 open_init (Change address rules ∷ before) = option_map (λ (o : OpenInit). record o { last = address }) (open_init before)
 open_init (_ ∷ before) = None
 
--- C9: a STACK CFI lies outside its INIT, at whose own address it changes nothing, or not above the address of the record before it
+-- C9: a STACK CFI lies outside its INIT, or not above the address of the record before it
 abbrev pub goes_on : ℕ → OpenInit → Bool
-goes_on address o = nat_lt o.init.address address && nat_lt address (o.init.address + o.init.size) && nat_lt o.last address
+goes_on address o = nat_le o.init.address address && nat_lt address (o.init.address + o.init.size) && nat_lt o.last address
 
 abbrev pub is_outside : List SymLine → SymLine → Bool
 is_outside before (Change address rules) = not (option_map_or (goes_on address) (open_init before) false)

@@ -1,3 +1,4 @@
+//! The findings of all records of a file.
 ghost use Rattle.std.specs.Prelude.{◌≡◌, IfOk, [], ◌<◌};
 ghost use Rattle.sym_findings.specs.Findings.{findings};
 ghost use Rattle.sym_findings.specs.internal.Preceding.{Knows, Keeps};

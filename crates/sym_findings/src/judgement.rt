@@ -168,7 +168,7 @@ fn goes_on(init: Option<OpenInit>, address: u64) -> bool
 {
     match init {
         Some(open) => {
-            open.init.address < address
+            open.init.address <= address
                 && u128::from(address) < u128::from(open.init.address) + u128::from(open.init.size)
                 && open.last < address
         }

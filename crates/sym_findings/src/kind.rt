@@ -1,3 +1,4 @@
+//! The kinds of findings.
 use sym_edges::ListOf;
 
 /// What a checker finds at a record, in the order of the kinds' numbers.

@@ -16,7 +16,7 @@ use Rattle.sym_rules.specs.declared.text_fault.TextFault.{TextFault}
 use Rattle.sym_records.specs.Reading.{with_lines, reading}
 use Rattle.sym_records.specs.declared.line.SymLine.{SymLine}
 use Rattle.sym_grammar.specs.Answer.{Part, Reads, answer, lifted, Feeds, but_last, last_line, whole_lines, open_line, IsUpToDate}
-use Rattle.sym_grammar.specs.Input.{decided, nothing, IfNone, whole_reading, front_reading, file_reading, IsReading, SymRead}
+use Rattle.sym_grammar.specs.Input.{decided, nothing, IfNone, whole_reading, front_reading, file_reading, IsReading, SymRead, IsSteadyRead}
 use Rattle.sym_grammar.specs.internal.Fed.{WasFed, HasRead, SymRest, EndsAs, refused_stop}
 use Rattle.sym_grammar.specs.declared.refusal.SymRefusal.{SymRefusal}
 use Rattle.sym_grammar.specs.declared.refusal.SymRefusal.TheVariants.{TooLong, Text}
@@ -206,3 +206,16 @@ opened_read (Ok lines) files name limit left before mid after opens first second
 opened_read (Err (Fault Unread)) files name limit left before mid after opens first second rest = rose_later before mid after first second rest
 opened_read (Err (Fault (Refused why))) files name limit left before mid after opens first second rest = reading_held limit (Err why) files name left opens rest
 opened_read (Err NoMemory) files name limit left before mid after opens first second rest = tt
+
+-- where no call of the store failed its count of faults stands still
+pub steady_read : (result : Result (List SymLine) (Stop SymEnd)) (before after : ℕ) → after ≡ before → IsSteadyRead result before after
+steady_read (Ok lines) before after same = same
+steady_read (Err (Fault Unread)) before after same = tt
+steady_read (Err (Fault (Refused why))) before after same = same
+steady_read (Err NoMemory) before after same = same
+
+pub steady_behind : (result : Result (List SymLine) (Stop SymEnd)) (before mid after : ℕ) → mid ≡ before → IsSteadyRead result mid after → IsSteadyRead result before after
+steady_behind (Ok lines) before mid after same is = is ∙ same
+steady_behind (Err (Fault Unread)) before mid after same is = tt
+steady_behind (Err (Fault (Refused why))) before mid after same is = is ∙ same
+steady_behind (Err NoMemory) before mid after same is = is ∙ same

@@ -59,6 +59,13 @@ SymRead (Err (Fault Unread)) files name limit before after = Rose before after
 SymRead (Err (Fault (Refused why))) files name limit before after = HoldsFile files name (IsReading limit (Err why))
 SymRead (Err NoMemory) files name limit before after = ⊤
 
+-- the count of faults stands still, unless the file could not be opened or read
+abbrev pub IsSteadyRead : Result (List SymLine) (Stop SymEnd) → ℕ → ℕ → Type 0
+IsSteadyRead (Ok lines) before after = after ≡ before
+IsSteadyRead (Err (Fault Unread)) before after = Unit {0}
+IsSteadyRead (Err (Fault (Refused why))) before after = after ≡ before
+IsSteadyRead (Err NoMemory) before after = after ≡ before
+
 -- the name was asked for once; where memory ran out it may not have been
 abbrev pub AsksName : {A F : Type 0} → Result A (Stop F) → List (List ℕ) → List ℕ → List (List ℕ) → Type 0
 AsksName (Ok x) before name after = after ≡ before ++ name ∷ []

@@ -1,7 +1,7 @@
 //! Symbol files of a store.
 ghost use Rattle.std.specs.Prelude.{◌≡◌, ℕ, ◌+◌, ◌^◌, ◌<◌, ◌≤◌, Ok, Err};
 ghost use Rattle.sym_grammar.specs.Answer.{Reads};
-ghost use Rattle.sym_grammar.specs.Input.{SymRead, AsksName};
+ghost use Rattle.sym_grammar.specs.Input.{SymRead, IsSteadyRead, AsksName};
 ghost use Rattle.sym_grammar.specs.internal.Fed.{SymRest, EndsAs, refused_stop};
 
 use crate::reader::Reader;
@@ -36,7 +36,7 @@ fn end(alloc: Global, reader: Reader) -> Result<SymFile, Stop<SymEnd>>
 }
 
 /// The records of what is left of the open file, read `room` bytes at a time.
-#[tactic(auto, using(crate::proofs::InputLemmas::start_read, crate::proofs::InputLemmas::next_read, crate::proofs::InputLemmas::stopped_read, crate::proofs::InputLemmas::ended_read, crate::proofs::InputLemmas::longer_read))]
+#[tactic(auto, using(crate::proofs::InputLemmas::start_read, crate::proofs::InputLemmas::next_read, crate::proofs::InputLemmas::stopped_read, crate::proofs::InputLemmas::ended_read, crate::proofs::InputLemmas::longer_read, crate::proofs::InputLemmas::steady_read))]
 fn read_rest<S: Store>(
     alloc: Global,
     store: &mut S,
@@ -48,6 +48,7 @@ fn read_rest<S: Store>(
     ensures asked { S.asked store.new ≡ S.asked store.old }
     ensures files { S.files store.new ≡ S.files store.old }
     ensures faults { S.faults store.old ≤ S.faults store.new }
+    ensures steady { IsSteadyRead result (S.faults store.old) (S.faults store.new) }
     ensures read { SymRest result (S.left store.old) limit (S.faults store.old) (S.faults store.new) }
 {
     let mut reader = Reader::new(alloc);
@@ -75,9 +76,9 @@ fn read_rest<S: Store>(
 /// The records of the symbol file of that name, which has at most `limit` bytes, read in pieces. The store is asked for this name alone, at
 /// most once.
 ///
-/// `Unread` comes only where the store's count of faults rose. Of a file that is longer only its first `limit` bytes are looked at: it is
+/// `Unread` comes only where the store's count of faults rose, and it stands still where anything else comes. Of a file that is longer only its first `limit` bytes are looked at: it is
 /// refused for a fault that these decide, and else for its length.
-#[tactic(auto, using(crate::proofs::InputLemmas::opened_read))]
+#[tactic(auto, using(crate::proofs::InputLemmas::opened_read, crate::proofs::InputLemmas::steady_behind))]
 pub fn read_file<S: Store>(
     alloc: Global,
     store: &mut S,
@@ -88,6 +89,7 @@ pub fn read_file<S: Store>(
     ensures asked { AsksName result (S.asked store.old) name.now (S.asked store.new) }
     ensures files { S.files store.new ≡ S.files store.old }
     ensures faults { S.faults store.old ≤ S.faults store.new }
+    ensures steady { IsSteadyRead result (S.faults store.old) (S.faults store.new) }
     ensures read { SymRead result (S.files store.old) name.now limit (S.faults store.old) (S.faults store.new) }
 {
     match store.open_file(name) {

@@ -21,7 +21,8 @@ use Rattle.sym_judge.specs.declared.terms.Sum.{Sum}
 use Rattle.sym_judge.specs.declared.terms.Term.{Term}
 use Rattle.sym_judge.specs.declared.terms.Term.TheVariants.{Plain, Fetched}
 use Rattle.sym_judge.specs.Forms.{sum, joined_base, taken_base, with_word, terms_after, one_term, term_of, or_words, form_of, default_form, form_by}
-use Rattle.sym_judge.specs.FormValues.{moved, sum_value, term_value, form_value, AreWords, IsKnown}
+use Rattle.cfi_eval.specs.Known.{AreWords, IsKnown}
+use Rattle.sym_judge.specs.FormValues.{moved, sum_value, term_value, form_value}
 
 -- the CFA that a word names, where it has a value, is a number of 64 bits
 abbrev IsWordCfa : Option Outcome → Type 0

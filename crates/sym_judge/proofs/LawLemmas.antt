@@ -19,7 +19,7 @@ use Rattle.sym_judge.specs.declared.ruling.Aspect.TheVariants.{Func, Chain, Line
 use Rattle.sym_judge.specs.declared.ruling.Ruling.{Ruling}
 use Rattle.sym_judge.specs.declared.ruling.Ruling.TheVariants.{Yes, No}
 use Rattle.sym_judge.specs.Forms.{rule_form}
-use Rattle.sym_judge.specs.FormValues.{AreWords, IsKnown}
+use Rattle.cfi_eval.specs.Known.{AreWords, IsKnown}
 use Rattle.sym_judge.specs.Alike.{same_option, same_list, same_line, same_call, same_rules, both, agrees, differs, name_aspects, frame_aspects, rule_aspects, first_unlike}
 use Rattle.sym_judge.specs.Rulings.{IsRuling}
 use Rattle.sym_judge.specs.SameMeaning.{said, NameTheSame, UnwindTheSame}

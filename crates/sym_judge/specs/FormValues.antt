@@ -1,5 +1,5 @@
 -- What a form gives, over registers, memory and the CFA of its frame.
-use Rattle.std.specs.Prelude.{◌≡◌, ℕ, ◌+◌, ◌%◌, ◌^◌, ◌<◌, List, Option, Result, Ok, Err}
+use Rattle.std.specs.Prelude.{ℕ, ◌+◌, ◌%◌, ◌^◌, List, Option, Result, Ok, Err}
 use Rattle.sym_edges.specs.Results.{◌>>=◌}
 use Rattle.cfi_eval.specs.declared.registers.Regs.{Regs}
 use Rattle.cfi_eval.specs.declared.memory.MemRun.{MemRun}
@@ -32,13 +32,3 @@ abbrev pub form_value : Regs → List MemRun → Option Outcome → Form → Out
 form_value regs memory cfa (of_term t) = outcome_of (term_value regs memory cfa t)
 form_value regs memory cfa no_value = Undefined
 form_value regs memory cfa (of_words words) = rule_value regs memory cfa words
-
--- registers of 64 bits
-abbrev pub AreWords : Regs → Type 0
-AreWords regs = (register v : ℕ) → register_value regs register ≡ Ok v → v < 2 ^ 64
-
--- a CFA that is a number of 64 bits, or that failed; it is not undefined
-abbrev pub IsKnown : Outcome → Type 0
-IsKnown (Value v) = v < 2 ^ 64
-IsKnown Undefined = ⊥
-IsKnown (Failed why) = Unit {0}

@@ -7,7 +7,7 @@ use Rattle.cfi_eval.specs.declared.registers.Regs.{Regs}
 use Rattle.cfi_eval.specs.declared.memory.MemRun.{MemRun}
 use Rattle.cfi_eval.specs.declared.outcome.Frame.{Frame}
 use Rattle.cfi_eval.specs.TextValue.{text_frame}
-use Rattle.sym_judge.specs.FormValues.{AreWords, IsKnown}
+use Rattle.cfi_eval.specs.Known.{AreWords, IsKnown}
 
 -- an inlined call: the function's name, or `<name omitted>`, and the path and the line of the call
 pub record CallSaid : Type 0 where

@@ -13,6 +13,7 @@ use crate::aliases::{Alias, first_in, name_of};
 use crate::both::Numbered;
 use crate::names::{CallSpot, Spot, call_at, name_or_omitted, origin_in};
 use crate::sides::Side;
+use clean_names::name_omitted;
 use std::marker::Model;
 
 /// A file, and for its numbers of names the least ones under which the first file has them. Contracts see the records of both.
@@ -61,7 +62,7 @@ fn own_number(
 fn is_omitted(name: Option<&[u8]>) -> bool
     ensures { OnTrue result (unwrap_or (option_copied name.entry) (codes "<name omitted>") ≡ codes "<name omitted>") }
 {
-    name_or_omitted(name) == b"<name omitted>".as_slice()
+    name_or_omitted(name) == name_omitted()
 }
 
 /// The number under which the first file has the origin of a number, or none where no name is shown.

@@ -18,6 +18,7 @@ use crate::chains::{ChainPart, chains_of, have_one_number};
 use crate::meetings::{FuncMeetings, FuncPair, pair_of};
 use crate::ruling::Aspect;
 use crate::sides::Side;
+use clean_names::name_omitted;
 use std::alloc::Global;
 use sym_edges::OutOfMemory;
 use sym_lookup::Answer;
@@ -175,7 +176,7 @@ pub(crate) fn name_or_omitted(name: Option<&[u8]>) -> &[u8]
 {
     match name {
         Some(name) => name,
-        None => b"<name omitted>",
+        None => name_omitted(),
     }
 }
 

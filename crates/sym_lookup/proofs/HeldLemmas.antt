@@ -10,7 +10,7 @@ use Rattle.std.proofs.lemmas.List.{get_or_default}
 use Rattle.std.proofs.lemmas.List.Sums.{sum_by-cons}
 use Rattle.sym_records.specs.declared.line.SymLine.{SymLine}
 use Rattle.sym_meaning.specs.TextNames.{under}
-use Rattle.sym_lookup.specs.UnderOf.{range_count, is_func, is_held, HaveNone, AreHeld}
+use Rattle.sym_lookup.specs.internal.HeldUnders.{range_count, is_func, is_held, HaveNone, AreHeld}
 use Rattle.sym_lookup.specs.declared.under.Under.{Under}
 
 -- so many ranges fit, record by record

@@ -21,7 +21,8 @@ use Rattle.sym_lookup.specs.IndexOf.{AreMarksOf}
 use Rattle.sym_lookup.specs.declared.answers.PlaceRun.{PlaceRun}
 use Rattle.sym_lookup.specs.PlaceMaps.{place_in, IsPlaceMap, IsPlaceRun}
 use Rattle.sym_lookup.specs.internal.Kinds.{is_at}
-use Rattle.sym_lookup.specs.internal.Marks.{marks_of, mark_at, public_of}
+use Rattle.sym_lookup.specs.internal.Marks.{marks_of}
+use Rattle.sym_lookup.specs.NearestMarks.{mark_at, public_of}
 use Rattle.sym_lookup.proofs.PublicMarkLemmas.{public_by_marks}
 
 pub func_within : (lines : List SymLine) (x func : ℕ) → func_place lines x ≡ Some func → func < length lines

@@ -10,7 +10,8 @@ use Rattle.std.proofs.lemmas.List.Elements.{filter_agree}
 use Rattle.sym_records.specs.declared.line.SymLine.{SymLine}
 use Rattle.sym_lookup.specs.declared.marks.Mark.{Mark}
 use Rattle.sym_lookup.specs.declared.marks.Marked.{Marked}
-use Rattle.sym_lookup.specs.internal.Marks.{key_of, mark_of, marks_of, nearer_mark, mark_at}
+use Rattle.sym_lookup.specs.internal.Marks.{key_of, mark_of, marks_of}
+use Rattle.sym_lookup.specs.NearestMarks.{nearer_mark, mark_at}
 
 -- one more record
 pub marks_more : (kind : Marked) (at : ℕ) (lines : List SymLine) (line : SymLine) (done next all : List Mark) → done ++ marks_of kind at (drop at lines) ≡ all → line ≡ get_or lines at line → at < length lines → next ≡ done ++ mark_of at (key_of kind line)

@@ -12,7 +12,8 @@ use Rattle.sym_records.specs.declared.line.SymLine.TheVariants.{File, Origin}
 use Rattle.sym_meaning.specs.TextNames.{is_file, is_origin}
 use Rattle.sym_lookup.specs.declared.marks.Mark.{Mark}
 use Rattle.sym_lookup.specs.declared.marks.Marked.TheVariants as marked
-use Rattle.sym_lookup.specs.internal.Marks.{marks_of, nearer_mark, mark_at, numbered}
+use Rattle.sym_lookup.specs.internal.Marks.{marks_of}
+use Rattle.sym_lookup.specs.NearestMarks.{nearer_mark, mark_at, numbered}
 use Rattle.sym_lookup.proofs.MarkLemmas.{IsUpTo, bounded}
 
 -- one more record with a number, in front of others

@@ -5,7 +5,8 @@ use Rattle.step_maps.specs.Stepping.{Stepping}
 use Rattle.step_maps.specs.declared.stretch.FirstItem.{FirstItem}
 use Rattle.sym_lookup.specs.declared.under.Under.{Under}
 use Rattle.sym_lookup.specs.Answers.{chain_places, line_place}
-use Rattle.sym_lookup.specs.UnderOf.{chain_in, IsLineFinder, IsUnder, AreUnders, is_held, AreHeld}
+use Rattle.sym_lookup.specs.UnderOf.{chain_in, IsLineFinder, IsUnder, AreUnders}
+use Rattle.sym_lookup.specs.internal.HeldUnders.{is_held, AreHeld}
 
 pub levels_told : (lines : List SymLine) (unders all : List Under) (u : Under) (maps : List (Stepping (Option FirstItem))) (func x : ℕ) → all ≡ unders → maps ≡ u.levels.items → u.func ≡ func → ((ls : List SymLine) → AreUnders ls all → IsUnder ls u) → AreUnders lines unders → x < 2 ^ 64
     → chain_in maps x ≡ chain_places lines func x

@@ -9,7 +9,8 @@ use Rattle.sym_records.specs.declared.line.SymLine.TheVariants.{Func, Public}
 use Rattle.sym_lookup.specs.declared.marks.Mark.{Mark}
 use Rattle.sym_lookup.specs.declared.marks.Marked.TheVariants as marked
 use Rattle.sym_lookup.specs.Answers.{greater, nearest_public, begins_between, is_public_of, public_place}
-use Rattle.sym_lookup.specs.internal.Marks.{marks_of, nearer_mark, mark_at, public_of}
+use Rattle.sym_lookup.specs.internal.Marks.{marks_of}
+use Rattle.sym_lookup.specs.NearestMarks.{nearer_mark, mark_at, public_of}
 use Rattle.sym_lookup.proofs.MarkLemmas.{IsUpTo, bounded}
 
 -- the nearest PUBLIC

@@ -8,7 +8,8 @@ use Rattle.std.proofs.lemmas.Bool.Decides.{nat_tests}
 use Rattle.sym_records.specs.declared.line.SymLine.{SymLine}
 use Rattle.sym_records.specs.declared.line.SymLine.TheVariants.{Inline, Line}
 use Rattle.sym_meaning.specs.TextNames.{is_line_at}
-use Rattle.sym_lookup.specs.internal.Risings.{line_start, line_end, AreRising, RisesTo, is_inline}
+use Rattle.sym_lookup.specs.internal.Risings.{line_start, line_end, RisesTo, is_inline}
+use Rattle.sym_lookup.specs.UnderOf.{AreRising}
 use Rattle.sym_lookup.proofs.PlaceLemmas.{placed_more}
 
 rising_cons : (low end : ℕ) (s : SymLine) (records : List SymLine) → RisesTo low s (Some end) → AreRising end records → AreRising low (s ∷ records)

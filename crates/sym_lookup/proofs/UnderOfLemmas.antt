@@ -14,7 +14,7 @@ use Rattle.sym_lookup.specs.PlaceMaps.{place_in, IsPlaceMap}
 use Rattle.sym_lookup.specs.UnderOf.{chain_in, part, AreSearchable, IsUnder, AreUnders}
 use Rattle.sym_lookup.specs.declared.under.Under.{Under}
 use Rattle.sym_lookup.specs.internal.Kinds.{is_at}
-use Rattle.sym_lookup.specs.internal.Risings.{AreRising}
+use Rattle.sym_lookup.specs.UnderOf.{AreRising}
 use Rattle.sym_lookup.proofs.PlaceLemmas.{stops_at}
 use Rattle.sym_lookup.proofs.RisingLemmas.{SkipsTo}
 

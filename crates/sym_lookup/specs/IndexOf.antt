@@ -9,9 +9,10 @@ use Rattle.sym_lookup.specs.declared.index.Index.{Index}
 use Rattle.sym_meaning.specs.TextNames.{is_file, is_origin}
 use Rattle.sym_lookup.specs.declared.numbers.Numbers.{Numbers}
 use Rattle.sym_lookup.specs.Answers.{func_place, public_place}
-use Rattle.sym_lookup.specs.UnderOf.{AreUnders, AreHeld}
+use Rattle.sym_lookup.specs.UnderOf.{AreUnders}
+use Rattle.sym_lookup.specs.internal.HeldUnders.{AreHeld}
 use Rattle.sym_lookup.specs.PlaceMaps.{IsPlaceMap}
-use Rattle.sym_lookup.specs.internal.Marks.{mark_at, public_of, numbered}
+use Rattle.sym_lookup.specs.NearestMarks.{mark_at, public_of, numbered}
 
 -- marks in the order of their keys, by which the PUBLIC in front of each address is found
 pub record AreMarksOf (lines : List SymLine) (starts publics : List Mark) : Type 0 where
@@ -26,6 +27,8 @@ pub record AreNumbersOf (lines : List SymLine) (numbers : Numbers) : Type 0 wher
   pub file : (n : ℕ) → numbered n (mark_at numbers.files.items n) ≡ position (is_file n) lines
   pub origin : (n : ℕ) → numbered n (mark_at numbers.origins.items n) ≡ position (is_origin n) lines
 
+-- the places of the first records at each address, what stands under FUNC records, and the records of each number (which FUNC records these are is
+-- a matter of speed: `held` says it)
 pub record IsIndexOf (lines : List SymLine) (index : Index) : Type 0 where
   pub funcs : IsPlaceMap (func_place lines) index.funcs
   pub inits : IsPlaceMap (init_place lines) index.inits

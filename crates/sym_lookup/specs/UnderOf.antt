@@ -3,7 +3,7 @@ use Rattle.std.specs.Prelude.{◌≡◌, ℕ, ◌+◌, ◌-◌, ◌<◌, ◌≤�
 use Rattle.std.specs.List.{position_from, sum_by}
 use Rattle.std.specs.Option.{option_map_or}
 use Rattle.sym_records.specs.declared.line.SymLine.{SymLine}
-use Rattle.sym_records.specs.declared.line.SymLine.TheVariants.{Func, Inline}
+use Rattle.sym_records.specs.declared.line.SymLine.TheVariants.{Line}
 use Rattle.sym_meaning.specs.TextNames.{is_line_at, under}
 use Rattle.step_maps.specs.Stepping.{Stepping}
 use Rattle.step_maps.specs.declared.stretch.FirstItem.{FirstItem}
@@ -12,7 +12,6 @@ use Rattle.sym_lookup.specs.declared.under.LineFinder.TheVariants.{Rising, Map}
 use Rattle.sym_lookup.specs.declared.under.Under.{Under}
 use Rattle.sym_lookup.specs.Answers.{chain_places, line_place}
 use Rattle.sym_lookup.specs.PlaceMaps.{place_in, IsPlaceMap}
-use Rattle.sym_lookup.specs.internal.Risings.{AreRising}
 
 -- the places that maps have, one after the other until one has none
 abbrev pub chain_in : List (Stepping (Option FirstItem)) → ℕ → List ℕ
@@ -22,6 +21,12 @@ chain_in (map ∷ maps) x = option_map_or (λ place. place ∷ chain_in maps x) 
 -- the records from a place to an end
 abbrev pub part : ℕ → ℕ → List SymLine → List SymLine
 part first end lines = take (end - first) (drop first lines)
+
+-- all are line records, and each begins at or behind the end of the one before it
+abbrev pub AreRising : ℕ → List SymLine → Type 0
+AreRising low [] = Unit {0}
+AreRising low (Line address size line file ∷ records) = (low ≤ address) × AreRising (address + size) records
+AreRising low (_ ∷ records) = ⊥
 
 -- rising records are searched by halves: first and end bound them, and the first of them at an address is the line record there
 pub record AreSearchable (lines : List SymLine) (func first end : ℕ) : Type 0 where
@@ -42,25 +47,3 @@ pub record IsUnder (lines : List SymLine) (under : Under) : Type 0 where
 abbrev pub AreUnders : List SymLine → List Under → Type 0
 AreUnders lines [] = Unit {0}
 AreUnders lines (under ∷ unders) = IsUnder lines under × AreUnders lines unders
-
--- how many ranges a record under a FUNC has, and at least one
-abbrev pub range_count : SymLine → ℕ
-range_count (Inline level line file origin ranges) = max (length ranges) 1
-range_count _ = 1
-
-abbrev pub is_func : SymLine → Bool
-is_func (Func many address size params name) = true
-is_func _ = false
-
--- whether the record at a place is a FUNC with more than 32 ranges under it: what stands under such is held
-unfoldable pub is_held : List SymLine → ℕ → Bool
-is_held lines func = option_map_or is_func (slice_get lines func) false && nat_lt 32 (sum_by range_count (under (drop (func + 1) lines)))
-
--- there is no such from a place up to another one
-abbrev pub HaveNone : List SymLine → ℕ → ℕ → Type 0
-HaveNone lines first end = (first ≤ end) × ((func : ℕ) → first ≤ func → func < end → is_held lines func ≡ false)
-
--- they are those of all such, in their order
-abbrev pub AreHeld : List SymLine → ℕ → ℕ → List Under → Type 0
-AreHeld lines first end [] = HaveNone lines first end
-AreHeld lines first end (under ∷ unders) = HaveNone lines first under.func × ((is_held lines under.func ≡ true) × AreHeld lines (under.func + 1) end unders)

@@ -5,7 +5,7 @@ ghost use Rattle.sym_lookup.specs.Answers.{func_place, public_place, answer_of};
 ghost use Rattle.sym_lookup.specs.AnswerTexts.{answer_text};
 ghost use Rattle.sym_lookup.specs.IndexOf.{IsIndexOf};
 ghost use Rattle.sym_lookup.specs.PlaceMaps.{IsPlaceMap, IsPlaceRun};
-ghost use Rattle.sym_lookup.specs.internal.Marks.{mark_at, public_of};
+ghost use Rattle.sym_lookup.specs.NearestMarks.{mark_at, public_of};
 ghost use Rattle.sym_lookup.specs.declared.answers.Answer.TheVariants as answer;
 ghost use Rattle.sym_records.specs.declared.line.SymLine.{SymLine};
 ghost use Rattle.std.specs.List.Sorted.{IsNonDecreasingBy};

@@ -3,7 +3,8 @@ ghost use Rattle.std.specs.Prelude.{◌≡◌, ℕ, ◌+◌, ◌<◌, ◌≤◌,
 ghost use Rattle.std.specs.Bool.{OnTrue};
 ghost use Rattle.std.specs.List.{position_from};
 ghost use Rattle.sym_meaning.specs.TextNames.{is_line_at};
-ghost use Rattle.sym_lookup.specs.internal.Risings.{line_end, AreRising, RisesTo, is_inline};
+ghost use Rattle.sym_lookup.specs.internal.Risings.{line_end, RisesTo, is_inline};
+ghost use Rattle.sym_lookup.specs.UnderOf.{AreRising};
 
 use crate::scans::is_line_at;
 use sym_records::SymLine;

@@ -2,7 +2,8 @@
 //! records by their number.
 ghost use Rattle.std.specs.Prelude.{◌≡◌, ℕ, ◌+◌, ◌<◌, ◌≤◌, ◌^◌, ◌++◌, length, IfOk, OnOk};
 ghost use Rattle.std.specs.List.Sorted.{IsNonDecreasingBy};
-ghost use Rattle.sym_lookup.specs.internal.Marks.{key_of, mark_of, marks_of, mark_at};
+ghost use Rattle.sym_lookup.specs.internal.Marks.{key_of, mark_of, marks_of};
+ghost use Rattle.sym_lookup.specs.NearestMarks.{mark_at};
 
 use std::alloc::Global;
 use sym_edges::OutOfMemory;

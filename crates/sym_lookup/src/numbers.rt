@@ -2,7 +2,7 @@
 ghost use Rattle.std.specs.Prelude.{◌≡◌, ◌<◌, ◌^◌, length, IfOk};
 ghost use Rattle.std.specs.List.Sorted.{IsNonDecreasingBy};
 ghost use Rattle.sym_lookup.specs.IndexOf.{AreNumbersOf};
-ghost use Rattle.sym_lookup.specs.internal.Marks.{mark_at, numbered};
+ghost use Rattle.sym_lookup.specs.NearestMarks.{mark_at, numbered};
 
 use crate::marks::{Mark, Marked, mark_at, sorted_marks};
 use std::alloc::Global;

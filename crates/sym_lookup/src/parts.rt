@@ -4,7 +4,8 @@ ghost use Rattle.std.specs.Option.{is_some};
 ghost use Rattle.sym_lookup.specs.Answers.{func_place, chain_places, line_place};
 ghost use Rattle.sym_lookup.specs.IndexOf.{IsIndexOf};
 ghost use Rattle.sym_lookup.specs.PlaceMaps.{place_in, IsPlaceRun};
-ghost use Rattle.sym_lookup.specs.UnderOf.{chain_in, is_held};
+ghost use Rattle.sym_lookup.specs.UnderOf.{chain_in};
+ghost use Rattle.sym_lookup.specs.internal.HeldUnders.{is_held};
 ghost use Rattle.sym_records.specs.declared.line.SymLine.{SymLine};
 
 use crate::answers::PlaceRun;

@@ -9,6 +9,7 @@ ghost use Rattle.sym_lookup.specs.internal.Spots.{spot_shown};
 use crate::answers::Answer;
 use crate::named::{Records, file_name, origin_name};
 use crate::numbers::numbers_of;
+use clean_names::name_omitted;
 use itoa::Buffer;
 use std::alloc::Global;
 use sym_edges::OutOfMemory;
@@ -145,7 +146,7 @@ fn add_origin(text: &mut Vec<u8>, lines: &Records<'_>, number: u32) -> Result<()
     ensures { OnOk result (text.new.items ≡ text.old.items ++ unwrap_or (text_origin lines.now number) (codes "<name omitted>")) }
 {
     match lines.origin(number) {
-        None => add(text, b"<name omitted>"),
+        None => add(text, name_omitted()),
         Some(origin) => add(text, origin_name(origin)),
     }
 }
@@ -160,7 +161,7 @@ fn add_call_name(
 {
     match inline {
         SymLine::Inline { origin, .. } => add_origin(text, lines, *origin),
-        _ => add(text, b"<name omitted>"),
+        _ => add(text, name_omitted()),
     }
 }
 
@@ -173,7 +174,7 @@ fn add_call_name_at(
     ensures { OnOk result (text.new.items ≡ text.old.items ++ call_name (call_at lines.now place)) }
 {
     match lines.get(place) {
-        None => add(text, b"<name omitted>"),
+        None => add(text, name_omitted()),
         Some(inline) => add_call_name(text, lines, inline),
     }
 }

@@ -6,7 +6,8 @@ ghost use Rattle.sym_records.specs.declared.line.SymLine.{SymLine};
 ghost use Rattle.sym_meaning.specs.TextNames.{level_count};
 ghost use Rattle.sym_lookup.specs.declared.answers.Answer.TheVariants as answer;
 ghost use Rattle.sym_lookup.specs.Answers.{chain_from, chain_places, line_place};
-ghost use Rattle.sym_lookup.specs.UnderOf.{chain_in, IsLineFinder, IsUnder, AreUnders, range_count, is_func, is_held, AreHeld};
+ghost use Rattle.sym_lookup.specs.UnderOf.{chain_in, IsLineFinder, IsUnder, AreUnders};
+ghost use Rattle.sym_lookup.specs.internal.HeldUnders.{range_count, is_func, is_held, AreHeld};
 
 use crate::answers::{Answer, PlaceList};
 use crate::line_runs::{are_rising, inlines_in_front, line_by_halves};

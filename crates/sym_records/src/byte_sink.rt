@@ -1,3 +1,4 @@
+//! A sink that keeps what it takes, for spelling into memory.
 ghost use Rattle.std.specs.Prelude.{◌≡◌, ◌≤◌, ◌<◌, ◌++◌, length, take, Some, Ok, IfOk, OnErr};
 ghost use Rattle.sym_edges.specs.Outside.{append_told, Rose};
 

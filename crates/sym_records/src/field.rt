@@ -1,3 +1,4 @@
+//! The fields of records, by their kinds.
 use crate::line::Extent;
 use sym_rules::RuleText;
 

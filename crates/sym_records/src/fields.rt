@@ -1,3 +1,4 @@
+//! Whether a record's fields can stand in a line.
 ghost use Rattle.std.specs.Prelude.{◌≡◌};
 ghost use Rattle.std.specs.List.{list_all};
 ghost use Rattle.sym_rules.specs.Cuts.{is_within_line};

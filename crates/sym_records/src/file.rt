@@ -1,3 +1,4 @@
+//! Lists of records that a text can spell.
 ghost use Rattle.std.specs.Prelude.{◌≡◌, Ok, Some, None, MatchResult, length, slice_get};
 ghost use Rattle.std.specs.Option.{option_copied};
 ghost use Rattle.sym_records.specs.Canon.{canon_text};

@@ -1,3 +1,4 @@
+//! Writing records into a sink.
 ghost use Rattle.std.specs.Prelude.{◌≡◌, ◌≤◌, Ok, OnOk, OnErr};
 ghost use Rattle.sym_edges.specs.Outside.{append_told, AddsFront, Rose};
 ghost use Rattle.sym_records.specs.Canon.{canon_text};

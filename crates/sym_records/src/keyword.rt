@@ -1,3 +1,5 @@
+//! The keywords of records.
+
 /// The kinds of records, by their keywords.
 #[derive(Clone, Copy, Debug, PartialEq, Eq)]
 pub enum Keyword {

@@ -1,3 +1,4 @@
+//! How many bytes a record's line has.
 ghost use Rattle.std.specs.Prelude.{◌≡◌, ◌<◌, ◌-◌, ◌^◌, ◌+◌, length, nat_le, min};
 ghost use Rattle.std.specs.List.{flat_map};
 ghost use Rattle.sym_records.specs.Canon.{body};

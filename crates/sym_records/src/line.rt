@@ -1,3 +1,4 @@
+//! The records of a symbol file.
 ghost use Rattle.std.specs.Prelude.{◌≡◌, IfOk};
 
 use std::alloc::Global;

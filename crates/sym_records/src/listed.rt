@@ -1,3 +1,4 @@
+//! The fields of a record as a short list.
 ghost use Rattle.std.specs.Prelude.{◌≡◌, ◌<◌, ◌^◌, [], ◌∷◌, ◌++◌, ◌≤◌, map, length, take};
 ghost use Rattle.sym_records.specs.Listed.{said};
 

@@ -1,3 +1,4 @@
+//! Texts that are held in pieces.
 ghost use Rattle.std.specs.Prelude.{◌≡◌, [], ◌++◌, OnOk};
 ghost use Rattle.sym_records.specs.Spelled.{text_bytes};
 

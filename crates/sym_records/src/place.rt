@@ -1,3 +1,5 @@
+//! Which records may follow a place in a file.
+
 /// What stands before a line of a symbol file, as far as it decides which records may follow.
 #[derive(Clone, Copy, Debug, PartialEq, Eq)]
 pub enum Place {

@@ -1,3 +1,4 @@
+//! The spelling of one record, as a text of its own.
 ghost use Rattle.std.specs.Prelude.{◌≡◌, IfOk};
 ghost use Rattle.sym_records.specs.Canon.{canon};
 

@@ -1,3 +1,4 @@
+//! Texts of symbol files, which contracts see as their records.
 ghost use Rattle.std.specs.Prelude.{◌≡◌, ◌≤◌, Ok, OnOk, OnErr};
 ghost use Rattle.std.specs.List.{flat_map};
 ghost use Rattle.sym_edges.specs.Outside.{append_told, AddsFront, Rose};

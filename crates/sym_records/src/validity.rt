@@ -1,3 +1,4 @@
+//! Whether a record is one that a line can spell.
 ghost use Rattle.std.specs.Prelude.{◌≡◌, ◌^◌, ◌↔◌, IsTrue};
 ghost use Rattle.std.specs.List.{list_all};
 ghost use Rattle.sym_records.specs.Fields.{is_range, are_ranges};

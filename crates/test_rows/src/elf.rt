@@ -45,11 +45,13 @@ pub const CUT_UNIT: &[u8] = b"\x0c\0\0\0\x04\0\0\0\0\0\x08\x01\0\0\0\0";
 pub const VERSION_3: &[u8] = b"\x07\0\0\0\x03\0\0\0\0\0\x08";
 
 /// Abbreviations: 1 a compile unit with a line table and a directory, 2 a function by name, 3 an inlined copy, 4 a function with
-/// children, 5 a function without a name.
+/// children, 5 a function without a name, 6 an inlined copy with children, 7 one that does not say where it is called.
 pub const FUNCTIONS: &[u8] =
     b"\x01\x11\x01\x10\x17\x1b\x08\0\0\x02\x2e\0\x03\x08\x11\x01\x12\x06\0\0\
     \x03\x1d\0\x03\x08\x11\x01\x12\x06\x58\x0b\x59\x0b\0\0\x04\x2e\x01\x03\x08\x11\x01\x12\x06\0\0\
-    \x05\x2e\0\x11\x01\x12\x06\0\0\0";
+    \x05\x2e\0\x11\x01\x12\x06\0\0\
+    \x06\x1d\x01\x03\x08\x11\x01\x12\x06\x58\x0b\x59\x0b\0\0\
+    \x07\x1d\0\x03\x08\x11\x01\x12\x06\0\0\0";
 
 /// The header of a line table of version 4 up to its files, without its lengths.
 pub const LINES: &[u8] = b"\x01\x01\x01\xfb\x0e\x0d\0\x01\x01\x01\x01\0\0\0\x01\0\0\x01\0";

@@ -2,8 +2,8 @@
 //!
 //! They use public calls alone and nothing stands on them, so each of those crates is proved without them. There is no code here. A
 //! test shows what no clause says: that calls answer with ample memory, what files and streams do that are slow, interrupted or
-//! broken, that threads meet, and the sizes of types. The crates that read, check and evaluate records are tested by what the commands
-//! answer on long texts (scripts/long_texts.py).
+//! broken, that threads meet, that half a million look-ups come to their end, and the sizes of types. The crates that read, check and
+//! evaluate records are also tested by what the commands answer on long texts (scripts/long_texts.py).
 #![tactic(auto)]
 
 #[cfg(test)]
@@ -12,6 +12,8 @@ mod comparison;
 mod expressions;
 #[cfg(test)]
 mod fakes;
+#[cfg(test)]
+mod lookups;
 #[cfg(test)]
 mod records;
 #[cfg(test)]
@@ -22,5 +24,9 @@ mod sets;
 mod steps;
 #[cfg(test)]
 mod streams;
+#[cfg(test)]
+mod texts;
+#[cfg(test)]
+mod values;
 #[cfg(test)]
 mod workers;

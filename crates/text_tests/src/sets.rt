@@ -87,6 +87,44 @@ fn sets_of_a_thousand_spans(rt: HostRuntime) -> Result<(), Fail> {
     Ok(())
 }
 
+/// Spans by where they begin and end.
+fn spans_of(alloc: Global, ends: &[(u64, u64)]) -> Result<Vec<Span>, AllocError> {
+    let mut spans = Vec::new(alloc);
+    for (start, end) in ends {
+        if start < end {
+            spans.push(Span::new(*start, *end))?;
+        }
+    }
+    Ok(spans)
+}
+
+/// The set of these spans.
+fn set_of(alloc: Global, ends: &[(u64, u64)]) -> Result<RangeSet, OutOfMemory> {
+    of_ranges(alloc, spans_of(alloc, ends)?.as_slice())
+}
+
+/// A set of spans that touch, in no order, what is left of it without a hole, a part of that, and both together.
+fn four_sets(alloc: Global) -> Result<[RangeSet; 4], OutOfMemory> {
+    let whole = set_of(alloc, &[(5, 9), (1, 3), (3, 5)])?;
+    let hole = set_of(alloc, &[(4, 6)])?;
+    let left = whole.minus(alloc, &hole)?;
+    let part = left.meet(alloc, &set_of(alloc, &[(3, 7)])?)?;
+    let joined = left.join(alloc, &hole)?;
+    Ok([whole, left, part, joined])
+}
+
+const FOUR: [&[u64]; 4] = [&[1, 9], &[1, 4, 6, 9], &[3, 4, 6, 7], &[1, 9]];
+
+#[test]
+fn sets_of_some_spans(rt: HostRuntime) -> Result<(), Fail> {
+    let sets = four_sets(rt.alloc())?;
+    for k in 0..4 {
+        let ends = ends_of(rt.alloc(), sets[k].spans())?;
+        same(&rt, "whole, left, part, joined", &ends, FOUR[k]);
+    }
+    Ok(())
+}
+
 #[test]
 fn a_thousand_spans_enclose(rt: HostRuntime) -> Result<(), Fail> {
     let spans = thousand(rt.alloc(), 0, 4, true)?;

@@ -4,12 +4,11 @@ ghost use Rattle.std.specs.Prelude.{◌≡◌, ◌*◌, ◌%◌, ◌^◌};
 use crate::comparison::same;
 use std::alloc::Global;
 use std::sync::atomic::AtomicU64;
-use std::sync::atomic::Ordering::SeqCst;
 use std::test::Fail;
 use std::thread::Threads;
 use sym_edges::OutOfMemory;
-use test_rows::Holding;
-use unit_workers::{Gate, NoGate, UnitJob, run_all};
+use test_rows::{Holding, Recording};
+use unit_workers::{Gate, NoGate, UnitJob, open_tickets, run_all};
 
 /// The square of a number. Each worker keeps a list of the numbers that it read. One number may find no memory.
 #[derive(Drop)]
@@ -34,20 +33,6 @@ impl UnitJob for Squares {
         }
         scratch.push(k as u64)?;
         Ok((k as u64).wrapping_mul(k as u64))
-    }
-}
-
-/// Counts how often each unit was reached.
-#[derive(Drop)]
-struct Recording<'a> {
-    reached: &'a [AtomicU64],
-}
-
-impl<'a> Gate for Recording<'a> {
-    fn at(&self, k: usize) {
-        if let Some(count) = self.reached.get(k) {
-            count.fetch_add(1, SeqCst);
-        }
     }
 }
 
@@ -123,18 +108,8 @@ fn each_unit_is_reached_once_and_holds_up_no_other(rt: HostRuntime) -> Result<()
         reached: reached.as_slice(),
     };
     let found = squares_by(&rt, alloc, &gate, None, (1000, 4))?;
-    let mut once: u64 = 0;
-    for count in gate.reached {
-        if count.load(SeqCst) == 1 {
-            once = once.saturating_add(1);
-        }
-    }
-    same(
-        &rt,
-        "reached once",
-        &[once, found.len() as u64],
-        &[1000, 1000],
-    );
+    let counts = [gate.once(), found.len() as u64];
+    same(&rt, "reached once", &counts, &[1000, 1000]);
     // One of two workers holds a unit until the other has reached all the others.
     for held in [0, 1] {
         let gate = Holding::new(held, 7);
@@ -142,5 +117,41 @@ fn each_unit_is_reached_once_and_holds_up_no_other(rt: HostRuntime) -> Result<()
         same(&rt, "a unit is held", &found, &[0, 1, 4, 9, 16, 25, 36, 49]);
         same(&rt, "the others are reached", &gate.seen(), &[7, 0]);
     }
+    Ok(())
+}
+
+/// What two hands draw of no ticket.
+fn draws_of_none(alloc: Global) -> Result<[Option<usize>; 2], OutOfMemory> {
+    let (tickets, mut hand) = open_tickets(alloc, 0, 2)?;
+    let mut other = hand.split(&tickets);
+    let first = hand.draw(&tickets);
+    let second = other.draw(&tickets);
+    if first.is_some() || second.is_some() {
+        unreachable!()
+    }
+    hand.join(&tickets, other);
+    hand.close(tickets);
+    Ok([first, second])
+}
+
+/// What one hand draws of one ticket.
+fn draws_of_one(alloc: Global) -> Result<[Option<usize>; 2], OutOfMemory> {
+    let (tickets, mut hand) = open_tickets(alloc, 1, 1)?;
+    let Some(first) = hand.draw(&tickets) else {
+        hand.close(tickets);
+        return Ok([None, None]);
+    };
+    if hand.draw(&tickets).is_some() {
+        unreachable!()
+    }
+    hand.close(tickets);
+    Ok([Some(first), None])
+}
+
+#[test]
+fn tickets_are_drawn_one_by_one(rt: HostRuntime) -> Result<(), Fail> {
+    let alloc = rt.alloc();
+    same(&rt, "no ticket", &draws_of_none(alloc)?, &[None, None]);
+    same(&rt, "one ticket", &draws_of_one(alloc)?, &[Some(0), None]);
     Ok(())
 }

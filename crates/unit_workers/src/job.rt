@@ -1,3 +1,4 @@
+//! What workers do: a job reads a unit by its number.
 ghost use Rattle.std.specs.Prelude.{ℕ, IfOk};
 
 use std::alloc::Global;

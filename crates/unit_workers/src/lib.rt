@@ -37,8 +37,8 @@
 //! to another, so none has a right or a number. If it has no right itself, the word is past the count, and its list has each
 //! number below the count once: this is the clause of `close`.
 //!
-//! To read: `job` first, then `lot`, `view` and `rule` with `specs/Drawing.antt`, then `tickets`, `working`, `gathering` and
-//! `running`.
+//! To read: `job` first, then `lot`, `view` and `rule` with `specs/Drawing.antt`, then `tickets`, `worker`, `results` and
+//! `runner`; `shares` stands alone.
 #![tactic(auto)]
 
 mod job;

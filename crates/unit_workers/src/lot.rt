@@ -1,3 +1,5 @@
+//! With what tickets are made.
+
 /// With what tickets are made: how many units there are, and how many workers may draw.
 #[derive(Drop)]
 pub struct Lot {

@@ -1,3 +1,4 @@
+//! Results by the numbers of their units.
 ghost use Rattle.std.specs.Prelude.{◌≡◌, ◌<◌, length, replicate, None, IfOk, vec_len};
 ghost use Rattle.std.specs.List.{All};
 ghost use Rattle.unit_workers.specs.Working.{AreInOrder, AreTaken, AreWorked, IsGathered, IsResult, placed};

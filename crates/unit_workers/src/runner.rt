@@ -1,3 +1,4 @@
+//! Running a job over all units, on several threads.
 ghost use Rattle.std.specs.Prelude.{◌≡◌, ◌^◌, ◌≤◌, [], IfOk, vec_len};
 ghost use Rattle.std.specs.List.{All};
 ghost use Rattle.unit_workers.specs.Held.{held};

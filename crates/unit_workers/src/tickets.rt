@@ -1,3 +1,4 @@
+//! Tickets: numbers below a count, each drawn once.
 ghost use Rattle.std.specs.Prelude.{◌≡◌, ◌+◌, ◌-◌, ◌^◌, ◌<◌, ◌≤◌, [], ◌∷◌, ◌++◌, IfOk, IfSome, IfNone};
 ghost use Rattle.std.specs.List.{All};
 ghost use Rattle.unit_workers.specs.Numbers.{HasEachBelow};

@@ -1,3 +1,4 @@
+//! What is known at the word by whoever holds a seat.
 ghost use Rattle.std.specs.Prelude.{ℕ, List};
 ghost use Rattle.std.specs.Borrow.{ftrue};
 ghost use Rattle.unit_workers.specs.declared.lot.Lot.{Lot};

@@ -1,3 +1,4 @@
+//! One worker: it draws numbers and reads their units until none is left.
 ghost use Rattle.std.specs.Prelude.{◌≡◌, length, IfOk, vec_len};
 ghost use Rattle.std.specs.List.{All};
 ghost use Rattle.unit_workers.specs.Working.{one_hand, IsWorked, AreWorked};

@@ -1,17 +1,16 @@
 -- What is said of entries and their addresses is said of the units without their line tables.
-use Rattle.std.proofs.Common.{◌≡◌, ℕ, zero, suc, ◌+◌, ◌==◌, ◌&&◌, not, false, map, List, [], ◌∷◌, ◌++◌, codes, Option, None, Some, unwrap_or, option_and_then, refl, sym, ap, ◌∙◌}
+use Rattle.std.proofs.Common.{◌≡◌, ℕ, ◌+◌, ◌==◌, ◌&&◌, not, false, map, List, [], ◌∷◌, ◌++◌, Option, None, Some, refl, sym, ap, ◌∙◌}
 use Rattle.std.specs.List.{find, slice_get, list_any}
 use Rattle.std.specs.Option.{option_map, option_map_or}
 use Rattle.std.specs.Str.{bytes_eq}
 use Rattle.std.proofs.lemmas.Option.{slice_get-map}
-use Rattle.clean_names.specs.Cleaning.{cleaned}
 use Rattle.range_set.specs.Members.{holds_any}
-use Rattle.die_walk.specs.Attributes.{or_else}
-use Rattle.die_walk.specs.EntryTable.{DieFields}
 use Rattle.die_names.specs.declared.unit_read.UnitRead.{UnitRead}
 use Rattle.die_walk.specs.EntryKinds.{is_function}
-use Rattle.die_names.specs.UnitEntries.{Placed, unit_entries, entries_from, entry_at, entry_in, entry_of}
-use Rattle.die_names.specs.Names.{link_of, linked_from, way, dies_of, front_in, front_of, first_linkage, first_joined, name_on, entry_name}
+use Rattle.die_names.specs.UnitEntries.{entry_in, entry_of}
+use Rattle.die_names.specs.Names.{entry_name}
+use Rattle.die_names.specs.EntriesAlone.{entries_alone}
+use Rattle.die_names.proofs.AloneLemmas.{alone, name_alone}
 use Rattle.die_names.specs.Owners.{Covering, unit_covering, covering_from, owner}
 use Rattle.func_flatten.specs.declared.piece.Piece.{Piece}
 use Rattle.func_flatten.specs.Pieces.{owns, place_of, owner_place, has_other, is_many, AreMarked, ArePieces}
@@ -19,8 +18,8 @@ use Rattle.func_flatten.specs.Publics.{is_inside}
 use Rattle.die_names.specs.Owners.{chain_by, entry_chain}
 use Rattle.inline_chain.specs.InlineRuns.{InlineParts, is_on_chain, AreInlineRuns}
 use Rattle.debug_read.specs.Each.{Match}
-use Rattle.debug_read.specs.UnitsRead.{no_lines}
-use Rattle.worked.proofs.OneUnits.{SameUnit}
+use Rattle.line_program.specs.LineMaps.{no_lines}
+use Rattle.debug_read.specs.SameUnits.{SameUnit}
 
 -- the unit without its line table
 abbrev pub bare : UnitRead → UnitRead
@@ -35,7 +34,11 @@ same_bares [] (w ∷ ws) same = absurd same
 same_bares (u ∷ us) [] same = absurd same
 same_bares (u ∷ us) (w ∷ ws) same = (let later : bares us ≡ bares ws = same_bares us ws same.1 in λ i. record { die = same.0.die i; spans = same.0.spans i; lines = no_lines } ∷ later i)
 
--- entries by their numbers and places
+-- names are those of the entries alone, which are the same
+alone_bares : (us : List UnitRead) → alone (bares us) ≡ alone us
+alone_bares [] = refl
+alone_bares (u ∷ us) = ap (λ ws. entries_alone u ∷ ws) (alone_bares us)
+
 in_bare : (unit entry : ℕ) (o : Option UnitRead) → entry_in unit entry o ≡ entry_in unit entry (option_map bare o)
 in_bare unit entry None = refl
 in_bare unit entry (Some part) = refl
@@ -44,47 +47,8 @@ pub entry_bare : (us : List UnitRead) (unit entry : ℕ) → entry_of us unit en
 unfolding entry_of
 entry_bare us unit entry = in_bare unit entry (slice_get us unit) ∙ ap (entry_in unit entry) (sym (slice_get-map bare us unit))
 
-entries_bare : (unit : ℕ) (us : List UnitRead) → entries_from unit us ≡ entries_from unit (bares us)
-entries_bare unit [] = refl
-entries_bare unit (u ∷ us) = ap (λ l. unit_entries unit 0 u.die.dies ++ l) (entries_bare (unit + 1) us)
-
-at_bare : (us : List UnitRead) (place : ℕ) → entry_at us place ≡ entry_at (bares us) place
-unfolding entry_at
-at_bare us place = ap (find (λ (p : Placed). p.die.at == place)) (entries_bare 0 us)
-
--- names
-link_bare : (us : List UnitRead) (die : DieFields) → linked_from us die ≡ linked_from (bares us) die
-link_bare us die = go (link_of die)
-  where
-    go : (o : Option ℕ) → option_and_then (entry_at us) o ≡ option_and_then (entry_at (bares us)) o
-    go None = refl
-    go (Some place) = at_bare us place
-
-way_bare : (us : List UnitRead) (links : ℕ) (o : Option Placed) → way us links o ≡ way (bares us) links o
-unfolding way
-way_bare us zero None = refl
-way_bare us zero (Some p) = refl
-way_bare us (suc links) None = refl
-way_bare us (suc links) (Some p) = ap (λ l. p ∷ l) (ap (way us links) (link_bare us p.die) ∙ way_bare us links (linked_from (bares us) p.die))
-
-dies_bare : (o : Option UnitRead) → dies_of o ≡ dies_of (option_map bare o)
-dies_bare None = refl
-dies_bare (Some part) = refl
-
-front_bare : (us : List UnitRead) (p : Placed) → front_of us p ≡ front_of (bares us) p
-unfolding front_of
-front_bare us p = ap (λ dies. front_in dies p.entry p.die.parent) (dies_bare (slice_get us p.unit) ∙ ap dies_of (sym (slice_get-map bare us p.unit)))
-
-joined_bare : (us : List UnitRead) (entries : List Placed) → first_joined us entries ≡ first_joined (bares us) entries
-joined_bare us [] = refl
-joined_bare us (p ∷ rest) = λ i. or_else (option_map (λ name. front_bare us p i ++ name) p.die.name) (joined_bare us rest i)
-
 pub name_bare : (us : List UnitRead) (unit entry : ℕ) → entry_name us unit entry ≡ entry_name (bares us) unit entry
-unfolding entry_name
-name_bare us unit entry =
-    let ways : way us 16 (entry_of us unit entry) ≡ way (bares us) 16 (entry_of (bares us) unit entry) = ap (way us 16) (entry_bare us unit entry) ∙ way_bare us 16 (entry_of (bares us) unit entry) in
-    ap (λ entries. cleaned (name_on us entries)) ways
-    ∙ ap (λ joined. cleaned (unwrap_or (or_else (first_linkage (way (bares us) 16 (entry_of (bares us) unit entry))) joined) (codes "<name omitted>"))) (joined_bare us (way (bares us) 16 (entry_of (bares us) unit entry)))
+name_bare us unit entry = name_alone us unit entry ∙ ap (λ ws. entry_name ws unit entry) (sym (alone_bares us)) ∙ sym (name_alone (bares us) unit entry)
 
 -- owners
 covering_bare : (unit : ℕ) (us : List UnitRead) → covering_from unit us ≡ covering_from unit (bares us)

@@ -12,9 +12,11 @@ use Rattle.cfi_eval.specs.declared.outcome.Frame.{Frame}
 use Rattle.cfi_eval.specs.TextValue.{text_frame}
 use Rattle.rule_postfix.specs.RowValue.{row_frame}
 use Rattle.rule_postfix.specs.FrameMeaning.{SaysFrame, KeepsRows, KeepsFrames}
+use Rattle.rule_postfix.specs.KnownCfa.{HasKnownCfa}
+use Rattle.rule_postfix.proofs.CfaLemmas.{written_known}
 use Rattle.die_names.specs.declared.unit_read.UnitRead.{UnitRead}
 use Rattle.func_records.specs.TextNames.{Names}
-use Rattle.sym_judge.specs.FormValues.{IsKnown}
+use Rattle.cfi_eval.specs.Known.{IsKnown}
 use Rattle.sym_judge.specs.SameMeaning.{said, NameTheSame}
 use Rattle.sym_judge.specs.Rulings.{IsRuling}
 use Rattle.sym_judge.specs.declared.ruling.Ruling.{Ruling}
@@ -25,7 +27,7 @@ use Rattle.dumpsyms_cmd.specs.Judgement.{judgement_verdict}
 use Rattle.dumpsyms_cmd.specs.declared.judgement.Judgement.{Judgement}
 use Rattle.dumpsyms_cmd.specs.commands.Dump.{DumpsFile, written_of}
 use Rattle.dumpsyms_cmd.specs.commands.Judge.{ruling_verdict, IsReadVerdict, JudgePromises}
-use Rattle.worked.specs.Judged.{NamesAsFile, KeepsKnownRows, KeepsKnownFrames, SaysAsFile}
+use Rattle.worked.specs.Judged.{NamesAsFile, KeepsRowsOfWords, KeepsFramesOfWords, SaysAsFile}
 
 -- a verdict of status 0 on records says that the ruling is yes
 yes_of : (own other : List SymLine) (v : Verdict) (ruling : Ruling) → IsRuling own other ruling → v ≡ ruling_verdict ruling → v.status ≡ 0 → IsRuling own other Yes
@@ -53,19 +55,19 @@ row_too : (row : Row) (meant : Frame) (mine theirs : Option Frame) → SaysFrame
 row_too row meant None theirs says known same = absurd says
 row_too row meant (Some f) theirs says known same = subst (SaysFrame row meant) (sym (same f (subst IsKnown (sym says.cfa) known) refl)) says
 
-rows_too : (base : ℕ) (own other : List SymLine) → IsRuling own other Yes → (entries : List FdeFields) → AllByRecursion (KeepsRows base own) entries → AllByRecursion (KeepsKnownRows base other) entries
-rows_too base own other told [] all = tt
-rows_too base own other told (e ∷ entries) all = (
+rows_too : (base : ℕ) (own other : List SymLine) → IsRuling own other Yes → (entries : List FdeFields) → AllByRecursion HasKnownCfa entries → AllByRecursion (KeepsRows base own) entries → AllByRecursion (KeepsRowsOfWords base other) entries
+rows_too base own other told [] known all = tt
+rows_too base own other told (e ∷ entries) known all = (
   record {
-    at = λ a regs memory fits holds words known. row_too (row_at e a) (row_frame e (row_at e a) regs memory) (text_frame own (a - base) regs memory) (text_frame other (a - base) regs memory) (all.0.at a regs memory holds) known
+    at = λ a regs memory fits holds words bytes. row_too (row_at e a) (row_frame e (row_at e a) regs memory) (text_frame own (a - base) regs memory) (text_frame other (a - base) regs memory) (all.0.at a regs memory holds) (known.0.at a regs memory holds bytes)
         (λ f k is. (yes_frames own other (a - base) told fits).frame regs memory f words k is);
   },
-  rows_too base own other told entries all.1,
+  rows_too base own other told entries known.1 all.1,
 )
 
-frames_too : (base : ℕ) (own other : List SymLine) (entries : List FdeFields) → IsRuling own other Yes → KeepsFrames base entries own → KeepsKnownFrames base entries other
-frames_too base own other entries told keeps = record {
-  rows = rows_too base own other told entries keeps.rows;
+frames_too : (base : ℕ) (own other : List SymLine) (entries : List FdeFields) → IsRuling own other Yes → AllByRecursion HasKnownCfa entries → KeepsFrames base entries own → KeepsFramesOfWords base entries other
+frames_too base own other entries told known keeps = record {
+  rows = rows_too base own other told entries known keeps.rows;
   nothing_else = λ x regs memory fits none. (yes_frames own other x told fits).nowhere regs memory (keeps.nothing_else x regs memory none);
 }
 
@@ -82,7 +84,7 @@ says_as elf sym files own err bytes dumps there is = record {
   lines = is.other;
   reads = is.reads;
   names = λ x fits. names_too dumps.parts.base dumps.dumps.canon.units own is.other x (dumps.dumps.names x) (yes_names own is.other x is.told fits);
-  frames = frames_too dumps.parts.base own is.other (written_of dumps.parts dumps.dumps.found) is.told dumps.dumps.means;
+  frames = frames_too dumps.parts.base own is.other (written_of dumps.parts dumps.dumps.found) is.told (written_known dumps.parts.code dumps.dumps.found.first dumps.dumps.found.second) dumps.dumps.means;
 }
 
 pub yes_says : (elf sym : List ℕ) (files : Files) (j : Judgement) → JudgePromises elf sym (Some files) j → (judgement_verdict j).status ≡ 0 → SaysAsFile elf sym files

@@ -6,6 +6,7 @@ mod BareLemmas
 mod OneRecords
 mod OneVerdict
 mod OneRun
+mod DumpedYes
 pub mod RowStepLemmas
 pub mod OwnDebugFile
 pub mod JudgedLemmas

@@ -21,9 +21,11 @@ use Rattle.func_flatten.specs.LineRuns.{unit_line, unit_paths, path_run, AreLine
 use Rattle.func_flatten.proofs.LawLemmas.{one_pieces}
 use Rattle.inline_chain.specs.InlineRuns.{InlineParts, AreInlineRuns}
 use Rattle.inline_chain.proofs.LawLemmas as inlines
-use Rattle.func_records.specs.FuncRecords.{Part, pieces_of, path_in, no_path, file_path_in, path_of_call, call_path, call_line, number_in, file_lines, origin_lines, line_record, extent, part_lines, AreLined, AreInlined, names_path, names_origin, AreUsed, AreFuncRecords}
+use Rattle.func_records.specs.FuncRecords.{Part, pieces_of, path_in, call_path, call_line, number_in, file_lines, origin_lines, line_record, extent, part_lines, AreLined, AreInlined, names_path, names_origin, AreUsed, AreFuncRecords}
+use Rattle.die_names.specs.CallPaths.{no_path, file_path_in, path_of_call}
 use Rattle.debug_read.specs.Each.{Match}
-use Rattle.worked.proofs.OneUnits.{SameUnit, AreSmall, owned_small}
+use Rattle.worked.proofs.OneUnits.{AreSmall, owned_small}
+use Rattle.debug_read.specs.SameUnits.{SameUnit}
 use Rattle.worked.proofs.OneTexts.{one_texts}
 use Rattle.worked.proofs.BareLemmas.{bares, same_bares, entry_bare, name_bare, pieces_bare, runs_bare}
 

@@ -13,12 +13,12 @@ told_verdict : (run : Run) (files : Files) → run.store.files ≡ Some files �
 told_verdict run files tells judged = subst (λ (told : Option Files). Tells told (λ known. IsVerdict (command run) known (judgement_verdict judged.judgement))) tells judged.verdict
 
 -- a run that judged and whose status is not 4 wrote its verdict whole
-whole_by : (run : Run) (v : Verdict) → WasWritten run v → run.status < 3 → (run.status ≡ v.status) × ReceivedWhole run.out run.err v
+pub whole_by : (run : Run) (v : Verdict) → WasWritten run v → run.status < 3 → (run.status ≡ v.status) × ReceivedWhole run.out run.err v
 whole_by run v (inl whole) low = whole
 whole_by run v (inr failed) low = absurd (let is = failed.0 in omega arith)
 
 -- status 0, 1 and 2 come where the run judged
-judging_by : (run : Run) → Promises run → run.status < 3 → WasJudged run
+pub judging_by : (run : Run) → Promises run → run.status < 3 → WasJudged run
 judging_by run p low = go p.found
   where
     other : (v : Verdict) → WasWritten run v → (v.status < 3 → ⊥) → ⊥

@@ -1,12 +1,11 @@
--- What is kept of the units of a file, two times: the same entries and addresses, and line tables that say the same.
-use Rattle.std.proofs.Common.{◌≡◌, ℕ, ◌+◌, ◌<◌, ◌≤◌, ◌^◌, ◌&&◌, ◌||◌, cond, Bool, true, false, nat_le, nat_lt, List, [], ◌∷◌, ◌++◌, Option, None, Some, arith, refl, sym, ap, ◌∙◌}
+-- The addresses of code, of entries and of owners are below 2^64.
+use Rattle.std.proofs.Common.{◌≡◌, ℕ, ◌+◌, ◌<◌, ◌≤◌, ◌^◌, ◌&&◌, ◌||◌, cond, Bool, true, false, nat_le, nat_lt, List, [], ◌∷◌, ◌++◌, Option, None, Some, arith, refl, sym, ◌∙◌}
 use Rattle.std.specs.List.{list_any, filter_map, cons_option, find}
 use Rattle.std.specs.Option.{option_map}
 use Rattle.std.proofs.lemmas.Bool.{and_parts, leb-true, ltb-true}
 use Rattle.sym_edges.specs.Addresses.{Range}
 use Rattle.range_set.specs.Enclosing.{encloses}
 use Rattle.range_set.specs.Members.{holds, holds_any}
-use Rattle.range_set.proofs.OneList.{one_list}
 use Rattle.elf_sections.specs.declared.section.SectionHeader.{SectionHeader}
 use Rattle.elf_sections.specs.Sections.{has_flag}
 use Rattle.elf_sections.specs.ElfNumbers.{shf_alloc, shf_execinstr}
@@ -14,63 +13,14 @@ use Rattle.elf_sections.specs.Programs.{code_range}
 use Rattle.elf_sections.specs.Programs as elf
 use Rattle.range_lists.specs.EntryRanges.{is_code, in_pairs}
 use Rattle.die_walk.specs.EntryTable.{DieFields}
-use Rattle.line_program.specs.LineAt.{Lines}
-use Rattle.line_program.specs.LineMaps.{LineMap, named_line, numbered_line}
 use Rattle.die_names.specs.declared.unit_read.EntryRef.{EntryRef}
 use Rattle.die_names.specs.declared.unit_read.UnitRead.{UnitRead}
 use Rattle.die_walk.specs.EntryKinds.{is_function}
 use Rattle.die_names.specs.Owners.{Covering, unit_covering, covering_from, owner}
 use Rattle.func_flatten.specs.Pieces.{place_of, owner_place}
-use Rattle.func_records.specs.FuncRecords.{file_path}
 use Rattle.debug_read.specs.Each.{Match}
 use Rattle.debug_read.specs.UnitSays.{UnitSays}
-use Rattle.debug_read.specs.UnitsRead.{IsSet, has_function, KeepsLines, IsUnitRead}
-
--- two line tables say the same: path and line of each address below 2^64, and the path of each file
-pub record SameLines (x y : LineMap) : Type 0 where
-  pub line : (a : ℕ) → a < 2 ^ 64 → named_line x.paths (numbered_line x a) ≡ named_line y.paths (numbered_line y a)
-  pub file : (file : ℕ) → file_path x file ≡ file_path y file
-
-equal_lines : (x y : LineMap) → x ≡ y → SameLines x y
-equal_lines x y is = record { line = λ a small. ap (λ (l : LineMap). named_line l.paths (numbered_line l a)) is; file = λ file. ap (λ (l : LineMap). file_path l file) is }
-
-same_lines : (code : List Range) (keeps : Bool) (lines : Option Lines) (x y : LineMap) → KeepsLines code keeps lines x → KeepsLines code keeps lines y → SameLines x y
-same_lines code true (Some lines) x y p q = record { line = λ a small. p.line a small ∙ sym (q.line a small); file = λ file. p.file file ∙ sym (q.file file) }
-same_lines code true None x y p q = equal_lines x y (p ∙ sym q)
-same_lines code false lines x y p q = equal_lines x y (p ∙ sym q)
-
--- the sets of the entries' addresses are the same
-same_sets : (code : List Range) (pairs xs ys : List (List Range)) → Match (IsSet code) pairs xs → Match (IsSet code) pairs ys → xs ≡ ys
-same_sets code [] [] [] p q = refl
-same_sets code [] [] (y ∷ ys) p q = absurd q
-same_sets code [] (x ∷ xs) ys p q = absurd p
-same_sets code (r ∷ pairs) [] ys p q = absurd p
-same_sets code (r ∷ pairs) (x ∷ xs) [] p q = absurd q
-same_sets code (r ∷ pairs) (x ∷ xs) (y ∷ ys) p q =
-    (let first : x ≡ y = one_list x y p.0.canonical q.0.canonical (λ a. p.0.each a ∙ sym (q.0.each a)) in
-    let later : xs ≡ ys = same_sets code pairs xs ys p.1 q.1 in
-    λ i. first i ∷ later i)
-
--- two units have the same entries with the same addresses, and line tables that say the same
-pub record SameUnit (u w : UnitRead) : Type 0 where
-  pub die : u.die ≡ w.die
-  pub spans : u.spans ≡ w.spans
-  pub lines : SameLines u.lines w.lines
-
-same_unit : (code : List Range) (says : UnitSays) (u w : UnitRead) → IsUnitRead code says u → IsUnitRead code says w → SameUnit u w
-same_unit code says u w p q = record {
-  die = p.die ∙ sym q.die;
-  spans = same_sets code says.pairs u.spans w.spans p.spans q.spans;
-  lines = same_lines code (has_function says.table.dies) says.lines u.lines w.lines p.lines q.lines;
-}
-
-pub same_units : (code : List Range) (says : List UnitSays) (us ws : List UnitRead) → Match (IsUnitRead code) says us → Match (IsUnitRead code) says ws → Match SameUnit us ws
-same_units code [] [] [] p q = tt
-same_units code [] [] (w ∷ ws) p q = absurd q
-same_units code [] (u ∷ us) ws p q = absurd p
-same_units code (s ∷ says) [] ws p q = absurd p
-same_units code (s ∷ says) (u ∷ us) [] p q = absurd q
-same_units code (s ∷ says) (u ∷ us) (w ∷ ws) p q = (same_unit code s u w p.0 q.0, same_units code says us ws p.1 q.1)
+use Rattle.debug_read.specs.UnitsRead.{IsSet, IsUnitRead}
 
 -- code ends below 2^64
 abbrev pub EndBelow : List Range → Type 0

@@ -36,7 +36,9 @@ use Rattle.dumpsyms_cmd.specs.Answers.{IsVerdict}
 use Rattle.rule_postfix.specs.Written.{omitted}
 use Rattle.sample_elf.specs.Made.{made}
 use Rattle.worked.specs.Runs.{AskAlike, by_one_worker}
-use Rattle.worked.proofs.OneUnits.{SameUnit, same_units, EndBelow, code_below, small_units}
+use Rattle.worked.proofs.OneUnits.{EndBelow, code_below, small_units}
+use Rattle.debug_read.proofs.SameLemmas.{same_units}
+use Rattle.debug_read.specs.SameUnits.{SameUnit}
 use Rattle.worked.proofs.OneRecords.{same_pieces, same_records}
 
 -- a file without fault has one list of records
@@ -114,7 +116,7 @@ binary_ends : (read : Result ImageParts Verdict) (debug : DebugFile) (files : Fi
 binary_ends (Ok binary) debug files parts below is = path_ends (path_of debug binary) binary files parts (below binary refl) is
 binary_ends (Err ended) debug files parts below is = absurd (cc)
 
-one_file : (elf : List ℕ) (file : Option (List ℕ)) (v w : Verdict) → IsFileVerdict elf file v → IsFileVerdict elf file w → v ≡ w
+pub one_file : (elf : List ℕ) (file : Option (List ℕ)) (v w : Verdict) → IsFileVerdict elf file v → IsFileVerdict elf file w → v ≡ w
 one_file elf file v w p q = one_given (file_image elf_line file) (module_name elf) v w (file_ends elf_line file) p q
 
 one_pair : (elf : List ℕ) (debug : DebugFile) (files : Files) (v w : Verdict) → IsPairVerdict elf debug files v → IsPairVerdict elf debug files w → v ≡ w
@@ -145,7 +147,7 @@ same_address own other x y f g same p q =
     some_is : {a b : Aspect} → ◌≡◌ {A = Option Aspect} (Some a) (Some b) → a ≡ b
     some_is is = cc
 
-one_ruling : (own other : List SymLine) (a b : Ruling) → IsRuling own other a → IsRuling own other b → a ≡ b
+pub one_ruling : (own other : List SymLine) (a b : Ruling) → IsRuling own other a → IsRuling own other b → a ≡ b
 one_ruling own other Yes Yes p q = refl
 one_ruling own other Yes (No x f) p q = clash (sym (p x q.address_fits) ∙ q.differ)
 one_ruling own other (No x f) Yes p q = clash (sym (q x p.address_fits) ∙ p.differ)

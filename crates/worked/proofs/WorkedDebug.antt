@@ -1,9 +1,10 @@
 -- Worked rows: files with debug entries, and their first fault after the image (DWARF 5, sections 6.2.4, 7.5 and 7.25).
-use Rattle.std.proofs.Common.{◌≡◌, ℕ, ◌+◌, List, [], ◌∷◌, ◌++◌, length, codes, refl}
+use Rattle.std.proofs.Common.{◌≡◌, ℕ, ◌+◌, List, [], ◌∷◌, ◌++◌, length, take, codes, true, refl}
 use Prim.Native.String.{String}
+use Rattle.std.specs.List.{list_all, range_with_len}
 use Rattle.sym_edges.proofs.Hex.{little}
 use Rattle.worked.proofs.Elf.{Section, progbits, hex}
-use Rattle.worked.proofs.Small.{Told, ran, dump, refused, gives, gives_and_omits, worked, files}
+use Rattle.worked.proofs.Small.{Told, ran, dump, refuses, refused, gives, gives_and_omits, worked, files}
 
 -- a unit of version 4 (its header has 11 bytes) and one of version 5 (12), by the place of their abbreviations and their entries
 unfoldable unit_4 : ℕ → String → List ℕ
@@ -106,6 +107,15 @@ frames_behind_a_unit = refl
 frames_before_an_inlined_copy : says (info copy ∷ entry_and_copy ∷ bad_frames ∷ []) ≡ refused "refused frame length eh_frame 0\n"
 unfolding files unit_4 unit_5 file says says_by
 frames_before_an_inlined_copy = refl
+
+-- a unit that is cut anywhere ends at its start
+abbrev whole_unit : List ℕ
+whole_unit = hex "0c000000 0400 00000000 08 01 00000000"
+
+a_cut_unit : list_all (λ n. refuses "refused dwarf ends debug_info 0\n" (file (info (take n whole_unit) ∷ abbreviations "01 2e 00 3b 06 00 00 00" ∷ []))) (range_with_len 1 15)
+    ≡ true
+unfolding files unit_4 unit_5 file says says_by
+a_cut_unit = refl
 
 -- units that are not read: one of another version is listed, by its place and its version; a type unit is passed over
 a_unit_of_version_3 : says (info (hex "07000000 0300 00000000 08") ∷ []) ≡ gives_and_omits "" "skipped debug_info 0 version 3\n"

@@ -1,5 +1,5 @@
 -- Worked rows: frame entries in files, their records and those that are left out.
-use Rattle.std.proofs.Common.{◌≡◌, ℕ, ◌+◌, List, [], ◌∷◌, ◌++◌, length, take, replicate, codes, true, refl}
+use Rattle.std.proofs.Common.{◌≡◌, ℕ, ◌+◌, List, [], ◌∷◌, ◌++◌, length, take, drop, replicate, codes, true, refl}
 use Prim.Native.String.{String}
 use Rattle.std.specs.Prelude.{slice_set}
 use Rattle.std.specs.List.{list_all, range_with_len}
@@ -74,6 +74,12 @@ a_row_that_is_remembered : dump (with_eh (own 0x20 "0a 44 0e10 44 0b"))
 unfolding files own framed_at framed with_eh
 a_row_that_is_remembered = refl
 
+-- an advance of 0 in front of the instructions changes nothing
+an_advance_of_0 : dump (with_eh (take 41 push_rbp ++ hex "40 41 0e10 8602 43 0d06 4a 0c0708 0000 00000000"))
+    ≡ gives "STACK CFI INIT 1000 20 .cfa: $rsp 8 + .ra: .cfa -8 + ^\nSTACK CFI 1001 .cfa: $rsp 16 + $rbp: .cfa -16 + ^\nSTACK CFI 1004 .cfa: $rbp 16 +\nSTACK CFI 100e .cfa: $rsp 8 +\n"
+unfolding files own framed_at framed with_eh
+an_advance_of_0 = refl
+
 -- entries are left out with their reasons: one byte of the section is another
 a_version_2 : dump (with_eh (slice_set push_rbp 8 0x02)) ≡ gives_and_omits "" "omitted eh_frame 18 cie\n"
 unfolding files own framed_at framed with_eh
@@ -120,6 +126,10 @@ a_cfa_register_16 = refl
 nothing_remembered : dump (with_eh (slice_set push_rbp 42 0x0b)) ≡ gives_and_omits "" "omitted eh_frame 18 state\n"
 unfolding files own framed_at framed with_eh
 nothing_remembered = refl
+
+a_restore_alone : dump (with_eh (own 0x20 "0b")) ≡ gives_and_omits "" "omitted eh_frame 18 state\n"
+unfolding files own framed_at framed with_eh
+a_restore_alone = refl
 
 an_advance_in_the_cie : dump (with_eh (slice_set push_rbp 22 0x41)) ≡ gives_and_omits "" "omitted eh_frame 18 range\n"
 unfolding files own framed_at framed with_eh
@@ -170,6 +180,12 @@ from_a_base : dump (framed_at 0xff0 (eh_frame push_rbp ∷ []))
     ≡ gives "STACK CFI INIT 10 20 .cfa: $rsp 8 + .ra: .cfa -8 + ^\nSTACK CFI 11 .cfa: $rsp 16 + $rbp: .cfa -16 + ^\nSTACK CFI 14 .cfa: $rbp 16 +\nSTACK CFI 1e .cfa: $rsp 8 +\n"
 unfolding files own framed_at framed with_eh
 from_a_base = refl
+
+-- and are sums modulo 2^64
+a_pointer_past_the_last_address : dump (framed (record (eh_frame (take 32 push_rbp ++ hex "e01f0000" ++ drop 36 push_rbp)) { address = 0xfffffffffffff000 } ∷ []))
+    ≡ gives "STACK CFI INIT 1000 20 .cfa: $rsp 8 + .ra: .cfa -8 + ^\nSTACK CFI 1001 .cfa: $rsp 16 + $rbp: .cfa -16 + ^\nSTACK CFI 1004 .cfa: $rbp 16 +\nSTACK CFI 100e .cfa: $rsp 8 +\n"
+unfolding files own framed_at framed with_eh
+a_pointer_past_the_last_address = refl
 
 -- a section that is cut is refused at the entry that is cut
 cut_to_nothing : dump (with_eh (take 0 push_rbp)) ≡ gives ""

@@ -1,5 +1,6 @@
 -- Worked rows: what `check`, `lookup` and `frame` answer, from the bytes of the files.
 use Rattle.std.proofs.Common.{◌≡◌, ℕ, List, [], ◌∷◌, codes, Option, None, Some, if◌then◌else◌, refl}
+use Prim.Native.String.{String}
 use Rattle.std.specs.Str.{bytes_eq}
 use Rattle.worked.proofs.ComputingSymbols.{symbols_compute}
 use Rattle.worked.proofs.Plain.{plain_verdict}
@@ -8,6 +9,10 @@ use Rattle.worked.proofs.Small.{Told, told}
 -- words over a symbol file `s` and a state file `t`
 unfoldable over : List (List ℕ) → Option (List ℕ) → Option (List ℕ) → Told
 over words sym state = told (plain_verdict words (λ name. if bytes_eq name (codes "s") then sym else if bytes_eq name (codes "t") then state else None))
+
+-- what a dump of a small program of a C compiler gives
+abbrev hello : String
+hello = "MODULE Linux x86_64 030201000504070608090A0B0C0D0E0F0 hello\nINFO CODE_ID 000102030405060708090A0B0C0D0E0F10111213\nFILE 0 /home/u/hello.c\nFUNC 1139 17 0 main\n1139 4 3 0\n113d f 4 0\n114c 4 5 0\nPUBLIC 1000 0 _init\nPUBLIC 1040 0 _start\nSTACK CFI INIT 1040 22 .cfa: $rsp 8 +\nSTACK CFI INIT 1020 20 .cfa: $rsp 16 + .ra: .cfa -8 + ^\nSTACK CFI 1026 .cfa: $rsp 24 +\nSTACK CFI 1030 .cfa: $rsp 8 + $rip 0 + 16 % 5 + 16 / 8 * +\nSTACK CFI INIT 1139 17 .cfa: $rsp 8 + .ra: .cfa -8 + ^\nSTACK CFI 113a .cfa: $rsp 16 + $rbp: .cfa -16 + ^\nSTACK CFI 113d .cfa: $rbp 16 +\nSTACK CFI 114f .cfa: $rsp 8 +\n"
 
 -- a checker finds that a FUNC meets an earlier one
 functions_meet : over (codes "check" ∷ codes "s" ∷ []) (Some (codes "MODULE Linux x86_64 0 a\nFUNC 1000 10 0 f\nFUNC 1008 10 0 g\n")) (None) ≡ Some (1, "C5 record 3\n", "")
@@ -104,17 +109,22 @@ unfolding over symbols_compute
 no_values = refl
 
 -- in a procedure linkage table the CFA rests on rip, by a DWARF expression
-a_call_of_a_linkage_table : over (codes "frame" ∷ codes "s" ∷ codes "103b" ∷ codes "t" ∷ []) (Some (codes "MODULE Linux x86_64 0 a\nSTACK CFI INIT 1020 20 .cfa: $rsp 16 + .ra: .cfa -8 + ^\nSTACK CFI 1026 .cfa: $rsp 24 +\nSTACK CFI 1030 .cfa: $rsp 8 + $rip 0 + 16 % 5 + 16 / 8 * +\n")) (Some (codes "REG rsp 7ffe0000\nREG rip 103b\n")) ≡ Some (0, "cfa 7ffe0010\nra failed unreadable 7ffe0008\nrax undefined\nrdx undefined\nrcx undefined\nrbx failed missing rbx\nrsi undefined\nrdi undefined\nrbp failed missing rbp\nrsp 7ffe0010\nr8 undefined\nr9 undefined\nr10 undefined\nr11 undefined\nr12 failed missing r12\nr13 failed missing r13\nr14 failed missing r14\nr15 failed missing r15\n", "")
+a_call_of_a_linkage_table : over (codes "frame" ∷ codes "s" ∷ codes "103b" ∷ codes "t" ∷ []) (Some (codes hello)) (Some (codes "REG rsp 7ffe0000\nREG rip 103b\n")) ≡ Some (0, "cfa 7ffe0010\nra failed unreadable 7ffe0008\nrax undefined\nrdx undefined\nrcx undefined\nrbx failed missing rbx\nrsi undefined\nrdi undefined\nrbp failed missing rbp\nrsp 7ffe0010\nr8 undefined\nr9 undefined\nr10 undefined\nr11 undefined\nr12 failed missing r12\nr13 failed missing r13\nr14 failed missing r14\nr15 failed missing r15\n", "")
 unfolding over symbols_compute
 a_call_of_a_linkage_table = refl
 
-a_call_of_a_linkage_table_before_its_push : over (codes "frame" ∷ codes "s" ∷ codes "1036" ∷ codes "t" ∷ []) (Some (codes "MODULE Linux x86_64 0 a\nSTACK CFI INIT 1020 20 .cfa: $rsp 16 + .ra: .cfa -8 + ^\nSTACK CFI 1026 .cfa: $rsp 24 +\nSTACK CFI 1030 .cfa: $rsp 8 + $rip 0 + 16 % 5 + 16 / 8 * +\n")) (Some (codes "REG rsp 7ffe0000\nREG rip 1036\n")) ≡ Some (0, "cfa 7ffe0008\nra failed unreadable 7ffe0000\nrax undefined\nrdx undefined\nrcx undefined\nrbx failed missing rbx\nrsi undefined\nrdi undefined\nrbp failed missing rbp\nrsp 7ffe0008\nr8 undefined\nr9 undefined\nr10 undefined\nr11 undefined\nr12 failed missing r12\nr13 failed missing r13\nr14 failed missing r14\nr15 failed missing r15\n", "")
+a_call_of_a_linkage_table_before_its_push : over (codes "frame" ∷ codes "s" ∷ codes "1036" ∷ codes "t" ∷ []) (Some (codes hello)) (Some (codes "REG rsp 7ffe0000\nREG rip 1036\n")) ≡ Some (0, "cfa 7ffe0008\nra failed unreadable 7ffe0000\nrax undefined\nrdx undefined\nrcx undefined\nrbx failed missing rbx\nrsi undefined\nrdi undefined\nrbp failed missing rbp\nrsp 7ffe0008\nr8 undefined\nr9 undefined\nr10 undefined\nr11 undefined\nr12 failed missing r12\nr13 failed missing r13\nr14 failed missing r14\nr15 failed missing r15\n", "")
 unfolding over symbols_compute
 a_call_of_a_linkage_table_before_its_push = refl
 
-a_call_of_a_linkage_table_without_rip : over (codes "frame" ∷ codes "s" ∷ codes "1036" ∷ codes "t" ∷ []) (Some (codes "MODULE Linux x86_64 0 a\nSTACK CFI INIT 1020 20 .cfa: $rsp 16 + .ra: .cfa -8 + ^\nSTACK CFI 1026 .cfa: $rsp 24 +\nSTACK CFI 1030 .cfa: $rsp 8 + $rip 0 + 16 % 5 + 16 / 8 * +\n")) (Some (codes "REG rsp 7ffe0000\n")) ≡ Some (0, "cfa failed missing rip\nra failed missing rip\nrax undefined\nrdx undefined\nrcx undefined\nrbx failed missing rbx\nrsi undefined\nrdi undefined\nrbp failed missing rbp\nrsp failed missing rip\nr8 undefined\nr9 undefined\nr10 undefined\nr11 undefined\nr12 failed missing r12\nr13 failed missing r13\nr14 failed missing r14\nr15 failed missing r15\n", "")
+a_call_of_a_linkage_table_without_rip : over (codes "frame" ∷ codes "s" ∷ codes "1036" ∷ codes "t" ∷ []) (Some (codes hello)) (Some (codes "REG rsp 7ffe0000\n")) ≡ Some (0, "cfa failed missing rip\nra failed missing rip\nrax undefined\nrdx undefined\nrcx undefined\nrbx failed missing rbx\nrsi undefined\nrdi undefined\nrbp failed missing rbp\nrsp failed missing rip\nr8 undefined\nr9 undefined\nr10 undefined\nr11 undefined\nr12 failed missing r12\nr13 failed missing r13\nr14 failed missing r14\nr15 failed missing r15\n", "")
 unfolding over symbols_compute
 a_call_of_a_linkage_table_without_rip = refl
+
+-- no rule for the return address
+a_first_function : over (codes "frame" ∷ codes "s" ∷ codes "1001" ∷ codes "t" ∷ []) (Some (codes "MODULE Linux x86_64 0 a\nSTACK CFI INIT 1000 20 .cfa: $rsp 8 +\n")) (Some (codes "REG rsp 7ffe0010\nMEM 7ffe0010 4000fe7f000000003412400000000000\n")) ≡ Some (0, "cfa 7ffe0018\nra undefined\nrax undefined\nrdx undefined\nrcx undefined\nrbx failed missing rbx\nrsi undefined\nrdi undefined\nrbp failed missing rbp\nrsp 7ffe0018\nr8 undefined\nr9 undefined\nr10 undefined\nr11 undefined\nr12 failed missing r12\nr13 failed missing r13\nr14 failed missing r14\nr15 failed missing r15\n", "")
+unfolding over symbols_compute
+a_first_function = refl
 
 -- rip has a value, or none
 rip : over (codes "frame" ∷ codes "s" ∷ codes "0" ∷ codes "t" ∷ []) (Some (codes "MODULE Linux x86_64 0 a\nSTACK CFI INIT 0 8 .cfa: $rip 1 + .ra: $rip $rbx: $nothing\n")) (Some (codes "REG rip ff\n")) ≡ Some (0, "cfa 100\nra ff\nrax undefined\nrdx undefined\nrcx undefined\nrbx failed unknown\nrsi undefined\nrdi undefined\nrbp failed missing rbp\nrsp 100\nr8 undefined\nr9 undefined\nr10 undefined\nr11 undefined\nr12 failed missing r12\nr13 failed missing r13\nr14 failed missing r14\nr15 failed missing r15\n", "")
@@ -204,9 +214,18 @@ unfolding over symbols_compute
 behind_the_function = refl
 
 -- a symbol in front of the address
-between_symbols : over (codes "lookup" ∷ codes "s" ∷ codes "1045" ∷ []) (Some (codes "MODULE Linux x86_64 0 hello\nFILE 0 /home/u/hello.c\nFUNC 1139 17 0 main\n1139 4 3 0\n113d f 4 0\n114c 4 5 0\nPUBLIC 1000 0 _init\nPUBLIC 1040 0 _start\n")) (None) ≡ Some (0, "public _start\n", "")
+between_symbols : over (codes "lookup" ∷ codes "s" ∷ codes "1045" ∷ []) (Some (codes hello)) (None) ≡ Some (0, "public _start\n", "")
 unfolding over symbols_compute
 between_symbols = refl
+
+-- in its function, and in its text all is well
+in_main : over (codes "lookup" ∷ codes "s" ∷ codes "1145" ∷ []) (Some (codes hello)) (None) ≡ Some (0, "main at /home/u/hello.c:4\n", "")
+unfolding over symbols_compute
+in_main = refl
+
+nothing_found : over (codes "check" ∷ codes "s" ∷ []) (Some (codes hello)) (None) ≡ Some (0, "no findings\n", "")
+unfolding over symbols_compute
+nothing_found = refl
 
 -- a copy of level 1 where there is none of level 0
 a_level_without_the_one_before : over (codes "lookup" ∷ codes "s" ∷ codes "1005" ∷ []) (Some (codes "MODULE Linux x86_64 0 a\nFILE 0 /s/a.c\nINLINE_ORIGIN 0 g\nFUNC 1000 20 0 f\nINLINE 1 4 0 0 1004 8\n")) (None) ≡ Some (0, "f at ?\n", "")

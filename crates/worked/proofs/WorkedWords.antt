@@ -62,7 +62,7 @@ an_empty_third_word : both (codes "dump" ∷ codes "a" ∷ codes "" ∷ []) ≡ 
 unfolding files both named
 an_empty_third_word = refl
 
--- a command that is not built yet is no row
+-- a sample of no units is no row
 no_units : both (codes "sample" ∷ codes "0" ∷ []) ≡ usage
 unfolding files both named
 no_units = refl

@@ -21,7 +21,7 @@ use Rattle.func_records.specs.TextNames.{name_of, call_in, found_line}
 use Rattle.debug_read.specs.Each.{Match}
 use Rattle.debug_read.specs.UnitsRead.{IsUnitRead}
 use Rattle.debug_read.specs.DebugSays.{DebugSays, debug_says}
-use Rattle.sym_judge.specs.FormValues.{AreWords, IsKnown}
+use Rattle.cfi_eval.specs.Known.{AreWords, AreBytes}
 use Rattle.sym_judge.specs.SameMeaning.{said}
 use Rattle.dumpsyms_cmd.specs.ElfInput.{elf_image}
 use Rattle.dumpsyms_cmd.specs.Verdict.{LIMIT}
@@ -34,15 +34,14 @@ pub record NamesAsFile (base : ℕ) (units : List UnitRead) (lines : List SymLin
   pub chain : map said (text_chain lines x) ≡ map said (map (call_in units) (chain units (x + base)))
   pub line : text_line lines x ≡ option_map found_line (line units (x + base))
 
--- at each address of an entry, for all memory, all registers of 64 bits and where the CFA of the entry's row is a number of 64 bits or fails,
--- evaluating the rules gives the frame of that row
-pub record KeepsKnownRows (base : ℕ) (lines : List SymLine) (e : FdeFields) : Type 0 where
-  pub at : (a : ℕ) (regs : Regs) (memory : List MemRun) → a - base < 2 ^ 64 → holds_address a e ≡ true → AreWords regs → IsKnown (row_frame e (row_at e a) regs memory).cfa →
+-- at each address of an entry, for all registers of 64 bits and all memory of bytes, evaluating the rules gives the frame of the entry's row
+pub record KeepsRowsOfWords (base : ℕ) (lines : List SymLine) (e : FdeFields) : Type 0 where
+  pub at : (a : ℕ) (regs : Regs) (memory : List MemRun) → a - base < 2 ^ 64 → holds_address a e ≡ true → AreWords regs → AreBytes memory →
       SaysFrame (row_at e a) (row_frame e (row_at e a) regs memory) (text_frame lines (a - base) regs memory)
 
 -- so of each written entry, and no rule stands at an address of no entry
-pub record KeepsKnownFrames (base : ℕ) (entries : List FdeFields) (lines : List SymLine) : Type 0 where
-  pub rows : AllByRecursion (KeepsKnownRows base lines) entries
+pub record KeepsFramesOfWords (base : ℕ) (entries : List FdeFields) (lines : List SymLine) : Type 0 where
+  pub rows : AllByRecursion (KeepsRowsOfWords base lines) entries
   pub nothing_else : (x : ℕ) (regs : Regs) (memory : List MemRun) → x < 2 ^ 64 → entries_at entries (x + base) ≡ 0 → text_frame lines x regs memory ≡ None
 
 -- both files are there and read; the symbol file names at each address what DWARF says there, and its frame rules give what DWARF's rows give
@@ -58,4 +57,4 @@ pub record SaysAsFile (elf sym : List ℕ) (files : Files) : Type 0 where
   pub lines : List SymLine
   pub reads : file_reading LIMIT bytes ≡ Ok lines
   pub names : (x : ℕ) → x < 2 ^ 64 → NamesAsFile parts.base units lines x
-  pub frames : KeepsKnownFrames parts.base (written_of parts found) lines
+  pub frames : KeepsFramesOfWords parts.base (written_of parts found) lines

@@ -17,6 +17,7 @@ ghost use Rattle.dumpsyms_cmd.specs.commands.Judge.{JudgePromises};
 ghost use Rattle.dumpsyms_cmd.specs.declared.judgement.Judgement.{Judgement};
 ghost use Rattle.worked.specs.RowSteps.{AreRowSteps};
 ghost use Rattle.worked.specs.Judged.{SaysAsFile};
+ghost use Rattle.worked.specs.DumpedJudged.{JudgesWhatWasDumped, AnswersYes};
 
 /// Words and files have at most one verdict: the definitions say of a text what each address has in it, and leave one text.
 #[tactic(auto, using(crate::proofs::OneVerdict::one_verdict))]
@@ -48,4 +49,11 @@ pub fn walks_go_by_the_rows()
 /// the inlined calls and the line that DWARF does, and evaluating its frame rules gives what the rows of the written frame entries give.
 pub fn a_yes_says_what_the_file_says()
     ensures { (elf sym : List ℕ) (files : Files) (j : Judgement) → JudgePromises elf sym (Some files) j → j.status ≡ 0 → SaysAsFile elf sym files }
+{}
+
+/// What `dump` writes gets a yes: where a run dumped an ELF file with status 0, and a run is asked to judge that file and a symbol file with
+/// the text that the first wrote, of at most 2^29 bytes, the second answers `yes` and status 0, or a file could not be read, a stream
+/// failed, or memory ran out.
+pub fn dumped_texts_are_judged_right()
+    ensures { (dumping judging : Run) → Promises dumping → Promises judging → JudgesWhatWasDumped dumping judging → judging.status < 3 → AnswersYes judging }
 {}

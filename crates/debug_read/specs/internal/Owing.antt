@@ -20,7 +20,8 @@ use Rattle.debug_read.specs.declared.owed_tables.TableOutcome.{TableOutcome}
 use Rattle.debug_read.specs.declared.owed_tables.TablesKnown.{TablesKnown}
 use Rattle.debug_read.specs.Each.{Says}
 use Rattle.debug_read.specs.UnitSays.{root_lines, unit_says}
-use Rattle.debug_read.specs.UnitsRead.{no_lines, KeepsLines, IsUnitRead}
+use Rattle.debug_read.specs.UnitsRead.{KeepsLines, IsUnitRead}
+use Rattle.line_program.specs.LineMaps.{no_lines}
 use Rattle.debug_read.specs.internal.Jobs.{ReaderParts, IsFound}
 
 -- a reading has no fault

@@ -77,6 +77,7 @@ slim strs head site = record {
   origin = origin_said head.link head.target;
   spec = spec_said head.link head.target;
   name = place_said strs (has_name head) head.name;
+  name_elsewhere = false;
   linkage = place_said strs (has_linkage head) head.linkage;
   call_file = site.call_file;
   call_line = site.call_line;
@@ -115,6 +116,12 @@ abbrev pub FitsText : List ℕ → Fit → Option (List ℕ) → Type 0
 FitsText strs fit.Missing text = text ≡ None
 FitsText strs (fit.At n) text = text ≡ text_said ending.Open (drop n strs)
 FitsText strs fit.Wide text = Prim.Unit {0}
+
+-- what fits into a head stands in this file
+abbrev pub FitsHere : Fit → Bool → Type 0
+FitsHere fit.Missing elsewhere = elsewhere ≡ false
+FitsHere (fit.At n) elsewhere = elsewhere ≡ false
+FitsHere fit.Wide elsewhere = Prim.Unit {0}
 
 abbrev pub FitsNumber : Fit → Option ℕ → Type 0
 FitsNumber fit.Missing number = number ≡ None

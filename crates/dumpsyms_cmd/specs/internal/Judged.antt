@@ -13,7 +13,7 @@ use Rattle.sym_records.specs.declared.line.SymLine.{SymLine}
 use Rattle.sym_grammar.specs.declared.refusal.SymEnd.{SymEnd}
 use Rattle.sym_grammar.specs.declared.refusal.SymEnd.TheVariants as end
 use Rattle.state_file.specs.declared.state.State.{State}
-use Rattle.dumpsyms_cmd.specs.Words.{Asked}
+use Rattle.dumpsyms_cmd.specs.Words.{Asked, ReadsFiles}
 use Rattle.dumpsyms_cmd.specs.Refusals.{elf_line, debug_elf_line, pair_line, too_long_line}
 use Rattle.dumpsyms_cmd.specs.Verdict.{Verdict, refused, unread, no_memory}
 use Rattle.dumpsyms_cmd.specs.ElfInput.{or_refused}
@@ -81,8 +81,14 @@ pub record IsJudged (j : Judgement) (command : Option Asked) (files : Option Fil
 -- what an answer says of a command, the files and the store's count of faults
 abbrev pub AnswersCommand : Answer → Option Asked → Option Files → ℕ → ℕ → Type 0
 AnswersCommand (Judged j) command files before after = IsJudged j command files
-AnswersCommand Unread command files before after = IsSome command × Rose before after
+AnswersCommand Unread command files before after = ReadsFiles command × Rose before after
 AnswersCommand NoMemory command files before after = IsSome command
+
+-- the store's count of faults stands still, unless a file could not be opened or read
+abbrev pub IsSteadyAnswer : Answer → ℕ → ℕ → Type 0
+IsSteadyAnswer (Judged j) before after = after ≡ before
+IsSteadyAnswer Unread before after = Unit {0}
+IsSteadyAnswer NoMemory before after = after ≡ before
 
 -- what an answer says of the image that files give
 abbrev pub AnswersImage : Answer → (Files → Result ImageParts Verdict) → List ℕ → Option Files → ℕ → ℕ → Type 0
@@ -107,7 +113,8 @@ AnswersStop Unread (Fault CantOpen) = Unit {0}
 AnswersStop Unread (Fault CantRead) = Unit {0}
 AnswersStop Unread (Fault TooLong) = ⊥
 AnswersStop Unread stop.NoMemory = ⊥
-AnswersStop NoMemory end = Unit {0}
+AnswersStop NoMemory (Fault why) = ⊥
+AnswersStop NoMemory stop.NoMemory = Unit {0}
 
 -- what an answer says of a symbol file that has no records
 abbrev pub AnswersEnd : Answer → Stop SymEnd → Type 0
@@ -117,7 +124,9 @@ AnswersEnd (Judged j) stop.NoMemory = ⊥
 AnswersEnd Unread (Fault end.Unread) = Unit {0}
 AnswersEnd Unread (Fault (end.Refused why)) = ⊥
 AnswersEnd Unread stop.NoMemory = ⊥
-AnswersEnd NoMemory stopped = Unit {0}
+AnswersEnd NoMemory (Fault end.Unread) = ⊥
+AnswersEnd NoMemory (Fault (end.Refused why)) = Unit {0}
+AnswersEnd NoMemory stop.NoMemory = Unit {0}
 
 -- a judgement is an answer, and so is that memory ran out
 abbrev pub AnswersJudged : {F : Type 0} → Answer → Result Judgement F → Type 0

@@ -7,7 +7,8 @@ use Rattle.die_names.specs.UnitEntries.{Placed, entry_of}
 use Rattle.func_flatten.specs.LineRuns.{unit_paths}
 use Rattle.inline_chain.specs.InlineRuns.{InlineParts}
 use Rattle.func_records.specs.declared.calls.CallSite.{CallSite}
-use Rattle.func_records.specs.FuncRecords.{Part, path_in, no_path, call_path, call_line}
+use Rattle.func_records.specs.FuncRecords.{Part, path_in, call_path, call_line}
+use Rattle.die_names.specs.CallPaths.{no_path}
 
 abbrev pub file_number_in : ℕ → Option UnitRead → Option ℕ
 file_number_in file None = None

@@ -1,6 +1,5 @@
 -- The parts of a text as the code finds them.
-use Rattle.std.specs.Prelude.{◌≡◌, ◌<◌, ℕ, ◌==◌, List, [], ◌∷◌, Option, None, Some, Result, Ok, Err}
-use Rattle.std.specs.List.{position_or_len}
+use Rattle.std.specs.Prelude.{◌≡◌, ◌<◌, ℕ, List, [], ◌∷◌, Option, None, Some, Result, Ok, Err}
 use Rattle.sym_edges.specs.declared.fault.Stop.{Stop}
 use Rattle.sym_edges.specs.declared.fault.Stop.TheVariants.{Fault, NoMemory}
 use Rattle.sym_rules.specs.Cuts.{split_lines}
@@ -9,10 +8,6 @@ use Rattle.cfi_eval.specs.declared.memory.MemRun.{MemRun}
 use Rattle.state_file.specs.declared.line.StateLine.{StateLine}
 use Rattle.state_file.specs.declared.line.StateLine.TheVariants.{Blank, Register, Run}
 use Rattle.state_file.specs.declared.state.State.{State}
-
--- the first place of a byte, and the length where it is not there
-abbrev pub place_of : ℕ → List ℕ → ℕ
-place_of b bytes = position_or_len (λ x. x == b) bytes
 
 -- the lines that stand behind the first one
 abbrev pub lines_behind : Option (List ℕ) → List (List ℕ)

@@ -36,25 +36,3 @@ mark_of place (Some key) = record { key = key; place = place } ∷ []
 abbrev pub marks_of : Marked → ℕ → List SymLine → List Mark
 marks_of kind place [] = []
 marks_of kind place (s ∷ lines) = mark_of place (key_of kind s) ++ marks_of kind (place + 1) lines
-
--- of two marks the one with the greater key, and of equals the first
-abbrev pub nearer_mark : Option Mark → Option Mark → Option Mark
-nearer_mark None other = other
-nearer_mark (Some m) None = Some m
-nearer_mark (Some m) (Some other) = if nat_lt m.key other.key then Some other else Some m
-
--- the nearest mark at or below a key, and of equals the first
-unfoldable pub mark_at : List Mark → ℕ → Option Mark
-mark_at [] x = None
-mark_at (m ∷ marks) x = nearer_mark (if nat_le m.key x then Some m else None) (mark_at marks x)
-
--- the PUBLIC in front of an address by the nearest PUBLIC and the nearest FUNC: unless the FUNC begins at or behind it
-abbrev pub public_of : Option Mark → Option Mark → Option ℕ
-public_of None func = None
-public_of (Some m) None = Some m.place
-public_of (Some m) (Some func) = if nat_le m.key func.key then None else Some m.place
-
--- the place of the nearest mark, where its key is the number that was asked for
-abbrev pub numbered : ℕ → Option Mark → Option ℕ
-numbered n None = None
-numbered n (Some m) = if m.key == n then Some m.place else None

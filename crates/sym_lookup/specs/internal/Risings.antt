@@ -12,12 +12,6 @@ abbrev pub line_end : SymLine → ℕ
 line_end (Line address size line file) = address + size
 line_end _ = 0
 
--- all are line records, and each begins at or behind the end of the one before it
-abbrev pub AreRising : ℕ → List SymLine → Type 0
-AreRising low [] = Unit {0}
-AreRising low (Line address size line file ∷ records) = (low ≤ address) × AreRising (address + size) records
-AreRising low (_ ∷ records) = ⊥
-
 -- what it is to find the end of such a record
 abbrev pub RisesTo : ℕ → SymLine → Option ℕ → Type 0
 RisesTo low s None = Unit {0}

@@ -18,21 +18,21 @@ returns-in_ok-joined-in-Some-name c =
 
 pub returns-in-None : goal.returns-in-None
 returns-in-None c =
-    subst (λ (b : List ℕ). IfOk c.clean-in-None.result (λ t. t ≡ cleaned b))
-    (text_no_name c.args.units.now c.args.name c.in-Some-unit.part.now c.in-Some-entry_in.die c.in-Joined.is c.in-Some-unit.ensures
-    (c.in-Some-entry_in.ensures ∙ ap (λ ds. slice_get ds c.args.name.entry) c.dies-dies.ensures) c.in-None.ensures)
+    subst (λ (b : List ℕ). IfOk c.clean-in-None.result (λ t. t ≡ b))
+    (ap cleaned c.name_omitted-in-None.ensures ∙ ap cleaned (text_no_name c.args.units.now c.args.name c.in-Some-unit.part.now c.in-Some-entry_in.die c.in-Joined.is c.in-Some-unit.ensures
+    (c.in-Some-entry_in.ensures ∙ ap (λ ds. slice_get ds c.args.name.entry) c.dies-dies.ensures) c.in-None.ensures))
     c.clean-in-None.ensures.cleaned
 
 pub returns-in-Linkage : goal.returns-in-Linkage
 returns-in-Linkage c =
-    subst (λ (b : List ℕ). IfOk c.clean-in-Linkage.result (λ t. t ≡ cleaned b))
-    (text_no_linkage c.args.units.now c.args.name c.in-Some-unit.part.now c.in-Some-entry_in.die c.in-Linkage.is c.in-Some-unit.ensures
-    (c.in-Some-entry_in.ensures ∙ ap (λ ds. slice_get ds c.args.name.entry) c.dies-dies.ensures) c.in_default.ensures)
+    subst (λ (b : List ℕ). IfOk c.clean-in-Linkage.result (λ t. t ≡ b))
+    (ap cleaned c.name_omitted-in-Linkage.ensures ∙ ap cleaned (text_no_linkage c.args.units.now c.args.name c.in-Some-unit.part.now c.in-Some-entry_in.die c.in-Linkage.is c.in-Some-unit.ensures
+    (c.in-Some-entry_in.ensures ∙ ap (λ ds. slice_get ds c.args.name.entry) c.dies-dies.ensures) c.in_default.ensures))
     c.clean-in-Linkage.ensures.cleaned
 
 pub returns-in-Omitted : goal.returns-in-Omitted
 returns-in-Omitted c =
-    subst (λ (b : List ℕ). IfOk c.clean-in-Omitted.result (λ t. t ≡ cleaned b))
-    (text_omitted c.args.units.now c.args.name c.in-Some-unit.part.now c.in-Some-entry_in.die c.in-Omitted.is c.in-Some-unit.ensures
-    (c.in-Some-entry_in.ensures ∙ ap (λ ds. slice_get ds c.args.name.entry) c.dies-dies.ensures))
+    subst (λ (b : List ℕ). IfOk c.clean-in-Omitted.result (λ t. t ≡ b))
+    (ap cleaned c.name_omitted-in-Omitted.ensures ∙ ap cleaned (text_omitted c.args.units.now c.args.name c.in-Some-unit.part.now c.in-Some-entry_in.die c.in-Omitted.is c.in-Some-unit.ensures
+    (c.in-Some-entry_in.ensures ∙ ap (λ ds. slice_get ds c.args.name.entry) c.dies-dies.ensures)))
     c.clean-in-Omitted.ensures.cleaned

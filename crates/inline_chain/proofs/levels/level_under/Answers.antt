@@ -9,7 +9,7 @@ pub level-preserved : goal.level-preserved
 level-preserved c = record {
   fit = c.in_ok-push_under.ensures.fit;
   left = (first_fit _ _ _ c.in-Some.ensures.cases.0 c.level.invariant.left).1;
-  at = λ y a. level_more _ _ _ _ _ _ y a c.in-Some.ensures.cases.0 (rw c.get.ensures at c.in_ok-push_under.ensures.at y a) ∙ c.level.invariant.at y a;
+  at = λ y a. level_more _ _ _ _ _ _ y a c.in-Some.ensures.cases.0 (rw c.covers_in.ensures at c.in_ok-push_under.ensures.at y a) ∙ c.level.invariant.at y a;
 }
 
 pub returns-clause-at : goal.returns-clause-at

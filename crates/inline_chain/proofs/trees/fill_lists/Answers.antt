@@ -10,7 +10,7 @@ pub classes-preserved : goal.classes-preserved
 classes-preserved c = lists_more _ _ _ _ _ (rw c.in_ok-fill_class.ensures at c.as_slice.ensures.value) c.in_ok-push_covers.ensures c.classes.invariant
 
 pub classes-preserved-then-index-eq0 : goal.classes-preserved-then-index-eq0
-classes-preserved-then-index-eq0 c = lists_none _ _ _ _ _ _ 0 c.requires.linked (omega arith) (let none : get_or c.args.links.now.firsts.items c.classes.class 0 ≡ 0 = grind (arith, nat_tests) in none) c.in_ok-push_none.ensures c.classes.invariant
+classes-preserved-then-index-eq0 c = lists_none _ _ _ _ _ _ 0 c.requires.linked (omega arith) (let none : get_or c.args.links.now.firsts.items c.classes.class 0 ≡ 0 = grind (arith, nat_tests) in none) c.in_ok-push.ensures.added c.classes.invariant
 
 pub returns : goal.returns
 returns c = lists_all _ _ _ _ (omega arith) c.requires.linked.below c.classes.invariant

@@ -8,6 +8,7 @@ pieces-init g c = record {
   asked = refl;
   files = refl;
   faults = omega arith;
+  steady = refl;
   room = search rules;
   read = start_read c.args.limit _ c.new-reader.result c.new-reader.ensures.reads c.new-reader.ensures.nothing;
 }
@@ -25,6 +26,7 @@ pieces-preserved g c = record {
   asked = c.read.ensures.asked ∙ c.pieces.invariant.asked;
   files = c.read.ensures.files ∙ c.pieces.invariant.files;
   faults = omega (arith, c.read.ensures.faults, c.pieces.invariant.faults);
+  steady = c.in-Ok.ensures.steady ∙ c.pieces.invariant.steady;
   room = search rules;
   read = next_read c.args.limit _ _ _ c.pieces.reader c.feed.new.self c.pieces.count c.in-Ok.read c.min-kept.result _ _ _ _ c.pieces.invariant.read c.in-Ok.ensures.taken (omega (arith, c.pieces-test.true)) (let long : length c.read.new.buf ≡ c.args.room = search rules in omega (arith, long, c.in-Ok.ensures.within, c.pieces.invariant.room)) c.min-kept.ensures c.split_at.ensures.front c.in-Ok-feed.ensures.feeds c.in-Ok-feed.ensures.eager c.in-Ok-feed.ensures.stop refl;
 }

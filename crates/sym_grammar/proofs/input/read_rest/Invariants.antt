@@ -9,6 +9,7 @@ invariant-pieces g l =
       asked : S.asked l.store ≡ S.asked l.fn.store;
       files : S.files l.store ≡ S.files l.fn.store;
       faults : S.faults l.fn.store ≤ S.faults l.store;
+      steady : S.faults l.store ≡ S.faults l.fn.store;
       room : length l.piece ≡ l.room;
       read : HasRead l.limit (S.left l.fn.store) (S.left l.store) l.reader l.count;
     }

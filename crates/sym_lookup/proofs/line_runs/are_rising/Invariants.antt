@@ -1,5 +1,5 @@
 use Rattle.std.proofs.Common.{drop}
-use Rattle.sym_lookup.specs.internal.Risings.{AreRising}
+use Rattle.sym_lookup.specs.UnderOf.{AreRising}
 use Rattle.sym_lookup.proofs.line_runs.are_rising.Given as goal
 
 abbrev pub invariant-records : goal.invariant-records

@@ -1,6 +1,6 @@
 use Rattle.std.proofs.Common.{◌∙◌, ap, rules}
 use Rattle.std.proofs.lemmas.List.Sorted.{answers_always, IsNonDecreasingBy-from_sort_by_key}
-use Rattle.sym_lookup.specs.internal.Marks.{mark_at}
+use Rattle.sym_lookup.specs.NearestMarks.{mark_at}
 use Rattle.sym_lookup.proofs.MarkLemmas.{mark_same, same_sorted}
 use Rattle.sym_lookup.proofs.marks.sorted_marks.Goals as goal
 

@@ -1,6 +1,6 @@
 use Rattle.std.proofs.Common.{◌≡◌, nat_le, drop}
 use Rattle.std.specs.List.{sum_by}
-use Rattle.sym_lookup.specs.UnderOf.{range_count}
+use Rattle.sym_lookup.specs.internal.HeldUnders.{range_count}
 use Rattle.sym_lookup.proofs.under.are_few.Given as goal
 
 abbrev pub invariant-records : goal.invariant-records

@@ -1,4 +1,5 @@
-use Rattle.sym_lookup.specs.UnderOf.{AreUnders, AreHeld}
+use Rattle.sym_lookup.specs.UnderOf.{AreUnders}
+use Rattle.sym_lookup.specs.internal.HeldUnders.{AreHeld}
 use Rattle.sym_lookup.proofs.under.unders_of.Given as goal
 
 abbrev pub invariant-lines : goal.invariant-lines
