@@ -1,7 +1,7 @@
 -- The words by which faults of an image are printed.
 use Rattle.std.specs.Prelude.{ℕ, List, ◌++◌, Option, Some, None, codes, decimal}
 use Rattle.elf_sections.specs.declared.fault.ElfFault.{ElfFault}
-use Rattle.elf_sections.specs.declared.fault.ElfFault.TheVariants.{NotElf, Class, Order, Machine, Kind, SectionTable, SectionNames, SectionBytes, Compressed, ProgramTable, SymbolTable, NoIdentity}
+use Rattle.elf_sections.specs.declared.fault.ElfFault.TheVariants.{NotElf, Class, Order, Machine, Kind, SectionTable, SectionNames, SectionBytes, Compressed, ProgramTable, SymbolTable, NoIdentity, InflatedTooLong, Inflate}
 
 -- the word of an image fault
 abbrev pub fault_word : ElfFault → List ℕ
@@ -17,6 +17,8 @@ fault_word (Compressed index) = codes "compressed " ++ decimal index
 fault_word ProgramTable = codes "program-table"
 fault_word SymbolTable = codes "symbol-table"
 fault_word NoIdentity = codes "no-identity"
+fault_word InflatedTooLong = codes "inflated-too-long"
+fault_word (Inflate index) = codes "inflate " ++ decimal index
 
 -- a word and the number after it, where there is one
 abbrev pub joined_word : List ℕ → Option ℕ → List ℕ

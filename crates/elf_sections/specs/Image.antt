@@ -62,10 +62,14 @@ identity_of text (Some id) = front16 id
 unfoldable pub identity_fault : List ℕ → Option ElfFault
 identity_fault file = fault_if (is_none (build_id file) && (length (part_named file (name_of Text)).bytes == 0)) NoIdentity None
 
+-- the first fault behind those of the sections: of the program headers, the symbols and the identity
+unfoldable pub loaded_fault : List ℕ → Option ElfFault
+loaded_fault file = option_or (program_fault file) (option_or (symbols_fault file) (identity_fault file))
+
 -- the first of the twelve faults, in their order
 unfoldable pub image_fault : List ℕ → Option ElfFault
 image_fault file = option_or (header_fault file) (option_or (names_fault file) (option_or (bytes_fault file)
-    (option_or (compressed_fault file) (option_or (program_fault file) (option_or (symbols_fault file) (identity_fault file))))))
+    (option_or (compressed_fault file) (loaded_fault file))))
 
 -- what an image is: its sections by name, base, code, build id, identity and function symbols
 pub record ImageParts : Type 0 where
@@ -116,6 +120,41 @@ image_by (Some fault) parts = Err fault
 -- the image of a file: its first fault, or its parts
 unfoldable pub image : List ℕ → Result ImageParts ElfFault
 image file = image_by (image_fault file) (parts_of file)
+
+-- the sections of debugging information
+pub record DebugSections : Type 0 where
+  pub info : SectionPart
+  pub abbrevs : SectionPart
+  pub line : SectionPart
+  pub line_str : SectionPart
+  pub str : SectionPart
+  pub str_offsets : SectionPart
+  pub addr : SectionPart
+  pub ranges : SectionPart
+  pub rnglists : SectionPart
+  pub debug_frame : SectionPart
+
+-- the same image with these sections in place of its own
+unfoldable pub with_sections : DebugSections → ImageParts → ImageParts
+with_sections debug i = record {
+  info = debug.info;
+  abbrevs = debug.abbrevs;
+  line = debug.line;
+  line_str = debug.line_str;
+  str = debug.str;
+  str_offsets = debug.str_offsets;
+  addr = debug.addr;
+  ranges = debug.ranges;
+  rnglists = debug.rnglists;
+  debug_frame = debug.debug_frame;
+  eh_frame = i.eh_frame;
+  text = i.text;
+  base = i.base;
+  code = i.code;
+  build_id = i.build_id;
+  identity = i.identity;
+  symbols = i.symbols;
+}
 
 -- a section of an image
 abbrev pub section_of : ImageParts → Sect → SectionPart

@@ -8,6 +8,7 @@ pub mod Notes
 pub mod Identity
 pub mod Symbols
 pub mod Image
+pub mod DebugView
 pub mod Pair
 pub mod Kept
 pub mod FaultWords

@@ -28,6 +28,12 @@ pub enum ElfFault {
     SymbolTable,
     #[error("neither a build id nor code to take an identity from")]
     NoIdentity,
+    /// Only where compressed sections are read: they have more bytes than a file may have.
+    #[error("the compressed sections are too long")]
+    InflatedTooLong,
+    /// Only where compressed sections are read: its streams are bad.
+    #[error("section {index} cannot be inflated")]
+    Inflate { index: u32 },
 }
 
 impl ElfFault {
@@ -51,6 +57,8 @@ impl ElfFault {
             ElfFault::ProgramTable => (b"program-table", None),
             ElfFault::SymbolTable => (b"symbol-table", None),
             ElfFault::NoIdentity => (b"no-identity", None),
+            ElfFault::InflatedTooLong => (b"inflated-too-long", None),
+            ElfFault::Inflate { index } => (b"inflate ", Some(index)),
         }
     }
 }

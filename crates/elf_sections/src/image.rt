@@ -3,7 +3,8 @@ ghost use Rattle.std.specs.Prelude.{◌≡◌, ◌≤◌, [], length, unwrap_or,
 ghost use Rattle.std.specs.Option.{option_copied};
 ghost use Rattle.range_set.specs.Starts.{AllFrom};
 ghost use Rattle.elf_sections.specs.Symbols.{symbol_view};
-ghost use Rattle.elf_sections.specs.Image.{part_view, section_of};
+ghost use Rattle.elf_sections.specs.Image.{part_view, section_of, with_sections};
+ghost use Rattle.elf_sections.specs.DebugView.{debug_view};
 
 use crate::symbols::Symbol;
 use std::marker::Model;
@@ -63,7 +64,48 @@ impl<'a> Model for Image<'a> {
     ghost invariant = { λ i. (length (unwrap_or (option_copied i.build_id) []) ≤ 64) × AllFrom i.base i.code.items };
 }
 
+/// The sections of debugging information.
+#[derive(Clone, Copy, Debug)]
+pub struct DebugParts<'a> {
+    pub info: Part<'a>,
+    pub abbrevs: Part<'a>,
+    pub line: Part<'a>,
+    pub line_str: Part<'a>,
+    pub strs: Part<'a>,
+    pub str_offsets: Part<'a>,
+    pub addr: Part<'a>,
+    pub ranges: Part<'a>,
+    pub rnglists: Part<'a>,
+    pub debug_frame: Part<'a>,
+}
+
 impl<'a> Image<'a> {
+    /// The same image with these sections of debugging information in place of its own.
+    #[tactic(auto, unfolding(crate::specs::Image::with_sections))]
+    pub fn with_sections(self, debug: DebugParts<'a>) -> Image<'a>
+        ensures { result ≡ with_sections (debug_view debug.entry) self.entry }
+    {
+        Image {
+            info: debug.info,
+            abbrevs: debug.abbrevs,
+            line: debug.line,
+            line_str: debug.line_str,
+            strs: debug.strs,
+            str_offsets: debug.str_offsets,
+            addr: debug.addr,
+            ranges: debug.ranges,
+            rnglists: debug.rnglists,
+            debug_frame: debug.debug_frame,
+            eh_frame: self.eh_frame,
+            text: self.text,
+            base: self.base,
+            code: self.code,
+            build_id: self.build_id,
+            identity: self.identity,
+            symbols: self.symbols,
+        }
+    }
+
     /// The bytes and the address of a section: the first of that name, or no bytes at address 0.
     pub fn section(&self, which: Sect) -> Part<'a>
         ensures { part_view result ≡ section_of self.now which }

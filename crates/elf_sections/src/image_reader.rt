@@ -5,7 +5,7 @@ ghost use Rattle.std.specs.Option.{option_copied};
 ghost use Rattle.sym_edges.specs.Outside.{MatchStop};
 ghost use Rattle.elf_sections.specs.Programs.{code};
 ghost use Rattle.elf_sections.specs.Symbols.{symbol_view, symbols, symbols_fault};
-ghost use Rattle.elf_sections.specs.Image.{part_view, part_named, name_of, image};
+ghost use Rattle.elf_sections.specs.Image.{part_view, part_named, name_of, loaded_fault, parts_of, image};
 ghost use Rattle.elf_sections.specs.internal.Steps.{ReadsIdentity};
 
 use crate::code::read_code;
@@ -116,38 +116,37 @@ fn find_identity(text: &[u8], build_id: Option<&[u8]>) -> Option<[u8; 16]>
     }
 }
 
-/// The image of an ELF file, or the first of the twelve faults in the order of `ElfFault`.
-#[tactic(auto, unfolding(crate::specs::Image::image, crate::specs::Image::image_fault, crate::specs::Image::parts_of, crate::specs::Image::identity_fault, crate::specs::Programs::code, crate::specs::Notes::build_id))]
-pub fn read_image(alloc: Global, bytes: &[u8]) -> Result<Image<'_>, Stop<ElfFault>>
-    ensures exact { MatchStop result (λ i. image bytes.now ≡ Ok i) (λ fault. image bytes.now ≡ Err fault) (Unit {0}) }
+/// The image of a file whose sections have no fault, as far as none of them is compressed: its first fault behind those of the
+/// sections, or its parts.
+#[tactic(auto, unfolding(crate::specs::Image::loaded_fault, crate::specs::Image::parts_of, crate::specs::Image::identity_fault, crate::specs::Programs::code, crate::specs::Notes::build_id))]
+pub fn read_loaded<'a>(alloc: Global, tables: &Tables<'a>) -> Result<Image<'a>, Stop<ElfFault>>
+    ensures read { MatchStop result
+        (λ i. (loaded_fault tables.now ≡ None) × (i ≡ parts_of tables.now))
+        (λ fault. loaded_fault tables.now ≡ Some fault) (Unit {0}) }
 {
-    let tables = read_tables(alloc, bytes)?;
-    if let Some(fault) = tables.find_section_fault() {
-        return Err(Stop::Fault(fault));
-    }
-    let base = match read_base(&tables) {
+    let base = match read_base(tables) {
         Ok(base) => base,
         Err(fault) => return Err(Stop::Fault(fault)),
     };
     let code = read_code(alloc, base, tables.sections())?;
-    let symbols = find_symbols(alloc, &tables, &code)?;
-    let text = find_part(&tables, Sect::Text);
-    let build_id = find_build_id(alloc, bytes, tables.sections())?;
+    let symbols = find_symbols(alloc, tables, &code)?;
+    let text = find_part(tables, Sect::Text);
+    let build_id = find_build_id(alloc, tables.file(), tables.sections())?;
     let Some(identity) = find_identity(text.bytes, build_id) else {
         return Err(Stop::Fault(ElfFault::NoIdentity));
     };
     Ok(Image {
-        info: find_part(&tables, Sect::Info),
-        abbrevs: find_part(&tables, Sect::Abbrev),
-        line: find_part(&tables, Sect::Line),
-        line_str: find_part(&tables, Sect::LineStr),
-        strs: find_part(&tables, Sect::Str),
-        str_offsets: find_part(&tables, Sect::StrOffsets),
-        addr: find_part(&tables, Sect::Addr),
-        ranges: find_part(&tables, Sect::Ranges),
-        rnglists: find_part(&tables, Sect::Rnglists),
-        debug_frame: find_part(&tables, Sect::DebugFrame),
-        eh_frame: find_part(&tables, Sect::EhFrame),
+        info: find_part(tables, Sect::Info),
+        abbrevs: find_part(tables, Sect::Abbrev),
+        line: find_part(tables, Sect::Line),
+        line_str: find_part(tables, Sect::LineStr),
+        strs: find_part(tables, Sect::Str),
+        str_offsets: find_part(tables, Sect::StrOffsets),
+        addr: find_part(tables, Sect::Addr),
+        ranges: find_part(tables, Sect::Ranges),
+        rnglists: find_part(tables, Sect::Rnglists),
+        debug_frame: find_part(tables, Sect::DebugFrame),
+        eh_frame: find_part(tables, Sect::EhFrame),
         text,
         base,
         code,
@@ -155,4 +154,16 @@ pub fn read_image(alloc: Global, bytes: &[u8]) -> Result<Image<'_>, Stop<ElfFaul
         identity,
         symbols,
     })
+}
+
+/// The image of an ELF file, or the first of the twelve faults in the order of `ElfFault`.
+#[tactic(auto, unfolding(crate::specs::Image::image, crate::specs::Image::image_fault))]
+pub fn read_image(alloc: Global, bytes: &[u8]) -> Result<Image<'_>, Stop<ElfFault>>
+    ensures exact { MatchStop result (λ i. image bytes.now ≡ Ok i) (λ fault. image bytes.now ≡ Err fault) (Unit {0}) }
+{
+    let tables = read_tables(alloc, bytes)?;
+    if let Some(fault) = tables.find_section_fault() {
+        return Err(Stop::Fault(fault));
+    }
+    read_loaded(alloc, &tables)
 }

@@ -4,6 +4,9 @@
 //! ABI, ELF64; LSB notes). It refuses a file exactly with the first of twelve faults, in the order of `ElfFault`, and
 //! else answers an `Image`, each part of which is chosen from the list of all headers by a condition. `Image::with_debug` puts
 //! the image of a stripped binary together with that of its separate debug file.
+//!
+//! What a reader of compressed sections needs is public too: the [`Tables`] of a file, [`read_loaded`], which reads all but the sections
+//! of debugging information, and [`Image::with_sections`], which puts these in.
 #![tactic(auto)]
 
 mod code;
@@ -23,6 +26,8 @@ mod tables;
 mod text_identity;
 
 pub use fault::ElfFault;
-pub use image::Image;
-pub use image_reader::read_image;
+pub use image::{DebugParts, Image};
+pub use image_reader::{read_image, read_loaded};
+pub use section::{SectionHeader, begins, is_section_read, read_content};
 pub use symbols::Symbol;
+pub use tables::{Tables, read_tables};

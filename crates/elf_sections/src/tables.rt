@@ -84,8 +84,10 @@ impl<'a> Tables<'a> {
         self.header
     }
 
+    /// All section headers. Their number has 16 bits.
     pub fn sections(&self) -> &[SectionHeader]
-        ensures { result.now ≡ sections self.now }
+        ensures headers { result.now ≡ sections self.now }
+        ensures few { length (sections self.now) < 2 ^ 16 }
     {
         self.sections.as_slice()
     }

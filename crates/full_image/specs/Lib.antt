@@ -1,0 +1,4 @@
+pub mod Compressed
+pub mod StreamView
+pub mod FullImage
+pub mod internal

@@ -1,0 +1,6 @@
+-- The data of a compressed section as it is handed out.
+use Rattle.full_image.specs.Compressed.{Stream}
+use Rattle.full_image.specs.declared.stream.Stream as code
+
+abbrev pub stream_view : code.Stream → Stream
+stream_view s = record { bytes = s.bytes.now; size = s.size }

@@ -1,0 +1,19 @@
+//! The image of an ELF file whose sections of debugging information may be compressed (System V gABI, "Section Compression", and GNU's
+//! older form by the name `.zdebug_..`).
+//!
+//! [`read_packed`] reads a file up to the data of its compressed sections, [`inflate_sections`] inflates them by several workers, and
+//! [`PackedImage::unpack`] makes the image, whose parts are slices of the file and of what was inflated. Together they answer the image of
+//! `specs/FullImage.antt`, or its first fault. Where a caller does not ask for compressed sections, they answer what `read_image` answers.
+//!
+//! To read: `names`, `stream`, `tables`, `packed`, and last `inflations`.
+#![tactic(auto)]
+
+mod inflations;
+mod names;
+mod packed;
+mod stream;
+mod tables;
+
+pub use inflations::{Inflations, inflate_sections};
+pub use packed::{PackedImage, read_packed};
+pub use stream::Stream;
