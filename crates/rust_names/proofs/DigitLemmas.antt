@@ -10,7 +10,7 @@ use Rattle.std.proofs.lemmas.Str.Parse.{digits_value-take-le}
 use Rattle.std.proofs.lemmas.List.{at_drop_more, at_drop_all, take_all}
 use Rattle.sym_rules.proofs.BoolLemmas.{and_true, both, not_false, elim_bool}
 use Rattle.rust_names.proofs.FrontLemmas.{every_more}
-use Rattle.rust_names.specs.Shown.{is_digit, is_number}
+use Rattle.rust_names.specs.Legacy.{is_digit, is_number}
 use Rattle.rust_names.specs.internal.Reading.{digits_in_front, number_upto, cut_by, cut_of}
 
 no_digits : (b : ℕ) (bytes : List ℕ) → is_digit b ≡ false → length (digits_in_front (b ∷ bytes)) ≡ 0

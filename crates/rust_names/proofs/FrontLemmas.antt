@@ -7,7 +7,7 @@ use Rattle.std.proofs.lemmas.Slice.Eq.{starts_is}
 use Rattle.sym_rules.proofs.BoolLemmas.{and_true, both, not_true, not_false, elim_bool}
 use Rattle.rust_names.specs.declared.piece.Piece.{Piece}
 use Rattle.rust_names.specs.declared.piece.Piece.TheVariants.{At, Star, And, Less, Greater, Opening, Closing, Comma, Code, Scope, Plain}
-use Rattle.rust_names.specs.Shown.{low_hex, written, begins_with_dot, is_piece}
+use Rattle.rust_names.specs.Legacy.{low_hex, written, begins_with_dot, is_piece}
 use Rattle.rust_names.specs.internal.Reading.{sign_of, low_value, byte_of, code_of, or_code, plain_piece, front_piece, piece_of}
 
 -- bytes that begin with some, and those after them

@@ -3,11 +3,20 @@ mod PieceLemmas
 mod DigitLemmas
 mod PartLemmas
 mod NameLemmas
+mod NumberLemmas
+mod IdentifierLemmas
+mod TextLemmas
+mod LeafLemmas
+mod FrameLemmas
+mod RunLemmas
 mod ShownLemmas
 mod WholeLemmas
 mod VisibleLemmas
+mod JoinLemmas
 pub mod RecordLemmas
 mod LookupLemmas
 pub mod FindingLemmas
 pub mod Computing
 mod WorkedNames
+mod WorkedV0
+mod WorkedV0Constants

@@ -1,15 +1,15 @@
 -- What stands between `_ZN` and the hash, and what it shows (text_of).
 use Rattle.std.proofs.Common.{◌≡◌, ℕ, Bool, true, false, cond, List, [], ◌++◌, Option, Some, None, refl, sym, ◌∙◌, ap}
 use Rattle.std.specs.Option.{option_map, option_and_then}
-use Rattle.rust_names.specs.Shown.{is_shown_text}
-use Rattle.rust_names.specs.internal.Reading.{middle_of, parts_of, parts_text, some_joined, text_if, shown_of, kept}
+use Rattle.rust_names.specs.Legacy.{is_shown_text}
+use Rattle.rust_names.specs.internal.Reading.{middle_of, parts_of, parts_text, some_joined, text_if, legacy_of, kept}
 
-pub no_middle : (name : List ℕ) → middle_of name ≡ None → None ≡ shown_of name
-unfolding shown_of
+pub no_middle : (name : List ℕ) → middle_of name ≡ None → None ≡ legacy_of name
+unfolding legacy_of
 no_middle name none = sym (ap (λ o. option_and_then text_if (option_and_then some_joined (option_and_then parts_of o))) none)
 
-of_middle : (name middle : List ℕ) → middle_of name ≡ Some middle → shown_of name ≡ option_and_then text_if (parts_text middle)
-unfolding shown_of parts_text
+of_middle : (name middle : List ℕ) → middle_of name ≡ Some middle → legacy_of name ≡ option_and_then text_if (parts_text middle)
+unfolding legacy_of parts_text
 of_middle name middle is = ap (λ o. option_and_then text_if (option_and_then some_joined (option_and_then parts_of o))) is
 
 kept_some : (o : Option (List ℕ)) (text : List ℕ) → option_map (λ t. [] ++ t) o ≡ Some text → o ≡ Some text
@@ -20,13 +20,13 @@ kept_none : (o : Option (List ℕ)) → option_map (λ t. [] ++ t) o ≡ None �
 kept_none None is = refl
 kept_none (Some t) is = cc
 
-pub no_parts : (name middle : List ℕ) → middle_of name ≡ Some middle → option_map (λ t. [] ++ t) (parts_text middle) ≡ None → None ≡ shown_of name
+pub no_parts : (name middle : List ℕ) → middle_of name ≡ Some middle → option_map (λ t. [] ++ t) (parts_text middle) ≡ None → None ≡ legacy_of name
 no_parts name middle is none = sym (of_middle name middle is ∙ ap (option_and_then text_if) (kept_none (parts_text middle) none))
 
-pub no_text : (name middle text : List ℕ) → middle_of name ≡ Some middle → option_map (λ t. [] ++ t) (parts_text middle) ≡ Some text → is_shown_text text ≡ false → None ≡ shown_of name
+pub no_text : (name middle text : List ℕ) → middle_of name ≡ Some middle → option_map (λ t. [] ++ t) (parts_text middle) ≡ Some text → is_shown_text text ≡ false → None ≡ legacy_of name
 no_text name middle text is found unfit = sym (of_middle name middle is ∙ ap (option_and_then text_if) (kept_some (parts_text middle) text found) ∙ ap (λ t. cond t (Some text) None) unfit)
 
-pub some_text : (name middle text : List ℕ) → middle_of name ≡ Some middle → option_map (λ t. [] ++ t) (parts_text middle) ≡ Some text → is_shown_text text ≡ true → Some text ≡ shown_of name
+pub some_text : (name middle text : List ℕ) → middle_of name ≡ Some middle → option_map (λ t. [] ++ t) (parts_text middle) ≡ Some text → is_shown_text text ≡ true → Some text ≡ legacy_of name
 some_text name middle text is found fits = sym (of_middle name middle is ∙ ap (option_and_then text_if) (kept_some (parts_text middle) text found) ∙ ap (λ t. cond t (Some text) None) fits)
 
 -- what was added to a new text

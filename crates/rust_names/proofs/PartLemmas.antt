@@ -4,7 +4,7 @@ use Rattle.std.specs.List.{flat_map}
 use Rattle.std.specs.Option.{option_map, option_and_then}
 use Rattle.std.proofs.lemmas.List.{append_assoc, drop-drop}
 use Rattle.rust_names.specs.declared.piece.Piece.{Piece}
-use Rattle.rust_names.specs.Shown.{shown, undashed, is_number, Part}
+use Rattle.rust_names.specs.Legacy.{shown, undashed, is_number, Part}
 use Rattle.rust_names.specs.internal.Reading.{digits_in_front, number_upto, cut_by, cut_of, part_by, part_of, part_length, parts_from, parts_of, some_joined, pieces_of, pieces_text, parts_text, later_text, kept}
 use Rattle.rust_names.proofs.DigitLemmas.{front_digits, number_known, some_is}
 use Rattle.rust_names.proofs.PieceLemmas.{dropped}

@@ -6,7 +6,7 @@ use Rattle.std.proofs.lemmas.List.{append_assoc, take-append-drop}
 use Rattle.sym_rules.proofs.BoolLemmas.{and_true, both, not_true}
 use Rattle.rust_names.specs.declared.piece.Piece.{Piece}
 use Rattle.rust_names.specs.declared.piece.Piece.TheVariants.{At, Star, And, Less, Greater, Opening, Closing, Comma, Code, Scope, Plain}
-use Rattle.rust_names.specs.Shown.{written, shown, is_piece, begins_with_dot}
+use Rattle.rust_names.specs.Legacy.{written, shown, is_piece, begins_with_dot}
 use Rattle.rust_names.specs.internal.Reading.{piece_of, pieces_from, pieces_of, is_plain, pieces_text, kept}
 use Rattle.rust_names.proofs.FrontLemmas.{piece_front, found_piece, every_more}
 

@@ -14,10 +14,9 @@ use Rattle.sym_records.specs.Validity.{has_fields, fields_fit, first_bad_from, f
 use Rattle.sym_records.proofs.MakingLemmas.{func_fits, origin_fits, public_fits}
 use Rattle.sym_records.proofs.ValidityLemmas.{valid_none}
 use Rattle.rust_names.specs.ShownRecords.{renamed, IsNameFor, HaveShownNames}
-use Rattle.rust_names.specs.internal.Reading.{shown_of}
+use Rattle.rust_names.specs.internal.Finding.{shown_of}
 use Rattle.rust_names.specs.Named.{named}
-use Rattle.rust_names.proofs.WholeLemmas.{shown_found, shown_none, one_text}
-use Rattle.rust_names.proofs.VisibleLemmas.{is_named, is_short}
+use Rattle.rust_names.proofs.JoinLemmas.{shown_found, shown_none, one_text, is_named, is_short}
 
 name_by : (name : List ℕ) (o : Option (List ℕ)) → o ≡ shown_of name → IsNameFor name (option_map_or (λ text. text) o name)
 name_by name None none = inr (shown_none name none, refl)

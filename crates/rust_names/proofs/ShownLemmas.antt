@@ -9,7 +9,7 @@ use Rattle.std.proofs.lemmas.List.{append_assoc, take-append-drop}
 use Rattle.std.proofs.lemmas.Str.Parse.{digits_value-take-le}
 use Rattle.sym_rules.proofs.BoolLemmas.{and_true, not_true, elim_bool}
 use Rattle.rust_names.specs.declared.piece.Piece.{Piece}
-use Rattle.rust_names.specs.Shown.{written, is_piece, ArePieces, Part, IsPart, AreParts, is_digit, is_number, begins_with_digit, undashed, part_written}
+use Rattle.rust_names.specs.Legacy.{written, is_piece, ArePieces, Part, IsPart, AreParts, is_digit, is_number, begins_with_digit, undashed, part_written}
 use Rattle.rust_names.specs.internal.Reading.{piece_of, pieces_from, pieces_of, digits_in_front, number_upto, cut_by, cut_of, part_by, part_of, part_length, parts_from, parts_of}
 use Rattle.rust_names.proofs.FrontLemmas.{IsFront, piece_front, found_piece}
 use Rattle.rust_names.proofs.PieceLemmas.{some_written, dropped, pieces_step}

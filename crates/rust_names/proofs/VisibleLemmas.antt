@@ -1,5 +1,5 @@
 -- A shown text is a name that a record may carry (shown, show_all).
-use Rattle.std.proofs.Common.{◌≡◌, ℕ, ◌≤◌, ◌==◌, ◌&&◌, true, not, List, [], ◌∷◌, ◌++◌, length, codes, Some, nat_le, refl, ◌∙◌, ap, arith}
+use Rattle.std.proofs.Common.{◌≡◌, ℕ, ◌≤◌, ◌==◌, ◌&&◌, true, not, List, [], ◌∷◌, ◌++◌, length, codes, nat_le, refl, ◌∙◌, ap, arith}
 use Rattle.std.specs.List.{flat_map, list_all}
 use Rattle.std.proofs.lemmas.Bool.{leb-true, le-leb}
 use Rattle.std.proofs.lemmas.List.Folds.{list_all-append}
@@ -9,9 +9,7 @@ use Rattle.clean_names.proofs.CleaningLemmas.{is_shown}
 use Rattle.sym_records.proofs.MakingLemmas.{shown_name}
 use Rattle.rust_names.specs.declared.piece.Piece.{Piece}
 use Rattle.rust_names.specs.declared.piece.Piece.TheVariants.{At, Star, And, Less, Greater, Opening, Closing, Comma, Code, Scope, Plain}
-use Rattle.rust_names.specs.Shown.{written, shown, is_piece, ArePieces, Part, AreParts, joined, begins_with_dot, is_shown_text, IsShown}
-use Rattle.rust_names.specs.internal.Reading.{shown_of}
-use Rattle.rust_names.proofs.WholeLemmas.{shown_found}
+use Rattle.rust_names.specs.Legacy.{written, shown, is_piece, ArePieces, Part, AreParts, joined, begins_with_dot, is_shown_text, IsLegacy}
 
 all_both : (xs ys : List ℕ) → list_all is_shown xs ≡ true → list_all is_shown ys ≡ true → list_all is_shown (xs ++ ys) ≡ true
 all_both xs ys first second = list_all-append is_shown xs ys ∙ both first second
@@ -52,18 +50,12 @@ text_named : (text : List ℕ) → list_all is_shown text ≡ true → is_shown_
 text_named [] all fits = cc
 text_named (b ∷ bytes) all fits = shown_name b bytes (not_true (and_true {a = not (b == 32)} {b = nat_le (length (b ∷ bytes)) 65536} fits).0) all
 
-pub is_named : (name text : List ℕ) → IsShown name text → is_name text ≡ true
-is_named name text is = text_named text (ap (list_all is_shown) is.shows ∙ parts_visible is.parts is.read) is.fits
+pub legacy_named : (name text : List ℕ) → IsLegacy name text → is_name text ≡ true
+legacy_named name text is = text_named text (ap (list_all is_shown) is.shows ∙ parts_visible is.parts is.read) is.fits
 
 text_short : (text : List ℕ) → is_shown_text text ≡ true → length text ≤ 65536
 text_short [] fits = cc
 text_short (b ∷ bytes) fits = leb-true (length (b ∷ bytes)) 65536 (and_true {a = not (b == 32)} {b = nat_le (length (b ∷ bytes)) 65536} fits).1
 
-pub is_short : (name text : List ℕ) → IsShown name text → length text ≤ 65536
-is_short name text is = text_short text is.fits
-
-pub shown_named : (name text : List ℕ) → Some text ≡ shown_of name → is_name text ≡ true
-shown_named name text is = is_named name text (shown_found name text is)
-
-pub shown_short : (name text : List ℕ) → Some text ≡ shown_of name → length text ≤ 65536
-shown_short name text is = is_short name text (shown_found name text is)
+pub legacy_short : (name text : List ℕ) → IsLegacy name text → length text ≤ 65536
+legacy_short name text is = text_short text is.fits

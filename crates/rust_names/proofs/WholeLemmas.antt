@@ -1,5 +1,5 @@
 -- A whole name: what stands between `_ZN` and the hash, and what it shows (shown, shown_texts_are_one).
-use Rattle.std.proofs.Common.{◌≡◌, ℕ, ◌+◌, ◌-◌, ◌<◌, ◌≤◌, ◌==◌, ◌&&◌, cond, zero, suc, Bool, true, List, [], ◌∷◌, ◌++◌, length, take, drop, get_or, codes, Option, Some, None, MatchOption, nat_le, nat_eq, refl, sym, ◌∙◌, ap, arith, length-append, length-take, length-drop}
+use Rattle.std.proofs.Common.{◌≡◌, ℕ, ◌+◌, ◌-◌, ◌<◌, ◌≤◌, ◌==◌, ◌&&◌, cond, zero, suc, Bool, true, List, [], ◌∷◌, ◌++◌, length, take, drop, get_or, codes, Some, None, nat_le, nat_eq, refl, sym, ◌∙◌, ap, arith, length-append, length-take, length-drop}
 use Rattle.std.specs.List.{flat_map, list_all, starts_with}
 use Rattle.std.specs.Option.{option_and_then}
 use Rattle.std.proofs.Math.Seq.{drop-append_seam, take-append_seam, get_or-append_seam}
@@ -7,8 +7,8 @@ use Rattle.std.proofs.lemmas.Bool.{le-leb, leb-true}
 use Rattle.std.proofs.lemmas.Bool.Decides.{nat_tests}
 use Rattle.std.proofs.lemmas.List.{append_assoc, take-append-drop, drop-drop, drop_all, at_drop_more}
 use Rattle.sym_rules.proofs.BoolLemmas.{and_true, both, elim_bool}
-use Rattle.rust_names.specs.Shown.{Part, part_written, joined, is_low_hex, is_shown_text, IsShown, IsPlainName}
-use Rattle.rust_names.specs.internal.Reading.{parts_of, is_tail, middle_of, some_joined, text_if, shown_of}
+use Rattle.rust_names.specs.Legacy.{Part, part_written, joined, is_low_hex, is_shown_text, IsLegacy}
+use Rattle.rust_names.specs.internal.Reading.{parts_of, is_tail, middle_of, some_joined, text_if, legacy_of}
 use Rattle.rust_names.proofs.FrontLemmas.{begins}
 use Rattle.rust_names.proofs.DigitLemmas.{some_is}
 use Rattle.rust_names.proofs.ShownLemmas.{then_some, parts_read, parts_found}
@@ -119,8 +119,8 @@ text_is text new is = elim_bool (is_shown_text text) (λ t. is_shown_text text �
 whole_is : (name middle hash : List ℕ) (parts : List Part) → name ≡ codes "_ZN" ++ middle ++ codes "17h" ++ hash ++ codes "E" → middle ≡ flat_map part_written parts → name ≡ codes "_ZN" ++ flat_map part_written parts ++ codes "17h" ++ hash ++ codes "E"
 whole_is name middle hash parts is are = is ∙ ap (λ xs. codes "_ZN" ++ xs ++ codes "17h" ++ hash ++ codes "E") are
 
-found_is : (name text : List ℕ) → shown_of name ≡ Some text → IsShown name text
-unfolding shown_of parts_of
+found_is : (name text : List ℕ) → legacy_of name ≡ Some text → IsLegacy name text
+unfolding legacy_of parts_of
 found_is name text is =
     let whole = then_some text_if (option_and_then some_joined (option_and_then parts_of (middle_of name))) text is in
     let fits = text_is whole.0 text whole.2 in
@@ -141,8 +141,8 @@ found_is name text is =
       fits = ap is_shown_text (sym fits.1) ∙ fits.0;
     }
 
-pub is_found : (name text : List ℕ) → IsShown name text → shown_of name ≡ Some text
-unfolding shown_of
+pub is_found : (name text : List ℕ) → IsLegacy name text → legacy_of name ≡ Some text
+unfolding legacy_of
 is_found name text is =
     let middle : middle_of name ≡ Some (flat_map part_written is.parts) =
     ap middle_of (is.whole ∙ sym (assembled (codes "_ZN") (flat_map part_written is.parts) (codes "17h") is.hash (codes "E"))) ∙ middle_found (flat_map part_written is.parts) is.hash is.digits is.hexadecimal in
@@ -152,15 +152,5 @@ is_found name text is =
     ∙ ap (λ xs. text_if xs) (sym is.shows)
     ∙ ap (λ t. cond t (Some text) None) is.fits
 
-pub shown_found : (name text : List ℕ) → Some text ≡ shown_of name → IsShown name text
-shown_found name text is = found_is name text (sym is)
-
-pub shown_none : (name : List ℕ) → None ≡ shown_of name → IsPlainName name
-shown_none name none text is = let found = is_found name text is in cc
-
-pub one_text : (name a b : List ℕ) → IsShown name a → IsShown name b → a ≡ b
-one_text name a b first second = some_is (sym (is_found name a first) ∙ is_found name b second)
-
-pub exact_text : (name : List ℕ) (text : Option (List ℕ)) → text ≡ shown_of name → MatchOption text (IsPlainName name) (IsShown name)
-exact_text name None none = shown_none name none
-exact_text name (Some text) is = shown_found name text is
+pub legacy_found : (name text : List ℕ) → Some text ≡ legacy_of name → IsLegacy name text
+legacy_found name text is = found_is name text (sym is)

@@ -3,7 +3,7 @@ use Rattle.std.proofs.Common.{◌≡◌, Some, None, codes, refl}
 use Rattle.std.specs.Option.{option_map}
 use Rattle.sym_edges.proofs.Shown.{shown}
 use Rattle.rust_names.proofs.Computing.{rust_names_computes}
-use Rattle.rust_names.specs.internal.Reading.{shown_of}
+use Rattle.rust_names.specs.internal.Finding.{shown_of}
 
 -- a path, and one with escapes and dots
 a_path : option_map shown (shown_of (codes "_ZN4core3fmt9Formatter9write_str17h0123456789abcdefE")) ≡ Some "core::fmt::Formatter::write_str"
@@ -190,7 +190,7 @@ unfolding rust_names_computes shown
 above_ascii = refl
 
 -- Rust's new form, and C++
-new_form : option_map shown (shown_of (codes "_RNvCs1234_7mycrate3foo")) ≡ None
+new_form : option_map shown (shown_of (codes "_RNvCs1234_7mycrate3foo")) ≡ Some "mycrate::foo"
 unfolding rust_names_computes shown
 new_form = refl
 

@@ -1,3 +1,12 @@
+pub mod Legacy
+pub mod Digits
+pub mod V0Words
+pub mod V0Numbers
+pub mod V0Identifiers
+pub mod V0Texts
+pub mod V0Leaves
+pub mod V0Grammar
+pub mod V0Names
 pub mod Shown
 pub mod ShownRecords
 pub mod internal

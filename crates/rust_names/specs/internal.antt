@@ -1,2 +1,4 @@
 -- Definitions that serve this crate's own functions.
 pub mod Reading
+pub mod Running
+pub mod Finding

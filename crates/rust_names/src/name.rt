@@ -1,81 +1,30 @@
 //! A name, and what it shows.
-ghost use Rattle.std.specs.Prelude.{◌≡◌, ◌≤◌, length, drop, true, IfOk, OnOk, IfSome, MatchOption};
-ghost use Rattle.std.specs.List.{list_all};
-ghost use Rattle.std.specs.Option.{option_copied};
+ghost use Rattle.std.specs.Prelude.{◌≡◌, ◌≤◌, length, true, IfOk, OnOk, IfSome, MatchOption};
 ghost use Rattle.clean_names.specs.Names.{is_name};
-ghost use Rattle.rust_names.specs.Shown.{is_low_hex, is_shown_text, IsShown, IsPlainName};
-ghost use Rattle.rust_names.specs.internal.Reading.{is_tail, middle_of, shown_of};
+ghost use Rattle.rust_names.specs.Shown.{IsShown, IsPlainName};
+ghost use Rattle.rust_names.specs.internal.Finding.{shown_of};
 ghost use Rattle.rust_names.specs.Named.{named};
 
-use crate::part::add_parts;
+use crate::legacy::legacy_text;
+use crate::symbol::v0_text;
 use std::alloc::Global;
 use sym_edges::OutOfMemory;
 use sym_records::ByteText;
 
-/// A name has at most so many bytes.
-const NAME_LIMIT: usize = 65_536;
-
-fn are_low_hex(bytes: &[u8]) -> bool
-    ensures { result ≡ list_all is_low_hex bytes.now }
-{
-    bytes.iter().all(|b| (b'0' <= *b && *b <= b'9') || (b'a' <= *b && *b <= b'f'))
-}
-
-/// Whether the 20 bytes are a hash with its length, and `E`.
-#[tactic(auto, unfolding(crate::specs::internal::Reading::is_tail))]
-fn is_tail(bytes: &[u8]) -> bool
-    requires { length bytes.now ≡ 20 }
-    ensures { result ≡ is_tail bytes.now }
-{
-    if !bytes.starts_with(b"17h") || bytes[19] != b'E' {
-        return false;
-    }
-    are_low_hex(bytes.split_at(3).1.split_at(16).0)
-}
-
-/// What stands between `_ZN` and the hash.
-#[tactic(auto, unfolding(crate::specs::internal::Reading::middle_of))]
-fn middle_of(name: &[u8]) -> Option<&[u8]>
-    ensures { option_copied result ≡ middle_of name.now }
-{
-    if !name.starts_with(b"_ZN") || name.len() < 23 {
-        return None;
-    }
-    let (front, tail) = name.split_at(name.len() - 20);
-    if !is_tail(tail) {
-        return None;
-    }
-    Some(front.split_at(3).1)
-}
-
-/// Whether a record may carry the text as a name.
-fn is_shown_text(text: &[u8]) -> bool
-    ensures { result ≡ is_shown_text text.now }
-{
-    !text.is_empty() && text[0] != b' ' && text.len() <= NAME_LIMIT
-}
-
-/// What the name shows.
-#[tactic(auto, using(crate::proofs::NameLemmas::no_middle))]
+/// What a name shows.
+#[tactic(auto, unfolding(crate::specs::internal::Finding::shown_of))]
 fn text_of(alloc: Global, name: &[u8]) -> Result<Option<ByteText>, OutOfMemory>
     ensures { IfOk result (λ text. text ≡ shown_of name.now) }
 {
-    let Some(middle) = middle_of(name) else {
-        return Ok(None);
-    };
-    let mut text = Vec::with_capacity(alloc, middle.len())?;
-    if !add_parts(&mut text, middle)? {
-        return Ok(None);
+    if name.starts_with(b"_R") {
+        return v0_text(alloc, name);
     }
-    if !is_shown_text(text.as_slice()) {
-        return Ok(None);
-    }
-    Ok(Some(ByteText::of(text)))
+    legacy_text(alloc, name)
 }
 
-/// What a name shows, where it is one in Rust's legacy mangling. Memory is taken only for a name that begins and ends as such a
-/// name does.
-#[tactic(auto, using(crate::proofs::WholeLemmas::exact_text, crate::proofs::VisibleLemmas::shown_named, crate::proofs::VisibleLemmas::shown_short))]
+/// What a name shows, where it is one in Rust's legacy mangling or in the current one (RFC 2603). Memory is taken only for a name that
+/// begins and ends as a legacy name does, or begins as one of the current mangling.
+#[tactic(auto, using(crate::proofs::JoinLemmas::exact_text, crate::proofs::JoinLemmas::shown_named, crate::proofs::JoinLemmas::shown_short))]
 pub fn shown(alloc: Global, name: &[u8]) -> Result<Option<ByteText>, OutOfMemory>
     ensures exact { IfOk result (λ text. MatchOption text (IsPlainName name.now) (IsShown name.now)) }
     ensures named { IfOk result (λ text. IfSome text (λ t. is_name t ≡ true)) }

@@ -2,7 +2,7 @@
 ghost use Rattle.std.specs.Prelude.{◌≡◌, ◌<◌, ◌≤◌, ◌++◌, length, take, true, IfOk, IfSome};
 ghost use Rattle.std.specs.List.{list_all};
 ghost use Rattle.std.specs.Option.{option_map};
-ghost use Rattle.rust_names.specs.Shown.{is_digit, undashed};
+ghost use Rattle.rust_names.specs.Legacy.{is_digit, undashed};
 ghost use Rattle.rust_names.specs.internal.Reading.{digits_in_front, number_upto, cut_of, is_plain, pieces_text, parts_text, later_text, kept};
 
 use crate::piece::{add_shown, piece_of, written_length};
@@ -16,7 +16,7 @@ fn is_digit(b: u8) -> bool
 
 /// How many digits stand in front.
 #[tactic(auto, using(crate::proofs::DigitLemmas::digits_stop, crate::proofs::DigitLemmas::digits_more, crate::proofs::DigitLemmas::digits_end))]
-fn count_digits(bytes: &[u8]) -> usize
+pub(crate) fn count_digits(bytes: &[u8]) -> usize
     ensures count { result ≡ length (digits_in_front bytes.now) }
     ensures within { result ≤ length bytes.now }
 {
@@ -30,7 +30,7 @@ fn count_digits(bytes: &[u8]) -> usize
 
 /// The number that decimal digits without a leading zero write, where it is at most `most`.
 #[tactic(auto, using(crate::proofs::DigitLemmas::number_none, crate::proofs::DigitLemmas::number_zero, crate::proofs::DigitLemmas::number_other, crate::proofs::DigitLemmas::number_past, crate::proofs::DigitLemmas::number_more, crate::proofs::DigitLemmas::all_more, crate::proofs::DigitLemmas::number_is))]
-fn number_upto(most: usize, digits: &[u8]) -> Option<usize>
+pub(crate) fn number_upto(most: usize, digits: &[u8]) -> Option<usize>
     ensures number { result ≡ number_upto most digits.now }
     ensures within { IfSome result (λ n. n ≤ most) }
     ensures some { IfSome result (λ n. 0 < length digits.now) }

@@ -1,6 +1,6 @@
 //! The pieces of a part of a path: escapes, `..`, and bytes.
 ghost use Rattle.std.specs.Prelude.{◌≡◌, ◌<◌, ◌≤◌, ◌++◌, length, IfSome, OnOk};
-ghost use Rattle.rust_names.specs.Shown.{written, shown, begins_with_dot};
+ghost use Rattle.rust_names.specs.Legacy.{written, shown, begins_with_dot};
 ghost use Rattle.rust_names.specs.internal.Reading.{sign_of, low_value, code_of, plain_piece, piece_of};
 
 use sym_edges::OutOfMemory;

@@ -3,10 +3,10 @@
 use Rattle.std.specs.Prelude.{ℕ, zero, suc, ◌+◌, ◌-◌, ◌*◌, ◌==◌, ◌&&◌, nat_le, nat_lt, nat_eq, Bool, true, false, if◌then◌else◌, List, [], ◌∷◌, ◌++◌, length, take, drop, codes, slice_index, Option, None, Some, not}
 use Rattle.std.specs.List.{flat_map, list_all, starts_with}
 use Rattle.std.specs.Option.{option_map, option_and_then}
-use Rattle.std.specs.Str.Parse.{digits_value}
 use Rattle.rust_names.specs.declared.piece.Piece.{Piece}
 use Rattle.rust_names.specs.declared.piece.Piece.TheVariants.{At, Star, And, Less, Greater, Opening, Closing, Comma, Code, Scope, Plain}
-use Rattle.rust_names.specs.Shown.{written, shown, is_digit, is_number, is_low_hex, undashed, joined, is_shown_text, begins_with_dot, Part}
+unfoldable pub use Rattle.rust_names.specs.Digits.{digits_in_front, number_upto}
+use Rattle.rust_names.specs.Legacy.{written, shown, is_low_hex, undashed, joined, is_shown_text, begins_with_dot, Part}
 
 -- the sign that an escape stands for
 unfoldable pub sign_of : List ℕ → Option Piece
@@ -71,15 +71,6 @@ pieces_from (suc k) (b ∷ bytes) = pieces_from k bytes
 unfoldable pub pieces_of : List ℕ → Option (List Piece)
 pieces_of bytes = pieces_from 0 bytes
 
--- the digits in front
-unfoldable pub digits_in_front : List ℕ → List ℕ
-digits_in_front [] = []
-digits_in_front (b ∷ bytes) = if is_digit b then b ∷ digits_in_front bytes else []
-
--- the number that digits write, where it is at most `most`
-unfoldable pub number_upto : ℕ → List ℕ → Option ℕ
-number_upto most digits = if is_number digits && nat_le (digits_value 10 digits) most then Some (digits_value 10 digits) else None
-
 -- the bytes of a part whose length is known, and what stands after them
 abbrev pub cut_by : List ℕ → Option ℕ → Option (List ℕ × List ℕ)
 cut_by after None = None
@@ -131,8 +122,8 @@ abbrev pub text_if : List ℕ → Option (List ℕ)
 text_if text = if is_shown_text text then Some text else None
 
 -- what the name shows
-unfoldable pub shown_of : List ℕ → Option (List ℕ)
-shown_of name = option_and_then text_if (option_and_then some_joined (option_and_then parts_of (middle_of name)))
+unfoldable pub legacy_of : List ℕ → Option (List ℕ)
+legacy_of name = option_and_then text_if (option_and_then some_joined (option_and_then parts_of (middle_of name)))
 
 -- what bytes show as pieces, as one or more parts, and as parts after others
 unfoldable pub pieces_text : List ℕ → Option (List ℕ)

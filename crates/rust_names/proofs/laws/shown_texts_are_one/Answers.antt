@@ -1,4 +1,4 @@
-use Rattle.rust_names.proofs.WholeLemmas.{one_text}
+use Rattle.rust_names.proofs.JoinLemmas.{one_text}
 use Rattle.rust_names.proofs.RecordLemmas.{one_list}
 use Rattle.rust_names.proofs.laws.shown_texts_are_one.Goals as goal
 

@@ -1,6 +1,6 @@
 use Rattle.std.proofs.Common.{◌++◌, length, drop, List, ℕ, sym, ◌∙◌, ap}
 use Rattle.std.specs.Option.{option_map}
-use Rattle.rust_names.specs.Shown.{written}
+use Rattle.rust_names.specs.Legacy.{written}
 use Rattle.rust_names.specs.internal.Reading.{pieces_text}
 use Rattle.rust_names.proofs.FrontLemmas.{not_empty, is_empty}
 use Rattle.rust_names.proofs.PieceLemmas.{pieces_more, pieces_none, pieces_end, plain_added}

@@ -1,7 +1,7 @@
 use Rattle.std.proofs.Common.{◌≡◌, take, true}
 use Rattle.std.specs.List.{list_all}
 use Rattle.std.specs.Str.Parse.{digits_value}
-use Rattle.rust_names.specs.Shown.{is_digit}
+use Rattle.rust_names.specs.Legacy.{is_digit}
 use Rattle.rust_names.proofs.part.number_upto.Given as goal
 
 abbrev pub invariant-loop-b : goal.invariant-loop-b

@@ -1,5 +1,5 @@
 use Rattle.std.proofs.Common.{◌==◌, drop, get_or, sym, ◌∙◌, ap}
-use Rattle.rust_names.specs.Shown.{begins_with_dot}
+use Rattle.rust_names.specs.Legacy.{begins_with_dot}
 use Rattle.rust_names.proofs.FrontLemmas.{not_empty, piece_plain, no_dots, no_dot}
 use Rattle.rust_names.proofs.piece.piece_of.Goals as goal
 use Rattle.rust_names.proofs.piece.piece_of.Goals.{else-b-eq46-via-then-b-eq46+else-begins_with_dot, else-b-eq46-via-else-b-eq46}

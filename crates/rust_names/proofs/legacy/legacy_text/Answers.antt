@@ -1,7 +1,7 @@
 use Rattle.std.proofs.Common.{true, false, Some, sym, ◌∙◌, ap}
-use Rattle.rust_names.specs.Shown.{is_shown_text}
+use Rattle.rust_names.specs.Legacy.{is_shown_text}
 use Rattle.rust_names.proofs.NameLemmas.{no_parts, no_text, some_text, filled}
-use Rattle.rust_names.proofs.name.text_of.Goals as goal
+use Rattle.rust_names.proofs.legacy.legacy_text.Goals as goal
 
 pub returns-then-not-branch : goal.returns-then-not-branch
 returns-then-not-branch c =

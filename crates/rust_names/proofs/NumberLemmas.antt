@@ -1,0 +1,128 @@
+-- The numbers of v0 names.
+use Rattle.std.proofs.Common.{◌≡◌, ◌≢◌, ℕ, ◌+◌, ◌<◌, ◌≤◌, ◌==◌, Bool, true, false, List, [], ◌∷◌, ◌++◌, length, take, drop, get_or, Option, Some, None, refl, sym, ◌∙◌, ap, arith, append_assoc}
+use Rattle.std.specs.Option.{option_map, option_and_then}
+use Rattle.std.proofs.lemmas.Bool.Decides.{nat_tests}
+use Rattle.std.proofs.lemmas.List.{at_drop_more, at_drop_all, take_more, append-nil}
+use Rattle.rust_names.specs.V0Numbers.{front, base_62_digit, below_64, next_62, base_62_from, hex_digit, with_digit, hex_digits, next_hex, hex_from}
+
+pub front_none : (bytes : List ℕ) → length bytes ≡ 0 → None ≡ front bytes
+unfolding front
+front_none [] none = refl
+front_none (b ∷ bytes) none = absurd (omega arith)
+
+pub front_some : (bytes : List ℕ) → length bytes ≢ 0 → Some (get_or bytes 0 0, drop 1 bytes) ≡ front bytes
+unfolding front
+front_some [] some = absurd (some refl)
+front_some (b ∷ bytes) some = refl
+
+pub some_is : {A : Type 0} {x y : A} → ◌≡◌ {A = Option A} (Some x) (Some y) → x ≡ y
+some_is is = cc
+
+pub front_is : (b : ℕ) (after bytes : List ℕ) → Some (b, after) ≡ front bytes → bytes ≡ b ∷ after
+unfolding front
+front_is b after [] is = cc
+front_is b after (c ∷ bytes) is = ap (λ (x : ℕ × List ℕ). x.0 ∷ x.1) (sym (some_is is))
+
+pub front_end : (bytes : List ℕ) → None ≡ front bytes → bytes ≡ []
+unfolding front
+front_end [] is = refl
+front_end (c ∷ bytes) is = cc
+
+same : (a b : ℕ) → a ≡ b → (a == b) ≡ true
+same a b is = grind (arith, nat_tests)
+
+other : (a b : ℕ) → a ≢ b → (a == b) ≡ false
+other a b isnt = grind (arith, nat_tests)
+
+-- digits of base 62
+
+abbrev pub base_by : ℕ → ℕ → List ℕ → Bool → Option (ℕ × List ℕ)
+base_by value b bytes t = elim t [
+  | true ↦ option_map (λ n. (n, bytes)) (below_64 (value + 1))
+  | false ↦ option_and_then (λ more. base_62_from more bytes) (next_62 value (base_62_digit b))
+]
+
+base_is : (value b : ℕ) (bytes : List ℕ) → base_62_from value (b ∷ bytes) ≡ base_by value b bytes (b == 95)
+unfolding base_62_from
+base_is value b bytes = refl
+
+pub base_stop : (value b : ℕ) (rest after : List ℕ) (n : Option ℕ) → Some (b, after) ≡ front rest → b ≡ 95 → n ≡ below_64 (value + 1) → option_map (λ k. (k, after)) n ≡ base_62_from value rest
+base_stop value b rest after n begins is number =
+    ap (option_map (λ k. (k, after))) number ∙ sym (ap (base_62_from value) (front_is b after rest begins) ∙ base_is value b after ∙ ap (base_by value b after) (same b 95 is))
+
+pub base_next : (value b : ℕ) (rest after : List ℕ) (n : Option ℕ) → Some (b, after) ≡ front rest → b ≢ 95 → n ≡ next_62 value (base_62_digit b) → base_62_from value rest ≡ option_and_then (λ more. base_62_from more after) n
+base_next value b rest after n begins isnt number =
+    ap (base_62_from value) (front_is b after rest begins) ∙ base_is value b after ∙ ap (base_by value b after) (other b 95 isnt) ∙ sym (ap (option_and_then (λ more. base_62_from more after)) number)
+
+pub base_end : (value : ℕ) (rest : List ℕ) → None ≡ front rest → None ≡ base_62_from value rest
+unfolding base_62_from
+base_end value rest ends = sym (ap (base_62_from value) (front_end rest ends))
+
+-- hexadecimal digits
+
+abbrev pub after_digits : List ℕ → Option (List ℕ × List ℕ) → Option (List ℕ × List ℕ)
+after_digits digits found = option_map (λ x. (digits ++ x.0, x.1)) found
+
+abbrev pub hex_by : ℕ → List ℕ → Bool → Option (List ℕ × List ℕ)
+hex_by b bytes t = elim t [
+  | true ↦ Some ([], bytes)
+  | false ↦ with_digit b (hex_digit b) (hex_digits bytes)
+]
+
+hex_is : (b : ℕ) (bytes : List ℕ) → hex_digits (b ∷ bytes) ≡ hex_by b bytes (b == 95)
+unfolding hex_digits
+hex_is b bytes = refl
+
+pub hex_at : (bytes : List ℕ) (i : ℕ) → i < length bytes → hex_digits (drop i bytes) ≡ hex_by (get_or bytes i 0) (drop (i + 1) bytes) (get_or bytes i 0 == 95)
+hex_at bytes i within = at_drop_more hex_digits bytes i 0 within ∙ hex_is (get_or bytes i 0) (drop (i + 1) bytes)
+
+one_after : (bytes : List ℕ) (i : ℕ) → i < length bytes → drop 1 (drop i bytes) ≡ drop (i + 1) bytes
+one_after bytes i within = at_drop_more (drop 1) bytes i 0 within
+
+pub hex_stop : (bytes digits later after : List ℕ) (i : ℕ) → i < length bytes → get_or bytes i 0 ≡ 95 → digits ≡ take i bytes → later ≡ drop i bytes → after ≡ drop 1 later → hex_digits bytes ≡ after_digits (take i bytes) (hex_digits (drop i bytes)) → Some (digits, after) ≡ hex_digits bytes
+hex_stop bytes digits later after i within is first second third so_far =
+    let found : hex_digits (drop i bytes) ≡ Some ([], drop (i + 1) bytes) = hex_at bytes i within ∙ ap (hex_by (get_or bytes i 0) (drop (i + 1) bytes)) (same (get_or bytes i 0) 95 is) in
+    ap (λ xs. Some (xs, after)) (first ∙ sym (append-nil (take i bytes))) ∙ ap (λ xs. Some (take i bytes ++ [], xs)) (third ∙ ap (drop 1) second ∙ one_after bytes i within)
+    ∙ sym (so_far ∙ ap (after_digits (take i bytes)) found)
+
+pub hex_none : (bytes : List ℕ) (i : ℕ) → i < length bytes → get_or bytes i 0 ≢ 95 → None ≡ hex_digit (get_or bytes i 0) → hex_digits bytes ≡ after_digits (take i bytes) (hex_digits (drop i bytes)) → None ≡ hex_digits bytes
+hex_none bytes i within isnt none so_far =
+    let found : hex_digits (drop i bytes) ≡ None =
+    hex_at bytes i within ∙ ap (hex_by (get_or bytes i 0) (drop (i + 1) bytes)) (other (get_or bytes i 0) 95 isnt)
+    ∙ ap (λ o. with_digit (get_or bytes i 0) o (hex_digits (drop (i + 1) bytes))) (sym none) in
+    sym (so_far ∙ ap (after_digits (take i bytes)) found)
+
+longer : (front : List ℕ) (b : ℕ) (o : Option (List ℕ × List ℕ)) → after_digits front (option_map (λ x. (b ∷ x.0, x.1)) o) ≡ after_digits (front ++ b ∷ []) o
+longer front b None = refl
+longer front b (Some x) = ap (λ xs. Some (xs, x.1)) (sym (append_assoc front (b ∷ []) x.0))
+
+pub hex_more : (bytes : List ℕ) (i v : ℕ) → i < length bytes → get_or bytes i 0 ≢ 95 → Some v ≡ hex_digit (get_or bytes i 0) → hex_digits bytes ≡ after_digits (take i bytes) (hex_digits (drop i bytes)) → hex_digits bytes ≡ after_digits (take (i + 1) bytes) (hex_digits (drop (i + 1) bytes))
+hex_more bytes i v within isnt some so_far =
+    let b = get_or bytes i 0 in
+    let later = hex_digits (drop (i + 1) bytes) in
+    let found : hex_digits (drop i bytes) ≡ option_map (λ x. (b ∷ x.0, x.1)) later =
+    hex_at bytes i within ∙ ap (hex_by b (drop (i + 1) bytes)) (other b 95 isnt) ∙ ap (λ o. with_digit b o later) (sym some) in
+    so_far ∙ ap (after_digits (take i bytes)) found ∙ longer (take i bytes) b later ∙ ap (λ xs. after_digits xs later) (sym (take_more bytes i 0 within))
+
+hex_over : hex_digits [] ≡ None
+unfolding hex_digits
+hex_over = refl
+
+pub hex_end : (bytes : List ℕ) (i : ℕ) → length bytes ≤ i → hex_digits bytes ≡ after_digits (take i bytes) (hex_digits (drop i bytes)) → None ≡ hex_digits bytes
+hex_end bytes i past so_far = sym (so_far ∙ ap (after_digits (take i bytes)) (at_drop_all hex_digits bytes i past ∙ hex_over))
+
+-- their value
+
+value_is : (value b : ℕ) (digits : List ℕ) → hex_from value (b ∷ digits) ≡ option_and_then (λ more. hex_from more digits) (next_hex value (hex_digit b))
+unfolding hex_from
+value_is value b digits = refl
+
+pub value_next : (digits : List ℕ) (i value : ℕ) (n : Option ℕ) → i < length digits → n ≡ next_hex value (hex_digit (get_or digits i 0)) → hex_from value (drop i digits) ≡ option_and_then (λ more. hex_from more (drop (i + 1) digits)) n
+value_next digits i value n within is = at_drop_more (hex_from value) digits i 0 within ∙ value_is value (get_or digits i 0) (drop (i + 1) digits) ∙ sym (ap (option_and_then (λ more. hex_from more (drop (i + 1) digits))) is)
+
+value_over : (value : ℕ) → hex_from value [] ≡ Some value
+unfolding hex_from
+value_over value = refl
+
+pub value_end : (digits : List ℕ) (i value : ℕ) → length digits ≤ i → hex_from value (drop i digits) ≡ Some value
+value_end digits i value past = at_drop_all (hex_from value) digits i past ∙ value_over value

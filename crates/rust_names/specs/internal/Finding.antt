@@ -1,0 +1,8 @@
+-- What a name shows, as the functions find it: `_R` begins a v0 name, and no legacy name.
+use Rattle.std.specs.Prelude.{ℕ, nat_eq, if◌then◌else◌, List, codes, Option}
+use Rattle.std.specs.List.{starts_with}
+use Rattle.rust_names.specs.V0Names.{v0_text}
+use Rattle.rust_names.specs.internal.Reading.{legacy_of}
+
+unfoldable pub shown_of : List ℕ → Option (List ℕ)
+shown_of name = if starts_with nat_eq name (codes "_R") then v0_text name else legacy_of name

@@ -1,0 +1,355 @@
+//! The symbols of v0 names that are made of bytes alone.
+ghost use Rattle.std.specs.Prelude.{◌≡◌, ◌<◌, [], ◌∷◌, length, map, chars, decimal, true, Some, None, IfOk, IfSome, MatchOption};
+ghost use Rattle.std.specs.Option.{option_map};
+ghost use Rattle.rust_names.specs.V0Identifiers.{dashed};
+ghost use Rattle.rust_names.specs.V0Texts as shows;
+ghost use Rattle.rust_names.specs.V0Leaves as v0;
+ghost use Rattle.rust_names.specs.declared.grammar.Leaf.TheVariants as leaf;
+ghost use Rattle.rust_names.specs.internal.Reading.{kept};
+
+use crate::grammar::{Leaf, Scope};
+use crate::identifiers::{add_identifier, identifier};
+use crate::numbers::{after_letter, front, hex_digit, hex_digits, hex_value};
+use crate::texts::{
+    add, add_decimal, add_for_all, add_integer, add_quoted, character, show, show_lifetime,
+};
+use crate::words::word_text;
+use std::alloc::Global;
+use sym_edges::OutOfMemory;
+
+/// What stands after a leaf, where all of it was added.
+fn after_if(said: bool, bytes: &[u8]) -> Option<&[u8]>
+    ensures { option_map (λ a. a.now) result ≡ v0.after_if said bytes.now }
+{
+    if said { Some(bytes) } else { None }
+}
+
+/// Adds a number where it is shown.
+fn show_index(text: &mut Vec<u8>, visible: bool, number: u64) -> Result<bool, OutOfMemory>
+    ensures { IfOk result (λ said. v0.shown_on visible text.old.items (Some (decimal number)) ≡ kept said text.new.items) }
+{
+    if !visible {
+        return Ok(true);
+    }
+    add_decimal(text, number)
+}
+
+/// Adds a lifetime where it is shown.
+fn show_bound(text: &mut Vec<u8>, scope: Scope, number: u64) -> Result<bool, OutOfMemory>
+    ensures { IfOk result (λ said. v0.shown_on scope.visible text.old.items (shows.lifetime_text scope.bound number) ≡ kept said text.new.items) }
+{
+    if !scope.visible {
+        return Ok(true);
+    }
+    show_lifetime(text, scope.bound, number)
+}
+
+/// Adds lifetimes where they are shown.
+fn show_for_all(text: &mut Vec<u8>, scope: Scope, count: u64) -> Result<bool, OutOfMemory>
+    ensures { IfOk result (λ said. v0.shown_on scope.visible text.old.items (Some (shows.for_all_text scope.bound count)) ≡ kept said text.new.items) }
+{
+    if !scope.visible {
+        return Ok(true);
+    }
+    add_for_all(text, scope.bound, count)
+}
+
+/// An identifier.
+#[tactic(auto, unfolding(crate::specs::V0Leaves::read_leaf, crate::specs::V0Leaves::leaf_of))]
+fn read_identifier<'a>(
+    alloc: Global,
+    text: &mut Vec<u8>,
+    scope: Scope,
+    bytes: &'a [u8],
+) -> Result<Option<&'a [u8]>, OutOfMemory>
+    ensures { IfOk result (λ after. v0.read_leaf leaf.Identifier scope bytes.now text.old.items ≡ option_map (λ a. (a.now, text.new.items)) after) }
+{
+    let Some((marked, name, after)) = identifier(bytes) else {
+        return Ok(None);
+    };
+    if !scope.visible {
+        return Ok(Some(after));
+    }
+    let said = add_identifier(alloc, text, marked, name)?;
+    Ok(after_if(said, after))
+}
+
+/// Bytes with `-` in place of `_`.
+fn dashed(alloc: Global, bytes: &[u8]) -> Result<Vec<u8>, OutOfMemory>
+    ensures { IfOk result (λ text. text.items ≡ map dashed bytes.now) }
+{
+    let mut text = Vec::with_capacity(alloc, bytes.len())?;
+    'letters: for b in bytes {
+        text.push(if *b == b'_' { b'-' } else { *b })?;
+    }
+    Ok(text)
+}
+
+/// The name of a calling convention.
+#[tactic(auto, unfolding(crate::specs::V0Leaves::read_leaf, crate::specs::V0Leaves::leaf_of))]
+fn read_convention<'a>(
+    alloc: Global,
+    text: &mut Vec<u8>,
+    scope: Scope,
+    bytes: &'a [u8],
+) -> Result<Option<&'a [u8]>, OutOfMemory>
+    ensures { IfOk result (λ after. v0.read_leaf leaf.Convention scope bytes.now text.old.items ≡ option_map (λ a. (a.now, text.new.items)) after) }
+{
+    let Some((marked, name, after)) = identifier(bytes) else {
+        return Ok(None);
+    };
+    if marked || name.is_empty() {
+        return Ok(None);
+    }
+    let shown = dashed(alloc, name)?;
+    let said = show(text, scope.visible, shown.as_slice())?;
+    Ok(after_if(said, after))
+}
+
+/// An integer.
+#[tactic(auto, unfolding(crate::specs::V0Leaves::read_leaf, crate::specs::V0Leaves::leaf_of))]
+fn read_number<'a>(
+    text: &mut Vec<u8>,
+    scope: Scope,
+    bytes: &'a [u8],
+) -> Result<Option<&'a [u8]>, OutOfMemory>
+    ensures { IfOk result (λ after. v0.read_leaf leaf.Number scope bytes.now text.old.items ≡ option_map (λ a. (a.now, text.new.items)) after) }
+{
+    let Some((digits, after)) = hex_digits(bytes) else {
+        return Ok(None);
+    };
+    if !scope.visible {
+        return Ok(Some(after));
+    }
+    let said = add_integer(text, digits)?;
+    Ok(after_if(said, after))
+}
+
+/// The word of a `bool`.
+fn boolean(value: Option<u64>) -> Option<&'static [u8]>
+    ensures { option_map (λ a. a.now) result ≡ shows.boolean_by value }
+{
+    match value {
+        Some(0) => Some(b"false"),
+        Some(1) => Some(b"true"),
+        _ => None,
+    }
+}
+
+/// A `bool`.
+#[tactic(auto, unfolding(crate::specs::V0Leaves::read_leaf, crate::specs::V0Leaves::leaf_of))]
+fn read_boolean<'a>(
+    text: &mut Vec<u8>,
+    scope: Scope,
+    bytes: &'a [u8],
+) -> Result<Option<&'a [u8]>, OutOfMemory>
+    ensures { IfOk result (λ after. v0.read_leaf leaf.Boolean scope bytes.now text.old.items ≡ option_map (λ a. (a.now, text.new.items)) after) }
+{
+    let Some((digits, after)) = hex_digits(bytes) else {
+        return Ok(None);
+    };
+    match boolean(hex_value(digits)) {
+        Some(word) => {
+            let said = show(text, scope.visible, word)?;
+            Ok(after_if(said, after))
+        }
+        None => Ok(None),
+    }
+}
+
+/// Adds characters in quotes where they are shown.
+fn show_quoted(
+    text: &mut Vec<u8>,
+    visible: bool,
+    quote: u8,
+    characters: &[char],
+) -> Result<bool, OutOfMemory>
+    ensures { IfOk result (λ said. v0.shown_on visible text.old.items (Some (shows.quoted quote characters.now)) ≡ kept said text.new.items) }
+{
+    if !visible {
+        return Ok(true);
+    }
+    add_quoted(text, quote, characters)
+}
+
+/// The character of a code.
+fn character_of(code: Option<u64>) -> Option<char>
+    ensures { shows.character_by code ≡ option_map (λ c. shows.quoted 39 (c ∷ [])) result }
+{
+    match code {
+        Some(code) => character(code),
+        None => None,
+    }
+}
+
+/// A `char`.
+#[tactic(auto, unfolding(crate::specs::V0Leaves::read_leaf, crate::specs::V0Leaves::leaf_of))]
+fn read_character<'a>(
+    text: &mut Vec<u8>,
+    scope: Scope,
+    bytes: &'a [u8],
+) -> Result<Option<&'a [u8]>, OutOfMemory>
+    ensures { IfOk result (λ after. v0.read_leaf leaf.Character scope bytes.now text.old.items ≡ option_map (λ a. (a.now, text.new.items)) after) }
+{
+    let Some((digits, after)) = hex_digits(bytes) else {
+        return Ok(None);
+    };
+    match character_of(hex_value(digits)) {
+        Some(c) => {
+            let said = show_quoted(text, scope.visible, b'\'', &[c])?;
+            Ok(after_if(said, after))
+        }
+        None => Ok(None),
+    }
+}
+
+/// The byte that two digits write, and the digits after them.
+#[tactic(auto, using(crate::proofs::LeafLemmas::byte_some, crate::proofs::LeafLemmas::one_digit, crate::proofs::LeafLemmas::no_high, crate::proofs::LeafLemmas::no_low))]
+fn byte_in_front(a: u8, digits: &[u8]) -> Option<(u8, &[u8])>
+    ensures byte { MatchOption result (shows.bytes_of (a ∷ digits.now) ≡ None) (λ x. shows.bytes_of (a ∷ digits.now) ≡ option_map (λ later. x.0 ∷ later) (shows.bytes_of x.1.now)) }
+    ensures shorter { IfSome result (λ x. length x.1.now < length digits.now) }
+{
+    match front(digits) {
+        Some((b, after)) => match hex_digit(a) {
+            Some(high) => match hex_digit(b) {
+                Some(low) => {
+                    let byte = high * 16 + low;
+                    Some((byte, after))
+                }
+                None => None,
+            },
+            None => None,
+        },
+        None => None,
+    }
+}
+
+/// The bytes that digits write.
+fn bytes_of(alloc: Global, digits: &[u8]) -> Result<Option<Vec<u8>>, OutOfMemory>
+    ensures { IfOk result (λ bytes. option_map (λ b. b.items) bytes ≡ shows.bytes_of digits.now) }
+{
+    let mut bytes = Vec::with_capacity(alloc, digits.len() / 2)?;
+    let mut rest = digits;
+    'pairs: while let Some((a, more)) = front(rest) {
+        match byte_in_front(a, more) {
+            Some((b, after)) => {
+                bytes.push(b)?;
+                rest = after;
+            }
+            None => return Ok(None),
+        }
+    }
+    Ok(Some(bytes))
+}
+
+/// The characters of a text.
+fn characters(alloc: Global, string: &str) -> Result<Vec<char>, OutOfMemory>
+    ensures { IfOk result (λ cs. cs.items ≡ chars string.now) }
+{
+    let cs: Vec<char> = string.chars().collect(alloc)?;
+    Ok(cs)
+}
+
+/// The characters of a text that digits write.
+fn characters_of(alloc: Global, digits: &[u8]) -> Result<Option<Vec<char>>, OutOfMemory>
+    ensures { IfOk result (λ cs. shows.string_by (shows.bytes_of digits.now) ≡ option_map (λ c. shows.quoted 34 c.items) cs) }
+{
+    let Some(bytes) = bytes_of(alloc, digits)? else {
+        return Ok(None);
+    };
+    match str::from_utf8(bytes.as_slice()) {
+        Ok(string) => {
+            let cs = characters(alloc, string)?;
+            Ok(Some(cs))
+        }
+        Err(_) => Ok(None),
+    }
+}
+
+/// A text.
+#[tactic(auto, unfolding(crate::specs::V0Leaves::read_leaf, crate::specs::V0Leaves::leaf_of))]
+fn read_string<'a>(
+    alloc: Global,
+    text: &mut Vec<u8>,
+    scope: Scope,
+    bytes: &'a [u8],
+) -> Result<Option<&'a [u8]>, OutOfMemory>
+    ensures { IfOk result (λ after. v0.read_leaf leaf.Text scope bytes.now text.old.items ≡ option_map (λ a. (a.now, text.new.items)) after) }
+{
+    let Some((digits, after)) = hex_digits(bytes) else {
+        return Ok(None);
+    };
+    match characters_of(alloc, digits)? {
+        Some(characters) => {
+            let said = show_quoted(text, scope.visible, b'"', characters.as_slice())?;
+            Ok(after_if(said, after))
+        }
+        None => Ok(None),
+    }
+}
+
+/// Whether a name ends, or a suffix begins.
+#[tactic(auto, using(crate::proofs::LeafLemmas::end_some, crate::proofs::LeafLemmas::end_none))]
+fn is_end(bytes: &[u8]) -> bool
+    ensures { result ≡ v0.is_end bytes.now }
+{
+    match front(bytes) {
+        Some((b, _)) => b == b'.',
+        None => true,
+    }
+}
+
+/// Reads a leaf and adds what it shows; what stands after it.
+#[tactic(auto, unfolding(crate::specs::V0Leaves::read_leaf, crate::specs::V0Leaves::leaf_of))]
+pub(crate) fn read_leaf<'a>(
+    alloc: Global,
+    text: &mut Vec<u8>,
+    leaf: Leaf,
+    scope: Scope,
+    bytes: &'a [u8],
+) -> Result<Option<&'a [u8]>, OutOfMemory>
+    ensures { IfOk result (λ after. v0.read_leaf leaf scope bytes.now text.old.items ≡ option_map (λ a. (a.now, text.new.items)) after) }
+{
+    match leaf {
+        Leaf::Say(word) => {
+            let said = show(text, scope.visible, word_text(word))?;
+            Ok(after_if(said, bytes))
+        }
+        Leaf::Letter(b) => {
+            let said = show(text, scope.visible, &[b])?;
+            Ok(after_if(said, bytes))
+        }
+        Leaf::Index(number) => {
+            let said = show_index(text, scope.visible, number)?;
+            Ok(after_if(said, bytes))
+        }
+        Leaf::Lifetime(number) => {
+            let said = show_bound(text, scope, number)?;
+            Ok(after_if(said, bytes))
+        }
+        Leaf::ForAll(count) => {
+            let said = show_for_all(text, scope, count)?;
+            Ok(after_if(said, bytes))
+        }
+        Leaf::Disambiguator => match after_letter(b's', bytes) {
+            Some((_, after)) => {
+                let said = show(text, scope.visible, b"")?;
+                Ok(after_if(said, after))
+            }
+            None => Ok(None),
+        },
+        Leaf::Identifier => read_identifier(alloc, text, scope, bytes),
+        Leaf::Convention => read_convention(alloc, text, scope, bytes),
+        Leaf::Number => read_number(text, scope, bytes),
+        Leaf::Boolean => read_boolean(text, scope, bytes),
+        Leaf::Character => read_character(text, scope, bytes),
+        Leaf::Text => read_string(alloc, text, scope, bytes),
+        Leaf::End => {
+            if !is_end(bytes) {
+                return Ok(None);
+            }
+            let said = show(text, scope.visible, b"")?;
+            Ok(after_if(said, bytes))
+        }
+    }
+}

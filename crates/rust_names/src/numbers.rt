@@ -1,0 +1,185 @@
+//! The numbers of v0 names.
+ghost use Rattle.std.specs.Prelude.{◌≡◌, ◌<◌, ◌≤◌, ◌+◌, ◌^◌, length, take, drop, IfSome};
+ghost use Rattle.std.specs.Option.{option_map, option_copied};
+ghost use Rattle.rust_names.specs.V0Numbers.{front, eat, base_62_digit, below_64, next_62, base_62_from, base_62, after_letter, hex_digit, hex_digits, next_hex, hex_from};
+
+/// The first byte, and those after it.
+#[tactic(auto, unfolding(crate::specs::V0Numbers::front), using(crate::proofs::NumberLemmas::front_none, crate::proofs::NumberLemmas::front_some))]
+pub(crate) fn front(bytes: &[u8]) -> Option<(u8, &[u8])>
+    ensures front { option_map (λ x. (x.0, x.1.now)) result ≡ front bytes.now }
+    ensures shorter { IfSome result (λ x. length x.1.now < length bytes.now) }
+{
+    if bytes.is_empty() {
+        return None;
+    }
+    Some((bytes[0], bytes.split_at(1).1))
+}
+
+/// What stands after a byte, where bytes begin with it.
+#[tactic(auto, unfolding(crate::specs::V0Numbers::eat))]
+pub(crate) fn eat(wanted: u8, bytes: &[u8]) -> Option<&[u8]>
+    ensures after { option_copied result ≡ eat wanted bytes.now }
+    ensures shorter { IfSome result (λ x. length x.now < length bytes.now) }
+{
+    match front(bytes) {
+        Some((b, after)) => {
+            if b == wanted {
+                return Some(after);
+            }
+            None
+        }
+        None => None,
+    }
+}
+
+/// The value of a digit of base 62.
+fn base_62_digit(b: u8) -> Option<u64>
+    ensures value { result ≡ base_62_digit b }
+    ensures small { IfSome result (λ v. v < 62) }
+{
+    match b {
+        b'0'..=b'9' => Some(u64::from(b - b'0')),
+        b'a'..=b'z' => Some(u64::from(b - b'a' + 10)),
+        b'A'..=b'Z' => Some(u64::from(b - b'A' + 36)),
+        _ => None,
+    }
+}
+
+/// A number that fits.
+fn below_64(number: u128) -> Option<u64>
+    ensures { result ≡ below_64 number }
+{
+    if number < (1 << 64) {
+        return Some(number as u64);
+    }
+    None
+}
+
+/// One more, where that fits.
+fn raise(number: u64) -> Option<u64>
+    ensures { result ≡ below_64 (number + 1) }
+{
+    below_64(u128::from(number) + 1)
+}
+
+/// A value with one more digit.
+fn next_62(value: u64, b: u8) -> Option<u64>
+    ensures { result ≡ next_62 value (base_62_digit b) }
+{
+    match base_62_digit(b) {
+        Some(digit) => below_64(u128::from(value) * 62 + u128::from(digit)),
+        None => None,
+    }
+}
+
+/// The value of digits up to `_`, and what stands after it.
+#[tactic(auto)]
+fn base_62_from(bytes: &[u8]) -> Option<(u64, &[u8])>
+    ensures number { option_map (λ x. (x.0, x.1.now)) result ≡ base_62_from 0 bytes.now }
+    ensures within { IfSome result (λ x. length x.1.now ≤ length bytes.now) }
+{
+    let mut value = 0;
+    let mut rest = bytes;
+    'digits: while let Some((b, after)) = front(rest) {
+        if b == b'_' {
+            return match raise(value) {
+                Some(number) => Some((number, after)),
+                None => None,
+            };
+        }
+        match next_62(value, b) {
+            Some(more) => {
+                value = more;
+                rest = after;
+            }
+            None => return None,
+        }
+    }
+    None
+}
+
+/// A number in base 62, and what stands after it.
+#[tactic(auto, unfolding(crate::specs::V0Numbers::base_62))]
+pub(crate) fn base_62(bytes: &[u8]) -> Option<(u64, &[u8])>
+    ensures number { option_map (λ x. (x.0, x.1.now)) result ≡ base_62 bytes.now }
+    ensures within { IfSome result (λ x. length x.1.now ≤ length bytes.now) }
+{
+    match eat(b'_', bytes) {
+        Some(after) => Some((0, after)),
+        None => base_62_from(bytes),
+    }
+}
+
+/// One more than the number after a letter, or 0 where the letter is missing.
+#[tactic(auto, unfolding(crate::specs::V0Numbers::after_letter))]
+pub(crate) fn after_letter(letter: u8, bytes: &[u8]) -> Option<(u64, &[u8])>
+    ensures number { option_map (λ x. (x.0, x.1.now)) result ≡ after_letter letter bytes.now }
+    ensures within { IfSome result (λ x. length x.1.now ≤ length bytes.now) }
+{
+    match eat(letter, bytes) {
+        Some(after) => match base_62(after) {
+            Some((number, rest)) => match raise(number) {
+                Some(more) => Some((more, rest)),
+                None => None,
+            },
+            None => None,
+        },
+        None => Some((0, bytes)),
+    }
+}
+
+/// The value of a hexadecimal digit in lower case.
+pub(crate) fn hex_digit(b: u8) -> Option<u8>
+    ensures value { result ≡ hex_digit b }
+    ensures small { IfSome result (λ v. v < 16) }
+{
+    match b {
+        b'0'..=b'9' => Some(b - b'0'),
+        b'a'..=b'f' => Some(b - b'a' + 10),
+        _ => None,
+    }
+}
+
+/// The hexadecimal digits up to `_`, and what stands after it.
+
+pub(crate) fn hex_digits(bytes: &[u8]) -> Option<(&[u8], &[u8])>
+    ensures digits { option_map (λ x. (x.0.now, x.1.now)) result ≡ hex_digits bytes.now }
+    ensures within { IfSome result (λ x. length x.1.now ≤ length bytes.now) }
+{
+    for (at, b) in bytes.iter().enumerate() {
+        if *b == b'_' {
+            let (digits, after) = bytes.split_at(at);
+            return Some((digits, after.split_at(1).1));
+        }
+        match hex_digit(*b) {
+            Some(_) => {}
+            None => return None,
+        }
+    }
+    None
+}
+
+/// A value with one more digit.
+fn next_hex(value: u64, b: u8) -> Option<u64>
+    ensures { result ≡ next_hex value (hex_digit b) }
+{
+    match hex_digit(b) {
+        Some(digit) => below_64(u128::from(value) * 16 + u128::from(digit)),
+        None => None,
+    }
+}
+
+/// The value of hexadecimal digits, where it is below 2^64.
+
+pub(crate) fn hex_value(digits: &[u8]) -> Option<u64>
+    ensures { result ≡ hex_from 0 digits.now }
+{
+    let mut value = 0;
+    'digits: for b in digits {
+        match next_hex(value, *b) {
+            Some(more) => value = more,
+            None => return None,
+        }
+    }
+    Some(value)
+}
