@@ -28,7 +28,7 @@ fn made_of<R: Threads + Sync>(
         read.first.len(),
         read.second.len(),
     ];
-    let dumped = assemble(rt, alloc, image, read, b"a.out", 4)?;
+    let dumped = assemble(rt, alloc, image, read, b"a.out", false, 4)?;
     Ok((counts, dumped))
 }
 

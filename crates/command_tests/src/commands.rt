@@ -2,6 +2,7 @@
 //! file gives stands in the rows of the crate `worked` too.
 use crate::comparison::same;
 use crate::files::{Given, debug_file, file_by, joined};
+use crate::full::{FULL, FULL_ROWS, FULL_WITH_ITSELF, UNREAD_NAME};
 use crate::hello::{OTHER_ID, Parts, hello};
 use crate::large::{STEPS, framed, functions};
 use crate::pairs::{BELOW, PAIR_ROWS, WITH_ITSELF};
@@ -190,6 +191,11 @@ fn pairs_have_their_rows(rt: HostRuntime) -> Result<(), Fail> {
 }
 
 #[test]
+fn full_has_its_rows(rt: HostRuntime) -> Result<(), Fail> {
+    expect_rows(&rt, rt.alloc(), &FULL_ROWS)
+}
+
+#[test]
 fn samples_have_their_rows(rt: HostRuntime) -> Result<(), Fail> {
     expect_rows(&rt, rt.alloc(), &SAMPLE_ROWS)
 }
@@ -246,13 +252,14 @@ fn each_call_that_fails_leaves_a_front(rt: HostRuntime) -> Result<(), Fail> {
     Ok(())
 }
 
-/// Each of so many calls of the store that fails in turn, where a call moves at most so many bytes: the status is 3.
+/// Each of so many calls of the store that fails in turn, where a call moves at most so many bytes: the status is 3, with this line.
 fn expect_unread<R: Abort + Threads + Sync>(
     rt: &R,
     alloc: Global,
     words: &[&str],
     file: &[u8],
     (step, calls): (usize, usize),
+    line: &[u8],
 ) -> Result<(), Fail> {
     let asked = Asked {
         label: "store",
@@ -262,7 +269,7 @@ fn expect_unread<R: Abort + Threads + Sync>(
     let wanted = Wanted {
         status: 3,
         out: b"",
-        err: UNREAD,
+        err: line,
     };
     for call in 1..=calls as u64 {
         let edges = Edges {
@@ -276,24 +283,33 @@ fn expect_unread<R: Abort + Threads + Sync>(
 }
 
 /// Words, how many bytes a call moves, how often the file is read, and how many calls of the store another file takes. A file takes the opening, a
-/// call for each piece, and the one that finds the end.
-const READS: [(Words, Given, usize, usize, usize); 6] = [
-    (DUMP, Given::Units(&[], PUSH_RBP), 7, 1, 0),
-    (WITH_ITSELF, Given::Code(b"\x90"), 1, 2, 0),
-    (CHECK, Given::Bytes(INLINED), 1, 1, 0),
-    (SHOW, Given::Bytes(PUSHED), 1, 1, 0),
-    (FRAME, Given::Bytes(PUSHED), 1, 1, STATE.len() + 2),
-    (WALK, Given::Bytes(PUSHED), 1, 1, STACK.len() + 2),
+/// call for each piece, and the one that finds the end. Last stands the line on standard error.
+const READS: [(Words, Given, usize, usize, usize, &[u8]); 8] = [
+    (DUMP, Given::Units(&[], PUSH_RBP), 7, 1, 0, UNREAD),
+    (FULL, Given::Units(&[], PUSH_RBP), 50, 1, 0, UNREAD_NAME),
+    (WITH_ITSELF, Given::Code(b"\x90"), 1, 2, 0, UNREAD),
+    (
+        FULL_WITH_ITSELF,
+        Given::Code(b"\x90"),
+        16,
+        2,
+        0,
+        UNREAD_NAME,
+    ),
+    (CHECK, Given::Bytes(INLINED), 1, 1, 0, UNREAD),
+    (SHOW, Given::Bytes(PUSHED), 1, 1, 0, UNREAD),
+    (FRAME, Given::Bytes(PUSHED), 1, 1, STATE.len() + 2, UNREAD),
+    (WALK, Given::Bytes(PUSHED), 1, 1, STACK.len() + 2, UNREAD),
 ];
 
 #[test]
 fn each_call_that_fails_has_its_status(rt: HostRuntime) -> Result<(), Fail> {
-    for (words, given, step, times, more) in READS {
+    for (words, given, step, times, more, line) in READS {
         let file = file_by(rt.alloc(), given)?;
         let pieces = file.len().div_ceil(step.max(1));
         let calls = pieces.saturating_add(2).saturating_mul(times);
         let calls = calls.saturating_add(more);
-        expect_unread(&rt, rt.alloc(), words, &file, (step, calls))?;
+        expect_unread(&rt, rt.alloc(), words, &file, (step, calls), line)?;
     }
     Ok(())
 }

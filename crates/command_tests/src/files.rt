@@ -23,6 +23,8 @@ pub enum Given {
     Code(&'static [u8]),
     /// Code from 1000 to 1020, these units and these frames at 2000.
     Units(&'static [&'static [u8]], &'static [u8]),
+    /// Code from 1000 to 1020, these units and their abbreviations.
+    Abbreviated(&'static [&'static [u8]], &'static [u8]),
     /// `main` at 1000, and `b` and `a` at 1008.
     Symbols,
     /// A unit with these entries. The lines are 3 from 1000, 9 from 1004 and 4 from 100c on, up to 1020.
@@ -31,6 +33,8 @@ pub enum Given {
     WideEntries(&'static [Entry]),
     /// The same as `Entries`, with code from 1000 to 2020.
     InLongCode(&'static [Entry]),
+    /// The same with this section in place of `.debug_info`.
+    WithInfo(Section<'static>),
     /// `f` with the lines of two files, and `g` in another unit with those of the same table, if so, or of one after it.
     TwoUnits(bool),
     /// The function `f` of eight bytes at this address, and the symbol of the small file.
@@ -75,13 +79,18 @@ pub fn of_code(alloc: Global, bytes: &[u8]) -> Result<Vec<u8>, AllocError> {
     file_of(alloc, &[(1, 0)], &[NULL, code])
 }
 
-fn of_units<'a>(alloc: Global, units: &'a [u8], frames: &'a [u8]) -> Result<Vec<u8>, AllocError> {
+fn of_units<'a>(
+    alloc: Global,
+    units: &'a [u8],
+    abbreviations: &'a [u8],
+    frames: &'a [u8],
+) -> Result<Vec<u8>, AllocError> {
     let sections = [
         NULL,
         ID,
         LONG_CODE,
         (".debug_info", [1, 0, 0, 0], units),
-        (".debug_abbrev", [1, 0, 0, 0], EIGHT_OR_FOUR),
+        (".debug_abbrev", [1, 0, 0, 0], abbreviations),
         (".eh_frame", [1, 2, 0x2000, 0], frames),
     ];
     file_of(alloc, &[(1, 0)], &sections)
@@ -127,6 +136,18 @@ fn of_entries(alloc: Global, code: &[u8], entries: &[Entry]) -> Result<Vec<u8>, 
     let unit = unit_of(alloc, 0, &bytes)?;
     let lines = line_table(alloc, A_C, THREE_ROWS)?;
     with_functions(alloc, code, &unit, &lines)
+}
+
+/// The same with a section of units, in code from 1000 to 1020.
+fn with_info(alloc: Global, info: Section<'_>) -> Result<Vec<u8>, AllocError> {
+    let lines = line_table(alloc, A_C, THREE_ROWS)?;
+    let abbreviations = (".debug_abbrev", [1, 0, 0, 0], FUNCTIONS);
+    let table = (".debug_line", [1, 0, 0, 0], lines.as_slice());
+    file_of(
+        alloc,
+        &[(1, 0)],
+        &[NULL, ID, LONG_CODE, info, abbreviations, table],
+    )
 }
 
 /// The same, with code from 1000 to 2020.
@@ -197,11 +218,17 @@ pub fn file_by(alloc: Global, given: Given) -> Result<Vec<u8>, AllocError> {
         Given::Changed(offset, byte) => changed(alloc, offset, byte),
         Given::And(section) => small_and(alloc, section),
         Given::Code(bytes) => of_code(alloc, bytes),
-        Given::Units(units, frames) => of_units(alloc, &joined(alloc, units)?, frames),
+        Given::Units(units, frames) => {
+            of_units(alloc, &joined(alloc, units)?, EIGHT_OR_FOUR, frames)
+        }
+        Given::Abbreviated(units, abbreviations) => {
+            of_units(alloc, &joined(alloc, units)?, abbreviations, b"")
+        }
         Given::Symbols => two_at_one_address(alloc),
         Given::Entries(entries) => of_entries(alloc, NOPS, entries),
         Given::InLongCode(entries) => in_long_code(alloc, entries),
         Given::WideEntries(entries) => of_wide_entries(alloc, entries),
+        Given::WithInfo(info) => with_info(alloc, info),
         Given::TwoUnits(is_one_table) => of_two_units(alloc, is_one_table),
         Given::Covered(first) => with_symbols(alloc, first),
         Given::Stripped(frames) => stripped(alloc, frames),

@@ -12,6 +12,8 @@ mod comparison;
 #[cfg(test)]
 mod files;
 #[cfg(test)]
+mod full;
+#[cfg(test)]
 mod hello;
 #[cfg(test)]
 mod large;

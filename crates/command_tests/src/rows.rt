@@ -9,7 +9,7 @@ pub const FRONT: &[u8] = b"MODULE Linux x86_64 030201000504070608090A0B0C0D0E0F0
 pub const MAIN: &[u8] = b"PUBLIC 1000 0 main\n";
 
 pub const USAGE: &[u8] =
-    b"usage: dumpsyms dump ELF, check SYM, lookup SYM ADDR, frame SYM ADDR STATE, sample N, walk SYM STATE, judge ELF SYM, names SYM\n";
+    b"usage: dumpsyms dump ELF, check SYM, lookup SYM ADDR, frame SYM ADDR STATE, sample N, walk SYM STATE, judge ELF SYM, names SYM, dump --full ELF\n";
 
 pub const TABLE: &[u8] = b"refused elf section-table\n";
 
@@ -79,7 +79,7 @@ const COPY: &[Entry] = &[
     (3, b"g\0", 0x1004, 8, b"\x01\x04\0"),
 ];
 
-const COPY_RECORDS: &[u8] = b"FILE 0 /s/a.c\nINLINE_ORIGIN 0 g\n\
+pub const COPY_RECORDS: &[u8] = b"FILE 0 /s/a.c\nINLINE_ORIGIN 0 g\n\
     FUNC 1000 20 0 _Z1fv\nINLINE 0 4 0 0 1004 8\n1000 4 3 0\n1004 8 9 0\n100c 14 4 0\n";
 
 /// Rust's legacy names of a function and of a symbol, and how they are shown.

@@ -21,8 +21,8 @@ use Rattle.sym_grammar.specs.declared.refusal.SymEnd.TheVariants as end
 use Rattle.state_file.specs.StateText.{state_of}
 use Rattle.state_file.specs.declared.state.State.{State}
 use Rattle.state_file.specs.declared.fault.StateFault.{StateFault}
-use Rattle.dumpsyms_cmd.specs.Words.{Asked, check, names, reads_files, sym_command, state_command, if_records, second_of, second_told}
-use Rattle.dumpsyms_cmd.specs.Refusals.{too_long_line, state_line}
+use Rattle.dumpsyms_cmd.specs.Words.{Asked, check, names, reads_files, not_read_line, sym_command, state_command, if_records, second_of, second_told}
+use Rattle.dumpsyms_cmd.specs.Refusals.{too_long_line, unread_line, state_line}
 use Rattle.dumpsyms_cmd.specs.Verdict.{Verdict, refused, LIMIT}
 use Rattle.dumpsyms_cmd.specs.Observed.{Asks}
 use Rattle.dumpsyms_cmd.specs.Judgement.{out_bytes, err_bytes, judgement_verdict, RefusesOrGives}
@@ -135,19 +135,29 @@ unfolding by_reading
 refused_valid None name answer why j holds is lines read = absurd (refused_none why lines (file_reading LIMIT holds.0) holds.1 read)
 refused_valid (Some files) name answer why j holds is lines read = absurd (refused_none why lines (file_reading LIMIT holds.0) holds.2 read)
 
-pub sym_read : {F : Type 0} (answer : Answer) (judged : Result Judgement F) (q : SymQuery) (name : List ℕ) (files : Option Files) (before after : ℕ) (lines : List SymLine) → AreValid lines → HoldsFile files name (IsReading LIMIT (Ok lines)) → AnswersJudged answer judged → IfOk judged (λ j. judgement_verdict j ≡ sym_answer q lines) → AnswersCommand answer (Some (sym_command q name)) files before after
-sym_read answer judged q name files before after lines valid holds is says =
-    answered answer judged (λ a. AnswersCommand a (Some (sym_command q name)) files before after) is
+pub sym_read : {F : Type 0} (answer : Answer) (judged : Result Judgement F) (q : SymQuery) (name : List ℕ) (files : Option Files) (asked : List (List ℕ)) (before after : ℕ) (lines : List SymLine) → AreValid lines → HoldsFile files name (IsReading LIMIT (Ok lines)) → AnswersJudged answer judged → IfOk judged (λ j. judgement_verdict j ≡ sym_answer q lines) → AnswersCommand answer (Some (sym_command q name)) files asked before after
+sym_read answer judged q name files asked before after lines valid holds is says =
+    answered answer judged (λ a. AnswersCommand a (Some (sym_command q name)) files asked before after) is
     (if_ok judged (λ j. judgement_verdict j ≡ sym_answer q lines) (λ j. IsJudged j (Some (sym_command q name)) files) (λ j same. sym_judged q j name files (by_reading files name (sym_answer q) (Ok lines) j holds same) (held_valid files name (sym_answer q) lines j holds same valid)) says) refl
 
-pub sym_ended : (answer : Answer) (stopped : Stop SymEnd) (q : SymQuery) (name : List ℕ) (files : Option Files) (before after : ℕ) → SymRead (Err stopped) files name LIMIT before after → AnswersEnd answer stopped → AnswersCommand answer (Some (sym_command q name)) files before after
-sym_ended (Judged j) (Fault end.Unread) q name files before after read says = absurd says
-sym_ended (Judged j) (Fault (end.Refused why)) q name files before after read says = sym_judged q j name files (by_reading files name (sym_answer q) (Err why) j read says) (refused_valid files name (sym_answer q) why j read says)
-sym_ended (Judged j) stop.NoMemory q name files before after read says = absurd says
-sym_ended Unread (Fault end.Unread) q name files before after read says = (sym_reads q name, read)
-sym_ended Unread (Fault (end.Refused why)) q name files before after read says = absurd says
-sym_ended Unread stop.NoMemory q name files before after read says = absurd says
-sym_ended NoMemory stopped q name files before after read says = refl
+-- they name no file that could not be read
+sym_line : (q : SymQuery) (name line : List ℕ) (asked : List (List ℕ)) → line ≡ unread_line → line ≡ not_read_line (Some (sym_command q name)) asked
+sym_line Check name line asked is = is
+sym_line (Lookup address) name line asked is = is
+sym_line Names name line asked is = is
+
+state_line_is : (q : StateQuery) (name state line : List ℕ) (asked : List (List ℕ)) → line ≡ unread_line → line ≡ not_read_line (Some (state_command q name state)) asked
+state_line_is (query.Frame address) name state line asked is = is
+state_line_is query.Walk name state line asked is = is
+
+pub sym_ended : (answer : Answer) (stopped : Stop SymEnd) (text : List ℕ) (q : SymQuery) (name : List ℕ) (files : Option Files) (asked : List (List ℕ)) (before after : ℕ) → SymRead (Err stopped) files name LIMIT before after → text ≡ unread_line → AnswersEnd answer text stopped → AnswersCommand answer (Some (sym_command q name)) files asked before after
+sym_ended (Judged j) (Fault end.Unread) text q name files asked before after read is says = absurd says
+sym_ended (Judged j) (Fault (end.Refused why)) text q name files asked before after read is says = sym_judged q j name files (by_reading files name (sym_answer q) (Err why) j read says) (refused_valid files name (sym_answer q) why j read says)
+sym_ended (Judged j) stop.NoMemory text q name files asked before after read is says = absurd says
+sym_ended (Unread m) (Fault end.Unread) text q name files asked before after read is says = (sym_reads q name, read, sym_line q name (err_bytes m) asked (says ∙ is))
+sym_ended (Unread m) (Fault (end.Refused why)) text q name files asked before after read is says = absurd says
+sym_ended (Unread m) stop.NoMemory text q name files asked before after read is says = absurd says
+sym_ended NoMemory stopped text q name files asked before after read is says = refl
 
 -- the name of a symbol file is asked for, and then perhaps that of a second file
 pub asks_symbols : {A F : Type 0} (read : Result A (Stop F)) (name : List ℕ) (later : List (List ℕ)) (before after : List (List ℕ)) → AsksName read before name after → Asks (name ∷ later) before after
@@ -218,17 +228,17 @@ state_longer None name lines ask j holds is =
     record { bytes = long.0; there = tt; is = is ∙ longer_answer lines ask long.0 long.1 }
 state_longer (Some files) name lines ask j holds is = record { bytes = holds.0; there = holds.1; is = is ∙ longer_answer lines ask holds.0 holds.2 }
 
-pub state_stopped : (answer : Answer) (stopped : Stop ReadEnd) (lines : List SymLine) (ask : List SymLine → State → Verdict) (name : List ℕ) (files : Option Files) (left left_after : Option (List ℕ)) (before after : ℕ) → ReadAll (Err stopped) files name STATE_LIMIT left left_after before after → AnswersStop answer stopped → AnswersState answer lines ask name files before after
-state_stopped (Judged j) (Fault CantOpen) lines ask name files left left_after before after read says = absurd says
-state_stopped (Judged j) (Fault CantRead) lines ask name files left left_after before after read says = absurd says
-state_stopped (Judged j) (Fault TooLong) lines ask name files left left_after before after read says =
+pub state_stopped : (answer : Answer) (stopped : Stop ReadEnd) (text : List ℕ) (lines : List SymLine) (ask : List SymLine → State → Verdict) (name : List ℕ) (files : Option Files) (left left_after : Option (List ℕ)) (before after : ℕ) → ReadAll (Err stopped) files name STATE_LIMIT left left_after before after → text ≡ unread_line → AnswersStop answer text stopped → AnswersState answer lines ask name files before after
+state_stopped (Judged j) (Fault CantOpen) text lines ask name files left left_after before after read is says = absurd says
+state_stopped (Judged j) (Fault CantRead) text lines ask name files left left_after before after read is says = absurd says
+state_stopped (Judged j) (Fault TooLong) text lines ask name files left left_after before after read is says =
     state_longer files name lines ask j read (judges_refused j.out j.status (err_bytes j.err) too_long_line says)
-state_stopped (Judged j) stop.NoMemory lines ask name files left left_after before after read says = absurd says
-state_stopped Unread (Fault CantOpen) lines ask name files left left_after before after read says = read.0
-state_stopped Unread (Fault CantRead) lines ask name files left left_after before after read says = read.0
-state_stopped Unread (Fault TooLong) lines ask name files left left_after before after read says = absurd says
-state_stopped Unread stop.NoMemory lines ask name files left left_after before after read says = absurd says
-state_stopped NoMemory stopped lines ask name files left left_after before after read says = tt
+state_stopped (Judged j) stop.NoMemory text lines ask name files left left_after before after read is says = absurd says
+state_stopped (Unread m) (Fault CantOpen) text lines ask name files left left_after before after read is says = (read.0, says ∙ is)
+state_stopped (Unread m) (Fault CantRead) text lines ask name files left left_after before after read is says = (read.0, says ∙ is)
+state_stopped (Unread m) (Fault TooLong) text lines ask name files left left_after before after read is says = absurd says
+state_stopped (Unread m) stop.NoMemory text lines ask name files left left_after before after read is says = absurd says
+state_stopped NoMemory stopped text lines ask name files left left_after before after read is says = tt
 
 -- both files
 state_low : (ask : List SymLine → State → Verdict) (lines : List SymLine) (bytes : List ℕ) → ((state : State) → (ask lines state).status < 2) → (state_answer ask lines bytes).status < 2
@@ -316,20 +326,20 @@ rose_later before mid after first second rose = λ small. elim (cases_lt (mid + 
   | inr high ↦ omega (arith, high, small, second)
 ]
 
-pub query_read : (answer : Answer) (q : StateQuery) (name state : List ℕ) (files files_mid : Option Files) (before mid after : ℕ) (lines : List SymLine) → HoldsFile files name (IsReading LIMIT (Ok lines)) → files_mid ≡ files → before ≤ mid → mid ≤ after → AnswersState answer lines (query_answer q) state files_mid mid after → AnswersCommand answer (Some (state_command q name state)) files before after
-query_read answer q name state files files_mid before mid after lines holds same first second says =
+pub query_read : (answer : Answer) (q : StateQuery) (name state : List ℕ) (files files_mid : Option Files) (asked : List (List ℕ)) (before mid after : ℕ) (lines : List SymLine) → HoldsFile files name (IsReading LIMIT (Ok lines)) → files_mid ≡ files → before ≤ mid → mid ≤ after → AnswersState answer lines (query_answer q) state files_mid mid after → AnswersCommand answer (Some (state_command q name state)) files asked before after
+query_read answer q name state files files_mid asked before mid after lines holds same first second says =
     go answer (subst (λ (f : Option Files). AnswersState answer lines (query_answer q) state f mid after) same says)
   where
-    go : (answer : Answer) → AnswersState answer lines (query_answer q) state files mid after → AnswersCommand answer (Some (state_command q name state)) files before after
+    go : (answer : Answer) → AnswersState answer lines (query_answer q) state files mid after → AnswersCommand answer (Some (state_command q name state)) files asked before after
     go (Judged j) says = query_judged q j name state files (both_kept files name state (query_answer q) lines j holds says)
-    go Unread says = (state_reads q name state, rose_later before mid after first second says)
+    go (Unread m) says = (state_reads q name state, rose_later before mid after first second says.0, state_line_is q name state (err_bytes m) asked says.1)
     go NoMemory says = refl
 
-pub query_ended : (answer : Answer) (stopped : Stop SymEnd) (q : StateQuery) (name state : List ℕ) (files : Option Files) (before after : ℕ) → SymRead (Err stopped) files name LIMIT before after → AnswersEnd answer stopped → AnswersCommand answer (Some (state_command q name state)) files before after
-query_ended (Judged j) (Fault end.Unread) q name state files before after read says = absurd says
-query_ended (Judged j) (Fault (end.Refused why)) q name state files before after read says = query_judged q j name state files (both_refused files name state (query_answer q) why j read says)
-query_ended (Judged j) stop.NoMemory q name state files before after read says = absurd says
-query_ended Unread (Fault end.Unread) q name state files before after read says = (state_reads q name state, read)
-query_ended Unread (Fault (end.Refused why)) q name state files before after read says = absurd says
-query_ended Unread stop.NoMemory q name state files before after read says = absurd says
-query_ended NoMemory stopped q name state files before after read says = refl
+pub query_ended : (answer : Answer) (stopped : Stop SymEnd) (text : List ℕ) (q : StateQuery) (name state : List ℕ) (files : Option Files) (asked : List (List ℕ)) (before after : ℕ) → SymRead (Err stopped) files name LIMIT before after → text ≡ unread_line → AnswersEnd answer text stopped → AnswersCommand answer (Some (state_command q name state)) files asked before after
+query_ended (Judged j) (Fault end.Unread) text q name state files asked before after read is says = absurd says
+query_ended (Judged j) (Fault (end.Refused why)) text q name state files asked before after read is says = query_judged q j name state files (both_refused files name state (query_answer q) why j read says)
+query_ended (Judged j) stop.NoMemory text q name state files asked before after read is says = absurd says
+query_ended (Unread m) (Fault end.Unread) text q name state files asked before after read is says = (state_reads q name state, read, state_line_is q name state (err_bytes m) asked (says ∙ is))
+query_ended (Unread m) (Fault (end.Refused why)) text q name state files asked before after read is says = absurd says
+query_ended (Unread m) stop.NoMemory text q name state files asked before after read is says = absurd says
+query_ended NoMemory stopped text q name state files asked before after read is says = refl

@@ -3,6 +3,7 @@ use Rattle.std.proofs.Common.{◌≡◌, ℕ, ◌+◌, ◌≤◌, true, List, []
 use Rattle.std.specs.List.{flat_map, list_all}
 use Rattle.std.proofs.lemmas.List.{take_all}
 use Rattle.elf_sections.specs.Image.{ImageParts}
+use Rattle.abbrev_units.specs.DebugSections.{DebugSections}
 use Rattle.abbrev_units.specs.declared.unit.Unit.{Unit}
 use Rattle.die_names.specs.declared.unit_read.UnitRead.{UnitRead}
 use Rattle.func_flatten.specs.declared.piece.Piece.{Piece}
@@ -13,7 +14,7 @@ use Rattle.func_records.specs.FuncRecords.{Part, file_lines, origin_lines, inlin
 use Rattle.sym_records.specs.Canon.{spaced}
 use Rattle.sym_records.specs.declared.line.SymLine.{SymLine}
 use Rattle.rule_postfix.specs.declared.omission.Omission.{Omission}
-use Rattle.dumpsyms_cmd.specs.Refusals.{line, omitted_line, omitted_text, skipped_of, skipped_text}
+use Rattle.dumpsyms_cmd.specs.Refusals.{line, omitted_line, omitted_text, skipped_of, skipped_text, unit_left, units_left_text}
 use Rattle.sym_meaning.specs.Inits.{is_frameless}
 use Rattle.sym_meaning.proofs.InitLemmas.{both_frameless}
 use Rattle.dumpsyms_cmd.specs.commands.Dump.{module_line, info_line, info_lines, identity_lines, public_line, public_lines}
@@ -39,6 +40,10 @@ lines_end before text omissions i past is = is ∙ ap (λ l. before ++ flat_map 
 pub skipped_end : (before text : List ℕ) (units : List Unit) (i : ℕ) → length units ≤ i → text ≡ before ++ flat_map skipped_of (take i units) → text ≡ before ++ skipped_text units
 unfolding skipped_text
 skipped_end before text units i past is = is ∙ ap (λ l. before ++ flat_map skipped_of l) (take_all i units past)
+
+pub left_end : (before text : List ℕ) (sections : DebugSections) (units : List Unit) (i : ℕ) → length units ≤ i → text ≡ before ++ flat_map (unit_left sections) (take i units) → text ≡ before ++ units_left_text sections units
+unfolding units_left_text
+left_end before text sections units i past is = is ∙ ap (λ l. before ++ flat_map (unit_left sections) l) (take_all i units past)
 
 -- records in front of those of frames say nothing of these
 infos_frameless : (id : Option (List ℕ)) → list_all is_frameless (info_lines id) ≡ true

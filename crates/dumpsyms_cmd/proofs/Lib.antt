@@ -16,4 +16,5 @@ pub mod SteadyLemmas
 pub mod WalkLemmas
 pub mod SampleLemmas
 pub mod JudgeLemmas
-pub mod PairLemmas
+pub mod SourceLemmas
+pub mod SplitLemmas

@@ -1,10 +1,10 @@
 -- The promises of a run, by the three kinds of answer.
-use Rattle.std.proofs.Common.{◌≡◌, ◌⊎◌, inl, inr, ℕ, ◌<◌, ◌≤◌, Bool, true, false, Option, Some, None, IsSome, refl, sym, ◌∙◌, ap, arith}
+use Rattle.std.proofs.Common.{◌≡◌, ◌⊎◌, inl, inr, ℕ, ◌<◌, ◌≤◌, Bool, true, false, Option, Some, None, IsSome, List, refl, sym, ◌∙◌, ap, arith, subst}
 use Rattle.sym_edges.specs.Outside.{Files, Rose}
-use Rattle.dumpsyms_cmd.specs.Words.{Asked, ReadsFiles}
-use Rattle.dumpsyms_cmd.specs.Verdict.{Verdict, unread, no_memory}
+use Rattle.dumpsyms_cmd.specs.Words.{Asked, ReadsFiles, not_read_line}
+use Rattle.dumpsyms_cmd.specs.Verdict.{Verdict, unread_by, no_memory}
 use Rattle.dumpsyms_cmd.specs.Observed.{SinkSeen, Stood, StoreFailed, SinkFailed, SinkStood, ReceivedWhole, AsksFor}
-use Rattle.dumpsyms_cmd.specs.Judgement.{is_some_output, judgement_verdict}
+use Rattle.dumpsyms_cmd.specs.Judgement.{err_bytes, is_some_output, judgement_verdict}
 use Rattle.dumpsyms_cmd.specs.internal.Judged.{has_output, answer_verdict, IsJudged, AnswersCommand, IsSteadyAnswer}
 use Rattle.dumpsyms_cmd.specs.Answers.{IsUsage}
 use Rattle.dumpsyms_cmd.specs.internal.Writes.{Writes}
@@ -111,18 +111,19 @@ reads_some : (o : Option Asked) → ReadsFiles o → IsSome o
 reads_some None reads = absurd reads
 reads_some (Some asked) reads = refl
 
-by_unread : (run : Run) → ReadsFiles (command run) → StoreFailed run.store → AsksFor run.store (command run) → Writes run.status unread false run.out run.err → Promises run
-by_unread run reads failed asks writes =
-    let not_read : WasNotRead run = record { row = reads; failed = failed; written = written run unread false writes } in
+by_unread : (run : Run) (line : List ℕ) → ReadsFiles (command run) → StoreFailed run.store → line ≡ not_read_line (command run) run.store.asked_after → AsksFor run.store (command run) → Writes run.status (unread_by line) false run.out run.err → Promises run
+by_unread run line reads failed is asks writes =
+    let v : Verdict = unread_by line in
+    let not_read : WasNotRead run = record { row = reads; failed = failed; written = subst (λ (t : List ℕ). WasWritten run (unread_by t)) is (written run v false writes) } in
     record {
       found = inr (inl not_read);
-      judged = λ low. absurd (unlike run unread false run.status writes refl (λ is. omega arith) (λ is. omega arith));
-      usage = λ two. absurd (unlike run unread false 2 writes two (λ is. omega arith) (λ is. omega arith));
+      judged = λ low. absurd (unlike run v false run.status writes refl (λ is. omega arith) (λ is. omega arith));
+      usage = λ two. absurd (unlike run v false 2 writes two (λ is. omega arith) (λ is. omega arith));
       no_row = λ none. absurd (none_some (command run) none (reads_some (command run) reads));
       not_read = λ three. not_read;
-      not_written = unwritten_run run unread false writes (λ is. omega arith);
-      out_of_memory = λ five. absurd (unlike run unread false 5 writes five (λ is. omega arith) (λ is. omega arith));
-      range = small run unread false writes (omega arith);
+      not_written = unwritten_run run v false writes (λ is. omega arith);
+      out_of_memory = λ five. absurd (unlike run v false 5 writes five (λ is. omega arith) (λ is. omega arith));
+      range = small run v false writes (omega arith);
       asked = asks;
       complete = λ stood quiet calm. absurd (stood_rose run.store.faults run.store.faults_after stood failed);
     }
@@ -149,7 +150,7 @@ by_no_memory run some steady five asks writes =
       complete = λ stood quiet calm. inr five;
     }
 
-pub promises : (answer : Answer) (run : Run) → AnswersCommand answer (command run) run.store.files run.store.faults run.store.faults_after → IsSteadyAnswer answer run.store.faults run.store.faults_after → AsksFor run.store (command run) → Writes run.status (answer_verdict answer) (has_output answer) run.out run.err → (answer ≡ NoMemory → run.status ≡ 5) → Promises run
+pub promises : (answer : Answer) (run : Run) → AnswersCommand answer (command run) run.store.files run.store.asked_after run.store.faults run.store.faults_after → IsSteadyAnswer answer run.store.faults run.store.faults_after → AsksFor run.store (command run) → Writes run.status (answer_verdict answer) (has_output answer) run.out run.err → (answer ≡ NoMemory → run.status ≡ 5) → Promises run
 promises (Judged j) run says steady asks writes quiet = by_judgement j run steady says asks writes
-promises Unread run says steady asks writes quiet = by_unread run says.0 says.1 asks writes
+promises (Unread m) run says steady asks writes quiet = by_unread run (err_bytes m) says.0 says.1 says.2 asks writes
 promises NoMemory run says steady asks writes quiet = by_no_memory run says steady (quiet refl) asks writes

@@ -1,5 +1,5 @@
 -- The counts of a made file; for `sample` and `read_back`.
-use Rattle.std.proofs.Common.{◌≡◌, ℕ, ◌<◌, List, [], ◌∷◌, Option, Some, Result, Ok, Err, IfOk, length, refl, sym, ap, subst, ◌∙◌, arith, append-nil}
+use Rattle.std.proofs.Common.{◌≡◌, ℕ, ◌<◌, false, List, [], ◌∷◌, Option, Some, Result, Ok, Err, IfOk, length, refl, sym, ap, subst, ◌∙◌, arith, append-nil}
 use Rattle.sym_edges.specs.Outside.{Files, MatchStop}
 use Rattle.sym_edges.specs.declared.fault.Stop.{Stop}
 use Rattle.sym_edges.specs.declared.fault.Stop.TheVariants.{Fault}
@@ -42,7 +42,7 @@ match_length R (x ∷ xs) (y ∷ ys) same = omega (arith, match_length R xs ys s
 said : {x y : DebugSays} → ◌≡◌ {A = Result DebugSays DebugFault} (Ok x) (Ok y) → x ≡ y
 said is = cc
 
-pub records_counted : (v : Verdict) (parts : ImageParts) (read : DebugRead) (lines : List SymLine) (err text : List ℕ) (left units : ℕ) → IsDebugRead parts read → Assembles parts [] lines err left → units ≡ length read.units → text ≡ counts_line units lines left → v ≡ given 0 text [] → IsCountsVerdict (debug_says parts) parts v
+pub records_counted : (v : Verdict) (parts : ImageParts) (read : DebugRead) (lines : List SymLine) (err text : List ℕ) (left units : ℕ) → IsDebugRead parts read → Assembles false parts [] lines err left → units ≡ length read.units → text ≡ counts_line units lines left → v ≡ given 0 text [] → IsCountsVerdict (debug_says parts) parts v
 records_counted v parts read lines err text left units says dumps number line is =
     let k = kept parts read says in
     let d = dumps.dumps in
@@ -80,11 +80,11 @@ image_low : (read : Result ImageParts ElfFault) (v : Verdict) → IsImageCounts 
 image_low (Err fault) v is = subst (λ (w : Verdict). w.status < 2) (sym is) (omega arith)
 image_low (Ok parts) v is = counts_low (debug_says parts) parts v is
 
-pub sample_answered : {F : Type 0} (answer : Answer) (judged : Result Judgement F) (units workers : ℕ) → AnswersJudged answer judged → IfOk judged (λ j. CountsSample j units) → (files : Option Files) (before after : ℕ) → AnswersCommand answer (Some (sample units workers)) files before after
-sample_answered answer (Err e) units workers is says files before after = subst (λ (a : Answer). AnswersCommand a (Some (sample units workers)) files before after) (sym is) refl
-sample_answered answer (Ok j) units workers is says files before after =
+pub sample_answered : {F : Type 0} (answer : Answer) (judged : Result Judgement F) (units workers : ℕ) → AnswersJudged answer judged → IfOk judged (λ j. CountsSample j units) → (files : Option Files) (asked : List (List ℕ)) (before after : ℕ) → AnswersCommand answer (Some (sample units workers)) files asked before after
+sample_answered answer (Err e) units workers is says files asked before after = subst (λ (a : Answer). AnswersCommand a (Some (sample units workers)) files asked before after) (sym is) refl
+sample_answered answer (Ok j) units workers is says files asked before after =
     let low : j.status < 2 = image_low (image (made units)) (judgement_verdict j) says in
-    subst (λ (a : Answer). AnswersCommand a (Some (sample units workers)) files before after) (sym is)
+    subst (λ (a : Answer). AnswersCommand a (Some (sample units workers)) files asked before after) (sym is)
     (record { low = omega arith; row = λ some. low; told = always (λ f. IsVerdict (Some (sample units workers)) f (judgement_verdict j)) files (λ f. says); kept = says })
 
 pub asks_nothing : (units workers : ℕ) (files : Option Files) (before after : List (List ℕ)) → after ≡ before → AsksRow (Some (sample units workers)) files before after

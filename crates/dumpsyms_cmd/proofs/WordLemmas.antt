@@ -12,7 +12,8 @@ use Rattle.sym_rules.proofs.BoolLemmas.{both, and_true, if_both}
 use Rattle.std.proofs.lemmas.List.Sums.{suffix_len_is}
 use Rattle.memchr.specs.Find.{IsLastByte, is_byte}
 use Rattle.std.specs.List.{suffix_len}
-use Rattle.dumpsyms_cmd.specs.Words.{Asked, dump, lookup, frame, sample_of, address_of, is_number, number_upto, two_words, three_words, four_words, HasWorkers, is_slash, module_name}
+use Rattle.dumpsyms_cmd.specs.Words.{Asked, dump, judge, lookup, frame, sample_of, address_of, is_number, number_upto, alone, dump_usual, debug_words, dump_words, judge_by, judge_words, two_words, three_words, four_words, five_words, six_words, HasWorkers, is_slash, module_name}
+use Rattle.dumpsyms_cmd.specs.ElfInput.{ElfSource}
 
 passes_not : (t : Bool) → ((t ≡ true) → ⊥) → not t ≡ true
 passes_not t never = elim t as (λ v. ((v ≡ true) → ⊥) → not v ≡ true) [ true ↦ λ h. absurd (h refl) | false ↦ λ h. refl ] never
@@ -138,9 +139,9 @@ positive (d ∷ ds) is =
     omega (arith, range.0, range.1, digit_value_digit d (omega arith, range.1), after_le (0 * 10 + digit_value d) ds)
 
 -- a row has from one to 64 workers
-workers_by : (t : Bool) (elf : List ℕ) (n : ℕ) → (t ≡ true → (1 ≤ n) × (n ≤ 64)) → HasWorkers (option_map (dump elf) (cond t (Some n) None))
-workers_by true elf n has = has refl
-workers_by false elf n has = tt
+workers_by : (t : Bool) (source : ElfSource) (n : ℕ) → (t ≡ true → (1 ≤ n) × (n ≤ 64)) → HasWorkers (option_map (dump source) (cond t (Some n) None))
+workers_by true source n has = has refl
+workers_by false source n has = tt
 
 -- a number is at least 1 and at most `most`
 abbrev Within : ℕ → Option ℕ → Type 0
@@ -151,10 +152,10 @@ within_by : (t : Bool) (most n : ℕ) → (t ≡ true → (1 ≤ n) × (n ≤ mo
 within_by true most n has = has refl
 within_by false most n has = tt
 
-number_workers : (elf word : List ℕ) → HasWorkers (option_map (dump elf) (number_upto 64 word))
+number_workers : (source : ElfSource) (word : List ℕ) → HasWorkers (option_map (dump source) (number_upto 64 word))
 unfolding number_upto
-number_workers elf word =
-    workers_by (is_number word && nat_le (digits_value 10 word) 64) elf (digits_value 10 word) (λ t.
+number_workers source word =
+    workers_by (is_number word && nat_le (digits_value 10 word) 64) source (digits_value 10 word) (λ t.
     let parts = and_true {a = is_number word} t in
     let le = parts.1 in
     let few : digits_value 10 word ≤ 64 = grind (arith, nat_tests) in
@@ -175,21 +176,36 @@ sample_workers None workers few some = tt
 sample_workers (Some units) None few some = tt
 sample_workers (Some units) (Some workers) few some = (few.1, some)
 
-usual_few : (elf : List ℕ) → HasWorkers (Some (dump elf 4))
-usual_few elf = (omega arith, omega arith)
+usual_few : (source : ElfSource) → HasWorkers (Some (dump source 4))
+usual_few source = (omega arith, omega arith)
+
+usual_all : (o : Option ElfSource) → HasWorkers (option_map dump_usual o)
+usual_all None = tt
+usual_all (Some source) = usual_few source
+
+judge_all : (sym : List ℕ) (o : Option ElfSource) → HasWorkers (option_map (judge_by sym) o)
+judge_all sym None = tt
+judge_all sym (Some source) = tt
+
+-- with two words behind an ELF file, and behind a symbol file
+behind_elf : (full : Bool) (elf word value : List ℕ) → HasWorkers (dump_words full elf word value)
+behind_elf full elf word value = search (if_both HasWorkers, number_workers (alone full elf) value, usual_all (debug_words full elf word value)) depth 40
+
+behind_sym : (full : Bool) (elf sym word value : List ℕ) → HasWorkers (judge_words full elf sym word value)
+behind_sym full elf sym word value = judge_all sym (debug_words full elf word value)
 
 units_few : (units : List ℕ) → HasWorkers (sample_of (number_upto 20000 units) (Some 4))
 units_few units = sample_workers (number_upto 20000 units) (Some 4) (number_within 20000 units) (omega arith, omega arith)
 
 two_workers : (word name : List ℕ) → HasWorkers (two_words word name)
-two_workers word name = search (if_both HasWorkers, usual_few name, units_few name) depth 40
+two_workers word name = search (if_both HasWorkers, usual_few (alone false name), units_few name) depth 40
 
 lookup_workers : (name : List ℕ) (o : Option ℕ) → HasWorkers (option_map (lookup name) o)
 lookup_workers name None = tt
 lookup_workers name (Some address) = tt
 
 three_workers : (word name third : List ℕ) → HasWorkers (three_words word name third)
-three_workers word name third = search (if_both HasWorkers, lookup_workers name (address_of third)) depth 40
+three_workers word name third = search (if_both HasWorkers, lookup_workers name (address_of third), usual_few (alone true third)) depth 40
 
 address_workers : (name state : List ℕ) (o : Option ℕ) → HasWorkers (option_map (λ address. frame name address state) o)
 address_workers name state None = tt
@@ -200,7 +216,13 @@ both_few units workers = sample_workers (number_upto 20000 units) (number_upto 6
 
 four_workers : (word name third fourth : List ℕ) → HasWorkers (four_words word name third fourth)
 four_workers word name third fourth =
-    search (if_both HasWorkers, number_workers name fourth, both_few name fourth, address_workers name fourth (address_of third)) depth 40
+    search (if_both HasWorkers, behind_elf false name third fourth, both_few name fourth, address_workers name fourth (address_of third)) depth 40
+
+five_workers : (word name third fourth fifth : List ℕ) → HasWorkers (five_words word name third fourth fifth)
+five_workers word name third fourth fifth = search (if_both HasWorkers, behind_elf true third fourth fifth, behind_sym false name third fourth fifth) depth 40
+
+six_workers : (word name third fourth fifth sixth : List ℕ) → HasWorkers (six_words word name third fourth fifth sixth)
+six_workers word name third fourth fifth sixth = search (if_both HasWorkers, behind_sym true third fourth fifth sixth) depth 40
 
 pub two_few : (view : Option Asked) (word name : List ℕ) → view ≡ two_words word name → HasWorkers view
 two_few view word name is = subst HasWorkers (sym is) (two_workers word name)
@@ -210,3 +232,9 @@ three_few view word name third is = subst HasWorkers (sym is) (three_workers wor
 
 pub four_few : (view : Option Asked) (word name third fourth : List ℕ) → view ≡ four_words word name third fourth → HasWorkers view
 four_few view word name third fourth is = subst HasWorkers (sym is) (four_workers word name third fourth)
+
+pub five_few : (view : Option Asked) (word name third fourth fifth : List ℕ) → view ≡ five_words word name third fourth fifth → HasWorkers view
+five_few view word name third fourth fifth is = subst HasWorkers (sym is) (five_workers word name third fourth fifth)
+
+pub six_few : (view : Option Asked) (word name third fourth fifth sixth : List ℕ) → view ≡ six_words word name third fourth fifth sixth → HasWorkers view
+six_few view word name third fourth fifth sixth is = subst HasWorkers (sym is) (six_workers word name third fourth fifth sixth)

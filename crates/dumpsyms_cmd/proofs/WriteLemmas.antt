@@ -2,8 +2,7 @@
 use Rattle.std.proofs.Common.{◌≡◌, inl, inr, ℕ, Bool, true, false, List, [], length, Option, Some, None, refl, sym, ◌∙◌, ap, arith, append-nil, subst}
 use Rattle.std.proofs.lemmas.List.{take_all}
 use Rattle.sym_edges.specs.Outside.{append_told}
-use Rattle.dumpsyms_cmd.specs.Verdict.{Verdict, unread, no_memory}
-use Rattle.dumpsyms_cmd.specs.Refusals.{unread_line}
+use Rattle.dumpsyms_cmd.specs.Verdict.{Verdict, unread_by, no_memory}
 use Rattle.dumpsyms_cmd.specs.Observed.{SinkSeen, SinkFailed, Received, ReceivedFront, ReceivedNothing}
 use Rattle.dumpsyms_cmd.specs.internal.Writes.{Says, Writes}
 
@@ -32,8 +31,8 @@ pub not_said : (result : ℕ) (v : Verdict) (has : Bool) (out err : SinkSeen) �
 not_said result v has out err four front failed some same = inr (four, record { out_text = front; err_text = no_front err v.err same; order = inl same }, inl (some, failed))
 
 -- a line on err alone
-pub line_said : (result : ℕ) (out err : SinkSeen) (line : List ℕ) → ReceivedNothing out → line ≡ unread_line → Says result 3 err line → Writes result unread false out err
-line_said result out err line same is says = said_behind result unread false out err line (same ∙ sym (nothing out.taken)) is says
+pub line_said : (result : ℕ) (out err : SinkSeen) (line text : List ℕ) → ReceivedNothing out → line ≡ text → Says result 3 err line → Writes result (unread_by text) false out err
+line_said result out err line text same is says = said_behind result (unread_by text) false out err line (same ∙ sym (nothing out.taken)) is says
 
 -- nothing is said
 pub nothing_said : (result : ℕ) (out err : SinkSeen) → result ≡ 5 → ReceivedNothing out → ReceivedNothing err → Writes result no_memory false out err

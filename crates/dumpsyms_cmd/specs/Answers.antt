@@ -1,11 +1,11 @@
 -- What the commands answer, and what each promises of its judgement: by the words and the files.
 use Rattle.std.specs.Prelude.{◌≡◌, [], Option, Some, None}
 use Rattle.sym_edges.specs.Outside.{Files}
-use Rattle.dumpsyms_cmd.specs.Words.{Asked, dump, dump_pair, check, lookup, frame, sample, walk, names, judge, usage_line}
+use Rattle.dumpsyms_cmd.specs.Words.{Asked, dump, check, lookup, frame, sample, walk, names, judge, usage_line}
 use Rattle.dumpsyms_cmd.specs.Verdict.{Verdict}
 use Rattle.dumpsyms_cmd.specs.Judgement.{err_bytes, judgement_verdict}
 use Rattle.dumpsyms_cmd.specs.SymbolInput.{file_verdict, AnswersBytes}
-use Rattle.dumpsyms_cmd.specs.commands.Dump.{IsFileVerdict, IsPairVerdict, DumpPromises, PairPromises}
+use Rattle.dumpsyms_cmd.specs.commands.Dump.{IsSourceVerdict, DumpPromises}
 use Rattle.dumpsyms_cmd.specs.commands.Check.{check_answer}
 use Rattle.dumpsyms_cmd.specs.commands.Lookup.{lookup_answer}
 use Rattle.dumpsyms_cmd.specs.StateInput.{both_verdict, AnswersBoth}
@@ -24,14 +24,13 @@ usage = record { status = 2; out = []; err = usage_line }
 -- the verdict of a command: the number of workers does not matter
 abbrev pub IsVerdict : Option Asked → Files → Verdict → Type 0
 IsVerdict None files v = v ≡ usage
-IsVerdict (Some (dump elf workers)) files v = IsFileVerdict elf (files elf) v
-IsVerdict (Some (dump_pair elf debug)) files v = IsPairVerdict elf debug files v
+IsVerdict (Some (dump source workers)) files v = IsSourceVerdict source files v
 IsVerdict (Some (check sym)) files v = v ≡ file_verdict check_answer (files sym)
 IsVerdict (Some (lookup sym address)) files v = v ≡ file_verdict (lookup_answer address) (files sym)
 IsVerdict (Some (frame sym address state)) files v = v ≡ both_verdict (frame_answer address) (files sym) (files state)
 IsVerdict (Some (sample units workers)) files v = IsSampleVerdict units v
 IsVerdict (Some (walk sym state)) files v = v ≡ both_verdict walk_answer (files sym) (files state)
-IsVerdict (Some (judge elf sym)) files v = IsJudgeVerdict elf (files elf) (files sym) v
+IsVerdict (Some (judge source sym)) files v = IsJudgeVerdict source sym files v
 IsVerdict (Some (names sym)) files v = v ≡ file_verdict names_answer (files sym)
 
 -- invalid arguments are answered with the usage line
@@ -43,12 +42,11 @@ pub record IsUsage (j : Judgement) : Type 0 where
 -- what each command promises of its judgement
 abbrev pub CommandPromises : Option Asked → Option Files → Judgement → Type 0
 CommandPromises None files j = IsUsage j
-CommandPromises (Some (dump elf workers)) files j = DumpPromises elf files j
-CommandPromises (Some (dump_pair elf debug)) files j = PairPromises elf debug files j
+CommandPromises (Some (dump source workers)) files j = DumpPromises source files j
 CommandPromises (Some (check sym)) files j = AnswersBytes sym check_answer files j
 CommandPromises (Some (lookup sym address)) files j = AnswersBytes sym (lookup_answer address) files j
 CommandPromises (Some (frame sym address state)) files j = AnswersBoth sym state (frame_answer address) files j
 CommandPromises (Some (sample units workers)) files j = IsSampleVerdict units (judgement_verdict j)
 CommandPromises (Some (walk sym state)) files j = AnswersBoth sym state walk_answer files j
-CommandPromises (Some (judge elf sym)) files j = JudgePromises elf sym files j
+CommandPromises (Some (judge source sym)) files j = JudgePromises source sym files j
 CommandPromises (Some (names sym)) files j = NamesPromises sym files j

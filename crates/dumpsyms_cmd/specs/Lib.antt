@@ -1,3 +1,4 @@
+pub mod SplitUnits
 pub mod Refusals
 pub mod Verdict
 pub mod ElfInput

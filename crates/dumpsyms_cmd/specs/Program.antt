@@ -1,8 +1,8 @@
 -- What the program promises of its status, its two texts and the names that it asks for.
 use Rattle.std.specs.Prelude.{◌≡◌, ◌⊎◌, ℕ, ◌<◌, ◌≤◌, List, Option, None, IsSome}
 use Rattle.sym_edges.specs.Outside.{Tells}
-use Rattle.dumpsyms_cmd.specs.Words.{Asked, ReadsFiles, command_of}
-use Rattle.dumpsyms_cmd.specs.Verdict.{Verdict, unread}
+use Rattle.dumpsyms_cmd.specs.Words.{Asked, ReadsFiles, command_of, not_read_line}
+use Rattle.dumpsyms_cmd.specs.Verdict.{Verdict, unread_by}
 use Rattle.dumpsyms_cmd.specs.Answers.{IsVerdict}
 use Rattle.dumpsyms_cmd.specs.Observed.{StoreSeen, SinkSeen, StoreFailed, SinkFailed, StoreStood, SinkStood, ReceivedNothing, ReceivedWhole, ReceivedFronts, AsksFor}
 use Rattle.dumpsyms_cmd.specs.Judgement.{judgement_verdict}
@@ -37,11 +37,12 @@ pub record WasJudged (run : Run) : Type 0 where
   pub verdict : Tells run.store.files (λ files. IsVerdict (command run) files (judgement_verdict judgement))
   pub written : WasWritten run (judgement_verdict judgement)
 
--- a file of a command that reads files could not be read: the store failed, and the line that says so was written
+-- a file of a command that reads files could not be read: the store failed, and the line that says so was written; under `--full` it has the
+-- cleaned name that was asked for last
 pub record WasNotRead (run : Run) : Type 0 where
   pub row : ReadsFiles (command run)
   pub failed : StoreFailed run.store
-  pub written : WasWritten run unread
+  pub written : WasWritten run (unread_by (not_read_line (command run) run.store.asked_after))
 
 -- memory ran out: status 5, no sink received anything, and the store did not fail
 pub record HadNoMemory (run : Run) : Type 0 where

@@ -1,5 +1,5 @@
 -- The lines on standard error.
-use Rattle.std.specs.Prelude.{ℕ, List, [], ◌∷◌, ◌++◌, codes, decimal}
+use Rattle.std.specs.Prelude.{ℕ, Bool, true, false, List, [], ◌∷◌, ◌++◌, codes, decimal}
 use Rattle.std.specs.List.{flat_map}
 use Rattle.sym_edges.specs.declared.part.Sect.{Sect}
 use Rattle.sym_edges.specs.PrintedWords.{section_word, reason_word}
@@ -9,6 +9,7 @@ use Rattle.debug_pair.specs.FaultWords.{pair_word, short_id_word}
 use Rattle.debug_pair.specs.declared.fault.PairFault.{PairFault}
 use Rattle.abbrev_units.specs.declared.fault.DwarfKind.{DwarfKind}
 use Rattle.abbrev_units.specs.FaultWords.{dwarf_word}
+use Rattle.abbrev_units.specs.DebugSections.{DebugSections}
 use Rattle.abbrev_units.specs.declared.unit.Unit.{Unit}
 use Rattle.abbrev_units.specs.declared.unit.UnitPart.{UnitPart}
 use Rattle.abbrev_units.specs.declared.unit.UnitPart.TheVariants.{Read, Passed, Skipped}
@@ -24,6 +25,8 @@ use Rattle.state_file.specs.declared.fault.StateFault.{StateFault}
 use Rattle.sym_records.specs.Canon.{spaced}
 use Rattle.sym_records.specs.Fields.{hex}
 use Rattle.rule_postfix.specs.declared.omission.Omission.{Omission}
+use Rattle.clean_names.specs.Cleaning.{cleaned}
+use Rattle.dumpsyms_cmd.specs.SplitUnits.{is_split}
 
 -- a line of its own
 abbrev pub line : List ℕ → List ℕ
@@ -49,9 +52,17 @@ short_id_line = line (spaced (codes "refused pair") (short_id_word ∷ []))
 abbrev pub too_long_line : List ℕ
 too_long_line = line (codes "refused input too-long")
 
--- a file could not be read
+-- a file could not be read: the line, and that which names the file
 abbrev pub unread_line : List ℕ
 unread_line = line (codes "cannot read input")
+
+abbrev pub unread_name_line : List ℕ → List ℕ
+unread_name_line name = line (codes "cannot read " ++ cleaned name)
+
+-- the second where `full`
+abbrev pub unread_lines : Bool → List ℕ → List ℕ
+unread_lines false name = unread_line
+unread_lines true name = unread_name_line name
 
 -- a fault with a place: what is refused, the word of the kind, the section, and the place in hexadecimal
 abbrev pub located_line : List ℕ → List ℕ → Sect → ℕ → List ℕ
@@ -93,6 +104,26 @@ skipped_of unit = skipped_by unit unit.part
 -- the units that are skipped, in order
 unfoldable pub skipped_text : List Unit → List ℕ
 skipped_text units = flat_map skipped_of units
+
+-- the entries of a unit stand in another file: its place in hexadecimal
+abbrev pub split_line : Unit → List ℕ
+split_line unit = line (spaced (codes "split debug_info") (hex unit.start ∷ []))
+
+abbrev pub unit_left_by : Bool → Unit → List ℕ
+unit_left_by true unit = split_line unit
+unit_left_by false unit = skipped_of unit
+
+abbrev pub unit_left : DebugSections → Unit → List ℕ
+unit_left sections unit = unit_left_by (is_split sections unit) unit
+
+-- the units whose entries are not in the file, in order: those that are skipped, and those whose entries stand in another file
+unfoldable pub units_left_text : DebugSections → List Unit → List ℕ
+units_left_text sections units = flat_map (unit_left sections) units
+
+-- the first alone, or both where `full`
+abbrev pub units_text : Bool → DebugSections → List Unit → List ℕ
+units_text false sections units = skipped_text units
+units_text true sections units = units_left_text sections units
 
 -- a text has a fault: what is refused, the word of the kind, and the number of the line
 abbrev pub fault_at : List ℕ → List ℕ → ℕ → List ℕ

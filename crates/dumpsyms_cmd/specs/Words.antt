@@ -1,12 +1,11 @@
 -- The words of the program, and what they ask for.
-use Rattle.std.specs.Prelude.{◌≡◌, ℕ, ◌≤◌, ◌==◌, ◌^◌, ◌&&◌, Bool, true, false, not, nat_le, nat_lt, length, List, [], ◌∷◌, Option, Some, None, Result, Ok, Err, codes, if◌then◌else◌}
+use Rattle.std.specs.Prelude.{◌≡◌, ℕ, ◌≤◌, ◌==◌, ◌^◌, ◌&&◌, Bool, true, false, not, nat_le, nat_lt, length, List, [], ◌∷◌, ◌++◌, Option, Some, None, Result, Ok, Err, codes, if◌then◌else◌}
 use Rattle.std.specs.List.{after_last, list_all}
 use Rattle.std.specs.Option.{option_map}
 use Rattle.std.specs.Str.{bytes_eq}
 use Rattle.std.specs.Str.Parse.{digits_value}
 use Rattle.sym_edges.specs.Outside.{Files}
-use Rattle.elf_sections.specs.Image.{ImageParts, image}
-use Rattle.elf_sections.specs.declared.fault.ElfFault.{ElfFault}
+use Rattle.elf_sections.specs.Image.{ImageParts}
 use Rattle.debug_read.specs.DebugSays.{DebugSays, debug_says}
 use Rattle.debug_read.specs.declared.fault.DebugFault.{DebugFault}
 use Rattle.sym_rules.specs.RuleReading.{is_digit}
@@ -14,10 +13,12 @@ use Rattle.sym_records.specs.FieldReading.{hex_value}
 use Rattle.sym_grammar.specs.Input.{file_reading}
 use Rattle.sym_grammar.specs.declared.refusal.SymRefusal.{SymRefusal}
 use Rattle.sym_records.specs.declared.line.SymLine.{SymLine}
-use Rattle.dumpsyms_cmd.specs.Refusals.{line}
-use Rattle.dumpsyms_cmd.specs.ElfInput.{DebugFile, at_path, below_root, debug_told}
+use Rattle.dumpsyms_cmd.specs.Refusals.{line, unread_lines}
+use Rattle.dumpsyms_cmd.specs.Verdict.{Verdict}
+use Rattle.dumpsyms_cmd.specs.ElfInput.{DebugFile, at_path, below_root, ElfSource, given_image, elf_names}
 use Rattle.dumpsyms_cmd.specs.declared.words.Command.{Command}
-use Rattle.dumpsyms_cmd.specs.declared.words.Command.TheVariants.{Dump, DumpPair, Symbols, States, Sample, Judge}
+use Rattle.dumpsyms_cmd.specs.declared.words.Command.TheVariants.{Dump, Symbols, States, Sample, Judge}
+use Rattle.dumpsyms_cmd.specs.declared.words.ElfPlace.{ElfPlace}
 use Rattle.dumpsyms_cmd.specs.declared.words.SymQuery.{SymQuery}
 use Rattle.dumpsyms_cmd.specs.declared.words.SymQuery.TheVariants.{Check, Lookup, Names}
 use Rattle.dumpsyms_cmd.specs.declared.words.StateQuery.{StateQuery}
@@ -27,10 +28,8 @@ use Rattle.dumpsyms_cmd.specs.declared.words.DebugPlace.TheVariants.{File, Root}
 
 -- what the program is asked for
 pub data Asked : Type 0 where
-  -- the symbol file of an ELF file, made by some workers
-  dump : (elf : List ℕ) → (workers : ℕ) → Asked
-  -- the symbol file of a stripped ELF file with its separate debug file
-  dump_pair : (elf : List ℕ) → (debug : DebugFile) → Asked
+  -- the symbol file of an ELF file, or of one and its separate debug file, made by some workers
+  dump : (source : ElfSource) → (workers : ℕ) → Asked
   -- what a checker finds in a symbol file
   check : (sym : List ℕ) → Asked
   -- what a symbol file names at an address
@@ -41,31 +40,49 @@ pub data Asked : Type 0 where
   sample : (units : ℕ) → (workers : ℕ) → Asked
   -- the frames of a stack by the rules of a symbol file, from a state file
   walk : (sym : List ℕ) → (state : List ℕ) → Asked
-  -- whether a symbol file says what `dump` writes for an ELF file
-  judge : (elf : List ℕ) → (sym : List ℕ) → Asked
+  -- whether a symbol file says what `dump` writes
+  judge : (source : ElfSource) → (sym : List ℕ) → Asked
   -- a symbol file with its legacy Rust names in readable form
   names : (sym : List ℕ) → Asked
 
 -- all commands read files, but `sample`
 abbrev pub reads_files : Asked → Bool
-reads_files (dump elf workers) = true
-reads_files (dump_pair elf debug) = true
+reads_files (dump source workers) = true
 reads_files (check sym) = true
 reads_files (lookup sym address) = true
 reads_files (frame sym address state) = true
 reads_files (sample units workers) = false
 reads_files (walk sym state) = true
-reads_files (judge elf sym) = true
+reads_files (judge source sym) = true
 reads_files (names sym) = true
 
 abbrev pub ReadsFiles : Option Asked → Type 0
 ReadsFiles None = ⊥
 ReadsFiles (Some asked) = reads_files asked ≡ true
 
--- where a debug file is, what is asked of a symbol file, or of one and a state file, and a command, as they are parsed
+-- compressed sections are read, and a file that cannot be read is named
+abbrev pub is_full : Option Asked → Bool
+is_full (Some (dump source workers)) = source.full
+is_full (Some (judge source sym)) = source.full
+is_full other = false
+
+-- the name that was asked for last
+abbrev pub last_name : List (List ℕ) → List ℕ
+last_name [] = []
+last_name (name ∷ []) = name
+last_name (name ∷ other ∷ rest) = last_name (other ∷ rest)
+
+-- what a command says of a file that could not be read, by the names that were asked for
+abbrev pub not_read_line : Option Asked → List (List ℕ) → List ℕ
+not_read_line command asked = unread_lines (is_full command) (last_name asked)
+
+-- where a debug file is, which image is dumped, what is asked of a symbol file, or of one and a state file, and a command, as they are parsed
 abbrev pub debug_view : DebugPlace → DebugFile
 debug_view (File path) = at_path path.now
 debug_view (Root root) = below_root root.now
+
+abbrev pub source_view : ElfPlace → ElfSource
+source_view place = record { full = place.full; elf = place.elf.now; debug = option_map debug_view place.debug }
 
 abbrev pub sym_command : SymQuery → List ℕ → Asked
 sym_command Check sym = check sym
@@ -77,12 +94,11 @@ state_command (Frame address) sym state = frame sym address state
 state_command Walk sym state = walk sym state
 
 abbrev pub command_view : Command → Asked
-command_view (Dump elf workers) = dump elf.now workers
-command_view (DumpPair elf debug) = dump_pair elf.now (debug_view debug)
+command_view (Dump source workers) = dump (source_view source) workers
 command_view (Symbols sym query) = sym_command query sym.now
 command_view (States sym query state) = state_command query sym.now state.now
 command_view (Sample units workers) = sample units workers
-command_view (Judge elf sym) = judge elf.now sym.now
+command_view (Judge source sym) = judge (source_view source) sym.now
 
 -- a number is decimal digits, without a sign, the first of them not 0
 abbrev pub is_number : List ℕ → Bool
@@ -114,31 +130,78 @@ sample_of (Some units) None = None
 unfoldable pub address_of : List ℕ → Option ℕ
 address_of word = if length word == 0 then None else hex_value word
 
+-- an ELF file alone, and one with a debug file
+abbrev pub alone : Bool → List ℕ → ElfSource
+alone full elf = record { full = full; elf = elf; debug = None }
+
+abbrev pub with_file_at : Bool → List ℕ → List ℕ → ElfSource
+with_file_at full elf path = record { full = full; elf = elf; debug = Some (at_path path) }
+
+abbrev pub with_root : Bool → List ℕ → List ℕ → ElfSource
+with_root full elf root = record { full = full; elf = elf; debug = Some (below_root root) }
+
+-- the two words that say where a debug file is: `--debug FILE` and `--debug-root DIR`
+abbrev pub debug_words : Bool → List ℕ → List ℕ → List ℕ → Option ElfSource
+debug_words full elf word place =
+    if bytes_eq word (codes "--debug") then Some (with_file_at full elf place)
+    else if bytes_eq word (codes "--debug-root") then Some (with_root full elf place)
+    else None
+
+-- a dump by the usual number of workers
+abbrev pub dump_usual : ElfSource → Asked
+dump_usual source = dump source USUAL_WORKERS
+
+-- the row of a dump with two words behind the ELF file: `--workers N`, `--debug FILE` or `--debug-root DIR`
+abbrev pub dump_words : Bool → List ℕ → List ℕ → List ℕ → Option Asked
+dump_words full elf word value =
+    if bytes_eq word (codes "--workers") then option_map (dump (alone full elf)) (number_upto MOST_WORKERS value)
+    else option_map dump_usual (debug_words full elf word value)
+
+-- the row of `judge` with two words behind the symbol file: `--debug FILE` or `--debug-root DIR`
+abbrev pub judge_by : List ℕ → ElfSource → Asked
+judge_by sym source = judge source sym
+
+abbrev pub judge_words : Bool → List ℕ → List ℕ → List ℕ → List ℕ → Option Asked
+judge_words full elf sym word value = option_map (judge_by sym) (debug_words full elf word value)
+
 -- the rows `dump ELF`, `check SYM`, `sample N` and `names SYM`
 abbrev pub two_words : List ℕ → List ℕ → Option Asked
 two_words word name =
-    if bytes_eq word (codes "dump") then Some (dump name USUAL_WORKERS)
+    if bytes_eq word (codes "dump") then Some (dump_usual (alone false name))
     else if bytes_eq word (codes "check") then Some (check name)
     else if bytes_eq word (codes "sample") then sample_of (number_upto MOST_UNITS name) (Some USUAL_WORKERS)
     else if bytes_eq word (codes "names") then Some (names name)
     else None
 
--- the rows `lookup SYM ADDR`, `walk SYM STATE` and `judge ELF SYM`
+-- the rows `lookup SYM ADDR`, `walk SYM STATE`, `judge ELF SYM` and `dump --full ELF`
 abbrev pub three_words : List ℕ → List ℕ → List ℕ → Option Asked
 three_words word name third =
     if bytes_eq word (codes "lookup") then option_map (lookup name) (address_of third)
     else if bytes_eq word (codes "walk") then Some (walk name third)
-    else if bytes_eq word (codes "judge") then Some (judge name third)
+    else if bytes_eq word (codes "judge") then Some (judge (alone false name) third)
+    else if bytes_eq word (codes "dump") && bytes_eq name (codes "--full") then Some (dump_usual (alone true third))
     else None
 
--- the rows `dump ELF --workers N`, `sample N --workers W`, `frame SYM ADDR STATE`, `dump ELF --debug FILE` and `dump ELF --debug-root DIR`
+-- the rows of `dump ELF` with two words behind it, `sample N --workers W`, `frame SYM ADDR STATE` and `judge --full ELF SYM`
 abbrev pub four_words : List ℕ → List ℕ → List ℕ → List ℕ → Option Asked
 four_words word name third fourth =
-    if bytes_eq word (codes "dump") && bytes_eq third (codes "--workers") then option_map (dump name) (number_upto MOST_WORKERS fourth)
+    if bytes_eq word (codes "dump") then dump_words false name third fourth
     else if bytes_eq word (codes "sample") && bytes_eq third (codes "--workers") then sample_of (number_upto MOST_UNITS name) (number_upto MOST_WORKERS fourth)
     else if bytes_eq word (codes "frame") then option_map (λ address. frame name address fourth) (address_of third)
-    else if bytes_eq word (codes "dump") && bytes_eq third (codes "--debug") then Some (dump_pair name (at_path fourth))
-    else if bytes_eq word (codes "dump") && bytes_eq third (codes "--debug-root") then Some (dump_pair name (below_root fourth))
+    else if bytes_eq word (codes "judge") && bytes_eq name (codes "--full") then Some (judge (alone true third) fourth)
+    else None
+
+-- the rows of `dump --full ELF` and of `judge ELF SYM` with two words behind them
+abbrev pub five_words : List ℕ → List ℕ → List ℕ → List ℕ → List ℕ → Option Asked
+five_words word name third fourth fifth =
+    if bytes_eq word (codes "dump") && bytes_eq name (codes "--full") then dump_words true third fourth fifth
+    else if bytes_eq word (codes "judge") then judge_words false name third fourth fifth
+    else None
+
+-- the rows of `judge --full ELF SYM` with two words behind it
+abbrev pub six_words : List ℕ → List ℕ → List ℕ → List ℕ → List ℕ → List ℕ → Option Asked
+six_words word name third fourth fifth sixth =
+    if bytes_eq word (codes "judge") && bytes_eq name (codes "--full") then judge_words true third fourth fifth sixth
     else None
 
 -- the table of rows: these, and no other words
@@ -148,16 +211,18 @@ command_of (word ∷ []) = None
 command_of (word ∷ name ∷ []) = two_words word name
 command_of (word ∷ name ∷ third ∷ []) = three_words word name third
 command_of (word ∷ name ∷ third ∷ fourth ∷ []) = four_words word name third fourth
-command_of (word ∷ name ∷ third ∷ fourth ∷ more ∷ words) = None
+command_of (word ∷ name ∷ third ∷ fourth ∷ fifth ∷ []) = five_words word name third fourth fifth
+command_of (word ∷ name ∷ third ∷ fourth ∷ fifth ∷ sixth ∷ []) = six_words word name third fourth fifth sixth
+command_of (word ∷ name ∷ third ∷ fourth ∷ fifth ∷ sixth ∷ more ∷ words) = None
 
 -- the line that answers other words
 abbrev pub usage_line : List ℕ
-usage_line = line (codes "usage: dumpsyms dump ELF, check SYM, lookup SYM ADDR, frame SYM ADDR STATE, sample N, walk SYM STATE, judge ELF SYM, names SYM")
+usage_line = line (codes "usage: dumpsyms dump ELF, check SYM, lookup SYM ADDR, frame SYM ADDR STATE, sample N, walk SYM STATE, judge ELF SYM, names SYM, dump --full ELF")
 
 -- a dump has from one to 64 workers, and so has a sample, which has no more units than it may have
 abbrev pub HasWorkers : Option Asked → Type 0
 HasWorkers None = Unit {0}
-HasWorkers (Some (dump elf workers)) = (1 ≤ workers) × (workers ≤ MOST_WORKERS)
+HasWorkers (Some (dump source workers)) = (1 ≤ workers) × (workers ≤ MOST_WORKERS)
 HasWorkers (Some (sample units workers)) = (units ≤ MOST_UNITS) × ((1 ≤ workers) × (workers ≤ MOST_WORKERS))
 HasWorkers (Some other) = Unit {0}
 
@@ -174,35 +239,30 @@ abbrev pub second_told : Option Files → List ℕ → List ℕ → List (List �
 second_told None first name = name ∷ []
 second_told (Some files) first name = second_of (files first) name
 
--- the second file of a command over an ELF file is read only where that is dumped
+-- the symbol file of `judge` is read only where the ELF file is dumped
 abbrev pub if_dumped : Result DebugSays DebugFault → List ℕ → List (List ℕ)
 if_dumped (Ok found) name = name ∷ []
 if_dumped (Err fault) name = []
 
-abbrev pub if_image : Result ImageParts ElfFault → List ℕ → List (List ℕ)
+abbrev pub if_image : Result ImageParts Verdict → List ℕ → List (List ℕ)
 if_image (Ok parts) name = if_dumped (debug_says parts) name
-if_image (Err fault) name = []
+if_image (Err ended) name = []
 
-abbrev pub behind_dump : Option (List ℕ) → List ℕ → List (List ℕ)
-behind_dump None name = []
-behind_dump (Some bytes) name = if nat_lt (2 ^ 29) (length bytes) then [] else if_image (image bytes) name
-
-abbrev pub dumped_told : Option Files → List ℕ → List ℕ → List (List ℕ)
-dumped_told None first name = name ∷ []
-dumped_told (Some files) first name = behind_dump (files first) name
+abbrev pub dumped_told : Option Files → ElfSource → List ℕ → List (List ℕ)
+dumped_told None source name = name ∷ []
+dumped_told (Some files) source name = if_image (given_image source files) name
 
 -- the files that a command asks for, in the order in which they are read, where the store tells its files or tells nothing; then the debug
 -- file below a root is that of some build id
 abbrev pub files_of : Option Asked → Option Files → List ℕ → List (List ℕ)
 files_of None files id = []
-files_of (Some (dump elf workers)) files id = elf ∷ []
-files_of (Some (dump_pair elf debug)) files id = elf ∷ debug_told files elf debug id
+files_of (Some (dump source workers)) files id = elf_names files source id
 files_of (Some (check sym)) files id = sym ∷ []
 files_of (Some (lookup sym address)) files id = sym ∷ []
 files_of (Some (frame sym address state)) files id = sym ∷ second_told files sym state
 files_of (Some (sample units workers)) files id = []
 files_of (Some (walk sym state)) files id = sym ∷ second_told files sym state
-files_of (Some (judge elf sym)) files id = elf ∷ dumped_told files elf sym
+files_of (Some (judge source sym)) files id = elf_names files source id ++ dumped_told files source sym
 files_of (Some (names sym)) files id = sym ∷ []
 
 -- the byte is a slash

@@ -3,3 +3,4 @@ pub mod Spelled
 pub mod Writes
 pub mod Judged
 pub mod Counting
+pub mod HeldTable

@@ -209,22 +209,30 @@ pub struct Dumped {
 
 /// Spells the symbol file of an image under a name, which is cleaned (Breakpad's symbol_files.md): MODULE, INFO, FILE, INLINE_ORIGIN,
 /// each FUNC with its INLINE and line records, PUBLIC, and the records of frames. `debug` is what `read_debug` answered for the image.
-/// It is spelled by `workers` workers, 1 to 64, whose number changes nothing.
+/// Where `full`, what is left out names the units whose entries stand in another file too. It is spelled by `workers` workers, 1 to 64,
+/// whose number changes nothing.
 pub fn assemble<R: Threads + Sync>(
     rt: &R,
     alloc: Global,
     image: &Image<'_>,
     debug: &DebugRead<'_>,
     name: &[u8],
+    full: bool,
     workers: usize,
 ) -> Result<Dumped, OutOfMemory>
     requires found { IsDebugRead image.now debug.now }
     requires workers { (1 ≤ workers) × (workers ≤ 64) }
-    ensures { IfOk result (λ d. Assembles image.now name.now d.file d.err d.omitted) }
+    ensures { IfOk result (λ d. Assembles full image.now name.now d.file d.err d.omitted) }
 {
     let text = dump_file(rt, alloc, image, name, debug, workers)?;
     let FileText { file, omitted } = text;
-    let err = list_left_out(alloc, debug.headers.as_slice(), omitted.as_slice())?;
+    let err = list_left_out(
+        alloc,
+        full,
+        image,
+        debug.headers.as_slice(),
+        omitted.as_slice(),
+    )?;
     Ok(Dumped {
         file,
         err,

@@ -31,7 +31,7 @@ pub struct Judgement {
 #[derive(Debug, Drop)]
 pub enum Answer {
     Judged(Judgement),
-    /// A file could not be opened or read.
-    Unread,
+    /// A file could not be opened or read, as this line says.
+    Unread(Message),
     NoMemory,
 }

@@ -10,7 +10,6 @@ ghost use Rattle.dumpsyms_cmd.specs.internal.Writes.{Says, Writes};
 
 use crate::commands::answer_words;
 use crate::judgement::{Answer, Judgement, Message, Output};
-use crate::refusals::UNREAD;
 use std::alloc::Global;
 use std::thread::Threads;
 use sym_edges::{Failed, Sink, Store, write_all};
@@ -78,7 +77,7 @@ fn write_answer<O: Sink, E: Sink>(answer: &Answer, out: &mut O, err: &mut E) -> 
 {
     match answer {
         Answer::Judged(judgement) => write_judgement(judgement, out, err),
-        Answer::Unread => say(err, UNREAD, 3),
+        Answer::Unread(line) => say(err, bytes_of(line), 3),
         Answer::NoMemory => 5,
     }
 }

@@ -2,16 +2,19 @@
 ghost use Rattle.std.specs.Prelude.{◌≡◌, ◌++◌, ◌∷◌, [], map, codes, IfOk, OnOk};
 ghost use Rattle.sym_records.specs.Canon.{spaced};
 ghost use Rattle.elf_sections.specs.FaultWords.{fault_word};
-ghost use Rattle.dumpsyms_cmd.specs.Refusals.{line, elf_line, debug_elf_line, dwarf_line, frame_line, debug_line, located_line, fault_at, text_line, state_line};
+ghost use Rattle.dumpsyms_cmd.specs.Judgement.{err_bytes};
+ghost use Rattle.dumpsyms_cmd.specs.Refusals.{line, unread_lines, elf_line, debug_elf_line, dwarf_line, frame_line, debug_line, located_line, fault_at, text_line, state_line};
 
+use crate::judgement::Message;
 use abbrev_units::DwarfFault;
+use clean_names::add_cleaned;
 use debug_read::DebugFault;
 use elf_sections::ElfFault;
 use frame_entries::FrameFault;
 use itoa::Buffer;
 use state_file::StateFault;
 use std::alloc::{AllocError, Global};
-use sym_edges::Sect;
+use sym_edges::{OutOfMemory, Sect};
 use sym_records::{ByteText, HexText};
 use sym_rules::TextFault;
 
@@ -23,6 +26,19 @@ pub const UNREAD: &[u8] = b"cannot read input\n";
 
 /// A state has no rip, at which a walk begins.
 pub const NO_RIP: &[u8] = b"refused walk no-rip\n";
+
+/// The line where the file of a name could not be read; under `--full` it has the cleaned name.
+pub fn unread_line(alloc: Global, full: bool, name: &[u8]) -> Result<Message, OutOfMemory>
+    ensures { IfOk result (λ message. err_bytes message ≡ unread_lines full name.now) }
+{
+    if !full {
+        return Ok(Message::Fixed(UNREAD));
+    }
+    let mut text = Vec::from_slice(alloc, b"cannot read ")?;
+    add_cleaned(&mut text, name)?;
+    text.push(b'\n')?;
+    Ok(Message::Made(ByteText::of(text)))
+}
 
 /// A line of what is refused and of an image fault.
 fn image_line(

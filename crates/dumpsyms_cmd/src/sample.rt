@@ -93,7 +93,7 @@ fn count_records<R: Threads + Sync>(
     requires workers { (1 ≤ workers) × (workers ≤ 64) }
     ensures { IfOk result (λ j. CountsParts j image.now) }
 {
-    let dumped = assemble(rt, alloc, image, debug, b"", workers)?;
+    let dumped = assemble(rt, alloc, image, debug, b"", false, workers)?;
     let file = read_back(alloc, &dumped.file)?;
     let units = debug.units.as_slice().len();
     let text = counts_line(alloc, units, &file, dumped.omitted)?;

@@ -9,7 +9,7 @@ ghost use Rattle.dumpsyms_cmd.specs.internal.Judged.{AnswersCommand, AnswersStat
 use crate::commands::{answer_stop, refuse};
 use crate::frame::judge_frame;
 use crate::judgement::{Answer, Judgement, Message};
-use crate::refusals::state_line;
+use crate::refusals::{UNREAD, state_line};
 use crate::symbol_input::{answer_end, answer_judged};
 use crate::walk::judge_walk;
 use crate::words::StateQuery;
@@ -72,7 +72,7 @@ fn answer_state<S: Store>(
 {
     match read_all(alloc, store, state, STATE_LIMIT) {
         Ok(bytes) => answer_judged(judge_state(alloc, file, query, bytes.as_slice())),
-        Err(stop) => answer_stop(stop),
+        Err(stop) => answer_stop(stop, Message::Fixed(UNREAD)),
     }
 }
 
@@ -89,10 +89,10 @@ pub fn answer_query<S: Store>(
     ensures files { S.files store.new ≡ S.files store.old }
     ensures faults { S.faults store.old ≤ S.faults store.new }
     ensures steady { IsSteadyAnswer result (S.faults store.old) (S.faults store.new) }
-    ensures answered { AnswersCommand result (Some (state_command query sym.now state.now)) (S.files store.old) (S.faults store.old) (S.faults store.new) }
+    ensures answered { AnswersCommand result (Some (state_command query sym.now state.now)) (S.files store.old) (S.asked store.new) (S.faults store.old) (S.faults store.new) }
 {
     match read_file(alloc, store, sym, FILE_LIMIT) {
         Ok(file) => answer_state(alloc, &file, query, state, store),
-        Err(end) => answer_end(alloc, end),
+        Err(end) => answer_end(alloc, end, Message::Fixed(UNREAD)),
     }
 }

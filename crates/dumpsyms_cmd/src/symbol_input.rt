@@ -4,7 +4,7 @@ ghost use Rattle.sym_edges.specs.Outside.{Files};
 ghost use Rattle.sym_edges.specs.WholeFile.{HoldsFile};
 ghost use Rattle.sym_grammar.specs.Input.{IsReading};
 ghost use Rattle.dumpsyms_cmd.specs.Verdict.{LIMIT};
-ghost use Rattle.dumpsyms_cmd.specs.Judgement.{judgement_verdict};
+ghost use Rattle.dumpsyms_cmd.specs.Judgement.{err_bytes, judgement_verdict};
 ghost use Rattle.dumpsyms_cmd.specs.Observed.{Asks};
 ghost use Rattle.dumpsyms_cmd.specs.Words.{sym_command};
 ghost use Rattle.dumpsyms_cmd.specs.internal.Judged.{AnswersCommand, AnswersEnd, AnswersJudged, sym_answer, IsSteadyAnswer};
@@ -14,7 +14,7 @@ use crate::commands::refuse;
 use crate::judgement::{Answer, Judgement, Message};
 use crate::lookup::judge_address;
 use crate::names::judge_names;
-use crate::refusals::{TOO_LONG, text_line};
+use crate::refusals::{TOO_LONG, UNREAD, text_line};
 use crate::words::SymQuery;
 use std::alloc::Global;
 use sym_edges::{FILE_LIMIT, OutOfMemory, Stop, Store};
@@ -24,7 +24,7 @@ use sym_records::SymFile;
 /// The answer to a symbol file that is refused.
 #[tactic(auto, using(crate::proofs::AnswerLemmas::refuses_verdict))]
 fn answer_refusal(alloc: Global, why: SymRefusal) -> Answer
-    ensures { AnswersEnd result (Stop.Fault (SymEnd.Refused why)) }
+    ensures { (text : List ℕ) → AnswersEnd result text (Stop.Fault (SymEnd.Refused why)) }
 {
     match why {
         SymRefusal::TooLong => Answer::Judged(refuse(Message::Fixed(TOO_LONG))),
@@ -35,12 +35,12 @@ fn answer_refusal(alloc: Global, why: SymRefusal) -> Answer
     }
 }
 
-/// The answer where a symbol file has no records.
-pub fn answer_end(alloc: Global, end: Stop<SymEnd>) -> Answer
-    ensures { AnswersEnd result end }
+/// The answer where a symbol file has no records; `unread` is the line for one that could not be opened or read.
+pub fn answer_end(alloc: Global, end: Stop<SymEnd>, unread: Message) -> Answer
+    ensures { AnswersEnd result (err_bytes unread) end }
 {
     match end {
-        Stop::Fault(SymEnd::Unread) => Answer::Unread,
+        Stop::Fault(SymEnd::Unread) => Answer::Unread(unread),
         Stop::Fault(SymEnd::Refused(why)) => answer_refusal(alloc, why),
         Stop::NoMemory => Answer::NoMemory,
     }
@@ -69,7 +69,7 @@ fn judge_symbols(alloc: Global, file: SymFile, query: SymQuery) -> Result<Judgem
 
 /// The answer to a symbol file that was read.
 fn answer_file(alloc: Global, file: SymFile, query: SymQuery) -> Answer
-    ensures { (files : Option Files) (name : List ℕ) (before after : ℕ) → HoldsFile files name (IsReading LIMIT (Ok file)) → AnswersCommand result (Some (sym_command query name)) files before after }
+    ensures { (files : Option Files) (name : List ℕ) (asked : List (List ℕ)) (before after : ℕ) → HoldsFile files name (IsReading LIMIT (Ok file)) → AnswersCommand result (Some (sym_command query name)) files asked before after }
 {
     // `as_slice` says that the records are valid.
     let _lines = file.as_slice();
@@ -83,10 +83,10 @@ pub fn answer_symbols<S: Store>(alloc: Global, sym: &str, query: SymQuery, store
     ensures files { S.files store.new ≡ S.files store.old }
     ensures faults { S.faults store.old ≤ S.faults store.new }
     ensures steady { IsSteadyAnswer result (S.faults store.old) (S.faults store.new) }
-    ensures answered { AnswersCommand result (Some (sym_command query sym.now)) (S.files store.old) (S.faults store.old) (S.faults store.new) }
+    ensures answered { AnswersCommand result (Some (sym_command query sym.now)) (S.files store.old) (S.asked store.new) (S.faults store.old) (S.faults store.new) }
 {
     match read_file(alloc, store, sym, FILE_LIMIT) {
         Ok(file) => answer_file(alloc, file, query),
-        Err(end) => answer_end(alloc, end),
+        Err(end) => answer_end(alloc, end, Message::Fixed(UNREAD)),
     }
 }

@@ -2,7 +2,7 @@
 ghost use Rattle.std.specs.Prelude.{◌≡◌, ◌≤◌, ◌↔◌, ℕ, IsTrue, map, slice_index};
 ghost use Rattle.std.specs.String.{string_bytes};
 ghost use Rattle.std.specs.Option.{option_map};
-ghost use Rattle.dumpsyms_cmd.specs.Words.{command_view, command_of, number_upto, address_of, sample_of, two_words, three_words, four_words, module_name, HasWorkers, dump, lookup, frame, MOST_WORKERS, MOST_UNITS};
+ghost use Rattle.dumpsyms_cmd.specs.Words.{source_view, command_view, command_of, number_upto, address_of, sample_of, alone, dump_usual, debug_words, dump_words, judge_words, two_words, three_words, four_words, five_words, six_words, module_name, HasWorkers, dump, lookup, frame, MOST_WORKERS, MOST_UNITS};
 
 use memchr::memrchr;
 use state_file::hex_value;
@@ -18,13 +18,21 @@ const MOST_UNITS: usize = 20000;
 
 /// The line that answers other words.
 pub const USAGE: &[u8] =
-    b"usage: dumpsyms dump ELF, check SYM, lookup SYM ADDR, frame SYM ADDR STATE, sample N, walk SYM STATE, judge ELF SYM, names SYM\n";
+    b"usage: dumpsyms dump ELF, check SYM, lookup SYM ADDR, frame SYM ADDR STATE, sample N, walk SYM STATE, judge ELF SYM, names SYM, dump --full ELF\n";
 
 /// Where the separate debug file of a binary is: at a path, or below a root by the binary's build id.
 #[derive(Clone, Copy, Debug)]
 pub enum DebugPlace<'w> {
     File { path: &'w str },
     Root { root: &'w str },
+}
+
+/// Which image is dumped: of an ELF file, with a debug file or without one; with their compressed sections where `full`.
+#[derive(Clone, Copy, Debug)]
+pub struct ElfPlace<'w> {
+    pub full: bool,
+    pub elf: &'w str,
+    pub debug: Option<DebugPlace<'w>>,
 }
 
 /// What is asked of a symbol file.
@@ -50,15 +58,10 @@ pub enum StateQuery {
 /// What the words ask for.
 #[derive(Clone, Copy, Debug)]
 pub enum Command<'w> {
-    /// `dump ELF` and `dump ELF --workers N`
+    /// `dump ELF`, also with `--full`, with `--workers N`, or with a debug file.
     Dump {
-        elf: &'w str,
+        source: ElfPlace<'w>,
         workers: usize,
-    },
-    /// `dump ELF --debug FILE` and `dump ELF --debug-root DIR`
-    DumpPair {
-        elf: &'w str,
-        debug: DebugPlace<'w>,
     },
     /// A command over a symbol file.
     Symbols {
@@ -76,9 +79,9 @@ pub enum Command<'w> {
         units: usize,
         workers: usize,
     },
-    /// `judge ELF SYM`
+    /// `judge ELF SYM`, also with `--full`, or with a debug file.
     Judge {
-        elf: &'w str,
+        source: ElfPlace<'w>,
         sym: &'w str,
     },
 }
@@ -137,63 +140,86 @@ fn parse_sample<'w>(units: &str, workers: Option<usize>) -> Option<Command<'w>>
     }
 }
 
-/// The rows `dump ELF`, `check SYM`, `sample N` and `names SYM`.
-fn parse_two<'w>(word: &str, name: &'w str) -> Option<Command<'w>>
-    ensures { option_map command_view result ≡ two_words word.now name.now }
+/// An ELF file without a debug file.
+fn alone<'w>(full: bool, elf: &'w str) -> ElfPlace<'w>
+    ensures { source_view result ≡ alone full elf.now }
 {
-    if word == "dump" {
-        return Some(Command::Dump {
-            elf: name,
-            workers: USUAL_WORKERS,
+    ElfPlace {
+        full,
+        elf,
+        debug: None,
+    }
+}
+
+/// A dump by the usual number of workers.
+fn dump_usual<'w>(source: ElfPlace<'w>) -> Command<'w>
+    ensures { command_view result ≡ dump_usual (source_view source.entry) }
+{
+    Command::Dump {
+        source,
+        workers: USUAL_WORKERS,
+    }
+}
+
+/// The words `--debug FILE` and `--debug-root DIR` behind an ELF file.
+fn parse_debug<'w>(full: bool, elf: &'w str, word: &str, place: &'w str) -> Option<ElfPlace<'w>>
+    ensures { option_map source_view result ≡ debug_words full elf.now word.now place.now }
+{
+    if word == "--debug" {
+        return Some(ElfPlace {
+            full,
+            elf,
+            debug: Some(DebugPlace::File { path: place }),
         });
     }
-    if word == "check" {
-        return Some(Command::Symbols {
-            sym: name,
-            query: SymQuery::Check,
-        });
-    }
-    if word == "sample" {
-        return parse_sample(name, Some(USUAL_WORKERS));
-    }
-    if word == "names" {
-        return Some(Command::Symbols {
-            sym: name,
-            query: SymQuery::Names,
+    if word == "--debug-root" {
+        return Some(ElfPlace {
+            full,
+            elf,
+            debug: Some(DebugPlace::Root { root: place }),
         });
     }
     None
 }
 
-/// The rows `lookup SYM ADDR`, `walk SYM STATE` and `judge ELF SYM`.
-fn parse_three<'w>(word: &str, name: &'w str, third: &'w str) -> Option<Command<'w>>
-    ensures { option_map command_view result ≡ three_words word.now name.now third.now }
-{
-    if word == "lookup" {
-        return parse_lookup(name, third);
-    }
-    if word == "walk" {
-        return Some(Command::States {
-            sym: name,
-            query: StateQuery::Walk,
-            state: third,
-        });
-    }
-    if word == "judge" {
-        return Some(Command::Judge {
-            elf: name,
-            sym: third,
-        });
-    }
-    None
-}
-
-/// The row `dump ELF --workers N`.
-fn parse_workers<'w>(elf: &'w str, number: &str) -> Option<Command<'w>>
-    ensures { option_map command_view result ≡ option_map (dump elf.now) (number_upto MOST_WORKERS number.now) }
+/// The row of a dump with `--workers N`.
+fn parse_workers<'w>(full: bool, elf: &'w str, number: &str) -> Option<Command<'w>>
+    ensures { option_map command_view result ≡ option_map (dump (alone full elf.now)) (number_upto MOST_WORKERS number.now) }
 {
     match parse_number(number, MOST_WORKERS) {
-        Some(workers) => Some(Command::Dump { elf, workers }),
+        Some(workers) => Some(Command::Dump {
+            source: alone(full, elf),
+            workers,
+        }),
+        None => None,
+    }
+}
+
+/// The row of a dump with two words behind the ELF file.
+fn parse_dump<'w>(full: bool, elf: &'w str, word: &str, value: &'w str) -> Option<Command<'w>>
+    ensures { option_map command_view result ≡ dump_words full elf.now word.now value.now }
+{
+    if word == "--workers" {
+        return parse_workers(full, elf, value);
+    }
+    match parse_debug(full, elf, word, value) {
+        Some(source) => Some(dump_usual(source)),
+        None => None,
+    }
+}
+
+/// The row of `judge` with two words behind the symbol file.
+fn parse_judge<'w>(
+    full: bool,
+    elf: &'w str,
+    sym: &'w str,
+    word: &str,
+    value: &'w str,
+) -> Option<Command<'w>>
+    ensures { option_map command_view result ≡ judge_words full elf.now sym.now word.now value.now }
+{
+    match parse_debug(full, elf, word, value) {
+        Some(source) => Some(Command::Judge { source, sym }),
         None => None,
     }
 }
@@ -225,13 +251,63 @@ fn parse_frame<'w>(sym: &'w str, address: &str, state: &'w str) -> Option<Comman
     }
 }
 
-/// The rows `dump ELF --workers N`, `sample N --workers W`, `frame SYM ADDR STATE`, `dump ELF --debug FILE` and
-/// `dump ELF --debug-root DIR`.
-fn parse_four<'w>(word: &str, name: &'w str, third: &str, fourth: &'w str) -> Option<Command<'w>>
+/// The rows `dump ELF`, `check SYM`, `sample N` and `names SYM`.
+fn parse_two<'w>(word: &str, name: &'w str) -> Option<Command<'w>>
+    ensures { option_map command_view result ≡ two_words word.now name.now }
+{
+    if word == "dump" {
+        return Some(dump_usual(alone(false, name)));
+    }
+    if word == "check" {
+        return Some(Command::Symbols {
+            sym: name,
+            query: SymQuery::Check,
+        });
+    }
+    if word == "sample" {
+        return parse_sample(name, Some(USUAL_WORKERS));
+    }
+    if word == "names" {
+        return Some(Command::Symbols {
+            sym: name,
+            query: SymQuery::Names,
+        });
+    }
+    None
+}
+
+/// The rows `lookup SYM ADDR`, `walk SYM STATE`, `judge ELF SYM` and `dump --full ELF`.
+fn parse_three<'w>(word: &str, name: &'w str, third: &'w str) -> Option<Command<'w>>
+    ensures { option_map command_view result ≡ three_words word.now name.now third.now }
+{
+    if word == "lookup" {
+        return parse_lookup(name, third);
+    }
+    if word == "walk" {
+        return Some(Command::States {
+            sym: name,
+            query: StateQuery::Walk,
+            state: third,
+        });
+    }
+    if word == "judge" {
+        return Some(Command::Judge {
+            source: alone(false, name),
+            sym: third,
+        });
+    }
+    if word == "dump" && name == "--full" {
+        return Some(dump_usual(alone(true, third)));
+    }
+    None
+}
+
+/// The rows of `dump ELF` with two words behind it, `sample N --workers W`, `frame SYM ADDR STATE` and `judge --full ELF SYM`.
+fn parse_four<'w>(word: &str, name: &'w str, third: &'w str, fourth: &'w str) -> Option<Command<'w>>
     ensures { option_map command_view result ≡ four_words word.now name.now third.now fourth.now }
 {
-    if word == "dump" && third == "--workers" {
-        return parse_workers(name, fourth);
+    if word == "dump" {
+        return parse_dump(false, name, third, fourth);
     }
     if word == "sample" && third == "--workers" {
         return parse_sample(name, parse_number(fourth, MOST_WORKERS));
@@ -239,23 +315,52 @@ fn parse_four<'w>(word: &str, name: &'w str, third: &str, fourth: &'w str) -> Op
     if word == "frame" {
         return parse_frame(name, third, fourth);
     }
-    if word == "dump" && third == "--debug" {
-        return Some(Command::DumpPair {
-            elf: name,
-            debug: DebugPlace::File { path: fourth },
-        });
-    }
-    if word == "dump" && third == "--debug-root" {
-        return Some(Command::DumpPair {
-            elf: name,
-            debug: DebugPlace::Root { root: fourth },
+    if word == "judge" && name == "--full" {
+        return Some(Command::Judge {
+            source: alone(true, third),
+            sym: fourth,
         });
     }
     None
 }
 
+/// The rows of `dump --full ELF` and of `judge ELF SYM` with two words behind them.
+fn parse_five<'w>(
+    word: &str,
+    name: &'w str,
+    third: &'w str,
+    fourth: &'w str,
+    fifth: &'w str,
+) -> Option<Command<'w>>
+    ensures { option_map command_view result ≡ five_words word.now name.now third.now fourth.now fifth.now }
+{
+    if word == "dump" && name == "--full" {
+        return parse_dump(true, third, fourth, fifth);
+    }
+    if word == "judge" {
+        return parse_judge(false, name, third, fourth, fifth);
+    }
+    None
+}
+
+/// The rows of `judge --full ELF SYM` with two words behind it. `words` has the first two.
+fn parse_six<'w>(
+    words: (&str, &str),
+    third: &'w str,
+    fourth: &'w str,
+    fifth: &'w str,
+    sixth: &'w str,
+) -> Option<Command<'w>>
+    ensures { option_map command_view result ≡ six_words words.entry.0.now words.entry.1.now third.now fourth.now fifth.now sixth.now }
+{
+    if words.0 == "judge" && words.1 == "--full" {
+        return parse_judge(true, third, fourth, fifth, sixth);
+    }
+    None
+}
+
 /// The command of words that are a row, and none of other words.
-#[tactic(auto, using(crate::proofs::WordLemmas::two_few, crate::proofs::WordLemmas::three_few, crate::proofs::WordLemmas::four_few))]
+#[tactic(auto, using(crate::proofs::WordLemmas::two_few, crate::proofs::WordLemmas::three_few, crate::proofs::WordLemmas::four_few, crate::proofs::WordLemmas::five_few, crate::proofs::WordLemmas::six_few))]
 pub fn parse_words(words: &[String]) -> Option<Command<'_>>
     ensures command { option_map command_view result ≡ command_of (map string_bytes words.now) }
     ensures workers { HasWorkers (option_map command_view result) }
@@ -264,6 +369,10 @@ pub fn parse_words(words: &[String]) -> Option<Command<'_>>
         [word, name] => parse_two(word, name),
         [word, name, third] => parse_three(word, name, third),
         [word, name, third, fourth] => parse_four(word, name, third, fourth),
+        [word, name, third, fourth, fifth] => parse_five(word, name, third, fourth, fifth),
+        [word, name, third, fourth, fifth, sixth] => {
+            parse_six((word, name), third, fourth, fifth, sixth)
+        }
         _ => None,
     }
 }

@@ -15,10 +15,12 @@ use Rattle.dumpsyms_cmd.specs.Verdict.{Verdict, LIMIT}
 use Rattle.dumpsyms_cmd.specs.Answers.{IsVerdict}
 use Rattle.dumpsyms_cmd.specs.Judgement.{judgement_verdict}
 use Rattle.dumpsyms_cmd.specs.Program.{Run, command, WasJudged, Promises}
-use Rattle.dumpsyms_cmd.specs.commands.Dump.{IsFileVerdict}
+use Rattle.dumpsyms_cmd.specs.commands.Dump.{IsGivenVerdict, IsSourceVerdict}
+use Rattle.dumpsyms_cmd.specs.ElfInput.{ElfSource, given_image}
+use Rattle.elf_sections.specs.Image.{ImageParts}
 use Rattle.dumpsyms_cmd.specs.commands.Judge.{ruling_verdict, IsReadVerdict, IsTextVerdict, IsDumpedVerdict, IsJudgeVerdict}
 use Rattle.worked.specs.DumpedJudged.{JudgesWhatWasDumped, AnswersYes}
-use Rattle.worked.proofs.OneVerdict.{one_file, one_ruling}
+use Rattle.worked.proofs.OneVerdict.{one_source, one_ruling}
 use Rattle.worked.proofs.OneRun.{whole_by, judging_by}
 
 -- the reading of a file that is not too long is that of its text
@@ -37,19 +39,19 @@ read_yes own (Ok other) v same is =
     is.is ∙ ap ruling_verdict (one_ruling own own is.ruling Yes (subst (λ (lines : List SymLine). IsRuling own lines is.ruling) (sym records) is.ruling_is) (yes_of_itself own))
 read_yes own (Err why) v same is = absurd (cc)
 
-own_yes : (read : Result (List SymLine) TextFault) (text : List ℕ) (v : Verdict) → reading text ≡ read → length text ≤ LIMIT → IsTextVerdict read (Some text) v → v ≡ ruling_verdict Yes
-own_yes (Ok own) text v is few verdict = read_yes own (file_reading LIMIT text) v (short_reading text few ∙ ap whole_reading is) verdict
-own_yes (Err fault) text v is few verdict = absurd verdict
+own_yes : (full : Bool) (name : List ℕ) (read : Result (List SymLine) TextFault) (text : List ℕ) (v : Verdict) → reading text ≡ read → length text ≤ LIMIT → IsTextVerdict full name read (Some text) v → v ≡ ruling_verdict Yes
+own_yes full name (Ok own) text v is few verdict = read_yes own (file_reading LIMIT text) v (short_reading text few ∙ ap whole_reading is) verdict
+own_yes full name (Err fault) text v is few verdict = absurd verdict
 
-text_yes : (status : ℕ) (dumped : Verdict) (v : Verdict) → status ≡ 0 → length dumped.out ≤ LIMIT → IsDumpedVerdict status dumped (Some dumped.out) v → v ≡ ruling_verdict Yes
-text_yes zero dumped v is few verdict = own_yes (reading dumped.out) dumped.out v refl few verdict
-text_yes (suc status) dumped v is few verdict = absurd (omega (arith, is))
+text_yes : (full : Bool) (name : List ℕ) (status : ℕ) (dumped : Verdict) (v : Verdict) → status ≡ 0 → length dumped.out ≤ LIMIT → IsDumpedVerdict full name status dumped (Some dumped.out) v → v ≡ ruling_verdict Yes
+text_yes full name zero dumped v is few verdict = own_yes full name (reading dumped.out) dumped.out v refl few verdict
+text_yes full name (suc status) dumped v is few verdict = absurd (omega (arith, is))
 
-pub dumped_yes : (elf : List ℕ) (file sym_file : Option (List ℕ)) (dumped v : Verdict) → IsFileVerdict elf file dumped → dumped.status ≡ 0 → length dumped.out ≤ LIMIT → sym_file ≡ Some dumped.out → IsJudgeVerdict elf file sym_file v → v ≡ ruling_verdict Yes
-dumped_yes elf file sym_file dumped v first zero_is few kept is =
-    let same : is.dumped ≡ dumped = one_file elf file is.dumped dumped is.dumped_is first in
-    text_yes dumped.status dumped v zero_is few
-    (subst (λ (bytes : Option (List ℕ)). IsDumpedVerdict dumped.status dumped bytes v) kept (subst (λ (d : Verdict). IsDumpedVerdict d.status d sym_file v) same is.is))
+pub dumped_yes : (source : ElfSource) (name : List ℕ) (files : Files) (dumped v : Verdict) → IsSourceVerdict source files dumped → dumped.status ≡ 0 → length dumped.out ≤ LIMIT → files name ≡ Some dumped.out → IsJudgeVerdict source name files v → v ≡ ruling_verdict Yes
+dumped_yes source name files dumped v first zero_is few kept is =
+    let same : is.dumped ≡ dumped = one_source source files is.dumped dumped is.dumped_is first in
+    text_yes source.full name dumped.status dumped v zero_is few
+    (subst (λ (bytes : Option (List ℕ)). IsDumpedVerdict source.full name dumped.status dumped bytes v) kept (subst (λ (d : Verdict). IsDumpedVerdict source.full name d.status d (files name) v) same is.is))
 
 -- runs
 verdict_of : (run : Run) (asked : Asked) (files : Files) → run.store.files ≡ Some files → command run ≡ Some asked → (judged : WasJudged run) → IsVerdict (Some asked) files (judgement_verdict judged.judgement)
@@ -75,10 +77,10 @@ dumped_texts_get_a_yes dumping judging p q runs low =
     let text : v.out ≡ runs.text = first_text dumping.out.taken dumping.out.taken_after runs.text v.out runs.out runs.wrote dumped.1.out_text in
     let few : length v.out ≤ LIMIT = subst (λ (t : List ℕ). length t ≤ LIMIT) (sym text) runs.fits in
     let yes : w ≡ ruling_verdict Yes
-    = dumped_yes runs.elf (runs.after runs.elf) (runs.after runs.sym) v w
-    (subst (λ (file : Option (List ℕ)). IsFileVerdict runs.elf file v) runs.same_elf (verdict_of dumping (dump runs.elf runs.workers) runs.before runs.dumping_tells runs.dumps first))
+    = dumped_yes runs.source runs.sym runs.after v w
+    (subst (λ (r : Result ImageParts Verdict). IsGivenVerdict runs.source r v) runs.same_image (verdict_of dumping (dump runs.source runs.workers) runs.before runs.dumping_tells runs.dumps first))
     (sym dumped.0 ∙ runs.done) few (runs.kept ∙ ap Some (sym text))
-    (verdict_of judging (judge runs.elf runs.sym) runs.after runs.judging_tells runs.judges second) in
+    (verdict_of judging (judge runs.source runs.sym) runs.after runs.judging_tells runs.judges second) in
     record {
       status = judged.0 ∙ ap (λ (x : Verdict). x.status) yes;
       out = judged.1.out_text ∙ ap (λ (x : Verdict). append_told judging.out.taken x.out) yes;

@@ -25,7 +25,8 @@ use Rattle.sym_judge.proofs.LawLemmas.{yes_names, yes_frames}
 use Rattle.dumpsyms_cmd.specs.Verdict.{Verdict, LIMIT}
 use Rattle.dumpsyms_cmd.specs.Judgement.{judgement_verdict}
 use Rattle.dumpsyms_cmd.specs.declared.judgement.Judgement.{Judgement}
-use Rattle.dumpsyms_cmd.specs.commands.Dump.{DumpsFile, written_of}
+use Rattle.dumpsyms_cmd.specs.commands.Dump.{DumpsSource, written_of}
+use Rattle.dumpsyms_cmd.specs.ElfInput.{ElfSource}
 use Rattle.dumpsyms_cmd.specs.commands.Judge.{ruling_verdict, IsReadVerdict, JudgePromises}
 use Rattle.worked.specs.Judged.{NamesAsFile, KeepsRowsOfWords, KeepsFramesOfWords, SaysAsFile}
 
@@ -71,8 +72,8 @@ frames_too base own other entries told known keeps = record {
   nothing_else = λ x regs memory fits none. (yes_frames own other x told fits).nowhere regs memory (keeps.nothing_else x regs memory none);
 }
 
-says_as : (elf sym : List ℕ) (files : Files) (own : List SymLine) (err bytes : List ℕ) → DumpsFile elf files own err → files sym ≡ Some bytes → Judged own (file_reading LIMIT bytes) → SaysAsFile elf sym files
-says_as elf sym files own err bytes dumps there is = record {
+says_as : (source : ElfSource) (sym : List ℕ) (files : Files) (own : List SymLine) (err bytes : List ℕ) → DumpsSource source files own err → files sym ≡ Some bytes → Judged own (file_reading LIMIT bytes) → SaysAsFile source sym files
+says_as source sym files own err bytes dumps there is = record {
   parts = dumps.parts;
   image_is = dumps.image_is;
   found = dumps.dumps.found;
@@ -87,7 +88,7 @@ says_as elf sym files own err bytes dumps there is = record {
   frames = frames_too dumps.parts.base own is.other (written_of dumps.parts dumps.dumps.found) is.told (written_known dumps.parts.code dumps.dumps.found.first dumps.dumps.found.second) dumps.dumps.means;
 }
 
-pub yes_says : (elf sym : List ℕ) (files : Files) (j : Judgement) → JudgePromises elf sym (Some files) j → (judgement_verdict j).status ≡ 0 → SaysAsFile elf sym files
-yes_says elf sym files j (inl refuses) zero = let one : (judgement_verdict j).status ≡ 1 = ap (λ (w : Verdict). w.status) refuses.is in absurd (omega arith)
-yes_says elf sym files j (inr both) zero =
-    says_as elf sym files both.own both.err both.judged.bytes both.dumps both.judged.there (judged both.own (file_reading LIMIT both.judged.bytes) (judgement_verdict j) zero both.judged.is)
+pub yes_says : (source : ElfSource) (sym : List ℕ) (files : Files) (j : Judgement) → JudgePromises source sym (Some files) j → (judgement_verdict j).status ≡ 0 → SaysAsFile source sym files
+yes_says source sym files j (inl refuses) zero = let one : (judgement_verdict j).status ≡ 1 = ap (λ (w : Verdict). w.status) refuses.is in absurd (omega arith)
+yes_says source sym files j (inr both) zero =
+    says_as source sym files both.own both.err both.judged.bytes both.dumps both.judged.there (judged both.own (file_reading LIMIT both.judged.bytes) (judgement_verdict j) zero both.judged.is)

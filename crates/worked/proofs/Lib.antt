@@ -27,3 +27,5 @@ mod WorkedSymbolFiles
 mod WorkedStacks
 mod WorkedNames
 mod WorkedPairs
+mod WorkedFull
+mod WorkedPacked

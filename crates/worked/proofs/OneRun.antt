@@ -1,7 +1,8 @@
 -- Two runs over the same file write the same, by any numbers of workers.
 use Rattle.std.proofs.Common.{◌≡◌, ◌⊎◌, inl, inr, ◌<◌, Option, Some, sym, ap, subst, ◌∙◌, arith}
 use Rattle.sym_edges.specs.Outside.{Files, Tells, append_told}
-use Rattle.dumpsyms_cmd.specs.Verdict.{Verdict, unread}
+use Rattle.dumpsyms_cmd.specs.Words.{not_read_line}
+use Rattle.dumpsyms_cmd.specs.Verdict.{Verdict, unread_by}
 use Rattle.dumpsyms_cmd.specs.Answers.{IsVerdict}
 use Rattle.dumpsyms_cmd.specs.Observed.{ReceivedWhole}
 use Rattle.dumpsyms_cmd.specs.Judgement.{judgement_verdict}
@@ -27,7 +28,7 @@ judging_by run p low = go p.found
 
     go : WasJudged run ⊎ (WasNotRead run ⊎ HadNoMemory run) → WasJudged run
     go (inl judged) = judged
-    go (inr (inl unread_run)) = absurd (other unread unread_run.written (λ is. omega arith))
+    go (inr (inl unread_run)) = absurd (other (unread_by (not_read_line (command run) run.store.asked_after)) unread_run.written (λ is. omega arith))
     go (inr (inr none)) = absurd (let five = none.status in omega arith)
 
 judged_alike : (one other : Run) → RunAlike one other → WasJudged one → WasJudged other → one.status < 3 → other.status < 3 → EndAlike one other

@@ -2,11 +2,12 @@
 use Rattle.std.proofs.Common.{◌≡◌, ℕ, Bool, true, false, List, [], ◌++◌, Option, None, Some, Result, Ok, Err, length, nat_lt, refl, sym, ap, subst, ◌∙◌, zero, suc, inl, inr, arith}
 use Rattle.sym_edges.specs.Outside.{Files}
 use Rattle.sym_edges.specs.Results.{◌>>=◌}
-use Rattle.elf_sections.specs.Image.{ImageParts, parts_of, image_fault, image_by, image}
+use Rattle.elf_sections.specs.Image.{ImageParts, parts_of, image_fault, image_by, image, with_sections}
 use Rattle.elf_sections.specs.Programs.{base, code}
 use Rattle.elf_sections.specs.Sections.{sections}
 use Rattle.elf_sections.specs.declared.fault.ElfFault.{ElfFault}
 use Rattle.elf_sections.specs.Pair.{paired}
+use Rattle.full_image.specs.FullImage.{full_sections, full_fault, full_image, any_image}
 use Rattle.debug_pair.specs.Pairing.{pair_fault, pair_by, pair_of}
 use Rattle.debug_pair.specs.declared.fault.PairFault.{PairFault}
 use Rattle.sym_records.specs.Canon.{canon_text}
@@ -14,12 +15,12 @@ use Rattle.sym_records.specs.declared.line.SymLine.{SymLine}
 use Rattle.debug_read.specs.declared.fault.DebugFault.{DebugFault}
 use Rattle.debug_read.specs.DebugSays.{DebugSays, debug_says}
 use Rattle.debug_read.specs.Each.{Match}
-use Rattle.dumpsyms_cmd.specs.Words.{Asked, dump, dump_pair, command_of, module_name, sample, judge}
+use Rattle.dumpsyms_cmd.specs.Words.{Asked, dump, command_of, module_name, sample, judge}
 use Rattle.dumpsyms_cmd.specs.commands.Dump.{identity_lines, public_lines, frame_lines, CanonFile}
 use Rattle.dumpsyms_cmd.specs.Verdict.{Verdict, LIMIT}
 use Rattle.dumpsyms_cmd.specs.Refusals.{elf_line, debug_elf_line, pair_line}
-use Rattle.dumpsyms_cmd.specs.ElfInput.{DebugFile, or_refused, unless_longer, file_image, elf_image, path_of, with_file, then_file, pair_image}
-use Rattle.dumpsyms_cmd.specs.commands.Dump.{left_out, GivesText, IsDebugVerdict, IsDumpVerdict, IsFileVerdict, IsPairVerdict}
+use Rattle.dumpsyms_cmd.specs.ElfInput.{DebugFile, ElfSource, or_refused, unless_longer, file_image, elf_image, path_of, with_file, with_debug, given_image}
+use Rattle.dumpsyms_cmd.specs.commands.Dump.{left_out, GivesText, IsDebugVerdict, IsDumpVerdict, IsSourceVerdict}
 use Rattle.dumpsyms_cmd.specs.commands.Sample.{counts_line, IsCountsVerdict, IsImageCounts}
 use Rattle.dumpsyms_cmd.specs.commands.Judge.{ruling_verdict, IsReadVerdict, IsSymVerdict, IsTextVerdict, IsDumpedVerdict, IsJudgeVerdict}
 use Rattle.sym_rules.specs.declared.text_fault.TextFault.{TextFault}
@@ -50,11 +51,11 @@ one_canon parts name found xs ys below p q =
     = same_records parts.base p.units q.units p.pieces q.pieces p.functions q.functions same (small_units parts.code found.units p.units below p.units_are) p.pieces_are q.pieces_are p.functions_are q.functions_are in
     p.whole ∙ (λ i. identity_lines parts name ++ (functions i ++ (public_lines parts (pieces i) ++ frame_lines parts found))) ∙ sym q.whole
 
-abbrev given : ImageParts → DebugSays → List SymLine → Verdict
-given parts found lines = record { status = 0; out = canon_text lines; err = left_out parts found }
+abbrev given : Bool → ImageParts → DebugSays → List SymLine → Verdict
+given full parts found lines = record { status = 0; out = canon_text lines; err = left_out full parts found }
 
-one_text : (parts : ImageParts) (name : List ℕ) (found : DebugSays) (v w : Verdict) → EndBelow parts.code → GivesText parts name found v → GivesText parts name found w → v ≡ w
-one_text parts name found v w below p q = p.is ∙ ap (given parts found) (one_canon parts name found p.lines q.lines below p.canon q.canon) ∙ sym q.is
+one_text : (full : Bool) (parts : ImageParts) (name : List ℕ) (found : DebugSays) (v w : Verdict) → EndBelow parts.code → GivesText full parts name found v → GivesText full parts name found w → v ≡ w
+one_text full parts name found v w below p q = p.is ∙ ap (given full parts found) (one_canon parts name found p.lines q.lines below p.canon q.canon) ∙ sym q.is
 
 -- code ends below 2^64
 code_ends : (file : List ℕ) → EndBelow (code file)
@@ -73,27 +74,37 @@ image_ends : (file : List ℕ) (parts : ImageParts) → image file ≡ Ok parts 
 unfolding image
 image_ends file parts is = made_ends (image_fault file) (parts_of file) parts (parts_end file) is
 
--- verdict by verdict
-one_debug : (says : Result DebugSays DebugFault) (parts : ImageParts) (name : List ℕ) (v w : Verdict) → EndBelow parts.code → IsDebugVerdict says parts name v → IsDebugVerdict says parts name w → v ≡ w
-one_debug (Err fault) parts name v w below p q = p ∙ sym q
-one_debug (Ok found) parts name v w below p q = one_text parts name found v w below p q
+-- also where compressed sections are read, since these are no code
+full_end : (file : List ℕ) → EndBelow (with_sections (full_sections file) (parts_of file)).code
+unfolding with_sections
+full_end file = parts_end file
 
-one_given : (read : Result ImageParts Verdict) (name : List ℕ) (v w : Verdict) → ((parts : ImageParts) → read ≡ Ok parts → EndBelow parts.code) → IsDumpVerdict read name v → IsDumpVerdict read name w → v ≡ w
-one_given (Err ended) name v w below p q = p ∙ sym q
-one_given (Ok parts) name v w below p q = one_debug (debug_says parts) parts name v w (below parts refl) p q
+any_ends : (full : Bool) (file : List ℕ) (parts : ImageParts) → any_image full file ≡ Ok parts → EndBelow parts.code
+unfolding full_image
+any_ends true file parts is = made_ends (full_fault file) (with_sections (full_sections file) (parts_of file)) parts (full_end file) is
+any_ends false file parts is = image_ends file parts is
+
+-- verdict by verdict
+one_debug : (full : Bool) (says : Result DebugSays DebugFault) (parts : ImageParts) (name : List ℕ) (v w : Verdict) → EndBelow parts.code → IsDebugVerdict full says parts name v → IsDebugVerdict full says parts name w → v ≡ w
+one_debug full (Err fault) parts name v w below p q = p ∙ sym q
+one_debug full (Ok found) parts name v w below p q = one_text full parts name found v w below p q
+
+one_given : (full : Bool) (read : Result ImageParts Verdict) (name : List ℕ) (v w : Verdict) → ((parts : ImageParts) → read ≡ Ok parts → EndBelow parts.code) → IsDumpVerdict full read name v → IsDumpVerdict full read name w → v ≡ w
+one_given full (Err ended) name v w below p q = p ∙ sym q
+one_given full (Ok parts) name v w below p q = one_debug full (debug_says parts) parts name v w (below parts refl) p q
 
 -- the image that files give has code that ends below 2^64
 read_ends : (line : ElfFault → List ℕ) (read : Result ImageParts ElfFault) (parts : ImageParts) → ((p : ImageParts) → read ≡ Ok p → EndBelow p.code) → or_refused line read ≡ Ok parts → EndBelow parts.code
 read_ends line (Ok other) parts below is = (let same : other ≡ parts = cc in subst (λ (p : ImageParts). EndBelow p.code) same (below other refl))
 read_ends line (Err fault) parts below is = absurd (cc)
 
-longer_ends : (longer : Bool) (line : ElfFault → List ℕ) (bytes : List ℕ) (parts : ImageParts) → unless_longer longer (or_refused line (image bytes)) ≡ Ok parts → EndBelow parts.code
-longer_ends true line bytes parts is = absurd (cc)
-longer_ends false line bytes parts is = read_ends line (image bytes) parts (image_ends bytes) is
+longer_ends : (longer full : Bool) (line : ElfFault → List ℕ) (bytes : List ℕ) (parts : ImageParts) → unless_longer longer (or_refused line (any_image full bytes)) ≡ Ok parts → EndBelow parts.code
+longer_ends true full line bytes parts is = absurd (cc)
+longer_ends false full line bytes parts is = read_ends line (any_image full bytes) parts (any_ends full bytes) is
 
-file_ends : (line : ElfFault → List ℕ) (file : Option (List ℕ)) (parts : ImageParts) → file_image line file ≡ Ok parts → EndBelow parts.code
-file_ends line None parts is = absurd (cc)
-file_ends line (Some bytes) parts is = longer_ends (nat_lt LIMIT (length bytes)) line bytes parts is
+file_ends : (full : Bool) (line : ElfFault → List ℕ) (name : List ℕ) (file : Option (List ℕ)) (parts : ImageParts) → file_image full line name file ≡ Ok parts → EndBelow parts.code
+file_ends full line name None parts is = absurd (cc)
+file_ends full line name (Some bytes) parts is = longer_ends (nat_lt LIMIT (length bytes)) full line bytes parts is
 
 -- the code of a pair is the binary's
 paired_ends : (binary debug : ImageParts) → EndBelow binary.code → EndBelow (paired binary debug).code
@@ -108,20 +119,22 @@ debug_ends : (read : Result ImageParts Verdict) (binary parts : ImageParts) → 
 debug_ends (Ok debug) binary parts below is = fault_ends (pair_fault binary.build_id debug.build_id) binary debug parts below is
 debug_ends (Err ended) binary parts below is = absurd (cc)
 
-path_ends : (found : Result (List ℕ) Verdict) (binary : ImageParts) (files : Files) (parts : ImageParts) → EndBelow binary.code → (found >>= (λ path. with_file binary (files path))) ≡ Ok parts → EndBelow parts.code
-path_ends (Ok path) binary files parts below is = debug_ends (file_image debug_elf_line (files path)) binary parts below is
-path_ends (Err ended) binary files parts below is = absurd (cc)
+path_ends : (full : Bool) (found : Result (List ℕ) Verdict) (binary : ImageParts) (files : Files) (parts : ImageParts) → EndBelow binary.code → (found >>= (λ path. with_file full binary path (files path))) ≡ Ok parts → EndBelow parts.code
+path_ends full (Ok path) binary files parts below is = debug_ends (file_image full debug_elf_line path (files path)) binary parts below is
+path_ends full (Err ended) binary files parts below is = absurd (cc)
 
-binary_ends : (read : Result ImageParts Verdict) (debug : DebugFile) (files : Files) (parts : ImageParts) → ((p : ImageParts) → read ≡ Ok p → EndBelow p.code) → (read >>= (λ binary. then_file binary (path_of debug binary) files)) ≡ Ok parts → EndBelow parts.code
-binary_ends (Ok binary) debug files parts below is = path_ends (path_of debug binary) binary files parts (below binary refl) is
-binary_ends (Err ended) debug files parts below is = absurd (cc)
+with_ends : (full : Bool) (debug : Option DebugFile) (binary : ImageParts) (files : Files) (parts : ImageParts) → EndBelow binary.code → with_debug full debug binary files ≡ Ok parts → EndBelow parts.code
+with_ends full None binary files parts below is = (let same : binary ≡ parts = cc in subst (λ (p : ImageParts). EndBelow p.code) same below)
+with_ends full (Some debug) binary files parts below is = path_ends full (path_of debug binary) binary files parts below is
 
-pub one_file : (elf : List ℕ) (file : Option (List ℕ)) (v w : Verdict) → IsFileVerdict elf file v → IsFileVerdict elf file w → v ≡ w
-one_file elf file v w p q = one_given (file_image elf_line file) (module_name elf) v w (file_ends elf_line file) p q
+binary_ends : (read : Result ImageParts Verdict) (full : Bool) (debug : Option DebugFile) (files : Files) (parts : ImageParts) → ((p : ImageParts) → read ≡ Ok p → EndBelow p.code) → (read >>= (λ binary. with_debug full debug binary files)) ≡ Ok parts → EndBelow parts.code
+binary_ends (Ok binary) full debug files parts below is = with_ends full debug binary files parts (below binary refl) is
+binary_ends (Err ended) full debug files parts below is = absurd (cc)
 
-one_pair : (elf : List ℕ) (debug : DebugFile) (files : Files) (v w : Verdict) → IsPairVerdict elf debug files v → IsPairVerdict elf debug files w → v ≡ w
-one_pair elf debug files v w p q =
-    one_given (pair_image elf debug files) (module_name elf) v w (λ parts is. binary_ends (elf_image elf files) debug files parts (file_ends elf_line (files elf)) is) p q
+pub one_source : (source : ElfSource) (files : Files) (v w : Verdict) → IsSourceVerdict source files v → IsSourceVerdict source files w → v ≡ w
+one_source source files v w p q =
+    one_given source.full (given_image source files) (module_name source.elf) v w
+    (λ parts is. binary_ends (elf_image source files) source.full source.debug files parts (file_ends source.full elf_line source.elf (files source.elf)) is) p q
 
 -- the counts of a made file
 abbrev counted : ImageParts → DebugSays → List SymLine → Verdict
@@ -163,22 +176,22 @@ one_read : (own : List SymLine) (read : Result (List SymLine) SymRefusal) (v w :
 one_read own (Ok other) v w p q = p.is ∙ ap ruling_verdict (one_ruling own other p.ruling q.ruling p.ruling_is q.ruling_is) ∙ sym q.is
 one_read own (Err why) v w p q = p ∙ sym q
 
-one_sym : (own : List SymLine) (bytes : Option (List ℕ)) (v w : Verdict) → IsSymVerdict own bytes v → IsSymVerdict own bytes w → v ≡ w
-one_sym own None v w p q = p ∙ sym q
-one_sym own (Some bytes) v w p q = one_read own (file_reading LIMIT bytes) v w p q
+one_sym : (full : Bool) (name : List ℕ) (own : List SymLine) (bytes : Option (List ℕ)) (v w : Verdict) → IsSymVerdict full name own bytes v → IsSymVerdict full name own bytes w → v ≡ w
+one_sym full name own None v w p q = p ∙ sym q
+one_sym full name own (Some bytes) v w p q = one_read own (file_reading LIMIT bytes) v w p q
 
-one_own : (read : Result (List SymLine) TextFault) (bytes : Option (List ℕ)) (v w : Verdict) → IsTextVerdict read bytes v → IsTextVerdict read bytes w → v ≡ w
-one_own (Ok own) bytes v w p q = one_sym own bytes v w p q
-one_own (Err fault) bytes v w p q = absurd p
+one_own : (full : Bool) (name : List ℕ) (read : Result (List SymLine) TextFault) (bytes : Option (List ℕ)) (v w : Verdict) → IsTextVerdict full name read bytes v → IsTextVerdict full name read bytes w → v ≡ w
+one_own full name (Ok own) bytes v w p q = one_sym full name own bytes v w p q
+one_own full name (Err fault) bytes v w p q = absurd p
 
-one_dumped : (status : ℕ) (dumped : Verdict) (bytes : Option (List ℕ)) (v w : Verdict) → IsDumpedVerdict status dumped bytes v → IsDumpedVerdict status dumped bytes w → v ≡ w
-one_dumped zero dumped bytes v w p q = one_own (reading dumped.out) bytes v w p q
-one_dumped (suc status) dumped bytes v w p q = p ∙ sym q
+one_dumped : (full : Bool) (name : List ℕ) (status : ℕ) (dumped : Verdict) (bytes : Option (List ℕ)) (v w : Verdict) → IsDumpedVerdict full name status dumped bytes v → IsDumpedVerdict full name status dumped bytes w → v ≡ w
+one_dumped full name zero dumped bytes v w p q = one_own full name (reading dumped.out) bytes v w p q
+one_dumped full name (suc status) dumped bytes v w p q = p ∙ sym q
 
-one_judged : (elf : List ℕ) (file bytes : Option (List ℕ)) (v w : Verdict) → IsJudgeVerdict elf file bytes v → IsJudgeVerdict elf file bytes w → v ≡ w
-one_judged elf file bytes v w p q =
-    let same : p.dumped ≡ q.dumped = one_file elf file p.dumped q.dumped p.dumped_is q.dumped_is in
-    one_dumped q.dumped.status q.dumped bytes v w (subst (λ (d : Verdict). IsDumpedVerdict d.status d bytes v) same p.is) q.is
+one_judged : (source : ElfSource) (name : List ℕ) (files : Files) (v w : Verdict) → IsJudgeVerdict source name files v → IsJudgeVerdict source name files w → v ≡ w
+one_judged source name files v w p q =
+    let same : p.dumped ≡ q.dumped = one_source source files p.dumped q.dumped p.dumped_is q.dumped_is in
+    one_dumped source.full name q.dumped.status q.dumped (files name) v w (subst (λ (d : Verdict). IsDumpedVerdict source.full name d.status d (files name) v) same p.is) q.is
 
 -- a command asks for the same as itself
 alike : (c : Option Asked) → AskAlike c c
@@ -187,14 +200,13 @@ alike (Some c) = refl
 
 -- the number of workers does not matter
 any_workers : (c : Asked) (files : Files) (v : Verdict) → IsVerdict (Some c) files v → IsVerdict (Some (by_one_worker c)) files v
-any_workers (dump elf workers) files v is = is
+any_workers (dump source workers) files v is = is
 any_workers other files v is = is
 
 one_command : (c : Asked) (files : Files) (v w : Verdict) → IsVerdict (Some c) files v → IsVerdict (Some c) files w → v ≡ w
-one_command (dump elf workers) files v w p q = one_file elf (files elf) v w p q
-one_command (dump_pair elf debug) files v w p q = one_pair elf debug files v w p q
+one_command (dump source workers) files v w p q = one_source source files v w p q
 one_command (sample units workers) files v w p q = one_sample (image (made units)) v w (image_ends (made units)) p q
-one_command (judge elf name) files v w p q = one_judged elf (files elf) (files name) v w p q
+one_command (judge source name) files v w p q = one_judged source name files v w p q
 one_command other files v w p q = p ∙ sym q
 
 -- two commands that ask for the same have one verdict

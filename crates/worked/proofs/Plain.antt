@@ -1,6 +1,6 @@
 -- The verdict of words and files, computed: of a dump where nothing of a unit is dumped (no unit of the file is read, or it is refused), and of
 -- the commands over symbol files.
-use Rattle.std.specs.Prelude.{◌≡◌, ℕ, List, [], ◌∷◌, ◌++◌, Option, Some, None, Result, Ok, Err}
+use Rattle.std.specs.Prelude.{◌≡◌, ℕ, Bool, List, [], ◌∷◌, ◌++◌, Option, Some, None, Result, Ok, Err}
 use Rattle.std.proofs.Common.{refl, sym, subst}
 use Rattle.std.specs.List.Sorted.{IsStrictlySortedBy}
 use Rattle.sym_edges.specs.Outside.{Files}
@@ -15,7 +15,7 @@ use Rattle.func_flatten.specs.Pieces.{owner_place, ArePieces}
 use Rattle.func_records.specs.FuncRecords.{AreFuncRecords}
 use Rattle.sym_records.specs.Canon.{canon_text}
 use Rattle.sym_records.specs.declared.line.SymLine.{SymLine}
-use Rattle.dumpsyms_cmd.specs.Words.{Asked, dump, dump_pair, check, lookup, frame, sample, walk, names, command_of, module_name, judge}
+use Rattle.dumpsyms_cmd.specs.Words.{Asked, dump, check, lookup, frame, sample, walk, names, command_of, module_name, judge}
 use Rattle.dumpsyms_cmd.specs.SymbolInput.{file_verdict as checked}
 use Rattle.dumpsyms_cmd.specs.commands.Check.{check_answer}
 use Rattle.dumpsyms_cmd.specs.commands.Lookup.{lookup_answer}
@@ -27,7 +27,7 @@ use Rattle.dumpsyms_cmd.specs.commands.Names.{names_answer}
 use Rattle.dumpsyms_cmd.specs.Refusals.{debug_line}
 use Rattle.dumpsyms_cmd.specs.commands.Dump.{identity_lines, public_lines, frame_lines, CanonFile}
 use Rattle.dumpsyms_cmd.specs.Verdict.{Verdict, refused}
-use Rattle.dumpsyms_cmd.specs.ElfInput.{elf_image, pair_image}
+use Rattle.dumpsyms_cmd.specs.ElfInput.{ElfSource, given_image}
 use Rattle.dumpsyms_cmd.specs.commands.Dump.{left_out, GivesText, IsDebugVerdict, IsDumpVerdict}
 use Rattle.dumpsyms_cmd.specs.Answers.{IsVerdict, usage}
 use Rattle.worked.proofs.PlainJudge.{dumped_verdict, dumped_is}
@@ -38,33 +38,35 @@ abbrev pub plain_lines : ImageParts → List ℕ → DebugSays → List SymLine
 plain_lines parts name found = identity_lines parts name ++ (public_lines parts [] ++ frame_lines parts found)
 
 -- by the units that are read: nothing is computed where one is
-abbrev pub found_verdict : List UnitSays → ImageParts → List ℕ → DebugSays → Option Verdict
-found_verdict [] parts name found = Some (record { status = 0; out = canon_text (plain_lines parts name found); err = left_out parts found })
-found_verdict (unit ∷ units) parts name found = None
+abbrev pub found_verdict : Bool → List UnitSays → ImageParts → List ℕ → DebugSays → Option Verdict
+found_verdict full [] parts name found = Some (record { status = 0; out = canon_text (plain_lines parts name found); err = left_out full parts found })
+found_verdict full (unit ∷ units) parts name found = None
 
-abbrev pub debug_verdict : Result DebugSays DebugFault → ImageParts → List ℕ → Option Verdict
-debug_verdict (Err fault) parts name = Some (refused (debug_line fault))
-debug_verdict (Ok found) parts name = found_verdict found.units parts name found
+abbrev pub debug_verdict : Bool → Result DebugSays DebugFault → ImageParts → List ℕ → Option Verdict
+debug_verdict full (Err fault) parts name = Some (refused (debug_line fault))
+debug_verdict full (Ok found) parts name = found_verdict full found.units parts name found
 
-abbrev pub image_verdict : Result ImageParts Verdict → List ℕ → Option Verdict
-image_verdict (Err ended) name = Some ended
-image_verdict (Ok parts) name = debug_verdict (debug_says parts) parts name
+abbrev pub image_verdict : Bool → Result ImageParts Verdict → List ℕ → Option Verdict
+image_verdict full (Err ended) name = Some ended
+image_verdict full (Ok parts) name = debug_verdict full (debug_says parts) parts name
+
+abbrev pub source_verdict : ElfSource → Files → Option Verdict
+source_verdict source files = image_verdict source.full (given_image source files) (module_name source.elf)
 
 -- of `judge` by that of `dump`
-abbrev pub judge_verdict : Option Verdict → Option (List ℕ) → Option Verdict
-judge_verdict None bytes = None
-judge_verdict (Some dumped) bytes = dumped_verdict dumped.status dumped bytes
+abbrev pub judge_verdict : Bool → List ℕ → Option Verdict → Option (List ℕ) → Option Verdict
+judge_verdict full name None bytes = None
+judge_verdict full name (Some dumped) bytes = dumped_verdict full name dumped.status dumped bytes
 
 abbrev pub command_verdict : Option Asked → Files → Option Verdict
 command_verdict None files = Some usage
-command_verdict (Some (dump elf workers)) files = image_verdict (elf_image elf files) (module_name elf)
-command_verdict (Some (dump_pair elf debug)) files = image_verdict (pair_image elf debug files) (module_name elf)
+command_verdict (Some (dump source workers)) files = source_verdict source files
 command_verdict (Some (check name)) files = Some (checked check_answer (files name))
 command_verdict (Some (lookup name address)) files = Some (checked (lookup_answer address) (files name))
 command_verdict (Some (frame name address state)) files = Some (both_verdict (frame_answer address) (files name) (files state))
 command_verdict (Some (sample units workers)) files = None
 command_verdict (Some (walk name state)) files = Some (both_verdict walk_answer (files name) (files state))
-command_verdict (Some (judge elf name)) files = judge_verdict (image_verdict (elf_image elf files) (module_name elf)) (files name)
+command_verdict (Some (judge source name)) files = judge_verdict source.full name (source_verdict source files) (files name)
 command_verdict (Some (names name)) files = Some (checked names_answer (files name))
 
 abbrev pub plain_verdict : List (List ℕ) → Files → Option Verdict
@@ -106,28 +108,28 @@ the_same is = cc
 not_told : {A : Type 0} {x : A} → ◌≡◌ {A = Option A} None (Some x) → ⊥
 not_told is = cc
 
-found_is : (units : List UnitSays) (parts : ImageParts) (name : List ℕ) (found : DebugSays) (v : Verdict) → found.units ≡ units → found_verdict units parts name found ≡ Some v → GivesText parts name found v
-found_is [] parts name found v none is = record { lines = plain_lines parts name found; canon = plain_canon parts name found none; is = the_same is }
-found_is (unit ∷ units) parts name found v same is = absurd (not_told is)
+found_is : (full : Bool) (units : List UnitSays) (parts : ImageParts) (name : List ℕ) (found : DebugSays) (v : Verdict) → found.units ≡ units → found_verdict full units parts name found ≡ Some v → GivesText full parts name found v
+found_is full [] parts name found v none is = record { lines = plain_lines parts name found; canon = plain_canon parts name found none; is = the_same is }
+found_is full (unit ∷ units) parts name found v same is = absurd (not_told is)
 
-debug_is : (says : Result DebugSays DebugFault) (parts : ImageParts) (name : List ℕ) (v : Verdict) → debug_verdict says parts name ≡ Some v → IsDebugVerdict says parts name v
-debug_is (Err fault) parts name v is = the_same is
-debug_is (Ok found) parts name v is = found_is found.units parts name found v refl is
+debug_is : (full : Bool) (says : Result DebugSays DebugFault) (parts : ImageParts) (name : List ℕ) (v : Verdict) → debug_verdict full says parts name ≡ Some v → IsDebugVerdict full says parts name v
+debug_is full (Err fault) parts name v is = the_same is
+debug_is full (Ok found) parts name v is = found_is full found.units parts name found v refl is
 
-image_is : (read : Result ImageParts Verdict) (name : List ℕ) (v : Verdict) → image_verdict read name ≡ Some v → IsDumpVerdict read name v
-image_is (Err ended) name v is = the_same is
-image_is (Ok parts) name v is = debug_is (debug_says parts) parts name v is
+image_is : (full : Bool) (read : Result ImageParts Verdict) (name : List ℕ) (v : Verdict) → image_verdict full read name ≡ Some v → IsDumpVerdict full read name v
+image_is full (Err ended) name v is = the_same is
+image_is full (Ok parts) name v is = debug_is full (debug_says parts) parts name v is
 
-judge_is : (elf : List ℕ) (files : Files) (bytes : Option (List ℕ)) (v : Verdict) (dumped : Option Verdict) → image_verdict (elf_image elf files) (module_name elf) ≡ dumped → judge_verdict dumped bytes ≡ Some v → IsJudgeVerdict elf (files elf) bytes v
-judge_is elf files bytes v None told is = absurd (not_told is)
-judge_is elf files bytes v (Some dumped) told is = record { dumped = dumped; dumped_is = image_is (elf_image elf files) (module_name elf) dumped told; is = dumped_is dumped.status dumped bytes v is }
+judge_is : (source : ElfSource) (name : List ℕ) (files : Files) (v : Verdict) (dumped : Option Verdict) → source_verdict source files ≡ dumped → judge_verdict source.full name dumped (files name) ≡ Some v → IsJudgeVerdict source name files v
+judge_is source name files v None told is = absurd (not_told is)
+judge_is source name files v (Some dumped) told is =
+    record { dumped = dumped; dumped_is = image_is source.full (given_image source files) (module_name source.elf) dumped told; is = dumped_is source.full name dumped.status dumped (files name) v is }
 
 command_is : (command : Option Asked) (files : Files) (v : Verdict) → command_verdict command files ≡ Some v → IsVerdict command files v
 command_is None files v is = the_same is
-command_is (Some (dump elf workers)) files v is = image_is (elf_image elf files) (module_name elf) v is
-command_is (Some (dump_pair elf debug)) files v is = image_is (pair_image elf debug files) (module_name elf) v is
+command_is (Some (dump source workers)) files v is = image_is source.full (given_image source files) (module_name source.elf) v is
 command_is (Some (sample units workers)) files v is = absurd (not_told is)
-command_is (Some (judge elf name)) files v is = judge_is elf files (files name) v (image_verdict (elf_image elf files) (module_name elf)) refl is
+command_is (Some (judge source name)) files v is = judge_is source name files v (source_verdict source files) refl is
 command_is (Some other) files v is = the_same is
 
 -- a verdict that is computed is that of the words and files

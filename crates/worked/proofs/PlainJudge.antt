@@ -12,7 +12,7 @@ use Rattle.sym_judge.specs.declared.ruling.Ruling.TheVariants.{Yes, No}
 use Rattle.sym_judge.specs.declared.ruling.Half.TheVariants.{Names, Frames}
 use Rattle.sym_judge.specs.internal.Stops.{half_ruling, sooner, Fits, IsHalfRuling}
 use Rattle.sym_judge.proofs.StopLemmas.{half_is, rulings_join}
-use Rattle.dumpsyms_cmd.specs.Verdict.{Verdict, refused, unread, LIMIT}
+use Rattle.dumpsyms_cmd.specs.Verdict.{Verdict, refused, unread_file, LIMIT}
 use Rattle.dumpsyms_cmd.specs.SymbolInput.{refusal_line}
 use Rattle.dumpsyms_cmd.specs.commands.Judge.{ruling_verdict, IsRuled, IsReadVerdict, IsSymVerdict, IsTextVerdict, IsDumpedVerdict}
 
@@ -27,17 +27,17 @@ abbrev pub read_verdict : List SymLine → Result (List SymLine) SymRefusal → 
 read_verdict own (Ok other) = by_halves (half_ruling Names own other) (half_ruling Frames own other)
 read_verdict own (Err why) = Some (refused (refusal_line why))
 
-abbrev pub sym_verdict : List SymLine → Option (List ℕ) → Option Verdict
-sym_verdict own None = Some unread
-sym_verdict own (Some bytes) = read_verdict own (file_reading LIMIT bytes)
+abbrev pub sym_verdict : Bool → List ℕ → List SymLine → Option (List ℕ) → Option Verdict
+sym_verdict full name own None = Some (unread_file full name)
+sym_verdict full name own (Some bytes) = read_verdict own (file_reading LIMIT bytes)
 
-abbrev pub text_verdict : Result (List SymLine) TextFault → Option (List ℕ) → Option Verdict
-text_verdict (Ok own) sym_bytes = sym_verdict own sym_bytes
-text_verdict (Err fault) sym_bytes = None
+abbrev pub text_verdict : Bool → List ℕ → Result (List SymLine) TextFault → Option (List ℕ) → Option Verdict
+text_verdict full name (Ok own) sym_bytes = sym_verdict full name own sym_bytes
+text_verdict full name (Err fault) sym_bytes = None
 
-abbrev pub dumped_verdict : ℕ → Verdict → Option (List ℕ) → Option Verdict
-dumped_verdict zero dumped sym_bytes = text_verdict (reading dumped.out) sym_bytes
-dumped_verdict (suc status) dumped sym_bytes = Some dumped
+abbrev pub dumped_verdict : Bool → List ℕ → ℕ → Verdict → Option (List ℕ) → Option Verdict
+dumped_verdict full name zero dumped sym_bytes = text_verdict full name (reading dumped.out) sym_bytes
+dumped_verdict full name (suc status) dumped sym_bytes = Some dumped
 
 the_same : {A : Type 0} {x y : A} → ◌≡◌ {A = Option A} (Some x) (Some y) → y ≡ x
 the_same is = cc
@@ -63,14 +63,14 @@ read_is : (own : List SymLine) (read : Result (List SymLine) SymRefusal) (v : Ve
 read_is own (Ok other) v is = let names : Ruling = half_ruling Names own other in let frames : Ruling = half_ruling Frames own other in halves_by own other names frames v (fits names) (fits frames) refl refl refl refl is
 read_is own (Err why) v is = the_same is
 
-sym_is : (own : List SymLine) (bytes : Option (List ℕ)) (v : Verdict) → sym_verdict own bytes ≡ Some v → IsSymVerdict own bytes v
-sym_is own None v is = the_same is
-sym_is own (Some bytes) v is = read_is own (file_reading LIMIT bytes) v is
+sym_is : (full : Bool) (name : List ℕ) (own : List SymLine) (bytes : Option (List ℕ)) (v : Verdict) → sym_verdict full name own bytes ≡ Some v → IsSymVerdict full name own bytes v
+sym_is full name own None v is = the_same is
+sym_is full name own (Some bytes) v is = read_is own (file_reading LIMIT bytes) v is
 
-text_is : (read : Result (List SymLine) TextFault) (bytes : Option (List ℕ)) (v : Verdict) → text_verdict read bytes ≡ Some v → IsTextVerdict read bytes v
-text_is (Ok own) bytes v is = sym_is own bytes v is
-text_is (Err fault) bytes v is = absurd (not_told is)
+text_is : (full : Bool) (name : List ℕ) (read : Result (List SymLine) TextFault) (bytes : Option (List ℕ)) (v : Verdict) → text_verdict full name read bytes ≡ Some v → IsTextVerdict full name read bytes v
+text_is full name (Ok own) bytes v is = sym_is full name own bytes v is
+text_is full name (Err fault) bytes v is = absurd (not_told is)
 
-pub dumped_is : (status : ℕ) (dumped : Verdict) (bytes : Option (List ℕ)) (v : Verdict) → dumped_verdict status dumped bytes ≡ Some v → IsDumpedVerdict status dumped bytes v
-dumped_is zero dumped bytes v is = text_is (reading dumped.out) bytes v is
-dumped_is (suc status) dumped bytes v is = the_same is
+pub dumped_is : (full : Bool) (name : List ℕ) (status : ℕ) (dumped : Verdict) (bytes : Option (List ℕ)) (v : Verdict) → dumped_verdict full name status dumped bytes ≡ Some v → IsDumpedVerdict full name status dumped bytes v
+dumped_is full name zero dumped bytes v is = text_is full name (reading dumped.out) bytes v is
+dumped_is full name (suc status) dumped bytes v is = the_same is

@@ -1,5 +1,5 @@
 -- The frames of a walk by DWARF's rows; for `walks_go_by_the_rows`.
-use Rattle.std.proofs.Common.{◌≡◌, ℕ, zero, suc, ◌+◌, ◌-◌, List, [], ◌∷◌, Option, None, Some, Result, Ok, Err, refl, sym, ap, subst, arith}
+use Rattle.std.proofs.Common.{◌≡◌, ℕ, zero, suc, ◌+◌, ◌-◌, Bool, List, [], ◌∷◌, Option, None, Some, Result, Ok, Err, refl, sym, ap, subst, arith}
 use Rattle.std.specs.List.{AllByRecursion}
 use Rattle.std.specs.Option.{option_map}
 use Rattle.sym_edges.specs.Results.{◌>>=◌}
@@ -67,6 +67,6 @@ by_rip base entries lines memory regs (Some r) walk keeps is =
     let same : walk_from lines memory 1024 (first_place regs r) ≡ walk = cc in
     subst (λ (w : Walk). AreRowSteps base entries memory regs w.steps) same (steps_from base entries lines memory 1024 (first_place regs r) keeps)
 
-pub walks_by_rows : (parts : ImageParts) (name : List ℕ) (lines : List SymLine) (text : List ℕ) (dumped : DumpsParts parts name lines text) (state : State) (walk : Walk) → walk_of lines state ≡ Some walk → AreRowSteps parts.base (written_of parts dumped.found) state.memory state.regs walk.steps
+pub walks_by_rows : (full : Bool) (parts : ImageParts) (name : List ℕ) (lines : List SymLine) (text : List ℕ) (dumped : DumpsParts full parts name lines text) (state : State) (walk : Walk) → walk_of lines state ≡ Some walk → AreRowSteps parts.base (written_of parts dumped.found) state.memory state.regs walk.steps
 unfolding walk_of
-walks_by_rows parts name lines text dumped state walk is = by_rip parts.base (written_of parts dumped.found) lines state.memory state.regs state.regs.rip walk dumped.means is
+walks_by_rows full parts name lines text dumped state walk is = by_rip parts.base (written_of parts dumped.found) lines state.memory state.regs state.regs.rip walk dumped.means is

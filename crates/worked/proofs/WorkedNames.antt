@@ -14,8 +14,8 @@ three_names : shown_as (Some (codes "MODULE Linux x86_64 0 _ZN1m17h0123456789abc
 unfolding shown_as symbols_compute
 three_names = refl
 
--- names of other forms stay, and the text becomes the canonical one
-other_names : shown_as (Some (codes "MODULE  Linux x86_64 0 a\r\nFUNC 01000 10 0 _Z1fv\nPUBLIC 2000 0 _RNvC1a1f\n")) ≡ Some (0, "MODULE Linux x86_64 0 a\nFUNC 1000 10 0 _Z1fv\nPUBLIC 2000 0 _RNvC1a1f\n", "")
+-- a name of Rust's current form; names of other forms stay, and the text becomes the canonical one
+other_names : shown_as (Some (codes "MODULE  Linux x86_64 0 a\r\nFUNC 01000 10 0 _Z1fv\nPUBLIC 2000 0 _RNvC1a1f\n")) ≡ Some (0, "MODULE Linux x86_64 0 a\nFUNC 1000 10 0 _Z1fv\nPUBLIC 2000 0 a::f\n", "")
 unfolding shown_as symbols_compute
 other_names = refl
 

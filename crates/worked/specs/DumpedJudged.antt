@@ -1,24 +1,25 @@
--- Two runs of which the first dumps an ELF file, and the second judges the text that the first wrote.
+-- Two runs of which the first dumps a source, an ELF file or one with its debug file, and the second judges the text that the first wrote.
 use Rattle.std.specs.Prelude.{◌≡◌, ℕ, ◌≤◌, List, [], codes, length, Some}
 use Rattle.sym_edges.specs.Outside.{Files, append_told}
 use Rattle.dumpsyms_cmd.specs.Words.{dump, judge}
 use Rattle.dumpsyms_cmd.specs.Verdict.{LIMIT}
+use Rattle.dumpsyms_cmd.specs.ElfInput.{ElfSource, given_image}
 use Rattle.dumpsyms_cmd.specs.Program.{Run, command}
 
--- a run that dumped an ELF file with status 0, and a run that is asked to judge the same file and a symbol file; its bytes are the text that
--- the first wrote, at most 2^29 of them
+-- a run that dumped a source with status 0, and a run that is asked to judge the same, where the store still gives the same image, and a symbol
+-- file; its bytes are the text that the first wrote, at most 2^29 of them
 pub record JudgesWhatWasDumped (dumping judging : Run) : Type 0 where
-  pub elf : List ℕ
+  pub source : ElfSource
   pub sym : List ℕ
   pub workers : ℕ
   pub text : List ℕ
   pub before : Files
   pub after : Files
-  pub dumps : command dumping ≡ Some (dump elf workers)
-  pub judges : command judging ≡ Some (judge elf sym)
+  pub dumps : command dumping ≡ Some (dump source workers)
+  pub judges : command judging ≡ Some (judge source sym)
   pub dumping_tells : dumping.store.files ≡ Some before
   pub judging_tells : judging.store.files ≡ Some after
-  pub same_elf : before elf ≡ after elf
+  pub same_image : given_image source before ≡ given_image source after
   pub done : dumping.status ≡ 0
   pub out : dumping.out.taken ≡ Some []
   pub wrote : dumping.out.taken_after ≡ Some text

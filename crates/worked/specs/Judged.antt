@@ -23,7 +23,7 @@ use Rattle.debug_read.specs.UnitsRead.{IsUnitRead}
 use Rattle.debug_read.specs.DebugSays.{DebugSays, debug_says}
 use Rattle.cfi_eval.specs.Known.{AreWords, AreBytes}
 use Rattle.sym_judge.specs.SameMeaning.{said}
-use Rattle.dumpsyms_cmd.specs.ElfInput.{elf_image}
+use Rattle.dumpsyms_cmd.specs.ElfInput.{ElfSource, given_image}
 use Rattle.dumpsyms_cmd.specs.Verdict.{LIMIT}
 use Rattle.dumpsyms_cmd.specs.commands.Dump.{written_of}
 
@@ -44,10 +44,10 @@ pub record KeepsFramesOfWords (base : ℕ) (entries : List FdeFields) (lines : L
   pub rows : AllByRecursion (KeepsRowsOfWords base lines) entries
   pub nothing_else : (x : ℕ) (regs : Regs) (memory : List MemRun) → x < 2 ^ 64 → entries_at entries (x + base) ≡ 0 → text_frame lines x regs memory ≡ None
 
--- both files are there and read; the symbol file names at each address what DWARF says there, and its frame rules give what DWARF's rows give
-pub record SaysAsFile (elf sym : List ℕ) (files : Files) : Type 0 where
+-- the files are there and read; the symbol file names at each address what DWARF says there, and its frame rules give what DWARF's rows give
+pub record SaysAsFile (source : ElfSource) (sym : List ℕ) (files : Files) : Type 0 where
   pub parts : ImageParts
-  pub image_is : elf_image elf files ≡ Ok parts
+  pub image_is : given_image source files ≡ Ok parts
   pub found : DebugSays
   pub found_is : debug_says parts ≡ Ok found
   pub units : List UnitRead

@@ -6,7 +6,7 @@ use Rattle.dumpsyms_cmd.specs.Program.{Run, command}
 
 -- what a command asks for, whatever the number of workers
 abbrev pub by_one_worker : Asked → Asked
-by_one_worker (dump elf workers) = dump elf 1
+by_one_worker (dump source workers) = dump source 1
 by_one_worker (sample units workers) = sample units 1
 by_one_worker other = other
 

@@ -1,14 +1,15 @@
 //! What holds of all runs of the program, and of what its commands say of each other's texts. Each function does nothing: its contract is the law.
-ghost use Rattle.std.specs.Prelude.{◌≡◌, ◌<◌, ◌↔◌, ℕ, List, Some, IsSome, Ok};
+ghost use Rattle.std.specs.Prelude.{◌≡◌, ◌<◌, ◌↔◌, ℕ, Bool, List, Some, None, IsSome, Ok};
 ghost use Rattle.sym_edges.specs.Outside.{Files};
-ghost use Rattle.elf_sections.specs.Image.{ImageParts, image};
+ghost use Rattle.elf_sections.specs.Image.{ImageParts};
+ghost use Rattle.full_image.specs.FullImage.{any_image};
 ghost use Rattle.sym_records.specs.declared.line.SymLine.{SymLine};
 ghost use Rattle.state_file.specs.declared.state.State.{State};
 ghost use Rattle.stack_walk.specs.declared.steps.Walk.{Walk};
 ghost use Rattle.stack_walk.specs.Walk.{walk_of};
 ghost use Rattle.dumpsyms_cmd.specs.commands.Dump.{DumpsParts, written_of};
-ghost use Rattle.dumpsyms_cmd.specs.Words.{command_of, dump, dump_pair};
-ghost use Rattle.dumpsyms_cmd.specs.ElfInput.{DebugFile, path_of};
+ghost use Rattle.dumpsyms_cmd.specs.Words.{command_of, dump};
+ghost use Rattle.dumpsyms_cmd.specs.ElfInput.{DebugFile, ElfSource, path_of};
 ghost use Rattle.dumpsyms_cmd.specs.Verdict.{Verdict};
 ghost use Rattle.dumpsyms_cmd.specs.Answers.{IsVerdict};
 ghost use Rattle.dumpsyms_cmd.specs.Program.{Run, Promises};
@@ -33,25 +34,26 @@ pub fn judging_runs_end_alike()
 
 /// Where the debug file of a binary is the binary itself, and that has a build id, the verdict is that of the binary alone.
 pub fn own_debug_files_change_nothing()
-    ensures { (elf file path : List ℕ) (debug : DebugFile) (workers : ℕ) (files : Files) (parts : ImageParts) (v : Verdict) →
-        files elf ≡ Some file → image file ≡ Ok parts → IsSome parts.build_id → path_of debug parts ≡ Ok path → files path ≡ Some file →
-        IsVerdict (Some (dump_pair elf debug)) files v ↔ IsVerdict (Some (dump elf workers)) files v }
+    ensures { (full : Bool) (elf file path : List ℕ) (debug : DebugFile) (workers : ℕ) (files : Files) (parts : ImageParts) (v : Verdict) →
+        files elf ≡ Some file → any_image full file ≡ Ok parts → IsSome parts.build_id → path_of debug parts ≡ Ok path → files path ≡ Some file →
+        IsVerdict (Some (dump (record { full = full; elf = elf; debug = Some debug }) workers)) files v ↔
+        IsVerdict (Some (dump (record { full = full; elf = elf; debug = None }) workers)) files v }
 {}
 
 /// A walk over the records that `dump` writes, from any state, unwinds as DWARF says: at each step inside a written frame entry it has the CFA, the
 /// return address and the registers of the entry's row, over the registers that the row before gave, and at any other step it ends.
 pub fn walks_go_by_the_rows()
-    ensures { (parts : ImageParts) (name : List ℕ) (lines : List SymLine) (text : List ℕ) (dumped : DumpsParts parts name lines text) (state : State) (walk : Walk) →
+    ensures { (full : Bool) (parts : ImageParts) (name : List ℕ) (lines : List SymLine) (text : List ℕ) (dumped : DumpsParts full parts name lines text) (state : State) (walk : Walk) →
         walk_of lines state ≡ Some walk → AreRowSteps parts.base (written_of parts dumped.found) state.memory state.regs walk.steps }
 {}
 
-/// Where the judgement of an ELF file and a symbol file has status 0, which is that of yes, the symbol file names at each address the function,
+/// Where the judgement of an ELF file, or of one and its debug file, and a symbol file has status 0, which is that of yes, the symbol file names at each address the function,
 /// the inlined calls and the line that DWARF does, and evaluating its frame rules gives what the rows of the written frame entries give.
 pub fn a_yes_says_what_the_file_says()
-    ensures { (elf sym : List ℕ) (files : Files) (j : Judgement) → JudgePromises elf sym (Some files) j → j.status ≡ 0 → SaysAsFile elf sym files }
+    ensures { (source : ElfSource) (sym : List ℕ) (files : Files) (j : Judgement) → JudgePromises source sym (Some files) j → j.status ≡ 0 → SaysAsFile source sym files }
 {}
 
-/// What `dump` writes gets a yes: where a run dumped an ELF file with status 0, and a run is asked to judge that file and a symbol file with
+/// What `dump` writes gets a yes: where a run dumped a source with status 0, and a run is asked to judge that source and a symbol file with
 /// the text that the first wrote, of at most 2^29 bytes, the second answers `yes` and status 0, or a file could not be read, a stream
 /// failed, or memory ran out.
 pub fn dumped_texts_are_judged_right()

@@ -1,6 +1,6 @@
--- `dump ELF`, `dump ELF --debug FILE` and `dump ELF --debug-root DIR`: the records of an image (Breakpad's symbol_files.md), the verdict of a dump,
--- and what the text that it writes means. All three speak of an image; `ElfInput` says which it is.
-use Rattle.std.specs.Prelude.{◌≡◌, ℕ, ◌-◌, length, List, [], ◌∷◌, ◌++◌, Option, Some, None, Result, Ok, Err, map, slice_index, codes}
+-- `dump ELF`, also with `--full`, and with `--debug FILE` or `--debug-root DIR`: the records of an image (Breakpad's symbol_files.md), the verdict
+-- of a dump, and what the text that it writes means. All speak of an image; `ElfInput` says which it is.
+use Rattle.std.specs.Prelude.{◌≡◌, ℕ, ◌-◌, Bool, length, List, [], ◌∷◌, ◌++◌, Option, Some, None, Result, Ok, Err, map, slice_index, codes}
 use Rattle.hex.specs.Hex.{encode_upper}
 use Rattle.sym_edges.specs.Outside.{Files, Tells}
 use Rattle.elf_sections.specs.Image.{ImageParts}
@@ -21,13 +21,14 @@ use Rattle.func_flatten.specs.Publics.{PublicParts, publics}
 use Rattle.func_records.specs.FuncRecords.{AreFuncRecords}
 use Rattle.func_records.specs.TextNames.{Names}
 use Rattle.debug_read.specs.Each.{Match}
+use Rattle.debug_read.specs.ImageSections.{sections_of}
 use Rattle.debug_read.specs.UnitsRead.{IsUnitRead}
 use Rattle.debug_read.specs.DebugSays.{DebugSays, debug_says}
 use Rattle.debug_read.specs.declared.fault.DebugFault.{DebugFault}
 use Rattle.dumpsyms_cmd.specs.Words.{module_name}
-use Rattle.dumpsyms_cmd.specs.Refusals.{elf_line, debug_line, omitted_text, skipped_text}
+use Rattle.dumpsyms_cmd.specs.Refusals.{debug_line, omitted_text, units_text}
 use Rattle.dumpsyms_cmd.specs.Verdict.{Verdict, refused}
-use Rattle.dumpsyms_cmd.specs.ElfInput.{DebugFile, file_image, elf_image, pair_image}
+use Rattle.dumpsyms_cmd.specs.ElfInput.{ElfSource, given_image}
 use Rattle.dumpsyms_cmd.specs.Judgement.{Judges}
 use Rattle.dumpsyms_cmd.specs.declared.judgement.Judgement.{Judgement}
 
@@ -83,46 +84,47 @@ pub record CanonFile (image : ImageParts) (name : List ℕ) (found : DebugSays) 
   pub functions_are : AreFuncRecords image.base units pieces functions
   pub whole : lines ≡ identity_lines image name ++ (functions ++ (public_lines image pieces ++ frame_lines image found))
 
--- what standard error gets of a file without fault: the units that are skipped, and then the frame entries that are left out
-abbrev pub left_out : ImageParts → DebugSays → List ℕ
-left_out parts found = skipped_text found.headers ++ omitted_text (omitted parts.code found.first found.second)
+-- what standard error gets of a file without fault: the units that are skipped, where `full` also those whose entries stand in another file, and
+-- then the frame entries that are left out
+abbrev pub left_out : Bool → ImageParts → DebugSays → List ℕ
+left_out full parts found = units_text full (sections_of parts) found.headers ++ omitted_text (omitted parts.code found.first found.second)
 
 -- the verdict of a dump of a file without fault: out has the records, and err what is left out
-pub record GivesText (parts : ImageParts) (name : List ℕ) (found : DebugSays) (v : Verdict) : Type 0 where
+pub record GivesText (full : Bool) (parts : ImageParts) (name : List ℕ) (found : DebugSays) (v : Verdict) : Type 0 where
   pub lines : List SymLine
   pub canon : CanonFile parts name found lines
-  pub is : v ≡ record { status = 0; out = canon_text lines; err = left_out parts found }
+  pub is : v ≡ record { status = 0; out = canon_text lines; err = left_out full parts found }
 
 -- by what stands after the image: the first fault, or the records
-abbrev pub IsDebugVerdict : Result DebugSays DebugFault → ImageParts → List ℕ → Verdict → Type 0
-IsDebugVerdict (Err fault) parts name v = v ≡ refused (debug_line fault)
-IsDebugVerdict (Ok found) parts name v = GivesText parts name found v
+abbrev pub IsDebugVerdict : Bool → Result DebugSays DebugFault → ImageParts → List ℕ → Verdict → Type 0
+IsDebugVerdict full (Err fault) parts name v = v ≡ refused (debug_line fault)
+IsDebugVerdict full (Ok found) parts name v = GivesText full parts name found v
 
 -- by the parts of the image
-abbrev pub IsPartsVerdict : ImageParts → List ℕ → Verdict → Type 0
-IsPartsVerdict parts name v = IsDebugVerdict (debug_says parts) parts name v
+abbrev pub IsPartsVerdict : Bool → ImageParts → List ℕ → Verdict → Type 0
+IsPartsVerdict full parts name v = IsDebugVerdict full (debug_says parts) parts name v
 
 -- by the image that the files give, or by the verdict where they give none
-abbrev pub IsDumpVerdict : Result ImageParts Verdict → List ℕ → Verdict → Type 0
-IsDumpVerdict (Err ended) name v = v ≡ ended
-IsDumpVerdict (Ok parts) name v = IsPartsVerdict parts name v
+abbrev pub IsDumpVerdict : Bool → Result ImageParts Verdict → List ℕ → Verdict → Type 0
+IsDumpVerdict full (Err ended) name v = v ≡ ended
+IsDumpVerdict full (Ok parts) name v = IsPartsVerdict full parts name v
 
--- the verdict of a dump of an ELF file
-abbrev pub IsFileVerdict : List ℕ → Option (List ℕ) → Verdict → Type 0
-IsFileVerdict elf file v = IsDumpVerdict (file_image elf_line file) (module_name elf) v
+-- by an image that is given for a source
+abbrev pub IsGivenVerdict : ElfSource → Result ImageParts Verdict → Verdict → Type 0
+IsGivenVerdict source given v = IsDumpVerdict source.full given (module_name source.elf) v
 
--- that of a dump of a stripped ELF file with its separate debug file
-abbrev pub IsPairVerdict : List ℕ → DebugFile → Files → Verdict → Type 0
-IsPairVerdict elf debug files v = IsDumpVerdict (pair_image elf debug files) (module_name elf) v
+-- the verdict of a dump
+abbrev pub IsSourceVerdict : ElfSource → Files → Verdict → Type 0
+IsSourceVerdict source files v = IsGivenVerdict source (given_image source files) v
 
 -- the records of an image, and the text on what is left out; what the records say of frames, and that evaluating them gives at each address of
 -- a written entry, for all registers and all memory, what DWARF's row there gives; and what a look-up in them names: at each address the
 -- function that owns it in the file, its inline chain and its line; a checker finds nothing in them
-pub record DumpsParts (parts : ImageParts) (name : List ℕ) (lines : List SymLine) (text : List ℕ) : Type 0 where
+pub record DumpsParts (full : Bool) (parts : ImageParts) (name : List ℕ) (lines : List SymLine) (text : List ℕ) : Type 0 where
   pub found : DebugSays
   pub found_is : debug_says parts ≡ Ok found
   pub canon : CanonFile parts name found lines
-  pub text_is : text ≡ left_out parts found
+  pub text_is : text ≡ left_out full parts found
   pub reads : reading (canon_text lines) ≡ Ok lines
   pub frames : SaysFrames parts.base (written_of parts found) lines
   pub means : KeepsFrames parts.base (written_of parts found) lines
@@ -130,30 +132,26 @@ pub record DumpsParts (parts : ImageParts) (name : List ℕ) (lines : List SymLi
   pub clean : HasNoFindings lines
 
 -- the same, and how many frame entries are left out
-pub record Assembles (parts : ImageParts) (name : List ℕ) (lines : List SymLine) (text : List ℕ) (count : ℕ) : Type 0 where
-  pub dumps : DumpsParts parts name lines text
+pub record Assembles (full : Bool) (parts : ImageParts) (name : List ℕ) (lines : List SymLine) (text : List ℕ) (count : ℕ) : Type 0 where
+  pub dumps : DumpsParts full parts name lines text
   pub counted : (found : DebugSays) → debug_says parts ≡ Ok found → count ≡ length (omitted parts.code found.first found.second)
 
--- the same of the image that files give
-pub record DumpsImage (given : Result ImageParts Verdict) (name : List ℕ) (lines : List SymLine) (text : List ℕ) : Type 0 where
+-- the same of the image that is given for a source
+pub record DumpsGiven (source : ElfSource) (given : Result ImageParts Verdict) (lines : List SymLine) (text : List ℕ) : Type 0 where
   pub parts : ImageParts
   pub image_is : given ≡ Ok parts
-  pub dumps : DumpsParts parts name lines text
+  pub dumps : DumpsParts source.full parts (module_name source.elf) lines text
 
--- the ELF file is there, and its records and the text on what is left out are these
-abbrev pub DumpsFile : List ℕ → Files → List SymLine → List ℕ → Type 0
-DumpsFile elf files lines text = DumpsImage (elf_image elf files) (module_name elf) lines text
+-- the files are there, and the records and the text on what is left out are these
+abbrev pub DumpsSource : ElfSource → Files → List SymLine → List ℕ → Type 0
+DumpsSource source files lines text = DumpsGiven source (given_image source files) lines text
 
 -- what a dump promises of its judgement, by the image that the files give: a refusal with nothing on out; or status 0 with the canonical text of
 -- records that reads back as them, which are the image's where the store tells its files
-abbrev pub ImagePromises : (Files → Result ImageParts Verdict) → List ℕ → Option Files → Judgement → Type 0
-ImagePromises given name files j = Judges j
-    (λ err. Tells files (λ f. IsDumpVerdict (given f) name (refused err)))
-    (λ lines err. (reading (canon_text lines) ≡ Ok lines) × Tells files (λ f. DumpsImage (given f) name lines err))
+abbrev pub ImagePromises : (Files → Result ImageParts Verdict) → ElfSource → Option Files → Judgement → Type 0
+ImagePromises given source files j = Judges j
+    (λ err. Tells files (λ f. IsGivenVerdict source (given f) (refused err)))
+    (λ lines err. (reading (canon_text lines) ≡ Ok lines) × Tells files (λ f. DumpsGiven source (given f) lines err))
 
--- of an ELF file alone, and with a debug file
-abbrev pub DumpPromises : List ℕ → Option Files → Judgement → Type 0
-DumpPromises elf files j = ImagePromises (elf_image elf) (module_name elf) files j
-
-abbrev pub PairPromises : List ℕ → DebugFile → Option Files → Judgement → Type 0
-PairPromises elf debug files j = ImagePromises (pair_image elf debug) (module_name elf) files j
+abbrev pub DumpPromises : ElfSource → Option Files → Judgement → Type 0
+DumpPromises source files j = ImagePromises (given_image source) source files j

@@ -1,7 +1,7 @@
--- `judge ELF SYM`: whether a symbol file says what `dump` writes for an ELF file: `yes`; or `no`, the least address at which they differ, and what
--- differs there first: `func`, `chain`, `line`, `init`, `cfa`, `ra` or a register's name. Where `dump` refuses the ELF file so does `judge`, and
--- then the symbol file is not asked for.
-use Rattle.std.specs.Prelude.{◌≡◌, ◌⊎◌, ℕ, zero, suc, List, [], ◌∷◌, ◌++◌, codes, Option, Some, None, Result, Ok, Err}
+-- `judge ELF SYM`, also with `--full`, and with `--debug FILE` or `--debug-root DIR`: whether a symbol file says what `dump` writes: `yes`; or `no`,
+-- the least address at which they differ, and what differs there first: `func`, `chain`, `line`, `init`, `cfa`, `ra` or a register's name. Where
+-- `dump` refuses so does `judge`, and then the symbol file is not asked for.
+use Rattle.std.specs.Prelude.{◌≡◌, ◌⊎◌, ℕ, zero, suc, Bool, List, [], ◌∷◌, ◌++◌, codes, Option, Some, None, Result, Ok, Err}
 use Rattle.sym_edges.specs.Outside.{Files, Tells}
 use Rattle.sym_rules.specs.declared.text_fault.TextFault.{TextFault}
 use Rattle.sym_records.specs.Canon.{canon_text}
@@ -16,10 +16,11 @@ use Rattle.sym_judge.specs.declared.ruling.Aspect.TheVariants.{Func, Chain, Line
 use Rattle.sym_judge.specs.declared.ruling.Ruling.{Ruling}
 use Rattle.sym_judge.specs.declared.ruling.Ruling.TheVariants.{Yes, No}
 use Rattle.dumpsyms_cmd.specs.Refusals.{line}
-use Rattle.dumpsyms_cmd.specs.Verdict.{Verdict, refused, unread, LIMIT}
+use Rattle.dumpsyms_cmd.specs.Verdict.{Verdict, refused, unread_file, LIMIT}
+use Rattle.dumpsyms_cmd.specs.ElfInput.{ElfSource}
 use Rattle.dumpsyms_cmd.specs.SymbolInput.{refusal_line}
 use Rattle.dumpsyms_cmd.specs.Judgement.{judgement_verdict}
-use Rattle.dumpsyms_cmd.specs.commands.Dump.{IsFileVerdict, DumpsFile}
+use Rattle.dumpsyms_cmd.specs.commands.Dump.{IsSourceVerdict, DumpsSource}
 use Rattle.dumpsyms_cmd.specs.commands.Frame.{short_name}
 use Rattle.dumpsyms_cmd.specs.declared.judgement.Judgement.{Judgement}
 
@@ -47,25 +48,26 @@ abbrev pub IsReadVerdict : List SymLine → Result (List SymLine) SymRefusal →
 IsReadVerdict own (Ok other) v = IsRuled own other v
 IsReadVerdict own (Err why) v = v ≡ refused (refusal_line why)
 
-abbrev pub IsSymVerdict : List SymLine → Option (List ℕ) → Verdict → Type 0
-IsSymVerdict own None v = v ≡ unread
-IsSymVerdict own (Some bytes) v = IsReadVerdict own (file_reading LIMIT bytes) v
+-- by its name and the file, which may not be there; that is named where `full`
+abbrev pub IsSymVerdict : Bool → List ℕ → List SymLine → Option (List ℕ) → Verdict → Type 0
+IsSymVerdict full sym own None v = v ≡ unread_file full sym
+IsSymVerdict full sym own (Some bytes) v = IsReadVerdict own (file_reading LIMIT bytes) v
 
 -- on the text that `dump` writes, which always reads
-abbrev pub IsTextVerdict : Result (List SymLine) TextFault → Option (List ℕ) → Verdict → Type 0
-IsTextVerdict (Ok own) sym v = IsSymVerdict own sym v
-IsTextVerdict (Err fault) sym v = ⊥
+abbrev pub IsTextVerdict : Bool → List ℕ → Result (List SymLine) TextFault → Option (List ℕ) → Verdict → Type 0
+IsTextVerdict full sym (Ok own) file v = IsSymVerdict full sym own file v
+IsTextVerdict full sym (Err fault) file v = ⊥
 
 -- by the verdict of `dump`: one of another status than 0 is that of `judge`
-abbrev pub IsDumpedVerdict : ℕ → Verdict → Option (List ℕ) → Verdict → Type 0
-IsDumpedVerdict zero dumped sym v = IsTextVerdict (reading dumped.out) sym v
-IsDumpedVerdict (suc status) dumped sym v = v ≡ dumped
+abbrev pub IsDumpedVerdict : Bool → List ℕ → ℕ → Verdict → Option (List ℕ) → Verdict → Type 0
+IsDumpedVerdict full sym zero dumped file v = IsTextVerdict full sym (reading dumped.out) file v
+IsDumpedVerdict full sym (suc status) dumped file v = v ≡ dumped
 
 -- the verdict of `judge`, by the files
-pub record IsJudgeVerdict (elf : List ℕ) (file sym : Option (List ℕ)) (v : Verdict) : Type 0 where
+pub record IsJudgeVerdict (source : ElfSource) (sym : List ℕ) (files : Files) (v : Verdict) : Type 0 where
   pub dumped : Verdict
-  pub dumped_is : IsFileVerdict elf file dumped
-  pub is : IsDumpedVerdict dumped.status dumped sym v
+  pub dumped_is : IsSourceVerdict source files dumped
+  pub is : IsDumpedVerdict source.full sym dumped.status dumped (files sym) v
 
 -- a judgement on records and the bytes of a symbol file; where the store tells its files these are that file's
 pub record JudgesSym (own : List SymLine) (sym : List ℕ) (files : Option Files) (j : Judgement) : Type 0 where
@@ -73,20 +75,20 @@ pub record JudgesSym (own : List SymLine) (sym : List ℕ) (files : Option Files
   pub there : Tells files (λ f. f sym ≡ Some bytes)
   pub is : IsReadVerdict own (file_reading LIMIT bytes) (judgement_verdict j)
 
--- a judgement by which `dump` refuses the ELF file
-pub record RefusesElf (elf : List ℕ) (files : Option Files) (j : Judgement) : Type 0 where
+-- a judgement by which `dump` refuses
+pub record RefusesElf (source : ElfSource) (files : Option Files) (j : Judgement) : Type 0 where
   pub err : List ℕ
   pub is : judgement_verdict j ≡ refused err
-  pub told : Tells files (λ f. IsFileVerdict elf (f elf) (refused err))
+  pub told : Tells files (λ f. IsSourceVerdict source f (refused err))
 
--- a judgement on the symbol file, by the records of the ELF file: these are what `dump` writes for it, and mean what it promises
-pub record JudgesBoth (elf sym : List ℕ) (files : Option Files) (j : Judgement) : Type 0 where
+-- a judgement on the symbol file, by the records of the image: these are what `dump` writes for it, and mean what it promises
+pub record JudgesBoth (source : ElfSource) (sym : List ℕ) (files : Option Files) (j : Judgement) : Type 0 where
   pub own : List SymLine
   pub err : List ℕ
   pub reads : reading (canon_text own) ≡ Ok own
-  pub dumps : Tells files (λ f. DumpsFile elf f own err)
+  pub dumps : Tells files (λ f. DumpsSource source f own err)
   pub judged : JudgesSym own sym files j
 
 -- what `judge` promises of its judgement
-abbrev pub JudgePromises : List ℕ → List ℕ → Option Files → Judgement → Type 0
-JudgePromises elf sym files j = RefusesElf elf files j ⊎ JudgesBoth elf sym files j
+abbrev pub JudgePromises : ElfSource → List ℕ → Option Files → Judgement → Type 0
+JudgePromises source sym files j = RefusesElf source files j ⊎ JudgesBoth source sym files j

@@ -1,5 +1,5 @@
 -- What the functions that judge say of their judgements and answers.
-use Rattle.std.specs.Prelude.{◌≡◌, ℕ, ◌<◌, Bool, false, List, Option, Some, IsSome, Result, Ok, Err}
+use Rattle.std.specs.Prelude.{◌≡◌, ℕ, ◌<◌, Bool, false, List, ◌++◌, Option, Some, IsSome, Result, Ok, Err}
 use Rattle.sym_edges.specs.Outside.{Files, Tells, Rose}
 use Rattle.sym_edges.specs.declared.fault.Stop.{Stop}
 use Rattle.sym_edges.specs.declared.fault.Stop.TheVariants.{Fault}
@@ -7,16 +7,18 @@ use Rattle.sym_edges.specs.declared.fault.Stop.TheVariants as stop
 use Rattle.sym_edges.specs.declared.whole_file.ReadEnd.{ReadEnd}
 use Rattle.sym_edges.specs.declared.whole_file.ReadEnd.TheVariants.{CantOpen, CantRead, TooLong}
 use Rattle.sym_edges.specs.Results.{◌>>=◌}
-use Rattle.elf_sections.specs.Image.{ImageParts, image}
+use Rattle.elf_sections.specs.Image.{ImageParts}
+use Rattle.full_image.specs.FullImage.{any_image}
 use Rattle.debug_pair.specs.Pairing.{pair_of}
 use Rattle.sym_records.specs.declared.line.SymLine.{SymLine}
 use Rattle.sym_grammar.specs.declared.refusal.SymEnd.{SymEnd}
 use Rattle.sym_grammar.specs.declared.refusal.SymEnd.TheVariants as end
 use Rattle.state_file.specs.declared.state.State.{State}
-use Rattle.dumpsyms_cmd.specs.Words.{Asked, ReadsFiles}
-use Rattle.dumpsyms_cmd.specs.Refusals.{elf_line, debug_elf_line, pair_line, too_long_line}
-use Rattle.dumpsyms_cmd.specs.Verdict.{Verdict, refused, unread, no_memory}
-use Rattle.dumpsyms_cmd.specs.ElfInput.{or_refused}
+use Rattle.dumpsyms_cmd.specs.Words.{Asked, ReadsFiles, last_name, not_read_line}
+use Rattle.dumpsyms_cmd.specs.Refusals.{debug_elf_line, pair_line, too_long_line, unread_line, unread_lines}
+use Rattle.dumpsyms_cmd.specs.Verdict.{Verdict, refused, unread_by, no_memory}
+use Rattle.dumpsyms_cmd.specs.ElfInput.{ElfSource, or_refused, names_behind, elf_names}
+use Rattle.dumpsyms_cmd.specs.Observed.{Asks}
 use Rattle.dumpsyms_cmd.specs.Judgement.{err_bytes, is_some_output, judgement_verdict, Judges}
 use Rattle.dumpsyms_cmd.specs.SymbolInput.{refusal_line}
 use Rattle.dumpsyms_cmd.specs.StateInput.{state_answer}
@@ -27,12 +29,13 @@ use Rattle.dumpsyms_cmd.specs.commands.Frame.{frame_answer}
 use Rattle.dumpsyms_cmd.specs.commands.Walk.{walk_answer}
 use Rattle.dumpsyms_cmd.specs.commands.Judge.{JudgesSym}
 use Rattle.dumpsyms_cmd.specs.Answers.{IsVerdict, CommandPromises}
-use Rattle.dumpsyms_cmd.specs.commands.Dump.{IsPartsVerdict, IsDumpVerdict, DumpsParts, DumpsImage, ImagePromises}
+use Rattle.dumpsyms_cmd.specs.commands.Dump.{IsPartsVerdict, IsGivenVerdict, DumpsParts, DumpsGiven, ImagePromises}
 use Rattle.dumpsyms_cmd.specs.declared.words.SymQuery.{SymQuery}
 use Rattle.dumpsyms_cmd.specs.declared.words.SymQuery.TheVariants.{Check, Lookup, Names}
 use Rattle.dumpsyms_cmd.specs.declared.words.StateQuery.{StateQuery}
 use Rattle.dumpsyms_cmd.specs.declared.words.StateQuery.TheVariants.{Frame, Walk}
-use Rattle.dumpsyms_cmd.specs.declared.judgement.Output.TheVariants.{Nothing}
+use Rattle.dumpsyms_cmd.specs.declared.judgement.Output.{Output}
+use Rattle.dumpsyms_cmd.specs.declared.judgement.Output.TheVariants.{Nothing, Text, Bytes, Records}
 use Rattle.dumpsyms_cmd.specs.declared.judgement.Judgement.{Judgement}
 use Rattle.dumpsyms_cmd.specs.declared.judgement.Answer.{Answer}
 use Rattle.dumpsyms_cmd.specs.declared.judgement.Answer.TheVariants.{Judged, Unread, NoMemory}
@@ -40,12 +43,12 @@ use Rattle.dumpsyms_cmd.specs.declared.judgement.Answer.TheVariants.{Judged, Unr
 -- the verdict that an answer gives
 abbrev pub answer_verdict : Answer → Verdict
 answer_verdict (Judged j) = judgement_verdict j
-answer_verdict Unread = unread
+answer_verdict (Unread line) = unread_by (err_bytes line)
 answer_verdict NoMemory = no_memory
 
 abbrev pub has_output : Answer → Bool
 has_output (Judged j) = is_some_output j.out
-has_output Unread = false
+has_output (Unread line) = false
 has_output NoMemory = false
 
 -- a judgement that refuses with this line
@@ -55,20 +58,17 @@ pub record Refuses (j : Judgement) (text : List ℕ) : Type 0 where
   pub err : err_bytes j.err ≡ text
 
 -- a judgement on the parts of an image
-abbrev pub JudgesParts : Judgement → List ℕ → ImageParts → Type 0
-JudgesParts j name parts = Judges j (λ err. IsPartsVerdict parts name (refused err)) (DumpsParts parts name)
+abbrev pub JudgesParts : Judgement → Bool → List ℕ → ImageParts → Type 0
+JudgesParts j full name parts = Judges j (λ err. IsPartsVerdict full parts name (refused err)) (DumpsParts full parts name)
 
--- a judgement on an image that is given, or on the verdict where none is
-abbrev pub JudgesImage : Judgement → List ℕ → Result ImageParts Verdict → Type 0
-JudgesImage j name given = Judges j (λ err. IsDumpVerdict given name (refused err)) (DumpsImage given name)
+-- a judgement on an image that is given for a source, or on the verdict where none is
+abbrev pub JudgesGiven : Judgement → ElfSource → Result ImageParts Verdict → Type 0
+JudgesGiven j source given = Judges j (λ err. IsGivenVerdict source given (refused err)) (DumpsGiven source given)
 
--- a judgement on the bytes of a file, and one on a binary and the bytes of its debug file
-abbrev pub JudgesBytes : Judgement → List ℕ → List ℕ → Type 0
-JudgesBytes j name bytes = JudgesImage j name (or_refused elf_line (image bytes))
-
-abbrev pub JudgesPair : Judgement → List ℕ → ImageParts → List ℕ → Type 0
-JudgesPair j name binary bytes =
-    JudgesImage j name (or_refused debug_elf_line (image bytes) >>= (λ debug. or_refused pair_line (pair_of binary debug)))
+-- one on a binary and the bytes of its debug file
+abbrev pub JudgesPair : Judgement → ElfSource → ImageParts → Bool → List ℕ → Type 0
+JudgesPair j source binary full bytes =
+    JudgesGiven j source (or_refused debug_elf_line (any_image full bytes) >>= (λ debug. or_refused pair_line (pair_of binary debug)))
 
 -- what is known of a judgement: it has status 0, 1 or 2, the last for invalid arguments alone; it is the verdict where the store
 -- tells its files; and it keeps the command's promises
@@ -78,55 +78,101 @@ pub record IsJudged (j : Judgement) (command : Option Asked) (files : Option Fil
   pub told : Tells files (λ f. IsVerdict command f (judgement_verdict j))
   pub kept : CommandPromises command files j
 
--- what an answer says of a command, the files and the store's count of faults
-abbrev pub AnswersCommand : Answer → Option Asked → Option Files → ℕ → ℕ → Type 0
-AnswersCommand (Judged j) command files before after = IsJudged j command files
-AnswersCommand Unread command files before after = ReadsFiles command × Rose before after
-AnswersCommand NoMemory command files before after = IsSome command
+-- what an answer says of a command, the files, the names that were asked for and the store's count of faults
+abbrev pub AnswersCommand : Answer → Option Asked → Option Files → List (List ℕ) → ℕ → ℕ → Type 0
+AnswersCommand (Judged j) command files asked before after = IsJudged j command files
+AnswersCommand (Unread line) command files asked before after = ReadsFiles command × Rose before after × (err_bytes line ≡ not_read_line command asked)
+AnswersCommand NoMemory command files asked before after = IsSome command
 
 -- the store's count of faults stands still, unless a file could not be opened or read
 abbrev pub IsSteadyAnswer : Answer → ℕ → ℕ → Type 0
 IsSteadyAnswer (Judged j) before after = after ≡ before
-IsSteadyAnswer Unread before after = Unit {0}
+IsSteadyAnswer (Unread line) before after = Unit {0}
 IsSteadyAnswer NoMemory before after = after ≡ before
 
--- what an answer says of the image that files give
-abbrev pub AnswersImage : Answer → (Files → Result ImageParts Verdict) → List ℕ → Option Files → ℕ → ℕ → Type 0
-AnswersImage (Judged j) given name files before after = ImagePromises given name files j
-AnswersImage Unread given name files before after = Rose before after
-AnswersImage NoMemory given name files before after = Unit {0}
+-- what an answer says of the image that files give for a source
+abbrev pub AnswersImage : Answer → (Files → Result ImageParts Verdict) → ElfSource → Option Files → List (List ℕ) → ℕ → ℕ → Type 0
+AnswersImage (Judged j) given source files asked before after = ImagePromises given source files j
+AnswersImage (Unread line) given source files asked before after = Rose before after × (err_bytes line ≡ unread_lines source.full (last_name asked))
+AnswersImage NoMemory given source files asked before after = Unit {0}
+
+-- the names that were asked for: all of them where there is a judgement, and else a front
+abbrev pub AsksAll : Answer → List (List ℕ) → List (List ℕ) → List (List ℕ) → Type 0
+AsksAll (Judged j) names before after = after ≡ before ++ names
+AsksAll (Unread line) names before after = Asks names before after
+AsksAll NoMemory names before after = Asks names before after
+
+-- an answer without the text of records
+abbrev pub IsNoText : Output → Type 0
+IsNoText Nothing = Unit {0}
+IsNoText (Text lines) = ⊥
+IsNoText (Bytes text) = Unit {0}
+IsNoText (Records lines) = Unit {0}
+
+abbrev pub HasNoText : Answer → Type 0
+HasNoText (Judged j) = IsNoText j.out
+HasNoText (Unread line) = Unit {0}
+HasNoText NoMemory = Unit {0}
+
+-- the names behind that of the ELF file, by its image; where it has none nothing is asked for, and there is no text
+abbrev pub AsksBehind : Answer → ElfSource → Result ImageParts Verdict → List (List ℕ) → List (List ℕ) → Type 0
+AsksBehind answer source (Ok binary) before after = AsksAll answer (names_behind source.debug (Ok binary)) before after
+AsksBehind answer source (Err ended) before after = (after ≡ before) × HasNoText answer
+
+-- the names of a source, by some build id: all of them where there is a text, and else a front
+abbrev pub AsksBy : Output → List (List ℕ) → List (List ℕ) → List (List ℕ) → Type 0
+AsksBy Nothing names before after = Asks names before after
+AsksBy (Text lines) names before after = after ≡ before ++ names
+AsksBy (Bytes text) names before after = Asks names before after
+AsksBy (Records lines) names before after = Asks names before after
+
+abbrev pub AsksNames : Answer → List (List ℕ) → List (List ℕ) → List (List ℕ) → Type 0
+AsksNames (Judged j) names before after = AsksBy j.out names before after
+AsksNames (Unread line) names before after = Asks names before after
+AsksNames NoMemory names before after = Asks names before after
+
+pub record AsksSource (answer : Answer) (source : ElfSource) (files : Option Files) (before after : List (List ℕ)) : Type 0 where
+  pub id : List ℕ
+  pub asks : AsksNames answer (elf_names files source id) before after
+
+-- the names that are asked for behind a dump: none where it gave no text
+abbrev pub AsksThen : Output → List (List ℕ) → List (List ℕ) → List (List ℕ) → Type 0
+AsksThen Nothing names before after = after ≡ before
+AsksThen (Text lines) names before after = Asks names before after
+AsksThen (Bytes text) names before after = after ≡ before
+AsksThen (Records lines) names before after = after ≡ before
 
 -- an answer is a refusal with a line that was made, or memory ran out
 abbrev pub AnswersMade : {F : Type 0} → Answer → Result (List ℕ) F → Type 0
 AnswersMade (Judged j) (Ok line) = Refuses j line
 AnswersMade (Judged j) (Err e) = ⊥
-AnswersMade Unread made = ⊥
+AnswersMade (Unread line) made = ⊥
 AnswersMade NoMemory made = Unit {0}
 
--- what an answer says of a file that could not be read whole
-abbrev pub AnswersStop : Answer → Stop ReadEnd → Type 0
-AnswersStop (Judged j) (Fault CantOpen) = ⊥
-AnswersStop (Judged j) (Fault CantRead) = ⊥
-AnswersStop (Judged j) (Fault TooLong) = Judges j (λ err. err ≡ too_long_line) (λ lines err. ⊥)
-AnswersStop (Judged j) stop.NoMemory = ⊥
-AnswersStop Unread (Fault CantOpen) = Unit {0}
-AnswersStop Unread (Fault CantRead) = Unit {0}
-AnswersStop Unread (Fault TooLong) = ⊥
-AnswersStop Unread stop.NoMemory = ⊥
-AnswersStop NoMemory (Fault why) = ⊥
-AnswersStop NoMemory stop.NoMemory = Unit {0}
+-- what an answer says of a file that could not be read whole, for which this line stands
+abbrev pub AnswersStop : Answer → List ℕ → Stop ReadEnd → Type 0
+AnswersStop (Judged j) text (Fault CantOpen) = ⊥
+AnswersStop (Judged j) text (Fault CantRead) = ⊥
+AnswersStop (Judged j) text (Fault TooLong) = Judges j (λ err. err ≡ too_long_line) (λ lines err. ⊥)
+AnswersStop (Judged j) text stop.NoMemory = ⊥
+AnswersStop (Unread line) text (Fault CantOpen) = err_bytes line ≡ text
+AnswersStop (Unread line) text (Fault CantRead) = err_bytes line ≡ text
+AnswersStop (Unread line) text (Fault TooLong) = ⊥
+AnswersStop (Unread line) text stop.NoMemory = ⊥
+AnswersStop NoMemory text (Fault why) = ⊥
+AnswersStop NoMemory text stop.NoMemory = Unit {0}
 
--- what an answer says of a symbol file that has no records
-abbrev pub AnswersEnd : Answer → Stop SymEnd → Type 0
-AnswersEnd (Judged j) (Fault end.Unread) = ⊥
-AnswersEnd (Judged j) (Fault (end.Refused why)) = judgement_verdict j ≡ refused (refusal_line why)
-AnswersEnd (Judged j) stop.NoMemory = ⊥
-AnswersEnd Unread (Fault end.Unread) = Unit {0}
-AnswersEnd Unread (Fault (end.Refused why)) = ⊥
-AnswersEnd Unread stop.NoMemory = ⊥
-AnswersEnd NoMemory (Fault end.Unread) = ⊥
-AnswersEnd NoMemory (Fault (end.Refused why)) = Unit {0}
-AnswersEnd NoMemory stop.NoMemory = Unit {0}
+-- what an answer says of a symbol file that has no records, for which this line stands
+abbrev pub AnswersEnd : Answer → List ℕ → Stop SymEnd → Type 0
+AnswersEnd (Judged j) text (Fault end.Unread) = ⊥
+AnswersEnd (Judged j) text (Fault (end.Refused why)) = judgement_verdict j ≡ refused (refusal_line why)
+AnswersEnd (Judged j) text stop.NoMemory = ⊥
+AnswersEnd (Unread line) text (Fault end.Unread) = err_bytes line ≡ text
+AnswersEnd (Unread line) text (Fault (end.Refused why)) = ⊥
+AnswersEnd (Unread line) text stop.NoMemory = ⊥
+AnswersEnd NoMemory text (Fault end.Unread) = ⊥
+AnswersEnd NoMemory text (Fault (end.Refused why)) = Unit {0}
+AnswersEnd NoMemory text stop.NoMemory = Unit {0}
 
 -- a judgement is an answer, and so is that memory ran out
 abbrev pub AnswersJudged : {F : Type 0} → Answer → Result Judgement F → Type 0
@@ -153,11 +199,11 @@ pub record AnswersBytesOf (lines : List SymLine) (answer : List SymLine → Stat
 -- what an answer says of a state file
 abbrev pub AnswersState : Answer → List SymLine → (List SymLine → State → Verdict) → List ℕ → Option Files → ℕ → ℕ → Type 0
 AnswersState (Judged j) lines answer name files before after = AnswersBytesOf lines answer name files j
-AnswersState Unread lines answer name files before after = Rose before after
+AnswersState (Unread line) lines answer name files before after = Rose before after × (err_bytes line ≡ unread_line)
 AnswersState NoMemory lines answer name files before after = Unit {0}
 
--- what an answer says of a symbol file that is judged against records
-abbrev pub AnswersSym : Answer → List SymLine → List ℕ → Option Files → ℕ → ℕ → Type 0
-AnswersSym (Judged j) own sym files before after = JudgesSym own sym files j
-AnswersSym Unread own sym files before after = Rose before after
-AnswersSym NoMemory own sym files before after = Unit {0}
+-- what an answer says of a symbol file that is judged against records, and that is named where `full`
+abbrev pub AnswersSym : Answer → List SymLine → Bool → List ℕ → Option Files → List (List ℕ) → ℕ → ℕ → Type 0
+AnswersSym (Judged j) own full sym files asked before after = JudgesSym own sym files j
+AnswersSym (Unread line) own full sym files asked before after = Rose before after × (err_bytes line ≡ unread_lines full (last_name asked))
+AnswersSym NoMemory own full sym files asked before after = Unit {0}

@@ -1,18 +1,21 @@
-use Rattle.std.proofs.Common.{◌∙◌, ap}
-use Rattle.dumpsyms_cmd.specs.Words.{module_name}
-use Rattle.dumpsyms_cmd.specs.commands.Dump.{DumpPromises}
-use Rattle.dumpsyms_cmd.proofs.JudgedLemmas.{bytes_promised}
-use Rattle.dumpsyms_cmd.proofs.JudgeLemmas.{judge_asked, judge_answered}
+use Rattle.dumpsyms_cmd.specs.Words.{source_view}
+use Rattle.dumpsyms_cmd.proofs.JudgeLemmas.{judge_answered}
+use Rattle.dumpsyms_cmd.proofs.SourceLemmas.{judge_asked, other_asked, other_answered}
 use Rattle.dumpsyms_cmd.proofs.judge_input.answer_judge.Goals as goal
 
-pub returns-in-Ok-judge_bytes-clause-asked : goal.returns-in-Ok-judge_bytes-clause-asked
-returns-in-Ok-judge_bytes-clause-asked g c =
-    let kept : DumpPromises c.args.elf.now (g.S.Store.files c.args.store.now) c.in-Ok-judge_bytes.dumped
-    = bytes_promised c.in-Ok-judge_bytes.dumped _ _ _ _ _ c.in-Ok.ensures.read (c.name_of.ensures ∙ ap module_name c.as_bytes.ensures.value) c.as_slice.ensures c.in-Ok-judge_bytes.ensures in
-    judge_asked _ _ _ _ c.in-Ok-judge_bytes.dumped _ _ _ c.in-Ok.ensures.files c.in-Ok.ensures.asked kept c.answer_dumped.ensures.asked
+pub returns-in-Judged-clause-asked : goal.returns-in-Judged-clause-asked
+returns-in-Judged-clause-asked g c =
+    judge_asked c.in-Judged.dumped (source_view c.args.source.now) c.args.sym.now _ _ _ _ _ c.in-Judged.ensures.files c.in-Judged.ensures.asked c.in-Judged.ensures.answered c.answer_dumped.ensures.asked
 
-pub returns-in-Ok-judge_bytes-clause-answered : goal.returns-in-Ok-judge_bytes-clause-answered
-returns-in-Ok-judge_bytes-clause-answered g c =
-    let kept : DumpPromises c.args.elf.now (g.S.Store.files c.args.store.now) c.in-Ok-judge_bytes.dumped
-    = bytes_promised c.in-Ok-judge_bytes.dumped _ _ _ _ _ c.in-Ok.ensures.read (c.name_of.ensures ∙ ap module_name c.as_bytes.ensures.value) c.as_slice.ensures c.in-Ok-judge_bytes.ensures in
-    judge_answered _ _ _ _ _ c.in-Ok-judge_bytes.dumped _ _ _ c.in-Ok.ensures.files c.in-Ok.ensures.faults c.answer_dumped.ensures.faults kept c.answer_dumped.ensures.answered
+pub returns-in-Judged-clause-answered : goal.returns-in-Judged-clause-answered
+returns-in-Judged-clause-answered g c =
+    judge_answered _ (source_view c.args.source.now) c.args.sym.now _ _ c.in-Judged.dumped _ _ _ _ c.in-Judged.ensures.files c.in-Judged.ensures.faults c.answer_dumped.ensures.faults c.in-Judged.ensures.answered c.answer_dumped.ensures.answered
+
+pub returns-in_default : goal.returns-in_default
+returns-in_default g c = record {
+  asked = other_asked c.answer_source.result (source_view c.args.source.now) c.args.sym.now _ _ _ c.answer_source.ensures.asked;
+  files = c.answer_source.ensures.files;
+  faults = c.answer_source.ensures.faults;
+  steady = c.answer_source.ensures.steady;
+  answered = other_answered c.answer_source.result (source_view c.args.source.now) c.args.sym.now _ _ _ _ c.in_default.not-Judged c.answer_source.ensures.answered;
+}

@@ -10,4 +10,4 @@ returns-in-Unread-clause-written g c =
     let P : Answer → Type 0 = λ a. Writes c.say.result (answer_verdict a) (has_output a)
     (record { taken = g.O.Sink.taken c.args.out.now; taken_after = g.O.Sink.taken c.args.out.now; faults = g.O.Sink.faults c.args.out.now; faults_after = g.O.Sink.faults c.args.out.now })
     (record { taken = g.E.Sink.taken c.args.err.now; taken_after = g.E.Sink.taken c.say.new.err; faults = g.E.Sink.faults c.args.err.now; faults_after = g.E.Sink.faults c.say.new.err }) in
-    subst P (sym c.in-Unread.is) (line_said _ _ _ _ refl refl c.say.ensures.said)
+    subst P (sym c.in-Unread.is) (line_said _ _ _ _ _ refl c.bytes_of.ensures c.say.ensures.said)

@@ -1,0 +1,336 @@
+//! The files of a dump: an ELF file, and perhaps its separate debug file.
+ghost use Rattle.std.specs.Prelude.{◌≡◌, ◌≤◌, [], ◌∷◌, Ok, Err, IfOk, codes};
+ghost use Rattle.std.specs.String.{string_bytes};
+ghost use Rattle.sym_edges.specs.Outside.{MatchStop};
+ghost use Rattle.full_image.specs.FullImage.{any_image, outcomes_of};
+ghost use Rattle.debug_pair.specs.Pairing.{pair_of};
+ghost use Rattle.sym_records.specs.Canon.{spaced};
+ghost use Rattle.dumpsyms_cmd.specs.Refusals.{line, elf_line, pair_line};
+ghost use Rattle.dumpsyms_cmd.specs.Verdict.{refused};
+ghost use Rattle.dumpsyms_cmd.specs.Words.{debug_view, source_view};
+ghost use Rattle.dumpsyms_cmd.specs.ElfInput.{or_refused, path_below, path_of, path_names, names_behind, debug_names, given_image, with_file, then_file, with_debug, then_debug};
+ghost use Rattle.dumpsyms_cmd.specs.internal.Judged.{JudgesGiven, JudgesPair, AnswersImage, AnswersMade, AsksAll, AsksBehind, AsksSource, IsSteadyAnswer};
+
+use crate::commands::{answer_stop, judge_image, refuse};
+use crate::judgement::{Answer, Judgement, Message};
+use crate::refusals::{debug_fault_line, fault_line, pair_line, unread_line};
+use crate::symbol_input::answer_judged;
+use crate::words::{DebugPlace, ElfPlace};
+use debug_pair::{PairFault, debug_path, pair};
+use elf_sections::{ElfFault, Image};
+use full_image::{Inflations, PackedImage, inflate_sections, read_packed};
+use std::alloc::{AllocError, Global};
+use std::thread::Threads;
+use sym_edges::{FILE_LIMIT, OutOfMemory, Stop, Store, read_all};
+use sym_records::ByteText;
+use unit_workers::Gate;
+
+/// A file whose tables were read, and what its compressed sections give.
+#[derive(Drop)]
+struct Opened<'a> {
+    packed: PackedImage<'a>,
+    inflated: Inflations,
+}
+
+/// Reads the tables of a file, and its compressed sections where `full`.
+fn open_file<'a, R: Threads + Sync>(
+    rt: &R,
+    alloc: Global,
+    bytes: &'a [u8],
+    full: bool,
+    workers: usize,
+) -> Result<Opened<'a>, Stop<ElfFault>>
+    requires workers { (1 ≤ workers) × (workers ≤ 64) }
+    ensures { MatchStop result (λ o. (o.packed ≡ record { full = full; file = bytes.now }) × (o.inflated ≡ outcomes_of o.packed)) (λ fault. any_image full bytes.now ≡ Err fault) (Unit {0}) }
+{
+    match read_packed(alloc, bytes, full) {
+        Ok(packed) => {
+            let inflated = inflate_sections(rt, alloc, &packed, workers)?;
+            Ok(Opened { packed, inflated })
+        }
+        Err(stop) => Err(stop),
+    }
+}
+
+/// A dump of a binary with its debug file.
+#[tactic(auto, using(crate::proofs::SourceLemmas::both_judged, crate::proofs::SourceLemmas::pair_refused))]
+fn judge_both<R: Threads + Sync, G: Gate + Sync>(
+    rt: &R,
+    alloc: Global,
+    binary: &Image<'_>,
+    debug: &Image<'_>,
+    source: &ElfPlace<'_>,
+    gate: &G,
+    workers: usize,
+) -> Result<Judgement, OutOfMemory>
+    requires workers { (1 ≤ workers) × (workers ≤ 64) }
+    ensures { IfOk result (λ j. JudgesGiven j (source_view source.now) (or_refused pair_line (pair_of binary.now debug.now))) }
+{
+    match pair(alloc, binary, debug) {
+        Ok(both) => judge_image(rt, alloc, &both, source, gate, workers),
+        Err(Stop::Fault(fault)) => Ok(refuse(Message::Made(pair_line(alloc, fault.word())?))),
+        Err(Stop::NoMemory) => Err(OutOfMemory),
+    }
+}
+
+/// The same by the debug file, whose tables were read.
+#[tactic(auto, using(crate::proofs::SourceLemmas::debug_judged, crate::proofs::SourceLemmas::debug_refused))]
+fn judge_opened<R: Threads + Sync, G: Gate + Sync>(
+    rt: &R,
+    alloc: Global,
+    binary: &Image<'_>,
+    opened: Opened<'_>,
+    source: &ElfPlace<'_>,
+    gate: &G,
+    workers: usize,
+) -> Result<Judgement, OutOfMemory>
+    requires inflated { opened.inflated ≡ outcomes_of opened.packed }
+    requires workers { (1 ≤ workers) × (workers ≤ 64) }
+    ensures { IfOk result (λ j. JudgesPair j (source_view source.now) binary.now opened.entry.packed.full opened.entry.packed.file) }
+{
+    let Opened { packed, inflated } = opened;
+    match packed.unpack(&inflated) {
+        Ok(debug) => judge_both(rt, alloc, binary, &debug, source, gate, workers),
+        Err(fault) => Ok(refuse(Message::Made(debug_fault_line(alloc, fault)?))),
+    }
+}
+
+/// The same over the bytes of the debug file.
+#[tactic(auto, using(crate::proofs::SourceLemmas::opened_judged, crate::proofs::SourceLemmas::debug_refused))]
+fn judge_debug<R: Threads + Sync, G: Gate + Sync>(
+    rt: &R,
+    alloc: Global,
+    binary: &Image<'_>,
+    bytes: &[u8],
+    source: &ElfPlace<'_>,
+    gate: &G,
+    workers: usize,
+) -> Result<Judgement, OutOfMemory>
+    requires workers { (1 ≤ workers) × (workers ≤ 64) }
+    ensures { IfOk result (λ j. JudgesPair j (source_view source.now) binary.now source.now.full bytes.now) }
+{
+    match open_file(rt, alloc, bytes, source.full, workers) {
+        Ok(opened) => judge_opened(rt, alloc, binary, opened, source, gate, workers),
+        Err(Stop::Fault(fault)) => Ok(refuse(Message::Made(debug_fault_line(alloc, fault)?))),
+        Err(Stop::NoMemory) => Err(OutOfMemory),
+    }
+}
+
+/// The path of a binary's debug file below a root, or the word of why there is none.
+#[tactic(auto, using(crate::proofs::SourceLemmas::placed_below, crate::proofs::SourceLemmas::short_below, crate::proofs::SourceLemmas::none_below))]
+fn find_below(alloc: Global, root: &str, binary: &Image<'_>) -> Result<String, Stop<&'static [u8]>>
+    ensures { MatchStop result
+        (λ path. path_below root.now binary.now.build_id ≡ Ok (string_bytes path))
+        (λ word. path_below root.now binary.now.build_id ≡ Err (refused (line (spaced (codes "refused pair") (word.now ∷ [])))))
+        (Unit {0}) }
+{
+    let Some(id) = binary.build_id() else {
+        return Err(Stop::Fault(PairFault::NoBuildId.word()));
+    };
+    match debug_path(alloc, root, id) {
+        Ok(path) => Ok(path),
+        Err(Stop::Fault(short)) => Err(Stop::Fault(short.word())),
+        Err(Stop::NoMemory) => Err(Stop::NoMemory),
+    }
+}
+
+/// The path of a binary's debug file, or the word of why there is none.
+fn find_debug(
+    alloc: Global,
+    debug: DebugPlace<'_>,
+    binary: &Image<'_>,
+) -> Result<String, Stop<&'static [u8]>>
+    ensures { MatchStop result
+        (λ path. path_of (debug_view debug.entry) binary.now ≡ Ok (string_bytes path))
+        (λ word. path_of (debug_view debug.entry) binary.now ≡ Err (refused (line (spaced (codes "refused pair") (word.now ∷ [])))))
+        (Unit {0}) }
+{
+    match debug {
+        DebugPlace::File { path } => Ok(String::from_str(alloc, path)?),
+        DebugPlace::Root { root } => find_below(alloc, root, binary),
+    }
+}
+
+/// The answer by a line that refuses.
+fn answer_line(made: Result<ByteText, AllocError>) -> Answer
+    ensures { AnswersMade result made }
+{
+    match made {
+        Ok(text) => Answer::Judged(refuse(Message::Made(text))),
+        Err(_) => Answer::NoMemory,
+    }
+}
+
+/// The answer by a debug file that is still to be read. The line for a file that cannot be read is made before, since no memory is
+/// taken after a file failed.
+#[tactic(auto, using(crate::proofs::SourceLemmas::debug_read, crate::proofs::SourceLemmas::debug_stopped, crate::proofs::SourceLemmas::all_asked, crate::proofs::SourceLemmas::stop_asked, crate::proofs::SourceLemmas::none_asked, crate::proofs::SteadyLemmas::stop_steady, crate::proofs::SteadyLemmas::any_steady))]
+fn answer_file<R: Threads + Sync, S: Store, G: Gate + Sync>(
+    rt: &R,
+    alloc: Global,
+    binary: &Image<'_>,
+    path: &str,
+    source: &ElfPlace<'_>,
+    workers: usize,
+    store: &mut S,
+    gate: &G,
+) -> Answer
+    requires workers { (1 ≤ workers) × (workers ≤ 64) }
+    ensures asked { AsksAll result (path.now ∷ []) (S.asked store.old) (S.asked store.new) }
+    ensures files { S.files store.new ≡ S.files store.old }
+    ensures faults { S.faults store.old ≤ S.faults store.new }
+    ensures steady { IsSteadyAnswer result (S.faults store.old) (S.faults store.new) }
+    ensures answered { AnswersImage result (λ f. with_file source.now.full binary.now path.now (f path.now)) (source_view source.now) (S.files store.old) (S.asked store.new) (S.faults store.old) (S.faults store.new) }
+{
+    let Ok(unread) = unread_line(alloc, source.full, path.as_bytes()) else {
+        return Answer::NoMemory;
+    };
+    match read_all(alloc, store, path, FILE_LIMIT) {
+        Ok(bytes) => answer_judged(judge_debug(
+            rt,
+            alloc,
+            binary,
+            bytes.as_slice(),
+            source,
+            gate,
+            workers,
+        )),
+        Err(stop) => answer_stop(stop, unread),
+    }
+}
+
+/// The answer by a binary whose debug file is still to be found.
+#[tactic(auto, using(crate::proofs::SourceLemmas::path_answered, crate::proofs::SourceLemmas::path_asked, crate::proofs::SourceLemmas::path_refused, crate::proofs::SourceLemmas::no_path_asked, crate::proofs::SourceLemmas::none_asked, crate::proofs::SteadyLemmas::any_steady))]
+fn answer_place<R: Threads + Sync, S: Store, G: Gate + Sync>(
+    rt: &R,
+    alloc: Global,
+    binary: &Image<'_>,
+    debug: DebugPlace<'_>,
+    source: &ElfPlace<'_>,
+    workers: usize,
+    store: &mut S,
+    gate: &G,
+) -> Answer
+    requires workers { (1 ≤ workers) × (workers ≤ 64) }
+    ensures asked { AsksAll result (path_names (path_of (debug_view debug.entry) binary.now)) (S.asked store.old) (S.asked store.new) }
+    ensures files { S.files store.new ≡ S.files store.old }
+    ensures faults { S.faults store.old ≤ S.faults store.new }
+    ensures steady { IsSteadyAnswer result (S.faults store.old) (S.faults store.new) }
+    ensures answered { AnswersImage result (then_file source.now.full binary.now (path_of (debug_view debug.entry) binary.now)) (source_view source.now) (S.files store.old) (S.asked store.new) (S.faults store.old) (S.faults store.new) }
+{
+    match find_debug(alloc, debug, binary) {
+        Ok(path) => answer_file(
+            rt,
+            alloc,
+            binary,
+            path.as_str(),
+            source,
+            workers,
+            store,
+            gate,
+        ),
+        Err(Stop::Fault(word)) => answer_line(pair_line(alloc, word)),
+        Err(Stop::NoMemory) => Answer::NoMemory,
+    }
+}
+
+/// The answer by the image of the ELF file.
+#[tactic(auto, using(crate::proofs::SourceLemmas::alone_answered, crate::proofs::SourceLemmas::none_asked, crate::proofs::SourceLemmas::some_asked, crate::proofs::SteadyLemmas::any_steady))]
+fn answer_binary<R: Threads + Sync, S: Store, G: Gate + Sync>(
+    rt: &R,
+    alloc: Global,
+    binary: &Image<'_>,
+    source: &ElfPlace<'_>,
+    workers: usize,
+    store: &mut S,
+    gate: &G,
+) -> Answer
+    requires workers { (1 ≤ workers) × (workers ≤ 64) }
+    ensures asked { AsksAll result (debug_names (source_view source.now).debug binary.now) (S.asked store.old) (S.asked store.new) }
+    ensures files { S.files store.new ≡ S.files store.old }
+    ensures faults { S.faults store.old ≤ S.faults store.new }
+    ensures steady { IsSteadyAnswer result (S.faults store.old) (S.faults store.new) }
+    ensures answered { AnswersImage result (with_debug source.now.full (source_view source.now).debug binary.now) (source_view source.now) (S.files store.old) (S.asked store.new) (S.faults store.old) (S.faults store.new) }
+{
+    match source.debug {
+        None => answer_judged(judge_image(rt, alloc, binary, source, gate, workers)),
+        Some(debug) => answer_place(rt, alloc, binary, debug, source, workers, store, gate),
+    }
+}
+
+/// The same by the ELF file, whose tables were read.
+#[tactic(auto, using(crate::proofs::SourceLemmas::binary_answered, crate::proofs::SourceLemmas::binary_refused, crate::proofs::SourceLemmas::binary_asked, crate::proofs::SourceLemmas::refused_asked, crate::proofs::SteadyLemmas::any_steady))]
+fn answer_opened<R: Threads + Sync, S: Store, G: Gate + Sync>(
+    rt: &R,
+    alloc: Global,
+    opened: Opened<'_>,
+    source: &ElfPlace<'_>,
+    workers: usize,
+    store: &mut S,
+    gate: &G,
+) -> Answer
+    requires inflated { opened.inflated ≡ outcomes_of opened.packed }
+    requires workers { (1 ≤ workers) × (workers ≤ 64) }
+    ensures asked { AsksBehind result (source_view source.now) (or_refused elf_line (any_image opened.entry.packed.full opened.entry.packed.file)) (S.asked store.old) (S.asked store.new) }
+    ensures files { S.files store.new ≡ S.files store.old }
+    ensures faults { S.faults store.old ≤ S.faults store.new }
+    ensures steady { IsSteadyAnswer result (S.faults store.old) (S.faults store.new) }
+    ensures answered { AnswersImage result (then_debug (source_view source.now) (or_refused elf_line (any_image opened.entry.packed.full opened.entry.packed.file))) (source_view source.now) (S.files store.old) (S.asked store.new) (S.faults store.old) (S.faults store.new) }
+{
+    let Opened { packed, inflated } = opened;
+    match packed.unpack(&inflated) {
+        Ok(binary) => answer_binary(rt, alloc, &binary, source, workers, store, gate),
+        Err(fault) => answer_line(fault_line(alloc, fault)),
+    }
+}
+
+/// The same over the bytes of the ELF file.
+#[tactic(auto, using(crate::proofs::SourceLemmas::opened_answered, crate::proofs::SourceLemmas::opened_asked, crate::proofs::SourceLemmas::binary_refused, crate::proofs::SourceLemmas::refused_asked, crate::proofs::SourceLemmas::memory_asked, crate::proofs::SteadyLemmas::any_steady))]
+fn answer_bytes<R: Threads + Sync, S: Store, G: Gate + Sync>(
+    rt: &R,
+    alloc: Global,
+    bytes: &[u8],
+    source: &ElfPlace<'_>,
+    workers: usize,
+    store: &mut S,
+    gate: &G,
+) -> Answer
+    requires workers { (1 ≤ workers) × (workers ≤ 64) }
+    ensures asked { AsksBehind result (source_view source.now) (or_refused elf_line (any_image source.now.full bytes.now)) (S.asked store.old) (S.asked store.new) }
+    ensures files { S.files store.new ≡ S.files store.old }
+    ensures faults { S.faults store.old ≤ S.faults store.new }
+    ensures steady { IsSteadyAnswer result (S.faults store.old) (S.faults store.new) }
+    ensures answered { AnswersImage result (then_debug (source_view source.now) (or_refused elf_line (any_image source.now.full bytes.now))) (source_view source.now) (S.files store.old) (S.asked store.new) (S.faults store.old) (S.faults store.new) }
+{
+    match open_file(rt, alloc, bytes, source.full, workers) {
+        Ok(opened) => answer_opened(rt, alloc, opened, source, workers, store, gate),
+        Err(Stop::Fault(fault)) => answer_line(fault_line(alloc, fault)),
+        Err(Stop::NoMemory) => Answer::NoMemory,
+    }
+}
+
+/// The answer by the image that the files of a source give. The ELF file is read first, and the debug file only where that has an image
+/// and says where it is.
+#[tactic(auto, using(crate::proofs::SourceLemmas::elf_stopped, crate::proofs::SourceLemmas::elf_not_read, crate::proofs::SourceLemmas::nothing_asked, crate::proofs::SteadyLemmas::stop_steady, crate::proofs::SteadyLemmas::steady_behind, crate::proofs::SteadyLemmas::any_steady))]
+pub(crate) fn answer_source<R: Threads + Sync, S: Store, G: Gate + Sync>(
+    rt: &R,
+    alloc: Global,
+    source: &ElfPlace<'_>,
+    workers: usize,
+    store: &mut S,
+    gate: &G,
+) -> Answer
+    requires workers { (1 ≤ workers) × (workers ≤ 64) }
+    ensures asked { AsksSource result (source_view source.now) (S.files store.old) (S.asked store.old) (S.asked store.new) }
+    ensures files { S.files store.new ≡ S.files store.old }
+    ensures faults { S.faults store.old ≤ S.faults store.new }
+    ensures steady { IsSteadyAnswer result (S.faults store.old) (S.faults store.new) }
+    ensures answered { AnswersImage result (given_image (source_view source.now)) (source_view source.now) (S.files store.old) (S.asked store.new) (S.faults store.old) (S.faults store.new) }
+{
+    let Ok(unread) = unread_line(alloc, source.full, source.elf.as_bytes()) else {
+        return Answer::NoMemory;
+    };
+    match read_all(alloc, store, source.elf, FILE_LIMIT) {
+        Ok(bytes) => answer_bytes(rt, alloc, bytes.as_slice(), source, workers, store, gate),
+        Err(stop) => answer_stop(stop, unread),
+    }
+}
