@@ -40,7 +40,7 @@ pub use crate::length::{Contents, read_contents};
 pub use crate::sections::Sections;
 pub use crate::spec::Spec;
 pub use crate::take::Take;
-pub use crate::text::{cursor_from, place_by_index, read_place, read_text, text_in};
+pub use crate::text::{cursor_from, read_place, read_text, text_in};
 pub use crate::unit::{Unit, UnitList, UnitPart, units};
 pub use crate::usual::{KnownTake, Usual};
 pub use crate::value::{Given, Value};

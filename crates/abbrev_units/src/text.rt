@@ -78,7 +78,7 @@ fn indexed(base: u64, width: u64, index: u64) -> Option<u64>
 /// The place that stands as number `index` from a base on.
 #[inline]
 #[tactic(auto, using(crate::proofs::TextLemmas::number_beyond))]
-pub fn place_by_index(bytes: &[u8], wide: bool, base: u64, index: u64) -> Option<u64>
+fn place_by_index(bytes: &[u8], wide: bool, base: u64, index: u64) -> Option<u64>
     ensures { result ≡ number_in (place_width wide) bytes.now (base + place_width wide * index) }
 {
     let width = if wide { 8 } else { 4 };

@@ -1,14 +1,13 @@
 -- Lemmas on the last run that holds an address, by the stretches of runs.
-use Rattle.std.proofs.Common.{◌≡◌, ◌+◌, ◌-◌, ◌<◌, ◌≤◌, ◌^◌, ◌++◌, ◌==◌, ◌&&◌, min, nat_le, nat_lt, ℕ, zero, suc, Bool, true, false, cond, List, [], ◌∷◌, length, get_or, take, Option, None, Some, refl, sym, ap, ◌∙◌, arith, append_assoc, append-nil}
-use Rattle.std.specs.List.{find, slice_get}
+use Rattle.std.proofs.Common.{◌≡◌, ◌+◌, ◌-◌, ◌<◌, ◌≤◌, ◌^◌, ◌++◌, ℕ, zero, suc, Bool, true, false, cond, List, [], ◌∷◌, length, get_or, take, Option, None, Some, refl, sym, ap, ◌∙◌, arith, append_assoc, append-nil}
+use Rattle.std.specs.List.{slice_get}
 use Rattle.std.specs.Option.{option_map, option_map_or, option_and_then, option_or}
-use Rattle.std.proofs.lemmas.Bool.Decides.{nat_tests}
 use Rattle.std.proofs.lemmas.List.{take_all, get_or_default}
 use Rattle.std.proofs.lemmas.Option.{slice_get-get_or}
 use Rattle.step_maps.specs.declared.stretch.Stretch.{Stretch}
 use Rattle.step_maps.specs.declared.stretch.FirstItem.{FirstItem}
 use Rattle.step_maps.specs.Stepping.{Stepping, value_at}
-use Rattle.step_maps.specs.Covers.{AreStretches, reaches, first_at, index_at, first_item, is_shared}
+use Rattle.step_maps.specs.Covers.{first_at, index_at, first_item, is_shared}
 use Rattle.step_maps.proofs.IndexLemmas.{found_joined, cut_at}
 use Rattle.cfi_eval.specs.declared.memory.MemRun.{MemRun}
 use Rattle.cfi_eval.specs.Bytes.{byte_at, holds}

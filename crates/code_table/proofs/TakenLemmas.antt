@@ -1,18 +1,17 @@
 -- What an operation of so many operands takes; for the laws `operands_are_those_of_the_table` of line_program, frame_rows and expr_steps.
-use Rattle.std.proofs.Common.{◌≡◌, ℕ, ℤ, List, [], ◌∷◌, length, Result, Ok, Err, refl}
+use Rattle.std.proofs.Common.{◌≡◌, ℕ, ℤ, List, [], ◌∷◌, Result, Ok, Err, refl}
 use Rattle.std.specs.List.{All}
 use Rattle.std.proofs.lemmas.List.Elements.{All-nil, All-cons}
 use Rattle.sym_edges.specs.Results.{◌>>=◌}
 use Rattle.leb_cursor.specs.declared.fault.CursorFault.{CursorFault}
 use Rattle.leb_cursor.specs.Ahead.{Ahead}
-use Rattle.leb_cursor.specs.Readings.{uleb_at, sleb_at, take_at}
-use Rattle.code_table.specs.declared.kind.Kind.TheVariants.{Nothing, Uleb, Sleb, BlockUleb}
+use Rattle.code_table.specs.declared.kind.Kind.TheVariants.{Nothing}
 use Rattle.code_table.specs.declared.kind.Operand.{Operand}
-use Rattle.code_table.specs.declared.kind.Operand.TheVariants.{Num, Signed, Run}
+use Rattle.code_table.specs.declared.kind.Operand.TheVariants.{Signed}
 use Rattle.code_table.specs.declared.kind.Operands.{Operands}
 use Rattle.code_table.specs.declared.code_row.CodeRow.{CodeRow}
-use Rattle.code_table.specs.Layouts.{number_in, block_in, run_at, kind_at, shape_at}
-use Rattle.code_table.specs.Operands.{left, TakesOperands}
+use Rattle.code_table.specs.Layouts.{number_in, kind_at}
+use Rattle.code_table.specs.Operands.{left}
 
 -- a reading, whose fault is another one to the caller
 abbrev pub told : {A E : Type 0} → (CursorFault → E) → Result A CursorFault → Result A E

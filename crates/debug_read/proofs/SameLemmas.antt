@@ -1,5 +1,5 @@
 -- What is kept of a unit, two times, is the same. Serves the law.
-use Rattle.std.proofs.Common.{◌≡◌, ℕ, Bool, true, false, List, [], ◌∷◌, Option, None, Some, Result, Ok, Err, refl, sym, ap, ◌∙◌}
+use Rattle.std.proofs.Common.{◌≡◌, Bool, true, false, List, [], ◌∷◌, Option, None, Some, Result, Ok, Err, refl, sym, ap, ◌∙◌}
 use Rattle.sym_edges.specs.Addresses.{Range}
 use Rattle.sym_edges.specs.declared.located.Located.{Located}
 use Rattle.range_set.proofs.OneList.{one_list}

@@ -1,5 +1,5 @@
 -- The parts of a name.
-use Rattle.std.proofs.Common.{◌≡◌, ◌++◌, ℕ, List, [], codes, Option, None, Some, unwrap_or, option_and_then, true, false, refl, sym, ap, ◌∙◌}
+use Rattle.std.proofs.Common.{◌≡◌, ◌++◌, ℕ, List, [], codes, Option, None, Some, unwrap_or, true, false, sym, ap, ◌∙◌}
 use Rattle.std.specs.List.{slice_get}
 use Rattle.std.specs.Option.{option_map, option_map_or}
 use Rattle.die_walk.specs.EntryTable.{DieFields}
@@ -7,9 +7,8 @@ use Rattle.die_names.specs.declared.name_source.How.{How}
 use Rattle.die_names.specs.declared.name_source.How.TheVariants.{Linkage, Joined, Omitted}
 use Rattle.die_names.specs.declared.name_source.NameRef.{NameRef}
 use Rattle.die_names.specs.declared.unit_read.UnitRead.{UnitRead}
-use Rattle.die_names.specs.UnitEntries.{entry_of}
 use Rattle.die_names.specs.Names.{front_of}
-use Rattle.die_names.specs.NameRefs.{bytes_by, name_bytes, joined_bytes}
+use Rattle.die_names.specs.NameRefs.{name_bytes, joined_bytes}
 use Rattle.die_names.proofs.TextLemmas.{placed, named, text_is, text_no_part, text_no_die, text_no_name, text_omitted}
 
 pub part_no_unit : (units : List UnitRead) (name : NameRef) → None ≡ slice_get units name.unit → name_bytes units name ≡ joined_bytes units name false (codes "<name omitted>")

@@ -17,7 +17,7 @@ use Rattle.func_flatten.specs.LineRuns.{number_line_in, paths_in, number_run, pa
 use Rattle.inline_chain.specs.InlineRuns.{InlineParts}
 use Rattle.func_records.specs.declared.found.FoundShare.{FoundShare}
 use Rattle.func_records.specs.declared.path_list.PathRef.{PathRef}
-use Rattle.func_records.specs.FuncRecords.{Part, names_path, path_in}
+use Rattle.func_records.specs.FuncRecords.{Part, names_path}
 use Rattle.func_records.specs.internal.Gathering.{bytes_of, path_at, has_path, ArePathed, any_run, AddsPiece, Gathered, any_call}
 use Rattle.func_records.specs.internal.Shares.{all_paths}
 use Rattle.func_records.proofs.PartLemmas.{lined_push, pieces_push, copies_push, known_push}

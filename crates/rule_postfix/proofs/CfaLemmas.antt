@@ -1,5 +1,5 @@
 -- The CFA of a written entry is a number of 64 bits, or fails.
-use Rattle.std.proofs.Common.{◌≡◌, ◌<◌, ◌+◌, ◌*◌, ◌^◌, ◌%◌, ℕ, zero, suc, Bool, true, false, nat_lt, cond, List, [], ◌∷◌, Option, None, Some, Result, Ok, Err, option_and_then, refl, sym, ap, ◌∙◌, subst, arith, int_lt, true≢false, is_some, ltb-true}
+use Rattle.std.proofs.Common.{◌≡◌, ◌<◌, ◌+◌, ◌*◌, ◌^◌, ◌%◌, ℕ, zero, suc, Bool, true, false, nat_lt, cond, List, [], ◌∷◌, Option, None, Some, Result, Ok, Err, option_and_then, refl, sym, ap, ◌∙◌, subst, arith, int_lt, true≢false, is_some}
 use Rattle.std.specs.Option.{option_map}
 use Rattle.std.specs.List.{AllByRecursion, slice_index_or}
 use Rattle.std.specs.Int.{w64, cast_signed}
@@ -18,7 +18,7 @@ use Rattle.cfi_eval.specs.declared.registers.Regs.{Regs}
 use Rattle.cfi_eval.specs.declared.memory.MemRun.{MemRun}
 use Rattle.cfi_eval.specs.declared.outcome.Cause.{Cause}
 use Rattle.cfi_eval.specs.declared.outcome.Outcome.{Outcome}
-use Rattle.cfi_eval.specs.declared.outcome.Outcome.TheVariants.{Value, Undefined, Failed}
+use Rattle.cfi_eval.specs.declared.outcome.Outcome.TheVariants.{Value, Undefined}
 use Rattle.cfi_eval.specs.Bytes.{byte_at, number_at, word_at}
 use Rattle.cfi_eval.specs.Known.{AreBytes, IsKnown}
 use Rattle.expr_steps.specs.declared.operation.Operation.{Operation}
@@ -27,10 +27,9 @@ use Rattle.expr_steps.specs.declared.standing.Standing.{Standing}
 use Rattle.expr_steps.specs.declared.standing.Standing.TheVariants.{Free, OverCfa}
 use Rattle.expr_steps.specs.Operations.{operations}
 use Rattle.expr_steps.specs.Standing.{standing}
-use Rattle.expr_postfix.specs.ExprValue.{held, offset_from, fetched, is_at_least, onto, with_operation, go_on, value_over, beginning, value_by, expr_value}
+use Rattle.expr_postfix.specs.ExprValue.{held, offset_from, fetched, onto, with_operation, go_on, value_over, beginning, value_by, expr_value}
 use Rattle.rule_postfix.specs.RowValue.{known_value, value_now, at_cfa, cfa_value, row_frame}
 use Rattle.frame_rows.specs.Rows.{expr_bytes}
-use Rattle.rule_postfix.specs.Covering.{holds_address}
 use Rattle.rule_postfix.specs.Written.{written}
 use Rattle.rule_postfix.specs.KnownCfa.{HasKnownCfa}
 use Rattle.rule_postfix.proofs.MeaningLemmas.{low_held, high_held}

@@ -3,7 +3,7 @@ use Rattle.std.proofs.Common.{◌≡◌, ◌++◌, refl}
 use Rattle.std.specs.Prelude.{⊤}
 use Rattle.std.specs.Fmt.{digits}
 use Rattle.sym_edges.proofs.Hex.{hex}
-use Rattle.sample_elf.specs.Made.{code_at, line_program, line_fields, line_header_5, line_header_4, line_body, line_table, line_tables, abbreviations, root_texts, root_numbers, unit_root, unit_front, function, inlined_copy, unit_functions, unit_body, unit, units, common_entry, frame_entry, unit_frames, frames, build_id, section_names, headers_at, abbreviations_at, section_header, sections, section_headers, file_header, program_header}
+use Rattle.sample_elf.specs.Made.{line_program, line_fields, line_header_5, line_header_4, line_body, line_table, line_tables, abbreviations, root_texts, root_numbers, unit_root, unit_front, function, inlined_copy, unit_functions, unit_body, unit, units, common_entry, frame_entry, unit_frames, frames, build_id, section_names, headers_at, abbreviations_at, section_header, sections, section_headers, file_header, program_header}
 
 unfoldable made_computes : ⊤
 unfolding digits hex line_program line_fields line_header_5 line_header_4 line_body line_table line_tables abbreviations root_texts root_numbers unit_root unit_front function inlined_copy unit_functions unit_body unit units common_entry frame_entry unit_frames frames build_id section_names section_header sections section_headers file_header program_header

@@ -1,5 +1,5 @@
 -- A list of bytes as a quoted text, so that a worked row that is wrong is shown as text.
-use Rattle.std.proofs.Common.{◌≡◌, ℕ, List, refl}
+use Rattle.std.proofs.Common.{ℕ, List}
 use Rattle.std.proofs.Common.{[] as nil, ◌∷◌ as ◌∷ᴸ◌}
 use Prim.Native.Nat.{Ordering, compare}
 use Prim.Native.Char.{Char, char, nul, IsLt, IsScalar}

@@ -5,7 +5,7 @@ use Rattle.cfi_eval.specs.declared.registers.Regs.{Regs}
 use Rattle.cfi_eval.specs.declared.memory.MemRun.{MemRun}
 use Rattle.cfi_eval.specs.declared.outcome.Cause.{Cause}
 use Rattle.cfi_eval.specs.declared.outcome.Outcome.{Outcome}
-use Rattle.cfi_eval.specs.declared.outcome.Outcome.TheVariants.{Value, Undefined, Failed}
+use Rattle.cfi_eval.specs.declared.outcome.Outcome.TheVariants.{Undefined}
 use Rattle.cfi_eval.specs.Postfix.{register_value, cfa_value, word_value, rule_value}
 use Rattle.cfi_eval.specs.TextValue.{outcome_of}
 use Rattle.sym_judge.specs.declared.terms.Base.{Base}

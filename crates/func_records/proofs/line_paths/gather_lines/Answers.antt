@@ -1,4 +1,3 @@
-use Rattle.std.proofs.Common.{arith}
 use Rattle.func_records.proofs.LinePathLemmas.{adds_none, adds_some}
 use Rattle.func_records.proofs.line_paths.gather_lines.Goals as goal
 

@@ -1,4 +1,4 @@
-use Rattle.std.proofs.Common.{◌≡◌, ◌-◌, ◌<◌, ◌≤◌, length, take, drop, get_or, Some, sym, ap, subst, ◌∙◌, rules, arith}
+use Rattle.std.proofs.Common.{◌≡◌, ◌-◌, ◌<◌, ◌≤◌, length, take, drop, get_or, Some, sym, ap, subst, ◌∙◌, rules}
 use Rattle.std.specs.List.{slice_get}
 use Rattle.flat_lists.specs.Ends.{begun}
 use Rattle.flat_lists.proofs.EndLemmas.{list_there, none_there, ordered}
