@@ -16,11 +16,11 @@ is a page, and the words in quotes behind it begin a heading there. The pages of
 import collections, os, re, sys
 
 WORDS = '|'.join([
-    r'DW_\w+|(e|p|sh)_[a-z]+',  # names of the standards by their beginnings
+    r'DW_\w+|(e|p|sh|ch)_[a-z]+',  # names of the standards by their beginnings
     # an attribute, fields of line table headers, registers of line programs (DWARF 5, 2.15, 6.2.2, 6.2.4)
     r'abstract_origin|unit_length|header_length|address_size|segment_selector_size|(minimum|maximum)_\w+_(length|instruction)',
     r'standard_opcode_lengths|is_stmt|basic_block|prologue_end|epilogue_begin|discriminator|op_index',
-    r'_Z\w+|_R|(core|foo|n)::.*|[0-9a-f]{16}',  # mangled names, names of programs that are examples, the hash of the logic
+    r'_Z\w+|_R\w*|(core|foo|n)::.*|[0-9a-f]{16}',  # mangled names, names of programs that are examples, the hash of the logic
     r'and|SmallVec|smallvec'])  # an operation of expressions whose name Rattle has for itself; a library that is not used
 TOP = os.path.dirname(os.path.dirname(os.path.abspath(__file__)))
 NAME = r'[A-Za-z_]\w*'
