@@ -138,16 +138,30 @@ fn of_entries(alloc: Global, code: &[u8], entries: &[Entry]) -> Result<Vec<u8>, 
     with_functions(alloc, code, &unit, &lines)
 }
 
-/// The same with a section of units, in code from 1000 to 1020.
-fn with_info(alloc: Global, info: Section<'_>) -> Result<Vec<u8>, AllocError> {
+/// A section of units and the lines of the first, in code from 1000 to 1020.
+fn of_info<'a>(
+    alloc: Global,
+    name: &'a str,
+    header: [u64; 4],
+    info: &'a [u8],
+    lines: &'a [u8],
+) -> Result<Vec<u8>, AllocError> {
+    let sections = [
+        NULL,
+        ID,
+        LONG_CODE,
+        (name, header, info),
+        (".debug_abbrev", [1, 0, 0, 0], FUNCTIONS),
+        (".debug_line", [1, 0, 0, 0], lines),
+    ];
+    file_of(alloc, &[(1, 0)], &sections)
+}
+
+/// The same with the lines of three rows.
+fn with_info(alloc: Global, info: Section<'static>) -> Result<Vec<u8>, AllocError> {
+    let (name, header, bytes) = info;
     let lines = line_table(alloc, A_C, THREE_ROWS)?;
-    let abbreviations = (".debug_abbrev", [1, 0, 0, 0], FUNCTIONS);
-    let table = (".debug_line", [1, 0, 0, 0], lines.as_slice());
-    file_of(
-        alloc,
-        &[(1, 0)],
-        &[NULL, ID, LONG_CODE, info, abbreviations, table],
-    )
+    of_info(alloc, name, header, bytes, &lines)
 }
 
 /// The same, with code from 1000 to 2020.
