@@ -3,8 +3,7 @@ use Rattle.std.proofs.Common.{◌≡◌, ℕ, zero, suc, Bool, List, [], ◌∷�
 use Rattle.std.specs.List.{slice_get}
 use Rattle.code_table.specs.Forms.{forms, form_row}
 use Rattle.abbrev_units.specs.declared.spec.Known.{Known}
-use Rattle.abbrev_units.specs.internal.Plans.{row_said}
-use Rattle.abbrev_units.specs.internal.FormRows.{AreRows}
+use Rattle.abbrev_units.specs.internal.FormRows.{AreRows, row_said}
 
 some_same : {A : Type 0} {x y : A} → Some x ≡ Some y → x ≡ y
 some_same is = cc

@@ -4,12 +4,12 @@ pub mod UnitPlaceLemmas
 pub mod AbbrevLemmas
 pub mod ListedLemmas
 mod PlaceLemmas
-pub mod ValueLemmas
 pub mod FormLemmas
 pub mod FormTableLemmas
-mod PlanLemmas
-mod TakeLemmas
-mod UsualLemmas
+mod SizeLemmas
+pub mod PickLemmas
+pub mod KeepLemmas
+pub mod TakeLemmas
 pub mod Computing
 mod WorkedForms
 mod WorkedUnits

@@ -1,25 +1,21 @@
 -- Lists that grow keep what stands in them.
-use Rattle.std.proofs.Common.{◌≡◌, ◌≤◌, ◌-◌, ℕ, Bool, List, [], ◌∷◌, ◌++◌, length, take, drop, None, Some, Result, Ok, Err, refl, sym, ap, subst, ◌∙◌, arith}
+use Rattle.std.proofs.Common.{◌≡◌, ◌≤◌, ◌-◌, ℕ, Bool, true, List, [], ◌∷◌, ◌++◌, length, take, drop, Option, None, Some, is_some, unwrap_or, IfSome, Result, Ok, Err, refl, sym, ap, subst, ◌∙◌, arith}
 use Rattle.std.proofs.lemmas.List.{length-append, length-drop, append-nil, append_assoc, take-append-le, drop-append-le, take_all, drop_at}
 use Rattle.std.proofs.Math.ListN.{drop_of_length-le}
 use Rattle.sym_edges.specs.declared.fault.Stop.{Stop}
 use Rattle.sym_edges.specs.declared.fault.Stop.TheVariants.{Fault, NoMemory}
 use Rattle.leb_cursor.specs.declared.fault.CursorFault.{CursorFault}
 use Rattle.leb_cursor.specs.Ahead.{Ahead}
-use Rattle.abbrev_units.specs.declared.plan.Step.{Step}
 use Rattle.abbrev_units.specs.declared.take.Take.{Take}
 use Rattle.abbrev_units.specs.declared.lists.Lists.{Lists}
 use Rattle.abbrev_units.specs.declared.lists.Run.{Run}
-use Rattle.abbrev_units.specs.declared.lists.ShortWay.{ShortWay}
-use Rattle.abbrev_units.specs.declared.lists.ShortWay.TheVariants.{Missing, Over, To}
 use Rattle.abbrev_units.specs.declared.lists.Head.{Head}
 use Rattle.abbrev_units.specs.SpecFields.{SpecFields, Abbrev}
 use Rattle.abbrev_units.specs.Abbreviations.{used_at}
 use Rattle.abbrev_units.specs.internal.Used.{used_abbrev_at}
-use Rattle.abbrev_units.specs.Takes.{AreTakes}
 use Rattle.abbrev_units.specs.KeptTags.{is_kept_tag}
-use Rattle.abbrev_units.specs.internal.Plans.{ended, IsPlan}
-use Rattle.abbrev_units.specs.internal.Listed.{part, IsInside, IsWay, abbrev_in, abbrevs_in, IsHeld, AreHeld, Starts, Grown, LeavesAt, ReadsAt}
+use Rattle.abbrev_units.specs.internal.Takes.{AreTakes}
+use Rattle.abbrev_units.specs.internal.Listed.{part, IsInside, abbrev_in, abbrevs_in, IsHeld, AreHeld, Starts, Grown, LeavesAt, ReadsAt}
 use Rattle.abbrev_units.proofs.AbbrevLemmas.{abbrevs_behind, abbrevs_begin, abbrevs_more, abbrevs_end, abbrevs_stopped}
 
 -- lists that others begin
@@ -64,49 +60,43 @@ part_rest xs run from start end =
 rest_inside : {A : Type 0} (xs : List A) (run : Run) (from : ℕ) → run.from ≡ from → run.to ≡ length xs → from ≤ length xs → IsInside run xs
 rest_inside xs run from start end inside = (omega (arith, start, end, inside), omega (arith, end))
 
-pub way_over : (steps : List Step) (takes : List Take) (specs : List SpecFields) (run : Run) (from tail : ℕ) → run.from ≡ from → run.to ≡ length steps → from ≤ length steps → IsPlan (ended (drop from steps) tail) specs → IsWay (Over run tail) steps takes specs
-way_over steps takes specs run from tail start end inside plan =
-    (rest_inside steps run from start end inside, subst (λ s. IsPlan (ended s tail) specs) (part_rest steps run from start end) plan)
-
-pub way_to : (steps : List Step) (takes : List Take) (specs : List SpecFields) (run : Run) (from : ℕ) → run.from ≡ from → run.to ≡ length takes → from ≤ length takes → AreTakes (drop from takes) specs → IsWay (To run) steps takes specs
-way_to steps takes specs run from start end inside gives =
-    (rest_inside takes run from start end inside, subst (λ t. AreTakes t specs) (part_rest takes run from start end) gives)
-
 pub abbrev_rest : (specs : List SpecFields) (head : Head) (from : ℕ) → head.specs.from ≡ from → head.specs.to ≡ length specs → abbrev_in specs head ≡ record { code = head.code; tag = head.tag; children = head.children; specs = drop from specs }
 abbrev_rest specs head from start end =
     ap (λ (s : List SpecFields). record { code = head.code; tag = head.tag; children = head.children; specs = s }) (sym (part_rest specs head.specs from start end))
 
-pub held_rest : (lists : Lists) (head : Head) (from : ℕ) → head.kept ≡ is_kept_tag head.tag → head.specs.from ≡ from → head.specs.to ≡ length lists.specs.items → from ≤ length lists.specs.items → IsWay head.way lists.steps.items lists.takes.items (drop from lists.specs.items) → IsHeld lists head
-held_rest lists head from kept start end inside way = record {
+made_takes : (made : Option ℕ) (kept has : Bool) (tail : ℕ) (takes : List Take) (specs : List SpecFields) → has ≡ is_some made → tail ≡ unwrap_or made 0 → has ≡ true → IfSome made (λ n. AreTakes kept takes n specs) → AreTakes kept takes tail specs
+made_takes (Some n) kept has tail takes specs here same there are = subst (λ (m : ℕ). AreTakes kept takes m specs) (sym same) are
+made_takes None kept has tail takes specs here same there are = absurd (grind (arith, here, there))
+
+pub held_rest : (lists : Lists) (head : Head) (from begin : ℕ) (made : Option ℕ) → head.kept ≡ is_kept_tag head.tag → head.specs.from ≡ from → head.specs.to ≡ length lists.specs.items → from ≤ length lists.specs.items → head.takes.from ≡ begin → head.takes.to ≡ length lists.takes.items → begin ≤ length lists.takes.items → head.has_takes ≡ is_some made → head.tail ≡ unwrap_or made 0 → IfSome made (λ tail. AreTakes head.kept (drop begin lists.takes.items) tail (drop from lists.specs.items)) → IsHeld lists head
+held_rest lists head from begin made kept start end inside takes_start takes_end takes_inside has tail are = record {
   kept = kept;
   specs = rest_inside lists.specs.items head.specs from start end inside;
-  way = subst (λ s. IsWay head.way lists.steps.items lists.takes.items s) (part_rest lists.specs.items head.specs from start end) way;
+  takes = rest_inside lists.takes.items head.takes begin takes_start takes_end takes_inside;
+  are = λ there.
+      subst (λ (s : List SpecFields). AreTakes head.kept (part head.takes lists.takes.items) head.tail s) (part_rest lists.specs.items head.specs from start end)
+      (subst (λ (t : List Take). AreTakes head.kept t head.tail (drop from lists.specs.items)) (part_rest lists.takes.items head.takes begin takes_start takes_end)
+      (made_takes made head.kept head.has_takes head.tail (drop begin lists.takes.items) (drop from lists.specs.items) has tail there are));
 }
 
-pub grown_by : (before after : Lists) (specs : List SpecFields) → Starts before.specs.items specs → after.specs.items ≡ specs → Starts before.steps.items after.steps.items → Starts before.takes.items after.takes.items → Grown before after
-grown_by before after specs a same b c = record {
+pub grown_by : (before after : Lists) (specs : List SpecFields) → Starts before.specs.items specs → after.specs.items ≡ specs → Starts before.takes.items after.takes.items → Grown before after
+grown_by before after specs a same b = record {
   specs = subst (λ s. Starts before.specs.items s) (sym same) a;
-  steps = b;
-  takes = c;
+  takes = b;
 }
 
 same_abbrev : (before after : Lists) (head : Head) → Grown before after → IsHeld before head → abbrev_in before.specs.items head ≡ abbrev_in after.specs.items head
 same_abbrev before after head grown held =
     ap (λ (specs : List SpecFields). record { code = head.code; tag = head.tag; children = head.children; specs = specs }) (same_part before.specs.items after.specs.items head.specs grown.specs held.specs)
 
-way_still : (before after : Lists) (way : ShortWay) (specs : List SpecFields) → Grown before after → IsWay way before.steps.items before.takes.items specs → IsWay way after.steps.items after.takes.items specs
-way_still before after Missing specs grown held = tt
-way_still before after (Over run tail) specs grown held =
-    (still_inside before.steps.items after.steps.items run grown.steps held.0, subst (λ s. IsPlan (ended s tail) specs) (same_part before.steps.items after.steps.items run grown.steps held.0) held.1)
-way_still before after (To run) specs grown held =
-    (still_inside before.takes.items after.takes.items run grown.takes held.0, subst (λ t. AreTakes t specs) (same_part before.takes.items after.takes.items run grown.takes held.0) held.1)
-
 held_still : (before after : Lists) (head : Head) → Grown before after → IsHeld before head → IsHeld after head
 held_still before after head grown held = record {
   kept = held.kept;
   specs = still_inside before.specs.items after.specs.items head.specs grown.specs held.specs;
-  way = subst (λ s. IsWay head.way after.steps.items after.takes.items s) (same_part before.specs.items after.specs.items head.specs grown.specs held.specs)
-      (way_still before after head.way (part head.specs before.specs.items) grown held.way);
+  takes = still_inside before.takes.items after.takes.items head.takes grown.takes held.takes;
+  are = λ there.
+      subst (λ (s : List SpecFields). AreTakes head.kept (part head.takes after.takes.items) head.tail s) (same_part before.specs.items after.specs.items head.specs grown.specs held.specs)
+      (subst (λ (t : List Take). AreTakes head.kept t head.tail (part head.specs before.specs.items)) (same_part before.takes.items after.takes.items head.takes grown.takes held.takes) (held.are there));
 }
 
 pub all_held : (before after : Lists) (heads : List Head) → Grown before after → AreHeld before heads → AreHeld after heads

@@ -1,172 +1,141 @@
--- For `make_takes` and `Spec::row`: a short way to the values that are asked for grows from its end.
-use Rattle.std.proofs.Common.{◌≡◌, ◌<◌, ◌≤◌, ◌+◌, ℕ, ℤ, nat_eq, false, cond, List, [], ◌∷◌, ◌++◌, length, drop, get_or, reverse, Option, None, Some, Result, Ok, Err, refl, sym, ap, ◌∙◌, arith, subst, unwrap_or}
-use Rattle.std.proofs.lemmas.Bool.{cond-false, le-ltb}
-use Rattle.std.proofs.lemmas.List.{append-nil, drop_more, reverse-append}
+-- For `make_takes` and `Abbrev::read`: where the takes succeed, they leave what is kept of the values.
+use Rattle.std.proofs.Common.{◌≡◌, ◌<◌, ◌≤◌, ◌+◌, ℕ, ℤ, Bool, true, false, List, [], ◌∷◌, ◌++◌, length, take, drop, get_or, Option, Some, Result, Ok, Err, refl, sym, ap, ◌∙◌, arith, subst}
+use Rattle.std.proofs.lemmas.List.{drop_more, take_more, take_all}
 use Rattle.std.proofs.Math.ListN.{drop_of_length-le}
 use Rattle.sym_edges.specs.Results.{◌>>=◌}
 use Rattle.leb_cursor.specs.declared.fault.CursorFault.{CursorFault}
 use Rattle.leb_cursor.specs.Ahead.{Ahead, passed}
 use Rattle.leb_cursor.specs.Readings.{take_at}
-use Rattle.code_table.specs.declared.kind.Kind.TheVariants as kind
+use Rattle.code_table.specs.declared.kind.Kind.{Kind}
 use Rattle.code_table.specs.declared.kind.Operand.{Operand}
 use Rattle.code_table.specs.declared.forms.FormRow.{FormRow}
-use Rattle.code_table.specs.Forms.{forms, form_row}
 use Rattle.code_table.specs.Layouts.{kind_at}
 use Rattle.abbrev_units.specs.declared.fault.FormFault.{FormFault}
+use Rattle.abbrev_units.specs.declared.slots.Slot.{Slot}
+use Rattle.abbrev_units.specs.declared.slots.Slot.TheVariants.{Passed}
 use Rattle.abbrev_units.specs.declared.take.Take.{Take}
 use Rattle.abbrev_units.specs.declared.value.Given.{Given}
 use Rattle.abbrev_units.specs.declared.value.Value.{Value}
+use Rattle.abbrev_units.specs.Attributes.{first_of}
 use Rattle.abbrev_units.specs.Faults.{as_value}
-use Rattle.abbrev_units.specs.FormValue.{value_of, value_by, direct_at, form_at}
+use Rattle.abbrev_units.specs.FormValue.{value_of, value_by}
+use Rattle.abbrev_units.specs.Picks.{PickFields, IsSlot, kept_by, no_picks, picks_at, put_in, value_in}
 use Rattle.abbrev_units.specs.SpecFields.{SpecFields}
-use Rattle.abbrev_units.specs.Values.{value_at, values_at, only_ahead}
-use Rattle.abbrev_units.specs.Takes.{is_asked, asked_of, with_asked, taken_at, takes_at, AreTakes}
-use Rattle.abbrev_units.specs.internal.Listed.{Starts}
-use Rattle.abbrev_units.specs.internal.Plans.{HasRow, IsPassed, no_take, in_front}
-use Rattle.abbrev_units.proofs.ListedLemmas.{added_more}
-use Rattle.abbrev_units.proofs.PlanLemmas.{take_passed, take_fits, passed_none, passed_two, long_enough}
+use Rattle.abbrev_units.specs.Values.{value_at, values_at, only_ahead, behind_values}
+use Rattle.abbrev_units.specs.internal.FormRows.{HasRow}
+use Rattle.abbrev_units.specs.internal.Filled.{FilledFor, GivesSlot, GoesTo, filled_by, free_in}
+use Rattle.abbrev_units.specs.internal.Takes.{AreTakes, Joins, TakesValue, kept_at, kept_with, number_at, number_of, put_taken, take_all as all_taken, take_one, takes_at}
+use Rattle.abbrev_units.proofs.PickLemmas.{ahead_or, attributes_more, picks_next, picks_or, values_next}
+use Rattle.abbrev_units.proofs.SizeLemmas.{long_enough, passed_none, passed_two, sized, take_fits, take_passed, take_there}
 
-pub direct_row : (spec : SpecFields) (row : FormRow) → nat_eq spec.form 0x16 ≡ false → Some row ≡ form_row spec.form (forms spec.wide) → HasRow spec row
-unfolding form_at direct_at
-direct_row spec row direct is c = cond-false _ _ _ direct ∙ ap (λ r. value_by r spec.implicit c) (sym is)
+-- a reading that succeeds in two parts
+pub record Parts {X Y : Type 0} (first : Result X CursorFault) (next : X → Result Y CursorFault) (y : Y) : Type 0 where
+  pub middle : X
+  pub one : first ≡ Ok middle
+  pub two : next middle ≡ Ok y
 
--- the parts of an answer
-abbrev given_or : {F : Type 0} → List Given → Result (List Given × Ahead) F → List Given
-given_or old (Ok x) = x.0
-given_or old (Err fault) = old
+parts_of : {X Y : Type 0} (first : Result X CursorFault) (next : X → Result Y CursorFault) (y : Y) → (first >>= next) ≡ Ok y → Parts first next y
+parts_of (Ok x) next y is = record { middle = x; one = refl; two = is }
+parts_of (Err fault) next y is = absurd (grind (arith, is))
 
-abbrev ahead_or : {A F : Type 0} → Ahead → Result (A × Ahead) F → Ahead
-ahead_or old (Ok x) = x.1
-ahead_or old (Err fault) = old
+abbrev number_or : ℕ → Result (ℕ × Ahead) CursorFault → ℕ
+number_or old (Ok x) = x.0
+number_or old (Err fault) = old
 
--- what stands behind a reading
-abbrev valued : Take → Operand × Ahead → Result (Value × Ahead) CursorFault
-valued take x = Ok (value_of take.class take.implicit x.0, x.1)
-
-abbrev read_on : Take → List ℕ × Ahead → Result (Value × Ahead) CursorFault
-read_on take run = kind_at take.kind run.1 >>= valued take
-
-abbrev behind_one : ℕ → Value → List Given × Ahead → Result (List Given × Ahead) CursorFault
-behind_one attribute value later = Ok (record { attribute = attribute; value = value } ∷ later.0, later.1)
-
-abbrev behind_first : Take → List Take → Value × Ahead → Result (List Given × Ahead) CursorFault
-behind_first take takes first = takes_at takes first.1 >>= behind_one take.attribute first.0
-
--- a take that gives a value, with the run in front of it
-pub record Taken (take : Take) (c d : Ahead) (value : Value) : Type 0 where
+-- a take that succeeds
+pub record Taken (take : Take) (picks after : PickFields) (c d : Ahead) : Type 0 where
   pub fits : take.bytes ≤ length c.bytes
   pub operand : Operand
-  pub reads : kind_at take.kind (passed take.bytes c) ≡ Ok (operand, d)
-  pub gives : value ≡ value_of take.class take.implicit operand
+  pub reads : kind_at take.layout (passed take.bytes c) ≡ Ok (operand, d)
+  pub puts : after ≡ put_in take.slot (value_in take.class (number_of take.constant operand)) picks
 
-abbrev value_or : Value → Result (Value × Ahead) CursorFault → Value
-value_or old (Ok x) = x.0
-value_or old (Err fault) = old
+abbrev numbered : ℕ → Operand × Ahead → Result (ℕ × Ahead) CursorFault
+numbered constant x = Ok (number_of constant x.0, x.1)
 
-read_by : (take : Take) (reading : Result (Operand × Ahead) CursorFault) (c d e : Ahead) (value : Value) → take.bytes ≤ length c.bytes → e ≡ passed take.bytes c → kind_at take.kind e ≡ reading → (reading >>= valued take) ≡ Ok (value, d) → Taken take c d value
-read_by take (Ok x) c d e value fits there reads is =
-    let same : x.1 ≡ d = ap (ahead_or d) is in
+abbrev number_behind : Take → PickFields → List ℕ × Ahead → Result (PickFields × Ahead) CursorFault
+number_behind take picks run = number_at take.layout take.constant run.1 >>= put_taken take picks
+
+taken_is : (take : Take) (picks after : PickFields) (c d : Ahead) → take_one take picks c ≡ Ok (after, d) → Taken take picks after c d
+taken_is take picks after c d is =
+    let run = parts_of (take_at take.bytes c) (number_behind take picks) (after, d) is in
+    let there = take_passed take.bytes c run.middle.1 (ap only_ahead run.one) in
+    let number = parts_of (number_at take.layout take.constant run.middle.1) (put_taken take picks) (after, d) run.two in
+    let operand = parts_of (kind_at take.layout run.middle.1) (numbered take.constant) number.middle number.one in
+    let end : operand.middle.1 ≡ d = ap (ahead_or d) operand.two ∙ ap (ahead_or d) number.two in
     record {
-      fits = fits;
-      operand = x.0;
-      reads = ap (kind_at take.kind) (sym there) ∙ reads ∙ ap (λ y. Ok (x.0, y)) same;
-      gives = sym (ap (value_or value) is);
+      fits = there.0;
+      operand = operand.middle.0;
+      reads = ap (kind_at take.layout) (sym there.1) ∙ operand.one ∙ ap (λ (e : Ahead). Ok (operand.middle.0, e)) end;
+      puts = sym (ap (λ (n : ℕ). put_in take.slot (value_in take.class n) picks) (ap (number_or 0) operand.two) ∙ ap (picks_or after) number.two);
     }
-read_by take (Err fault) c d e value fits there reads is = absurd (grind (arith, is))
 
-run_by : (take : Take) (run : Result (List ℕ × Ahead) CursorFault) (c d : Ahead) (value : Value) → take_at take.bytes c ≡ run → (run >>= read_on take) ≡ Ok (value, d) → Taken take c d value
-run_by take (Ok run) c d value took is =
-    let there = take_passed take.bytes c run.1 (ap only_ahead took) in
-    read_by take (kind_at take.kind run.1) c d run.1 value there.0 there.1 refl is
-run_by take (Err fault) c d value took is = absurd (grind (arith, is))
+-- takes that succeed, and the bytes after the last
+pub record TakenAll (takes : List Take) (tail : ℕ) (picks after : PickFields) (c d : Ahead) : Type 0 where
+  pub before : Ahead
+  pub front : all_taken takes picks c ≡ Ok (after, before)
+  pub fits : tail ≤ length before.bytes
+  pub there : d ≡ passed tail before
 
-taken_is : (take : Take) (c d : Ahead) (value : Value) → taken_at take c ≡ Ok (value, d) → Taken take c d value
-unfolding taken_at
-taken_is take c d value is = run_by take (take_at take.bytes c) c d value refl is
+abbrev with_tail : PickFields → List ℕ × Ahead → Result (PickFields × Ahead) CursorFault
+with_tail picks run = Ok (picks, run.1)
 
--- the first take of several
-pub record FirstTake (take : Take) (takes : List Take) (c d : Ahead) (given : List Given) : Type 0 where
-  pub value : Value
-  pub middle : Ahead
-  pub later : List Given
-  pub first : taken_at take c ≡ Ok (value, middle)
-  pub others : takes_at takes middle ≡ Ok (later, d)
-  pub is : given ≡ record { attribute = take.attribute; value = value } ∷ later
+abbrev tail_behind : ℕ → PickFields × Ahead → Result (PickFields × Ahead) CursorFault
+tail_behind tail x = take_at tail x.1 >>= with_tail x.0
 
-later_by : (take : Take) (takes : List Take) (c d : Ahead) (given : List Given) (x : Value × Ahead) (rest : Result (List Given × Ahead) CursorFault) → taken_at take c ≡ Ok x → takes_at takes x.1 ≡ rest → (rest >>= behind_one take.attribute x.0) ≡ Ok (given, d) → FirstTake take takes c d given
-later_by take takes c d given x (Ok later) one two is =
-    let same : later.1 ≡ d = ap (ahead_or d) is in
+takes_are : (takes : List Take) (tail : ℕ) (picks after : PickFields) (c d : Ahead) → takes_at takes tail picks c ≡ Ok (after, d) → TakenAll takes tail picks after c d
+takes_are takes tail picks after c d is =
+    let front = parts_of (all_taken takes picks c) (tail_behind tail) (after, d) is in
+    let run = parts_of (take_at tail front.middle.1) (with_tail front.middle.0) (after, d) front.two in
+    let there = take_passed tail front.middle.1 run.middle.1 (ap only_ahead run.one) in
     record {
-      value = x.0;
-      middle = x.1;
-      later = later.0;
-      first = one;
-      others = two ∙ ap (λ y. Ok (later.0, y)) same;
-      is = sym (ap (given_or given) is);
+      before = front.middle.1;
+      front = front.one ∙ ap (λ (p : PickFields). Ok (p, front.middle.1)) (ap (picks_or after) run.two);
+      fits = there.0;
+      there = sym (ap (ahead_or d) run.two) ∙ there.1;
     }
-later_by take takes c d given x (Err fault) one two is = absurd (grind (arith, is))
 
-first_by : (take : Take) (takes : List Take) (c d : Ahead) (given : List Given) (first : Result (Value × Ahead) CursorFault) → taken_at take c ≡ first → (first >>= behind_first take takes) ≡ Ok (given, d) → FirstTake take takes c d given
-first_by take takes c d given (Ok x) one is = later_by take takes c d given x (takes_at takes x.1) one refl is
-first_by take takes c d given (Err fault) one is = absurd (grind (arith, is))
+takes_there : (takes : List Take) (tail : ℕ) (picks after : PickFields) (c d : Ahead) → all_taken takes picks c ≡ Ok (after, d) → tail ≤ length d.bytes → takes_at takes tail picks c ≡ Ok (after, passed tail d)
+takes_there takes tail picks after c d front there =
+    ap (λ r. r >>= tail_behind tail) front ∙ ap (λ r. r >>= with_tail after) (take_there tail d there)
 
-first_take : (take : Take) (takes : List Take) (c d : Ahead) (given : List Given) → takes_at (take ∷ takes) c ≡ Ok (given, d) → FirstTake take takes c d given
-unfolding takes_at
-first_take take takes c d given is = first_by take takes c d given (taken_at take c) refl is
+-- one take more at the end
+abbrev last_taken : Take → PickFields × Ahead → Result (PickFields × Ahead) CursorFault
+last_taken take x = take_one take x.0 x.1
 
--- no attribute is left
-nothing_by : (c d : Ahead) (operand : Operand) → kind_at kind.Nothing c ≡ Ok (operand, d) → d ≡ c
-unfolding kind_at
-nothing_by c d operand is = sym (ap (ahead_or c) is)
+abbrev others_taken : List Take → PickFields × Ahead → Result (PickFields × Ahead) CursorFault
+others_taken takes x = all_taken takes x.0 x.1
 
-none_asked : (c : Ahead) → with_asked (values_at [] c) ≡ Ok ([], c)
-unfolding values_at asked_of
-none_asked c = refl
+one_taken : (reading : Result (PickFields × Ahead) CursorFault) → (reading >>= others_taken []) ≡ reading
+unfolding all_taken
+one_taken (Ok x) = refl
+one_taken (Err fault) = refl
 
-unasked_alone : (given : Given) → is_asked given.attribute ≡ false → asked_of (given ∷ []) ≡ []
-unfolding asked_of
-unasked_alone given none = cond-false _ _ _ none
+last_by : (first : Result (PickFields × Ahead) CursorFault) (takes : List Take) (take : Take) → ((x : PickFields × Ahead) → all_taken (takes ++ take ∷ []) x.0 x.1 ≡ (all_taken takes x.0 x.1 >>= last_taken take)) → (first >>= others_taken (takes ++ take ∷ [])) ≡ ((first >>= others_taken takes) >>= last_taken take)
+last_by (Ok x) takes take later = later x
+last_by (Err fault) takes take later = refl
 
-none_at : (c : Ahead) → takes_at [] c ≡ Ok ([], c)
-unfolding takes_at
-none_at c = refl
+last_is : (takes : List Take) (take : Take) (picks : PickFields) (c : Ahead) → all_taken (takes ++ take ∷ []) picks c ≡ (all_taken takes picks c >>= last_taken take)
+unfolding all_taken
+last_is [] take picks c = one_taken (take_one take picks c)
+last_is (first ∷ takes) take picks c = last_by (take_one first picks c) takes take (λ x. last_is takes take x.0 x.1)
 
-begun : AreTakes [] []
-unfolding asked_of
-begun c d given is =
-    let same : Ok ([], c) ≡ Ok (given, d) = sym (none_at c) ∙ is in
-    let none : given ≡ [] = sym (ap (given_or []) same) in
-    none_asked c ∙ ap (λ (l : List Given). Ok (l, c)) (sym (ap asked_of none)) ∙ ap (λ (e : Ahead). Ok (asked_of given, e)) (ap (ahead_or c) same)
+-- one value more of what is kept
+passes_on : (given : Slot) (value : Value) (picks : PickFields) → given ≡ Passed → put_in given (kept_by given value) picks ≡ picks
+passes_on given value picks is = ap (λ (s : Slot). put_in s (kept_by s value) picks) is
 
--- a take of nothing in front
-unasked_first : (given : Given) (later : List Given) → is_asked given.attribute ≡ false → asked_of (given ∷ later) ≡ asked_of later
-unfolding asked_of
-unasked_first given later none = cond-false _ _ _ none
+none_next : (specs : List SpecFields) (x : SpecFields) (given : Slot) (value : Value) (picks : PickFields) (c d e : Ahead) (reading : Result (List Given × Ahead) FormFault) → values_at specs c ≡ reading → kept_with false reading ≡ Ok (picks, d) → given ≡ Passed → value_at x d ≡ Ok (value, e) → kept_at false (specs ++ x ∷ []) c ≡ Ok (put_in given (kept_by given value) picks, e)
+none_next specs x given value picks c d e (Ok values) reads is none next =
+    let front : values_at specs c ≡ Ok (values.0, d) = reads ∙ ap (λ (f : Ahead). Ok (values.0, f)) (ap (ahead_or d) is) in
+    ap (kept_with false) (values_next specs x values.0 value c d e front next)
+    ∙ ap (λ (p : PickFields). Ok (p, e)) (ap (picks_or picks) is ∙ sym (passes_on given value picks none))
+none_next specs x given value picks c d e (Err fault) reads is none next = absurd (grind (arith, is))
 
-nothing_first : (takes : List Take) (specs : List SpecFields) → AreTakes takes specs → AreTakes (no_take ∷ takes) specs
-nothing_first takes specs so_far c d given is =
-    let one = first_take no_take takes c d given is in
-    let inner = taken_is no_take c one.middle one.value one.first in
-    let there : one.middle ≡ c = nothing_by (passed 0 c) one.middle inner.operand inner.reads ∙ passed_none c in
-    let rest : takes_at takes c ≡ Ok (one.later, d) = ap (takes_at takes) (sym there) ∙ one.others in
-    so_far c d one.later rest
-    ∙ ap (λ (l : List Given). Ok (l, d)) (sym (ap asked_of one.is ∙ unasked_first (record { attribute = 0; value = one.value }) one.later refl))
-
-pub takes_begin : (first : Option Take) (later : List Take) (specs : List SpecFields) (place : ℕ) → first ≡ None → later ≡ [] → length specs ≤ place → AreTakes (in_front first (reverse later)) (drop place specs)
-takes_begin first later specs place is none all =
-    subst (λ (s : List SpecFields). AreTakes (in_front first (reverse later)) s) (sym (drop_of_length-le specs all))
-    (subst (λ (l : List Take). AreTakes (in_front first (reverse l)) []) (sym none) (subst (λ (t : Option Take). AreTakes (in_front t []) []) (sym is) begun))
-
-front_first : (later : List Take) (first : Option Take) → reverse (later ++ in_front first []) ≡ in_front first (reverse later)
-front_first later None = ap reverse (append-nil later)
-front_first later (Some first) = reverse-append later (first ∷ [])
-
-pub put_front : (before later whole : List Take) (first : Option Take) → Starts before later → whole ≡ later ++ in_front first [] → reverse (drop (length before) whole) ≡ in_front first (reverse (drop (length before) later))
-put_front before later whole first starts is = ap reverse (added_more before later whole (in_front first []) starts is) ∙ front_first (drop (length before) later) first
-
-pub takes_end : (first : Option Take) (later more : List Take) (specs : List SpecFields) (place : ℕ) → AreTakes (in_front first (reverse later)) (drop place specs) → place ≡ 0 → reverse more ≡ in_front first (reverse later) → AreTakes (reverse more) specs
-takes_end first later more specs place so_far none added =
-    subst (λ (l : List Take). AreTakes l specs) (sym added) (subst (λ (n : ℕ). AreTakes (in_front first (reverse later)) (drop n specs)) none so_far)
+kept_next : (kept : Bool) (specs : List SpecFields) (x : SpecFields) (given : Slot) (value : Value) (picks : PickFields) (c d e : Ahead) → kept_at kept specs c ≡ Ok (picks, d) → GoesTo kept specs x.attribute given → value_at x d ≡ Ok (value, e) → kept_at kept (specs ++ x ∷ []) c ≡ Ok (put_in given (kept_by given value) picks, e)
+unfolding picks_at
+kept_next true specs x given value picks c d e so_far goes next =
+    picks_next specs x goes.0 value picks c d e so_far goes.1 next ∙ ap (λ (s : Slot). Ok (put_in s (kept_by s value) picks, e)) (sym goes.2)
+kept_next false specs x given value picks c d e so_far goes next =
+    none_next specs x given value picks c d e (values_at specs c) refl so_far goes next
 
 -- the value of an attribute by the row of its form
 abbrev row_value : FormRow → ℤ → Operand × Ahead → Result (Value × Ahead) FormFault
@@ -175,86 +144,109 @@ row_value row implicit x = Ok (value_of row.class implicit x.0, x.1)
 row_reads : (row : FormRow) (implicit : ℤ) (c d : Ahead) (operand : Operand) → kind_at row.layout c ≡ Ok (operand, d) → value_by (Some row) implicit c ≡ Ok (value_of row.class implicit operand, d)
 row_reads row implicit c d operand is = ap (λ r. as_value r >>= row_value row implicit) is
 
--- one value in front of those of the other attributes
-abbrev value_front : ℕ → Value → Result (List Given × Ahead) FormFault → Result (List Given × Ahead) FormFault
-value_front attribute value later = later >>= λ l. Ok (record { attribute = attribute; value = value } ∷ l.0, l.1)
+operand_there : (reading : Result (Operand × Ahead) CursorFault) (d : Ahead) → only_ahead reading ≡ Ok d → (x : Operand) × (reading ≡ Ok (x, d))
+operand_there (Ok x) d is = let there : x.1 ≡ d = cc in (x.0, ap (λ (e : Ahead). Ok (x.0, e)) there)
+operand_there (Err fault) d is = absurd (grind (arith, is))
 
-values_first : (x : SpecFields) (specs : List SpecFields) (c e : Ahead) (value : Value) → value_at x c ≡ Ok (value, e) → values_at (x ∷ specs) c ≡ value_front x.attribute value (values_at specs e)
-unfolding values_at
-values_first x specs c e value is = ap (λ r. r >>= λ first. value_front x.attribute first.0 (values_at specs first.1)) is
+-- an attribute more, whose operand joins the bytes after the last take
+pub takes_joined : (kept : Bool) (takes : List Take) (specs : List SpecFields) (x : SpecFields) (row : FormRow) (given : Slot) (bytes more : ℕ) → AreTakes kept takes bytes specs → HasRow x row → GoesTo kept specs x.attribute given → Joins given row.layout bytes more → AreTakes kept takes more (specs ++ x ∷ [])
+takes_joined kept takes specs x row given bytes more so_far has goes joins c d picks is =
+    let whole = takes_are takes more no_picks picks c d is in
+    let middle = passed bytes whole.before in
+    let first : bytes ≤ length whole.before.bytes = omega (arith, whole.fits, joins.sum) in
+    let long : joins.size ≤ length middle.bytes = long_enough bytes joins.size more whole.before joins.sum whole.fits in
+    let there : passed joins.size middle ≡ d = passed_two bytes joins.size whole.before ∙ ap (λ (n : ℕ). passed n whole.before) (sym joins.sum) ∙ sym whole.there in
+    let operand = operand_there (kind_at row.layout middle) d (sized row.layout joins.size middle joins.sized ∙ take_fits joins.size middle long ∙ ap Ok there) in
+    let value = value_of row.class x.implicit operand.0 in
+    kept_next kept specs x given value picks c middle d (so_far c middle picks (takes_there takes bytes no_picks picks c whole.before whole.front first)) goes (has middle ∙ row_reads row x.implicit middle d operand.0 operand.1)
+    ∙ ap (λ (p : PickFields). Ok (p, d)) (passes_on given value picks joins.unasked)
 
-asked_parts : (attribute : ℕ) (value : Value) (later : Result (List Given × Ahead) FormFault) (given : List Given) (d : Ahead) → with_asked later ≡ Ok (asked_of given, d) → with_asked (value_front attribute value later) ≡ Ok (asked_of (record { attribute = attribute; value = value } ∷ given), d)
-unfolding asked_of
-asked_parts attribute value (Ok l) given d is =
-    let same : asked_of l.0 ≡ asked_of given = ap (given_or []) is in
-    let there : l.1 ≡ d = ap (ahead_or d) is in
-    ap (λ (a : List Given). Ok (cond (is_asked attribute) (record { attribute = attribute; value = value } ∷ a) a, l.1)) same
-    ∙ ap (λ (e : Ahead). Ok (cond (is_asked attribute) (record { attribute = attribute; value = value } ∷ asked_of given) (asked_of given), e)) there
-asked_parts attribute value (Err fault) given d is = absurd (grind (arith, is))
+-- an attribute more, whose operand is taken
+pub takes_next : (kept : Bool) (takes next : List Take) (take : Take) (specs : List SpecFields) (x : SpecFields) (row : FormRow) (given : Slot) (bytes : ℕ) → AreTakes kept takes bytes specs → HasRow x row → GoesTo kept specs x.attribute given → TakesValue x row bytes given take → next ≡ takes ++ take ∷ [] → AreTakes kept next 0 (specs ++ x ∷ [])
+takes_next kept takes next take specs x row given bytes so_far has goes takes_it is_next c d picks is =
+    let whole = takes_are next 0 no_picks picks c d is in
+    let both = parts_of (all_taken takes no_picks c) (last_taken take) (picks, whole.before) (sym (last_is takes take no_picks c) ∙ ap (λ (t : List Take). all_taken t no_picks c) (sym is_next) ∙ whole.front) in
+    let last = taken_is take both.middle.0 picks both.middle.1 whole.before both.two in
+    let end : whole.before ≡ d = sym (passed_none whole.before) ∙ sym whole.there in
+    let middle = passed bytes both.middle.1 in
+    let first : bytes ≤ length both.middle.1.bytes = omega (arith, last.fits, takes_it.bytes) in
+    let reads : kind_at row.layout middle ≡ Ok (last.operand, d) = ap (λ (k : Kind). kind_at k middle) (sym takes_it.layout) ∙ ap (λ (n : ℕ). kind_at take.layout (passed n both.middle.1)) (sym takes_it.bytes) ∙ last.reads ∙ ap (λ (e : Ahead). Ok (last.operand, e)) end in
+    let value = value_of row.class x.implicit last.operand in
+    kept_next kept specs x given value both.middle.0 c middle d (so_far c middle both.middle.0 (takes_there takes bytes no_picks both.middle.0 c both.middle.1 both.one first)) goes (has middle ∙ row_reads row x.implicit middle d last.operand reads)
+    ∙ ap (λ (p : PickFields). Ok (p, d)) (sym (last.puts ∙ ap (λ (s : Slot). put_in s (value_in take.class (number_of take.constant last.operand)) both.middle.0) takes_it.into
+    ∙ ap (λ (v : Option Value). put_in given v both.middle.0) (takes_it.keeps middle d last.operand reads)))
 
--- an attribute more, whose value is read
-next_takes : (first : Take) (takes : List Take) (specs : List SpecFields) (x : SpecFields) (row : FormRow) → AreTakes takes specs → HasRow x row → first ≡ record { bytes = 0; attribute = x.attribute; implicit = x.implicit; kind = row.layout; class = row.class } → AreTakes (first ∷ takes) (x ∷ specs)
-next_takes first takes specs x row so_far has is c d given reads =
-    let one = first_take (record { bytes = 0; attribute = x.attribute; implicit = x.implicit; kind = row.layout; class = row.class }) takes c d given (ap (λ (t : Take). takes_at (t ∷ takes) c) (sym is) ∙ reads) in
-    let inner = taken_is (record { bytes = 0; attribute = x.attribute; implicit = x.implicit; kind = row.layout; class = row.class }) c one.middle one.value one.first in
-    let operand : kind_at row.layout c ≡ Ok (inner.operand, one.middle) = ap (kind_at row.layout) (sym (passed_none c)) ∙ inner.reads in
-    let value : value_at x c ≡ Ok (one.value, one.middle) = has c ∙ row_reads row x.implicit c one.middle inner.operand operand ∙ ap (λ (v : Value). Ok (v, one.middle)) (sym inner.gives) in
-    ap with_asked (values_first x specs c one.middle one.value value)
-    ∙ asked_parts x.attribute one.value (values_at specs one.middle) one.later d (so_far one.middle d one.later one.others)
-    ∙ ap (λ (l : List Given). Ok (asked_of l, d)) (sym one.is)
+-- the loop's steps
+nothing_kept : (kept : Bool) (c : Ahead) → kept_at kept [] c ≡ Ok (no_picks, c)
+unfolding values_at first_of
+nothing_kept true c = refl
+nothing_kept false c = refl
 
-at_place : (i j : ℕ) (specs : List SpecFields) (x : SpecFields) → j ≡ i + 1 → i < length specs → x ≡ get_or specs i x → drop i specs ≡ x ∷ drop j specs
-at_place i j specs x next there is =
-    drop_more specs i x there ∙ ap (λ (y : SpecFields). y ∷ drop (i + 1) specs) (sym is) ∙ ap (λ (n : ℕ). x ∷ drop n specs) (sym next)
+none_taken : (picks : PickFields) (c : Ahead) → all_taken [] picks c ≡ Ok (picks, c)
+unfolding all_taken
+none_taken picks c = refl
 
-pub takes_next : (next : Take) (first : Option Take) (later more : List Take) (specs : List SpecFields) (x : SpecFields) (row : FormRow) (i j : ℕ) → AreTakes (in_front first (reverse later)) (drop j specs) → j ≡ i + 1 → i < length specs → x ≡ get_or specs i x → HasRow x row → reverse more ≡ in_front first (reverse later) → next ≡ record { bytes = 0; attribute = x.attribute; implicit = x.implicit; kind = row.layout; class = row.class } → AreTakes (next ∷ reverse more) (drop i specs)
-takes_next next first later more specs x row i j so_far follows there at has added is =
-    subst (λ (s : List SpecFields). AreTakes (next ∷ reverse more) s) (sym (at_place i j specs x follows there at))
-    (next_takes next (reverse more) (drop j specs) x row (subst (λ (l : List Take). AreTakes l (drop j specs)) (sym added) so_far) has is)
+pub takes_begin : (kept : Bool) (takes : List Take) (specs : List SpecFields) → takes ≡ [] → AreTakes kept takes 0 (take 0 specs)
+takes_begin kept takes specs none c d picks is =
+    let whole = takes_are takes 0 no_picks picks c d is in
+    let front : Ok (no_picks, c) ≡ Ok (picks, whole.before) = sym (ap (λ (t : List Take). all_taken t no_picks c) none ∙ none_taken no_picks c) ∙ whole.front in
+    nothing_kept kept c ∙ ap (λ (p : PickFields). Ok (p, c)) (ap (picks_or picks) front)
+    ∙ ap (λ (e : Ahead). Ok (picks, e)) (ap (ahead_or d) front ∙ sym (passed_none whole.before) ∙ sym whole.there)
 
--- an attribute more, whose value is passed
-skipped_by : (row : FormRow) (implicit : ℤ) (reading : Result (Operand × Ahead) CursorFault) (d : Ahead) → only_ahead reading ≡ Ok d → (v : Value) × ((as_value reading >>= row_value row implicit) ≡ Ok (v, d))
-skipped_by row implicit (Ok x) d is =
-    let there : x.1 ≡ d = cc in
-    (value_of row.class implicit x.0, ap (λ (e : Ahead). Ok (value_of row.class implicit x.0, e)) there)
-skipped_by row implicit (Err fault) d is = absurd (grind (arith, is))
+pub goes_to : (kept : Bool) (specs : List SpecFields) (attribute name : ℕ) (given : Slot) (before after : List Bool) → FilledFor kept specs before → GivesSlot kept before after name given → name ≡ attribute → GoesTo kept specs attribute given
+goes_to true specs attribute name given before after filled gives same =
+    (gives.wanted, subst (IsSlot gives.wanted) same gives.is, gives.free ∙ ap (λ (f : List Bool). free_in f gives.wanted) filled)
+goes_to false specs attribute name given before after filled gives same = gives
 
-unasked_front : (attribute : ℕ) (value : Value) (later : Result (List Given × Ahead) FormFault) → is_asked attribute ≡ false → with_asked (value_front attribute value later) ≡ with_asked later
-unfolding asked_of
-unasked_front attribute value (Ok l) none = ap (λ (a : List Given). Ok (a, l.1)) (cond-false _ _ _ none)
-unasked_front attribute value (Err fault) none = refl
+pub filled_more : (kept : Bool) (specs : List SpecFields) (i : ℕ) (x : SpecFields) (name : ℕ) (given : Slot) (before after : List Bool) → FilledFor kept (take i specs) before → GivesSlot kept before after name given → name ≡ x.attribute → take (i + 1) specs ≡ take i specs ++ x ∷ [] → FilledFor kept (take (i + 1) specs) after
+filled_more true specs i x name given before after filled gives same taken =
+    attributes_more specs i x gives.wanted before after filled taken (subst (IsSlot gives.wanted) same gives.is) gives.filled
+filled_more false specs i x name given before after filled gives same taken = tt
 
--- a take that passes more reads what one behind these bytes reads
-same_run : (take : Take) (n : ℕ) (c : Ahead) → n ≤ length c.bytes → (take_at n c >>= read_on take) ≡ (kind_at take.kind (passed n c) >>= valued take)
-unfolding take_at
-same_run take n c fits = ap (λ (r : Result (List ℕ × Ahead) CursorFault). r >>= read_on take) (cond-false _ _ _ (le-ltb (length c.bytes) n fits))
+pub filled_none : (kept : Bool) (specs : List SpecFields) (filled : List Bool) → filled ≡ filled_by [] → FilledFor kept (take 0 specs) filled
+filled_none true specs filled is = is
+filled_none false specs filled is = tt
 
-narrower : (first : Take) (takes : List Take) (size : ℕ) (c d : Ahead) (given : List Given) → size + first.bytes ≤ length c.bytes → takes_at (record first { bytes = size + first.bytes } ∷ takes) c ≡ Ok (given, d) → takes_at (first ∷ takes) (passed size c) ≡ Ok (given, d)
-unfolding takes_at taken_at
-narrower first takes size c d given fits is =
-    let long : first.bytes ≤ length (passed size c).bytes = long_enough size first.bytes (size + first.bytes) c refl fits in
-    let same : taken_at first (passed size c) ≡ taken_at (record first { bytes = size + first.bytes }) c =
-    same_run first first.bytes (passed size c) long
-    ∙ ap (λ (e : Ahead). kind_at first.kind e >>= valued first) (passed_two size first.bytes c)
-    ∙ sym (same_run first (size + first.bytes) c fits) in
-    ap (λ (r : Result (Value × Ahead) CursorFault). r >>= behind_first first takes) same ∙ is
+pub more_taken : (specs : List SpecFields) (i : ℕ) (x : SpecFields) → i < length specs → x ≡ get_or specs i x → take (i + 1) specs ≡ take i specs ++ x ∷ []
+more_taken specs i x there is = take_more specs i x there ∙ ap (λ (y : SpecFields). take i specs ++ y ∷ []) (sym is)
 
-wider_takes : (first : Take) (takes : List Take) (specs : List SpecFields) (x : SpecFields) (row : FormRow) (size : ℕ) → AreTakes (first ∷ takes) specs → HasRow x row → IsPassed x row size → AreTakes (record first { bytes = size + first.bytes } ∷ takes) (x ∷ specs)
-wider_takes first takes specs x row size so_far has passed_over c d given reads =
-    let one = first_take (record first { bytes = size + first.bytes }) takes c d given reads in
-    let inner = taken_is (record first { bytes = size + first.bytes }) c one.middle one.value one.first in
-    let short : size ≤ length c.bytes = omega (arith, inner.fits) in
-    let over : only_ahead (kind_at row.layout c) ≡ Ok (passed size c) = passed_over.sized c ∙ take_fits size c short in
-    let value = skipped_by row x.implicit (kind_at row.layout c) (passed size c) over in
-    ap with_asked (values_first x specs c (passed size c) value.0 (has c ∙ value.1))
-    ∙ unasked_front x.attribute value.0 (values_at specs (passed size c)) passed_over.unasked
-    ∙ so_far (passed size c) d given (narrower first takes size c d given inner.fits reads)
+pub takes_end : (kept : Bool) (takes : List Take) (tail i : ℕ) (specs : List SpecFields) → AreTakes kept takes tail (take i specs) → length specs ≤ i → AreTakes kept takes tail specs
+takes_end kept takes tail i specs are all = subst (AreTakes kept takes tail) (take_all i specs all) are
 
-wider_by : (first : Option Take) (takes : List Take) (specs : List SpecFields) (x : SpecFields) (row : FormRow) (size : ℕ) → AreTakes (in_front first takes) specs → HasRow x row → IsPassed x row size → AreTakes (record (unwrap_or first no_take) { bytes = size + (unwrap_or first no_take).bytes } ∷ takes) (x ∷ specs)
-wider_by (Some first) takes specs x row size so_far has over = wider_takes first takes specs x row size so_far has over
-wider_by None takes specs x row size so_far has over = wider_takes no_take takes specs x row size (nothing_first takes specs so_far) has over
+-- takes in a loop
+pub takes_more : (takes : List Take) (i : ℕ) (x fill : Take) (picks after : PickFields) (c d : Ahead) (want : Result (PickFields × Ahead) CursorFault) → all_taken (drop i takes) picks c ≡ want → i < length takes → x ≡ get_or takes i fill → take_one x picks c ≡ Ok (after, d) → all_taken (drop (i + 1) takes) after d ≡ want
+unfolding all_taken
+takes_more takes i x fill picks after c d want so_far there is goes =
+    ap (λ r. r >>= others_taken (drop (i + 1) takes)) (sym goes)
+    ∙ sym (ap (λ (t : List Take). all_taken t picks c) (drop_more takes i fill there) ∙ ap (λ (y : Take). all_taken (y ∷ drop (i + 1) takes) picks c) (sym is))
+    ∙ so_far
 
-pub takes_wider : (next : Take) (first : Option Take) (later : List Take) (specs : List SpecFields) (x : SpecFields) (row : FormRow) (size i j : ℕ) → AreTakes (in_front first (reverse later)) (drop j specs) → j ≡ i + 1 → i < length specs → x ≡ get_or specs i x → HasRow x row → IsPassed x row size → next ≡ record (unwrap_or first no_take) { bytes = size + (unwrap_or first no_take).bytes } → AreTakes (next ∷ reverse later) (drop i specs)
-takes_wider next first later specs x row size i j so_far follows there at has over is =
-    subst (λ (s : List SpecFields). AreTakes (next ∷ reverse later) s) (sym (at_place i j specs x follows there at))
-    (subst (λ (t : Take). AreTakes (t ∷ reverse later) (x ∷ drop j specs)) (sym is) (wider_by first (reverse later) (drop j specs) x row size so_far has over))
+pub takes_done : (takes : List Take) (tail i : ℕ) (run : List ℕ) (old picks : PickFields) (b c d : Ahead) → all_taken (drop i takes) picks c ≡ all_taken takes old b → length takes ≤ i → Ok (run, d) ≡ take_at tail c → takes_at takes tail old b ≡ Ok (picks, d)
+unfolding all_taken
+takes_done takes tail i run old picks b c d so_far all rest =
+    ap (λ r. r >>= tail_behind tail) (sym so_far ∙ ap (λ (t : List Take). all_taken t picks c) (drop_of_length-le takes all)) ∙ ap (λ r. r >>= with_tail picks) (sym rest)
+
+-- what a reading by takes says
+pub read_picked : (kept : Bool) (takes : List Take) (tail : ℕ) (specs : List SpecFields) (none picks : PickFields) (c d : Ahead) → AreTakes kept takes tail specs → takes_at takes tail none c ≡ Ok (picks, d) → none ≡ no_picks → kept ≡ true → picks_at specs c ≡ Ok (picks, d)
+unfolding picks_at
+read_picked kept takes tail specs none picks c d are goes is asked =
+    ap (λ (k : Bool). kept_at k specs c) (sym asked) ∙ are c d picks (ap (λ (p : PickFields). takes_at takes tail p c) (sym is) ∙ goes)
+
+ahead_of : (kept : Bool) (reading : Result (List Given × Ahead) FormFault) (picks : PickFields) (d : Ahead) → kept_with kept reading ≡ Ok (picks, d) → only_ahead reading ≡ Ok d
+ahead_of true (Ok x) picks d is = ap Ok (ap (ahead_or d) is)
+ahead_of false (Ok x) picks d is = ap Ok (ap (ahead_or d) is)
+ahead_of true (Err fault) picks d is = absurd (grind (arith, is))
+ahead_of false (Err fault) picks d is = absurd (grind (arith, is))
+
+pub read_passed : (kept : Bool) (takes : List Take) (tail : ℕ) (specs : List SpecFields) (none picks : PickFields) (c d : Ahead) → AreTakes kept takes tail specs → takes_at takes tail none c ≡ Ok (picks, d) → none ≡ no_picks → behind_values specs c ≡ Ok d
+unfolding behind_values
+read_passed kept takes tail specs none picks c d are goes is =
+    ahead_of kept (values_at specs c) picks d (are c d picks (ap (λ (p : PickFields). takes_at takes tail p c) (sym is) ∙ goes))
+
+none_of : (reading : Result (List Given × Ahead) FormFault) (picks : PickFields) (d : Ahead) → kept_with false reading ≡ Ok (picks, d) → picks ≡ no_picks
+none_of (Ok x) picks d is = sym (ap (picks_or picks) is)
+none_of (Err fault) picks d is = absurd (grind (arith, is))
+
+pub read_none : (kept : Bool) (takes : List Take) (tail : ℕ) (specs : List SpecFields) (none picks : PickFields) (c d : Ahead) → AreTakes kept takes tail specs → takes_at takes tail none c ≡ Ok (picks, d) → none ≡ no_picks → kept ≡ false → picks ≡ no_picks
+read_none kept takes tail specs none picks c d are goes is unasked =
+    none_of (values_at specs c) picks d (ap (λ (k : Bool). kept_at k specs c) (sym unasked) ∙ are c d picks (ap (λ (p : PickFields). takes_at takes tail p c) (sym is) ∙ goes))

@@ -2,7 +2,6 @@
 use Rattle.std.proofs.Common.{◌≡◌, ◌<◌, ℕ, Bool, true, false, List, [], length, take, drop, None, refl, ap, ◌∙◌, arith}
 use Rattle.std.proofs.Math.Seq.{take-length}
 use Rattle.std.proofs.Math.ListN.{drop_of_length-le}
-use Rattle.std.proofs.lemmas.List.{take_all}
 use Rattle.leb_cursor.specs.Ahead.{Ahead}
 use Rattle.leb_cursor.specs.Texts.{front_text}
 use Rattle.leb_cursor.specs.Readings.{fixed_at, text_at}
@@ -29,13 +28,3 @@ pub number_beyond : (bytes : List ℕ) (place : ℕ) (wide : Bool) → length by
 unfolding number_in
 number_beyond bytes place wide far =
     ap (λ (c : Ahead). read_or_none (fixed_at (place_width wide) c)) (beyond bytes place far) ∙ none_there wide place
-
-take_none : (len : ℕ) (rest : List ℕ) → rest ≡ [] → take len rest ≡ []
-take_none len rest none = take_all len rest (omega (arith, ap length none)) ∙ none
-
--- a run of bytes as far as they are there
-pub run_beyond : (bytes : List ℕ) (start len : ℕ) → length bytes < start → take len (drop start bytes) ≡ []
-run_beyond bytes start len far = take_none len (drop start bytes) (drop_of_length-le bytes (omega arith))
-
-pub run_cut : (bytes : List ℕ) (start len : ℕ) → length (drop start bytes) < len → take len (drop start bytes) ≡ drop start bytes
-run_cut bytes start len far = take_all len (drop start bytes) (omega arith)

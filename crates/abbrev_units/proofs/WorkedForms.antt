@@ -64,7 +64,7 @@ data8_cut : reads 0x07 false "f0debc9a785634" ≡ Err (Cursor (Ends 1))
 unfolding abbrev_units_computes reads
 data8_cut = refl
 
-string : reads 0x08 false "6162 00" ≡ Ok (value.InlineText 1 2, 4)
+string : reads 0x08 false "6162 00" ≡ Ok (value.InlineText 1, 4)
 unfolding abbrev_units_computes reads
 string = refl
 
@@ -466,7 +466,7 @@ indirect_present : reads 0x16 false "19" ≡ Ok (value.Flag true, 2)
 unfolding abbrev_units_computes reads
 indirect_present = refl
 
-indirect_string : reads 0x16 false "08 6100" ≡ Ok (value.InlineText 2 1, 4)
+indirect_string : reads 0x16 false "08 6100" ≡ Ok (value.InlineText 2, 4)
 unfolding abbrev_units_computes reads
 indirect_string = refl
 

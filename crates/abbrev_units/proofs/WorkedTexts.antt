@@ -6,7 +6,7 @@ use Rattle.abbrev_units.specs.declared.value.Value.TheVariants as value
 use Rattle.abbrev_units.specs.Texts.{text_of}
 use Rattle.abbrev_units.proofs.Computing.{abbrev_units_computes}
 
--- the text of a value of a section `.pq.`, in a file whose `.debug_str_offsets` has a header of eight bytes and the numbers 3, 0, 1 and 0 of
+-- the text of a value of a section that has `.pq` and a zero byte, in a file whose `.debug_str_offsets` has a header of eight bytes and the numbers 3, 0, 1 and 0 of
 -- four bytes each, of which two and two are a number of eight bytes; the third text of `.debug_str` is cut
 unfoldable text : Bool → Option ℕ → Value → Option (List ℕ)
 unfolding hex
@@ -21,7 +21,7 @@ text wide base value =
       addr = [];
       ranges = [];
       rnglists = [];
-    }) (codes ".pq.") wide base value
+    }) (hex "2e7071 00") wide base value
 
 -- texts by their places
 a_text : text false None (value.StrAt 0) ≡ Some (codes "ab")
@@ -58,7 +58,7 @@ unfolding abbrev_units_computes text
 no_line_text = refl
 
 -- a text in place
-in_place : text false None (value.InlineText 1 2) ≡ Some (codes "pq")
+in_place : text false None (value.InlineText 1) ≡ Some (codes "pq")
 unfolding abbrev_units_computes text
 in_place = refl
 

@@ -26,7 +26,7 @@ value_of is.Signed implicit (operand.Signed n) = value.Signed n
 value_of is.Implicit implicit _ = value.Signed implicit
 value_of is.Flag implicit (operand.Num n) = value.Flag (not (n == 0))
 value_of is.Present implicit _ = value.Flag true
-value_of is.InlineText implicit (operand.Run start len) = value.InlineText start len
+value_of is.InlineText implicit (operand.Run start len) = value.InlineText start
 value_of is.TextPlace implicit (operand.Num n) = value.StrAt n
 value_of is.LineTextPlace implicit (operand.Num n) = value.LineStrAt n
 value_of is.SupTextPlace implicit (operand.Num n) = value.SupStrAt n

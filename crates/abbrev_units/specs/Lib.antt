@@ -10,8 +10,8 @@ pub mod SpecFields
 pub mod Abbreviations
 pub mod Places
 pub mod Values
-pub mod Takes
-pub mod UsualTakes
+pub mod Attributes
+pub mod Picks
 pub mod KeptTags
 pub mod FaultWords
 pub mod internal

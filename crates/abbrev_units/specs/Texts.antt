@@ -1,5 +1,5 @@
 -- The text of a value of class string (DWARF 5, 7.5.5 and 7.26).
-use Rattle.std.specs.Prelude.{ℕ, ◌+◌, ◌*◌, Bool, if◌then◌else◌, List, take, drop, Option, None, Some, option_and_then, Result, Ok, Err}
+use Rattle.std.specs.Prelude.{ℕ, ◌+◌, ◌*◌, Bool, if◌then◌else◌, List, drop, Option, None, Some, option_and_then, Result, Ok, Err}
 use Rattle.leb_cursor.specs.Ahead.{Ahead}
 use Rattle.leb_cursor.specs.Readings.{fixed_at, text_at}
 use Rattle.abbrev_units.specs.declared.value.Value.{Value}
@@ -34,7 +34,7 @@ text_place offsets wide (Some base) index = number_in (place_width wide) offsets
 
 -- the text of a value; `home` is the section in which the value stands, `base` the unit's str_offsets_base
 unfoldable pub text_of : DebugSections → List ℕ → Bool → Option ℕ → Value → Option (List ℕ)
-text_of sections home wide base (value.InlineText start len) = Some (take len (drop start home))
+text_of sections home wide base (value.InlineText place) = text_in home place
 text_of sections home wide base (value.StrAt place) = text_in sections.strs place
 text_of sections home wide base (value.LineStrAt place) = text_in sections.line_str place
 text_of sections home wide base (value.StrIndex index) = option_and_then (text_in sections.strs) (text_place sections.str_offsets wide base index)

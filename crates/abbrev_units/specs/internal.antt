@@ -1,5 +1,7 @@
 -- What serves the functions and loops of the crate alone: no public clause cites it.
-pub mod Plans
+pub mod FormRows
+pub mod Takes
 pub mod Listed
 pub mod Used
-pub mod FormRows
+pub mod Picked
+pub mod Filled

@@ -3,8 +3,7 @@ ghost use Rattle.std.specs.Prelude.{◌≡◌, IfOk, IfSome};
 ghost use Rattle.std.specs.List.{slice_get};
 ghost use Rattle.std.specs.Option.{option_copied};
 ghost use Rattle.code_table.specs.Forms.{forms, form_row};
-ghost use Rattle.abbrev_units.specs.internal.Plans.{row_said};
-ghost use Rattle.abbrev_units.specs.internal.FormRows.{AreRows};
+ghost use Rattle.abbrev_units.specs.internal.FormRows.{AreRows, row_said};
 
 use crate::spec::{Known, find_known};
 use std::alloc::Global;

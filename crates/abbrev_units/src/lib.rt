@@ -6,8 +6,8 @@
 //! abbreviations of a unit, [`AbbrevScratch::read`] reads them in the memory of those before, and
 //! [`Abbrevs::find`] gives the first of a code. [`read_form`] reads the value of a form,
 //! [`Spec::read`] that of an attribute, whose form was looked up once, [`Abbrev::skip`] passes the
-//! values that nobody asks for, [`Abbrev::pass`] too where there is a short way, and [`Abbrev::takes`] is a short way to
-//! those that are asked for. [`read_text`] gives the text of a value, as a slice of the file.
+//! values of an entry, [`Abbrev::read_picks`] reads them and keeps those that are asked for, each in its slot, and
+//! [`Abbrev::read`] does the same by a short way. [`read_text`] gives the text of a value, as a slice of the file.
 //!
 //! Each contract is an equation with a definition: `specs/Units.antt` has the headers field by field,
 //! `specs/Abbreviations.antt` the lists of attributes, `specs/FormValue.antt` the value of a form over the
@@ -18,18 +18,18 @@
 mod abbrev;
 mod abbrevs;
 mod fault;
+mod filled;
 mod form;
 mod form_table;
 pub mod laws;
 mod length;
 mod lists;
-mod plan;
 mod sections;
+mod slots;
 mod spec;
 mod take;
 mod text;
 mod unit;
-mod usual;
 mod value;
 mod view;
 
@@ -38,10 +38,9 @@ pub use crate::fault::{DwarfFault, DwarfKind, FormFault, HeaderFault, header_fau
 pub use crate::form::read_form;
 pub use crate::length::{Contents, read_contents};
 pub use crate::sections::Sections;
+pub use crate::slots::{Class, Pick, Picks, Slot};
 pub use crate::spec::Spec;
-pub use crate::take::Take;
-pub use crate::text::{cursor_from, read_place, read_text, text_in};
+pub use crate::text::{cursor_from, read_place, read_text, text_in, text_place};
 pub use crate::unit::{Unit, UnitList, UnitPart, units};
-pub use crate::usual::{KnownTake, Usual};
 pub use crate::value::{Given, Value};
 pub use crate::view::Abbrev;

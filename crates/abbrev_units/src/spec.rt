@@ -1,17 +1,13 @@
 //! An attribute of an abbreviation.
 ghost use Rattle.std.specs.Prelude.{◌≡◌, IfSome, OnErr};
 ghost use Rattle.leb_cursor.specs.Ahead.{gave};
-ghost use Rattle.leb_cursor.specs.Readings.{take_at};
-ghost use Rattle.abbrev_units.specs.Faults.{left_by, as_value};
 ghost use Rattle.abbrev_units.specs.FormValue.{form_at};
-ghost use Rattle.abbrev_units.specs.Values.{value_at, only_ahead};
 ghost use Rattle.code_table.specs.Forms.{forms, form_row};
-ghost use Rattle.abbrev_units.specs.internal.Plans.{HasLayout, HasRow, row_said};
+ghost use Rattle.abbrev_units.specs.internal.FormRows.{HasRow, row_said};
 
 use crate::fault::FormFault;
 use crate::form::{read_indirect, read_known};
 use crate::form_table::FormTable;
-use crate::plan::form_size;
 use crate::value::Value;
 use code_table::{DW_FORM_indirect, FormClass, FormRow, Kind, find_form};
 use leb_cursor::Cursor;
@@ -39,23 +35,13 @@ impl Model for Spec {
     ghost use Rattle.std.specs.Prelude.{◌≡◌};
     ghost use Rattle.code_table.specs.Forms.{forms, form_row};
     ghost use Rattle.abbrev_units.specs.SpecFields.{SpecFields};
-    ghost use Rattle.abbrev_units.specs.internal.Plans.{row_said};
+    ghost use Rattle.abbrev_units.specs.internal.FormRows.{row_said};
 
     ghost Value = { SpecFields };
 
     ghost view = { λ s. record { attribute = s.attribute; form = s.form; implicit = s.implicit; wide = s.wide } };
 
     ghost invariant = { λ s. row_said s.form s.known ≡ form_row s.form (forms s.wide) };
-}
-
-/// Passes so many bytes.
-#[inline]
-fn pass_run(cursor: &mut Cursor<'_>, size: u8) -> Result<(), FormFault>
-    ensures passed { left_by result cursor.new ≡ as_value (only_ahead (take_at size cursor.old)) }
-    ensures kept { OnErr result (cursor.new ≡ cursor.old) }
-{
-    let _run = cursor.take(u64::from(size))?;
-    Ok(())
 }
 
 /// What is known of a form.
@@ -95,14 +81,6 @@ impl Spec {
         self.attribute
     }
 
-    /// The form of its values (DWARF 5, table 7.6).
-    #[inline]
-    pub fn form(&self) -> u64
-        ensures { result ≡ self.now.form }
-    {
-        self.form
-    }
-
     /// The constant of the form `DW_FORM_implicit_const`, else 0.
     #[inline]
     pub fn implicit(&self) -> i64
@@ -139,22 +117,8 @@ impl Spec {
         read_known(cursor, self.form_row(), self.implicit)
     }
 
-    /// The layout of the values, where it is the same for each and known.
-    #[tactic(auto, using(crate::proofs::PlanLemmas::direct_layout))]
-    pub(crate) fn layout(&self) -> Option<Kind>
-        ensures { IfSome result (λ kind. HasLayout self.now kind) }
-    {
-        if self.form == DW_FORM_indirect {
-            return None;
-        }
-        match self.form_row() {
-            Some(row) => Some(row.layout),
-            None => None,
-        }
-    }
-
     /// The row of the form, where it is the same for each value and known.
-    #[tactic(auto, using(crate::proofs::TakeLemmas::direct_row))]
+    #[tactic(auto, using(crate::proofs::SizeLemmas::direct_row))]
     pub(crate) fn row(&self) -> Option<FormRow>
         ensures { IfSome result (λ row. HasRow self.now row) }
     {
@@ -165,19 +129,5 @@ impl Spec {
             Some(row) => Some(row),
             None => None,
         }
-    }
-
-    /// Passes a value of the attribute. A refused call leaves the cursor where it was.
-    #[inline]
-    #[tactic(auto, using(crate::proofs::PlanLemmas::sized_value))]
-    pub fn skip(&self, cursor: &mut Cursor<'_>) -> Result<(), FormFault>
-        ensures passed { left_by result cursor.new ≡ only_ahead (value_at self.now cursor.old) }
-        ensures kept { OnErr result (cursor.new ≡ cursor.old) }
-    {
-        if let Some(size) = form_size(self.form, self.form_row()) {
-            return pass_run(cursor, size);
-        }
-        let _value = self.read(cursor)?;
-        Ok(())
     }
 }

@@ -1,169 +1,270 @@
-//! A short way to those values of an entry that are asked for: what stands between them is passed.
-ghost use Rattle.std.specs.Prelude.{◌≡◌, ◌+◌, true, [], ◌++◌, length, drop, IfSome, IfOk, OnOk, reverse, unwrap_or, OnErr};
-ghost use Rattle.leb_cursor.specs.Ahead.{gave};
-ghost use Rattle.abbrev_units.specs.Takes.{taken_at, is_asked, AreTakes};
+//! A short way over the values of an entry, for speed: what it means is said by reading them by their specifications
+//! (`Abbrev::read_picks`).
+ghost use Rattle.std.specs.Prelude.{◌≡◌, ℕ, true, Ok, length, drop, IfSome, IfOk, OnOk};
+ghost use Rattle.abbrev_units.specs.internal.FormRows.{size_in};
 ghost use Rattle.abbrev_units.specs.internal.Listed.{Starts};
-ghost use Rattle.abbrev_units.specs.internal.Plans.{IsPassed, no_take, in_front};
+ghost use Rattle.abbrev_units.specs.internal.Takes.{AreTakes, HasClass, HasConstant, Joins, MakesNumbers, TakesValue, has_numbers, number_at, take_one, takes_at};
 
-use crate::plan::size_of;
+use crate::filled::Filled;
+use crate::slots::{Class, Pick, Picks, Slot, kept_class};
 use crate::spec::Spec;
-use crate::usual::KnownTake;
-use crate::value::{Value, value_of};
-use code_table::{
-    DW_AT_MIPS_linkage_name, DW_AT_abstract_origin, DW_AT_addr_base, DW_AT_call_file,
-    DW_AT_call_line, DW_AT_comp_dir, DW_AT_declaration, DW_AT_high_pc, DW_AT_linkage_name,
-    DW_AT_low_pc, DW_AT_name, DW_AT_ranges, DW_AT_rnglists_base, DW_AT_specification,
-    DW_AT_stmt_list, DW_AT_str_offsets_base, FormClass, FormRow, Kind, read_kind,
-};
-use leb_cursor::{Cursor, CursorFault};
+use code_table::{FormClass, FormRow, Kind, Operand, read_kind};
+use leb_cursor::Cursor;
 use sym_edges::OutOfMemory;
 
-/// So many bytes, which are passed, and then the value of an attribute.
+/// So many bytes, which are passed, and then one operand: it goes to a slot. Where it has no bytes, the number is the constant.
 #[derive(Clone, Copy)]
 pub struct Take {
-    pub bytes: u64,
-    pub attribute: u64,
-    pub implicit: i64,
-    pub kind: Kind,
-    pub class: FormClass,
+    pub constant: u64,
+    pub bytes: u32,
+    pub slot: Slot,
+    pub layout: Kind,
+    pub class: Class,
 }
 
-/// Passes nothing, and has the value of no attribute.
-const NO_TAKE: Take = Take {
-    bytes: 0,
-    attribute: 0,
-    implicit: 0,
-    kind: Kind::Nothing,
-    class: FormClass::Other,
-};
-
-impl Take {
-    /// Passes the bytes, and reads the value. A refused call leaves the cursor where it was.
-    #[inline]
-    #[tactic(auto, unfolding(crate::specs::Takes::taken_at))]
-    pub fn read(&self, cursor: &mut Cursor<'_>) -> Result<Value, CursorFault>
-        ensures read { gave result cursor.new ≡ taken_at self.now cursor.old }
-        ensures kept { OnErr result (cursor.new ≡ cursor.old) }
-    {
-        let mut probe = cursor.fork();
-        let _run = probe.take(self.bytes)?;
-        let operand = read_kind(&mut probe, self.kind)?;
-        *cursor = probe;
-        Ok(value_of(self.class, self.implicit, operand))
+/// The bytes of an operand, where they are as many for each.
+fn size_of(kind: Kind) -> Option<u8>
+    ensures { result ≡ size_in kind }
+{
+    match kind {
+        Kind::Nothing => Some(0),
+        Kind::U8 => Some(1),
+        Kind::U16 => Some(2),
+        Kind::U24 => Some(3),
+        Kind::U32 => Some(4),
+        Kind::U64 => Some(8),
+        Kind::Bytes16 => Some(16),
+        _ => None,
     }
 }
 
-/// Whether an attribute is asked for.
-#[inline]
-pub fn is_asked(attribute: u64) -> bool
-    ensures { result ≡ is_asked attribute }
+/// Whether operands of a layout are numbers without a sign.
+fn is_number(layout: Kind) -> bool
+    ensures { result ≡ has_numbers layout }
 {
     matches!(
-        attribute,
-        DW_AT_low_pc
-            | DW_AT_high_pc
-            | DW_AT_ranges
-            | DW_AT_abstract_origin
-            | DW_AT_specification
-            | DW_AT_name
-            | DW_AT_linkage_name
-            | DW_AT_MIPS_linkage_name
-            | DW_AT_declaration
-            | DW_AT_call_file
-            | DW_AT_call_line
-            | DW_AT_stmt_list
-            | DW_AT_comp_dir
-            | DW_AT_str_offsets_base
-            | DW_AT_addr_base
-            | DW_AT_rnglists_base
+        layout,
+        Kind::U8 | Kind::U16 | Kind::U24 | Kind::U32 | Kind::U64 | Kind::Uleb
     )
 }
 
+/// The class of numbers of a form.
+#[tactic(auto, unfolding(crate::specs::FormValue::value_of))]
+fn number_class(form: FormClass) -> Option<Class>
+    ensures { IfSome result (λ class. MakesNumbers form class) }
+{
+    match form {
+        FormClass::Address => Some(Class::Addr),
+        FormClass::AddressIndex => Some(Class::AddrIndex),
+        FormClass::Constant => Some(Class::Num),
+        FormClass::Flag => Some(Class::Flag),
+        FormClass::TextPlace => Some(Class::StrAt),
+        FormClass::LineTextPlace => Some(Class::LineStrAt),
+        FormClass::SupTextPlace => Some(Class::SupStrAt),
+        FormClass::TextIndex => Some(Class::StrIndex),
+        FormClass::UnitReference => Some(Class::UnitRef),
+        FormClass::InfoReference => Some(Class::InfoRef),
+        FormClass::SectionPlace => Some(Class::SecOffset),
+        FormClass::ListIndex => Some(Class::ListIndex),
+        _ => None,
+    }
+}
+
+/// The class of the operands of a form, where it has this layout in the table of forms.
+fn class_of(form: FormClass, layout: Kind) -> Option<Class>
+    ensures { IfSome result (λ class. HasClass form layout class) }
+{
+    match (form, layout) {
+        (FormClass::Signed, Kind::Sleb) => Some(Class::Signed),
+        (FormClass::Implicit, Kind::Nothing) => Some(Class::Signed),
+        (FormClass::Present, Kind::Nothing) => Some(Class::Flag),
+        (FormClass::InlineText, Kind::ZeroText) => Some(Class::InlineText),
+        (FormClass::Block, _) => Some(Class::Missing),
+        (FormClass::Other, _) => Some(Class::Missing),
+        _ => {
+            if !is_number(layout) {
+                return None;
+            }
+            number_class(form)
+        }
+    }
+}
+
+/// The constant of an operand without bytes.
+fn constant_of(form: FormClass, implicit: i64) -> u64
+    ensures { HasConstant form implicit result }
+{
+    match form {
+        FormClass::Present => 1,
+        _ => implicit.cast_unsigned(),
+    }
+}
+
 /// The take of an attribute whose form has this row.
-#[inline]
-fn take_of(spec: &Spec, row: FormRow) -> Take
-    ensures { result ≡ record { bytes = 0; attribute = spec.now.attribute; implicit = spec.now.implicit; kind = row.layout; class = row.class } }
+fn take_of(spec: &Spec, row: FormRow, bytes: u32, slot: Slot) -> Option<Take>
+    ensures { IfSome result (λ take. TakesValue spec.now row bytes slot take) }
 {
-    Take {
-        bytes: 0,
-        attribute: spec.attribute(),
-        implicit: spec.implicit(),
-        kind: row.layout,
-        class: row.class,
-    }
-}
-
-/// The size of the values that are passed with those behind them: nobody asks for them, and each has as many bytes.
-#[inline]
-fn passed_size(spec: &Spec, row: FormRow) -> Option<u8>
-    ensures { IfSome result (λ size. IsPassed spec.now row size) }
-{
-    if is_asked(spec.attribute()) {
-        return None;
-    }
-    size_of(row.layout)
-}
-
-/// A take that passes so many bytes more; one alone passes nothing before.
-#[inline]
-fn wider(first: Option<Take>, size: u8) -> Option<Take>
-    ensures { IfSome result (λ wide. wide ≡ record (unwrap_or first no_take) { bytes = size + (unwrap_or first no_take).bytes }) }
-{
-    let take = first.unwrap_or(NO_TAKE);
-    match take.bytes.checked_add(u64::from(size)) {
-        Some(bytes) => Some(Take { bytes, ..take }),
+    match class_of(row.class, row.layout) {
+        Some(class) => Some(Take {
+            constant: constant_of(row.class, spec.implicit()),
+            bytes,
+            slot,
+            layout: row.layout,
+            class: kept_class(slot, class),
+        }),
         None => None,
     }
 }
 
-/// Puts a take to those behind it, which stand from the last to the first.
-#[inline]
-fn put(later: &mut Vec<KnownTake>, first: Option<Take>) -> Result<(), OutOfMemory>
-    ensures { OnOk result (later.new.items ≡ later.old.items ++ in_front first []) }
+/// The bytes in front, and those of an operand of fixed size that goes to no slot.
+fn joined(bytes: u32, slot: Slot, layout: Kind) -> Option<u32>
+    ensures { IfSome result (λ sum. Joins slot layout bytes sum) }
 {
-    if let Some(take) = first {
-        later.push(KnownTake::of(take))?;
+    let Slot::Passed = slot else {
+        return None;
+    };
+    match size_of(layout) {
+        Some(size) => bytes.checked_add(u32::from(size)),
+        None => None,
     }
-    Ok(())
 }
 
-/// Puts the takes of attributes to the end of a list, from the last to the first; false where the form of one is not known.
-fn make_takes(later: &mut Vec<KnownTake>, specs: &[Spec]) -> Result<bool, OutOfMemory>
-    ensures starts { OnOk result (Starts later.old.items later.new.items) }
-    ensures takes { IfOk result (λ made. made ≡ true → AreTakes (reverse (drop (length later.old.items) later.new.items)) specs.now) }
+/// Puts the takes of attributes to the end of a list, and gives the bytes after the last; none where the form of one is not known. The first
+/// value of each attribute goes to its slot, where entries are kept; all others are passed.
+pub fn make_takes(
+    takes: &mut Vec<Take>,
+    specs: &[Spec],
+    kept: bool,
+) -> Result<Option<u32>, OutOfMemory>
+    ensures starts { OnOk result (Starts takes.old.items takes.new.items) }
+    ensures takes { IfOk result (λ made. IfSome made (λ tail. AreTakes kept (drop (length takes.old.items) takes.new.items) tail specs.now)) }
 {
-    let mut first = None;
-    'specs: for place in (0..specs.len()).rev() {
-        let spec = &specs[place];
+    let mut bytes: u32 = 0;
+    let mut filled = Filled::none();
+    'specs: for spec in specs {
         let Some(row) = spec.row() else {
-            return Ok(false);
+            return Ok(None);
         };
-        match passed_size(spec, row) {
-            Some(size) => {
-                let Some(wide) = wider(first, size) else {
-                    return Ok(false);
-                };
-                first = Some(wide);
+        let slot = filled.fill(spec.attribute(), kept);
+        if let Some(sum) = joined(bytes, slot, row.layout) {
+            bytes = sum;
+            continue;
+        }
+        let Some(take) = take_of(spec, row, bytes, slot) else {
+            return Ok(None);
+        };
+        takes.push(take)?;
+        bytes = 0;
+    }
+    Ok(Some(bytes))
+}
+
+/// The number of an operand of any layout that has bytes, and the cursor behind it.
+#[inline(never)]
+fn read_any<'a>(cursor: Cursor<'a>, layout: Kind) -> Option<(Cursor<'a>, u64)>
+    ensures { IfSome result (λ read. (constant : ℕ) → number_at layout constant cursor.entry ≡ Ok (read.1, read.0)) }
+{
+    let mut left = cursor;
+    match read_kind(&mut left, layout) {
+        Ok(Operand::Num(n)) => Some((left, n)),
+        Ok(Operand::Signed(n)) => Some((left, n.cast_unsigned())),
+        Ok(Operand::Run { start, len: _ }) => Some((left, start as u64)),
+        Ok(Operand::Nothing) | Err(_) => None,
+    }
+}
+
+/// The number of an operand of a layout that is rare. The cursor of a caller stays in registers.
+#[inline(always)]
+fn read_other(cursor: &mut Cursor<'_>, layout: Kind) -> Option<u64>
+    ensures { IfSome result (λ n. (constant : ℕ) → number_at layout constant cursor.old ≡ Ok (n, cursor.new)) }
+{
+    match read_any(cursor.fork(), layout) {
+        Some((left, number)) => {
+            *cursor = left;
+            Some(number)
+        }
+        None => None,
+    }
+}
+
+/// The number of an operand: the usual layouts are read here.
+#[inline(always)]
+#[tactic(auto, unfolding(code_table::specs::Layouts::kind_at, code_table::specs::Layouts::run_at))]
+fn read_number(cursor: &mut Cursor<'_>, layout: Kind, constant: u64) -> Option<u64>
+    ensures { IfSome result (λ n. number_at layout constant cursor.old ≡ Ok (n, cursor.new)) }
+{
+    match layout {
+        Kind::Nothing => Some(constant),
+        Kind::U8 => match cursor.u8() {
+            Ok(n) => Some(u64::from(n)),
+            Err(_) => None,
+        },
+        Kind::U16 => match cursor.u16() {
+            Ok(n) => Some(u64::from(n)),
+            Err(_) => None,
+        },
+        Kind::U32 => match cursor.u32() {
+            Ok(n) => Some(u64::from(n)),
+            Err(_) => None,
+        },
+        Kind::U64 => match cursor.u64() {
+            Ok(n) => Some(n),
+            Err(_) => None,
+        },
+        Kind::Uleb => match cursor.uleb() {
+            Ok(n) => Some(n),
+            Err(_) => None,
+        },
+        Kind::BlockUleb => match cursor.uleb() {
+            Ok(count) => {
+                let start = cursor.at();
+                match cursor.take(count) {
+                    Ok(_run) => Some(start as u64),
+                    Err(_) => None,
+                }
             }
-            None => {
-                put(later, first)?;
-                first = Some(take_of(spec, row));
+            Err(_) => None,
+        },
+        Kind::ZeroText => {
+            let start = cursor.at();
+            match cursor.text() {
+                Ok(_text) => Some(start as u64),
+                Err(_) => None,
             }
         }
+        _ => read_other(cursor, layout),
     }
-    put(later, first)?;
-    Ok(true)
 }
 
-/// Puts the takes of attributes to the end of a list; false where the form of one is not known.
-pub fn takes_of(takes: &mut Vec<KnownTake>, specs: &[Spec]) -> Result<bool, OutOfMemory>
-    ensures starts { OnOk result (Starts takes.old.items takes.new.items) }
-    ensures takes { IfOk result (λ made. made ≡ true → AreTakes (drop (length takes.old.items) takes.new.items) specs.now) }
+/// Goes one take. Where it fails, nothing is said.
+#[inline(always)]
+fn read_take(picks: &mut Picks, cursor: &mut Cursor<'_>, take: Take) -> bool
+    ensures { result ≡ true → take_one take picks.old cursor.old ≡ Ok (picks.new, cursor.new) }
 {
-    let from = takes.len();
-    if !make_takes(takes, specs)? {
-        return Ok(false);
+    let Ok(_run) = cursor.take(u64::from(take.bytes)) else {
+        return false;
+    };
+    let Some(number) = read_number(cursor, take.layout, take.constant) else {
+        return false;
+    };
+    let class = take.class;
+    picks.put(take.slot, Pick { class, number });
+    true
+}
+
+/// Goes takes, and passes so many bytes after the last. Where it fails, nothing is said.
+#[inline(always)]
+#[tactic(auto, using(crate::proofs::TakeLemmas::takes_more, crate::proofs::TakeLemmas::takes_done))]
+pub fn read_takes(picks: &mut Picks, cursor: &mut Cursor<'_>, takes: &[Take], tail: u32) -> bool
+    ensures { result ≡ true → takes_at takes.now tail picks.old cursor.old ≡ Ok (picks.new, cursor.new) }
+{
+    'takes: for take in takes {
+        if !read_take(picks, cursor, *take) {
+            return false;
+        }
     }
-    takes.as_mut_slice()[from..].reverse();
-    Ok(true)
+    match cursor.take(u64::from(tail)) {
+        Ok(_run) => true,
+        Err(_) => false,
+    }
 }

@@ -88,6 +88,17 @@ fn place_by_index(bytes: &[u8], wide: bool, base: u64, index: u64) -> Option<u64
     }
 }
 
+/// The place of a text by its number, from the unit's base in `.debug_str_offsets` on (DWARF 5, 7.26); none without a base.
+#[inline]
+pub fn text_place(offsets: &[u8], wide: bool, base: Option<u64>, index: u64) -> Option<u64>
+    ensures { result ≡ text_place offsets.now wide base index }
+{
+    match base {
+        Some(base) => place_by_index(offsets, wide, base, index),
+        None => None,
+    }
+}
+
 /// The text that a number of `.debug_str_offsets` leads to.
 #[inline]
 fn indexed_text<'a>(
@@ -98,29 +109,10 @@ fn indexed_text<'a>(
 ) -> Option<&'a [u8]>
     ensures { option_copied result ≡ option_and_then (text_in sections.now.strs) (text_place sections.now.str_offsets wide base index) }
 {
-    let Some(base) = base else {
-        return None;
-    };
-    match place_by_index(sections.str_offsets, wide, base, index) {
+    match text_place(sections.str_offsets, wide, base, index) {
         Some(place) => text_in(sections.strs, place),
         None => None,
     }
-}
-
-/// So many bytes from a place on, as far as they are there.
-#[inline]
-#[tactic(auto, using(crate::proofs::TextLemmas::run_beyond, crate::proofs::TextLemmas::run_cut))]
-fn run_in(bytes: &[u8], start: usize, len: usize) -> &[u8]
-    ensures { result.now ≡ take len (drop start bytes.now) }
-{
-    if start > bytes.len() {
-        return &[];
-    }
-    let rest = bytes.split_at(start).1;
-    if len > rest.len() {
-        return rest;
-    }
-    rest.split_at(len).0
 }
 
 /// The text of a value of class string: `home` is the section in which the value stands, `wide` says
@@ -138,7 +130,7 @@ pub fn read_text<'a>(
     ensures { option_copied result ≡ text_of sections.now home.now wide base value }
 {
     match value {
-        Value::InlineText { start, len } => Some(run_in(home, start, len)),
+        Value::InlineText(place) => text_in(home, place as u64),
         Value::StrAt(place) => text_in(sections.strs, place),
         Value::LineStrAt(place) => text_in(sections.line_str, place),
         Value::StrIndex(index) => indexed_text(sections, wide, base, index),

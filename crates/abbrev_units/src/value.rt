@@ -20,8 +20,8 @@ pub enum Value {
     Signed(i64),
     Flag(bool),
 
-    /// A text in place, without its zero byte.
-    InlineText { start: usize, len: usize },
+    /// A text in place, up to the next zero byte: where it begins.
+    InlineText(usize),
 
     /// A place in `.debug_str`.
     StrAt(u64),
@@ -76,7 +76,7 @@ pub fn value_of(class: FormClass, implicit: i64, operand: Operand) -> Value
         (FormClass::Implicit, _) => Value::Signed(implicit),
         (FormClass::Flag, Operand::Num(n)) => Value::Flag(n != 0),
         (FormClass::Present, _) => Value::Flag(true),
-        (FormClass::InlineText, Operand::Run { start, len }) => Value::InlineText { start, len },
+        (FormClass::InlineText, Operand::Run { start, len: _ }) => Value::InlineText(start),
         (FormClass::TextPlace, Operand::Num(n)) => Value::StrAt(n),
         (FormClass::LineTextPlace, Operand::Num(n)) => Value::LineStrAt(n),
         (FormClass::SupTextPlace, Operand::Num(n)) => Value::SupStrAt(n),

@@ -1,21 +1,22 @@
 //! An abbreviation of a table.
-ghost use Rattle.std.specs.Prelude.{◌≡◌, true, false, Ok, IfSome, OnErr};
+ghost use Rattle.std.specs.Prelude.{◌≡◌, true, false, Ok, OnErr};
 ghost use Rattle.abbrev_units.specs.Faults.{left_by};
 ghost use Rattle.abbrev_units.specs.Values.{behind_values};
 ghost use Rattle.abbrev_units.specs.KeptTags.{is_kept_tag};
-ghost use Rattle.abbrev_units.specs.Takes.{AreTakes};
+ghost use Rattle.abbrev_units.specs.Picks.{left_with, no_picks, picks_at};
 ghost use Rattle.abbrev_units.specs.internal.Listed.{IsHeld, abbrev_in};
 
 use crate::fault::FormFault;
-use crate::lists::{Head, Lists, ShortWay};
-use crate::plan::{Step, pass_plan};
+use crate::filled::Filled;
+use crate::lists::{Head, Lists};
+use crate::slots::{Picks, keep};
 use crate::spec::Spec;
-use crate::usual::KnownTake;
+use crate::take::read_takes;
 use leb_cursor::Cursor;
 use std::marker::Model;
 
 /// An abbreviation: its code, the tag of its entries (DWARF 5, table 7.3), whether they have children,
-/// and their attributes, with a short way over their values or to them.
+/// and their attributes.
 #[derive(Drop)]
 pub struct Abbrev<'t> {
     lists: &'t Lists,
@@ -33,14 +34,19 @@ impl<'t> Model for Abbrev<'t> {
     ghost invariant = { λ a. IsHeld a.lists.now a.head.now };
 }
 
-/// Passes the values of attributes, one after the other. A refused call may leave the cursor among them.
-#[tactic(auto, using(crate::proofs::ValueLemmas::skips_more, crate::proofs::ValueLemmas::skips_end, crate::proofs::ValueLemmas::skips_refused))]
-fn skip_values(cursor: &mut Cursor<'_>, specs: &[Spec]) -> Result<(), FormFault>
-    ensures { left_by result cursor.new ≡ behind_values specs.now cursor.old }
+/// Reads the values of attributes, and puts those that are asked for, of each attribute the first. What a refused call leaves is not said.
+#[tactic(auto, using(crate::proofs::PickLemmas::picks_begin, crate::proofs::PickLemmas::picks_refused, crate::proofs::PickLemmas::picks_end))]
+fn pick_values(picks: &mut Picks, cursor: &mut Cursor<'_>, specs: &[Spec]) -> Result<(), FormFault>
+    ensures { left_with result picks.new cursor.new ≡ picks_at specs.now cursor.old }
 {
+    let mut filled = Filled::none();
+    picks.clear();
     'specs: for spec in specs {
-        match spec.skip(cursor) {
-            Ok(()) => {}
+        match spec.read(cursor) {
+            Ok(value) => {
+                let slot = filled.fill(spec.attribute(), true);
+                picks.put(slot, keep(slot, value));
+            }
             Err(fault) => return Err(fault),
         }
     }
@@ -103,51 +109,48 @@ impl<'t> Abbrev<'t> {
         &self.lists.specs.as_slice()[run.from as usize..run.to as usize]
     }
 
-    /// A short way to the values that are asked for, where there is one.
+    /// Reads the values by takes: those that are asked for are picked where the entries are kept, and all others passed; false where there
+    /// are no takes, or a value is not there. Then nothing is said of the picks, and the cursor is where it was.
     #[inline(always)]
-    pub fn takes(&self) -> Option<&'t [KnownTake]>
-        ensures { IfSome result (λ takes. AreTakes takes.now self.now.specs) }
+    #[tactic(auto, using(crate::proofs::TakeLemmas::read_picked, crate::proofs::TakeLemmas::read_passed, crate::proofs::TakeLemmas::read_none))]
+    pub fn read(&self, picks: &mut Picks, cursor: &mut Cursor<'_>) -> bool
+        requires { picks.old ≡ no_picks }
+        ensures picked { result ≡ true → is_kept_tag self.now.tag ≡ true → picks_at self.now.specs cursor.old ≡ Ok (picks.new, cursor.new) }
+        ensures passed { result ≡ true → behind_values self.now.specs cursor.old ≡ Ok cursor.new }
+        ensures none { result ≡ true → is_kept_tag self.now.tag ≡ false → picks.new ≡ no_picks }
+        ensures still { result ≡ false → cursor.new ≡ cursor.old }
     {
-        match self.head.way {
-            ShortWay::To(run) => Some(
-                &self.lists.takes.as_slice()[run.from as usize..run.to as usize],
-            ),
-            ShortWay::Missing | ShortWay::Over(_, _) => None,
-        }
-    }
-
-    /// Passes the values of the attributes by a short way; false where there is none, or a value is not there, and nothing is
-    /// passed.
-    #[inline(always)]
-    #[tactic(auto, using(crate::proofs::PlanLemmas::short_way))]
-    pub fn pass(&self, cursor: &mut Cursor<'_>) -> bool
-        ensures passed { result ≡ true → Ok cursor.new ≡ behind_values self.now.specs cursor.old }
-        ensures kept { result ≡ false → cursor.new ≡ cursor.old }
-    {
-        let ShortWay::Over(run, tail) = self.head.way else {
+        if !self.head.has_takes {
             return false;
-        };
-        let steps = &self.lists.steps.as_slice()[run.from as usize..run.to as usize];
+        }
+        let run = self.head.takes;
+        let takes = &self.lists.takes.as_slice()[run.from as usize..run.to as usize];
         let mut probe = cursor.fork();
-        if !pass_plan(&mut probe, steps, tail) {
+        if !read_takes(picks, &mut probe, takes, self.head.tail) {
             return false;
         }
         *cursor = probe;
         true
     }
 
-    /// Passes the values of the attributes, one after the other. A refused call leaves the cursor where it
-    /// was.
+    /// Reads the values by their specifications, and picks those that are asked for, of each attribute the first. What a refused call
+    /// leaves is not said.
+    pub fn read_picks(&self, picks: &mut Picks, cursor: &mut Cursor<'_>) -> Result<(), FormFault>
+        ensures { left_with result picks.new cursor.new ≡ picks_at self.now.specs cursor.old }
+    {
+        pick_values(picks, cursor, self.specs())
+    }
+
+    /// Passes the values of the attributes, one after the other. A refused call leaves the cursor where it was.
     #[inline(never)]
+    #[tactic(auto, using(crate::proofs::PickLemmas::picks_passed, crate::proofs::PickLemmas::picks_faulty))]
     pub fn skip(&self, cursor: &mut Cursor<'_>) -> Result<(), FormFault>
         ensures passed { left_by result cursor.new ≡ behind_values self.now.specs cursor.old }
         ensures kept { OnErr result (cursor.new ≡ cursor.old) }
     {
-        if self.pass(cursor) {
-            return Ok(());
-        }
+        let mut picks = Picks::new();
         let mut probe = cursor.fork();
-        skip_values(&mut probe, self.specs())?;
+        self.read_picks(&mut picks, &mut probe)?;
         *cursor = probe;
         Ok(())
     }

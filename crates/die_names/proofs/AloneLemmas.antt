@@ -5,7 +5,7 @@ use Rattle.std.specs.Option.{option_map}
 use Rattle.std.specs.List.{slice_get}
 use Rattle.std.proofs.lemmas.Option.{slice_get-map}
 use Rattle.clean_names.specs.Cleaning.{cleaned}
-use Rattle.die_walk.specs.Attributes.{or_else}
+use Rattle.abbrev_units.specs.Attributes.{or_else}
 use Rattle.die_walk.specs.EntryTable.{DieFields}
 use Rattle.die_names.specs.declared.unit_read.UnitRead.{UnitRead}
 use Rattle.die_names.specs.UnitEntries.{Placed, unit_entries, entries_from, entry_at, entry_in, entry_of}

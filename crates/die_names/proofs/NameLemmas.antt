@@ -5,7 +5,7 @@ use Rattle.std.specs.Option.{option_map, is_some}
 use Rattle.std.proofs.lemmas.Bool.{cond-true, cond-false}
 use Rattle.std.proofs.lemmas.List.{append_assoc, length-append}
 use Rattle.clean_names.specs.Cleaning.{cleaned}
-use Rattle.die_walk.specs.Attributes.{or_else}
+use Rattle.abbrev_units.specs.Attributes.{or_else}
 use Rattle.die_walk.specs.EntryTable.{DieFields}
 use Rattle.die_names.specs.declared.name_source.How.TheVariants.{Linkage, Joined, Omitted}
 use Rattle.die_names.specs.declared.name_source.NameRef.{NameRef}

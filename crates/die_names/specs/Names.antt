@@ -3,7 +3,7 @@ use Rattle.std.specs.Prelude.{ℕ, zero, suc, ◌==◌, false, if◌then◌else�
 use Rattle.std.specs.List.{slice_get}
 use Rattle.std.specs.Option.{option_map, option_map_or}
 use Rattle.clean_names.specs.Cleaning.{cleaned}
-use Rattle.die_walk.specs.Attributes.{or_else}
+use Rattle.abbrev_units.specs.Attributes.{or_else}
 use Rattle.die_walk.specs.EntryKinds.{is_scope}
 use Rattle.die_walk.specs.EntryTable.{DieFields}
 use Rattle.die_names.specs.declared.unit_read.UnitRead.{UnitRead}

@@ -4,7 +4,7 @@ use Rattle.abbrev_units.proofs.Computing.{abbrev_units_computes}
 use Rattle.abbrev_units.specs.KeptTags.{is_kept_tag}
 use Rattle.die_walk.specs.Marks.{value_fault, read_values_at, mark_by, mark_at, next_mark, marks_at}
 use Rattle.die_walk.specs.EntryTree.{items_from, kept_count, ancestor, kept_from}
-use Rattle.die_walk.specs.Attributes.{first_of, text_in_entry}
+use Rattle.abbrev_units.specs.Attributes.{first_of, text_in_entry}
 use Rattle.die_walk.specs.EntryKinds.{is_function, is_inlined, counts, is_scope}
 use Rattle.die_walk.specs.EntryTable.{die_of, root_of, table_of, entry_table}
 

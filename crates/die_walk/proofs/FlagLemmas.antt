@@ -1,76 +1,42 @@
--- For `flags_of`: each flag is found again.
-use Rattle.std.proofs.Common.{◌≡◌, Bool, true, false, refl}
-use Rattle.std.specs.Prelude.{bit_or}
-use Rattle.die_walk.specs.internal.Heads.{flag_if, flag_in}
+-- For `flags_of` and `Head::with_rest`: each part of a head's flags is found again.
+use Rattle.std.proofs.Common.{◌≡◌, ◌<◌, ◌+◌, ◌*◌, ◌/◌, ◌%◌, ℕ, Bool, true, false, nat_eq, cond, refl, ap, ◌∙◌, arith}
 
-pub parent_made : (parent name linkage declaration : Bool) → flag_in 1 (bit_or (bit_or (bit_or (flag_if parent 1) (flag_if name 2)) (flag_if linkage 4)) (flag_if declaration 8)) ≡ parent
-parent_made true true true true = refl
-parent_made true true true false = refl
-parent_made true true false true = refl
-parent_made true true false false = refl
-parent_made true false true true = refl
-parent_made true false true false = refl
-parent_made true false false true = refl
-parent_made true false false false = refl
-parent_made false true true true = refl
-parent_made false true true false = refl
-parent_made false true false true = refl
-parent_made false true false false = refl
-parent_made false false true true = refl
-parent_made false false true false = refl
-parent_made false false false true = refl
-parent_made false false false false = refl
+bit_is : (so : Bool) → nat_eq (cond so 1 0) 1 ≡ so
+bit_is true = refl
+bit_is false = refl
 
-pub name_made : (parent name linkage declaration : Bool) → flag_in 2 (bit_or (bit_or (bit_or (flag_if parent 1) (flag_if name 2)) (flag_if linkage 4)) (flag_if declaration 8)) ≡ name
-name_made true true true true = refl
-name_made true true true false = refl
-name_made true true false true = refl
-name_made true true false false = refl
-name_made true false true true = refl
-name_made true false true false = refl
-name_made true false false true = refl
-name_made true false false false = refl
-name_made false true true true = refl
-name_made false true true false = refl
-name_made false true false true = refl
-name_made false true false false = refl
-name_made false false true true = refl
-name_made false false true false = refl
-name_made false false false true = refl
-name_made false false false false = refl
+bit_small : (so : Bool) → cond so 1 0 < 2
+bit_small true = omega arith
+bit_small false = omega arith
 
-pub linkage_made : (parent name linkage declaration : Bool) → flag_in 4 (bit_or (bit_or (bit_or (flag_if parent 1) (flag_if name 2)) (flag_if linkage 4)) (flag_if declaration 8)) ≡ linkage
-linkage_made true true true true = refl
-linkage_made true true true false = refl
-linkage_made true true false true = refl
-linkage_made true true false false = refl
-linkage_made true false true true = refl
-linkage_made true false true false = refl
-linkage_made true false false true = refl
-linkage_made true false false false = refl
-linkage_made false true true true = refl
-linkage_made false true true false = refl
-linkage_made false true false true = refl
-linkage_made false true false false = refl
-linkage_made false false true true = refl
-linkage_made false false true false = refl
-linkage_made false false false true = refl
-linkage_made false false false false = refl
+pub parent_made : (parent declaration : Bool) (link flags : ℕ) → flags ≡ cond parent 1 0 + 2 * cond declaration 1 0 + 4 * link → nat_eq (flags % 2) 1 ≡ parent
+parent_made parent declaration link flags is =
+    let same : flags % 2 ≡ cond parent 1 0 = omega (arith, is, bit_small parent, bit_small declaration) in
+    ap (λ n. nat_eq n 1) same ∙ bit_is parent
 
-pub declaration_made : (parent name linkage declaration : Bool) → flag_in 8 (bit_or (bit_or (bit_or (flag_if parent 1) (flag_if name 2)) (flag_if linkage 4)) (flag_if declaration 8)) ≡ declaration
-declaration_made true true true true = refl
-declaration_made true true true false = refl
-declaration_made true true false true = refl
-declaration_made true true false false = refl
-declaration_made true false true true = refl
-declaration_made true false true false = refl
-declaration_made true false false true = refl
-declaration_made true false false false = refl
-declaration_made false true true true = refl
-declaration_made false true true false = refl
-declaration_made false true false true = refl
-declaration_made false true false false = refl
-declaration_made false false true true = refl
-declaration_made false false true false = refl
-declaration_made false false false true = refl
-declaration_made false false false false = refl
+pub declaration_made : (parent declaration : Bool) (link flags : ℕ) → flags ≡ cond parent 1 0 + 2 * cond declaration 1 0 + 4 * link → nat_eq (flags / 2 % 2) 1 ≡ declaration
+declaration_made parent declaration link flags is =
+    let same : flags / 2 % 2 ≡ cond declaration 1 0 = omega (arith, is, bit_small parent, bit_small declaration) in
+    ap (λ n. nat_eq n 1) same ∙ bit_is declaration
+
+pub link_made : (parent declaration : Bool) (link flags : ℕ) → link < 3 → flags ≡ cond parent 1 0 + 2 * cond declaration 1 0 + 4 * link → flags / 4 % 4 ≡ link
+link_made parent declaration link flags small is = omega (arith, is, small, bit_small parent, bit_small declaration)
+
+pub flags_small : (parent declaration : Bool) (link flags : ℕ) → link < 3 → flags ≡ cond parent 1 0 + 2 * cond declaration 1 0 + 4 * link → flags < 16
+flags_small parent declaration link flags small is = omega (arith, is, small, bit_small parent, bit_small declaration)
+
+-- a rest changes no other part
+pub parent_kept : (flags rest : ℕ) → (flags + 16 * rest) % 2 ≡ flags % 2
+parent_kept flags rest = omega arith
+
+pub declaration_kept : (flags rest : ℕ) → (flags + 16 * rest) / 2 % 2 ≡ flags / 2 % 2
+declaration_kept flags rest = omega arith
+
+pub link_kept : (flags rest : ℕ) → (flags + 16 * rest) / 4 % 4 ≡ flags / 4 % 4
+link_kept flags rest = omega arith
+
+pub rest_put : (flags rest : ℕ) → flags < 16 → (flags + 16 * rest) / 16 ≡ rest
+rest_put flags rest small = omega (arith, small)
+
+pub rest_none : (flags : ℕ) → flags < 16 → flags / 16 ≡ 0
+rest_none flags small = omega (arith, small)

@@ -1,20 +1,20 @@
--- For `EntryList`: an entry more changes no other.
-use Rattle.std.proofs.Common.{◌≡◌, ◌<◌, ◌≤◌, ℕ, zero, suc, false, List, [], ◌∷◌, ◌++◌, length, map, drop, Option, None, Some, refl, sym, ap, ◌∙◌, arith, length-append, get_or, option_and_then}
+-- For `EntryList`: an entry more changes no other; and for `Walker::add`: a head says what the picks give.
+use Rattle.std.proofs.Common.{◌≡◌, ◌<◌, ◌≤◌, ◌+◌, ◌*◌, ◌/◌, ◌%◌, ℕ, zero, suc, Bool, true, false, nat_eq, cond, List, [], ◌∷◌, ◌++◌, length, map, drop, Option, None, Some, Result, Ok, Err, OnOk, IfOk, refl, sym, ap, ◌∙◌, arith, length-append, get_or}
 use Rattle.std.specs.List.{slice_get}
 use Rattle.std.proofs.Math.ListN.{drop_of_length-le}
 use Rattle.std.proofs.lemmas.List.{map-append}
-use Rattle.die_walk.specs.EntryTable.{DieFields}
-use Rattle.die_walk.specs.declared.heads.Head.{Head}
-use Rattle.die_walk.specs.declared.heads.Rest.{Rest}
-use Rattle.die_walk.specs.declared.heads.Rest.TheVariants as rest
-use Rattle.die_walk.specs.internal.Sites.{SiteFields}
-use Rattle.die_walk.specs.internal.Heads.{no_site, slim, site_by, site_in, whole_in, has_parent, has_name, has_linkage, is_declaration, held_by, held_in, IsThere, AreThere, origin_said, spec_said, place_said}
-use Rattle.die_walk.specs.internal.Packing.{where_said}
-use Rattle.die_walk.specs.Attributes.{as_reference, as_flag, is_elsewhere, is_yes, or_else}
-use Rattle.die_walk.specs.Picking.{text_by, die_by}
-use Rattle.die_walk.specs.declared.picks.Picks.{Picks}
+use Rattle.std.proofs.lemmas.Bool.{cond-true}
+use Rattle.std.proofs.lemmas.Bool.Decides.{nat_tests}
 use Rattle.abbrev_units.specs.declared.unit.Unit.{Unit}
 use Rattle.abbrev_units.specs.DebugSections.{DebugSections}
+use Rattle.abbrev_units.specs.Picks.{PickFields}
+use Rattle.die_walk.specs.EntryTable.{DieFields}
+use Rattle.die_walk.specs.Picking.{die_by}
+use Rattle.die_walk.specs.declared.entry_heads.Parts.{Parts}
+use Rattle.die_walk.specs.declared.heads.Head.{Head}
+use Rattle.die_walk.specs.internal.Sites.{SiteFields, WideFields, Homes, HeldEntries}
+use Rattle.die_walk.specs.internal.Heads.{homes_of, text_at_home, is_elsewhere_home, no_site, site_by, where_said, rest_of, with_rest, origin_said, spec_said, slim, broad, found_in, held_by, held_in, IsThere, AreThere, IsHead, IsWhole, Says, IsAdded}
+use Rattle.die_walk.proofs.FlagLemmas.{parent_kept, declaration_kept, link_kept, rest_put, rest_none}
 use Rattle.sym_edges.specs.Rising.{StandBelow}
 
 pub drop_past : (place : ℕ) (bytes : List ℕ) → length bytes < place → [] ≡ drop place bytes
@@ -30,133 +30,214 @@ pub get_last : {X : Type 0} (xs : List X) (x : X) → slice_get (xs ++ x ∷ [])
 get_last [] x = refl
 get_last (y ∷ xs) x = get_last xs x
 
-site_kept : (sites more : List SiteFields) (wholes n : ℕ) (r : Rest) → IsThere (length sites) wholes r n → site_in r (sites ++ more) n ≡ site_in r sites n
-site_kept sites more wholes n rest.Nothing there = refl
-site_kept sites more wholes n rest.Site there = get_before sites more n there
-site_kept sites more wholes n rest.Whole there = refl
+-- what a head leads to stays where more is added
+found_kept : {X : Type 0} (rest : ℕ) (head : Head) (xs more : List X) → (rest_of head ≡ rest → head.number < length xs) → found_in rest head (xs ++ more) ≡ found_in rest head xs
+found_kept rest head xs more there = by (nat_eq (rest_of head) rest) refl
+  where
+    by : (here : Bool) → nat_eq (rest_of head) rest ≡ here → cond here (slice_get (xs ++ more) head.number) None ≡ cond here (slice_get xs head.number) None
+    by true is = get_before xs more head.number (there (grind (arith, nat_tests, is)))
+    by false is = refl
 
-whole_kept : (wholes more : List DieFields) (sites n : ℕ) (r : Rest) → IsThere sites (length wholes) r n → whole_in r (wholes ++ more) n ≡ whole_in r wholes n
-whole_kept wholes more sites n rest.Nothing there = refl
-whole_kept wholes more sites n rest.Site there = refl
-whole_kept wholes more sites n rest.Whole there = get_before wholes more n there
+sites_kept : (homes : Homes) (sites more : List SiteFields) (wides : List WideFields) (heads : List Head) → AreThere (length sites) (length wides) heads → map (held_in homes (sites ++ more) wides) heads ≡ map (held_in homes sites wides) heads
+sites_kept homes sites more wides [] there = refl
+sites_kept homes sites more wides (head ∷ heads) there =
+    ap (λ (site : Option SiteFields). held_by homes head site (found_in 2 head wides) ∷ map (held_in homes (sites ++ more) wides) heads) (found_kept 1 head sites more there.0.0)
+    ∙ ap (λ (later : List DieFields). held_in homes sites wides head ∷ later) (sites_kept homes sites more wides heads there.1)
 
-sites_kept : (strs : List ℕ) (sites more : List SiteFields) (wholes : List DieFields) (heads : List Head) → AreThere (length sites) (length wholes) heads → map (held_in strs (sites ++ more) wholes) heads ≡ map (held_in strs sites wholes) heads
-sites_kept strs sites more wholes [] there = refl
-sites_kept strs sites more wholes (head ∷ heads) there =
-    ap (λ (site : Option SiteFields). held_by strs head site (whole_in head.rest wholes head.number) ∷ map (held_in strs (sites ++ more) wholes) heads) (site_kept sites more (length wholes) head.number head.rest there.0)
-    ∙ ap (λ (later : List DieFields). held_in strs sites wholes head ∷ later) (sites_kept strs sites more wholes heads there.1)
+wides_kept : (homes : Homes) (sites : List SiteFields) (wides more : List WideFields) (heads : List Head) → AreThere (length sites) (length wides) heads → map (held_in homes sites (wides ++ more)) heads ≡ map (held_in homes sites wides) heads
+wides_kept homes sites wides more [] there = refl
+wides_kept homes sites wides more (head ∷ heads) there =
+    ap (λ (wide : Option WideFields). held_by homes head (found_in 1 head sites) wide ∷ map (held_in homes sites (wides ++ more)) heads) (found_kept 2 head wides more there.0.1)
+    ∙ ap (λ (later : List DieFields). held_in homes sites wides head ∷ later) (wides_kept homes sites wides more heads there.1)
 
-wholes_kept : (strs : List ℕ) (sites : List SiteFields) (wholes more : List DieFields) (heads : List Head) → AreThere (length sites) (length wholes) heads → map (held_in strs sites (wholes ++ more)) heads ≡ map (held_in strs sites wholes) heads
-wholes_kept strs sites wholes more [] there = refl
-wholes_kept strs sites wholes more (head ∷ heads) there =
-    ap (λ (whole : Option DieFields). held_by strs head (site_in head.rest sites head.number) whole ∷ map (held_in strs sites (wholes ++ more)) heads) (whole_kept wholes more (length sites) head.number head.rest there.0)
-    ∙ ap (λ (later : List DieFields). held_in strs sites wholes head ∷ later) (wholes_kept strs sites wholes more heads there.1)
+-- a head with a rest says the same
+abbrev slim_by : Homes → Head → SiteFields → ℕ → ℕ → ℕ → DieFields
+slim_by homes head site parent declaration link = record {
+  at = head.at;
+  tag = head.tag;
+  parent = where_said (nat_eq parent 1) head.parent;
+  declaration = nat_eq declaration 1;
+  low = site.low;
+  high = site.high;
+  ranges = site.ranges;
+  origin = origin_said link head.target;
+  spec = spec_said link head.target;
+  name = text_at_home homes head.name_in head.name;
+  name_elsewhere = is_elsewhere_home head.name_in;
+  linkage = text_at_home homes head.linkage_in head.linkage;
+  call_file = site.call_file;
+  call_line = site.call_line;
+}
+
+slim_rest : (homes : Homes) (head : Head) (site : SiteFields) (rest number : ℕ) → slim homes (with_rest head rest number) site ≡ slim homes head site
+slim_rest homes head site rest number =
+    ap (λ n. slim_by homes head site n ((head.flags + 16 * rest) / 2 % 2) ((head.flags + 16 * rest) / 4 % 4)) (parent_kept head.flags rest)
+    ∙ ap (λ n. slim_by homes head site (head.flags % 2) n ((head.flags + 16 * rest) / 4 % 4)) (declaration_kept head.flags rest)
+    ∙ ap (λ n. slim_by homes head site (head.flags % 2) (head.flags / 2 % 2) n) (link_kept head.flags rest)
+
+found_here : {X : Type 0} (rest : ℕ) (head : Head) (xs : List X) → rest_of head ≡ rest → found_in rest head xs ≡ slice_get xs head.number
+found_here rest head xs is =
+    let test : nat_eq (rest_of head) rest ≡ true = grind (arith, nat_tests, is) in
+    cond-true _ _ _ test
+
+found_none : {X : Type 0} (rest other : ℕ) (head : Head) (xs : List X) → rest_of head ≡ other → (other ≡ rest → ⊥) → found_in rest head xs ≡ None
+found_none rest other head xs is apart = by (nat_eq (rest_of head) rest) refl
+  where
+    by : (here : Bool) → nat_eq (rest_of head) rest ≡ here → cond here (slice_get xs head.number) None ≡ None
+    by true test = absurd (apart (sym is ∙ grind (arith, nat_tests, test)))
+    by false test = refl
 
 -- an entry more
-pub pushed_alone : (strs : List ℕ) (sites : List SiteFields) (wholes : List DieFields) (heads : List Head) (head : Head) → map (held_in strs sites wholes) (heads ++ record head { rest = rest.Nothing; number = 0 } ∷ []) ≡ map (held_in strs sites wholes) heads ++ slim strs head no_site ∷ []
-pushed_alone strs sites wholes heads head = map-append (held_in strs sites wholes) heads (record head { rest = rest.Nothing; number = 0 } ∷ [])
+pub pushed_alone : (homes : Homes) (sites : List SiteFields) (wides : List WideFields) (heads : List Head) (head : Head) → head.flags < 16 → map (held_in homes sites wides) (heads ++ head ∷ []) ≡ map (held_in homes sites wides) heads ++ slim homes head no_site ∷ []
+pushed_alone homes sites wides heads head small =
+    let none : rest_of head ≡ 0 = rest_none head.flags small in
+    map-append (held_in homes sites wides) heads (head ∷ [])
+    ∙ ap (λ (site : Option SiteFields). map (held_in homes sites wides) heads ++ held_by homes head site (found_in 2 head wides) ∷ []) (found_none 1 0 head sites none (λ e. omega (arith, e)))
+    ∙ ap (λ (wide : Option WideFields). map (held_in homes sites wides) heads ++ held_by homes head None wide ∷ []) (found_none 2 0 head wides none (λ e. omega (arith, e)))
 
-pub pushed_site : (strs : List ℕ) (sites : List SiteFields) (wholes : List DieFields) (heads : List Head) (head : Head) (site : SiteFields) (n : ℕ) → AreThere (length sites) (length wholes) heads → n ≡ length sites
-    → map (held_in strs (sites ++ site ∷ []) wholes) (heads ++ record head { rest = rest.Site; number = n } ∷ []) ≡ map (held_in strs sites wholes) heads ++ slim strs head site ∷ []
-pushed_site strs sites wholes heads head site n there last =
-    ap (λ (k : ℕ). map (held_in strs (sites ++ site ∷ []) wholes) (heads ++ record head { rest = rest.Site; number = k } ∷ [])) last ∙
-    map-append (held_in strs (sites ++ site ∷ []) wholes) heads (record head { rest = rest.Site; number = length sites } ∷ [])
-    ∙ ap (λ (front : List DieFields). front ++ held_in strs (sites ++ site ∷ []) wholes (record head { rest = rest.Site; number = length sites }) ∷ []) (sites_kept strs sites (site ∷ []) wholes heads there)
-    ∙ ap (λ (found : Option SiteFields). map (held_in strs sites wholes) heads ++ held_by strs (record head { rest = rest.Site; number = length sites }) found None ∷ []) (get_last sites site)
+pub pushed_site : (homes : Homes) (sites : List SiteFields) (wides : List WideFields) (heads : List Head) (head last : Head) (site : SiteFields) (number : ℕ) → AreThere (length sites) (length wides) heads → head.flags < 16 → number ≡ length sites → last ≡ with_rest head 1 number
+    → map (held_in homes (sites ++ site ∷ []) wides) (heads ++ last ∷ []) ≡ map (held_in homes sites wides) heads ++ slim homes head site ∷ []
+pushed_site homes sites wides heads head last site number there small is made =
+    let rest : rest_of last ≡ 1 = ap rest_of made ∙ rest_put head.flags 1 small in
+    let place : last.number ≡ length sites = ap (λ (h : Head). h.number) made ∙ is in
+    map-append (held_in homes (sites ++ site ∷ []) wides) heads (last ∷ [])
+    ∙ ap (λ (front : List DieFields). front ++ held_in homes (sites ++ site ∷ []) wides last ∷ []) (sites_kept homes sites (site ∷ []) wides heads there)
+    ∙ ap (λ (found : Option SiteFields). map (held_in homes sites wides) heads ++ held_by homes last found (found_in 2 last wides) ∷ [])
+    (found_here 1 last (sites ++ site ∷ []) rest ∙ ap (slice_get (sites ++ site ∷ [])) place ∙ get_last sites site)
+    ∙ ap (λ (found : Option WideFields). map (held_in homes sites wides) heads ++ held_by homes last (Some site) found ∷ []) (found_none 2 1 last wides rest (λ e. omega (arith, e)))
+    ∙ ap (λ (die : DieFields). map (held_in homes sites wides) heads ++ die ∷ []) (ap (λ (h : Head). slim homes h site) made ∙ slim_rest homes head site 1 number)
 
-pub pushed_whole : (strs : List ℕ) (sites : List SiteFields) (wholes : List DieFields) (heads : List Head) (head : Head) (whole : DieFields) → AreThere (length sites) (length wholes) heads → head.rest ≡ rest.Whole → head.number ≡ length wholes → head.at ≡ whole.at
-    → map (held_in strs sites (wholes ++ whole ∷ [])) (heads ++ head ∷ []) ≡ map (held_in strs sites wholes) heads ++ whole ∷ []
-pushed_whole strs sites wholes heads head whole there kind last place =
-    map-append (held_in strs sites (wholes ++ whole ∷ [])) heads (head ∷ [])
-    ∙ ap (λ (front : List DieFields). front ++ held_in strs sites (wholes ++ whole ∷ []) head ∷ []) (wholes_kept strs sites wholes (whole ∷ []) heads there)
-    ∙ ap (λ (found : Option DieFields). map (held_in strs sites wholes) heads ++ held_by strs head (site_in head.rest sites head.number) found ∷ [])
-    (ap (λ (r : Rest). whole_in r (wholes ++ whole ∷ []) head.number) kind ∙ ap (λ (n : ℕ). slice_get (wholes ++ whole ∷ []) n) last ∙ get_last wholes whole)
-    ∙ ap (λ (at : ℕ). map (held_in strs sites wholes) heads ++ record whole { at = at } ∷ []) place
+pub pushed_wide : (homes : Homes) (sites : List SiteFields) (wides : List WideFields) (heads : List Head) (head last : Head) (wide : WideFields) (number : ℕ) → AreThere (length sites) (length wides) heads → head.flags < 16 → number ≡ length wides → last ≡ with_rest head 2 number
+    → map (held_in homes sites (wides ++ wide ∷ [])) (heads ++ last ∷ []) ≡ map (held_in homes sites wides) heads ++ broad homes head wide ∷ []
+pushed_wide homes sites wides heads head last wide number there small is made =
+    let rest : rest_of last ≡ 2 = ap rest_of made ∙ rest_put head.flags 2 small in
+    let place : last.number ≡ length wides = ap (λ (h : Head). h.number) made ∙ is in
+    map-append (held_in homes sites (wides ++ wide ∷ [])) heads (last ∷ [])
+    ∙ ap (λ (front : List DieFields). front ++ held_in homes sites (wides ++ wide ∷ []) last ∷ []) (wides_kept homes sites wides (wide ∷ []) heads there)
+    ∙ ap (λ (found : Option WideFields). map (held_in homes sites wides) heads ++ held_by homes last (found_in 1 last sites) found ∷ [])
+    (found_here 2 last (wides ++ wide ∷ []) rest ∙ ap (slice_get (wides ++ wide ∷ [])) place ∙ get_last wides wide)
+    ∙ ap (λ (die : DieFields). map (held_in homes sites wides) heads ++ record die { tag = wide.tag; origin = wide.origin; spec = wide.spec } ∷ []) (ap (λ (h : Head). slim homes h wide.site) made ∙ slim_rest homes head wide.site 2 number)
 
 -- what heads lead to is there
-wider : (sites more wholes whole n : ℕ) (r : Rest) → IsThere sites wholes r n → sites ≤ more → wholes ≤ whole → IsThere more whole r n
-wider sites more wholes whole n rest.Nothing there up on = tt
-wider sites more wholes whole n rest.Site there up on = omega (arith, there, up)
-wider sites more wholes whole n rest.Whole there up on = omega (arith, there, on)
+wider : (sites more wides longer : ℕ) (head : Head) → IsThere sites wides head → sites ≤ more → wides ≤ longer → IsThere more longer head
+wider sites more wides longer head there up on = ((λ e. omega (arith, there.0 e, up)), (λ e. omega (arith, there.1 e, on)))
 
-pub there_wider : (sites more wholes whole : ℕ) (heads : List Head) → AreThere sites wholes heads → sites ≤ more → wholes ≤ whole → AreThere more whole heads
-there_wider sites more wholes whole [] there up on = tt
-there_wider sites more wholes whole (head ∷ heads) there up on = (wider sites more wholes whole head.number head.rest there.0 up on, there_wider sites more wholes whole heads there.1 up on)
+pub there_wider : (sites more wides longer : ℕ) (heads : List Head) → AreThere sites wides heads → sites ≤ more → wides ≤ longer → AreThere more longer heads
+there_wider sites more wides longer [] there up on = tt
+there_wider sites more wides longer (head ∷ heads) there up on = (wider sites more wides longer head there.0 up on, there_wider sites more wides longer heads there.1 up on)
 
-there_more : (sites wholes : ℕ) (heads : List Head) (head : Head) → AreThere sites wholes heads → IsThere sites wholes head.rest head.number → AreThere sites wholes (heads ++ head ∷ [])
-there_more sites wholes [] head there here = (here, tt)
-there_more sites wholes (first ∷ heads) head there here = (there.0, there_more sites wholes heads head there.1 here)
+there_more : (sites wides : ℕ) (heads : List Head) (head : Head) → AreThere sites wides heads → IsThere sites wides head → AreThere sites wides (heads ++ head ∷ [])
+there_more sites wides [] head there here = (here, tt)
+there_more sites wides (first ∷ heads) head there here = (there.0, there_more sites wides heads head there.1 here)
 
-pub there_alone : (sites wholes : ℕ) (heads : List Head) (head : Head) → AreThere sites wholes heads → AreThere sites wholes (heads ++ record head { rest = rest.Nothing; number = 0 } ∷ [])
-there_alone sites wholes heads head there = there_more sites wholes heads (record head { rest = rest.Nothing; number = 0 }) there tt
+pub there_alone : (sites wides : ℕ) (heads : List Head) (head : Head) → AreThere sites wides heads → head.flags < 16 → AreThere sites wides (heads ++ head ∷ [])
+there_alone sites wides heads head there small =
+    let none : rest_of head ≡ 0 = rest_none head.flags small in
+    there_more sites wides heads head there ((λ e. absurd (omega (arith, e, none))), (λ e. absurd (omega (arith, e, none))))
 
-pub more_sites : (sites : List SiteFields) (wholes : List DieFields) (heads : List Head) (site : SiteFields) → AreThere (length sites) (length wholes) heads → AreThere (length (sites ++ site ∷ [])) (length wholes) heads
-more_sites sites wholes heads site there = there_wider (length sites) (length (sites ++ site ∷ [])) (length wholes) (length wholes) heads there (rw length-append (omega arith)) (omega arith)
+pub more_sites : (sites : List SiteFields) (wides : ℕ) (heads : List Head) (site : SiteFields) → AreThere (length sites) wides heads → AreThere (length (sites ++ site ∷ [])) wides heads
+more_sites sites wides heads site there = there_wider (length sites) (length (sites ++ site ∷ [])) wides wides heads there (rw length-append (omega arith)) (omega arith)
 
-pub more_wholes : (sites : List SiteFields) (wholes : List DieFields) (heads : List Head) (whole : DieFields) → AreThere (length sites) (length wholes) heads → AreThere (length sites) (length (wholes ++ whole ∷ [])) heads
-more_wholes sites wholes heads whole there = there_wider (length sites) (length sites) (length wholes) (length (wholes ++ whole ∷ [])) heads there (omega arith) (rw length-append (omega arith))
+pub more_wides : (sites : ℕ) (wides : List WideFields) (heads : List Head) (wide : WideFields) → AreThere sites (length wides) heads → AreThere sites (length (wides ++ wide ∷ [])) heads
+more_wides sites wides heads wide there = there_wider sites sites (length wides) (length (wides ++ wide ∷ [])) heads there (omega arith) (rw length-append (omega arith))
 
-pub there_site : (sites : List SiteFields) (wholes : List DieFields) (heads : List Head) (head : Head) (site : SiteFields) (n : ℕ) → AreThere (length sites) (length wholes) heads → n ≡ length sites → AreThere (length (sites ++ site ∷ [])) (length wholes) (heads ++ record head { rest = rest.Site; number = n } ∷ [])
-there_site sites wholes heads head site n there last =
-    there_more (length (sites ++ site ∷ [])) (length wholes) heads (record head { rest = rest.Site; number = n }) (more_sites sites wholes heads site there) (rw length-append (omega (arith, last)))
+pub there_site : (sites : List SiteFields) (wides : ℕ) (heads : List Head) (head last : Head) (site : SiteFields) (number : ℕ) → AreThere (length sites) wides heads → head.flags < 16 → number ≡ length sites → last ≡ with_rest head 1 number → AreThere (length (sites ++ site ∷ [])) wides (heads ++ last ∷ [])
+there_site sites wides heads head last site number there small is made =
+    let rest : rest_of last ≡ 1 = ap rest_of made ∙ rest_put head.flags 1 small in
+    let place : last.number ≡ length sites = ap (λ (h : Head). h.number) made ∙ is in
+    there_more (length (sites ++ site ∷ [])) wides heads last (more_sites sites wides heads site there)
+    ((λ e. rw length-append (omega (arith, place))), (λ e. absurd (omega (arith, e, rest))))
 
-pub there_whole : (sites : List SiteFields) (wholes : List DieFields) (heads : List Head) (head : Head) (whole : DieFields) → AreThere (length sites) (length wholes) heads → head.rest ≡ rest.Whole → head.number ≡ length wholes → AreThere (length sites) (length (wholes ++ whole ∷ [])) (heads ++ head ∷ [])
-there_whole sites wholes heads head whole there kind last =
-    there_more (length sites) (length (wholes ++ whole ∷ [])) heads head (more_wholes sites wholes heads whole there)
-    (is_there head.rest kind)
-  where
-    is_there : (r : Rest) → r ≡ rest.Whole → IsThere (length sites) (length (wholes ++ whole ∷ [])) r head.number
-    is_there rest.Nothing is = absurd (cc)
-    is_there rest.Site is = absurd (cc)
-    is_there rest.Whole is = rw length-append (omega (arith, last))
+pub there_wide : (sites : ℕ) (wides : List WideFields) (heads : List Head) (head last : Head) (wide : WideFields) (number : ℕ) → AreThere sites (length wides) heads → head.flags < 16 → number ≡ length wides → last ≡ with_rest head 2 number → AreThere sites (length (wides ++ wide ∷ [])) (heads ++ last ∷ [])
+there_wide sites wides heads head last wide number there small is made =
+    let rest : rest_of last ≡ 2 = ap rest_of made ∙ rest_put head.flags 2 small in
+    let place : last.number ≡ length wides = ap (λ (h : Head). h.number) made ∙ is in
+    there_more sites (length (wides ++ wide ∷ [])) heads last (more_wides sites wides heads wide there)
+    ((λ e. absurd (omega (arith, e, rest))), (λ e. rw length-append (omega (arith, place))))
 
 -- places of entries are those of their heads
-abbrev held : List ℕ → List SiteFields → List DieFields → List Head → List DieFields
-held strs sites wholes heads = map (held_in strs sites wholes) heads
+abbrev held : Homes → List SiteFields → List WideFields → List Head → List DieFields
+held homes sites wides heads = map (held_in homes sites wides) heads
 
-at_by : (strs : List ℕ) (head : Head) (site : Option SiteFields) (whole : Option DieFields) → (held_by strs head site whole).at ≡ head.at
-at_by strs head site None = refl
-at_by strs head site (Some whole) = refl
+at_by : (homes : Homes) (head : Head) (site : Option SiteFields) (wide : Option WideFields) → (held_by homes head site wide).at ≡ head.at
+at_by homes head site None = refl
+at_by homes head site (Some wide) = refl
 
-pub held_places : (strs : List ℕ) (sites : List SiteFields) (wholes : List DieFields) (heads : List Head) → map (λ (d : DieFields). d.at) (held strs sites wholes heads) ≡ map (λ (h : Head). h.at) heads
-held_places strs sites wholes [] = refl
-held_places strs sites wholes (head ∷ heads) =
-    ap (λ (at : ℕ). at ∷ map (λ (d : DieFields). d.at) (held strs sites wholes heads)) (at_by strs head (site_in head.rest sites head.number) (whole_in head.rest wholes head.number))
-    ∙ ap (λ (later : List ℕ). head.at ∷ later) (held_places strs sites wholes heads)
+pub held_places : (homes : Homes) (sites : List SiteFields) (wides : List WideFields) (heads : List Head) → map (λ (d : DieFields). d.at) (held homes sites wides heads) ≡ map (λ (h : Head). h.at) heads
+held_places homes sites wides [] = refl
+held_places homes sites wides (head ∷ heads) =
+    ap (λ (at : ℕ). at ∷ map (λ (d : DieFields). d.at) (held homes sites wides heads)) (at_by homes head (found_in 1 head sites) (found_in 2 head wides))
+    ∙ ap (λ (later : List ℕ). head.at ∷ later) (held_places homes sites wides heads)
 
-get_place : (strs : List ℕ) (sites : List SiteFields) (wholes : List DieFields) (heads : List Head) (k : ℕ) (d : DieFields) (h : Head) → k < length heads → (get_or (held strs sites wholes heads) k d).at ≡ (get_or heads k h).at
-get_place strs sites wholes [] k d h there = absurd (omega arith)
-get_place strs sites wholes (head ∷ heads) zero d h there = at_by strs head (site_in head.rest sites head.number) (whole_in head.rest wholes head.number)
-get_place strs sites wholes (head ∷ heads) (suc k) d h there = get_place strs sites wholes heads k d h (omega arith)
+get_place : (homes : Homes) (sites : List SiteFields) (wides : List WideFields) (heads : List Head) (k : ℕ) (d : DieFields) (h : Head) → k < length heads → (get_or (held homes sites wides heads) k d).at ≡ (get_or heads k h).at
+get_place homes sites wides [] k d h there = absurd (omega arith)
+get_place homes sites wides (head ∷ heads) zero d h there = at_by homes head (found_in 1 head sites) (found_in 2 head wides)
+get_place homes sites wides (head ∷ heads) (suc k) d h there = get_place homes sites wides heads k d h (omega arith)
 
-held_long : (strs : List ℕ) (sites : List SiteFields) (wholes : List DieFields) (heads : List Head) → length (held strs sites wholes heads) ≡ length heads
-held_long strs sites wholes [] = refl
-held_long strs sites wholes (head ∷ heads) = ap suc (held_long strs sites wholes heads)
+held_long : (homes : Homes) (sites : List SiteFields) (wides : List WideFields) (heads : List Head) → length (held homes sites wides heads) ≡ length heads
+held_long homes sites wides [] = refl
+held_long homes sites wides (head ∷ heads) = ap suc (held_long homes sites wides heads)
 
-stand_some : (strs : List ℕ) (sites : List SiteFields) (wholes : List DieFields) (heads : List Head) (h : Head) (bound count : ℕ) → StandBelow (λ (x : Head). x.at) bound count heads → StandBelow (λ (d : DieFields). d.at) bound count (held strs sites wholes heads)
-stand_some strs sites wholes heads h bound count stand =
-    let long : length (held strs sites wholes heads) ≡ length heads = held_long strs sites wholes heads in
+stand_some : (homes : Homes) (sites : List SiteFields) (wides : List WideFields) (heads : List Head) (h : Head) (bound count : ℕ) → StandBelow (λ (x : Head). x.at) bound count heads → StandBelow (λ (d : DieFields). d.at) bound count (held homes sites wides heads)
+stand_some homes sites wides heads h bound count stand =
+    let long : length (held homes sites wides heads) ≡ length heads = held_long homes sites wides heads in
     record {
       within = omega (arith, long, stand.within);
-      below = λ k d before. omega (arith, get_place strs sites wholes heads k d h (omega (arith, before, stand.within)), stand.below k h before);
-      above = λ k d after there. omega (arith, get_place strs sites wholes heads k d h (omega (arith, there, long)), stand.above k h after (omega (arith, there, long)));
+      below = λ k d before. omega (arith, get_place homes sites wides heads k d h (omega (arith, before, stand.within)), stand.below k h before);
+      above = λ k d after there. omega (arith, get_place homes sites wides heads k d h (omega (arith, there, long)), stand.above k h after (omega (arith, there, long)));
     }
 
-pub stand_held : (strs : List ℕ) (sites : List SiteFields) (wholes : List DieFields) (heads : List Head) (bound count : ℕ) → StandBelow (λ (x : Head). x.at) bound count heads → StandBelow (λ (d : DieFields). d.at) bound count (held strs sites wholes heads)
-stand_held strs sites wholes [] bound count stand = record {
+pub stand_held : (homes : Homes) (sites : List SiteFields) (wides : List WideFields) (heads : List Head) (bound count : ℕ) → StandBelow (λ (x : Head). x.at) bound count heads → StandBelow (λ (d : DieFields). d.at) bound count (held homes sites wides heads)
+stand_held homes sites wides [] bound count stand = record {
   within = stand.within;
   below = λ k d before. absurd (omega (arith, before, stand.within));
   above = λ k d after there. absurd (omega (arith, there));
 }
-stand_held strs sites wholes (head ∷ heads) bound count stand = stand_some strs sites wholes (head ∷ heads) head bound count stand
+stand_held homes sites wides (head ∷ heads) bound count stand = stand_some homes sites wides (head ∷ heads) head bound count stand
 
--- a head that says what the values give
-pub head_is : (sections : DebugSections) (unit : Unit) (base : Option ℕ) (at : ℕ) (parent : Option ℕ) (tag : ℕ) (picks : Picks) (head : Head)
-    → head.at ≡ at → head.tag ≡ tag → where_said (has_parent head) head.parent ≡ parent → is_declaration head ≡ is_yes (option_and_then as_flag picks.declaration)
-    → origin_said head.link head.target ≡ option_and_then (as_reference unit) picks.origin → spec_said head.link head.target ≡ option_and_then (as_reference unit) picks.spec
-    → place_said sections.strs (has_name head) head.name ≡ text_by sections unit base picks.name
-    → place_said sections.strs (has_linkage head) head.linkage ≡ or_else (text_by sections unit base picks.linkage) (text_by sections unit base picks.old_linkage)
-    → is_elsewhere picks.name ≡ false
-    → slim sections.strs head (site_by picks) ≡ die_by sections unit base at parent tag picks
+-- where a head says so, its entry is that of the picks
+slim_die : (sections : DebugSections) (unit : Unit) (base : Option ℕ) (tag : ℕ) (picks : PickFields) (head : Head) (parts : Parts)
+    → IsWhole head parts tag → Says sections unit base picks parts → slim (homes_of sections) head (site_by picks) ≡ die_by sections unit base parts.frame.at parts.frame.parent tag picks
 unfolding die_by
-head_is sections unit base at parent tag picks head e1 e2 e3 e4 e5 e6 e7 e8 e9 = cc
+slim_die sections unit base tag picks head parts whole says =
+    let f1 = whole.says.at in let f2 = whole.says.parent in let f3 = whole.says.declaration in let f4 = whole.says.name_in in let f5 = whole.says.name in
+    let f6 = whole.says.linkage_in in let f7 = whole.says.linkage in let f8 = whole.tagged in let f9 = whole.target.0 in let f10 = whole.target.1 in
+    let g1 = says.declared in let g2 = says.name in let g3 = says.elsewhere in let g4 = says.linkage in let g5 = says.origin in let g6 = says.spec in
+    cc
+
+slim_is : (before after : HeldEntries) (tag : ℕ) (picks : PickFields) (head : Head) (parts : Parts) → IsWhole head parts tag → after.dies ≡ before.dies ++ slim before.homes head (site_by picks) ∷ [] → IsAdded before after parts tag picks
+slim_is before after tag picks head parts whole is sections unit base homes says =
+    is ∙ ap (λ (h : Homes). before.dies ++ slim h head (site_by picks) ∷ []) homes
+    ∙ ap (λ (die : DieFields). before.dies ++ die ∷ []) (slim_die sections unit base tag picks head parts whole says)
+
+broad_die : (sections : DebugSections) (unit : Unit) (base : Option ℕ) (tag : ℕ) (picks : PickFields) (head : Head) (parts : Parts)
+    → IsHead head parts → Says sections unit base picks parts → broad (homes_of sections) head (record { tag = tag; origin = parts.links.origin; spec = parts.links.spec; site = site_by picks }) ≡ die_by sections unit base parts.frame.at parts.frame.parent tag picks
+unfolding die_by
+broad_die sections unit base tag picks head parts head_says says =
+    let f1 = head_says.at in let f2 = head_says.parent in let f3 = head_says.declaration in let f4 = head_says.name_in in let f5 = head_says.name in
+    let f6 = head_says.linkage_in in let f7 = head_says.linkage in
+    let g1 = says.declared in let g2 = says.name in let g3 = says.elsewhere in let g4 = says.linkage in let g5 = says.origin in let g6 = says.spec in
+    cc
+
+broad_added : (before after : HeldEntries) (tag : ℕ) (picks : PickFields) (head : Head) (parts : Parts) (wide : WideFields) → IsHead head parts
+    → wide ≡ record { tag = tag; origin = parts.links.origin; spec = parts.links.spec; site = site_by picks }
+    → after.dies ≡ before.dies ++ broad before.homes head wide ∷ [] → IsAdded before after parts tag picks
+broad_added before after tag picks head parts wide head_says made is sections unit base homes says =
+    is ∙ ap (λ (w : WideFields). before.dies ++ broad before.homes head w ∷ []) made
+    ∙ ap (λ (h : Homes). before.dies ++ broad h head (record { tag = tag; origin = parts.links.origin; spec = parts.links.spec; site = site_by picks }) ∷ []) homes
+    ∙ ap (λ (die : DieFields). before.dies ++ die ∷ []) (broad_die sections unit base tag picks head parts head_says says)
+
+-- a call that succeeded
+pub on_ok : {E : Type 0} {P Q : Type 0} (answer : Result (Prim.Unit {0}) E) → OnOk answer P → (P → Q) → OnOk answer Q
+on_ok (Ok done) is more = more is
+on_ok (Err fault) is more = tt
+
+pub broad_is : {E : Type 0} (answer : Result (Prim.Unit {0}) E) (before after : HeldEntries) (tag : ℕ) (picks : PickFields) (head : Head) (parts : Parts) (wide : WideFields) → IsHead head parts
+    → wide ≡ record { tag = tag; origin = parts.links.origin; spec = parts.links.spec; site = site_by picks }
+    → OnOk answer (after.dies ≡ before.dies ++ broad before.homes head wide ∷ []) → OnOk answer (IsAdded before after parts tag picks)
+broad_is answer before after tag picks head parts wide head_says made is = on_ok answer is (broad_added before after tag picks head parts wide head_says made)
+
+pub fit_is : {E : Type 0} (answer : Result Bool E) (before after : HeldEntries) (tag : ℕ) (picks : PickFields) (head : Head) (parts : Parts) → IsWhole head parts tag
+    → IfOk answer (λ fits. fits ≡ true → after.dies ≡ before.dies ++ slim before.homes head (site_by picks) ∷ []) → IfOk answer (λ fits. fits ≡ true → IsAdded before after parts tag picks)
+fit_is (Ok fits) before after tag picks head parts whole is = λ yes_fits. slim_is before after tag picks head parts whole (is yes_fits)
+fit_is (Err fault) before after tag picks head parts whole is = tt

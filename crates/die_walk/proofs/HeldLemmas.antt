@@ -1,6 +1,7 @@
--- For `text_at` and `text_where`: a text whose end is not looked for yet.
-use Rattle.std.proofs.Common.{◌≡◌, ◌<◌, ◌≤◌, ◌+◌, ◌-◌, ℕ, nat_eq, nat_lt, Bool, true, false, cond, List, length, drop, get_or, Option, None, Some, unwrap_or, refl, sym, ap, ◌∙◌, arith, position, not, take, length-drop}
+-- For `place_in` and `text_from`: a text whose end is not looked for yet.
+use Rattle.std.proofs.Common.{◌≡◌, ◌<◌, ◌≤◌, ◌+◌, ◌-◌, ℕ, nat_eq, nat_lt, Bool, true, false, cond, List, length, drop, get_or, Option, None, Some, unwrap_or, is_some, refl, sym, ap, ◌∙◌, arith, position, not, take, length-drop}
 use Rattle.std.specs.Option.{option_map}
+use Rattle.std.proofs.Math.ListN.{drop_of_length-le}
 use Rattle.std.specs.List.{position_or_len}
 use Rattle.std.proofs.lemmas.List.Sums.{prefix_len_passes}
 use Rattle.std.proofs.lemmas.Bool.{ltb-false}
@@ -10,14 +11,14 @@ use Rattle.leb_cursor.specs.Ahead.{Ahead}
 use Rattle.leb_cursor.specs.Texts.{front_text}
 use Rattle.leb_cursor.specs.Readings.{text_at, text_by}
 use Rattle.abbrev_units.specs.Texts.{ahead_from, read_or_none, text_in}
-use Rattle.die_walk.specs.internal.Packing.{IsClosed}
+use Rattle.die_walk.specs.internal.Heads.{IsClosed, text_from}
 
 -- the text at a place is the one in front of what stands there
 read_by : (c : Ahead) (text : Option (List ℕ)) → read_or_none (text_by c text) ≡ text
 read_by c (Some text) = refl
 read_by c None = refl
 
-text_is : (bytes : List ℕ) (place : ℕ) → text_in bytes place ≡ front_text (drop place bytes)
+pub text_is : (bytes : List ℕ) (place : ℕ) → text_in bytes place ≡ front_text (drop place bytes)
 unfolding text_in text_at
 text_is bytes place = read_by (ahead_from place bytes) (front_text (drop place bytes))
 
@@ -62,6 +63,26 @@ open_by : (bytes : List ℕ) (place : ℕ) (said_so : Bool) → IsClosed said_so
 open_by bytes place true last is there = behind bytes place last there
 open_by bytes place false last is there = absurd (grind (arith, is))
 
-pub open_text : (bytes : List ℕ) (place : ℕ) (said_so : Bool) → IsClosed said_so bytes → said_so ≡ true → place < length bytes → Some (unwrap_or (front_text (drop place bytes)) (drop place bytes)) ≡ text_in bytes place
+pub open_text : (bytes : List ℕ) (place : ℕ) (said_so : Bool) → IsClosed said_so bytes → said_so ≡ true → place < length bytes → text_in bytes place ≡ text_from bytes place
 open_text bytes place said_so last is there =
-    sym (text_is bytes place ∙ said (front_text (drop place bytes)) (drop place bytes) (open_by bytes place said_so last is there))
+    text_is bytes place ∙ said (front_text (drop place bytes)) (drop place bytes) (open_by bytes place said_so last is there)
+
+-- a text that is there, and a place without one
+pub here_text : (bytes : List ℕ) (place : ℕ) (found : Bool) → found ≡ is_some (text_in bytes place) → found ≡ true → text_in bytes place ≡ text_from bytes place
+here_text bytes place found is so =
+    text_is bytes place ∙ said (front_text (drop place bytes)) (drop place bytes) (there_of (front_text (drop place bytes)) (ap is_some (sym (text_is bytes place)) ∙ sym is ∙ so))
+  where
+    there_of : (x : Option (List ℕ)) → is_some x ≡ true → is_there x ≡ true
+    there_of (Some y) so = refl
+    there_of None so = absurd (grind (arith, so))
+
+pub no_text : (bytes : List ℕ) (place : ℕ) (found : Bool) → found ≡ is_some (text_in bytes place) → found ≡ false → text_in bytes place ≡ None
+no_text bytes place found is not_so = none_of (text_in bytes place) (sym is ∙ not_so)
+  where
+    none_of : (x : Option (List ℕ)) → is_some x ≡ false → x ≡ None
+    none_of (Some y) not_so = absurd (grind (arith, not_so))
+    none_of None not_so = refl
+
+pub past_text : (bytes : List ℕ) (place : ℕ) → length bytes ≤ place → text_in bytes place ≡ None
+unfolding front_text
+past_text bytes place past = text_is bytes place ∙ ap front_text (drop_of_length-le bytes past)

@@ -2,8 +2,7 @@ mod HeldLemmas
 mod FlagLemmas
 mod HeadLemmas
 mod ScopeLemmas
-mod TakeLemmas
-mod PickLemmas
+mod SameLemmas
 mod StepLemmas
 mod TreeLemmas
 pub mod WalkLemmas

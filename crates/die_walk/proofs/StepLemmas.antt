@@ -1,6 +1,7 @@
 -- Steps of the walk.
-use Rattle.std.proofs.Common.{◌≡◌, ℕ, Option, Bool, true, false, ◌||◌, nat_eq, List, [], ◌∷◌, ◌++◌, length, Result, Ok, Err, refl, sym, ap, ◌∙◌, arith}
+use Rattle.std.proofs.Common.{◌≡◌, ◌+◌, ◌-◌, ◌<◌, ◌≤◌, ◌^◌, Some, ℕ, Option, Bool, true, false, ◌||◌, nat_eq, cond, List, [], ◌∷◌, ◌++◌, length, length-append, Result, Ok, Err, OnOk, refl, sym, ap, ◌∙◌, arith}
 use Rattle.std.proofs.lemmas.Bool.{cond-true, cond-false}
+use Rattle.std.proofs.lemmas.Bool.Decides.{nat_tests}
 use Rattle.sym_edges.specs.Results.{◌>>=◌}
 use Rattle.sym_edges.specs.declared.fault.Stop.{Stop}
 use Rattle.sym_edges.specs.declared.fault.Stop.TheVariants.{Fault, NoMemory}
@@ -15,12 +16,12 @@ use Rattle.abbrev_units.specs.DebugSections.{DebugSections}
 use Rattle.abbrev_units.specs.Values.{values_at, behind_values, only_ahead}
 use Rattle.die_walk.specs.Marks.{value_fault, in_entry, read_values_at}
 use Rattle.abbrev_units.specs.KeptTags.{is_kept_tag}
-use Rattle.die_walk.specs.declared.picks.Picks.{Picks}
-use Rattle.die_walk.specs.Attributes.{first_of, text_in_entry}
-use Rattle.die_walk.specs.EntryTable.{die_of, root_of}
-use Rattle.die_walk.specs.Picking.{no_picks, picks_at, picks_of, die_by, root_by}
-use Rattle.die_walk.proofs.PickLemmas.{made_of, picks_are}
-use Rattle.die_walk.specs.Steps.{Walked, keeps, begun, begun_by, entered, entered_by, opened, own_number, moved, entering, entered_at, moving, moved_at, Moves}
+use Rattle.abbrev_units.specs.Picks.{PickFields, no_picks, picks_of, picks_at, with_picks}
+use Rattle.abbrev_units.specs.Attributes.{first_of, text_in_entry}
+use Rattle.die_walk.specs.EntryTable.{DieFields, RootFields, base_of, die_of, root_of}
+use Rattle.die_walk.specs.Picking.{base_by, die_by, root_by}
+use Rattle.die_walk.proofs.SameLemmas.{base_same, die_same, root_same}
+use Rattle.die_walk.specs.Steps.{Walked, innermost, kept_at, keeps, begun, begun_by, added, added_by, entered, entered_by, opened, own_number, moved, entering, entered_at, moving, moved_at, Moves}
 
 -- a member after none
 pub first_alone : {X : Type 0} (xs : List X) (x : X) → length xs ≡ 0 → xs ++ x ∷ [] ≡ x ∷ []
@@ -53,24 +54,43 @@ pub passed_refused : (sections : DebugSections) (unit : Unit) (w : Walked) (at :
 unfolding entered_at read_values_at behind_values
 passed_refused sections unit w at found c fault is = refused_by sections unit w at found.tag (values_at found.specs c) fault is
 
-abbrev pick_ahead : Ahead → Result (Picks × Ahead) FormFault → Ahead
-pick_ahead other (Ok x) = x.1
-pick_ahead other (Err fault) = other
-
-abbrev pick_or : Picks → Result (Picks × Ahead) FormFault → Picks
-pick_or other (Ok x) = x.0
-pick_or other (Err fault) = other
+pub passed_by : (sections : DebugSections) (unit : Unit) (w : Walked) (at : ℕ) (found : Abbrev) (c d : Ahead) → nat_eq (length w.dies) 0 ≡ false → is_kept_tag found.tag ≡ false → behind_values found.specs c ≡ Ok d → entered_at sections unit w at found c ≡ Ok (w, d)
+passed_by sections unit w at found c d later unkept_tag is =
+    passed_over sections unit w at found c d (ap (λ b. b || is_kept_tag found.tag) later ∙ unkept_tag) (sym is)
 
 -- what is picked is what the list of values gives
 entered_same : (sections : DebugSections) (unit : Unit) (w : Walked) (at tag : ℕ) (values : List Given) → entered_by sections unit w at tag (picks_of values) ≡ entered sections unit w at tag values
-unfolding entered_by entered die_by root_by die_of root_of text_in_entry
-entered_same sections unit w at tag values = refl
+unfolding entered_by entered
+entered_same sections unit w at tag values =
+    ap (λ (first : Walked). cond (nat_eq (length w.dies) 0) first (cond (is_kept_tag tag) (added_by sections unit w at tag (picks_of values)) w))
+    (ap (λ (base : Option ℕ). record w { dies = die_by sections unit base at (innermost w.open_levels) tag (picks_of values) ∷ []; root = root_by sections unit at (picks_of values) }) (base_same sections unit values)
+    ∙ ap (λ (die : DieFields). record w { dies = die ∷ []; root = root_by sections unit at (picks_of values) }) (die_same sections unit (base_of values) at (innermost w.open_levels) tag values)
+    ∙ ap (λ (root : RootFields). record w { dies = die_of sections unit (base_of values) (kept_at at (innermost w.open_levels) tag values) ∷ []; root = root }) (root_same sections unit at values))
+    ∙ ap (λ (die : DieFields). cond (nat_eq (length w.dies) 0) (begun sections unit w at tag values) (cond (is_kept_tag tag) (record w { dies = w.dies ++ die ∷ [] }) w))
+    (die_same sections unit w.root.str_offsets_base at (innermost w.open_levels) tag values)
+
+-- the first entry, once the root is known
+pub begun_is : {E : Type 0} (answer : Result (Prim.Unit {0}) E) (sections : DebugSections) (unit : Unit) (w v : Walked) (root : RootFields) (at tag : ℕ) (picks : PickFields) → length w.dies ≡ 0 → root ≡ root_by sections unit at picks → OnOk answer (v ≡ added_by sections unit (record w { root = root }) at tag picks) → OnOk answer (v ≡ begun_by sections unit w at tag picks)
+unfolding root_by
+begun_is (Err fault) sections unit w v root at tag picks none is added = tt
+begun_is (Ok done) sections unit w v root at tag picks none is added =
+    added ∙ ap (λ (r : RootFields). added_by sections unit (record w { root = r }) at tag picks) is
+    ∙ ap (λ (dies : List DieFields). record w { dies = dies; root = root_by sections unit at picks }) (first_alone w.dies (die_by sections unit (base_by picks) at (innermost w.open_levels) tag picks) none)
 
 pub begun_none : (sections : DebugSections) (unit : Unit) (w : Walked) (at tag : ℕ) → begun_by sections unit w at tag no_picks ≡ begun sections unit w at tag []
 unfolding die_by root_by die_of root_of text_in_entry first_of
 begun_none sections unit w at tag = refl
 
-taken_by : (sections : DebugSections) (unit : Unit) (w v : Walked) (at : ℕ) (found : Abbrev) (picks : Picks) (reading : Result (List Given × Ahead) FormFault) (d : Ahead) → (reading >>= made_of []) ≡ Ok (picks, d) → v ≡ entered_by sections unit w at found.tag picks → (in_entry reading >>= entering sections unit w at found.tag) ≡ Ok (v, d)
+-- the parts of a reading of picks
+abbrev pick_ahead : Ahead → Result (PickFields × Ahead) FormFault → Ahead
+pick_ahead other (Ok x) = x.1
+pick_ahead other (Err fault) = other
+
+abbrev pick_or : PickFields → Result (PickFields × Ahead) FormFault → PickFields
+pick_or other (Ok x) = x.0
+pick_or other (Err fault) = other
+
+taken_by : (sections : DebugSections) (unit : Unit) (w v : Walked) (at : ℕ) (found : Abbrev) (picks : PickFields) (reading : Result (List Given × Ahead) FormFault) (d : Ahead) → with_picks reading ≡ Ok (picks, d) → v ≡ entered_by sections unit w at found.tag picks → (in_entry reading >>= entering sections unit w at found.tag) ≡ Ok (v, d)
 taken_by sections unit w v at found picks (Ok values) d is after =
     let there : values.1 ≡ d = ap (pick_ahead d) is in
     let same : picks_of values.0 ≡ picks = ap (pick_or picks) is in
@@ -78,19 +98,19 @@ taken_by sections unit w v at found picks (Ok values) d is after =
     ∙ ap (λ (c : Ahead). Ok (v, c)) there
 taken_by sections unit w v at found picks (Err fault) d is after = absurd (grind (arith, is))
 
-pub taken : (sections : DebugSections) (unit : Unit) (w v : Walked) (at : ℕ) (found : Abbrev) (picks : Picks) (c d : Ahead) → Ok (picks, d) ≡ picks_at no_picks found.specs c → v ≡ entered_by sections unit w at found.tag picks → entered_at sections unit w at found c ≡ Ok (v, d)
-unfolding entered_at read_values_at first_of
+pub taken : (sections : DebugSections) (unit : Unit) (w v : Walked) (at : ℕ) (found : Abbrev) (picks : PickFields) (c d : Ahead) → picks_at found.specs c ≡ Ok (picks, d) → v ≡ entered_by sections unit w at found.tag picks → entered_at sections unit w at found c ≡ Ok (v, d)
+unfolding entered_at read_values_at picks_at
 taken sections unit w v at found picks c d read is =
-    taken_by sections unit w v at found picks (values_at found.specs c) d (sym (picks_are found.specs [] c) ∙ sym read) is
+    taken_by sections unit w v at found picks (values_at found.specs c) d read is
 
-taken_refused_by : (sections : DebugSections) (unit : Unit) (w : Walked) (at : ℕ) (found : Abbrev) (reading : Result (List Given × Ahead) FormFault) (fault : FormFault) → (reading >>= made_of []) ≡ Err fault → (in_entry reading >>= entering sections unit w at found.tag) ≡ Err (value_fault fault)
+taken_refused_by : (sections : DebugSections) (unit : Unit) (w : Walked) (at : ℕ) (found : Abbrev) (reading : Result (List Given × Ahead) FormFault) (fault : FormFault) → with_picks reading ≡ Err fault → (in_entry reading >>= entering sections unit w at found.tag) ≡ Err (value_fault fault)
 taken_refused_by sections unit w at found (Ok values) fault is = absurd (grind (arith, is))
 taken_refused_by sections unit w at found (Err other) fault is = let same : other ≡ fault = cc in ap (λ f. Err (value_fault f)) same
 
-pub taken_refused : (sections : DebugSections) (unit : Unit) (w : Walked) (at : ℕ) (found : Abbrev) (c : Ahead) (fault : FormFault) → Err fault ≡ picks_at no_picks found.specs c → entered_at sections unit w at found c ≡ Err (value_fault fault)
-unfolding entered_at read_values_at first_of
+pub taken_refused : (sections : DebugSections) (unit : Unit) (w : Walked) (at : ℕ) (found : Abbrev) (c : Ahead) (fault : FormFault) → Err fault ≡ picks_at found.specs c → entered_at sections unit w at found c ≡ Err (value_fault fault)
+unfolding entered_at read_values_at picks_at
 taken_refused sections unit w at found c fault read =
-    taken_refused_by sections unit w at found (values_at found.specs c) fault (sym (picks_are found.specs [] c) ∙ sym read)
+    taken_refused_by sections unit w at found (values_at found.specs c) fault (sym read)
 
 -- the parts of an answer
 abbrev walked_or : Walked → Result (Walked × Ahead) (Located DwarfKind) → Walked
@@ -133,7 +153,48 @@ unfolding entered_at moved_at
 moved_refused sections unit w v at found (Fault fault) c d is = moved_refused_by sections unit w at found (read_values_at found.specs c) fault is
 moved_refused sections unit w v at found NoMemory c d is = tt
 
--- an entry without children
-pub moved_alone : (sections : DebugSections) (unit : Unit) (w v : Walked) (at : ℕ) (found : Abbrev) (answer : Result (Prim.Unit {0}) (Stop (Located DwarfKind))) (c d : Ahead) → Moves answer v d (entered_at sections unit w at found c) → found.children ≡ false → Moves answer v d (moved_at sections unit w at found c)
-moved_alone sections unit w v at found (Ok done) c d is none = moved_plain sections unit w v at found c d is none
-moved_alone sections unit w v at found (Err stop) c d is none = moved_refused sections unit w v at found stop c d is
+-- what an entry adds
+pub record Grows (w v : Walked) (tag : ℕ) : Type 0 where
+  pub dies : length v.dies ≡ length w.dies + cond (keeps w tag) 1 0
+  pub levels : v.open_levels ≡ w.open_levels
+
+grows_by : (sections : DebugSections) (unit : Unit) (w : Walked) (at tag : ℕ) (values : List Given) (first kept : Bool) → nat_eq (length w.dies) 0 ≡ first
+    → (length (cond first (begun sections unit w at tag values) (cond kept (added sections unit w at tag values) w)).dies ≡ length w.dies + cond (first || kept) 1 0)
+    × ((cond first (begun sections unit w at tag values) (cond kept (added sections unit w at tag values) w)).open_levels ≡ w.open_levels)
+grows_by sections unit w at tag values true kept one =
+    let none : length w.dies ≡ 0 = grind (arith, nat_tests, one) in
+    (omega (arith, none), refl)
+grows_by sections unit w at tag values false true one = (length-append w.dies _, refl)
+grows_by sections unit w at tag values false false one = (omega arith, refl)
+
+entry_grows : (sections : DebugSections) (unit : Unit) (w v : Walked) (at tag : ℕ) (reading : Result (List Given × Ahead) (Located DwarfKind)) (d : Ahead) → (reading >>= entering sections unit w at tag) ≡ Ok (v, d) → Grows w v tag
+unfolding entered
+entry_grows sections unit w v at tag (Ok values) d is =
+    let same : entered sections unit w at tag values.0 ≡ v = ap (walked_or v) is in
+    let both = grows_by sections unit w at tag values.0 (nat_eq (length w.dies) 0) (is_kept_tag tag) refl in
+    record { dies = ap (λ (x : Walked). length x.dies) (sym same) ∙ both.0; levels = ap (λ (x : Walked). x.open_levels) (sym same) ∙ both.1 }
+entry_grows sections unit w v at tag (Err fault) d is = absurd (grind (arith, is))
+
+pub taken_grows : (sections : DebugSections) (unit : Unit) (w v : Walked) (at : ℕ) (found : Abbrev) (c d : Ahead) → entered_at sections unit w at found c ≡ Ok (v, d) → Grows w v found.tag
+unfolding entered_at
+taken_grows sections unit w v at found c d is = entry_grows sections unit w v at found.tag (read_values_at found.specs c) d is
+
+few_by : (kept : Bool) (w v : Walked) → length v.dies ≡ length w.dies + cond kept 1 0 → kept ≡ true → length w.dies < 2 ^ 32 → (1 ≤ length v.dies) × (length v.dies ≤ 2 ^ 32)
+few_by true w v is so few = (omega (arith, is), omega (arith, is, few))
+few_by false w v is so few = absurd (grind (arith, so))
+
+pub kept_few : (sections : DebugSections) (unit : Unit) (w v : Walked) (at : ℕ) (found : Abbrev) (c d : Ahead) (kept : Bool) → entered_at sections unit w at found c ≡ Ok (v, d) → kept ≡ keeps w found.tag → length w.dies < 2 ^ 32 → kept ≡ true → (1 ≤ length v.dies) × (length v.dies ≤ 2 ^ 32)
+kept_few sections unit w v at found c d kept is says few so =
+    few_by kept w v ((taken_grows sections unit w v at found c d is).dies ∙ ap (λ b. length w.dies + cond b 1 0) (sym says)) so few
+
+own_by : (kept : Bool) (w v : Walked) → length v.dies ≡ length w.dies + cond kept 1 0 → v.open_levels ≡ w.open_levels → cond kept (Some (length v.dies - 1)) (innermost v.open_levels) ≡ cond kept (Some (length w.dies)) (innermost w.open_levels)
+own_by true w v dies levels =
+    let same : length v.dies - 1 ≡ length w.dies = omega (arith, dies) in
+    ap Some same
+own_by false w v dies levels = ap innermost levels
+
+pub own_is : (sections : DebugSections) (unit : Unit) (w v : Walked) (at : ℕ) (found : Abbrev) (c d : Ahead) (kept : Bool) → entered_at sections unit w at found c ≡ Ok (v, d) → kept ≡ keeps w found.tag → cond kept (Some (length v.dies - 1)) (innermost v.open_levels) ≡ own_number w found.tag
+own_is sections unit w v at found c d kept is says =
+    let grows = taken_grows sections unit w v at found c d is in
+    own_by kept w v (grows.dies ∙ ap (λ b. length w.dies + cond b 1 0) (sym says)) grows.levels
+    ∙ ap (λ b. cond b (Some (length w.dies)) (innermost w.open_levels)) says

@@ -12,7 +12,7 @@ use Rattle.die_walk.specs.Marks.Mark.{Close, Entry}
 use Rattle.abbrev_units.specs.KeptTags.{is_kept_tag}
 use Rattle.die_walk.specs.EntryTree.{Item, items_from, kept_count, ancestor, kept_from}
 use Rattle.die_walk.specs.EntryTable.{DieFields, RootFields, EntryTable, base_of, die_of, root_of, table_by, table_of}
-use Rattle.die_walk.specs.Steps.{Walked, kept_at, innermost, keeps, begun, added, entered, opened, own_number, moved, all_moved, rounded, table_in}
+use Rattle.die_walk.specs.Steps.{Owned, Walked, kept_at, innermost, keeps, begun, added, entered, opened, own_number, moved, all_moved, rounded, table_in}
 
 -- a state holds the kept ones among earlier entries, and around what comes next so many lists are open
 pub record Holds (w : Walked) (earlier : List Item) (depth : ℕ) : Type 0 where
@@ -182,8 +182,8 @@ run_is sections unit (Entry at tag children values ∷ marks) w before earlier d
     ∙ taken_is sections unit w item before earlier (items_from (cond children (depth + 1) depth) marks) (is_kept_tag tag) refl inner
 
 -- a walk begins with nothing
-abbrev pub started : RootFields → List ℕ → Walked
-started root strs = record { dies = []; root = root; open_levels = []; strs = strs }
+abbrev pub started : RootFields → Owned → Walked
+started root own = record { dies = []; root = root; open_levels = []; own = own }
 
 rounded_is : (sections : DebugSections) (unit : Unit) (w : Walked) (die : DieFields) (dies : List DieFields) → w.dies ≡ die ∷ dies → rounded sections unit w ≡ w
 unfolding rounded
@@ -197,35 +197,35 @@ unfolding kept_count ancestor
 first_level at tag values zero below = refl
 first_level at tag values (suc k) below = absurd (omega (arith, below))
 
-first_holds : (sections : DebugSections) (unit : Unit) (root : RootFields) (strs : List ℕ) (at tag : ℕ) (values : List Given) (children : Bool) → Holds (opened (begun sections unit (started root strs) at tag values) children (Some 0)) (record { at = at; depth = 0; tag = tag; values = values } ∷ []) (cond children (0 + 1) 0)
+first_holds : (sections : DebugSections) (unit : Unit) (root : RootFields) (own : Owned) (at tag : ℕ) (values : List Given) (children : Bool) → Holds (opened (begun sections unit (started root own) at tag values) children (Some 0)) (record { at = at; depth = 0; tag = tag; values = values } ∷ []) (cond children (0 + 1) 0)
 unfolding kept_count ancestor
-first_holds sections unit root strs at tag values true = record { count = refl; levels = refl; each = first_level at tag values }
-first_holds sections unit root strs at tag values false = record { count = refl; levels = refl; each = λ k below. absurd (omega (arith, below)) }
+first_holds sections unit root own at tag values true = record { count = refl; levels = refl; each = first_level at tag values }
+first_holds sections unit root own at tag values false = record { count = refl; levels = refl; each = λ k below. absurd (omega (arith, below)) }
 
-first_dies : (sections : DebugSections) (unit : Unit) (root : RootFields) (strs : List ℕ) (at tag : ℕ) (values : List Given) (children : Bool) (later : List DieFields) → (opened (begun sections unit (started root strs) at tag values) children (Some 0)).dies ++ later ≡ die_of sections unit (base_of values) (kept_at at None tag values) ∷ later
-first_dies sections unit root strs at tag values true later = refl
-first_dies sections unit root strs at tag values false later = refl
+first_dies : (sections : DebugSections) (unit : Unit) (root : RootFields) (own : Owned) (at tag : ℕ) (values : List Given) (children : Bool) (later : List DieFields) → (opened (begun sections unit (started root own) at tag values) children (Some 0)).dies ++ later ≡ die_of sections unit (base_of values) (kept_at at None tag values) ∷ later
+first_dies sections unit root own at tag values true later = refl
+first_dies sections unit root own at tag values false later = refl
 
-first_table : (sections : DebugSections) (unit : Unit) (root : RootFields) (strs : List ℕ) (at tag : ℕ) (values : List Given) (children : Bool) (items : List Item) → behind_state sections unit (opened (begun sections unit (started root strs) at tag values) children (Some 0)) (record { at = at; depth = 0; tag = tag; values = values } ∷ []) items ≡ table_by sections unit (record { at = at; depth = 0; tag = tag; values = values } ∷ items)
+first_table : (sections : DebugSections) (unit : Unit) (root : RootFields) (own : Owned) (at tag : ℕ) (values : List Given) (children : Bool) (items : List Item) → behind_state sections unit (opened (begun sections unit (started root own) at tag values) children (Some 0)) (record { at = at; depth = 0; tag = tag; values = values } ∷ []) items ≡ table_by sections unit (record { at = at; depth = 0; tag = tag; values = values } ∷ items)
 unfolding kept_from ancestor die_of root_of
-first_table sections unit root strs at tag values true items = refl
-first_table sections unit root strs at tag values false items = refl
+first_table sections unit root own at tag values true items = refl
+first_table sections unit root own at tag values false items = refl
 
 -- the whole walk
-pub start_is : (sections : DebugSections) (unit : Unit) (marks : List Mark) (root : RootFields) (strs : List ℕ) → table_in (rounded sections unit (all_moved sections unit (started root strs) marks)) ≡ table_of sections unit marks
+pub start_is : (sections : DebugSections) (unit : Unit) (marks : List Mark) (root : RootFields) (own : Owned) → table_in (rounded sections unit (all_moved sections unit (started root own) marks)) ≡ table_of sections unit marks
 unfolding all_moved moved entered rounded items_from kept_from ancestor die_of root_of table_of
-start_is sections unit [] root strs = refl
-start_is sections unit (Close ∷ marks) root strs = start_is sections unit marks root strs
-start_is sections unit (Entry at tag children values ∷ marks) root strs =
+start_is sections unit [] root own = refl
+start_is sections unit (Close ∷ marks) root own = start_is sections unit marks root own
+start_is sections unit (Entry at tag children values ∷ marks) root own =
     let item : Item = record { at = at; depth = 0; tag = tag; values = values } in
-    let w : Walked = opened (begun sections unit (started root strs) at tag values) children (Some 0) in
+    let w : Walked = opened (begun sections unit (started root own) at tag values) children (Some 0) in
     let items : List Item = items_from (cond children (0 + 1) 0) marks in
-    let whole : table_in (all_moved sections unit w marks) ≡ behind_state sections unit w (item ∷ []) items = run_is sections unit marks w item [] (cond children (0 + 1) 0) (first_holds sections unit root strs at tag values children) in
+    let whole : table_in (all_moved sections unit w marks) ≡ behind_state sections unit w (item ∷ []) items = run_is sections unit marks w item [] (cond children (0 + 1) 0) (first_holds sections unit root own at tag values children) in
     let later : List DieFields = map (die_of sections unit w.root.str_offsets_base) (kept_from (item ∷ []) items) in
-    let some : (all_moved sections unit w marks).dies ≡ die_of sections unit (base_of values) (kept_at at None tag values) ∷ later = ap (λ (table : EntryTable). table.dies) whole ∙ first_dies sections unit root strs at tag values children later in
+    let some : (all_moved sections unit w marks).dies ≡ die_of sections unit (base_of values) (kept_at at None tag values) ∷ later = ap (λ (table : EntryTable). table.dies) whole ∙ first_dies sections unit root own at tag values children later in
     ap table_in (rounded_is sections unit (all_moved sections unit w marks) (die_of sections unit (base_of values) (kept_at at None tag values)) later some)
     ∙ whole
-    ∙ first_table sections unit root strs at tag values children items
+    ∙ first_table sections unit root own at tag values children items
 
 -- a mark adds one kept entry at most
 entered_few : (sections : DebugSections) (unit : Unit) (w : Walked) (at tag : ℕ) (values : List Given) (first kept : Bool) → length (cond first (begun sections unit w at tag values) (cond kept (added sections unit w at tag values) w)).dies ≤ length w.dies + 1

@@ -223,6 +223,34 @@ walked_stopped sections unit abbrevs w x c d (Fault fault) want so_far steps =
     sym so_far ∙ refused_by sections unit abbrevs w c fault (next_mark abbrevs c) refl steps
 walked_stopped sections unit abbrevs w x c d NoMemory want so_far steps = tt
 
+-- no step changes what is walked over
+opened_own : (w : Walked) (children : Bool) (own : Option ℕ) → (opened w children own).own ≡ w.own
+opened_own w true own = refl
+opened_own w false own = refl
+
+entered_own : (sections : DebugSections) (unit : Unit) (w : Walked) (at tag : ℕ) (values : List Given) (first kept : Bool) → (cond first (begun sections unit w at tag values) (cond kept (added sections unit w at tag values) w)).own ≡ w.own
+entered_own sections unit w at tag values true kept = refl
+entered_own sections unit w at tag values false true = refl
+entered_own sections unit w at tag values false false = refl
+
+moved_own : (sections : DebugSections) (unit : Unit) (w : Walked) (mark : Mark) → (moved sections unit w mark).own ≡ w.own
+unfolding moved entered
+moved_own sections unit w Close = refl
+moved_own sections unit w (Entry at tag children values) =
+    opened_own (entered sections unit w at tag values) children (own_number w tag)
+    ∙ entered_own sections unit w at tag values (nat_eq (length w.dies) 0) (is_kept_tag tag)
+
+own_by : (sections : DebugSections) (unit : Unit) (w x : Walked) (d : Ahead) (next : Result (Option Mark × Ahead) (Located DwarfKind)) → (next >>= stepping sections unit w) ≡ Ok (Some x, d) → x.own ≡ w.own
+own_by sections unit w x d (Ok (Some mark, e)) steps =
+    let after : moved sections unit w mark ≡ x = ap (step_walked x) steps in
+    ap (λ (y : Walked). y.own) (sym after) ∙ moved_own sections unit w mark
+own_by sections unit w x d (Ok (None, e)) steps = absurd (subst HasStep (sym steps) tt)
+own_by sections unit w x d (Err fault) steps = absurd (subst HasStep (sym steps) tt)
+
+pub step_own : (sections : DebugSections) (unit : Unit) (abbrevs : List Abbrev) (w x : Walked) (c d : Ahead) → step_at sections unit abbrevs w c ≡ Ok (Some x, d) → x.own ≡ w.own
+unfolding step_at
+step_own sections unit abbrevs w x c d steps = own_by sections unit w x d (next_mark abbrevs c) steps
+
 -- places stay small, and fewer bytes are left after a step
 short_by : (sections : DebugSections) (unit : Unit) (w x : Walked) (c d : Ahead) (next : Result (Option Mark × Ahead) (Located DwarfKind)) → GoesOn c next → (next >>= stepping sections unit w) ≡ Ok (Some x, d) → IsShort (length w.dies) c → IsShort (length x.dies) d × (length d.bytes < length c.bytes)
 short_by sections unit w x c d (Ok (Some mark, e)) goes steps short =
@@ -243,39 +271,11 @@ pub step_shorter : (sections : DebugSections) (unit : Unit) (abbrevs : List Abbr
 unfolding step_at
 step_shorter sections unit abbrevs w x c d steps short = (short_by sections unit w x c d (next_mark abbrevs c) (next_goes abbrevs c) steps short).1
 
--- no step takes names from another section
-opened_strs : (w : Walked) (children : Bool) (own : Option ℕ) → (opened w children own).strs ≡ w.strs
-opened_strs w true own = refl
-opened_strs w false own = refl
-
-entered_strs : (sections : DebugSections) (unit : Unit) (w : Walked) (at tag : ℕ) (values : List Given) (first kept : Bool) → (cond first (begun sections unit w at tag values) (cond kept (added sections unit w at tag values) w)).strs ≡ w.strs
-entered_strs sections unit w at tag values true kept = refl
-entered_strs sections unit w at tag values false true = refl
-entered_strs sections unit w at tag values false false = refl
-
-moved_strs : (sections : DebugSections) (unit : Unit) (w : Walked) (mark : Mark) → (moved sections unit w mark).strs ≡ w.strs
-unfolding moved entered
-moved_strs sections unit w Close = refl
-moved_strs sections unit w (Entry at tag children values) =
-    opened_strs (entered sections unit w at tag values) children (own_number w tag)
-    ∙ entered_strs sections unit w at tag values (nat_eq (length w.dies) 0) (is_kept_tag tag)
-
-strs_by : (sections : DebugSections) (unit : Unit) (w x : Walked) (d : Ahead) (next : Result (Option Mark × Ahead) (Located DwarfKind)) → (next >>= stepping sections unit w) ≡ Ok (Some x, d) → x.strs ≡ w.strs
-strs_by sections unit w x d (Ok (Some mark, e)) steps =
-    let after : moved sections unit w mark ≡ x = ap (step_walked x) steps in
-    ap (λ (y : Walked). y.strs) (sym after) ∙ moved_strs sections unit w mark
-strs_by sections unit w x d (Ok (None, e)) steps = absurd (subst HasStep (sym steps) tt)
-strs_by sections unit w x d (Err fault) steps = absurd (subst HasStep (sym steps) tt)
-
-pub step_strs : (sections : DebugSections) (unit : Unit) (abbrevs : List Abbrev) (w x : Walked) (c d : Ahead) → step_at sections unit abbrevs w c ≡ Ok (Some x, d) → x.strs ≡ w.strs
-unfolding step_at
-step_strs sections unit abbrevs w x c d steps = strs_by sections unit w x d (next_mark abbrevs c) steps
-
 start_by : (sections : DebugSections) (unit : Unit) (w : Walked) (marks : Result (List Mark) (Located DwarfKind)) → w.dies ≡ [] → w.open_levels ≡ [] → (marks >>= λ m. Ok (table_in (rounded sections unit (all_moved sections unit w m)))) ≡ (marks >>= λ m. Ok (table_of sections unit m))
 start_by sections unit w (Ok marks) dies levels =
-    ap Ok (ap (λ (d : List DieFields). table_in (rounded sections unit (all_moved sections unit (record { dies = d; root = w.root; open_levels = w.open_levels; strs = w.strs }) marks))) dies
-    ∙ ap (λ (l : List (Option ℕ)). table_in (rounded sections unit (all_moved sections unit (record { dies = []; root = w.root; open_levels = l; strs = w.strs }) marks))) levels
-    ∙ start_is sections unit marks w.root w.strs)
+    ap Ok (ap (λ (d : List DieFields). table_in (rounded sections unit (all_moved sections unit (record { dies = d; root = w.root; open_levels = w.open_levels; own = w.own }) marks))) dies
+    ∙ ap (λ (l : List (Option ℕ)). table_in (rounded sections unit (all_moved sections unit (record { dies = []; root = w.root; open_levels = l; own = w.own }) marks))) levels
+    ∙ start_is sections unit marks w.root w.own)
 start_by sections unit w (Err fault) dies levels = refl
 
 -- the walk begins where the entries of the unit begin

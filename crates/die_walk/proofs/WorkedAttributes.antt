@@ -13,7 +13,7 @@ use Rattle.die_walk.proofs.Computing.{die_walk_computes}
 unfoldable sections : DebugSections
 unfolding hex
 sections = record {
-  info = codes "defghijk";
+  info = hex "6465666768 00 6a6b";
   abbrevs = [];
   line = [];
   line_str = [];
@@ -143,7 +143,7 @@ name : (die (given 0x03 (value.StrAt 0) ∷ [])).name ≡ Some (codes "ab")
 unfolding die_walk_computes die unit sections
 name = refl
 
-name_in_place : (die (given 0x03 (value.InlineText 2 3) ∷ [])).name ≡ Some (codes "fgh")
+name_in_place : (die (given 0x03 (value.InlineText 2) ∷ [])).name ≡ Some (codes "fgh")
 unfolding die_walk_computes die unit sections
 name_in_place = refl
 

@@ -11,7 +11,7 @@ use Rattle.abbrev_units.specs.DebugSections.{DebugSections}
 use Rattle.abbrev_units.specs.declared.value.Given.{Given}
 use Rattle.die_walk.specs.Marks.{Mark, marks_at}
 use Rattle.die_walk.specs.EntryTree.{Item, Kept, items_from, kept_from, rooted}
-use Rattle.die_walk.specs.Attributes.{first_of, picked, as_low, as_high, as_ranges, as_place, as_reference, as_flag, as_number, is_elsewhere, is_yes, line_of, or_else, text_in_entry}
+use Rattle.abbrev_units.specs.Attributes.{first_of, picked, as_low, as_high, as_ranges, as_place, as_reference, as_flag, as_number, is_elsewhere, is_yes, line_of, or_else, text_in_entry}
 
 -- a kept entry: `parent` is the number of its nearest kept ancestor, and `name_elsewhere` says that its name stands in another file
 pub record DieFields : Type 0 where

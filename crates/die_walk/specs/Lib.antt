@@ -1,6 +1,5 @@
 pub mod Marks
 pub mod EntryTree
-pub mod Attributes
 pub mod EntryTable
 pub mod EntryPlaces
 pub mod EntryKinds

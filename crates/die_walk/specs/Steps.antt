@@ -15,7 +15,7 @@ use Rattle.abbrev_units.specs.KeptTags.{is_kept_tag}
 use Rattle.die_walk.specs.Marks.{Mark, read_values_at, next_mark, marks_at}
 use Rattle.die_walk.specs.Marks.Mark.{Close, Entry}
 use Rattle.die_walk.specs.EntryTree.{Item, Kept}
-use Rattle.die_walk.specs.declared.picks.Picks.{Picks}
+use Rattle.abbrev_units.specs.Picks.{PickFields}
 use Rattle.die_walk.specs.Picking.{base_by, die_by, root_by}
 use Rattle.die_walk.specs.EntryTable.{DieFields, RootFields, EntryTable, base_of, die_of, root_of}
 
@@ -26,13 +26,18 @@ kept_at at parent tag values = record { item = record { at = at; depth = 0; tag 
 abbrev pub root_at : ℕ → List Given → Item
 root_at at values = record { at = at; depth = 0; tag = 0; values = values }
 
--- the kept entries so far, what the root said, for each open list of children the number of the nearest kept entry around it, and the
--- section that has their names
+-- what a walk goes over
+pub record Owned : Type 0 where
+  pub sections : DebugSections
+  pub unit : Unit
+
+-- the kept entries so far, what the root said, for each open list of children the number of the nearest kept entry around it, and what the
+-- walk goes over
 pub record Walked : Type 0 where
   pub dies : List DieFields
   pub root : RootFields
   pub open_levels : List (Option ℕ)
-  pub strs : List ℕ
+  pub own : Owned
 
 -- the innermost of them
 abbrev pub innermost : List (Option ℕ) → Option ℕ
@@ -61,18 +66,18 @@ entered sections unit w at tag values =
     if is_kept_tag tag then added sections unit w at tag values else w
 
 -- the same from what was picked
-abbrev pub begun_by : DebugSections → Unit → Walked → ℕ → ℕ → Picks → Walked
+abbrev pub begun_by : DebugSections → Unit → Walked → ℕ → ℕ → PickFields → Walked
 begun_by sections unit w at tag picks = record w {
   dies = die_by sections unit (base_by picks) at (innermost w.open_levels) tag picks ∷ [];
   root = root_by sections unit at picks;
 }
 
-abbrev pub added_by : DebugSections → Unit → Walked → ℕ → ℕ → Picks → Walked
+abbrev pub added_by : DebugSections → Unit → Walked → ℕ → ℕ → PickFields → Walked
 added_by sections unit w at tag picks = record w {
   dies = w.dies ++ die_by sections unit w.root.str_offsets_base at (innermost w.open_levels) tag picks ∷ [];
 }
 
-unfoldable pub entered_by : DebugSections → Unit → Walked → ℕ → ℕ → Picks → Walked
+unfoldable pub entered_by : DebugSections → Unit → Walked → ℕ → ℕ → PickFields → Walked
 entered_by sections unit w at tag picks =
     if length w.dies == 0 then begun_by sections unit w at tag picks else
     if is_kept_tag tag then added_by sections unit w at tag picks else w

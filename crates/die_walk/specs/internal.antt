@@ -1,5 +1,4 @@
 -- What serves the functions and loops of the crate alone: no public clause cites it.
-pub mod Packing
 pub mod Sites
 pub mod Heads
 pub mod Near

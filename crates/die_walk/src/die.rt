@@ -1,12 +1,13 @@
 //! Kept entries.
-ghost use Rattle.std.specs.Prelude.{◌≡◌, is_some, drop};
+ghost use Rattle.std.specs.Prelude.{◌≡◌, ◌==◌, ℕ, Some, is_some, drop};
 ghost use Rattle.std.specs.Option.{option_copied};
 ghost use Rattle.die_walk.specs.EntryKinds.{is_function, is_inlined, is_scope};
-ghost use Rattle.die_walk.specs.internal.Heads.{held_in, origin_said, spec_said, place_said};
+ghost use Rattle.abbrev_units.specs.Picks.{value_in};
+ghost use Rattle.die_walk.specs.internal.Sites.{Homes};
+ghost use Rattle.die_walk.specs.internal.Heads.{held_in, link_of, text_from, text_at_home, where_said};
 
-use crate::heads::{DieParts, Head, Link, site_of, whole_of};
-use crate::texts::{Ending, text_where};
-use abbrev_units::Value;
+use crate::heads::{DieParts, Head, Home, ORIGIN, SPECIFICATION, Texts, site_of, wide_of};
+use abbrev_units::{Class, Pick, Value, text_in};
 use code_table::{
     DW_TAG_class_type, DW_TAG_inlined_subroutine, DW_TAG_namespace, DW_TAG_structure_type,
     DW_TAG_subprogram, DW_TAG_union_type,
@@ -27,58 +28,78 @@ impl<'t, 'a> Model for Die<'t, 'a> {
 
     ghost Value = { DieFields };
 
-    ghost view = { λ d. held_in d.parts.now.strs.now d.parts.now.sites.items d.parts.now.wholes.items d.head.now };
-}
-
-/// The target, where it is the origin.
-#[inline]
-fn origin_of(head: &Head) -> Option<u64>
-    ensures { result ≡ origin_said head.now.link head.now.target }
-{
-    match head.link {
-        Link::Origin => Some(u64::from(head.target)),
-        Link::Missing | Link::Spec => None,
-    }
-}
-
-/// The target, where it is the declaration.
-#[inline]
-fn spec_of(head: &Head) -> Option<u64>
-    ensures { result ≡ spec_said head.now.link head.now.target }
-{
-    match head.link {
-        Link::Spec => Some(u64::from(head.target)),
-        Link::Missing | Link::Origin => None,
-    }
+    ghost view = { λ d. held_in d.parts.now.texts d.parts.now.sites.items d.parts.now.wides.items d.head.now };
 }
 
 /// The bytes from a place on, as far as they are there.
 #[inline]
 #[tactic(auto, using(crate::proofs::HeadLemmas::drop_past))]
-fn bytes_from(strs: &[u8], place: usize) -> &[u8]
-    ensures { result.now ≡ drop place strs.now }
+fn bytes_from(bytes: &[u8], place: usize) -> &[u8]
+    ensures { result.now ≡ drop place bytes.now }
 {
-    if place > strs.len() {
+    if place > bytes.len() {
         return &[];
     }
-    strs.split_at(place).1
+    bytes.split_at(place).1
 }
 
-/// The text at a place.
+/// The text at a place, which has an end.
 #[inline]
-fn text_from(strs: &[u8], there: bool, place: u32) -> Option<&[u8]>
-    ensures { option_copied result ≡ place_said strs.now there place }
+#[tactic(auto, using(crate::proofs::HeldLemmas::front_of))]
+fn text_from(bytes: &[u8], place: u32) -> &[u8]
+    ensures { Some result.now ≡ text_from bytes.now place }
 {
-    if !there {
+    let rest = bytes_from(bytes, place as usize);
+    match text_in(rest, 0) {
+        Some(text) => text,
+        None => rest,
+    }
+}
+
+/// A text by where it stands.
+#[inline]
+fn text_at_home<'a>(texts: &Texts<'a>, home: Home, place: u32) -> Option<&'a [u8]>
+    ensures { option_copied result ≡ text_at_home texts.now home place }
+{
+    match home {
+        Home::Missing | Home::Elsewhere => None,
+        Home::Strs => Some(text_from(texts.strs, place)),
+        Home::LineStrs => Some(text_from(texts.line_strs, place)),
+        Home::Info => Some(text_from(texts.info, place)),
+    }
+}
+
+/// Whether a text stands there.
+#[inline(always)]
+fn is_text_home(home: Home) -> bool
+    ensures { (texts : Homes) (place : ℕ) → result ≡ is_some (text_at_home texts home place) }
+{
+    !matches!(home, Home::Missing | Home::Elsewhere)
+}
+
+/// The target of a head, where it is of this kind.
+#[inline(always)]
+fn target_of(head: &Head, link: u8) -> Option<u64>
+    ensures { result ≡ where_said (link_of head.now == link) head.now.target }
+{
+    if head.link() != link {
         return None;
     }
-    text_where(Ending::Open, bytes_from(strs, place as usize))
+    Some(u64::from(head.target))
+}
+
+/// The value of a class and a number.
+#[inline(always)]
+fn value_of(class: Class, number: u64) -> Option<Value>
+    ensures { result ≡ value_in class number }
+{
+    Pick { class, number }.value()
 }
 
 impl<'t, 'a> Die<'t, 'a> {
     #[inline]
     pub(crate) fn of(parts: &'t DieParts<'a>, head: &'t Head) -> Die<'t, 'a>
-        ensures { result ≡ held_in parts.now.strs.now parts.now.sites.items parts.now.wholes.items head.now }
+        ensures { result ≡ held_in parts.now.texts parts.now.sites.items parts.now.wides.items head.now }
     {
         Die { parts, head }
     }
@@ -96,8 +117,8 @@ impl<'t, 'a> Die<'t, 'a> {
     pub fn tag(&self) -> u64
         ensures { result ≡ self.now.tag }
     {
-        match whole_of(self.parts, self.head) {
-            Some(whole) => whole.tag(),
+        match wide_of(self.parts, self.head) {
+            Some(wide) => wide.tag,
             None => u64::from(self.head.tag),
         }
     }
@@ -137,9 +158,6 @@ impl<'t, 'a> Die<'t, 'a> {
     pub fn parent(&self) -> Option<u32>
         ensures { result ≡ self.now.parent }
     {
-        if let Some(whole) = whole_of(self.parts, self.head) {
-            return whole.parent();
-        }
         if self.head.has_parent() {
             return Some(self.head.parent);
         }
@@ -150,21 +168,18 @@ impl<'t, 'a> Die<'t, 'a> {
     pub fn declaration(&self) -> bool
         ensures { result ≡ self.now.declaration }
     {
-        match whole_of(self.parts, self.head) {
-            Some(whole) => whole.declaration(),
-            None => self.head.is_declaration(),
-        }
+        self.head.is_declaration()
     }
 
     /// An address, or the number of one.
     pub fn low(&self) -> Option<Value>
         ensures { result ≡ self.now.low }
     {
-        if let Some(whole) = whole_of(self.parts, self.head) {
-            return whole.low();
+        if let Some(wide) = wide_of(self.parts, self.head) {
+            return wide.low.value();
         }
         match site_of(self.parts, self.head) {
-            Some(site) => site.low(),
+            Some(site) => value_of(site.low_class, site.low),
             None => None,
         }
     }
@@ -173,11 +188,11 @@ impl<'t, 'a> Die<'t, 'a> {
     pub fn high(&self) -> Option<Value>
         ensures { result ≡ self.now.high }
     {
-        if let Some(whole) = whole_of(self.parts, self.head) {
-            return whole.high();
+        if let Some(wide) = wide_of(self.parts, self.head) {
+            return wide.high.value();
         }
         match site_of(self.parts, self.head) {
-            Some(site) => site.high(),
+            Some(site) => value_of(site.high_class, u64::from(site.more)),
             None => None,
         }
     }
@@ -186,11 +201,11 @@ impl<'t, 'a> Die<'t, 'a> {
     pub fn ranges(&self) -> Option<Value>
         ensures { result ≡ self.now.ranges }
     {
-        if let Some(whole) = whole_of(self.parts, self.head) {
-            return whole.ranges();
+        if let Some(wide) = wide_of(self.parts, self.head) {
+            return wide.ranges.value();
         }
         match site_of(self.parts, self.head) {
-            Some(site) => site.ranges(),
+            Some(site) => value_of(site.ranges_class, u64::from(site.more)),
             None => None,
         }
     }
@@ -200,9 +215,9 @@ impl<'t, 'a> Die<'t, 'a> {
     pub fn origin(&self) -> Option<u64>
         ensures { result ≡ self.now.origin }
     {
-        match whole_of(self.parts, self.head) {
-            Some(whole) => whole.origin(),
-            None => origin_of(self.head),
+        match wide_of(self.parts, self.head) {
+            Some(wide) => wide.origin,
+            None => target_of(self.head, ORIGIN),
         }
     }
 
@@ -211,9 +226,9 @@ impl<'t, 'a> Die<'t, 'a> {
     pub fn spec(&self) -> Option<u64>
         ensures { result ≡ self.now.spec }
     {
-        match whole_of(self.parts, self.head) {
-            Some(whole) => whole.spec(),
-            None => spec_of(self.head),
+        match wide_of(self.parts, self.head) {
+            Some(wide) => wide.spec,
+            None => target_of(self.head, SPECIFICATION),
         }
     }
 
@@ -222,19 +237,13 @@ impl<'t, 'a> Die<'t, 'a> {
     pub fn has_name(&self) -> bool
         ensures { result ≡ is_some self.now.name }
     {
-        match whole_of(self.parts, self.head) {
-            Some(whole) => whole.name().is_some(),
-            None => self.head.has_name(),
-        }
+        is_text_home(self.head.name_in)
     }
 
     pub fn name(&self) -> Option<&'a [u8]>
         ensures { option_copied result ≡ self.now.name }
     {
-        match whole_of(self.parts, self.head) {
-            Some(whole) => whole.name(),
-            None => text_from(self.parts.strs, self.head.has_name(), self.head.name),
-        }
+        text_at_home(&self.parts.texts, self.head.name_in, self.head.name)
     }
 
     /// Whether the name stands in the supplementary file (DWARF 5, 7.3.6), where it is not looked for.
@@ -242,10 +251,7 @@ impl<'t, 'a> Die<'t, 'a> {
     pub fn is_named_elsewhere(&self) -> bool
         ensures { result ≡ self.now.name_elsewhere }
     {
-        match whole_of(self.parts, self.head) {
-            Some(whole) => whole.is_named_elsewhere(),
-            None => false,
-        }
+        matches!(self.head.name_in, Home::Elsewhere)
     }
 
     /// Whether there is a linkage name.
@@ -253,26 +259,20 @@ impl<'t, 'a> Die<'t, 'a> {
     pub fn has_linkage(&self) -> bool
         ensures { result ≡ is_some self.now.linkage }
     {
-        match whole_of(self.parts, self.head) {
-            Some(whole) => whole.linkage().is_some(),
-            None => self.head.has_linkage(),
-        }
+        is_text_home(self.head.linkage_in)
     }
 
     pub fn linkage(&self) -> Option<&'a [u8]>
         ensures { option_copied result ≡ self.now.linkage }
     {
-        match whole_of(self.parts, self.head) {
-            Some(whole) => whole.linkage(),
-            None => text_from(self.parts.strs, self.head.has_linkage(), self.head.linkage),
-        }
+        text_at_home(&self.parts.texts, self.head.linkage_in, self.head.linkage)
     }
 
     pub fn call_file(&self) -> Option<u64>
         ensures { result ≡ self.now.call_file }
     {
-        if let Some(whole) = whole_of(self.parts, self.head) {
-            return whole.call_file();
+        if let Some(wide) = wide_of(self.parts, self.head) {
+            return wide.call_file;
         }
         match site_of(self.parts, self.head) {
             Some(site) => site.call_file(),
@@ -283,11 +283,11 @@ impl<'t, 'a> Die<'t, 'a> {
     pub fn call_line(&self) -> u32
         ensures { result ≡ self.now.call_line }
     {
-        if let Some(whole) = whole_of(self.parts, self.head) {
-            return whole.call_line();
+        if let Some(wide) = wide_of(self.parts, self.head) {
+            return wide.call_line;
         }
         match site_of(self.parts, self.head) {
-            Some(site) => site.call_line(),
+            Some(site) => site.call_line,
             None => 0,
         }
     }

@@ -1,122 +1,225 @@
-//! Heads and sites from the values of an entry.
-ghost use Rattle.std.specs.Prelude.{◌≡◌, ℕ, Bool, true, false, List, Option, None, Some, IfSome, option_and_then};
-ghost use Rattle.abbrev_units.specs.Texts.{text_in};
-ghost use Rattle.die_walk.specs.Attributes.{as_low, as_high, as_ranges, as_reference, as_flag, as_number, is_elsewhere, is_yes, line_of, or_else};
-ghost use Rattle.die_walk.specs.Picking.{text_by, die_by};
-ghost use Rattle.die_walk.specs.internal.Packing.{pick_said, value_in};
-ghost use Rattle.die_walk.specs.internal.Heads.{FitsText, FitsHere, FitsNumber, no_site, site_by, slim, origin_said, spec_said, place_said};
+//! Heads and sites from the values that were picked.
+ghost use Rattle.std.specs.Prelude.{◌≡◌, ◌≤◌, ◌<◌, ◌^◌, ◌++◌, ◌∷◌, [], ℕ, List, Option, None, true, false, IfOk, IfSome, OnOk, is_some, length, option_and_then};
+ghost use Rattle.abbrev_units.specs.Attributes.{as_reference, as_flag, as_number, is_elsewhere, is_yes, line_of, or_else};
+ghost use Rattle.abbrev_units.specs.Picks.{value_in};
+ghost use Rattle.abbrev_units.specs.Texts.{text_in, text_place};
+ghost use Rattle.die_walk.specs.Picking.{text_by};
+ghost use Rattle.die_walk.specs.internal.Heads.{AreSmall, FitsPlace, IsClosed, IsAdded, IsHead, IsTarget, IsWhole, Says, homes_of, slim, text_from, text_at_home, is_text_home, is_elsewhere_home, link_of, no_site, site_by};
+ghost use Rattle.die_walk.specs.internal.Sites.{Homes};
 
-use crate::heads::{Head, Link, Rest, Site, flags_of};
-use crate::packed::Class;
-use crate::quick::{Pick, Quick};
-use crate::texts::is_closed;
-use crate::whole::parent_parts;
-use abbrev_units::{Sections, Unit};
+use crate::heads::{EntryList, Head, Home, ORIGIN, SPECIFICATION, Site, Wide, flags_of};
+use crate::root::Root;
+use abbrev_units::{Class, Pick, Picks, Sections, Slot, Unit, text_in, text_place};
+use sym_edges::OutOfMemory;
 
-/// Whether something fits into a head: there is none, or it is this number; or it may not fit.
+/// Where a text stands: the section, and the place in it.
 #[derive(Clone, Copy)]
-pub enum Fit {
-    Missing,
-    At(u32),
-    Wide,
+pub struct Named {
+    pub home: Home,
+    pub place: u32,
 }
 
-/// A number, where it is below 2^32.
-#[inline(always)]
-fn fit_number(number: u64) -> Fit
-    ensures { FitsNumber result (Some number) }
+const NO_NAME: Named = Named {
+    home: Home::Missing,
+    place: 0,
+};
+
+/// Where the names of an entry stand.
+#[derive(Clone, Copy)]
+pub struct Names {
+    pub name: Named,
+    pub linkage: Named,
+}
+
+/// The places in `.debug_info` to which an entry leads.
+#[derive(Clone, Copy)]
+pub struct Links {
+    pub origin: Option<u64>,
+    pub spec: Option<u64>,
+}
+
+/// What of them fits into a head: 0 nothing, `ORIGIN` or `SPECIFICATION`, and the place.
+#[derive(Clone, Copy)]
+pub struct Target {
+    pub link: u8,
+    pub place: u32,
+}
+
+const NO_TARGET: Target = Target { link: 0, place: 0 };
+
+/// Whether a section ends with a zero byte.
+#[inline]
+fn is_closed(bytes: &[u8]) -> bool
+    ensures { IsClosed result bytes.now }
 {
-    if number > u64::from(u32::MAX) {
-        return Fit::Wide;
+    match bytes.last() {
+        Some(byte) => *byte == 0,
+        None => false,
     }
-    Fit::At(number as u32)
 }
 
-/// The text at a place of the section of texts.
-#[inline(always)]
-#[tactic(auto, using(crate::proofs::HeldLemmas::open_text))]
-fn fit_place(strs: &[u8], place: u64) -> Fit
-    ensures { FitsText strs.now result (text_in strs.now place) }
+/// Whether a text stands at a place of a section. It stands alone, since nearly all sections end with a zero byte.
+#[inline(never)]
+fn is_text(bytes: &[u8], place: u64) -> bool
+    ensures { result ≡ is_some (text_in bytes.now place) }
 {
-    if place < strs.len() as u64 && (place <= u64::from(u32::MAX) && is_closed(strs)) {
-        return Fit::At(place as u32);
-    }
-    Fit::Wide
+    text_in(bytes, place).is_some()
 }
 
-/// The text of a pick.
+/// The place of a text in a section, where a text stands there: in a section that ends with a zero byte, each has an end.
 #[inline(always)]
-#[tactic(auto, unfolding(abbrev_units::specs::Texts::text_of, crate::specs::internal::Packing::pick_said))]
-fn fit_text(sections: &Sections<'_>, unit: &Unit, base: Option<u64>, pick: Pick) -> Fit
-    ensures text { FitsText sections.now.strs result (text_by sections.now unit.now base (pick_said pick)) }
-    ensures here { FitsHere result (is_elsewhere (pick_said pick)) }
+#[tactic(auto, using(crate::proofs::HeldLemmas::open_text, crate::proofs::HeldLemmas::past_text, crate::proofs::HeldLemmas::here_text, crate::proofs::HeldLemmas::no_text))]
+fn place_in(bytes: &[u8], place: u64) -> Option<u32>
+    requires { length bytes.now ≤ 2 ^ 29 }
+    ensures { FitsPlace bytes.now result (text_in bytes.now place) }
+{
+    if place >= bytes.len() as u64 {
+        return None;
+    }
+    if is_closed(bytes) || is_text(bytes, place) {
+        return Some(place as u32);
+    }
+    None
+}
+
+/// The same by a number in `.debug_str_offsets`.
+#[inline(never)]
+fn place_by_index(
+    sections: &Sections<'_>,
+    unit: &Unit,
+    base: Option<u64>,
+    index: u64,
+) -> Option<u32>
+    requires { length sections.now.strs ≤ 2 ^ 29 }
+    ensures { FitsPlace sections.now.strs result (option_and_then (text_in sections.now.strs) (text_place sections.now.str_offsets unit.now.wide base index)) }
+{
+    match text_place(sections.str_offsets, unit.wide, base, index) {
+        Some(place) => place_in(sections.strs, place),
+        None => None,
+    }
+}
+
+/// Where a text of a section stands.
+#[inline(always)]
+fn at_home(home: Home, place: Option<u32>) -> Named
+    requires { is_text_home home ≡ true }
+    ensures text { (bytes : List ℕ) (texts : Homes) (text : Option (List ℕ)) → ((n : ℕ) → text_at_home texts home n ≡ text_from bytes n) → FitsPlace bytes place text → text_at_home texts result.home result.place ≡ text }
+    ensures here { is_elsewhere_home result.home ≡ false }
+{
+    match place {
+        Some(place) => Named { home, place },
+        None => NO_NAME,
+    }
+}
+
+/// Where the text of a pick stands; `base` is the unit's str_offsets_base.
+#[inline(always)]
+#[tactic(auto, unfolding(abbrev_units::specs::Texts::text_of))]
+fn text_home(sections: &Sections<'_>, unit: &Unit, base: Option<u64>, pick: Pick) -> Named
+    requires { AreSmall (homes_of sections.now) }
+    ensures text { text_at_home (homes_of sections.now) result.home result.place ≡ text_by sections.now unit.now base (value_in pick.class pick.number) }
+    ensures elsewhere { is_elsewhere_home result.home ≡ is_elsewhere (value_in pick.class pick.number) }
 {
     match pick.class {
-        Class::Missing => Fit::Missing,
-        Class::StrAt => fit_place(sections.strs, pick.number),
-        _ => Fit::Wide,
-    }
-}
-
-/// The text of one pick, or else of another.
-#[inline(always)]
-fn fit_either(first: Fit, second: Fit) -> Fit
-    ensures { (strs : List ℕ) (x y : Option (List ℕ)) → FitsText strs first x → FitsText strs second y → FitsText strs result (or_else x y) }
-{
-    match first {
-        Fit::Missing => second,
-        Fit::At(place) => Fit::At(place),
-        Fit::Wide => Fit::Wide,
-    }
-}
-
-/// The reference of a pick.
-#[inline(always)]
-#[tactic(auto, unfolding(crate::specs::internal::Packing::pick_said))]
-fn fit_reference(unit: &Unit, pick: Pick) -> Fit
-    ensures { FitsNumber result (option_and_then (as_reference unit.now) (pick_said pick)) }
-{
-    match pick.class {
-        Class::Missing => Fit::Missing,
-        Class::UnitRef => match unit.start.checked_add(pick.number) {
-            Some(place) => fit_number(place),
-            None => Fit::Missing,
+        Class::StrAt => at_home(Home::Strs, place_in(sections.strs, pick.number)),
+        Class::StrIndex => at_home(
+            Home::Strs,
+            place_by_index(sections, unit, base, pick.number),
+        ),
+        Class::LineStrAt => at_home(Home::LineStrs, place_in(sections.line_str, pick.number)),
+        Class::InlineText => at_home(Home::Info, place_in(sections.info, pick.number)),
+        Class::SupStrAt => Named {
+            home: Home::Elsewhere,
+            place: 0,
         },
-        Class::InfoRef => fit_number(pick.number),
-        _ => Fit::Wide,
+        _ => NO_NAME,
     }
 }
 
-/// The number of a pick.
-#[inline]
-#[tactic(auto, unfolding(crate::specs::internal::Packing::pick_said))]
-fn fit_file(pick: Pick) -> Fit
-    ensures { FitsNumber result (option_and_then as_number (pick_said pick)) }
+/// One name, or else another where none stands in this file.
+#[inline(always)]
+fn either(first: Named, second: Named) -> Named
+    ensures { (texts : Homes) → text_at_home texts result.home result.place ≡ or_else (text_at_home texts first.home first.place) (text_at_home texts second.home second.place) }
 {
-    match pick.class {
-        Class::Missing => Fit::Missing,
-        Class::Num | Class::Signed => fit_number(pick.number),
-        _ => Fit::Wide,
+    match first.home {
+        Home::Missing | Home::Elsewhere => second,
+        Home::Strs | Home::LineStrs | Home::Info => first,
     }
 }
 
-/// The line number of a pick.
-#[inline]
-#[tactic(auto, unfolding(crate::specs::internal::Packing::pick_said))]
-fn line_in(pick: Pick) -> u32
-    ensures { result ≡ line_of (option_and_then as_number (pick_said pick)) }
+/// Where the names of an entry stand, the linkage name also by the attribute that it had before the standard had one.
+#[inline(always)]
+fn names_of(sections: &Sections<'_>, unit: &Unit, base: Option<u64>, picks: &Picks) -> Names
+    requires { AreSmall (homes_of sections.now) }
+    ensures name { text_at_home (homes_of sections.now) result.name.home result.name.place ≡ text_by sections.now unit.now base picks.now.name }
+    ensures elsewhere { is_elsewhere_home result.name.home ≡ is_elsewhere picks.now.name }
+    ensures linkage { text_at_home (homes_of sections.now) result.linkage.home result.linkage.place ≡ or_else (text_by sections.now unit.now base picks.now.linkage) (text_by sections.now unit.now base picks.now.old_linkage) }
+{
+    Names {
+        name: text_home(sections, unit, base, picks.pick(Slot::Name)),
+        linkage: either(
+            text_home(sections, unit, base, picks.pick(Slot::Linkage)),
+            text_home(sections, unit, base, picks.pick(Slot::OldLinkage)),
+        ),
+    }
+}
+
+/// The place to which a reference leads.
+#[inline(always)]
+fn place_of(unit: &Unit, pick: Pick) -> Option<u64>
+    ensures { result ≡ option_and_then (as_reference unit.now) (value_in pick.class pick.number) }
 {
     match pick.class {
-        Class::Num | Class::Signed => (pick.number % (1 << 32)) as u32,
-        _ => 0,
+        Class::UnitRef => unit.start.checked_add(pick.number),
+        Class::InfoRef => Some(pick.number),
+        _ => None,
+    }
+}
+
+/// The places to which an entry leads.
+#[inline(always)]
+fn links_of(unit: &Unit, picks: &Picks) -> Links
+    ensures origin { result.origin ≡ option_and_then (as_reference unit.now) picks.now.origin }
+    ensures spec { result.spec ≡ option_and_then (as_reference unit.now) picks.now.spec }
+{
+    Links {
+        origin: place_of(unit, picks.pick(Slot::Origin)),
+        spec: place_of(unit, picks.pick(Slot::Specification)),
+    }
+}
+
+/// A target, where its place is below 2^32.
+#[inline(always)]
+fn fit_target(link: u8, place: u64) -> Option<Target>
+    ensures { IfSome result (λ target. (target.link ≡ link) × (target.place ≡ place)) }
+{
+    if place > u64::from(u32::MAX) {
+        return None;
+    }
+    Some(Target {
+        link,
+        place: place as u32,
+    })
+}
+
+/// The target of an entry, where one fits into a head.
+#[inline(always)]
+fn fit_links(links: Links) -> Option<Target>
+    ensures target { IfSome result (λ target. IsTarget target.link target.place links) }
+    ensures link { IfSome result (λ target. target.link < 3) }
+{
+    match (links.origin, links.spec) {
+        (None, None) => Some(NO_TARGET),
+        (Some(origin), None) => fit_target(ORIGIN, origin),
+        (None, Some(spec)) => fit_target(SPECIFICATION, spec),
+        (Some(_), Some(_)) => None,
     }
 }
 
 /// Whether a pick says yes.
-#[inline]
-#[tactic(auto, unfolding(crate::specs::internal::Packing::pick_said))]
+#[inline(always)]
 fn says_yes(pick: Pick) -> bool
-    ensures { result ≡ is_yes (option_and_then as_flag (pick_said pick)) }
+    ensures { result ≡ is_yes (option_and_then as_flag (value_in pick.class pick.number)) }
 {
     match pick.class {
         Class::Flag => pick.number != 0,
@@ -124,161 +227,241 @@ fn says_yes(pick: Pick) -> bool
     }
 }
 
-/// A low address.
-#[inline]
-#[tactic(auto, unfolding(crate::specs::internal::Packing::pick_said))]
-fn low_of(pick: Pick) -> Class
-    ensures { value_in result pick.number ≡ option_and_then as_low (pick_said pick) }
+/// The number of a pick.
+#[inline(always)]
+fn number_of(pick: Pick) -> Option<u64>
+    ensures { result ≡ option_and_then as_number (value_in pick.class pick.number) }
 {
     match pick.class {
-        Class::Addr => Class::Addr,
-        Class::AddrIndex => Class::AddrIndex,
-        _ => Class::Missing,
-    }
-}
-
-/// A high address.
-#[inline]
-#[tactic(auto, unfolding(crate::specs::internal::Packing::pick_said))]
-fn high_of(pick: Pick) -> Class
-    ensures { value_in result pick.number ≡ option_and_then as_high (pick_said pick) }
-{
-    match pick.class {
-        Class::Addr => Class::Addr,
-        Class::AddrIndex => Class::AddrIndex,
-        Class::Num => Class::Num,
-        Class::Signed => Class::Signed,
-        _ => Class::Missing,
-    }
-}
-
-/// The place or the number of a list.
-#[inline]
-#[tactic(auto, unfolding(crate::specs::internal::Packing::pick_said))]
-fn ranges_of(pick: Pick) -> Class
-    ensures { value_in result pick.number ≡ option_and_then as_ranges (pick_said pick) }
-{
-    match pick.class {
-        Class::SecOffset => Class::SecOffset,
-        Class::Num => Class::Num,
-        Class::ListIndex => Class::ListIndex,
-        _ => Class::Missing,
-    }
-}
-
-/// Whether a pick has nothing.
-#[inline]
-#[tactic(auto, unfolding(crate::specs::internal::Packing::pick_said))]
-fn is_missing(pick: Pick) -> bool
-    ensures { result ≡ true → pick_said pick ≡ None }
-{
-    matches!(pick.class, Class::Missing)
-}
-
-/// Whether the entry has no addresses and no call.
-#[inline(always)]
-pub fn has_no_site(quick: &Quick) -> bool
-    ensures { result ≡ true → site_by quick.now ≡ no_site }
-{
-    is_missing(quick.low)
-        && (is_missing(quick.high)
-            && (is_missing(quick.ranges)
-                && (is_missing(quick.call_file) && is_missing(quick.call_line))))
-}
-
-/// The addresses of an entry and its call, where they fit.
-#[inline(always)]
-pub fn make_site(quick: &Quick) -> Option<Site>
-    ensures { IfSome result (λ site. site ≡ site_by quick.now) }
-{
-    let (has_call_file, call_file) = match fit_file(quick.call_file) {
-        Fit::Missing => (false, 0),
-        Fit::At(file) => (true, file),
-        Fit::Wide => return None,
-    };
-    Some(Site {
-        low: quick.low.number,
-        high: quick.high.number,
-        ranges: quick.ranges.number,
-        call_file,
-        call_line: line_in(quick.call_line),
-        low_class: low_of(quick.low),
-        high_class: high_of(quick.high),
-        ranges_class: ranges_of(quick.ranges),
-        has_call_file,
-    })
-}
-
-/// What an entry is linked to, where it fits.
-#[inline(always)]
-fn make_link(origin: Fit, spec: Fit) -> Option<(Link, u32)>
-    ensures { IfSome result (λ made. (x y : Option ℕ) → FitsNumber origin x → FitsNumber spec y → (origin_said made.0 made.1 ≡ x) × (spec_said made.0 made.1 ≡ y)) }
-{
-    match (origin, spec) {
-        (Fit::Missing, Fit::Missing) => Some((Link::Missing, 0)),
-        (Fit::At(place), Fit::Missing) => Some((Link::Origin, place)),
-        (Fit::Missing, Fit::At(place)) => Some((Link::Spec, place)),
+        Class::Num | Class::Signed => Some(pick.number),
         _ => None,
     }
 }
 
-/// A name, where it fits.
+/// The line number of a pick.
 #[inline(always)]
-fn make_name(fit: Fit) -> Option<(bool, u32)>
-    ensures name { IfSome result (λ made. (strs : List ℕ) (x : Option (List ℕ)) → FitsText strs fit x → place_said strs made.0 made.1 ≡ x) }
-    ensures here { IfSome result (λ _. (elsewhere : Bool) → FitsHere fit elsewhere → elsewhere ≡ false) }
+fn line_in(pick: Pick) -> u32
+    ensures { result ≡ line_of (option_and_then as_number (value_in pick.class pick.number)) }
 {
-    match fit {
-        Fit::Missing => Some((false, 0)),
-        Fit::At(place) => Some((true, place)),
-        Fit::Wide => None,
+    match pick.class {
+        Class::Num | Class::Signed => (pick.number % (1 << 32)) as u32,
+        _ => 0,
     }
 }
 
-/// The head of an entry with its place, its parent, its tag and its values, where all but its site fits; `base` is the unit's
-/// str_offsets_base.
 #[inline(always)]
-#[tactic(auto, unfolding(crate::specs::Picking::die_by))]
-pub fn make_head(
-    sections: &Sections<'_>,
-    unit: &Unit,
-    base: Option<u64>,
-    at: u32,
-    parent: Option<u32>,
-    tag: u64,
-    quick: &Quick,
-) -> Option<Head>
-    ensures { IfSome result (λ head. slim sections.now.strs head (site_by quick.now) ≡ die_by sections.now unit.now base at parent tag quick.now) }
+fn is_missing(pick: Pick) -> bool
+    ensures { result ≡ true → value_in pick.class pick.number ≡ None }
 {
-    if tag > 0xff {
+    matches!(pick.class, Class::Missing)
+}
+
+/// Whether an entry has no addresses and no call.
+#[inline(always)]
+fn has_no_site(picks: &Picks) -> bool
+    ensures { result ≡ true → site_by picks.now ≡ no_site }
+{
+    is_missing(picks.pick(Slot::Low))
+        && is_missing(picks.pick(Slot::High))
+        && is_missing(picks.pick(Slot::Ranges))
+        && is_missing(picks.pick(Slot::CallFile))
+        && is_missing(picks.pick(Slot::CallLine))
+}
+
+/// The classes of the high address and of the ranges, and the number of the one that is there: both together do not fit.
+#[derive(Clone, Copy)]
+struct More {
+    high: Class,
+    ranges: Class,
+    number: u32,
+}
+
+/// A high address or ranges that fit into four bytes.
+#[inline(always)]
+fn fit_more(high: Pick, ranges: Pick) -> Option<More>
+    ensures { IfSome result (λ more. (value_in more.high more.number ≡ value_in high.class high.number) × (value_in more.ranges more.number ≡ value_in ranges.class ranges.number)) }
+{
+    let number = match (high.class, ranges.class) {
+        (Class::Missing, Class::Missing) => 0,
+        (Class::Missing, _) => ranges.number,
+        (_, Class::Missing) => high.number,
+        (_, _) => return None,
+    };
+    if number > u64::from(u32::MAX) {
         return None;
     }
-    let (has_name, name) = make_name(fit_text(sections, unit, base, quick.name))?;
-    let linkage = fit_either(
-        fit_text(sections, unit, base, quick.linkage),
-        fit_text(sections, unit, base, quick.old_linkage),
-    );
-    let (has_linkage, linkage) = make_name(linkage)?;
-    let (link, target) = make_link(
-        fit_reference(unit, quick.origin),
-        fit_reference(unit, quick.spec),
-    )?;
-    let (has_parent, parent) = parent_parts(parent);
-    Some(Head {
-        at,
-        parent,
-        name,
-        linkage,
-        target,
-        number: 0,
-        tag: tag as u8,
-        rest: Rest::Nothing,
-        link,
-        flags: flags_of(
-            has_parent,
-            has_name,
-            has_linkage,
-            says_yes(quick.declaration),
-        ),
+    Some(More {
+        high: high.class,
+        ranges: ranges.class,
+        number: number as u32,
     })
+}
+
+/// The site of an entry, where it fits into one.
+#[inline(always)]
+fn fit_site(picks: &Picks) -> Option<Site>
+    ensures { IfSome result (λ site. site ≡ site_by picks.now) }
+{
+    let low = picks.pick(Slot::Low);
+    let Some(more) = fit_more(picks.pick(Slot::High), picks.pick(Slot::Ranges)) else {
+        return None;
+    };
+    let file = number_of(picks.pick(Slot::CallFile));
+    let call_file = file.unwrap_or(0);
+    if call_file > u64::from(u32::MAX) {
+        return None;
+    }
+    Some(Site {
+        low: low.number,
+        more: more.number,
+        call_file: call_file as u32,
+        call_line: line_in(picks.pick(Slot::CallLine)),
+        low_class: low.class,
+        high_class: more.high,
+        ranges_class: more.ranges,
+        has_call_file: file.is_some(),
+    })
+}
+
+/// What an entry says, whatever it may be.
+fn make_wide(tag: u64, links: Links, picks: &Picks) -> Wide
+    ensures { result ≡ record { tag = tag; origin = links.origin; spec = links.spec; site = site_by picks.now } }
+{
+    Wide {
+        tag,
+        origin: links.origin,
+        spec: links.spec,
+        low: picks.pick(Slot::Low),
+        high: picks.pick(Slot::High),
+        ranges: picks.pick(Slot::Ranges),
+        call_file: number_of(picks.pick(Slot::CallFile)),
+        call_line: line_in(picks.pick(Slot::CallLine)),
+    }
+}
+
+/// Where an entry stands, and the number of the kept entry around it.
+#[derive(Clone, Copy)]
+pub struct Frame {
+    pub at: u32,
+    pub parent: Option<u32>,
+}
+
+/// What an entry says beside its tag, its addresses and its call.
+#[derive(Clone, Copy)]
+pub struct Parts {
+    pub frame: Frame,
+    pub declaration: bool,
+    pub names: Names,
+    pub links: Links,
+}
+
+/// The parts of an entry by what was picked.
+#[inline(always)]
+pub fn parts_of(
+    sections: &Sections<'_>,
+    unit: &Unit,
+    root: &Root<'_>,
+    picks: &Picks,
+    frame: Frame,
+) -> Parts
+    requires { AreSmall (homes_of sections.now) }
+    ensures says { Says sections.now unit.now root.now.str_offsets_base picks.now result }
+    ensures frame { result.frame ≡ frame }
+{
+    Parts {
+        frame,
+        declaration: says_yes(picks.pick(Slot::Declaration)),
+        names: names_of(sections, unit, root.str_offsets_base, picks),
+        links: links_of(unit, picks),
+    }
+}
+
+/// A head of this tag and target, without a site.
+#[inline(always)]
+fn head_of(parts: Parts, tag: u8, target: Target) -> Head
+    requires { target.link < 3 }
+    ensures says { IsHead result parts }
+    ensures tag { result.tag ≡ tag }
+    ensures link { link_of result ≡ target.link }
+    ensures target { result.target ≡ target.place }
+{
+    Head {
+        at: parts.frame.at,
+        parent: parts.frame.parent.unwrap_or(0),
+        name: parts.names.name.place,
+        linkage: parts.names.linkage.place,
+        target: target.place,
+        number: 0,
+        tag,
+        flags: flags_of(parts.frame.parent.is_some(), parts.declaration, target.link),
+        name_in: parts.names.name.home,
+        linkage_in: parts.names.linkage.home,
+    }
+}
+
+/// The head of an entry, where its tag and its target fit into one.
+#[inline(always)]
+fn fit_head(parts: Parts, tag: u64) -> Option<Head>
+    ensures { IfSome result (λ head. IsWhole head parts tag) }
+{
+    if tag >= 256 {
+        return None;
+    }
+    match fit_links(parts.links) {
+        Some(target) => Some(head_of(parts, tag as u8, target)),
+        None => None,
+    }
+}
+
+/// Adds an entry by its head; false where its addresses and its call do not fit into a site, and nothing is added.
+#[inline(always)]
+fn push_site(list: &mut EntryList<'_>, head: Head, picks: &Picks) -> Result<bool, OutOfMemory>
+    requires { head.flags < 16 }
+    ensures added { IfOk result (λ fits. fits ≡ true → list.new.dies ≡ list.old.dies ++ slim list.old.homes head (site_by picks.now) ∷ []) }
+    ensures same { IfOk result (λ fits. fits ≡ false → list.new ≡ list.old) }
+    ensures homes { list.new.homes ≡ list.old.homes }
+{
+    if has_no_site(picks) {
+        list.push_alone(head)?;
+        return Ok(true);
+    }
+    let Some(site) = fit_site(picks) else {
+        return Ok(false);
+    };
+    list.push_site(head, site)?;
+    Ok(true)
+}
+
+/// Adds an entry that fits into a head and a site; false where it does not, and nothing is added.
+#[inline(always)]
+#[tactic(auto, using(crate::proofs::HeadLemmas::fit_is))]
+pub fn push_fit(
+    list: &mut EntryList<'_>,
+    parts: Parts,
+    tag: u64,
+    picks: &Picks,
+) -> Result<bool, OutOfMemory>
+    ensures added { IfOk result (λ fits. fits ≡ true → IsAdded list.old list.new parts tag picks.now) }
+    ensures same { IfOk result (λ fits. fits ≡ false → list.new ≡ list.old) }
+    ensures homes { list.new.homes ≡ list.old.homes }
+{
+    match fit_head(parts, tag) {
+        Some(head) => push_site(list, head, picks),
+        None => Ok(false),
+    }
+}
+
+/// Adds an entry whatever it may be.
+#[tactic(auto, using(crate::proofs::HeadLemmas::broad_is))]
+pub fn push_wide(
+    list: &mut EntryList<'_>,
+    parts: Parts,
+    tag: u64,
+    picks: &Picks,
+) -> Result<(), OutOfMemory>
+    ensures added { OnOk result (IsAdded list.old list.new parts tag picks.now) }
+    ensures homes { list.new.homes ≡ list.old.homes }
+{
+    let head = head_of(parts, 0, NO_TARGET);
+    list.push_wide(head, make_wide(tag, parts.links, picks))
 }

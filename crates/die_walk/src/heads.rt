@@ -1,67 +1,29 @@
-//! Kept entries in two parts: a head of 28 bytes, and what does not fit into it.
-ghost use Rattle.std.specs.Prelude.{◌≡◌, ◌<◌, ◌^◌, ◌++◌, ◌==◌, ◌∷◌, [], length, map, IfOk, OnOk};
+//! Kept entries: a head of 28 bytes each, and where an entry has more a site.
+ghost use Rattle.std.specs.Prelude.{◌≡◌, if◌then◌else◌, ◌<◌, ◌/◌, ◌%◌, ◌++◌, ◌==◌, ◌∷◌, [], length, map, IfOk, OnOk};
 ghost use Rattle.std.specs.List.{slice_get};
 ghost use Rattle.std.specs.Option.{option_copied};
 ghost use Rattle.sym_edges.specs.Rising.{RisesFrom, StandBelow};
 ghost use Rattle.die_walk.specs.EntryTable.{DieFields};
-ghost use Rattle.die_walk.specs.internal.Heads.{flag_if, flag_in, has_parent, has_name, has_linkage, is_declaration, no_site, slim, site_in, whole_in};
+ghost use Rattle.die_walk.specs.internal.Heads.{homes_of, has_parent, is_declaration, link_of, rest_of, no_site, slim, broad, found_in, with_rest};
 
 use crate::die::Die;
-use crate::packed::{Class, Packed, unpack};
-use crate::whole::WholeDie;
-use abbrev_units::Value;
+use abbrev_units::{Class, Pick, Sections};
 use std::alloc::Global;
 use std::marker::Model;
 use sym_edges::OutOfMemory;
 
-/// Where the rest of an entry is: there is none, it is its addresses and its call, or all of it.
+/// Where a text stands: in a section, in the supplementary file (DWARF 5, 7.3.6), or nowhere.
 #[derive(Clone, Copy)]
-pub enum Rest {
-    Nothing,
-    Site,
-    Whole,
-}
-
-/// What the target of an entry is.
-#[derive(Clone, Copy)]
-pub enum Link {
+pub enum Home {
     Missing,
-    Origin,
-    Spec,
+    Strs,
+    LineStrs,
+    Info,
+    Elsewhere,
 }
 
-const PARENT: u8 = 1;
-
-const NAME: u8 = 2;
-
-const LINKAGE: u8 = 4;
-
-const DECLARATION: u8 = 8;
-
-/// A flag where something is so.
-#[inline]
-fn flag_if(so: bool, flag: u8) -> u8
-    ensures { result ≡ flag_if so flag }
-{
-    if so { flag } else { 0 }
-}
-
-/// The flags of a head: whether it has a parent, a name and a linkage name, and whether it is a declaration.
-#[inline]
-#[tactic(auto, using(crate::proofs::FlagLemmas::parent_made, crate::proofs::FlagLemmas::name_made, crate::proofs::FlagLemmas::linkage_made, crate::proofs::FlagLemmas::declaration_made))]
-pub fn flags_of(parent: bool, name: bool, linkage: bool, declaration: bool) -> u8
-    ensures parent { flag_in 1 result ≡ parent }
-    ensures name { flag_in 2 result ≡ name }
-    ensures linkage { flag_in 4 result ≡ linkage }
-    ensures declaration { flag_in 8 result ≡ declaration }
-{
-    flag_if(parent, PARENT)
-        | flag_if(name, NAME)
-        | flag_if(linkage, LINKAGE)
-        | flag_if(declaration, DECLARATION)
-}
-
-/// The head of an entry: names are places in `.debug_str`, `number` is that of its rest. It takes 28 bytes.
+/// The head of an entry: `name` and `linkage` are places of texts, `target` is its origin or its declaration, `number` is that of its site.
+/// The four parts of `flags` say whether it has a parent and is a declaration, what its target is, and where its site is. It takes 28 bytes.
 #[derive(Clone, Copy)]
 pub struct Head {
     pub at: u32,
@@ -71,47 +33,91 @@ pub struct Head {
     pub target: u32,
     pub number: u32,
     pub tag: u8,
-    pub rest: Rest,
-    pub link: Link,
     pub flags: u8,
+    pub name_in: Home,
+    pub linkage_in: Home,
+}
+
+/// The target is the abstract entry.
+pub const ORIGIN: u8 = 1;
+
+/// The target is the declaration.
+pub const SPECIFICATION: u8 = 2;
+
+const SITE: u8 = 1;
+
+const WIDE: u8 = 2;
+
+/// 1 where something is so.
+#[inline(always)]
+fn bit(so: bool) -> u8
+    ensures { result ≡ if so then 1 else 0 }
+{
+    if so { 1 } else { 0 }
+}
+
+/// The flags of a head that has no site yet.
+#[inline(always)]
+#[tactic(auto, using(crate::proofs::FlagLemmas::parent_made, crate::proofs::FlagLemmas::declaration_made, crate::proofs::FlagLemmas::link_made, crate::proofs::FlagLemmas::flags_small))]
+pub fn flags_of(parent: bool, declaration: bool, link: u8) -> u8
+    requires { link < 3 }
+    ensures parent { (result % 2 == 1) ≡ parent }
+    ensures declaration { (result / 2 % 2 == 1) ≡ declaration }
+    ensures link { result / 4 % 4 ≡ link }
+    ensures small { result < 16 }
+{
+    bit(parent) + 2 * bit(declaration) + 4 * link
 }
 
 impl Head {
-    #[inline]
+    #[inline(always)]
     pub fn has_parent(&self) -> bool
         ensures { result ≡ has_parent self.now }
     {
-        self.flags & PARENT != 0
+        self.flags % 2 == 1
     }
 
-    #[inline]
-    pub fn has_name(&self) -> bool
-        ensures { result ≡ has_name self.now }
-    {
-        self.flags & NAME != 0
-    }
-
-    #[inline]
-    pub fn has_linkage(&self) -> bool
-        ensures { result ≡ has_linkage self.now }
-    {
-        self.flags & LINKAGE != 0
-    }
-
-    #[inline]
+    #[inline(always)]
     pub fn is_declaration(&self) -> bool
         ensures { result ≡ is_declaration self.now }
     {
-        self.flags & DECLARATION != 0
+        self.flags / 2 % 2 == 1
+    }
+
+    #[inline(always)]
+    pub fn link(&self) -> u8
+        ensures { result ≡ link_of self.now }
+    {
+        self.flags / 4 % 4
+    }
+
+    #[inline(always)]
+    fn rest(&self) -> u8
+        ensures { result ≡ rest_of self.now }
+    {
+        self.flags / 16
+    }
+
+    /// The same head with a rest of this number.
+    #[inline(always)]
+    fn with_rest(self, rest: u8, number: u32) -> Head
+        requires flags { self.flags < 16 }
+        requires rest { rest < 3 }
+        ensures { result ≡ with_rest self rest number }
+    {
+        Head {
+            flags: self.flags + 16 * rest,
+            number,
+            ..self
+        }
     }
 }
 
-/// The addresses of an entry, and where it is called.
+/// The low address of an entry, its high address or else its ranges in `more`, and where it is called. It takes 24 bytes.
 #[derive(Drop)]
 pub struct Site {
     pub low: u64,
-    pub high: u64,
-    pub ranges: u64,
+    pub more: u32,
     pub call_file: u32,
     pub call_line: u32,
     pub low_class: Class,
@@ -121,54 +127,22 @@ pub struct Site {
 }
 
 impl Model for Site {
+    ghost use Rattle.abbrev_units.specs.Picks.{value_in};
     ghost use Rattle.die_walk.specs.internal.Sites.{SiteFields};
-    ghost use Rattle.die_walk.specs.internal.Packing.{value_in, where_said};
+    ghost use Rattle.die_walk.specs.internal.Heads.{where_said};
 
     ghost Value = { SiteFields };
 
     ghost view = { λ s. record {
       low = value_in s.low_class s.low;
-      high = value_in s.high_class s.high;
-      ranges = value_in s.ranges_class s.ranges;
+      high = value_in s.high_class s.more;
+      ranges = value_in s.ranges_class s.more;
       call_file = where_said s.has_call_file s.call_file;
       call_line = s.call_line;
     } };
 }
 
 impl Site {
-    #[inline]
-    #[tactic(auto, unfolding(crate::specs::internal::Packing::unpacked))]
-    pub fn low(&self) -> Option<Value>
-        ensures { result ≡ self.now.low }
-    {
-        unpack(Packed {
-            class: self.low_class,
-            number: self.low,
-        })
-    }
-
-    #[inline]
-    #[tactic(auto, unfolding(crate::specs::internal::Packing::unpacked))]
-    pub fn high(&self) -> Option<Value>
-        ensures { result ≡ self.now.high }
-    {
-        unpack(Packed {
-            class: self.high_class,
-            number: self.high,
-        })
-    }
-
-    #[inline]
-    #[tactic(auto, unfolding(crate::specs::internal::Packing::unpacked))]
-    pub fn ranges(&self) -> Option<Value>
-        ensures { result ≡ self.now.ranges }
-    {
-        unpack(Packed {
-            class: self.ranges_class,
-            number: self.ranges,
-        })
-    }
-
     #[inline]
     pub fn call_file(&self) -> Option<u64>
         ensures { result ≡ self.now.call_file }
@@ -179,43 +153,85 @@ impl Site {
             None
         }
     }
-
-    #[inline]
-    pub fn call_line(&self) -> u32
-        ensures { result ≡ self.now.call_line }
-    {
-        self.call_line
-    }
 }
 
-/// The section that has the names, and the rests of entries.
+/// What an entry says that does not fit into a head and a site, with all that a site says.
+#[derive(Drop)]
+pub struct Wide {
+    pub tag: u64,
+    pub origin: Option<u64>,
+    pub spec: Option<u64>,
+    pub low: Pick,
+    pub high: Pick,
+    pub ranges: Pick,
+    pub call_file: Option<u64>,
+    pub call_line: u32,
+}
+
+impl Model for Wide {
+    ghost use Rattle.abbrev_units.specs.Picks.{value_in};
+    ghost use Rattle.die_walk.specs.internal.Sites.{SiteFields, WideFields};
+
+    ghost Value = { WideFields };
+
+    ghost view = { λ w. record {
+      tag = w.tag;
+      origin = w.origin;
+      spec = w.spec;
+      site = record {
+        low = value_in w.low.class w.low.number;
+        high = value_in w.high.class w.high.number;
+        ranges = value_in w.ranges.class w.ranges.number;
+        call_file = w.call_file;
+        call_line = w.call_line;
+      };
+    } };
+}
+
+/// The sections that have the texts of entries.
+#[derive(Drop)]
+pub struct Texts<'a> {
+    pub info: &'a [u8],
+    pub strs: &'a [u8],
+    pub line_strs: &'a [u8],
+}
+
+impl<'a> Model for Texts<'a> {
+    ghost use Rattle.die_walk.specs.internal.Sites.{Homes};
+
+    ghost Value = { Homes };
+
+    ghost view = { λ t. record { info = t.info.now; strs = t.strs.now; line_strs = t.line_strs.now } };
+}
+
+/// The sections that have the texts of entries, and what does not fit into heads.
 #[derive(Drop)]
 pub struct DieParts<'a> {
-    pub strs: &'a [u8],
+    pub texts: Texts<'a>,
     pub sites: Vec<Site>,
-    pub wholes: Vec<WholeDie<'a>>,
+    pub wides: Vec<Wide>,
 }
 
 /// The site of a head.
-#[inline]
+#[inline(always)]
 pub fn site_of<'t>(parts: &'t DieParts<'_>, head: &Head) -> Option<&'t Site>
-    ensures { option_copied result ≡ site_in head.now.rest parts.now.sites.items head.now.number }
+    ensures { option_copied result ≡ found_in 1 head.now parts.now.sites.items }
 {
-    match head.rest {
-        Rest::Site => parts.sites.get(head.number as usize),
-        Rest::Nothing | Rest::Whole => None,
+    if head.rest() != SITE {
+        return None;
     }
+    parts.sites.get(head.number as usize)
 }
 
-/// The entry of a head, where it is held whole.
-#[inline]
-pub fn whole_of<'t, 'a>(parts: &'t DieParts<'a>, head: &Head) -> Option<&'t WholeDie<'a>>
-    ensures { option_copied result ≡ whole_in head.now.rest parts.now.wholes.items head.now.number }
+/// What of the entry of a head does not fit into it.
+#[inline(always)]
+pub fn wide_of<'t>(parts: &'t DieParts<'_>, head: &Head) -> Option<&'t Wide>
+    ensures { option_copied result ≡ found_in 2 head.now parts.now.wides.items }
 {
-    match head.rest {
-        Rest::Whole => parts.wholes.get(head.number as usize),
-        Rest::Nothing | Rest::Site => None,
+    if head.rest() != WIDE {
+        return None;
     }
+    parts.wides.get(head.number as usize)
 }
 
 /// Kept entries, as they are added.
@@ -232,26 +248,30 @@ impl<'a> Model for EntryList<'a> {
 
     ghost Value = { HeldEntries };
 
-    ghost view = { λ l. record { dies = map (held_in l.parts.strs.now l.parts.sites.items l.parts.wholes.items) l.heads.items; strs = l.parts.strs.now } };
+    ghost view = { λ l. record { dies = map (held_in l.parts.texts l.parts.sites.items l.parts.wides.items) l.heads.items; homes = l.parts.texts } };
 
-    ghost invariant = { λ l. AreThere (length l.parts.sites.items) (length l.parts.wholes.items) l.heads.items };
+    ghost invariant = { λ l. AreThere (length l.parts.sites.items) (length l.parts.wides.items) l.heads.items };
 }
 
 impl<'a> EntryList<'a> {
-    /// No entry yet, and room for so many, for the root and for some sites; names are in this section.
+    /// No entry yet, and room for so many, for the root and for some sites; texts are in these sections.
     pub fn with_room(
         alloc: Global,
-        strs: &'a [u8],
+        sections: &Sections<'a>,
         room: usize,
     ) -> Result<EntryList<'a>, OutOfMemory>
-        ensures { IfOk result (λ list. list ≡ record { dies = []; strs = strs.now }) }
+        ensures { IfOk result (λ list. list ≡ record { dies = []; homes = homes_of sections.now }) }
     {
         Ok(EntryList {
             heads: Vec::with_capacity(alloc, room)?,
             parts: DieParts {
-                strs,
+                texts: Texts {
+                    info: sections.info,
+                    strs: sections.strs,
+                    line_strs: sections.line_str,
+                },
                 sites: Vec::with_capacity(alloc, (room / 4).max(8).min(64))?,
-                wholes: Vec::with_capacity(alloc, 1)?,
+                wides: Vec::new(alloc),
             },
         })
     }
@@ -262,7 +282,7 @@ impl<'a> EntryList<'a> {
     {
         self.heads.shrink_to_fit();
         self.parts.sites.shrink_to_fit();
-        self.parts.wholes.shrink_to_fit();
+        self.parts.wides.shrink_to_fit();
     }
 
     #[inline]
@@ -280,64 +300,48 @@ impl<'a> EntryList<'a> {
     }
 
     /// Adds an entry whose head says all.
-    #[inline]
+    #[inline(always)]
     #[tactic(auto, using(crate::proofs::HeadLemmas::pushed_alone, crate::proofs::HeadLemmas::there_alone))]
     pub fn push_alone(&mut self, head: Head) -> Result<(), OutOfMemory>
-        ensures dies { OnOk result (self.new.dies ≡ self.old.dies ++ slim self.old.strs head no_site ∷ []) }
-        ensures strs { self.new.strs ≡ self.old.strs }
+        requires { head.flags < 16 }
+        ensures dies { OnOk result (self.new.dies ≡ self.old.dies ++ slim self.old.homes head no_site ∷ []) }
+        ensures homes { self.new.homes ≡ self.old.homes }
     {
-        self.heads.push(Head {
-            rest: Rest::Nothing,
-            number: 0,
-            ..head
-        })?;
+        self.heads.push(head)?;
         Ok(())
     }
 
     /// Adds an entry with a site.
-    #[inline]
-    #[tactic(auto, using(crate::proofs::HeadLemmas::pushed_site, crate::proofs::HeadLemmas::there_site, crate::proofs::HeadLemmas::more_sites))]
+    #[inline(always)]
+    #[tactic(auto, using(crate::proofs::HeadLemmas::more_sites))]
     pub fn push_site(&mut self, head: Head, site: Site) -> Result<(), OutOfMemory>
-        ensures dies { OnOk result (self.new.dies ≡ self.old.dies ++ slim self.old.strs head site ∷ []) }
-        ensures strs { self.new.strs ≡ self.old.strs }
+        requires { head.flags < 16 }
+        ensures dies { OnOk result (self.new.dies ≡ self.old.dies ++ slim self.old.homes head site ∷ []) }
+        ensures homes { self.new.homes ≡ self.old.homes }
     {
         let number = self.parts.sites.len();
         if number > u32::MAX as usize {
             return Err(OutOfMemory);
         }
         self.parts.sites.push(site)?;
-        self.heads.push(Head {
-            rest: Rest::Site,
-            number: number as u32,
-            ..head
-        })?;
+        self.heads.push(head.with_rest(SITE, number as u32))?;
         Ok(())
     }
 
-    /// Adds an entry that is held whole, by its place.
-    #[tactic(auto, using(crate::proofs::HeadLemmas::pushed_whole, crate::proofs::HeadLemmas::there_whole, crate::proofs::HeadLemmas::more_wholes))]
-    pub fn push_whole(&mut self, at: u32, whole: WholeDie<'a>) -> Result<(), OutOfMemory>
-        requires { at ≡ whole.at }
-        ensures dies { OnOk result (self.new.dies ≡ self.old.dies ++ whole.entry ∷ []) }
-        ensures strs { self.new.strs ≡ self.old.strs }
+    /// Adds an entry that does not fit into a head and a site.
+    #[inline(never)]
+    #[tactic(auto, using(crate::proofs::HeadLemmas::more_wides))]
+    pub fn push_wide(&mut self, head: Head, wide: Wide) -> Result<(), OutOfMemory>
+        requires { head.flags < 16 }
+        ensures dies { OnOk result (self.new.dies ≡ self.old.dies ++ broad self.old.homes head wide ∷ []) }
+        ensures homes { self.new.homes ≡ self.old.homes }
     {
-        let number = self.parts.wholes.len();
+        let number = self.parts.wides.len();
         if number > u32::MAX as usize {
             return Err(OutOfMemory);
         }
-        self.parts.wholes.push(whole)?;
-        self.heads.push(Head {
-            at,
-            parent: 0,
-            name: 0,
-            linkage: 0,
-            target: 0,
-            number: number as u32,
-            tag: 0,
-            rest: Rest::Whole,
-            link: Link::Missing,
-            flags: 0,
-        })?;
+        self.parts.wides.push(wide)?;
+        self.heads.push(head.with_rest(WIDE, number as u32))?;
         Ok(())
     }
 

@@ -10,25 +10,19 @@
 //! The contract compares the answer with a definition in two steps. `specs/Marks.antt` says what stands in
 //! the unit, one after the other: entries with their values, and the zeros that end lists of children; all
 //! faults and places are in this step. `specs/EntryTree.antt` says which tree that is: the parent of an
-//! entry is the last one before it that is one less deep. `specs/Attributes.antt` and
-//! `specs/EntryTable.antt` say what the attributes are. The code keeps a stack of the kept entries around it;
-//! entries that are not kept take no memory, and no recursion follows the tree.
+//! entry is the last one before it that is one less deep. `specs/EntryTable.antt` says what the attributes
+//! are, each by its class (`specs/Attributes.antt` of `abbrev_units`). The code keeps a stack of the kept
+//! entries around it; entries that are not kept take no memory, and no recursion follows the tree.
 #![tactic(auto)]
 
-mod attributes;
 mod die;
 mod entry_heads;
 mod heads;
 pub mod laws;
-mod packed;
-mod picks;
-mod quick;
 mod root;
 mod scopes;
 mod table;
-mod texts;
 mod walker;
-mod whole;
 
 pub use crate::die::Die;
 pub use crate::root::Root;

@@ -1,11 +1,11 @@
 //! The root of a unit.
-ghost use Rattle.std.specs.Prelude.{◌≡◌};
-ghost use Rattle.die_walk.specs.Picking.{base_by, root_by};
+ghost use Rattle.std.specs.Prelude.{◌≡◌, option_and_then};
+ghost use Rattle.std.specs.Option.{option_copied};
+ghost use Rattle.abbrev_units.specs.Attributes.{as_place};
+ghost use Rattle.abbrev_units.specs.Picks.{value_in};
+ghost use Rattle.die_walk.specs.Picking.{root_by, text_by};
 
-use crate::attributes::{place_of, text_of};
-use crate::packed::{pack_low, unpack};
-use crate::picks::Picks;
-use abbrev_units::{Sections, Unit, Value};
+use abbrev_units::{Class, Pick, Picks, Sections, Slot, Unit, Value, read_text};
 use std::marker::Model;
 
 /// What the root of a unit says of the whole unit: the place of the root, the address at which lists
@@ -39,11 +39,29 @@ impl<'a> Model for Root<'a> {
     } };
 }
 
-/// The base in `.debug_str_offsets` that the root's values give.
-pub fn base_of(picks: &Picks) -> Option<u64>
-    ensures { result ≡ base_by picks.now }
+/// The place in a section that a pick says.
+fn place_of(pick: Pick) -> Option<u64>
+    ensures { result ≡ option_and_then as_place (value_in pick.class pick.number) }
 {
-    place_of(picks.str_offsets_base)
+    match pick.class {
+        Class::SecOffset | Class::Num => Some(pick.number),
+        _ => None,
+    }
+}
+
+/// The text of a value; `base` is the unit's str_offsets_base.
+fn text_of<'a>(
+    sections: &Sections<'a>,
+    unit: &Unit,
+    base: Option<u64>,
+    value: Option<Value>,
+) -> Option<&'a [u8]>
+    ensures { option_copied result ≡ text_by sections.now unit.now base value }
+{
+    match value {
+        Some(value) => read_text(sections, sections.info, unit.wide, base, value),
+        None => None,
+    }
 }
 
 /// What the root says of the unit.
@@ -51,14 +69,14 @@ pub fn base_of(picks: &Picks) -> Option<u64>
 pub fn make_root<'a>(sections: &Sections<'a>, unit: &Unit, at: u32, picks: &Picks) -> Root<'a>
     ensures { result ≡ root_by sections.now unit.now at picks.now }
 {
-    let base = base_of(picks);
+    let base = place_of(picks.pick(Slot::StrOffsetsBase));
     Root {
         at: u64::from(at),
-        low: unpack(pack_low(picks.low)),
-        stmt_list: place_of(picks.stmt_list),
-        comp_dir: text_of(sections, unit, base, picks.comp_dir),
+        low: picks.pick(Slot::Low).value(),
+        stmt_list: place_of(picks.pick(Slot::StmtList)),
+        comp_dir: text_of(sections, unit, base, picks.pick(Slot::CompDir).value()),
         str_offsets_base: base,
-        addr_base: place_of(picks.addr_base),
-        rnglists_base: place_of(picks.rnglists_base),
+        addr_base: place_of(picks.pick(Slot::AddrBase)),
+        rnglists_base: place_of(picks.pick(Slot::RnglistsBase)),
     }
 }

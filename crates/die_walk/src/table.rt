@@ -13,7 +13,7 @@ use crate::heads::EntryList;
 use crate::root::Root;
 use crate::scopes::scope_of;
 use crate::walker::Walker;
-use abbrev_units::{Abbrevs, DwarfFault, Sections, Unit};
+use abbrev_units::{Abbrevs, DwarfFault, Picks, Sections, Unit};
 use leb_cursor::Cursor;
 use std::alloc::Global;
 use std::marker::Model;
@@ -125,28 +125,28 @@ fn entries_of<'a>(sections: &Sections<'a>, unit: &Unit) -> Cursor<'a>
 #[inline(never)]
 #[tactic(auto, using(crate::proofs::WalkLemmas::walked_start, crate::proofs::WalkLemmas::walked_more, crate::proofs::WalkLemmas::walked_end, crate::proofs::WalkLemmas::walked_stopped, crate::proofs::WalkLemmas::step_short, crate::proofs::WalkLemmas::step_shorter, crate::proofs::WalkLemmas::short_start))]
 fn walk_all<'a>(
-    sections: &Sections<'a>,
-    unit: &Unit,
+    walker: &mut Walker<'_, 'a>,
     abbrevs: &Abbrevs,
-    walker: &mut Walker<'a>,
+    entries: Cursor<'a>,
 ) -> Result<(), Stop<DwarfFault>>
-    requires ordered { unit.now.body ≤ unit.now.end }
-    requires inside { unit.now.end ≤ length sections.now.info }
-    requires small { length sections.now.info ≤ 2 ^ 29 }
+    requires start { entries ≡ entries_ahead walker.old.own.sections walker.old.own.unit }
+    requires ordered { walker.old.own.unit.body ≤ walker.old.own.unit.end }
+    requires inside { walker.old.own.unit.end ≤ length walker.old.own.sections.info }
+    requires small { length walker.old.own.sections.info ≤ 2 ^ 29 }
     requires dies { walker.old.dies ≡ [] }
     requires levels { walker.old.open_levels ≡ [] }
-    requires strs { walker.old.strs ≡ sections.now.strs }
-    ensures { TableOf result walker.new (entry_table sections.now unit.now abbrevs.now) }
+    ensures { TableOf result walker.new (entry_table walker.old.own.sections walker.old.own.unit abbrevs.now) }
 {
-    let mut cursor = entries_of(sections, unit);
+    let mut cursor = entries;
+    let mut picks = Picks::new();
     'entries: loop {
-        match walker.step(sections, unit, abbrevs, &mut cursor) {
+        match walker.step(abbrevs, &mut picks, &mut cursor) {
             Ok(true) => {}
             Ok(false) => break,
             Err(stop) => return Err(stop),
         }
     }
-    walker.round(sections, unit)?;
+    walker.round()?;
     Ok(())
 }
 
@@ -168,12 +168,15 @@ pub fn walk<'a>(
     requires inside { unit.now.end ≤ length sections.now.info }
     ensures { Gives result (entry_table sections.now unit.now abbrevs.now) }
 {
-    if sections.info.len() > FILE_LIMIT {
+    if sections.info.len() > FILE_LIMIT
+        || sections.strs.len() > FILE_LIMIT
+        || sections.line_str.len() > FILE_LIMIT
+    {
         return Err(Stop::NoMemory);
     }
     let room = unit.end.saturating_sub(unit.body) / BYTES_A_KEPT_ENTRY;
-    let mut walker = Walker::with_room(alloc, sections.strs, room as usize)?;
-    match walk_all(sections, unit, abbrevs, &mut walker) {
+    let mut walker = Walker::with_room(alloc, sections, unit, room as usize)?;
+    match walk_all(&mut walker, abbrevs, entries_of(sections, unit)) {
         Ok(()) => Ok(walker.into_table(alloc)?),
         Err(stop) => Err(stop),
     }

@@ -1,19 +1,20 @@
 //! The walk over the entries of a unit.
-ghost use Rattle.std.specs.Prelude.{◌≡◌, ◌<◌, ◌^◌, ◌==◌, true, false, [], length, Ok, OnOk, IfOk};
+ghost use Rattle.std.specs.Prelude.{◌≡◌, ◌<◌, ◌≤◌, ◌-◌, ◌^◌, ◌==◌, if◌then◌else◌, Some, true, false, [], length, OnOk, IfOk};
 ghost use Rattle.abbrev_units.specs.KeptTags.{is_kept_tag};
+ghost use Rattle.abbrev_units.specs.Picks.{no_picks};
 ghost use Rattle.die_walk.specs.Marks.{value_fault};
 ghost use Rattle.die_walk.specs.Marks.Mark.{Close};
-ghost use Rattle.die_walk.specs.Steps.{innermost, keeps, opened, own_number, begun_by, entered_by, moved, rounded, entered_at, moved_at, step_at, Steps, Moves, IsShort, table_in};
+ghost use Rattle.die_walk.specs.Steps.{innermost, keeps, opened, begun_by, added_by, entered_by, moved, rounded, entered_at, moved_at, step_at, Steps, Moves, IsShort, table_in};
+ghost use Rattle.die_walk.specs.internal.Heads.{AreSmall, Says, homes_of};
 
-use crate::entry_heads::{has_no_site, make_head, make_site};
+use crate::entry_heads::{Frame, Parts, parts_of, push_fit, push_wide};
 use crate::heads::EntryList;
-use crate::picks::{Picks, no_picks, read_picks};
-use crate::quick::{Quick, no_quick, read_brief, read_quick};
-use crate::root::{Root, base_of, make_root};
+use crate::root::{Root, make_root};
 use crate::scopes::list_scopes;
 use crate::table::DieTable;
-use crate::whole::make_whole;
-use abbrev_units::{Abbrev, Abbrevs, DwarfFault, DwarfKind, FormFault, Sections, Unit, in_section};
+use abbrev_units::{
+    Abbrev, Abbrevs, DwarfFault, DwarfKind, FormFault, Picks, Sections, Unit, in_section,
+};
 use leb_cursor::Cursor;
 use std::alloc::Global;
 use std::marker::Model;
@@ -22,21 +23,27 @@ use sym_edges::{Located, OutOfMemory, Sect, Stop};
 /// So many levels of a tree are walked up one by one.
 const SHALLOW: usize = 64;
 
-/// The kept entries so far, what the root said, and for each open list of children the number of the
-/// nearest kept entry around it.
+/// The sections and the unit that are walked over, the kept entries so far, what the root said, and for each open list of children the
+/// number of the nearest kept entry around it.
 #[derive(Drop)]
-pub struct Walker<'a> {
-    pub dies: EntryList<'a>,
-    pub root: Root<'a>,
-    pub open_levels: Vec<Option<u32>>,
+pub struct Walker<'w, 'a> {
+    sections: &'w Sections<'a>,
+    unit: &'w Unit,
+    dies: EntryList<'a>,
+    root: Root<'a>,
+    open_levels: Vec<Option<u32>>,
 }
 
-impl<'a> Model for Walker<'a> {
-    ghost use Rattle.die_walk.specs.Steps.{Walked};
+impl<'w, 'a> Model for Walker<'w, 'a> {
+    ghost use Rattle.std.specs.Prelude.{◌≡◌};
+    ghost use Rattle.die_walk.specs.Steps.{Owned, Walked};
+    ghost use Rattle.die_walk.specs.internal.Heads.{AreSmall, homes_of};
 
     ghost Value = { Walked };
 
-    ghost view = { λ w. record { dies = w.dies.dies; root = w.root; open_levels = w.open_levels.items; strs = w.dies.strs } };
+    ghost view = { λ w. record { dies = w.dies.dies; root = w.root; open_levels = w.open_levels.items; own = record { sections = w.sections.now; unit = w.unit.now } } };
+
+    ghost invariant = { λ w. (w.dies.homes ≡ homes_of w.sections.now) × AreSmall (homes_of w.sections.now) };
 }
 
 /// The fault of a value.
@@ -64,15 +71,23 @@ fn innermost(levels: &[Option<u32>]) -> Option<u32>
     levels[levels.len() - 1]
 }
 
-impl<'a> Walker<'a> {
-    /// A walk that has nothing yet, and room for so many kept entries; names are in this section.
-    pub fn with_room(alloc: Global, strs: &'a [u8], room: usize) -> Result<Walker<'a>, OutOfMemory>
+impl<'w, 'a> Walker<'w, 'a> {
+    /// A walk that has nothing yet, and room for so many kept entries.
+    pub fn with_room(
+        alloc: Global,
+        sections: &'w Sections<'a>,
+        unit: &'w Unit,
+        room: usize,
+    ) -> Result<Walker<'w, 'a>, OutOfMemory>
+        requires { AreSmall (homes_of sections.now) }
         ensures dies { IfOk result (λ walker. walker.dies ≡ []) }
         ensures levels { IfOk result (λ walker. walker.open_levels ≡ []) }
-        ensures strs { IfOk result (λ walker. walker.strs ≡ strs.now) }
+        ensures own { IfOk result (λ walker. walker.own ≡ record { sections = sections.now; unit = unit.now }) }
     {
         Ok(Walker {
-            dies: EntryList::with_room(alloc, strs, room)?,
+            sections,
+            unit,
+            dies: EntryList::with_room(alloc, sections, room)?,
             root: Root {
                 at: 0,
                 low: None,
@@ -86,44 +101,13 @@ impl<'a> Walker<'a> {
         })
     }
 
-    /// Adds the first entry, which is the root.
-    #[tactic(auto, using(crate::proofs::StepLemmas::first_alone))]
-    fn begin(
-        &mut self,
-        sections: &Sections<'a>,
-        unit: &Unit,
-        at: u32,
-        tag: u64,
-        picks: &Picks,
-    ) -> Result<(), OutOfMemory>
-        requires { length self.old.dies ≡ 0 }
-        ensures { OnOk result (self.new ≡ begun_by sections.now unit.now self.old at tag picks.now) }
-    {
-        let parent = innermost(self.open_levels.as_slice());
-        let whole = make_whole(sections, unit, base_of(picks), at, parent, tag, picks);
-        self.dies.push_whole(at, whole)?;
-        self.root = make_root(sections, unit, at, picks);
-        Ok(())
-    }
-
-    /// Makes a root where the unit has no entry.
-    #[tactic(auto, using(crate::proofs::StepLemmas::first_alone, crate::proofs::StepLemmas::begun_none), unfolding(crate::specs::Steps::rounded))]
-    pub fn round(&mut self, sections: &Sections<'a>, unit: &Unit) -> Result<(), OutOfMemory>
-        requires { unit.now.body < 2 ^ 32 }
-        ensures { OnOk result (self.new ≡ rounded sections.now unit.now self.old) }
-    {
-        if !self.dies.is_empty() {
-            return Ok(());
-        }
-        let picks = no_picks();
-        self.begin(sections, unit, unit.body as u32, 0, &picks)
-    }
-
     /// The table that the walk made. The room for open lists of children has doubled as they were opened, so it says whether the tree is deep.
     pub fn into_table(self, alloc: Global) -> Result<DieTable<'a>, OutOfMemory>
         ensures { IfOk result (λ table. table ≡ table_in self.entry) }
     {
         let Walker {
+            sections: _,
+            unit: _,
             mut dies,
             root,
             open_levels,
@@ -131,6 +115,118 @@ impl<'a> Walker<'a> {
         dies.shrink();
         let near = list_scopes(alloc, &dies, open_levels.capacity() > SHALLOW)?;
         Ok(DieTable::of(root, dies, near))
+    }
+
+    /// Where an entry stands.
+    #[inline(always)]
+    fn frame(&self, at: u32) -> Frame
+        ensures { result ≡ record { at = at; parent = innermost self.now.open_levels } }
+    {
+        Frame {
+            at,
+            parent: innermost(self.open_levels.as_slice()),
+        }
+    }
+
+    /// What an entry says beside its tag, its addresses and its call.
+    #[inline(always)]
+    fn parts(&self, picks: &Picks, frame: Frame) -> Parts
+        ensures says { Says self.now.own.sections self.now.own.unit self.now.root.str_offsets_base picks.now result }
+        ensures frame { result.frame ≡ frame }
+    {
+        parts_of(self.sections, self.unit, &self.root, picks, frame)
+    }
+
+    /// Adds a kept entry by what was picked, where it fits into a head and a site; false where it does not, and nothing is added.
+    #[inline(always)]
+    fn add_fit(&mut self, picks: &Picks, at: u32, tag: u64) -> Result<bool, OutOfMemory>
+        ensures added { IfOk result (λ fits. fits ≡ true → self.new ≡ added_by self.old.own.sections self.old.own.unit self.old at tag picks.now) }
+        ensures same { IfOk result (λ fits. fits ≡ false → self.new ≡ self.old) }
+    {
+        let parts = self.parts(picks, self.frame(at));
+        push_fit(&mut self.dies, parts, tag, picks)
+    }
+
+    /// Adds a kept entry by what was picked, whatever it may be. It stands alone, since few are so.
+    #[inline(never)]
+    fn add_wide(&mut self, picks: &Picks, at: u32, tag: u64) -> Result<(), OutOfMemory>
+        ensures { OnOk result (self.new ≡ added_by self.old.own.sections self.old.own.unit self.old at tag picks.now) }
+    {
+        let parts = self.parts(picks, self.frame(at));
+        push_wide(&mut self.dies, parts, tag, picks)
+    }
+
+    /// Adds a kept entry by what was picked.
+    #[inline(always)]
+    fn add(&mut self, picks: &Picks, at: u32, tag: u64) -> Result<(), OutOfMemory>
+        ensures { OnOk result (self.new ≡ added_by self.old.own.sections self.old.own.unit self.old at tag picks.now) }
+    {
+        if self.add_fit(picks, at, tag)? {
+            return Ok(());
+        }
+        self.add_wide(picks, at, tag)
+    }
+
+    /// Adds the first entry, which is the root, by what was picked.
+    #[inline(never)]
+    #[tactic(auto, using(crate::proofs::StepLemmas::begun_is))]
+    fn begin(&mut self, picks: &Picks, at: u32, tag: u64) -> Result<(), OutOfMemory>
+        requires { length self.old.dies ≡ 0 }
+        ensures { OnOk result (self.new ≡ begun_by self.old.own.sections self.old.own.unit self.old at tag picks.now) }
+    {
+        self.root = make_root(self.sections, self.unit, at, picks);
+        self.add(picks, at, tag)
+    }
+
+    /// Makes a root where the unit has no entry.
+    #[tactic(auto, using(crate::proofs::StepLemmas::begun_none), unfolding(crate::specs::Steps::rounded))]
+    pub fn round(&mut self) -> Result<(), OutOfMemory>
+        requires { self.old.own.unit.body < 2 ^ 32 }
+        ensures { OnOk result (self.new ≡ rounded self.old.own.sections self.old.own.unit self.old) }
+    {
+        if !self.dies.is_empty() {
+            return Ok(());
+        }
+        let body = self.unit.body as u32;
+        self.begin(&Picks::new(), body, 0)
+    }
+
+    /// Adds a kept entry that is not the first, and leaves no pick. It stands alone, so that the loop over entries has the registers for
+    /// itself.
+    #[inline(never)]
+    #[tactic(auto, unfolding(crate::specs::Steps::entered_by))]
+    fn add_picked(&mut self, picks: &mut Picks, at: u32, tag: u64) -> Result<(), OutOfMemory>
+        requires kept { is_kept_tag tag ≡ true }
+        requires later { (length self.old.dies == 0) ≡ false }
+        ensures added { OnOk result (self.new ≡ entered_by self.old.own.sections self.old.own.unit self.old at tag picks.old) }
+        ensures cleared { picks.new ≡ no_picks }
+    {
+        let added = self.add(picks, at, tag);
+        picks.clear();
+        added
+    }
+
+    /// Adds an entry that is kept, and leaves no pick.
+    #[tactic(auto, unfolding(crate::specs::Steps::entered_by))]
+    fn add_any(&mut self, picks: &mut Picks, at: u32, tag: u64) -> Result<(), OutOfMemory>
+        requires kept { keeps self.old tag ≡ true }
+        ensures added { OnOk result (self.new ≡ entered_by self.old.own.sections self.old.own.unit self.old at tag picks.old) }
+        ensures cleared { picks.new ≡ no_picks }
+    {
+        if !self.dies.is_empty() {
+            return self.add_picked(picks, at, tag);
+        }
+        let added = self.begin(picks, at, tag);
+        picks.clear();
+        added
+    }
+
+    /// Closes a list of children.
+    #[tactic(auto, unfolding(crate::specs::Steps::moved))]
+    fn leave(&mut self)
+        ensures { self.new ≡ moved self.old.own.sections self.old.own.unit self.old Close }
+    {
+        let _level = self.open_levels.pop();
     }
 
     /// Whether an entry of an abbreviation is kept: by its tag, or since it is the first.
@@ -141,296 +237,88 @@ impl<'a> Walker<'a> {
         self.dies.is_empty() || found.is_kept()
     }
 
-    /// Adds a kept entry.
-    #[tactic(auto, using(crate::proofs::StepLemmas::first_alone), unfolding(crate::specs::Steps::entered_by))]
-    fn add(
-        &mut self,
-        sections: &Sections<'a>,
-        unit: &Unit,
-        at: u32,
-        tag: u64,
-        picks: &Picks,
-    ) -> Result<(), OutOfMemory>
-        requires { keeps self.old tag ≡ true }
-        ensures { OnOk result (self.new ≡ entered_by sections.now unit.now self.old at tag picks.now) }
-    {
-        if self.dies.is_empty() {
-            return self.begin(sections, unit, at, tag, picks);
-        }
-        let parent = innermost(self.open_levels.as_slice());
-        let base = self.root.str_offsets_base;
-        let whole = make_whole(sections, unit, base, at, parent, tag, picks);
-        self.dies.push_whole(at, whole)?;
-        Ok(())
-    }
-
-    /// Closes a list of children.
-    #[tactic(auto, unfolding(crate::specs::Steps::moved))]
-    fn leave(&mut self, sections: &Sections<'a>, unit: &Unit)
-        ensures { self.new ≡ moved sections.now unit.now self.old Close }
-    {
-        let _level = self.open_levels.pop();
-    }
-
-    /// Adds a kept entry that is not the first, by what was picked; false where it does not fit, and nothing is added.
-    #[inline(always)]
-    #[tactic(auto, unfolding(crate::specs::Steps::entered_by))]
-    fn add_quick(
-        &mut self,
-        sections: &Sections<'a>,
-        unit: &Unit,
-        at: u32,
-        tag: u64,
-        quick: &Quick,
-    ) -> Result<bool, OutOfMemory>
-        requires kept { is_kept_tag tag ≡ true }
-        requires later { (length self.old.dies == 0) ≡ false }
-        requires strs { self.old.strs ≡ sections.now.strs }
-        ensures added { IfOk result (λ fits. fits ≡ true → self.new ≡ entered_by sections.now unit.now self.old at tag quick.now) }
-        ensures same { IfOk result (λ fits. fits ≡ false → self.new ≡ self.old) }
-    {
-        let parent = innermost(self.open_levels.as_slice());
-        let root = &self.root;
-        let Some(head) = make_head(
-            sections,
-            unit,
-            root.str_offsets_base,
-            at,
-            parent,
-            tag,
-            quick,
-        ) else {
-            return Ok(false);
-        };
-        if has_no_site(quick) {
-            self.dies.push_alone(head)?;
-            return Ok(true);
-        }
-        let Some(site) = make_site(quick) else {
-            return Ok(false);
-        };
-        self.dies.push_site(head, site)?;
-        Ok(true)
-    }
-
-    /// Adds a kept entry that may not fit into a head, by what was picked. It stands alone, so that others need no places for what
-    /// it holds.
+    /// Takes an entry in by the specifications of its values, without its children, and says whether it is kept: the first, which is the root, one of which the takes say
+    /// nothing, or one with a fault.
     #[inline(never)]
-    fn add_wide(
-        &mut self,
-        sections: &Sections<'a>,
-        unit: &Unit,
-        at: u32,
-        tag: u64,
-        quick: &Quick,
-    ) -> Result<(), OutOfMemory>
-        requires { keeps self.old tag ≡ true }
-        ensures { OnOk result (self.new ≡ entered_by sections.now unit.now self.old at tag quick.now) }
-    {
-        let picks = quick.to_picks();
-        self.add(sections, unit, at, tag, &picks)?;
-        Ok(())
-    }
-
-    /// Adds a kept entry that is not the first, by what was picked.
-    #[inline]
-    fn add_picked(
-        &mut self,
-        sections: &Sections<'a>,
-        unit: &Unit,
-        at: u32,
-        tag: u64,
-        quick: &Quick,
-    ) -> Result<(), OutOfMemory>
-        requires kept { keeps self.old tag ≡ true }
-        requires later { (length self.old.dies == 0) ≡ false }
-        requires strs { self.old.strs ≡ sections.now.strs }
-        ensures { OnOk result (self.new ≡ entered_by sections.now unit.now self.old at tag quick.now) }
-    {
-        if self.add_quick(sections, unit, at, tag, quick)? {
-            return Ok(());
-        }
-        self.add_wide(sections, unit, at, tag, quick)?;
-        Ok(())
-    }
-
-    /// Takes a kept entry in, without its children, whatever its values may be.
-    #[inline(never)]
-    #[tactic(auto, using(crate::proofs::StepLemmas::taken, crate::proofs::StepLemmas::taken_refused))]
-    fn take_any(
-        &mut self,
-        sections: &Sections<'a>,
-        unit: &Unit,
-        cursor: &mut Cursor<'a>,
-        at: u32,
-        found: &Abbrev<'_>,
-    ) -> Result<(), Stop<DwarfFault>>
-        requires { keeps self.old found.now.tag ≡ true }
-        ensures { Moves result self.new cursor.new (entered_at sections.now unit.now self.old at found.now cursor.old) }
-    {
-        let picks = match read_picks(cursor, found.specs()) {
-            Ok(picks) => picks,
-            Err(fault) => return Err(Stop::Fault(value_fault(fault))),
-        };
-        self.add(sections, unit, at, found.tag(), &picks)?;
-        Ok(())
-    }
-
-    /// Takes a kept entry in that is not the first, without its children, where a name and whether it is a declaration matter and nothing
-    /// else; false where it is another, and nothing is taken.
-    #[inline(always)]
-    fn take_brief(
-        &mut self,
-        sections: &Sections<'a>,
-        unit: &Unit,
-        cursor: &mut Cursor<'a>,
-        at: u32,
-        found: &Abbrev<'_>,
-    ) -> Result<bool, OutOfMemory>
-        requires kept { is_kept_tag found.now.tag ≡ true }
-        requires later { (length self.old.dies == 0) ≡ false }
-        requires strs { self.old.strs ≡ sections.now.strs }
-        ensures taken { IfOk result (λ took. took ≡ true → entered_at sections.now unit.now self.old at found.now cursor.old ≡ Ok (self.new, cursor.new)) }
-        ensures same { IfOk result (λ took. took ≡ false → self.new ≡ self.old) }
-        ensures still { IfOk result (λ took. took ≡ false → cursor.new ≡ cursor.old) }
-    {
-        let mut quick = no_quick();
-        let mut behind = cursor.fork();
-        if !read_brief(&mut quick, &mut behind, found) {
-            return Ok(false);
-        }
-        if !self.add_quick(sections, unit, at, found.tag(), &quick)? {
-            return Ok(false);
-        }
-        *cursor = behind;
-        Ok(true)
-    }
-
-    /// Takes a kept entry in that is not the first, without its children, by a short way; false where there is none, and nothing is taken.
-    /// It stands alone, so that the entries that `take_brief` takes need no places for values.
-    #[inline(never)]
-    fn take_picked(
-        &mut self,
-        sections: &Sections<'a>,
-        unit: &Unit,
-        cursor: &mut Cursor<'a>,
-        at: u32,
-        found: &Abbrev<'_>,
-    ) -> Result<bool, OutOfMemory>
-        requires kept { is_kept_tag found.now.tag ≡ true }
-        requires later { (length self.old.dies == 0) ≡ false }
-        requires strs { self.old.strs ≡ sections.now.strs }
-        ensures taken { IfOk result (λ took. took ≡ true → entered_at sections.now unit.now self.old at found.now cursor.old ≡ Ok (self.new, cursor.new)) }
-        ensures same { IfOk result (λ took. took ≡ false → self.new ≡ self.old) }
-        ensures still { IfOk result (λ took. took ≡ false → cursor.new ≡ cursor.old) }
-    {
-        let mut quick = no_quick();
-        let mut behind = cursor.fork();
-        if !read_quick(&mut quick, &mut behind, found) {
-            return Ok(false);
-        }
-        self.add_picked(sections, unit, at, found.tag(), &quick)?;
-        *cursor = behind;
-        Ok(true)
-    }
-
-    /// Passes an entry that is not kept, without its children, whatever its values may be.
-    #[inline(never)]
-    #[tactic(auto, using(crate::proofs::StepLemmas::passed_over, crate::proofs::StepLemmas::passed_refused))]
+    #[tactic(auto, using(crate::proofs::StepLemmas::passed_over, crate::proofs::StepLemmas::passed_refused, crate::proofs::StepLemmas::taken, crate::proofs::StepLemmas::taken_refused))]
     fn take_slowly(
         &mut self,
-        sections: &Sections<'a>,
-        unit: &Unit,
+        picks: &mut Picks,
         cursor: &mut Cursor<'a>,
         at: u32,
         found: &Abbrev<'_>,
-    ) -> Result<(), Stop<DwarfFault>>
-        requires { keeps self.old found.now.tag ≡ false }
-        ensures { Moves result self.new cursor.new (entered_at sections.now unit.now self.old at found.now cursor.old) }
-    {
-        match found.skip(cursor) {
-            Ok(()) => Ok(()),
-            Err(fault) => Err(Stop::Fault(value_fault(fault))),
-        }
-    }
-
-    /// Takes in an entry that the short way does not pass, without its children. It stands alone, so that the way past entries that are not
-    /// kept stays short.
-    #[inline(never)]
-    fn take_other(
-        &mut self,
-        sections: &Sections<'a>,
-        unit: &Unit,
-        cursor: &mut Cursor<'a>,
-        at: u32,
-        found: &Abbrev<'_>,
-    ) -> Result<(), Stop<DwarfFault>>
-        requires { self.old.strs ≡ sections.now.strs }
-        ensures { Moves result self.new cursor.new (entered_at sections.now unit.now self.old at found.now cursor.old) }
+    ) -> Result<bool, Stop<DwarfFault>>
+        ensures moves { Moves result self.new cursor.new (entered_at self.old.own.sections self.old.own.unit self.old at found.now cursor.old) }
+        ensures kept { IfOk result (λ kept. kept ≡ keeps self.old found.now.tag) }
+        ensures cleared { OnOk result (picks.new ≡ no_picks) }
     {
         if !self.keeps(found) {
-            return self.take_slowly(sections, unit, cursor, at, found);
+            picks.clear();
+            return match found.skip(cursor) {
+                Ok(()) => Ok(false),
+                Err(fault) => Err(Stop::Fault(value_fault(fault))),
+            };
         }
-        if self.dies.is_empty() {
-            return self.take_any(sections, unit, cursor, at, found);
+        match found.read_picks(picks, cursor) {
+            Ok(()) => {}
+            Err(fault) => return Err(Stop::Fault(value_fault(fault))),
         }
-        if self.take_brief(sections, unit, cursor, at, found)? {
-            return Ok(());
-        }
-        if self.take_picked(sections, unit, cursor, at, found)? {
-            return Ok(());
-        }
-        self.take_any(sections, unit, cursor, at, found)
+        self.add_any(picks, at, found.tag())?;
+        Ok(true)
     }
 
-    /// Takes in an entry that the short way does not pass, without its children, with a cursor and an abbreviation of its own: so those of the
-    /// loop over entries stay in registers.
+    /// The same, with a cursor and an abbreviation of its own: so those of the loop over entries stay in registers.
     #[inline(always)]
     fn take_apart(
         &mut self,
-        sections: &Sections<'a>,
-        unit: &Unit,
+        picks: &mut Picks,
         cursor: &mut Cursor<'a>,
         at: u32,
         found: &Abbrev<'_>,
-    ) -> Result<(), Stop<DwarfFault>>
-        requires { self.old.strs ≡ sections.now.strs }
-        ensures { Moves result self.new cursor.new (entered_at sections.now unit.now self.old at found.now cursor.old) }
+    ) -> Result<bool, Stop<DwarfFault>>
+        ensures moves { Moves result self.new cursor.new (entered_at self.old.own.sections self.old.own.unit self.old at found.now cursor.old) }
+        ensures kept { IfOk result (λ kept. kept ≡ keeps self.old found.now.tag) }
+        ensures cleared { OnOk result (picks.new ≡ no_picks) }
     {
         let mut behind = cursor.fork();
         let other = found.fork();
-        let taken = self.take_other(sections, unit, &mut behind, at, &other);
+        let taken = self.take_slowly(picks, &mut behind, at, &other);
         *cursor = behind;
         taken
     }
 
-    /// Takes an entry in, without its children.
+    /// Takes an entry in, without its children, and says whether it is kept.
     #[inline(always)]
-    #[tactic(auto, using(crate::proofs::StepLemmas::passed_over))]
+    #[tactic(auto, using(crate::proofs::StepLemmas::passed_by, crate::proofs::StepLemmas::taken))]
     fn take_entry(
         &mut self,
-        sections: &Sections<'a>,
-        unit: &Unit,
+        picks: &mut Picks,
         cursor: &mut Cursor<'a>,
         at: u32,
         found: &Abbrev<'_>,
-    ) -> Result<(), Stop<DwarfFault>>
-        requires { self.old.strs ≡ sections.now.strs }
-        ensures { Moves result self.new cursor.new (entered_at sections.now unit.now self.old at found.now cursor.old) }
+    ) -> Result<bool, Stop<DwarfFault>>
+        requires picks { picks.old ≡ no_picks }
+        ensures moves { Moves result self.new cursor.new (entered_at self.old.own.sections self.old.own.unit self.old at found.now cursor.old) }
+        ensures kept { IfOk result (λ kept. kept ≡ keeps self.old found.now.tag) }
+        ensures cleared { OnOk result (picks.new ≡ no_picks) }
     {
-        if !self.keeps(found) && found.pass(cursor) {
-            return Ok(());
+        if self.dies.is_empty() || !found.read(picks, cursor) {
+            return self.take_apart(picks, cursor, at, found);
         }
-        self.take_apart(sections, unit, cursor, at, found)
+        if !found.is_kept() {
+            return Ok(false);
+        }
+        self.add_picked(picks, at, found.tag())?;
+        Ok(true)
     }
 
-    /// The number of the nearest kept entry around an entry's children.
-    fn own_number(&self, found: &Abbrev<'_>) -> Option<u32>
-        requires { length self.now.dies < 2 ^ 32 }
-        ensures { result ≡ own_number self.now found.now.tag }
+    /// The number of the nearest kept entry around the children of an entry that was taken in last.
+    fn own_number(&self, kept: bool) -> Option<u32>
+        requires { kept ≡ true → (1 ≤ length self.now.dies) × (length self.now.dies ≤ 2 ^ 32) }
+        ensures { result ≡ (if kept then Some (length self.now.dies - 1) else innermost self.now.open_levels) }
     {
-        if self.keeps(found) {
-            return Some(self.dies.len() as u32);
+        if kept {
+            return Some((self.dies.len() - 1) as u32);
         }
         innermost(self.open_levels.as_slice())
     }
@@ -444,27 +332,27 @@ impl<'a> Walker<'a> {
     }
 
     /// Takes an entry in, and opens the list of its children.
-    #[tactic(auto, using(crate::proofs::StepLemmas::moved_alone, crate::proofs::StepLemmas::moved_opened, crate::proofs::StepLemmas::moved_refused))]
+    #[tactic(auto, using(crate::proofs::StepLemmas::moved_plain, crate::proofs::StepLemmas::moved_refused, crate::proofs::StepLemmas::kept_few))]
     fn enter(
         &mut self,
-        sections: &Sections<'a>,
-        unit: &Unit,
+        picks: &mut Picks,
         cursor: &mut Cursor<'a>,
         at: u32,
         found: &Abbrev<'_>,
     ) -> Result<(), Stop<DwarfFault>>
         requires few { length self.old.dies < 2 ^ 32 }
-        requires strs { self.old.strs ≡ sections.now.strs }
-        ensures { Moves result self.new cursor.new (moved_at sections.now unit.now self.old at found.now cursor.old) }
+        requires picks { picks.old ≡ no_picks }
+        ensures moves { Moves result self.new cursor.new (moved_at self.old.own.sections self.old.own.unit self.old at found.now cursor.old) }
+        ensures cleared { OnOk result (picks.new ≡ no_picks) }
     {
-        if !found.children() {
-            return self.take_entry(sections, unit, cursor, at, found);
-        }
-        let own = self.own_number(found);
-        match self.take_entry(sections, unit, cursor, at, found) {
-            Ok(()) => {}
+        let kept = match self.take_entry(picks, cursor, at, found) {
+            Ok(kept) => kept,
             Err(stop) => return Err(stop),
+        };
+        if !found.children() {
+            return Ok(());
         }
+        let own = self.own_number(kept);
         self.open(own)?;
         Ok(())
     }
@@ -473,14 +361,14 @@ impl<'a> Walker<'a> {
     #[tactic(auto, using(crate::proofs::WalkLemmas::step_end, crate::proofs::WalkLemmas::step_cut, crate::proofs::WalkLemmas::step_close, crate::proofs::WalkLemmas::step_unknown, crate::proofs::WalkLemmas::step_entry, crate::proofs::WalkLemmas::step_stopped))]
     pub fn step(
         &mut self,
-        sections: &Sections<'a>,
-        unit: &Unit,
         abbrevs: &Abbrevs,
+        picks: &mut Picks,
         cursor: &mut Cursor<'a>,
     ) -> Result<bool, Stop<DwarfFault>>
         requires short { IsShort (length self.old.dies) cursor.old }
-        requires strs { self.old.strs ≡ sections.now.strs }
-        ensures step { Steps result self.new cursor.new (step_at sections.now unit.now abbrevs.now self.old cursor.old) }
+        requires picks { picks.old ≡ no_picks }
+        ensures step { Steps result self.new cursor.new (step_at self.old.own.sections self.old.own.unit abbrevs.now self.old cursor.old) }
+        ensures cleared { OnOk result (picks.new ≡ no_picks) }
         ensures still { IfOk result (λ went. went ≡ false → self.new ≡ self.old) }
     {
         if cursor.is_at_end() {
@@ -492,7 +380,7 @@ impl<'a> Walker<'a> {
             Err(fault) => return Err(Stop::Fault(in_section(Sect::Info, fault))),
         };
         if code == 0 {
-            self.leave(sections, unit);
+            self.leave();
             return Ok(true);
         }
         let Some(found) = abbrevs.find(code) else {
@@ -502,7 +390,7 @@ impl<'a> Walker<'a> {
                 at,
             }));
         };
-        match self.enter(sections, unit, cursor, at as u32, &found) {
+        match self.enter(picks, cursor, at as u32, &found) {
             Ok(()) => Ok(true),
             Err(stop) => Err(stop),
         }

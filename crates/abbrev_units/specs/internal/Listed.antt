@@ -1,20 +1,15 @@
--- Abbreviations whose attributes, steps and takes stand in one list each.
-use Rattle.std.specs.Prelude.{◌≡◌, ◌≤◌, List, ◌++◌, length, drop, map, slice_range, Option, None, Some, Result, Ok, Err}
+-- Abbreviations whose attributes and takes stand in one list each.
+use Rattle.std.specs.Prelude.{◌≡◌, ◌≤◌, true, List, ◌++◌, length, drop, map, slice_range, Option, None, Some, Result, Ok, Err}
 use Rattle.std.specs.List.{AllByRecursion}
 use Rattle.sym_edges.specs.declared.fault.Stop.{Stop}
 use Rattle.sym_edges.specs.declared.fault.Stop.TheVariants.{Fault, NoMemory}
 use Rattle.leb_cursor.specs.Ahead.{Ahead}
 use Rattle.abbrev_units.specs.declared.lists.Lists.{Lists}
 use Rattle.abbrev_units.specs.declared.lists.Run.{Run}
-use Rattle.abbrev_units.specs.declared.lists.ShortWay.{ShortWay}
-use Rattle.abbrev_units.specs.declared.lists.ShortWay.TheVariants.{Missing, Over, To}
 use Rattle.abbrev_units.specs.declared.lists.Head.{Head}
-use Rattle.abbrev_units.specs.declared.plan.Step.{Step}
-use Rattle.abbrev_units.specs.declared.take.Take.{Take}
 use Rattle.abbrev_units.specs.SpecFields.{SpecFields, Abbrev}
-use Rattle.abbrev_units.specs.Takes.{AreTakes}
 use Rattle.abbrev_units.specs.KeptTags.{is_kept_tag}
-use Rattle.abbrev_units.specs.internal.Plans.{ended, IsPlan}
+use Rattle.abbrev_units.specs.internal.Takes.{AreTakes}
 
 -- the members of a run, which are all there
 abbrev pub part : {A : Type 0} → Run → List A → List A
@@ -23,12 +18,6 @@ part run xs = slice_range xs run.from run.to
 abbrev pub IsInside : {A : Type 0} → Run → List A → Type 0
 IsInside run xs = (run.from ≤ run.to) × (run.to ≤ length xs)
 
--- a short way is one over the values of these attributes by some of these steps, or one to those that are asked for by some of these takes
-abbrev pub IsWay : ShortWay → List Step → List Take → List SpecFields → Type 0
-IsWay Missing steps takes specs = Prim.Unit {0}
-IsWay (Over run tail) steps takes specs = IsInside run steps × IsPlan (ended (part run steps) tail) specs
-IsWay (To run) steps takes specs = IsInside run takes × AreTakes (part run takes) specs
-
 -- an abbreviation, and all of a table
 abbrev pub abbrev_in : List SpecFields → Head → Abbrev
 abbrev_in specs head = record { code = head.code; tag = head.tag; children = head.children; specs = part head.specs specs }
@@ -36,11 +25,12 @@ abbrev_in specs head = record { code = head.code; tag = head.tag; children = hea
 abbrev pub abbrevs_in : List SpecFields → List Head → List Abbrev
 abbrevs_in specs heads = map (abbrev_in specs) heads
 
--- the lists have what an abbreviation names of them, its short way is one, and it says whether its entries are kept
+-- the lists have what an abbreviation names of them, its takes are those of its attributes, and it says whether its entries are kept
 pub record IsHeld (lists : Lists) (head : Head) : Type 0 where
   pub kept : head.kept ≡ is_kept_tag head.tag
   pub specs : IsInside head.specs lists.specs.items
-  pub way : IsWay head.way lists.steps.items lists.takes.items (part head.specs lists.specs.items)
+  pub takes : IsInside head.takes lists.takes.items
+  pub are : head.has_takes ≡ true → AreTakes head.kept (part head.takes lists.takes.items) head.tail (part head.specs lists.specs.items)
 
 abbrev pub AreHeld : Lists → List Head → Type 0
 AreHeld lists heads = AllByRecursion (IsHeld lists) heads
@@ -51,7 +41,6 @@ Starts before after = after ≡ before ++ drop (length before) after
 
 pub record Grown (before after : Lists) : Type 0 where
   pub specs : Starts before.specs.items after.specs.items
-  pub steps : Starts before.steps.items after.steps.items
   pub takes : Starts before.takes.items after.takes.items
 
 -- what a call that leaves its value in a variable read, as GivesAt says it of a value

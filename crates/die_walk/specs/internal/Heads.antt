@@ -1,72 +1,97 @@
--- How a table holds a kept entry: a head, and what does not fit into it in a list of its own.
-use Rattle.std.specs.Prelude.{ℕ, ◌<◌, ◌≡◌, ◌==◌, bit_and, Bool, true, false, not, if◌then◌else◌, List, [], ◌∷◌, drop, Option, None, Some, unwrap_or}
+-- How a table holds a kept entry: a head, and where it has more a site, or all that does not fit into a head in a list of its own.
+use Rattle.std.specs.Prelude.{ℕ, ◌<◌, ◌≤◌, ◌≡◌, ◌==◌, ◌/◌, ◌%◌, ◌^◌, ◌*◌, ◌+◌, Bool, true, false, if◌then◌else◌, List, [], ◌∷◌, ◌++◌, length, drop, get_or, ◌-◌, Option, None, Some, unwrap_or}
 use Rattle.std.specs.List.{slice_get}
 use Rattle.std.specs.Option.{option_and_then}
-use Rattle.die_walk.specs.declared.picks.Picks.{Picks}
+use Rattle.leb_cursor.specs.Texts.{front_text}
+use Rattle.abbrev_units.specs.DebugSections.{DebugSections}
+use Rattle.abbrev_units.specs.Picks.{PickFields}
 use Rattle.die_walk.specs.declared.heads.Head.{Head}
-use Rattle.die_walk.specs.declared.heads.Link.{Link}
-use Rattle.die_walk.specs.declared.heads.Link.TheVariants as link
-use Rattle.die_walk.specs.declared.heads.Rest.{Rest}
-use Rattle.die_walk.specs.declared.heads.Rest.TheVariants as rest
-use Rattle.die_walk.specs.declared.texts.Ending.TheVariants as ending
-use Rattle.die_walk.specs.declared.entry_heads.Fit.{Fit}
-use Rattle.die_walk.specs.declared.entry_heads.Fit.TheVariants as fit
-use Rattle.die_walk.specs.Attributes.{as_low, as_high, as_ranges, as_number, line_of}
+use Rattle.die_walk.specs.declared.entry_heads.Links.{Links}
+use Rattle.die_walk.specs.declared.entry_heads.Parts.{Parts}
+use Rattle.die_walk.specs.declared.heads.Home.{Home}
+use Rattle.die_walk.specs.declared.heads.Home.TheVariants as home
+use Rattle.abbrev_units.specs.Attributes.{as_reference, as_flag, as_number, is_elsewhere, is_yes, line_of, or_else}
 use Rattle.die_walk.specs.EntryTable.{DieFields}
-use Rattle.die_walk.specs.internal.Packing.{where_said, text_said}
-use Rattle.die_walk.specs.internal.Sites.{SiteFields}
+use Rattle.die_walk.specs.internal.Sites.{SiteFields, WideFields, Homes, HeldEntries}
+use Rattle.die_walk.specs.Picking.{text_by, die_by}
+use Rattle.abbrev_units.specs.declared.unit.Unit.{Unit}
+
+-- the sections in which texts stand
+abbrev pub homes_of : DebugSections → Homes
+homes_of sections = record { info = sections.info; strs = sections.strs; line_strs = sections.line_str }
+
+-- the text at a place, which has an end
+abbrev pub text_from : List ℕ → ℕ → Option (List ℕ)
+text_from bytes place = Some (unwrap_or (front_text (drop place bytes)) (drop place bytes))
+
+-- a text by where it stands
+abbrev pub text_at_home : Homes → Home → ℕ → Option (List ℕ)
+text_at_home homes home.Missing place = None
+text_at_home homes home.Strs place = text_from homes.strs place
+text_at_home homes home.LineStrs place = text_from homes.line_strs place
+text_at_home homes home.Info place = text_from homes.info place
+text_at_home homes home.Elsewhere place = None
+
+abbrev pub is_text_home : Home → Bool
+is_text_home home.Missing = false
+is_text_home home.Strs = true
+is_text_home home.LineStrs = true
+is_text_home home.Info = true
+is_text_home home.Elsewhere = false
+
+abbrev pub is_elsewhere_home : Home → Bool
+is_elsewhere_home home.Missing = false
+is_elsewhere_home home.Strs = false
+is_elsewhere_home home.LineStrs = false
+is_elsewhere_home home.Info = false
+is_elsewhere_home home.Elsewhere = true
 
 abbrev pub no_site : SiteFields
 no_site = record { low = None; high = None; ranges = None; call_file = None; call_line = 0 }
 
--- the site that values give
-abbrev pub site_by : Picks → SiteFields
+-- the site that picks give
+abbrev pub site_by : PickFields → SiteFields
 site_by picks = record {
-  low = option_and_then as_low picks.low;
-  high = option_and_then as_high picks.high;
-  ranges = option_and_then as_ranges picks.ranges;
+  low = picks.low;
+  high = picks.high;
+  ranges = picks.ranges;
   call_file = option_and_then as_number picks.call_file;
   call_line = line_of (option_and_then as_number picks.call_line);
 }
 
--- a target, where it is the origin, and where it is the declaration
-abbrev pub origin_said : Link → ℕ → Option ℕ
-origin_said link.Missing n = None
-origin_said link.Origin n = Some n
-origin_said link.Spec n = None
+-- what is there only where it is said
+abbrev pub where_said : {A : Type 0} → Bool → A → Option A
+where_said true x = Some x
+where_said false x = None
 
-abbrev pub spec_said : Link → ℕ → Option ℕ
-spec_said link.Missing n = None
-spec_said link.Origin n = None
-spec_said link.Spec n = Some n
-
--- the text at a place, which has an end
-abbrev pub place_said : List ℕ → Bool → ℕ → Option (List ℕ)
-place_said strs true place = text_said ending.Open (drop place strs)
-place_said strs false place = None
-
--- flags of a head, a bit each
-abbrev pub flag_if : Bool → ℕ → ℕ
-flag_if so flag = if so then flag else 0
-
-abbrev pub flag_in : ℕ → ℕ → Bool
-flag_in flag flags = not (bit_and flags flag == 0)
-
+-- the four numbers that a byte of a head holds: whether it has a parent, whether it is a declaration, what its target is (0 nothing, 1 the
+-- origin, 2 the declaration), and where the rest is (0 nowhere, 1 in a site, 2 in a list of its own)
 abbrev pub has_parent : Head → Bool
-has_parent head = flag_in 1 head.flags
-
-abbrev pub has_name : Head → Bool
-has_name head = flag_in 2 head.flags
-
-abbrev pub has_linkage : Head → Bool
-has_linkage head = flag_in 4 head.flags
+has_parent head = head.flags % 2 == 1
 
 abbrev pub is_declaration : Head → Bool
-is_declaration head = flag_in 8 head.flags
+is_declaration head = head.flags / 2 % 2 == 1
 
--- an entry by its head and its site
-abbrev pub slim : List ℕ → Head → SiteFields → DieFields
-slim strs head site = record {
+abbrev pub link_of : Head → ℕ
+link_of head = head.flags / 4 % 4
+
+abbrev pub rest_of : Head → ℕ
+rest_of head = head.flags / 16
+
+-- the same head with a rest
+abbrev pub with_rest : Head → ℕ → ℕ → Head
+with_rest head rest number = record head { flags = head.flags + 16 * rest; number = number }
+
+-- a target, where it is the origin, and where it is the declaration
+abbrev pub origin_said : ℕ → ℕ → Option ℕ
+origin_said link n = where_said (link == 1) n
+
+abbrev pub spec_said : ℕ → ℕ → Option ℕ
+spec_said link n = where_said (link == 2) n
+
+-- an entry by its head and its site, and one whose rest does not fit into these
+abbrev pub slim : Homes → Head → SiteFields → DieFields
+slim homes head site = record {
   at = head.at;
   tag = head.tag;
   parent = where_said (has_parent head) head.parent;
@@ -74,56 +99,85 @@ slim strs head site = record {
   low = site.low;
   high = site.high;
   ranges = site.ranges;
-  origin = origin_said head.link head.target;
-  spec = spec_said head.link head.target;
-  name = place_said strs (has_name head) head.name;
-  name_elsewhere = false;
-  linkage = place_said strs (has_linkage head) head.linkage;
+  origin = origin_said (link_of head) head.target;
+  spec = spec_said (link_of head) head.target;
+  name = text_at_home homes head.name_in head.name;
+  name_elsewhere = is_elsewhere_home head.name_in;
+  linkage = text_at_home homes head.linkage_in head.linkage;
   call_file = site.call_file;
   call_line = site.call_line;
 }
 
+abbrev pub broad : Homes → Head → WideFields → DieFields
+broad homes head wide = record (slim homes head wide.site) { tag = wide.tag; origin = wide.origin; spec = wide.spec }
+
 -- what stands in a list of its own
-abbrev pub site_in : Rest → List SiteFields → ℕ → Option SiteFields
-site_in rest.Nothing sites n = None
-site_in rest.Site sites n = slice_get sites n
-site_in rest.Whole sites n = None
+abbrev pub found_in : {A : Type 0} → ℕ → Head → List A → Option A
+found_in rest head xs = if rest_of head == rest then slice_get xs head.number else None
 
-abbrev pub whole_in : Rest → List DieFields → ℕ → Option DieFields
-whole_in rest.Nothing wholes n = None
-whole_in rest.Site wholes n = None
-whole_in rest.Whole wholes n = slice_get wholes n
+abbrev pub held_by : Homes → Head → Option SiteFields → Option WideFields → DieFields
+held_by homes head site None = slim homes head (unwrap_or site no_site)
+held_by homes head site (Some wide) = broad homes head wide
 
-abbrev pub held_by : List ℕ → Head → Option SiteFields → Option DieFields → DieFields
-held_by strs head site None = slim strs head (unwrap_or site no_site)
-held_by strs head site (Some whole) = record whole { at = head.at }
-
-abbrev pub held_in : List ℕ → List SiteFields → List DieFields → Head → DieFields
-held_in strs sites wholes head = held_by strs head (site_in head.rest sites head.number) (whole_in head.rest wholes head.number)
+abbrev pub held_in : Homes → List SiteFields → List WideFields → Head → DieFields
+held_in homes sites wides head = held_by homes head (found_in 1 head sites) (found_in 2 head wides)
 
 -- what a head leads to is there
-abbrev pub IsThere : ℕ → ℕ → Rest → ℕ → Type 0
-IsThere sites wholes rest.Nothing n = Prim.Unit {0}
-IsThere sites wholes rest.Site n = n < sites
-IsThere sites wholes rest.Whole n = n < wholes
+abbrev pub IsThere : ℕ → ℕ → Head → Type 0
+IsThere sites wides head = (rest_of head ≡ 1 → head.number < sites) × (rest_of head ≡ 2 → head.number < wides)
 
 abbrev pub AreThere : ℕ → ℕ → List Head → Type 0
-AreThere sites wholes [] = Prim.Unit {0}
-AreThere sites wholes (head ∷ heads) = IsThere sites wholes head.rest head.number × AreThere sites wholes heads
+AreThere sites wides [] = Prim.Unit {0}
+AreThere sites wides (head ∷ heads) = IsThere sites wides head × AreThere sites wides heads
 
--- whether a text or a number fits into a head: there is none, or it is this one; or it may not fit
-abbrev pub FitsText : List ℕ → Fit → Option (List ℕ) → Type 0
-FitsText strs fit.Missing text = text ≡ None
-FitsText strs (fit.At n) text = text ≡ text_said ending.Open (drop n strs)
-FitsText strs fit.Wide text = Prim.Unit {0}
+-- where it is said, the last byte is zero
+abbrev pub IsClosed : Bool → List ℕ → Type 0
+IsClosed true bytes = get_or bytes (length bytes - 1) 1 ≡ 0
+IsClosed false bytes = Prim.Unit {0}
 
--- what fits into a head stands in this file
-abbrev pub FitsHere : Fit → Bool → Type 0
-FitsHere fit.Missing elsewhere = elsewhere ≡ false
-FitsHere (fit.At n) elsewhere = elsewhere ≡ false
-FitsHere fit.Wide elsewhere = Prim.Unit {0}
+-- places in the sections of texts fit into four bytes
+pub record AreSmall (homes : Homes) : Type 0 where
+  pub info : length homes.info ≤ 2 ^ 29
+  pub strs : length homes.strs ≤ 2 ^ 29
+  pub line_strs : length homes.line_strs ≤ 2 ^ 29
 
-abbrev pub FitsNumber : Fit → Option ℕ → Type 0
-FitsNumber fit.Missing number = number ≡ None
-FitsNumber (fit.At n) number = number ≡ Some n
-FitsNumber fit.Wide number = Prim.Unit {0}
+-- the place of a text in a section, where there is one
+abbrev pub FitsPlace : List ℕ → Option ℕ → Option (List ℕ) → Type 0
+FitsPlace bytes None text = text ≡ None
+FitsPlace bytes (Some place) text = text ≡ text_from bytes place
+
+-- a target says where an entry leads
+abbrev pub IsTarget : ℕ → ℕ → Links → Type 0
+IsTarget link place links = (origin_said link place ≡ links.origin) × (spec_said link place ≡ links.spec)
+
+-- a head without a rest says what the parts of an entry say
+pub record IsHead (head : Head) (parts : Parts) : Type 0 where
+  pub at : head.at ≡ parts.frame.at
+  pub parent : where_said (has_parent head) head.parent ≡ parts.frame.parent
+  pub declaration : is_declaration head ≡ parts.declaration
+  pub name_in : head.name_in ≡ parts.names.name.home
+  pub name : head.name ≡ parts.names.name.place
+  pub linkage_in : head.linkage_in ≡ parts.names.linkage.home
+  pub linkage : head.linkage ≡ parts.names.linkage.place
+  pub flags : head.flags < 16
+
+-- the same with its tag and its target
+pub record IsWhole (head : Head) (parts : Parts) (tag : ℕ) : Type 0 where
+  pub says : IsHead head parts
+  pub tagged : head.tag ≡ tag
+  pub target : IsTarget (link_of head) head.target parts.links
+
+-- the parts of an entry say what was picked
+pub record Says (sections : DebugSections) (unit : Unit) (base : Option ℕ) (picks : PickFields) (parts : Parts) : Type 0 where
+  pub declared : parts.declaration ≡ is_yes (option_and_then as_flag picks.declaration)
+  pub name : text_at_home (homes_of sections) parts.names.name.home parts.names.name.place ≡ text_by sections unit base picks.name
+  pub elsewhere : is_elsewhere_home parts.names.name.home ≡ is_elsewhere picks.name
+  pub linkage : text_at_home (homes_of sections) parts.names.linkage.home parts.names.linkage.place ≡ or_else (text_by sections unit base picks.linkage) (text_by sections unit base picks.old_linkage)
+  pub origin : parts.links.origin ≡ option_and_then (as_reference unit) picks.origin
+  pub spec : parts.links.spec ≡ option_and_then (as_reference unit) picks.spec
+
+-- an entry was added: it is the one that was picked, where its parts say so
+abbrev pub IsAdded : HeldEntries → HeldEntries → Parts → ℕ → PickFields → Type 0
+IsAdded before after parts tag picks =
+    (sections : DebugSections) (unit : Unit) (base : Option ℕ) → before.homes ≡ homes_of sections → Says sections unit base picks parts
+    → after.dies ≡ before.dies ++ die_by sections unit base parts.frame.at parts.frame.parent tag picks ∷ []

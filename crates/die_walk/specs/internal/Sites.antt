@@ -1,8 +1,7 @@
 -- What an entry says beside its names and its place in the tree.
-use Rattle.std.specs.Prelude.{ℕ, Option}
+use Rattle.std.specs.Prelude.{ℕ, List, Option}
 use Rattle.abbrev_units.specs.declared.value.Value.{Value}
 use Rattle.die_walk.specs.EntryTable.{DieFields}
-use Rattle.std.specs.Prelude.{List}
 
 -- its addresses, and where it is called
 pub record SiteFields : Type 0 where
@@ -12,7 +11,20 @@ pub record SiteFields : Type 0 where
   pub call_file : Option ℕ
   pub call_line : ℕ
 
--- kept entries, and the section that has their names
+-- the same with what does not fit into a head
+pub record WideFields : Type 0 where
+  pub tag : ℕ
+  pub origin : Option ℕ
+  pub spec : Option ℕ
+  pub site : SiteFields
+
+-- the sections that have the texts of entries
+pub record Homes : Type 0 where
+  pub info : List ℕ
+  pub strs : List ℕ
+  pub line_strs : List ℕ
+
+-- kept entries, and the sections that have their names
 pub record HeldEntries : Type 0 where
   pub dies : List DieFields
-  pub strs : List ℕ
+  pub homes : Homes

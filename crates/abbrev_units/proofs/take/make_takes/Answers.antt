@@ -1,38 +1,51 @@
-use Rattle.std.proofs.Common.{None, refl, ◌≡◌, ◌-◌, ◌+◌, [], length, drop, arith}
-use Rattle.abbrev_units.specs.internal.Plans.{in_front}
-use Rattle.abbrev_units.proofs.ListedLemmas.{none_added, starts_here, starts_more}
-use Rattle.abbrev_units.proofs.TakeLemmas.{takes_begin, takes_wider, takes_next, takes_end, put_front}
+use Rattle.std.proofs.Common.{[], ◌∷◌, length, take, drop, sym, subst}
+use Rattle.abbrev_units.specs.internal.Takes.{AreTakes}
+use Rattle.abbrev_units.proofs.ListedLemmas.{added_more, none_added, starts_here, starts_more}
+use Rattle.abbrev_units.proofs.TakeLemmas.{filled_more, filled_none, goes_to, more_taken, takes_begin, takes_joined, takes_next}
 use Rattle.abbrev_units.proofs.take.make_takes.Goals as goal
 
 pub specs-init : goal.specs-init
 specs-init c =
-    let later = c.args.later.now.items in
+    let before = c.args.takes.now.items in
     record {
-      starts = starts_here later;
-      takes = takes_begin None (drop (length later) later) c.args.specs.now (length c.args.specs.now) refl (none_added later) (omega arith);
+      starts = starts_here before;
+      takes = takes_begin c.args.kept (drop (length before) before) c.args.specs.now (none_added before);
+      filled = filled_none c.args.kept c.args.specs.now c.none-filled.result.slots c.none-filled.ensures;
     }
 
-pub specs-preserved-in-Some-passed_size : goal.specs-preserved-in-Some-passed_size
-specs-preserved-in-Some-passed_size c =
-    let follows : c.specs.place ≡ (c.specs.place - 1) + 1 = omega (arith, c.specs-test.true) in
+pub specs-preserved-in-Some-joined : goal.specs-preserved-in-Some-joined
+specs-preserved-in-Some-joined c =
+    let specs = c.args.specs.now in
+    let x = c.spec-item.result in
+    let i = c.specs.spec-index in
+    let kept = c.args.kept in
+    let old = c.specs.filled.slots in
+    let new = c.fill-slot.new.self.slots in
+    let takes = drop (length c.args.takes.now.items) c.specs.takes.items in
+    let taken = more_taken specs i x c.specs-test.true c.spec-item.is in
+    let goes = goes_to kept (take i specs) x.attribute c.attribute.result c.fill-slot.result old new c.specs.invariant.filled c.fill-slot.ensures c.attribute.ensures in
     record {
       starts = c.specs.invariant.starts;
-      takes = takes_wider c.in-Some-wider.wide c.specs.first (drop (length c.args.later.now.items) c.specs.later.items) c.args.specs.now c.index-specs-place.result c.in-Some.row c.in-Some-passed_size.size (c.specs.place - 1) c.specs.place
-          c.specs.invariant.takes follows (grind (arith, c.specs-test.true)) c.index-specs-place.is c.in-Some.ensures c.in-Some-passed_size.ensures c.in-Some-wider.ensures;
+      takes = subst (AreTakes kept takes c.in-Some-joined.sum) (sym taken)
+          (takes_joined kept takes (take i specs) x c.in-Some.row c.fill-slot.result c.specs.bytes c.in-Some-joined.sum c.specs.invariant.takes c.in-Some.ensures goes c.in-Some-joined.ensures);
+      filled = filled_more kept specs i x c.attribute.result c.fill-slot.result old new c.specs.invariant.filled c.fill-slot.ensures c.attribute.ensures taken;
     }
 
 pub specs-preserved : goal.specs-preserved
 specs-preserved c =
-    let before = c.args.later.now.items in
-    let follows : c.specs.place ≡ (c.specs.place - 1) + 1 = omega (arith, c.specs-test.true) in
+    let specs = c.args.specs.now in
+    let x = c.spec-item.result in
+    let i = c.specs.spec-index in
+    let kept = c.args.kept in
+    let old = c.specs.filled.slots in
+    let new = c.fill-slot.new.self.slots in
+    let before = c.args.takes.now.items in
+    let taken = more_taken specs i x c.specs-test.true c.spec-item.is in
+    let goes = goes_to kept (take i specs) x.attribute c.attribute.result c.fill-slot.result old new c.specs.invariant.filled c.fill-slot.ensures c.attribute.ensures in
     record {
-      starts = starts_more before c.specs.later.items c.put.new.later.items (in_front c.specs.first []) c.specs.invariant.starts c.in_ok-put-in-None.ensures;
-      takes = takes_next c.take_of.result c.specs.first (drop (length before) c.specs.later.items) (drop (length before) c.put.new.later.items) c.args.specs.now c.index-specs-place.result c.in-Some.row (c.specs.place - 1) c.specs.place
-          c.specs.invariant.takes follows (grind (arith, c.specs-test.true)) c.index-specs-place.is c.in-Some.ensures (put_front before c.specs.later.items c.put.new.later.items c.specs.first c.specs.invariant.starts c.in_ok-put-in-None.ensures) c.take_of.ensures;
+      starts = starts_more before c.specs.takes.items c.push.new.self.items (c.in-Some-take_of.take ∷ []) c.specs.invariant.starts c.in_ok-push.ensures.items;
+      takes = subst (AreTakes kept (drop (length before) c.push.new.self.items) 0) (sym taken)
+          (takes_next kept (drop (length before) c.specs.takes.items) (drop (length before) c.push.new.self.items) c.in-Some-take_of.take (take i specs) x c.in-Some.row c.fill-slot.result c.specs.bytes
+          c.specs.invariant.takes c.in-Some.ensures goes c.in-Some-take_of.ensures (added_more before c.specs.takes.items c.push.new.self.items (c.in-Some-take_of.take ∷ []) c.specs.invariant.starts c.in_ok-push.ensures.items));
+      filled = filled_more kept specs i x c.attribute.result c.fill-slot.result old new c.specs.invariant.filled c.fill-slot.ensures c.attribute.ensures taken;
     }
-
-pub returns-clause-takes : goal.returns-clause-takes
-returns-clause-takes c made =
-    let before = c.args.later.now.items in
-    takes_end c.specs.first (drop (length before) c.specs.later.items) (drop (length before) c.put-2.new.later.items) c.args.specs.now c.specs.place
-    c.specs.invariant.takes (omega (arith, c.specs-test.false)) (put_front before c.specs.later.items c.put-2.new.later.items c.specs.first c.specs.invariant.starts c.in_ok-put.ensures)

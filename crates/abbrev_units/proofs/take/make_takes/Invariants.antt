@@ -1,12 +1,13 @@
-use Rattle.std.proofs.Common.{length, reverse, drop}
-use Rattle.abbrev_units.specs.Takes.{AreTakes}
+use Rattle.std.proofs.Common.{length, take, drop}
+use Rattle.abbrev_units.specs.internal.Filled.{FilledFor}
 use Rattle.abbrev_units.specs.internal.Listed.{Starts}
-use Rattle.abbrev_units.specs.internal.Plans.{in_front}
+use Rattle.abbrev_units.specs.internal.Takes.{AreTakes}
 use Rattle.abbrev_units.proofs.take.make_takes.Given as goal
 
 abbrev pub invariant-specs : goal.invariant-specs
 invariant-specs l =
     record {
-      starts : Starts l.initial.later.items l.later.items;
-      takes : AreTakes (in_front l.first (reverse (drop (length l.initial.later.items) l.later.items))) (drop l.place l.specs);
+      starts : Starts l.initial.takes.items l.takes.items;
+      takes : AreTakes l.kept (drop (length l.initial.takes.items) l.takes.items) l.bytes (take l.spec-index l.specs);
+      filled : FilledFor l.kept (take l.spec-index l.specs) l.filled.slots;
     }

@@ -1,0 +1,349 @@
+-- For `Filled` and `pick_values`: the first value of each attribute goes to its slot.
+use Rattle.std.proofs.Common.{◌≡◌, ◌<◌, ◌≤◌, ◌+◌, ℕ, Bool, true, false, nat_eq, cond, List, [], ◌∷◌, ◌++◌, length, take, drop, map, get_or, find, Option, None, Some, is_some, Result, Ok, Err, refl, sym, ap, ◌∙◌, ◌||◌, arith}
+use Rattle.std.specs.Option.{option_map}
+use Rattle.std.proofs.lemmas.List.{drop_more, take_all, take-append-drop, map-append}
+use Rattle.sym_edges.specs.Results.{◌>>=◌}
+use Rattle.leb_cursor.specs.Ahead.{Ahead}
+use Rattle.abbrev_units.specs.declared.fault.FormFault.{FormFault}
+use Rattle.abbrev_units.specs.declared.slots.Slot.{Slot}
+use Rattle.abbrev_units.specs.declared.slots.Slot.TheVariants as slot
+use Rattle.abbrev_units.specs.declared.value.Value.{Value}
+use Rattle.abbrev_units.specs.declared.value.Given.{Given}
+use Rattle.abbrev_units.specs.Attributes.{first_of}
+use Rattle.abbrev_units.specs.Picks.{PickFields, IsSlot, first_values, is_asked, kept_by, kept_of, no_picks, pick_of, picks_at, picks_of, put_in, with_picks}
+use Rattle.abbrev_units.specs.SpecFields.{SpecFields}
+use Rattle.abbrev_units.specs.Values.{behind_values, only_ahead, value_at, values_at}
+use Rattle.abbrev_units.specs.internal.Filled.{attributes_of, fill_in, filled_by, free_in, is_among, slot_number}
+
+-- a value, unless one was there before
+abbrev or_value : Option Value → Value → Option Value
+or_value (Some old) value = Some old
+or_value None value = Some value
+
+abbrev note_if : Bool → Option Value → Value → Option Value
+note_if true old value = or_value old value
+note_if false old value = old
+
+-- a value is noted under its attribute
+abbrev noted : PickFields → Value → ℕ → PickFields
+noted picks value attribute = record {
+  low = note_if (nat_eq attribute 0x11) picks.low value;
+  high = note_if (nat_eq attribute 0x12) picks.high value;
+  ranges = note_if (nat_eq attribute 0x55) picks.ranges value;
+  call_file = note_if (nat_eq attribute 0x58) picks.call_file value;
+  call_line = note_if (nat_eq attribute 0x59) picks.call_line value;
+  origin = note_if (nat_eq attribute 0x31) picks.origin value;
+  spec = note_if (nat_eq attribute 0x47) picks.spec value;
+  name = note_if (nat_eq attribute 0x03) picks.name value;
+  linkage = note_if (nat_eq attribute 0x6e) picks.linkage value;
+  old_linkage = note_if (nat_eq attribute 0x2007) picks.old_linkage value;
+  declaration = note_if (nat_eq attribute 0x3c) picks.declaration value;
+  stmt_list = note_if (nat_eq attribute 0x10) picks.stmt_list value;
+  comp_dir = note_if (nat_eq attribute 0x1b) picks.comp_dir value;
+  str_offsets_base = note_if (nat_eq attribute 0x72) picks.str_offsets_base value;
+  addr_base = note_if (nat_eq attribute 0x73) picks.addr_base value;
+  rnglists_base = note_if (nat_eq attribute 0x74) picks.rnglists_base value;
+}
+
+abbrev given : ℕ → Value → Given
+given attribute value = record { attribute = attribute; value = value }
+
+-- one value more at the end of a list
+note_some : (same : Bool) (old value : Value) → note_if same (Some old) value ≡ Some old
+note_some true old value = refl
+note_some false old value = refl
+
+first_by : (wanted attribute : ℕ) (value : Value) (before : Given) (same : Bool) (rest : List Given) → first_of wanted (rest ++ given attribute value ∷ []) ≡ note_if (nat_eq attribute wanted) (first_of wanted rest) value → option_map (λ (g : Given). g.value) (cond same (Some before) (find (λ g. nat_eq g.attribute wanted) (rest ++ given attribute value ∷ []))) ≡ note_if (nat_eq attribute wanted) (option_map (λ (g : Given). g.value) (cond same (Some before) (find (λ g. nat_eq g.attribute wanted) rest))) value
+unfolding first_of
+first_by wanted attribute value before true rest later = sym (note_some (nat_eq attribute wanted) before.value value)
+first_by wanted attribute value before false rest later = later
+
+last_by : (same : Bool) (attribute : ℕ) (value : Value) → option_map (λ (g : Given). g.value) (cond same (Some (given attribute value)) None) ≡ note_if same None value
+last_by true attribute value = refl
+last_by false attribute value = refl
+
+first_more : (wanted attribute : ℕ) (value : Value) (seen : List Given) → first_of wanted (seen ++ given attribute value ∷ []) ≡ note_if (nat_eq attribute wanted) (first_of wanted seen) value
+unfolding first_of
+first_more wanted attribute value [] = last_by (nat_eq attribute wanted) attribute value
+first_more wanted attribute value (before ∷ rest) = first_by wanted attribute value before (nat_eq before.attribute wanted) rest (first_more wanted attribute value rest)
+
+firsts_more : (attribute : ℕ) (value : Value) (seen : List Given) → first_values (seen ++ given attribute value ∷ []) ≡ noted (first_values seen) value attribute
+firsts_more attribute value seen = simp first_more
+
+-- one attribute more at the end of a list
+among_by : (x y later rest : Bool) → later ≡ (x || rest) → (y || later) ≡ (x || (y || rest))
+among_by true true later rest is = refl
+among_by false true later rest is = refl
+among_by true false later rest is = is
+among_by false false later rest is = is
+
+among_more : (wanted attribute : ℕ) (seen : List ℕ) → is_among wanted (seen ++ attribute ∷ []) ≡ (nat_eq attribute wanted || is_among wanted seen)
+among_more wanted attribute [] = refl
+among_more wanted attribute (before ∷ rest) = among_by (nat_eq attribute wanted) (nat_eq before wanted) _ _ (among_more wanted attribute rest)
+
+-- an attribute that nobody asks for
+pub record Unasked (attribute : ℕ) : Type 0 where
+  pub low : nat_eq attribute 0x11 ≡ false
+  pub high : nat_eq attribute 0x12 ≡ false
+  pub ranges : nat_eq attribute 0x55 ≡ false
+  pub origin : nat_eq attribute 0x31 ≡ false
+  pub spec : nat_eq attribute 0x47 ≡ false
+  pub name : nat_eq attribute 0x03 ≡ false
+  pub linkage : nat_eq attribute 0x6e ≡ false
+  pub old_linkage : nat_eq attribute 0x2007 ≡ false
+  pub declaration : nat_eq attribute 0x3c ≡ false
+  pub call_file : nat_eq attribute 0x58 ≡ false
+  pub call_line : nat_eq attribute 0x59 ≡ false
+  pub stmt_list : nat_eq attribute 0x10 ≡ false
+  pub comp_dir : nat_eq attribute 0x1b ≡ false
+  pub str_offsets_base : nat_eq attribute 0x72 ≡ false
+  pub addr_base : nat_eq attribute 0x73 ≡ false
+  pub rnglists_base : nat_eq attribute 0x74 ≡ false
+
+or_parts : (x y : Bool) → (x || y) ≡ false → (x ≡ false) × (y ≡ false)
+or_parts true y is = absurd (grind (arith, is))
+or_parts false y is = (refl, is)
+
+unasked : (attribute : ℕ) → is_asked attribute ≡ false → Unasked attribute
+unasked attribute none =
+    let both0 = or_parts (nat_eq attribute 0x11) _ none in
+    let both1 = or_parts (nat_eq attribute 0x12) _ both0.1 in
+    let both2 = or_parts (nat_eq attribute 0x55) _ both1.1 in
+    let both3 = or_parts (nat_eq attribute 0x31) _ both2.1 in
+    let both4 = or_parts (nat_eq attribute 0x47) _ both3.1 in
+    let both5 = or_parts (nat_eq attribute 0x03) _ both4.1 in
+    let both6 = or_parts (nat_eq attribute 0x6e) _ both5.1 in
+    let both7 = or_parts (nat_eq attribute 0x2007) _ both6.1 in
+    let both8 = or_parts (nat_eq attribute 0x3c) _ both7.1 in
+    let both9 = or_parts (nat_eq attribute 0x58) _ both8.1 in
+    let both10 = or_parts (nat_eq attribute 0x59) _ both9.1 in
+    let both11 = or_parts (nat_eq attribute 0x10) _ both10.1 in
+    let both12 = or_parts (nat_eq attribute 0x1b) _ both11.1 in
+    let both13 = or_parts (nat_eq attribute 0x72) _ both12.1 in
+    let both14 = or_parts (nat_eq attribute 0x73) _ both13.1 in
+    record { low = both0.0; high = both1.0; ranges = both2.0; origin = both3.0; spec = both4.0; name = both5.0; linkage = both6.0; old_linkage = both7.0; declaration = both8.0; call_file = both9.0; call_line = both10.0; stmt_list = both11.0; comp_dir = both12.0; str_offsets_base = both13.0; addr_base = both14.0; rnglists_base = both14.1 }
+
+-- a value goes to the slot of its attribute
+noted_in : (s : Slot) (attribute : ℕ) (value : Value) (first : PickFields) → IsSlot s attribute → noted first value attribute ≡ put_in s (or_value (pick_of s first) value) first
+noted_in slot.Passed attribute value first is =
+    let u = unasked attribute is in
+    rw (u.low, u.high, u.ranges, u.call_file, u.call_line, u.origin, u.spec, u.name, u.linkage, u.old_linkage, u.declaration, u.stmt_list, u.comp_dir, u.str_offsets_base, u.addr_base, u.rnglists_base)
+noted_in _ attribute value first is = ap (noted first value) is
+
+-- a slot is filled where its attribute was among those before
+abbrev filled_with : List ℕ → ℕ → List Bool
+filled_with before attribute =
+    (nat_eq attribute 0x11 || is_among 0x11 before) ∷
+    (nat_eq attribute 0x12 || is_among 0x12 before) ∷
+    (nat_eq attribute 0x55 || is_among 0x55 before) ∷
+    (nat_eq attribute 0x58 || is_among 0x58 before) ∷
+    (nat_eq attribute 0x59 || is_among 0x59 before) ∷
+    (nat_eq attribute 0x31 || is_among 0x31 before) ∷
+    (nat_eq attribute 0x47 || is_among 0x47 before) ∷
+    (nat_eq attribute 0x03 || is_among 0x03 before) ∷
+    (nat_eq attribute 0x6e || is_among 0x6e before) ∷
+    (nat_eq attribute 0x2007 || is_among 0x2007 before) ∷
+    (nat_eq attribute 0x3c || is_among 0x3c before) ∷
+    (nat_eq attribute 0x10 || is_among 0x10 before) ∷
+    (nat_eq attribute 0x1b || is_among 0x1b before) ∷
+    (nat_eq attribute 0x72 || is_among 0x72 before) ∷
+    (nat_eq attribute 0x73 || is_among 0x73 before) ∷
+    (nat_eq attribute 0x74 || is_among 0x74 before) ∷
+    []
+
+filled_in : (s : Slot) (attribute : ℕ) (before : List ℕ) → IsSlot s attribute → filled_with before attribute ≡ fill_in (filled_by before) s
+filled_in slot.Passed attribute before is =
+    let u = unasked attribute is in
+    rw (u.low, u.high, u.ranges, u.call_file, u.call_line, u.origin, u.spec, u.name, u.linkage, u.old_linkage, u.declaration, u.stmt_list, u.comp_dir, u.str_offsets_base, u.addr_base, u.rnglists_base)
+filled_in _ attribute before is = ap (filled_with before) is
+
+fills_more : (s : Slot) (attribute : ℕ) (before : List ℕ) → IsSlot s attribute → fill_in (filled_by before) s ≡ filled_by (before ++ attribute ∷ [])
+fills_more s attribute before is = sym (filled_in s attribute before is) ∙ (simp among_more)
+
+-- whether a slot has had its value
+abbrev names_of : List Given → List ℕ
+names_of values = map (λ (g : Given). g.attribute) values
+
+seen_by : (wanted : ℕ) (before : Given) (same : Bool) (rest : List Given) → is_among wanted (names_of rest) ≡ is_some (first_of wanted rest) → (same || is_among wanted (names_of rest)) ≡ is_some (option_map (λ (g : Given). g.value) (cond same (Some before) (find (λ g. nat_eq g.attribute wanted) rest)))
+unfolding first_of
+seen_by wanted before true rest later = refl
+seen_by wanted before false rest later = later
+
+seen_is : (wanted : ℕ) (values : List Given) → is_among wanted (names_of values) ≡ is_some (first_of wanted values)
+unfolding first_of
+seen_is wanted [] = refl
+seen_is wanted (before ∷ rest) = seen_by wanted before (nat_eq before.attribute wanted) rest (seen_is wanted rest)
+
+slot_seen : (s : Slot) (values : List Given) → get_or (filled_by (names_of values)) (slot_number s) false ≡ is_some (pick_of s (first_values values))
+slot_seen slot.Passed values = refl
+slot_seen _ values = seen_is _ values
+
+-- a value is kept where it is the first of its slot
+put_same : (s : Slot) (first : PickFields) → put_in s (pick_of s first) first ≡ first
+put_same slot.Passed first = refl
+put_same _ first = refl
+
+keeps : (s : Slot) (value : Value) (first : PickFields) → kept_of (put_in s (Some value) first) ≡ put_in s (kept_by s value) (kept_of first)
+keeps slot.Passed value first = refl
+keeps _ value first = refl
+
+kept_where : (s : Slot) (value : Value) (first : PickFields) (old : Option Value) (seen : Bool) → pick_of s first ≡ old → seen ≡ is_some old → kept_of (put_in s (or_value old value) first) ≡ put_in (cond seen slot.Passed s) (kept_by (cond seen slot.Passed s) value) (kept_of first)
+kept_where s value first (Some old) true here is = ap kept_of (ap (λ (o : Option Value). put_in s o first) (sym here) ∙ put_same s first)
+kept_where s value first None false here is = keeps s value first
+kept_where s value first (Some old) false here is = absurd (grind (arith, is))
+kept_where s value first None true here is = absurd (grind (arith, is))
+
+kept_more : (s : Slot) (attribute : ℕ) (value : Value) (seen : List Given) → IsSlot s attribute → picks_of (seen ++ given attribute value ∷ []) ≡ put_in (free_in (filled_by (names_of seen)) s) (kept_by (free_in (filled_by (names_of seen)) s) value) (picks_of seen)
+kept_more s attribute value seen is =
+    ap kept_of (firsts_more attribute value seen ∙ noted_in s attribute value (first_values seen) is)
+    ∙ kept_where s value (first_values seen) (pick_of s (first_values seen)) (get_or (filled_by (names_of seen)) (slot_number s) false) refl (slot_seen s seen)
+
+-- the values of attributes, and of others behind them
+abbrev behind : List Given → List Given × Ahead → Result (List Given × Ahead) FormFault
+behind front later = Ok (front ++ later.0, later.1)
+
+abbrev others : List SpecFields → List Given × Ahead → Result (List Given × Ahead) FormFault
+others specs front = values_at specs front.1 >>= behind front.0
+
+abbrev first_on : SpecFields → List SpecFields → Value × Ahead → Result (List Given × Ahead) FormFault
+first_on spec specs first = values_at specs first.1 >>= behind (given spec.attribute first.0 ∷ [])
+
+behind_by : (front : Given) (later : List Given) (last : Result (List Given × Ahead) FormFault) → ((last >>= behind later) >>= behind (front ∷ [])) ≡ (last >>= behind (front ∷ later))
+behind_by front later (Ok l) = refl
+behind_by front later (Err fault) = refl
+
+behind_first : (front : Given) (later : Result (List Given × Ahead) FormFault) (specs : List SpecFields) → ((later >>= others specs) >>= behind (front ∷ [])) ≡ ((later >>= behind (front ∷ [])) >>= others specs)
+behind_first front (Ok l) specs = behind_by front l.0 (values_at specs l.1)
+behind_first front (Err fault) specs = refl
+
+values_by : (spec : SpecFields) (specs more : List SpecFields) (first : Result (Value × Ahead) FormFault) → ((c : Ahead) → values_at (specs ++ more) c ≡ (values_at specs c >>= others more)) → (first >>= first_on spec (specs ++ more)) ≡ ((first >>= first_on spec specs) >>= others more)
+values_by spec specs more (Ok x) later =
+    ap (λ r. r >>= behind (given spec.attribute x.0 ∷ [])) (later x.1) ∙ behind_first (given spec.attribute x.0) (values_at specs x.1) more
+values_by spec specs more (Err fault) later = refl
+
+all_there : (reading : Result (List Given × Ahead) FormFault) → reading ≡ (reading >>= behind [])
+all_there (Ok x) = refl
+all_there (Err fault) = refl
+
+pub values_append : (specs more : List SpecFields) (c : Ahead) → values_at (specs ++ more) c ≡ (values_at specs c >>= others more)
+unfolding values_at
+values_append [] more c = all_there (values_at more c)
+values_append (spec ∷ specs) more c = values_by spec specs more (value_at spec c) (λ d. values_append specs more d)
+
+one_value : (x : SpecFields) (value : Value) (c d : Ahead) → value_at x c ≡ Ok (value, d) → values_at (x ∷ []) c ≡ Ok (given x.attribute value ∷ [], d)
+unfolding values_at
+one_value x value c d is = ap (λ r. r >>= first_on x []) is
+
+pub values_next : (specs : List SpecFields) (x : SpecFields) (values : List Given) (value : Value) (c d e : Ahead) → values_at specs c ≡ Ok (values, d) → value_at x d ≡ Ok (value, e) → values_at (specs ++ x ∷ []) c ≡ Ok (values ++ given x.attribute value ∷ [], e)
+values_next specs x values value c d e front last =
+    values_append specs (x ∷ []) c ∙ ap (λ r. r >>= others (x ∷ [])) front ∙ ap (λ r. r >>= behind values) (one_value x value d e last)
+
+values_refused : (specs more : List SpecFields) (x : SpecFields) (values : List Given) (c d : Ahead) (fault : FormFault) → values_at specs c ≡ Ok (values, d) → value_at x d ≡ Err fault → values_at (specs ++ x ∷ more) c ≡ Err fault
+unfolding values_at
+values_refused specs more x values c d fault front last =
+    values_append specs (x ∷ more) c ∙ ap (λ r. r >>= others (x ∷ more)) front ∙ ap (λ r. (r >>= first_on x more) >>= behind values) last
+
+-- the attributes of values
+abbrev names_or : List ℕ → Result (List Given × Ahead) FormFault → List ℕ
+names_or names (Ok x) = names_of x.0
+names_or names (Err fault) = names
+
+names_front : (front : Given) (names : List ℕ) (later : Result (List Given × Ahead) FormFault) → names_or names later ≡ names → names_or (front.attribute ∷ names) (later >>= behind (front ∷ [])) ≡ front.attribute ∷ names
+names_front front names (Ok l) is = ap (λ (n : List ℕ). front.attribute ∷ n) is
+names_front front names (Err fault) is = refl
+
+names_by : (spec : SpecFields) (specs : List SpecFields) (first : Result (Value × Ahead) FormFault) → ((c : Ahead) → names_or (attributes_of specs) (values_at specs c) ≡ attributes_of specs) → names_or (attributes_of (spec ∷ specs)) (first >>= first_on spec specs) ≡ attributes_of (spec ∷ specs)
+names_by spec specs (Ok x) later = names_front (given spec.attribute x.0) (attributes_of specs) (values_at specs x.1) (later x.1)
+names_by spec specs (Err fault) later = refl
+
+names_are : (specs : List SpecFields) (c : Ahead) → names_or (attributes_of specs) (values_at specs c) ≡ attributes_of specs
+unfolding values_at
+names_are [] c = refl
+names_are (spec ∷ specs) c = names_by spec specs (value_at spec c) (λ d. names_are specs d)
+
+-- the reading so far, and one value more
+abbrev pub picks_or : {F : Type 0} → PickFields → Result (PickFields × Ahead) F → PickFields
+picks_or old (Ok x) = x.0
+picks_or old (Err fault) = old
+
+abbrev pub ahead_or : {A F : Type 0} → Ahead → Result (A × Ahead) F → Ahead
+ahead_or old (Ok x) = x.1
+ahead_or old (Err fault) = old
+
+-- where the picks so far come from
+pub record Read (specs : List SpecFields) (c d : Ahead) (picks : PickFields) : Type 0 where
+  pub values : List Given
+  pub reads : values_at specs c ≡ Ok (values, d)
+  pub are : picks_of values ≡ picks
+  pub names : names_of values ≡ attributes_of specs
+
+read_by : (specs : List SpecFields) (c d : Ahead) (picks : PickFields) (reading : Result (List Given × Ahead) FormFault) → values_at specs c ≡ reading → with_picks reading ≡ Ok (picks, d) → Read specs c d picks
+read_by specs c d picks (Ok x) reads is = record {
+  values = x.0;
+  reads = reads ∙ ap (λ (e : Ahead). Ok (x.0, e)) (ap (ahead_or d) is);
+  are = ap (picks_or picks) is;
+  names = ap (names_or (attributes_of specs)) (sym reads) ∙ names_are specs c;
+}
+read_by specs c d picks (Err fault) reads is = absurd (grind (arith, is))
+
+read_is : (specs : List SpecFields) (c d : Ahead) (picks : PickFields) → picks_at specs c ≡ Ok (picks, d) → Read specs c d picks
+unfolding picks_at
+read_is specs c d picks is = read_by specs c d picks (values_at specs c) refl is
+
+abbrev pub kept_in : List ℕ → Slot → Value → PickFields → PickFields
+kept_in before s value picks = put_in (free_in (filled_by before) s) (kept_by (free_in (filled_by before) s) value) picks
+
+pub picks_next : (specs : List SpecFields) (x : SpecFields) (s : Slot) (value : Value) (picks : PickFields) (c d e : Ahead) → picks_at specs c ≡ Ok (picks, d) → IsSlot s x.attribute → value_at x d ≡ Ok (value, e) → picks_at (specs ++ x ∷ []) c ≡ Ok (kept_in (attributes_of specs) s value picks, e)
+unfolding picks_at
+picks_next specs x s value picks c d e so_far is next =
+    let read = read_is specs c d picks so_far in
+    ap with_picks (values_next specs x read.values value c d e read.reads next)
+    ∙ ap (λ (p : PickFields). Ok (p, e)) (kept_more s x.attribute value read.values is
+    ∙ ap (λ (n : List ℕ). kept_in n s value (picks_of read.values)) read.names ∙ ap (kept_in (attributes_of specs) s value) read.are)
+
+-- the loop's steps
+pub picks_begin : (specs : List SpecFields) (c : Ahead) → picks_at (take 0 specs) c ≡ Ok (no_picks, c)
+unfolding picks_at values_at first_of
+picks_begin specs c = refl
+
+pub attributes_more : (specs : List SpecFields) (i : ℕ) (x : SpecFields) (s : Slot) (before after : List Bool) → before ≡ filled_by (attributes_of (take i specs)) → take (i + 1) specs ≡ take i specs ++ x ∷ [] → IsSlot s x.attribute → after ≡ fill_in before s → after ≡ filled_by (attributes_of (take (i + 1) specs))
+attributes_more specs i x s before after was taken is filled =
+    filled ∙ ap (λ (f : List Bool). fill_in f s) was ∙ fills_more s x.attribute (attributes_of (take i specs)) is
+    ∙ ap filled_by (sym (map-append (λ (y : SpecFields). y.attribute) (take i specs) (x ∷ [])) ∙ ap attributes_of (sym taken))
+
+pub put_kept : (s : Slot) (value : Value) (picks after : PickFields) (kept : Option Value) → after ≡ put_in s kept picks → kept ≡ kept_by s value → after ≡ put_in s (kept_by s value) picks
+put_kept s value picks after kept is same = is ∙ ap (λ (v : Option Value). put_in s v picks) same
+
+pub picks_more : (specs : List SpecFields) (i : ℕ) (x : SpecFields) (s free : Slot) (value : Value) (picks after : PickFields) (filled : List Bool) (c d e : Ahead) → picks_at (take i specs) c ≡ Ok (picks, d) → filled ≡ filled_by (attributes_of (take i specs)) → take (i + 1) specs ≡ take i specs ++ x ∷ [] → IsSlot s x.attribute → free ≡ free_in filled s → Ok (value, e) ≡ value_at x d → after ≡ put_in free (kept_by free value) picks → picks_at (take (i + 1) specs) c ≡ Ok (after, e)
+picks_more specs i x s free value picks after filled c d e so_far was taken is free_is read put =
+    let slot : free_in (filled_by (attributes_of (take i specs))) s ≡ free = sym (free_is ∙ ap (λ (f : List Bool). free_in f s) was) in
+    ap (λ (more : List SpecFields). picks_at more c) taken
+    ∙ picks_next (take i specs) x s value picks c d e so_far is (sym read)
+    ∙ ap (λ (p : PickFields). Ok (p, e)) (ap (λ (t : Slot). put_in t (kept_by t value) picks) slot ∙ sym put)
+
+pub picks_refused : (specs : List SpecFields) (i : ℕ) (x : SpecFields) (picks : PickFields) (c d : Ahead) (fault : FormFault) → picks_at (take i specs) c ≡ Ok (picks, d) → i < length specs → x ≡ get_or specs i x → Err fault ≡ value_at x d → Err fault ≡ picks_at specs c
+unfolding picks_at
+picks_refused specs i x picks c d fault so_far there is refused =
+    let read = read_is (take i specs) c d picks so_far in
+    let whole : take i specs ++ x ∷ drop (i + 1) specs ≡ specs = ap (λ (rest : List SpecFields). take i specs ++ rest) (sym (drop_more specs i x there ∙ ap (λ (y : SpecFields). y ∷ drop (i + 1) specs) (sym is))) ∙ take-append-drop i specs in
+    sym (ap (λ (s : List SpecFields). with_picks (values_at s c)) (sym whole) ∙ ap with_picks (values_refused (take i specs) (drop (i + 1) specs) x read.values c d fault read.reads (sym refused)))
+
+pub picks_end : (specs : List SpecFields) (i : ℕ) (picks : PickFields) (c d : Ahead) → picks_at (take i specs) c ≡ Ok (picks, d) → length specs ≤ i → Ok (picks, d) ≡ picks_at specs c
+picks_end specs i picks c d so_far all = sym so_far ∙ ap (λ (s : List SpecFields). picks_at s c) (take_all i specs all)
+
+-- what a reading of picks leaves ahead
+passed_by : (reading : Result (List Given × Ahead) FormFault) (picks : PickFields) (d : Ahead) → Ok (picks, d) ≡ with_picks reading → Ok d ≡ only_ahead reading
+passed_by (Ok x) picks d is = ap Ok (ap (ahead_or d) is)
+passed_by (Err fault) picks d is = absurd (grind (arith, is))
+
+pub picks_passed : (specs : List SpecFields) (picks : PickFields) (c d : Ahead) → Ok (picks, d) ≡ picks_at specs c → Ok d ≡ behind_values specs c
+unfolding picks_at behind_values
+picks_passed specs picks c d is = passed_by (values_at specs c) picks d is
+
+faulty_by : (reading : Result (List Given × Ahead) FormFault) (fault : FormFault) → Err fault ≡ with_picks reading → Err fault ≡ only_ahead reading
+faulty_by (Ok x) fault is = absurd (grind (arith, is))
+faulty_by (Err other) fault is = let same : fault ≡ other = cc in ap Err same
+
+pub picks_faulty : (specs : List SpecFields) (c : Ahead) (fault : FormFault) → Err fault ≡ picks_at specs c → Err fault ≡ behind_values specs c
+unfolding picks_at behind_values
+picks_faulty specs c fault is = faulty_by (values_at specs c) fault is
