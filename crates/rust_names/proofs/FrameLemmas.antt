@@ -1,7 +1,7 @@
 -- Frames and what they are made of: the reading of a frame is that of its parts (step), and the parts weigh less (lighter).
-use Rattle.std.proofs.Common.{◌≡◌, ◌≢◌, ℕ, zero, suc, ◌+◌, ◌-◌, ◌*◌, ◌<◌, ◌≤◌, Bool, true, false, List, [], ◌∷◌, ◌++◌, length, map, reverse, Option, Some, None, refl, sym, ◌∙◌, ap, arith, subst}
+use Rattle.std.proofs.Common.{◌≡◌, ◌≢◌, ℕ, zero, suc, ◌+◌, ◌-◌, ◌*◌, ◌<◌, ◌≤◌, Bool, true, List, [], ◌∷◌, ◌++◌, length, map, reverse, Option, Some, None, refl, sym, ◌∙◌, ap, arith, subst, append_assoc, length-append}
 use Rattle.std.specs.Option.{option_map, option_and_then}
-use Rattle.std.proofs.lemmas.List.{reverse-append, reverse-reverse}
+use Rattle.std.proofs.lemmas.List.{append-nil, map-append, length-reverse, reverse-append, reverse-reverse}
 use Rattle.std.proofs.Math.Nat.{mul-le-mul_left}
 use Rattle.rust_names.specs.declared.grammar.Phrase.{Phrase}
 use Rattle.rust_names.specs.declared.grammar.Inner.{Inner}
@@ -10,9 +10,11 @@ use Rattle.rust_names.specs.declared.grammar.Part.TheVariants.{Deep, Back, Phras
 use Rattle.rust_names.specs.declared.grammar.Scope.{Scope}
 use Rattle.rust_names.specs.declared.grammar.Frame.{Frame}
 use Rattle.rust_names.specs.declared.grammar.Nest.{Nest}
-use Rattle.rust_names.specs.V0Grammar.{deep_parts, back_parts, phrase_parts, inner_parts}
+use Rattle.rust_names.specs.declared.words.Word.TheVariants as word
+use Rattle.rust_names.specs.V0Grammar.{say, braced, deep_parts, back_parts, phrase_parts, inner_parts}
 use Rattle.rust_names.specs.V0Names.{State, all, read_within, read_level, most_width}
-use Rattle.rust_names.specs.internal.Running.{total, grown, grown_own, inside, in_scope, in_own_scope, level_by, level_in, level_frames, phrase_in, phrase_frames, inner_in, inner_frames, nested_frames, expand_by, expand, Expanded, is_made, read_frame, run, within_weight, level_weight, part_weight, frame_weight, weight}
+use Rattle.rust_names.proofs.NumberLemmas.{some_is}
+use Rattle.rust_names.specs.internal.Running.{total, onto, pushed, pushed_own, inside, in_scope, in_own_scope, level_by, level_in, level_frames, phrase_in, phrase_frames, inner_in, inner_frames, expand_by, expand, Expanded, is_made, read_frame, run, within_weight, level_weight, part_weight, frame_weight, weight}
 
 inside_length : (scope : Scope) (levels width : ℕ) (ps : List Part) → length (map (inside scope levels width) ps) ≡ length ps
 inside_length scope levels width [] = refl
@@ -80,72 +82,111 @@ pub step : (name : List ℕ) (f : Frame) (fs : List Frame) (s : State) → is_ma
 unfolding expand read_frame
 step name f fs s is = run_one name f fs s ∙ step_by name f.scope f.levels f.width f.part fs s is
 
+-- parts that are put onto a stack
+
+pub onto_none : (stack : List Frame) (nest : Nest) → onto stack nest [] ≡ stack
+onto_none stack nest = append-nil stack
+
+pub onto_both : (stack : List Frame) (nest : Nest) (ps qs : List Part) → onto stack nest (ps ++ qs) ≡ onto (onto stack nest qs) nest ps
+onto_both stack nest ps qs =
+    let one = inside nest.scope nest.levels nest.width in
+    ap (λ fs. stack ++ reverse fs) (map-append one ps qs) ∙ ap (λ fs. stack ++ fs) (reverse-append (map one ps) (map one qs)) ∙ sym (append_assoc stack (reverse (map one qs)) (reverse (map one ps)))
+
+-- a part behind those that were found
+pub onto_last : (stack new : List Frame) (nest : Nest) (p : Part) (o : Option (List Part × List ℕ)) (found : Option (List Frame × List ℕ)) → new ≡ stack ++ inside nest.scope nest.levels nest.width p ∷ [] → pushed new nest o ≡ found → pushed stack nest (option_map (λ (x : List Part × List ℕ). (x.0 ++ p ∷ [], x.1)) o) ≡ found
+onto_last stack new nest p None found is pushes = pushes
+onto_last stack new nest p (Some x) found is pushes = ap (λ fs. Some (fs, x.1)) (onto_both stack nest x.0 (p ∷ []) ∙ ap (λ fs. onto fs nest x.0) (sym is)) ∙ pushes
+
+-- a constant in braces
+braces : (stack : List Frame) (nest : Nest) (ps : List Part) → onto stack nest (say word.OpenBrace ∷ ps ++ say word.CloseBrace ∷ []) ≡ onto (stack ++ inside nest.scope nest.levels nest.width (say word.CloseBrace) ∷ []) nest ps ++ inside nest.scope nest.levels nest.width (say word.OpenBrace) ∷ []
+braces stack nest ps =
+    onto_both stack nest (say word.OpenBrace ∷ []) (ps ++ say word.CloseBrace ∷ []) ∙ ap (λ fs. fs ++ inside nest.scope nest.levels nest.width (say word.OpenBrace) ∷ []) (onto_both stack nest ps (say word.CloseBrace ∷ []))
+
+pub braced_some : (stack first mid new : List Frame) (nest : Nest) (o : Option (List Part × List ℕ)) (after : List ℕ) → first ≡ stack ++ inside nest.scope nest.levels nest.width (say word.CloseBrace) ∷ [] → pushed first nest o ≡ Some (mid, after) → new ≡ mid ++ inside nest.scope nest.levels nest.width (say word.OpenBrace) ∷ [] → pushed stack nest (braced o) ≡ Some (new, after)
+braced_some stack first mid new nest None after closes is opens = cc
+braced_some stack first mid new nest (Some x) after closes is opens =
+    ap (λ fs. Some (fs, x.1)) (braces stack nest x.0 ∙ ap (λ fs. onto fs nest x.0 ++ inside nest.scope nest.levels nest.width (say word.OpenBrace) ∷ []) (sym closes))
+    ∙ ap (λ (y : List Frame × List ℕ). Some (y.0 ++ inside nest.scope nest.levels nest.width (say word.OpenBrace) ∷ [], y.1)) (some_is is) ∙ ap (λ fs. Some (fs, after)) (sym opens)
+
+pub braced_none : (stack first : List Frame) (nest : Nest) (o : Option (List Part × List ℕ)) → pushed first nest o ≡ None → pushed stack nest (braced o) ≡ None
+braced_none stack first nest None is = refl
+braced_none stack first nest (Some x) is = cc
+
+onto_length : (stack : List Frame) (nest : Nest) (ps : List Part) → length (onto stack nest ps) ≡ length stack + length ps
+onto_length stack nest ps =
+    let one = inside nest.scope nest.levels nest.width in
+    omega (arith, length-append stack (reverse (map one ps)), length-reverse (map one ps), inside_length nest.scope nest.levels nest.width ps)
+
+abbrev made_in : Nest → List Part × List ℕ → List Frame × List ℕ
+made_in nest x = in_scope nest.scope nest.levels nest.width x
+
+expanded_by : (old new : List Frame) (nest : Nest) (ps : List Part) (bytes after : List ℕ) → ◌≡◌ {A = List Frame × List ℕ} (onto old nest ps, bytes) (new, after) → length new ≤ length old + 10 → Expanded old new (Some (map (inside nest.scope nest.levels nest.width) ps, bytes)) (Some after)
+expanded_by old new nest ps bytes after is few =
+    let grows : onto old nest ps ≡ new = ap (λ (x : List Frame × List ℕ). x.0) is in
+    (sym grows, omega (arith, few, ap length grows, onto_length old nest ps, inside_length nest.scope nest.levels nest.width ps), ap (λ (x : List Frame × List ℕ). x.1) is)
+
+expanded_some : (old new : List Frame) (nest : Nest) (o : Option (List Part × List ℕ)) (after : List ℕ) → pushed old nest o ≡ Some (new, after) → length new ≤ length old + 10 → Expanded old new (option_map (made_in nest) o) (Some after)
+expanded_some old new nest None after is few = cc
+expanded_some old new nest (Some x) after is few = expanded_by old new nest x.0 x.1 after (some_is is) few
+
+expanded_none : (old new : List Frame) (nest : Nest) (o : Option (List Part × List ℕ)) → pushed old nest o ≡ None → Expanded old new (option_map (made_in nest) o) None
+expanded_none old new nest None is = tt
+expanded_none old new nest (Some x) is = cc
+
+own_some : (old new : List Frame) (nest : Nest) (o : Option (List Part × Scope × List ℕ)) (after : List ℕ) → pushed_own old nest o ≡ Some (new, after) → length new ≤ length old + 10 → Expanded old new (option_map (in_own_scope nest.levels nest.width) o) (Some after)
+own_some old new nest None after is few = cc
+own_some old new nest (Some x) after is few = expanded_by old new (record nest { scope = x.1 }) x.0 x.2 after (some_is is) few
+
+own_none : (old new : List Frame) (nest : Nest) (o : Option (List Part × Scope × List ℕ)) → pushed_own old nest o ≡ None → Expanded old new (option_map (in_own_scope nest.levels nest.width) o) None
+own_none old new nest None is = tt
+own_none old new nest (Some x) is = cc
+
 -- how levels and symbols nest
-
-nothing_before : (old new : List Part) (after : List ℕ) (o : Option (List Part × List ℕ)) → old ≡ [] → grown old o ≡ Some (new, after) → o ≡ Some (new, after)
-nothing_before old new after None empty is = cc
-nothing_before old new after (Some x) empty is = ap (λ (ps : List Part). Some (ps ++ x.0, x.1)) (sym empty) ∙ is
-
-none_before : (old : List Part) (o : Option (List Part × List ℕ)) → grown old o ≡ None → o ≡ None
-none_before old None is = refl
-none_before old (Some x) is = cc
-
-own_before : (old new : List Part) (scope : Scope) (after : List ℕ) (o : Option (List Part × Scope × List ℕ)) → old ≡ [] → grown_own old o ≡ Some (new, scope, after) → o ≡ Some (new, scope, after)
-own_before old new scope after None empty is = cc
-own_before old new scope after (Some x) empty is = ap (λ (ps : List Part). Some (ps ++ x.0, x.1, x.2)) (sym empty) ∙ is
-
-no_own : (old : List Part) (o : Option (List Part × Scope × List ℕ)) → grown_own old o ≡ None → o ≡ None
-no_own old None is = refl
-no_own old (Some x) is = cc
-
-pub no_levels : (size : ℕ) (f : Frame) (bytes : List ℕ) → f.levels ≡ 0 → level_frames size f bytes ≡ None
-no_levels size f bytes is = ap (level_in size f.scope f.part bytes) is
 
 level_at : (size : ℕ) (scope : Scope) (p : Part) (bytes : List ℕ) (levels : ℕ) → levels ≢ 0 → level_in size scope p bytes levels ≡ option_map (in_scope scope (levels - 1) (size + 8)) (level_by size scope p bytes)
 level_at size scope p bytes zero some = absurd (some refl)
 level_at size scope p bytes (suc levels) some = ap (λ l. option_map (in_scope scope l (size + 8)) (level_by size scope p bytes)) (let e : levels ≡ suc levels - 1 = omega arith in e)
 
-pub level_none : (size : ℕ) (f : Frame) (bytes : List ℕ) (old : List Part) → f.levels ≢ 0 → grown old (level_by size f.scope f.part bytes) ≡ None → level_frames size f bytes ≡ None
-level_none size f bytes old some is = level_at size f.scope f.part bytes f.levels some ∙ ap (option_map (in_scope f.scope (f.levels - 1) (size + 8))) (none_before old (level_by size f.scope f.part bytes) is)
+pub level_over : (size : ℕ) (f : Frame) (bytes : List ℕ) (old new : List Frame) → f.levels ≡ 0 → Expanded old new (level_frames size f bytes) None
+level_over size f bytes old new is = subst (λ o. Expanded old new o None) (sym (ap (level_in size f.scope f.part bytes) is)) tt
 
-pub level_some : (size : ℕ) (f : Frame) (bytes : List ℕ) (old new : List Part) (after : List ℕ) → f.levels ≢ 0 → old ≡ [] → grown old (level_by size f.scope f.part bytes) ≡ Some (new, after) → level_frames size f bytes ≡ Some (nested_frames (record { scope = f.scope; levels = f.levels - 1; width = size + 8 }) new after)
-level_some size f bytes old new after some empty is = level_at size f.scope f.part bytes f.levels some ∙ ap (option_map (in_scope f.scope (f.levels - 1) (size + 8))) (nothing_before old new after (level_by size f.scope f.part bytes) empty is)
+pub level_none : (size : ℕ) (f : Frame) (bytes : List ℕ) (old new : List Frame) → f.levels ≢ 0 → pushed old (record { scope = f.scope; levels = f.levels - 1; width = size + 8 }) (level_by size f.scope f.part bytes) ≡ None → Expanded old new (level_frames size f bytes) None
+level_none size f bytes old new some is =
+    subst (λ o. Expanded old new o None) (sym (level_at size f.scope f.part bytes f.levels some)) (expanded_none old new (record { scope = f.scope; levels = f.levels - 1; width = size + 8 }) (level_by size f.scope f.part bytes) is)
 
-pub no_width : (p : Phrase) (f : Frame) (opened : Bool) (bytes : List ℕ) → f.width ≡ 0 → phrase_frames p f opened bytes ≡ None
-no_width p f opened bytes is = ap (phrase_in p f.scope f.levels opened bytes) is
+pub level_some : (size : ℕ) (f : Frame) (bytes : List ℕ) (old new : List Frame) (after : List ℕ) → f.levels ≢ 0 → pushed old (record { scope = f.scope; levels = f.levels - 1; width = size + 8 }) (level_by size f.scope f.part bytes) ≡ Some (new, after) → length new ≤ length old + 10 → Expanded old new (level_frames size f bytes) (Some after)
+level_some size f bytes old new after some is few =
+    subst (λ o. Expanded old new o (Some after)) (sym (level_at size f.scope f.part bytes f.levels some)) (expanded_some old new (record { scope = f.scope; levels = f.levels - 1; width = size + 8 }) (level_by size f.scope f.part bytes) after is few)
 
 phrase_at : (p : Phrase) (scope : Scope) (levels : ℕ) (opened : Bool) (bytes : List ℕ) (width : ℕ) → width ≢ 0 → phrase_in p scope levels opened bytes width ≡ option_map (in_scope scope levels (width - 1)) (phrase_parts p opened bytes)
 phrase_at p scope levels opened bytes zero some = absurd (some refl)
 phrase_at p scope levels opened bytes (suc width) some = ap (λ w. option_map (in_scope scope levels w) (phrase_parts p opened bytes)) (let e : width ≡ suc width - 1 = omega arith in e)
 
-pub phrase_none : (p : Phrase) (f : Frame) (opened : Bool) (bytes : List ℕ) (old : List Part) → f.width ≢ 0 → grown old (phrase_parts p opened bytes) ≡ None → phrase_frames p f opened bytes ≡ None
-phrase_none p f opened bytes old some is = phrase_at p f.scope f.levels opened bytes f.width some ∙ ap (option_map (in_scope f.scope f.levels (f.width - 1))) (none_before old (phrase_parts p opened bytes) is)
+pub phrase_over : (p : Phrase) (f : Frame) (opened : Bool) (bytes : List ℕ) (old new : List Frame) → f.width ≡ 0 → Expanded old new (phrase_frames p f opened bytes) None
+phrase_over p f opened bytes old new is = subst (λ o. Expanded old new o None) (sym (ap (phrase_in p f.scope f.levels opened bytes) is)) tt
 
-pub phrase_some : (p : Phrase) (f : Frame) (opened : Bool) (bytes : List ℕ) (old new : List Part) (after : List ℕ) → f.width ≢ 0 → old ≡ [] → grown old (phrase_parts p opened bytes) ≡ Some (new, after) → phrase_frames p f opened bytes ≡ Some (nested_frames (record { scope = f.scope; levels = f.levels; width = f.width - 1 }) new after)
-phrase_some p f opened bytes old new after some empty is = phrase_at p f.scope f.levels opened bytes f.width some ∙ ap (option_map (in_scope f.scope f.levels (f.width - 1))) (nothing_before old new after (phrase_parts p opened bytes) empty is)
+pub phrase_none : (p : Phrase) (f : Frame) (opened : Bool) (bytes : List ℕ) (old new : List Frame) → f.width ≢ 0 → pushed old (record { scope = f.scope; levels = f.levels; width = f.width - 1 }) (phrase_parts p opened bytes) ≡ None → Expanded old new (phrase_frames p f opened bytes) None
+phrase_none p f opened bytes old new some is =
+    subst (λ o. Expanded old new o None) (sym (phrase_at p f.scope f.levels opened bytes f.width some)) (expanded_none old new (record { scope = f.scope; levels = f.levels; width = f.width - 1 }) (phrase_parts p opened bytes) is)
 
-pub no_room : (p : Inner) (f : Frame) (bytes : List ℕ) → f.width ≡ 0 → inner_frames p f bytes ≡ None
-no_room p f bytes is = ap (inner_in p f.scope f.levels bytes) is
+pub phrase_some : (p : Phrase) (f : Frame) (opened : Bool) (bytes : List ℕ) (old new : List Frame) (after : List ℕ) → f.width ≢ 0 → pushed old (record { scope = f.scope; levels = f.levels; width = f.width - 1 }) (phrase_parts p opened bytes) ≡ Some (new, after) → length new ≤ length old + 10 → Expanded old new (phrase_frames p f opened bytes) (Some after)
+phrase_some p f opened bytes old new after some is few =
+    subst (λ o. Expanded old new o (Some after)) (sym (phrase_at p f.scope f.levels opened bytes f.width some)) (expanded_some old new (record { scope = f.scope; levels = f.levels; width = f.width - 1 }) (phrase_parts p opened bytes) after is few)
 
 inner_at : (p : Inner) (scope : Scope) (levels : ℕ) (bytes : List ℕ) (width : ℕ) → width ≢ 0 → inner_in p scope levels bytes width ≡ option_map (in_own_scope levels (width - 1)) (inner_parts p scope bytes)
 inner_at p scope levels bytes zero some = absurd (some refl)
 inner_at p scope levels bytes (suc width) some = ap (λ w. option_map (in_own_scope levels w) (inner_parts p scope bytes)) (let e : width ≡ suc width - 1 = omega arith in e)
 
-pub inner_none : (p : Inner) (f : Frame) (bytes : List ℕ) (old : List Part) → f.width ≢ 0 → grown_own old (inner_parts p f.scope bytes) ≡ None → inner_frames p f bytes ≡ None
-inner_none p f bytes old some is = inner_at p f.scope f.levels bytes f.width some ∙ ap (option_map (in_own_scope f.levels (f.width - 1))) (no_own old (inner_parts p f.scope bytes) is)
+pub inner_over : (p : Inner) (f : Frame) (bytes : List ℕ) (old new : List Frame) → f.width ≡ 0 → Expanded old new (inner_frames p f bytes) None
+inner_over p f bytes old new is = subst (λ o. Expanded old new o None) (sym (ap (inner_in p f.scope f.levels bytes) is)) tt
 
-pub inner_some : (p : Inner) (f : Frame) (bytes : List ℕ) (old new : List Part) (scope : Scope) (after : List ℕ) → f.width ≢ 0 → old ≡ [] → grown_own old (inner_parts p f.scope bytes) ≡ Some (new, scope, after) → inner_frames p f bytes ≡ Some (nested_frames (record { scope = scope; levels = f.levels; width = f.width - 1 }) new after)
-inner_some p f bytes old new scope after some empty is = inner_at p f.scope f.levels bytes f.width some ∙ ap (option_map (in_own_scope f.levels (f.width - 1))) (own_before old new scope after (inner_parts p f.scope bytes) empty is)
+pub inner_none : (p : Inner) (f : Frame) (bytes : List ℕ) (old new : List Frame) → f.width ≢ 0 → pushed_own old (record { scope = f.scope; levels = f.levels; width = f.width - 1 }) (inner_parts p f.scope bytes) ≡ None → Expanded old new (inner_frames p f bytes) None
+inner_none p f bytes old new some is =
+    subst (λ o. Expanded old new o None) (sym (inner_at p f.scope f.levels bytes f.width some)) (own_none old new (record { scope = f.scope; levels = f.levels; width = f.width - 1 }) (inner_parts p f.scope bytes) is)
 
--- a stack after a frame was replaced
-
-pub expanded_none : (old new : List Frame) (o : Option (List Frame × List ℕ)) → o ≡ None → Expanded old new o None
-expanded_none old new None is = tt
-expanded_none old new (Some x) is = cc
-
-pub expanded_some : (old new : List Frame) (nest : Nest) (parts : List Part) (after : List ℕ) (o : Option (List Frame × List ℕ)) → o ≡ Some (nested_frames nest parts after) → new ≡ old ++ reverse (map (inside nest.scope nest.levels nest.width) parts) → length parts ≤ 10 → Expanded old new o (Some after)
-expanded_some old new nest parts after o is grows few =
-    subst (λ x. Expanded old new x (Some after)) (sym is) (grows, omega (arith, few, inside_length nest.scope nest.levels nest.width parts), refl)
+pub inner_some : (p : Inner) (f : Frame) (bytes : List ℕ) (old new : List Frame) (after : List ℕ) → f.width ≢ 0 → pushed_own old (record { scope = f.scope; levels = f.levels; width = f.width - 1 }) (inner_parts p f.scope bytes) ≡ Some (new, after) → length new ≤ length old + 10 → Expanded old new (inner_frames p f bytes) (Some after)
+inner_some p f bytes old new after some is few =
+    subst (λ o. Expanded old new o (Some after)) (sym (inner_at p f.scope f.levels bytes f.width some)) (own_some old new (record { scope = f.scope; levels = f.levels; width = f.width - 1 }) (inner_parts p f.scope bytes) after is few)
 
 -- what the parts of a frame weigh
 
@@ -235,22 +276,27 @@ lighter size f below new frames opened bytes after made is few grows =
     subst (Lighter size (part_weight size f.levels f.width f.part)) is (lighter_by size f.levels f.width f.scope opened bytes f.part made (subst Few (sym is) few)) in
     omega (arith, light, ap (total (frame_weight size)) grows, total_both (frame_weight size) below (reverse frames), reverse_weight (frame_weight size) frames, total_both (frame_weight size) below (f ∷ []), total_one (frame_weight size) f [])
 
-pub popped : (size : ℕ) (f : Frame) (below : List Frame) → 1 ≤ frame_weight size f → weight size below < weight size (below ++ f ∷ [])
+popped : (size : ℕ) (f : Frame) (below : List Frame) → 1 ≤ frame_weight size f → weight size below < weight size (below ++ f ∷ [])
 unfolding weight
 popped size f below some = omega (arith, some, total_both (frame_weight size) below (f ∷ []), total_one (frame_weight size) f [])
 
-light_by : (size levels width : ℕ) (p : Part) → is_made p ≡ false → 1 ≤ part_weight size levels width p
-light_by size levels width (Deep k) is = cc
-light_by size levels width (Back k) is = cc
-light_by size levels width (Made p) is = cc
-light_by size levels width (Within p) is = cc
-light_by size levels width (Read p) is = omega arith
-light_by size levels width (Goto q) is = omega arith
-light_by size levels width (Opened b) is = omega arith
+some_level : (size levels : ℕ) → 1 ≤ level_weight size levels
+unfolding level_weight
+some_level size zero = omega arith
+some_level size (suc levels) = omega arith
 
-pub light : (size : ℕ) (f : Frame) (below old : List Frame) → is_made f.part ≡ false → old ≡ below ++ f ∷ [] → weight size below < weight size old
+some_part : (size levels width : ℕ) (p : Part) → 1 ≤ part_weight size levels width p
+some_part size levels width (Deep k) = some_level size levels
+some_part size levels width (Back k) = some_level size levels
+some_part size levels width (Made p) = some_weight (level_weight size levels) width
+some_part size levels width (Within p) = some_weight (level_weight size levels) width
+some_part size levels width (Read p) = omega arith
+some_part size levels width (Goto q) = omega arith
+some_part size levels width (Opened b) = omega arith
+
+pub light : (size : ℕ) (f : Frame) (below : List Frame) → weight size below < weight size (below ++ f ∷ [])
 unfolding frame_weight
-light size f below old is made_of = omega (arith, ap (weight size) made_of, popped size f below (light_by size f.levels f.width f.part is))
+light size f below = popped size f below (some_part size f.levels f.width f.part)
 
 -- a stack is read from its top
 

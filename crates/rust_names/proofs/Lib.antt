@@ -9,6 +9,7 @@ mod TextLemmas
 mod LeafLemmas
 mod FrameLemmas
 mod RunLemmas
+mod PathLemmas
 mod ShownLemmas
 mod WholeLemmas
 mod VisibleLemmas

@@ -46,17 +46,24 @@ base_is : (value b : ℕ) (bytes : List ℕ) → base_62_from value (b ∷ bytes
 unfolding base_62_from
 base_is value b bytes = refl
 
-pub base_stop : (value b : ℕ) (rest after : List ℕ) (n : Option ℕ) → Some (b, after) ≡ front rest → b ≡ 95 → n ≡ below_64 (value + 1) → option_map (λ k. (k, after)) n ≡ base_62_from value rest
-base_stop value b rest after n begins is number =
-    ap (option_map (λ k. (k, after))) number ∙ sym (ap (base_62_from value) (front_is b after rest begins) ∙ base_is value b after ∙ ap (base_by value b after) (same b 95 is))
+base_at : (bytes : List ℕ) (i value : ℕ) → i < length bytes → base_62_from value (drop i bytes) ≡ base_by value (get_or bytes i 0) (drop (i + 1) bytes) (get_or bytes i 0 == 95)
+base_at bytes i value within = at_drop_more (base_62_from value) bytes i 0 within ∙ base_is value (get_or bytes i 0) (drop (i + 1) bytes)
 
-pub base_next : (value b : ℕ) (rest after : List ℕ) (n : Option ℕ) → Some (b, after) ≡ front rest → b ≢ 95 → n ≡ next_62 value (base_62_digit b) → base_62_from value rest ≡ option_and_then (λ more. base_62_from more after) n
-base_next value b rest after n begins isnt number =
-    ap (base_62_from value) (front_is b after rest begins) ∙ base_is value b after ∙ ap (base_by value b after) (other b 95 isnt) ∙ sym (ap (option_and_then (λ more. base_62_from more after)) number)
+pub base_stop : (bytes after : List ℕ) (i value : ℕ) (n : Option ℕ) → i < length bytes → get_or bytes i 0 ≡ 95 → after ≡ drop (i + 1) bytes → n ≡ below_64 (value + 1) → base_62_from value (drop i bytes) ≡ option_map (λ k. (k, after)) n
+base_stop bytes after i value n within is rest number =
+    base_at bytes i value within ∙ ap (base_by value (get_or bytes i 0) (drop (i + 1) bytes)) (same (get_or bytes i 0) 95 is)
+    ∙ ap (option_map (λ k. (k, drop (i + 1) bytes))) (sym number) ∙ ap (λ (xs : List ℕ). option_map (λ k. (k, xs)) n) (sym rest)
 
-pub base_end : (value : ℕ) (rest : List ℕ) → None ≡ front rest → None ≡ base_62_from value rest
+pub base_next : (bytes : List ℕ) (i value : ℕ) (n : Option ℕ) → i < length bytes → get_or bytes i 0 ≢ 95 → n ≡ next_62 value (base_62_digit (get_or bytes i 0)) → base_62_from value (drop i bytes) ≡ option_and_then (λ more. base_62_from more (drop (i + 1) bytes)) n
+base_next bytes i value n within isnt number =
+    base_at bytes i value within ∙ ap (base_by value (get_or bytes i 0) (drop (i + 1) bytes)) (other (get_or bytes i 0) 95 isnt) ∙ sym (ap (option_and_then (λ more. base_62_from more (drop (i + 1) bytes))) number)
+
+base_over : (value : ℕ) → base_62_from value [] ≡ None
 unfolding base_62_from
-base_end value rest ends = sym (ap (base_62_from value) (front_end rest ends))
+base_over value = refl
+
+pub base_end : (bytes : List ℕ) (i value : ℕ) → length bytes ≤ i → base_62_from value (drop i bytes) ≡ None
+base_end bytes i value past = at_drop_all (base_62_from value) bytes i past ∙ base_over value
 
 -- hexadecimal digits
 

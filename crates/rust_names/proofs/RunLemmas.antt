@@ -5,7 +5,7 @@ use Rattle.std.proofs.lemmas.List.{append-nil}
 use Rattle.rust_names.specs.declared.grammar.Frame.{Frame}
 use Rattle.rust_names.specs.V0Names.{State, all, read_within, read_level, most_width, whole, outermost, text_within}
 use Rattle.rust_names.specs.internal.Running.{inside, at, shown_after, expand, Expanded, is_made, read_frame, run, weight}
-use Rattle.rust_names.proofs.FrameLemmas.{after_frames, step, run_one, run_none, run_parts, top, on_top, lighter, light}
+use Rattle.rust_names.proofs.FrameLemmas.{after_frames, step, run_one, run_none, run_parts, top, on_top, lighter}
 
 made_after : (name : List ℕ) (below new : List Frame) (s : State) (after : List ℕ) (o : Option (List Frame × List ℕ)) → Expanded below new o (Some after) → after_frames name (reverse below) s o ≡ run name (reverse new) (record s { rest = after })
 made_after name below new s after None is = absurd is
@@ -36,9 +36,6 @@ lighter_of size f below new opened bytes after (Some x) made is expanded = light
 
 pub made_lighter : (size : ℕ) (f : Frame) (old below new : List Frame) (opened : Bool) (bytes after : List ℕ) → old ≡ below ++ f ∷ [] → is_made f.part ≡ true → Expanded below new (expand size f opened bytes) (Some after) → weight size new < weight size old
 made_lighter size f old below new opened bytes after pops made is = omega (arith, lighter_of size f below new opened bytes after (expand size f opened bytes) made refl is, ap (weight size) pops)
-
-pub plain_lighter : (size : ℕ) (f : Frame) (old below : List Frame) → old ≡ below ++ f ∷ [] → is_made f.part ≡ false → weight size below < weight size old
-plain_lighter size f old below pops plain = light size f below old plain pops
 
 pub over : (name : List ℕ) (old : List Frame) (s : State) → old ≡ [] → run name (reverse old) s ≡ Some s
 over name old s empty = ap (λ fs. run name (reverse fs) s) empty ∙ run_none name s

@@ -1,14 +1,14 @@
 //! Frames: the parts that are still to be read.
-ghost use Rattle.std.specs.Prelude.{◌≡◌, ◌≤◌, ◌<◌, ◌+◌, ◌++◌, ◌^◌, [], true, length, vec_len, map, reverse, Some, IfOk, OnOk, IfSome};
+ghost use Rattle.std.specs.Prelude.{◌≡◌, ◌≤◌, ◌<◌, ◌+◌, ◌^◌, length, vec_len, IfOk};
 ghost use Rattle.std.specs.Option.{option_map, option_copied};
 ghost use Rattle.rust_names.specs.V0Grammar as v0;
 ghost use Rattle.rust_names.specs.V0Numbers as number;
-ghost use Rattle.rust_names.specs.internal.Running.{grown, grown_own, inside, level_by, level_frames, phrase_frames, inner_frames, nested_frames, expand, Expanded};
+ghost use Rattle.rust_names.specs.internal.Running.{pushed, pushed_own, level_by, level_frames, phrase_frames, inner_frames, expand, Expanded};
 
 use crate::grammar::{Frame, Inner, Item, Kind, Leaf, Nest, Part, Phrase, Scope};
 use crate::numbers::{after_letter, front};
 use crate::phrases::phrase_parts;
-use crate::productions::{add, back_parts, deep_parts, list_of, say};
+use crate::productions::{back_parts, deep_parts, list_of, push, push_parts, say};
 use crate::words::Word;
 use sym_edges::OutOfMemory;
 
@@ -35,28 +35,6 @@ fn bound_in(scope: Scope, count: u64) -> Option<Scope>
     }
 }
 
-/// A binder, and parts within it.
-#[tactic(auto, unfolding(crate::specs::V0Grammar::binder_parts))]
-fn binder_parts<'a>(
-    parts: &mut Vec<Part>,
-    within: &[Part],
-    scope: Scope,
-    bytes: &'a [u8],
-) -> Result<Option<(Scope, &'a [u8])>, OutOfMemory>
-    ensures parts { IfOk result (λ after. grown_own parts.old.items (v0.binder_parts within.now scope bytes.now) ≡ option_map (λ a. (parts.new.items, a.0, a.1.now)) after) }
-    ensures few { IfOk result (λ _. vec_len parts.new ≤ vec_len parts.old + 1 + length within.now) }
-{
-    let Some((count, after)) = after_letter(b'G', bytes) else {
-        return Ok(None);
-    };
-    let Some(own) = bound_in(scope, count) else {
-        return Ok(None);
-    };
-    parts.push(Part::Leaf(Leaf::ForAll(count)))?;
-    parts.extend_from_slice(within)?;
-    Ok(Some((own, after)))
-}
-
 /// Whether a path begins.
 fn begins_path(bytes: &[u8]) -> bool
     ensures { result ≡ v0.begins_path (number.front bytes.now) }
@@ -67,41 +45,72 @@ fn begins_path(bytes: &[u8]) -> bool
     }
 }
 
-/// The scope of what is not shown.
-fn hidden(scope: Scope) -> Scope
-    ensures { result ≡ v0.hidden scope }
+/// How parts nest that are not shown.
+fn hidden(nest: &Nest) -> Nest
+    ensures { result ≡ record nest.now { scope = v0.hidden nest.now.scope } }
 {
-    Scope {
-        bound: scope.bound,
-        visible: false,
+    Nest {
+        scope: Scope {
+            bound: nest.scope.bound,
+            visible: false,
+        },
+        levels: nest.levels,
+        width: nest.width,
     }
 }
 
-/// What a symbol with a scope of its own is made of, and that scope.
-#[tactic(auto, unfolding(crate::specs::V0Grammar::inner_parts))]
-fn inner_parts<'a>(
-    parts: &mut Vec<Part>,
-    inner: Inner,
-    scope: Scope,
+/// A binder, and parts within it.
+#[tactic(auto, unfolding(crate::specs::V0Grammar::binder_parts), using(crate::proofs::FrameLemmas::onto_both))]
+fn binder_parts<'a>(
+    stack: &mut Vec<Frame>,
+    nest: &Nest,
+    within: &[Part],
     bytes: &'a [u8],
-) -> Result<Option<(Scope, &'a [u8])>, OutOfMemory>
-    ensures parts { IfOk result (λ after. grown_own parts.old.items (v0.inner_parts inner scope bytes.now) ≡ option_map (λ a. (parts.new.items, a.0, a.1.now)) after) }
-    ensures few { IfOk result (λ _. vec_len parts.new ≤ vec_len parts.old + 10) }
+) -> Result<Option<&'a [u8]>, OutOfMemory>
+    ensures parts { IfOk result (λ after. pushed_own stack.old.items nest.now (v0.binder_parts within.now nest.now.scope bytes.now) ≡ option_map (λ a. (stack.new.items, a.now)) after) }
+    ensures few { IfOk result (λ _. vec_len stack.new ≤ vec_len stack.old + 1 + length within.now) }
+{
+    let Some((count, after)) = after_letter(b'G', bytes) else {
+        return Ok(None);
+    };
+    let Some(scope) = bound_in(nest.scope, count) else {
+        return Ok(None);
+    };
+    let own = Nest {
+        scope,
+        levels: nest.levels,
+        width: nest.width,
+    };
+    push_parts(stack, &own, within)?;
+    push(stack, &own, Part::Leaf(Leaf::ForAll(count)))?;
+    Ok(Some(after))
+}
+
+/// What a symbol with a scope of its own is made of.
+#[tactic(auto, unfolding(crate::specs::V0Grammar::inner_parts), using(crate::proofs::FrameLemmas::onto_none))]
+fn inner_parts<'a>(
+    stack: &mut Vec<Frame>,
+    nest: &Nest,
+    inner: Inner,
+    bytes: &'a [u8],
+) -> Result<Option<&'a [u8]>, OutOfMemory>
+    ensures parts { IfOk result (λ after. pushed_own stack.old.items nest.now (v0.inner_parts inner nest.now.scope bytes.now) ≡ option_map (λ a. (stack.new.items, a.now)) after) }
+    ensures few { IfOk result (λ _. vec_len stack.new ≤ vec_len stack.old + 10) }
 {
     match inner {
         Inner::ImplPath => {
-            parts.push(Part::Deep(Kind::Path))?;
-            Ok(Some((hidden(scope), bytes)))
+            push(stack, &hidden(nest), Part::Deep(Kind::Path))?;
+            Ok(Some(bytes))
         }
         Inner::Instance => {
-            if !begins_path(bytes) {
-                return Ok(Some((scope, bytes)));
+            if begins_path(bytes) {
+                push(stack, &hidden(nest), Part::Deep(Kind::Path))?;
             }
-            parts.push(Part::Deep(Kind::Path))?;
-            Ok(Some((hidden(scope), bytes)))
+            Ok(Some(bytes))
         }
         Inner::Function => binder_parts(
-            parts,
+            stack,
+            nest,
             &[
                 Part::Phrase(Phrase::Unsafety),
                 Part::Phrase(Phrase::Convention),
@@ -110,158 +119,112 @@ fn inner_parts<'a>(
                 say(Word::CloseParenthesis),
                 Part::Phrase(Phrase::Returned),
             ],
-            scope,
             bytes,
         ),
-        Inner::Object => binder_parts(parts, &[list_of(Item::Bound)], scope, bytes),
+        Inner::Object => binder_parts(stack, nest, &[list_of(Item::Bound)], bytes),
     }
-}
-
-/// Puts frames of parts onto a stack, so that the first is on top.
-fn push_frames(stack: &mut Vec<Frame>, nest: Nest, parts: &[Part]) -> Result<(), OutOfMemory>
-    ensures { OnOk result (stack.new.items ≡ stack.old.items ++ reverse (map (inside nest.scope nest.levels nest.width) parts.now)) }
-{
-    'parts: for i in 0..parts.len() {
-        let part = parts[parts.len() - 1 - i];
-        stack.push(Frame {
-            part,
-            scope: nest.scope,
-            levels: nest.levels,
-            width: nest.width,
-        })?;
-    }
-    Ok(())
 }
 
 /// What a level is made of.
+#[inline(always)]
 fn level_parts<'a>(
-    parts: &mut Vec<Part>,
+    stack: &mut Vec<Frame>,
+    nest: &Nest,
     size: usize,
-    frame: Frame,
+    part: Part,
     bytes: &'a [u8],
 ) -> Result<Option<&'a [u8]>, OutOfMemory>
-    ensures parts { IfOk result (λ after. grown parts.old.items (level_by size frame.scope frame.part bytes.now) ≡ option_map (λ a. (parts.new.items, a.now)) after) }
-    ensures few { IfOk result (λ _. vec_len parts.new ≤ vec_len parts.old + 10) }
+    ensures parts { IfOk result (λ after. pushed stack.old.items nest.now (level_by size nest.now.scope part bytes.now) ≡ option_map (λ a. (stack.new.items, a.now)) after) }
+    ensures few { IfOk result (λ _. vec_len stack.new ≤ vec_len stack.old + 10) }
 {
-    match frame.part {
-        Part::Deep(kind) => deep_parts(parts, kind, bytes),
-        Part::Back(kind) => back_parts(parts, size, kind, frame.scope.visible, bytes),
+    match part {
+        Part::Deep(kind) => deep_parts(stack, nest, kind, bytes),
+        Part::Back(kind) => back_parts(stack, nest, size, kind, bytes),
         _ => Ok(None),
     }
 }
 
-/// What a frame is made of where it is a level, and how that nests.
-#[tactic(auto, using(crate::proofs::FrameLemmas::no_levels, crate::proofs::FrameLemmas::level_none, crate::proofs::FrameLemmas::level_some))]
-fn level_frames<'a>(
-    parts: &mut Vec<Part>,
+/// Puts the frames that a level is made of onto the stack, and gives what stands after its first bytes.
+#[tactic(auto, using(crate::proofs::FrameLemmas::level_over, crate::proofs::FrameLemmas::level_none, crate::proofs::FrameLemmas::level_some))]
+#[inline(always)]
+fn expand_level<'a>(
+    stack: &mut Vec<Frame>,
     size: usize,
     frame: Frame,
     bytes: &'a [u8],
-) -> Result<Option<(Nest, &'a [u8])>, OutOfMemory>
-    requires small { size < 2 ^ 63 }
-    requires empty { parts.old.items ≡ [] }
-    ensures parts { IfOk result (λ after. level_frames size frame bytes.now ≡ option_map (λ a. nested_frames a.0 parts.new.items a.1.now) after) }
-    ensures few { IfOk result (λ _. vec_len parts.new ≤ 10) }
+) -> Result<Option<&'a [u8]>, OutOfMemory>
+    requires { size < 2 ^ 63 }
+    ensures { IfOk result (λ after. Expanded stack.old.items stack.new.items (level_frames size frame bytes.now) (option_copied after)) }
 {
     if frame.levels == 0 {
         return Ok(None);
     }
-    match level_parts(parts, size, frame, bytes)? {
-        Some(after) => Ok(Some((
-            Nest {
-                scope: frame.scope,
-                levels: frame.levels - 1,
-                width: size + 8,
-            },
-            after,
-        ))),
+    let nest = Nest {
+        scope: frame.scope,
+        levels: frame.levels - 1,
+        width: size + 8,
+    };
+    match level_parts(stack, &nest, size, frame.part, bytes)? {
+        Some(after) => Ok(Some(after)),
         None => Ok(None),
     }
 }
 
-/// What a symbol within a level is made of, and how that nests.
-#[tactic(auto, using(crate::proofs::FrameLemmas::no_width, crate::proofs::FrameLemmas::phrase_none, crate::proofs::FrameLemmas::phrase_some))]
-fn phrase_frames<'a>(
-    parts: &mut Vec<Part>,
+/// The same of a symbol within a level.
+#[tactic(auto, using(crate::proofs::FrameLemmas::phrase_over, crate::proofs::FrameLemmas::phrase_none, crate::proofs::FrameLemmas::phrase_some))]
+#[inline(always)]
+fn expand_phrase<'a>(
+    stack: &mut Vec<Frame>,
     phrase: Phrase,
     frame: Frame,
-    opened: bool,
-    bytes: &'a [u8],
-) -> Result<Option<(Nest, &'a [u8])>, OutOfMemory>
-    requires { parts.old.items ≡ [] }
-    ensures parts { IfOk result (λ after. phrase_frames phrase frame opened bytes.now ≡ option_map (λ a. nested_frames a.0 parts.new.items a.1.now) after) }
-    ensures few { IfOk result (λ _. vec_len parts.new ≤ 10) }
+    ahead: &Ahead<'a>,
+) -> Result<Option<&'a [u8]>, OutOfMemory>
+    ensures { IfOk result (λ after. Expanded stack.old.items stack.new.items (phrase_frames phrase frame ahead.now.opened ahead.now.rest.now) (option_copied after)) }
 {
     if frame.width == 0 {
         return Ok(None);
     }
-    match phrase_parts(parts, phrase, opened, bytes)? {
-        Some(after) => Ok(Some((
-            Nest {
-                scope: frame.scope,
-                levels: frame.levels,
-                width: frame.width - 1,
-            },
-            after,
-        ))),
+    let nest = Nest {
+        scope: frame.scope,
+        levels: frame.levels,
+        width: frame.width - 1,
+    };
+    match phrase_parts(stack, &nest, phrase, ahead.opened, ahead.rest)? {
+        Some(after) => Ok(Some(after)),
         None => Ok(None),
     }
 }
 
-/// What a symbol with a scope of its own is made of, and how that nests.
-#[tactic(auto, using(crate::proofs::FrameLemmas::no_room, crate::proofs::FrameLemmas::inner_none, crate::proofs::FrameLemmas::inner_some))]
-fn inner_frames<'a>(
-    parts: &mut Vec<Part>,
+/// The same of a symbol with a scope of its own.
+#[tactic(auto, using(crate::proofs::FrameLemmas::inner_over, crate::proofs::FrameLemmas::inner_none, crate::proofs::FrameLemmas::inner_some))]
+#[inline(always)]
+fn expand_inner<'a>(
+    stack: &mut Vec<Frame>,
     inner: Inner,
     frame: Frame,
     bytes: &'a [u8],
-) -> Result<Option<(Nest, &'a [u8])>, OutOfMemory>
-    requires { parts.old.items ≡ [] }
-    ensures parts { IfOk result (λ after. inner_frames inner frame bytes.now ≡ option_map (λ a. nested_frames a.0 parts.new.items a.1.now) after) }
-    ensures few { IfOk result (λ _. vec_len parts.new ≤ 10) }
+) -> Result<Option<&'a [u8]>, OutOfMemory>
+    ensures { IfOk result (λ after. Expanded stack.old.items stack.new.items (inner_frames inner frame bytes.now) (option_copied after)) }
 {
     if frame.width == 0 {
         return Ok(None);
     }
-    match inner_parts(parts, inner, frame.scope, bytes)? {
-        Some((scope, after)) => Ok(Some((
-            Nest {
-                scope,
-                levels: frame.levels,
-                width: frame.width - 1,
-            },
-            after,
-        ))),
+    let nest = Nest {
+        scope: frame.scope,
+        levels: frame.levels,
+        width: frame.width - 1,
+    };
+    match inner_parts(stack, &nest, inner, bytes)? {
+        Some(after) => Ok(Some(after)),
         None => Ok(None),
-    }
-}
-
-/// What a frame is made of, and how that nests.
-#[tactic(auto, unfolding(crate::specs::internal::Running::expand))]
-fn made_of<'a>(
-    parts: &mut Vec<Part>,
-    size: usize,
-    frame: Frame,
-    opened: bool,
-    bytes: &'a [u8],
-) -> Result<Option<(Nest, &'a [u8])>, OutOfMemory>
-    requires small { size < 2 ^ 63 }
-    requires empty { parts.old.items ≡ [] }
-    ensures parts { IfOk result (λ after. expand size frame opened bytes.now ≡ option_map (λ a. nested_frames a.0 parts.new.items a.1.now) after) }
-    ensures few { IfOk result (λ _. vec_len parts.new ≤ 10) }
-{
-    match frame.part {
-        Part::Phrase(phrase) => phrase_frames(parts, phrase, frame, opened, bytes),
-        Part::Inner(inner) => inner_frames(parts, inner, frame, bytes),
-        _ => level_frames(parts, size, frame, bytes),
     }
 }
 
 /// Puts the frames that a frame is made of onto the stack, and gives what stands after its first bytes.
-#[tactic(auto, using(crate::proofs::FrameLemmas::expanded_none, crate::proofs::FrameLemmas::expanded_some))]
+#[tactic(auto, unfolding(crate::specs::internal::Running::expand))]
+#[inline(always)]
 pub(crate) fn expand<'a>(
     stack: &mut Vec<Frame>,
-    parts: &mut Vec<Part>,
     size: usize,
     frame: Frame,
     ahead: &Ahead<'a>,
@@ -269,12 +232,9 @@ pub(crate) fn expand<'a>(
     requires { size < 2 ^ 63 }
     ensures { IfOk result (λ after. Expanded stack.old.items stack.new.items (expand size frame ahead.now.opened ahead.now.rest.now) (option_copied after)) }
 {
-    parts.clear();
-    match made_of(parts, size, frame, ahead.opened, ahead.rest)? {
-        Some((nest, after)) => {
-            push_frames(stack, nest, parts.as_slice())?;
-            Ok(Some(after))
-        }
-        None => Ok(None),
+    match frame.part {
+        Part::Phrase(phrase) => expand_phrase(stack, phrase, frame, ahead),
+        Part::Inner(inner) => expand_inner(stack, inner, frame, ahead.rest),
+        _ => expand_level(stack, size, frame, ahead.rest),
     }
 }

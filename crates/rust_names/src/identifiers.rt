@@ -13,14 +13,22 @@ use idna::{Errors, punycode};
 use std::alloc::Global;
 use sym_edges::OutOfMemory;
 
+/// Whether a byte is a letter, a digit or `_`; most are small letters.
+#[inline(always)]
+fn is_identifier_byte(b: u8) -> bool
+    ensures { result ≡ v0.is_identifier_byte b }
+{
+    if b'a' <= b && b <= b'z' {
+        return true;
+    }
+    (b'0' <= b && b <= b'9') || (b'A' <= b && b <= b'Z') || b == b'_'
+}
+
 /// Whether bytes are letters, digits and `_`.
 fn are_identifier_bytes(bytes: &[u8]) -> bool
     ensures { result ≡ list_all v0.is_identifier_byte bytes.now }
 {
-    bytes.iter().all(|b| (b'0' <= *b && *b <= b'9')
-        || (b'A' <= *b && *b <= b'Z')
-        || *b == b'_'
-        || (b'a' <= *b && *b <= b'z'))
+    bytes.iter().all(|b| is_identifier_byte(*b))
 }
 
 /// Whether bytes are digits of Punycode.
@@ -63,6 +71,7 @@ fn is_identifier(marked: bool, bytes: &[u8]) -> bool
 
 /// A length, and what stands after it.
 #[tactic(auto, unfolding(crate::specs::V0Identifiers::length_in_front))]
+#[inline(always)]
 fn length_in_front(bytes: &[u8]) -> Option<(usize, &[u8])>
     ensures { option_map (λ x. (x.0, x.1.now)) result ≡ v0.length_in_front bytes.now }
 {
@@ -80,6 +89,7 @@ fn length_in_front(bytes: &[u8]) -> Option<(usize, &[u8])>
 
 /// What stands after a `_` that may stand in front.
 #[tactic(auto, unfolding(crate::specs::V0Identifiers::after_separator))]
+#[inline(always)]
 fn after_separator(bytes: &[u8]) -> &[u8]
     ensures { result.now ≡ v0.after_separator bytes.now }
 {
@@ -90,6 +100,7 @@ fn after_separator(bytes: &[u8]) -> &[u8]
 }
 
 /// So many bytes as an identifier.
+#[inline(always)]
 fn identifier_cut(marked: bool, count: usize, bytes: &[u8]) -> Option<(bool, &[u8], &[u8])>
     ensures { option_map (λ x. (x.0, x.1.now, x.2.now)) result ≡ v0.identifier_cut marked count bytes.now }
 {
@@ -104,6 +115,7 @@ fn identifier_cut(marked: bool, count: usize, bytes: &[u8]) -> Option<(bool, &[u
 }
 
 /// An identifier after its mark.
+#[inline(always)]
 fn identifier_from(marked: bool, bytes: &[u8]) -> Option<(bool, &[u8], &[u8])>
     ensures { option_map (λ x. (x.0, x.1.now, x.2.now)) result ≡ v0.identifier_from marked (v0.length_in_front bytes.now) }
 {
@@ -115,6 +127,7 @@ fn identifier_from(marked: bool, bytes: &[u8]) -> Option<(bool, &[u8], &[u8])>
 
 /// An identifier: whether it is marked as Punycode, its bytes, and what stands after it.
 #[tactic(auto, unfolding(crate::specs::V0Identifiers::identifier))]
+#[inline(always)]
 pub(crate) fn identifier(bytes: &[u8]) -> Option<(bool, &[u8], &[u8])>
     ensures { option_map (λ x. (x.0, x.1.now, x.2.now)) result ≡ v0.identifier bytes.now }
 {
@@ -154,6 +167,7 @@ fn add_decoded(alloc: Global, text: &mut Vec<u8>, input: &str) -> Result<bool, O
 
 /// Adds what an identifier shows; false where that cannot be shown.
 #[tactic(auto, unfolding(crate::specs::V0Identifiers::identifier_text))]
+#[inline(always)]
 pub(crate) fn add_identifier(
     alloc: Global,
     text: &mut Vec<u8>,

@@ -13,7 +13,7 @@ use crate::numbers::{after_letter, front, hex_digit, hex_digits, hex_value};
 use crate::texts::{
     add, add_decimal, add_for_all, add_integer, add_quoted, character, show, show_lifetime,
 };
-use crate::words::word_text;
+use crate::words::{Word, word_text};
 use std::alloc::Global;
 use sym_edges::OutOfMemory;
 
@@ -54,9 +54,44 @@ fn show_for_all(text: &mut Vec<u8>, scope: Scope, count: u64) -> Result<bool, Ou
     add_for_all(text, scope.bound, count)
 }
 
+/// A word.
+#[tactic(auto, unfolding(crate::specs::V0Leaves::read_leaf, crate::specs::V0Leaves::leaf_of))]
+#[inline(always)]
+pub(crate) fn read_word<'a>(
+    text: &mut Vec<u8>,
+    scope: Scope,
+    word: Word,
+    bytes: &'a [u8],
+) -> Result<Option<&'a [u8]>, OutOfMemory>
+    ensures { IfOk result (λ after. v0.read_leaf (leaf.Say word) scope bytes.now text.old.items ≡ option_map (λ a. (a.now, text.new.items)) after) }
+{
+    let said = show(text, scope.visible, word_text(word))?;
+    Ok(after_if(said, bytes))
+}
+
+/// A disambiguator.
+#[tactic(auto, unfolding(crate::specs::V0Leaves::read_leaf, crate::specs::V0Leaves::leaf_of))]
+#[inline(always)]
+pub(crate) fn read_disambiguator<'a>(
+    text: &mut Vec<u8>,
+    scope: Scope,
+    bytes: &'a [u8],
+) -> Result<Option<&'a [u8]>, OutOfMemory>
+    ensures { IfOk result (λ after. v0.read_leaf leaf.Disambiguator scope bytes.now text.old.items ≡ option_map (λ a. (a.now, text.new.items)) after) }
+{
+    match after_letter(b's', bytes) {
+        Some((_, after)) => {
+            let said = show(text, scope.visible, b"")?;
+            Ok(after_if(said, after))
+        }
+        None => Ok(None),
+    }
+}
+
 /// An identifier.
 #[tactic(auto, unfolding(crate::specs::V0Leaves::read_leaf, crate::specs::V0Leaves::leaf_of))]
-fn read_identifier<'a>(
+#[inline(always)]
+pub(crate) fn read_identifier<'a>(
     alloc: Global,
     text: &mut Vec<u8>,
     scope: Scope,
@@ -311,10 +346,7 @@ pub(crate) fn read_leaf<'a>(
     ensures { IfOk result (λ after. v0.read_leaf leaf scope bytes.now text.old.items ≡ option_map (λ a. (a.now, text.new.items)) after) }
 {
     match leaf {
-        Leaf::Say(word) => {
-            let said = show(text, scope.visible, word_text(word))?;
-            Ok(after_if(said, bytes))
-        }
+        Leaf::Say(word) => read_word(text, scope, word, bytes),
         Leaf::Letter(b) => {
             let said = show(text, scope.visible, &[b])?;
             Ok(after_if(said, bytes))
@@ -331,13 +363,7 @@ pub(crate) fn read_leaf<'a>(
             let said = show_for_all(text, scope, count)?;
             Ok(after_if(said, bytes))
         }
-        Leaf::Disambiguator => match after_letter(b's', bytes) {
-            Some((_, after)) => {
-                let said = show(text, scope.visible, b"")?;
-                Ok(after_if(said, after))
-            }
-            None => Ok(None),
-        },
+        Leaf::Disambiguator => read_disambiguator(text, scope, bytes),
         Leaf::Identifier => read_identifier(alloc, text, scope, bytes),
         Leaf::Convention => read_convention(alloc, text, scope, bytes),
         Leaf::Number => read_number(text, scope, bytes),

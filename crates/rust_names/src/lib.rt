@@ -24,6 +24,7 @@ mod grammar;
 mod identifiers;
 mod leaves;
 mod numbers;
+mod paths;
 mod phrases;
 mod productions;
 mod symbol;

@@ -6,20 +6,33 @@ ghost use Rattle.rust_names.specs.internal.Finding.{shown_of};
 ghost use Rattle.rust_names.specs.Named.{named};
 
 use crate::legacy::legacy_text;
-use crate::symbol::v0_text;
+use crate::symbol::{Room, v0_text};
 use std::alloc::Global;
 use sym_edges::OutOfMemory;
 use sym_records::ByteText;
 
+/// The bytes as a name of their own.
+fn name_of(alloc: Global, bytes: &[u8]) -> Result<ByteText, OutOfMemory>
+    ensures { IfOk result (λ text. text ≡ bytes.now) }
+{
+    let mut text = Vec::with_capacity(alloc, bytes.len())?;
+    text.extend_from_slice(bytes)?;
+    Ok(ByteText::of(text))
+}
+
 /// What a name shows.
 #[tactic(auto, unfolding(crate::specs::internal::Finding::shown_of))]
-fn text_of(alloc: Global, name: &[u8]) -> Result<Option<ByteText>, OutOfMemory>
+fn text_of(alloc: Global, room: &mut Room, name: &[u8]) -> Result<Option<ByteText>, OutOfMemory>
     ensures { IfOk result (λ text. text ≡ shown_of name.now) }
 {
-    if name.starts_with(b"_R") {
-        return v0_text(alloc, name);
+    if !name.starts_with(b"_R") {
+        return legacy_text(alloc, name);
     }
-    legacy_text(alloc, name)
+    if !v0_text(alloc, room, name)? {
+        return Ok(None);
+    }
+    let text = name_of(alloc, room.text.as_slice())?;
+    Ok(Some(text))
 }
 
 /// What a name shows, where it is one in Rust's legacy mangling or in the current one (RFC 2603). Memory is taken only for a name that
@@ -30,16 +43,21 @@ pub fn shown(alloc: Global, name: &[u8]) -> Result<Option<ByteText>, OutOfMemory
     ensures named { IfOk result (λ text. IfSome text (λ t. is_name t ≡ true)) }
     ensures short { IfOk result (λ text. IfSome text (λ t. length t ≤ 65536)) }
 {
-    let text = text_of(alloc, name)?;
+    let mut room = Room::new(alloc);
+    let text = text_of(alloc, &mut room, name)?;
     Ok(text)
 }
 
 /// Puts what a name shows in its place.
 #[tactic(auto, unfolding(crate::specs::Named::named))]
-pub(crate) fn show_name(alloc: Global, name: &mut ByteText) -> Result<(), OutOfMemory>
+pub(crate) fn show_name(
+    alloc: Global,
+    room: &mut Room,
+    name: &mut ByteText,
+) -> Result<(), OutOfMemory>
     ensures { OnOk result (name.new ≡ named name.old) }
 {
-    match text_of(alloc, name.as_slice())? {
+    match text_of(alloc, room, name.as_slice())? {
         Some(text) => {
             *name = text;
             Ok(())

@@ -67,31 +67,32 @@ fn next_62(value: u64, b: u8) -> Option<u64>
     ensures { result ≡ next_62 value (base_62_digit b) }
 {
     match base_62_digit(b) {
-        Some(digit) => below_64(u128::from(value) * 62 + u128::from(digit)),
+        Some(digit) => {
+            if value < (1 << 58) {
+                return Some(value * 62 + digit);
+            }
+            below_64(u128::from(value) * 62 + u128::from(digit))
+        }
         None => None,
     }
 }
 
 /// The value of digits up to `_`, and what stands after it.
-#[tactic(auto)]
 fn base_62_from(bytes: &[u8]) -> Option<(u64, &[u8])>
     ensures number { option_map (λ x. (x.0, x.1.now)) result ≡ base_62_from 0 bytes.now }
     ensures within { IfSome result (λ x. length x.1.now ≤ length bytes.now) }
 {
     let mut value = 0;
-    let mut rest = bytes;
-    'digits: while let Some((b, after)) = front(rest) {
-        if b == b'_' {
+    'digits: for (at, b) in bytes.iter().enumerate() {
+        if *b == b'_' {
+            let after = bytes.split_at(at + 1).1;
             return match raise(value) {
                 Some(number) => Some((number, after)),
                 None => None,
             };
         }
-        match next_62(value, b) {
-            Some(more) => {
-                value = more;
-                rest = after;
-            }
+        match next_62(value, *b) {
+            Some(more) => value = more,
             None => return None,
         }
     }

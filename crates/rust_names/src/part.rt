@@ -16,6 +16,7 @@ fn is_digit(b: u8) -> bool
 
 /// How many digits stand in front.
 #[tactic(auto, using(crate::proofs::DigitLemmas::digits_stop, crate::proofs::DigitLemmas::digits_more, crate::proofs::DigitLemmas::digits_end))]
+#[inline(always)]
 pub(crate) fn count_digits(bytes: &[u8]) -> usize
     ensures count { result ≡ length (digits_in_front bytes.now) }
     ensures within { result ≤ length bytes.now }
@@ -30,6 +31,7 @@ pub(crate) fn count_digits(bytes: &[u8]) -> usize
 
 /// The number that decimal digits without a leading zero write, where it is at most `most`.
 #[tactic(auto, using(crate::proofs::DigitLemmas::number_none, crate::proofs::DigitLemmas::number_zero, crate::proofs::DigitLemmas::number_other, crate::proofs::DigitLemmas::number_past, crate::proofs::DigitLemmas::number_more, crate::proofs::DigitLemmas::all_more, crate::proofs::DigitLemmas::number_is))]
+#[inline(always)]
 pub(crate) fn number_upto(most: usize, digits: &[u8]) -> Option<usize>
     ensures number { result ≡ number_upto most digits.now }
     ensures within { IfSome result (λ n. n ≤ most) }

@@ -3,54 +3,59 @@ ghost use Rattle.std.specs.Prelude.{◌≡◌, ◌≤◌, ◌+◌, ◌++◌, tru
 ghost use Rattle.std.specs.Option.{option_map};
 ghost use Rattle.rust_names.specs.V0Grammar as v0;
 ghost use Rattle.rust_names.specs.V0Numbers.{eat};
-ghost use Rattle.rust_names.specs.internal.Running.{grown};
+ghost use Rattle.rust_names.specs.internal.Running.{onto, pushed};
 
-use crate::grammar::{Count, Item, Kind, Leaf, Part, Phrase};
+use crate::grammar::{Count, Frame, Item, Kind, Leaf, Nest, Part, Phrase};
 use crate::numbers::{after_letter, base_62, eat, front};
-use crate::productions::{ANY_TYPE, add, list_of, say, sign};
+use crate::productions::{ANY_TYPE, add, list_of, push, push_parts, say, sign};
 use crate::words::{Word, basic_type};
 use sym_edges::OutOfMemory;
 
 /// Any type.
 #[tactic(auto, unfolding(crate::specs::V0Grammar::any_type_parts))]
 fn any_type_parts<'a>(
-    parts: &mut Vec<Part>,
+    stack: &mut Vec<Frame>,
+    nest: &Nest,
     bytes: &'a [u8],
 ) -> Result<Option<&'a [u8]>, OutOfMemory>
-    ensures parts { IfOk result (λ after. grown parts.old.items (v0.any_type_parts bytes.now) ≡ option_map (λ a. (parts.new.items, a.now)) after) }
-    ensures few { IfOk result (λ _. vec_len parts.new ≤ vec_len parts.old + 8) }
+    ensures parts { IfOk result (λ after. pushed stack.old.items nest.now (v0.any_type_parts bytes.now) ≡ option_map (λ a. (stack.new.items, a.now)) after) }
+    ensures few { IfOk result (λ _. vec_len stack.new ≤ vec_len stack.old + 8) }
 {
     match front(bytes) {
         Some((b, after)) => match basic_type(b) {
-            Some(word) => add(parts, &[say(word)], after),
-            None => add(parts, &[Part::Deep(Kind::Type)], bytes),
+            Some(word) => add(stack, nest, &[say(word)], after),
+            None => add(stack, nest, &[Part::Deep(Kind::Type)], bytes),
         },
         None => Ok(None),
     }
 }
 
-/// Adds the parts of an item.
+/// Puts the parts of an item onto a stack.
 #[tactic(auto, unfolding(crate::specs::V0Grammar::item_parts))]
-fn add_item(parts: &mut Vec<Part>, item: Item) -> Result<(), OutOfMemory>
-    ensures parts { OnOk result (parts.new.items ≡ parts.old.items ++ v0.item_parts item) }
-    ensures few { OnOk result (vec_len parts.new ≤ vec_len parts.old + 4) }
+fn add_item(stack: &mut Vec<Frame>, nest: &Nest, item: Item) -> Result<(), OutOfMemory>
+    ensures parts { OnOk result (stack.new.items ≡ onto stack.old.items nest.now (v0.item_parts item)) }
+    ensures few { OnOk result (vec_len stack.new ≤ vec_len stack.old + 4) }
 {
     match item {
-        Item::Argument => parts.push(Part::Phrase(Phrase::Argument))?,
-        Item::Parameter | Item::Member => parts.push(ANY_TYPE)?,
-        Item::Element | Item::Component => parts.push(Part::Deep(Kind::Value))?,
-        Item::Field => parts.extend_from_slice(&[
-            Part::Leaf(Leaf::Disambiguator),
-            Part::Leaf(Leaf::Identifier),
-            say(Word::FieldColon),
-            Part::Deep(Kind::Value),
-        ])?,
-        Item::Bound => parts.extend_from_slice(&[
-            Part::Deep(Kind::TraitPath),
-            Part::Phrase(Phrase::Bindings),
-        ])?,
+        Item::Argument => push(stack, nest, Part::Phrase(Phrase::Argument)),
+        Item::Parameter | Item::Member => push(stack, nest, ANY_TYPE),
+        Item::Element | Item::Component => push(stack, nest, Part::Deep(Kind::Value)),
+        Item::Field => push_parts(
+            stack,
+            nest,
+            &[
+                Part::Leaf(Leaf::Disambiguator),
+                Part::Leaf(Leaf::Identifier),
+                say(Word::FieldColon),
+                Part::Deep(Kind::Value),
+            ],
+        ),
+        Item::Bound => push_parts(
+            stack,
+            nest,
+            &[Part::Deep(Kind::TraitPath), Part::Phrase(Phrase::Bindings)],
+        ),
     }
-    Ok(())
 }
 
 /// What stands between two items.
@@ -64,33 +69,43 @@ fn separator(item: Item) -> Word
 }
 
 /// Adds an item and the list after it.
-#[tactic(auto, unfolding(crate::specs::V0Grammar::items_from))]
-fn add_items(parts: &mut Vec<Part>, item: Item, count: Count) -> Result<(), OutOfMemory>
-    ensures parts { OnOk result (parts.new.items ≡ parts.old.items ++ v0.items_from item count) }
-    ensures few { OnOk result (vec_len parts.new ≤ vec_len parts.old + 6) }
+#[tactic(auto, unfolding(crate::specs::V0Grammar::items_from), using(crate::proofs::FrameLemmas::onto_both))]
+fn add_items(
+    stack: &mut Vec<Frame>,
+    nest: &Nest,
+    item: Item,
+    count: Count,
+) -> Result<(), OutOfMemory>
+    ensures parts { OnOk result (stack.new.items ≡ onto stack.old.items nest.now (v0.items_from item count)) }
+    ensures few { OnOk result (vec_len stack.new ≤ vec_len stack.old + 6) }
 {
     match count {
         Count::Zero => {
-            add_item(parts, item)?;
-            Ok(parts.push(Part::Phrase(Phrase::Items(item, Count::One)))?)
+            push(stack, nest, Part::Phrase(Phrase::Items(item, Count::One)))?;
+            add_item(stack, nest, item)
         }
         _ => {
-            parts.push(say(separator(item)))?;
-            add_item(parts, item)?;
-            Ok(parts.push(Part::Phrase(Phrase::Items(item, Count::Many)))?)
+            push(stack, nest, Part::Phrase(Phrase::Items(item, Count::Many)))?;
+            add_item(stack, nest, item)?;
+            push(stack, nest, say(separator(item)))
         }
     }
 }
 
 /// Adds the comma of a tuple of one.
-#[tactic(auto, unfolding(crate::specs::V0Grammar::ending))]
-fn add_ending(parts: &mut Vec<Part>, item: Item, count: Count) -> Result<(), OutOfMemory>
-    ensures parts { OnOk result (parts.new.items ≡ parts.old.items ++ v0.ending item count) }
-    ensures few { OnOk result (vec_len parts.new ≤ vec_len parts.old + 1) }
+#[tactic(auto, unfolding(crate::specs::V0Grammar::ending), using(crate::proofs::FrameLemmas::onto_none))]
+fn add_ending(
+    stack: &mut Vec<Frame>,
+    nest: &Nest,
+    item: Item,
+    count: Count,
+) -> Result<(), OutOfMemory>
+    ensures parts { OnOk result (stack.new.items ≡ onto stack.old.items nest.now (v0.ending item count)) }
+    ensures few { OnOk result (vec_len stack.new ≤ vec_len stack.old + 1) }
 {
     match (item, count) {
-        (Item::Member, Count::One) => Ok(parts.push(sign(b','))?),
-        (Item::Component, Count::One) => Ok(parts.push(sign(b','))?),
+        (Item::Member, Count::One) => push(stack, nest, sign(b',')),
+        (Item::Component, Count::One) => push(stack, nest, sign(b',')),
         _ => Ok(()),
     }
 }
@@ -98,21 +113,22 @@ fn add_ending(parts: &mut Vec<Part>, item: Item, count: Count) -> Result<(), Out
 /// The items of a list.
 #[tactic(auto, unfolding(crate::specs::V0Grammar::items_parts))]
 fn items_parts<'a>(
-    parts: &mut Vec<Part>,
+    stack: &mut Vec<Frame>,
+    nest: &Nest,
     item: Item,
     count: Count,
     bytes: &'a [u8],
 ) -> Result<Option<&'a [u8]>, OutOfMemory>
-    ensures parts { IfOk result (λ after. grown parts.old.items (Some (v0.items_parts item count bytes.now)) ≡ option_map (λ a. (parts.new.items, a.now)) after) }
-    ensures few { IfOk result (λ _. vec_len parts.new ≤ vec_len parts.old + 8) }
+    ensures parts { IfOk result (λ after. pushed stack.old.items nest.now (Some (v0.items_parts item count bytes.now)) ≡ option_map (λ a. (stack.new.items, a.now)) after) }
+    ensures few { IfOk result (λ _. vec_len stack.new ≤ vec_len stack.old + 8) }
 {
     match eat(b'E', bytes) {
         Some(after) => {
-            add_ending(parts, item, count)?;
+            add_ending(stack, nest, item, count)?;
             Ok(Some(after))
         }
         None => {
-            add_items(parts, item, count)?;
+            add_items(stack, nest, item, count)?;
             Ok(Some(bytes))
         }
     }
@@ -121,20 +137,21 @@ fn items_parts<'a>(
 /// A generic argument.
 #[tactic(auto, unfolding(crate::specs::V0Grammar::argument_parts))]
 fn argument_parts<'a>(
-    parts: &mut Vec<Part>,
+    stack: &mut Vec<Frame>,
+    nest: &Nest,
     bytes: &'a [u8],
 ) -> Result<Option<&'a [u8]>, OutOfMemory>
-    ensures parts { IfOk result (λ after. grown parts.old.items (v0.argument_parts bytes.now) ≡ option_map (λ a. (parts.new.items, a.now)) after) }
-    ensures few { IfOk result (λ _. vec_len parts.new ≤ vec_len parts.old + 8) }
+    ensures parts { IfOk result (λ after. pushed stack.old.items nest.now (v0.argument_parts bytes.now) ≡ option_map (λ a. (stack.new.items, a.now)) after) }
+    ensures few { IfOk result (λ _. vec_len stack.new ≤ vec_len stack.old + 8) }
 {
     match eat(b'L', bytes) {
         Some(lifetime) => match base_62(lifetime) {
-            Some((number, after)) => add(parts, &[Part::Leaf(Leaf::Lifetime(number))], after),
+            Some((number, after)) => add(stack, nest, &[Part::Leaf(Leaf::Lifetime(number))], after),
             None => Ok(None),
         },
         None => match eat(b'K', bytes) {
-            Some(after) => add(parts, &[Part::Deep(Kind::Constant)], after),
-            None => add(parts, &[ANY_TYPE], bytes),
+            Some(after) => add(stack, nest, &[Part::Deep(Kind::Constant)], after),
+            None => add(stack, nest, &[ANY_TYPE], bytes),
         },
     }
 }
@@ -149,16 +166,18 @@ fn binding_opening(opened: bool) -> Word
 /// The bindings of a trait.
 #[tactic(auto, unfolding(crate::specs::V0Grammar::bindings_parts))]
 fn bindings_parts<'a>(
-    parts: &mut Vec<Part>,
+    stack: &mut Vec<Frame>,
+    nest: &Nest,
     opened: bool,
     bytes: &'a [u8],
 ) -> Result<Option<&'a [u8]>, OutOfMemory>
-    ensures parts { IfOk result (λ after. grown parts.old.items (Some (v0.bindings_parts opened bytes.now)) ≡ option_map (λ a. (parts.new.items, a.now)) after) }
-    ensures few { IfOk result (λ _. vec_len parts.new ≤ vec_len parts.old + 8) }
+    ensures parts { IfOk result (λ after. pushed stack.old.items nest.now (Some (v0.bindings_parts opened bytes.now)) ≡ option_map (λ a. (stack.new.items, a.now)) after) }
+    ensures few { IfOk result (λ _. vec_len stack.new ≤ vec_len stack.old + 8) }
 {
     match eat(b'p', bytes) {
         Some(after) => add(
-            parts,
+            stack,
+            nest,
             &[
                 say(binding_opening(opened)),
                 Part::Leaf(Leaf::Identifier),
@@ -170,9 +189,9 @@ fn bindings_parts<'a>(
         ),
         None => {
             if opened {
-                return add(parts, &[say(Word::Greater)], bytes);
+                return add(stack, nest, &[say(Word::Greater)], bytes);
             }
-            add(parts, &[], bytes)
+            add(stack, nest, &[], bytes)
         }
     }
 }
@@ -188,87 +207,107 @@ fn space_part(space: u8) -> Part
     }
 }
 
-/// Adds a part, unless the identifier is empty.
-fn add_unless_empty(parts: &mut Vec<Part>, part: Part, bytes: &[u8]) -> Result<(), OutOfMemory>
-    ensures parts { OnOk result (parts.new.items ≡ parts.old.items ++ v0.unless_empty part (eat 48 bytes.now)) }
-    ensures few { OnOk result (vec_len parts.new ≤ vec_len parts.old + 1) }
+/// Puts a part onto a stack, unless the identifier is empty.
+#[tactic(auto, using(crate::proofs::FrameLemmas::onto_none))]
+fn add_unless_empty(
+    stack: &mut Vec<Frame>,
+    nest: &Nest,
+    part: Part,
+    bytes: &[u8],
+) -> Result<(), OutOfMemory>
+    ensures parts { OnOk result (stack.new.items ≡ onto stack.old.items nest.now (v0.unless_empty part (eat 48 bytes.now))) }
+    ensures few { OnOk result (vec_len stack.new ≤ vec_len stack.old + 1) }
 {
     match eat(b'0', bytes) {
         Some(_) => Ok(()),
-        None => Ok(parts.push(part)?),
+        None => push(stack, nest, part),
     }
 }
 
 /// The name of a path in a namespace, by its number.
-#[tactic(auto, unfolding(crate::specs::V0Grammar::named_parts))]
+#[tactic(auto, unfolding(crate::specs::V0Grammar::named_parts), using(crate::proofs::FrameLemmas::onto_both))]
 fn named_parts<'a>(
-    parts: &mut Vec<Part>,
+    stack: &mut Vec<Frame>,
+    nest: &Nest,
     space: u8,
     number: u64,
     bytes: &'a [u8],
 ) -> Result<Option<&'a [u8]>, OutOfMemory>
-    ensures parts { IfOk result (λ after. grown parts.old.items (Some (v0.named_parts space (number, bytes.now))) ≡ option_map (λ a. (parts.new.items, a.now)) after) }
-    ensures few { IfOk result (λ _. vec_len parts.new ≤ vec_len parts.old + 8) }
+    ensures parts { IfOk result (λ after. pushed stack.old.items nest.now (Some (v0.named_parts space (number, bytes.now))) ≡ option_map (λ a. (stack.new.items, a.now)) after) }
+    ensures few { IfOk result (λ _. vec_len stack.new ≤ vec_len stack.old + 8) }
 {
     if b'a' <= space {
-        add_unless_empty(parts, say(Word::Scope), bytes)?;
-        return add(parts, &[Part::Leaf(Leaf::Identifier)], bytes);
+        push(stack, nest, Part::Leaf(Leaf::Identifier))?;
+        add_unless_empty(stack, nest, say(Word::Scope), bytes)?;
+        return Ok(Some(bytes));
     }
-    parts.extend_from_slice(&[say(Word::OpenSpace), space_part(space)])?;
-    add_unless_empty(parts, sign(b':'), bytes)?;
-    add(
-        parts,
+    push_parts(
+        stack,
+        nest,
         &[
             Part::Leaf(Leaf::Identifier),
             sign(b'#'),
             Part::Leaf(Leaf::Index(number)),
             say(Word::CloseBrace),
         ],
+    )?;
+    add_unless_empty(stack, nest, sign(b':'), bytes)?;
+    add(
+        stack,
+        nest,
+        &[say(Word::OpenSpace), space_part(space)],
         bytes,
     )
 }
 
 /// The lifetime of a reference.
 #[tactic(auto, unfolding(crate::specs::V0Grammar::borrow_parts))]
-fn borrow_parts<'a>(parts: &mut Vec<Part>, bytes: &'a [u8]) -> Result<Option<&'a [u8]>, OutOfMemory>
-    ensures parts { IfOk result (λ after. grown parts.old.items (v0.borrow_parts bytes.now) ≡ option_map (λ a. (parts.new.items, a.now)) after) }
-    ensures few { IfOk result (λ _. vec_len parts.new ≤ vec_len parts.old + 8) }
+fn borrow_parts<'a>(
+    stack: &mut Vec<Frame>,
+    nest: &Nest,
+    bytes: &'a [u8],
+) -> Result<Option<&'a [u8]>, OutOfMemory>
+    ensures parts { IfOk result (λ after. pushed stack.old.items nest.now (v0.borrow_parts bytes.now) ≡ option_map (λ a. (stack.new.items, a.now)) after) }
+    ensures few { IfOk result (λ _. vec_len stack.new ≤ vec_len stack.old + 8) }
 {
     match eat(b'L', bytes) {
         Some(lifetime) => match base_62(lifetime) {
             Some((number, after)) => {
                 if number == 0 {
-                    return add(parts, &[], after);
+                    return add(stack, nest, &[], after);
                 }
                 add(
-                    parts,
+                    stack,
+                    nest,
                     &[Part::Leaf(Leaf::Lifetime(number)), sign(b' ')],
                     after,
                 )
             }
             None => Ok(None),
         },
-        None => add(parts, &[], bytes),
+        None => add(stack, nest, &[], bytes),
     }
 }
 
 /// The lifetime of a `dyn` type.
 #[tactic(auto, unfolding(crate::specs::V0Grammar::outlives_parts))]
 fn outlives_parts<'a>(
-    parts: &mut Vec<Part>,
+    stack: &mut Vec<Frame>,
+    nest: &Nest,
     bytes: &'a [u8],
 ) -> Result<Option<&'a [u8]>, OutOfMemory>
-    ensures parts { IfOk result (λ after. grown parts.old.items (v0.outlives_parts bytes.now) ≡ option_map (λ a. (parts.new.items, a.now)) after) }
-    ensures few { IfOk result (λ _. vec_len parts.new ≤ vec_len parts.old + 8) }
+    ensures parts { IfOk result (λ after. pushed stack.old.items nest.now (v0.outlives_parts bytes.now) ≡ option_map (λ a. (stack.new.items, a.now)) after) }
+    ensures few { IfOk result (λ _. vec_len stack.new ≤ vec_len stack.old + 8) }
 {
     match eat(b'L', bytes) {
         Some(lifetime) => match base_62(lifetime) {
             Some((number, after)) => {
                 if number == 0 {
-                    return add(parts, &[], after);
+                    return add(stack, nest, &[], after);
                 }
                 add(
-                    parts,
+                    stack,
+                    nest,
                     &[say(Word::Plus), Part::Leaf(Leaf::Lifetime(number))],
                     after,
                 )
@@ -282,17 +321,19 @@ fn outlives_parts<'a>(
 /// A calling convention.
 #[tactic(auto, unfolding(crate::specs::V0Grammar::convention_parts))]
 fn convention_parts<'a>(
-    parts: &mut Vec<Part>,
+    stack: &mut Vec<Frame>,
+    nest: &Nest,
     bytes: &'a [u8],
 ) -> Result<Option<&'a [u8]>, OutOfMemory>
-    ensures parts { IfOk result (λ after. grown parts.old.items (Some (v0.convention_parts bytes.now)) ≡ option_map (λ a. (parts.new.items, a.now)) after) }
-    ensures few { IfOk result (λ _. vec_len parts.new ≤ vec_len parts.old + 8) }
+    ensures parts { IfOk result (λ after. pushed stack.old.items nest.now (Some (v0.convention_parts bytes.now)) ≡ option_map (λ a. (stack.new.items, a.now)) after) }
+    ensures few { IfOk result (λ _. vec_len stack.new ≤ vec_len stack.old + 8) }
 {
     match eat(b'K', bytes) {
         Some(name) => match eat(b'C', name) {
-            Some(after) => add(parts, &[say(Word::ExternC)], after),
+            Some(after) => add(stack, nest, &[say(Word::ExternC)], after),
             None => add(
-                parts,
+                stack,
+                nest,
                 &[
                     say(Word::Extern),
                     Part::Leaf(Leaf::Convention),
@@ -301,21 +342,26 @@ fn convention_parts<'a>(
                 name,
             ),
         },
-        None => add(parts, &[], bytes),
+        None => add(stack, nest, &[], bytes),
     }
 }
 
 /// The fields of a value.
 #[tactic(auto, unfolding(crate::specs::V0Grammar::fields_parts))]
-fn fields_parts<'a>(parts: &mut Vec<Part>, bytes: &'a [u8]) -> Result<Option<&'a [u8]>, OutOfMemory>
-    ensures parts { IfOk result (λ after. grown parts.old.items (v0.fields_parts bytes.now) ≡ option_map (λ a. (parts.new.items, a.now)) after) }
-    ensures few { IfOk result (λ _. vec_len parts.new ≤ vec_len parts.old + 8) }
+fn fields_parts<'a>(
+    stack: &mut Vec<Frame>,
+    nest: &Nest,
+    bytes: &'a [u8],
+) -> Result<Option<&'a [u8]>, OutOfMemory>
+    ensures parts { IfOk result (λ after. pushed stack.old.items nest.now (v0.fields_parts bytes.now) ≡ option_map (λ a. (stack.new.items, a.now)) after) }
+    ensures few { IfOk result (λ _. vec_len stack.new ≤ vec_len stack.old + 8) }
 {
     match front(bytes) {
         Some((b, after)) => match b {
-            b'U' => add(parts, &[], after),
+            b'U' => add(stack, nest, &[], after),
             b'T' => add(
-                parts,
+                stack,
+                nest,
                 &[
                     say(Word::OpenParenthesis),
                     list_of(Item::Element),
@@ -324,7 +370,8 @@ fn fields_parts<'a>(parts: &mut Vec<Part>, bytes: &'a [u8]) -> Result<Option<&'a
                 after,
             ),
             b'S' => add(
-                parts,
+                stack,
+                nest,
                 &[
                     say(Word::OpenFields),
                     list_of(Item::Field),
@@ -341,62 +388,65 @@ fn fields_parts<'a>(parts: &mut Vec<Part>, bytes: &'a [u8]) -> Result<Option<&'a
 /// A part, where a letter stands in front.
 #[tactic(auto, unfolding(crate::specs::V0Grammar::part_after))]
 fn part_after<'a>(
-    parts: &mut Vec<Part>,
+    stack: &mut Vec<Frame>,
+    nest: &Nest,
     letter: u8,
     part: Part,
     bytes: &'a [u8],
 ) -> Result<Option<&'a [u8]>, OutOfMemory>
-    ensures parts { IfOk result (λ after. grown parts.old.items (Some (v0.part_after letter part bytes.now)) ≡ option_map (λ a. (parts.new.items, a.now)) after) }
-    ensures few { IfOk result (λ _. vec_len parts.new ≤ vec_len parts.old + 8) }
+    ensures parts { IfOk result (λ after. pushed stack.old.items nest.now (Some (v0.part_after letter part bytes.now)) ≡ option_map (λ a. (stack.new.items, a.now)) after) }
+    ensures few { IfOk result (λ _. vec_len stack.new ≤ vec_len stack.old + 8) }
 {
     match eat(letter, bytes) {
-        Some(after) => add(parts, &[part], after),
-        None => add(parts, &[], bytes),
+        Some(after) => add(stack, nest, &[part], after),
+        None => add(stack, nest, &[], bytes),
     }
 }
 
 /// The type that a function returns.
 #[tactic(auto, unfolding(crate::specs::V0Grammar::returned_parts))]
 fn returned_parts<'a>(
-    parts: &mut Vec<Part>,
+    stack: &mut Vec<Frame>,
+    nest: &Nest,
     bytes: &'a [u8],
 ) -> Result<Option<&'a [u8]>, OutOfMemory>
-    ensures parts { IfOk result (λ after. grown parts.old.items (Some (v0.returned_parts bytes.now)) ≡ option_map (λ a. (parts.new.items, a.now)) after) }
-    ensures few { IfOk result (λ _. vec_len parts.new ≤ vec_len parts.old + 8) }
+    ensures parts { IfOk result (λ after. pushed stack.old.items nest.now (Some (v0.returned_parts bytes.now)) ≡ option_map (λ a. (stack.new.items, a.now)) after) }
+    ensures few { IfOk result (λ _. vec_len stack.new ≤ vec_len stack.old + 8) }
 {
     match eat(b'u', bytes) {
-        Some(after) => add(parts, &[], after),
-        None => add(parts, &[say(Word::Arrow), ANY_TYPE], bytes),
+        Some(after) => add(stack, nest, &[], after),
+        None => add(stack, nest, &[say(Word::Arrow), ANY_TYPE], bytes),
     }
 }
 
 /// What a symbol within a level is made of.
 #[tactic(auto, unfolding(crate::specs::V0Grammar::phrase_parts))]
 pub(crate) fn phrase_parts<'a>(
-    parts: &mut Vec<Part>,
+    stack: &mut Vec<Frame>,
+    nest: &Nest,
     phrase: Phrase,
     opened: bool,
     bytes: &'a [u8],
 ) -> Result<Option<&'a [u8]>, OutOfMemory>
-    ensures parts { IfOk result (λ after. grown parts.old.items (v0.phrase_parts phrase opened bytes.now) ≡ option_map (λ a. (parts.new.items, a.now)) after) }
-    ensures few { IfOk result (λ _. vec_len parts.new ≤ vec_len parts.old + 8) }
+    ensures parts { IfOk result (λ after. pushed stack.old.items nest.now (v0.phrase_parts phrase opened bytes.now) ≡ option_map (λ a. (stack.new.items, a.now)) after) }
+    ensures few { IfOk result (λ _. vec_len stack.new ≤ vec_len stack.old + 8) }
 {
     match phrase {
-        Phrase::AnyType => any_type_parts(parts, bytes),
-        Phrase::Items(item, count) => items_parts(parts, item, count, bytes),
-        Phrase::Argument => argument_parts(parts, bytes),
-        Phrase::Bindings => bindings_parts(parts, opened, bytes),
-        Phrase::LaterBindings => bindings_parts(parts, true, bytes),
+        Phrase::AnyType => any_type_parts(stack, nest, bytes),
+        Phrase::Items(item, count) => items_parts(stack, nest, item, count, bytes),
+        Phrase::Argument => argument_parts(stack, nest, bytes),
+        Phrase::Bindings => bindings_parts(stack, nest, opened, bytes),
+        Phrase::LaterBindings => bindings_parts(stack, nest, true, bytes),
         Phrase::Named(space) => match after_letter(b's', bytes) {
-            Some((number, name)) => named_parts(parts, space, number, name),
+            Some((number, name)) => named_parts(stack, nest, space, number, name),
             None => Ok(None),
         },
-        Phrase::Borrow => borrow_parts(parts, bytes),
-        Phrase::Outlives => outlives_parts(parts, bytes),
-        Phrase::Unsafety => part_after(parts, b'U', say(Word::Unsafe), bytes),
-        Phrase::Convention => convention_parts(parts, bytes),
-        Phrase::Returned => returned_parts(parts, bytes),
-        Phrase::Fields => fields_parts(parts, bytes),
-        Phrase::Sign => part_after(parts, b'n', sign(b'-'), bytes),
+        Phrase::Borrow => borrow_parts(stack, nest, bytes),
+        Phrase::Outlives => outlives_parts(stack, nest, bytes),
+        Phrase::Unsafety => part_after(stack, nest, b'U', say(Word::Unsafe), bytes),
+        Phrase::Convention => convention_parts(stack, nest, bytes),
+        Phrase::Returned => returned_parts(stack, nest, bytes),
+        Phrase::Fields => fields_parts(stack, nest, bytes),
+        Phrase::Sign => part_after(stack, nest, b'n', sign(b'-'), bytes),
     }
 }

@@ -1,11 +1,11 @@
 //! The productions of the grammar of v0 names: what each symbol is made of, by the byte in front.
-ghost use Rattle.std.specs.Prelude.{◌≡◌, ◌≤◌, ◌+◌, ◌++◌, length, vec_len, Some, IfOk, IfSome};
+ghost use Rattle.std.specs.Prelude.{◌≡◌, ◌≤◌, ◌+◌, ◌∷◌, ◌++◌, [], length, vec_len, Some, IfOk, OnOk, IfSome};
 ghost use Rattle.std.specs.Option.{option_map, option_copied};
 ghost use Rattle.rust_names.specs.V0Grammar as v0;
 ghost use Rattle.rust_names.specs.V0Numbers.{eat};
-ghost use Rattle.rust_names.specs.internal.Running.{grown};
+ghost use Rattle.rust_names.specs.internal.Running.{inside, onto, opening, pushed};
 
-use crate::grammar::{Count, Inner, Item, Kind, Leaf, Part, Phrase};
+use crate::grammar::{Count, Frame, Inner, Item, Kind, Leaf, Nest, Part, Phrase};
 use crate::numbers::{base_62, eat, front};
 use crate::words::Word;
 use sym_edges::OutOfMemory;
@@ -34,21 +34,48 @@ pub(crate) fn list_of(item: Item) -> Part
     Part::Phrase(Phrase::Items(item, Count::Zero))
 }
 
-/// Adds parts; what stands after them.
+/// Puts a frame of a part onto a stack.
+pub(crate) fn push(stack: &mut Vec<Frame>, nest: &Nest, part: Part) -> Result<(), OutOfMemory>
+    ensures { OnOk result (stack.new.items ≡ stack.old.items ++ inside nest.now.scope nest.now.levels nest.now.width part ∷ []) }
+{
+    Ok(stack.push(Frame {
+        part,
+        scope: nest.scope,
+        levels: nest.levels,
+        width: nest.width,
+    })?)
+}
+
+/// Puts frames of parts onto a stack, so that the first is on top.
+pub(crate) fn push_parts(
+    stack: &mut Vec<Frame>,
+    nest: &Nest,
+    parts: &[Part],
+) -> Result<(), OutOfMemory>
+    ensures { OnOk result (stack.new.items ≡ onto stack.old.items nest.now parts.now) }
+{
+    'parts: for i in 0..parts.len() {
+        push(stack, nest, parts[parts.len() - 1 - i])?;
+    }
+    Ok(())
+}
+
+/// Puts frames of parts onto a stack; what stands after them.
 pub(crate) fn add<'a>(
-    parts: &mut Vec<Part>,
-    more: &[Part],
+    stack: &mut Vec<Frame>,
+    nest: &Nest,
+    parts: &[Part],
     bytes: &'a [u8],
 ) -> Result<Option<&'a [u8]>, OutOfMemory>
-    ensures parts { IfOk result (λ after. grown parts.old.items (Some (more.now, bytes.now)) ≡ option_map (λ a. (parts.new.items, a.now)) after) }
-    ensures few { IfOk result (λ _. vec_len parts.new ≤ vec_len parts.old + length more.now) }
+    ensures parts { IfOk result (λ after. pushed stack.old.items nest.now (Some (parts.now, bytes.now)) ≡ option_map (λ a. (stack.new.items, a.now)) after) }
+    ensures few { IfOk result (λ _. vec_len stack.new ≤ vec_len stack.old + length parts.now) }
 {
-    parts.extend_from_slice(more)?;
+    push_parts(stack, nest, parts)?;
     Ok(Some(bytes))
 }
 
 /// A letter.
-fn is_namespace(b: u8) -> bool
+pub(crate) fn is_namespace(b: u8) -> bool
     ensures { result ≡ v0.is_namespace b }
 {
     (b'A' <= b && b <= b'Z') || (b'a' <= b && b <= b'z')
@@ -57,12 +84,13 @@ fn is_namespace(b: u8) -> bool
 /// A path in a namespace, and its name.
 #[tactic(auto, unfolding(crate::specs::V0Grammar::nested_parts))]
 fn nested_parts<'a>(
-    parts: &mut Vec<Part>,
+    stack: &mut Vec<Frame>,
+    nest: &Nest,
     outer: Kind,
     bytes: &'a [u8],
 ) -> Result<Option<&'a [u8]>, OutOfMemory>
-    ensures parts { IfOk result (λ after. grown parts.old.items (v0.nested_parts outer bytes.now) ≡ option_map (λ a. (parts.new.items, a.now)) after) }
-    ensures few { IfOk result (λ _. vec_len parts.new ≤ vec_len parts.old + 8) }
+    ensures parts { IfOk result (λ after. pushed stack.old.items nest.now (v0.nested_parts outer bytes.now) ≡ option_map (λ a. (stack.new.items, a.now)) after) }
+    ensures few { IfOk result (λ _. vec_len stack.new ≤ vec_len stack.old + 8) }
 {
     match front(bytes) {
         Some((space, after)) => {
@@ -70,7 +98,8 @@ fn nested_parts<'a>(
                 return Ok(None);
             }
             add(
-                parts,
+                stack,
+                nest,
                 &[Part::Deep(outer), Part::Phrase(Phrase::Named(space))],
                 after,
             )
@@ -80,12 +109,17 @@ fn nested_parts<'a>(
 }
 
 /// `<T>` of an impl.
-fn inherent<'a>(parts: &mut Vec<Part>, bytes: &'a [u8]) -> Result<Option<&'a [u8]>, OutOfMemory>
-    ensures parts { IfOk result (λ after. grown parts.old.items (Some (v0.inherent, bytes.now)) ≡ option_map (λ a. (parts.new.items, a.now)) after) }
-    ensures few { IfOk result (λ _. vec_len parts.new ≤ vec_len parts.old + 8) }
+fn inherent<'a>(
+    stack: &mut Vec<Frame>,
+    nest: &Nest,
+    bytes: &'a [u8],
+) -> Result<Option<&'a [u8]>, OutOfMemory>
+    ensures parts { IfOk result (λ after. pushed stack.old.items nest.now (Some (v0.inherent, bytes.now)) ≡ option_map (λ a. (stack.new.items, a.now)) after) }
+    ensures few { IfOk result (λ _. vec_len stack.new ≤ vec_len stack.old + 8) }
 {
     add(
-        parts,
+        stack,
+        nest,
         &[
             Part::Leaf(Leaf::Disambiguator),
             Part::Inner(Inner::ImplPath),
@@ -98,12 +132,17 @@ fn inherent<'a>(parts: &mut Vec<Part>, bytes: &'a [u8]) -> Result<Option<&'a [u8
 }
 
 /// `<T as Trait>`.
-fn of_trait<'a>(parts: &mut Vec<Part>, bytes: &'a [u8]) -> Result<Option<&'a [u8]>, OutOfMemory>
-    ensures parts { IfOk result (λ after. grown parts.old.items (Some (v0.of_trait, bytes.now)) ≡ option_map (λ a. (parts.new.items, a.now)) after) }
-    ensures few { IfOk result (λ _. vec_len parts.new ≤ vec_len parts.old + 8) }
+fn of_trait<'a>(
+    stack: &mut Vec<Frame>,
+    nest: &Nest,
+    bytes: &'a [u8],
+) -> Result<Option<&'a [u8]>, OutOfMemory>
+    ensures parts { IfOk result (λ after. pushed stack.old.items nest.now (Some (v0.of_trait, bytes.now)) ≡ option_map (λ a. (stack.new.items, a.now)) after) }
+    ensures few { IfOk result (λ _. vec_len stack.new ≤ vec_len stack.old + 8) }
 {
     add(
-        parts,
+        stack,
+        nest,
         &[
             say(Word::Less),
             ANY_TYPE,
@@ -116,12 +155,17 @@ fn of_trait<'a>(parts: &mut Vec<Part>, bytes: &'a [u8]) -> Result<Option<&'a [u8
 }
 
 /// `<T as Trait>` of an impl.
-fn of_impl<'a>(parts: &mut Vec<Part>, bytes: &'a [u8]) -> Result<Option<&'a [u8]>, OutOfMemory>
-    ensures parts { IfOk result (λ after. grown parts.old.items (Some (v0.of_impl, bytes.now)) ≡ option_map (λ a. (parts.new.items, a.now)) after) }
-    ensures few { IfOk result (λ _. vec_len parts.new ≤ vec_len parts.old + 8) }
+fn of_impl<'a>(
+    stack: &mut Vec<Frame>,
+    nest: &Nest,
+    bytes: &'a [u8],
+) -> Result<Option<&'a [u8]>, OutOfMemory>
+    ensures parts { IfOk result (λ after. pushed stack.old.items nest.now (Some (v0.of_impl, bytes.now)) ≡ option_map (λ a. (stack.new.items, a.now)) after) }
+    ensures few { IfOk result (λ _. vec_len stack.new ≤ vec_len stack.old + 8) }
 {
     add(
-        parts,
+        stack,
+        nest,
         &[
             Part::Leaf(Leaf::Disambiguator),
             Part::Inner(Inner::ImplPath),
@@ -135,59 +179,73 @@ fn of_impl<'a>(parts: &mut Vec<Part>, bytes: &'a [u8]) -> Result<Option<&'a [u8]
     )
 }
 
+/// What stands before the generic arguments of a path.
+fn opening(outer: Kind) -> Word
+    ensures { result ≡ opening outer }
+{
+    match outer {
+        Kind::ValuePath => Word::Turbofish,
+        _ => Word::Less,
+    }
+}
+
 /// A path.
 #[tactic(auto, unfolding(crate::specs::V0Grammar::path_parts))]
 fn path_parts<'a>(
-    parts: &mut Vec<Part>,
+    stack: &mut Vec<Frame>,
+    nest: &Nest,
     outer: Kind,
-    opening: Word,
     b: u8,
     bytes: &'a [u8],
 ) -> Result<Option<&'a [u8]>, OutOfMemory>
-    ensures parts { IfOk result (λ after. grown parts.old.items (v0.path_parts outer opening b bytes.now) ≡ option_map (λ a. (parts.new.items, a.now)) after) }
-    ensures few { IfOk result (λ _. vec_len parts.new ≤ vec_len parts.old + 8) }
+    ensures parts { IfOk result (λ after. pushed stack.old.items nest.now (v0.path_parts outer (opening outer) b bytes.now) ≡ option_map (λ a. (stack.new.items, a.now)) after) }
+    ensures few { IfOk result (λ _. vec_len stack.new ≤ vec_len stack.old + 8) }
 {
     match b {
         b'C' => add(
-            parts,
+            stack,
+            nest,
             &[
                 Part::Leaf(Leaf::Disambiguator),
                 Part::Leaf(Leaf::Identifier),
             ],
             bytes,
         ),
-        b'M' => inherent(parts, bytes),
-        b'X' => of_impl(parts, bytes),
-        b'Y' => of_trait(parts, bytes),
-        b'N' => nested_parts(parts, outer, bytes),
+        b'M' => inherent(stack, nest, bytes),
+        b'X' => of_impl(stack, nest, bytes),
+        b'Y' => of_trait(stack, nest, bytes),
+        b'N' => nested_parts(stack, nest, outer, bytes),
         b'I' => add(
-            parts,
+            stack,
+            nest,
             &[
                 Part::Deep(outer),
-                say(opening),
+                say(opening(outer)),
                 list_of(Item::Argument),
                 say(Word::Greater),
             ],
             bytes,
         ),
-        b'B' => add(parts, &[Part::Back(outer)], bytes),
+        b'B' => add(stack, nest, &[Part::Back(outer)], bytes),
         _ => Ok(None),
     }
 }
 
 /// The path of a trait.
-#[tactic(auto, unfolding(crate::specs::V0Grammar::trait_parts))]
+#[tactic(auto, unfolding(crate::specs::V0Grammar::trait_parts), using(crate::proofs::FrameLemmas::onto_last))]
 fn trait_parts<'a>(
-    parts: &mut Vec<Part>,
+    stack: &mut Vec<Frame>,
+    nest: &Nest,
     b: u8,
     bytes: &'a [u8],
 ) -> Result<Option<&'a [u8]>, OutOfMemory>
-    ensures parts { IfOk result (λ after. grown parts.old.items (v0.trait_parts b bytes.now) ≡ option_map (λ a. (parts.new.items, a.now)) after) }
-    ensures few { IfOk result (λ _. vec_len parts.new ≤ vec_len parts.old + 9) }
+    ensures parts { IfOk result (λ after. pushed stack.old.items nest.now (v0.trait_parts b bytes.now) ≡ option_map (λ a. (stack.new.items, a.now)) after) }
+    ensures few { IfOk result (λ _. vec_len stack.new ≤ vec_len stack.old + 9) }
 {
     match b {
         b'I' => add(
-            parts,
+            stack,
+            nest,
             &[
                 Part::Deep(Kind::Path),
                 say(Word::Less),
@@ -196,21 +254,26 @@ fn trait_parts<'a>(
             ],
             bytes,
         ),
-        b'B' => add(parts, &[Part::Back(Kind::TraitPath)], bytes),
-        _ => match path_parts(parts, Kind::Path, Word::Less, b, bytes)? {
-            Some(after) => add(parts, &[Part::Opened(false)], after),
-            None => Ok(None),
-        },
+        b'B' => add(stack, nest, &[Part::Back(Kind::TraitPath)], bytes),
+        _ => {
+            push(stack, nest, Part::Opened(false))?;
+            path_parts(stack, nest, Kind::Path, b, bytes)
+        }
     }
 }
 
 /// An array.
-fn array<'a>(parts: &mut Vec<Part>, bytes: &'a [u8]) -> Result<Option<&'a [u8]>, OutOfMemory>
-    ensures parts { IfOk result (λ after. grown parts.old.items (Some (v0.array, bytes.now)) ≡ option_map (λ a. (parts.new.items, a.now)) after) }
-    ensures few { IfOk result (λ _. vec_len parts.new ≤ vec_len parts.old + 8) }
+fn array<'a>(
+    stack: &mut Vec<Frame>,
+    nest: &Nest,
+    bytes: &'a [u8],
+) -> Result<Option<&'a [u8]>, OutOfMemory>
+    ensures parts { IfOk result (λ after. pushed stack.old.items nest.now (Some (v0.array, bytes.now)) ≡ option_map (λ a. (stack.new.items, a.now)) after) }
+    ensures few { IfOk result (λ _. vec_len stack.new ≤ vec_len stack.old + 8) }
 {
     add(
-        parts,
+        stack,
+        nest,
         &[
             say(Word::OpenBracket),
             ANY_TYPE,
@@ -225,23 +288,26 @@ fn array<'a>(parts: &mut Vec<Part>, bytes: &'a [u8]) -> Result<Option<&'a [u8]>,
 /// A type that is not basic.
 #[tactic(auto, unfolding(crate::specs::V0Grammar::type_parts))]
 fn type_parts<'a>(
-    parts: &mut Vec<Part>,
+    stack: &mut Vec<Frame>,
+    nest: &Nest,
     whole: &'a [u8],
     b: u8,
     bytes: &'a [u8],
 ) -> Result<Option<&'a [u8]>, OutOfMemory>
-    ensures parts { IfOk result (λ after. grown parts.old.items (v0.type_parts whole.now b bytes.now) ≡ option_map (λ a. (parts.new.items, a.now)) after) }
-    ensures few { IfOk result (λ _. vec_len parts.new ≤ vec_len parts.old + 8) }
+    ensures parts { IfOk result (λ after. pushed stack.old.items nest.now (v0.type_parts whole.now b bytes.now) ≡ option_map (λ a. (stack.new.items, a.now)) after) }
+    ensures few { IfOk result (λ _. vec_len stack.new ≤ vec_len stack.old + 8) }
 {
     match b {
-        b'A' => array(parts, bytes),
+        b'A' => array(stack, nest, bytes),
         b'S' => add(
-            parts,
+            stack,
+            nest,
             &[say(Word::OpenBracket), ANY_TYPE, say(Word::CloseBracket)],
             bytes,
         ),
         b'T' => add(
-            parts,
+            stack,
+            nest,
             &[
                 say(Word::OpenParenthesis),
                 list_of(Item::Member),
@@ -250,12 +316,14 @@ fn type_parts<'a>(
             bytes,
         ),
         b'R' => add(
-            parts,
+            stack,
+            nest,
             &[say(Word::Ampersand), Part::Phrase(Phrase::Borrow), ANY_TYPE],
             bytes,
         ),
         b'Q' => add(
-            parts,
+            stack,
+            nest,
             &[
                 say(Word::Ampersand),
                 Part::Phrase(Phrase::Borrow),
@@ -264,11 +332,12 @@ fn type_parts<'a>(
             ],
             bytes,
         ),
-        b'P' => add(parts, &[say(Word::PointerConst), ANY_TYPE], bytes),
-        b'O' => add(parts, &[say(Word::PointerMut), ANY_TYPE], bytes),
-        b'F' => add(parts, &[Part::Inner(Inner::Function)], bytes),
+        b'P' => add(stack, nest, &[say(Word::PointerConst), ANY_TYPE], bytes),
+        b'O' => add(stack, nest, &[say(Word::PointerMut), ANY_TYPE], bytes),
+        b'F' => add(stack, nest, &[Part::Inner(Inner::Function)], bytes),
         b'D' => add(
-            parts,
+            stack,
+            nest,
             &[
                 say(Word::Dyn),
                 Part::Inner(Inner::Object),
@@ -276,24 +345,26 @@ fn type_parts<'a>(
             ],
             bytes,
         ),
-        b'B' => add(parts, &[Part::Back(Kind::Type)], bytes),
-        _ => add(parts, &[Part::Deep(Kind::Path)], whole),
+        b'B' => add(stack, nest, &[Part::Back(Kind::Type)], bytes),
+        _ => add(stack, nest, &[Part::Deep(Kind::Path)], whole),
     }
 }
 
 /// A reference.
 #[tactic(auto, unfolding(crate::specs::V0Grammar::reference_parts))]
 fn reference_parts<'a>(
-    parts: &mut Vec<Part>,
+    stack: &mut Vec<Frame>,
+    nest: &Nest,
     bytes: &'a [u8],
 ) -> Result<Option<&'a [u8]>, OutOfMemory>
-    ensures parts { IfOk result (λ after. grown parts.old.items (Some (v0.reference_parts bytes.now)) ≡ option_map (λ a. (parts.new.items, a.now)) after) }
-    ensures few { IfOk result (λ _. vec_len parts.new ≤ vec_len parts.old + 8) }
+    ensures parts { IfOk result (λ after. pushed stack.old.items nest.now (Some (v0.reference_parts bytes.now)) ≡ option_map (λ a. (stack.new.items, a.now)) after) }
+    ensures few { IfOk result (λ _. vec_len stack.new ≤ vec_len stack.old + 8) }
 {
     match eat(b'e', bytes) {
-        Some(after) => add(parts, &[Part::Leaf(Leaf::Text)], after),
+        Some(after) => add(stack, nest, &[Part::Leaf(Leaf::Text)], after),
         None => add(
-            parts,
+            stack,
+            nest,
             &[say(Word::Ampersand), Part::Deep(Kind::Value)],
             bytes,
         ),
@@ -303,33 +374,42 @@ fn reference_parts<'a>(
 /// A constant.
 #[tactic(auto, unfolding(crate::specs::V0Grammar::value_parts))]
 fn value_parts<'a>(
-    parts: &mut Vec<Part>,
+    stack: &mut Vec<Frame>,
+    nest: &Nest,
     again: Kind,
     b: u8,
     bytes: &'a [u8],
 ) -> Result<Option<&'a [u8]>, OutOfMemory>
-    ensures parts { IfOk result (λ after. grown parts.old.items (v0.value_parts again b bytes.now) ≡ option_map (λ a. (parts.new.items, a.now)) after) }
-    ensures few { IfOk result (λ _. vec_len parts.new ≤ vec_len parts.old + 8) }
+    ensures parts { IfOk result (λ after. pushed stack.old.items nest.now (v0.value_parts again b bytes.now) ≡ option_map (λ a. (stack.new.items, a.now)) after) }
+    ensures few { IfOk result (λ _. vec_len stack.new ≤ vec_len stack.old + 8) }
 {
     match b {
-        b'p' => add(parts, &[say(Word::Placeholder)], bytes),
-        b'h' | b't' | b'm' | b'y' | b'o' | b'j' => add(parts, &[Part::Leaf(Leaf::Number)], bytes),
+        b'p' => add(stack, nest, &[say(Word::Placeholder)], bytes),
+        b'h' | b't' | b'm' | b'y' | b'o' | b'j' => add(
+            stack,
+            nest,
+            &[Part::Leaf(Leaf::Number)],
+            bytes,
+        ),
         b'a' | b's' | b'l' | b'x' | b'n' | b'i' => add(
-            parts,
+            stack,
+            nest,
             &[Part::Phrase(Phrase::Sign), Part::Leaf(Leaf::Number)],
             bytes,
         ),
-        b'b' => add(parts, &[Part::Leaf(Leaf::Boolean)], bytes),
-        b'c' => add(parts, &[Part::Leaf(Leaf::Character)], bytes),
-        b'e' => add(parts, &[sign(b'*'), Part::Leaf(Leaf::Text)], bytes),
-        b'R' => reference_parts(parts, bytes),
+        b'b' => add(stack, nest, &[Part::Leaf(Leaf::Boolean)], bytes),
+        b'c' => add(stack, nest, &[Part::Leaf(Leaf::Character)], bytes),
+        b'e' => add(stack, nest, &[sign(b'*'), Part::Leaf(Leaf::Text)], bytes),
+        b'R' => reference_parts(stack, nest, bytes),
         b'Q' => add(
-            parts,
+            stack,
+            nest,
             &[say(Word::AmpersandMut), Part::Deep(Kind::Value)],
             bytes,
         ),
         b'A' => add(
-            parts,
+            stack,
+            nest,
             &[
                 say(Word::OpenBracket),
                 list_of(Item::Element),
@@ -338,7 +418,8 @@ fn value_parts<'a>(
             bytes,
         ),
         b'T' => add(
-            parts,
+            stack,
+            nest,
             &[
                 say(Word::OpenParenthesis),
                 list_of(Item::Component),
@@ -347,11 +428,12 @@ fn value_parts<'a>(
             bytes,
         ),
         b'V' => add(
-            parts,
+            stack,
+            nest,
             &[Part::Deep(Kind::ValuePath), Part::Phrase(Phrase::Fields)],
             bytes,
         ),
-        b'B' => add(parts, &[Part::Back(again)], bytes),
+        b'B' => add(stack, nest, &[Part::Back(again)], bytes),
         _ => Ok(None),
     }
 }
@@ -372,43 +454,49 @@ fn is_braced(b: u8, bytes: &[u8]) -> bool
 }
 
 /// A constant among generic arguments.
-#[tactic(auto, unfolding(crate::specs::V0Grammar::constant_parts))]
+#[tactic(auto, unfolding(crate::specs::V0Grammar::constant_parts), using(crate::proofs::FrameLemmas::braced_some, crate::proofs::FrameLemmas::braced_none))]
 fn constant_parts<'a>(
-    parts: &mut Vec<Part>,
+    stack: &mut Vec<Frame>,
+    nest: &Nest,
     b: u8,
     bytes: &'a [u8],
 ) -> Result<Option<&'a [u8]>, OutOfMemory>
-    ensures parts { IfOk result (λ after. grown parts.old.items (v0.constant_parts b bytes.now) ≡ option_map (λ a. (parts.new.items, a.now)) after) }
-    ensures few { IfOk result (λ _. vec_len parts.new ≤ vec_len parts.old + 10) }
+    ensures parts { IfOk result (λ after. pushed stack.old.items nest.now (v0.constant_parts b bytes.now) ≡ option_map (λ a. (stack.new.items, a.now)) after) }
+    ensures few { IfOk result (λ _. vec_len stack.new ≤ vec_len stack.old + 10) }
 {
     if !is_braced(b, bytes) {
-        return value_parts(parts, Kind::Constant, b, bytes);
+        return value_parts(stack, nest, Kind::Constant, b, bytes);
     }
-    parts.push(say(Word::OpenBrace))?;
-    match value_parts(parts, Kind::Constant, b, bytes)? {
-        Some(after) => add(parts, &[say(Word::CloseBrace)], after),
+    push(stack, nest, say(Word::CloseBrace))?;
+    match value_parts(stack, nest, Kind::Constant, b, bytes)? {
+        Some(after) => {
+            push(stack, nest, say(Word::OpenBrace))?;
+            Ok(Some(after))
+        }
         None => Ok(None),
     }
 }
 
 /// What a level of nesting is made of.
 #[tactic(auto, unfolding(crate::specs::V0Grammar::deep_parts, crate::specs::V0Grammar::deep_by))]
+#[inline(always)]
 pub(crate) fn deep_parts<'a>(
-    parts: &mut Vec<Part>,
+    stack: &mut Vec<Frame>,
+    nest: &Nest,
     kind: Kind,
     bytes: &'a [u8],
 ) -> Result<Option<&'a [u8]>, OutOfMemory>
-    ensures parts { IfOk result (λ after. grown parts.old.items (v0.deep_parts kind bytes.now) ≡ option_map (λ a. (parts.new.items, a.now)) after) }
-    ensures few { IfOk result (λ _. vec_len parts.new ≤ vec_len parts.old + 10) }
+    ensures parts { IfOk result (λ after. pushed stack.old.items nest.now (v0.deep_parts kind bytes.now) ≡ option_map (λ a. (stack.new.items, a.now)) after) }
+    ensures few { IfOk result (λ _. vec_len stack.new ≤ vec_len stack.old + 10) }
 {
     match front(bytes) {
         Some((b, after)) => match kind {
-            Kind::Path => path_parts(parts, Kind::Path, Word::Less, b, after),
-            Kind::ValuePath => path_parts(parts, Kind::ValuePath, Word::Turbofish, b, after),
-            Kind::TraitPath => trait_parts(parts, b, after),
-            Kind::Type => type_parts(parts, bytes, b, after),
-            Kind::Constant => constant_parts(parts, b, after),
-            Kind::Value => value_parts(parts, Kind::Value, b, after),
+            Kind::Path => path_parts(stack, nest, Kind::Path, b, after),
+            Kind::ValuePath => path_parts(stack, nest, Kind::ValuePath, b, after),
+            Kind::TraitPath => trait_parts(stack, nest, b, after),
+            Kind::Type => type_parts(stack, nest, bytes, b, after),
+            Kind::Constant => constant_parts(stack, nest, b, after),
+            Kind::Value => value_parts(stack, nest, Kind::Value, b, after),
         },
         None => Ok(None),
     }
@@ -425,16 +513,16 @@ fn target(kind: Kind) -> Part
 }
 
 /// A backreference: what stands at its place, where it is shown.
-#[tactic(auto, unfolding(crate::specs::V0Grammar::back_parts))]
+#[tactic(auto, unfolding(crate::specs::V0Grammar::back_parts), using(crate::proofs::FrameLemmas::onto_none))]
 pub(crate) fn back_parts<'a>(
-    parts: &mut Vec<Part>,
+    stack: &mut Vec<Frame>,
+    nest: &Nest,
     size: usize,
     kind: Kind,
-    visible: bool,
     bytes: &'a [u8],
 ) -> Result<Option<&'a [u8]>, OutOfMemory>
-    ensures parts { IfOk result (λ after. grown parts.old.items (v0.back_parts size kind visible bytes.now) ≡ option_map (λ a. (parts.new.items, a.now)) after) }
-    ensures few { IfOk result (λ _. vec_len parts.new ≤ vec_len parts.old + 10) }
+    ensures parts { IfOk result (λ after. pushed stack.old.items nest.now (v0.back_parts size kind nest.now.scope.visible bytes.now) ≡ option_map (λ a. (stack.new.items, a.now)) after) }
+    ensures few { IfOk result (λ _. vec_len stack.new ≤ vec_len stack.old + 10) }
 {
     let Some((place, after)) = base_62(bytes) else {
         return Ok(None);
@@ -442,11 +530,12 @@ pub(crate) fn back_parts<'a>(
     if u128::from(place) + 1 + bytes.len() as u128 >= size as u128 {
         return Ok(None);
     }
-    if !visible {
+    if !nest.scope.visible {
         return Ok(Some(after));
     }
     add(
-        parts,
+        stack,
+        nest,
         &[
             Part::Goto(place as usize),
             target(kind),

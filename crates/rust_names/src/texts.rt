@@ -18,7 +18,7 @@ const TEXT_LIMIT: usize = 65_536;
 pub(crate) fn add(text: &mut Vec<u8>, more: &[u8]) -> Result<bool, OutOfMemory>
     ensures { IfOk result (λ said. v0.say text.old.items more.now ≡ kept said text.new.items) }
 {
-    if text.len() as u128 + more.len() as u128 > TEXT_LIMIT as u128 {
+    if more.len() > TEXT_LIMIT || text.len() > TEXT_LIMIT - more.len() {
         return Ok(false);
     }
     text.extend_from_slice(more)?;

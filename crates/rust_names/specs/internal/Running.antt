@@ -1,26 +1,43 @@
 -- The reading of a v0 name by a stack of frames: a part with its scope, and how many levels and symbols may still nest in it.
-use Rattle.std.specs.Prelude.{◌≡◌, ℕ, zero, suc, ◌+◌, ◌*◌, Bool, true, false, List, [], ◌∷◌, ◌++◌, ◌≤◌, length, map, reverse, Option, Some, None}
+use Rattle.std.specs.Prelude.{◌≡◌, ◌≢◌, ℕ, zero, suc, ◌+◌, ◌-◌, ◌*◌, nat_lt, Bool, true, false, List, [], ◌∷◌, ◌++◌, ◌≤◌, length, map, reverse, Option, Some, None}
 use Rattle.std.specs.Option.{option_map, option_and_then}
+use Rattle.rust_names.specs.declared.words.Word.{Word}
+use Rattle.rust_names.specs.declared.words.Word.TheVariants as word
+use Rattle.rust_names.specs.declared.grammar.Kind.{Kind}
+use Rattle.rust_names.specs.declared.grammar.Kind.TheVariants as kind
+use Rattle.rust_names.specs.declared.grammar.Leaf.TheVariants as leaf
 use Rattle.rust_names.specs.declared.grammar.Phrase.{Phrase}
+use Rattle.rust_names.specs.declared.grammar.Phrase.TheVariants as phrase
 use Rattle.rust_names.specs.declared.grammar.Inner.{Inner}
 use Rattle.rust_names.specs.declared.grammar.Part.{Part}
 use Rattle.rust_names.specs.declared.grammar.Part.TheVariants.{Deep, Back, Phrase as Made, Inner as Within}
 use Rattle.rust_names.specs.declared.grammar.Scope.{Scope}
 use Rattle.rust_names.specs.declared.grammar.Frame.{Frame}
 use Rattle.rust_names.specs.declared.grammar.Nest.{Nest}
-use Rattle.rust_names.specs.V0Grammar.{deep_parts, back_parts, phrase_parts, inner_parts}
+use Rattle.rust_names.specs.V0Numbers.{front, eat, after_letter}
+use Rattle.rust_names.specs.V0Words.{basic_type}
+use Rattle.rust_names.specs.V0Leaves.{read_leaf}
+use Rattle.rust_names.specs.V0Grammar.{type_parts, deep_parts, back_parts, phrase_parts, inner_parts}
 use Rattle.rust_names.specs.V0Names.{State, read_within, read_level}
-
--- parts that were found, after others, and what stands after them
-abbrev pub grown : List Part → Option (List Part × List ℕ) → Option (List Part × List ℕ)
-grown before found = option_map (λ x. (before ++ x.0, x.1)) found
-
-abbrev pub grown_own : List Part → Option (List Part × Scope × List ℕ) → Option (List Part × Scope × List ℕ)
-grown_own before found = option_map (λ x. (before ++ x.0, x.1, x.2)) found
 
 -- a frame within a level
 abbrev pub inside : Scope → ℕ → ℕ → Part → Frame
 inside scope levels width part = record { part = part; scope = scope; levels = levels; width = width }
+
+-- frames of parts on a stack, so that the first is on top, where parts were found; and what stands after them
+abbrev pub onto : List Frame → Nest → List Part → List Frame
+onto stack nest parts = stack ++ reverse (map (inside nest.scope nest.levels nest.width) parts)
+
+abbrev pub pushed : List Frame → Nest → Option (List Part × List ℕ) → Option (List Frame × List ℕ)
+pushed stack nest found = option_map (λ x. (onto stack nest x.0, x.1)) found
+
+abbrev pub pushed_own : List Frame → Nest → Option (List Part × Scope × List ℕ) → Option (List Frame × List ℕ)
+pushed_own stack nest found = option_map (λ x. (onto stack (record nest { scope = x.1 }) x.0, x.2)) found
+
+-- what stands before the generic arguments of a path
+abbrev pub opening : Kind → Word
+opening kind.ValuePath = word.Turbofish
+opening k = word.Less
 
 abbrev pub in_scope : Scope → ℕ → ℕ → List Part × List ℕ → List Frame × List ℕ
 in_scope scope levels width x = (map (inside scope levels width) x.0, x.1)
@@ -70,17 +87,14 @@ Expanded old new None (Some after) = ⊥
 Expanded old new (Some x) None = ⊥
 Expanded old new (Some x) (Some after) = (new ≡ old ++ reverse x.0) × (length x.0 ≤ 10) × (x.1 ≡ after)
 
--- it is neither a leaf nor a move
+-- it is read by the parts that it is made of: neither a leaf nor a move, nor the name of a nested path in a namespace in lower case
 abbrev pub is_made : Part → Bool
+is_made (Made (phrase.Named space)) = nat_lt space 97
 is_made (Deep k) = true
 is_made (Back k) = true
 is_made (Made p) = true
 is_made (Within p) = true
 is_made p = false
-
--- the frames of parts that nest in a way
-abbrev pub nested_frames : Nest → List Part → List ℕ → List Frame × List ℕ
-nested_frames nest parts bytes = (map (inside nest.scope nest.levels nest.width) parts, bytes)
 
 -- how far a name is read
 abbrev pub at : List ℕ → List ℕ → Bool → State
@@ -89,6 +103,23 @@ at rest text opened = record { rest = rest; text = text; opened = opened }
 abbrev pub shown_after : Option State → Option (List ℕ)
 shown_after o = option_map (λ (s : State). s.text) o
 
+-- a path, and no trait's
+abbrev pub is_path : Part → Bool
+is_path (Deep kind.Path) = true
+is_path (Deep kind.ValuePath) = true
+is_path p = false
+
+-- a crate, and the name of a nested path, `::` in front of it, unless it is empty: what stands after it, and the text with it
+abbrev pub crate_read : Scope → List ℕ → List ℕ → Option (List ℕ × List ℕ)
+crate_read scope bytes text = option_and_then (λ x. read_leaf leaf.Identifier scope x.0 x.1) (read_leaf leaf.Disambiguator scope bytes text)
+
+abbrev pub name_read : Scope → Option (List ℕ) → List ℕ → List ℕ → Option (List ℕ × List ℕ)
+name_read scope None bytes text = option_and_then (λ x. read_leaf leaf.Identifier scope x.0 x.1) (read_leaf (leaf.Say word.Scope) scope bytes text)
+name_read scope (Some after) bytes text = read_leaf leaf.Identifier scope bytes text
+
+abbrev pub named_read : Scope → List ℕ → List ℕ → Option (List ℕ × List ℕ)
+named_read scope bytes text = option_and_then (λ x. name_read scope (eat 48 x.1) x.1 text) (after_letter 115 bytes)
+
 -- what a frame reads, and frames one after the other
 unfoldable pub read_frame : List ℕ → Frame → State → Option State
 read_frame name frame state = read_within (read_level name frame.levels) name frame.width frame.scope frame.part state
@@ -96,6 +127,19 @@ read_frame name frame state = read_within (read_level name frame.levels) name fr
 unfoldable pub run : List ℕ → List Frame → State → Option State
 run name [] state = Some state
 run name (frame ∷ frames) state = option_and_then (run name frames) (read_frame name frame state)
+
+-- frames that read the same from where they stand, whatever was read before
+abbrev pub SameRun : List ℕ → List Frame → List ℕ → List Frame → List ℕ → Type 0
+SameRun name old before new after = (text : List ℕ) (opened : Bool) → run name (reverse old) (at before text opened) ≡ run name (reverse new) (at after text opened)
+
+-- the frame of the path that any type is, where it is one
+abbrev pub BeginsPathType : Option (ℕ × List ℕ) → Type 0
+BeginsPathType None = ⊥
+BeginsPathType (Some x) = (basic_type x.0 ≡ None) × ((whole bytes : List ℕ) → type_parts whole x.0 bytes ≡ Some (Deep kind.Path ∷ [], whole))
+
+abbrev pub IsTypePath : ℕ → Frame → Frame → List ℕ → Type 0
+IsTypePath size frame path bytes =
+    (frame.part ≡ Made phrase.AnyType) × (frame.levels ≢ 0) × (frame.width ≢ 0) × (path ≡ inside frame.scope (frame.levels - 1) (size + 8) (Deep kind.Path)) × BeginsPathType (front bytes)
 
 -- a bound on the steps that frames take
 unfoldable pub within_weight : ℕ → ℕ → ℕ

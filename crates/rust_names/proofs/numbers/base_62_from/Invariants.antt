@@ -1,9 +1,6 @@
-use Rattle.std.proofs.Common.{◌≡◌, ◌≤◌, length}
+use Rattle.std.proofs.Common.{◌≡◌, drop}
 use Rattle.rust_names.specs.V0Numbers.{base_62_from}
 use Rattle.rust_names.proofs.numbers.base_62_from.Given as goal
 
 abbrev pub invariant-digits : goal.invariant-digits
-invariant-digits l = (base_62_from l.value l.rest ≡ base_62_from 0 l.bytes) × (length l.rest ≤ length l.bytes)
-
-abbrev pub decreases-digits : goal.decreases-digits
-decreases-digits l = length l.rest
+invariant-digits l = base_62_from l.value (drop l.at l.bytes) ≡ base_62_from 0 l.bytes
