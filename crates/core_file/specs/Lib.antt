@@ -1,0 +1,14 @@
+pub mod CoreNumbers
+pub mod CoreHeader
+pub mod Segments
+pub mod CoreNotes
+pub mod Threads
+pub mod MappedFiles
+pub mod Memory
+pub mod LoadedImages
+pub mod Modules
+pub mod Code
+pub mod Core
+pub mod FaultWords
+pub mod HeldBlocks
+pub mod internal

@@ -1,0 +1,53 @@
+//! Core files of Linux x86-64: what a process left when it crashed.
+//!
+//! A core is an ELF64 file (System V gABI) whose loaded segments hold the process's memory, and whose notes of the owner `CORE` hold the
+//! states of its threads (NT_PRSTATUS) and the files that it had mapped (NT_FILE), as Linux writes them.
+//!
+//! [`HeldBytes`] takes the bytes of a file piece by piece and holds them in blocks, but for those that are all zeros. A contract sees it as
+//! the list of all bytes; a stream is refused exactly where it has more than 2^40 bytes, or more than 2^32 in blocks that are held.
+//!
+//! [`read_core`] promises one equation: for the bytes of the file it answers what `specs/Core.antt` gives for them, the first of the faults in
+//! the order of [`CoreFault`], or a [`Core`] with its memory, its threads and its modules. Want of memory is the one other answer. Contracts
+//! see a core as its bytes, its segments, its threads in the order of their notes, and its modules in the order of the mapped files;
+//! [`Core::byte`], [`Core::word`] and [`Core::is_code`] answer what `specs/Memory.antt` and `specs/Code.antt` say of an address. Of segments
+//! that give an address a byte the first counts, and a cut core has the bytes that are in the file.
+//!
+//! A module is a file that was mapped from its begin (`specs/Modules.antt`). Where its own ELF header and program headers stand in memory
+//! (`specs/LoadedImages.antt`), its end, its base and its build id are those that they say; else it ends with its mappings.
+//!
+//! To read: the files of specs/ in the order of `specs/Lib.antt`. Then `byte_list` (numbers at a place), `blocks` and `held` (the bytes);
+//! `header`, `segments`, `notes`, `threads`, `gather` and `files` (what the file says); `memory` and `front` (what stands at an address);
+//! `images`, `ids`, `names`, `pages`, `code` and `modules` (what was loaded); and `core_read`, which puts them together.
+#![tactic(auto)]
+
+mod blocks;
+mod byte_list;
+mod code;
+mod constants;
+mod core_read;
+mod fault;
+mod files;
+mod front;
+mod gather;
+mod header;
+mod held;
+mod ids;
+mod images;
+mod memory;
+mod modules;
+mod names;
+mod notes;
+mod pages;
+mod part;
+mod segments;
+#[cfg(test)]
+mod tests;
+mod threads;
+
+pub use byte_list::{ByteList, read_u16, read_u32, read_u64};
+pub use core_read::{Core, read_core};
+pub use fault::{CoreFault, TooLong};
+pub use held::HeldBytes;
+pub use modules::Module;
+pub use segments::Segment;
+pub use threads::{Registers, Thread};
