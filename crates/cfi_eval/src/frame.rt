@@ -4,7 +4,7 @@ ghost use Rattle.sym_edges.specs.Abi.{is_kept, default_of};
 ghost use Rattle.cfi_eval.specs.Inits.{init_place};
 ghost use Rattle.cfi_eval.specs.TextValue.{outcome_of, default_value, text_cfa, text_ra, text_register, frame_of, text_frame};
 
-use crate::memory::Memory;
+use crate::byte_memory::ByteMemory;
 use crate::outcome::{Cause, Frame, Outcome};
 use crate::postfix::{eval, register_value};
 use crate::registers::Regs;
@@ -16,13 +16,13 @@ use sym_rules::Target;
 
 /// The CFA.
 #[tactic(auto, unfolding(crate::specs::TextValue::text_cfa))]
-fn cfa_at(
+fn cfa_at<M: ByteMemory>(
     alloc: Global,
     rules: &RulesAt<'_>,
     regs: &Regs,
-    memory: &Memory,
+    memory: &M,
 ) -> Result<Outcome, OutOfMemory>
-    ensures { IfOk result (λ cfa. cfa ≡ text_cfa regs.now memory.now rules.now) }
+    ensures { IfOk result (λ cfa. cfa ≡ text_cfa regs.now (M.runs memory.now) rules.now) }
 {
     match rules.tokens(&Target::Cfa) {
         None => Ok(Outcome::Undefined),
@@ -32,15 +32,15 @@ fn cfa_at(
 
 /// The return address.
 #[tactic(auto, unfolding(crate::specs::TextValue::text_ra))]
-fn ra_at(
+fn ra_at<M: ByteMemory>(
     alloc: Global,
     rules: &RulesAt<'_>,
     regs: &Regs,
-    memory: &Memory,
+    memory: &M,
     cfa: Outcome,
 ) -> Result<Outcome, OutOfMemory>
-    requires { cfa ≡ text_cfa regs.now memory.now rules.now }
-    ensures { IfOk result (λ ra. ra ≡ text_ra regs.now memory.now rules.now) }
+    requires { cfa ≡ text_cfa regs.now (M.runs memory.now) rules.now }
+    ensures { IfOk result (λ ra. ra ≡ text_ra regs.now (M.runs memory.now) rules.now) }
 {
     match rules.tokens(&Target::Ra) {
         None => Ok(Outcome::Undefined),
@@ -81,17 +81,17 @@ fn default_value(regs: &Regs, cfa: Outcome, register: u8) -> Outcome
 
 /// A register.
 #[tactic(auto, unfolding(crate::specs::TextValue::text_register))]
-fn register_at(
+fn register_at<M: ByteMemory>(
     alloc: Global,
     rules: &RulesAt<'_>,
     regs: &Regs,
-    memory: &Memory,
+    memory: &M,
     cfa: Outcome,
     register: u8,
 ) -> Result<Outcome, OutOfMemory>
-    requires cfa { cfa ≡ text_cfa regs.now memory.now rules.now }
+    requires cfa { cfa ≡ text_cfa regs.now (M.runs memory.now) rules.now }
     requires few { register < 16 }
-    ensures { IfOk result (λ value. value ≡ text_register regs.now memory.now rules.now register) }
+    ensures { IfOk result (λ value. value ≡ text_register regs.now (M.runs memory.now) rules.now register) }
 {
     match rules.tokens(&Target::Reg(register)) {
         None => Ok(default_value(regs, cfa, register)),
@@ -99,15 +99,15 @@ fn register_at(
     }
 }
 
-/// All of them.
+/// What rules give: the CFA, the return address and the caller's registers (Breakpad's symbol_files.md, "STACK CFI").
 #[tactic(auto, unfolding(crate::specs::TextValue::frame_of))]
-fn frame_of(
+pub fn frame_of<M: ByteMemory>(
     alloc: Global,
     rules: &RulesAt<'_>,
     regs: &Regs,
-    memory: &Memory,
+    memory: &M,
 ) -> Result<Frame, OutOfMemory>
-    ensures { IfOk result (λ frame. frame ≡ frame_of regs.now memory.now rules.now) }
+    ensures { IfOk result (λ frame. frame ≡ frame_of regs.now (M.runs memory.now) rules.now) }
 {
     let cfa = cfa_at(alloc, rules, regs, memory)?;
     let ra = ra_at(alloc, rules, regs, memory, cfa)?;
@@ -124,16 +124,16 @@ fn frame_of(
 
 /// What the text gives at an address that the INIT at an index covers, the first that does.
 #[tactic(auto, unfolding(crate::specs::TextValue::text_frame))]
-pub fn frame_from(
+pub fn frame_from<M: ByteMemory>(
     alloc: Global,
     file: &SymFile,
     init: usize,
     address: u64,
     regs: &Regs,
-    memory: &Memory,
+    memory: &M,
 ) -> Result<Frame, OutOfMemory>
     requires { init_place file.now address ≡ Some init }
-    ensures { IfOk result (λ frame. text_frame file.now address regs.now memory.now ≡ Some frame) }
+    ensures { IfOk result (λ frame. text_frame file.now address regs.now (M.runs memory.now) ≡ Some frame) }
 {
     let rules = RulesAt::of(file.as_slice(), init, address);
     frame_of(alloc, &rules, regs, memory)
@@ -141,14 +141,14 @@ pub fn frame_from(
 
 /// What the text gives at an address (Breakpad's symbol_files.md, "STACK CFI"): the rules are those of the first INIT that covers it and of
 /// the changes directly behind that one, up to the address, a later rule before an earlier one. `None` where no INIT covers it.
-pub fn frame_at(
+pub fn frame_at<M: ByteMemory>(
     alloc: Global,
     file: &SymFile,
     address: u64,
     regs: &Regs,
-    memory: &Memory,
+    memory: &M,
 ) -> Result<Option<Frame>, OutOfMemory>
-    ensures { IfOk result (λ frame. frame ≡ text_frame file.now address regs.now memory.now) }
+    ensures { IfOk result (λ frame. frame ≡ text_frame file.now address regs.now (M.runs memory.now)) }
 {
     match init_at(file, address) {
         None => Ok(None),

@@ -1,11 +1,13 @@
 //! What the rules of frame records evaluate to (Breakpad's symbol_files.md, "STACK CFI"): the caller's registers at an address, over given
 //! registers and memory.
 //!
-//! `eval` gives the value of a rule's words, by `Regs` and `Memory`. `init_at` finds the record whose rules a symbol file has at an
-//! address, `frame_from` evaluates these rules as the changes behind it overwrite them, and `frame_at` does both.
+//! `eval` gives the value of a rule's words, by `Regs` and by a memory: `Memory` is one of runs of bytes, and others say by `ByteMemory` which
+//! byte they have at an address. `init_at` finds the record whose rules a symbol file has at an address, `RulesAt` is these rules as the
+//! changes behind it overwrite them, `frame_of` evaluates rules, and `frame_from` and `frame_at` do so at an address.
 #![tactic(auto)]
 
 // What the values rest on.
+mod byte_memory;
 mod memory;
 mod registers;
 
@@ -19,9 +21,10 @@ mod postfix;
 mod frame;
 mod rules;
 
-pub use frame::{frame_at, frame_from};
+pub use byte_memory::ByteMemory;
+pub use frame::{frame_at, frame_from, frame_of};
 pub use memory::{MemRun, Memory};
 pub use outcome::{Cause, Frame, Outcome};
 pub use postfix::eval;
 pub use registers::Regs;
-pub use rules::init_at;
+pub use rules::{RulesAt, init_at};

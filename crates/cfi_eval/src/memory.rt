@@ -1,10 +1,11 @@
 //! What is known of memory.
 ghost use Rattle.std.specs.Prelude.{◌≡◌, ◌<◌, ◌≤◌, ◌^◌, ◌++◌, true, length, IfOk, OnOk};
 ghost use Rattle.step_maps.specs.Covers.{AreStretches};
-ghost use Rattle.cfi_eval.specs.Bytes.{byte_at, word_at};
+ghost use Rattle.cfi_eval.specs.Bytes.{byte_at};
 ghost use Rattle.cfi_eval.specs.internal.Rising.{rise_from, byte_in, byte_behind};
 ghost use Rattle.cfi_eval.specs.internal.Finders.{run_stretch, stretches_to, byte_of, IsRunMap, IsFinder};
 
+use crate::byte_memory::ByteMemory;
 use std::alloc::Global;
 use std::marker::Model;
 use step_maps::{FirstItem, StepMap, Stretch, first_items};
@@ -183,27 +184,16 @@ impl Memory {
         let finder = finder_of(alloc, runs.as_slice())?;
         Ok(Memory { runs, finder })
     }
+}
 
-    /// The byte at an address.
-    pub fn byte(&self, a: u64) -> Option<u8>
-        ensures { result ≡ byte_at self.now a }
-    {
+impl ByteMemory for Memory {
+    ghost runs = { λ m. m };
+
+    fn byte(&self, a: u64) -> Option<u8> {
         match &self.finder {
             Finder::Rising => byte_by_halves(self.runs.as_slice(), a),
             Finder::Map { map } => byte_by_map(self.runs.as_slice(), map, a),
             Finder::Scan => last_byte(self.runs.as_slice(), a),
         }
-    }
-
-    /// The word at an address: eight bytes, the lowest first, each at an address below 2^64.
-    pub fn word(&self, a: u64) -> Option<u64>
-        ensures { result ≡ word_at self.now a }
-    {
-        let mut word = 0;
-        'bytes: for place in 0..8u32 {
-            let byte = self.byte(a.checked_add(u64::from(place))?)?;
-            word += u64::from(byte) << (8 * place);
-        }
-        Some(word)
     }
 }

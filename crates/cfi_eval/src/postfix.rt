@@ -3,7 +3,7 @@ ghost use Rattle.std.specs.Prelude.{◌≡◌, ◌∷◌, reverse, Ok, Err, Matc
 ghost use Rattle.cfi_eval.specs.Postfix.{register_value, name_value, cfa_value, word_value, quotient_of, remainder_of, multiple_of, with_token, one_value, rule_value};
 ghost use Rattle.cfi_eval.specs.internal.Stacks.{HasNoTwo, HasNone, is_undefined};
 
-use crate::memory::Memory;
+use crate::byte_memory::{ByteMemory, read_word};
 use crate::outcome::{Cause, Outcome};
 use crate::registers::Regs;
 use std::alloc::Global;
@@ -49,10 +49,10 @@ fn cfa_value(cfa: Option<Outcome>) -> Result<u64, Cause>
 
 /// The word that memory has at an address.
 #[tactic(auto, unfolding(crate::specs::Postfix::word_value))]
-fn word_value(memory: &Memory, a: u64) -> Result<u64, Cause>
-    ensures { result ≡ word_value memory.now a }
+fn word_value<M: ByteMemory>(memory: &M, a: u64) -> Result<u64, Cause>
+    ensures { result ≡ word_value (M.runs memory.now) a }
 {
-    match memory.word(a) {
+    match read_word(memory, a) {
         Some(word) => Ok(word),
         None => Err(Cause::Unreadable(a)),
     }
@@ -112,16 +112,16 @@ fn pop_two(stack: &mut Vec<u64>) -> Result<(u64, u64), Cause>
 
 /// The value that a word leaves on the stack, once those that it takes are taken from it.
 #[tactic(auto, unfolding(crate::specs::Postfix::with_token))]
-fn token_value(
+fn token_value<M: ByteMemory>(
     token: &Token,
     stack: &mut Vec<u64>,
     regs: &Regs,
     cfa: Option<Outcome>,
-    memory: &Memory,
+    memory: &M,
 ) -> Result<u64, Cause>
     ensures { MatchResult result
-        (λ value. with_token regs.now memory.now cfa token.now (reverse stack.old.items) ≡ Ok (value ∷ reverse stack.new.items))
-        (λ why. with_token regs.now memory.now cfa token.now (reverse stack.old.items) ≡ Err why) }
+        (λ value. with_token regs.now (M.runs memory.now) cfa token.now (reverse stack.old.items) ≡ Ok (value ∷ reverse stack.new.items))
+        (λ why. with_token regs.now (M.runs memory.now) cfa token.now (reverse stack.old.items) ≡ Err why) }
 {
     match token {
         Token::Number(n) => Ok(n.cast_unsigned()),
@@ -183,14 +183,14 @@ fn is_undefined(tokens: &[Token]) -> bool
 /// The value of a rule's words (Breakpad's symbol_files.md, "STACK CFI"). `cfa` is what the rule of `.cfa` gave, and `None` inside that
 /// rule. A register of a number above 15 has no value. Memory is taken for the stack of values alone.
 #[tactic(auto, unfolding(crate::specs::Postfix::rule_value))]
-pub fn eval(
+pub fn eval<M: ByteMemory>(
     alloc: Global,
     tokens: &[Token],
     regs: &Regs,
     cfa: Option<Outcome>,
-    memory: &Memory,
+    memory: &M,
 ) -> Result<Outcome, OutOfMemory>
-    ensures { IfOk result (λ outcome. outcome ≡ rule_value regs.now memory.now cfa tokens.now) }
+    ensures { IfOk result (λ outcome. outcome ≡ rule_value regs.now (M.runs memory.now) cfa tokens.now) }
 {
     if is_undefined(tokens) {
         return Ok(Outcome::Undefined);

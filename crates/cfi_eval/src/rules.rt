@@ -5,6 +5,7 @@ ghost use Rattle.cfi_eval.specs.Inits.{is_init_at, init_place};
 ghost use Rattle.cfi_eval.specs.TextRules.{rule_for, changes_until, text_rules};
 ghost use Rattle.cfi_eval.specs.internal.Tables.{target_place, rule_in, IsTable};
 ghost use Rattle.sym_rules.specs.declared.rules.Target.{Target};
+ghost use Rattle.sym_rules.specs.declared.rules.Target.TheVariants.{Ra};
 ghost use Rattle.sym_rules.specs.declared.rules.Token.{Token};
 
 use std::marker::Model;
@@ -96,10 +97,10 @@ fn table_at<'r>(
     table
 }
 
-/// The rules that count at an address: those of an INIT, then those of the changes that stand directly behind it, up to there. Contracts
-/// see the list of them.
+/// The rules that count at an address: those of an INIT, then those of the changes that stand directly behind it, up to there, a later rule
+/// before an earlier one. Contracts see the list of them.
 #[derive(Drop)]
-pub(crate) struct RulesAt<'r> {
+pub struct RulesAt<'r> {
     first: &'r [RuleText],
     behind: &'r [SymLine],
     address: u64,
@@ -122,7 +123,7 @@ impl<'r> Model for RulesAt<'r> {
 
 impl<'r> RulesAt<'r> {
     /// The rules at an address, by the index of the first INIT that covers it.
-    pub(crate) fn of(lines: &'r [SymLine], init: usize, address: u64) -> RulesAt<'r>
+    pub fn of(lines: &'r [SymLine], init: usize, address: u64) -> RulesAt<'r>
         requires within { init < length lines.now }
         requires first { init_place lines.now address ≡ Some init }
         ensures { text_rules lines.now address ≡ Some result }
@@ -139,6 +140,26 @@ impl<'r> RulesAt<'r> {
             address,
             table,
         }
+    }
+
+    /// Rules that count wherever they are asked for.
+    pub fn plain(rules: &'r [RuleText]) -> RulesAt<'r>
+        ensures { result ≡ rules.now }
+    {
+        let table = table_at(rules, &[], 0);
+        RulesAt {
+            first: rules,
+            behind: &[],
+            address: 0,
+            table,
+        }
+    }
+
+    /// The words of the rule for the return address.
+    pub fn ra(&self) -> Option<&'r Tokens>
+        ensures { option_copied result ≡ rule_for Ra self.now }
+    {
+        self.tokens(&Target::Ra)
     }
 
     /// The words of the last rule of a target that a frame has.

@@ -5,4 +5,4 @@ use Rattle.cfi_eval.proofs.frame.frame_at.Goals as goal
 
 pub returns-in-None : goal.returns-in-None
 unfolding text_frame
-returns-in-None c = rw (no_rules c.args.file.now c.args.address (sym c.in-None.ensures)) refl
+returns-in-None g c = rw (no_rules c.args.file.now c.args.address (sym c.in-None.ensures)) refl

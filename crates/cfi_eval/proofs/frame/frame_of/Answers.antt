@@ -6,8 +6,8 @@ use Rattle.cfi_eval.proofs.frame.frame_of.Goals as goal
 
 pub returns : goal.returns
 unfolding frame_of
-returns c =
-    let all = fill_by_all (text_register c.args.regs.now c.args.memory.now c.args.rules.now) c.registers.values 16 Undefined c.registers.invariant.many (λ k h. c.registers.invariant.known k (omega arith)) in
+returns g c =
+    let all = fill_by_all (text_register c.args.regs.now (g.M.ByteMemory.runs c.args.memory.now) c.args.rules.now) c.registers.values 16 Undefined c.registers.invariant.many (λ k h. c.registers.invariant.known k (omega arith)) in
     let cfa = c.in_ok-cfa.ensures in
     let ra = c.in_ok-ra.ensures in
     cc
