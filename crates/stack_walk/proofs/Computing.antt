@@ -2,8 +2,8 @@
 use Rattle.std.specs.Prelude.{⊤}
 use Rattle.state_file.proofs.Computing.{state_file_computes}
 use Rattle.sym_lookup.proofs.Computing.{sym_lookup_computes}
-use Rattle.stack_walk.specs.Walk.{walk_from, walk_of}
+use Rattle.stack_walk.specs.Walk.{is_signal, step_known, walk_from, walk_of}
 
 unfoldable pub stack_walk_computes : ⊤
-unfolding state_file_computes sym_lookup_computes walk_from walk_of
+unfolding state_file_computes sym_lookup_computes is_signal step_known walk_from walk_of
 stack_walk_computes = tt

@@ -1,5 +1,5 @@
 -- Worked walks: the address of each step and the one that is looked up, and why the walk ends.
-use Rattle.std.proofs.Common.{◌≡◌, ℕ, List, [], ◌∷◌, ◌++◌, codes, length, map, slice_index, Option, Some, None, Result, Ok, Err, refl}
+use Rattle.std.proofs.Common.{◌≡◌, ℕ, List, [], ◌∷◌, ◌++◌, ◌&&◌, nat_le, nat_lt, cond, Bool, true, false, codes, length, map, slice_index, Option, Some, None, Result, Ok, Err, refl}
 use Prim.Native.String.{String}
 use Rattle.std.specs.Option.{option_map}
 use Rattle.sym_records.specs.Reading.{reading}
@@ -10,8 +10,8 @@ use Rattle.state_file.specs.declared.state.State.{State}
 use Rattle.stack_walk.specs.declared.steps.Walk.{Walk}
 use Rattle.stack_walk.specs.declared.steps.WalkStep.{WalkStep}
 use Rattle.stack_walk.specs.declared.steps.WalkEnd.{WalkEnd}
-use Rattle.stack_walk.specs.declared.steps.WalkEnd.TheVariants.{NoRules, CfaUndefined, CfaFailed, CfaLow, RaUndefined, RaFailed, RaZero, Limit}
-use Rattle.stack_walk.specs.Walk.{walk_upto}
+use Rattle.stack_walk.specs.declared.steps.WalkEnd.TheVariants.{NoModule, NoSymbols, NoRules, CfaUndefined, CfaFailed, CfaLow, RaUndefined, RaFailed, RaZero, Limit}
+use Rattle.stack_walk.specs.Walk.{Process, walk_from, first_place, walk_upto}
 use Rattle.stack_walk.proofs.Computing.{stack_walk_computes}
 
 -- the records of a text behind its MODULE, and the state of a state file
@@ -159,3 +159,60 @@ the_limit = refl
 as_many_as_may_be : counted (over downwards "REG rip 400\nREG rsp 7000\n") ≡ Some (1024, 0x400, 1, RaZero)
 unfolding over stack_walk_computes
 as_many_as_may_be = refl
+
+-- a process of two modules: the first, at 10000, has these records, the second, at 20000, none; the first is code up to 14000
+unfoldable process_with : String → String → Process
+process_with text state = record {
+  memory = (state_in (state_of (codes state))).memory;
+  known_at = λ a. record {
+    records =
+        cond (nat_le 0x10000 a && nat_lt a 0x18000) (Ok (record { base = 0x10000; lines = records_in (reading (codes "MODULE a b c d\n" ++ codes text)) }))
+        (cond (nat_le 0x20000 a && nat_lt a 0x28000) (Err NoSymbols) (Err NoModule));
+    is_code = nat_le 0x10000 a && nat_lt a 0x14000;
+  };
+  signals = true;
+}
+
+-- the addresses of its steps, and which of them are frames of signals
+abbrev kinds : Walk → List (ℕ × ℕ × Bool) × WalkEnd
+kinds walk = (map {B = ℕ × ℕ × Bool} (λ (s : WalkStep). (s.rip, s.at, s.signal)) walk.steps, walk.end)
+
+unfoldable through : String → String → ℕ → List (ℕ × ℕ × Bool) × WalkEnd
+unfolding process_with
+through text state rip = kinds (walk_from (process_with text state) 1024 (first_place (state_in (state_of (codes state))).regs rip))
+
+-- addresses of the records count from the module's base
+at_a_base : through two_calls "REG rsp 7000\nMEM 7000 0520010000000000\n" 0x11005 ≡ ((0x11005, 0x11005, false) ∷ (0x12005, 0x12004, false) ∷ [], RaUndefined)
+unfolding through stack_walk_computes
+at_a_base = refl
+
+-- an address in no module, and one in a module without records
+to_no_module : through two_calls "REG rsp 7000\nMEM 7000 0500030000000000\n" 0x11005 ≡ ((0x11005, 0x11005, false) ∷ (0x30005, 0x30004, false) ∷ [], NoModule)
+unfolding through stack_walk_computes
+to_no_module = refl
+
+to_no_symbols : through two_calls "REG rsp 7000\nMEM 7000 0500020000000000\n" 0x11005 ≡ ((0x11005, 0x11005, false) ∷ (0x20005, 0x20004, false) ∷ [], NoSymbols)
+unfolding through stack_walk_computes
+to_no_symbols = refl
+
+-- a call to nowhere: through null, and into what is no code though it lies in a module
+through_null : through two_calls "REG rsp 7000\nMEM 7000 05100100000000000520010000000000\n" 0 ≡ ((0, 0, false) ∷ (0x11005, 0x11004, false) ∷ (0x12005, 0x12004, false) ∷ [], RaUndefined)
+unfolding through stack_walk_computes
+through_null = refl
+
+into_data : through two_calls "REG rsp 7000\nMEM 7000 05100100000000000520010000000000\n" 0x15000 ≡ ((0x15000, 0x15000, false) ∷ (0x11005, 0x11004, false) ∷ (0x12005, 0x12004, false) ∷ [], RaUndefined)
+unfolding through stack_walk_computes
+into_data = refl
+
+-- but a return address there is none
+returns_to_data : through two_calls "REG rsp 7000\nMEM 7000 0550010000000000\n" 0x11005 ≡ ((0x11005, 0x11005, false) ∷ (0x15005, 0x15004, false) ∷ [], NoRules)
+unfolding through stack_walk_computes
+returns_to_data = refl
+
+-- a handler at 1000 returns to 3000, whose rules are those of a signal's frame; the signal came at 2000 itself, where the CFA is lower
+abbrev with_signal : String
+with_signal = "STACK CFI INIT 1000 20 .cfa: $rsp 8 + .ra: .cfa -8 + ^\nSTACK CFI INIT 2000 10 .cfa: $rsp 8 +\nSTACK CFI INIT 2fff 10 .cfa: $rsp 16 + ^ .ra: $rsp 8 + ^\n"
+
+a_signal : through with_signal "REG rsp 7000\nMEM 7000 0030010000000000333300000000000000200100000000000060000000000000\n" 0x11005 ≡ ((0x11005, 0x11005, false) ∷ (0x13000, 0x12fff, true) ∷ (0x12000, 0x12000, false) ∷ [], RaUndefined)
+unfolding through stack_walk_computes
+a_signal = refl

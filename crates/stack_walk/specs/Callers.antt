@@ -1,43 +1,55 @@
 -- What the steps of a walk are to each other: each is the caller of the one before.
-use Rattle.std.specs.Prelude.{◌≡◌, ◌+◌, List, [], ◌∷◌, Option, None, Some}
+use Rattle.std.specs.Prelude.{◌≡◌, ◌+◌, ℕ, Bool, true, false, if◌then◌else◌, List, [], ◌∷◌, Result, Ok, Err, IfSome}
 use Rattle.sym_records.specs.declared.line.SymLine.{SymLine}
+use Rattle.sym_rules.specs.declared.rules.RuleText.{RuleText}
 use Rattle.cfi_eval.specs.declared.registers.Regs.{Regs}
-use Rattle.cfi_eval.specs.declared.memory.MemRun.{MemRun}
 use Rattle.cfi_eval.specs.declared.outcome.Outcome.TheVariants.{Value}
 use Rattle.cfi_eval.specs.declared.outcome.Frame.{Frame}
-use Rattle.cfi_eval.specs.TextValue.{text_frame}
 use Rattle.state_file.specs.declared.state.State.{State}
-use Rattle.sym_lookup.specs.Answers.{answer_of}
 use Rattle.stack_walk.specs.declared.steps.WalkStep.{WalkStep}
-use Rattle.stack_walk.specs.Walk.{caller_regs}
+use Rattle.stack_walk.specs.declared.steps.WalkEnd.{WalkEnd}
+use Rattle.stack_walk.specs.Walk.{Process, rules_at, signal_by, frame_by, answer_by, caller_regs, process_of}
 
--- a step has what the text gives at the address that is looked up, over registers and memory, and what names the address
-pub record IsLookedUp (lines : List SymLine) (regs : Regs) (memory : List MemRun) (step : WalkStep) : Type 0 where
-  pub frame : step.frame ≡ text_frame lines step.at regs memory
-  pub answer : step.answer ≡ answer_of lines step.at
+-- the rules at the address of a step that is looked up
+abbrev pub rules_of : Process → WalkStep → Result (List RuleText) WalkEnd
+rules_of process step = rules_at process.signals (process.known_at step.at) step.rip step.at
 
--- the first step is at the state's rip, which is looked up, over the state's registers
-pub record IsInnermost (lines : List SymLine) (state : State) (step : WalkStep) : Type 0 where
-  pub rip : state.regs.rip ≡ Some step.rip
+-- a step has what these rules give over registers and the memory, and what names its address, or that of its signal
+pub record IsLookedUp (process : Process) (regs : Regs) (step : WalkStep) : Type 0 where
+  pub signal : step.signal ≡ signal_by process.signals (rules_of process step)
+  pub frame : step.frame ≡ frame_by regs process.memory (rules_of process step)
+  pub answer : step.answer ≡ answer_by (process.known_at step.at).records (if step.signal then step.rip else step.at)
+
+-- the first step is at the first address, which is looked up, over the first registers
+pub record IsInnermost (process : Process) (regs : Regs) (first : ℕ) (step : WalkStep) : Type 0 where
+  pub rip : step.rip ≡ first
   pub at : step.at ≡ step.rip
-  pub found : IsLookedUp lines state.regs state.memory step
+  pub found : IsLookedUp process regs step
 
--- the step after one with a frame is at the frame's return address, of which the one below is looked up, over the registers that have values
--- in the frame
-pub record IsCallerOf (lines : List SymLine) (memory : List MemRun) (frame : Frame) (step : WalkStep) : Type 0 where
+-- behind a signal's frame the address itself is looked up, and behind every other the one below it, which is in the call
+abbrev pub IsCallAddress : Bool → WalkStep → Type 0
+IsCallAddress true step = step.at ≡ step.rip
+IsCallAddress false step = step.at + 1 ≡ step.rip
+
+-- the step after one with a frame is at the frame's return address, over the registers that have values in the frame
+pub record IsCallerOf (process : Process) (signal : Bool) (frame : Frame) (step : WalkStep) : Type 0 where
   pub rip : frame.ra ≡ Value step.rip
-  pub at : step.at + 1 ≡ step.rip
-  pub found : IsLookedUp lines (caller_regs frame) memory step
+  pub at : IsCallAddress signal step
+  pub found : IsLookedUp process (caller_regs frame) step
 
-abbrev pub ForFrame : Option Frame → (Frame → Type 0) → Type 0
-ForFrame None P = ⊥
-ForFrame (Some frame) P = P frame
+abbrev pub ForFrame : Result Frame WalkEnd → (Frame → Type 0) → Type 0
+ForFrame (Err end) P = ⊥
+ForFrame (Ok frame) P = P frame
 
-abbrev pub AreCallers : List SymLine → List MemRun → List WalkStep → Type 0
-AreCallers lines memory [] = Unit {0}
-AreCallers lines memory (last ∷ []) = Unit {0}
-AreCallers lines memory (step ∷ next ∷ steps) = ForFrame step.frame (λ frame. IsCallerOf lines memory frame next) × AreCallers lines memory (next ∷ steps)
+abbrev pub AreCallers : Process → List WalkStep → Type 0
+AreCallers process [] = Unit {0}
+AreCallers process (last ∷ []) = Unit {0}
+AreCallers process (step ∷ next ∷ steps) = ForFrame step.frame (λ frame. IsCallerOf process step.signal frame next) × AreCallers process (next ∷ steps)
 
-abbrev pub IsStack : List SymLine → State → List WalkStep → Type 0
-IsStack lines state [] = ⊥
-IsStack lines state (first ∷ steps) = IsInnermost lines state first × AreCallers lines state.memory (first ∷ steps)
+abbrev pub IsStack : Process → Regs → ℕ → List WalkStep → Type 0
+IsStack process regs rip [] = ⊥
+IsStack process regs rip (first ∷ steps) = IsInnermost process regs rip first × AreCallers process (first ∷ steps)
+
+-- the stack of a state, by the records of one symbol file
+abbrev pub IsStackOf : List SymLine → State → List WalkStep → Type 0
+IsStackOf lines state steps = IfSome state.regs.rip (λ rip. IsStack (process_of lines state.memory) state.regs rip steps)

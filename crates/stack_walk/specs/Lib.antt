@@ -1,3 +1,4 @@
+pub mod Records
 pub mod Walk
 pub mod Rising
 pub mod Callers

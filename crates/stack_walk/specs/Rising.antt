@@ -1,26 +1,34 @@
--- The frames of a stack lie above one another: the CFA of each step that another step follows is a value, above those of the steps before.
-use Rattle.std.specs.Prelude.{◌≡◌, ◌<◌, ℕ, List, [], ◌∷◌, Option, None, Some}
-use Rattle.std.specs.Option.{option_map}
+-- The frames of a stack lie above one another: the CFA of each step that another step follows is a value, above those of the steps before,
+-- but at the frame of a signal, which may lie on another stack.
+use Rattle.std.specs.Prelude.{◌≡◌, ◌<◌, ℕ, Bool, true, false, List, [], ◌∷◌, Option, None, Some, Result, Ok, Err}
 use Rattle.cfi_eval.specs.declared.outcome.Frame.{Frame}
 use Rattle.cfi_eval.specs.declared.outcome.Outcome.{Outcome}
 use Rattle.cfi_eval.specs.declared.outcome.Outcome.TheVariants.{Value}
 use Rattle.stack_walk.specs.declared.steps.WalkStep.{WalkStep}
+use Rattle.stack_walk.specs.declared.steps.WalkEnd.{WalkEnd}
 
--- what the CFA of a step is, where rules stand there
-abbrev pub step_cfa : WalkStep → Option Outcome
-step_cfa step = option_map (λ (frame : Frame). frame.cfa) step.frame
+-- what the CFA of a frame is, where rules stand there
+abbrev pub frame_cfa : Result Frame WalkEnd → Option Outcome
+frame_cfa (Err end) = None
+frame_cfa (Ok frame) = Some frame.cfa
 
-abbrev pub IsAbove : Option ℕ → ℕ → Type 0
-IsAbove None cfa = Unit {0}
-IsAbove (Some before) cfa = before < cfa
+abbrev pub IsAbove : Bool → Option ℕ → ℕ → Type 0
+IsAbove true before cfa = Unit {0}
+IsAbove false None cfa = Unit {0}
+IsAbove false (Some before) cfa = before < cfa
 
--- the step that another follows has a CFA, and it lies above the one before
+-- the step that another follows has a CFA, and it lies above the one before, or it is a signal's
 pub record RisesTo (before : Option ℕ) (step : WalkStep) (cfa : ℕ) : Type 0 where
-  pub is : step_cfa step ≡ Some (Value cfa)
-  pub above : IsAbove before cfa
+  pub is : frame_cfa step.frame ≡ Some (Value cfa)
+  pub above : IsAbove step.signal before cfa
 
 -- some steps, where the CFA before them is that
 abbrev pub CfasRise : Option ℕ → List WalkStep → Type 0
 CfasRise before [] = Unit {0}
 CfasRise before (last ∷ []) = Unit {0}
 CfasRise before (step ∷ next ∷ steps) = (cfa : ℕ) × (RisesTo before step cfa × CfasRise (Some cfa) (next ∷ steps))
+
+-- none of the steps is a signal's frame
+abbrev pub HaveNoSignals : List WalkStep → Type 0
+HaveNoSignals [] = Unit {0}
+HaveNoSignals (step ∷ steps) = (step.signal ≡ false) × HaveNoSignals steps

@@ -1,8 +1,8 @@
 //! How one step leads to the next.
 ghost use Rattle.std.specs.Prelude.{◌≡◌, map};
-ghost use Rattle.stack_walk.specs.Walk.{value_of, caller_regs, first_place, cfa_from, cfa_of, return_address, caller_of, place_after};
+ghost use Rattle.stack_walk.specs.Walk.{value_of, caller_regs, first_place, cfa_from, cfa_of, floor_of, return_address, caller_of, place_after};
 
-use crate::steps::WalkEnd;
+use crate::steps::{WalkEnd, WalkStep};
 use cfi_eval::{Frame, Outcome, Regs};
 
 /// Where a step stands, with the registers there and the CFA of the step before.
@@ -15,7 +15,7 @@ pub struct Place {
 }
 
 /// The first step, by its address.
-pub(crate) fn first_place(regs: &Regs, rip: u64) -> Place
+pub fn first_place(regs: &Regs, rip: u64) -> Place
     ensures { result ≡ first_place regs.now rip }
 {
     Place {
@@ -83,37 +83,43 @@ fn cfa_of(before: Option<u64>, cfa: Outcome) -> Result<u64, WalkEnd>
 }
 
 /// The return address, or the end of the walk.
-fn return_address(ra: Outcome) -> Result<u64, WalkEnd>
-    ensures { result ≡ return_address ra }
+fn return_address(signal: bool, ra: Outcome) -> Result<u64, WalkEnd>
+    ensures { result ≡ return_address signal ra }
 {
     match ra {
         Outcome::Undefined => Err(WalkEnd::RaUndefined),
         Outcome::Failed(why) => Err(WalkEnd::RaFailed(why)),
-        Outcome::Value(0) => Err(WalkEnd::RaZero),
-        Outcome::Value(ra) => Ok(ra),
+        Outcome::Value(ra) => {
+            if !signal && ra == 0 {
+                return Err(WalkEnd::RaZero);
+            }
+            Ok(ra)
+        }
     }
 }
 
 /// The step of the caller.
-fn caller_of(here: &Place, frame: &Frame) -> Result<Place, WalkEnd>
-    ensures { result ≡ caller_of here.now.before frame.now }
+fn caller_of(signal: bool, before: Option<u64>, frame: &Frame) -> Result<Place, WalkEnd>
+    ensures { result ≡ caller_of signal before frame.now }
 {
-    let cfa = cfa_of(here.before, frame.cfa)?;
-    let ra = return_address(frame.ra)?;
+    let floor = if signal { None } else { before };
+    let cfa = cfa_of(floor, frame.cfa)?;
+    let ra = return_address(signal, frame.ra)?;
+    let at = if signal { ra } else { ra - 1 };
     Ok(Place {
         rip: ra,
-        at: ra - 1,
+        at,
         regs: caller_regs(frame),
         before: Some(cfa),
     })
 }
 
-/// The step after one, by its frame.
-pub(crate) fn place_after(here: &Place, frame: &Option<Frame>) -> Result<Place, WalkEnd>
-    ensures { result ≡ place_after here.now.before frame.now }
+/// The place after a step, where that is not the last: that of its caller.
+pub fn place_after(here: &Place, step: &WalkStep) -> Result<Place, WalkEnd>
+    ensures { result ≡ place_after here.now.before step.now }
 {
-    match frame {
-        None => Err(WalkEnd::NoRules),
-        Some(frame) => caller_of(here, frame),
+    match &step.frame {
+        Err(end) => Err(*end),
+        Ok(frame) => caller_of(step.signal, here.before, frame),
     }
 }

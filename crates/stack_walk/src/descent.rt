@@ -1,13 +1,14 @@
 //! The walk.
-ghost use Rattle.std.specs.Prelude.{◌≡◌, Some, None, IfOk};
-ghost use Rattle.cfi_eval.specs.TextValue.{text_frame};
+ghost use Rattle.std.specs.Prelude.{◌≡◌, Some, None, Ok, true, IfOk};
 ghost use Rattle.sym_edges.specs.Outside.{MatchStop};
 ghost use Rattle.sym_lookup.specs.IndexOf.{IsIndexOf};
-ghost use Rattle.stack_walk.specs.Walk.{step_at, walk_from, walk_of, IsFault};
+ghost use Rattle.stack_walk.specs.Walk.{process_of, walk_from, walk_of, IsFault};
 
 use crate::callers::{Place, first_place, place_after};
-use crate::steps::{NoRip, Walk, WalkEnd, WalkStep, WalkSteps};
-use cfi_eval::{Frame, Memory, frame_from};
+use crate::known::{Known, take_step};
+use crate::records::Records;
+use crate::steps::{NoRip, Walk, WalkEnd, WalkSteps};
+use cfi_eval::Memory;
 use state_file::State;
 use std::alloc::Global;
 use sym_edges::{OutOfMemory, Stop};
@@ -17,43 +18,15 @@ use sym_records::SymFile;
 /// The most steps of a walk.
 const MOST_STEPS: usize = 1024;
 
-/// What the rules at a step evaluate to.
-#[tactic(auto, using(crate::proofs::DescentLemmas::frame_none))]
-fn frame_at(
-    alloc: Global,
-    file: &SymFile,
-    index: &Index,
-    memory: &Memory,
-    here: &Place,
-) -> Result<Option<Frame>, OutOfMemory>
+/// What is known of every address, where all lie in one module.
+fn one_module<'k>(file: &'k SymFile, index: &'k Index) -> Known<'k>
     requires { IsIndexOf file.now index.now }
-    ensures { IfOk result (λ frame. frame ≡ text_frame file.now here.now.at here.now.regs memory.now) }
+    ensures { result ≡ record { records = Ok (record { base = 0; lines = file.now }); is_code = true } }
 {
-    match index.init_at(here.at) {
-        None => Ok(None),
-        Some(init) => Ok(Some(frame_from(alloc, file, init, here.at, &here.regs, memory)?)),
+    Known {
+        records: Ok(Records::of(0, file, index)),
+        is_code: true,
     }
-}
-
-/// A step.
-fn step_at(
-    alloc: Global,
-    file: &SymFile,
-    index: &Index,
-    memory: &Memory,
-    here: &Place,
-) -> Result<WalkStep, OutOfMemory>
-    requires { IsIndexOf file.now index.now }
-    ensures { IfOk result (λ step. step ≡ step_at file.now memory.now here.now) }
-{
-    let frame = frame_at(alloc, file, index, memory, here)?;
-    let answer = index.answer_at(alloc, file, here.at)?;
-    Ok(WalkStep {
-        rip: here.rip,
-        at: here.at,
-        frame,
-        answer,
-    })
 }
 
 /// At most so many steps, from one on.
@@ -66,13 +39,14 @@ fn walk_from(
     first: &Place,
 ) -> Result<Walk, OutOfMemory>
     requires { IsIndexOf file.now index.now }
-    ensures { IfOk result (λ walk. walk ≡ walk_from file.now memory.now most first.now) }
+    ensures { IfOk result (λ walk. walk ≡ walk_from (process_of file.now memory.now) most first.now) }
 {
+    let known = one_module(file, index);
     let mut steps = Vec::new(alloc);
     let mut here = *first;
     'steps: for turn in 0..most {
-        let step = step_at(alloc, file, index, memory, &here)?;
-        let next = place_after(&here, &step.frame);
+        let step = take_step(alloc, &known, memory, false, &here)?;
+        let next = place_after(&here, &step);
         steps.push(step)?;
         match next {
             Ok(place) => here = place,

@@ -1,19 +1,27 @@
-//! Walking down a stack by the records of a symbol file (Breakpad's symbol_files.md, "STACK CFI"), from the registers and the memory of one
-//! state.
+//! Walking down a stack by the records of symbol files (Breakpad's symbol_files.md, "STACK CFI").
 //!
-//! [`walk`] looks up the state's address, evaluates the rules there, and goes on at the return address with the caller's registers, until a
-//! rule has no value or no rules stand there. Each step says its address, the values of its rules and which records name it; the end of the
-//! walk says why it ended. [`laws`] say that each step is the caller of the one before, that the frames lie above one another, and that there
-//! are at most 1,024.
+//! A walk goes through a process (`specs/Walk.antt`): its memory, and of each address the records of its module and whether it is code.
+//! [`take_step`] looks up the address of a place by what is [`Known`] of it and evaluates the rules there, and [`place_after`] is the place of
+//! the caller, until a rule has no value or no rules stand there. Each step says its address, the values of its rules and which records name
+//! it; the end of a walk says why it ended.
 //!
-//! To read: `specs/Walk.antt` and `specs/Callers.antt`; then `steps` (what a walk gives), `callers` (how one step leads to the next) and
-//! `descent` (the walk).
+//! [`walk`] is the walk from a state file by one symbol file, of at most 1,024 steps. There every address lies in the one module, and neither
+//! frames of signals nor calls to nowhere count. [`laws`] say of the walks through every process that each step is the caller of the one before
+//! and that the frames lie above one another.
+//!
+//! To read: `specs/Walk.antt` and `specs/Callers.antt`; then `steps` (what a walk gives), `records` and `known` (a step), `callers` (how one step
+//! leads to the next) and `descent` (the walk).
 #![tactic(auto)]
 
 mod callers;
 mod descent;
+mod known;
 pub mod laws;
+mod records;
 mod steps;
 
+pub use callers::{Place, first_place, place_after};
 pub use descent::walk;
+pub use known::{Known, take_step};
+pub use records::Records;
 pub use steps::{NoRip, Walk, WalkEnd, WalkStep, WalkSteps};

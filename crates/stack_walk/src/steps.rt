@@ -12,11 +12,13 @@ pub struct NoRip;
 pub struct WalkStep {
     /// The state's rip, or the return address of the step before.
     pub rip: u64,
-    /// The address that is looked up: in the first step rip, and then the one below it, which is in the call.
+    /// The address that is looked up: in the first step and behind a signal's frame rip, and else the one below it, which is in the call.
     pub at: u64,
-    /// What the rules evaluate to, where there are rules.
-    pub frame: Option<Frame>,
-    /// Which records name the address.
+    /// The rules are those of a signal's frame.
+    pub signal: bool,
+    /// What the rules evaluate to, or why there are none.
+    pub frame: Result<Frame, WalkEnd>,
+    /// Which records name the address that is looked up, or in a signal's frame rip.
     pub answer: Answer,
 }
 
@@ -26,6 +28,10 @@ pub type WalkSteps = ListOf<WalkStep>;
 /// Why a walk ends at its last step.
 #[derive(Clone, Copy, Debug, PartialEq, Eq)]
 pub enum WalkEnd {
+    /// The address lies in no module.
+    NoModule,
+    /// Its module has no records.
+    NoSymbols,
     /// No INIT covers the address.
     NoRules,
     CfaUndefined,
