@@ -1,1 +1,4 @@
 pub mod PathLemmas
+pub mod IdentityLemmas
+mod WorkedPaths
+pub mod Computing

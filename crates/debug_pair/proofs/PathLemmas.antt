@@ -8,6 +8,11 @@ joined a b c d e f p q r s t one two three four five =
     five ∙ ap (λ l. l ++ f) (four ∙ ap (λ l. l ++ e) (three ∙ ap (λ l. l ++ d) (two ∙ ap (λ l. l ++ c) one)))
     ∙ simp append_assoc
 
+pub joined_eight : (a b c d e f g h p q r s t u v : List ℕ) → p ≡ a ++ b → q ≡ p ++ c → r ≡ q ++ d → s ≡ r ++ e → t ≡ s ++ f → u ≡ t ++ g → v ≡ u ++ h → v ≡ a ++ b ++ c ++ d ++ e ++ f ++ g ++ h
+joined_eight a b c d e f g h p q r s t u v one two three four five six seven =
+    seven ∙ ap (λ l. l ++ h) (six ∙ ap (λ l. l ++ g) (five ∙ ap (λ l. l ++ f) (four ∙ ap (λ l. l ++ e) (three ∙ ap (λ l. l ++ d) (two ∙ ap (λ l. l ++ c) one)))))
+    ∙ simp append_assoc
+
 pub short_id : (root id : List ℕ) → length id < 2 → debug_path root id ≡ None
 short_id root [] few = refl
 short_id root (a ∷ []) few = refl
