@@ -1,0 +1,85 @@
+-- What was found under the names that a store was asked for, and the files that this agrees with.
+use Rattle.std.specs.Prelude.{◌≡◌, ◌⊎◌, ℕ, ◌≤◌, ◌^◌, true, false, is_some, List, [], ◌∷◌, ◌++◌, Option, None, Some, Result, Ok, Err, if◌then◌else◌}
+use Rattle.std.specs.List.{list_any}
+use Rattle.std.specs.Str.{bytes_eq}
+use Rattle.sym_edges.specs.Outside.{Files, Tells, Rose}
+use Rattle.sym_edges.specs.declared.fault.OutOfMemory.{OutOfMemory}
+use Rattle.sym_edges.specs.WholeFile.{HoldsFile}
+use Rattle.sym_records.specs.declared.line.SymLine.{SymLine}
+use Rattle.sym_grammar.specs.Input.{file_reading, IsReading}
+use Rattle.sym_grammar.specs.declared.refusal.SymRefusal.{SymRefusal}
+
+-- what stands under a name: nothing that can be read, or the reading of a symbol file of at most 2^29 bytes
+abbrev pub Found : Type 0
+Found = Option (Result (List SymLine) SymRefusal)
+
+abbrev pub found_in : Option (List ℕ) → Found
+found_in None = None
+found_in (Some bytes) = Some (file_reading (2 ^ 29) bytes)
+
+-- what was found of each name that was asked for
+abbrev pub Seen : Type 0
+Seen = List ℕ → Option Found
+
+abbrev pub seen_in : List (List ℕ × Found) → Seen
+seen_in [] name = None
+seen_in (known ∷ names) name = if bytes_eq name known.0 then Some known.1 else seen_in names name
+
+-- the files under which each name that was asked for has what was found of it
+abbrev pub Agrees : Files → Seen → Type 0
+Agrees got seen = (name : List ℕ) (found : Found) → seen name ≡ Some found → found_in (got name) ≡ found
+
+-- files without some names
+abbrev pub without : List (List ℕ) → Files → Files
+without missed files name = if list_any (bytes_eq name) missed then None else files name
+
+-- each call that failed raised the count of faults, and no other call did
+abbrev pub Counted : List (List ℕ) → ℕ → ℕ → Type 0
+Counted [] before now = now ≡ before
+Counted (name ∷ missed) before now = Rose before now
+
+-- the files that a run had to do with: those that the store tells, without the names at which a call failed
+pub record Had (files : Option Files) (before now : ℕ) (seen : Seen) (got : Files) (missed : List (List ℕ)) : Type 0 where
+  pub told : Tells files (λ f. (name : List ℕ) → got name ≡ without missed f name)
+  pub counted : Counted missed before now
+  pub asked : (name : List ℕ) → list_any (bytes_eq name) missed ≡ true → is_some (seen name) ≡ true
+
+-- some such files agree with what was found
+pub record Knows (files : Option Files) (before now : ℕ) (seen : Seen) : Type 0 where
+  pub got : Files
+  pub missed : List (List ℕ)
+  pub had : Had files before now seen got missed
+  pub agrees : Agrees got seen
+
+-- what a call found under a name, where the files are told, and else what some bytes give; where it found nothing it failed
+abbrev pub IsFound : Found → Option Files → List ℕ → ℕ → ℕ → Type 0
+IsFound None files name before after = Rose before after
+IsFound (Some read) files name before after = (after ≡ before) × HoldsFile files name (IsReading (2 ^ 29) read)
+
+-- the name was asked for; where memory ran out it may not have been
+abbrev pub AsksNew : {A : Type 0} → Result A OutOfMemory → List (List ℕ) → List ℕ → List (List ℕ) → Type 0
+AsksNew (Ok x) before name after = after ≡ before ++ name ∷ []
+AsksNew (Err fault) before name after = (after ≡ before ++ name ∷ []) ⊎ (after ≡ before)
+
+-- names of which none stands twice and none was asked for before
+abbrev pub AreNew : Seen → List (List ℕ) → Type 0
+AreNew old [] = Unit {0}
+AreNew old (name ∷ names) = (old name ≡ None) × ((list_any (bytes_eq name) names ≡ false) × AreNew old names)
+
+-- each of the names was asked for
+abbrev pub AreSeen : Seen → List (List ℕ) → Type 0
+AreSeen new [] = Unit {0}
+AreSeen new (name ∷ names) = (is_some (new name) ≡ true) × AreSeen new names
+
+-- such names were asked for
+abbrev pub AsksFresh : Seen → List (List ℕ) → List (List ℕ) → Type 0
+AsksFresh old asked after = (names : List (List ℕ)) × ((after ≡ asked ++ names) × AreNew old names)
+
+-- what was found before stays, of each name that the store was asked for it is known what was found, and there are files that agree with it all
+pub record Learns (files : Option Files) (asked after : List (List ℕ)) (faults now : ℕ) (old new : Seen) : Type 0 where
+  pub stays : (name : List ℕ) (found : Found) → old name ≡ Some found → new name ≡ Some found
+  pub names : List (List ℕ)
+  pub asks : after ≡ asked ++ names
+  pub fresh : AreNew old names
+  pub seen : AreSeen new names
+  pub knows : (before : ℕ) → before ≤ faults → Knows files before faults old → Knows files before now new

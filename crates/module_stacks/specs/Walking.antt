@@ -1,0 +1,29 @@
+-- A process and its folder of symbol files, with what was found of those that were asked for.
+use Rattle.std.specs.Prelude.{◌≡◌, ℕ, true, is_some, List, Option, None, Some}
+use Rattle.std.specs.Option.{option_and_then}
+use Rattle.core_file.specs.Core.{CoreParts}
+use Rattle.module_stacks.specs.SymbolFiles.{Found, seen_in}
+use Rattle.module_stacks.specs.Symbols.{name_of, holder_of}
+use Rattle.module_stacks.specs.declared.names.SymbolName.{SymbolName}
+
+pub record Walking : Type 0 where
+  pub core : CoreParts
+  pub folder : List ℕ
+  -- each name that was asked for, with what was found under it
+  pub known : List (List ℕ × Found)
+
+-- what was found under a path; nothing under one that was not asked for
+abbrev pub known_found : List (List ℕ × Found) → List ℕ → Found
+known_found known path = option_and_then (λ (found : Found). found) (seen_in known path)
+
+abbrev pub IsPathSeen : List (List ℕ × Found) → Option (List ℕ) → Type 0
+IsPathSeen known None = Unit {0}
+IsPathSeen known (Some path) = is_some (seen_in known path) ≡ true
+
+abbrev pub IsNameSeen : List (List ℕ × Found) → Option SymbolName → Type 0
+IsNameSeen known None = Unit {0}
+IsNameSeen known (Some name) = IsPathSeen known name.path
+
+-- the symbol file of the module that holds an address was asked for, where it has a path
+abbrev pub IsAsked : Walking → ℕ → Type 0
+IsAsked w a = IsNameSeen w.known (option_and_then (name_of w.folder) (holder_of w.core.modules a))
