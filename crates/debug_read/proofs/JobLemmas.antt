@@ -15,7 +15,7 @@ use Rattle.die_names.specs.declared.unit_read.UnitRead.{UnitRead}
 use Rattle.debug_read.specs.Each.{each_of, Match, Says}
 use Rattle.debug_read.specs.UnitSays.{UnitSays, unit_says}
 use Rattle.debug_read.specs.UnitsRead.{IsUnitRead}
-use Rattle.debug_read.specs.declared.owed_tables.UnitFound.{UnitFound}
+use Rattle.debug_read.specs.declared.unit_tables.UnitFound.{UnitFound}
 use Rattle.debug_read.specs.internal.Sharing.{SharedParts}
 use Rattle.debug_read.specs.internal.Jobs.{ReaderParts, IsFound}
 use Rattle.debug_read.specs.internal.Owing.{IsOwing, ReaderGives}

@@ -1,6 +1,5 @@
 -- The line table of a unit, kept or not.
 use Rattle.std.proofs.Common.{◌≡◌, ℕ, zero, suc, ◌+◌, ◌≤◌, ◌||◌, Bool, true, false, if◌then◌else◌, List, [], ◌∷◌, length, drop, arith, add-one, Option, None, Some, unwrap_or, Result, Ok, Err, refl, sym, ap, subst, ◌∙◌}
-use Rattle.std.proofs.lemmas.Bool.{cond-true}
 use Rattle.sym_edges.specs.Addresses.{Range}
 use Rattle.sym_edges.specs.Results.{◌>>=◌}
 use Rattle.sym_edges.specs.declared.located.Located.{Located}
@@ -45,10 +44,6 @@ pub table_refused : (sections : DebugSections) (root : RootFields) (offset : ℕ
 unfolding root_lines
 table_refused sections root offset fault there is =
     ap (lines_by sections root) there ∙ ap (λ (r : Result Lines (Located DwarfKind)). r >>= λ lines. Ok (Some lines)) is
-
-pub table_whole : (sections : DebugSections) (root : RootFields) (offset : ℕ) (spans : List Range) (asked : Bool) (table : LineMap) → root.stmt_list ≡ Some offset → asked ≡ true → SaysTable (encloses spans) (unit_lines sections offset root.at (unwrap_or root.comp_dir [])) table → Says (KeepsLines spans asked) (root_lines sections root) table
-table_whole sections root offset spans asked table there some says =
-    table_kept sections root offset spans asked table table there says (sym (cond-true _ _ _ some))
 
 -- whether there is a function, entry by entry
 function_step : (dies : List DieFields) (i : ℕ) (d : DieFields) → Some d ≡ slice_get dies i → list_any is_function (drop i dies) ≡ (is_function d || list_any is_function (drop (suc i) dies))

@@ -1,9 +1,7 @@
--- For src/named_tables.rt and src/owed_tables.rt: a line table has the same faults whichever unit names it.
-use Rattle.std.proofs.Common.{◌≡◌, ◌<◌, ◌≤◌, ℕ, nat_lt, Bool, true, false, cond, List, [], ◌∷◌, ◌++◌, drop, length, reverse, get_or, Option, None, Some, Result, Ok, Err, refl, sym, ap, subst, ◌∙◌, append_assoc, append-nil, arith}
-use Rattle.std.specs.List.{All}
+-- For src/named_tables.rt and src/unit_tables.rt: a line table has the same faults whichever unit names it.
+use Rattle.std.proofs.Common.{◌≡◌, ◌≤◌, ℕ, nat_lt, Bool, true, false, cond, if◌then◌else◌, List, [], ◌∷◌, ◌++◌, drop, length, reverse, Option, Some, unwrap_or, Result, Ok, Err, refl, sym, ap, subst, ◌∙◌, append_assoc, append-nil, arith}
 use Rattle.std.proofs.lemmas.Bool.{cond-false, le-ltb}
 use Rattle.std.proofs.lemmas.List.{reverse-append, reverse-reverse}
-use Rattle.std.proofs.lemmas.List.Elements.{All-get_or}
 use Rattle.sym_edges.specs.Addresses.{Range}
 use Rattle.sym_edges.specs.Results.{◌>>=◌}
 use Rattle.sym_edges.specs.declared.located.Located.{Located}
@@ -23,21 +21,21 @@ use Rattle.line_program.specs.FileTables.{Tables, tables_at}
 use Rattle.line_program.specs.Headers.{table_at}
 use Rattle.line_program.specs.LineAt.{Lines}
 use Rattle.range_set.specs.Enclosing.{encloses}
-use Rattle.line_program.specs.LineMaps.{LineMap}
+use Rattle.line_program.specs.LineMaps.{LineMap, EncloseAlike, no_lines}
 use Rattle.line_program.specs.LineRows.{State, line_rows}
 use Rattle.line_program.specs.LineTables.{lines_of, lines_at, unit_lines, Says as SaysTable}
 use Rattle.die_names.specs.declared.unit_read.UnitRead.{UnitRead}
-use Rattle.debug_read.specs.declared.owed_tables.UnitFound.{UnitFound}
-use Rattle.debug_read.specs.declared.owed_tables.TableOutcome.{TableOutcome}
-use Rattle.debug_read.specs.declared.named_tables.TableRead.{TableRead}
-use Rattle.debug_read.specs.declared.named_tables.TableRead.TheVariants.{Whole}
+use Rattle.debug_read.specs.declared.unit_tables.UnitFound.{UnitFound}
 use Rattle.debug_read.specs.Each.{Match, Says}
 use Rattle.debug_read.specs.UnitSays.{lines_by, root_lines}
 use Rattle.debug_read.specs.UnitsRead.{KeepsLines}
-use Rattle.line_program.specs.LineMaps.{no_lines}
 use Rattle.debug_read.specs.internal.Jobs.{IsFound}
-use Rattle.debug_read.specs.internal.Owing.{IsOk, IsSound, OutcomeBy, IsOutcome, TableBy, table_named, TableIs, TableSays, LinesAre, IsOwing, Settles}
-use Rattle.debug_read.proofs.LineLemmas.{table_whole, table_refused}
+use Rattle.debug_read.specs.declared.named_tables.NamedTable.{NamedTable}
+use Rattle.debug_read.specs.declared.named_tables.TableName.{TableName}
+use Rattle.debug_read.specs.declared.named_tables.TableRead.{TableRead}
+use Rattle.debug_read.specs.declared.named_tables.TableRead.TheVariants.{Sound, Whole, Refused}
+use Rattle.debug_read.specs.internal.Owing.{IsOk, IsSound, IsRefused, WholeBy, TableBy, IsTable, IsFor, IsOwing, Settles}
+use Rattle.debug_read.proofs.LineLemmas.{table_kept, table_refused}
 
 abbrev LineFault : Type 0
 LineFault = Located DwarfKind
@@ -121,8 +119,8 @@ faults_by (Err other) comp_dir dir fault is = ap Err (ap (fault_or fault) is)
 inside_is : (sections : DebugSections) (offset at : ℕ) (comp_dir : List ℕ) → offset ≤ length sections.line → unit_lines sections offset at comp_dir ≡ (parts_at sections (ahead_at sections offset) >>= named comp_dir)
 inside_is sections offset at comp_dir inside = unit_are sections offset at comp_dir ∙ cond-false _ _ _ (le-ltb (length sections.line) offset inside)
 
-pub outcome_fault : (sections : DebugSections) (offset at : ℕ) (comp_dir : List ℕ) (fault : LineFault) → offset ≤ length sections.line → unit_lines sections offset at comp_dir ≡ Err fault → OutcomeBy sections offset (Some fault)
-outcome_fault sections offset at comp_dir fault inside is other dir =
+pub fault_refused : (sections : DebugSections) (offset at : ℕ) (comp_dir : List ℕ) (fault : LineFault) → offset ≤ length sections.line → unit_lines sections offset at comp_dir ≡ Err fault → IsRefused sections offset fault
+fault_refused sections offset at comp_dir fault inside is other dir =
     inside_is sections offset other dir inside
     ∙ faults_by (parts_at sections (ahead_at sections offset)) comp_dir dir fault (sym (inside_is sections offset at comp_dir inside) ∙ is)
 
@@ -134,62 +132,60 @@ says_ok : (code : ℕ → ℕ → Bool) (read : Result Lines LineFault) (table :
 says_ok code (Ok lines) table says = tt
 says_ok code (Err fault) table says = absurd says
 
-pub table_sound : (sections : DebugSections) (code : ℕ → ℕ → Bool) (offset at : ℕ) (comp_dir : List ℕ) (table : LineMap) → SaysTable code (unit_lines sections offset at comp_dir) table → IsSound sections offset
-table_sound sections code offset at comp_dir table says = sound_of sections offset at comp_dir (says_ok code (unit_lines sections offset at comp_dir) table says)
-
-pub table_ok : (sections : DebugSections) (code : ℕ → ℕ → Bool) (offset at : ℕ) (comp_dir : List ℕ) (table : LineMap) → SaysTable code (unit_lines sections offset at comp_dir) table → IsOk (unit_lines sections offset at comp_dir)
-table_ok sections code offset at comp_dir table says = says_ok code (unit_lines sections offset at comp_dir) table says
-
 -- a table inside the section is the same whichever unit with that compilation directory names it
-pub whole_by : (spans : List Range) (sections : DebugSections) (offset at other : ℕ) (comp_dir : List ℕ) (table kept : LineMap) → offset ≤ length sections.line → kept ≡ table → SaysTable (encloses spans) (unit_lines sections offset at comp_dir) table → SaysTable (encloses spans) (unit_lines sections offset other comp_dir) kept
-whole_by spans sections offset at other comp_dir table kept inside same says =
-    subst (λ (t : LineMap). SaysTable (encloses spans) (unit_lines sections offset other comp_dir) t) (sym same)
-    (subst (λ (r : Result Lines LineFault). SaysTable (encloses spans) r table) (inside_is sections offset at comp_dir inside ∙ sym (inside_is sections offset other comp_dir inside)) says)
+pub whole_by : (spans : List Range) (sections : DebugSections) (offset at other : ℕ) (comp_dir : List ℕ) (table : LineMap) → offset ≤ length sections.line → SaysTable (encloses spans) (unit_lines sections offset at comp_dir) table → SaysTable (encloses spans) (unit_lines sections offset other comp_dir) table
+whole_by spans sections offset at other comp_dir table inside says =
+    subst (λ (r : Result Lines LineFault). SaysTable (encloses spans) r table) (inside_is sections offset at comp_dir inside ∙ sym (inside_is sections offset other comp_dir inside)) says
 
--- of its table, a unit without a function keeps nothing
-unasked_by : (spans : List Range) (read : Result Lines LineFault) (lines : LineMap) → IsOk read → lines ≡ no_lines → Says (KeepsLines spans false) (read >>= λ ls. Ok (Some ls)) lines
-unasked_by spans (Ok ls) lines ok is = is
-unasked_by spans (Err fault) lines ok is = absurd ok
+pub whole_sound : (code : List Range) (sections : DebugSections) (offset : ℕ) (comp_dir : List ℕ) (table : LineMap) → WholeBy code sections offset comp_dir table → IsSound sections offset
+whole_sound code sections offset comp_dir table whole =
+    sound_of sections offset 0 comp_dir (says_ok (encloses code) (unit_lines sections offset 0 comp_dir) table (whole code 0 (λ start end. refl)))
 
-pub unasked_lines : (sections : DebugSections) (root : RootFields) (offset : ℕ) (found : Option LineFault) (spans : List Range) (asked : Bool) (lines : LineMap) → root.stmt_list ≡ Some offset → asked ≡ false → TableIs (table_named sections root offset) found → found ≡ None → lines ≡ no_lines → Says (KeepsLines spans asked) (root_lines sections root) lines
+-- of a table without a fault, a unit without a function keeps nothing
+unasked_by : (spans : List Range) (read : Result Lines LineFault) → IsOk read → Says (KeepsLines spans false) (read >>= λ ls. Ok (Some ls)) no_lines
+unasked_by spans (Ok ls) ok = refl
+unasked_by spans (Err fault) ok = absurd ok
+
+sound_by_root : (sections : DebugSections) (root : RootFields) (offset : ℕ) (spans : List Range) (kept : LineMap) → root.stmt_list ≡ Some offset → IsSound sections offset → kept ≡ no_lines → Says (KeepsLines spans false) (root_lines sections root) kept
 unfolding root_lines
-unasked_lines sections root offset found spans asked lines there none fits sound is =
-    subst (λ (a : Bool). Says (KeepsLines spans a) (lines_by sections root root.stmt_list) lines) (sym none)
-    (subst (λ (o : Option ℕ). Says (KeepsLines spans false) (lines_by sections root o) lines) (sym there)
-    (unasked_by spans (table_named sections root offset) lines (subst (λ (f : Option LineFault). TableIs (table_named sections root offset) f) sound fits) is))
+sound_by_root sections root offset spans kept there sound is =
+    subst (λ (o : Option ℕ). Says (KeepsLines spans false) (lines_by sections root o) kept) (sym there)
+    (subst (λ (table : LineMap). Says (KeepsLines spans false) (lines_by sections root (Some offset)) table) (sym is)
+    (unasked_by spans (unit_lines sections offset root.at (unwrap_or root.comp_dir [])) (sound root.at (unwrap_or root.comp_dir []))))
 
-pub unasked_fault : (sections : DebugSections) (root : RootFields) (offset : ℕ) (found : Option LineFault) (fault : LineFault) → root.stmt_list ≡ Some offset → TableIs (table_named sections root offset) found → found ≡ Some fault → root_lines sections root ≡ Err fault
-unasked_fault sections root offset found fault there fits is =
-    table_refused sections root offset fault there (subst (λ (f : Option LineFault). TableIs (table_named sections root offset) f) is fits)
+-- a table that was read for the name that a root gives
+pub record IsNamed (code : List Range) (sections : DebugSections) (root : RootFields) (asked : Bool) (one : NamedTable) : Type 0 where
+  pub table : IsTable code sections one
+  pub offset : root.stmt_list ≡ Some one.name.offset
+  pub comp_dir : asked ≡ true → one.name.comp_dir.now ≡ unwrap_or root.comp_dir []
 
-pub asked_lines : (sections : DebugSections) (root : RootFields) (offset : ℕ) (spans : List Range) (asked : Bool) (read : Result LineMap LineFault) → root.stmt_list ≡ Some offset → asked ≡ true → TableSays spans (table_named sections root offset) read → LinesAre spans sections root asked read
-asked_lines sections root offset spans asked (Ok table) there some says = table_whole sections root offset spans asked table there some says
-asked_lines sections root offset spans asked (Err fault) there some is = table_refused sections root offset fault there is
+pub named_by : (code : List Range) (sections : DebugSections) (root : RootFields) (offset : ℕ) (asked : Bool) (name : TableName) (one : NamedTable) → root.stmt_list ≡ Some offset → name.offset ≡ offset → name.kept ≡ asked → name.comp_dir.now ≡ unwrap_or root.comp_dir [] → IsTable code sections one → IsFor one.name name → IsNamed code sections root asked one
+named_by code sections root offset asked name one there same kept dir table for = record {
+  table = table;
+  offset = there ∙ ap Some (sym (for.0 ∙ same));
+  comp_dir = λ is. for.1 (kept ∙ is) ∙ dir;
+}
 
--- the outcome of a table that was read
-pub whole_outcome : (code : List Range) (sections : DebugSections) (offset : ℕ) (comp_dir : List ℕ) (read : TableRead) (table : LineMap) → read ≡ Whole table → TableBy code sections offset comp_dir read → IsSound sections offset
-whole_outcome code sections offset comp_dir read table whole is =
-    table_sound sections (encloses code) offset 0 comp_dir table
-    (subst (λ (r : TableRead). TableBy code sections offset comp_dir r) whole is code 0 (λ start end. refl))
+pub named_sound : (code : List Range) (sections : DebugSections) (root : RootFields) (spans : List Range) (asked : Bool) (one : NamedTable) (kept : LineMap) → IsNamed code sections root asked one → one.read ≡ Sound → asked ≡ false → kept ≡ no_lines → Says (KeepsLines spans asked) (root_lines sections root) kept
+named_sound code sections root spans asked one kept found is none same =
+    subst (λ (a : Bool). Says (KeepsLines spans a) (root_lines sections root) kept) (sym none)
+    (sound_by_root sections root one.name.offset spans kept found.offset (subst (λ (r : TableRead). TableBy code sections one.name.offset one.name.comp_dir.now r) is found.table) same)
 
-pub outcome_is : (sections : DebugSections) (offset at : ℕ) (comp_dir : List ℕ) (fault : Option LineFault) → OutcomeBy sections offset fault → TableIs (unit_lines sections offset at comp_dir) fault
-outcome_is sections offset at comp_dir None is = is at comp_dir
-outcome_is sections offset at comp_dir (Some fault) is = is at comp_dir
+whole_by_root : (code : List Range) (sections : DebugSections) (root : RootFields) (offset : ℕ) (comp_dir : List ℕ) (spans : List Range) (asked : Bool) (table kept : LineMap) → root.stmt_list ≡ Some offset → (asked ≡ true → comp_dir ≡ unwrap_or root.comp_dir []) → WholeBy code sections offset comp_dir table → EncloseAlike code spans → kept ≡ (if asked then table else no_lines) → Says (KeepsLines spans asked) (root_lines sections root) kept
+whole_by_root code sections root offset comp_dir spans true table kept there same whole alike is =
+    table_kept sections root offset spans true table kept there (subst (λ (dir : List ℕ). SaysTable (encloses spans) (unit_lines sections offset root.at dir) table) (same refl) (whole spans root.at alike)) is
+whole_by_root code sections root offset comp_dir spans false table kept there same whole alike is =
+    sound_by_root sections root offset spans kept there (whole_sound code sections offset comp_dir table whole) is
 
--- the outcomes so far
-pub outcome_at : (sections : DebugSections) (checked : List TableOutcome) (k offset : ℕ) (d : TableOutcome) → k < length checked → All (IsOutcome sections) checked → (get_or checked k d).offset ≡ offset → OutcomeBy sections offset (get_or checked k d).fault
-outcome_at sections checked k offset d inside all is =
-    subst (λ (o : ℕ). OutcomeBy sections o (get_or checked k d).fault) is (All-get_or (IsOutcome sections) checked k d inside all)
+pub named_whole : (code : List Range) (sections : DebugSections) (root : RootFields) (spans : List Range) (asked : Bool) (one : NamedTable) (table kept : LineMap) → IsNamed code sections root asked one → one.read ≡ Whole table → EncloseAlike code spans → kept ≡ (if asked then table else no_lines) → Says (KeepsLines spans asked) (root_lines sections root) kept
+named_whole code sections root spans asked one table kept found is alike same =
+    whole_by_root code sections root one.name.offset one.name.comp_dir.now spans asked table kept found.offset found.comp_dir
+    (subst (λ (r : TableRead). TableBy code sections one.name.offset one.name.comp_dir.now r) is found.table) alike same
 
--- settling
-pub unit_settles : (spans : List Range) (sections : DebugSections) (found : UnitFound) (lines : LineMap) → Says (KeepsLines spans found.function) (root_lines sections found.die.root) lines → Settles spans sections (Ok found) (Ok (record { die = found.die; spans = found.spans; lines = lines }))
-unit_settles spans sections found lines keeps unit holds = holds.kept lines keeps
-
-pub unit_refused : (spans : List Range) (sections : DebugSections) (found : UnitFound) (fault : LineFault) → root_lines sections found.die.root ≡ Err fault → Settles spans sections (Ok found) (Err fault)
-unit_refused spans sections found fault is unit holds = holds.fault fault is
-
-pub fault_settles : (spans : List Range) (sections : DebugSections) (fault : LineFault) → Settles spans sections (Err fault) (Err fault)
-fault_settles spans sections fault unit holds = holds
+pub named_refused : (code : List Range) (sections : DebugSections) (root : RootFields) (asked : Bool) (one : NamedTable) (fault : LineFault) → IsNamed code sections root asked one → one.read ≡ Refused fault → root_lines sections root ≡ Err fault
+named_refused code sections root asked one fault found is =
+    table_refused sections root one.name.offset fault found.offset
+    (subst (λ (r : TableRead). TableBy code sections one.name.offset one.name.comp_dir.now r) is found.table root.at (unwrap_or root.comp_dir []))
 
 -- all of them, from the end of the reversed list
 pub record Settling (spans : List Range) (sections : DebugSections) (found left : List (Result UnitFound LineFault)) (made : List (Result UnitRead LineFault)) : Type 0 where

@@ -24,7 +24,7 @@
 //! after one that is refused. Abbreviations that several units name are read before, once.
 //!
 //! To read: `specs/UnitSays.antt`, `UnitsRead.antt` and `DebugSays.antt`; then `units` with `shared_abbrevs` and `ranges`; `lines`,
-//! `named_tables` and `owed_tables`; and `debug`.
+//! `named_tables` and `unit_tables`; and `debug`.
 #![tactic(auto)]
 
 mod debug;
@@ -33,10 +33,10 @@ mod found;
 pub mod laws;
 mod lines;
 mod named_tables;
-mod owed_tables;
 mod ranges;
 mod sections;
 mod shared_abbrevs;
+mod unit_tables;
 mod units;
 
 pub use crate::debug::read_debug;

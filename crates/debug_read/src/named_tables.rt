@@ -1,16 +1,18 @@
-//! The line tables that units with a function name: each is read once, for all units that name it with one compilation
-//! directory.
-ghost use Rattle.std.specs.Prelude.{◌≡◌, ◌≤◌, true, List, IfOk, IfSome};
+//! The line tables that units name. A table whose lines are kept is read once for all units that name it with one compilation
+//! directory. Where no unit keeps the lines at an offset, the table there is read once, for its faults.
+ghost use Rattle.std.specs.Prelude.{◌≡◌, ◌≤◌, true, ℕ, List, [], unwrap_or, IfOk, IfSome};
 ghost use Rattle.std.specs.List.{All};
 ghost use Rattle.abbrev_units.specs.DebugSections.{DebugSections};
 ghost use Rattle.sym_edges.specs.Addresses.{Range};
-ghost use Rattle.debug_read.specs.internal.Owing.{IsTable, TableBy};
+ghost use Rattle.line_program.specs.LineMaps.{LineMap};
+ghost use Rattle.debug_read.specs.internal.Owing.{IsFor, IsTable, TableBy, WholeBy};
 
 use crate::lines::comp_dir_of;
-use crate::owed_tables::UnitFound;
+use crate::unit_tables::UnitFound;
 use abbrev_units::{DwarfFault, Sections};
 use die_names::SharedLines;
-use line_program::{LineScratch, read_lines};
+use die_walk::Root;
+use line_program::{LineScratch, LineTable, read_lines};
 use range_set::Enclosing;
 use std::alloc::Global;
 use std::cmp::Ordering;
@@ -19,17 +21,21 @@ use std::thread::Threads;
 use sym_edges::{OutOfMemory, Stop};
 use unit_workers::{NoGate, UnitJob, run_all};
 
-/// What tells a line table: its offset, and the directory of the compilation, which stands in its paths.
+/// What tells a line table: its offset; whether its lines are kept; and where they are, the directory of the compilation, which
+/// stands in its paths.
 #[derive(Clone, Copy)]
 pub struct TableName<'a> {
     pub offset: u64,
+    pub kept: bool,
     pub comp_dir: &'a [u8],
 }
 
-/// What stands at an offset: nothing, since it leaves the section, or a line table, or one with a fault.
+/// What stands at an offset: nothing, since it leaves the section, or a line table without a fault, whose lines are kept or not,
+/// or one with a fault.
 #[derive(Drop)]
 pub enum TableRead {
     Outside,
+    Sound,
     Whole(SharedLines),
     Refused(DwarfFault),
 }
@@ -39,6 +45,17 @@ pub enum TableRead {
 pub struct NamedTable<'a> {
     pub name: TableName<'a>,
     pub read: TableRead,
+}
+
+/// What is kept of a line table without a fault.
+fn keep_table(alloc: Global, table: LineTable, kept: bool) -> Result<TableRead, OutOfMemory>
+    ensures { IfOk result (λ read. (code : List Range) (sections : DebugSections) (offset : ℕ) (comp_dir : List ℕ) → WholeBy code sections offset comp_dir table → TableBy code sections offset comp_dir read) }
+{
+    if !kept {
+        return Ok(TableRead::Sound);
+    }
+    let lines = SharedLines::of(alloc, table)?;
+    Ok(TableRead::Whole(lines))
 }
 
 /// Reads the line table of a name.
@@ -51,7 +68,11 @@ fn read_named<'a>(
 ) -> Result<NamedTable<'a>, OutOfMemory>
     ensures { IfOk result (IsTable code.now sections.now) }
 {
-    let TableName { offset, comp_dir } = name;
+    let TableName {
+        offset,
+        kept,
+        comp_dir,
+    } = name;
     if offset > sections.line.len() as u64 {
         return Ok(NamedTable {
             name,
@@ -60,11 +81,8 @@ fn read_named<'a>(
     }
     match read_lines(alloc, scratch, sections, offset, 0, comp_dir, code) {
         Ok(table) => {
-            let lines = SharedLines::of(alloc, table)?;
-            Ok(NamedTable {
-                name,
-                read: TableRead::Whole(lines),
-            })
+            let read = keep_table(alloc, table, kept)?;
+            Ok(NamedTable { name, read })
         }
         Err(Stop::Fault(fault)) => Ok(NamedTable {
             name,
@@ -131,22 +149,46 @@ impl<'s, 'a> UnitJob for NameReader<'s, 'a> {
     }
 }
 
-/// Names by their offsets, then by their directories.
-fn compare_names(name: &TableName<'_>, offset: u64, comp_dir: &[u8]) -> Ordering {
-    match name.offset.cmp(&offset) {
-        Ordering::Equal => name.comp_dir.cmp(comp_dir),
+/// Names by their offsets, those whose lines are kept before others, then by their directories.
+fn compare_names(name: &TableName<'_>, other: &TableName<'_>) -> Ordering {
+    match name.offset.cmp(&other.offset) {
+        Ordering::Equal => match other.kept.cmp(&name.kept) {
+            Ordering::Equal => name.comp_dir.cmp(other.comp_dir),
+            order => order,
+        },
         order => order,
     }
 }
 
-/// Whether a table has that name.
-fn is_named(name: &TableName<'_>, offset: u64, comp_dir: &[u8]) -> bool
-    ensures { result ≡ true → (name.now.offset ≡ offset) × (name.now.comp_dir.now ≡ comp_dir.now) }
-{
-    name.offset == offset && name.comp_dir == comp_dir
+/// Where a name stands from one that is sought: where no lines are kept, each at the offset will do.
+fn seek_name(name: &TableName<'_>, sought: &TableName<'_>) -> Ordering {
+    if sought.kept {
+        return compare_names(name, sought);
+    }
+    name.offset.cmp(&sought.offset)
 }
 
-/// The names of the tables of units with a function, each once, in their order.
+/// Whether what is read for a name tells what is asked for another.
+fn is_for(name: &TableName<'_>, sought: &TableName<'_>) -> bool
+    ensures { result ≡ true → IsFor name.now sought.now }
+{
+    name.offset == sought.offset && (!sought.kept || name.comp_dir == sought.comp_dir)
+}
+
+/// The name of the line table at the offset that a root has, in a unit with a function, or without.
+pub fn name_of<'a>(root: &Root<'a>, offset: u64, function: bool) -> TableName<'a>
+    ensures offset { result.offset ≡ offset }
+    ensures kept { result.kept ≡ function }
+    ensures comp_dir { result.comp_dir.now ≡ unwrap_or root.now.comp_dir [] }
+{
+    TableName {
+        offset,
+        kept: function,
+        comp_dir: comp_dir_of(root),
+    }
+}
+
+/// The names of the tables of all units, in their order: none for which another is read.
 fn names_of<'a>(
     alloc: Global,
     found: &[Result<UnitFound<'a>, DwarfFault>],
@@ -154,21 +196,17 @@ fn names_of<'a>(
     let mut names = Vec::new(alloc);
     'units: for one in found {
         if let Ok(found) = one
-            && found.function
             && let Some(offset) = found.die.root().stmt_list
         {
-            names.push(TableName {
-                offset,
-                comp_dir: comp_dir_of(found.die.root()),
-            })?;
+            names.push(name_of(found.die.root(), offset, found.function))?;
         }
     }
-    names.sort_unstable_by(|a, b| compare_names(a, b.offset, b.comp_dir));
-    names.dedup_by(|a, b| is_named(a, b.offset, b.comp_dir));
+    names.sort_unstable_by(|a, b| compare_names(a, b));
+    names.dedup_by(|a, b| is_for(b, a));
     Ok(names)
 }
 
-/// The tables of units with a function, in the order of their names. Each is read once, by the workers.
+/// The tables of all units, in the order of their names. Each is read once, by the workers.
 pub fn read_tables<'a, R: Threads + Sync>(
     rt: &R,
     alloc: Global,
@@ -189,19 +227,19 @@ pub fn read_tables<'a, R: Threads + Sync>(
     Ok(tables)
 }
 
-/// The table of a name, where it is among these.
+/// The table that was read for a name, where it is among these.
 pub fn find_table<'t, 'a>(
     tables: &'t [NamedTable<'a>],
-    offset: u64,
-    comp_dir: &[u8],
+    name: &TableName<'_>,
 ) -> Option<&'t NamedTable<'a>>
-    ensures { (code : List Range) (sections : DebugSections) → All (IsTable code sections) tables.now → IfSome result (λ one. TableBy code sections offset comp_dir.now one.now.read) }
+    ensures table { (code : List Range) (sections : DebugSections) → All (IsTable code sections) tables.now → IfSome result (λ one. IsTable code sections one.now) }
+    ensures name { IfSome result (λ one. IsFor one.now.name name.now) }
 {
-    let Ok(place) = tables.binary_search_by(|one| compare_names(&one.name, offset, comp_dir)) else {
+    let Ok(place) = tables.binary_search_by(|one| seek_name(&one.name, name)) else {
         return None;
     };
     let one = &tables[place];
-    if is_named(&one.name, offset, comp_dir) {
+    if is_for(&one.name, name) {
         return Some(one);
     }
     None

@@ -14,9 +14,9 @@ ghost use Rattle.debug_read.specs.internal.Owing.{HoldsUnit, IsOwing, ReaderGive
 ghost use Rattle.abbrev_units.specs.Units.{units_in};
 
 use crate::lines::has_function;
-use crate::owed_tables::{UnitFound, settle_units};
 use crate::ranges::read_sets;
 use crate::shared_abbrevs::{SharedAbbrevs, read_shared, unit_at};
+use crate::unit_tables::{UnitFound, settle_units};
 use abbrev_units::{AbbrevScratch, Abbrevs, DwarfFault, Sections, Unit, UnitPart};
 use die_names::{UnitRead, Units};
 use die_walk::walk;

@@ -1,5 +1,5 @@
 -- The line tables of all units, once their entries were read: each is read once, and its faults are the same whichever unit names it.
-use Rattle.std.specs.Prelude.{◌≡◌, ℕ, Bool, List, [], Option, None, Some, unwrap_or, Result, Ok, Err}
+use Rattle.std.specs.Prelude.{◌≡◌, ℕ, Bool, true, List, Option, None, Some, Result, Ok, Err}
 use Rattle.std.specs.List.{All}
 use Rattle.sym_edges.specs.Addresses.{Range}
 use Rattle.sym_edges.specs.declared.located.Located.{Located}
@@ -13,11 +13,11 @@ use Rattle.line_program.specs.LineMaps.{LineMap, EncloseAlike}
 use Rattle.line_program.specs.LineTables.{unit_lines, Says as SaysTable}
 use Rattle.die_names.specs.declared.unit_read.UnitRead.{UnitRead}
 use Rattle.debug_read.specs.declared.named_tables.NamedTable.{NamedTable}
+use Rattle.debug_read.specs.declared.named_tables.TableName.{TableName}
 use Rattle.debug_read.specs.declared.named_tables.TableRead.{TableRead}
-use Rattle.debug_read.specs.declared.named_tables.TableRead.TheVariants.{Outside, Whole, Refused}
-use Rattle.debug_read.specs.declared.owed_tables.UnitFound.{UnitFound}
-use Rattle.debug_read.specs.declared.owed_tables.TableOutcome.{TableOutcome}
-use Rattle.debug_read.specs.declared.owed_tables.TablesKnown.{TablesKnown}
+use Rattle.debug_read.specs.declared.named_tables.TableRead.TheVariants.{Outside, Sound, Whole, Refused}
+use Rattle.debug_read.specs.declared.unit_tables.UnitFound.{UnitFound}
+use Rattle.debug_read.specs.declared.unit_tables.KnownTables.{KnownTables}
 use Rattle.debug_read.specs.Each.{Says}
 use Rattle.debug_read.specs.UnitSays.{root_lines, unit_says}
 use Rattle.debug_read.specs.UnitsRead.{KeepsLines, IsUnitRead}
@@ -33,13 +33,9 @@ IsOk (Err fault) = ⊥
 abbrev pub IsSound : DebugSections → ℕ → Type 0
 IsSound sections offset = (at : ℕ) (comp_dir : List ℕ) → IsOk (unit_lines sections offset at comp_dir)
 
--- it has this fault, or none, whichever unit names it
-abbrev pub OutcomeBy : DebugSections → ℕ → Option (Located DwarfKind) → Type 0
-OutcomeBy sections offset None = IsSound sections offset
-OutcomeBy sections offset (Some fault) = (at : ℕ) (comp_dir : List ℕ) → unit_lines sections offset at comp_dir ≡ Err fault
-
-abbrev pub IsOutcome : DebugSections → TableOutcome → Type 0
-IsOutcome sections one = OutcomeBy sections one.offset one.fault
+-- it has this fault, whichever unit names it
+abbrev pub IsRefused : DebugSections → ℕ → Located DwarfKind → Type 0
+IsRefused sections offset fault = (at : ℕ) (comp_dir : List ℕ) → unit_lines sections offset at comp_dir ≡ Err fault
 
 -- the table says what is read at an offset, whichever unit with that compilation directory names it, where the same ranges are code
 abbrev pub WholeBy : List Range → DebugSections → ℕ → List ℕ → LineMap → Type 0
@@ -48,31 +44,21 @@ WholeBy code sections offset comp_dir table = (spans : List Range) (at : ℕ) �
 -- what was read at an offset for units with that compilation directory
 abbrev pub TableBy : List Range → DebugSections → ℕ → List ℕ → TableRead → Type 0
 TableBy code sections offset comp_dir Outside = Prim.Unit {0}
+TableBy code sections offset comp_dir Sound = IsSound sections offset
 TableBy code sections offset comp_dir (Whole table) = WholeBy code sections offset comp_dir table
-TableBy code sections offset comp_dir (Refused fault) = OutcomeBy sections offset (Some fault)
+TableBy code sections offset comp_dir (Refused fault) = IsRefused sections offset fault
 
 abbrev pub IsTable : List Range → DebugSections → NamedTable → Type 0
 IsTable code sections one = TableBy code sections one.name.offset one.name.comp_dir.now one.read
 
+-- what is read for a name tells what is asked for another
+abbrev pub IsFor : TableName → TableName → Type 0
+IsFor name sought = (name.offset ≡ sought.offset) × (sought.kept ≡ true → name.comp_dir.now ≡ sought.comp_dir.now)
+
 -- what is known of the line tables of all units
-pub record AreKnown (code : List Range) (sections : DebugSections) (known : TablesKnown) : Type 0 where
-  pub tables : All (IsTable code sections) known.tables.items
-  pub checked : All (IsOutcome sections) known.checked.items
+pub record AreKnown (known : KnownTables) : Type 0 where
+  pub tables : All (IsTable known.code.now known.sections.now) known.tables.items
   pub empty : known.empty ≡ no_lines
-
--- the line table at an offset, as a root names it
-abbrev pub table_named : DebugSections → RootFields → ℕ → Result Lines (Located DwarfKind)
-table_named sections root offset = unit_lines sections offset root.at (unwrap_or root.comp_dir [])
-
--- a reading has this fault, or none
-abbrev pub TableIs : {A F : Type 0} → Result A F → Option F → Type 0
-TableIs read None = IsOk read
-TableIs read (Some fault) = read ≡ Err fault
-
--- a table says what was read, or there is this fault
-abbrev pub TableSays : List Range → Result Lines (Located DwarfKind) → Result LineMap (Located DwarfKind) → Type 0
-TableSays spans read (Ok table) = SaysTable (encloses spans) read table
-TableSays spans read (Err fault) = read ≡ Err fault
 
 -- the lines that are kept of a unit, or the fault of its table
 abbrev pub LinesAre : List Range → DebugSections → RootFields → Bool → Result LineMap (Located DwarfKind) → Type 0

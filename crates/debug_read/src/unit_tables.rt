@@ -1,0 +1,171 @@
+//! The line table of each unit, once the entries of all were read: a handle of the table that it names, or its fault. Of a unit
+//! without a function no lines are kept.
+ghost use Rattle.std.specs.Prelude.{◌≡◌, ◌≤◌, if◌then◌else◌, Some, List, IfOk};
+ghost use Rattle.sym_edges.specs.Addresses.{Range};
+ghost use Rattle.line_program.specs.LineMaps.{EncloseAlike, no_lines};
+ghost use Rattle.debug_read.specs.Each.{Match};
+ghost use Rattle.debug_read.specs.internal.Owing.{AreKnown, LinesAre, Settles};
+
+use crate::lines::read_table;
+use crate::named_tables::{NamedTable, TableRead, find_table, name_of, read_tables};
+use abbrev_units::{DwarfFault, Sections};
+use die_names::{SharedLines, SpanSets, UnitRead};
+use die_walk::{DieTable, Root};
+use line_program::LineTable;
+use range_set::Enclosing;
+use std::alloc::Global;
+use std::thread::Threads;
+use sym_edges::{OutOfMemory, Span, Stop};
+
+/// What a worker found of a unit: all but its line table, and whether one of its entries is a function.
+#[derive(Drop)]
+pub struct UnitFound<'a> {
+    pub die: DieTable<'a>,
+    pub spans: SpanSets,
+    pub function: bool,
+}
+
+/// The line tables that were read, and the empty one; of these sections, where ranges that `code` encloses are code.
+#[derive(Drop)]
+struct KnownTables<'s, 'a> {
+    sections: &'s Sections<'a>,
+    code: &'s Enclosing,
+    tables: Vec<NamedTable<'a>>,
+    empty: SharedLines,
+}
+
+/// What is kept of a line table in a unit with a function, or without.
+fn keep_lines(
+    known: &KnownTables<'_, '_>,
+    lines: &SharedLines,
+    function: bool,
+) -> Result<SharedLines, OutOfMemory>
+    requires { AreKnown known.now }
+    ensures { IfOk result (λ kept. kept ≡ (if function then lines.now else no_lines)) }
+{
+    if function {
+        return lines.again();
+    }
+    known.empty.again()
+}
+
+/// Reads the line table at the offset that a root has, for that unit alone.
+fn own_lines(
+    alloc: Global,
+    known: &KnownTables<'_, '_>,
+    root: &Root<'_>,
+    offset: u64,
+    function: bool,
+) -> Result<Result<SharedLines, DwarfFault>, OutOfMemory>
+    requires known { AreKnown known.now }
+    requires offset { root.now.stmt_list ≡ Some offset }
+    ensures { IfOk result (λ read. (spans : List Range) → EncloseAlike known.now.code.now spans → LinesAre spans known.now.sections.now root.now function read) }
+{
+    match read_table(alloc, known.sections, root, offset, known.code) {
+        Ok(table) => {
+            let lines = SharedLines::of(alloc, table)?;
+            let kept = keep_lines(known, &lines, function)?;
+            Ok(Ok(kept))
+        }
+        Err(Stop::Fault(fault)) => Ok(Err(fault)),
+        Err(Stop::NoMemory) => Err(OutOfMemory),
+    }
+}
+
+/// The lines that are kept of a unit with a function, or without, or the fault of its table.
+fn lines_of(
+    alloc: Global,
+    known: &KnownTables<'_, '_>,
+    root: &Root<'_>,
+    function: bool,
+) -> Result<Result<SharedLines, DwarfFault>, OutOfMemory>
+    requires { AreKnown known.now }
+    ensures { IfOk result (λ read. (spans : List Range) → EncloseAlike known.now.code.now spans → LinesAre spans known.now.sections.now root.now function read) }
+{
+    let Some(offset) = root.stmt_list else {
+        let lines = known.empty.again()?;
+        return Ok(Ok(lines));
+    };
+    let name = name_of(root, offset, function);
+    let Some(one) = find_table(known.tables.as_slice(), &name) else {
+        return own_lines(alloc, known, root, offset, function);
+    };
+    match &one.read {
+        TableRead::Whole(lines) => {
+            let kept = keep_lines(known, lines, function)?;
+            Ok(Ok(kept))
+        }
+        TableRead::Refused(fault) => Ok(Err(*fault)),
+        TableRead::Sound if !function => {
+            let lines = known.empty.again()?;
+            Ok(Ok(lines))
+        }
+        TableRead::Sound | TableRead::Outside => own_lines(alloc, known, root, offset, function),
+    }
+}
+
+/// A unit, or its fault, once its line table is known.
+fn settle<'a>(
+    alloc: Global,
+    known: &KnownTables<'_, 'a>,
+    one: Result<UnitFound<'a>, DwarfFault>,
+) -> Result<Result<UnitRead<'a>, DwarfFault>, OutOfMemory>
+    requires { AreKnown known.now }
+    ensures { IfOk result (λ out. (spans : List Range) → EncloseAlike known.now.code.now spans → Settles spans known.now.sections.now one.entry out) }
+{
+    let found = match one {
+        Ok(found) => found,
+        Err(fault) => return Ok(Err(fault)),
+    };
+    let UnitFound {
+        die,
+        spans,
+        function,
+    } = found;
+    match lines_of(alloc, known, die.root(), function)? {
+        Ok(lines) => Ok(Ok(UnitRead { die, spans, lines })),
+        Err(fault) => Ok(Err(fault)),
+    }
+}
+
+/// All units, or their faults, once their line tables are known.
+fn settle_all<'a>(
+    alloc: Global,
+    known: &KnownTables<'_, 'a>,
+    found: Vec<Result<UnitFound<'a>, DwarfFault>>,
+) -> Result<Vec<Result<UnitRead<'a>, DwarfFault>>, OutOfMemory>
+    requires { AreKnown known.now }
+    ensures { IfOk result (λ settled. (spans : List Range) → EncloseAlike known.now.code.now spans → Match (Settles spans known.now.sections.now) found.entry.items settled.items) }
+{
+    let mut left = found;
+    left.reverse();
+    let mut settled = Vec::with_capacity(alloc, left.len())?;
+    'units: while let Some(one) = left.pop() {
+        let one = settle(alloc, known, one)?;
+        settled.push(one)?;
+    }
+    Ok(settled)
+}
+
+/// All units, or their faults, with the line tables that they name. Ranges that one of the spans encloses are code.
+pub fn settle_units<'a, R: Threads + Sync>(
+    rt: &R,
+    alloc: Global,
+    sections: &Sections<'a>,
+    code: &[Span],
+    found: Vec<Result<UnitFound<'a>, DwarfFault>>,
+    workers: usize,
+) -> Result<Vec<Result<UnitRead<'a>, DwarfFault>>, OutOfMemory>
+    requires workers { (1 ≤ workers) × (workers ≤ 64) }
+    ensures { IfOk result (λ settled. Match (Settles code.now sections.now) found.entry.items settled.items) }
+{
+    let code = Enclosing::of_spans(alloc, code)?;
+    let tables = read_tables(rt, alloc, sections, &code, found.as_slice(), workers)?;
+    let known = KnownTables {
+        sections,
+        code: &code,
+        tables,
+        empty: SharedLines::of(alloc, LineTable::empty(alloc))?,
+    };
+    settle_all(alloc, &known, found)
+}
