@@ -131,6 +131,11 @@ def legacy(length):
     return b"PUBLIC 0 0 _ZN%d%s17h0123456789abcdefE\n" % (len(part), part)
 
 
+def hidden_path(size):
+    """A name of the current mangling: half of its bytes are a path that is not shown, and the others lead back to the type that has it."""
+    return b"PUBLIC 0 0 _RINvC1a1fMIC1b" + b"u" * (size // 2) + b"Eu" + b"B7_" * (size // 6) + b"E\n"
+
+
 LOOKUP, WALK, FRAME, JUDGE = ("lookup", "SYM", "1"), ("walk", "SYM", "STATE"), ("frame", "SYM", "1", "STATE"), ("judge", "ELF", "SYM")
 CHECK, NAMES = ("check", "SYM"), ("names", "SYM")
 M = 500_000
@@ -165,6 +170,7 @@ CASES = (
     ("PUBLIC records of 2^20 bytes", CHECK, lambda n: many(whole(b"PUBLIC 0 0 a", b"a"), 40 * n)),
     ("a million legacy names", NAMES, lambda n: many(legacy(3), n * M)),
     ("2,000 legacy names of 49,152 bytes", NAMES, lambda n: many(legacy(49_152), n * 1000)),
+    ("200 names of 60,000 bytes whose path that is not shown is met 10,000 times", NAMES, lambda n: many(hidden_path(n * 30_000), 200)),
     ("a million INIT records in no order", CHECK, lambda n: scattered(b"STACK CFI INIT %x 1 a: 1\n", n * M)),
     ("a million INIT records that overlap, falling", WALK, lambda n: with_reach(b"STACK CFI INIT %x %x a: 1\n", n * M)),
     ("a million changes of one INIT, falling", CHECK, lambda n: under(INIT, falling(b"STACK CFI %x a: 1\n", n * M))),

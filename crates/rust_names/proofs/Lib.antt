@@ -10,6 +10,8 @@ mod LeafLemmas
 mod FrameLemmas
 mod RunLemmas
 mod PathLemmas
+mod EndLemmas
+mod PassingLemmas
 mod ShownLemmas
 mod WholeLemmas
 mod VisibleLemmas

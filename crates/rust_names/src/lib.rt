@@ -21,6 +21,7 @@ mod piece;
 // In the v0 mangling.
 mod frames;
 mod grammar;
+mod hidden;
 mod identifiers;
 mod leaves;
 mod numbers;
@@ -29,6 +30,7 @@ mod phrases;
 mod productions;
 mod symbol;
 mod texts;
+mod turns;
 mod words;
 
 // All names of a file.

@@ -6,7 +6,7 @@ ghost use Rattle.rust_names.specs.internal.Finding.{shown_of};
 ghost use Rattle.rust_names.specs.Named.{named};
 
 use crate::legacy::legacy_text;
-use crate::symbol::{Room, v0_text};
+use crate::symbol::{Rooms, v0_text};
 use std::alloc::Global;
 use sym_edges::OutOfMemory;
 use sym_records::ByteText;
@@ -22,16 +22,16 @@ fn name_of(alloc: Global, bytes: &[u8]) -> Result<ByteText, OutOfMemory>
 
 /// What a name shows.
 #[tactic(auto, unfolding(crate::specs::internal::Finding::shown_of))]
-fn text_of(alloc: Global, room: &mut Room, name: &[u8]) -> Result<Option<ByteText>, OutOfMemory>
+fn text_of(alloc: Global, rooms: &mut Rooms, name: &[u8]) -> Result<Option<ByteText>, OutOfMemory>
     ensures { IfOk result (λ text. text ≡ shown_of name.now) }
 {
     if !name.starts_with(b"_R") {
         return legacy_text(alloc, name);
     }
-    if !v0_text(alloc, room, name)? {
+    if !v0_text(alloc, rooms, name)? {
         return Ok(None);
     }
-    let text = name_of(alloc, room.text.as_slice())?;
+    let text = name_of(alloc, rooms.shown.text.as_slice())?;
     Ok(Some(text))
 }
 
@@ -43,8 +43,8 @@ pub fn shown(alloc: Global, name: &[u8]) -> Result<Option<ByteText>, OutOfMemory
     ensures named { IfOk result (λ text. IfSome text (λ t. is_name t ≡ true)) }
     ensures short { IfOk result (λ text. IfSome text (λ t. length t ≤ 65536)) }
 {
-    let mut room = Room::new(alloc);
-    let text = text_of(alloc, &mut room, name)?;
+    let mut rooms = Rooms::new(alloc);
+    let text = text_of(alloc, &mut rooms, name)?;
     Ok(text)
 }
 
@@ -52,12 +52,12 @@ pub fn shown(alloc: Global, name: &[u8]) -> Result<Option<ByteText>, OutOfMemory
 #[tactic(auto, unfolding(crate::specs::Named::named))]
 pub(crate) fn show_name(
     alloc: Global,
-    room: &mut Room,
+    rooms: &mut Rooms,
     name: &mut ByteText,
 ) -> Result<(), OutOfMemory>
     ensures { OnOk result (name.new ≡ named name.old) }
 {
-    match text_of(alloc, room, name.as_slice())? {
+    match text_of(alloc, rooms, name.as_slice())? {
         Some(text) => {
             *name = text;
             Ok(())

@@ -5,6 +5,7 @@ ghost use Rattle.rust_names.specs.declared.grammar.Kind.TheVariants as kind;
 ghost use Rattle.rust_names.specs.declared.grammar.Part.TheVariants.{Deep};
 ghost use Rattle.rust_names.specs.V0Grammar as v0;
 ghost use Rattle.rust_names.specs.V0Numbers.{eat};
+ghost use Rattle.rust_names.specs.internal.Passing.{IsEnd};
 ghost use Rattle.rust_names.specs.internal.Running.{IsTypePath, SameRun, crate_read, is_path, name_read, named_read, weight};
 
 use crate::grammar::{Frame, Kind, Part, Phrase, Scope};
@@ -123,6 +124,7 @@ pub(crate) fn enter<'a>(
     bytes: &'a [u8],
 ) -> Result<(Frame, &'a [u8]), OutOfMemory>
     ensures same { IfOk result (λ x. SameRun name.now (stack.old.items ++ top ∷ []) bytes.now (stack.new.items ++ x.0 ∷ []) x.1.now) }
+    ensures ends { IfOk result (λ x. IsEnd bytes.now x.1.now) }
     ensures part { IfOk result (λ x. x.0.part ≡ top.part) }
     ensures lighter { IfOk result (λ x. weight (length name.now) (stack.new.items ++ x.0 ∷ []) ≤ weight (length name.now) (stack.old.items ++ top ∷ [])) }
 {

@@ -4,19 +4,19 @@ ghost use Rattle.rust_names.specs.ShownRecords.{renamed, HaveShownNames};
 ghost use Rattle.rust_names.specs.Named.{named};
 
 use crate::name::show_name;
-use crate::symbol::Room;
+use crate::symbol::Rooms;
 use std::alloc::Global;
 use sym_edges::OutOfMemory;
 use sym_records::{SymFile, SymLine, file_of_valid};
 
 /// Gives a record the name that its name shows.
-fn show_record(alloc: Global, room: &mut Room, line: &mut SymLine) -> Result<(), OutOfMemory>
+fn show_record(alloc: Global, rooms: &mut Rooms, line: &mut SymLine) -> Result<(), OutOfMemory>
     ensures { OnOk result (line.new ≡ renamed named line.old) }
 {
     match line {
-        SymLine::Func { name, .. } => show_name(alloc, room, name),
-        SymLine::Origin { name, .. } => show_name(alloc, room, name),
-        SymLine::Public { name, .. } => show_name(alloc, room, name),
+        SymLine::Func { name, .. } => show_name(alloc, rooms, name),
+        SymLine::Origin { name, .. } => show_name(alloc, rooms, name),
+        SymLine::Public { name, .. } => show_name(alloc, rooms, name),
         _ => Ok(()),
     }
 }
@@ -30,9 +30,9 @@ pub fn show_all(alloc: Global, file: SymFile) -> Result<SymFile, OutOfMemory>
     // `as_slice` says that the records are valid.
     let count = file.as_slice().len();
     let mut lines = file.into_vec();
-    let mut room = Room::new(alloc);
+    let mut rooms = Rooms::new(alloc);
     for at in 0..count {
-        show_record(alloc, &mut room, &mut lines[at])?;
+        show_record(alloc, &mut rooms, &mut lines[at])?;
     }
     Ok(file_of_valid(lines))
 }

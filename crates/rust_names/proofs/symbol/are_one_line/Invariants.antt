@@ -1,7 +1,0 @@
-use Rattle.std.proofs.Common.{◌≡◌, take}
-use Rattle.std.specs.List.{list_all}
-use Rattle.clean_names.specs.Names.{is_within_line}
-use Rattle.rust_names.proofs.symbol.are_one_line.Given as goal
-
-abbrev pub invariant-bytes : goal.invariant-bytes
-invariant-bytes l = l.are ≡ list_all is_within_line (take l.b-index l.bytes)

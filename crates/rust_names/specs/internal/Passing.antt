@@ -1,0 +1,41 @@
+-- Paths of v0 names that are not shown: where they lie, and what is known of those that were read.
+use Rattle.std.specs.Prelude.{◌≡◌, ℕ, ◌+◌, ◌*◌, ◌≤◌, Bool, true, false, if◌then◌else◌, List, drop, Some, IfSome}
+use Rattle.std.specs.Ordering.{nat_cmp}
+use Rattle.std.specs.BTreeMap.{BTreeMap, get}
+use Rattle.rust_names.specs.declared.grammar.Kind.TheVariants as kind
+use Rattle.rust_names.specs.declared.grammar.Inner.TheVariants as inner
+use Rattle.rust_names.specs.declared.grammar.Part.{Part}
+use Rattle.rust_names.specs.declared.grammar.Part.TheVariants.{Deep, Inner as Within}
+use Rattle.rust_names.specs.declared.grammar.Scope.{Scope}
+use Rattle.rust_names.specs.declared.hidden.HiddenPath.{HiddenPath}
+use Rattle.rust_names.specs.V0Names.{read_level}
+use Rattle.rust_names.specs.internal.Running.{at}
+
+-- bytes that others end with
+pub record IsEnd (bytes rest : List ℕ) : Type 0 where
+  pub place : ℕ
+  pub is : rest ≡ drop place bytes
+
+-- where nothing is shown
+abbrev pub dark : ℕ → Scope
+dark bound = record { bound = bound; visible = false }
+
+-- the path of an impl
+abbrev pub is_hidden : Part → Bool
+is_hidden (Within inner.ImplPath) = true
+is_hidden p = false
+
+-- a path that is not shown ends so, whatever is bound and was shown before
+abbrev pub Reads : List ℕ → ℕ → List ℕ → Bool → List ℕ → Bool → Type 0
+Reads name levels rest opened after leaves = (bound : ℕ) (text : List ℕ) → read_level name levels (Deep kind.Path) (dark bound) (at rest text opened) ≡ Some (at after text leaves)
+
+-- what is known of the path at a place holds wherever at least so many levels may nest
+abbrev pub IsHidden : List ℕ → ℕ → Bool → HiddenPath → Type 0
+IsHidden name place opened p = (levels : ℕ) → p.levels ≤ levels → Reads name levels (drop place name) opened (drop p.end name) p.opened
+
+-- a place, and whether the last trait's arguments are left open there, as one number
+abbrev pub key : ℕ → Bool → ℕ
+key place opened = 2 * place + (if opened then 1 else 0)
+
+abbrev pub AreHidden : List ℕ → BTreeMap ℕ HiddenPath → Type 0
+AreHidden name known = (place : ℕ) (opened : Bool) → IfSome (get nat_cmp known (key place opened)) (IsHidden name place opened)
