@@ -1,7 +1,5 @@
 //! The symbol file of an image: its records, spelled, and what is said of those that are left out.
-ghost use Rattle.std.specs.Prelude.{◌≡◌, ◌*◌, ◌≤◌, ◌++◌, ◌∷◌, true, None, Ok, length, map, IfOk, OnOk};
-ghost use Rattle.std.specs.Str.Parse.{AllDigits};
-ghost use Rattle.hex.specs.Hex.{encode_upper};
+ghost use Rattle.std.specs.Prelude.{◌≡◌, ◌≤◌, ◌++◌, ◌∷◌, true, None, Ok, length, map, IfOk, OnOk};
 ghost use Rattle.clean_names.specs.Cleaning.{cleaned};
 ghost use Rattle.sym_records.specs.Canon.{canon, canon_text};
 ghost use Rattle.sym_records.specs.Spelled.{text_bytes};
@@ -11,11 +9,12 @@ ghost use Rattle.sym_records.specs.declared.place.Place.TheVariants.{Start, Insi
 ghost use Rattle.func_flatten.specs.Publics.{public_view};
 ghost use Rattle.die_names.specs.CleanPaths.{HaveCleanPaths};
 ghost use Rattle.debug_read.specs.DebugSays.{IsDebugRead};
-ghost use Rattle.dumpsyms_cmd.specs.commands.Dump.{turned, module_id, module_line, info_line, info_lines, public_line};
+ghost use Rattle.dumpsyms_cmd.specs.commands.Dump.{module_line, info_line, info_lines, public_line};
 ghost use Rattle.dumpsyms_cmd.specs.internal.Spelled.{FitsInside, HasHead, DumpsRead};
 ghost use Rattle.dumpsyms_cmd.specs.commands.Dump.{Assembles};
 
 use crate::omissions::list_left_out;
+use debug_pair::{hex_text, make_id};
 use debug_read::DebugRead;
 use die_names::Units;
 use elf_sections::Image;
@@ -27,40 +26,6 @@ use std::thread::Threads;
 use sym_edges::OutOfMemory;
 use sym_records::laws::cleaned_bytes_are_names;
 use sym_records::{ByteText, SymText, TextPieces, add_info, add_module, add_public};
-
-/// Bytes in upper-case hexadecimal.
-#[tactic(auto, using(crate::proofs::RecordLemmas::text_length))]
-fn hex_text(alloc: Global, bytes: &[u8]) -> Result<Vec<u8>, OutOfMemory>
-    ensures text { IfOk result (λ v. v.items ≡ encode_upper bytes.now) }
-    ensures digits { IfOk result (λ v. AllDigits 16 v.items) }
-    ensures len { IfOk result (λ v. length v.items ≡ 2 * length bytes.now) }
-{
-    Ok(hex::encode_upper(alloc, bytes)?.into_bytes())
-}
-
-/// The identity as a GUID is written.
-#[tactic(auto, unfolding(crate::specs::commands::Dump::turned))]
-fn turn_identity(id: [u8; 16]) -> [u8; 16]
-    ensures { result ≡ turned id }
-{
-    [
-        id[3], id[2], id[1], id[0], id[5], id[4], id[7], id[6], id[8], id[9], id[10], id[11],
-        id[12], id[13], id[14], id[15],
-    ]
-}
-
-/// The module's id.
-#[tactic(auto, using(crate::proofs::RecordLemmas::age_digit), unfolding(crate::specs::commands::Dump::module_id))]
-fn make_id(alloc: Global, identity: [u8; 16]) -> Result<Vec<u8>, OutOfMemory>
-    ensures text { IfOk result (λ v. v.items ≡ module_id identity) }
-    ensures digits { IfOk result (λ v. AllDigits 16 v.items) }
-    ensures len { IfOk result (λ v. length v.items ≡ 33) }
-{
-    let turned = turn_identity(identity);
-    let mut text = hex_text(alloc, &turned)?;
-    text.push(b'0')?;
-    Ok(text)
-}
 
 /// Spells the record of the binary, under its cleaned name.
 #[tactic(auto, using(crate::proofs::RecordLemmas::module_valid), unfolding(crate::specs::commands::Dump::module_line))]

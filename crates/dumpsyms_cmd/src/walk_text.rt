@@ -78,6 +78,8 @@ fn add_end(text: &mut Vec<u8>, end: WalkEnd) -> Result<(), AllocError>
     ensures { OnOk result (text.new.items ≡ text.old.items ++ end_text end) }
 {
     match end {
+        WalkEnd::NoModule => text.extend_from_slice(b"no-module"),
+        WalkEnd::NoSymbols => text.extend_from_slice(b"no-symbols"),
         WalkEnd::NoRules => text.extend_from_slice(b"no-rules"),
         WalkEnd::CfaUndefined => text.extend_from_slice(b"cfa-undefined"),
         WalkEnd::CfaFailed(why) => {

@@ -1,5 +1,5 @@
 -- When the frames of a walk are those of DWARF's rows.
-use Rattle.std.specs.Prelude.{◌≡◌, ℕ, ◌+◌, true, List, [], ◌∷◌, Option, None, Some}
+use Rattle.std.specs.Prelude.{◌≡◌, ℕ, ◌+◌, true, List, [], ◌∷◌, Option, None, Some, Result, Ok, Err}
 use Rattle.std.specs.List.{AllByRecursion}
 use Rattle.frame_entries.specs.FdeFields.{FdeFields}
 use Rattle.frame_rows.specs.Rows.{row_at}
@@ -11,22 +11,29 @@ use Rattle.rule_postfix.specs.RowValue.{row_frame}
 use Rattle.rule_postfix.specs.Covering.{holds_address, entries_at}
 use Rattle.rule_postfix.specs.FrameMeaning.{SaysFrame}
 use Rattle.stack_walk.specs.declared.steps.WalkStep.{WalkStep}
+use Rattle.stack_walk.specs.declared.steps.WalkEnd.{WalkEnd}
+use Rattle.stack_walk.specs.declared.steps.WalkEnd.TheVariants.{NoRules}
 use Rattle.stack_walk.specs.Walk.{caller_regs}
+
+-- the frame of a step, where rules stand there
+abbrev pub frame_said : Result Frame WalkEnd → Option Frame
+frame_said (Err end) = None
+frame_said (Ok frame) = Some frame
 
 -- where an entry holds the address of a step, which counts from the file's base, the step has the frame of the entry's row there, over the
 -- registers of the step
 pub record HasRow (base : ℕ) (regs : Regs) (memory : List MemRun) (step : WalkStep) (e : FdeFields) : Type 0 where
-  pub row : holds_address (step.at + base) e ≡ true → SaysFrame (row_at e (step.at + base)) (row_frame e (row_at e (step.at + base)) regs memory) step.frame
+  pub row : holds_address (step.at + base) e ≡ true → SaysFrame (row_at e (step.at + base)) (row_frame e (row_at e (step.at + base)) regs memory) (frame_said step.frame)
 
 -- so for each entry, and where none holds it there is no frame
 pub record IsRowStep (base : ℕ) (entries : List FdeFields) (regs : Regs) (memory : List MemRun) (step : WalkStep) : Type 0 where
   pub rows : AllByRecursion (HasRow base regs memory step) entries
-  pub nothing_else : entries_at entries (step.at + base) ≡ 0 → step.frame ≡ None
+  pub nothing_else : entries_at entries (step.at + base) ≡ 0 → step.frame ≡ Err NoRules
 
 -- the registers that a frame hands on
-abbrev pub regs_behind : Option Frame → Regs
-regs_behind None = no_registers
-regs_behind (Some frame) = caller_regs frame
+abbrev pub regs_behind : Result Frame WalkEnd → Regs
+regs_behind (Err end) = no_registers
+regs_behind (Ok frame) = caller_regs frame
 
 -- steps, the first of which has these registers, and each other those that the frame of the step before hands on
 abbrev pub AreRowSteps : ℕ → List FdeFields → List MemRun → Regs → List WalkStep → Type 0

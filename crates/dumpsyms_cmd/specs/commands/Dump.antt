@@ -1,9 +1,10 @@
 -- `dump ELF`, also with `--full`, and with `--debug FILE` or `--debug-root DIR`: the records of an image (Breakpad's symbol_files.md), the verdict
 -- of a dump, and what the text that it writes means. All speak of an image; `ElfInput` says which it is.
-use Rattle.std.specs.Prelude.{◌≡◌, ℕ, ◌-◌, Bool, length, List, [], ◌∷◌, ◌++◌, Option, Some, None, Result, Ok, Err, map, slice_index, codes}
+use Rattle.std.specs.Prelude.{◌≡◌, ℕ, ◌-◌, Bool, length, List, [], ◌∷◌, ◌++◌, Option, Some, None, Result, Ok, Err, map, codes}
 use Rattle.hex.specs.Hex.{encode_upper}
 use Rattle.sym_edges.specs.Outside.{Files, Tells}
 use Rattle.elf_sections.specs.Image.{ImageParts}
+use Rattle.debug_pair.specs.ModuleId.{module_id}
 use Rattle.clean_names.specs.Cleaning.{cleaned}
 use Rattle.sym_records.specs.Canon.{canon_text}
 use Rattle.sym_records.specs.Reading.{reading}
@@ -31,14 +32,6 @@ use Rattle.dumpsyms_cmd.specs.Verdict.{Verdict, refused}
 use Rattle.dumpsyms_cmd.specs.ElfInput.{ElfSource, given_image}
 use Rattle.dumpsyms_cmd.specs.Judgement.{Judges}
 use Rattle.dumpsyms_cmd.specs.declared.judgement.Judgement.{Judgement}
-
--- the identity as a GUID is written: its first four bytes, the next two and the next two, each turned round
-unfoldable pub turned : List ℕ → List ℕ
-turned id = map (slice_index id) (3 ∷ 2 ∷ 1 ∷ 0 ∷ 5 ∷ 4 ∷ 7 ∷ 6 ∷ 8 ∷ 9 ∷ 10 ∷ 11 ∷ 12 ∷ 13 ∷ 14 ∷ 15 ∷ [])
-
--- the module's id: the identity in upper-case hexadecimal, and the age 0
-unfoldable pub module_id : List ℕ → List ℕ
-module_id identity = encode_upper (turned identity) ++ codes "0"
 
 -- the record of the binary
 unfoldable pub module_line : List ℕ → List ℕ → SymLine

@@ -9,7 +9,7 @@ use Rattle.state_file.specs.declared.state.State.{State}
 use Rattle.stack_walk.specs.declared.steps.Walk.{Walk}
 use Rattle.stack_walk.specs.declared.steps.WalkStep.{WalkStep}
 use Rattle.stack_walk.specs.declared.steps.WalkEnd.{WalkEnd}
-use Rattle.stack_walk.specs.declared.steps.WalkEnd.TheVariants.{NoRules, CfaUndefined, CfaFailed, CfaLow, RaUndefined, RaFailed, RaZero, Limit}
+use Rattle.stack_walk.specs.declared.steps.WalkEnd.TheVariants.{NoModule, NoSymbols, NoRules, CfaUndefined, CfaFailed, CfaLow, RaUndefined, RaFailed, RaZero, Limit}
 use Rattle.stack_walk.specs.Walk.{walk_of}
 use Rattle.dumpsyms_cmd.specs.Refusals.{line}
 use Rattle.dumpsyms_cmd.specs.Verdict.{Verdict, refused}
@@ -29,6 +29,8 @@ steps_text lines number (step ∷ steps) = step_text lines number step ++ steps_
 
 -- why a walk ends; a cause is spelled as in `frame`, and a CFA that is low stands behind the one before
 abbrev pub end_text : WalkEnd → List ℕ
+end_text NoModule = codes "no-module"
+end_text NoSymbols = codes "no-symbols"
 end_text NoRules = codes "no-rules"
 end_text CfaUndefined = codes "cfa-undefined"
 end_text (CfaFailed why) = codes "cfa-failed " ++ cause_text why
