@@ -6,7 +6,7 @@
 Runs `names` on a symbol file, and compares each line with the one that the file has. The name of a FUNC, an INLINE_ORIGIN or a PUBLIC that has
 the form of Rust's legacy mangling is the one that `c++filt -s rust` shows of it, without the hash at its end. One that begins with `_R` is the
 one that SHORT shows, a program that reads names and prints a line for each, or else the one that `c++filt -i` shows; a suffix is not shown.
-Every other name, and all else, stays. Where c++filt knows an escape that docs/RULES.md does not list, or shows no name, the name stays; at most
+Every other name, and all else, stays. Where c++filt knows an escape that docs/TEXT.md does not list, or shows no name, the name stays; at most
 MOST names may be so. Prints the first line that differs and ends with status 1, or prints how many names were compared.
 """
 import re
