@@ -67,7 +67,7 @@ pub enum Parts {
     Debug,
 }
 
-/// So many bytes of code.
+/// The first bytes of the code, at most this many.
 fn front(body: &[u8], count: usize) -> &[u8] {
     body.split_at(count.min(body.len())).0
 }

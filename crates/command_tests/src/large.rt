@@ -2,10 +2,10 @@
 use std::alloc::{AllocError, Global};
 use test_rows::elf::{ID, NULL, file_of, put};
 
-/// So many frame entries of one address each have more than 65,535 bytes.
+/// How many frame entries of one address each have more than 65,535 bytes.
 const ENTRIES: u64 = 2731;
 
-/// So many records.
+/// How many records.
 const RECORDS: u64 = 0x10000;
 
 /// A CIE as at a call, and entries from 1000 on, of 24 bytes each.

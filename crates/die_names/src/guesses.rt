@@ -3,7 +3,7 @@ use crate::unit_read::EntryRef;
 use std::alloc::Global;
 use sym_edges::OutOfMemory;
 
-/// So many places are kept.
+/// How many places are kept.
 const SLOTS: usize = 16384;
 
 /// Entries that links led to, each where its place says. A guess is looked at before it counts, so what is kept does not matter to what

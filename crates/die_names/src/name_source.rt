@@ -49,7 +49,7 @@ pub fn is_same_ref(one: NameRef, other: NameRef) -> bool
     one.unit == other.unit && (one.entry == other.entry && gives_alike(one.how, other.how))
 }
 
-/// So many links are followed.
+/// How many links are followed at most.
 const LINKS: u32 = 16;
 
 /// The entry that an entry of a unit is linked to.

@@ -11,7 +11,7 @@ use std::alloc::Global;
 use std::marker::Model;
 use sym_edges::{OutOfMemory, Span};
 
-/// Room for so many sets, and for as many ranges, is taken at once.
+/// For how many sets, and for how many ranges, room is taken at once.
 const USUAL: usize = 16;
 
 /// The addresses of a unit's entries, one set for each: empty for those that do not count. An entry without addresses takes four

@@ -20,7 +20,7 @@ use std::alloc::Global;
 use std::marker::Model;
 use sym_edges::{Located, OutOfMemory, Sect, Stop};
 
-/// So many levels of a tree are walked up one by one.
+/// How many levels of a tree are walked up one by one at most.
 const SHALLOW: usize = 64;
 
 /// The sections and the unit that are walked over, the kept entries so far, what the root said, and for each open list of children the

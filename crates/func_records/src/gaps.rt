@@ -13,10 +13,10 @@ use std::alloc::Global;
 use std::cmp::Ordering;
 use sym_edges::OutOfMemory;
 
-/// So many places are kept.
+/// How many places are kept.
 const SLOTS: usize = 32768;
 
-/// So many bytes at the end of a text tell it from most others.
+/// How many bytes at the end of a text tell it from most others.
 const TAIL: usize = 16;
 
 /// Places among sorted texts at which texts were found to stand, or not to stand. A place is looked at before it counts, so what is

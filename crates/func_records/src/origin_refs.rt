@@ -12,7 +12,7 @@ use std::alloc::Global;
 use std::marker::Model;
 use sym_edges::OutOfMemory;
 
-/// So many slots are for the entries of a share.
+/// How many slots there are for the entries of a share.
 const SLOTS: usize = 8192;
 
 /// References to entries that name functions, mostly once each, and for each one that was added its place among them.

@@ -13,7 +13,7 @@ use inline_chain::{InlineRun, InlineRuns};
 use std::alloc::Global;
 use sym_edges::OutOfMemory;
 
-/// So many slots are for the paths of a share.
+/// How many slots there are for the paths of a share.
 const SLOTS: usize = 4096;
 
 /// Adds the paths of a piece.

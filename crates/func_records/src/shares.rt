@@ -3,10 +3,10 @@ ghost use Rattle.std.specs.Prelude.{◌*◌, ◌≤◌, ◌^◌, IfOk};
 
 use sym_edges::OutOfMemory;
 
-/// So many pieces are one job.
+/// How many pieces are one job.
 pub const SHARE: usize = 512;
 
-/// How many shares so many pieces are.
+/// How many shares this number of pieces makes.
 pub fn share_count(pieces: usize) -> Result<usize, OutOfMemory>
     ensures all { IfOk result (λ count. pieces ≤ 512 * count) }
     ensures few { IfOk result (λ count. count ≤ 2 ^ 32) }

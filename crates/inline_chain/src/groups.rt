@@ -15,7 +15,7 @@ use std::alloc::{AllocError, Global};
 use step_maps::Stretch;
 use sym_edges::{OutOfMemory, Span};
 
-/// A record has at most so many ranges.
+/// The most ranges that a record has.
 const RANGES: usize = 16384;
 
 /// Puts in the place of what was there the stretches as spans.

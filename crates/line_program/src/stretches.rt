@@ -12,7 +12,7 @@ use range_set::Enclosing;
 use step_maps::Stretch;
 use sym_edges::OutOfMemory;
 
-/// So many lists of rows are kept for the next table, and no more.
+/// How many lists of rows are kept for the next table at most.
 const SPARE: usize = 16;
 
 /// Keeps a sequence, with its rows in order, where it counts.

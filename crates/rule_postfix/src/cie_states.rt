@@ -13,7 +13,7 @@ use std::alloc::Global;
 use std::collections::BTreeMap;
 use sym_edges::OutOfMemory;
 
-/// The instructions of a CIE that is not long have at most so many bytes. Of these CIEs the state of one at a time is kept.
+/// The most bytes that the instructions of a short CIE have. Of these CIEs the state of one at a time is kept.
 const SHORT: usize = 64;
 
 /// Whether the CIE of an entry is long.

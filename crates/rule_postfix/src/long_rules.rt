@@ -24,7 +24,7 @@ use sym_edges::{OutOfMemory, Stop};
 use sym_records::write_change;
 use sym_rules::{RuleText, Target, Token, Tokens, add_rules};
 
-/// The front of a record of changes has at most so many bytes.
+/// The most bytes that the front of a record of changes has.
 const FRONT: usize = 48;
 
 /// The words of an expression of an entry, where rule text can say it, with `^` behind them where it fetches.

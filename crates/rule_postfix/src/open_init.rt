@@ -20,7 +20,7 @@ use std::alloc::Global;
 use sym_edges::{OutOfMemory, Reason, Stop};
 use sym_records::write_init;
 
-/// The front of an INIT has at most so many bytes.
+/// The most bytes that the front of an INIT has.
 const FRONT: usize = 48;
 
 /// The INIT whose end is not known yet: its start, and the text after its numbers, which is its rules and the changes in it. A

@@ -21,7 +21,7 @@ use frame_entries::Fde;
 use frame_rows::{CfaRule, Columns, Row, Rule};
 use sym_rules::{write_byte, write_bytes, write_last, write_register, write_signed};
 
-/// A line that has all rules has at most so many bytes.
+/// The most bytes that a line with all rules has.
 pub const LINE: usize = 768;
 
 /// The CFA plus so much.

@@ -19,7 +19,7 @@ use std::thread::Threads;
 use sym_edges::{OutOfMemory, Span};
 use unit_workers::{NoGate, UnitJob, run_all, share_bounds};
 
-/// A share has at least so many entries, where a section has as many.
+/// The fewest entries that a share has, where a section has as many.
 const LEAST: usize = 512;
 
 /// The shares of a worker.

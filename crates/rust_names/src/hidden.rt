@@ -17,7 +17,7 @@ use std::alloc::Global;
 use std::collections::BTreeMap;
 use sym_edges::OutOfMemory;
 
-/// A path of at most so many bytes is read anew each time.
+/// The length in bytes up to which a path is read anew each time.
 const SHORT: usize = 64;
 
 /// What is known of a path that is not shown.

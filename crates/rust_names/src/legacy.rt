@@ -10,7 +10,7 @@ use std::alloc::Global;
 use sym_edges::OutOfMemory;
 use sym_records::ByteText;
 
-/// A name has at most so many bytes.
+/// The most bytes that a name has.
 const NAME_LIMIT: usize = 65_536;
 
 fn are_low_hex(bytes: &[u8]) -> bool

@@ -14,10 +14,10 @@ use std::alloc::Global;
 use sym_edges::OutOfMemory;
 use sym_records::is_name;
 
-/// So many levels may nest.
+/// How many levels may nest.
 const MOST_LEVELS: usize = 500;
 
-/// A text has at most so many bytes.
+/// The most bytes that a text has.
 const TEXT_LIMIT: usize = 65_536;
 
 /// Room for names that are read one after the other.

@@ -10,7 +10,7 @@ use itoa::Buffer;
 use sym_edges::OutOfMemory;
 use sym_records::HexText;
 
-/// A text has at most so many bytes.
+/// The most bytes that a text has.
 const TEXT_LIMIT: usize = 65_536;
 
 /// Adds bytes to a text; false where they do not fit.

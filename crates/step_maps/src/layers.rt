@@ -12,10 +12,10 @@ use crate::stretch::{FirstItem, Stretch};
 use std::alloc::Global;
 use sym_edges::OutOfMemory;
 
-/// So many stretches are laid down address by address of a change, and need no map for each half.
+/// How many stretches at most are laid down address by address of a change, and need no map for each half.
 const FEW: usize = 4;
 
-/// Up to so many stretches are sorted on the way, besides the whole list: more would be sorted too often.
+/// How many stretches at most are sorted on the way, besides the whole list: more would be sorted too often.
 const SHORT: usize = 64;
 
 /// The first item at each address: one after another where no stretches overlap, else of each half, one laid over the other.

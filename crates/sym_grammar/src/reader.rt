@@ -14,7 +14,7 @@ use sym_edges::Stop;
 use sym_records::{SymFile, file_of_valid};
 use sym_rules::{TextFault, TextKind};
 
-/// A line has at most so many bytes without its LF: 2^20.
+/// The most bytes that a line has without its LF: 2^20.
 const LINE_LIMIT: usize = 0x10_0000;
 
 /// A reader of a symbol file that comes in pieces.

@@ -55,7 +55,7 @@ pub struct FuncChains {
     pub chains: ChainMap,
 }
 
-/// Chains of at most so many levels are compared call by call, and nothing is held of them.
+/// The levels up to which chains are compared call by call, and nothing is held of them.
 const FEW: usize = 16;
 
 fn stop_at(stops: &[u64], index: usize) -> Option<u64>

@@ -22,10 +22,10 @@ pub struct HeldForm<'f> {
     pub form: Form<'f>,
 }
 
-/// The forms of rules of at most so many words are made where they are compared.
+/// The number of words up to which the form of a rule is made where it is compared.
 const FEW: usize = 16;
 
-/// Whether words are so many that their form is held.
+/// Whether there are too many words to make their form anew at each use.
 pub(crate) fn are_many(words: &[Token]) -> bool {
     words.len() > FEW
 }

@@ -39,7 +39,7 @@ pub struct FuncMeetings {
     pub other: Vec<FuncChains>,
 }
 
-/// Names of at most so many bytes are compared where they meet.
+/// The length in bytes up to which names are compared where they meet.
 const SHORT: usize = 256;
 
 /// A number for two places, by which meetings are sorted.

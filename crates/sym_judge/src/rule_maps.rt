@@ -142,7 +142,7 @@ fn maps_of(alloc: Global, lines: &[SymLine], init: usize) -> Result<RuleMaps, Ou
     })
 }
 
-/// So many rules of an INIT and its changes are looked at one by one, and nothing is held of them.
+/// How many rules of an INIT and its changes are looked at one by one at most; nothing is held of them.
 const FEW: usize = 32;
 
 /// Whether a record is an INIT that has, with the changes behind it, more than a few rules.

@@ -290,7 +290,7 @@ pub(crate) fn shown_text(
     Ok(ByteText::of(text))
 }
 
-/// The frames of so many calls are named by scans.
+/// The number of calls up to which their frames are named by scans.
 const FEW: usize = 8;
 
 /// Whether more calls were inlined than a few.

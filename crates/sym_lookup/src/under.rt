@@ -120,7 +120,7 @@ fn is_func(line: &SymLine) -> bool
     matches!(line, SymLine::Func { .. })
 }
 
-/// So many ranges under a `FUNC` are scanned, and nothing is held of them.
+/// The number of ranges under a `FUNC` up to which they are scanned; nothing is held of them.
 const FEW: usize = 32;
 
 /// How many ranges a record under a `FUNC` has, and at least one.

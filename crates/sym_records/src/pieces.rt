@@ -7,7 +7,7 @@ use std::mem::replace;
 use sym_edges::OutOfMemory;
 use sym_rules::ByteText;
 
-/// A piece that has so many bytes gets no more lines.
+/// The number of bytes from which on a piece gets no more lines.
 const PIECE: usize = 1 << 20;
 
 /// Room for the line that makes a piece full. A longer one makes its piece grow.

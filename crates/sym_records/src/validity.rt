@@ -12,7 +12,7 @@ use crate::line::{Extent, SymLine};
 use crate::table::fields_of;
 use sym_rules::are_rules;
 
-/// A line has at most so many bytes without its LF.
+/// The most bytes that a line has without its LF.
 const LINE_LIMIT: usize = 1 << 20;
 
 fn is_range(range: Extent) -> bool
