@@ -1,8 +1,9 @@
-use Rattle.std.proofs.Common.{◌≡◌, ℕ, ◌<◌, ◌≤◌, suc, Bool, true, false, ◌||◌, List, [], ◌∷◌, length, refl, sym, ap, ◌∙◌, arith, Result, Ok, Err, IfOk}
+use Rattle.std.proofs.Common.{◌≡◌, ℕ, ◌<◌, ◌≤◌, nat_le, suc, Bool, true, false, ◌||◌, List, [], ◌∷◌, length, refl, sym, ap, ◌∙◌, arith, Result, Ok, Err, IfOk}
 use Rattle.std.proofs.Math.Bool.{or_assoc, or-false}
-use Rattle.std.specs.List.{list_any, slice_index_or}
+use Rattle.std.specs.List.{list_any, slice_index_or, IsAllAdjacentAnswer}
 use Rattle.std.specs.List.Sorted.{IsPermutation, IsNonDecreasingBy}
-use Rattle.std.proofs.lemmas.List.Sorted.{list_any-IsPermutation}
+use Rattle.std.proofs.lemmas.Bool.Decides.{nat_tests}
+use Rattle.std.proofs.lemmas.List.Sorted.{list_any-IsPermutation, IsNonDecreasingBy-from_all_adjacent}
 use Rattle.sym_edges.specs.Addresses.{Range}
 use Rattle.range_set.specs.Members.{holds, holds_any}
 use Rattle.range_set.specs.Canonical.{IsCanonical, BeginsAbove}
@@ -30,6 +31,14 @@ ascending_sorted (x ∷ xs) h = (
   from_each x.start xs (λ k d low. h 0 (suc k) d (omega arith) (omega arith)),
   ascending_sorted xs (λ i j d up low. h (suc i) (suc j) d (omega arith) (omega arith)),
 )
+
+le_of : (a b : ℕ) → true ≡ nat_le a b → a ≤ b
+le_of a b h = grind (arith, nat_tests)
+
+-- a list in which each start and the next were found in order ascends
+pub ascending_found : (xs : List Range) (found : Bool) → IsAllAdjacentAnswer (λ x y b. b ≡ nat_le x.start y.start) xs found → found ≡ true → AreAscending xs
+ascending_found xs true h is = ascending_sorted xs (IsNonDecreasingBy-from_all_adjacent (λ r. r.start) xs (λ k d low. le_of _ _ (h k d low)))
+ascending_found xs false h is = absurd cc
 
 -- what starts at or above an address starts at or above a lower one
 pub from_lower : (s t : ℕ) (xs : List Range) → AllFrom t xs → s ≤ t → AllFrom s xs

@@ -22,6 +22,9 @@ pub fn of_ranges(alloc: Global, spans: &[Span]) -> Result<RangeSet, OutOfMemory>
             if are_apart(spans) {
                 return Ok(RangeSet::of_many(Vec::from_slice(alloc, spans)?));
             }
+            if are_ascending(spans) {
+                return of_sorted(alloc, spans);
+            }
             let sorted = sorted_copy(alloc, spans)?;
             of_sorted(alloc, sorted.as_slice())
         }
@@ -57,6 +60,13 @@ fn are_apart(spans: &[Span]) -> bool
         rest = after;
     }
     true
+}
+
+/// Whether each span starts at or above the start of the one before it.
+fn are_ascending(spans: &[Span]) -> bool
+    ensures { result ≡ true → AreAscending spans.now }
+{
+    spans.is_sorted_by(|span, next| span.start() <= next.start())
 }
 
 /// The spans in the order of their starts.

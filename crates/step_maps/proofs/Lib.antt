@@ -9,6 +9,7 @@ pub mod IndexLemmas
 pub mod SpanLemmas
 pub mod LayingLemmas
 pub mod SortedLemmas
+pub mod NearestLemmas
 pub mod FirstLemmas
 pub mod JoiningLemmas
 pub mod Computing
