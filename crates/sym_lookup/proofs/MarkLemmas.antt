@@ -7,6 +7,7 @@ use Rattle.std.proofs.lemmas.Bool.{cases_lt, cases_order, le-leb, lt-leb, lt-ltb
 use Rattle.std.proofs.lemmas.Bool.Decides.{nat_tests}
 use Rattle.std.proofs.lemmas.List.{get_or_default}
 use Rattle.std.proofs.lemmas.List.Elements.{filter_agree}
+use Rattle.step_maps.proofs.NearestLemmas.{nearer, nearest, nearest_sorted, first_counts}
 use Rattle.sym_records.specs.declared.line.SymLine.{SymLine}
 use Rattle.sym_lookup.specs.declared.marks.Mark.{Mark}
 use Rattle.sym_lookup.specs.declared.marks.Marked.{Marked}
@@ -90,140 +91,22 @@ mark_is (m ∷ marks) x (suc at) d l low greatest first =
     ap (nearer_mark (cond (nat_le m.key x) (Some m) None)) (mark_is marks x at d (omega arith) low (λ k e h. greatest (suc k) e (omega arith)) (λ k e h. first (suc k) e (omega arith)))
     ∙ later_kept m (get_or marks at d) (nat_le m.key x) (first 0 m (omega arith))
 
--- the marks of one address, in their order
-abbrev pub marks_with : ℕ → List Mark → List Mark
-marks_with v marks = filter (λ m. m.key == v) marks
+nearer_is : (x y : Option Mark) → nearer_mark x y ≡ nearer nat_lt (λ m. m.key) x y
+nearer_is None y = refl
+nearer_is (Some m) None = refl
+nearer_is (Some m) (Some n) = refl
 
-abbrev pub SameMarks : List Mark → List Mark → Type 0
-SameMarks xs ys = (v : ℕ) → marks_with v xs ≡ marks_with v ys
-
-tie_is : (v w : ℕ) → (not (is_lt (nat_cmp v w)) && not (is_lt (nat_cmp w v))) ≡ (w == v)
-tie_is v w = grind (arith, nat_tests)
-
--- a stable sort keeps them
-pub same_sorted : (xs ys : List Mark) → IsStableByKey (λ m. m.key) nat_cmp xs ys → SameMarks ys xs
-same_sorted xs ys stable v =
-    let tied : Mark = record { key = v; place = 0 } in
-    sym (filter_agree (ties (λ x y. is_lt (nat_cmp x.key y.key)) tied) (λ m. m.key == v) (λ m. tie_is v m.key) ys)
-    ∙ stable tied
-    ∙ filter_agree (ties (λ x y. is_lt (nat_cmp x.key y.key)) tied) (λ m. m.key == v) (λ m. tie_is v m.key) xs
-
-abbrev first_mark : List Mark → Option Mark
-first_mark [] = None
-first_mark (m ∷ marks) = Some m
-
-abbrev or_mark : Option Mark → Option Mark → Option Mark
-or_mark None other = other
-or_mark (Some m) other = Some m
-
--- the nearest address at or below another that has marks, and the first of them
-nearest : List Mark → ℕ → Option Mark
-nearest marks zero = first_mark (marks_with 0 marks)
-nearest marks (suc a) = or_mark (first_mark (marks_with (suc a) marks)) (nearest marks a)
-
-nearest_same : (xs ys : List Mark) → SameMarks xs ys → (a : ℕ) → nearest xs a ≡ nearest ys a
-unfolding nearest
-nearest_same xs ys same zero = ap first_mark (same 0)
-nearest_same xs ys same (suc a) = ap (λ l. or_mark (first_mark l) (nearest xs a)) (same (suc a)) ∙ ap (or_mark (first_mark (marks_with (suc a) ys))) (nearest_same xs ys same a)
-
-with_one : (b : Bool) (m : Mark) (marks : List Mark) → first_mark (cond b (m ∷ marks) marks) ≡ or_mark (cond b (Some m) None) (first_mark marks)
-with_one true m marks = refl
-with_one false m marks = refl
-
--- a mark of an address, or none
-abbrev IsAt : ℕ → Option Mark → Type 0
-IsAt v None = Unit {0}
-IsAt v (Some s) = s.key ≡ v
-
-at_or : (v : ℕ) (x y : Option Mark) → IsAt v x → IsAt v y → IsAt v (or_mark x y)
-at_or v None y one two = two
-at_or v (Some s) y one two = one
-
-at_test : (v : ℕ) (m : Mark) (b : Bool) → (b ≡ true → m.key ≡ v) → IsAt v (cond b (Some m) None)
-at_test v m true is = is refl
-at_test v m false is = tt
-
-first_with : (v : ℕ) (marks : List Mark) → IsAt v (first_mark (marks_with v marks))
-first_with v [] = tt
-first_with v (m ∷ marks) = subst (IsAt v) (sym (with_one (m.key == v) m (marks_with v marks))) (at_or v _ _ (at_test v m (m.key == v) (λ e. eqb-true m.key v e)) (first_with v marks))
-
-up_to_at : (v : ℕ) (o : Option Mark) → IsAt v o → IsUpTo v o
-up_to_at v None is = tt
-up_to_at v (Some s) is = omega arith
-
-up_to_or : (v : ℕ) (x y : Option Mark) → IsUpTo v x → IsUpTo v y → IsUpTo v (or_mark x y)
-up_to_or v None y one two = two
-up_to_or v (Some s) y one two = one
-
-up_to_more : (v : ℕ) (o : Option Mark) → IsUpTo v o → IsUpTo (suc v) o
-up_to_more v None is = tt
-up_to_more v (Some s) is = omega arith
-
-nearest_up_to : (marks : List Mark) (a : ℕ) → IsUpTo a (nearest marks a)
-unfolding nearest
-nearest_up_to marks zero = up_to_at 0 (first_mark (marks_with 0 marks)) (first_with 0 marks)
-nearest_up_to marks (suc a) = up_to_or (suc a) (first_mark (marks_with (suc a) marks)) (nearest marks a) (up_to_at (suc a) _ (first_with (suc a) marks)) (up_to_more a (nearest marks a) (nearest_up_to marks a))
-
--- a mark below the address of others
-lower : (v : ℕ) (m : Mark) (top rest : Option Mark) → m.key < v → IsAt v top → or_mark top (nearer_mark (Some m) rest) ≡ nearer_mark (Some m) (or_mark top rest)
-lower v m (Some s) rest l at = sym (ap (λ b. cond b (Some s) (Some m)) (lt-ltb m.key s.key (omega arith)))
-lower v m None rest l at = refl
-
-or_or : (x y z : Option Mark) → or_mark (or_mark x y) z ≡ or_mark x (or_mark y z)
-or_or None y z = refl
-or_or (Some m) y z = refl
-
-up_to_is : (v w : ℕ) (o : Option Mark) → v ≡ w → IsUpTo v o → IsUpTo w o
-up_to_is v w o e h = subst (λ n. IsUpTo n o) e h
-
-nearest_cons : (m : Mark) (marks : List Mark) (a : ℕ) → nearest (m ∷ marks) a ≡ nearer_mark (cond (nat_le m.key a) (Some m) None) (nearest marks a)
-unfolding nearest
-nearest_cons m marks zero =
-    let top : Option Mark = first_mark (marks_with 0 marks) in
-    with_one (m.key == 0) m (marks_with 0 marks) ∙ elim (cases_lt 0 m.key) [
-      | inl more ↦
-          ap (λ b. or_mark (cond b (Some m) None) top) (ne_eqb m.key 0 (λ e. absurd (omega arith)))
-          ∙ sym (ap (λ b. nearer_mark (cond b (Some m) None) top) (lt-leb m.key 0 more))
-      | inr none ↦
-          ap (λ b. or_mark (cond b (Some m) None) top) (eq-eqb m.key 0 (omega arith))
-          ∙ sym (first_kept m top (up_to_is 0 m.key top (omega arith) (up_to_at 0 top (first_with 0 marks))))
-          ∙ sym (ap (λ b. nearer_mark (cond b (Some m) None) top) (le-leb m.key 0 none))
-    ]
-nearest_cons m marks (suc a) =
-    let top : Option Mark = first_mark (marks_with (suc a) marks) in
-    let rest : Option Mark = nearest marks a in
-    ap (λ o. or_mark o (nearest (m ∷ marks) a)) (with_one (m.key == suc a) m (marks_with (suc a) marks))
-    ∙ or_or (cond (m.key == suc a) (Some m) None) top (nearest (m ∷ marks) a)
-    ∙ ap (λ o. or_mark (cond (m.key == suc a) (Some m) None) (or_mark top o)) (nearest_cons m marks a)
-    ∙ elim (cases_order m.key (suc a)) [
-      | inl same ↦
-          ap (λ b. or_mark (cond b (Some m) None) (or_mark top (nearer_mark (cond (nat_le m.key a) (Some m) None) rest))) (eq-eqb m.key (suc a) same)
-          ∙ sym (first_kept m (or_mark top rest) (up_to_is (suc a) m.key (or_mark top rest) (sym same) (nearest_up_to marks (suc a))))
-          ∙ sym (ap (λ b. nearer_mark (cond b (Some m) None) (or_mark top rest)) (le-leb m.key (suc a) (omega arith)))
-      | inr (inl less) ↦
-          ap (λ b. or_mark (cond b (Some m) None) (or_mark top (nearer_mark (cond (nat_le m.key a) (Some m) None) rest))) (ne_eqb m.key (suc a) (λ e. absurd (omega arith)))
-          ∙ ap (λ b. or_mark top (nearer_mark (cond b (Some m) None) rest)) (le-leb m.key a (omega arith))
-          ∙ lower (suc a) m top rest less (first_with (suc a) marks)
-          ∙ sym (ap (λ b. nearer_mark (cond b (Some m) None) (or_mark top rest)) (le-leb m.key (suc a) (omega arith)))
-      | inr (inr more) ↦
-          ap (λ b. or_mark (cond b (Some m) None) (or_mark top (nearer_mark (cond (nat_le m.key a) (Some m) None) rest))) (ne_eqb m.key (suc a) (λ e. absurd (omega arith)))
-          ∙ ap (λ b. or_mark top (nearer_mark (cond b (Some m) None) rest)) (lt-leb m.key a (omega arith))
-          ∙ sym (ap (λ b. nearer_mark (cond b (Some m) None) (or_mark top rest)) (lt-leb m.key (suc a) more))
-    ]
-
-nearest_none : (a : ℕ) → nearest [] a ≡ None
-unfolding nearest
-nearest_none zero = refl
-nearest_none (suc a) = nearest_none a
-
-mark_nearest : (marks : List Mark) (a : ℕ) → mark_at marks a ≡ nearest marks a
+mark_nearest : (marks : List Mark) (a : ℕ) → mark_at marks a ≡ nearest nat_lt (λ m. m.key) marks a
 unfolding mark_at
-mark_nearest [] a = sym (nearest_none a)
-mark_nearest (m ∷ marks) a = ap (nearer_mark (cond (nat_le m.key a) (Some m) None)) (mark_nearest marks a) ∙ sym (nearest_cons m marks a)
+mark_nearest [] a = refl
+mark_nearest (m ∷ marks) a = nearer_is (cond (nat_le m.key a) (Some m) None) (mark_at marks a) ∙ ap (nearer nat_lt (λ m. m.key) (cond (nat_le m.key a) (Some m) None)) (mark_nearest marks a)
 
--- the mark that counts depends on the marks of each address alone
-pub mark_same : (xs ys : List Mark) → SameMarks xs ys → (a : ℕ) → mark_at xs a ≡ mark_at ys a
-mark_same xs ys same a = mark_nearest xs a ∙ nearest_same xs ys same a ∙ sym (mark_nearest ys a)
+-- a stable sort keeps the mark that counts
+pub mark_same : (xs ys : List Mark) → IsStableByKey (λ m. m.key) nat_cmp xs ys → (a : ℕ) → mark_at ys a ≡ mark_at xs a
+mark_same xs ys stable a =
+    mark_nearest ys a
+    ∙ nearest_sorted nat_lt (λ m. m.key) first_counts (λ v. record { key = v; place = 0 }) (λ v. refl) xs ys stable a
+    ∙ sym (mark_nearest xs a)
 
 -- a search by halves: so many marks lie at or below the address, and so many below the nearest one's
 above_of : (a b : ℕ) → nat_le a b ≡ false → b < a
