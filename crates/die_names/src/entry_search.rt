@@ -6,9 +6,9 @@ ghost use Rattle.die_walk.specs.EntryTable.{DieFields};
 ghost use Rattle.die_names.specs.UnitEntries.{AreRead, places, unit_entries, entries_from, entry_at};
 ghost use Rattle.die_names.specs.internal.Finding.{is_at, found_in, found_from, found, moved, IsInside};
 
-use crate::guesses::{guess_at, note_guess};
 use crate::unit_read::{EntryRef, UnitRead};
 use die_walk::DieList;
+use place_guesses::{guess_at, note_guess, slot_of};
 
 /// Where an entry stands, as it is looked up.
 #[derive(Clone, Copy, Debug)]
@@ -183,14 +183,15 @@ pub(crate) fn find_entry(
     requires { AreRead units.now }
     ensures { found units.now result ≡ entry_at units.now place }
 {
-    let guess = guess_at(guesses, place);
+    let slot = slot_of(place, guesses.len());
+    let guess = guess_at(guesses, slot);
     match find_from_guess(units, guess, near as usize, place) {
         Some(at) => {
             let at = EntryRef {
                 unit: at.unit as u32,
                 entry: at.entry as u32,
             };
-            note_guess(guesses, place, at);
+            note_guess(guesses, slot, at);
             Some(at)
         }
         None => None,

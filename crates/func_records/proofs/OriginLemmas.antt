@@ -152,12 +152,6 @@ refs_more units old new names name made k placed added said say =
     subst (λ (t : List ℕ). RefsSay units new (names ++ t ∷ [])) said
     (said_more (map (made_name units) old.refs) (map (made_name units) new.refs) old.places new.places names (made_name units name) k (made_placed units old.refs new.refs name k placed) added say)
 
--- the bytes of a text at a place
-pub get_bytes : (texts : List (Bor (List ℕ))) (k : ℕ) (text : Bor (List ℕ)) → slice_get texts k ≡ Some text → slice_get (bytes_of texts) k ≡ Some text.now
-get_bytes [] k text is = absurd (cc)
-get_bytes (t ∷ texts) zero text is = ap (λ o. option_map (λ u. u.now) o) is
-get_bytes (t ∷ texts) (suc k) text is = get_bytes texts k text is
-
 -- the name at a place more
 pub said_none : (texts names : List (List ℕ)) (places : List ℕ) → texts ≡ [] → places ≡ [] → TextsSay texts places (take 0 names)
 said_none texts names places no_text no_place = rw no_text (rw no_place (record { at = tt; same = λ name. refl }))

@@ -9,31 +9,25 @@ ghost use Rattle.func_records.specs.internal.Gathering.{bytes_of};
 ghost use Rattle.func_records.specs.internal.Spelling.{number_or_0};
 
 use crate::numbers::number_of;
+use place_guesses::PlaceGuesses;
 use std::alloc::Global;
 use std::cmp::Ordering;
 use sym_edges::OutOfMemory;
 
-/// How many places are kept.
+/// How many slots there are.
 const SLOTS: usize = 32768;
 
 /// How many bytes at the end of a text tell it from most others.
 const TAIL: usize = 16;
 
-/// Places among sorted texts at which texts were found to stand, or not to stand. A place is looked at before it counts, so what is
-/// kept does not matter to what is found.
-#[derive(Drop)]
-pub struct TextGaps {
-    places: Vec<u32>,
-}
-
-/// Where the place of a text is kept.
-fn slot_of(text: &[u8]) -> usize {
+/// What tells a text from most others.
+fn key_of(text: &[u8]) -> u64 {
     let (_, tail) = text.split_at(text.len().saturating_sub(TAIL));
     let mut mix: u32 = 0;
     for byte in tail {
         mix = mix.wrapping_mul(31).wrapping_add(u32::from(*byte));
     }
-    (mix.wrapping_mul(0x9e37_79b1) >> 17) as usize
+    u64::from(mix)
 }
 
 /// How the text at a place compares with this one.
@@ -88,44 +82,25 @@ fn place_of(sorted: &[&[u8]], text: &[u8]) -> u32 {
     place as u32
 }
 
-impl TextGaps {
-    /// None yet.
-    pub fn new(alloc: Global) -> Result<TextGaps, OutOfMemory> {
-        Ok(TextGaps {
-            places: vec![in alloc; 0; SLOTS]?,
-        })
-    }
+/// No places among texts yet.
+pub fn new_gaps(alloc: Global) -> Result<PlaceGuesses, OutOfMemory> {
+    PlaceGuesses::new(alloc, SLOTS)
+}
 
-    /// The place that was kept for a text.
-    fn place(&self, slot: usize) -> u32 {
-        match self.places.get(slot) {
-            Some(place) => *place,
-            None => 0,
-        }
+/// The number of a text that is in use, and 0 for others. `gaps` keeps where texts were found to stand, or not to stand.
+pub fn number_by(gaps: &mut PlaceGuesses, sorted: &[&[u8]], text: &[u8]) -> u32
+    requires sorted { IsStrictlySortedBy text_cmp sorted.now }
+    requires few { length sorted.now < 2 ^ 32 }
+    ensures { result ≡ number_or_0 (bytes_of sorted.now) text.now }
+{
+    let slot = gaps.slot_of(key_of(text));
+    if let Some(number) = number_near(sorted, gaps.guess(slot), text) {
+        return number;
     }
-
-    /// Keeps a place.
-    fn note(&mut self, slot: usize, place: u32) {
-        if slot < self.places.len() {
-            self.places[slot] = place;
-        }
-    }
-
-    /// The number of a text that is in use, and 0 for others.
-    pub fn number_of(&mut self, sorted: &[&[u8]], text: &[u8]) -> u32
-        requires sorted { IsStrictlySortedBy text_cmp sorted.now }
-        requires few { length sorted.now < 2 ^ 32 }
-        ensures { result ≡ number_or_0 (bytes_of sorted.now) text.now }
-    {
-        let slot = slot_of(text);
-        if let Some(number) = number_near(sorted, self.place(slot), text) {
-            return number;
-        }
-        let place = place_of(sorted, text);
-        self.note(slot, place);
-        match number_near(sorted, place, text) {
-            Some(number) => number,
-            None => number_of(sorted, text),
-        }
+    let place = place_of(sorted, text);
+    gaps.note(slot, place);
+    match number_near(sorted, place, text) {
+        Some(number) => number,
+        None => number_of(sorted, text),
     }
 }

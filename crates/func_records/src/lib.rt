@@ -9,7 +9,7 @@
 //! inlined there, and the line that it has in the file (`laws::names_are_kept`). A checker finds nothing in such a text
 //! (`laws::records_have_no_findings`).
 //!
-//! To read: `functions` first, then `shares`, `found` and `finder`; `place_guesses`, `origin_refs`, `made_names` and `names`; `calls`, `path_list`,
+//! To read: `functions` first, then `shares`, `found` and `finder`; `origin_refs`, `made_names` and `names`; `calls`, `path_list`,
 //! `line_paths`, `call_paths` and `paths`; `text_ranks`, `gaps`, `numbers` and `path_rows`; `text_numbers`, `inlines` and `parts`; and `speller`.
 #![tactic(auto)]
 
@@ -30,7 +30,6 @@ mod parts;
 mod path_list;
 mod path_rows;
 mod paths;
-mod place_guesses;
 mod shares;
 mod speller;
 mod text_numbers;

@@ -1,11 +1,10 @@
 //! Names that were made, and the same once each.
-ghost use Rattle.std.specs.Prelude.{◌≡◌, IfOk, Some, true, length, slice_get};
-ghost use Rattle.std.specs.Str.{bytes_eq};
+ghost use Rattle.std.specs.Prelude.{◌≡◌, IfOk};
 ghost use Rattle.func_records.specs.internal.Gathering.{bytes_of};
-ghost use Rattle.func_records.specs.internal.Origins.{IsPlaced, TextsSay};
+ghost use Rattle.func_records.specs.internal.Origins.{TextsSay};
 
-use crate::place_guesses::PlaceGuesses;
 use die_names::EntryNameText;
+use place_guesses::PlaceGuesses;
 use std::alloc::Global;
 use std::marker::Model;
 use sym_edges::OutOfMemory;
@@ -67,32 +66,6 @@ pub struct DistinctNames<'t> {
     pub places: Vec<u32>,
 }
 
-/// Whether a text stands at a place.
-fn stands_at(texts: &[&[u8]], place: u32, text: &[u8]) -> bool
-    ensures { result ≡ true → slice_get (bytes_of texts.now) place ≡ Some text.now }
-{
-    match texts.get(place as usize) {
-        Some(known) => *known == text,
-        None => false,
-    }
-}
-
-/// The place of a text, which is added where it is not known to be there.
-fn place_of<'t>(
-    guesses: &mut PlaceGuesses,
-    slot: usize,
-    texts: &mut Vec<&'t [u8]>,
-    text: &'t [u8],
-) -> Result<u32, OutOfMemory>
-    ensures { IfOk result (λ place. IsPlaced (bytes_of texts.old.items) (bytes_of texts.new.items) text.now place) }
-{
-    let place = guesses.guess(slot);
-    if stands_at(texts.as_slice(), place, text) {
-        return Ok(place);
-    }
-    guesses.add(slot, texts, text)
-}
-
 /// Names once each, but for those whose keys get into each other's way.
 pub fn distinct_names<'t>(
     alloc: Global,
@@ -106,7 +79,7 @@ pub fn distinct_names<'t>(
     'names: for k in 0..names.len() {
         let name = &names[k];
         let slot = guesses.slot_of(name.key);
-        let place = place_of(&mut guesses, slot, &mut texts, name.as_slice())?;
+        let place = guesses.place_or_add(slot, &mut texts, name.as_slice())?;
         places.push(place)?;
     }
     Ok(DistinctNames { texts, places })

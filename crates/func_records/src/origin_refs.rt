@@ -1,13 +1,12 @@
 //! Which entries name the functions that were inlined.
-ghost use Rattle.std.specs.Prelude.{◌≡◌, [], ◌++◌, ◌∷◌, map, length, true, List, ℕ, IfOk, OnOk, Some};
-ghost use Rattle.std.specs.List.{slice_get};
+ghost use Rattle.std.specs.Prelude.{◌≡◌, [], ◌++◌, ◌∷◌, length, List, ℕ, IfOk, OnOk};
 ghost use Rattle.die_names.specs.declared.unit_read.UnitRead.{UnitRead};
-ghost use Rattle.func_records.specs.internal.Origins.{made_name, entry_names, all_names, IsPlaced, RefsSay};
+ghost use Rattle.func_records.specs.internal.Origins.{made_name, entry_names, all_names, RefsSay};
 
-use crate::place_guesses::PlaceGuesses;
-use die_names::{LinkGuesses, NameRef, Units, is_same_ref, name_by};
+use die_names::{LinkGuesses, NameRef, Units, name_by};
 use func_flatten::Piece;
 use inline_chain::{InlineRun, InlineRuns};
+use place_guesses::PlaceGuesses;
 use std::alloc::Global;
 use std::marker::Model;
 use sym_edges::OutOfMemory;
@@ -31,35 +30,9 @@ impl Model for OriginRefs {
     ghost view = { λ o. record { refs = o.refs.items; places = o.places.items } };
 }
 
-/// Whether a reference stands at a place.
-fn stands_at(refs: &[NameRef], place: u32, name: NameRef) -> bool
-    ensures { result ≡ true → slice_get refs.now place ≡ Some name }
-{
-    match refs.get(place as usize) {
-        Some(known) => is_same_ref(*known, name),
-        None => false,
-    }
-}
-
 /// What tells an entry from most others.
 fn key_of(name: NameRef) -> u64 {
     u64::from(name.unit) << 32 | u64::from(name.entry)
-}
-
-/// The place of a reference, which is added where it is not known to be there.
-fn place_of(
-    guesses: &mut PlaceGuesses,
-    slot: usize,
-    refs: &mut Vec<NameRef>,
-    name: NameRef,
-) -> Result<u32, OutOfMemory>
-    ensures { IfOk result (λ place. IsPlaced refs.old.items refs.new.items name place) }
-{
-    let place = guesses.guess(slot);
-    if stands_at(refs.as_slice(), place, name) {
-        return Ok(place);
-    }
-    guesses.add(slot, refs, name)
 }
 
 impl OriginRefs {
@@ -91,7 +64,7 @@ impl OriginRefs {
     fn add(&mut self, slot: usize, name: NameRef) -> Result<(), OutOfMemory>
         ensures { OnOk result ((units : List UnitRead) (names : List (List ℕ)) → RefsSay units self.old names → RefsSay units self.new (names ++ made_name units name ∷ [])) }
     {
-        let place = place_of(&mut self.guesses, slot, &mut self.refs, name)?;
+        let place = self.guesses.place_or_add(slot, &mut self.refs, name)?;
         self.places.push(place)?;
         Ok(())
     }

@@ -1,6 +1,5 @@
 //! The paths that records name, by their numbers.
-ghost use Rattle.std.specs.Prelude.{◌≡◌, ℕ, List, ◌||◌, [], true, Some, IfOk, OnOk};
-ghost use Rattle.std.specs.List.{slice_get};
+ghost use Rattle.std.specs.Prelude.{◌≡◌, ℕ, List, ◌||◌, [], IfOk, OnOk};
 ghost use Rattle.std.specs.Str.{bytes_eq};
 ghost use Rattle.die_names.specs.declared.unit_read.UnitRead.{UnitRead};
 ghost use Rattle.func_flatten.specs.LineRuns.{unit_paths};
@@ -8,9 +7,9 @@ ghost use Rattle.func_records.specs.FuncRecords.{path_in};
 ghost use Rattle.die_names.specs.CallPaths.{no_path};
 ghost use Rattle.func_records.specs.internal.Gathering.{path_at, has_path};
 
-use crate::place_guesses::PlaceGuesses;
 use clean_names::name_omitted;
 use die_names::Units;
+use place_guesses::PlaceGuesses;
 use std::alloc::Global;
 use std::marker::Model;
 use sym_edges::OutOfMemory;
@@ -71,23 +70,6 @@ pub fn path_text<'u>(units: &'u Units<'_>, at: PathRef) -> &'u [u8]
     }
 }
 
-/// Whether both are the same number of the same unit.
-fn is_same(one: PathRef, other: PathRef) -> bool
-    ensures { result ≡ true → one ≡ other }
-{
-    one.unit == other.unit && one.path == other.path
-}
-
-/// Whether a path stands at a place.
-fn stands_at(refs: &[PathRef], place: u32, at: PathRef) -> bool
-    ensures { result ≡ true → slice_get refs.now place ≡ Some at }
-{
-    match refs.get(place as usize) {
-        Some(known) => is_same(*known, at),
-        None => false,
-    }
-}
-
 /// What tells a path from most others.
 fn key_of(at: PathRef) -> u64 {
     match at.path {
@@ -131,10 +113,7 @@ impl PathList {
     fn put(&mut self, slot: usize, at: PathRef) -> Result<(), OutOfMemory>
         ensures { OnOk result ((units : List UnitRead) (path : List ℕ) → has_path units self.new path ≡ (has_path units self.old path || bytes_eq path (path_at units at))) }
     {
-        if stands_at(self.refs.as_slice(), self.guesses.guess(slot), at) {
-            return Ok(());
-        }
-        self.guesses.add(slot, &mut self.refs, at)?;
+        let _place = self.guesses.place_or_add(slot, &mut self.refs, at)?;
         Ok(())
     }
 

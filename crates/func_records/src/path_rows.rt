@@ -6,9 +6,10 @@ ghost use Rattle.func_records.specs.internal.Texts.{text_cmp};
 ghost use Rattle.func_records.specs.internal.Gathering.{bytes_of};
 ghost use Rattle.func_records.specs.internal.Spelling.{number_or_0, unit_numbers};
 
-use crate::gaps::TextGaps;
+use crate::gaps::{new_gaps, number_by};
 use die_names::Units;
 use line_program::LineTable;
+use place_guesses::PlaceGuesses;
 use std::alloc::Global;
 use std::marker::Model;
 use std::thread::Threads;
@@ -20,7 +21,7 @@ fn number_row(
     alloc: Global,
     table: &LineTable,
     sorted: &[&[u8]],
-    gaps: &mut TextGaps,
+    gaps: &mut PlaceGuesses,
 ) -> Result<ListOf<u32>, OutOfMemory>
     requires sorted { IsStrictlySortedBy text_cmp sorted.now }
     requires few { length sorted.now < 2 ^ 32 }
@@ -32,7 +33,7 @@ fn number_row(
     }
     let mut row = Vec::with_capacity(alloc, count)?;
     'paths: for path in 0..count {
-        row.push(gaps.number_of(sorted, table.path(path as u32)))?;
+        row.push(number_by(gaps, sorted, table.path(path as u32)))?;
     }
     Ok(ListOf::of(row))
 }
@@ -67,12 +68,12 @@ impl<'s, 'a> RowMaker<'s, 'a> {
 impl<'s, 'a> UnitJob for RowMaker<'s, 'a> {
     type Out = ListOf<u32>;
 
-    type Scratch = TextGaps;
+    type Scratch = PlaceGuesses;
 
     ghost gives = { λ m k row. Some row ≡ slice_get (unit_numbers (bytes_of m.sorted) m.units) k };
 
-    fn scratch(&self, alloc: Global) -> Result<TextGaps, OutOfMemory> {
-        TextGaps::new(alloc)
+    fn scratch(&self, alloc: Global) -> Result<PlaceGuesses, OutOfMemory> {
+        new_gaps(alloc)
     }
 
     /// A number after the last unit, which no worker draws, has no result.
@@ -81,7 +82,7 @@ impl<'s, 'a> UnitJob for RowMaker<'s, 'a> {
         &self,
         alloc: Global,
         k: usize,
-        gaps: &mut TextGaps,
+        gaps: &mut PlaceGuesses,
     ) -> Result<ListOf<u32>, OutOfMemory> {
         let Some(part) = self.units.as_slice().get(k) else {
             return Err(OutOfMemory);

@@ -1,0 +1,8 @@
+-- Members that are added to a list once.
+use Rattle.std.specs.Prelude.{◌≡◌, ◌⊎◌, ℕ, Bool, true, List, [], ◌∷◌, ◌++◌, length, Some}
+use Rattle.std.specs.List.{slice_get}
+use Rattle.std.specs.Option.{option_map}
+
+-- the same as a member stood at a place, or the member was added there
+abbrev pub IsPlacedBy : {A : Type 0} → (A → A → Bool) → List A → List A → A → ℕ → Type 0
+IsPlacedBy same old new one place = ((new ≡ old) × (option_map (λ m. same m one) (slice_get old place) ≡ Some true)) ⊎ ((new ≡ old ++ one ∷ []) × (place ≡ length old))

@@ -1,0 +1,22 @@
+//! Slots that keep guesses.
+
+/// The slot of a key among so many.
+pub fn slot_of(key: u64, count: usize) -> usize {
+    let mixed = key.wrapping_mul(0x9e37_79b9_7f4a_7c15) >> 32;
+    (mixed.wrapping_mul(count as u64) >> 32) as usize
+}
+
+/// What a slot keeps.
+pub fn guess_at<G: Copy>(slots: &[G], slot: usize) -> Option<G> {
+    match slots.get(slot) {
+        Some(guess) => Some(*guess),
+        None => None,
+    }
+}
+
+/// Lets a slot keep a guess.
+pub fn note_guess<G: Copy + Drop>(slots: &mut [G], slot: usize, guess: G) {
+    if slot < slots.len() {
+        slots[slot] = guess;
+    }
+}
