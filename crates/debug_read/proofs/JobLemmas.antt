@@ -11,7 +11,7 @@ use Rattle.abbrev_units.specs.declared.fault.DwarfKind.{DwarfKind}
 use Rattle.abbrev_units.specs.declared.unit.Unit.{Unit}
 use Rattle.abbrev_units.specs.DebugSections.{DebugSections}
 use Rattle.line_program.specs.LineMaps.{EncloseAlike}
-use Rattle.die_names.specs.declared.unit_read.UnitRead.{UnitRead}
+use Rattle.debug_units.specs.declared.unit_read.UnitRead.{UnitRead}
 use Rattle.debug_read.specs.Each.{each_of, Match, Says}
 use Rattle.debug_read.specs.UnitSays.{UnitSays, unit_says}
 use Rattle.debug_read.specs.UnitsRead.{IsUnitRead}

@@ -24,7 +24,7 @@ use Rattle.range_set.specs.Enclosing.{encloses}
 use Rattle.line_program.specs.LineMaps.{LineMap, EncloseAlike, no_lines}
 use Rattle.line_program.specs.LineRows.{State, line_rows}
 use Rattle.line_program.specs.LineTables.{lines_of, lines_at, unit_lines, Says as SaysTable}
-use Rattle.die_names.specs.declared.unit_read.UnitRead.{UnitRead}
+use Rattle.debug_units.specs.declared.unit_read.UnitRead.{UnitRead}
 use Rattle.debug_read.specs.declared.unit_tables.UnitFound.{UnitFound}
 use Rattle.debug_read.specs.Each.{Match, Says}
 use Rattle.debug_read.specs.UnitSays.{lines_by, root_lines}

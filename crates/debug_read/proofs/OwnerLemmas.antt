@@ -9,9 +9,9 @@ use Rattle.range_set.specs.Members.{holds, holds_any}
 use Rattle.range_set.specs.Starts.{AllFrom}
 use Rattle.range_lists.specs.EntryRanges.{in_pairs}
 use Rattle.die_walk.specs.EntryTable.{DieFields}
-use Rattle.die_names.specs.declared.unit_read.UnitRead.{UnitRead}
+use Rattle.debug_units.specs.declared.unit_read.UnitRead.{UnitRead}
 use Rattle.die_walk.specs.EntryKinds.{is_function}
-use Rattle.die_names.specs.Owners.{Covering, unit_covering, covering_from, owner}
+use Rattle.debug_units.specs.Owners.{Covering, unit_covering, covering_from, owner}
 use Rattle.debug_read.specs.Each.{Match}
 use Rattle.debug_read.specs.UnitSays.{UnitSays}
 use Rattle.debug_read.specs.UnitsRead.{IsSet, IsUnitRead}

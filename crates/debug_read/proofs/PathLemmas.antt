@@ -24,7 +24,7 @@ use Rattle.line_program.specs.LineMaps.{LineMap, with_path, paths_from}
 use Rattle.line_program.specs.LineRows.{State, line_rows}
 use Rattle.line_program.specs.LineTables.{lines_of, lines_at, unit_lines}
 use Rattle.line_program.specs.Paths.{directories_of, file_path}
-use Rattle.die_names.specs.declared.unit_read.UnitRead.{UnitRead}
+use Rattle.debug_units.specs.declared.unit_read.UnitRead.{UnitRead}
 use Rattle.sym_edges.specs.declared.part.Sect.TheVariants.{EhFrame, DebugFrame}
 use Rattle.abbrev_units.specs.UnitPlaces.{read_units}
 use Rattle.abbrev_units.specs.Units.{units_in}
@@ -39,7 +39,7 @@ use Rattle.debug_read.specs.ImageSections.{sections_of}
 use Rattle.debug_read.specs.UnitSays.{UnitSays, lines_by, root_lines, unit_says}
 use Rattle.debug_read.specs.UnitsRead.{IsUnitRead, KeepsLines, has_function}
 use Rattle.clean_names.specs.Cleaning.{AreClean}
-use Rattle.die_names.specs.CleanPaths.{HaveCleanPaths}
+use Rattle.debug_units.specs.CleanPaths.{HaveCleanPaths}
 use Rattle.clean_names.proofs.CleanLemmas.{cleaned_again}
 
 -- what holds of what is read, where it is read

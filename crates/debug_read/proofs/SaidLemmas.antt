@@ -12,8 +12,8 @@ use Rattle.die_walk.specs.EntryKinds.{is_function, is_inlined}
 use Rattle.range_lists.specs.EntryRanges.{in_pairs}
 use Rattle.line_program.specs.LineAt.{Lines, line_at}
 use Rattle.line_program.specs.LineMaps.{LineMap, named_line, numbered_line}
-use Rattle.die_names.specs.declared.unit_read.UnitRead.{UnitRead}
-use Rattle.die_names.specs.Owners.{Covering, unit_covering, covering_from, owner, inside_of, chain_from, chain_by, chain_under, entry_chain, chain, line_in, line_under, line}
+use Rattle.debug_units.specs.declared.unit_read.UnitRead.{UnitRead}
+use Rattle.debug_units.specs.Owners.{Covering, unit_covering, covering_from, owner, inside_of, chain_from, chain_by, chain_under, entry_chain, chain, line_in, line_under, line}
 use Rattle.debug_read.specs.Each.{Match}
 use Rattle.debug_read.specs.UnitSays.{UnitSays}
 use Rattle.debug_read.specs.UnitsRead.{IsSet, IsUnitRead, KeepsLines, has_function}

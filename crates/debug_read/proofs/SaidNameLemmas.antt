@@ -9,11 +9,11 @@ use Rattle.die_walk.specs.EntryTable.{DieFields, EntryTable}
 use Rattle.die_walk.specs.EntryKinds.{is_inlined}
 use Rattle.line_program.specs.LineAt.{Lines, path_of}
 use Rattle.line_program.specs.LineMaps.{LineMap, no_lines, numbered_file}
-use Rattle.die_names.specs.declared.unit_read.UnitRead.{UnitRead}
+use Rattle.debug_units.specs.declared.unit_read.UnitRead.{UnitRead}
 use Rattle.die_names.specs.Names.{entry_name}
-use Rattle.die_names.specs.EntriesAlone.{with_entries}
-use Rattle.die_names.specs.CallPaths.{no_path, file_path, file_path_in, path_of_call}
-use Rattle.die_names.specs.Owners.{Covering, unit_covering, inside_of, chain_from, chain_by, chain_under, entry_chain, chain, owner}
+use Rattle.debug_units.specs.EntriesAlone.{with_entries}
+use Rattle.debug_units.specs.CallPaths.{no_path, file_path, file_path_in, path_of_call}
+use Rattle.debug_units.specs.Owners.{Covering, unit_covering, inside_of, chain_from, chain_by, chain_under, entry_chain, chain, owner}
 use Rattle.die_names.proofs.AloneLemmas.{alone, name_alone}
 use Rattle.debug_read.specs.Each.{Match}
 use Rattle.debug_read.specs.UnitSays.{UnitSays}

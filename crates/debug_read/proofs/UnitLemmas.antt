@@ -12,11 +12,11 @@ use Rattle.die_walk.specs.EntryTable.{DieFields, RootFields, EntryTable, entry_t
 use Rattle.range_lists.specs.EntryRanges.{unit_base, pairs_of, in_ranges}
 use Rattle.line_program.specs.LineAt.{Lines}
 use Rattle.line_program.specs.LineMaps.{LineMap}
-use Rattle.die_names.specs.declared.unit_read.UnitRead.{UnitRead}
+use Rattle.debug_units.specs.declared.unit_read.UnitRead.{UnitRead}
 use Rattle.die_walk.specs.EntryKinds.{counts}
-use Rattle.die_names.specs.UnitEntries.{ArePaired, ArePairs}
+use Rattle.debug_units.specs.UnitEntries.{ArePaired, ArePairs}
 use Rattle.die_walk.specs.EntryPlaces.{RisesTo}
-use Rattle.die_names.specs.UnitTables.{IsTable, AreTables}
+use Rattle.debug_units.specs.UnitTables.{IsTable, AreTables}
 use Rattle.die_walk.proofs.EntryPlaceLemmas.{places_rise}
 use Rattle.debug_read.specs.Each.{each_of, Match, Says}
 use Rattle.debug_read.specs.UnitSays.{UnitSays, root_lines, unit_says}

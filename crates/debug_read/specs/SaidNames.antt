@@ -2,8 +2,8 @@
 use Rattle.std.specs.Prelude.{ℕ, List, map, Option, None, Some, unwrap_or, option_and_then, codes}
 use Rattle.std.specs.List.{slice_get}
 use Rattle.line_program.specs.LineAt.{path_of}
-use Rattle.die_names.specs.declared.unit_read.UnitRead.{UnitRead}
-use Rattle.die_names.specs.EntriesAlone.{with_entries}
+use Rattle.debug_units.specs.declared.unit_read.UnitRead.{UnitRead}
+use Rattle.debug_units.specs.EntriesAlone.{with_entries}
 use Rattle.die_names.specs.Names.{entry_name}
 use Rattle.debug_read.specs.UnitSays.{UnitSays}
 use Rattle.debug_read.specs.SaidOwners.{SaidEntry}

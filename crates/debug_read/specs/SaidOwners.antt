@@ -8,7 +8,7 @@ use Rattle.die_walk.specs.EntryTable.{DieFields}
 use Rattle.die_walk.specs.EntryKinds.{is_function, is_inlined}
 use Rattle.range_lists.specs.EntryRanges.{in_pairs}
 use Rattle.line_program.specs.LineAt.{line_at}
-use Rattle.die_names.specs.Owners.{Covering, inside_of}
+use Rattle.debug_units.specs.Owners.{Covering, inside_of}
 use Rattle.debug_read.specs.UnitSays.{UnitSays}
 
 -- an entry with its numbers and the pairs of addresses that it gives

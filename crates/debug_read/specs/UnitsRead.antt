@@ -11,7 +11,7 @@ use Rattle.die_walk.specs.EntryTable.{DieFields}
 use Rattle.range_lists.specs.EntryRanges.{in_pairs}
 use Rattle.line_program.specs.LineAt.{Lines}
 use Rattle.line_program.specs.LineMaps.{LineMap, no_lines, SaysLines}
-use Rattle.die_names.specs.declared.unit_read.UnitRead.{UnitRead}
+use Rattle.debug_units.specs.declared.unit_read.UnitRead.{UnitRead}
 use Rattle.die_walk.specs.EntryKinds.{is_function}
 use Rattle.debug_read.specs.Each.{Match}
 use Rattle.debug_read.specs.UnitSays.{UnitSays}

@@ -1,6 +1,6 @@
 //! What is read of a file's debugging information.
 use abbrev_units::UnitList;
-use die_names::Units;
+use debug_units::Units;
 use frame_entries::EntryList;
 
 /// The headers of all units, the units that are read, in the order of their headers, and the frame entries of `.eh_frame` and of

@@ -10,7 +10,7 @@ ghost use Rattle.debug_read.specs.internal.Owing.{IsFor, IsTable, TableBy, Whole
 use crate::lines::comp_dir_of;
 use crate::unit_tables::UnitFound;
 use abbrev_units::{DwarfFault, Sections};
-use die_names::SharedLines;
+use debug_units::SharedLines;
 use die_walk::Root;
 use line_program::{LineScratch, LineTable, read_lines};
 use range_set::Enclosing;

@@ -7,7 +7,7 @@ ghost use Rattle.debug_read.specs.Each.{each_of, Match, Says};
 ghost use Rattle.debug_read.specs.UnitsRead.{IsSet};
 
 use abbrev_units::{DwarfFault, Sections, Unit};
-use die_names::SpanSets;
+use debug_units::SpanSets;
 use die_walk::DieTable;
 use range_lists::laws::lists_at_one_place;
 use range_lists::{counts_at, listed_at, ranges_of};

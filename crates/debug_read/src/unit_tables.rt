@@ -9,7 +9,7 @@ ghost use Rattle.debug_read.specs.internal.Owing.{AreKnown, LinesAre, Settles};
 use crate::lines::read_table;
 use crate::named_tables::{NamedTable, TableRead, find_table, name_of, read_tables};
 use abbrev_units::{DwarfFault, Sections};
-use die_names::{SharedLines, SpanSets, UnitRead};
+use debug_units::{SharedLines, SpanSets, UnitRead};
 use die_walk::{DieTable, Root};
 use line_program::LineTable;
 use range_set::Enclosing;

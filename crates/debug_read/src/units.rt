@@ -18,7 +18,7 @@ use crate::ranges::read_sets;
 use crate::shared_abbrevs::{SharedAbbrevs, read_shared, unit_at};
 use crate::unit_tables::{UnitFound, settle_units};
 use abbrev_units::{AbbrevScratch, Abbrevs, DwarfFault, Sections, Unit, UnitPart};
-use die_names::{UnitRead, Units};
+use debug_units::{UnitRead, Units};
 use die_walk::walk;
 use range_lists::laws::code_by_what_it_encloses;
 use range_lists::unit_base;

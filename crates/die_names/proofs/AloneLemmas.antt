@@ -7,10 +7,10 @@ use Rattle.std.proofs.lemmas.Option.{slice_get-map}
 use Rattle.clean_names.specs.Cleaning.{cleaned}
 use Rattle.abbrev_units.specs.Attributes.{or_else}
 use Rattle.die_walk.specs.EntryTable.{DieFields}
-use Rattle.die_names.specs.declared.unit_read.UnitRead.{UnitRead}
-use Rattle.die_names.specs.UnitEntries.{Placed, unit_entries, entries_from, entry_at, entry_in, entry_of}
+use Rattle.debug_units.specs.declared.unit_read.UnitRead.{UnitRead}
+use Rattle.debug_units.specs.UnitEntries.{Placed, unit_entries, entries_from, entry_at, entry_in, entry_of}
 use Rattle.die_names.specs.Names.{link_of, linked_from, way, dies_of, front_in, front_of, first_linkage, first_joined, name_on, entry_name}
-use Rattle.die_names.specs.EntriesAlone.{entries_alone}
+use Rattle.debug_units.specs.EntriesAlone.{entries_alone}
 
 abbrev pub alone : List UnitRead → List UnitRead
 alone us = map entries_alone us

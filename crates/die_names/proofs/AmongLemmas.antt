@@ -10,8 +10,8 @@ use Rattle.sym_edges.specs.Rising.{RisesFrom}
 use Rattle.sym_edges.proofs.RisingLemmas.{rises_lower}
 use Rattle.die_walk.specs.EntryTable.{DieFields}
 use Rattle.die_names.specs.declared.entry_search.Standing.{Standing}
-use Rattle.die_names.specs.declared.unit_read.UnitRead.{UnitRead}
-use Rattle.die_names.specs.UnitEntries.{Placed, unit_entries, entries_from, entry_in, entry_at, entry_of, places}
+use Rattle.debug_units.specs.declared.unit_read.UnitRead.{UnitRead}
+use Rattle.debug_units.specs.UnitEntries.{Placed, unit_entries, entries_from, entry_in, entry_at, entry_of, places}
 use Rattle.die_names.specs.internal.Finding.{is_at, found_in, found_from, found, moved, die_count, IsInside}
 use Rattle.die_names.proofs.FindLemmas.{dies_places}
 

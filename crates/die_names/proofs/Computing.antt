@@ -2,7 +2,7 @@
 use Rattle.std.specs.Prelude.{⊤}
 use Rattle.clean_names.proofs.Computing.{clean_names_computes}
 use Rattle.die_walk.specs.EntryKinds.{is_function, is_inlined, counts, is_scope}
-use Rattle.die_names.specs.UnitEntries.{entry_at, entry_of}
+use Rattle.debug_units.specs.UnitEntries.{entry_at, entry_of}
 use Rattle.die_names.specs.Names.{way, around, scope_front, front_of, entry_name}
 
 unfoldable pub die_names_computes : ⊤

@@ -7,7 +7,7 @@ use Rattle.std.proofs.lemmas.Option.{slice_get_within, get_or_from_slice_get}
 use Rattle.sym_edges.specs.Rising.{RisesFrom, StandBelow}
 use Rattle.sym_edges.proofs.RisingLemmas.{differ_below, differ_all, differ_other}
 use Rattle.die_walk.specs.EntryTable.{DieFields}
-use Rattle.die_names.specs.UnitEntries.{Placed, unit_entries}
+use Rattle.debug_units.specs.UnitEntries.{Placed, unit_entries}
 use Rattle.die_names.specs.internal.Finding.{is_at, found_in}
 
 abbrev pub dies_places : List DieFields → List ℕ

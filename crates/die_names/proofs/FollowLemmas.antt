@@ -9,9 +9,9 @@ use Rattle.die_walk.specs.EntryTable.{DieFields}
 use Rattle.die_names.specs.declared.name_source.How.TheVariants.{Linkage}
 use Rattle.die_names.specs.declared.name_source.NameRef.{NameRef}
 use Rattle.die_names.specs.declared.entry_search.Standing.{Standing}
-use Rattle.die_names.specs.declared.unit_read.EntryRef.{EntryRef}
-use Rattle.die_names.specs.declared.unit_read.UnitRead.{UnitRead}
-use Rattle.die_names.specs.UnitEntries.{Placed, AreRead, entry_in, entry_of, die_from, die_in, places}
+use Rattle.debug_units.specs.declared.unit_read.EntryRef.{EntryRef}
+use Rattle.debug_units.specs.declared.unit_read.UnitRead.{UnitRead}
+use Rattle.debug_units.specs.UnitEntries.{Placed, AreRead, entry_in, entry_of, die_from, die_in, places}
 use Rattle.die_names.specs.Names.{way, linked_from}
 use Rattle.die_names.specs.NameRefs.{name_at, has_linkage}
 use Rattle.die_names.specs.internal.Finding.{found, die_count, IsInside}

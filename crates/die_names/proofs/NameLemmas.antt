@@ -9,8 +9,8 @@ use Rattle.abbrev_units.specs.Attributes.{or_else}
 use Rattle.die_walk.specs.EntryTable.{DieFields}
 use Rattle.die_names.specs.declared.name_source.How.TheVariants.{Linkage, Joined, Omitted}
 use Rattle.die_names.specs.declared.name_source.NameRef.{NameRef}
-use Rattle.die_names.specs.declared.unit_read.UnitRead.{UnitRead}
-use Rattle.die_names.specs.UnitEntries.{Placed, unit_entries, entries_from, entry_in, entry_at, entry_of}
+use Rattle.debug_units.specs.declared.unit_read.UnitRead.{UnitRead}
+use Rattle.debug_units.specs.UnitEntries.{Placed, unit_entries, entries_from, entry_in, entry_at, entry_of}
 use Rattle.die_names.specs.Names.{way, linked_from, link_of, front_of, first_linkage, first_joined, entry_name}
 use Rattle.die_names.specs.NameRefs.{name_at, has_linkage, has_name, joined_or, linkage_or, name_ref, bytes_by, name_bytes}
 use Rattle.die_names.specs.internal.Finding.{is_at}

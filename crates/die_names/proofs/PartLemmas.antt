@@ -6,7 +6,7 @@ use Rattle.die_walk.specs.EntryTable.{DieFields}
 use Rattle.die_names.specs.declared.name_source.How.{How}
 use Rattle.die_names.specs.declared.name_source.How.TheVariants.{Linkage, Joined, Omitted}
 use Rattle.die_names.specs.declared.name_source.NameRef.{NameRef}
-use Rattle.die_names.specs.declared.unit_read.UnitRead.{UnitRead}
+use Rattle.debug_units.specs.declared.unit_read.UnitRead.{UnitRead}
 use Rattle.die_names.specs.Names.{front_of}
 use Rattle.die_names.specs.NameRefs.{name_bytes, joined_bytes}
 use Rattle.die_names.proofs.TextLemmas.{placed, named, text_is, text_no_part, text_no_die, text_no_name, text_omitted}

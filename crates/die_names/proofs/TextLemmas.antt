@@ -7,8 +7,8 @@ use Rattle.die_walk.specs.EntryTable.{DieFields}
 use Rattle.die_names.specs.declared.name_source.How.{How}
 use Rattle.die_names.specs.declared.name_source.How.TheVariants.{Linkage, Joined, Omitted}
 use Rattle.die_names.specs.declared.name_source.NameRef.{NameRef}
-use Rattle.die_names.specs.declared.unit_read.UnitRead.{UnitRead}
-use Rattle.die_names.specs.UnitEntries.{Placed, entry_in, entry_of}
+use Rattle.debug_units.specs.declared.unit_read.UnitRead.{UnitRead}
+use Rattle.debug_units.specs.UnitEntries.{Placed, entry_in, entry_of}
 use Rattle.die_walk.specs.EntryKinds.{is_scope}
 use Rattle.die_names.specs.Names.{around, scope_name, scope_front, front_at, fronts, front_in, front_of, dies_of}
 use Rattle.die_names.specs.NameRefs.{bytes_by, name_bytes, unless_front, slice_by, name_slice}

@@ -1,10 +1,10 @@
 -- Worked rows: the names of entries.
 use Rattle.std.proofs.Common.{◌≡◌, ℕ, List, [], ◌∷◌, map, Option, Some, None, codes, suc, zero, ◌+◌, true, refl}
 use Rattle.die_walk.specs.EntryTable.{DieFields}
-use Rattle.die_names.specs.declared.unit_read.UnitRead.{UnitRead}
+use Rattle.debug_units.specs.declared.unit_read.UnitRead.{UnitRead}
 use Rattle.die_names.specs.Names.{entry_name}
 use Rattle.die_names.proofs.Computing.{die_names_computes}
-use Rattle.die_names.proofs.MadeUnits.{bare_entry, bare_unit}
+use Rattle.debug_units.proofs.MadeUnits.{bare_entry, bare_unit}
 
 -- an entry by its place, tag and parent, what it is linked to, and its names
 unfoldable die : ℕ → ℕ → Option ℕ → Option ℕ → Option ℕ → Option (List ℕ) → Option (List ℕ) → DieFields

@@ -11,11 +11,11 @@ use Rattle.abbrev_units.specs.Abbreviations.{abbrevs_of}
 use Rattle.abbrev_units.specs.Units.{units_in}
 use Rattle.die_walk.specs.EntryTable.{DieFields, EntryTable, entry_table}
 use Rattle.die_walk.proofs.Computing.{die_walk_computes}
-use Rattle.die_names.specs.declared.unit_read.UnitRead.{UnitRead}
+use Rattle.debug_units.specs.declared.unit_read.UnitRead.{UnitRead}
 use Rattle.die_names.specs.Names.{entry_name}
 use Rattle.abbrev_units.specs.UnitPlaces.{read_units}
 use Rattle.die_names.proofs.Computing.{die_names_computes}
-use Rattle.die_names.proofs.MadeUnits.{bare_unit}
+use Rattle.debug_units.proofs.MadeUnits.{bare_unit}
 
 -- 1: a unit with children. 2: a subprogram by name. 3: one by DW_AT_abstract_origin, DW_FORM_ref_addr. 4: a variable by name.
 -- 5: a lexical block with children. 6: an enumeration with children, by name. 7: a class with children, by name. 8: a subprogram with

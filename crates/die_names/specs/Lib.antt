@@ -1,9 +1,3 @@
-pub mod UnitEntries
-pub mod UnitTables
 pub mod Names
 pub mod NameRefs
-pub mod Owners
-pub mod CleanPaths
-pub mod CallPaths
-pub mod EntriesAlone
 pub mod internal

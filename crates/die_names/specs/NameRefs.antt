@@ -5,8 +5,8 @@ use Rattle.std.specs.Option.{option_map, option_map_or, is_some}
 use Rattle.die_names.specs.declared.name_source.How.{How}
 use Rattle.die_names.specs.declared.name_source.How.TheVariants.{Linkage, Joined, Omitted}
 use Rattle.die_names.specs.declared.name_source.NameRef.{NameRef}
-use Rattle.die_names.specs.declared.unit_read.UnitRead.{UnitRead}
-use Rattle.die_names.specs.UnitEntries.{Placed, entry_of}
+use Rattle.debug_units.specs.declared.unit_read.UnitRead.{UnitRead}
+use Rattle.debug_units.specs.UnitEntries.{Placed, entry_of}
 use Rattle.die_names.specs.Names.{way, front_of}
 
 abbrev pub name_at : Placed → How → NameRef

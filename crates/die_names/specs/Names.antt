@@ -6,8 +6,8 @@ use Rattle.clean_names.specs.Cleaning.{cleaned}
 use Rattle.abbrev_units.specs.Attributes.{or_else}
 use Rattle.die_walk.specs.EntryKinds.{is_scope}
 use Rattle.die_walk.specs.EntryTable.{DieFields}
-use Rattle.die_names.specs.declared.unit_read.UnitRead.{UnitRead}
-use Rattle.die_names.specs.UnitEntries.{Placed, entry_at, entry_of}
+use Rattle.debug_units.specs.declared.unit_read.UnitRead.{UnitRead}
+use Rattle.debug_units.specs.UnitEntries.{Placed, entry_at, entry_of}
 
 -- where an entry says that it belongs to: its abstract origin, or else its specification
 abbrev pub link_of : DieFields → Option ℕ

@@ -3,4 +3,3 @@ pub mod Finding
 pub mod Following
 pub mod Gathering
 pub mod KeptNames
-pub mod NumberedSets

@@ -3,10 +3,10 @@ ghost use Rattle.std.specs.Prelude.{◌≡◌, ◌+◌, ◌<◌, ◌^◌, ℕ, m
 ghost use Rattle.std.specs.List.{find};
 ghost use Rattle.sym_edges.specs.Rising.{RisesFrom};
 ghost use Rattle.die_walk.specs.EntryTable.{DieFields};
-ghost use Rattle.die_names.specs.UnitEntries.{AreRead, places, unit_entries, entries_from, entry_at};
+ghost use Rattle.debug_units.specs.UnitEntries.{AreRead, places, unit_entries, entries_from, entry_at};
 ghost use Rattle.die_names.specs.internal.Finding.{is_at, found_in, found_from, found, moved, IsInside};
 
-use crate::unit_read::{EntryRef, UnitRead};
+use debug_units::{EntryRef, UnitRead};
 use die_walk::DieList;
 use place_guesses::{guess_at, note_guess, slot_of};
 

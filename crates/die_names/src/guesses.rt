@@ -1,5 +1,5 @@
 //! Where links led: guesses of where the next one leads.
-use crate::unit_read::EntryRef;
+use debug_units::EntryRef;
 use std::alloc::Global;
 use sym_edges::OutOfMemory;
 

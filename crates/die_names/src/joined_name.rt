@@ -10,8 +10,8 @@ ghost use Rattle.die_names.specs.internal.Gathering.{scopes_of};
 
 use crate::kept::{EntryNameText, whole_name};
 use crate::name_source::{How, NameRef};
-use crate::unit_read::Units;
 use clean_names::{NAME_LIMIT, clean, name_omitted};
+use debug_units::Units;
 use die_walk::{Die, DieList};
 use std::alloc::Global;
 use sym_edges::{ByteRun, OutOfMemory};

@@ -7,8 +7,8 @@ ghost use Rattle.die_names.specs.NameRefs.{name_bytes};
 
 use crate::joined_name::name_slice;
 use crate::name_source::NameRef;
-use crate::unit_read::Units;
 use clean_names::NAME_LIMIT;
+use debug_units::Units;
 use std::marker::Model;
 use sym_edges::ByteRun;
 

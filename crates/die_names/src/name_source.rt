@@ -1,7 +1,7 @@
 //! Which entry gives a name.
 ghost use Rattle.std.specs.Prelude.{◌≡◌, true, if◌then◌else◌};
 ghost use Rattle.clean_names.specs.Cleaning.{cleaned};
-ghost use Rattle.die_names.specs.UnitEntries.{entry_of};
+ghost use Rattle.debug_units.specs.UnitEntries.{entry_of};
 ghost use Rattle.die_names.specs.Names.{way, entry_name, linked_from};
 ghost use Rattle.die_names.specs.NameRefs.{name_ref, name_bytes};
 ghost use Rattle.die_names.specs.internal.Finding.{found};
@@ -9,7 +9,7 @@ ghost use Rattle.die_names.specs.internal.Following.{followed, noted_at};
 
 use crate::entry_search::find_entry;
 use crate::guesses::LinkGuesses;
-use crate::unit_read::{EntryRef, Units};
+use debug_units::{EntryRef, Units};
 use die_walk::Die;
 
 /// How an entry gives a name.
@@ -118,7 +118,7 @@ fn follow(
 }
 
 /// The entry that gives the name of an entry, by these guesses of where links lead.
-#[tactic(auto, using(crate::proofs::NameLemmas::reference_is, crate::proofs::NameLemmas::name_from), unfolding(crate::specs::UnitEntries::entry_of))]
+#[tactic(auto, using(crate::proofs::NameLemmas::reference_is, crate::proofs::NameLemmas::name_from), unfolding(debug_units::specs::UnitEntries::entry_of))]
 fn name_among(units: &Units<'_>, unit: u32, entry: u32, guesses: &mut [EntryRef]) -> NameRef
     ensures reference { result ≡ name_ref units.now unit entry }
     ensures name { cleaned (name_bytes units.now result) ≡ entry_name units.now unit entry }

@@ -3,8 +3,8 @@ ghost use Rattle.std.specs.Prelude.{◌≡◌};
 ghost use Rattle.die_names.specs.NameRefs.{name_bytes, joined_bytes};
 
 use crate::name_source::{How, NameRef};
-use crate::unit_read::Units;
 use clean_names::name_omitted;
+use debug_units::Units;
 
 /// The bytes of a name as they stand in the file, and whether the names of the scopes around its entry go in front of them.
 #[derive(Clone, Copy, Debug)]

@@ -14,7 +14,7 @@ use Rattle.sym_records.specs.declared.line.SymLine.{SymLine}
 use Rattle.sym_records.proofs.JoiningLemmas.{from_here, join_fits, join_behind}
 use Rattle.sym_records.proofs.SpelledLemmas.{spelled, spelled_records}
 use Rattle.sym_meaning.specs.Findings.{are_sized}
-use Rattle.die_names.specs.declared.unit_read.UnitRead.{UnitRead}
+use Rattle.debug_units.specs.declared.unit_read.UnitRead.{UnitRead}
 use Rattle.rule_postfix.specs.Written.{omitted, written, written_lines}
 use Rattle.rule_postfix.specs.Covering.{SaysFrames}
 use Rattle.rule_postfix.specs.FrameMeaning.{KeepsFrames}

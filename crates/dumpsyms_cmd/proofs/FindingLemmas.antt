@@ -6,7 +6,7 @@ use Rattle.sym_records.specs.declared.line.SymLine.{SymLine}
 use Rattle.sym_meaning.specs.Findings.{are_sized, HasNoFuncFindings, HasNoFindings}
 use Rattle.rule_postfix.specs.Covering.{SaysFrames}
 use Rattle.rule_postfix.proofs.SayingLemmas.{written_once}
-use Rattle.die_names.specs.declared.unit_read.UnitRead.{UnitRead}
+use Rattle.debug_units.specs.declared.unit_read.UnitRead.{UnitRead}
 use Rattle.func_flatten.specs.declared.piece.Piece.{Piece}
 use Rattle.func_flatten.specs.Pieces.{ArePieces}
 use Rattle.func_records.specs.FuncRecords.{AreFuncRecords, BeginAbove, EndBelow}

@@ -18,9 +18,9 @@ use Rattle.step_maps.specs.Stepping.{Stepping, value_at}
 use Rattle.step_maps.specs.Covers.{AreStretches, reaches, first_at, index_at, is_shared, first_item, cover_run, AreMarked, AreCovers}
 use Rattle.step_maps.proofs.MaximalLemmas.{maximal}
 use Rattle.step_maps.proofs.SteppingLemmas.{Point}
-use Rattle.die_names.specs.declared.unit_read.UnitRead.{UnitRead}
-use Rattle.die_names.specs.Owners.{Covering}
-use Rattle.die_names.specs.declared.unit_read.EntryRef.{EntryRef}
+use Rattle.debug_units.specs.declared.unit_read.UnitRead.{UnitRead}
+use Rattle.debug_units.specs.Owners.{Covering}
+use Rattle.debug_units.specs.declared.unit_read.EntryRef.{EntryRef}
 use Rattle.func_flatten.specs.Pieces.{place_of, covering_name, is_many}
 use Rattle.step_maps.specs.SpanStretches.{span_stretches}
 use Rattle.func_flatten.specs.internal.Collecting.{function_stretches, own_class}

@@ -9,11 +9,11 @@ use Rattle.sym_edges.specs.Addresses.{Range}
 use Rattle.range_set.specs.Canonical.{IsCanonical}
 use Rattle.step_maps.specs.declared.stretch.Stretch.{Stretch}
 use Rattle.die_walk.specs.EntryTable.{DieFields}
-use Rattle.die_names.specs.declared.unit_read.UnitRead.{UnitRead}
+use Rattle.debug_units.specs.declared.unit_read.UnitRead.{UnitRead}
 use Rattle.die_walk.specs.EntryKinds.{is_function}
-use Rattle.die_names.specs.UnitEntries.{places}
-use Rattle.die_names.specs.Owners.{Covering, unit_covering, covering_from}
-use Rattle.die_names.specs.declared.unit_read.EntryRef.{EntryRef}
+use Rattle.debug_units.specs.UnitEntries.{places}
+use Rattle.debug_units.specs.Owners.{Covering, unit_covering, covering_from}
+use Rattle.debug_units.specs.declared.unit_read.EntryRef.{EntryRef}
 use Rattle.func_flatten.specs.Pieces.{place_of, covering_name}
 use Rattle.step_maps.specs.SpanStretches.{span_stretches}
 use Rattle.func_flatten.specs.declared.set_owners.Meeting.TheVariants.{Known}

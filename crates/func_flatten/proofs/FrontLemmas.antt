@@ -10,10 +10,10 @@ use Rattle.std.specs.Option.{option_map_or}
 use Rattle.std.specs.Ordering.{nat_cmp}
 use Rattle.die_walk.specs.EntryKinds.{is_scope}
 use Rattle.die_walk.specs.EntryTable.{DieFields}
-use Rattle.die_names.specs.declared.unit_read.EntryRef.{EntryRef}
-use Rattle.die_names.specs.declared.unit_read.UnitRead.{UnitRead}
+use Rattle.debug_units.specs.declared.unit_read.EntryRef.{EntryRef}
+use Rattle.debug_units.specs.declared.unit_read.UnitRead.{UnitRead}
 use Rattle.die_names.specs.Names.{around, scope_name, scope_front, front_at, fronts, dies_of, front_of}
-use Rattle.die_names.specs.UnitEntries.{Placed, die_from, die_in}
+use Rattle.debug_units.specs.UnitEntries.{Placed, die_from, die_in}
 use Rattle.func_flatten.specs.declared.name_blocks.NameKey.{NameKey}
 use Rattle.clean_names.specs.Names.{skip}
 use Rattle.func_flatten.specs.internal.NameBlocks.{kept_upto, kept, kept_more, BlockNumbers, Grows, IsKey}

@@ -10,9 +10,9 @@ use Rattle.range_set.specs.Members.{holds, holds_any}
 use Rattle.range_set.specs.Canonical.{IsCanonical}
 use Rattle.step_maps.specs.declared.stretch.Stretch.{Stretch}
 use Rattle.step_maps.specs.Covers.{reaches, first_at, index_at}
-use Rattle.die_names.specs.declared.unit_read.UnitRead.{UnitRead}
+use Rattle.debug_units.specs.declared.unit_read.UnitRead.{UnitRead}
 use Rattle.die_walk.specs.EntryKinds.{is_function}
-use Rattle.die_names.specs.Owners.{Covering, covering_from, owner}
+use Rattle.debug_units.specs.Owners.{Covering, covering_from, owner}
 use Rattle.func_flatten.specs.Pieces.{owns, covering_name, has_other, is_many}
 use Rattle.func_flatten.specs.internal.Classes.{has_other_name}
 use Rattle.step_maps.specs.SpanStretches.{span_stretches}

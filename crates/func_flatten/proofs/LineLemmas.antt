@@ -12,8 +12,8 @@ use Rattle.func_flatten.specs.declared.line_run.LineRun.{LineRun}
 use Rattle.func_flatten.specs.declared.piece.Piece.{Piece}
 use Rattle.func_flatten.specs.LineRuns.{number_run, number_line_in, unit_number_line, unit_line, unit_paths, paths_in, path_line, path_run, AreLineRuns}
 use Rattle.func_flatten.proofs.MappedRuns.{map_run, mapped_value, AllValues, apart_mapped}
-use Rattle.die_names.specs.declared.unit_read.UnitRead.{UnitRead}
-use Rattle.die_names.specs.Owners.{line_in}
+use Rattle.debug_units.specs.declared.unit_read.UnitRead.{UnitRead}
+use Rattle.debug_units.specs.Owners.{line_in}
 use Rattle.std.specs.Option.{option_map}
 use Rattle.func_flatten.specs.internal.Growing.{added, added_after, Grown, same_mark, continues, with_run_after, with_run, with_part, AreKnown, IsKnown, Walks}
 use Rattle.func_flatten.proofs.CollectLemmas.{drop_index}

@@ -14,9 +14,9 @@ use Rattle.std.specs.Ordering.{nat_cmp, is_eq}
 use Rattle.std.specs.Str.{bytes_eq}
 use Rattle.clean_names.specs.Names.{skip}
 use Rattle.clean_names.specs.Cleaning.{cleaned, or_omitted}
-use Rattle.die_names.specs.declared.unit_read.UnitRead.{UnitRead}
+use Rattle.debug_units.specs.declared.unit_read.UnitRead.{UnitRead}
 use Rattle.die_names.specs.declared.name_source.NameRef.{NameRef}
-use Rattle.die_names.specs.UnitEntries.{entry_in, entry_of}
+use Rattle.debug_units.specs.UnitEntries.{entry_in, entry_of}
 use Rattle.die_walk.specs.EntryTable.{DieFields}
 use Rattle.die_names.specs.Names.{around, fronts, front_at, front_in, front_of, dies_of}
 use Rattle.die_names.specs.NameRefs.{scopes_of, joined_bytes}

@@ -9,10 +9,10 @@ use Rattle.step_maps.specs.Runs.{between, AreMaximal}
 use Rattle.step_maps.specs.Covers.{reaches, first_at, index_at, cover_run}
 use Rattle.step_maps.proofs.RunLemmas.{if_true, if_false}
 use Rattle.step_maps.proofs.MaximalLemmas.{maximal}
-use Rattle.die_names.specs.declared.unit_read.UnitRead.{UnitRead}
-use Rattle.die_names.specs.UnitEntries.{places}
-use Rattle.die_names.specs.Owners.{Covering}
-use Rattle.die_names.specs.declared.unit_read.EntryRef.{EntryRef}
+use Rattle.debug_units.specs.declared.unit_read.UnitRead.{UnitRead}
+use Rattle.debug_units.specs.UnitEntries.{places}
+use Rattle.debug_units.specs.Owners.{Covering}
+use Rattle.debug_units.specs.declared.unit_read.EntryRef.{EntryRef}
 use Rattle.func_flatten.specs.declared.piece.Piece.{Piece}
 use Rattle.func_flatten.specs.Pieces.{place_of, covering_name, owner_place, piece_run, AreMarked, ArePieces}
 use Rattle.step_maps.specs.SpanStretches.{AreFit}

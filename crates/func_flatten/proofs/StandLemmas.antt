@@ -6,8 +6,8 @@ use Rattle.std.specs.List.{find, list_any, slice_get}
 use Rattle.std.specs.Option.{option_or}
 use Rattle.std.specs.Str.{bytes_eq}
 use Rattle.range_set.specs.Members.{holds_any}
-use Rattle.die_names.specs.declared.unit_read.UnitRead.{UnitRead}
-use Rattle.die_names.specs.Owners.{Covering}
+use Rattle.debug_units.specs.declared.unit_read.UnitRead.{UnitRead}
+use Rattle.debug_units.specs.Owners.{Covering}
 use Rattle.func_flatten.specs.Pieces.{place_of, covering_name}
 use Rattle.func_flatten.specs.internal.Collecting.{has_address}
 use Rattle.func_flatten.specs.internal.Classes.{place_at, number_name}

@@ -5,8 +5,8 @@ use Prim.Native.String.{String}
 use Rattle.sym_edges.proofs.Shown.{shown}
 use Rattle.step_maps.specs.Runs.{between}
 use Rattle.line_program.specs.declared.path_line.PathLine.{PathLine}
-use Rattle.die_names.specs.declared.unit_read.UnitRead.{UnitRead}
-use Rattle.die_names.proofs.MadeUnits.{bare_unit}
+use Rattle.debug_units.specs.declared.unit_read.UnitRead.{UnitRead}
+use Rattle.debug_units.proofs.MadeUnits.{bare_unit}
 use Rattle.func_flatten.specs.LineRuns.{unit_number_line, unit_line}
 use Rattle.func_flatten.proofs.Computing.{func_flatten_computes}
 

@@ -5,9 +5,9 @@ use Prim.Native.String.{String}
 use Rattle.sym_edges.specs.Addresses.{Range}
 use Rattle.sym_edges.proofs.Shown.{shown}
 use Rattle.die_walk.specs.EntryTable.{DieFields}
-use Rattle.die_names.specs.declared.unit_read.UnitRead.{UnitRead}
-use Rattle.die_names.specs.declared.unit_read.EntryRef.{EntryRef}
-use Rattle.die_names.proofs.MadeUnits.{bare_entry, bare_unit}
+use Rattle.debug_units.specs.declared.unit_read.UnitRead.{UnitRead}
+use Rattle.debug_units.specs.declared.unit_read.EntryRef.{EntryRef}
+use Rattle.debug_units.proofs.MadeUnits.{bare_entry, bare_unit}
 use Rattle.func_flatten.specs.Pieces.{owner_place, is_many}
 use Rattle.func_flatten.proofs.Computing.{func_flatten_computes}
 

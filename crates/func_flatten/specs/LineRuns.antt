@@ -3,8 +3,8 @@ use Rattle.std.specs.Prelude.{ℕ, List, [], Option, None, Some, unwrap_or, map}
 use Rattle.std.specs.List.{slice_get}
 use Rattle.step_maps.specs.Runs.{Run, IsRuns, between}
 use Rattle.line_program.specs.LineMaps.{numbered_line}
-use Rattle.die_names.specs.declared.unit_read.UnitRead.{UnitRead}
-use Rattle.die_names.specs.Owners.{line_in}
+use Rattle.debug_units.specs.declared.unit_read.UnitRead.{UnitRead}
+use Rattle.debug_units.specs.Owners.{line_in}
 use Rattle.func_flatten.specs.declared.line_run.LineRun.{LineRun}
 use Rattle.func_flatten.specs.declared.piece.Piece.{Piece}
 

@@ -5,11 +5,11 @@ use Rattle.std.specs.Option.{option_map}
 use Rattle.std.specs.Str.{bytes_eq}
 use Rattle.range_set.specs.Members.{holds_any}
 use Rattle.step_maps.specs.Runs.{Run, IsRuns}
-use Rattle.die_names.specs.declared.unit_read.UnitRead.{UnitRead}
+use Rattle.debug_units.specs.declared.unit_read.UnitRead.{UnitRead}
 use Rattle.die_walk.specs.EntryKinds.{is_function}
 use Rattle.die_names.specs.Names.{entry_name}
-use Rattle.die_names.specs.Owners.{Covering, covering_from, owner}
-use Rattle.die_names.specs.declared.unit_read.EntryRef.{EntryRef}
+use Rattle.debug_units.specs.Owners.{Covering, covering_from, owner}
+use Rattle.debug_units.specs.declared.unit_read.EntryRef.{EntryRef}
 use Rattle.func_flatten.specs.declared.piece.Piece.{Piece}
 
 -- whether a function has the address

@@ -10,7 +10,7 @@ ghost use Rattle.func_flatten.specs.internal.Classes.{shared_starts, reaches_any
 
 use crate::functions::Collected;
 use crate::name_classes::with_classes;
-use die_names::Units;
+use debug_units::Units;
 use std::alloc::{AllocError, Global};
 use step_maps::{Cover, CoverList, FirstItem, StepMap, Stretch, covers, first_items};
 use sym_edges::{ListOf, OutOfMemory};

@@ -4,14 +4,14 @@ ghost use Rattle.std.specs.List.{All};
 ghost use Rattle.die_walk.specs.EntryTable.{DieFields};
 ghost use Rattle.die_walk.specs.EntryKinds.{is_function};
 ghost use Rattle.range_set.specs.Canonical.{IsCanonical};
-ghost use Rattle.die_names.specs.UnitEntries.{AreRead, places};
-ghost use Rattle.die_names.specs.Owners.{Covering, unit_covering, covering_from};
+ghost use Rattle.debug_units.specs.UnitEntries.{AreRead, places};
+ghost use Rattle.debug_units.specs.Owners.{Covering, unit_covering, covering_from};
 ghost use Rattle.step_maps.specs.SpanStretches.{AreFit};
 ghost use Rattle.func_flatten.specs.internal.Collecting.{entry_covering};
 ghost use Rattle.func_flatten.specs.internal.Standing.{IsCollected, AreApart, place_key};
 
 use crate::set_owners::{Meeting, SetOwners, meet, note_owners, owners_of};
-use die_names::{EntryRef, UnitRead, Units};
+use debug_units::{EntryRef, UnitRead, Units};
 use std::alloc::Global;
 use step_maps::{Stretch, push_spans};
 use sym_edges::{OutOfMemory, Span};

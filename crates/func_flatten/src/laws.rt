@@ -1,9 +1,9 @@
 //! Laws of the definitions. Each function does nothing: its contract is the law.
 ghost use Rattle.std.specs.Prelude.{◌≡◌, ℕ, List, Some, map};
 ghost use Rattle.elf_sections.specs.Symbols.{SymbolParts};
-ghost use Rattle.die_names.specs.declared.unit_read.UnitRead.{UnitRead};
-ghost use Rattle.die_names.specs.Owners.{line};
-ghost use Rattle.die_names.specs.declared.unit_read.EntryRef.{EntryRef};
+ghost use Rattle.debug_units.specs.declared.unit_read.UnitRead.{UnitRead};
+ghost use Rattle.debug_units.specs.Owners.{line};
+ghost use Rattle.debug_units.specs.declared.unit_read.EntryRef.{EntryRef};
 ghost use Rattle.func_flatten.specs.declared.piece.Piece.{Piece};
 ghost use Rattle.func_flatten.specs.Pieces.{ArePieces, owner_place};
 ghost use Rattle.func_flatten.specs.LineRuns.{unit_line};

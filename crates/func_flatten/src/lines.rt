@@ -7,7 +7,7 @@ ghost use Rattle.func_flatten.specs.internal.Growing.{continues, with_run, with_
 
 use crate::line_run::LineRun;
 use crate::piece::Piece;
-use die_names::Units;
+use debug_units::Units;
 use line_program::LineTable;
 use std::alloc::AllocError;
 use sym_edges::OutOfMemory;

@@ -10,7 +10,7 @@ ghost use Rattle.func_flatten.specs.internal.MetNames.{IsMet, AreMet, IsClean, A
 use crate::name_blocks::{NameBlocks, NameKey, number_at};
 use crate::name_met::{NameMet, met_name};
 use crate::scope_keys::ScopeKeys;
-use die_names::{EntryRef, Units};
+use debug_units::{EntryRef, Units};
 use std::alloc::Global;
 use std::collections::BTreeMap;
 use step_maps::Stretch;

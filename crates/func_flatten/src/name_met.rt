@@ -10,7 +10,8 @@ ghost use Rattle.func_flatten.specs.internal.MetNames.{IsMet};
 use crate::name_blocks::NameKey;
 use crate::scope_keys::ScopeKeys;
 use clean_names::name_omitted;
-use die_names::{EntryRef, NameRef, Units, clean_slice, name_of, name_parts};
+use debug_units::{EntryRef, Units};
+use die_names::{NameRef, clean_slice, name_of, name_parts};
 use std::alloc::Global;
 use sym_edges::OutOfMemory;
 

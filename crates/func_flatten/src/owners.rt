@@ -6,7 +6,7 @@ ghost use Rattle.func_flatten.specs.internal.Collecting.{AreCut, piece_of};
 use crate::cover_marks::named_covers;
 use crate::functions::collect_all;
 use crate::piece::{Piece, PieceList};
-use die_names::{EntryRef, Units};
+use debug_units::{EntryRef, Units};
 use std::alloc::{AllocError, Global};
 use step_maps::Cover;
 use sym_edges::{ListOf, OutOfMemory};

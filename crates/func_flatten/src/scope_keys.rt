@@ -1,13 +1,14 @@
 //! The keys of what scopes put in front of names, each entry walked once for all names.
 ghost use Rattle.std.specs.Prelude.{◌≡◌, ℕ, ◌++◌, List, IfOk, IfSome, OnOk, ◌<◌};
 ghost use Rattle.std.specs.List.{slice_get};
-ghost use Rattle.die_names.specs.declared.unit_read.UnitRead.{UnitRead};
+ghost use Rattle.debug_units.specs.declared.unit_read.UnitRead.{UnitRead};
 ghost use Rattle.die_names.specs.Names.{scope_front, front_at};
 ghost use Rattle.func_flatten.specs.internal.NameBlocks.{kept, Grows, IsKey};
 ghost use Rattle.func_flatten.specs.internal.ScopeFronts.{unit_dies, outer, outer_from, outer_front, inner_front, place_of, AreFronts, IsHalfway};
 
 use crate::name_blocks::{NameBlocks, NameKey};
-use die_names::{EntryRef, Units, scope_name};
+use debug_units::{EntryRef, Units};
+use die_names::scope_name;
 use die_walk::Die;
 use std::alloc::Global;
 use std::collections::BTreeMap;

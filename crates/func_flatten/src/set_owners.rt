@@ -2,12 +2,13 @@
 ghost use Rattle.std.specs.Prelude.{◌≡◌, true, List, IfOk, IfSome, OnOk};
 ghost use Rattle.std.specs.List.{All};
 ghost use Rattle.std.specs.Str.{bytes_eq};
-ghost use Rattle.die_names.specs.declared.unit_read.UnitRead.{UnitRead};
-ghost use Rattle.die_names.specs.declared.unit_read.EntryRef.{EntryRef};
+ghost use Rattle.debug_units.specs.declared.unit_read.UnitRead.{UnitRead};
+ghost use Rattle.debug_units.specs.declared.unit_read.EntryRef.{EntryRef};
 ghost use Rattle.func_flatten.specs.internal.Classes.{place_name};
 ghost use Rattle.func_flatten.specs.internal.Standing.{HasSet, AreApart, Meets};
 
-use die_names::{EntryRef, UnitRead, Units, is_same_ref, name_of, name_text};
+use debug_units::{EntryRef, UnitRead, Units};
+use die_names::{is_same_ref, name_of, name_text};
 use std::alloc::Global;
 use sym_edges::OutOfMemory;
 

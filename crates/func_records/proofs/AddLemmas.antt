@@ -13,7 +13,7 @@ use Rattle.sym_records.specs.declared.place.Place.TheVariants.{Inside}
 use Rattle.sym_records.specs.declared.line.SymLine.{SymLine}
 use Rattle.sym_records.specs.declared.line.SymLine.TheVariants.{Inline, Line}
 use Rattle.sym_records.proofs.JoiningLemmas.{join_behind}
-use Rattle.die_names.specs.declared.unit_read.UnitRead.{UnitRead}
+use Rattle.debug_units.specs.declared.unit_read.UnitRead.{UnitRead}
 use Rattle.die_names.specs.Names.{entry_name}
 use Rattle.func_flatten.specs.declared.piece.Piece.{Piece}
 use Rattle.func_flatten.specs.declared.line_run.LineRun.{LineRun}
@@ -22,7 +22,7 @@ use Rattle.inline_chain.specs.InlineRuns.{InlineParts}
 use Rattle.func_records.specs.declared.numbers.Numbers.{Numbers}
 use Rattle.func_records.specs.internal.Texts.{text_cmp, SameTexts}
 use Rattle.func_records.specs.FuncRecords.{Part, pieces_of, path_in, call_path, call_line, number_in, file_lines, origin_lines, extent, func_record, inline_record, line_record, part_lines, AreLined, names_path, names_origin}
-use Rattle.die_names.specs.CallPaths.{no_path}
+use Rattle.debug_units.specs.CallPaths.{no_path}
 use Rattle.func_records.specs.internal.Calls.{call_number, path_or, IsPathed, IsKnown, AreKnown, AreAllKnown}
 use Rattle.func_records.specs.internal.Gathering.{bytes_of, has_text, ArePathed, AreHeld, Gathered, copies_of}
 use Rattle.func_records.specs.internal.Spelling.{number_or_0, unit_numbers, line_by, row_of}

@@ -10,15 +10,15 @@ use Rattle.range_set.specs.Members.{holds, holds_any}
 use Rattle.sym_records.specs.declared.line.Extent.{Extent}
 use Rattle.sym_records.specs.declared.line.SymLine.{SymLine}
 use Rattle.sym_meaning.specs.TextNames.{is_within, is_line_at, is_inline_at, text_path, text_origin, Call, call_of, level_count, inlines_from}
-use Rattle.die_names.specs.declared.unit_read.UnitRead.{UnitRead}
-use Rattle.die_names.specs.UnitEntries.{Placed}
+use Rattle.debug_units.specs.declared.unit_read.UnitRead.{UnitRead}
+use Rattle.debug_units.specs.UnitEntries.{Placed}
 use Rattle.die_names.specs.Names.{entry_name}
-use Rattle.die_names.specs.Owners.{Covering, entry_chain}
+use Rattle.debug_units.specs.Owners.{Covering, entry_chain}
 use Rattle.func_flatten.specs.declared.line_run.LineRun.{LineRun}
 use Rattle.func_flatten.specs.Publics.{is_inside}
 use Rattle.inline_chain.specs.InlineRuns.{InlineParts, AreInlineRuns}
 use Rattle.func_records.specs.FuncRecords.{Part, number_in, call_path, call_line, extent, inline_record, line_record}
-use Rattle.die_names.specs.CallPaths.{no_path, path_of_call}
+use Rattle.debug_units.specs.CallPaths.{no_path, path_of_call}
 use Rattle.func_records.specs.TextNames.{call_in}
 use Rattle.func_records.proofs.ChainLemmas.{IsEntry, chain_entry, is_copy_at, Agree, found_any, copies_agree, AllRanges, AllOfRuns, Good, copies_good}
 

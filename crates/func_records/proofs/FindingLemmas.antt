@@ -14,7 +14,7 @@ use Rattle.sym_meaning.specs.TextNames.{is_file, file_name, is_origin, origin_na
 use Rattle.sym_meaning.specs.Plain.{ArePlain, HaveNoFile, HaveNoOrigin}
 use Rattle.sym_meaning.specs.Findings.{run_of, func_run, line_run, runs_of, AreGivenOnce, has_file, has_origin, is_sized, are_sized, AreApart, holds_run, EachFunc, LieInside, HaveLinesApart, HasNoFuncFindings}
 use Rattle.sym_meaning.proofs.FindingLemmas.{all_both, plain_files, plain_origins, once_behind, none_given, no_file, no_origin, func_runs_behind, no_func_runs, each_behind, each_plain}
-use Rattle.die_names.specs.declared.unit_read.UnitRead.{UnitRead}
+use Rattle.debug_units.specs.declared.unit_read.UnitRead.{UnitRead}
 use Rattle.die_names.specs.Names.{entry_name}
 use Rattle.func_flatten.specs.declared.piece.Piece.{Piece}
 use Rattle.func_flatten.specs.declared.line_run.LineRun.{LineRun}

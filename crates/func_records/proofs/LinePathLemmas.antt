@@ -6,7 +6,7 @@ use Rattle.std.specs.Str.{bytes_eq}
 use Rattle.sym_edges.specs.Rising.{RisesFrom}
 use Rattle.step_maps.proofs.SteppingLemmas.{Point}
 use Rattle.line_program.specs.LineMaps.{LineMap, numbered_line, AreDistinct}
-use Rattle.die_names.specs.declared.unit_read.UnitRead.{UnitRead}
+use Rattle.debug_units.specs.declared.unit_read.UnitRead.{UnitRead}
 use Rattle.func_flatten.specs.declared.piece.Piece.{Piece}
 use Rattle.func_flatten.specs.declared.line_run.LineRun.{LineRun}
 use Rattle.func_flatten.specs.internal.Growing.{continues, with_run_after, with_run, with_part, IsKnown}

@@ -11,10 +11,10 @@ use Rattle.sym_records.specs.declared.line.SymLine.{SymLine}
 use Rattle.sym_meaning.specs.TextNames.{is_within, is_line_at, under, Found, text_func, func_name, text_owner, line_under, text_line, text_path, path_and_line, text_origin, Call, call_of, level_count, inlines_from, inlines_under, text_chain}
 use Rattle.sym_meaning.specs.Plain.{ArePlain, HaveNoFile, HaveNoOrigin}
 use Rattle.sym_meaning.proofs.TextLemmas.{func_behind, none_under}
-use Rattle.die_names.specs.declared.unit_read.UnitRead.{UnitRead}
+use Rattle.debug_units.specs.declared.unit_read.UnitRead.{UnitRead}
 use Rattle.die_names.specs.Names.{entry_name}
-use Rattle.die_names.specs.Owners.{Covering, owner, chain, entry_chain, chain_under, line, line_in, line_under as owner_line}
-use Rattle.die_names.specs.declared.unit_read.EntryRef.{EntryRef}
+use Rattle.debug_units.specs.Owners.{Covering, owner, chain, entry_chain, chain_under, line, line_in, line_under as owner_line}
+use Rattle.debug_units.specs.declared.unit_read.EntryRef.{EntryRef}
 use Rattle.func_flatten.specs.declared.piece.Piece.{Piece}
 use Rattle.func_flatten.specs.declared.line_run.LineRun.{LineRun}
 use Rattle.func_flatten.specs.Pieces.{piece_run, place_of, owner_place, ArePieces}

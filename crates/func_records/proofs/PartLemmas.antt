@@ -1,6 +1,6 @@
 -- One part more.
 use Rattle.std.proofs.Common.{◌≡◌, List, [], ◌∷◌, ◌++◌, refl, ap}
-use Rattle.die_names.specs.declared.unit_read.UnitRead.{UnitRead}
+use Rattle.debug_units.specs.declared.unit_read.UnitRead.{UnitRead}
 use Rattle.func_flatten.specs.LineRuns.{AreLineRuns}
 use Rattle.func_records.specs.FuncRecords.{Part, pieces_of, AreLined}
 use Rattle.func_records.specs.internal.Calls.{AreKnown, AreAllKnown}

@@ -9,8 +9,8 @@ use Rattle.std.proofs.lemmas.List.Folds.{list_any-append}
 use Rattle.step_maps.specs.Runs.{AreMaximal, between}
 use Rattle.step_maps.proofs.MaximalLemmas.{maximal}
 use Rattle.line_program.specs.LineMaps.{named_line}
-use Rattle.die_names.specs.declared.unit_read.UnitRead.{UnitRead}
-use Rattle.die_names.specs.Owners.{line_in}
+use Rattle.debug_units.specs.declared.unit_read.UnitRead.{UnitRead}
+use Rattle.debug_units.specs.Owners.{line_in}
 use Rattle.func_flatten.specs.declared.piece.Piece.{Piece}
 use Rattle.func_flatten.specs.declared.line_run.LineRun.{LineRun}
 use Rattle.func_flatten.specs.LineRuns.{number_line_in, paths_in, number_run, path_run, path_line, unit_number_line, unit_line, unit_paths, AreLineRuns}

@@ -2,7 +2,7 @@
 use Rattle.std.proofs.Common.{◌≡◌, ℕ, zero, suc, ◌<◌, length, get_or, map, List, [], ◌∷◌, Some, arith, ap, ◌∙◌}
 use Rattle.std.specs.List.{slice_get}
 use Rattle.std.proofs.lemmas.List.{nil_from_length}
-use Rattle.die_names.specs.declared.unit_read.UnitRead.{UnitRead}
+use Rattle.debug_units.specs.declared.unit_read.UnitRead.{UnitRead}
 use Rattle.func_records.specs.internal.Spelling.{number_or_0, unit_numbers}
 
 pub row_there : (paths : List (List ℕ)) (units : List UnitRead) (k : ℕ) (part : UnitRead) (row : List ℕ) → Some part ≡ slice_get units k → row ≡ map (number_or_0 paths) part.lines.paths → Some row ≡ slice_get (unit_numbers paths units) k

@@ -4,11 +4,11 @@ use Rattle.std.specs.List.{slice_get}
 use Rattle.std.specs.Option.{option_map, option_map_or}
 use Rattle.die_walk.specs.EntryTable.{DieFields}
 use Rattle.line_program.specs.LineMaps.{LineMap, numbered_file}
-use Rattle.die_names.specs.declared.unit_read.UnitRead.{UnitRead}
-use Rattle.die_names.specs.UnitEntries.{Placed, entry_in, entry_of}
+use Rattle.debug_units.specs.declared.unit_read.UnitRead.{UnitRead}
+use Rattle.debug_units.specs.UnitEntries.{Placed, entry_in, entry_of}
 use Rattle.func_flatten.specs.LineRuns.{paths_in, unit_paths}
 use Rattle.func_records.specs.declared.calls.CallSite.{CallSite}
-use Rattle.die_names.specs.CallPaths.{no_path, file_path, file_path_in, path_of_call}
+use Rattle.debug_units.specs.CallPaths.{no_path, file_path, file_path_in, path_of_call}
 use Rattle.func_records.specs.internal.Calls.{file_number_in, number_by, call_number, path_or, IsPathed, IsSite}
 
 -- an entry that is not there

@@ -9,7 +9,7 @@ use Rattle.sym_records.specs.declared.place.Place.TheVariants.{Inside, Function}
 use Rattle.sym_records.specs.declared.line.SymLine.{SymLine}
 use Rattle.sym_records.proofs.JoiningLemmas.{from_here, join_behind}
 use Rattle.sym_rules.proofs.BoolLemmas.{and_true}
-use Rattle.die_names.specs.declared.unit_read.UnitRead.{UnitRead}
+use Rattle.debug_units.specs.declared.unit_read.UnitRead.{UnitRead}
 use Rattle.die_names.specs.Names.{entry_name}
 use Rattle.die_names.specs.NameRefs.{name_bytes, name_slice}
 use Rattle.die_names.specs.declared.name_source.NameRef.{NameRef}

@@ -9,7 +9,7 @@ use Rattle.std.specs.Str.{bytes_eq}
 use Rattle.std.proofs.lemmas.Slice.Eq.{bytes_eq-Decides}
 use Rattle.std.proofs.lemmas.List.Folds.{Any-from_list_any, list_any-from_Any}
 use Rattle.clean_names.specs.Cleaning.{cleaned}
-use Rattle.die_names.specs.declared.unit_read.UnitRead.{UnitRead}
+use Rattle.debug_units.specs.declared.unit_read.UnitRead.{UnitRead}
 use Rattle.die_names.specs.declared.name_source.NameRef.{NameRef}
 use Rattle.die_names.specs.NameRefs.{name_bytes}
 use Rattle.func_flatten.specs.declared.piece.Piece.{Piece}
@@ -19,11 +19,11 @@ use Rattle.inline_chain.specs.InlineRuns.{InlineParts}
 use Rattle.func_records.specs.declared.path_list.PathRef.{PathRef}
 use Rattle.func_records.specs.internal.Texts.{text_cmp, SameTexts}
 use Rattle.func_records.specs.FuncRecords.{Part, path_in, call_path, AreLined, names_path}
-use Rattle.die_names.specs.CallPaths.{no_path}
+use Rattle.debug_units.specs.CallPaths.{no_path}
 use Rattle.func_records.specs.internal.Calls.{call_number, path_or, IsPathed, AreKnown, AreAllKnown}
 use Rattle.func_records.specs.internal.Gathering.{bytes_of, has_text, path_at, has_path, ArePathed, Gathered}
 use Rattle.clean_names.specs.Cleaning.{AreClean}
-use Rattle.die_names.specs.CleanPaths.{HaveCleanPaths}
+use Rattle.debug_units.specs.CleanPaths.{HaveCleanPaths}
 use Rattle.func_records.specs.internal.Origins.{made_name}
 use Rattle.clean_names.proofs.CleanLemmas.{cleaned_again, omitted_again}
 use Rattle.func_records.proofs.PathLemmas.{all_pathed}

@@ -3,12 +3,12 @@ use Rattle.std.proofs.Common.{◌≡◌, ℕ, false, List, [], ◌∷◌, Option
 use Rattle.sym_edges.specs.Addresses.{Range}
 use Rattle.sym_records.specs.declared.line.SymLine.TheVariants.{File, Origin, Func, Inline, Line}
 use Rattle.die_walk.specs.EntryTable.{DieFields}
-use Rattle.die_names.specs.declared.unit_read.UnitRead.{UnitRead}
-use Rattle.die_names.proofs.MadeUnits.{bare_entry, bare_unit}
+use Rattle.debug_units.specs.declared.unit_read.UnitRead.{UnitRead}
+use Rattle.debug_units.proofs.MadeUnits.{bare_entry, bare_unit}
 use Rattle.func_flatten.specs.LineRuns.{unit_paths}
 use Rattle.func_flatten.proofs.Computing.{func_flatten_computes}
 use Rattle.func_records.specs.FuncRecords.{Part, call_path, number_in, file_lines, origin_lines, part_lines}
-use Rattle.die_names.specs.CallPaths.{no_path, path_of_call}
+use Rattle.debug_units.specs.CallPaths.{no_path, path_of_call}
 
 -- an entry with this tag, this linkage name, and a call of this file and line
 unfoldable entry : ℕ → List ℕ → Option ℕ → ℕ → DieFields

@@ -10,10 +10,10 @@ use Rattle.sym_edges.specs.Addresses.{Range}
 use Rattle.sym_records.specs.declared.line.Extent.{Extent}
 use Rattle.sym_records.specs.declared.line.SymLine.{SymLine}
 use Rattle.sym_records.specs.declared.line.SymLine.TheVariants.{File, Origin, Func, Inline, Line}
-use Rattle.die_names.specs.declared.unit_read.UnitRead.{UnitRead}
-use Rattle.die_names.specs.UnitEntries.{Placed, entry_of}
+use Rattle.debug_units.specs.declared.unit_read.UnitRead.{UnitRead}
+use Rattle.debug_units.specs.UnitEntries.{Placed, entry_of}
 use Rattle.die_names.specs.Names.{entry_name}
-use Rattle.die_names.specs.CallPaths.{no_path, path_of_call}
+use Rattle.debug_units.specs.CallPaths.{no_path, path_of_call}
 use Rattle.func_flatten.specs.declared.piece.Piece.{Piece}
 use Rattle.func_flatten.specs.declared.line_run.LineRun.{LineRun}
 use Rattle.func_flatten.specs.LineRuns.{unit_paths, AreLineRuns}

@@ -3,10 +3,10 @@ use Rattle.std.specs.Prelude.{◌≡◌, ℕ, ◌+◌, List, map, Option, Some}
 use Rattle.std.specs.Option.{option_map}
 use Rattle.sym_records.specs.declared.line.SymLine.{SymLine}
 use Rattle.sym_meaning.specs.TextNames.{text_owner, text_line, Call, text_chain}
-use Rattle.die_names.specs.declared.unit_read.UnitRead.{UnitRead}
+use Rattle.debug_units.specs.declared.unit_read.UnitRead.{UnitRead}
 use Rattle.die_names.specs.Names.{entry_name}
-use Rattle.die_names.specs.Owners.{Covering, owner, chain, line}
-use Rattle.die_names.specs.CallPaths.{path_of_call}
+use Rattle.debug_units.specs.Owners.{Covering, owner, chain, line}
+use Rattle.debug_units.specs.CallPaths.{path_of_call}
 
 abbrev pub name_of : List UnitRead → Covering → List ℕ
 name_of units c = entry_name units c.unit c.entry

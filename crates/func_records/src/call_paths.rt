@@ -7,7 +7,7 @@ ghost use Rattle.func_records.specs.internal.Gathering.{has_path, any_call};
 
 use crate::calls::call_site;
 use crate::path_list::{PathList, PathRef};
-use die_names::Units;
+use debug_units::Units;
 use inline_chain::InlineRun;
 use sym_edges::OutOfMemory;
 

@@ -3,7 +3,7 @@ ghost use Rattle.std.specs.Prelude.{◌≡◌, ◌<◌, length, IfSome, option_a
 ghost use Rattle.line_program.specs.LineMaps.{numbered_file};
 ghost use Rattle.func_records.specs.internal.Calls.{IsSite};
 
-use die_names::Units;
+use debug_units::Units;
 use line_program::LineTable;
 
 /// Where a call is: the number that its path has in the line table of its unit, where the table has its file, and its line.

@@ -1,7 +1,7 @@
 //! The records of all functions of a file.
 ghost use Rattle.std.specs.Prelude.{◌≤◌, IfOk};
 ghost use Rattle.sym_records.specs.Spelled.{text_bytes};
-ghost use Rattle.die_names.specs.CleanPaths.{HaveCleanPaths};
+ghost use Rattle.debug_units.specs.CleanPaths.{HaveCleanPaths};
 ghost use Rattle.func_records.specs.Adding.{AddsFunctions};
 
 use crate::finder::find_shares;
@@ -15,7 +15,7 @@ use crate::speller::{FoundPieces, add_shares};
 use crate::text_numbers::{Numbering, add_texts};
 use crate::text_ranks::ranked_texts;
 use crate::writer::FuncWriter;
-use die_names::Units;
+use debug_units::Units;
 use func_flatten::Piece;
 use std::alloc::Global;
 use std::thread::Threads;

@@ -1,12 +1,12 @@
 //! The paths of lines.
 ghost use Rattle.std.specs.Prelude.{◌≡◌, ℕ, ◌<◌, List, ◌||◌, true, OnOk};
-ghost use Rattle.die_names.specs.declared.unit_read.UnitRead.{UnitRead};
+ghost use Rattle.debug_units.specs.declared.unit_read.UnitRead.{UnitRead};
 ghost use Rattle.line_program.specs.LineMaps.{AreDistinct};
 ghost use Rattle.func_records.specs.internal.Gathering.{has_path};
 ghost use Rattle.func_records.specs.internal.Noting.{has_line, Noted, AddsLines};
 
 use crate::path_list::{PathList, PathRef};
-use die_names::Units;
+use debug_units::Units;
 use func_flatten::Piece;
 use line_program::LineTable;
 use sym_edges::OutOfMemory;

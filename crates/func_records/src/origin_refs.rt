@@ -1,9 +1,10 @@
 //! Which entries name the functions that were inlined.
 ghost use Rattle.std.specs.Prelude.{◌≡◌, [], ◌++◌, ◌∷◌, length, List, ℕ, IfOk, OnOk};
-ghost use Rattle.die_names.specs.declared.unit_read.UnitRead.{UnitRead};
+ghost use Rattle.debug_units.specs.declared.unit_read.UnitRead.{UnitRead};
 ghost use Rattle.func_records.specs.internal.Origins.{made_name, entry_names, all_names, RefsSay};
 
-use die_names::{LinkGuesses, NameRef, Units, name_by};
+use debug_units::Units;
+use die_names::{LinkGuesses, NameRef, name_by};
 use func_flatten::Piece;
 use inline_chain::{InlineRun, InlineRuns};
 use place_guesses::PlaceGuesses;

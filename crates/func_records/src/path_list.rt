@@ -1,14 +1,14 @@
 //! The paths that records name, by their numbers.
 ghost use Rattle.std.specs.Prelude.{◌≡◌, ℕ, List, ◌||◌, [], IfOk, OnOk};
 ghost use Rattle.std.specs.Str.{bytes_eq};
-ghost use Rattle.die_names.specs.declared.unit_read.UnitRead.{UnitRead};
+ghost use Rattle.debug_units.specs.declared.unit_read.UnitRead.{UnitRead};
 ghost use Rattle.func_flatten.specs.LineRuns.{unit_paths};
 ghost use Rattle.func_records.specs.FuncRecords.{path_in};
-ghost use Rattle.die_names.specs.CallPaths.{no_path};
+ghost use Rattle.debug_units.specs.CallPaths.{no_path};
 ghost use Rattle.func_records.specs.internal.Gathering.{path_at, has_path};
 
 use clean_names::name_omitted;
-use die_names::Units;
+use debug_units::Units;
 use place_guesses::PlaceGuesses;
 use std::alloc::Global;
 use std::marker::Model;
@@ -38,7 +38,7 @@ impl Model for PathList {
 }
 
 /// What stands in the place of a path that is not known.
-#[tactic(auto, unfolding(die_names::specs::CallPaths::no_path))]
+#[tactic(auto, unfolding(debug_units::specs::CallPaths::no_path))]
 pub fn no_path() -> &'static [u8]
     ensures { result.now ≡ no_path }
 {

@@ -7,7 +7,7 @@ ghost use Rattle.func_records.specs.internal.Gathering.{bytes_of};
 ghost use Rattle.func_records.specs.internal.Spelling.{number_or_0, unit_numbers};
 
 use crate::gaps::{new_gaps, number_by};
-use die_names::Units;
+use debug_units::Units;
 use line_program::LineTable;
 use place_guesses::PlaceGuesses;
 use std::alloc::Global;

@@ -7,7 +7,7 @@ use crate::call_paths::gather_calls;
 use crate::found::FoundShare;
 use crate::line_paths::gather_lines;
 use crate::path_list::{PathList, PathRef, path_text};
-use die_names::Units;
+use debug_units::Units;
 use func_flatten::Piece;
 use inline_chain::{InlineRun, InlineRuns};
 use std::alloc::Global;

@@ -1,6 +1,6 @@
 //! What the records of functions are spelled from.
 use crate::numbers::Numbers;
-use die_names::Units;
+use debug_units::Units;
 
 /// The base, which is taken off all addresses; the units; and the numbers of paths and names in the text.
 #[derive(Clone, Copy)]

@@ -6,9 +6,9 @@ use Rattle.std.specs.Option.{option_map, option_map_or}
 use Rattle.sym_edges.specs.Addresses.{Range}
 use Rattle.range_set.specs.Members.{holds_any}
 use Rattle.die_walk.specs.EntryTable.{DieFields}
-use Rattle.die_names.specs.declared.unit_read.UnitRead.{UnitRead}
+use Rattle.debug_units.specs.declared.unit_read.UnitRead.{UnitRead}
 use Rattle.die_walk.specs.EntryKinds.{is_inlined}
-use Rattle.die_names.specs.Owners.{Covering, inside_of, chain_from, unit_covering, chain_by, entry_chain}
+use Rattle.debug_units.specs.Owners.{Covering, inside_of, chain_from, unit_covering, chain_by, entry_chain}
 use Rattle.func_flatten.specs.declared.piece.Piece.{Piece}
 use Rattle.func_flatten.specs.Publics.{is_inside}
 use Rattle.inline_chain.specs.InlineRuns.{is_on_chain}

@@ -12,7 +12,7 @@ use Rattle.step_maps.specs.declared.stretch.Stretch.{Stretch}
 use Rattle.step_maps.specs.Covers.{reaches, first_at, index_at}
 use Rattle.die_walk.specs.EntryTable.{DieFields}
 use Rattle.die_walk.specs.EntryKinds.{is_inlined}
-use Rattle.die_names.specs.Owners.{inside_of}
+use Rattle.debug_units.specs.Owners.{inside_of}
 use Rattle.step_maps.specs.SpanStretches.{span_stretches}
 use Rattle.inline_chain.specs.internal.Copies.{stretches_in, copy_by, copy_stretches, child_stretches, of_class, HaveSets}
 use Rattle.inline_chain.specs.Trees.{is_number, first_child}

@@ -13,7 +13,7 @@ use Rattle.step_maps.specs.Covers.{index_at}
 use Rattle.step_maps.proofs.IndexLemmas.{found_joined}
 use Rattle.die_walk.specs.EntryTable.{DieFields}
 use Rattle.die_walk.specs.EntryKinds.{is_inlined}
-use Rattle.die_names.specs.Owners.{inside_of}
+use Rattle.debug_units.specs.Owners.{inside_of}
 use Rattle.step_maps.specs.SpanStretches.{span_stretches, AreFit}
 use Rattle.inline_chain.specs.internal.Copies.{stretches_in, set_in, copy_by, copy_stretches, child_stretches, of_class, HaveSets, SaysInside, is_copy_in, IsFound, TellChildren, HasEarlier, AddsCopy, Collects}
 use Rattle.inline_chain.specs.Trees.{is_number}

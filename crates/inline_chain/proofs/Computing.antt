@@ -1,6 +1,6 @@
 -- What a proof unfolds to compute the definitions of inline_chain where the input is written out.
 use Rattle.std.specs.Prelude.{⊤}
-use Rattle.die_names.specs.Owners.{inside_of, entry_chain}
+use Rattle.debug_units.specs.Owners.{inside_of, entry_chain}
 use Rattle.func_flatten.proofs.Computing.{func_flatten_computes}
 use Rattle.inline_chain.specs.InlineRuns.{is_on_chain, joined}
 

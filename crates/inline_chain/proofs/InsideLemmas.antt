@@ -5,7 +5,7 @@ use Rattle.std.specs.List.{slice_get, slice_index_or}
 use Rattle.std.specs.Option.{option_map_or}
 use Rattle.die_walk.specs.EntryTable.{DieFields}
 use Rattle.die_walk.specs.EntryKinds.{is_inlined}
-use Rattle.die_names.specs.Owners.{inside_of}
+use Rattle.debug_units.specs.Owners.{inside_of}
 use Rattle.inline_chain.specs.internal.Copies.{SaysInside}
 
 inside_nothing : (dies : List DieFields) (limit : ℕ) → inside_of dies limit None ≡ None

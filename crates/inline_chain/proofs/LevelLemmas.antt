@@ -11,7 +11,7 @@ use Rattle.step_maps.specs.declared.stretch.Stretch.{Stretch}
 use Rattle.step_maps.specs.declared.stretch.Cover.{Cover}
 use Rattle.step_maps.specs.Covers.{reaches, cover_run}
 use Rattle.step_maps.proofs.RunLemmas.{rest_above, none_after, none_below}
-use Rattle.die_names.specs.declared.unit_read.UnitRead.{UnitRead}
+use Rattle.debug_units.specs.declared.unit_read.UnitRead.{UnitRead}
 use Rattle.step_maps.specs.SpanStretches.{AreFit}
 use Rattle.inline_chain.specs.Trees.{is_number, list_of, child_at, IsTree}
 use Rattle.step_maps.proofs.SpanLemmas.{fit_joined}

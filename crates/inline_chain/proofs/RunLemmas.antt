@@ -11,10 +11,10 @@ use Rattle.range_set.specs.Canonical.{IsCanonical}
 use Rattle.step_maps.specs.declared.stretch.Stretch.{Stretch}
 use Rattle.step_maps.specs.declared.stretch.Cover.{Cover}
 use Rattle.step_maps.specs.Covers.{reaches}
-use Rattle.die_names.specs.declared.unit_read.UnitRead.{UnitRead}
+use Rattle.debug_units.specs.declared.unit_read.UnitRead.{UnitRead}
 use Rattle.func_flatten.specs.declared.piece.Piece.{Piece}
 use Rattle.func_flatten.specs.Publics.{is_inside}
-use Rattle.die_names.specs.Owners.{entry_chain}
+use Rattle.debug_units.specs.Owners.{entry_chain}
 use Rattle.inline_chain.specs.InlineRuns.{InlineParts, is_of, spans_of, joined, AreParts, is_before, IsOrdered, is_on_chain, AreInlineRuns}
 use Rattle.inline_chain.specs.internal.Copies.{of_class, TreeFor}
 use Rattle.inline_chain.specs.Trees.{is_number, IsTree}

@@ -8,8 +8,8 @@ use Rattle.step_maps.specs.declared.stretch.Stretch.{Stretch}
 use Rattle.step_maps.specs.declared.stretch.Cover.{Cover}
 use Rattle.step_maps.specs.Covers.{cover_run, first_at, index_at}
 use Rattle.die_walk.specs.EntryTable.{DieFields}
-use Rattle.die_names.specs.declared.unit_read.UnitRead.{UnitRead}
-use Rattle.die_names.specs.UnitEntries.{places}
+use Rattle.debug_units.specs.declared.unit_read.UnitRead.{UnitRead}
+use Rattle.debug_units.specs.UnitEntries.{places}
 use Rattle.step_maps.specs.SpanStretches.{AreFit}
 use Rattle.inline_chain.specs.internal.Copies.{of_class, HaveClasses, IsList, AreLists, ListsTo, HaveSets, TellChildren, TreeFor, AddsCovers}
 use Rattle.inline_chain.specs.internal.Links.{AreLinked}

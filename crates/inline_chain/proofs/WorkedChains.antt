@@ -5,9 +5,9 @@ use Prim.Native.String.{String}
 use Rattle.sym_edges.specs.Addresses.{Range}
 use Rattle.sym_edges.proofs.Shown.{shown}
 use Rattle.die_walk.specs.EntryTable.{DieFields}
-use Rattle.die_names.specs.declared.unit_read.UnitRead.{UnitRead}
-use Rattle.die_names.specs.Owners.{Covering, entry_chain}
-use Rattle.die_names.proofs.MadeUnits.{bare_entry, bare_unit}
+use Rattle.debug_units.specs.declared.unit_read.UnitRead.{UnitRead}
+use Rattle.debug_units.specs.Owners.{Covering, entry_chain}
+use Rattle.debug_units.proofs.MadeUnits.{bare_entry, bare_unit}
 use Rattle.inline_chain.proofs.Computing.{inline_chain_computes}
 
 record Made : Type 0 where

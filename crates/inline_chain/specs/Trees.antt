@@ -7,9 +7,9 @@ use Rattle.step_maps.specs.Runs.{IsRuns, between}
 use Rattle.step_maps.specs.declared.stretch.Cover.{Cover}
 use Rattle.step_maps.specs.Covers.{cover_run}
 use Rattle.die_walk.specs.EntryTable.{DieFields}
-use Rattle.die_names.specs.declared.unit_read.UnitRead.{UnitRead}
+use Rattle.debug_units.specs.declared.unit_read.UnitRead.{UnitRead}
 use Rattle.die_walk.specs.EntryKinds.{is_inlined}
-use Rattle.die_names.specs.Owners.{inside_of}
+use Rattle.debug_units.specs.Owners.{inside_of}
 
 -- it is that number
 abbrev pub is_number : ℕ → Option ℕ → Bool

@@ -7,7 +7,7 @@ ghost use Rattle.inline_chain.specs.internal.Copies.{SaysInside, HaveSets, set_i
 
 use crate::inside::inside_of;
 use crate::met_copies::MetCopies;
-use die_names::UnitRead;
+use debug_units::UnitRead;
 use die_walk::Die;
 use std::alloc::AllocError;
 use step_maps::{Stretch, push_spans};

@@ -1,7 +1,7 @@
 //! The inlined copies of a piece.
 ghost use Rattle.std.specs.Prelude.{◌≡◌, ◌∷◌, [], ◌<◌, ◌≤◌, IfOk};
 ghost use Rattle.inline_chain.specs.InlineRuns.{AreInlineRuns};
-ghost use Rattle.die_names.specs.declared.unit_read.UnitRead.{UnitRead};
+ghost use Rattle.debug_units.specs.declared.unit_read.UnitRead.{UnitRead};
 ghost use Rattle.step_maps.specs.SpanStretches.{AreFit};
 ghost use Rattle.inline_chain.specs.Trees.{IsTree};
 ghost use Rattle.inline_chain.specs.internal.Levels.{HaveRuns, AllRuns};

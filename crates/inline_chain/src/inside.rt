@@ -1,11 +1,11 @@
 //! What an entry stands in.
 ghost use Rattle.std.specs.Prelude.{◌≡◌, ◌==◌, ◌||◌, length};
 ghost use Rattle.die_walk.specs.EntryKinds.{is_inlined};
-ghost use Rattle.die_names.specs.Owners.{inside_of};
+ghost use Rattle.debug_units.specs.Owners.{inside_of};
 ghost use Rattle.inline_chain.specs.internal.Copies.{SaysInside};
 
 use code_table::DW_TAG_subprogram;
-use die_names::UnitRead;
+use debug_units::UnitRead;
 use die_walk::Die;
 
 /// Whether an entry is a function or an inlined copy.

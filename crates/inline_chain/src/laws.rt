@@ -1,6 +1,6 @@
 //! What holds of inlined copies by address. Each function does nothing: its contract is the law.
 ghost use Rattle.std.specs.Prelude.{◌≡◌, List};
-ghost use Rattle.die_names.specs.declared.unit_read.UnitRead.{UnitRead};
+ghost use Rattle.debug_units.specs.declared.unit_read.UnitRead.{UnitRead};
 ghost use Rattle.func_flatten.specs.declared.piece.Piece.{Piece};
 ghost use Rattle.inline_chain.specs.InlineRuns.{InlineParts, AreInlineRuns};
 

@@ -3,7 +3,7 @@ ghost use Rattle.std.specs.Prelude.{◌≡◌, true, Some, IfOk};
 ghost use Rattle.std.specs.List.{slice_get};
 ghost use Rattle.inline_chain.specs.internal.Copies.{HasEarlier};
 
-use die_names::UnitRead;
+use debug_units::UnitRead;
 use std::alloc::{AllocError, Global};
 use std::collections::BTreeMap;
 

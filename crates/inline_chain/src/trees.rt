@@ -3,7 +3,7 @@ ghost use Rattle.std.specs.Prelude.{◌≡◌, ℕ, ◌<◌, ◌≤◌, ◌^◌,
 ghost use Rattle.step_maps.specs.SpanStretches.{AreFit};
 ghost use Rattle.std.specs.List.{slice_get};
 ghost use Rattle.std.specs.Option.{option_copied};
-ghost use Rattle.die_names.specs.UnitEntries.{AreRead};
+ghost use Rattle.debug_units.specs.UnitEntries.{AreRead};
 ghost use Rattle.inline_chain.specs.internal.Copies.{AreLists, TreeFor, AddsCovers};
 ghost use Rattle.inline_chain.specs.internal.Links.{AreLinked};
 ghost use Rattle.inline_chain.specs.Trees.{IsTree, AreTrees};
@@ -12,7 +12,7 @@ use crate::children::collect_copies;
 use crate::class_links::{ClassLinks, fill_class, fill_links};
 use crate::cover_sweep::fill_covers;
 use crate::tree_scratch::{ClassScratch, TreeScratch};
-use die_names::{UnitRead, Units};
+use debug_units::{UnitRead, Units};
 use flat_lists::FlatLists;
 use std::alloc::Global;
 use std::marker::Model;
@@ -30,7 +30,7 @@ pub struct InlineTrees<'u, 'a> {
 
 impl<'u, 'a> Model for InlineTrees<'u, 'a> {
     ghost use Rattle.std.specs.Prelude.{List};
-    ghost use Rattle.die_names.specs.declared.unit_read.UnitRead.{UnitRead};
+    ghost use Rattle.debug_units.specs.declared.unit_read.UnitRead.{UnitRead};
     ghost use Rattle.inline_chain.specs.Trees.{AreTrees};
 
     ghost Value = { List UnitRead };
@@ -77,7 +77,7 @@ struct TreeMaker<'u, 'a> {
 
 impl<'u, 'a> Model for TreeMaker<'u, 'a> {
     ghost use Rattle.std.specs.Prelude.{List};
-    ghost use Rattle.die_names.specs.declared.unit_read.UnitRead.{UnitRead};
+    ghost use Rattle.debug_units.specs.declared.unit_read.UnitRead.{UnitRead};
 
     ghost Value = { List UnitRead };
 

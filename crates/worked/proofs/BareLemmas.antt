@@ -5,17 +5,17 @@ use Rattle.std.specs.Option.{option_map, option_map_or}
 use Rattle.std.specs.Str.{bytes_eq}
 use Rattle.std.proofs.lemmas.Option.{slice_get-map}
 use Rattle.range_set.specs.Members.{holds_any}
-use Rattle.die_names.specs.declared.unit_read.UnitRead.{UnitRead}
+use Rattle.debug_units.specs.declared.unit_read.UnitRead.{UnitRead}
 use Rattle.die_walk.specs.EntryKinds.{is_function}
-use Rattle.die_names.specs.UnitEntries.{entry_in, entry_of}
+use Rattle.debug_units.specs.UnitEntries.{entry_in, entry_of}
 use Rattle.die_names.specs.Names.{entry_name}
-use Rattle.die_names.specs.EntriesAlone.{entries_alone}
+use Rattle.debug_units.specs.EntriesAlone.{entries_alone}
 use Rattle.die_names.proofs.AloneLemmas.{alone, name_alone}
-use Rattle.die_names.specs.Owners.{Covering, unit_covering, covering_from, owner}
+use Rattle.debug_units.specs.Owners.{Covering, unit_covering, covering_from, owner}
 use Rattle.func_flatten.specs.declared.piece.Piece.{Piece}
 use Rattle.func_flatten.specs.Pieces.{owns, place_of, owner_place, has_other, is_many, AreMarked, ArePieces}
 use Rattle.func_flatten.specs.Publics.{is_inside}
-use Rattle.die_names.specs.Owners.{chain_by, entry_chain}
+use Rattle.debug_units.specs.Owners.{chain_by, entry_chain}
 use Rattle.inline_chain.specs.InlineRuns.{InlineParts, is_on_chain, AreInlineRuns}
 use Rattle.debug_read.specs.Each.{Match}
 use Rattle.line_program.specs.LineMaps.{no_lines}

@@ -14,7 +14,7 @@ use Rattle.rule_postfix.specs.RowValue.{row_frame}
 use Rattle.rule_postfix.specs.FrameMeaning.{SaysFrame, KeepsRows, KeepsFrames}
 use Rattle.rule_postfix.specs.KnownCfa.{HasKnownCfa}
 use Rattle.rule_postfix.proofs.CfaLemmas.{written_known}
-use Rattle.die_names.specs.declared.unit_read.UnitRead.{UnitRead}
+use Rattle.debug_units.specs.declared.unit_read.UnitRead.{UnitRead}
 use Rattle.func_records.specs.TextNames.{Names}
 use Rattle.cfi_eval.specs.Known.{IsKnown}
 use Rattle.sym_judge.specs.SameMeaning.{said, NameTheSame}

@@ -10,10 +10,10 @@ use Rattle.step_maps.proofs.MaximalLemmas.{maximal}
 use Rattle.sym_records.specs.declared.line.SymLine.{SymLine}
 use Rattle.sym_records.specs.declared.line.SymLine.TheVariants.{Func, Inline, Line}
 use Rattle.die_walk.specs.EntryTable.{DieFields}
-use Rattle.die_names.specs.declared.unit_read.UnitRead.{UnitRead}
-use Rattle.die_names.specs.UnitEntries.{Placed, entry_of}
+use Rattle.debug_units.specs.declared.unit_read.UnitRead.{UnitRead}
+use Rattle.debug_units.specs.UnitEntries.{Placed, entry_of}
 use Rattle.die_names.specs.Names.{entry_name}
-use Rattle.die_names.specs.Owners.{line_in}
+use Rattle.debug_units.specs.Owners.{line_in}
 use Rattle.func_flatten.specs.declared.piece.Piece.{Piece}
 use Rattle.func_flatten.specs.declared.line_run.LineRun.{LineRun}
 use Rattle.func_flatten.specs.Pieces.{owner_place, piece_run, ArePieces}
@@ -22,7 +22,7 @@ use Rattle.func_flatten.proofs.LawLemmas.{one_pieces}
 use Rattle.inline_chain.specs.InlineRuns.{InlineParts, AreInlineRuns}
 use Rattle.inline_chain.proofs.LawLemmas as inlines
 use Rattle.func_records.specs.FuncRecords.{Part, pieces_of, path_in, call_path, call_line, number_in, file_lines, origin_lines, line_record, extent, part_lines, AreLined, AreInlined, names_path, names_origin, AreUsed, AreFuncRecords}
-use Rattle.die_names.specs.CallPaths.{no_path, file_path_in, path_of_call}
+use Rattle.debug_units.specs.CallPaths.{no_path, file_path_in, path_of_call}
 use Rattle.debug_read.specs.Each.{Match}
 use Rattle.worked.proofs.OneUnits.{AreSmall, owned_small}
 use Rattle.debug_read.specs.SameUnits.{SameUnit}

@@ -13,10 +13,10 @@ use Rattle.elf_sections.specs.Programs.{code_range}
 use Rattle.elf_sections.specs.Programs as elf
 use Rattle.range_lists.specs.EntryRanges.{is_code, in_pairs}
 use Rattle.die_walk.specs.EntryTable.{DieFields}
-use Rattle.die_names.specs.declared.unit_read.EntryRef.{EntryRef}
-use Rattle.die_names.specs.declared.unit_read.UnitRead.{UnitRead}
+use Rattle.debug_units.specs.declared.unit_read.EntryRef.{EntryRef}
+use Rattle.debug_units.specs.declared.unit_read.UnitRead.{UnitRead}
 use Rattle.die_walk.specs.EntryKinds.{is_function}
-use Rattle.die_names.specs.Owners.{Covering, unit_covering, covering_from, owner}
+use Rattle.debug_units.specs.Owners.{Covering, unit_covering, covering_from, owner}
 use Rattle.func_flatten.specs.Pieces.{place_of, owner_place}
 use Rattle.debug_read.specs.Each.{Match}
 use Rattle.debug_read.specs.UnitSays.{UnitSays}

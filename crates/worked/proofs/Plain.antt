@@ -10,7 +10,7 @@ use Rattle.debug_read.specs.DebugSays.{DebugSays, debug_says}
 use Rattle.debug_read.specs.Each.{Match}
 use Rattle.debug_read.specs.UnitSays.{UnitSays}
 use Rattle.debug_read.specs.UnitsRead.{IsUnitRead}
-use Rattle.die_names.specs.Owners.{owner}
+use Rattle.debug_units.specs.Owners.{owner}
 use Rattle.func_flatten.specs.Pieces.{owner_place, ArePieces}
 use Rattle.func_records.specs.FuncRecords.{AreFuncRecords}
 use Rattle.sym_records.specs.Canon.{canon_text}

@@ -15,8 +15,8 @@ use Rattle.cfi_eval.specs.TextValue.{text_frame}
 use Rattle.rule_postfix.specs.RowValue.{row_frame}
 use Rattle.rule_postfix.specs.Covering.{holds_address, entries_at}
 use Rattle.rule_postfix.specs.FrameMeaning.{SaysFrame}
-use Rattle.die_names.specs.declared.unit_read.UnitRead.{UnitRead}
-use Rattle.die_names.specs.Owners.{owner, chain, line}
+use Rattle.debug_units.specs.declared.unit_read.UnitRead.{UnitRead}
+use Rattle.debug_units.specs.Owners.{owner, chain, line}
 use Rattle.func_records.specs.TextNames.{name_of, call_in, found_line}
 use Rattle.debug_read.specs.Each.{Match}
 use Rattle.debug_read.specs.UnitsRead.{IsUnitRead}

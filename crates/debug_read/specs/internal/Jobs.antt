@@ -7,7 +7,7 @@ use Rattle.abbrev_units.specs.declared.fault.DwarfKind.{DwarfKind}
 use Rattle.abbrev_units.specs.declared.unit.Unit.{Unit}
 use Rattle.abbrev_units.specs.DebugSections.{DebugSections}
 use Rattle.abbrev_units.specs.UnitPlaces.{IsInside}
-use Rattle.die_names.specs.declared.unit_read.UnitRead.{UnitRead}
+use Rattle.debug_units.specs.declared.unit_read.UnitRead.{UnitRead}
 use Rattle.debug_read.specs.Each.{Says, Match}
 use Rattle.debug_read.specs.internal.Sharing.{SharedParts, IsRead}
 use Rattle.debug_read.specs.UnitSays.{unit_says}

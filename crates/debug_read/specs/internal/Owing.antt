@@ -11,7 +11,7 @@ use Rattle.range_set.specs.Enclosing.{encloses}
 use Rattle.line_program.specs.LineAt.{Lines}
 use Rattle.line_program.specs.LineMaps.{LineMap, EncloseAlike}
 use Rattle.line_program.specs.LineTables.{unit_lines, Says as SaysTable}
-use Rattle.die_names.specs.declared.unit_read.UnitRead.{UnitRead}
+use Rattle.debug_units.specs.declared.unit_read.UnitRead.{UnitRead}
 use Rattle.debug_read.specs.declared.named_tables.NamedTable.{NamedTable}
 use Rattle.debug_read.specs.declared.named_tables.TableName.{TableName}
 use Rattle.debug_read.specs.declared.named_tables.TableRead.{TableRead}

@@ -4,9 +4,9 @@ use Rattle.std.specs.List.{slice_get}
 use Rattle.std.specs.Option.{option_map}
 use Rattle.die_walk.specs.EntryTable.{DieFields}
 use Rattle.die_names.specs.declared.entry_search.Standing.{Standing}
-use Rattle.die_names.specs.declared.unit_read.EntryRef.{EntryRef}
-use Rattle.die_names.specs.declared.unit_read.UnitRead.{UnitRead}
-use Rattle.die_names.specs.UnitEntries.{Placed, entry_in, entry_of}
+use Rattle.debug_units.specs.declared.unit_read.EntryRef.{EntryRef}
+use Rattle.debug_units.specs.declared.unit_read.UnitRead.{UnitRead}
+use Rattle.debug_units.specs.UnitEntries.{Placed, entry_in, entry_of}
 
 abbrev pub is_at : ℕ → Placed → Bool
 is_at place p = p.die.at == place

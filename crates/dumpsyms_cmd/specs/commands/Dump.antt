@@ -15,7 +15,7 @@ use Rattle.frame_entries.specs.FdeFields.{FdeFields}
 use Rattle.rule_postfix.specs.Written.{written, written_lines, omitted}
 use Rattle.rule_postfix.specs.Covering.{SaysFrames}
 use Rattle.rule_postfix.specs.FrameMeaning.{KeepsFrames}
-use Rattle.die_names.specs.declared.unit_read.UnitRead.{UnitRead}
+use Rattle.debug_units.specs.declared.unit_read.UnitRead.{UnitRead}
 use Rattle.func_flatten.specs.declared.piece.Piece.{Piece}
 use Rattle.func_flatten.specs.Pieces.{ArePieces}
 use Rattle.func_flatten.specs.Publics.{PublicParts, publics}

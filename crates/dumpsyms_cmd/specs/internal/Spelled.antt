@@ -8,7 +8,7 @@ use Rattle.sym_records.specs.declared.place.Place.TheVariants.{Inside}
 use Rattle.sym_records.specs.declared.line.SymLine.{SymLine}
 use Rattle.rule_postfix.specs.Written.{omitted}
 use Rattle.rule_postfix.specs.declared.omission.Omission.{Omission}
-use Rattle.die_names.specs.declared.unit_read.UnitRead.{UnitRead}
+use Rattle.debug_units.specs.declared.unit_read.UnitRead.{UnitRead}
 use Rattle.func_flatten.specs.declared.piece.Piece.{Piece}
 use Rattle.func_records.specs.FuncRecords.{AreFuncRecords, EndBelow}
 use Rattle.func_records.specs.TextNames.{Names}

@@ -9,9 +9,9 @@ use Rattle.step_maps.specs.declared.stretch.Cover.{Cover}
 use Rattle.step_maps.specs.declared.stretch.FirstItem.{FirstItem}
 use Rattle.step_maps.specs.declared.stretch.Stretch.{Stretch}
 use Rattle.step_maps.specs.Covers.{reaches, first_at, cover_run, index_at}
-use Rattle.die_names.specs.declared.unit_read.UnitRead.{UnitRead}
+use Rattle.debug_units.specs.declared.unit_read.UnitRead.{UnitRead}
 use Rattle.die_names.specs.Names.{entry_name}
-use Rattle.die_names.specs.declared.unit_read.EntryRef.{EntryRef}
+use Rattle.debug_units.specs.declared.unit_read.EntryRef.{EntryRef}
 use Rattle.func_flatten.specs.Pieces.{is_many}
 
 abbrev pub place_name : List UnitRead → EntryRef → List ℕ

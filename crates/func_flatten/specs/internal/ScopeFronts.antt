@@ -5,7 +5,7 @@ use Rattle.std.specs.List.{slice_get}
 use Rattle.std.specs.Option.{option_map_or}
 use Rattle.std.specs.Ordering.{nat_cmp}
 use Rattle.die_walk.specs.EntryTable.{DieFields}
-use Rattle.die_names.specs.declared.unit_read.UnitRead.{UnitRead}
+use Rattle.debug_units.specs.declared.unit_read.UnitRead.{UnitRead}
 use Rattle.die_names.specs.Names.{around, fronts, dies_of}
 use Rattle.func_flatten.specs.declared.name_blocks.NameKey.{NameKey}
 use Rattle.func_flatten.specs.internal.NameBlocks.{kept, BlockNumbers, IsKey}

@@ -4,9 +4,9 @@ use Rattle.std.specs.List.{slice_get, find, list_any}
 use Rattle.std.specs.Str.{bytes_eq}
 use Rattle.sym_edges.specs.Addresses.{Range}
 use Rattle.step_maps.specs.declared.stretch.Stretch.{Stretch}
-use Rattle.die_names.specs.declared.unit_read.UnitRead.{UnitRead}
-use Rattle.die_names.specs.declared.unit_read.EntryRef.{EntryRef}
-use Rattle.die_names.specs.Owners.{Covering}
+use Rattle.debug_units.specs.declared.unit_read.UnitRead.{UnitRead}
+use Rattle.debug_units.specs.declared.unit_read.EntryRef.{EntryRef}
+use Rattle.debug_units.specs.Owners.{Covering}
 use Rattle.func_flatten.specs.Pieces.{place_of, covering_name}
 use Rattle.func_flatten.specs.declared.set_owners.SetOwners.{SetOwners}
 use Rattle.func_flatten.specs.declared.set_owners.Meeting.{Meeting}

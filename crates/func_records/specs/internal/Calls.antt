@@ -2,13 +2,13 @@
 use Rattle.std.specs.Prelude.{◌≡◌, ℕ, ◌<◌, List, [], ◌∷◌, length, Option, None, Some, option_and_then}
 use Rattle.std.specs.List.{slice_get}
 use Rattle.line_program.specs.LineMaps.{numbered_file}
-use Rattle.die_names.specs.declared.unit_read.UnitRead.{UnitRead}
-use Rattle.die_names.specs.UnitEntries.{Placed, entry_of}
+use Rattle.debug_units.specs.declared.unit_read.UnitRead.{UnitRead}
+use Rattle.debug_units.specs.UnitEntries.{Placed, entry_of}
 use Rattle.func_flatten.specs.LineRuns.{unit_paths}
 use Rattle.inline_chain.specs.InlineRuns.{InlineParts}
 use Rattle.func_records.specs.declared.calls.CallSite.{CallSite}
 use Rattle.func_records.specs.FuncRecords.{Part, path_in, call_path, call_line}
-use Rattle.die_names.specs.CallPaths.{no_path}
+use Rattle.debug_units.specs.CallPaths.{no_path}
 
 abbrev pub file_number_in : ℕ → Option UnitRead → Option ℕ
 file_number_in file None = None

@@ -3,7 +3,7 @@ use Rattle.std.specs.Prelude.{◌≡◌, ℕ, Bool, false, ◌||◌, List, lengt
 use Rattle.std.specs.Str.{bytes_eq}
 use Rattle.step_maps.specs.Runs.{IsRuns, between}
 use Rattle.line_program.specs.LineMaps.{LineMap, numbered_line}
-use Rattle.die_names.specs.declared.unit_read.UnitRead.{UnitRead}
+use Rattle.debug_units.specs.declared.unit_read.UnitRead.{UnitRead}
 use Rattle.func_flatten.specs.declared.piece.Piece.{Piece}
 use Rattle.func_flatten.specs.declared.line_run.LineRun.{LineRun}
 use Rattle.func_flatten.specs.LineRuns.{number_run, AreLineRuns}

@@ -3,7 +3,7 @@ use Rattle.std.specs.Prelude.{◌≡◌, ◌⊎◌, ℕ, List, [], ◌∷◌, �
 use Rattle.std.specs.List.{slice_get, list_any}
 use Rattle.std.specs.Str.{bytes_eq}
 use Rattle.clean_names.specs.Cleaning.{cleaned}
-use Rattle.die_names.specs.declared.unit_read.UnitRead.{UnitRead}
+use Rattle.debug_units.specs.declared.unit_read.UnitRead.{UnitRead}
 use Rattle.die_names.specs.declared.name_source.NameRef.{NameRef}
 use Rattle.die_names.specs.Names.{entry_name}
 use Rattle.die_names.specs.NameRefs.{name_bytes}

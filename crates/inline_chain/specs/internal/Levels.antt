@@ -9,7 +9,7 @@ use Rattle.step_maps.specs.Runs.{value_in, AreRuns}
 use Rattle.step_maps.specs.declared.stretch.Stretch.{Stretch}
 use Rattle.step_maps.specs.declared.stretch.Cover.{Cover}
 use Rattle.step_maps.specs.Covers.{reaches, cover_run}
-use Rattle.die_names.specs.declared.unit_read.UnitRead.{UnitRead}
+use Rattle.debug_units.specs.declared.unit_read.UnitRead.{UnitRead}
 use Rattle.inline_chain.specs.InlineRuns.{InlineParts, is_of, spans_of, joined, AreParts, first_address, IsOrdered}
 use Rattle.inline_chain.specs.Trees.{is_number, child_at, list_of}
 

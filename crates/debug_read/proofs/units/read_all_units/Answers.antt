@@ -1,5 +1,5 @@
 use Rattle.abbrev_units.specs.UnitPlaces.{read_units}
-use Rattle.die_names.proofs.ReadLemmas.{are_read}
+use Rattle.debug_units.proofs.ReadLemmas.{are_read}
 use Rattle.debug_read.proofs.UnitLemmas.{parts_are}
 use Rattle.debug_read.proofs.JobLemmas.{joined_all, joined_stop}
 use Rattle.debug_read.proofs.OwingLemmas.{settled_all}

@@ -1,5 +1,5 @@
 use Rattle.std.proofs.Common.{◌≡◌, ◌<◌, ◌+◌, ◌*◌, length, drop, get_or, subst, arith}
-use Rattle.die_names.specs.Owners.{covering_from}
+use Rattle.debug_units.specs.Owners.{covering_from}
 use Rattle.func_flatten.proofs.CollectLemmas.{collected_none, collected_raised, unit_next, unit_there, entries_left}
 use Rattle.func_flatten.proofs.functions.collect_all.Goals as goal
 

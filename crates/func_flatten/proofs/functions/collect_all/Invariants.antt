@@ -1,6 +1,6 @@
 use Rattle.std.proofs.Common.{◌+◌, ◌*◌, ◌≤◌, length, drop, vec_len}
-use Rattle.die_names.specs.UnitEntries.{places}
-use Rattle.die_names.specs.Owners.{covering_from}
+use Rattle.debug_units.specs.UnitEntries.{places}
+use Rattle.debug_units.specs.Owners.{covering_from}
 use Rattle.step_maps.specs.SpanStretches.{AreFit}
 use Rattle.func_flatten.specs.internal.Standing.{IsCollected}
 use Rattle.func_flatten.proofs.functions.collect_all.Given as goal

@@ -1,6 +1,6 @@
 use Rattle.std.proofs.Common.{◌+◌, ◌*◌, ◌≤◌, ◌++◌, List, drop, vec_len}
 use Rattle.std.specs.List.{All}
-use Rattle.die_names.specs.Owners.{Covering, unit_covering}
+use Rattle.debug_units.specs.Owners.{Covering, unit_covering}
 use Rattle.step_maps.specs.SpanStretches.{AreFit}
 use Rattle.func_flatten.specs.internal.Standing.{IsCollected, AreApart}
 use Rattle.func_flatten.proofs.functions.push_unit.Given as goal

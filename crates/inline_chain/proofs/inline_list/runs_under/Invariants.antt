@@ -1,4 +1,4 @@
-use Rattle.die_names.specs.declared.unit_read.UnitRead.{UnitRead}
+use Rattle.debug_units.specs.declared.unit_read.UnitRead.{UnitRead}
 use Rattle.step_maps.specs.SpanStretches.{AreFit}
 use Rattle.inline_chain.specs.Trees.{IsTree}
 use Rattle.inline_chain.specs.internal.Levels.{IsLevel, RunsTo}

@@ -1,6 +1,6 @@
 use Rattle.std.proofs.Common.{List, Some, get_or, length, ap, subst, arith}
 use Rattle.std.specs.List.{slice_get}
-use Rattle.die_names.specs.declared.unit_read.UnitRead.{UnitRead}
+use Rattle.debug_units.specs.declared.unit_read.UnitRead.{UnitRead}
 use Rattle.inline_chain.specs.internal.Copies.{TreeFor}
 use Rattle.inline_chain.proofs.TreeLemmas.{trees_in_order}
 use Rattle.inline_chain.proofs.trees.all_trees.Goals as goal

@@ -1,5 +1,5 @@
 use Rattle.std.proofs.Common.{List, get_or, arith}
-use Rattle.die_names.specs.declared.unit_read.UnitRead.{UnitRead}
+use Rattle.debug_units.specs.declared.unit_read.UnitRead.{UnitRead}
 use Rattle.func_records.specs.declared.found.FoundShare.{FoundShare}
 use Rattle.unit_workers.specs.Shares.{share}
 use Rattle.func_records.specs.internal.Shares.{IsFound}

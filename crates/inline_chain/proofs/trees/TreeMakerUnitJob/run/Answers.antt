@@ -1,5 +1,5 @@
 use Rattle.std.proofs.Common.{◌≤◌, length, arith}
-use Rattle.die_names.specs.UnitEntries.{places}
+use Rattle.debug_units.specs.UnitEntries.{places}
 use Rattle.inline_chain.proofs.TreeLemmas.{unit_few}
 use Rattle.inline_chain.proofs.trees.TreeMakerUnitJob.run.Goals as goal
 

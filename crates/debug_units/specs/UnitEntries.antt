@@ -6,8 +6,8 @@ use Rattle.sym_edges.specs.Addresses.{Range}
 use Rattle.sym_edges.specs.Rising.{RisesFrom}
 use Rattle.die_walk.specs.EntryKinds.{counts}
 use Rattle.die_walk.specs.EntryTable.{DieFields}
-use Rattle.die_names.specs.declared.unit_read.EntryRef.{EntryRef}
-use Rattle.die_names.specs.declared.unit_read.UnitRead.{UnitRead}
+use Rattle.debug_units.specs.declared.unit_read.EntryRef.{EntryRef}
+use Rattle.debug_units.specs.declared.unit_read.UnitRead.{UnitRead}
 
 -- an entry with the number of its unit and its own number there
 pub record Placed : Type 0 where

@@ -7,7 +7,7 @@ use Rattle.std.proofs.lemmas.Option.{slice_get_within, slice_get-get_or, get_or_
 use Rattle.std.proofs.Math.Seq.{get_or-append_seam}
 use Rattle.sym_edges.specs.Addresses.{Range}
 use Rattle.range_set.specs.Canonical.{IsCanonical}
-use Rattle.die_names.specs.internal.NumberedSets.{set_of, sets_of, AreNumbered}
+use Rattle.debug_units.specs.internal.NumberedSets.{set_of, sets_of, AreNumbered}
 
 -- no entry yet: the empty set alone
 pub none_numbered : (sets before : List (List Range)) (numbers : List ℕ) → before ≡ [] → sets ≡ before ++ [] ∷ [] → numbers ≡ [] → AreNumbered sets numbers

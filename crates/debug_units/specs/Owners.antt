@@ -6,7 +6,7 @@ use Rattle.sym_edges.specs.Addresses.{Range}
 use Rattle.range_set.specs.Members.{holds_any}
 use Rattle.die_walk.specs.EntryTable.{DieFields}
 use Rattle.line_program.specs.LineMaps.{named_line, numbered_line}
-use Rattle.die_names.specs.declared.unit_read.UnitRead.{UnitRead}
+use Rattle.debug_units.specs.declared.unit_read.UnitRead.{UnitRead}
 use Rattle.die_walk.specs.EntryKinds.{is_function, is_inlined}
 
 -- an entry with its numbers and its addresses

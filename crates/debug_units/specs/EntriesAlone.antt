@@ -2,7 +2,7 @@
 use Rattle.std.specs.Prelude.{[]}
 use Rattle.line_program.specs.LineMaps.{no_lines}
 use Rattle.die_walk.specs.EntryTable.{EntryTable}
-use Rattle.die_names.specs.declared.unit_read.UnitRead.{UnitRead}
+use Rattle.debug_units.specs.declared.unit_read.UnitRead.{UnitRead}
 
 -- a unit that has these entries and nothing else
 abbrev pub with_entries : EntryTable → UnitRead

@@ -1,8 +1,8 @@
 use Rattle.std.proofs.Common.{◌≡◌, ◌<◌, ℕ, List, length, None, sym, ap, subst, ◌∙◌}
 use Rattle.std.specs.List.{slice_get}
 use Rattle.sym_edges.specs.Addresses.{Range}
-use Rattle.die_names.proofs.SetLemmas.{never_past}
-use Rattle.die_names.proofs.span_sets.SpanSets.push_again.Goals as goal
+use Rattle.debug_units.proofs.SetLemmas.{never_past}
+use Rattle.debug_units.proofs.span_sets.SpanSets.push_again.Goals as goal
 
 pub unreachable-requires : goal.unreachable-requires
 unreachable-requires c =

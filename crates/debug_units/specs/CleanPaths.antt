@@ -1,7 +1,7 @@
 -- The paths of line tables, as records may carry them.
 use Rattle.std.specs.Prelude.{List, [], ◌∷◌}
 use Rattle.clean_names.specs.Cleaning.{AreClean}
-use Rattle.die_names.specs.declared.unit_read.UnitRead.{UnitRead}
+use Rattle.debug_units.specs.declared.unit_read.UnitRead.{UnitRead}
 
 -- the paths of all line tables are cleaned
 abbrev pub HaveCleanPaths : List UnitRead → Type 0

@@ -2,7 +2,7 @@
 use Rattle.std.proofs.Common.{ℕ, false, List, [], None}
 use Rattle.sym_edges.specs.Addresses.{Range}
 use Rattle.die_walk.specs.EntryTable.{DieFields}
-use Rattle.die_names.specs.declared.unit_read.UnitRead.{UnitRead}
+use Rattle.debug_units.specs.declared.unit_read.UnitRead.{UnitRead}
 
 -- an entry with this tag and nothing else
 abbrev pub bare_entry : ℕ → DieFields

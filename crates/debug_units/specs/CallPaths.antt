@@ -3,7 +3,7 @@ use Rattle.std.specs.Prelude.{ℕ, List, Option, None, Some, unwrap_or, option_a
 use Rattle.std.specs.List.{slice_get}
 use Rattle.die_walk.specs.EntryTable.{DieFields}
 use Rattle.line_program.specs.LineMaps.{LineMap, numbered_file}
-use Rattle.die_names.specs.declared.unit_read.UnitRead.{UnitRead}
+use Rattle.debug_units.specs.declared.unit_read.UnitRead.{UnitRead}
 
 -- what stands in the place of a path that is not there
 unfoldable pub no_path : List ℕ

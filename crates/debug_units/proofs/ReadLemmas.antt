@@ -7,11 +7,11 @@ use Rattle.abbrev_units.specs.DebugSections.{DebugSections}
 use Rattle.abbrev_units.specs.Units.{units_in}
 use Rattle.die_walk.specs.EntryTable.{DieFields}
 use Rattle.sym_edges.specs.Rising.{RisesFrom}
-use Rattle.die_names.specs.declared.unit_read.UnitRead.{UnitRead}
-use Rattle.die_names.specs.UnitEntries.{places, ArePairs, AreRead}
+use Rattle.debug_units.specs.declared.unit_read.UnitRead.{UnitRead}
+use Rattle.debug_units.specs.UnitEntries.{places, ArePairs, AreRead}
 use Rattle.abbrev_units.specs.UnitPlaces.{BodyInside, Follow, with_read, read_units}
 use Rattle.die_walk.specs.EntryPlaces.{RisesTo}
-use Rattle.die_names.specs.UnitTables.{AreTables}
+use Rattle.debug_units.specs.UnitTables.{AreTables}
 use Rattle.die_walk.proofs.EntryPlaceLemmas.{places_rise, rises_lower}
 use Rattle.abbrev_units.proofs.UnitPlaceLemmas.{units_follow}
 

@@ -4,7 +4,7 @@ use Rattle.abbrev_units.specs.SpecFields.{Abbrev}
 use Rattle.abbrev_units.specs.declared.unit.Unit.{Unit}
 use Rattle.abbrev_units.specs.DebugSections.{DebugSections}
 use Rattle.die_walk.specs.EntryTable.{EntryTable, entry_table}
-use Rattle.die_names.specs.declared.unit_read.UnitRead.{UnitRead}
+use Rattle.debug_units.specs.declared.unit_read.UnitRead.{UnitRead}
 
 -- the table is that of the unit's entries
 pub record IsTable (sections : DebugSections) (unit : Unit) (made : EntryTable) : Type 0 where

@@ -25,7 +25,7 @@ pub struct SpanSets {
 impl Model for SpanSets {
     ghost use Rattle.std.specs.Prelude.{List};
     ghost use Rattle.sym_edges.specs.Addresses.{Range};
-    ghost use Rattle.die_names.specs.internal.NumberedSets.{sets_of, AreNumbered};
+    ghost use Rattle.debug_units.specs.internal.NumberedSets.{sets_of, AreNumbered};
 
     ghost Value = { List (List Range) };
 

@@ -4,9 +4,9 @@ ghost use Rattle.abbrev_units.specs.declared.unit.Unit.{Unit};
 ghost use Rattle.abbrev_units.specs.DebugSections.{DebugSections};
 ghost use Rattle.abbrev_units.specs.Units.{units_in};
 ghost use Rattle.abbrev_units.specs.UnitPlaces.{read_units};
-ghost use Rattle.die_names.specs.declared.unit_read.UnitRead.{UnitRead};
-ghost use Rattle.die_names.specs.UnitEntries.{ArePairs, AreRead};
-ghost use Rattle.die_names.specs.UnitTables.{AreTables};
+ghost use Rattle.debug_units.specs.declared.unit_read.UnitRead.{UnitRead};
+ghost use Rattle.debug_units.specs.UnitEntries.{ArePairs, AreRead};
+ghost use Rattle.debug_units.specs.UnitTables.{AreTables};
 
 /// The tables of a section's units, in their order, each entry with a set, are units that [`crate::Units`] takes: there are few
 /// enough of them, and the offsets of their entries rise through all of them.

@@ -3,7 +3,7 @@ ghost use Rattle.std.specs.Prelude.{◌≡◌, IfSome};
 ghost use Rattle.std.specs.List.{slice_get};
 ghost use Rattle.std.specs.Option.{option_copied};
 ghost use Rattle.range_set.specs.Canonical.{IsCanonical};
-ghost use Rattle.die_names.specs.UnitEntries.{AreRead, die_in};
+ghost use Rattle.debug_units.specs.UnitEntries.{AreRead, die_in};
 
 use crate::shared_lines::SharedLines;
 use crate::span_sets::SpanSets;
@@ -53,8 +53,8 @@ pub struct Units<'a> {
 
 impl<'a> Model for Units<'a> {
     ghost use Rattle.std.specs.Prelude.{List};
-    ghost use Rattle.die_names.specs.declared.unit_read.UnitRead.{UnitRead};
-    ghost use Rattle.die_names.specs.UnitEntries.{AreRead};
+    ghost use Rattle.debug_units.specs.declared.unit_read.UnitRead.{UnitRead};
+    ghost use Rattle.debug_units.specs.UnitEntries.{AreRead};
 
     ghost Value = { List UnitRead };
 

@@ -1,0 +1,3 @@
+mod SetLemmas
+pub mod ReadLemmas
+pub mod MadeUnits
