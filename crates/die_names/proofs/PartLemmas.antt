@@ -1,9 +1,8 @@
 -- The parts of a name.
-use Rattle.std.proofs.Common.{◌≡◌, ◌++◌, ℕ, List, [], codes, Option, None, Some, unwrap_or, true, false, sym, ap, ◌∙◌}
+use Rattle.std.proofs.Common.{◌≡◌, ◌++◌, ℕ, List, [], codes, None, Some, unwrap_or, true, false, sym, ap, ◌∙◌}
 use Rattle.std.specs.List.{slice_get}
 use Rattle.std.specs.Option.{option_map, option_map_or}
 use Rattle.die_walk.specs.EntryTable.{DieFields}
-use Rattle.die_names.specs.declared.name_source.How.{How}
 use Rattle.die_names.specs.declared.name_source.How.TheVariants.{Linkage, Joined, Omitted}
 use Rattle.die_names.specs.declared.name_source.NameRef.{NameRef}
 use Rattle.debug_units.specs.declared.unit_read.UnitRead.{UnitRead}

@@ -20,5 +20,5 @@ mod parts;
 pub use crate::guesses::LinkGuesses;
 pub use crate::joined_name::{name_slice, name_text, scope_name};
 pub use crate::kept::{EntryNameText, clean_slice};
-pub use crate::name_source::{How, NameRef, is_same_ref, name_by, name_of};
+pub use crate::name_source::{How, NameRef, name_by, name_of};
 pub use crate::parts::{NameParts, name_parts};

@@ -23,30 +23,12 @@ pub enum How {
     Omitted,
 }
 
-/// The entry that gives a name.
+/// The entry that gives a name, and how. Two that are equal are one name; two that are not may still have one text.
 #[derive(Clone, Copy, Debug, PartialEq, Eq)]
 pub struct NameRef {
     pub unit: u32,
     pub entry: u32,
     pub how: How,
-}
-
-/// Whether both give a name in the same way.
-fn gives_alike(one: How, other: How) -> bool
-    ensures { result ≡ true → one ≡ other }
-{
-    match one {
-        How::Linkage => matches!(other, How::Linkage),
-        How::Joined => matches!(other, How::Joined),
-        How::Omitted => matches!(other, How::Omitted),
-    }
-}
-
-/// Whether both are one entry, which gives a name in the same way: then they are one name. Two that are not may still have one text.
-pub fn is_same_ref(one: NameRef, other: NameRef) -> bool
-    ensures { result ≡ true → one ≡ other }
-{
-    one.unit == other.unit && (one.entry == other.entry && gives_alike(one.how, other.how))
 }
 
 /// How many links are followed at most.

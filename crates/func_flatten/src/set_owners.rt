@@ -8,7 +8,7 @@ ghost use Rattle.func_flatten.specs.internal.Classes.{place_name};
 ghost use Rattle.func_flatten.specs.internal.Standing.{HasSet, AreApart, Meets};
 
 use debug_units::{EntryRef, UnitRead, Units};
-use die_names::{is_same_ref, name_of, name_text};
+use die_names::{name_of, name_text};
 use std::alloc::Global;
 use sym_edges::OutOfMemory;
 
@@ -39,7 +39,7 @@ fn have_one_name(
 {
     let first = name_of(units, one.unit, one.entry);
     let second = name_of(units, other.unit, other.entry);
-    if is_same_ref(first, second) {
+    if first == second {
         return Ok(true);
     }
     let first = name_text(alloc, units, first)?;
