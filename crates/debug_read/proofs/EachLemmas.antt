@@ -1,6 +1,5 @@
 -- What the members of a list give, one by one.
-use Rattle.std.proofs.Common.{◌≡◌, ℕ, zero, suc, ◌<◌, List, [], ◌∷◌, ◌++◌, drop, reverse, get_or, length, Some, Result, Ok, Err, refl, sym, ap, subst, ◌∙◌, append_assoc, append-nil, arith}
-use Rattle.std.proofs.lemmas.List.{reverse-append}
+use Rattle.std.proofs.Common.{◌≡◌, ℕ, zero, suc, ◌<◌, List, [], ◌∷◌, ◌++◌, drop, get_or, length, Some, Result, Ok, Err, refl, sym, ap, subst, append_assoc, append-nil, arith}
 use Rattle.std.specs.List.{slice_get}
 use Rattle.sym_edges.specs.Results.{◌>>=◌}
 use Rattle.debug_read.specs.Each.{each_of, Match, Says}
@@ -26,7 +25,8 @@ first_faults : {A C F : Type 0} (R : A → C → Type 0) (first : Result A F) (l
 first_faults R (Ok a) later y f one is = ap (λ r. r >>= λ rest. Ok (a ∷ rest)) is
 first_faults R (Err g) later y f one is = absurd one
 
-going_first : {X A C F : Type 0} (R : A → C → Type 0) (gives : X → Result A F) (x : X) (xs : List X) (all : Result (List A) F) (made : List C) (c : C) → Going R all (each_of gives (x ∷ xs)) made → Says R (gives x) c → Going R all (each_of gives xs) (made ++ c ∷ [])
+-- the first member of those that are left
+pub going_first : {X A C F : Type 0} (R : A → C → Type 0) (gives : X → Result A F) (x : X) (xs : List X) (all : Result (List A) F) (made : List C) (c : C) → Going R all (each_of gives (x ∷ xs)) made → Says R (gives x) c → Going R all (each_of gives xs) (made ++ c ∷ [])
 unfolding each_of
 going_first R gives x xs all made c going one = record {
   ok = λ later says. subst (λ (m : List _). Says (Match R) all m) (sym (append_assoc made (c ∷ []) later)) (going.ok (c ∷ later) (first_says R (gives x) (each_of gives xs) c later one says));
@@ -72,21 +72,3 @@ match_in_order R [] (y ∷ ys) same each = absurd (omega (arith, same))
 match_in_order R (x ∷ xs) [] same each = absurd (omega (arith, same))
 match_in_order R (x ∷ xs) (y ∷ ys) same each =
     (each zero y (omega arith) x refl, match_in_order R xs ys (omega (arith, same)) (λ k d inside. each (suc k) d (omega (arith, inside))))
-
--- results that are taken from the end of the reversed list
-pub going_last : {A F : Type 0} (all : Result (List A) F) (left less : List (Result A F)) (made : List A) (one : Result A F) → left ≡ less ++ one ∷ [] → Going (λ a b. a ≡ b) all (each_of (λ x. x) (reverse left)) made → Going (λ a b. a ≡ b) all (each_of (λ x. x) (one ∷ reverse less)) made
-going_last all left less made one is going =
-    subst (λ (l : List _). Going (λ a b. a ≡ b) all (each_of (λ x. x) l) made) (ap reverse is ∙ reverse-append less (one ∷ [])) going
-
-pub taken_more : {A F : Type 0} (all : Result (List A) F) (left less : List (Result A F)) (made more : List A) (a : A) → left ≡ less ++ Ok a ∷ [] → more ≡ made ++ a ∷ [] → Going (λ a b. a ≡ b) all (each_of (λ x. x) (reverse left)) made → Going (λ a b. a ≡ b) all (each_of (λ x. x) (reverse less)) more
-taken_more all left less made more a is grown going =
-    subst (λ (m : List _). Going (λ a b. a ≡ b) all (each_of (λ x. x) (reverse less)) m) (sym grown)
-    (going_first (λ a b. a ≡ b) (λ x. x) (Ok a) (reverse less) all made a (going_last all left less made (Ok a) is going) refl)
-
-pub taken_all : {A F : Type 0} (all : Result (List A) F) (left : List (Result A F)) (made : List A) → left ≡ [] → Going (λ a b. a ≡ b) all (each_of (λ x. x) (reverse left)) made → Says (Match (λ a b. a ≡ b)) all made
-taken_all all left made none going =
-    going_ends (λ a b. a ≡ b) (λ x. x) [] 0 all made refl (subst (λ (l : List _). Going (λ a b. a ≡ b) all (each_of (λ x. x) (reverse l)) made) none going)
-
-pub taken_fault : {A F : Type 0} (all : Result (List A) F) (left less : List (Result A F)) (made : List A) (f : F) → left ≡ less ++ Err f ∷ [] → Going (λ a b. a ≡ b) all (each_of (λ x. x) (reverse left)) made → all ≡ Err f
-unfolding each_of
-taken_fault all left less made f is going = (going_last all left less made (Err f) is going).fault f refl

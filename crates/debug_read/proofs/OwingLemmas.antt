@@ -1,7 +1,6 @@
 -- For src/named_tables.rt and src/unit_tables.rt: a line table has the same faults whichever unit names it.
-use Rattle.std.proofs.Common.{◌≡◌, ◌≤◌, ℕ, nat_lt, Bool, true, false, cond, if◌then◌else◌, List, [], ◌∷◌, ◌++◌, drop, length, reverse, Option, Some, unwrap_or, Result, Ok, Err, refl, sym, ap, subst, ◌∙◌, append_assoc, append-nil, arith}
+use Rattle.std.proofs.Common.{◌≡◌, ◌≤◌, ℕ, nat_lt, Bool, true, false, cond, if◌then◌else◌, List, [], drop, length, Option, Some, unwrap_or, Result, Ok, Err, refl, sym, ap, subst, ◌∙◌, arith}
 use Rattle.std.proofs.lemmas.Bool.{cond-false, le-ltb}
-use Rattle.std.proofs.lemmas.List.{reverse-append, reverse-reverse}
 use Rattle.sym_edges.specs.Addresses.{Range}
 use Rattle.sym_edges.specs.Results.{◌>>=◌}
 use Rattle.sym_edges.specs.declared.located.Located.{Located}
@@ -12,7 +11,6 @@ use Rattle.sym_edges.specs.declared.part.Sect.TheVariants.{Info, Line}
 use Rattle.leb_cursor.specs.Ahead.{Ahead}
 use Rattle.abbrev_units.specs.declared.fault.DwarfKind.{DwarfKind}
 use Rattle.abbrev_units.specs.declared.fault.DwarfKind.TheVariants.{OffsetOutside}
-use Rattle.abbrev_units.specs.declared.unit.Unit.{Unit}
 use Rattle.abbrev_units.specs.DebugSections.{DebugSections}
 use Rattle.abbrev_units.specs.Faults.{as_header}
 use Rattle.die_walk.specs.EntryTable.{RootFields}
@@ -24,17 +22,14 @@ use Rattle.range_set.specs.Enclosing.{encloses}
 use Rattle.line_program.specs.LineMaps.{LineMap, EncloseAlike, no_lines}
 use Rattle.line_program.specs.LineRows.{State, line_rows}
 use Rattle.line_program.specs.LineTables.{lines_of, lines_at, unit_lines, Says as SaysTable}
-use Rattle.debug_units.specs.declared.unit_read.UnitRead.{UnitRead}
-use Rattle.debug_read.specs.declared.unit_tables.UnitFound.{UnitFound}
-use Rattle.debug_read.specs.Each.{Match, Says}
+use Rattle.debug_read.specs.Each.{Says}
 use Rattle.debug_read.specs.UnitSays.{lines_by, root_lines}
 use Rattle.debug_read.specs.UnitsRead.{KeepsLines}
-use Rattle.debug_read.specs.internal.Jobs.{IsFound}
 use Rattle.debug_read.specs.declared.named_tables.NamedTable.{NamedTable}
 use Rattle.debug_read.specs.declared.named_tables.TableName.{TableName}
 use Rattle.debug_read.specs.declared.named_tables.TableRead.{TableRead}
 use Rattle.debug_read.specs.declared.named_tables.TableRead.TheVariants.{Sound, Whole, Refused}
-use Rattle.debug_read.specs.internal.Owing.{IsOk, IsSound, IsRefused, WholeBy, TableBy, IsTable, IsFor, IsOwing, Settles}
+use Rattle.debug_read.specs.internal.Owing.{IsOk, IsSound, IsRefused, WholeBy, TableBy, IsTable, IsFor}
 use Rattle.debug_read.proofs.LineLemmas.{table_kept, table_refused}
 
 abbrev LineFault : Type 0
@@ -186,36 +181,3 @@ pub named_refused : (code : List Range) (sections : DebugSections) (root : RootF
 named_refused code sections root asked one fault found is =
     table_refused sections root one.name.offset fault found.offset
     (subst (λ (r : TableRead). TableBy code sections one.name.offset one.name.comp_dir.now r) is found.table root.at (unwrap_or root.comp_dir []))
-
--- all of them, from the end of the reversed list
-pub record Settling (spans : List Range) (sections : DebugSections) (found left : List (Result UnitFound LineFault)) (made : List (Result UnitRead LineFault)) : Type 0 where
-  pub rest : (later : List (Result UnitRead LineFault)) → Match (Settles spans sections) (reverse left) later → Match (Settles spans sections) found (made ++ later)
-
-pub settling_begins : (spans : List Range) (sections : DebugSections) (found left : List (Result UnitFound LineFault)) (made : List (Result UnitRead LineFault)) → left ≡ reverse found → made ≡ [] → Settling spans sections found left made
-settling_begins spans sections found left made is none = record {
-  rest = λ later match.
-      subst (λ (m : List (Result UnitRead LineFault)). Match (Settles spans sections) found (m ++ later)) (sym none)
-      (subst (λ (l : List (Result UnitFound LineFault)). Match (Settles spans sections) l later) (ap reverse is ∙ reverse-reverse found) match);
-}
-
-pub settling_more : (spans : List Range) (sections : DebugSections) (found left less : List (Result UnitFound LineFault)) (made more : List (Result UnitRead LineFault)) (one : Result UnitFound LineFault) (out : Result UnitRead LineFault) → Settling spans sections found left made → left ≡ less ++ one ∷ [] → Settles spans sections one out → more ≡ made ++ out ∷ [] → Settling spans sections found less more
-settling_more spans sections found left less made more one out so_far is settles grown = record {
-  rest = λ later match.
-      subst (λ (m : List (Result UnitRead LineFault)). Match (Settles spans sections) found m) (sym (ap (λ (m : List (Result UnitRead LineFault)). m ++ later) grown ∙ append_assoc made (out ∷ []) later))
-      (so_far.rest (out ∷ later)
-      (subst (λ (l : List (Result UnitFound LineFault)). Match (Settles spans sections) l (out ∷ later)) (sym (ap reverse is ∙ reverse-append less (one ∷ []))) (settles, match)));
-}
-
-pub settling_ends : (spans : List Range) (sections : DebugSections) (found left : List (Result UnitFound LineFault)) (made : List (Result UnitRead LineFault)) → Settling spans sections found left made → left ≡ [] → Match (Settles spans sections) found made
-settling_ends spans sections found left made so_far none =
-    subst (λ (m : List (Result UnitRead LineFault)). Match (Settles spans sections) found m) (append-nil made)
-    (so_far.rest [] (subst (λ (l : List (Result UnitFound LineFault)). Match (Settles spans sections) (reverse l) []) (sym none) tt))
-
-pub settled_all : (spans : List Range) (sections : DebugSections) (units : List Unit) (found : List (Result UnitFound LineFault)) (settled : List (Result UnitRead LineFault)) → Match (IsOwing spans sections) units found → Match (Settles spans sections) found settled → Match (IsFound spans sections) units settled
-settled_all spans sections [] [] [] owing settles = tt
-settled_all spans sections [] [] (out ∷ settled) owing settles = absurd settles
-settled_all spans sections [] (one ∷ found) settled owing settles = absurd owing
-settled_all spans sections (unit ∷ units) [] settled owing settles = absurd owing
-settled_all spans sections (unit ∷ units) (one ∷ found) [] owing settles = absurd settles
-settled_all spans sections (unit ∷ units) (one ∷ found) (out ∷ settled) owing settles =
-    (settles.0 unit owing.0, settled_all spans sections units found settled owing.1 settles.1)

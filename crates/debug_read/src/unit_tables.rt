@@ -1,10 +1,14 @@
 //! The line table of each unit, once the entries of all were read: a handle of the table that it names, or its fault. Of a unit
 //! without a function no lines are kept.
-ghost use Rattle.std.specs.Prelude.{◌≡◌, ◌≤◌, if◌then◌else◌, Some, List, IfOk};
+ghost use Rattle.std.specs.Prelude.{◌≡◌, ◌≤◌, if◌then◌else◌, Some, List, Err, IfOk};
 ghost use Rattle.sym_edges.specs.Addresses.{Range};
+ghost use Rattle.sym_edges.specs.Outside.{MatchStop};
+ghost use Rattle.abbrev_units.specs.declared.unit.Unit.{Unit};
 ghost use Rattle.line_program.specs.LineMaps.{EncloseAlike, no_lines};
-ghost use Rattle.debug_read.specs.Each.{Match};
-ghost use Rattle.debug_read.specs.internal.Owing.{AreKnown, LinesAre, Settles};
+ghost use Rattle.debug_read.specs.Each.{Says, each_of, Match};
+ghost use Rattle.debug_read.specs.UnitSays.{unit_says};
+ghost use Rattle.debug_read.specs.UnitsRead.{IsUnitRead};
+ghost use Rattle.debug_read.specs.internal.Owing.{AreKnown, LinesAre, IsOwing, Settles};
 
 use crate::lines::read_table;
 use crate::named_tables::{NamedTable, TableRead, find_table, name_of, read_tables};
@@ -128,26 +132,32 @@ fn settle<'a>(
     }
 }
 
-/// All units, or their faults, once their line tables are known.
+/// All units, once their line tables are known, or the fault of the first one that has one.
 fn settle_all<'a>(
     alloc: Global,
     known: &KnownTables<'_, 'a>,
     found: Vec<Result<UnitFound<'a>, DwarfFault>>,
-) -> Result<Vec<Result<UnitRead<'a>, DwarfFault>>, OutOfMemory>
+) -> Result<Vec<UnitRead<'a>>, Stop<DwarfFault>>
     requires { AreKnown known.now }
-    ensures { IfOk result (λ settled. (spans : List Range) → EncloseAlike known.now.code.now spans → Match (Settles spans known.now.sections.now) found.entry.items settled.items) }
+    ensures { (spans : List Range) → EncloseAlike known.now.code.now spans → (units : List Unit) → Match (IsOwing spans known.now.sections.now) units found.entry.items → MatchStop result
+        (λ parts. Says (Match (IsUnitRead spans)) (each_of (unit_says known.now.sections.now) units) parts.items)
+        (λ fault. each_of (unit_says known.now.sections.now) units ≡ Err fault)
+        (Prim.Unit {0}) }
 {
     let mut left = found;
     left.reverse();
-    let mut settled = Vec::with_capacity(alloc, left.len())?;
+    let mut parts = Vec::with_capacity(alloc, left.len())?;
     'units: while let Some(one) = left.pop() {
-        let one = settle(alloc, known, one)?;
-        settled.push(one)?;
+        match settle(alloc, known, one)? {
+            Ok(part) => parts.push(part)?,
+            Err(fault) => return Err(Stop::Fault(fault)),
+        }
     }
-    Ok(settled)
+    Ok(parts)
 }
 
-/// All units, or their faults, with the line tables that they name. Ranges that one of the spans encloses are code.
+/// All units, with the line tables that they name, or the fault of the first one that has one. Ranges that one of the spans encloses are
+/// code.
 pub fn settle_units<'a, R: Threads + Sync>(
     rt: &R,
     alloc: Global,
@@ -155,9 +165,12 @@ pub fn settle_units<'a, R: Threads + Sync>(
     code: &[Span],
     found: Vec<Result<UnitFound<'a>, DwarfFault>>,
     workers: usize,
-) -> Result<Vec<Result<UnitRead<'a>, DwarfFault>>, OutOfMemory>
+) -> Result<Vec<UnitRead<'a>>, Stop<DwarfFault>>
     requires workers { (1 ≤ workers) × (workers ≤ 64) }
-    ensures { IfOk result (λ settled. Match (Settles code.now sections.now) found.entry.items settled.items) }
+    ensures { (units : List Unit) → Match (IsOwing code.now sections.now) units found.entry.items → MatchStop result
+        (λ parts. Says (Match (IsUnitRead code.now)) (each_of (unit_says sections.now) units) parts.items)
+        (λ fault. each_of (unit_says sections.now) units ≡ Err fault)
+        (Prim.Unit {0}) }
 {
     let code = Enclosing::of_spans(alloc, code)?;
     let tables = read_tables(rt, alloc, sections, &code, found.as_slice(), workers)?;

@@ -18,7 +18,7 @@ use crate::ranges::read_sets;
 use crate::shared_abbrevs::{SharedAbbrevs, read_shared, unit_at};
 use crate::unit_tables::{UnitFound, settle_units};
 use abbrev_units::{AbbrevScratch, Abbrevs, DwarfFault, Sections, Unit, UnitPart};
-use debug_units::{UnitRead, Units};
+use debug_units::Units;
 use die_walk::walk;
 use range_lists::laws::code_by_what_it_encloses;
 use range_lists::unit_base;
@@ -214,28 +214,6 @@ impl<'s, 'a> UnitJob for UnitReader<'s, 'a> {
     }
 }
 
-/// All units, or the fault of the first one that has one.
-fn join_units<'a>(
-    alloc: Global,
-    found: Vec<Result<UnitRead<'a>, DwarfFault>>,
-) -> Result<Vec<UnitRead<'a>>, Stop<DwarfFault>>
-    ensures { MatchStop result
-        (λ parts. Says (Match (λ part read. part ≡ read)) (each_of (λ one. one) found.entry.items) parts.items)
-        (λ fault. each_of (λ one. one) found.entry.items ≡ Err fault)
-        (Prim.Unit {0}) }
-{
-    let mut left = found;
-    left.reverse();
-    let mut parts = Vec::with_capacity(alloc, left.len())?;
-    'units: while let Some(one) = left.pop() {
-        match one {
-            Ok(part) => parts.push(part)?,
-            Err(fault) => return Err(Stop::Fault(fault)),
-        }
-    }
-    Ok(parts)
-}
-
 /// What the workers find, unit by unit.
 fn find_all<'a, R: Threads + Sync, G: Gate + Sync>(
     rt: &R,
@@ -278,8 +256,7 @@ pub fn read_all_units<'a, R: Threads + Sync, G: Gate + Sync>(
         (Prim.Unit {0}) }
 {
     let found = find_all(rt, alloc, sections, headers, code, gate, workers)?;
-    let settled = settle_units(rt, alloc, sections, code, found, workers)?;
-    match join_units(alloc, settled) {
+    match settle_units(rt, alloc, sections, code, found, workers) {
         Ok(parts) => Ok(Units::of(parts)),
         Err(stop) => Err(stop),
     }

@@ -8,7 +8,6 @@ use Rattle.abbrev_units.specs.declared.unit.Unit.{Unit}
 use Rattle.abbrev_units.specs.DebugSections.{DebugSections}
 use Rattle.die_walk.specs.EntryTable.{RootFields}
 use Rattle.range_set.specs.Enclosing.{encloses}
-use Rattle.line_program.specs.LineAt.{Lines}
 use Rattle.line_program.specs.LineMaps.{LineMap, EncloseAlike}
 use Rattle.line_program.specs.LineTables.{unit_lines, Says as SaysTable}
 use Rattle.debug_units.specs.declared.unit_read.UnitRead.{UnitRead}
