@@ -1,5 +1,5 @@
 -- The names of the functions that were inlined, as they are gathered and numbered.
-use Rattle.std.proofs.Common.{◌≡◌, ℕ, zero, suc, ◌+◌, ◌<◌, ◌≤◌, Bool, true, false, map, length, take, drop, get_or, List, [], ◌∷◌, ◌++◌, ◌||◌, Some, unwrap_or, option_map, inl, inr, arith, refl, sym, ap, subst, ◌∙◌, append_assoc, append-nil, Bor}
+use Rattle.std.proofs.Common.{◌≡◌, ℕ, zero, suc, ◌+◌, ◌<◌, ◌≤◌, Bool, true, false, map, length, take, drop, get_or, List, [], ◌∷◌, ◌++◌, ◌||◌, Some, unwrap_or, option_map, inl, inr, arith, refl, sym, ap, subst, ◌∙◌, append_assoc, append-nil}
 use Rattle.std.proofs.Math.Seq.{take-append_seam, drop-append_seam}
 use Rattle.std.proofs.lemmas.List.{length-take-le, length-append, length-map, map-append, take_all}
 use Rattle.std.proofs.lemmas.List.Folds.{list_any-append}
@@ -11,7 +11,6 @@ use Rattle.die_names.specs.declared.name_source.NameRef.{NameRef}
 use Rattle.die_names.specs.Names.{entry_name}
 use Rattle.func_flatten.specs.declared.piece.Piece.{Piece}
 use Rattle.inline_chain.specs.InlineRuns.{InlineParts}
-use Rattle.func_records.specs.internal.Gathering.{bytes_of}
 use Rattle.func_records.specs.internal.Origins.{made_name, entry_names, all_names, RefParts, AreAt, TextsSay, RefsSay, IsPlaced}
 use Rattle.func_records.proofs.ListLemmas.{take_next, get_front, get_last, or_right}
 use Rattle.func_records.proofs.NumberLemmas.{there}

@@ -1,5 +1,5 @@
 -- The records of functions (Breakpad's symbol_files.md): FILE, INLINE_ORIGIN, FUNC, INLINE and line records.
-use Rattle.std.specs.Prelude.{◌≡◌, ℕ, ◌+◌, ◌-◌, ◌≤◌, ◌<◌, ◌||◌, if◌then◌else◌, map, List, [], ◌∷◌, ◌++◌, Bool, Option, unwrap_or}
+use Rattle.std.specs.Prelude.{◌≡◌, ℕ, ◌+◌, ◌-◌, ◌≤◌, ◌<◌, ◌||◌, if◌then◌else◌, map, List, [], ◌∷◌, ◌++◌, Bool, unwrap_or}
 use Rattle.std.specs.List.{slice_get, list_any}
 use Rattle.std.specs.Option.{option_map_or}
 use Rattle.std.specs.Ordering.{nat_cmp}

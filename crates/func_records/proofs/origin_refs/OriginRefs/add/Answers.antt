@@ -1,5 +1,5 @@
 use Rattle.std.proofs.Common.{refl, rules, sym, subst}
-use Rattle.func_records.specs.internal.Origins.{RefsSay, IsPlaced}
+use Rattle.func_records.specs.internal.Origins.{RefsSay}
 use Rattle.func_records.proofs.OriginLemmas.{refs_more}
 use Rattle.func_records.proofs.origin_refs.OriginRefs.add.Goals as goal
 
