@@ -1,5 +1,6 @@
 -- What stands after a symbol is what the bytes in front of it end with.
-use Rattle.std.proofs.Common.{◌≡◌, ℕ, zero, suc, ◌+◌, ◌-◌, ◌≤◌, ◌==◌, cond, nat_le, Bool, true, false, List, [], ◌∷◌, ◌++◌, length, take, drop, not, ◌&&◌, nat_lt, Option, Some, None, refl, sym, ◌∙◌, ap, arith, subst, ⊎_elim}
+use Rattle.std.proofs.Common.{◌≡◌, ℕ, zero, suc, ◌+◌, ◌-◌, ◌≤◌, ◌==◌, cond, nat_le, Bool, true, false, List, [], ◌∷◌, ◌++◌, length, take, drop, not, ◌&&◌, nat_lt, Option, Some, None, IfSome, refl, sym, ◌∙◌, ap, arith, subst, ⊎_elim}
+use Rattle.std.specs.Borrow.{Bor}
 use Rattle.std.specs.Option.{option_map, option_and_then}
 use Rattle.std.proofs.lemmas.Bool.{cases_lt}
 use Rattle.std.proofs.lemmas.List.{drop-drop, drop_all, length-drop}
@@ -513,15 +514,19 @@ expanded_by_end old new bytes after (Some x) follows is = subst (IsEnd bytes) is
 
 -- what is left of a name
 
-pub leaf_end : (a : Leaf) (scope : Scope) (name bytes text : List ℕ) (x : List ℕ × List ℕ) → IsEnd name bytes → read_leaf a scope bytes text ≡ Some x → IsEnd name x.0
-leaf_end a scope name bytes text x ends reads = beyond name bytes x.0 ends (subst (Leads bytes) reads (read_ends a scope bytes text))
+left : (name bytes more : List ℕ) (o : Option (Bor (List ℕ))) → IsEnd name bytes → Leads bytes (option_map (λ (a : Bor (List ℕ)). (a.now, more)) o) → IfSome o (λ a. IsEnd name a.now)
+left name bytes more None ends leads = tt
+left name bytes more (Some a) ends leads = beyond name bytes a.now ends leads
 
-pub named_end : (scope : Scope) (name bytes text : List ℕ) (x : List ℕ × List ℕ) → IsEnd name bytes → named_read scope bytes text ≡ Some x → IsEnd name x.0
-named_end scope name bytes text x ends reads = beyond name bytes x.0 ends (subst (Leads bytes) reads (named_read_ends scope bytes text))
+pub leaf_end : (a : Leaf) (scope : Scope) (name bytes text more : List ℕ) (o : Option (Bor (List ℕ))) → IsEnd name bytes → read_leaf a scope bytes text ≡ option_map (λ (r : Bor (List ℕ)). (r.now, more)) o → IfSome o (λ r. IsEnd name r.now)
+leaf_end a scope name bytes text more o ends reads = left name bytes more o ends (subst (Leads bytes) reads (read_ends a scope bytes text))
 
-pub crate_end : (scope : Scope) (name bytes rest after text : List ℕ) (x : List ℕ × List ℕ) → IsEnd name bytes → IsEnd bytes rest → rest ≡ 67 ∷ after → crate_read scope after text ≡ Some x → IsEnd name x.0
-crate_end scope name bytes rest after text x ends further begins reads =
-    beyond name after x.0 (beyond name bytes after ends (beyond bytes rest after further (subst (λ r. IsEnd r after) (sym begins) (next 67 after)))) (subst (Leads after) reads (crate_ends scope after text))
+pub named_end : (scope : Scope) (name bytes text more : List ℕ) (o : Option (Bor (List ℕ))) → IsEnd name bytes → named_read scope bytes text ≡ option_map (λ (r : Bor (List ℕ)). (r.now, more)) o → IfSome o (λ r. IsEnd name r.now)
+named_end scope name bytes text more o ends reads = left name bytes more o ends (subst (Leads bytes) reads (named_read_ends scope bytes text))
+
+pub crate_end : (scope : Scope) (name rest after text more : List ℕ) (o : Option (Bor (List ℕ))) → IsEnd name rest → rest ≡ 67 ∷ after → crate_read scope after text ≡ option_map (λ (r : Bor (List ℕ)). (r.now, more)) o → IfSome o (λ r. IsEnd name r.now)
+crate_end scope name rest after text more o ends begins reads =
+    left name after more o (beyond name rest after ends (subst (λ r. IsEnd r after) (sym begins) (next 67 after))) (subst (Leads after) reads (crate_ends scope after text))
 
 pub nested_end : (start bytes after : List ℕ) (space : ℕ) → IsEnd start bytes → bytes ≡ 78 ∷ space ∷ after → IsEnd start after
 nested_end start bytes after space ends begins =

@@ -1,5 +1,6 @@
 -- Paths that are read at once: what nested paths put onto the stack, and what a crate and the name of a nested path read.
-use Rattle.std.proofs.Common.{◌≡◌, ◌≢◌, ℕ, zero, suc, ◌+◌, ◌-◌, ◌<◌, ◌≤◌, cond, nat_le, Bool, true, false, List, [], ◌∷◌, ◌++◌, length, reverse, Option, Some, None, refl, sym, ◌∙◌, ap, arith, subst, append_assoc}
+use Rattle.std.proofs.Common.{◌≡◌, ◌≢◌, ℕ, zero, suc, ◌+◌, ◌-◌, ◌<◌, ◌≤◌, cond, nat_le, Bool, true, false, List, [], ◌∷◌, ◌++◌, length, reverse, Option, Some, None, refl, sym, ◌∙◌, ap, arith, subst, append_assoc, ◌⊎◌, ⊎_elim}
+use Rattle.std.specs.Borrow.{Bor}
 use Rattle.std.specs.Option.{option_map, option_and_then}
 use Rattle.std.proofs.lemmas.Bool.Decides.{nat_tests}
 use Rattle.rust_names.specs.declared.words.Word.{Word}
@@ -18,9 +19,11 @@ use Rattle.rust_names.specs.V0Words.{basic_type}
 use Rattle.rust_names.specs.V0Leaves.{read_leaf}
 use Rattle.rust_names.specs.V0Grammar.{say, is_namespace, type_parts, any_type_parts, deep_parts, deep_by, path_parts, nested_parts, phrase_parts, named_parts, unless_empty}
 use Rattle.rust_names.specs.V0Names.{State, all, read_within, read_level, most_width, after_leaf}
+use Rattle.rust_names.specs.internal.Passing.{IsEnd, Turned}
 use Rattle.rust_names.specs.internal.Running.{inside, in_scope, at, is_made, is_path, expand, Expanded, BeginsPathType, IsTypePath, SameRun, crate_read, name_read, named_read, read_frame, run, weight}
 use Rattle.rust_names.proofs.NumberLemmas.{front_is}
-use Rattle.rust_names.proofs.RunLemmas.{made_turn, made_lighter, plain_turn, plain_stop}
+use Rattle.rust_names.proofs.EndLemmas.{crate_end}
+use Rattle.rust_names.proofs.RunLemmas.{made_same, made_lighter, plain_turn}
 
 pub path_made : (p : Part) → is_path p ≡ true → is_made p ≡ true
 path_made (Deep k) is = refl
@@ -61,7 +64,7 @@ entered size f below pushed opened space bytes after some is named begins pushes
 pub entered_same : (name : List ℕ) (f : Frame) (first below pushed : List Frame) (space : ℕ) (start bytes after : List ℕ) → f.levels ≢ 0 → is_path f.part ≡ true → is_namespace space ≡ true → bytes ≡ 78 ∷ space ∷ after → pushed ≡ below ++ inside f.scope (f.levels - 1) (length name + 8) (Made (phrase.Named space)) ∷ []
     → SameRun name first start (below ++ f ∷ []) bytes → SameRun name first start (pushed ++ inside f.scope (f.levels - 1) (length name + 8) f.part ∷ []) after
 entered_same name f first below pushed space start bytes after some is named begins pushes so_far = λ text opened.
-    so_far text opened ∙ made_turn name f (below ++ f ∷ []) below (pushed ++ inside f.scope (f.levels - 1) (length name + 8) f.part ∷ []) bytes text after opened refl (path_made f.part is)
+    so_far text opened ∙ made_same name f below (pushed ++ inside f.scope (f.levels - 1) (length name + 8) f.part ∷ []) bytes text after opened (path_made f.part is)
     (entered (length name) f below pushed opened space bytes after some is named begins pushes)
 
 pub entered_lighter : (size : ℕ) (f : Frame) (first below pushed : List Frame) (space : ℕ) (bytes after : List ℕ) → f.levels ≢ 0 → is_path f.part ≡ true → is_namespace space ≡ true → bytes ≡ 78 ∷ space ∷ after → pushed ≡ below ++ inside f.scope (f.levels - 1) (size + 8) (Made (phrase.Named space)) ∷ []
@@ -70,7 +73,7 @@ entered_lighter size f first below pushed space bytes after some is named begins
     omega (
       arith,
       so_far,
-      made_lighter size f (below ++ f ∷ []) below (pushed ++ inside f.scope (f.levels - 1) (size + 8) f.part ∷ []) false bytes after refl (path_made f.part is)
+      made_lighter size f below (pushed ++ inside f.scope (f.levels - 1) (size + 8) f.part ∷ []) false bytes after (path_made f.part is)
           (entered size f below pushed false space bytes after some is named begins pushes),
     )
 
@@ -112,23 +115,39 @@ type_expanded : (size : ℕ) (f path : Frame) (below : List Frame) (opened : Boo
 type_expanded size f path below opened bytes is =
     subst (λ g. Expanded below (below ++ g ∷ []) (expand size (inside f.scope f.levels (f.width - 1) (Deep kind.Type)) opened bytes) (Some bytes)) (sym is.3) (type_frame size below f.scope f.levels (f.width - 1) opened bytes is.1 is.4)
 
-pub type_path : (size : ℕ) (f path : Frame) (bytes : List ℕ) → IsTypePath size f path bytes → is_path path.part ≡ true
-type_path size f path bytes is = ap (λ (g : Frame). is_path g.part) is.3
-
-pub type_same : (name : List ℕ) (f path : Frame) (below : List Frame) (bytes text : List ℕ) (opened : Bool) → IsTypePath (length name) f path bytes → run name (reverse (below ++ f ∷ [])) (at bytes text opened) ≡ run name (reverse (below ++ path ∷ [])) (at bytes text opened)
+type_same : (name : List ℕ) (f path : Frame) (below : List Frame) (bytes text : List ℕ) (opened : Bool) → IsTypePath (length name) f path bytes → run name (reverse (below ++ f ∷ [])) (at bytes text opened) ≡ run name (reverse (below ++ path ∷ [])) (at bytes text opened)
 type_same name f path below bytes text opened is =
     let type = inside f.scope f.levels (f.width - 1) (Deep kind.Type) in
-    made_turn name f (below ++ f ∷ []) below (below ++ type ∷ []) bytes text bytes opened refl (ap is_made is.0) (any_expanded (length name) f path below opened bytes is)
-    ∙ made_turn name type (below ++ type ∷ []) below (below ++ path ∷ []) bytes text bytes opened refl refl (type_expanded (length name) f path below opened bytes is)
+    made_same name f below (below ++ type ∷ []) bytes text bytes opened (ap is_made is.0) (any_expanded (length name) f path below opened bytes is)
+    ∙ made_same name type below (below ++ path ∷ []) bytes text bytes opened refl (type_expanded (length name) f path below opened bytes is)
 
-pub type_lighter : (size : ℕ) (f path : Frame) (below : List Frame) (bytes : List ℕ) → IsTypePath size f path bytes → weight size (below ++ path ∷ []) < weight size (below ++ f ∷ [])
+type_lighter : (size : ℕ) (f path : Frame) (below : List Frame) (bytes : List ℕ) → IsTypePath size f path bytes → weight size (below ++ path ∷ []) < weight size (below ++ f ∷ [])
 type_lighter size f path below bytes is =
     let type = inside f.scope f.levels (f.width - 1) (Deep kind.Type) in
     omega (
       arith,
-      made_lighter size f (below ++ f ∷ []) below (below ++ type ∷ []) false bytes bytes refl (ap is_made is.0) (any_expanded size f path below false bytes is),
-      made_lighter size type (below ++ type ∷ []) below (below ++ path ∷ []) false bytes bytes refl refl (type_expanded size f path below false bytes is),
+      made_lighter size f below (below ++ type ∷ []) false bytes bytes (ap is_made is.0) (any_expanded size f path below false bytes is),
+      made_lighter size type below (below ++ path ∷ []) false bytes bytes refl (type_expanded size f path below false bytes is),
     )
+
+-- a frame that was made that of a path, or left as it is
+pub record Entered (name : List ℕ) (f path : Frame) (below : List Frame) (bytes : List ℕ) : Type 0 where
+  pub same : SameRun name (below ++ f ∷ []) bytes (below ++ path ∷ []) bytes
+  pub lighter : weight (length name) (below ++ path ∷ []) ≤ weight (length name) (below ++ f ∷ [])
+  pub made : is_made path.part ≡ true
+
+left_so : (name : List ℕ) (f path : Frame) (below : List Frame) (bytes : List ℕ) → is_made f.part ≡ true → path ≡ f → Entered name f path below bytes
+left_so name f path below bytes made is = subst (λ p. Entered name f p below bytes) (sym is) (record { same = λ text opened. refl; lighter = omega arith; made = made })
+
+type_so : (name : List ℕ) (f path : Frame) (below : List Frame) (bytes : List ℕ) → IsTypePath (length name) f path bytes → Entered name f path below bytes
+type_so name f path below bytes is = record {
+  same = λ text opened. type_same name f path below bytes text opened is;
+  lighter = omega (arith, type_lighter (length name) f path below bytes is);
+  made = ap (λ (g : Frame). is_made g.part) is.3;
+}
+
+pub type_entered : (name : List ℕ) (f path : Frame) (below : List Frame) (bytes : List ℕ) → is_made f.part ≡ true → (path ≡ f) ⊎ IsTypePath (length name) f path bytes → Entered name f path below bytes
+type_entered name f path below bytes made is = ⊎_elim (left_so name f path below bytes made) (type_so name f path below bytes) is
 
 -- leaves one after the other
 
@@ -146,6 +165,10 @@ two_by down name width scope b rest text opened (Some x) = one_leaf down name wi
 two_leaves : (down : Part → Scope → State → Option State) (name : List ℕ) (width : ℕ) (scope : Scope) (a b : Leaf) (rest text : List ℕ) (opened : Bool) → all (read_within down name width scope) (Read a ∷ Read b ∷ []) (at rest text opened) ≡ option_map (λ (x : List ℕ × List ℕ). at x.0 x.1 opened) (option_and_then (λ (x : List ℕ × List ℕ). read_leaf b scope x.0 x.1) (read_leaf a scope rest text))
 two_leaves down name width scope a b rest text opened = two_by down name width scope b rest text opened (read_leaf a scope rest text)
 
+mapped_twice : (text : List ℕ) (opened : Bool) (o : Option (Bor (List ℕ))) → option_map (λ (x : List ℕ × List ℕ). at x.0 x.1 opened) (option_map (λ (a : Bor (List ℕ)). (a.now, text)) o) ≡ option_map (λ (a : Bor (List ℕ)). at a.now text opened) o
+mapped_twice text opened None = refl
+mapped_twice text opened (Some a) = refl
+
 -- a crate
 
 crate_at : (name : List ℕ) (scope : Scope) (levels width : ℕ) (p : Part) (after text : List ℕ) (opened : Bool) → is_path p ≡ true → read_frame name (inside scope (suc levels) width p) (at (67 ∷ after) text opened) ≡ option_map (λ (x : List ℕ × List ℕ). at x.0 x.1 opened) (crate_read scope after text)
@@ -158,17 +181,15 @@ crate_in : (name : List ℕ) (scope : Scope) (levels width : ℕ) (p : Part) (af
 crate_in name scope zero width p after text opened some is = absurd (some refl)
 crate_in name scope (suc levels) width p after text opened some is = crate_at name scope levels width p after text opened is
 
-crate_frame : (name : List ℕ) (f : Frame) (rest after text : List ℕ) (opened : Bool) (found : Option (List ℕ × List ℕ)) → f.levels ≢ 0 → is_path f.part ≡ true → rest ≡ 67 ∷ after → crate_read f.scope after text ≡ found → read_frame name f (at rest text opened) ≡ option_map (λ (x : List ℕ × List ℕ). at x.0 x.1 opened) found
-crate_frame name f rest after text opened found some is begins reads =
-    ap (λ r. read_frame name f (at r text opened)) begins ∙ crate_in name f.scope f.levels f.width f.part after text opened some is ∙ ap (option_map (λ (x : List ℕ × List ℕ). at x.0 x.1 opened)) reads
+crate_frame : (name : List ℕ) (f : Frame) (rest after text more : List ℕ) (opened : Bool) (o : Option (Bor (List ℕ))) → f.levels ≢ 0 → is_path f.part ≡ true → rest ≡ 67 ∷ after → crate_read f.scope after text ≡ option_map (λ (a : Bor (List ℕ)). (a.now, more)) o → read_frame name f (at rest text opened) ≡ option_map (λ (a : Bor (List ℕ)). at a.now more opened) o
+crate_frame name f rest after text more opened o some is begins reads =
+    ap (λ r. read_frame name f (at r text opened)) begins ∙ crate_in name f.scope f.levels f.width f.part after text opened some is
+    ∙ ap (option_map (λ (x : List ℕ × List ℕ). at x.0 x.1 opened)) reads ∙ mapped_twice more opened o
 
-pub crate_turn : (name : List ℕ) (f : Frame) (below : List Frame) (rest after text later new : List ℕ) (opened : Bool) → f.levels ≢ 0 → is_path f.part ≡ true → rest ≡ 67 ∷ after → crate_read f.scope after text ≡ Some (later, new) → run name (reverse (below ++ f ∷ [])) (at rest text opened) ≡ run name (reverse below) (at later new opened)
-crate_turn name f below rest after text later new opened some is begins reads =
-    plain_turn name f (below ++ f ∷ []) below (at rest text opened) (at later new opened) refl (crate_frame name f rest after text opened (Some (later, new)) some is begins reads)
-
-pub crate_stop : (name : List ℕ) (f : Frame) (below : List Frame) (rest after text : List ℕ) (opened : Bool) → f.levels ≢ 0 → is_path f.part ≡ true → rest ≡ 67 ∷ after → crate_read f.scope after text ≡ None → run name (reverse (below ++ f ∷ [])) (at rest text opened) ≡ None
-crate_stop name f below rest after text opened some is begins reads =
-    plain_stop name f (below ++ f ∷ []) below (at rest text opened) refl (crate_frame name f rest after text opened None some is begins reads)
+pub crate_turn : (name : List ℕ) (f : Frame) (below : List Frame) (rest after text more : List ℕ) (opened : Bool) (o : Option (Bor (List ℕ))) → f.levels ≢ 0 → is_path f.part ≡ true → IsEnd name rest → rest ≡ 67 ∷ after → crate_read f.scope after text ≡ option_map (λ (a : Bor (List ℕ)). (a.now, more)) o
+    → Turned name (below ++ f ∷ []) (at rest text opened) below more opened o
+crate_turn name f below rest after text more opened o some is ends begins reads =
+    plain_turn name f below (at rest text opened) more opened o (crate_frame name f rest after text more opened o some is begins reads) (crate_end f.scope name rest after text more o ends begins reads)
 
 -- the name of a nested path, in lower case
 

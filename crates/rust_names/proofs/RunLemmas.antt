@@ -1,11 +1,15 @@
 -- The turns of the loop over frames (read_frames).
-use Rattle.std.proofs.Common.{◌≡◌, ℕ, ◌+◌, ◌<◌, Bool, true, false, List, [], ◌∷◌, ◌++◌, length, map, reverse, Option, Some, None, refl, sym, ◌∙◌, ap, arith}
-use Rattle.std.specs.Option.{option_and_then}
+use Rattle.std.proofs.Common.{◌≡◌, ℕ, ◌+◌, ◌<◌, ◌≤◌, Bool, true, false, List, [], ◌∷◌, ◌++◌, length, map, reverse, Option, Some, None, IfSome, MatchOption, refl, sym, ◌∙◌, ap, arith}
+use Rattle.std.specs.Borrow.{Bor}
+use Rattle.std.specs.Option.{option_map, option_and_then, option_copied, option_to_list}
 use Rattle.std.proofs.lemmas.List.{append-nil}
 use Rattle.rust_names.specs.declared.grammar.Frame.{Frame}
+use Rattle.rust_names.specs.declared.turns.Stop.{Stop}
 use Rattle.rust_names.specs.V0Names.{State, all, read_within, read_level, most_width, whole, outermost, text_within}
-use Rattle.rust_names.specs.internal.Running.{inside, at, shown_after, expand, Expanded, is_made, read_frame, run, weight}
-use Rattle.rust_names.proofs.FrameLemmas.{after_frames, step, run_one, run_none, run_parts, top, on_top, lighter}
+use Rattle.rust_names.specs.internal.Passing.{IsEnd, Stopped, Turned, is_hidden}
+use Rattle.rust_names.specs.internal.Running.{inside, at, shown_after, expand, Expanded, SameRun, is_made, read_frame, run, weight}
+use Rattle.rust_names.proofs.FrameLemmas.{after_frames, step, run_one, run_none, run_parts, top, on_top, light, lighter}
+use Rattle.rust_names.proofs.EndLemmas.{expanded_end}
 
 made_after : (name : List ℕ) (below new : List Frame) (s : State) (after : List ℕ) (o : Option (List Frame × List ℕ)) → Expanded below new o (Some after) → after_frames name (reverse below) s o ≡ run name (reverse new) (record s { rest = after })
 made_after name below new s after None is = absurd is
@@ -16,33 +20,74 @@ none_after : (name : List ℕ) (below new : List Frame) (s : State) (o : Option 
 none_after name below new s None is = refl
 none_after name below new s (Some x) is = absurd is
 
-pub made_turn : (name : List ℕ) (f : Frame) (old below new : List Frame) (rest text after : List ℕ) (opened : Bool) → old ≡ below ++ f ∷ [] → is_made f.part ≡ true → Expanded below new (expand (length name) f opened rest) (Some after) → run name (reverse old) (at rest text opened) ≡ run name (reverse new) (at after text opened)
-made_turn name f old below new rest text after opened pops made is =
-    ap (λ fs. run name fs (at rest text opened)) (top f below old pops) ∙ step name f (reverse below) (at rest text opened) made ∙ made_after name below new (at rest text opened) after (expand (length name) f opened rest) is
-
-pub made_stop : (name : List ℕ) (f : Frame) (old below new : List Frame) (rest text : List ℕ) (opened : Bool) → old ≡ below ++ f ∷ [] → is_made f.part ≡ true → Expanded below new (expand (length name) f opened rest) None → run name (reverse old) (at rest text opened) ≡ None
-made_stop name f old below new rest text opened pops made is =
-    ap (λ fs. run name fs (at rest text opened)) (top f below old pops) ∙ step name f (reverse below) (at rest text opened) made ∙ none_after name below new (at rest text opened) (expand (length name) f opened rest) is
-
-pub plain_turn : (name : List ℕ) (f : Frame) (old below : List Frame) (s t : State) → old ≡ below ++ f ∷ [] → read_frame name f s ≡ Some t → run name (reverse old) s ≡ run name (reverse below) t
-plain_turn name f old below s t pops is = ap (λ fs. run name fs s) (top f below old pops) ∙ run_one name f (reverse below) s ∙ ap (option_and_then (run name (reverse below))) is
-
-pub plain_stop : (name : List ℕ) (f : Frame) (old below : List Frame) (s : State) → old ≡ below ++ f ∷ [] → read_frame name f s ≡ None → run name (reverse old) s ≡ None
-plain_stop name f old below s pops is = ap (λ fs. run name fs s) (top f below old pops) ∙ run_one name f (reverse below) s ∙ ap (option_and_then (run name (reverse below))) is
+pub made_same : (name : List ℕ) (f : Frame) (below new : List Frame) (rest text after : List ℕ) (opened : Bool) → is_made f.part ≡ true → Expanded below new (expand (length name) f opened rest) (Some after) → run name (reverse (below ++ f ∷ [])) (at rest text opened) ≡ run name (reverse new) (at after text opened)
+made_same name f below new rest text after opened made is =
+    ap (λ fs. run name fs (at rest text opened)) (top f below (below ++ f ∷ []) refl) ∙ step name f (reverse below) (at rest text opened) made ∙ made_after name below new (at rest text opened) after (expand (length name) f opened rest) is
 
 lighter_of : (size : ℕ) (f : Frame) (below new : List Frame) (opened : Bool) (bytes after : List ℕ) (o : Option (List Frame × List ℕ)) → is_made f.part ≡ true → expand size f opened bytes ≡ o → Expanded below new o (Some after) → weight size new < weight size (below ++ f ∷ [])
 lighter_of size f below new opened bytes after None made is expanded = absurd expanded
 lighter_of size f below new opened bytes after (Some x) made is expanded = lighter size f below new x.0 opened bytes x.1 made is expanded.1 expanded.0
 
-pub made_lighter : (size : ℕ) (f : Frame) (old below new : List Frame) (opened : Bool) (bytes after : List ℕ) → old ≡ below ++ f ∷ [] → is_made f.part ≡ true → Expanded below new (expand size f opened bytes) (Some after) → weight size new < weight size old
-made_lighter size f old below new opened bytes after pops made is = omega (arith, lighter_of size f below new opened bytes after (expand size f opened bytes) made refl is, ap (weight size) pops)
+pub made_lighter : (size : ℕ) (f : Frame) (below new : List Frame) (opened : Bool) (bytes after : List ℕ) → is_made f.part ≡ true → Expanded below new (expand size f opened bytes) (Some after) → weight size new < weight size (below ++ f ∷ [])
+made_lighter size f below new opened bytes after made is = lighter_of size f below new opened bytes after (expand size f opened bytes) made refl is
 
-pub over : (name : List ℕ) (old : List Frame) (s : State) → old ≡ [] → run name (reverse old) s ≡ Some s
-over name old s empty = ap (λ fs. run name (reverse fs) s) empty ∙ run_none name s
+-- a turn with a frame that is made of others, and with another
 
--- an error ends the text
-pub stopped : (o first : Option State) → first ≡ o → o ≡ None → shown_after first ≡ None
-stopped o first same none = ap shown_after (same ∙ none)
+pub made_turn : (name : List ℕ) (f : Frame) (below new : List Frame) (rest text : List ℕ) (opened : Bool) (o : Option (Bor (List ℕ))) → is_made f.part ≡ true → IsEnd name rest → Expanded below new (expand (length name) f opened rest) (option_copied o) → Turned name (below ++ f ∷ []) (at rest text opened) new text opened o
+made_turn name f below new rest text opened None made ends is = record {
+  same =
+      ap (λ fs. run name fs (at rest text opened)) (top f below (below ++ f ∷ []) refl) ∙ step name f (reverse below) (at rest text opened) made
+      ∙ none_after name below new (at rest text opened) (expand (length name) f opened rest) is;
+  lighter = tt;
+  ends = tt;
+}
+made_turn name f below new rest text opened (Some a) made ends is = record {
+  same = made_same name f below new rest text a.now opened made is;
+  lighter = made_lighter (length name) f below new opened rest a.now made is;
+  ends = expanded_end (length name) f opened below new name rest a.now ends is;
+}
+
+plain_run : (name : List ℕ) (f : Frame) (below : List Frame) (s : State) (o : Option State) → read_frame name f s ≡ o → run name (reverse (below ++ f ∷ [])) s ≡ option_and_then (run name (reverse below)) o
+plain_run name f below s o is = ap (λ fs. run name fs s) (top f below (below ++ f ∷ []) refl) ∙ run_one name f (reverse below) s ∙ ap (option_and_then (run name (reverse below))) is
+
+pub plain_turn : (name : List ℕ) (f : Frame) (below : List Frame) (s : State) (text : List ℕ) (opened : Bool) (o : Option (Bor (List ℕ))) → read_frame name f s ≡ option_map (λ (a : Bor (List ℕ)). at a.now text opened) o → IfSome o (λ a. IsEnd name a.now) → Turned name (below ++ f ∷ []) s below text opened o
+plain_turn name f below s text opened None is ends = record { same = plain_run name f below s None is; lighter = tt; ends = tt }
+plain_turn name f below s text opened (Some a) is ends = record { same = plain_run name f below s (Some (at a.now text opened)) is; lighter = light (length name) f below; ends = ends }
+
+-- the same from frames that read the same
+pub turn_from : (name : List ℕ) (old mid new : List Frame) (before rest text more : List ℕ) (opened leaves : Bool) (o : Option (Bor (List ℕ))) → SameRun name old before mid rest → weight (length name) mid ≤ weight (length name) old → Turned name mid (at rest text opened) new more leaves o → Turned name old (at before text opened) new more leaves o
+turn_from name old mid new before rest text more opened leaves None same fits turned = record { same = same text opened ∙ turned.same; lighter = tt; ends = tt }
+turn_from name old mid new before rest text more opened leaves (Some a) same fits turned = record { same = same text opened ∙ turned.same; lighter = omega (arith, turned.lighter, fits); ends = turned.ends }
+
+-- turns up to a stop
+
+-- turns up to a stop
+
+-- where it is not to stop it does not
+none_by : (below : List Frame) (hidden : Option Frame) → MatchOption hidden (below ≡ []) (λ f. (false ≡ true) × (is_hidden f.part ≡ true)) → hidden ≡ None
+none_by below None is = refl
+none_by below (Some f) is = let e : false ≡ true = is.0 in cc
+
+pub none_hidden : (name : List ℕ) (old new : List Frame) (s : State) (text : List ℕ) (opened : Bool) (stop : Stop) → Stopped name old s false new text opened stop → stop.hidden ≡ None
+none_hidden name old new s text opened stop is = none_by new stop.hidden is.hidden
+
+all_by : (stops : Bool) (below : List Frame) (hidden : Option Frame) → MatchOption hidden (below ≡ []) (λ f. (stops ≡ true) × (is_hidden f.part ≡ true)) → hidden ≡ None → below ++ option_to_list hidden ≡ []
+all_by stops below None is none = ap (λ fs. fs ++ []) is
+all_by stops below (Some f) is none = cc
+
+-- then all is read
+pub ended : (name : List ℕ) (old new : List Frame) (s : State) (stops : Bool) (text : List ℕ) (opened : Bool) (stop : Stop) → Stopped name old s stops new text opened stop → stop.hidden ≡ None → run name (reverse old) s ≡ Some (at stop.rest.now text opened)
+ended name old new s stops text opened stop is none =
+    is.same ∙ ap (λ fs. run name (reverse fs) (at stop.rest.now text opened)) (all_by stops new stop.hidden is.hidden none) ∙ run_none name (at stop.rest.now text opened)
+
+-- and else what follows is read behind the path
+pub passed : (name : List ℕ) (old new : List Frame) (s : State) (stops : Bool) (text : List ℕ) (opened : Bool) (stop : Stop) (f : Frame) (o : Option State) → Stopped name old s stops new text opened stop → stop.hidden ≡ Some f → read_frame name f (at stop.rest.now text opened) ≡ o → run name (reverse old) s ≡ option_and_then (run name (reverse new)) o
+passed name old new s stops text opened stop f o is some reads =
+    is.same ∙ ap (λ h. run name (reverse (new ++ option_to_list h)) (at stop.rest.now text opened)) some ∙ plain_run name f new (at stop.rest.now text opened) o reads
+
+pub passed_lighter : (name : List ℕ) (old new : List Frame) (s : State) (stops : Bool) (text : List ℕ) (opened : Bool) (stop : Stop) (f : Frame) → Stopped name old s stops new text opened stop → stop.hidden ≡ Some f → weight (length name) new < weight (length name) old
+passed_lighter name old new s stops text opened stop f is some =
+    omega (arith, is.lighter, light (length name) f new, ap (λ h. weight (length name) (new ++ option_to_list h)) some)
 
 run_whole : (name : List ℕ) (levels : ℕ) (o : Option State) → option_and_then (run name []) o ≡ o
 unfolding run

@@ -12,13 +12,6 @@ use crate::productions::{back_parts, deep_parts, list_of, push, push_parts, say}
 use crate::words::Word;
 use sym_edges::OutOfMemory;
 
-/// What is still to be read, and whether the last trait's arguments are left open.
-#[derive(Clone, Copy)]
-pub(crate) struct Ahead<'a> {
-    pub(crate) rest: &'a [u8],
-    pub(crate) opened: bool,
-}
-
 /// The scope of what a binder binds lifetimes in.
 fn bound_in(scope: Scope, count: u64) -> Option<Scope>
     ensures { result ≡ v0.bound_in scope count }
@@ -177,9 +170,10 @@ fn expand_phrase<'a>(
     stack: &mut Vec<Frame>,
     phrase: Phrase,
     frame: Frame,
-    ahead: &Ahead<'a>,
+    opened: bool,
+    bytes: &'a [u8],
 ) -> Result<Option<&'a [u8]>, OutOfMemory>
-    ensures { IfOk result (λ after. Expanded stack.old.items stack.new.items (phrase_frames phrase frame ahead.now.opened ahead.now.rest.now) (option_copied after)) }
+    ensures { IfOk result (λ after. Expanded stack.old.items stack.new.items (phrase_frames phrase frame opened bytes.now) (option_copied after)) }
 {
     if frame.width == 0 {
         return Ok(None);
@@ -189,7 +183,7 @@ fn expand_phrase<'a>(
         levels: frame.levels,
         width: frame.width - 1,
     };
-    match phrase_parts(stack, &nest, phrase, ahead.opened, ahead.rest)? {
+    match phrase_parts(stack, &nest, phrase, opened, bytes)? {
         Some(after) => Ok(Some(after)),
         None => Ok(None),
     }
@@ -227,14 +221,15 @@ pub(crate) fn expand<'a>(
     stack: &mut Vec<Frame>,
     size: usize,
     frame: Frame,
-    ahead: &Ahead<'a>,
+    opened: bool,
+    bytes: &'a [u8],
 ) -> Result<Option<&'a [u8]>, OutOfMemory>
     requires { size < 2 ^ 63 }
-    ensures { IfOk result (λ after. Expanded stack.old.items stack.new.items (expand size frame ahead.now.opened ahead.now.rest.now) (option_copied after)) }
+    ensures { IfOk result (λ after. Expanded stack.old.items stack.new.items (expand size frame opened bytes.now) (option_copied after)) }
 {
     match frame.part {
-        Part::Phrase(phrase) => expand_phrase(stack, phrase, frame, ahead),
-        Part::Inner(inner) => expand_inner(stack, inner, frame, ahead.rest),
-        _ => expand_level(stack, size, frame, ahead.rest),
+        Part::Phrase(phrase) => expand_phrase(stack, phrase, frame, opened, bytes),
+        Part::Inner(inner) => expand_inner(stack, inner, frame, bytes),
+        _ => expand_level(stack, size, frame, bytes),
     }
 }

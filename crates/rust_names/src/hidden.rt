@@ -10,8 +10,7 @@ ghost use Rattle.rust_names.specs.V0Names.{read_level};
 ghost use Rattle.rust_names.specs.internal.Passing.{AreHidden, IsEnd, Reads, dark, is_hidden, key};
 ghost use Rattle.rust_names.specs.internal.Running.{at, read_frame};
 
-use crate::frames::Ahead;
-use crate::grammar::{Frame, Inner, Kind, Part, Scope};
+use crate::grammar::{Frame, Kind, Part, Scope};
 use crate::turns::{Room, from_place, read_frames};
 use std::alloc::Global;
 use std::collections::BTreeMap;
@@ -31,6 +30,13 @@ pub struct HiddenPath {
     pub levels: usize,
     /// So many levels may be too few for it.
     pub few: usize,
+}
+
+/// What is still to be read, and whether the last trait's arguments are left open.
+#[derive(Clone, Copy)]
+pub(crate) struct Ahead<'a> {
+    pub(crate) rest: &'a [u8],
+    pub(crate) opened: bool,
 }
 
 /// With how many levels a path is read, and how many may be too few for it.
@@ -63,17 +69,6 @@ impl HiddenPaths {
     }
 }
 
-/// Whether a part is the path of an impl.
-#[inline(always)]
-pub(crate) fn begins_hidden(part: Part) -> bool
-    ensures { result ≡ is_hidden part }
-{
-    match part {
-        Part::Inner(Inner::ImplPath) => true,
-        _ => false,
-    }
-}
-
 /// What a path is known by: its place, and whether the last trait's arguments are left open in front of it.
 fn key(place: usize, opened: bool) -> u64
     requires { place < 2 ^ 63 }
@@ -96,6 +91,7 @@ fn read_hidden<'a>(
 {
     room.stack.clear();
     room.text.clear();
+    room.opened = ahead.opened;
     room.stack.push(Frame {
         part: Part::Deep(Kind::Path),
         scope: Scope {
@@ -105,8 +101,11 @@ fn read_hidden<'a>(
         levels,
         width: 0,
     })?;
-    match read_frames(alloc, room, name, ahead)? {
-        Some(next) => Ok(Some(next)),
+    match read_frames(alloc, room, name, ahead.rest, false)? {
+        Some(stop) => Ok(Some(Ahead {
+            rest: stop.rest,
+            opened: room.opened,
+        })),
         None => Ok(None),
     }
 }
@@ -173,41 +172,8 @@ fn find(known: &BTreeMap<u64, HiddenPath>, place: usize, opened: bool) -> Option
     }
 }
 
-/// Reads a path that is known only with more levels: first with half of those that may be too many, so that this comes some nine times at most.
-fn read_again<'a>(
-    alloc: Global,
-    hidden: &mut HiddenPaths,
-    name: &'a [u8],
-    levels: Levels,
-    ahead: &Ahead<'a>,
-) -> Result<Option<Ahead<'a>>, OutOfMemory>
-    requires ends { IsEnd name.now ahead.now.rest.now }
-    requires known { AreHidden name.now hidden.old.known }
-    ensures read { IfOk result (λ next. (bound : ℕ) (text : List ℕ) → read_level name.now levels.enough (Deep kind.Path) (dark bound) (at ahead.now.rest.now text ahead.now.opened) ≡ option_map (λ a. at a.rest.now text a.opened) next) }
-    ensures ends { IfOk result (λ next. IfSome next (λ a. IsEnd name.now a.rest.now)) }
-    ensures known { OnOk result (AreHidden name.now hidden.new.known) }
-{
-    let enough = levels.enough - levels.enough.saturating_sub(levels.few) / 2;
-    let fewer = Levels {
-        enough,
-        few: levels.few,
-    };
-    match read_and_keep(alloc, hidden, name, fewer, ahead)? {
-        Some(next) => Ok(Some(next)),
-        None => {
-            let last = Levels {
-                enough: levels.enough,
-                few: enough,
-            };
-            match read_and_keep(alloc, hidden, name, last, ahead)? {
-                Some(next) => Ok(Some(next)),
-                None => Ok(None),
-            }
-        }
-    }
-}
-
-/// Passes a path that is not shown, where at most so many levels nest.
+/// Passes a path that is not shown, where at most so many levels nest. It is read where it is not known, or known only with more levels: first with
+/// half of those that may be too many, so that this comes some nine times at most.
 #[tactic(auto, using(crate::proofs::EndLemmas::shorter))]
 fn pass_path<'a>(
     alloc: Global,
@@ -222,33 +188,26 @@ fn pass_path<'a>(
     ensures ends { IfOk result (λ next. IfSome next (λ a. IsEnd name.now a.rest.now)) }
     ensures known { OnOk result (AreHidden name.now hidden.new.known) }
 {
-    let place = name.len() - ahead.rest.len();
-    match find(&hidden.known, place, ahead.opened) {
-        Some(path) => {
-            if path.levels <= levels {
-                return Ok(Some(Ahead {
-                    rest: from_place(name, path.end),
-                    opened: path.opened,
-                }));
-            }
-            let again = Levels {
-                enough: levels,
-                few: path.few,
-            };
-            match read_again(alloc, hidden, name, again, ahead)? {
-                Some(next) => Ok(Some(next)),
-                None => Ok(None),
-            }
+    let mut few = 0;
+    if let Some(path) = find(&hidden.known, name.len() - ahead.rest.len(), ahead.opened) {
+        if path.levels <= levels {
+            return Ok(Some(Ahead {
+                rest: from_place(name, path.end),
+                opened: path.opened,
+            }));
         }
+        few = path.few;
+    }
+    let enough = levels - levels.saturating_sub(few) / 2;
+    match read_and_keep(alloc, hidden, name, Levels { enough, few }, ahead)? {
+        Some(next) => Ok(Some(next)),
         None => {
-            let first = Levels {
+            let last = Levels {
                 enough: levels,
-                few: 0,
+                few: enough,
             };
-            match read_and_keep(alloc, hidden, name, first, ahead)? {
-                Some(next) => Ok(Some(next)),
-                None => Ok(None),
-            }
+            let next = read_and_keep(alloc, hidden, name, last, ahead)?;
+            Ok(next)
         }
     }
 }

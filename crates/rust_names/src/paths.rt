@@ -1,12 +1,13 @@
 //! Paths of v0 names that are read at once: nested paths down to the one that stands in them, and the names behind it.
-ghost use Rattle.std.specs.Prelude.{◌≡◌, ◌≢◌, ◌<◌, ◌≤◌, ◌∷◌, ◌++◌, ◌^◌, [], ℕ, List, true, length, Some, IfOk, IfSome};
+ghost use Rattle.std.specs.Prelude.{◌≡◌, ◌≢◌, ◌<◌, ◌≤◌, ◌∷◌, ◌++◌, ◌^◌, ◌⊎◌, [], ℕ, List, true, length, Some, IfOk, OnOk, IfSome};
 ghost use Rattle.std.specs.Option.{option_map};
 ghost use Rattle.rust_names.specs.declared.grammar.Kind.TheVariants as kind;
-ghost use Rattle.rust_names.specs.declared.grammar.Part.TheVariants.{Deep};
+ghost use Rattle.rust_names.specs.declared.grammar.Part.TheVariants.{Deep, Phrase as Made};
+ghost use Rattle.rust_names.specs.declared.grammar.Phrase.TheVariants as phrase;
 ghost use Rattle.rust_names.specs.V0Grammar as v0;
-ghost use Rattle.rust_names.specs.V0Numbers.{eat};
+ghost use Rattle.rust_names.specs.V0Numbers.{eat, front};
 ghost use Rattle.rust_names.specs.internal.Passing.{IsEnd};
-ghost use Rattle.rust_names.specs.internal.Running.{IsTypePath, SameRun, crate_read, is_path, name_read, named_read, weight};
+ghost use Rattle.rust_names.specs.internal.Running.{BeginsPathType, IsTypePath, SameRun, crate_read, is_made, is_path, name_read, named_read, weight};
 
 use crate::grammar::{Frame, Kind, Part, Phrase, Scope};
 use crate::leaves::{read_disambiguator, read_identifier, read_word};
@@ -18,11 +19,22 @@ use sym_edges::OutOfMemory;
 
 /// Whether a part is a path, and no trait's.
 #[inline(always)]
-pub(crate) fn is_path(part: Part) -> bool
+fn is_path(part: Part) -> bool
     ensures { result ≡ is_path part }
 {
     match part {
         Part::Deep(Kind::Path) | Part::Deep(Kind::ValuePath) => true,
+        _ => false,
+    }
+}
+
+/// Whether a part is any type.
+#[inline(always)]
+fn is_any_type(part: Part) -> bool
+    ensures { result ≡ true → part ≡ Made phrase.AnyType }
+{
+    match part {
+        Part::Phrase(Phrase::AnyType) => true,
         _ => false,
     }
 }
@@ -39,31 +51,33 @@ fn is_path_letter(b: u8) -> bool
     }
 }
 
-/// The frame of the path that any type is, where it is one.
+/// Whether any type is a path.
 #[inline(always)]
-pub(crate) fn type_path(frame: Frame, size: usize, bytes: &[u8]) -> Option<Frame>
-    requires { size < 2 ^ 63 }
-    ensures { IfSome result (λ path. IsTypePath size frame path bytes.now) }
+fn begins_path_type(bytes: &[u8]) -> bool
+    ensures { result ≡ true → BeginsPathType (front bytes.now) }
 {
-    match frame.part {
-        Part::Phrase(Phrase::AnyType) => match front(bytes) {
-            Some((b, _)) => match basic_type(b) {
-                Some(_) => None,
-                None => {
-                    if !is_path_letter(b) || frame.levels == 0 || frame.width == 0 {
-                        return None;
-                    }
-                    Some(Frame {
-                        part: Part::Deep(Kind::Path),
-                        scope: frame.scope,
-                        levels: frame.levels - 1,
-                        width: size + 8,
-                    })
-                }
-            },
-            None => None,
+    match front(bytes) {
+        Some((b, _)) => match basic_type(b) {
+            Some(_) => false,
+            None => is_path_letter(b),
         },
-        _ => None,
+        None => false,
+    }
+}
+
+/// Makes a frame of any type that of a path, where it is one.
+#[inline(always)]
+fn enter_type(frame: &mut Frame, size: usize, bytes: &[u8])
+    requires { size < 2 ^ 63 }
+    ensures { (frame.new ≡ frame.old) ⊎ IsTypePath size frame.old frame.new bytes.now }
+{
+    if !is_any_type(frame.part) || frame.levels == 0 || frame.width == 0 {
+        return;
+    }
+    if begins_path_type(bytes) {
+        frame.part = Part::Deep(Kind::Path);
+        frame.levels -= 1;
+        frame.width = size + 8;
     }
 }
 
@@ -115,39 +129,34 @@ fn nested_front<'a>(frame: Frame, bytes: &'a [u8]) -> Option<(u8, &'a [u8])>
     }
 }
 
-/// Puts the names of nested paths onto the stack; the path that stands in all of them, and what is left.
+/// Enters nested paths, whose names it puts onto the stack: the frame is then what stands in all of them. What is left.
 #[inline(always)]
 pub(crate) fn enter<'a>(
     stack: &mut Vec<Frame>,
     name: &[u8],
-    top: Frame,
+    frame: &mut Frame,
     bytes: &'a [u8],
-) -> Result<(Frame, &'a [u8]), OutOfMemory>
-    ensures same { IfOk result (λ x. SameRun name.now (stack.old.items ++ top ∷ []) bytes.now (stack.new.items ++ x.0 ∷ []) x.1.now) }
-    ensures ends { IfOk result (λ x. IsEnd bytes.now x.1.now) }
-    ensures part { IfOk result (λ x. x.0.part ≡ top.part) }
-    ensures lighter { IfOk result (λ x. weight (length name.now) (stack.new.items ++ x.0 ∷ []) ≤ weight (length name.now) (stack.old.items ++ top ∷ [])) }
+) -> Result<&'a [u8], OutOfMemory>
+    requires { is_made frame.old.part ≡ true }
+    ensures same { IfOk result (λ rest. SameRun name.now (stack.old.items ++ frame.old ∷ []) bytes.now (stack.new.items ++ frame.new ∷ []) rest.now) }
+    ensures ends { IfOk result (λ rest. IsEnd bytes.now rest.now) }
+    ensures made { OnOk result (is_made frame.new.part ≡ true) }
+    ensures lighter { OnOk result (weight (length name.now) (stack.new.items ++ frame.new ∷ []) ≤ weight (length name.now) (stack.old.items ++ frame.old ∷ [])) }
 {
-    let width = name.len() + 8;
-    let mut frame = top;
+    enter_type(frame, name.len(), bytes);
     let mut rest = bytes;
-    'names: while let Some((space, after)) = nested_front(frame, rest) {
-        let levels = frame.levels - 1;
+    'names: while let Some((space, after)) = nested_front(*frame, rest) {
+        frame.levels -= 1;
+        frame.width = name.len() + 8;
         stack.push(Frame {
             part: Part::Phrase(Phrase::Named(space)),
             scope: frame.scope,
-            levels,
-            width,
+            levels: frame.levels,
+            width: frame.width,
         })?;
-        frame = Frame {
-            part: frame.part,
-            scope: frame.scope,
-            levels,
-            width,
-        };
         rest = after;
     }
-    Ok((frame, rest))
+    Ok(rest)
 }
 
 /// The name of a crate.

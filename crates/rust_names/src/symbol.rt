@@ -1,15 +1,13 @@
 //! A name in the v0 mangling.
-ghost use Rattle.std.specs.Prelude.{◌≡◌, ◌<◌, ◌∷◌, ◌++◌, false, [], length, reverse, IfOk, OnOk, IfSome};
-ghost use Rattle.std.specs.Option.{option_and_then};
+ghost use Rattle.std.specs.Prelude.{◌≡◌, reverse, IfOk};
 ghost use Rattle.rust_names.specs.V0Names as v0;
-ghost use Rattle.rust_names.specs.internal.Passing.{AreHidden, IsEnd};
+ghost use Rattle.rust_names.specs.internal.Passing.{AreHidden};
 ghost use Rattle.rust_names.specs.internal.Reading.{kept};
-ghost use Rattle.rust_names.specs.internal.Running.{at, run, shown_after, weight};
+ghost use Rattle.rust_names.specs.internal.Running.{at, run, shown_after};
 
-use crate::frames::Ahead;
 use crate::grammar::{Frame, Inner, Kind, Leaf, Part, Scope};
-use crate::hidden::{HiddenPaths, begins_hidden, pass};
-use crate::turns::{Room, turn};
+use crate::hidden::{Ahead, HiddenPaths, pass};
+use crate::turns::{Room, read_frames};
 use std::alloc::Global;
 use sym_edges::OutOfMemory;
 use sym_records::is_name;
@@ -37,50 +35,29 @@ impl Rooms {
     }
 }
 
-/// Reads a frame, or puts those that it is made of onto the stack; the path of an impl is passed.
-#[inline(always)]
-fn step<'a>(
-    alloc: Global,
-    rooms: &mut Rooms,
-    name: &'a [u8],
-    frame: Frame,
-    ahead: &Ahead<'a>,
-) -> Result<Option<Ahead<'a>>, OutOfMemory>
-    requires ends { IsEnd name.now ahead.now.rest.now }
-    requires known { AreHidden name.now rooms.old.hidden.known }
-    ensures same { IfOk result (λ next. run name.now (reverse (rooms.old.shown.stack.items ++ frame ∷ [])) (at ahead.now.rest.now rooms.old.shown.text.items ahead.now.opened) ≡ option_and_then (λ a. run name.now (reverse rooms.new.shown.stack.items) (at a.rest.now rooms.new.shown.text.items a.opened)) next) }
-    ensures lighter { IfOk result (λ next. IfSome next (λ _. weight (length name.now) rooms.new.shown.stack.items < weight (length name.now) (rooms.old.shown.stack.items ++ frame ∷ []))) }
-    ensures ends { IfOk result (λ next. IfSome next (λ a. IsEnd name.now a.rest.now)) }
-    ensures known { OnOk result (AreHidden name.now rooms.new.hidden.known) }
-{
-    if begins_hidden(frame.part) {
-        return match pass(alloc, &mut rooms.hidden, name, frame, ahead)? {
-            Some(next) => Ok(Some(next)),
-            None => Ok(None),
-        };
-    }
-    match turn(alloc, &mut rooms.shown, name, frame, ahead)? {
-        Some(next) => Ok(Some(next)),
-        None => Ok(None),
-    }
-}
-
-/// Reads frames from the top of a stack, and adds what they show; false where they cannot be read so.
+/// Reads frames from the top of a stack, and adds what they show; false where they cannot be read so. Paths of impls are passed.
 fn read_shown(alloc: Global, rooms: &mut Rooms, name: &[u8]) -> Result<bool, OutOfMemory>
     requires { AreHidden name.now rooms.old.hidden.known }
-    ensures { IfOk result (λ said. shown_after (run name.now (reverse rooms.old.shown.stack.items) (at name.now rooms.old.shown.text.items false)) ≡ kept said rooms.new.shown.text.items) }
+    ensures { IfOk result (λ said. shown_after (run name.now (reverse rooms.old.shown.stack.items) (at name.now rooms.old.shown.text.items rooms.old.shown.opened)) ≡ kept said rooms.new.shown.text.items) }
 {
-    let mut ahead = Ahead {
-        rest: name,
-        opened: false,
-    };
-    'frames: while let Some(top) = rooms.shown.stack.pop() {
-        match step(alloc, rooms, name, top, &ahead)? {
-            Some(next) => ahead = next,
+    let mut rest = name;
+    'paths: while let Some(stop) = read_frames(alloc, &mut rooms.shown, name, rest, true)? {
+        let Some(frame) = stop.hidden else {
+            return Ok(true);
+        };
+        let ahead = Ahead {
+            rest: stop.rest,
+            opened: rooms.shown.opened,
+        };
+        match pass(alloc, &mut rooms.hidden, name, frame, &ahead)? {
+            Some(next) => {
+                rooms.shown.opened = next.opened;
+                rest = next.rest;
+            }
             None => return Ok(false),
         }
     }
-    Ok(true)
+    Ok(false)
 }
 
 /// Adds what is shown of the bytes behind `_R`, where at most so many levels nest; false where they are no name.
@@ -95,6 +72,7 @@ fn text_within(
 {
     rooms.shown.text.clear();
     rooms.shown.stack.clear();
+    rooms.shown.opened = false;
     rooms.hidden.forget();
     let scope = Scope {
         bound: 0,

@@ -1,13 +1,13 @@
 //! The reading of a v0 name, frame by frame.
-ghost use Rattle.std.specs.Prelude.{◌≡◌, ◌<◌, ◌∷◌, ◌++◌, false, true, [], length, drop, reverse, IfOk, IfSome};
-ghost use Rattle.std.specs.Option.{option_map, option_and_then};
-ghost use Rattle.rust_names.specs.internal.Passing.{IsEnd};
-ghost use Rattle.rust_names.specs.internal.Running.{at, is_made, is_path, read_frame, run, weight};
+ghost use Rattle.std.specs.Prelude.{◌≡◌, ◌∷◌, ◌++◌, false, true, [], drop, reverse, None, IfOk, IfSome, MatchOption};
+ghost use Rattle.std.specs.Option.{option_map};
+ghost use Rattle.rust_names.specs.internal.Passing.{IsEnd, Stopped, Turned, is_hidden};
+ghost use Rattle.rust_names.specs.internal.Running.{at, is_made, read_frame, run};
 
-use crate::frames::{Ahead, expand};
-use crate::grammar::{Frame, Part, Phrase};
+use crate::frames::expand;
+use crate::grammar::{Frame, Inner, Part, Phrase};
 use crate::leaves::read_leaf;
-use crate::paths::{crate_front, enter, is_path, read_crate, read_named, type_path};
+use crate::paths::{crate_front, enter, read_crate, read_named};
 use std::alloc::Global;
 use sym_edges::OutOfMemory;
 
@@ -18,6 +18,8 @@ pub(crate) struct Room {
     pub(crate) stack: Vec<Frame>,
     /// What is shown.
     pub(crate) text: Vec<u8>,
+    /// Whether the last trait's arguments are left open.
+    pub(crate) opened: bool,
 }
 
 impl Room {
@@ -25,7 +27,28 @@ impl Room {
         Room {
             stack: Vec::new(alloc),
             text: Vec::new(alloc),
+            opened: false,
         }
+    }
+}
+
+/// Where the reading of frames stops.
+#[derive(Clone, Copy)]
+pub struct Stop<'a> {
+    /// What is still to be read.
+    pub rest: &'a [u8],
+    /// The path of an impl that stands there, where it is not the end.
+    pub hidden: Option<Frame>,
+}
+
+/// Whether a part is the path of an impl.
+#[inline(always)]
+fn is_hidden(part: Part) -> bool
+    ensures { result ≡ is_hidden part }
+{
+    match part {
+        Part::Inner(Inner::ImplPath) => true,
+        _ => false,
     }
 }
 
@@ -58,134 +81,86 @@ pub(crate) fn from_place(name: &[u8], place: usize) -> &[u8]
 fn read_plain<'a>(
     alloc: Global,
     text: &mut Vec<u8>,
+    opened: &mut bool,
     name: &'a [u8],
     frame: Frame,
-    ahead: &Ahead<'a>,
-) -> Result<Option<Ahead<'a>>, OutOfMemory>
+    rest: &'a [u8],
+) -> Result<Option<&'a [u8]>, OutOfMemory>
     requires plain { is_made frame.part ≡ false }
-    requires ends { IsEnd name.now ahead.now.rest.now }
-    ensures read { IfOk result (λ next. read_frame name.now frame (at ahead.now.rest.now text.old.items ahead.now.opened) ≡ option_map (λ a. at a.rest.now text.new.items a.opened) next) }
-    ensures ends { IfOk result (λ next. IfSome next (λ a. IsEnd name.now a.rest.now)) }
+    requires ends { IsEnd name.now rest.now }
+    ensures read { IfOk result (λ next. read_frame name.now frame (at rest.now text.old.items opened.old) ≡ option_map (λ a. at a.now text.new.items opened.new) next) }
+    ensures ends { IfOk result (λ next. IfSome next (λ a. IsEnd name.now a.now)) }
 {
     match frame.part {
-        Part::Leaf(leaf) => match read_leaf(alloc, text, leaf, frame.scope, ahead.rest)? {
-            Some(rest) => Ok(Some(Ahead {
-                rest,
-                opened: ahead.opened,
-            })),
-            None => Ok(None),
-        },
+        Part::Leaf(leaf) => {
+            let next = read_leaf(alloc, text, leaf, frame.scope, rest)?;
+            Ok(next)
+        }
         Part::Phrase(_) => {
             if frame.width == 0 {
                 return Ok(None);
             }
-            match read_named(alloc, text, frame.scope, ahead.rest)? {
-                Some(rest) => Ok(Some(Ahead {
-                    rest,
-                    opened: ahead.opened,
-                })),
-                None => Ok(None),
-            }
+            let next = read_named(alloc, text, frame.scope, rest)?;
+            Ok(next)
         }
-        Part::Goto(place) => Ok(Some(Ahead {
-            rest: from_place(name, place),
-            opened: ahead.opened,
-        })),
-        Part::Opened(opened) => Ok(Some(Ahead {
-            rest: ahead.rest,
-            opened,
-        })),
+        Part::Goto(place) => Ok(Some(from_place(name, place))),
+        Part::Opened(open) => {
+            *opened = open;
+            Ok(Some(rest))
+        }
         _ => Ok(None),
     }
 }
 
-/// Reads a path: down through nested ones to a crate, which is read, or to a path of another kind, whose frames are put onto the stack.
+/// Reads a frame, or puts those that it is made of onto the stack. Nested paths are entered at once.
 #[inline(always)]
-fn read_path<'a>(
+fn turn<'a>(
     alloc: Global,
     room: &mut Room,
     name: &'a [u8],
     top: Frame,
-    ahead: &Ahead<'a>,
-) -> Result<Option<Ahead<'a>>, OutOfMemory>
-    requires path { is_path top.part ≡ true }
-    requires ends { IsEnd name.now ahead.now.rest.now }
-    ensures same { IfOk result (λ next. run name.now (reverse (room.old.stack.items ++ top ∷ [])) (at ahead.now.rest.now room.old.text.items ahead.now.opened) ≡ option_and_then (λ a. run name.now (reverse room.new.stack.items) (at a.rest.now room.new.text.items a.opened)) next) }
-    ensures lighter { IfOk result (λ next. IfSome next (λ _. weight (length name.now) room.new.stack.items < weight (length name.now) (room.old.stack.items ++ top ∷ []))) }
-    ensures ends { IfOk result (λ next. IfSome next (λ a. IsEnd name.now a.rest.now)) }
+    begin: &'a [u8],
+) -> Result<Option<&'a [u8]>, OutOfMemory>
+    requires { IsEnd name.now begin.now }
+    ensures { IfOk result (λ next. Turned name.now (room.old.stack.items ++ top ∷ []) (at begin.now room.old.text.items room.old.opened) room.new.stack.items room.new.text.items room.new.opened next) }
 {
-    let (frame, rest) = enter(&mut room.stack, name, top, ahead.rest)?;
-    let opened = ahead.opened;
-    match crate_front(frame, rest) {
-        Some(after) => match read_crate(alloc, &mut room.text, frame.scope, after)? {
-            Some(rest) => Ok(Some(Ahead { rest, opened })),
-            None => Ok(None),
-        },
-        None => {
-            match expand(&mut room.stack, name.len(), frame, &Ahead { rest, opened })? {
-                Some(rest) => Ok(Some(Ahead { rest, opened })),
-                None => Ok(None),
-            }
-        }
+    if !is_made(top.part) {
+        let next = read_plain(alloc, &mut room.text, &mut room.opened, name, top, begin)?;
+        return Ok(next);
     }
+    let mut frame = top;
+    let rest = enter(&mut room.stack, name, &mut frame, begin)?;
+    if let Some(after) = crate_front(frame, rest) {
+        let next = read_crate(alloc, &mut room.text, frame.scope, after)?;
+        return Ok(next);
+    }
+    let next = expand(&mut room.stack, name.len(), frame, room.opened, rest)?;
+    Ok(next)
 }
 
-/// Reads a frame, or puts those that it is made of onto the stack.
-#[inline(always)]
-pub(crate) fn turn<'a>(
-    alloc: Global,
-    room: &mut Room,
-    name: &'a [u8],
-    frame: Frame,
-    ahead: &Ahead<'a>,
-) -> Result<Option<Ahead<'a>>, OutOfMemory>
-    requires { IsEnd name.now ahead.now.rest.now }
-    ensures same { IfOk result (λ next. run name.now (reverse (room.old.stack.items ++ frame ∷ [])) (at ahead.now.rest.now room.old.text.items ahead.now.opened) ≡ option_and_then (λ a. run name.now (reverse room.new.stack.items) (at a.rest.now room.new.text.items a.opened)) next) }
-    ensures lighter { IfOk result (λ next. IfSome next (λ _. weight (length name.now) room.new.stack.items < weight (length name.now) (room.old.stack.items ++ frame ∷ []))) }
-    ensures ends { IfOk result (λ next. IfSome next (λ a. IsEnd name.now a.rest.now)) }
-{
-    if is_path(frame.part) {
-        return read_path(alloc, room, name, frame, ahead);
-    }
-    if let Some(path) = type_path(frame, name.len(), ahead.rest) {
-        room.stack.push(path)?;
-        return Ok(Some(Ahead {
-            rest: ahead.rest,
-            opened: ahead.opened,
-        }));
-    }
-    if !is_made(frame.part) {
-        return match read_plain(alloc, &mut room.text, name, frame, ahead)? {
-            Some(next) => Ok(Some(next)),
-            None => Ok(None),
-        };
-    }
-    match expand(&mut room.stack, name.len(), frame, ahead)? {
-        Some(rest) => Ok(Some(Ahead {
-            rest,
-            opened: ahead.opened,
-        })),
-        None => Ok(None),
-    }
-}
-
-/// Reads all frames of a stack from its top, and adds what they show; what stands after them.
+/// Reads the frames of a stack from its top, and adds what they show; stops in front of the path of an impl, where it is to.
 pub(crate) fn read_frames<'a>(
     alloc: Global,
     room: &mut Room,
     name: &'a [u8],
-    begin: &Ahead<'a>,
-) -> Result<Option<Ahead<'a>>, OutOfMemory>
-    requires { IsEnd name.now begin.now.rest.now }
-    ensures read { IfOk result (λ next. run name.now (reverse room.old.stack.items) (at begin.now.rest.now room.old.text.items begin.now.opened) ≡ option_map (λ a. at a.rest.now room.new.text.items a.opened) next) }
-    ensures ends { IfOk result (λ next. IfSome next (λ a. IsEnd name.now a.rest.now)) }
+    begin: &'a [u8],
+    stops: bool,
+) -> Result<Option<Stop<'a>>, OutOfMemory>
+    requires { IsEnd name.now begin.now }
+    ensures { IfOk result (λ next. MatchOption next (run name.now (reverse room.old.stack.items) (at begin.now room.old.text.items room.old.opened) ≡ None) (Stopped name.now room.old.stack.items (at begin.now room.old.text.items room.old.opened) stops room.new.stack.items room.new.text.items room.new.opened)) }
 {
-    let mut ahead = *begin;
+    let mut rest = begin;
     'frames: while let Some(top) = room.stack.pop() {
-        match turn(alloc, room, name, top, &ahead)? {
-            Some(next) => ahead = next,
+        if stops && is_hidden(top.part) {
+            return Ok(Some(Stop {
+                rest,
+                hidden: Some(top),
+            }));
+        }
+        match turn(alloc, room, name, top, rest)? {
+            Some(next) => rest = next,
             None => return Ok(None),
         }
     }
-    Ok(Some(ahead))
+    Ok(Some(Stop { rest, hidden: None }))
 }

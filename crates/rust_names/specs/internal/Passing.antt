@@ -1,5 +1,7 @@
--- Paths of v0 names that are not shown: where they lie, and what is known of those that were read.
-use Rattle.std.specs.Prelude.{◌≡◌, ℕ, ◌+◌, ◌*◌, ◌≤◌, Bool, true, false, if◌then◌else◌, List, drop, Some, IfSome}
+-- The loop over frames. Paths of v0 names that are not shown: where they lie, and what is known of those that were read.
+use Rattle.std.specs.Prelude.{◌≡◌, ℕ, ◌+◌, ◌*◌, ◌<◌, ◌≤◌, Bool, true, false, if◌then◌else◌, List, [], ◌++◌, length, reverse, drop, Option, Some, IfSome, MatchOption}
+use Rattle.std.specs.Borrow.{Bor}
+use Rattle.std.specs.Option.{option_and_then, option_to_list}
 use Rattle.std.specs.Ordering.{nat_cmp}
 use Rattle.std.specs.BTreeMap.{BTreeMap, get}
 use Rattle.rust_names.specs.declared.grammar.Kind.TheVariants as kind
@@ -7,9 +9,11 @@ use Rattle.rust_names.specs.declared.grammar.Inner.TheVariants as inner
 use Rattle.rust_names.specs.declared.grammar.Part.{Part}
 use Rattle.rust_names.specs.declared.grammar.Part.TheVariants.{Deep, Inner as Within}
 use Rattle.rust_names.specs.declared.grammar.Scope.{Scope}
+use Rattle.rust_names.specs.declared.grammar.Frame.{Frame}
 use Rattle.rust_names.specs.declared.hidden.HiddenPath.{HiddenPath}
-use Rattle.rust_names.specs.V0Names.{read_level}
-use Rattle.rust_names.specs.internal.Running.{at}
+use Rattle.rust_names.specs.declared.turns.Stop.{Stop}
+use Rattle.rust_names.specs.V0Names.{State, read_level}
+use Rattle.rust_names.specs.internal.Running.{at, run, weight}
 
 -- bytes that others end with
 pub record IsEnd (bytes rest : List ℕ) : Type 0 where
@@ -24,6 +28,19 @@ dark bound = record { bound = bound; visible = false }
 abbrev pub is_hidden : Part → Bool
 is_hidden (Within inner.ImplPath) = true
 is_hidden p = false
+
+-- a turn of the loop: from frames and a state to frames, a text, and what is left
+pub record Turned (name : List ℕ) (old : List Frame) (s : State) (new : List Frame) (text : List ℕ) (opened : Bool) (o : Option (Bor (List ℕ))) : Type 0 where
+  pub same : run name (reverse old) s ≡ option_and_then (λ a. run name (reverse new) (at a.now text opened)) o
+  pub lighter : IfSome o (λ _. weight (length name) new < weight (length name) old)
+  pub ends : IfSome o (λ a. IsEnd name a.now)
+
+-- turns up to the end, or up to the path of an impl, where the loop is to stop there
+pub record Stopped (name : List ℕ) (old : List Frame) (s : State) (stops : Bool) (new : List Frame) (text : List ℕ) (opened : Bool) (stop : Stop) : Type 0 where
+  pub same : run name (reverse old) s ≡ run name (reverse (new ++ option_to_list stop.hidden)) (at stop.rest.now text opened)
+  pub lighter : weight (length name) (new ++ option_to_list stop.hidden) ≤ weight (length name) old
+  pub ends : IsEnd name stop.rest.now
+  pub hidden : MatchOption stop.hidden (new ≡ []) (λ f. (stops ≡ true) × (is_hidden f.part ≡ true))
 
 -- a path that is not shown ends so, whatever is bound and was shown before
 abbrev pub Reads : List ℕ → ℕ → List ℕ → Bool → List ℕ → Bool → Type 0
