@@ -8,7 +8,8 @@ use Rattle.sym_rules.proofs.BoolLemmas.{and_true, both, not_true, not_false, eli
 use Rattle.rust_names.specs.declared.piece.Piece.{Piece}
 use Rattle.rust_names.specs.declared.piece.Piece.TheVariants.{At, Star, And, Less, Greater, Opening, Closing, Comma, Code, Scope, Plain}
 use Rattle.rust_names.specs.Legacy.{low_hex, written, begins_with_dot, is_piece}
-use Rattle.rust_names.specs.internal.Reading.{sign_of, low_value, byte_of, code_of, or_code, plain_piece, front_piece, piece_of}
+use Rattle.rust_names.specs.V0Numbers.{hex_digit}
+use Rattle.rust_names.specs.internal.Reading.{sign_of, byte_of, code_of, or_code, plain_piece, front_piece, piece_of}
 
 -- bytes that begin with some, and those after them
 pub begins : (bytes front : List ℕ) → starts_with nat_eq bytes front ≡ true → bytes ≡ front ++ drop (length front) bytes
@@ -38,19 +39,17 @@ sign_front bytes p is =
 
 -- digits
 
-hex_is : (b v : ℕ) → low_value b ≡ Some v → (low_hex v ≡ b) × (v < 16)
-unfolding low_value
+hex_is : (b v : ℕ) → hex_digit b ≡ Some v → (low_hex v ≡ b) × (v < 16)
 hex_is b v is = grind (arith, nat_tests)
 
-pub value_is : (v : ℕ) → v < 16 → low_value (low_hex v) ≡ Some v
-unfolding low_value
+pub value_is : (v : ℕ) → v < 16 → hex_digit (low_hex v) ≡ Some v
 value_is v small = grind (arith, nat_tests)
 
 parts_of_byte : (high low : ℕ) → low < 16 → ((high * 16 + low) / 16 ≡ high) × ((high * 16 + low) % 16 ≡ low)
 parts_of_byte high low small = (omega arith, omega arith)
 
 -- the code of a byte
-byte_front : (bytes after : List ℕ) (h l : ℕ) (high low : Option ℕ) (p : Piece) → bytes ≡ 36 ∷ 117 ∷ h ∷ l ∷ 36 ∷ after → low_value h ≡ high → low_value l ≡ low → byte_of high low ≡ Some p → IsFront bytes p
+byte_front : (bytes after : List ℕ) (h l : ℕ) (high low : Option ℕ) (p : Piece) → bytes ≡ 36 ∷ 117 ∷ h ∷ l ∷ 36 ∷ after → hex_digit h ≡ high → hex_digit l ≡ low → byte_of high low ≡ Some p → IsFront bytes p
 byte_front bytes after h l None low p is is_high is_low found = cc
 byte_front bytes after h l (Some high) None p is is_high is_low found = cc
 byte_front bytes after h l (Some high) (Some low) p is is_high is_low found =
@@ -71,14 +70,14 @@ code_front (a ∷ b ∷ c ∷ []) p dollar is = cc
 code_front (a ∷ b ∷ c ∷ d ∷ []) p dollar is = cc
 code_front (a ∷ b ∷ c ∷ d ∷ e ∷ after) p dollar is =
     let long : nat_lt (length (a ∷ b ∷ c ∷ d ∷ e ∷ after)) 5 ≡ false = grind (arith, nat_tests) in
-    let inner : cond (b == 117 && e == 36) (byte_of (low_value c) (low_value d)) None ≡ Some p = ap (λ t. cond t None (cond (b == 117 && e == 36) (byte_of (low_value c) (low_value d)) None)) (sym long) ∙ is in
-    elim_bool (b == 117 && e == 36) (λ t. cond t (byte_of (low_value c) (low_value d)) None ≡ Some p → IsFront (a ∷ b ∷ c ∷ d ∷ e ∷ after) p)
+    let inner : cond (b == 117 && e == 36) (byte_of (hex_digit c) (hex_digit d)) None ≡ Some p = ap (λ t. cond t None (cond (b == 117 && e == 36) (byte_of (hex_digit c) (hex_digit d)) None)) (sym long) ∙ is in
+    elim_bool (b == 117 && e == 36) (λ t. cond t (byte_of (hex_digit c) (hex_digit d)) None ≡ Some p → IsFront (a ∷ b ∷ c ∷ d ∷ e ∷ after) p)
     (λ t found.
     let marks = and_true {a = b == 117} {b = e == 36} t in
     let first : b ≡ 117 = grind (arith, nat_tests) in
     let last : e ≡ 36 = grind (arith, nat_tests) in
     let same : (a ∷ b ∷ c ∷ d ∷ e ∷ after) ≡ (36 ∷ 117 ∷ c ∷ d ∷ 36 ∷ after) = cc in
-    byte_front (a ∷ b ∷ c ∷ d ∷ e ∷ after) after c d (low_value c) (low_value d) p same refl refl found)
+    byte_front (a ∷ b ∷ c ∷ d ∷ e ∷ after) after c d (hex_digit c) (hex_digit d) p same refl refl found)
     (λ t none. cc) inner
 
 or_front : (bytes : List ℕ) (p : Piece) (sign : Option Piece) → sign_of bytes ≡ sign → get_or bytes 0 0 ≡ 36 → or_code sign bytes ≡ Some p → IsFront bytes p
@@ -119,11 +118,11 @@ unfolding piece_of
 piece_at [] some = absurd (some refl)
 piece_at (b ∷ bytes) some = refl
 
-code_here : (h l : ℕ) (after : List ℕ) → code_of (36 ∷ 117 ∷ h ∷ l ∷ 36 ∷ after) ≡ byte_of (low_value h) (low_value l)
+code_here : (h l : ℕ) (after : List ℕ) → code_of (36 ∷ 117 ∷ h ∷ l ∷ 36 ∷ after) ≡ byte_of (hex_digit h) (hex_digit l)
 unfolding code_of
 code_here h l after =
     let long : nat_lt (length (36 ∷ 117 ∷ h ∷ l ∷ 36 ∷ after)) 5 ≡ false = grind (arith, nat_tests) in
-    ap (λ t. cond t None (byte_of (low_value h) (low_value l))) long
+    ap (λ t. cond t None (byte_of (hex_digit h) (hex_digit l))) long
 
 -- a piece in front of bytes is the one that is found
 pub found_piece : (p : Piece) (after : List ℕ) → is_piece p after ≡ true → piece_of (written p ++ after) ≡ Some p
@@ -138,11 +137,11 @@ found_piece Closing after is = refl
 found_piece Comma after is = refl
 found_piece (Code b) after is =
     let two = and_true {a = nat_le 32 b} {b = nat_le b 126} is in
-    let high : low_value (low_hex (b / 16)) ≡ Some (b / 16) = value_is (b / 16) (omega (arith, leb-true b 126 two.1)) in
-    let low : low_value (low_hex (b % 16)) ≡ Some (b % 16) = value_is (b % 16) (omega arith) in
+    let high : hex_digit (low_hex (b / 16)) ≡ Some (b / 16) = value_is (b / 16) (omega (arith, leb-true b 126 two.1)) in
+    let low : hex_digit (low_hex (b % 16)) ≡ Some (b % 16) = value_is (b % 16) (omega arith) in
     let whole : b / 16 * 16 + b % 16 ≡ b = omega arith in
     code_here (low_hex (b / 16)) (low_hex (b % 16)) after
-    ∙ ap (λ h. byte_of h (low_value (low_hex (b % 16)))) high ∙ ap (λ l. byte_of (Some (b / 16)) l) low
+    ∙ ap (λ h. byte_of h (hex_digit (low_hex (b % 16)))) high ∙ ap (λ l. byte_of (Some (b / 16)) l) low
     ∙ ap (λ n. cond (nat_le 32 n && nat_le n 126) (Some (Code n)) None) whole ∙ ap (λ t. cond t (Some (Code b)) None) is
 found_piece Scope after is = refl
 found_piece (Plain b) after is =

@@ -230,8 +230,6 @@ pub(crate) fn pass<'a>(
     if frame.width == 0 {
         return Ok(None);
     }
-    match pass_path(alloc, hidden, name, frame.levels, ahead)? {
-        Some(next) => Ok(Some(next)),
-        None => Ok(None),
-    }
+    let next = pass_path(alloc, hidden, name, frame.levels, ahead)?;
+    Ok(next)
 }

@@ -24,36 +24,6 @@ fn after_if(said: bool, bytes: &[u8]) -> Option<&[u8]>
     if said { Some(bytes) } else { None }
 }
 
-/// Adds a number where it is shown.
-fn show_index(text: &mut Vec<u8>, visible: bool, number: u64) -> Result<bool, OutOfMemory>
-    ensures { IfOk result (λ said. v0.shown_on visible text.old.items (Some (decimal number)) ≡ kept said text.new.items) }
-{
-    if !visible {
-        return Ok(true);
-    }
-    add_decimal(text, number)
-}
-
-/// Adds a lifetime where it is shown.
-fn show_bound(text: &mut Vec<u8>, scope: Scope, number: u64) -> Result<bool, OutOfMemory>
-    ensures { IfOk result (λ said. v0.shown_on scope.visible text.old.items (shows.lifetime_text scope.bound number) ≡ kept said text.new.items) }
-{
-    if !scope.visible {
-        return Ok(true);
-    }
-    show_lifetime(text, scope.bound, number)
-}
-
-/// Adds lifetimes where they are shown.
-fn show_for_all(text: &mut Vec<u8>, scope: Scope, count: u64) -> Result<bool, OutOfMemory>
-    ensures { IfOk result (λ said. v0.shown_on scope.visible text.old.items (Some (shows.for_all_text scope.bound count)) ≡ kept said text.new.items) }
-{
-    if !scope.visible {
-        return Ok(true);
-    }
-    add_for_all(text, scope.bound, count)
-}
-
 /// A word.
 #[tactic(auto, unfolding(crate::specs::V0Leaves::read_leaf, crate::specs::V0Leaves::leaf_of))]
 #[inline(always)]
@@ -102,10 +72,7 @@ pub(crate) fn read_identifier<'a>(
     let Some((marked, name, after)) = identifier(bytes) else {
         return Ok(None);
     };
-    if !scope.visible {
-        return Ok(Some(after));
-    }
-    let said = add_identifier(alloc, text, marked, name)?;
+    let said = !scope.visible || add_identifier(alloc, text, marked, name)?;
     Ok(after_if(said, after))
 }
 
@@ -153,10 +120,7 @@ fn read_number<'a>(
     let Some((digits, after)) = hex_digits(bytes) else {
         return Ok(None);
     };
-    if !scope.visible {
-        return Ok(Some(after));
-    }
-    let said = add_integer(text, digits)?;
+    let said = !scope.visible || add_integer(text, digits)?;
     Ok(after_if(said, after))
 }
 
@@ -192,21 +156,6 @@ fn read_boolean<'a>(
     }
 }
 
-/// Adds characters in quotes where they are shown.
-fn show_quoted(
-    text: &mut Vec<u8>,
-    visible: bool,
-    quote: u8,
-    characters: &[char],
-) -> Result<bool, OutOfMemory>
-    ensures { IfOk result (λ said. v0.shown_on visible text.old.items (Some (shows.quoted quote characters.now)) ≡ kept said text.new.items) }
-{
-    if !visible {
-        return Ok(true);
-    }
-    add_quoted(text, quote, characters)
-}
-
 /// The character of a code.
 fn character_of(code: Option<u64>) -> Option<char>
     ensures { shows.character_by code ≡ option_map (λ c. shows.quoted 39 (c ∷ [])) result }
@@ -231,7 +180,7 @@ fn read_character<'a>(
     };
     match character_of(hex_value(digits)) {
         Some(c) => {
-            let said = show_quoted(text, scope.visible, b'\'', &[c])?;
+            let said = !scope.visible || add_quoted(text, b'\'', &[c])?;
             Ok(after_if(said, after))
         }
         None => Ok(None),
@@ -316,7 +265,7 @@ fn read_string<'a>(
     };
     match characters_of(alloc, digits)? {
         Some(characters) => {
-            let said = show_quoted(text, scope.visible, b'"', characters.as_slice())?;
+            let said = !scope.visible || add_quoted(text, b'"', characters.as_slice())?;
             Ok(after_if(said, after))
         }
         None => Ok(None),
@@ -352,15 +301,15 @@ pub(crate) fn read_leaf<'a>(
             Ok(after_if(said, bytes))
         }
         Leaf::Index(number) => {
-            let said = show_index(text, scope.visible, number)?;
+            let said = !scope.visible || add_decimal(text, number)?;
             Ok(after_if(said, bytes))
         }
         Leaf::Lifetime(number) => {
-            let said = show_bound(text, scope, number)?;
+            let said = !scope.visible || show_lifetime(text, scope.bound, number)?;
             Ok(after_if(said, bytes))
         }
         Leaf::ForAll(count) => {
-            let said = show_for_all(text, scope, count)?;
+            let said = !scope.visible || add_for_all(text, scope.bound, count)?;
             Ok(after_if(said, bytes))
         }
         Leaf::Disambiguator => read_disambiguator(text, scope, bytes),

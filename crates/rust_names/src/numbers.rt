@@ -37,12 +37,16 @@ fn base_62_digit(b: u8) -> Option<u64>
     ensures value { result ≡ base_62_digit b }
     ensures small { IfSome result (λ v. v < 62) }
 {
-    match b {
-        b'0'..=b'9' => Some(u64::from(b - b'0')),
-        b'a'..=b'z' => Some(u64::from(b - b'a' + 10)),
-        b'A'..=b'Z' => Some(u64::from(b - b'A' + 36)),
-        _ => None,
+    if b'a' <= b && b <= b'z' {
+        return Some(u64::from(b - b'a' + 10));
     }
+    if b'A' <= b && b <= b'Z' {
+        return Some(u64::from(b - b'A' + 36));
+    }
+    if b'0' <= b && b <= b'9' {
+        return Some(u64::from(b - b'0'));
+    }
+    None
 }
 
 /// A number that fits.
@@ -142,7 +146,6 @@ pub(crate) fn hex_digit(b: u8) -> Option<u8>
 }
 
 /// The hexadecimal digits up to `_`, and what stands after it.
-
 pub(crate) fn hex_digits(bytes: &[u8]) -> Option<(&[u8], &[u8])>
     ensures digits { option_map (λ x. (x.0.now, x.1.now)) result ≡ hex_digits bytes.now }
     ensures within { IfSome result (λ x. length x.1.now ≤ length bytes.now) }
@@ -171,7 +174,6 @@ fn next_hex(value: u64, b: u8) -> Option<u64>
 }
 
 /// The value of hexadecimal digits, where it is below 2^64.
-
 pub(crate) fn hex_value(digits: &[u8]) -> Option<u64>
     ensures { result ≡ hex_from 0 digits.now }
 {

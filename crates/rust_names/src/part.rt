@@ -1,5 +1,5 @@
 //! The parts of a path.
-ghost use Rattle.std.specs.Prelude.{◌≡◌, ◌<◌, ◌≤◌, ◌++◌, length, take, true, IfOk, IfSome};
+ghost use Rattle.std.specs.Prelude.{◌≡◌, ◌<◌, ◌≤◌, ◌^◌, ◌++◌, length, take, true, IfOk, IfSome};
 ghost use Rattle.std.specs.List.{list_all};
 ghost use Rattle.std.specs.Option.{option_map};
 ghost use Rattle.rust_names.specs.Legacy.{is_digit, undashed};
@@ -33,6 +33,7 @@ pub(crate) fn count_digits(bytes: &[u8]) -> usize
 #[tactic(auto, using(crate::proofs::DigitLemmas::number_none, crate::proofs::DigitLemmas::number_zero, crate::proofs::DigitLemmas::number_other, crate::proofs::DigitLemmas::number_past, crate::proofs::DigitLemmas::number_more, crate::proofs::DigitLemmas::all_more, crate::proofs::DigitLemmas::number_is))]
 #[inline(always)]
 pub(crate) fn number_upto(most: usize, digits: &[u8]) -> Option<usize>
+    requires { most < 2 ^ 63 }
     ensures number { result ≡ number_upto most digits.now }
     ensures within { IfSome result (λ n. n ≤ most) }
     ensures some { IfSome result (λ n. 0 < length digits.now) }
@@ -40,14 +41,16 @@ pub(crate) fn number_upto(most: usize, digits: &[u8]) -> Option<usize>
     if digits.is_empty() || digits[0] == b'0' {
         return None;
     }
-    let mut number: u128 = 0;
+    let mut number: u64 = 0;
     for b in digits {
-        if !is_digit(*b) || number > most as u128 {
+        if !is_digit(*b) {
             return None;
         }
-        number = number * 10 + u128::from(*b - b'0');
+        number = number
+            .saturating_mul(10)
+            .saturating_add(u64::from(*b - b'0'));
     }
-    if number > most as u128 {
+    if number > most as u64 {
         return None;
     }
     Some(number as usize)

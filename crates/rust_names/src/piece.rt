@@ -1,8 +1,9 @@
 //! The pieces of a part of a path: escapes, `..`, and bytes.
 ghost use Rattle.std.specs.Prelude.{◌≡◌, ◌<◌, ◌≤◌, ◌++◌, length, IfSome, OnOk};
 ghost use Rattle.rust_names.specs.Legacy.{written, shown, begins_with_dot};
-ghost use Rattle.rust_names.specs.internal.Reading.{sign_of, low_value, code_of, plain_piece, piece_of};
+ghost use Rattle.rust_names.specs.internal.Reading.{sign_of, code_of, plain_piece, piece_of};
 
+use crate::numbers::hex_digit;
 use sym_edges::OutOfMemory;
 
 /// A piece of a part, as it is read from left to right.
@@ -64,19 +65,6 @@ fn sign_of(bytes: &[u8]) -> Option<Piece>
     None
 }
 
-/// The value of a lower-case hexadecimal digit.
-#[tactic(auto, unfolding(crate::specs::internal::Reading::low_value))]
-fn low_value(b: u8) -> Option<u8>
-    ensures value { result ≡ low_value b }
-    ensures small { IfSome result (λ v. v < 16) }
-{
-    match b {
-        b'0'..=b'9' => Some(b - b'0'),
-        b'a'..=b'f' => Some(b - b'a' + 10),
-        _ => None,
-    }
-}
-
 /// The byte that an escape stands for.
 #[tactic(auto, unfolding(crate::specs::internal::Reading::code_of))]
 fn code_of(bytes: &[u8]) -> Option<Piece>
@@ -85,8 +73,8 @@ fn code_of(bytes: &[u8]) -> Option<Piece>
     if bytes.len() < 5 || bytes[1] != b'u' || bytes[4] != b'$' {
         return None;
     }
-    let high = low_value(bytes[2])?;
-    let low = low_value(bytes[3])?;
+    let high = hex_digit(bytes[2])?;
+    let low = hex_digit(bytes[3])?;
     let byte = high * 16 + low;
     if 0x20 <= byte && byte <= 0x7e {
         return Some(Piece::Code(byte));

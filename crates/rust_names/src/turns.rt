@@ -151,7 +151,7 @@ pub(crate) fn read_frames<'a>(
 {
     let mut rest = begin;
     'frames: while let Some(top) = room.stack.pop() {
-        if stops && is_hidden(top.part) {
+        if is_hidden(top.part) && stops {
             return Ok(Some(Stop {
                 rest,
                 hidden: Some(top),

@@ -6,6 +6,7 @@ use Rattle.std.specs.Option.{option_map, option_and_then}
 use Rattle.rust_names.specs.declared.piece.Piece.{Piece}
 use Rattle.rust_names.specs.declared.piece.Piece.TheVariants.{At, Star, And, Less, Greater, Opening, Closing, Comma, Code, Scope, Plain}
 unfoldable pub use Rattle.rust_names.specs.Digits.{digits_in_front, number_upto}
+use Rattle.rust_names.specs.V0Numbers.{hex_digit}
 use Rattle.rust_names.specs.Legacy.{written, shown, is_low_hex, undashed, joined, is_shown_text, begins_with_dot, Part}
 
 -- the sign that an escape stands for
@@ -21,10 +22,6 @@ sign_of bytes =
     else if starts_with nat_eq bytes (codes "$C$") then Some Comma
     else None
 
--- the value of a lower-case hexadecimal digit
-unfoldable pub low_value : ℕ → Option ℕ
-low_value b = if nat_le 48 b && nat_le b 57 then Some (b - 48) else if nat_le 97 b && nat_le b 102 then Some (b - 87) else None
-
 -- the byte of a code, where it is no control byte
 abbrev pub byte_of : Option ℕ → Option ℕ → Option Piece
 byte_of None low = None
@@ -35,7 +32,7 @@ byte_of (Some high) (Some low) = if nat_le 32 (high * 16 + low) && nat_le (high 
 unfoldable pub code_of : List ℕ → Option Piece
 code_of bytes =
     if nat_lt (length bytes) 5 then None
-    else if slice_index bytes 1 == 117 && slice_index bytes 4 == 36 then byte_of (low_value (slice_index bytes 2)) (low_value (slice_index bytes 3))
+    else if slice_index bytes 1 == 117 && slice_index bytes 4 == 36 then byte_of (hex_digit (slice_index bytes 2)) (hex_digit (slice_index bytes 3))
     else None
 
 abbrev pub or_code : Option Piece → List ℕ → Option Piece
