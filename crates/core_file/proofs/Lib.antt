@@ -20,6 +20,7 @@ pub mod ModuleLemmas
 pub mod CoreLemmas
 pub mod Computing
 pub mod Cores
+pub mod StoredLemmas
 mod WorkedCore
 mod WorkedFaults
 mod WorkedModules

@@ -11,4 +11,5 @@ pub mod Code
 pub mod Core
 pub mod FaultWords
 pub mod HeldBlocks
+pub mod StoredFile
 pub mod internal

@@ -8,3 +8,4 @@ pub mod Slashes
 pub mod ImageViews
 pub mod Listings
 pub mod CodeMaps
+pub mod HeldRest

@@ -40,6 +40,7 @@ mod notes;
 mod pages;
 mod part;
 mod segments;
+mod stored;
 #[cfg(test)]
 mod tests;
 mod threads;
@@ -50,4 +51,5 @@ pub use fault::{CoreFault, TooLong};
 pub use held::HeldBytes;
 pub use modules::Module;
 pub use segments::Segment;
+pub use stored::read_held;
 pub use threads::{Registers, Thread};

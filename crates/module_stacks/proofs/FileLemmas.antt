@@ -7,7 +7,7 @@ use Rattle.std.specs.BTreeMap as tree
 use Rattle.std.specs.BTreeMap.{BTreeMap}
 use Rattle.std.specs.Cmp.Lexicographic.{slice_cmp}
 use Rattle.std.specs.Global.{Vec}
-use Rattle.std.specs.List.{list_any}
+use Rattle.std.specs.List.{AllByRecursion, list_any}
 use Rattle.std.specs.Map.{lookup}
 use Rattle.std.specs.Borrow.{Bor}
 use Rattle.std.specs.Option.{option_or, option_copied}
@@ -189,36 +189,58 @@ knows_more (Some f) before mid after old new key (Some read) has first second is
 
 -- ---- one call after another
 
+-- a fact of each member of both lists, and of each by a weaker one
+pub all_both : {X : Type 0} (P : X → Type 0) (xs ys : List X) → AllByRecursion P xs → AllByRecursion P ys → AllByRecursion P (xs ++ ys)
+all_both P [] ys first second = second
+all_both P (x ∷ xs) ys first second = (first.0, all_both P xs ys first.1 second)
+
+pub all_weaker : {X : Type 0} (P Q : X → Type 0) → ((x : X) → P x → Q x) → (xs : List X) → AllByRecursion P xs → AllByRecursion Q xs
+all_weaker P Q weaker [] all = tt
+all_weaker P Q weaker (x ∷ xs) all = (weaker x all.0, all_weaker P Q weaker xs all.1)
+
 none_new : (old : Seen) (key : List ℕ) → old key ≡ None → AreNew old (key ∷ [])
 none_new old key none = (none, (refl, tt))
 
-pub learns_more : (files : Option Files) (asked after : List (List ℕ)) (mid now : ℕ) (old new : Seen) (key : List ℕ) (found : Found) → HasMore old new key found → after ≡ asked ++ key ∷ [] → mid ≤ now → IsFound found files key mid now → Learns files asked after mid now old new
-learns_more files asked after mid now old new key found has asks up is = record {
+-- a name of which something is known now and was not before is the new one
+only_new : (old new : Seen) (key : List ℕ) (found : Found) → HasMore old new key found → (name : List ℕ) → is_some (new name) ≡ true → list_any (bytes_eq name) (key ∷ []) ≡ false → is_some (old name) ≡ true
+only_new old new key found has name some other = go (old name) (bytes_eq name key) (sym (ap is_some (has.more name)) ∙ some) other
+  where
+    go : (o : Option Found) (b : Bool) → is_some (option_or o (if b then Some found else None)) ≡ true → (b || false) ≡ false → is_some o ≡ true
+    go (Some was) b some other = refl
+    go None true some other = absurd (cc)
+    go None false some other = some
+
+pub learns_more : (P : List ℕ → Type 0) (files : Option Files) (asked after : List (List ℕ)) (mid now : ℕ) (old new : Seen) (key : List ℕ) (found : Found) → HasMore old new key found → after ≡ asked ++ key ∷ [] → mid ≤ now → P key → IsFound found files key mid now → Learns P files asked after mid now old new
+learns_more P files asked after mid now old new key found has asks up of is = record {
   stays = stays_more old new key found has;
   names = key ∷ [];
   asks = asks;
   fresh = none_new old key has.none;
+  are = (of, tt);
   seen = (ap is_some (newest old new key found has), tt);
+  only = only_new old new key found has;
   knows = λ before low knows. knows_more files before mid now old new key found has low up is knows;
 }
 
-pub learns_none : (files : Option Files) (asked : List (List ℕ)) (faults : ℕ) (seen : Seen) → Learns files asked asked faults faults seen seen
-learns_none files asked faults seen = record {
+pub learns_none : (P : List ℕ → Type 0) (files : Option Files) (asked : List (List ℕ)) (faults : ℕ) (seen : Seen) → Learns P files asked asked faults faults seen seen
+learns_none P files asked faults seen = record {
   stays = λ name found is. is;
   names = [];
   asks = sym (append-nil asked);
   fresh = tt;
+  are = tt;
   seen = tt;
+  only = λ name some other. some;
   knows = λ before low knows. knows;
 }
 
-pub asks_none : (asked : List (List ℕ)) (seen : Seen) → AsksFresh seen asked asked
-asks_none asked seen = ([], (sym (append-nil asked), tt))
+pub asks_none : (P : List ℕ → Type 0) (asked : List (List ℕ)) (seen : Seen) → AsksFresh P seen asked asked
+asks_none P asked seen = ([], (sym (append-nil asked), (tt, tt)))
 
-pub asks_one : (asked after : List (List ℕ)) (old : Seen) (key : List ℕ) → old key ≡ None → (after ≡ asked ++ key ∷ []) ⊎ (after ≡ asked) → AsksFresh old asked after
-asks_one asked after old key none asks = elim asks [
-  | inl more ↦ (key ∷ [], (more, none_new old key none))
-  | inr same ↦ subst (AsksFresh old asked) (sym same) (asks_none asked old)
+pub asks_one : (P : List ℕ → Type 0) (asked after : List (List ℕ)) (old : Seen) (key : List ℕ) → P key → old key ≡ None → (after ≡ asked ++ key ∷ []) ⊎ (after ≡ asked) → AsksFresh P old asked after
+asks_one P asked after old key of none asks = elim asks [
+  | inl more ↦ (key ∷ [], (more, (none_new old key none, (of, tt))))
+  | inr same ↦ subst (AsksFresh P old asked) (sym same) (asks_none P asked old)
 ]
 
 -- names that are new behind others that were asked for in between
@@ -267,22 +289,57 @@ seen_both : (new : Seen) (first second : List (List ℕ)) → AreSeen new first 
 seen_both new [] second seen later = later
 seen_both new (name ∷ first) second seen later = (seen.0, seen_both new first second seen.1 later)
 
-pub learns_then : (files : Option Files) (asked between after : List (List ℕ)) (faults mid now : ℕ) (old half new : Seen) → faults ≤ mid → Learns files asked between faults mid old half → Learns files between after mid now half new → Learns files asked after faults now old new
-learns_then files asked between after faults mid now old half new up first second = record {
+only_then : (old half new : Seen) (first second : List (List ℕ)) → ((name : List ℕ) → is_some (half name) ≡ true → list_any (bytes_eq name) first ≡ false → is_some (old name) ≡ true) → ((name : List ℕ) → is_some (new name) ≡ true → list_any (bytes_eq name) second ≡ false → is_some (half name) ≡ true)
+    → (name : List ℕ) → is_some (new name) ≡ true → list_any (bytes_eq name) (first ++ second) ≡ false → is_some (old name) ≡ true
+only_then old half new first second one two name some other = (let both = neither name first second other in one name (two name some both.1) both.0)
+  where
+    neither : (name : List ℕ) (first second : List (List ℕ)) → list_any (bytes_eq name) (first ++ second) ≡ false → (list_any (bytes_eq name) first ≡ false) × (list_any (bytes_eq name) second ≡ false)
+    neither name [] second free = (refl, free)
+    neither name (other ∷ first) second free = go (bytes_eq name other) free (λ rest. neither name first second rest)
+      where
+        go : (b : Bool) → (b || list_any (bytes_eq name) (first ++ second)) ≡ false → (list_any (bytes_eq name) (first ++ second) ≡ false → (list_any (bytes_eq name) first ≡ false) × (list_any (bytes_eq name) second ≡ false)) → ((b || list_any (bytes_eq name) first) ≡ false) × (list_any (bytes_eq name) second ≡ false)
+        go true free more = absurd (cc)
+        go false free more = more free
+
+pub learns_then : (P : List ℕ → Type 0) (files : Option Files) (asked between after : List (List ℕ)) (faults mid now : ℕ) (old half new : Seen) → faults ≤ mid → Learns P files asked between faults mid old half → Learns P files between after mid now half new → Learns P files asked after faults now old new
+learns_then P files asked between after faults mid now old half new up first second = record {
   stays = λ name found is. second.stays name found (first.stays name found is);
   names = first.names ++ second.names;
   asks = second.asks ∙ ap (λ a. a ++ second.names) first.asks ∙ append_assoc asked first.names second.names;
   fresh = behind old half first.names second.names first.stays first.fresh first.seen second.fresh;
+  are = all_both P first.names second.names first.are second.are;
   seen = seen_both new first.names second.names (seen_later half new first.names second.stays first.seen) second.seen;
+  only = only_then old half new first.names second.names first.only second.only;
   knows = λ before low knows. (let higher : before ≤ mid = omega (arith, low, up) in second.knows before higher (first.knows before low knows));
 }
 
-pub asks_of : (files : Option Files) (asked after : List (List ℕ)) (faults now : ℕ) (old new : Seen) → Learns files asked after faults now old new → AsksFresh old asked after
-asks_of files asked after faults now old new learns = (learns.names, (learns.asks, learns.fresh))
+pub asks_of : (P : List ℕ → Type 0) (files : Option Files) (asked after : List (List ℕ)) (faults now : ℕ) (old new : Seen) → Learns P files asked after faults now old new → AsksFresh P old asked after
+asks_of P files asked after faults now old new learns = (learns.names, (learns.asks, (learns.fresh, learns.are)))
 
-pub asks_then : (files : Option Files) (asked between after : List (List ℕ)) (faults mid : ℕ) (old half : Seen) → Learns files asked between faults mid old half → AsksFresh half between after → AsksFresh old asked after
-asks_then files asked between after faults mid old half first second =
-    (first.names ++ second.0, (second.1.0 ∙ ap (λ a. a ++ second.0) first.asks ∙ append_assoc asked first.names second.0, behind old half first.names second.0 first.stays first.fresh first.seen second.1.1))
+pub asks_then : (P : List ℕ → Type 0) (files : Option Files) (asked between after : List (List ℕ)) (faults mid : ℕ) (old half : Seen) → Learns P files asked between faults mid old half → AsksFresh P half between after → AsksFresh P old asked after
+asks_then P files asked between after faults mid old half first second = (
+  first.names ++ second.0,
+  (
+    second.1.0 ∙ ap (λ a. a ++ second.0) first.asks ∙ append_assoc asked first.names second.0,
+    (behind old half first.names second.0 first.stays first.fresh first.seen second.1.1.0, all_both P first.names second.0 first.are second.1.1.1),
+  ),
+)
+
+-- a fact of the names by a stronger one
+pub learns_weaker : (P Q : List ℕ → Type 0) → ((name : List ℕ) → P name → Q name) → (files : Option Files) (asked after : List (List ℕ)) (faults now : ℕ) (old new : Seen) → Learns P files asked after faults now old new → Learns Q files asked after faults now old new
+learns_weaker P Q weaker files asked after faults now old new learns = record {
+  stays = learns.stays;
+  names = learns.names;
+  asks = learns.asks;
+  fresh = learns.fresh;
+  are = all_weaker P Q weaker learns.names learns.are;
+  seen = learns.seen;
+  only = learns.only;
+  knows = learns.knows;
+}
+
+pub asks_weaker : (P Q : List ℕ → Type 0) → ((name : List ℕ) → P name → Q name) → (asked after : List (List ℕ)) (old : Seen) → AsksFresh P old asked after → AsksFresh Q old asked after
+asks_weaker P Q weaker asked after old asks = (asks.0, (asks.1.0, (asks.1.1.0, all_weaker P Q weaker asks.0 asks.1.1.1)))
 
 -- ---- a call that asks
 
@@ -295,11 +352,11 @@ pub ask_there : (old new : BTreeMap (Vec ℕ) Found) (owned : Vec ℕ) (key : Li
 ask_there old new owned key found same none added = ap is_some (newest (seen_in (names_of old)) (seen_in (names_of new)) key found (has_more old new owned key found same none added))
 
 pub ask_learns : (files : Option Files) (asked after : List (List ℕ)) (mid now : ℕ) (old new : BTreeMap (Vec ℕ) Found) (owned : Vec ℕ) (key : List ℕ) (found : Found) → owned.items ≡ key → seen_in (names_of old) key ≡ None
-    → new.entries ≡ tree.insert_entry (λ x y. slice_cmp nat_cmp x.items y.items) old.entries owned found → after ≡ asked ++ key ∷ [] → mid ≤ now → IsFound found files key mid now → Learns files asked after mid now (seen_in (names_of old)) (seen_in (names_of new))
+    → new.entries ≡ tree.insert_entry (λ x y. slice_cmp nat_cmp x.items y.items) old.entries owned found → after ≡ asked ++ key ∷ [] → mid ≤ now → IsFound found files key mid now → Learns (λ name. name ≡ key) files asked after mid now (seen_in (names_of old)) (seen_in (names_of new))
 ask_learns files asked after mid now old new owned key found same none added asks up is =
-    learns_more files asked after mid now (seen_in (names_of old)) (seen_in (names_of new)) key found (has_more old new owned key found same none added) asks up is
+    learns_more (λ name. name ≡ key) files asked after mid now (seen_in (names_of old)) (seen_in (names_of new)) key found (has_more old new owned key found same none added) asks up refl is
 
 -- the same, where the files of the second call are said to be those of the first
-pub learns_on : (files between_files : Option Files) (asked between after : List (List ℕ)) (faults mid now : ℕ) (old half new : Seen) → between_files ≡ files → faults ≤ mid → Learns files asked between faults mid old half → Learns between_files between after mid now half new → Learns files asked after faults now old new
-learns_on files between_files asked between after faults mid now old half new same up first second =
-    learns_then files asked between after faults mid now old half new up first (subst (λ (f : Option Files). Learns f between after mid now half new) same second)
+pub learns_on : (P : List ℕ → Type 0) (files between_files : Option Files) (asked between after : List (List ℕ)) (faults mid now : ℕ) (old half new : Seen) → between_files ≡ files → faults ≤ mid → Learns P files asked between faults mid old half → Learns P between_files between after mid now half new → Learns P files asked after faults now old new
+learns_on P files between_files asked between after faults mid now old half new same up first second =
+    learns_then P files asked between after faults mid now old half new up first (subst (λ (f : Option Files). Learns P f between after mid now half new) same second)

@@ -1,5 +1,5 @@
 -- Stacks by what was found of the symbol files; for `StackWalker`.
-use Rattle.std.proofs.Common.{◌≡◌, ℕ, zero, suc, ◌^◌, IfOk, ◌<◌, true, is_some, List, [], ◌∷◌, length, map, get_or, slice_get, Option, None, Some, Result, Ok, Err, refl, sym, ap, ◌∙◌}
+use Rattle.std.proofs.Common.{◌≡◌, ℕ, zero, suc, ◌^◌, IfOk, OnOk, ◌<◌, true, is_some, List, [], ◌∷◌, ◌++◌, length, map, get_or, slice_get, Option, None, Some, Result, Ok, Err, refl, sym, ap, ◌∙◌, subst}
 use Rattle.std.proofs.lemmas.Option.{slice_get-get_or}
 use Rattle.std.specs.Borrow.{Bor}
 use Rattle.std.specs.Option.{option_map, option_and_then, option_copied}
@@ -16,11 +16,12 @@ use Rattle.stack_walk.specs.declared.callers.Place.{Place}
 use Rattle.stack_walk.specs.declared.known.Known.{Known}
 use Rattle.stack_walk.specs.declared.steps.WalkStep.{WalkStep}
 use Rattle.module_stacks.specs.CoreRuns.{core_runs}
-use Rattle.module_stacks.specs.SymbolFiles.{Found, found_in, Seen, seen_in, Agrees}
+use Rattle.module_stacks.specs.SymbolFiles.{Found, found_in, Seen, seen_in, Agrees, AsksFresh, Learns}
 use Rattle.module_stacks.specs.Symbols.{name_of, holder_of, by_found, by_path, by_name, symbols_of, records_by, records_in, records_at}
 use Rattle.module_stacks.specs.Stacks.{regs_of, process_by, process_of, stack_of}
-use Rattle.module_stacks.specs.Walking.{Walking, known_found, IsPathSeen, IsNameSeen, IsAsked}
+use Rattle.module_stacks.specs.Walking.{Walking, known_found, IsPathSeen, IsNameSeen, IsAsked, AreAsked, path_of, IsPathOf}
 use Rattle.module_stacks.specs.declared.names.SymbolName.{SymbolName}
+use Rattle.module_stacks.proofs.FileLemmas.{all_both, asks_weaker, learns_weaker}
 
 -- ---- names by places
 
@@ -52,7 +53,7 @@ found_alike known got path agrees some = go (seen_in known path) refl some
     go (Some found) is some = agrees path found is
     go None is some = absurd (cc)
 
-names_alike : (known : List (List ℕ × Found)) (got : Files) (name : Option SymbolName) → Agrees got (seen_in known) → IsNameSeen known name → by_name (λ path. found_in (got path)) name ≡ by_name (known_found known) name
+pub names_alike : (known : List (List ℕ × Found)) (got : Files) (name : Option SymbolName) → Agrees got (seen_in known) → IsNameSeen known name → by_name (λ path. found_in (got path)) name ≡ by_name (known_found known) name
 names_alike known got None agrees seen = refl
 names_alike known got (Some name) agrees seen = go name.path seen
   where
@@ -60,10 +61,14 @@ names_alike known got (Some name) agrees seen = go name.path seen
     go None seen = refl
     go (Some path) seen = ap (by_found name.id) (found_alike known got path agrees seen)
 
-records_alike : (known : List (List ℕ × Found)) (got : Files) (folder : List ℕ) (m : Option Module) → Agrees got (seen_in known) → IsNameSeen known (option_and_then (name_of folder) m) → records_in (λ path. found_in (got path)) folder m ≡ records_in (known_found known) folder m
+pub records_alike : (known : List (List ℕ × Found)) (got : Files) (folder : List ℕ) (m : Option Module) → Agrees got (seen_in known) → IsNameSeen known (option_and_then (name_of folder) m) → records_in (λ path. found_in (got path)) folder m ≡ records_in (known_found known) folder m
 unfolding symbols_of
 records_alike known got folder None agrees seen = refl
 records_alike known got folder (Some m) agrees seen = ap (records_by m.base) (names_alike known got (name_of folder m) agrees seen)
+
+pub symbols_alike : (known : List (List ℕ × Found)) (got : Files) (folder : List ℕ) (m : Module) → Agrees got (seen_in known) → IsNameSeen known (name_of folder m) → symbols_of (λ path. found_in (got path)) folder m ≡ symbols_of (known_found known) folder m
+unfolding symbols_of
+symbols_alike known got folder m agrees seen = names_alike known got (name_of folder m) agrees seen
 
 -- ---- steps
 
@@ -97,3 +102,65 @@ unfolding stack_of
 stack_is (Err fault) seen core folder thread regs first regs_is first_is walks = tt
 stack_is (Ok walk) seen core folder thread regs first regs_is first_is walks = λ got agrees.
     walks got agrees ∙ ap (walk_from (process_of got folder core) (2 ^ 20)) (first_is ∙ ap (λ r. first_place r thread.registers.rip) regs_is)
+
+-- ---- names that were asked for
+
+is_some_later : (old new : Seen) (name : List ℕ) → ((name : List ℕ) (found : Found) → old name ≡ Some found → new name ≡ Some found) → is_some (old name) ≡ true → is_some (new name) ≡ true
+is_some_later old new name stays some = go (old name) refl some
+  where
+    go : (o : Option Found) → old name ≡ o → is_some o ≡ true → is_some (new name) ≡ true
+    go (Some found) is some = ap is_some (stays name found is)
+    go None is some = absurd (cc)
+
+name_seen_later : (old new : List (List ℕ × Found)) (name : Option SymbolName) → ((name : List ℕ) (found : Found) → seen_in old name ≡ Some found → seen_in new name ≡ Some found) → IsNameSeen old name → IsNameSeen new name
+name_seen_later old new None stays seen = tt
+name_seen_later old new (Some name) stays seen = go name.path seen
+  where
+    go : (path : Option (List ℕ)) → IsPathSeen old path → IsPathSeen new path
+    go None seen = tt
+    go (Some path) seen = is_some_later (seen_in old) (seen_in new) path stays seen
+
+asked_later : (old new : Walking) (a : ℕ) → new.core ≡ old.core → new.folder ≡ old.folder → ((name : List ℕ) (found : Found) → seen_in old.known name ≡ Some found → seen_in new.known name ≡ Some found) → IsAsked old a → IsAsked new a
+asked_later old new a core folder stays asked =
+    subst (λ (c : CoreParts). IsNameSeen new.known (option_and_then (name_of new.folder) (holder_of c.modules a))) (sym core)
+    (subst (λ f. IsNameSeen new.known (option_and_then (name_of f) (holder_of old.core.modules a))) (sym folder)
+    (name_seen_later old.known new.known (option_and_then (name_of old.folder) (holder_of old.core.modules a)) stays asked))
+
+pub are_asked_later : (old new : Walking) (steps : List WalkStep) → new.core ≡ old.core → new.folder ≡ old.folder → ((name : List ℕ) (found : Found) → seen_in old.known name ≡ Some found → seen_in new.known name ≡ Some found) → AreAsked old steps → AreAsked new steps
+are_asked_later old new [] core folder stays asked = tt
+are_asked_later old new (step ∷ steps) core folder stays asked = (asked_later old new step.at core folder stays asked.0, are_asked_later old new steps core folder stays asked.1)
+
+-- a step more
+pub place_of : (w : Walking) (here : Place) (step : WalkStep) → step ≡ step_at (process_by (known_found w.known) w.folder w.core) here → step.at ≡ here.at
+unfolding step_known
+place_of w here step is = ap (λ (s : WalkStep). s.at) is
+
+pub asked_more : (old new : Walking) (steps next : List WalkStep) (step : WalkStep) (a : ℕ) → new.core ≡ old.core → new.folder ≡ old.folder → ((name : List ℕ) (found : Found) → seen_in old.known name ≡ Some found → seen_in new.known name ≡ Some found) → AreAsked old steps → IsAsked new a → step.at ≡ a → next ≡ steps ++ step ∷ [] → AreAsked new next
+asked_more old new steps next step a core folder stays asked there at is =
+    subst (AreAsked new) (sym is) (all_both (λ (s : WalkStep). IsAsked new s.at) steps (step ∷ []) (are_asked_later old new steps core folder stays asked) (subst (IsAsked new) (sym at) there, tt))
+
+-- the path of a module's symbol file
+path_same : (w v : Walking) → w.core ≡ v.core → w.folder ≡ v.folder → (name : List ℕ) → IsPathOf w name → IsPathOf v name
+path_same w v core folder name path = (
+  path.0,
+  ap (λ (c : CoreParts). option_and_then (λ m. path_of (name_of v.folder m)) (slice_get c.modules path.0)) (sym core)
+      ∙ ap (λ f. option_and_then (λ m. path_of (name_of f m)) (slice_get w.core.modules path.0)) (sym folder) ∙ path.1,
+)
+
+pub asks_at : (w v : Walking) (asked after : List (List ℕ)) (old : Seen) → w.core ≡ v.core → w.folder ≡ v.folder → AsksFresh (IsPathOf w) old asked after → AsksFresh (IsPathOf v) old asked after
+asks_at w v asked after old core folder asks = asks_weaker (IsPathOf w) (IsPathOf v) (path_same w v core folder) asked after old asks
+
+pub learns_at : (w v : Walking) (files : Option Files) (asked after : List (List ℕ)) (faults now : ℕ) (old new : Seen) → w.core ≡ v.core → w.folder ≡ v.folder → Learns (IsPathOf w) files asked after faults now old new → Learns (IsPathOf v) files asked after faults now old new
+learns_at w v files asked after faults now old new core folder learns = learns_weaker (IsPathOf w) (IsPathOf v) (path_same w v core folder) files asked after faults now old new learns
+
+-- the one name for which the store was asked at an address
+pub path_there : (w : Walking) (place : ℕ) (name : SymbolName) (path : List ℕ) → option_and_then (name_of w.folder) (slice_get w.core.modules place) ≡ Some name → name.path ≡ Some path → (other : List ℕ) → other ≡ path → IsPathOf w other
+path_there w place name path is has other same = (place, go (slice_get w.core.modules place) is ∙ has ∙ ap Some (sym same))
+  where
+    go : (m : Option Module) → option_and_then (name_of w.folder) m ≡ Some name → option_and_then (λ m. path_of (name_of w.folder m)) m ≡ name.path
+    go None gone = absurd (cc)
+    go (Some m) named = ap path_of named
+
+pub learns_ok : {A F : Type 0} (r : Result A F) (P Q : List ℕ → Type 0) (files : Option Files) (asked after : List (List ℕ)) (faults now : ℕ) (old new : Seen) → ((name : List ℕ) → P name → Q name) → OnOk r (Learns P files asked after faults now old new) → OnOk r (Learns Q files asked after faults now old new)
+learns_ok (Ok x) P Q files asked after faults now old new weaker learns = learns_weaker P Q weaker files asked after faults now old new learns
+learns_ok (Err e) P Q files asked after faults now old new weaker learns = tt

@@ -1,6 +1,6 @@
 -- What was found under the names that a store was asked for, and the files that this agrees with.
 use Rattle.std.specs.Prelude.{◌≡◌, ◌⊎◌, ℕ, ◌≤◌, ◌^◌, true, false, is_some, List, [], ◌∷◌, ◌++◌, Option, None, Some, Result, Ok, Err, if◌then◌else◌}
-use Rattle.std.specs.List.{list_any}
+use Rattle.std.specs.List.{AllByRecursion, list_any}
 use Rattle.std.specs.Str.{bytes_eq}
 use Rattle.sym_edges.specs.Outside.{Files, Tells, Rose}
 use Rattle.sym_edges.specs.declared.fault.OutOfMemory.{OutOfMemory}
@@ -71,15 +71,18 @@ abbrev pub AreSeen : Seen → List (List ℕ) → Type 0
 AreSeen new [] = Unit {0}
 AreSeen new (name ∷ names) = (is_some (new name) ≡ true) × AreSeen new names
 
--- such names were asked for
-abbrev pub AsksFresh : Seen → List (List ℕ) → List (List ℕ) → Type 0
-AsksFresh old asked after = (names : List (List ℕ)) × ((after ≡ asked ++ names) × AreNew old names)
+-- such names, of each of which P holds, were asked for
+abbrev pub AsksFresh : (List ℕ → Type 0) → Seen → List (List ℕ) → List (List ℕ) → Type 0
+AsksFresh P old asked after = (names : List (List ℕ)) × ((after ≡ asked ++ names) × (AreNew old names × AllByRecursion P names))
 
--- what was found before stays, of each name that the store was asked for it is known what was found, and there are files that agree with it all
-pub record Learns (files : Option Files) (asked after : List (List ℕ)) (faults now : ℕ) (old new : Seen) : Type 0 where
+-- what was found before stays, of the names that the store was asked for, and of no others, it is known now what was found, and there are files
+-- that agree with it all
+pub record Learns (P : List ℕ → Type 0) (files : Option Files) (asked after : List (List ℕ)) (faults now : ℕ) (old new : Seen) : Type 0 where
   pub stays : (name : List ℕ) (found : Found) → old name ≡ Some found → new name ≡ Some found
   pub names : List (List ℕ)
   pub asks : after ≡ asked ++ names
   pub fresh : AreNew old names
+  pub are : AllByRecursion P names
   pub seen : AreSeen new names
+  pub only : (name : List ℕ) → is_some (new name) ≡ true → list_any (bytes_eq name) names ≡ false → is_some (old name) ≡ true
   pub knows : (before : ℕ) → before ≤ faults → Knows files before faults old → Knows files before now new

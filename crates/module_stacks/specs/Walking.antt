@@ -1,7 +1,9 @@
 -- A process and its folder of symbol files, with what was found of those that were asked for.
-use Rattle.std.specs.Prelude.{◌≡◌, ℕ, true, is_some, List, Option, None, Some}
+use Rattle.std.specs.Prelude.{◌≡◌, ℕ, true, is_some, slice_get, List, Option, None, Some}
+use Rattle.std.specs.List.{AllByRecursion}
 use Rattle.std.specs.Option.{option_and_then}
 use Rattle.core_file.specs.Core.{CoreParts}
+use Rattle.stack_walk.specs.declared.steps.WalkStep.{WalkStep}
 use Rattle.module_stacks.specs.SymbolFiles.{Found, seen_in}
 use Rattle.module_stacks.specs.Symbols.{name_of, holder_of}
 use Rattle.module_stacks.specs.declared.names.SymbolName.{SymbolName}
@@ -27,3 +29,15 @@ IsNameSeen known (Some name) = IsPathSeen known name.path
 -- the symbol file of the module that holds an address was asked for, where it has a path
 abbrev pub IsAsked : Walking → ℕ → Type 0
 IsAsked w a = IsNameSeen w.known (option_and_then (name_of w.folder) (holder_of w.core.modules a))
+
+-- that of each step's address
+abbrev pub AreAsked : Walking → List WalkStep → Type 0
+AreAsked w steps = AllByRecursion (λ step. IsAsked w step.at) steps
+
+-- a name is the path of the symbol file of one of the modules
+abbrev pub path_of : Option SymbolName → Option (List ℕ)
+path_of None = None
+path_of (Some name) = name.path
+
+abbrev pub IsPathOf : Walking → List ℕ → Type 0
+IsPathOf w name = (place : ℕ) × (option_and_then (λ m. path_of (name_of w.folder m)) (slice_get w.core.modules place) ≡ Some name)

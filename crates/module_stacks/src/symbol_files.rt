@@ -118,11 +118,11 @@ impl SymbolFiles {
         store: &mut S,
         name: &str,
     ) -> Result<(), OutOfMemory>
-        ensures asks { AsksFresh (seen_in self.old) (S.asked store.old) (S.asked store.new) }
+        ensures asks { AsksFresh (λ asked_for. asked_for ≡ name.now) (seen_in self.old) (S.asked store.old) (S.asked store.new) }
         ensures files { S.files store.new ≡ S.files store.old }
         ensures faults { S.faults store.old ≤ S.faults store.new }
         ensures there { OnOk result (is_some (seen_in self.new name.now) ≡ true) }
-        ensures learns { OnOk result (Learns (S.files store.old) (S.asked store.old) (S.asked store.new) (S.faults store.old) (S.faults store.new) (seen_in self.old) (seen_in self.new)) }
+        ensures learns { OnOk result (Learns (λ asked_for. asked_for ≡ name.now) (S.files store.old) (S.asked store.old) (S.asked store.new) (S.faults store.old) (S.faults store.new) (seen_in self.old) (seen_in self.new)) }
     {
         if self.found(name).is_some() {
             return Ok(());

@@ -1,6 +1,6 @@
 //! The stacks of a process's threads.
 ghost use Rattle.std.specs.Prelude.{◌≡◌, ℕ, ◌<◌, ◌≤◌, List, Option, Some, None, Ok, Err, MatchResult, is_some, true, length, map, slice_get, IfSome, IfOk, OnOk};
-ghost use Rattle.std.specs.Option.{option_copied, option_and_then};
+ghost use Rattle.std.specs.Option.{option_copied, option_map, option_and_then};
 ghost use Rattle.sym_edges.specs.Outside.{Files};
 ghost use Rattle.core_file.specs.Code.{is_code};
 ghost use Rattle.stack_walk.specs.Walk.{step_at, walk_from};
@@ -8,7 +8,7 @@ ghost use Rattle.module_stacks.specs.ModuleAt.{module_at};
 ghost use Rattle.module_stacks.specs.SymbolFiles.{Agrees, Learns, AsksFresh, seen_in};
 ghost use Rattle.module_stacks.specs.Symbols.{name_of, is_of, by_found, symbols_of, records_at};
 ghost use Rattle.module_stacks.specs.Stacks.{regs_of, process_by, process_of, stack_of};
-ghost use Rattle.module_stacks.specs.Walking.{known_found, IsAsked};
+ghost use Rattle.module_stacks.specs.Walking.{known_found, IsAsked, AreAsked, IsPathOf};
 
 use crate::core_memory::CoreMemory;
 use crate::lack::Lack;
@@ -109,6 +109,21 @@ impl<'c> StackWalker<'c> {
         })
     }
 
+    /// The core file.
+    pub fn core(&self) -> &'c Core<'c>
+        ensures { result.now ≡ self.now.core }
+    {
+        self.core
+    }
+
+    /// The place of the module that holds an address.
+    pub fn module_at(&self, a: u64) -> Option<usize>
+        ensures exact { result ≡ module_at self.now.core.modules a }
+        ensures within { IfSome result (λ place. place < length self.now.core.modules) }
+    {
+        self.modules.at(a)
+    }
+
     /// The name of a module's symbol file.
     #[tactic(auto, using(crate::proofs::WalkerLemmas::name_there))]
     fn name_of(&self, place: usize) -> Option<&SymbolName>
@@ -121,14 +136,25 @@ impl<'c> StackWalker<'c> {
         }
     }
 
+    /// The id that a module's symbol file has in MODULE, where the module has a build id.
+    pub fn id_of(&self, place: usize) -> Option<&[u8]>
+        requires { place < length self.now.core.modules }
+        ensures { IfSome (slice_get self.now.core.modules place) (λ m. option_copied result ≡ option_map (λ name. name.id) (name_of self.now.folder m)) }
+    {
+        match self.name_of(place) {
+            None => None,
+            Some(name) => Some(name.id.as_slice()),
+        }
+    }
+
     /// Asks for the symbol file of the module that holds an address, unless it was asked for.
     fn ask_at<S: Store>(&mut self, alloc: Global, store: &mut S, a: u64) -> Result<(), OutOfMemory>
         ensures same { (self.new.core ≡ self.old.core) × (self.new.folder ≡ self.old.folder) }
-        ensures asks { AsksFresh (seen_in self.old.known) (S.asked store.old) (S.asked store.new) }
+        ensures asks { AsksFresh (IsPathOf self.old) (seen_in self.old.known) (S.asked store.old) (S.asked store.new) }
         ensures files { S.files store.new ≡ S.files store.old }
         ensures faults { S.faults store.old ≤ S.faults store.new }
         ensures there { OnOk result (IsAsked self.new a) }
-        ensures learns { OnOk result (Learns (S.files store.old) (S.asked store.old) (S.asked store.new) (S.faults store.old) (S.faults store.new) (seen_in self.old.known) (seen_in self.new.known)) }
+        ensures learns { OnOk result (Learns (IsPathOf self.old) (S.files store.old) (S.asked store.old) (S.asked store.new) (S.faults store.old) (S.faults store.new) (seen_in self.old.known) (seen_in self.new.known)) }
     {
         let Some(place) = self.modules.at(a) else {
             return Ok(());
@@ -213,10 +239,11 @@ impl<'c> StackWalker<'c> {
         first: &Place,
     ) -> Result<Walk, OutOfMemory>
         ensures same { (self.new.core ≡ self.old.core) × (self.new.folder ≡ self.old.folder) }
-        ensures asks { AsksFresh (seen_in self.old.known) (S.asked store.old) (S.asked store.new) }
+        ensures asks { AsksFresh (IsPathOf self.old) (seen_in self.old.known) (S.asked store.old) (S.asked store.new) }
         ensures files { S.files store.new ≡ S.files store.old }
         ensures faults { S.faults store.old ≤ S.faults store.new }
-        ensures learns { OnOk result (Learns (S.files store.old) (S.asked store.old) (S.asked store.new) (S.faults store.old) (S.faults store.new) (seen_in self.old.known) (seen_in self.new.known)) }
+        ensures learns { OnOk result (Learns (IsPathOf self.old) (S.files store.old) (S.asked store.old) (S.asked store.new) (S.faults store.old) (S.faults store.new) (seen_in self.old.known) (seen_in self.new.known)) }
+        ensures steps { IfOk result (λ walk. AreAsked self.new walk.steps) }
         ensures walk { IfOk result (λ walk. (got : Files) → Agrees got (seen_in self.new.known) → walk ≡ walk_from (process_of got self.old.folder self.old.core) most first.now) }
     {
         let mut steps = Vec::new(alloc);
@@ -251,10 +278,11 @@ impl<'c> StackWalker<'c> {
         thread: &Thread,
     ) -> Result<Walk, OutOfMemory>
         ensures same { (self.new.core ≡ self.old.core) × (self.new.folder ≡ self.old.folder) }
-        ensures asks { AsksFresh (seen_in self.old.known) (S.asked store.old) (S.asked store.new) }
+        ensures asks { AsksFresh (IsPathOf self.old) (seen_in self.old.known) (S.asked store.old) (S.asked store.new) }
         ensures files { S.files store.new ≡ S.files store.old }
         ensures faults { S.faults store.old ≤ S.faults store.new }
-        ensures learns { OnOk result (Learns (S.files store.old) (S.asked store.old) (S.asked store.new) (S.faults store.old) (S.faults store.new) (seen_in self.old.known) (seen_in self.new.known)) }
+        ensures learns { OnOk result (Learns (IsPathOf self.old) (S.files store.old) (S.asked store.old) (S.asked store.new) (S.faults store.old) (S.faults store.new) (seen_in self.old.known) (seen_in self.new.known)) }
+        ensures steps { IfOk result (λ walk. AreAsked self.new walk.steps) }
         ensures walk { IfOk result (λ walk. (got : Files) → Agrees got (seen_in self.new.known) → walk ≡ stack_of got self.old.folder self.old.core thread.now) }
     {
         let first = first_place(&regs_of(&thread.registers), thread.registers.rip);
