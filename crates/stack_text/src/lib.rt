@@ -1,0 +1,18 @@
+//! The texts of frames, of walks and of the stacks of a process.
+//!
+//! A frame is eighteen lines (`specs/FrameText.antt`), a walk by one symbol file the lines of `lookup` for each step (`specs/WalkText.antt`), and the
+//! stacks of a process its modules and the steps of each thread, with a second text of the modules whose records are not there
+//! (`specs/StacksText.antt`). [`spell_stacks`] walks through the threads as it spells them, so that one walk at a time is held.
+#![tactic(auto)]
+
+mod frame_text;
+mod lacks;
+mod lines;
+mod said_lines;
+mod stacks_text;
+mod walk_text;
+
+pub use frame_text::{short_name, spell_frame};
+pub use lines::{add_hex, add_line};
+pub use stacks_text::{StacksText, spell_stacks};
+pub use walk_text::spell_walk;
