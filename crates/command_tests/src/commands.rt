@@ -1,6 +1,7 @@
 //! `run` over stores and sinks in memory: the commands' rows, each call that fails in turn, and workers that meet. What each small
 //! file gives stands in the rows of the crate `worked` too.
 use crate::comparison::same;
+use crate::cores::{CORE_ROWS, IN_F, MISSING, STACKS, SYMBOL_FILE, SYMBOLS, WITH, WITHOUT};
 use crate::files::{Given, debug_file, file_by, joined};
 use crate::full::{FULL, FULL_ROWS, FULL_WITH_ITSELF, UNREAD_NAME};
 use crate::hello::{OTHER_ID, Parts, hello};
@@ -51,8 +52,8 @@ fn named(alloc: Global, name: &str, bytes: &[u8]) -> Result<NamedFile, AllocErro
     })
 }
 
-/// A store of the file `d/a.out`, of the states `d/state` and `d/stack`, of the symbol files `d/text` and `d/seven`, of a debug file, also below
-/// the root `d`, and of the debug files of a program of this build and of another.
+/// A store of the file `d/a.out`, of the states `d/state` and `d/stack`, of the symbol files `d/text` and `d/seven` and that of a module, of a
+/// debug file, also below the root `d`, and of the debug files of a program of this build and of another.
 fn store_of(alloc: Global, file: &[u8], edges: Edges<'_>) -> Result<MemStore, AllocError> {
     let mut files = Vec::new(alloc);
     files.push(named(alloc, "d/a.out", file)?)?;
@@ -63,6 +64,7 @@ fn store_of(alloc: Global, file: &[u8], edges: Edges<'_>) -> Result<MemStore, Al
     files.push(named(alloc, "d/debug", &debug)?)?;
     files.push(named(alloc, BELOW, &debug)?)?;
     files.push(named(alloc, "d/seven", SEVEN)?)?;
+    files.push(named(alloc, SYMBOL_FILE, SYMBOLS)?)?;
     let debug = hello(alloc, ID, Parts::Debug)?;
     files.push(named(alloc, "d/hello", &debug)?)?;
     let debug = hello(alloc, OTHER_ID, Parts::Debug)?;
@@ -196,6 +198,11 @@ fn full_has_its_rows(rt: HostRuntime) -> Result<(), Fail> {
 }
 
 #[test]
+fn cores_have_their_rows(rt: HostRuntime) -> Result<(), Fail> {
+    expect_rows(&rt, rt.alloc(), &CORE_ROWS)
+}
+
+#[test]
 fn samples_have_their_rows(rt: HostRuntime) -> Result<(), Fail> {
     expect_rows(&rt, rt.alloc(), &SAMPLE_ROWS)
 }
@@ -284,7 +291,7 @@ fn expect_unread<R: Abort + Threads + Sync>(
 
 /// Words, how many bytes a call moves, how often the file is read, and how many calls of the store another file takes. A file takes the opening, a
 /// call for each piece, and the one that finds the end. Last stands the line on standard error.
-const READS: [(Words, Given, usize, usize, usize, &[u8]); 8] = [
+const READS: [(Words, Given, usize, usize, usize, &[u8]); 9] = [
     (DUMP, Given::Units(&[], PUSH_RBP), 7, 1, 0, UNREAD),
     (FULL, Given::Units(&[], PUSH_RBP), 50, 1, 0, UNREAD_NAME),
     (WITH_ITSELF, Given::Code(b"\x90"), 1, 2, 0, UNREAD),
@@ -300,6 +307,7 @@ const READS: [(Words, Given, usize, usize, usize, &[u8]); 8] = [
     (SHOW, Given::Bytes(PUSHED), 1, 1, 0, UNREAD),
     (FRAME, Given::Bytes(PUSHED), 1, 1, STATE.len() + 2, UNREAD),
     (WALK, Given::Bytes(PUSHED), 1, 1, STACK.len() + 2, UNREAD),
+    (STACKS, IN_F, 16, 1, 0, UNREAD),
 ];
 
 #[test]
@@ -310,6 +318,39 @@ fn each_call_that_fails_has_its_status(rt: HostRuntime) -> Result<(), Fail> {
         let calls = pieces.saturating_add(2).saturating_mul(times);
         let calls = calls.saturating_add(more);
         expect_unread(&rt, rt.alloc(), words, &file, (step, calls), line)?;
+    }
+    Ok(())
+}
+
+/// A symbol file that cannot be opened or read is missing, and the run goes on.
+#[test]
+fn a_symbol_file_that_fails_is_missing(rt: HostRuntime) -> Result<(), Fail> {
+    let alloc = rt.alloc();
+    let file = file_by(alloc, IN_F)?;
+    let with = joined(alloc, WITH)?;
+    let without = joined(alloc, WITHOUT)?;
+    let asked = Asked {
+        label: "a symbol file",
+        words: STACKS,
+        file: &file,
+    };
+    // An opening, one piece and the end, of the core file and then of the symbol file.
+    for call in 4..=7 {
+        let (out, err) = if call < 7 {
+            (&without, MISSING)
+        } else {
+            (&with, b"".as_slice())
+        };
+        let edges = Edges {
+            store: &[call],
+            ..SMOOTH
+        };
+        let wanted = Wanted {
+            status: 0,
+            out,
+            err,
+        };
+        expect(&rt, &NoGate, alloc, asked, edges, wanted)?;
     }
     Ok(())
 }

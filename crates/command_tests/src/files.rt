@@ -1,4 +1,5 @@
 //! The files of the rows.
+use crate::cores::core_at;
 use crate::hello::{Parts, hello, whole};
 use std::alloc::{AllocError, Global};
 use test_rows::elf::{
@@ -45,6 +46,8 @@ pub enum Given {
     Hello,
     /// The same without debug information and symbols.
     HelloStripped,
+    /// The core file of a thread with this rip and these bytes on its stack.
+    Core(u64, &'static [u8]),
 }
 
 /// Texts one after the other.
@@ -248,5 +251,6 @@ pub fn file_by(alloc: Global, given: Given) -> Result<Vec<u8>, AllocError> {
         Given::Stripped(frames) => stripped(alloc, frames),
         Given::Hello => whole(alloc),
         Given::HelloStripped => hello(alloc, ID, Parts::Stripped),
+        Given::Core(rip, stack) => core_at(alloc, rip, stack),
     }
 }

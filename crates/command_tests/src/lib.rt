@@ -10,6 +10,8 @@ mod commands;
 #[cfg(test)]
 mod comparison;
 #[cfg(test)]
+mod cores;
+#[cfg(test)]
 mod files;
 #[cfg(test)]
 mod full;

@@ -9,7 +9,7 @@ pub const FRONT: &[u8] = b"MODULE Linux x86_64 030201000504070608090A0B0C0D0E0F0
 pub const MAIN: &[u8] = b"PUBLIC 1000 0 main\n";
 
 pub const USAGE: &[u8] =
-    b"usage: dumpsyms dump ELF, check SYM, lookup SYM ADDR, frame SYM ADDR STATE, sample N, walk SYM STATE, judge ELF SYM, names SYM, dump --full ELF\n";
+    b"usage: dumpsyms dump ELF, check SYM, lookup SYM ADDR, frame SYM ADDR STATE, sample N, walk SYM STATE, judge ELF SYM, names SYM, dump --full ELF, stacks CORE STORE\n";
 
 pub const TABLE: &[u8] = b"refused elf section-table\n";
 

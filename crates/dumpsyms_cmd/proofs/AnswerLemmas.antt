@@ -96,7 +96,7 @@ one_told : (j : Judgement) (name : List ℕ) (answer : List ℕ → Verdict) (fi
 one_told j name answer files kept =
     told (λ f. f name ≡ Some kept.bytes) (λ f. judgement_verdict j ≡ file_verdict answer (f name)) files (λ f there. kept.is ∙ ap (file_verdict answer) (sym there)) kept.there
 
-one_judged : (j : Judgement) (command : Asked) (files : Option Files) → j.status < 2 → Tells files (λ f. IsVerdict (Some command) f (judgement_verdict j)) → CommandPromises (Some command) files j → IsJudged j (Some command) files
+one_judged : (j : Judgement) (command : Asked) (files : Option Files) → j.status < 2 → Tells files (λ f. IsVerdict (Some command) f [] (judgement_verdict j)) → CommandPromises (Some command) files j → IsJudged j (Some command) files
 one_judged j command files low said kept = record { low = omega (arith, low); row = λ some. low; told = said; kept = kept }
 
 sym_judged : (q : SymQuery) (j : Judgement) (name : List ℕ) (files : Option Files) (kept : AnswersBytes name (symbol_verdict (sym_answer q)) files j) → ((lines : List SymLine) → file_reading LIMIT kept.bytes ≡ Ok lines → AreValid lines) → IsJudged j (Some (sym_command q name)) files
@@ -211,7 +211,7 @@ state_read answer judged lines ask name files before after bytes held holds same
 long_bytes : (limit : ℕ) → (bytes : List ℕ) × (limit < length bytes)
 long_bytes limit = (replicate (limit + 1) 0, omega (arith, length-replicate {A = ℕ} (limit + 1) 0))
 
-judges_refused : (o : Output) (status : ℕ) (err line : List ℕ) → RefusesOrGives o status err (λ e. e ≡ line) (λ lines e. ⊥) → given status (out_bytes o) err ≡ refused line
+pub judges_refused : (o : Output) (status : ℕ) (err line : List ℕ) → RefusesOrGives o status err (λ e. e ≡ line) (λ lines e. ⊥) → given status (out_bytes o) err ≡ refused line
 judges_refused Nothing status err line says = ap (λ n. given n [] err) says.0 ∙ ap (given 1 []) says.1
 judges_refused (Text lines) status err line says = absurd says.1
 judges_refused (Bytes text) status err line says = absurd says

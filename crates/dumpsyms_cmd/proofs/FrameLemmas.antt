@@ -1,5 +1,5 @@
 -- The lines on standard error, and what the records of a file say of its frame entries.
-use Rattle.std.proofs.Common.{◌≡◌, ℕ, ◌+◌, ◌≤◌, true, List, [], ◌∷◌, ◌++◌, map, length, take, Option, Some, None, refl, ◌∙◌, ap, append_assoc}
+use Rattle.std.proofs.Common.{◌≡◌, ℕ, ◌+◌, ◌≤◌, true, List, [], ◌∷◌, ◌++◌, map, length, take, Option, Some, None, refl, ◌∙◌, ap}
 use Rattle.std.specs.List.{flat_map, list_all}
 use Rattle.std.proofs.lemmas.List.{take_all}
 use Rattle.elf_sections.specs.Image.{ImageParts}
@@ -11,26 +11,12 @@ use Rattle.func_flatten.specs.declared.line_run.LineRun.{LineRun}
 use Rattle.func_flatten.specs.Publics.{PublicParts, publics}
 use Rattle.inline_chain.specs.InlineRuns.{InlineParts}
 use Rattle.func_records.specs.FuncRecords.{Part, file_lines, origin_lines, inline_record, line_record, part_lines, AreFuncRecords}
-use Rattle.sym_records.specs.Canon.{spaced}
 use Rattle.sym_records.specs.declared.line.SymLine.{SymLine}
 use Rattle.rule_postfix.specs.declared.omission.Omission.{Omission}
-use Rattle.dumpsyms_cmd.specs.Refusals.{line, omitted_line, omitted_text, skipped_of, skipped_text, unit_left, units_left_text}
+use Rattle.dumpsyms_cmd.specs.Refusals.{omitted_line, omitted_text, skipped_of, skipped_text, unit_left, units_left_text}
 use Rattle.sym_meaning.specs.Inits.{is_frameless}
 use Rattle.sym_meaning.proofs.InitLemmas.{both_frameless}
 use Rattle.dumpsyms_cmd.specs.commands.Dump.{module_line, info_line, info_lines, identity_lines, public_line, public_lines}
-
--- words by what they are, and words as they are
-fields_are : {X : Type 0} (f : X → List ℕ) (words : List X) → flat_map (λ word. 32 ∷ f word) words ≡ flat_map (λ field. 32 ∷ field) (map f words)
-fields_are f [] = refl
-fields_are f (w ∷ words) = ap (λ l. (32 ∷ f w) ++ l) (fields_are f words)
-
--- after the last word stands the end of the line
-pub words_end : {X : Type 0} (f : X → List ℕ) (before first text whole : List ℕ) (words : List X) (i : ℕ) → length words ≤ i → text ≡ (before ++ first) ++ flat_map (λ word. 32 ∷ f word) (take i words) → whole ≡ text ++ 10 ∷ [] → whole ≡ before ++ line (spaced first (map f words))
-words_end f before first text whole words i past is ended =
-    ended
-    ∙ ap (λ t. t ++ 10 ∷ []) (is ∙ ap (λ l. (before ++ first) ++ flat_map (λ word. 32 ∷ f word) l) (take_all i words past) ∙ ap (λ l. (before ++ first) ++ l) (fields_are f words))
-    ∙ ap (λ t. t ++ 10 ∷ []) (append_assoc before first (flat_map (λ field. 32 ∷ field) (map f words)))
-    ∙ append_assoc before (spaced first (map f words)) (10 ∷ [])
 
 -- after the last line
 pub lines_end : (before text : List ℕ) (omissions : List Omission) (i : ℕ) → length omissions ≤ i → text ≡ before ++ flat_map omitted_line (take i omissions) → text ≡ before ++ omitted_text omissions

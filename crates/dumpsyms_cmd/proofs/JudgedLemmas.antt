@@ -21,14 +21,14 @@ use Rattle.sym_records.specs.Reading.{reading}
 use Rattle.sym_records.specs.declared.line.SymLine.{SymLine}
 use Rattle.rule_postfix.specs.declared.omission.Omission.{Omission}
 use Rattle.rule_postfix.specs.Written.{omitted}
-use Rattle.dumpsyms_cmd.specs.Words.{Asked, dump, files_of, last_name, module_name, usage_line}
+use Rattle.dumpsyms_cmd.specs.Words.{Asked, dump, stacks, files_of, last_name, module_name, usage_line}
 use Rattle.dumpsyms_cmd.specs.ElfInput.{ElfSource, or_refused, unless_longer, file_image, given_image}
 use Rattle.dumpsyms_cmd.specs.Refusals.{debug_line, units_text, omitted_text, too_long_line, unread_lines}
 use Rattle.dumpsyms_cmd.specs.Verdict.{Verdict, refused, LIMIT}
 use Rattle.dumpsyms_cmd.specs.commands.Dump.{IsDebugVerdict, IsPartsVerdict, IsGivenVerdict}
 use Rattle.dumpsyms_cmd.specs.Answers.{IsVerdict}
 use Rattle.dumpsyms_cmd.specs.internal.Spelled.{DumpsRead}
-use Rattle.dumpsyms_cmd.specs.Observed.{Asks, AsksRow}
+use Rattle.dumpsyms_cmd.specs.Observed.{Asks, AsksRow, AreFurther}
 use Rattle.dumpsyms_cmd.specs.Judgement.{out_bytes, err_bytes, judgement_verdict, RefusesOrGives, Judges}
 use Rattle.dumpsyms_cmd.specs.internal.Judged.{Refuses, JudgesParts, JudgesGiven, IsJudged, AnswersCommand, AnswersImage, AnswersStop}
 use Rattle.dumpsyms_cmd.specs.commands.Dump.{DumpsParts, Assembles, DumpsGiven, ImagePromises, DumpPromises}
@@ -257,16 +257,24 @@ usage_judged j files asked before after is =
     record {
       low = omega arith;
       row = λ some. absurd (none_some None refl some);
-      told = always (λ f. IsVerdict None f (judgement_verdict j)) files (λ f.
+      told = always (λ f. IsVerdict None f [] (judgement_verdict j)) files (λ f.
           sym (ap (λ (n : ℕ). (let v : Verdict = record { status = n; out = []; err = usage_line } in v)) (sym is.status)
           ∙ ap (λ (o : Output). (let v : Verdict = record { status = j.status; out = out_bytes o; err = usage_line } in v)) (sym is.out)
           ∙ ap (λ (e : List ℕ). (let v : Verdict = record { status = j.status; out = out_bytes j.out; err = e } in v)) (sym is.err)));
       kept = is;
     }
 
--- the names asked for by a row
+-- the names asked for by a row: no others than those of its files
+no_further : (command : Option Asked) → AreFurther command []
+no_further (Some (stacks core folder)) = (tt, tt)
+no_further command = refl
+
+pub row_asked : (command : Option Asked) (files : Option Files) (id : List ℕ) (before after : List (List ℕ)) → Asks (files_of command files id) before after → AsksRow command files before after
+row_asked command files id before after asked =
+    record { id = id; further = []; are = no_further command; asks = subst (λ names. Asks names before after) (sym (append-nil (files_of command files id))) asked }
+
 pub asks_row : (command : Option Asked) (files : Option Files) (before after : List (List ℕ)) → Asks (files_of command files []) before after → AsksRow command files before after
-asks_row command files before after asked = record { id = []; asks = asked }
+asks_row command files before after asked = row_asked command files [] before after asked
 
 pub asks_none : (files : Option Files) (before after : List (List ℕ)) → after ≡ before → AsksRow None files before after
-asks_none files before after same = record { id = []; asks = (0, omega arith, same ∙ sym (append-nil before)) }
+asks_none files before after same = row_asked None files [] before after (0, omega arith, same ∙ sym (append-nil before))

@@ -9,7 +9,6 @@ pub mod AroundLemmas
 pub mod FindingLemmas
 pub mod CanonLemmas
 pub mod CheckLemmas
-pub mod FrameTextLemmas
 pub mod NameLemmas
 pub mod AnswerLemmas
 pub mod SteadyLemmas
@@ -18,3 +17,4 @@ pub mod SampleLemmas
 pub mod JudgeLemmas
 pub mod SourceLemmas
 pub mod SplitLemmas
+pub mod StacksLemmas

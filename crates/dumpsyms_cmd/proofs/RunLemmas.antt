@@ -1,11 +1,11 @@
 -- The promises of a run, by the three kinds of answer.
-use Rattle.std.proofs.Common.{◌≡◌, ◌⊎◌, inl, inr, ℕ, ◌<◌, ◌≤◌, Bool, true, false, Option, Some, None, IsSome, List, refl, sym, ◌∙◌, ap, arith, subst}
+use Rattle.std.proofs.Common.{◌≡◌, ◌⊎◌, inl, inr, ℕ, ◌<◌, ◌≤◌, Bool, true, false, Option, Some, None, IsSome, List, [], refl, sym, ◌∙◌, ap, arith, subst}
 use Rattle.sym_edges.specs.Outside.{Files, Rose}
-use Rattle.dumpsyms_cmd.specs.Words.{Asked, ReadsFiles, not_read_line}
+use Rattle.dumpsyms_cmd.specs.Words.{Asked, stacks, ReadsFiles, not_read_line}
 use Rattle.dumpsyms_cmd.specs.Verdict.{Verdict, unread_by, no_memory}
-use Rattle.dumpsyms_cmd.specs.Observed.{SinkSeen, Stood, StoreFailed, SinkFailed, SinkStood, ReceivedWhole, AsksFor}
+use Rattle.dumpsyms_cmd.specs.Observed.{StoreSeen, SinkSeen, Stood, StoreFailed, SinkFailed, SinkStood, ReceivedWhole, AsksFor, Misses, IsSteady}
 use Rattle.dumpsyms_cmd.specs.Judgement.{err_bytes, is_some_output, judgement_verdict}
-use Rattle.dumpsyms_cmd.specs.internal.Judged.{has_output, answer_verdict, IsJudged, AnswersCommand, IsSteadyAnswer}
+use Rattle.dumpsyms_cmd.specs.internal.Judged.{has_output, answer_verdict, JudgesWords, AnswersCommand, AnswersWords, IsSteadyAnswer}
 use Rattle.dumpsyms_cmd.specs.Answers.{IsUsage}
 use Rattle.dumpsyms_cmd.specs.internal.Writes.{Writes}
 use Rattle.dumpsyms_cmd.specs.Program.{Run, command, WasWritten, WasJudged, WasNotRead, HadNoMemory, Promises}
@@ -13,6 +13,7 @@ use Rattle.dumpsyms_cmd.specs.declared.judgement.Judgement.{Judgement}
 use Rattle.dumpsyms_cmd.specs.declared.judgement.Answer.{Answer}
 use Rattle.dumpsyms_cmd.specs.declared.judgement.Answer.TheVariants.{Judged, Unread, NoMemory}
 use Rattle.dumpsyms_cmd.proofs.WriteLemmas.{nothing}
+use Rattle.dumpsyms_cmd.proofs.SteadyLemmas.{any_steady}
 
 none_some : {A : Type 0} (o : Option A) → o ≡ None → IsSome o → ⊥
 none_some None is some = cc
@@ -36,21 +37,21 @@ no_failure out err quiet calm (inl failed) = stood_rose out.faults out.faults_af
 no_failure out err quiet calm (inr failed) = stood_rose err.faults err.faults_after calm failed
 
 -- a judgement on invalid arguments is the usage line
-usage_by : (c : Option Asked) (files : Option Files) (j : Judgement) → IsJudged j c files → c ≡ None → IsUsage j
-usage_by None files j judged none = judged.kept
-usage_by (Some asked) files j judged none = absurd (none_some (Some asked) none refl)
+usage_by : (c : Option Asked) (store : StoreSeen) (j : Judgement) → JudgesWords j c store → c ≡ None → IsUsage j
+usage_by None store j judged none = judged.kept
+usage_by (Some asked) store j judged none = absurd (none_some (Some asked) none refl)
 
-row_by : (c : Option Asked) (files : Option Files) (j : Judgement) → IsJudged j c files → j.status ≡ 2 → c ≡ None
-row_by None files j judged two = refl
-row_by (Some asked) files j judged two = absurd (let low = judged.row refl in omega arith)
+row_by : (c : Option Asked) (store : StoreSeen) (j : Judgement) → JudgesWords j c store → j.status ≡ 2 → c ≡ None
+row_by None store j judged two = refl
+row_by (Some asked) store j judged two = absurd (let low = judged.row refl in omega arith)
 
 -- what `run` says of what it wrote, by what its writing leaves
 written : (run : Run) (v : Verdict) (has : Bool) → Writes run.status v has run.out run.err → WasWritten run v
 written run v has (inl whole) = inl whole
 written run v has (inr failed) = inr (failed.0, failed.1, some_failed has run.out run.err failed.2)
 
-judged_run : (j : Judgement) (run : Run) → run.store.faults_after ≡ run.store.faults → IsJudged j (command run) run.store.files → Writes run.status (judgement_verdict j) (is_some_output j.out) run.out run.err → WasJudged run
-judged_run j run steady judged writes = record { steady = steady; judgement = j; promised = judged.kept; verdict = judged.told; written = written run (judgement_verdict j) (is_some_output j.out) writes }
+judged_run : (j : Judgement) (run : Run) → JudgesWords j (command run) run.store → Writes run.status (judgement_verdict j) (is_some_output j.out) run.out run.err → WasJudged run
+judged_run j run judged writes = record { missed = judged.missed; misses = judged.misses; judgement = j; promised = judged.kept; verdict = judged.told; written = written run (judgement_verdict j) (is_some_output j.out) writes }
 
 -- the status is the one of what was written, or 4
 unlike : (run : Run) (v : Verdict) (has : Bool) (n : ℕ) → Writes run.status v has run.out run.err → run.status ≡ n → (v.status ≡ n → ⊥) → (n ≡ 4 → ⊥) → ⊥
@@ -61,19 +62,19 @@ is_row : (c : Option Asked) → (c ≡ None → ⊥) → IsSome c
 is_row None some = absurd (some refl)
 is_row (Some asked) some = refl
 
-row_run : (j : Judgement) (run : Run) → IsJudged j (command run) run.store.files → Writes run.status (judgement_verdict j) (is_some_output j.out) run.out run.err → run.status < 2 → IsSome (command run)
+row_run : (j : Judgement) (run : Run) → JudgesWords j (command run) run.store → Writes run.status (judgement_verdict j) (is_some_output j.out) run.out run.err → run.status < 2 → IsSome (command run)
 row_run j run judged (inl whole) low =
-    is_row (command run) (λ none. let two = (usage_by (command run) run.store.files j judged none).status in let same = whole.0 in absurd (omega arith))
+    is_row (command run) (λ none. let two = (usage_by (command run) run.store j judged none).status in let same = whole.0 in absurd (omega arith))
 row_run j run judged (inr failed) low = absurd (let is = failed.0 in omega arith)
 
-usage_run : (j : Judgement) (run : Run) → IsJudged j (command run) run.store.files → Writes run.status (judgement_verdict j) (is_some_output j.out) run.out run.err → run.status ≡ 2 → command run ≡ None
-usage_run j run judged (inl whole) two = row_by (command run) run.store.files j judged (sym whole.0 ∙ two)
+usage_run : (j : Judgement) (run : Run) → JudgesWords j (command run) run.store → Writes run.status (judgement_verdict j) (is_some_output j.out) run.out run.err → run.status ≡ 2 → command run ≡ None
+usage_run j run judged (inl whole) two = row_by (command run) run.store j judged (sym whole.0 ∙ two)
 usage_run j run judged (inr failed) two = absurd (let is = failed.0 in omega arith)
 
-no_row_run : (j : Judgement) (run : Run) → IsJudged j (command run) run.store.files → Writes run.status (judgement_verdict j) (is_some_output j.out) run.out run.err → command run ≡ None → (run.status ≡ 2) ⊎ ((run.status ≡ 4) × SinkFailed run.err)
-no_row_run j run judged (inl whole) none = inl (whole.0 ∙ (usage_by (command run) run.store.files j judged none).status)
+no_row_run : (j : Judgement) (run : Run) → JudgesWords j (command run) run.store → Writes run.status (judgement_verdict j) (is_some_output j.out) run.out run.err → command run ≡ None → (run.status ≡ 2) ⊎ ((run.status ≡ 4) × SinkFailed run.err)
+no_row_run j run judged (inl whole) none = inl (whole.0 ∙ (usage_by (command run) run.store j judged none).status)
 no_row_run j run judged (inr failed) none =
-    inr (failed.0, err_failed (is_some_output j.out) run.out run.err (ap is_some_output (usage_by (command run) run.store.files j judged none).out) failed.2)
+    inr (failed.0, err_failed (is_some_output j.out) run.out run.err (ap is_some_output (usage_by (command run) run.store j judged none).out) failed.2)
 
 unwritten_run : (run : Run) (v : Verdict) (has : Bool) → Writes run.status v has run.out run.err → (v.status ≡ 4 → ⊥) → run.status ≡ 4 → SinkFailed run.out ⊎ SinkFailed run.err
 unwritten_run run v has (inl whole) known four = absurd (known (sym whole.0 ∙ four))
@@ -88,14 +89,14 @@ status_said run v has (inl whole) quiet calm = whole.0
 status_said run v has (inr failed) quiet calm = absurd (no_failure run.out run.err quiet calm (some_failed has run.out run.err failed.2))
 
 -- a judgement
-by_judgement : (j : Judgement) (run : Run) → run.store.faults_after ≡ run.store.faults → IsJudged j (command run) run.store.files → AsksFor run.store (command run) → Writes run.status (judgement_verdict j) (is_some_output j.out) run.out run.err → Promises run
-by_judgement j run steady judged asks writes =
+by_judgement : (j : Judgement) (run : Run) → JudgesWords j (command run) run.store → AsksFor run.store (command run) → Writes run.status (judgement_verdict j) (is_some_output j.out) run.out run.err → Promises run
+by_judgement j run judged asks writes =
     let low : j.status < 3 = judged.low in
     let v : Verdict = judgement_verdict j in
     let has : Bool = is_some_output j.out in
     record {
-      found = inl (judged_run j run steady judged writes);
-      judged = λ below. (row_run j run judged writes below, judged_run j run steady judged writes);
+      found = inl (judged_run j run judged writes);
+      judged = λ below. (row_run j run judged writes below, judged_run j run judged writes);
       usage = usage_run j run judged writes;
       no_row = no_row_run j run judged writes;
       not_read = λ three. absurd (unlike run v has 3 writes three (λ is. omega arith) (λ is. omega arith));
@@ -133,7 +134,7 @@ whole_nothing : (run : Run) → Writes run.status no_memory false run.out run.er
 whole_nothing run (inl whole) five = whole.1
 whole_nothing run (inr failed) five = absurd (let is = failed.0 in omega arith)
 
-by_no_memory : (run : Run) → IsSome (command run) → run.store.faults_after ≡ run.store.faults → run.status ≡ 5 → AsksFor run.store (command run) → Writes run.status no_memory false run.out run.err → Promises run
+by_no_memory : (run : Run) → IsSome (command run) → IsSteady (command run) run.store → run.status ≡ 5 → AsksFor run.store (command run) → Writes run.status no_memory false run.out run.err → Promises run
 by_no_memory run some steady five asks writes =
     let texts : ReceivedWhole run.out run.err no_memory = whole_nothing run writes five in
     let none_left : HadNoMemory run = record { row = some; steady = steady; status = five; out = texts.out_text ∙ nothing run.out.taken; err = texts.err_text ∙ nothing run.err.taken } in
@@ -150,7 +151,31 @@ by_no_memory run some steady five asks writes =
       complete = λ stood quiet calm. inr five;
     }
 
-pub promises : (answer : Answer) (run : Run) → AnswersCommand answer (command run) run.store.files run.store.asked_after run.store.faults run.store.faults_after → IsSteadyAnswer answer run.store.faults run.store.faults_after → AsksFor run.store (command run) → Writes run.status (answer_verdict answer) (has_output answer) run.out run.err → (answer ≡ NoMemory → run.status ≡ 5) → Promises run
-promises (Judged j) run says steady asks writes quiet = by_judgement j run steady says asks writes
-promises (Unread m) run says steady asks writes quiet = by_unread run (err_bytes m) says.0 says.1 says.2 asks writes
-promises NoMemory run says steady asks writes quiet = by_no_memory run says steady (quiet refl) asks writes
+pub promises : (answer : Answer) (run : Run) → AnswersWords answer (command run) run.store → AsksFor run.store (command run) → Writes run.status (answer_verdict answer) (has_output answer) run.out run.err → (answer ≡ NoMemory → run.status ≡ 5) → Promises run
+promises (Judged j) run says asks writes quiet = by_judgement j run says asks writes
+promises (Unread m) run says asks writes quiet = by_unread run (err_bytes m) says.0 says.1 says.2 asks writes
+promises NoMemory run says asks writes quiet = by_no_memory run says.0 says.1 (quiet refl) asks writes
+
+-- a command that ends where a file cannot be read missed nothing where it judged
+misses_none : (c : Option Asked) (store : StoreSeen) → store.faults_after ≡ store.faults → Misses c store []
+misses_none (Some (stacks core folder)) store same = (same, λ name among. absurd (cc))
+misses_none c store same = (refl, same)
+
+stands : (c : Option Asked) (store : StoreSeen) → store.faults_after ≡ store.faults → IsSteady c store
+stands (Some (stacks core folder)) store same = tt
+stands c store same = same
+
+pub words_answered : (answer : Answer) (c : Option Asked) (files : Option Files) (before asked : List (List ℕ)) (faults now : ℕ) → IsSteadyAnswer answer faults now → AnswersCommand answer c files asked faults now → AnswersWords answer c (record { files = files; asked = before; asked_after = asked; faults = faults; faults_after = now })
+words_answered (Judged j) c files before asked faults now steady says = record {
+  low = says.low;
+  row = says.row;
+  missed = [];
+  misses = misses_none c (record { files = files; asked = before; asked_after = asked; faults = faults; faults_after = now }) steady;
+  told = says.told;
+  kept = says.kept;
+}
+words_answered (Unread m) c files before asked faults now steady says = says
+words_answered NoMemory c files before asked faults now steady says = (says, stands c (record { files = files; asked = before; asked_after = asked; faults = faults; faults_after = now }) steady)
+
+pub words_steady : (answer : Answer) (c : Option Asked) (files : Option Files) (before asked : List (List ℕ)) (faults now : ℕ) → now ≡ faults → AnswersCommand answer c files asked faults now → AnswersWords answer c (record { files = files; asked = before; asked_after = asked; faults = faults; faults_after = now })
+words_steady answer c files before asked faults now same says = words_answered answer c files before asked faults now (any_steady answer faults now same) says

@@ -21,7 +21,8 @@ use Rattle.debug_pair.specs.declared.fault.PairFault.TheVariants.{NoBuildId}
 use Rattle.sym_records.specs.Canon.{canon_text, spaced}
 use Rattle.sym_records.specs.Reading.{reading}
 use Rattle.dumpsyms_cmd.specs.Words.{dump, judge, module_name, last_name, dumped_told}
-use Rattle.dumpsyms_cmd.specs.Refusals.{line, elf_line, debug_elf_line, pair_line, too_long_line, unread_lines}
+use Rattle.stack_text.specs.Lines.{line}
+use Rattle.dumpsyms_cmd.specs.Refusals.{elf_line, debug_elf_line, pair_line, too_long_line, unread_lines}
 use Rattle.dumpsyms_cmd.specs.Verdict.{Verdict, refused, LIMIT}
 use Rattle.dumpsyms_cmd.specs.ElfInput.{DebugFile, at_path, below_root, ElfSource, or_refused, file_image, elf_image, or_short, path_below, path_of, with_file, then_file, with_debug, then_debug, given_image, path_names, debug_names, names_behind, untold_names, debug_told, elf_names}
 use Rattle.dumpsyms_cmd.specs.commands.Dump.{IsGivenVerdict, DumpsGiven, DumpPromises}
@@ -33,7 +34,7 @@ use Rattle.dumpsyms_cmd.specs.declared.judgement.Output.TheVariants.{Nothing, Te
 use Rattle.dumpsyms_cmd.specs.declared.judgement.Judgement.{Judgement}
 use Rattle.dumpsyms_cmd.specs.declared.judgement.Answer.{Answer}
 use Rattle.dumpsyms_cmd.specs.declared.judgement.Answer.TheVariants.{Judged, Unread, NoMemory}
-use Rattle.dumpsyms_cmd.proofs.JudgedLemmas.{judging, told, always, given_parts, given_refused, given_promised, held_image, stop_image, dump_judged}
+use Rattle.dumpsyms_cmd.proofs.JudgedLemmas.{judging, row_asked, told, always, given_parts, given_refused, given_promised, held_image, stop_image, dump_judged}
 use Rattle.dumpsyms_cmd.proofs.AnswerLemmas.{answered, if_ok, rose_later}
 use Rattle.dumpsyms_cmd.proofs.JudgeLemmas.{asks_later}
 
@@ -328,7 +329,7 @@ names_front (Unread m) names before after asked = asked
 names_front NoMemory names before after asked = asked
 
 pub dump_asked : (answer : Answer) (source : ElfSource) (workers : ℕ) (files : Option Files) (before after : List (List ℕ)) → AsksSource answer source files before after → AsksRow (Some (dump source workers)) files before after
-dump_asked answer source workers files before after asked = record { id = asked.id; asks = names_front answer (elf_names files source asked.id) before after asked.asks }
+dump_asked answer source workers files before after asked = row_asked (Some (dump source workers)) files asked.id before after (names_front answer (elf_names files source asked.id) before after asked.asks)
 
 pub dump_answered : (answer : Answer) (source : ElfSource) (workers : ℕ) (files : Option Files) (asked : List (List ℕ)) (before after : ℕ) → AnswersImage answer (given_image source) source files asked before after → AnswersCommand answer (Some (dump source workers)) files asked before after
 dump_answered (Judged j) source workers files asked before after says = dump_judged j source workers files says
@@ -355,10 +356,10 @@ pub judge_asked : (j : Judgement) (source : ElfSource) (name : List ℕ) (files 
     → ((s : ElfSource) → DumpPromises s mid_files j → AsksThen j.out (dumped_told mid_files s name) mid after) → AsksRow (Some (judge source name)) files before after
 judge_asked j source name files mid_files before mid after same first kept asked =
     let kept_mid : DumpPromises source mid_files j = subst (λ (f : Option Files). DumpPromises source f j) (sym same) kept in
-    record { id = first.id; asks = then_by j.out (elf_names files source first.id) (dumped_told files source name) before mid after first.asks (subst (λ (f : Option Files). AsksThen j.out (dumped_told f source name) mid after) same (asked source kept_mid)) }
+    row_asked (Some (judge source name)) files first.id before after (then_by j.out (elf_names files source first.id) (dumped_told files source name) before mid after first.asks (subst (λ (f : Option Files). AsksThen j.out (dumped_told f source name) mid after) same (asked source kept_mid)))
 
 pub other_asked : (answer : Answer) (source : ElfSource) (name : List ℕ) (files : Option Files) (before after : List (List ℕ)) → AsksSource answer source files before after → AsksRow (Some (judge source name)) files before after
-other_asked answer source name files before after asked = record { id = asked.id; asks = asks_more (elf_names files source asked.id) (dumped_told files source name) before after (names_front answer (elf_names files source asked.id) before after asked.asks) }
+other_asked answer source name files before after asked = row_asked (Some (judge source name)) files asked.id before after (asks_more (elf_names files source asked.id) (dumped_told files source name) before after (names_front answer (elf_names files source asked.id) before after asked.asks))
 
 pub other_answered : (answer : Answer) (source : ElfSource) (name : List ℕ) (files : Option Files) (asked : List (List ℕ)) (before after : ℕ) → ((j : Judgement) → answer ≡ Judged j → ⊥) → AnswersImage answer (given_image source) source files asked before after → AnswersCommand answer (Some (judge source name)) files asked before after
 other_answered (Judged j) source name files asked before after never says = absurd (never j refl)

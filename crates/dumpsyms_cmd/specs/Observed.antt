@@ -1,8 +1,12 @@
 -- What a run leaves of the store and of a sink, and what is said of them.
-use Rattle.std.specs.Prelude.{◌≡◌, ◌⊎◌, ℕ, ◌+◌, ◌^◌, ◌<◌, ◌≤◌, List, ◌++◌, Option, length, take}
+use Rattle.std.specs.Prelude.{◌≡◌, ◌⊎◌, ℕ, ◌+◌, ◌^◌, ◌<◌, ◌≤◌, true, false, List, [], ◌∷◌, ◌++◌, Option, Some, length, take}
+use Rattle.std.specs.List.{AllByRecursion, list_any}
+use Rattle.std.specs.Str.{bytes_eq}
 use Rattle.sym_edges.specs.Outside.{Files, Rose, AddsFront, append_told}
 use Rattle.dumpsyms_cmd.specs.Verdict.{Verdict}
-use Rattle.dumpsyms_cmd.specs.Words.{Asked, files_of}
+use Rattle.debug_pair.specs.SymbolPath.{symbol_path}
+use Rattle.module_stacks.specs.SymbolFiles.{Counted}
+use Rattle.dumpsyms_cmd.specs.Words.{Asked, files_of, stacks}
 
 -- a store: its files, where it tells them; the names that it was asked for, and its count of faults, before and after
 pub record StoreSeen : Type 0 where
@@ -61,10 +65,38 @@ pub record ReceivedFronts (out err : SinkSeen) (v : Verdict) : Type 0 where
 abbrev pub Asks : List (List ℕ) → List (List ℕ) → List (List ℕ) → Type 0
 Asks names before after = (n : ℕ) × (n ≤ length names) × (after ≡ before ++ take n names)
 
+-- none of the names stands twice
+abbrev pub AreOnce : List (List ℕ) → Type 0
+AreOnce [] = Unit {0}
+AreOnce (name ∷ names) = (list_any (bytes_eq name) names ≡ false) × AreOnce names
+
+-- a name is that of a symbol file in a folder: that of some module, by its name and its identity
+abbrev pub IsSymbolFile : List ℕ → List ℕ → Type 0
+IsSymbolFile folder name = (module_is : List ℕ) × ((identity : List ℕ) × (name ≡ symbol_path folder module_is identity))
+
+-- the names behind those of a command's files: `stacks` asks for symbol files, for each once, and no other command asks for any
+abbrev pub AreFurther : Option Asked → List (List ℕ) → Type 0
+AreFurther (Some (stacks core folder)) names = AreOnce names × AllByRecursion (IsSymbolFile folder) names
+AreFurther command names = names ≡ []
+
 -- a front of the names of a command's files was asked for: where the store tells nothing, that of a debug file by some build id
 pub record AsksRow (command : Option Asked) (files : Option Files) (before after : List (List ℕ)) : Type 0 where
   pub id : List ℕ
-  pub asks : Asks (files_of command files id) before after
+  pub further : List (List ℕ)
+  pub are : AreFurther command further
+  pub asks : Asks (files_of command files id ++ further) before after
 
 abbrev pub AsksFor : StoreSeen → Option Asked → Type 0
 AsksFor store command = AsksRow command store.files store.asked store.asked_after
+
+-- the names at which a call failed, each of which counts as a file that is missing: a symbol file that cannot be read does not end `stacks`, and
+-- the count of faults rose at each. Any other command that judges missed nothing
+abbrev pub Misses : Option Asked → StoreSeen → List (List ℕ) → Type 0
+Misses (Some (stacks core folder)) store missed =
+    Counted missed store.faults store.faults_after × ((name : List ℕ) → list_any (bytes_eq name) missed ≡ true → list_any (bytes_eq name) store.asked_after ≡ true)
+Misses command store missed = (missed ≡ []) × (store.faults_after ≡ store.faults)
+
+-- where memory ran out the store did not fail before, but at symbol files of `stacks`
+abbrev pub IsSteady : Option Asked → StoreSeen → Type 0
+IsSteady (Some (stacks core folder)) store = Unit {0}
+IsSteady command store = store.faults_after ≡ store.faults

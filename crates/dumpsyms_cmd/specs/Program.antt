@@ -4,7 +4,7 @@ use Rattle.sym_edges.specs.Outside.{Tells}
 use Rattle.dumpsyms_cmd.specs.Words.{Asked, ReadsFiles, command_of, not_read_line}
 use Rattle.dumpsyms_cmd.specs.Verdict.{Verdict, unread_by}
 use Rattle.dumpsyms_cmd.specs.Answers.{IsVerdict}
-use Rattle.dumpsyms_cmd.specs.Observed.{StoreSeen, SinkSeen, StoreFailed, SinkFailed, StoreStood, SinkStood, ReceivedNothing, ReceivedWhole, ReceivedFronts, AsksFor}
+use Rattle.dumpsyms_cmd.specs.Observed.{StoreSeen, SinkSeen, StoreFailed, SinkFailed, StoreStood, SinkStood, ReceivedNothing, ReceivedWhole, ReceivedFronts, AsksFor, Misses, IsSteady}
 use Rattle.dumpsyms_cmd.specs.Judgement.{judgement_verdict}
 use Rattle.dumpsyms_cmd.specs.Answers.{CommandPromises}
 use Rattle.dumpsyms_cmd.specs.declared.judgement.Judgement.{Judgement}
@@ -29,12 +29,13 @@ WasWritten run v =
     ⊎ ((run.status ≡ 4) × ReceivedFronts run.out run.err v × (SinkFailed run.out ⊎ SinkFailed run.err))
 
 -- the run judged: a judgement that keeps what the command promises, and that is the verdict where the store tells its files, was written; the
--- store did not fail
+-- store did not fail, but at symbol files of `stacks`, which count as missing
 pub record WasJudged (run : Run) : Type 0 where
-  pub steady : run.store.faults_after ≡ run.store.faults
+  pub missed : List (List ℕ)
+  pub misses : Misses (command run) run.store missed
   pub judgement : Judgement
   pub promised : CommandPromises (command run) run.store.files judgement
-  pub verdict : Tells run.store.files (λ files. IsVerdict (command run) files (judgement_verdict judgement))
+  pub verdict : Tells run.store.files (λ files. IsVerdict (command run) files missed (judgement_verdict judgement))
   pub written : WasWritten run (judgement_verdict judgement)
 
 -- a file of a command that reads files could not be read: the store failed, and the line that says so was written; under `--full` it has the
@@ -44,10 +45,10 @@ pub record WasNotRead (run : Run) : Type 0 where
   pub failed : StoreFailed run.store
   pub written : WasWritten run (unread_by (not_read_line (command run) run.store.asked_after))
 
--- memory ran out: status 5, no sink received anything, and the store did not fail
+-- memory ran out: status 5, no sink received anything, and the store did not fail, but at symbol files of `stacks`
 pub record HadNoMemory (run : Run) : Type 0 where
   pub row : IsSome (command run)
-  pub steady : run.store.faults_after ≡ run.store.faults
+  pub steady : IsSteady (command run) run.store
   pub status : run.status ≡ 5
   pub out : ReceivedNothing run.out
   pub err : ReceivedNothing run.err
@@ -69,7 +70,7 @@ pub record Promises (run : Run) : Type 0 where
   pub out_of_memory : run.status ≡ 5 → HadNoMemory run
   -- no other status comes
   pub range : run.status ≤ 5
-  -- the store was asked for a front of the row's files, and for no other name
+  -- the store was asked for a front of the row's files, and for no other name but the symbol files of `stacks`
   pub asked : AsksFor run.store (command run)
   -- where nothing outside failed the run judged, or memory ran out
   pub complete : StoreStood run.store → SinkStood run.out → SinkStood run.err → (run.status < 3) ⊎ (run.status ≡ 5)

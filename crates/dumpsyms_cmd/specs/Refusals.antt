@@ -5,6 +5,8 @@ use Rattle.sym_edges.specs.declared.part.Sect.{Sect}
 use Rattle.sym_edges.specs.PrintedWords.{section_word, reason_word}
 use Rattle.elf_sections.specs.declared.fault.ElfFault.{ElfFault}
 use Rattle.elf_sections.specs.FaultWords.{fault_word}
+use Rattle.core_file.specs.FaultWords.{fault_word as core_fault_word}
+use Rattle.core_file.specs.declared.fault.CoreFault.{CoreFault}
 use Rattle.debug_pair.specs.FaultWords.{pair_word, short_id_word}
 use Rattle.debug_pair.specs.declared.fault.PairFault.{PairFault}
 use Rattle.abbrev_units.specs.declared.fault.DwarfKind.{DwarfKind}
@@ -26,15 +28,16 @@ use Rattle.sym_records.specs.Canon.{spaced}
 use Rattle.sym_records.specs.Fields.{hex}
 use Rattle.rule_postfix.specs.declared.omission.Omission.{Omission}
 use Rattle.clean_names.specs.Cleaning.{cleaned}
+use Rattle.stack_text.specs.Lines.{line}
 use Rattle.dumpsyms_cmd.specs.SplitUnits.{is_split}
-
--- a line of its own
-abbrev pub line : List ℕ → List ℕ
-line text = text ++ 10 ∷ []
 
 -- the image has a fault
 abbrev pub elf_line : ElfFault → List ℕ
 elf_line fault = line (codes "refused elf " ++ fault_word fault)
+
+-- a core file has one
+abbrev pub core_line : CoreFault → List ℕ
+core_line fault = line (codes "refused core " ++ core_fault_word fault)
 
 -- the image of a separate debug file has one
 abbrev pub debug_elf_line : ElfFault → List ℕ

@@ -13,11 +13,12 @@ use Rattle.sym_records.specs.FieldReading.{hex_value}
 use Rattle.sym_grammar.specs.Input.{file_reading}
 use Rattle.sym_grammar.specs.declared.refusal.SymRefusal.{SymRefusal}
 use Rattle.sym_records.specs.declared.line.SymLine.{SymLine}
-use Rattle.dumpsyms_cmd.specs.Refusals.{line, unread_lines}
+use Rattle.stack_text.specs.Lines.{line}
+use Rattle.dumpsyms_cmd.specs.Refusals.{unread_lines}
 use Rattle.dumpsyms_cmd.specs.Verdict.{Verdict}
 use Rattle.dumpsyms_cmd.specs.ElfInput.{DebugFile, at_path, below_root, ElfSource, given_image, elf_names}
 use Rattle.dumpsyms_cmd.specs.declared.words.Command.{Command}
-use Rattle.dumpsyms_cmd.specs.declared.words.Command.TheVariants.{Dump, Symbols, States, Sample, Judge}
+use Rattle.dumpsyms_cmd.specs.declared.words.Command.TheVariants.{Dump, Symbols, States, Sample, Judge, Stacks}
 use Rattle.dumpsyms_cmd.specs.declared.words.ElfPlace.{ElfPlace}
 use Rattle.dumpsyms_cmd.specs.declared.words.SymQuery.{SymQuery}
 use Rattle.dumpsyms_cmd.specs.declared.words.SymQuery.TheVariants.{Check, Lookup, Names}
@@ -44,6 +45,8 @@ pub data Asked : Type 0 where
   judge : (source : ElfSource) → (sym : List ℕ) → Asked
   -- a symbol file with its legacy Rust names in readable form
   names : (sym : List ℕ) → Asked
+  -- the stacks of a core file's threads, by the symbol files in a folder
+  stacks : (core : List ℕ) → (folder : List ℕ) → Asked
 
 -- all commands read files, but `sample`
 abbrev pub reads_files : Asked → Bool
@@ -55,6 +58,7 @@ reads_files (sample units workers) = false
 reads_files (walk sym state) = true
 reads_files (judge source sym) = true
 reads_files (names sym) = true
+reads_files (stacks core folder) = true
 
 abbrev pub ReadsFiles : Option Asked → Type 0
 ReadsFiles None = ⊥
@@ -99,6 +103,7 @@ command_view (Symbols sym query) = sym_command query sym.now
 command_view (States sym query state) = state_command query sym.now state.now
 command_view (Sample units workers) = sample units workers
 command_view (Judge source sym) = judge (source_view source) sym.now
+command_view (Stacks core folder) = stacks core.now folder.now
 
 -- a number is decimal digits, without a sign, the first of them not 0
 abbrev pub is_number : List ℕ → Bool
@@ -173,12 +178,13 @@ two_words word name =
     else if bytes_eq word (codes "names") then Some (names name)
     else None
 
--- the rows `lookup SYM ADDR`, `walk SYM STATE`, `judge ELF SYM` and `dump --full ELF`
+-- the rows `lookup SYM ADDR`, `walk SYM STATE`, `judge ELF SYM`, `stacks CORE STORE` and `dump --full ELF`
 abbrev pub three_words : List ℕ → List ℕ → List ℕ → Option Asked
 three_words word name third =
     if bytes_eq word (codes "lookup") then option_map (lookup name) (address_of third)
     else if bytes_eq word (codes "walk") then Some (walk name third)
     else if bytes_eq word (codes "judge") then Some (judge (alone false name) third)
+    else if bytes_eq word (codes "stacks") then Some (stacks name third)
     else if bytes_eq word (codes "dump") && bytes_eq name (codes "--full") then Some (dump_usual (alone true third))
     else None
 
@@ -217,7 +223,7 @@ command_of (word ∷ name ∷ third ∷ fourth ∷ fifth ∷ sixth ∷ more ∷ 
 
 -- the line that answers other words
 abbrev pub usage_line : List ℕ
-usage_line = line (codes "usage: dumpsyms dump ELF, check SYM, lookup SYM ADDR, frame SYM ADDR STATE, sample N, walk SYM STATE, judge ELF SYM, names SYM, dump --full ELF")
+usage_line = line (codes "usage: dumpsyms dump ELF, check SYM, lookup SYM ADDR, frame SYM ADDR STATE, sample N, walk SYM STATE, judge ELF SYM, names SYM, dump --full ELF, stacks CORE STORE")
 
 -- a dump has from one to 64 workers, and so has a sample, which has no more units than it may have
 abbrev pub HasWorkers : Option Asked → Type 0
@@ -253,7 +259,7 @@ dumped_told None source name = name ∷ []
 dumped_told (Some files) source name = if_image (given_image source files) name
 
 -- the files that a command asks for, in the order in which they are read, where the store tells its files or tells nothing; then the debug
--- file below a root is that of some build id
+-- file below a root is that of some build id. Those of `stacks` behind its core file are found out as it goes
 abbrev pub files_of : Option Asked → Option Files → List ℕ → List (List ℕ)
 files_of None files id = []
 files_of (Some (dump source workers)) files id = elf_names files source id
@@ -264,6 +270,7 @@ files_of (Some (sample units workers)) files id = []
 files_of (Some (walk sym state)) files id = sym ∷ second_told files sym state
 files_of (Some (judge source sym)) files id = elf_names files source id ++ dumped_told files source sym
 files_of (Some (names sym)) files id = sym ∷ []
+files_of (Some (stacks core folder)) files id = core ∷ []
 
 -- the byte is a slash
 abbrev pub is_slash : ℕ → Bool

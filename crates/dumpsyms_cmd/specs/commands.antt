@@ -7,3 +7,4 @@ pub mod Frame
 pub mod Walk
 pub mod Judge
 pub mod Names
+pub mod Stacks

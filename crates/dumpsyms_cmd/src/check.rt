@@ -4,8 +4,8 @@ ghost use Rattle.dumpsyms_cmd.specs.Judgement.{judgement_verdict};
 ghost use Rattle.dumpsyms_cmd.specs.commands.Check.{finding_line, findings_text, records_checked};
 
 use crate::judgement::{Judgement, Message, Output};
-use crate::refusals::add_line;
 use itoa::Buffer;
+use stack_text::add_line;
 use std::alloc::{AllocError, Global};
 use sym_edges::OutOfMemory;
 use sym_findings::{Finding, findings};

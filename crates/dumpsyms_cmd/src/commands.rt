@@ -5,7 +5,7 @@ ghost use Rattle.std.specs.String.{string_bytes};
 ghost use Rattle.dumpsyms_cmd.specs.Words.{source_view, command_of, module_name, dump, sample};
 ghost use Rattle.debug_read.specs.DebugSays.{IsDebugRead};
 ghost use Rattle.dumpsyms_cmd.specs.Judgement.{err_bytes};
-ghost use Rattle.dumpsyms_cmd.specs.internal.Judged.{Refuses, JudgesParts, AnswersStop, AnswersCommand, IsSteadyAnswer};
+ghost use Rattle.dumpsyms_cmd.specs.internal.Judged.{Refuses, JudgesParts, AnswersStop, AnswersCommand, AnswersWords, IsSteadyAnswer};
 ghost use Rattle.dumpsyms_cmd.specs.Observed.{AsksRow};
 
 use crate::dump::assemble;
@@ -14,6 +14,7 @@ use crate::judge_input::answer_judge;
 use crate::judgement::{Answer, Judgement, Message, Output};
 use crate::refusals::{TOO_LONG, debug_line};
 use crate::sample::judge_sample;
+use crate::stacks_input::answer_stacks;
 use crate::state_input::answer_query;
 use crate::symbol_input::{answer_judged, answer_symbols};
 use crate::words::{Command, ElfPlace, USAGE, name_of, parse_words};
@@ -138,7 +139,7 @@ fn answer_usage() -> Answer
 }
 
 /// The answer to the words, over the files of the store. All memory that the program needs is taken here.
-#[tactic(auto, using(crate::proofs::JudgedLemmas::asks_none, crate::proofs::JudgedLemmas::asks_row, crate::proofs::SampleLemmas::asks_nothing, crate::proofs::SteadyLemmas::any_steady))]
+#[tactic(auto, using(crate::proofs::JudgedLemmas::asks_none, crate::proofs::JudgedLemmas::asks_row, crate::proofs::SampleLemmas::asks_nothing, crate::proofs::RunLemmas::words_answered, crate::proofs::RunLemmas::words_steady))]
 pub fn answer_words<R: Threads + Sync, S: Store, G: Gate + Sync>(
     rt: &R,
     alloc: Global,
@@ -149,8 +150,7 @@ pub fn answer_words<R: Threads + Sync, S: Store, G: Gate + Sync>(
     ensures asked { AsksRow (command_of (map string_bytes words.now)) (S.files store.old) (S.asked store.old) (S.asked store.new) }
     ensures files { S.files store.new ≡ S.files store.old }
     ensures faults { S.faults store.old ≤ S.faults store.new }
-    ensures steady { IsSteadyAnswer result (S.faults store.old) (S.faults store.new) }
-    ensures answered { AnswersCommand result (command_of (map string_bytes words.now)) (S.files store.old) (S.asked store.new) (S.faults store.old) (S.faults store.new) }
+    ensures answered { AnswersWords result (command_of (map string_bytes words.now)) (record { files = S.files store.old; asked = S.asked store.old; asked_after = S.asked store.new; faults = S.faults store.old; faults_after = S.faults store.new }) }
 {
     match parse_words(words) {
         None => answer_usage(),
@@ -163,5 +163,6 @@ pub fn answer_words<R: Threads + Sync, S: Store, G: Gate + Sync>(
             answer_query(alloc, sym, query, state, store)
         }
         Some(Command::Judge { source, sym }) => answer_judge(rt, alloc, &source, sym, store, gate),
+        Some(Command::Stacks { core, folder }) => answer_stacks(alloc, core, folder, store),
     }
 }

@@ -3,9 +3,9 @@ ghost use Rattle.std.specs.Prelude.{◌≡◌, IfOk};
 ghost use Rattle.dumpsyms_cmd.specs.Judgement.{judgement_verdict};
 ghost use Rattle.dumpsyms_cmd.specs.commands.Frame.{frame_answer};
 
-use crate::frame_text::spell_frame;
 use crate::judgement::{Judgement, Message, Output};
 use cfi_eval::frame_at;
+use stack_text::spell_frame;
 use state_file::State;
 use std::alloc::Global;
 use sym_edges::OutOfMemory;

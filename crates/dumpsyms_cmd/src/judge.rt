@@ -3,8 +3,8 @@ ghost use Rattle.std.specs.Prelude.{◌≡◌, IfOk};
 ghost use Rattle.dumpsyms_cmd.specs.Judgement.{judgement_verdict};
 ghost use Rattle.dumpsyms_cmd.specs.commands.Judge.{aspect_word, ruling_verdict, IsRuled};
 
-use crate::frame_text::{add_hex, short_name};
 use crate::judgement::{Judgement, Message, Output};
+use stack_text::{add_hex, short_name};
 use std::alloc::Global;
 use sym_edges::OutOfMemory;
 use sym_judge::{Aspect, Ruling, judge};

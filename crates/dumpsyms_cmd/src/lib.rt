@@ -4,7 +4,8 @@
 //! (Breakpad's symbol_files.md) and writes them, or names the first fault; `dump ELF --debug FILE` and `dump ELF --debug-root DIR` take
 //! the debugging information of a stripped file from a second one of the same build, and `dump --full` reads compressed sections. `check SYM`, `lookup SYM ADDR`, `frame SYM ADDR STATE` and
 //! `walk SYM STATE` read a symbol file of any tool, and print what a checker finds in it, what it names at an address, what its frame rules
-//! evaluate to there, and the frames of a stack by these rules. `sample N` counts what a dump of a made file of N units has.
+//! evaluate to there, and the frames of a stack by these rules; `stacks CORE STORE` prints the stacks of a core file's threads by the symbol files
+//! in a folder. `sample N` counts what a dump of a made file of N units has.
 //!
 //! The contract of `run` says which status comes, what each text holds, and which names are asked for. Of a dump it says that at every
 //! address of the units that are read the text names DWARF's function, inline chain and line; that evaluating the rules of each written frame
@@ -37,13 +38,13 @@ mod judge_input;
 // The commands over symbol files.
 mod check;
 mod frame;
-mod frame_text;
 mod lookup;
 mod names;
+mod stacks;
+mod stacks_input;
 mod state_input;
 mod symbol_input;
 mod walk;
-mod walk_text;
 
 pub use dump::{Dumped, assemble};
 pub use program::run;

@@ -3,12 +3,12 @@ ghost use Rattle.std.specs.Prelude.{◌≡◌, ◌++◌, OnOk, IfOk};
 ghost use Rattle.debug_read.specs.ImageSections.{sections_of};
 ghost use Rattle.dumpsyms_cmd.specs.Refusals.{omitted_line, omitted_text, skipped_of, skipped_text, split_line, unit_left, units_left_text, units_text};
 
-use crate::refusals::add_line;
 use crate::split_units::Splits;
 use abbrev_units::{Unit, UnitPart};
 use elf_sections::Image;
 use itoa::Buffer;
 use rule_postfix::Omission;
+use stack_text::add_line;
 use std::alloc::{AllocError, Global};
 use sym_edges::OutOfMemory;
 use sym_records::{ByteText, HexText};

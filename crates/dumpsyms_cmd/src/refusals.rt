@@ -1,17 +1,21 @@
 //! The lines by which files are refused.
-ghost use Rattle.std.specs.Prelude.{◌≡◌, ◌++◌, ◌∷◌, [], map, codes, IfOk, OnOk};
+ghost use Rattle.std.specs.Prelude.{◌≡◌, ◌++◌, ◌∷◌, [], codes, IfOk};
 ghost use Rattle.sym_records.specs.Canon.{spaced};
 ghost use Rattle.elf_sections.specs.FaultWords.{fault_word};
+ghost use Rattle.core_file.specs.FaultWords.{joined_word};
 ghost use Rattle.dumpsyms_cmd.specs.Judgement.{err_bytes};
-ghost use Rattle.dumpsyms_cmd.specs.Refusals.{line, unread_lines, elf_line, debug_elf_line, dwarf_line, frame_line, debug_line, located_line, fault_at, text_line, state_line};
+ghost use Rattle.stack_text.specs.Lines.{line};
+ghost use Rattle.dumpsyms_cmd.specs.Refusals.{core_line, unread_lines, elf_line, debug_elf_line, dwarf_line, frame_line, debug_line, located_line, fault_at, text_line, state_line};
 
 use crate::judgement::Message;
 use abbrev_units::DwarfFault;
 use clean_names::add_cleaned;
+use core_file::CoreFault;
 use debug_read::DebugFault;
 use elf_sections::ElfFault;
 use frame_entries::FrameFault;
 use itoa::Buffer;
+use stack_text::add_line;
 use state_file::StateFault;
 use std::alloc::{AllocError, Global};
 use sym_edges::{OutOfMemory, Sect};
@@ -40,15 +44,15 @@ pub fn unread_line(alloc: Global, full: bool, name: &[u8]) -> Result<Message, Ou
     Ok(Message::Made(ByteText::of(text)))
 }
 
-/// A line of what is refused and of an image fault.
-fn image_line(
+/// A line of what is refused and of a word, which may have a number behind it.
+fn word_line(
     alloc: Global,
     refused: &'static [u8],
-    fault: ElfFault,
+    word: &'static [u8],
+    index: Option<u32>,
 ) -> Result<ByteText, AllocError>
-    ensures { IfOk result (λ text. text ≡ line (refused.now ++ fault_word fault)) }
+    ensures { IfOk result (λ text. text ≡ line (refused.now ++ joined_word word.now index)) }
 {
-    let (word, index) = fault.word();
     let mut text = Vec::from_slice(alloc, refused)?;
     text.extend_from_slice(word)?;
     if let Some(index) = index {
@@ -59,11 +63,31 @@ fn image_line(
     Ok(ByteText::of(text))
 }
 
+/// A line of what is refused and of an image fault.
+fn image_line(
+    alloc: Global,
+    refused: &'static [u8],
+    fault: ElfFault,
+) -> Result<ByteText, AllocError>
+    ensures { IfOk result (λ text. text ≡ line (refused.now ++ fault_word fault)) }
+{
+    let (word, index) = fault.word();
+    word_line(alloc, refused, word, index)
+}
+
 /// The line that names the fault of the image of an ELF file.
 pub fn fault_line(alloc: Global, fault: ElfFault) -> Result<ByteText, AllocError>
     ensures { IfOk result (λ text. text ≡ elf_line fault) }
 {
     image_line(alloc, b"refused elf ", fault)
+}
+
+/// The line that names the fault of a core file.
+pub fn core_line(alloc: Global, fault: CoreFault) -> Result<ByteText, AllocError>
+    ensures { IfOk result (λ text. text ≡ core_line fault) }
+{
+    let (word, index) = fault.word();
+    word_line(alloc, b"refused core ", word, index)
 }
 
 /// The line that names the fault of the image of a separate debug file.
@@ -81,19 +105,6 @@ pub fn pair_line(alloc: Global, word: &'static [u8]) -> Result<ByteText, AllocEr
     let mut text = Vec::new(alloc);
     add_line(&mut text, b"refused pair", &words)?;
     Ok(ByteText::of(text))
-}
-
-/// Adds a line of words, with one space in front of each but the first.
-pub fn add_line(text: &mut Vec<u8>, first: &[u8], words: &[&[u8]]) -> Result<(), AllocError>
-    ensures { OnOk result (text.new.items ≡ text.old.items ++ line (spaced first.now (map (λ word. word.now) words.now))) }
-{
-    text.extend_from_slice(first)?;
-    'words: for word in words {
-        text.push(b' ')?;
-        text.extend_from_slice(word)?;
-    }
-    text.push(b'\n')?;
-    Ok(())
 }
 
 /// The line that names a fault by its kind, its section and its place.

@@ -7,7 +7,7 @@ ghost use Rattle.dumpsyms_cmd.specs.commands.Walk.{walk_answer};
 use crate::commands::refuse;
 use crate::judgement::{Judgement, Message, Output};
 use crate::refusals::NO_RIP;
-use crate::walk_text::spell_walk;
+use stack_text::spell_walk;
 use stack_walk::walk;
 use state_file::State;
 use std::alloc::Global;

@@ -18,7 +18,7 @@ const MOST_UNITS: usize = 20000;
 
 /// The line that answers other words.
 pub const USAGE: &[u8] =
-    b"usage: dumpsyms dump ELF, check SYM, lookup SYM ADDR, frame SYM ADDR STATE, sample N, walk SYM STATE, judge ELF SYM, names SYM, dump --full ELF\n";
+    b"usage: dumpsyms dump ELF, check SYM, lookup SYM ADDR, frame SYM ADDR STATE, sample N, walk SYM STATE, judge ELF SYM, names SYM, dump --full ELF, stacks CORE STORE\n";
 
 /// Where the separate debug file of a binary is: at a path, or below a root by the binary's build id.
 #[derive(Clone, Copy, Debug)]
@@ -83,6 +83,11 @@ pub enum Command<'w> {
     Judge {
         source: ElfPlace<'w>,
         sym: &'w str,
+    },
+    /// `stacks CORE STORE`
+    Stacks {
+        core: &'w str,
+        folder: &'w str,
     },
 }
 
@@ -276,7 +281,7 @@ fn parse_two<'w>(word: &str, name: &'w str) -> Option<Command<'w>>
     None
 }
 
-/// The rows `lookup SYM ADDR`, `walk SYM STATE`, `judge ELF SYM` and `dump --full ELF`.
+/// The rows `lookup SYM ADDR`, `walk SYM STATE`, `judge ELF SYM`, `stacks CORE STORE` and `dump --full ELF`.
 fn parse_three<'w>(word: &str, name: &'w str, third: &'w str) -> Option<Command<'w>>
     ensures { option_map command_view result ≡ three_words word.now name.now third.now }
 {
@@ -294,6 +299,12 @@ fn parse_three<'w>(word: &str, name: &'w str, third: &'w str) -> Option<Command<
         return Some(Command::Judge {
             source: alone(false, name),
             sym: third,
+        });
+    }
+    if word == "stacks" {
+        return Some(Command::Stacks {
+            core: name,
+            folder: third,
         });
     }
     if word == "dump" && name == "--full" {

@@ -13,8 +13,8 @@ use Rattle.sym_grammar.specs.Input.{decided, file_reading}
 use Rattle.dumpsyms_cmd.specs.Words.{number_upto, address_of}
 use Rattle.dumpsyms_cmd.specs.commands.Check.{findings_text, check_answer}
 use Rattle.dumpsyms_cmd.specs.commands.Lookup.{lookup_answer}
-use Rattle.dumpsyms_cmd.specs.commands.Frame.{short_name, registers_text}
-use Rattle.dumpsyms_cmd.specs.commands.Walk.{steps_text}
+use Rattle.stack_text.specs.FrameText.{short_name, registers_text}
+use Rattle.stack_text.specs.WalkText.{steps_text}
 use Rattle.dumpsyms_cmd.specs.commands.Names.{names_answer}
 
 unfoldable pub symbols_compute : ⊤

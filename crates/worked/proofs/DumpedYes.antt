@@ -54,10 +54,10 @@ dumped_yes source name files dumped v first zero_is few kept is =
     (subst (λ (bytes : Option (List ℕ)). IsDumpedVerdict source.full name dumped.status dumped bytes v) kept (subst (λ (d : Verdict). IsDumpedVerdict source.full name d.status d (files name) v) same is.is))
 
 -- runs
-verdict_of : (run : Run) (asked : Asked) (files : Files) → run.store.files ≡ Some files → command run ≡ Some asked → (judged : WasJudged run) → IsVerdict (Some asked) files (judgement_verdict judged.judgement)
+verdict_of : (run : Run) (asked : Asked) (files : Files) → run.store.files ≡ Some files → command run ≡ Some asked → (judged : WasJudged run) → IsVerdict (Some asked) files judged.missed (judgement_verdict judged.judgement)
 verdict_of run asked files tells asks judged =
-    subst (λ (c : Option Asked). IsVerdict c files (judgement_verdict judged.judgement)) asks
-    (subst (λ (told : Option Files). Tells told (λ known. IsVerdict (command run) known (judgement_verdict judged.judgement))) tells judged.verdict)
+    subst (λ (c : Option Asked). IsVerdict c files judged.missed (judgement_verdict judged.judgement)) asks
+    (subst (λ (told : Option Files). Tells told (λ known. IsVerdict (command run) known judged.missed (judgement_verdict judged.judgement))) tells judged.verdict)
 
 first_text : (taken after : Option (List ℕ)) (text out : List ℕ) → taken ≡ Some [] → after ≡ Some text → after ≡ append_told taken out → out ≡ text
 first_text taken after text out none wrote whole =

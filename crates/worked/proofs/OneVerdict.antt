@@ -199,24 +199,24 @@ alike None = tt
 alike (Some c) = refl
 
 -- the number of workers does not matter
-any_workers : (c : Asked) (files : Files) (v : Verdict) → IsVerdict (Some c) files v → IsVerdict (Some (by_one_worker c)) files v
-any_workers (dump source workers) files v is = is
-any_workers other files v is = is
+any_workers : (c : Asked) (files : Files) (missed : List (List ℕ)) (v : Verdict) → IsVerdict (Some c) files missed v → IsVerdict (Some (by_one_worker c)) files missed v
+any_workers (dump source workers) files missed v is = is
+any_workers other files missed v is = is
 
-one_command : (c : Asked) (files : Files) (v w : Verdict) → IsVerdict (Some c) files v → IsVerdict (Some c) files w → v ≡ w
-one_command (dump source workers) files v w p q = one_source source files v w p q
-one_command (sample units workers) files v w p q = one_sample (image (made units)) v w (image_ends (made units)) p q
-one_command (judge source name) files v w p q = one_judged source name files v w p q
-one_command other files v w p q = p ∙ sym q
+one_command : (c : Asked) (files : Files) (missed : List (List ℕ)) (v w : Verdict) → IsVerdict (Some c) files missed v → IsVerdict (Some c) files missed w → v ≡ w
+one_command (dump source workers) files missed v w p q = one_source source files v w p q
+one_command (sample units workers) files missed v w p q = one_sample (image (made units)) v w (image_ends (made units)) p q
+one_command (judge source name) files missed v w p q = one_judged source name files v w p q
+one_command other files missed v w p q = p ∙ sym q
 
 -- two commands that ask for the same have one verdict
-pub one_asked : (c d : Option Asked) (files : Files) (v w : Verdict) → AskAlike c d → IsVerdict c files v → IsVerdict d files w → v ≡ w
-one_asked None None files v w same p q = p ∙ sym q
-one_asked None (Some d) files v w same p q = absurd same
-one_asked (Some c) None files v w same p q = absurd same
-one_asked (Some c) (Some d) files v w same p q =
-    one_command (by_one_worker d) files v w (subst (λ (x : Asked). IsVerdict (Some x) files v) same (any_workers c files v p)) (any_workers d files w q)
+pub one_asked : (c d : Option Asked) (files : Files) (missed : List (List ℕ)) (v w : Verdict) → AskAlike c d → IsVerdict c files missed v → IsVerdict d files missed w → v ≡ w
+one_asked None None files missed v w same p q = p ∙ sym q
+one_asked None (Some d) files missed v w same p q = absurd same
+one_asked (Some c) None files missed v w same p q = absurd same
+one_asked (Some c) (Some d) files missed v w same p q =
+    one_command (by_one_worker d) files missed v w (subst (λ (x : Asked). IsVerdict (Some x) files missed v) same (any_workers c files missed v p)) (any_workers d files missed w q)
 
--- words and files have one verdict, whatever a run chose in keeping what it read of the units
-pub one_verdict : (words : List (List ℕ)) (files : Files) (v w : Verdict) → IsVerdict (command_of words) files v → IsVerdict (command_of words) files w → v ≡ w
-one_verdict words files v w p q = one_asked (command_of words) (command_of words) files v w (alike (command_of words)) p q
+-- words and files have one verdict, where the files of some names cannot be read, whatever a run chose in keeping what it read of the units
+pub one_verdict : (words : List (List ℕ)) (files : Files) (missed : List (List ℕ)) (v w : Verdict) → IsVerdict (command_of words) files missed v → IsVerdict (command_of words) files missed w → v ≡ w
+one_verdict words files missed v w p q = one_asked (command_of words) (command_of words) files missed v w (alike (command_of words)) p q

@@ -72,9 +72,9 @@ own_image full elf file path debug files parts here is some place there =
     ∙ own_by (nat_lt LIMIT (length file)) full file path debug files parts refl is some place there
     ∙ sym (ap (λ (o : Option (List ℕ)). file_image full elf_line elf o >>= (λ binary. Ok binary)) here)
 
-pub own_debug_file : (full : Bool) (elf file path : List ℕ) (debug : DebugFile) (workers : ℕ) (files : Files) (parts : ImageParts) (v : Verdict) → files elf ≡ Some file → any_image full file ≡ Ok parts → IsSome parts.build_id → path_of debug parts ≡ Ok path → files path ≡ Some file
-    → IsVerdict (Some (dump (own full elf (Some debug)) workers)) files v ↔ IsVerdict (Some (dump (own full elf None) workers)) files v
-own_debug_file full elf file path debug workers files parts v here is some place there =
+pub own_debug_file : (full : Bool) (elf file path : List ℕ) (debug : DebugFile) (workers : ℕ) (files : Files) (missed : List (List ℕ)) (parts : ImageParts) (v : Verdict) → files elf ≡ Some file → any_image full file ≡ Ok parts → IsSome parts.build_id → path_of debug parts ≡ Ok path → files path ≡ Some file
+    → IsVerdict (Some (dump (own full elf (Some debug)) workers)) files missed v ↔ IsVerdict (Some (dump (own full elf None) workers)) files missed v
+own_debug_file full elf file path debug workers files missed parts v here is some place there =
     let same : given_image (own full elf (Some debug)) files ≡ given_image (own full elf None) files = own_image full elf file path debug files parts here is some place there in (
       λ given. subst (λ (r : Result ImageParts Verdict). IsDumpVerdict full r (module_name elf) v) same given,
       λ given. subst (λ (r : Result ImageParts Verdict). IsDumpVerdict full r (module_name elf) v) (sym same) given,

@@ -15,7 +15,7 @@ use Rattle.func_flatten.specs.Pieces.{owner_place, ArePieces}
 use Rattle.func_records.specs.FuncRecords.{AreFuncRecords}
 use Rattle.sym_records.specs.Canon.{canon_text}
 use Rattle.sym_records.specs.declared.line.SymLine.{SymLine}
-use Rattle.dumpsyms_cmd.specs.Words.{Asked, dump, check, lookup, frame, sample, walk, names, command_of, module_name, judge}
+use Rattle.dumpsyms_cmd.specs.Words.{Asked, dump, check, lookup, frame, sample, walk, names, stacks, command_of, module_name, judge}
 use Rattle.dumpsyms_cmd.specs.SymbolInput.{file_verdict as checked}
 use Rattle.dumpsyms_cmd.specs.commands.Check.{check_answer}
 use Rattle.dumpsyms_cmd.specs.commands.Lookup.{lookup_answer}
@@ -24,6 +24,8 @@ use Rattle.dumpsyms_cmd.specs.commands.Frame.{frame_answer}
 use Rattle.dumpsyms_cmd.specs.commands.Walk.{walk_answer}
 use Rattle.dumpsyms_cmd.specs.commands.Judge.{IsJudgeVerdict}
 use Rattle.dumpsyms_cmd.specs.commands.Names.{names_answer}
+use Rattle.dumpsyms_cmd.specs.commands.Stacks.{stacks_answer}
+use Rattle.module_stacks.specs.SymbolFiles.{without}
 use Rattle.dumpsyms_cmd.specs.Refusals.{debug_line}
 use Rattle.dumpsyms_cmd.specs.commands.Dump.{identity_lines, public_lines, frame_lines, CanonFile}
 use Rattle.dumpsyms_cmd.specs.Verdict.{Verdict, refused}
@@ -68,6 +70,7 @@ command_verdict (Some (sample units workers)) files = None
 command_verdict (Some (walk name state)) files = Some (both_verdict walk_answer (files name) (files state))
 command_verdict (Some (judge source name)) files = judge_verdict source.full name (source_verdict source files) (files name)
 command_verdict (Some (names name)) files = Some (checked names_answer (files name))
+command_verdict (Some (stacks name folder)) files = Some (checked (stacks_answer folder (without [] files)) (files name))
 
 abbrev pub plain_verdict : List (List ℕ) → Files → Option Verdict
 plain_verdict words files = command_verdict (command_of words) files
@@ -125,7 +128,7 @@ judge_is source name files v None told is = absurd (not_told is)
 judge_is source name files v (Some dumped) told is =
     record { dumped = dumped; dumped_is = image_is source.full (given_image source files) (module_name source.elf) dumped told; is = dumped_is source.full name dumped.status dumped (files name) v is }
 
-command_is : (command : Option Asked) (files : Files) (v : Verdict) → command_verdict command files ≡ Some v → IsVerdict command files v
+command_is : (command : Option Asked) (files : Files) (v : Verdict) → command_verdict command files ≡ Some v → IsVerdict command files [] v
 command_is None files v is = the_same is
 command_is (Some (dump source workers)) files v is = image_is source.full (given_image source files) (module_name source.elf) v is
 command_is (Some (sample units workers)) files v is = absurd (not_told is)
@@ -133,9 +136,9 @@ command_is (Some (judge source name)) files v is = judge_is source name files v 
 command_is (Some other) files v is = the_same is
 
 -- a verdict that is computed is that of the words and files
-pub plain_is_verdict : (words : List (List ℕ)) (files : Files) (v : Verdict) → plain_verdict words files ≡ Some v → IsVerdict (command_of words) files v
+pub plain_is_verdict : (words : List (List ℕ)) (files : Files) (v : Verdict) → plain_verdict words files ≡ Some v → IsVerdict (command_of words) files [] v
 plain_is_verdict words files v is = command_is (command_of words) files v is
 
 -- and as words and files have one verdict, it is the only one
-pub plain_is_only_verdict : (words : List (List ℕ)) (files : Files) (v w : Verdict) → plain_verdict words files ≡ Some v → IsVerdict (command_of words) files w → w ≡ v
-plain_is_only_verdict words files v w is other = one_verdict words files w v other (plain_is_verdict words files v is)
+pub plain_is_only_verdict : (words : List (List ℕ)) (files : Files) (v w : Verdict) → plain_verdict words files ≡ Some v → IsVerdict (command_of words) files [] w → w ≡ v
+plain_is_only_verdict words files v w is other = one_verdict words files [] w v other (plain_is_verdict words files v is)

@@ -33,7 +33,7 @@ dumped =
 -- invalid arguments
 abbrev usage : List Told
 usage =
-    let line : Told = Some (2, "", "usage: dumpsyms dump ELF, check SYM, lookup SYM ADDR, frame SYM ADDR STATE, sample N, walk SYM STATE, judge ELF SYM, names SYM, dump --full ELF\n") in line ∷ line ∷ []
+    let line : Told = Some (2, "", "usage: dumpsyms dump ELF, check SYM, lookup SYM ADDR, frame SYM ADDR STATE, sample N, walk SYM STATE, judge ELF SYM, names SYM, dump --full ELF, stacks CORE STORE\n") in line ∷ line ∷ []
 
 full : both (codes "dump" ∷ codes "--full" ∷ codes "a" ∷ []) ≡ dumped
 unfolding files both

@@ -232,7 +232,7 @@ nothing_there = refl
 
 -- words that are no row
 abbrev usage : Told
-usage = Some (2, "", "usage: dumpsyms dump ELF, check SYM, lookup SYM ADDR, frame SYM ADDR STATE, sample N, walk SYM STATE, judge ELF SYM, names SYM, dump --full ELF\n")
+usage = Some (2, "", "usage: dumpsyms dump ELF, check SYM, lookup SYM ADDR, frame SYM ADDR STATE, sample N, walk SYM STATE, judge ELF SYM, names SYM, dump --full ELF, stacks CORE STORE\n")
 
 with_workers : told (plain_verdict (codes "dump" ∷ codes "d/a.out" ∷ codes "--debug" ∷ codes "g" ∷ codes "--workers" ∷ codes "2" ∷ []) (at_paths small "g" small)) ≡ usage
 unfolding files at_paths pair below built stripped debug_of no_id

@@ -91,10 +91,10 @@ unfolding walked symbols_compute
 no_state_file = refl
 
 -- words that are no row
-two_words : of (codes "walk" ∷ codes "s" ∷ []) (Some (codes two_calls)) (Some (codes "REG rip 0\n")) ≡ Some (2, "", "usage: dumpsyms dump ELF, check SYM, lookup SYM ADDR, frame SYM ADDR STATE, sample N, walk SYM STATE, judge ELF SYM, names SYM, dump --full ELF\n")
+two_words : of (codes "walk" ∷ codes "s" ∷ []) (Some (codes two_calls)) (Some (codes "REG rip 0\n")) ≡ Some (2, "", "usage: dumpsyms dump ELF, check SYM, lookup SYM ADDR, frame SYM ADDR STATE, sample N, walk SYM STATE, judge ELF SYM, names SYM, dump --full ELF, stacks CORE STORE\n")
 unfolding of symbols_compute
 two_words = refl
 
-four_words : of (codes "walk" ∷ codes "s" ∷ codes "t" ∷ codes "0" ∷ []) (Some (codes two_calls)) (Some (codes "REG rip 0\n")) ≡ Some (2, "", "usage: dumpsyms dump ELF, check SYM, lookup SYM ADDR, frame SYM ADDR STATE, sample N, walk SYM STATE, judge ELF SYM, names SYM, dump --full ELF\n")
+four_words : of (codes "walk" ∷ codes "s" ∷ codes "t" ∷ codes "0" ∷ []) (Some (codes two_calls)) (Some (codes "REG rip 0\n")) ≡ Some (2, "", "usage: dumpsyms dump ELF, check SYM, lookup SYM ADDR, frame SYM ADDR STATE, sample N, walk SYM STATE, judge ELF SYM, names SYM, dump --full ELF, stacks CORE STORE\n")
 unfolding of symbols_compute
 four_words = refl

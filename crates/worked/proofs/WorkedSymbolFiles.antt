@@ -192,15 +192,15 @@ unfolding over symbols_compute
 no_state_file = refl
 
 -- words that are no address
-an_address_with_a_prefix : over (codes "frame" ∷ codes "s" ∷ codes "0x10" ∷ codes "t" ∷ []) (Some (codes "MODULE Linux x86_64 0 a\nSTACK CFI INIT 1000 20 .cfa: $rsp 8 + .ra: .cfa -8 + ^\nSTACK CFI 1001 .cfa: $rsp 16 + $rbp: .cfa -16 + ^\nSTACK CFI 1004 .cfa: $rbp 16 +\nSTACK CFI 100e .cfa: $rsp 8 +\n")) (Some (codes "")) ≡ Some (2, "", "usage: dumpsyms dump ELF, check SYM, lookup SYM ADDR, frame SYM ADDR STATE, sample N, walk SYM STATE, judge ELF SYM, names SYM, dump --full ELF\n")
+an_address_with_a_prefix : over (codes "frame" ∷ codes "s" ∷ codes "0x10" ∷ codes "t" ∷ []) (Some (codes "MODULE Linux x86_64 0 a\nSTACK CFI INIT 1000 20 .cfa: $rsp 8 + .ra: .cfa -8 + ^\nSTACK CFI 1001 .cfa: $rsp 16 + $rbp: .cfa -16 + ^\nSTACK CFI 1004 .cfa: $rbp 16 +\nSTACK CFI 100e .cfa: $rsp 8 +\n")) (Some (codes "")) ≡ Some (2, "", "usage: dumpsyms dump ELF, check SYM, lookup SYM ADDR, frame SYM ADDR STATE, sample N, walk SYM STATE, judge ELF SYM, names SYM, dump --full ELF, stacks CORE STORE\n")
 unfolding over symbols_compute
 an_address_with_a_prefix = refl
 
-seventeen_digits : over (codes "frame" ∷ codes "s" ∷ codes "00000000000001001" ∷ codes "t" ∷ []) (Some (codes "MODULE Linux x86_64 0 a\nSTACK CFI INIT 1000 20 .cfa: $rsp 8 + .ra: .cfa -8 + ^\nSTACK CFI 1001 .cfa: $rsp 16 + $rbp: .cfa -16 + ^\nSTACK CFI 1004 .cfa: $rbp 16 +\nSTACK CFI 100e .cfa: $rsp 8 +\n")) (Some (codes "")) ≡ Some (2, "", "usage: dumpsyms dump ELF, check SYM, lookup SYM ADDR, frame SYM ADDR STATE, sample N, walk SYM STATE, judge ELF SYM, names SYM, dump --full ELF\n")
+seventeen_digits : over (codes "frame" ∷ codes "s" ∷ codes "00000000000001001" ∷ codes "t" ∷ []) (Some (codes "MODULE Linux x86_64 0 a\nSTACK CFI INIT 1000 20 .cfa: $rsp 8 + .ra: .cfa -8 + ^\nSTACK CFI 1001 .cfa: $rsp 16 + $rbp: .cfa -16 + ^\nSTACK CFI 1004 .cfa: $rbp 16 +\nSTACK CFI 100e .cfa: $rsp 8 +\n")) (Some (codes "")) ≡ Some (2, "", "usage: dumpsyms dump ELF, check SYM, lookup SYM ADDR, frame SYM ADDR STATE, sample N, walk SYM STATE, judge ELF SYM, names SYM, dump --full ELF, stacks CORE STORE\n")
 unfolding over symbols_compute
 seventeen_digits = refl
 
-no_digits : over (codes "frame" ∷ codes "s" ∷ codes "" ∷ codes "t" ∷ []) (Some (codes "MODULE Linux x86_64 0 a\nSTACK CFI INIT 1000 20 .cfa: $rsp 8 + .ra: .cfa -8 + ^\nSTACK CFI 1001 .cfa: $rsp 16 + $rbp: .cfa -16 + ^\nSTACK CFI 1004 .cfa: $rbp 16 +\nSTACK CFI 100e .cfa: $rsp 8 +\n")) (Some (codes "")) ≡ Some (2, "", "usage: dumpsyms dump ELF, check SYM, lookup SYM ADDR, frame SYM ADDR STATE, sample N, walk SYM STATE, judge ELF SYM, names SYM, dump --full ELF\n")
+no_digits : over (codes "frame" ∷ codes "s" ∷ codes "" ∷ codes "t" ∷ []) (Some (codes "MODULE Linux x86_64 0 a\nSTACK CFI INIT 1000 20 .cfa: $rsp 8 + .ra: .cfa -8 + ^\nSTACK CFI 1001 .cfa: $rsp 16 + $rbp: .cfa -16 + ^\nSTACK CFI 1004 .cfa: $rbp 16 +\nSTACK CFI 100e .cfa: $rsp 8 +\n")) (Some (codes "")) ≡ Some (2, "", "usage: dumpsyms dump ELF, check SYM, lookup SYM ADDR, frame SYM ADDR STATE, sample N, walk SYM STATE, judge ELF SYM, names SYM, dump --full ELF, stacks CORE STORE\n")
 unfolding over symbols_compute
 no_digits = refl
 
@@ -273,10 +273,10 @@ unfolding over symbols_compute
 no_symbol_file = refl
 
 -- words that are no address
-a_prefix : over (codes "lookup" ∷ codes "s" ∷ codes "0x10" ∷ []) (Some (codes "MODULE Linux x86_64 0 a\n")) (None) ≡ Some (2, "", "usage: dumpsyms dump ELF, check SYM, lookup SYM ADDR, frame SYM ADDR STATE, sample N, walk SYM STATE, judge ELF SYM, names SYM, dump --full ELF\n")
+a_prefix : over (codes "lookup" ∷ codes "s" ∷ codes "0x10" ∷ []) (Some (codes "MODULE Linux x86_64 0 a\n")) (None) ≡ Some (2, "", "usage: dumpsyms dump ELF, check SYM, lookup SYM ADDR, frame SYM ADDR STATE, sample N, walk SYM STATE, judge ELF SYM, names SYM, dump --full ELF, stacks CORE STORE\n")
 unfolding over symbols_compute
 a_prefix = refl
 
-seventeen_address_digits : over (codes "lookup" ∷ codes "s" ∷ codes "00000000000001005" ∷ []) (Some (codes "MODULE Linux x86_64 0 a\n")) (None) ≡ Some (2, "", "usage: dumpsyms dump ELF, check SYM, lookup SYM ADDR, frame SYM ADDR STATE, sample N, walk SYM STATE, judge ELF SYM, names SYM, dump --full ELF\n")
+seventeen_address_digits : over (codes "lookup" ∷ codes "s" ∷ codes "00000000000001005" ∷ []) (Some (codes "MODULE Linux x86_64 0 a\n")) (None) ≡ Some (2, "", "usage: dumpsyms dump ELF, check SYM, lookup SYM ADDR, frame SYM ADDR STATE, sample N, walk SYM STATE, judge ELF SYM, names SYM, dump --full ELF, stacks CORE STORE\n")
 unfolding over symbols_compute
 seventeen_address_digits = refl

@@ -11,7 +11,7 @@ both words = told (plain_verdict words (λ asked. None)) ∷ ran words (codes "a
 
 abbrev usage : List Told
 usage =
-    let line : Told = Some (2, "", "usage: dumpsyms dump ELF, check SYM, lookup SYM ADDR, frame SYM ADDR STATE, sample N, walk SYM STATE, judge ELF SYM, names SYM, dump --full ELF\n") in line ∷ line ∷ []
+    let line : Told = Some (2, "", "usage: dumpsyms dump ELF, check SYM, lookup SYM ADDR, frame SYM ADDR STATE, sample N, walk SYM STATE, judge ELF SYM, names SYM, dump --full ELF, stacks CORE STORE\n") in line ∷ line ∷ []
 
 -- a dump of a file at a path
 unfoldable named : String → Told

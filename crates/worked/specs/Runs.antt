@@ -1,7 +1,8 @@
 -- Two runs of the program that ask for the same, and how they end.
 use Rattle.std.specs.Prelude.{◌≡◌, Option, None, Some}
 use Rattle.sym_edges.specs.Outside.{Files}
-use Rattle.dumpsyms_cmd.specs.Words.{Asked, dump, sample}
+use Rattle.dumpsyms_cmd.specs.Words.{Asked, dump, sample, stacks}
+use Rattle.dumpsyms_cmd.specs.Observed.{StoreSeen, StoreStood}
 use Rattle.dumpsyms_cmd.specs.Program.{Run, command}
 
 -- what a command asks for, whatever the number of workers
@@ -17,12 +18,19 @@ AskAlike None (Some d) = ⊥
 AskAlike (Some c) None = ⊥
 AskAlike (Some c) (Some d) = by_one_worker c ≡ by_one_worker d
 
+-- where `stacks` is asked for no call of the store failed, since a symbol file that cannot be read counts as missing
+abbrev pub IsCalm : Option Asked → StoreSeen → Type 0
+IsCalm (Some (stacks core folder)) store = StoreStood store
+IsCalm command store = Unit {0}
+
 -- two runs that ask for the same of stores with the same files, and whose sinks held the same
 pub record RunAlike (one other : Run) : Type 0 where
   pub files : Files
   pub one_tells : one.store.files ≡ Some files
   pub other_tells : other.store.files ≡ Some files
   pub asked : AskAlike (command one) (command other)
+  pub one_calm : IsCalm (command one) one.store
+  pub other_calm : IsCalm (command other) other.store
   pub out : one.out.taken ≡ other.out.taken
   pub err : one.err.taken ≡ other.err.taken
 

@@ -1,12 +1,15 @@
 //! What holds of all runs of the program, and of what its commands say of each other's texts. Each function does nothing: its contract is the law.
-ghost use Rattle.std.specs.Prelude.{◌≡◌, ◌<◌, ◌↔◌, ℕ, Bool, List, Some, None, IsSome, Ok};
+ghost use Rattle.std.specs.Prelude.{◌≡◌, ◌+◌, ◌-◌, ◌<◌, ◌≤◌, ◌↔◌, ℕ, Bool, false, List, Some, None, IsSome, Ok};
 ghost use Rattle.sym_edges.specs.Outside.{Files};
 ghost use Rattle.elf_sections.specs.Image.{ImageParts};
 ghost use Rattle.full_image.specs.FullImage.{any_image};
 ghost use Rattle.sym_records.specs.declared.line.SymLine.{SymLine};
 ghost use Rattle.state_file.specs.declared.state.State.{State};
 ghost use Rattle.stack_walk.specs.declared.steps.Walk.{Walk};
-ghost use Rattle.stack_walk.specs.Walk.{walk_of};
+ghost use Rattle.stack_walk.specs.Walk.{Process, is_nowhere, walk_of};
+ghost use Rattle.stack_walk.specs.Callers.{IsLookedUp};
+ghost use Rattle.stack_walk.specs.declared.steps.WalkStep.{WalkStep};
+ghost use Rattle.cfi_eval.specs.declared.registers.Regs.{Regs};
 ghost use Rattle.dumpsyms_cmd.specs.commands.Dump.{DumpsParts, written_of};
 ghost use Rattle.dumpsyms_cmd.specs.Words.{command_of, dump};
 ghost use Rattle.dumpsyms_cmd.specs.ElfInput.{DebugFile, ElfSource, path_of};
@@ -16,28 +19,28 @@ ghost use Rattle.dumpsyms_cmd.specs.Program.{Run, Promises};
 ghost use Rattle.worked.specs.Runs.{RunAlike, EndAlike};
 ghost use Rattle.dumpsyms_cmd.specs.commands.Judge.{JudgePromises};
 ghost use Rattle.dumpsyms_cmd.specs.declared.judgement.Judgement.{Judgement};
-ghost use Rattle.worked.specs.RowSteps.{AreRowSteps};
+ghost use Rattle.worked.specs.RowSteps.{IsRowStep, AreRowSteps};
 ghost use Rattle.worked.specs.Judged.{SaysAsFile};
 ghost use Rattle.worked.specs.DumpedJudged.{JudgesWhatWasDumped, AnswersYes};
 
-/// Words and files have at most one verdict: the definitions say of a text what each address has in it, and leave one text.
+/// Words and files have at most one verdict, whichever files could not be read: the definitions say of a text what each address has in it, and leave one text.
 #[tactic(auto, using(crate::proofs::OneVerdict::one_verdict))]
 pub fn verdicts_are_one()
-    ensures { (words : List (List ℕ)) (files : Files) (v w : Verdict) → IsVerdict (command_of words) files v → IsVerdict (command_of words) files w → v ≡ w }
+    ensures { (words : List (List ℕ)) (files : Files) (missed : List (List ℕ)) (v w : Verdict) → IsVerdict (command_of words) files missed v → IsVerdict (command_of words) files missed w → v ≡ w }
 {}
 
 /// Two runs that ask for one file, by any numbers of workers, over stores that tell the same files and sinks that held the same, and
-/// that both come to status 0, 1 or 2, answer the same status and leave the same in their sinks.
+/// that both come to status 0, 1 or 2, answer the same status and leave the same in their sinks; of `stacks` where neither store failed.
 pub fn judging_runs_end_alike()
     ensures { (one other : Run) → Promises one → Promises other → RunAlike one other → one.status < 3 → other.status < 3 → EndAlike one other }
 {}
 
 /// Where the debug file of a binary is the binary itself, and that has a build id, the verdict is that of the binary alone.
 pub fn own_debug_files_change_nothing()
-    ensures { (full : Bool) (elf file path : List ℕ) (debug : DebugFile) (workers : ℕ) (files : Files) (parts : ImageParts) (v : Verdict) →
+    ensures { (full : Bool) (elf file path : List ℕ) (debug : DebugFile) (workers : ℕ) (files : Files) (missed : List (List ℕ)) (parts : ImageParts) (v : Verdict) →
         files elf ≡ Some file → any_image full file ≡ Ok parts → IsSome parts.build_id → path_of debug parts ≡ Ok path → files path ≡ Some file →
-        IsVerdict (Some (dump (record { full = full; elf = elf; debug = Some debug }) workers)) files v ↔
-        IsVerdict (Some (dump (record { full = full; elf = elf; debug = None }) workers)) files v }
+        IsVerdict (Some (dump (record { full = full; elf = elf; debug = Some debug }) workers)) files missed v ↔
+        IsVerdict (Some (dump (record { full = full; elf = elf; debug = None }) workers)) files missed v }
 {}
 
 /// A walk over the records that `dump` writes, from any state, unwinds as DWARF says: at each step inside a written frame entry it has the CFA, the
@@ -45,6 +48,14 @@ pub fn own_debug_files_change_nothing()
 pub fn walks_go_by_the_rows()
     ensures { (full : Bool) (parts : ImageParts) (name : List ℕ) (lines : List SymLine) (text : List ℕ) (dumped : DumpsParts full parts name lines text) (state : State) (walk : Walk) →
         walk_of lines state ≡ Some walk → AreRowSteps parts.base (written_of parts dumped.found) state.memory state.regs walk.steps }
+{}
+
+/// So does each step of a stack in which a module's text is what `dump` writes, at the module's base: it has what the row of the written frame entry
+/// gives at its address, over its registers and the memory of the process, unless a call led there where no code is.
+pub fn stacks_go_by_the_rows()
+    ensures { (full : Bool) (parts : ImageParts) (name : List ℕ) (lines : List SymLine) (text : List ℕ) (dumped : DumpsParts full parts name lines text) (process : Process) (regs : Regs) (step : WalkStep) (base : ℕ) →
+        (process.known_at step.at).records ≡ Ok (record { base = base; lines = lines }) → base ≤ step.at → is_nowhere (process.known_at step.at) step.rip step.at ≡ false →
+        IsLookedUp process regs step → IsRowStep ((step.at - base) + parts.base) (written_of parts dumped.found) regs process.memory step }
 {}
 
 /// Where the judgement of an ELF file, or of one and its debug file, and a symbol file has status 0, which is that of yes, the symbol file names at each address the function,

@@ -7,7 +7,7 @@ use Rattle.sym_records.specs.declared.line.SymLine.{SymLine}
 use Rattle.sym_findings.specs.Findings.{findings}
 use Rattle.sym_findings.specs.FindingWords.{kind_word}
 use Rattle.sym_findings.specs.declared.kind.Finding.{Finding}
-use Rattle.dumpsyms_cmd.specs.Refusals.{line}
+use Rattle.stack_text.specs.Lines.{line}
 use Rattle.dumpsyms_cmd.specs.Verdict.{Verdict}
 use Rattle.dumpsyms_cmd.specs.SymbolInput.{symbol_verdict}
 

@@ -15,13 +15,13 @@ use Rattle.sym_judge.specs.declared.ruling.Aspect.{Aspect}
 use Rattle.sym_judge.specs.declared.ruling.Aspect.TheVariants.{Func, Chain, Line, Init, Cfa, Ra, Reg}
 use Rattle.sym_judge.specs.declared.ruling.Ruling.{Ruling}
 use Rattle.sym_judge.specs.declared.ruling.Ruling.TheVariants.{Yes, No}
-use Rattle.dumpsyms_cmd.specs.Refusals.{line}
+use Rattle.stack_text.specs.Lines.{line}
+use Rattle.stack_text.specs.FrameText.{short_name}
 use Rattle.dumpsyms_cmd.specs.Verdict.{Verdict, refused, unread_file, LIMIT}
 use Rattle.dumpsyms_cmd.specs.ElfInput.{ElfSource}
 use Rattle.dumpsyms_cmd.specs.SymbolInput.{refusal_line}
 use Rattle.dumpsyms_cmd.specs.Judgement.{judgement_verdict}
 use Rattle.dumpsyms_cmd.specs.commands.Dump.{IsSourceVerdict, DumpsSource}
-use Rattle.dumpsyms_cmd.specs.commands.Frame.{short_name}
 use Rattle.dumpsyms_cmd.specs.declared.judgement.Judgement.{Judgement}
 
 abbrev pub aspect_word : Aspect → List ℕ

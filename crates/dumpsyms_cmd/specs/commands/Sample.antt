@@ -9,7 +9,8 @@ use Rattle.rule_postfix.specs.Written.{omitted}
 use Rattle.sample_elf.specs.Made.{made}
 use Rattle.sym_records.specs.declared.line.SymLine.{SymLine}
 use Rattle.sym_records.specs.declared.line.SymLine.TheVariants as record_of
-use Rattle.dumpsyms_cmd.specs.Refusals.{line, elf_line, debug_line}
+use Rattle.stack_text.specs.Lines.{line}
+use Rattle.dumpsyms_cmd.specs.Refusals.{elf_line, debug_line}
 use Rattle.dumpsyms_cmd.specs.Verdict.{Verdict, refused}
 use Rattle.dumpsyms_cmd.specs.commands.Dump.{CanonFile}
 use Rattle.dumpsyms_cmd.specs.declared.sample.Counted.{Counted}

@@ -1,47 +1,13 @@
 -- `walk SYM STATE`: the frames of a stack by the rules of a symbol file, from the registers and the memory of a state file: for each step its
 -- number and its address, and then the lines of `lookup`; and last why the walk ends. A state without rip is refused.
-use Rattle.std.specs.Prelude.{ℕ, ◌+◌, List, [], ◌∷◌, ◌++◌, codes, decimal, Option, Some, None}
-use Rattle.sym_records.specs.Canon.{spaced}
-use Rattle.sym_records.specs.Fields.{hex}
+use Rattle.std.specs.Prelude.{ℕ, List, [], codes, Option, Some, None}
 use Rattle.sym_records.specs.declared.line.SymLine.{SymLine}
-use Rattle.sym_lookup.specs.AnswerTexts.{answer_text}
 use Rattle.state_file.specs.declared.state.State.{State}
 use Rattle.stack_walk.specs.declared.steps.Walk.{Walk}
-use Rattle.stack_walk.specs.declared.steps.WalkStep.{WalkStep}
-use Rattle.stack_walk.specs.declared.steps.WalkEnd.{WalkEnd}
-use Rattle.stack_walk.specs.declared.steps.WalkEnd.TheVariants.{NoModule, NoSymbols, NoRules, CfaUndefined, CfaFailed, CfaLow, RaUndefined, RaFailed, RaZero, Limit}
 use Rattle.stack_walk.specs.Walk.{walk_of}
-use Rattle.dumpsyms_cmd.specs.Refusals.{line}
+use Rattle.stack_text.specs.Lines.{line}
+use Rattle.stack_text.specs.WalkText.{walk_text}
 use Rattle.dumpsyms_cmd.specs.Verdict.{Verdict, refused}
-use Rattle.dumpsyms_cmd.specs.commands.Frame.{cause_text}
-
--- a step: its number in decimal and its address in hexadecimal, and then what names the address that is looked up
-abbrev pub step_head : ℕ → ℕ → List ℕ
-step_head number rip = line (spaced (decimal number) (hex rip ∷ []))
-
-abbrev pub step_text : List SymLine → ℕ → WalkStep → List ℕ
-step_text lines number step = step_head number step.rip ++ answer_text lines step.answer
-
--- steps, the first of which has a number
-unfoldable pub steps_text : List SymLine → ℕ → List WalkStep → List ℕ
-steps_text lines number [] = []
-steps_text lines number (step ∷ steps) = step_text lines number step ++ steps_text lines (number + 1) steps
-
--- why a walk ends; a cause is spelled as in `frame`, and a CFA that is low stands behind the one before
-abbrev pub end_text : WalkEnd → List ℕ
-end_text NoModule = codes "no-module"
-end_text NoSymbols = codes "no-symbols"
-end_text NoRules = codes "no-rules"
-end_text CfaUndefined = codes "cfa-undefined"
-end_text (CfaFailed why) = codes "cfa-failed " ++ cause_text why
-end_text (CfaLow before cfa) = codes "cfa-low " ++ (hex before ++ 32 ∷ hex cfa)
-end_text RaUndefined = codes "ra-undefined"
-end_text (RaFailed why) = codes "ra-failed " ++ cause_text why
-end_text RaZero = codes "ra-zero"
-end_text Limit = codes "limit"
-
-abbrev pub walk_text : List SymLine → Walk → List ℕ
-walk_text lines walk = steps_text lines 0 walk.steps ++ line (codes "end " ++ end_text walk.end)
 
 -- the state has no rip
 abbrev pub no_rip_line : List ℕ

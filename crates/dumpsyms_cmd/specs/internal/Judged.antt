@@ -1,5 +1,7 @@
 -- What the functions that judge say of their judgements and answers.
-use Rattle.std.specs.Prelude.{◌≡◌, ℕ, ◌<◌, Bool, false, List, ◌++◌, Option, Some, IsSome, Result, Ok, Err}
+use Rattle.std.specs.List.{AllByRecursion, list_any}
+use Rattle.std.specs.Str.{bytes_eq}
+use Rattle.std.specs.Prelude.{◌≡◌, ℕ, ◌<◌, Bool, true, false, List, [], ◌++◌, Option, Some, IsSome, Result, Ok, Err}
 use Rattle.sym_edges.specs.Outside.{Files, Tells, Rose}
 use Rattle.sym_edges.specs.declared.fault.Stop.{Stop}
 use Rattle.sym_edges.specs.declared.fault.Stop.TheVariants.{Fault}
@@ -18,7 +20,7 @@ use Rattle.dumpsyms_cmd.specs.Words.{Asked, ReadsFiles, last_name, not_read_line
 use Rattle.dumpsyms_cmd.specs.Refusals.{debug_elf_line, pair_line, too_long_line, unread_line, unread_lines}
 use Rattle.dumpsyms_cmd.specs.Verdict.{Verdict, refused, unread_by, no_memory}
 use Rattle.dumpsyms_cmd.specs.ElfInput.{ElfSource, or_refused, names_behind, elf_names}
-use Rattle.dumpsyms_cmd.specs.Observed.{Asks}
+use Rattle.dumpsyms_cmd.specs.Observed.{StoreSeen, Asks, AreOnce, IsSymbolFile, Misses, IsSteady}
 use Rattle.dumpsyms_cmd.specs.Judgement.{err_bytes, is_some_output, judgement_verdict, Judges}
 use Rattle.dumpsyms_cmd.specs.SymbolInput.{refusal_line}
 use Rattle.dumpsyms_cmd.specs.StateInput.{state_answer}
@@ -28,6 +30,10 @@ use Rattle.dumpsyms_cmd.specs.commands.Names.{records_named}
 use Rattle.dumpsyms_cmd.specs.commands.Frame.{frame_answer}
 use Rattle.dumpsyms_cmd.specs.commands.Walk.{walk_answer}
 use Rattle.dumpsyms_cmd.specs.commands.Judge.{JudgesSym}
+use Rattle.dumpsyms_cmd.specs.commands.Stacks.{core_or_refused}
+use Rattle.core_file.specs.Core.{CoreParts, core}
+use Rattle.core_file.specs.declared.fault.CoreFault.{CoreFault}
+use Rattle.module_stacks.specs.SymbolFiles.{without, Counted}
 use Rattle.dumpsyms_cmd.specs.Answers.{IsVerdict, CommandPromises}
 use Rattle.dumpsyms_cmd.specs.commands.Dump.{IsPartsVerdict, IsGivenVerdict, DumpsParts, DumpsGiven, ImagePromises}
 use Rattle.dumpsyms_cmd.specs.declared.words.SymQuery.{SymQuery}
@@ -75,7 +81,7 @@ JudgesPair j source binary full bytes =
 pub record IsJudged (j : Judgement) (command : Option Asked) (files : Option Files) : Type 0 where
   pub low : j.status < 3
   pub row : IsSome command → j.status < 2
-  pub told : Tells files (λ f. IsVerdict command f (judgement_verdict j))
+  pub told : Tells files (λ f. IsVerdict command f [] (judgement_verdict j))
   pub kept : CommandPromises command files j
 
 -- what an answer says of a command, the files, the names that were asked for and the store's count of faults
@@ -83,6 +89,20 @@ abbrev pub AnswersCommand : Answer → Option Asked → Option Files → List (L
 AnswersCommand (Judged j) command files asked before after = IsJudged j command files
 AnswersCommand (Unread line) command files asked before after = ReadsFiles command × Rose before after × (err_bytes line ≡ not_read_line command asked)
 AnswersCommand NoMemory command files asked before after = IsSome command
+
+-- the same of a command that may go on without files that cannot be read
+pub record JudgesWords (j : Judgement) (command : Option Asked) (store : StoreSeen) : Type 0 where
+  pub low : j.status < 3
+  pub row : IsSome command → j.status < 2
+  pub missed : List (List ℕ)
+  pub misses : Misses command store missed
+  pub told : Tells store.files (λ f. IsVerdict command f missed (judgement_verdict j))
+  pub kept : CommandPromises command store.files j
+
+abbrev pub AnswersWords : Answer → Option Asked → StoreSeen → Type 0
+AnswersWords (Judged j) command store = JudgesWords j command store
+AnswersWords (Unread line) command store = ReadsFiles command × Rose store.faults store.faults_after × (err_bytes line ≡ not_read_line command store.asked_after)
+AnswersWords NoMemory command store = IsSome command × IsSteady command store
 
 -- the store's count of faults stands still, unless a file could not be opened or read
 abbrev pub IsSteadyAnswer : Answer → ℕ → ℕ → Type 0
@@ -207,3 +227,23 @@ abbrev pub AnswersSym : Answer → List SymLine → Bool → List ℕ → Option
 AnswersSym (Judged j) own full sym files asked before after = JudgesSym own sym files j
 AnswersSym (Unread line) own full sym files asked before after = Rose before after × (err_bytes line ≡ unread_lines full (last_name asked))
 AnswersSym NoMemory own full sym files asked before after = Unit {0}
+
+-- symbol files in a folder were asked for, each once
+abbrev pub AsksSymbols : List ℕ → List (List ℕ) → List (List ℕ) → Type 0
+AsksSymbols folder before after = (names : List (List ℕ)) × ((after ≡ before ++ names) × (AreOnce names × AllByRecursion (IsSymbolFile folder) names))
+
+-- a judgement is the verdict of a core, or of its fault, by some files: by those that the store tells, without the names at which a call failed,
+-- each of which was asked for
+pub record JudgesCore (j : Judgement) (folder : List ℕ) (found : Result CoreParts CoreFault) (files : Option Files) (asked : List (List ℕ)) (before after : ℕ) : Type 0 where
+  pub got : Files
+  pub missed : List (List ℕ)
+  pub told : Tells files (λ f. got ≡ without missed f)
+  pub counted : Counted missed before after
+  pub asked_for : (name : List ℕ) → list_any (bytes_eq name) missed ≡ true → list_any (bytes_eq name) asked ≡ true
+  pub is : judgement_verdict j ≡ core_or_refused folder got found
+
+-- what an answer says of a core file
+abbrev pub AnswersCore : Answer → List ℕ → List ℕ → Option Files → List (List ℕ) → ℕ → ℕ → Type 0
+AnswersCore (Judged j) folder bytes files asked before after = JudgesCore j folder (core bytes) files asked before after
+AnswersCore (Unread line) folder bytes files asked before after = ⊥
+AnswersCore NoMemory folder bytes files asked before after = Unit {0}
