@@ -2,11 +2,12 @@
 """Runs each command on files that are cut at every length, and on files with one byte changed, each in its turn.
 
 Whatever the bytes, a run is to end by itself with status 0 or 1, and to say what it refuses: on status 1 out is empty and err has one line,
-`refused ..`; but `check` may list findings on out and `judge` say no, with nothing on err. On status 0 err has lines of what was left out alone.
+`refused ..`; but `check` may list findings on out and `judge` say no, with nothing on err. On status 0 err has lines of what was left out alone, and
+of `stacks` of modules without records.
 
   scripts/broken_files.py PROGRAM      in an empty folder; a line for each command and file, `WORDS: FILE: N cut, M changed, F failed`
 
-The files are the made file of one unit (made_elf.py), its text, and a state.
+The files are the made file of one unit (made_elf.py), its text, and a state; and a core file (made_cores.py).
 """
 import concurrent.futures
 import os
@@ -17,12 +18,13 @@ import sys
 HERE = os.path.dirname(os.path.abspath(__file__))
 program = sys.argv[1]
 LEFT_OUT = re.compile(rb"((skipped|omitted) [^\n]*\n)*\Z")
+LACKS = re.compile(rb"((missing|refused) [^\n]*\n)*\Z")
 REFUSED = re.compile(rb"refused [^\n]*\n\Z")
 
 
 def is_good(words, status, out, err):
     if status == 0:
-        return bool(LEFT_OUT.match(err))
+        return bool((LACKS if words[0] == "stacks" else LEFT_OUT).match(err))
     if status != 1:
         return False
     if out:
@@ -70,6 +72,8 @@ def main():
         broken(words, "text")
     for words in (["frame", "text", at, "state"], ["walk", "text", "state"]):
         broken(words, "state")
+    subprocess.run([sys.executable, f"{HERE}/made_cores.py", "--whole", "core", "store"], check=True)
+    broken(["stacks", "core", "store"], "core")
 
 
 main()
