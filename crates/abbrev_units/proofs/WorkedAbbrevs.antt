@@ -19,7 +19,7 @@ unit_at place wide = record { start = 0x20; body = 0x2b; end = 0x30; version = 4
 unfoldable abbrevs_in : String → ℕ → Bool → Result (List Abbrev) (Located DwarfKind)
 unfolding hex unit_at
 abbrevs_in text place wide =
-    abbrevs_of (record { info = []; abbrevs = hex text; line = []; line_str = []; strs = []; str_offsets = []; addr = []; ranges = []; rnglists = [] }) (unit_at place wide)
+    abbrevs_of (record { info = []; abbrevs = hex text; line = []; line_str = []; strs = []; str_offsets = []; addr = []; ranges = []; rnglists = []; sup_strs = None; is_sup = false }) (unit_at place wide)
 
 abbrev sample : ℕ → ℕ → Abbrev
 sample code tag = record { code = code; tag = tag; children = false; specs = [] }

@@ -212,7 +212,7 @@ addrx_cut : reads 0x1b false "86" ≡ Err (Cursor (Ends 1))
 unfolding abbrev_units_computes reads
 addrx_cut = refl
 
-ref_sup4 : reads 0x1c false "78563412" ≡ Ok (value.Other, 5)
+ref_sup4 : reads 0x1c false "78563412" ≡ Ok (value.SupRefAt 0x12345678, 5)
 unfolding abbrev_units_computes reads
 ref_sup4 = refl
 
@@ -272,7 +272,7 @@ rnglistx_cut : reads 0x23 false "86" ≡ Err (Cursor (Ends 1))
 unfolding abbrev_units_computes reads
 rnglistx_cut = refl
 
-ref_sup8 : reads 0x24 false "f0debc9a 78563412" ≡ Ok (value.Other, 9)
+ref_sup8 : reads 0x24 false "f0debc9a 78563412" ≡ Ok (value.SupRefAt 0x123456789abcdef0, 9)
 unfolding abbrev_units_computes reads
 ref_sup8 = refl
 
@@ -344,7 +344,7 @@ addrx4_cut : reads 0x2c false "785634" ≡ Err (Cursor (Ends 1))
 unfolding abbrev_units_computes reads
 addrx4_cut = refl
 
-gnu_ref_alt : reads 0x1f20 false "78563412" ≡ Ok (value.Other, 5)
+gnu_ref_alt : reads 0x1f20 false "78563412" ≡ Ok (value.SupRefAt 0x12345678, 5)
 unfolding abbrev_units_computes reads
 gnu_ref_alt = refl
 
@@ -400,7 +400,7 @@ line_strp_wide_cut : reads 0x1f true "f0debc9a785634" ≡ Err (Cursor (Ends 1))
 unfolding abbrev_units_computes reads
 line_strp_wide_cut = refl
 
-gnu_ref_alt_wide : reads 0x1f20 true "f0debc9a 78563412" ≡ Ok (value.Other, 9)
+gnu_ref_alt_wide : reads 0x1f20 true "f0debc9a 78563412" ≡ Ok (value.SupRefAt 0x123456789abcdef0, 9)
 unfolding abbrev_units_computes reads
 gnu_ref_alt_wide = refl
 
@@ -416,7 +416,7 @@ gnu_strp_alt_wide_cut : reads 0x1f21 true "f0debc9a785634" ≡ Err (Cursor (Ends
 unfolding abbrev_units_computes reads
 gnu_strp_alt_wide_cut = refl
 
-ref_sup4_in_the_64_bit_format : reads 0x1c true "78563412" ≡ Ok (value.Other, 5)
+ref_sup4_in_the_64_bit_format : reads 0x1c true "78563412" ≡ Ok (value.SupRefAt 0x12345678, 5)
 unfolding abbrev_units_computes reads
 ref_sup4_in_the_64_bit_format = refl
 
@@ -510,7 +510,7 @@ indirect_strp_wide : reads 0x16 true "0e f0debc9a 78563412" ≡ Ok (value.StrAt 
 unfolding abbrev_units_computes reads
 indirect_strp_wide = refl
 
-indirect_by_two_bytes : reads 0x16 false "a03e 78563412" ≡ Ok (value.Other, 7)
+indirect_by_two_bytes : reads 0x16 false "a03e 78563412" ≡ Ok (value.SupRefAt 0x12345678, 7)
 unfolding abbrev_units_computes reads
 indirect_by_two_bytes = refl
 

@@ -21,6 +21,8 @@ text wide base value =
       addr = [];
       ranges = [];
       rnglists = [];
+      sup_strs = None;
+      is_sup = false;
     }) (hex "2e7071 00") wide base value
 
 -- texts by their places

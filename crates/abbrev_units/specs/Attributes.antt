@@ -1,12 +1,12 @@
 -- The attributes of entries by their classes (DWARF 5, 7.5.4 and table 7.5).
-use Rattle.std.specs.Prelude.{ℕ, ◌+◌, ◌%◌, ◌^◌, ◌==◌, nat_lt, Bool, true, false, if◌then◌else◌, List, find, Option, None, Some, option_and_then}
+use Rattle.std.specs.Prelude.{ℕ, ◌+◌, ◌%◌, ◌^◌, ◌==◌, nat_lt, Bool, true, false, if◌then◌else◌, List, find, Option, None, Some, option_and_then, is_none, is_some}
 use Rattle.std.specs.Option.{option_map}
 use Rattle.std.specs.Int.{w64, cast_unsigned}
 use Rattle.abbrev_units.specs.declared.unit.Unit.{Unit}
 use Rattle.abbrev_units.specs.declared.value.Value.{Value}
 use Rattle.abbrev_units.specs.declared.value.Value.TheVariants as value
-use Rattle.abbrev_units.specs.DebugSections.{DebugSections}
-use Rattle.abbrev_units.specs.Texts.{text_of}
+use Rattle.abbrev_units.specs.DebugSections.{DebugSections, place_in}
+use Rattle.abbrev_units.specs.Texts.{text_in, text_of}
 use Rattle.abbrev_units.specs.declared.value.Given.{Given}
 
 -- the value of an attribute: the first that is given
@@ -38,11 +38,13 @@ as_place (value.SecOffset n) = Some n
 as_place (value.Num n) = Some n
 as_place _ = None
 
--- a place in `.debug_info`: one that is counted from the unit's start is absent where the sum leaves u64
-abbrev pub as_reference : Unit → Value → Option ℕ
-as_reference unit (value.UnitRef n) = if nat_lt (unit.start + n) (2 ^ 64) then Some (unit.start + n) else None
-as_reference unit (value.InfoRef n) = Some n
-as_reference unit _ = None
+-- a place in `.debug_info`, of this file or of the supplementary one: one that is counted from the unit's start is absent where the sum leaves
+-- u64, and one in a supplementary file that was not read is absent
+abbrev pub as_reference : DebugSections → Unit → Value → Option ℕ
+as_reference sections unit (value.UnitRef n) = if nat_lt (unit.start + n) (2 ^ 64) then Some (place_in sections.is_sup (unit.start + n)) else None
+as_reference sections unit (value.InfoRef n) = Some (place_in sections.is_sup n)
+as_reference sections unit (value.SupRefAt n) = if is_some sections.sup_strs then Some (place_in true n) else None
+as_reference sections unit _ = None
 
 abbrev pub as_flag : Value → Option Bool
 as_flag (value.Flag said) = Some said
@@ -58,10 +60,11 @@ as_number _ = None
 abbrev pub picked : {A : Type 0} → (Value → Option A) → ℕ → List Given → Option A
 picked class attribute values = option_and_then class (first_of attribute values)
 
--- whether a text stands in the supplementary file (DWARF 5, 7.3.6): by DW_FORM_strp_sup, or as dwz wrote it before, DW_FORM_GNU_strp_alt
-abbrev pub is_elsewhere : Option Value → Bool
-is_elsewhere (Some (value.SupStrAt place)) = true
-is_elsewhere _ = false
+-- whether a text stands in a supplementary file that was not read (DWARF 5, 7.3.6): by DW_FORM_strp_sup, or as dwz wrote it before,
+-- DW_FORM_GNU_strp_alt
+abbrev pub is_elsewhere : DebugSections → Option Value → Bool
+is_elsewhere sections (Some (value.SupStrAt place)) = is_none sections.sup_strs
+is_elsewhere sections _ = false
 
 -- yes only where it is said
 abbrev pub is_yes : Option Bool → Bool
@@ -78,6 +81,11 @@ abbrev pub or_else : {A : Type 0} → Option A → Option A → Option A
 or_else (Some x) other = Some x
 or_else None other = other
 
--- the text of an attribute of class string; `base` is the unit's str_offsets_base
+-- the text of a value of class string in an entry, in this file or in the supplementary one; `base` is the unit's str_offsets_base
+abbrev pub entry_text : DebugSections → Unit → Option ℕ → Value → Option (List ℕ)
+entry_text sections unit base (value.SupStrAt place) = option_and_then (λ strs. text_in strs place) sections.sup_strs
+entry_text sections unit base value = text_of sections sections.info unit.wide base value
+
+-- the text of an attribute of class string
 unfoldable pub text_in_entry : DebugSections → Unit → Option ℕ → ℕ → List Given → Option (List ℕ)
-text_in_entry sections unit base attribute values = picked (text_of sections sections.info unit.wide base) attribute values
+text_in_entry sections unit base attribute values = picked (entry_text sections unit base) attribute values

@@ -1,6 +1,8 @@
-use Rattle.std.specs.Prelude.{ℕ, List}
+use Rattle.std.specs.Prelude.{ℕ, ◌+◌, ◌^◌, nat_le, Bool, if◌then◌else◌, List, Option}
 
--- the bytes of the sections of debugging information, by their names: a missing one has none
+-- the bytes of the sections of debugging information, by their names: a missing one has none. Names and entries that several files share may
+-- stand in a supplementary file (DWARF 5, 7.3.6): `sup_strs` is its `.debug_str`, where that file was read too, and `is_sup` says that these
+-- sections are its own
 pub record DebugSections : Type 0 where
   pub info : List ℕ
   pub abbrevs : List ℕ
@@ -11,3 +13,13 @@ pub record DebugSections : Type 0 where
   pub addr : List ℕ
   pub ranges : List ℕ
   pub rnglists : List ℕ
+  pub sup_strs : Option (List ℕ)
+  pub is_sup : Bool
+
+-- places in `.debug_info` are counted through both files: a file has at most 2^29 bytes, and the places of the supplementary file come behind these
+abbrev pub first_place : Bool → ℕ
+first_place sup = if sup then 2 ^ 29 else 0
+
+-- the place to which a reference into one of them leads: one that leaves the file leads to no entry of either
+unfoldable pub place_in : Bool → ℕ → ℕ
+place_in sup n = if nat_le n (2 ^ 29) then first_place sup + n else 2 ^ 31

@@ -33,6 +33,7 @@ value_of is.SupTextPlace implicit (operand.Num n) = value.SupStrAt n
 value_of is.TextIndex implicit (operand.Num n) = value.StrIndex n
 value_of is.UnitReference implicit (operand.Num n) = value.UnitRef n
 value_of is.InfoReference implicit (operand.Num n) = value.InfoRef n
+value_of is.SupReference implicit (operand.Num n) = value.SupRefAt n
 value_of is.SectionPlace implicit (operand.Num n) = value.SecOffset n
 value_of is.ListIndex implicit (operand.Num n) = value.ListIndex n
 value_of _ implicit _ = value.Other

@@ -64,6 +64,7 @@ as_count _ = None
 abbrev pub as_link : Value → Option Value
 as_link (value.UnitRef n) = Some (value.UnitRef n)
 as_link (value.InfoRef n) = Some (value.InfoRef n)
+as_link (value.SupRefAt n) = Some (value.SupRefAt n)
 as_link _ = None
 
 abbrev pub as_said : Value → Option Value
@@ -152,6 +153,7 @@ value_in class.SupStrAt n = Some (value.SupStrAt n)
 value_in class.StrIndex n = Some (value.StrIndex n)
 value_in class.UnitRef n = Some (value.UnitRef n)
 value_in class.InfoRef n = Some (value.InfoRef n)
+value_in class.SupRefAt n = Some (value.SupRefAt n)
 value_in class.InlineText n = Some (value.InlineText n)
 
 -- the pick of a slot

@@ -1,7 +1,8 @@
 //! The sections of debugging information.
 use std::marker::Model;
 
-/// The bytes of `.debug_info` and of the sections to which it leads. A missing section has none.
+/// The bytes of `.debug_info` and of the sections to which it leads. A missing section has none. `sup_strs` is the `.debug_str` of
+/// the supplementary file (DWARF 5, 7.3.6), where that was read too; `is_sup` says that these are the sections of a supplementary file.
 #[derive(Debug, Drop)]
 pub struct Sections<'a> {
     pub info: &'a [u8],
@@ -13,9 +14,12 @@ pub struct Sections<'a> {
     pub addr: &'a [u8],
     pub ranges: &'a [u8],
     pub rnglists: &'a [u8],
+    pub sup_strs: Option<&'a [u8]>,
+    pub is_sup: bool,
 }
 
 impl<'a> Model for Sections<'a> {
+    ghost use Rattle.std.specs.Option.{option_copied};
     ghost use Rattle.abbrev_units.specs.DebugSections.{DebugSections};
 
     ghost Value = { DebugSections };
@@ -30,5 +34,7 @@ impl<'a> Model for Sections<'a> {
       addr = s.addr.now;
       ranges = s.ranges.now;
       rnglists = s.rnglists.now;
+      sup_strs = option_copied s.sup_strs;
+      is_sup = s.is_sup;
     } };
 }

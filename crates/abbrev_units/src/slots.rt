@@ -52,6 +52,7 @@ pub enum Class {
     StrIndex,
     UnitRef,
     InfoRef,
+    SupRefAt,
 
     /// A text in place: the number is where it begins.
     InlineText,
@@ -99,7 +100,7 @@ pub fn kept_class(slot: Slot, class: Class) -> Class
         | (Slot::High, Class::Addr | Class::AddrIndex | Class::Num | Class::Signed)
         | (Slot::Ranges, Class::SecOffset | Class::Num | Class::ListIndex)
         | (Slot::CallFile | Slot::CallLine, Class::Num | Class::Signed)
-        | (Slot::Origin | Slot::Specification, Class::UnitRef | Class::InfoRef)
+        | (Slot::Origin | Slot::Specification, Class::UnitRef | Class::InfoRef | Class::SupRefAt)
         | (
             Slot::Name | Slot::Linkage | Slot::OldLinkage | Slot::CompDir,
             Class::StrAt | Class::LineStrAt | Class::SupStrAt | Class::StrIndex | Class::InlineText,
@@ -130,6 +131,7 @@ fn plain(value: Value) -> Pick
         Value::AddrIndex(n) => (Class::AddrIndex, n),
         Value::UnitRef(n) => (Class::UnitRef, n),
         Value::InfoRef(n) => (Class::InfoRef, n),
+        Value::SupRefAt(n) => (Class::SupRefAt, n),
         Value::SecOffset(n) => (Class::SecOffset, n),
         Value::ListIndex(n) => (Class::ListIndex, n),
         Value::Block { start: _, len: _ } | Value::Other => (Class::Missing, 0),
@@ -171,6 +173,7 @@ impl Pick {
             Class::StrIndex => Some(Value::StrIndex(n)),
             Class::UnitRef => Some(Value::UnitRef(n)),
             Class::InfoRef => Some(Value::InfoRef(n)),
+            Class::SupRefAt => Some(Value::SupRefAt(n)),
             Class::InlineText => Some(Value::InlineText(n as usize)),
         }
     }

@@ -64,6 +64,7 @@ fn number_class(form: FormClass) -> Option<Class>
         FormClass::TextIndex => Some(Class::StrIndex),
         FormClass::UnitReference => Some(Class::UnitRef),
         FormClass::InfoReference => Some(Class::InfoRef),
+        FormClass::SupReference => Some(Class::SupRefAt),
         FormClass::SectionPlace => Some(Class::SecOffset),
         FormClass::ListIndex => Some(Class::ListIndex),
         _ => None,

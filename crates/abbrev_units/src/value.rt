@@ -44,6 +44,9 @@ pub enum Value {
     /// A place in `.debug_info`.
     InfoRef(u64),
 
+    /// A place in the `.debug_info` of the supplementary file (DWARF 5, 7.3.6).
+    SupRefAt(u64),
+
     /// A place in the section that belongs to the attribute.
     SecOffset(u64),
 
@@ -83,6 +86,7 @@ pub fn value_of(class: FormClass, implicit: i64, operand: Operand) -> Value
         (FormClass::TextIndex, Operand::Num(n)) => Value::StrIndex(n),
         (FormClass::UnitReference, Operand::Num(n)) => Value::UnitRef(n),
         (FormClass::InfoReference, Operand::Num(n)) => Value::InfoRef(n),
+        (FormClass::SupReference, Operand::Num(n)) => Value::SupRefAt(n),
         (FormClass::SectionPlace, Operand::Num(n)) => Value::SecOffset(n),
         (FormClass::ListIndex, Operand::Num(n)) => Value::ListIndex(n),
         _ => Value::Other,

@@ -45,7 +45,7 @@ forms wide =
     ∷ form 0x19 Nothing is.Present  -- DW_FORM_flag_present
     ∷ form 0x1a Uleb is.TextIndex  -- DW_FORM_strx
     ∷ form 0x1b Uleb is.AddressIndex  -- DW_FORM_addrx
-    ∷ form 0x1c U32 is.Other  -- DW_FORM_ref_sup4
+    ∷ form 0x1c U32 is.SupReference  -- DW_FORM_ref_sup4
     ∷ form 0x1d (place wide) is.SupTextPlace  -- DW_FORM_strp_sup
     ∷ form 0x1e Bytes16 is.Other  -- DW_FORM_data16
     ∷ form 0x1f (place wide) is.LineTextPlace  -- DW_FORM_line_strp
@@ -53,7 +53,7 @@ forms wide =
     ∷ form 0x21 Nothing is.Implicit  -- DW_FORM_implicit_const
     ∷ form 0x22 Uleb is.Other  -- DW_FORM_loclistx
     ∷ form 0x23 Uleb is.ListIndex  -- DW_FORM_rnglistx
-    ∷ form 0x24 U64 is.Other  -- DW_FORM_ref_sup8
+    ∷ form 0x24 U64 is.SupReference  -- DW_FORM_ref_sup8
     ∷ form 0x25 U8 is.TextIndex  -- DW_FORM_strx1
     ∷ form 0x26 U16 is.TextIndex  -- DW_FORM_strx2
     ∷ form 0x27 U24 is.TextIndex  -- DW_FORM_strx3
@@ -62,7 +62,7 @@ forms wide =
     ∷ form 0x2a U16 is.AddressIndex  -- DW_FORM_addrx2
     ∷ form 0x2b U24 is.AddressIndex  -- DW_FORM_addrx3
     ∷ form 0x2c U32 is.AddressIndex  -- DW_FORM_addrx4
-    ∷ form 0x1f20 (place wide) is.Other  -- DW_FORM_GNU_ref_alt
+    ∷ form 0x1f20 (place wide) is.SupReference  -- DW_FORM_GNU_ref_alt
     ∷ form 0x1f21 (place wide) is.SupTextPlace  -- DW_FORM_GNU_strp_alt
     ∷ []
 

@@ -145,6 +145,9 @@ pub enum FormClass {
     /// A place in `.debug_info`.
     InfoReference,
 
+    /// A place in the `.debug_info` of the supplementary file (7.3.6).
+    SupReference,
+
     /// A place in another section.
     SectionPlace,
 
@@ -196,7 +199,7 @@ macro_rules! forms {
             DW_FORM_flag_present: Kind::Nothing, Present;
             DW_FORM_strx: Kind::Uleb, TextIndex;
             DW_FORM_addrx: Kind::Uleb, AddressIndex;
-            DW_FORM_ref_sup4: Kind::U32, Other;
+            DW_FORM_ref_sup4: Kind::U32, SupReference;
             DW_FORM_strp_sup: $place, SupTextPlace;
             DW_FORM_data16: Kind::Bytes16, Other;
             DW_FORM_line_strp: $place, LineTextPlace;
@@ -204,7 +207,7 @@ macro_rules! forms {
             DW_FORM_implicit_const: Kind::Nothing, Implicit;
             DW_FORM_loclistx: Kind::Uleb, Other;
             DW_FORM_rnglistx: Kind::Uleb, ListIndex;
-            DW_FORM_ref_sup8: Kind::U64, Other;
+            DW_FORM_ref_sup8: Kind::U64, SupReference;
             DW_FORM_strx1: Kind::U8, TextIndex;
             DW_FORM_strx2: Kind::U16, TextIndex;
             DW_FORM_strx3: Kind::U24, TextIndex;
@@ -213,7 +216,7 @@ macro_rules! forms {
             DW_FORM_addrx2: Kind::U16, AddressIndex;
             DW_FORM_addrx3: Kind::U24, AddressIndex;
             DW_FORM_addrx4: Kind::U32, AddressIndex;
-            DW_FORM_GNU_ref_alt: $place, Other;
+            DW_FORM_GNU_ref_alt: $place, SupReference;
             DW_FORM_GNU_strp_alt: $place, SupTextPlace;
         }
     };

@@ -22,3 +22,6 @@ pub long_id : (root id path : List ℕ) → (length id < 2 → ⊥) → path ≡
 long_id root [] path many is = absurd (many (omega arith))
 long_id root (a ∷ []) path many is = absurd (many (omega arith))
 long_id root (a ∷ b ∷ id) path many is = ap Some (sym is)
+
+pub joined_three : (a b c p q : List ℕ) → p ≡ a ++ b → q ≡ p ++ c → q ≡ a ++ b ++ c
+joined_three a b c p q one two = two ∙ ap (λ l. l ++ c) one

@@ -1,7 +1,9 @@
--- The words by which faults of a pair are printed.
+-- The words by which faults of a pair, and of a supplementary file, are printed.
 use Rattle.std.specs.Prelude.{ℕ, List, codes}
 use Rattle.debug_pair.specs.declared.fault.PairFault.{PairFault}
 use Rattle.debug_pair.specs.declared.fault.PairFault.TheVariants.{NoBuildId, BuildId}
+use Rattle.debug_pair.specs.declared.fault.SupFault.{SupFault}
+use Rattle.debug_pair.specs.declared.fault.SupFault.TheVariants as sup
 
 -- the word of a fault
 abbrev pub pair_word : PairFault → List ℕ
@@ -11,3 +13,8 @@ pair_word BuildId = codes "build-id"
 -- the word of an id that is too short to name a file
 abbrev pub short_id_word : List ℕ
 short_id_word = codes "short-id"
+
+-- the word of a fault of a supplementary file
+abbrev pub sup_word : SupFault → List ℕ
+sup_word sup.Link = codes "link"
+sup_word sup.BuildId = codes "build-id"

@@ -1,4 +1,8 @@
-//! Why two files are no pair, or a build id leads to no path.
+//! Why two files are no pair, a build id leads to no path, or a file's supplementary file cannot be read with it.
+ghost use Rattle.std.specs.Prelude.{◌≡◌};
+ghost use Rattle.debug_pair.specs.declared.fault.SupFault.TheVariants.{Link};
+
+use leb_cursor::CursorFault;
 
 /// Why two files are not a binary and its debug file.
 #[derive(Clone, Copy, Debug, PartialEq, Eq)]
@@ -37,5 +41,37 @@ impl ShortId {
         ensures { result.now ≡ short_id_word }
     {
         b"short-id"
+    }
+}
+
+/// Why a file is not read with the supplementary file to which it links.
+#[derive(Clone, Copy, Debug, PartialEq, Eq)]
+pub enum SupFault {
+    /// The section that links to it has not all its parts, or leads nowhere.
+    Link,
+    /// The file there has another id, or none.
+    BuildId,
+}
+
+impl SupFault {
+    ghost use Rattle.std.specs.Prelude.{◌≡◌};
+    ghost use Rattle.debug_pair.specs.FaultWords.{sup_word};
+
+    /// The fault as it is printed.
+    pub fn word(self) -> &'static [u8]
+        ensures { result.now ≡ sup_word self }
+    {
+        match self {
+            SupFault::Link => b"link",
+            SupFault::BuildId => b"build-id",
+        }
+    }
+}
+
+impl From<CursorFault> for SupFault {
+    ghost from_gives = { λ _ fault. fault ≡ Link };
+
+    fn from(_fault: CursorFault) -> SupFault {
+        SupFault::Link
     }
 }

@@ -12,12 +12,13 @@ pub record Kept (image : ImageParts) (read : DebugRead) : Type 0 where
   pub says : DebugSays
   pub says_is : debug_says image ≡ Ok says
   pub headers : read.headers ≡ says.headers
+  pub sup_headers : read.sup_headers ≡ says.sup_headers
   pub units : Match (IsUnitRead image.code) says.units read.units
   pub first : read.first ≡ says.first
   pub second : read.second ≡ says.second
 
 kept_by : (image : ImageParts) (read : DebugRead) (says : Result DebugSays DebugFault) → debug_says image ≡ says → Says (IsKept image.code) says read → Kept image read
-kept_by image read (Ok says) is kept = record { says = says; says_is = is; headers = kept.headers; units = kept.units; first = kept.first; second = kept.second }
+kept_by image read (Ok says) is kept = record { says = says; says_is = is; headers = kept.headers; sup_headers = kept.sup_headers; units = kept.units; first = kept.first; second = kept.second }
 kept_by image read (Err fault) is kept = absurd kept
 
 pub kept : (image : ImageParts) (read : DebugRead) → IsDebugRead image read → Kept image read

@@ -8,9 +8,11 @@ pub mod PickLemmas
 pub mod JobLemmas
 pub mod Computing
 mod WorkedFaults
+pub mod FileLemmas
 pub mod KeptLemmas
 pub mod PathLemmas
 pub mod OwnerLemmas
 mod SaidLemmas
 mod SaidNameLemmas
 pub mod SameLemmas
+pub mod TargetLemmas

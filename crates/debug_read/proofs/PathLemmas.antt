@@ -15,7 +15,6 @@ use Rattle.abbrev_units.specs.DebugSections.{DebugSections}
 use Rattle.abbrev_units.specs.Abbreviations.{abbrevs_of}
 use Rattle.abbrev_units.specs.Faults.{as_header}
 use Rattle.die_walk.specs.EntryTable.{RootFields, entry_table}
-use Rattle.range_lists.specs.EntryRanges.{unit_base, pairs_of}
 use Rattle.line_program.specs.FileFields.{FileFields}
 use Rattle.line_program.specs.FileTables.{Tables, tables_at}
 use Rattle.line_program.specs.Headers.{table_at}
@@ -28,15 +27,14 @@ use Rattle.debug_units.specs.declared.unit_read.UnitRead.{UnitRead}
 use Rattle.sym_edges.specs.declared.part.Sect.TheVariants.{EhFrame, DebugFrame}
 use Rattle.abbrev_units.specs.UnitPlaces.{read_units}
 use Rattle.abbrev_units.specs.Units.{units_in}
-use Rattle.frame_entries.specs.declared.description.Entry.{Entry}
 use Rattle.frame_entries.specs.FrameEntries.{frame_entries}
 use Rattle.debug_read.specs.declared.fault.DebugFault.{DebugFault}
-use Rattle.debug_read.specs.DebugSays.{DebugSays, as_dwarf, as_frame, debug_says, IsDebugRead}
+use Rattle.debug_read.specs.DebugSays.{FileSays, BothSays, DebugSays, as_dwarf, as_sup, as_frame, file_says, both_says, debug_says, IsDebugRead}
 use Rattle.debug_read.specs.declared.found.DebugRead.{DebugRead}
 use Rattle.debug_read.proofs.KeptLemmas.{kept}
 use Rattle.debug_read.specs.Each.{each_of, Match}
-use Rattle.debug_read.specs.ImageSections.{sections_of}
-use Rattle.debug_read.specs.UnitSays.{UnitSays, lines_by, root_lines, unit_says}
+use Rattle.debug_read.specs.ImageSections.{sections_of, sup_sections_of}
+use Rattle.debug_read.specs.UnitSays.{UnitSays, lines_by, root_lines, unit_pairs, unit_says}
 use Rattle.debug_read.specs.UnitsRead.{IsUnitRead, KeepsLines, has_function}
 use Rattle.clean_names.specs.Cleaning.{AreClean}
 use Rattle.debug_units.specs.CleanPaths.{HaveCleanPaths}
@@ -101,9 +99,8 @@ unfolding unit_says root_lines
 says_clean sections unit =
     then_holds SaysClean (abbrevs_of sections unit) _ (λ abbrevs.
     then_holds SaysClean (entry_table sections unit abbrevs) _ (λ table.
-    then_holds SaysClean (unit_base sections table.root) _ (λ base.
-    then_holds SaysClean (each_of (pairs_of sections unit table.root base) table.dies) _ (λ pairs.
-    made_holds MayHaveClean SaysClean (lines_by sections table.root table.root.stmt_list) (λ lines. record { table = table; pairs = pairs; lines = lines }) (root_clean sections table.root table.root.stmt_list) (λ lines clean. clean)))))
+    then_holds SaysClean (unit_pairs sections unit table) _ (λ pairs.
+    made_holds MayHaveClean SaysClean (lines_by sections table.root table.root.stmt_list) (λ lines. record { table = table; pairs = pairs; lines = lines }) (root_clean sections table.root table.root.stmt_list) (λ lines clean. clean))))
 
 abbrev AllSayClean : List UnitSays → Type 0
 AllSayClean [] = Prim.Unit {0}
@@ -150,30 +147,54 @@ all_clean code (s ∷ says) [] clean are = absurd are
 all_clean code (s ∷ says) (part ∷ parts) clean are =
     (kept_clean code (has_function s.table.dies) s.lines part.lines clean.0 are.0.lines, all_clean code says parts clean.1 are.1)
 
--- those of a file
-units_part : (first : Result (List Unit) DebugFault) (gives : List Unit → Result (List UnitSays) DebugFault) (one : Result (List Entry) DebugFault) (two : Result (List Entry) DebugFault) (says : DebugSays) → ((us : List Unit) → Holds AllSayClean (gives us)) → (first >>= λ headers. gives headers >>= λ units. one >>= λ f. two >>= λ s. Ok (record { headers = headers; units = units; first = f; second = s })) ≡ Ok says → AllSayClean says.units
-units_part (Ok headers) gives one two says each is = found (gives headers) (each headers) is
-  where
-    found : (units : Result (List UnitSays) DebugFault) → Holds AllSayClean units → (units >>= λ us. one >>= λ f. two >>= λ s. Ok (record { headers = headers; units = us; first = f; second = s })) ≡ Ok says → AllSayClean says.units
-    found (Ok us) clean same = last one two same
-      where
-        last : (f : Result (List Entry) DebugFault) (s : Result (List Entry) DebugFault) → (f >>= λ a. s >>= λ b. Ok (record { headers = headers; units = us; first = a; second = b })) ≡ Ok says → AllSayClean says.units
-        last (Ok a) (Ok b) eq = subst AllSayClean (let e : us ≡ says.units = cc in e) clean
-        last (Ok a) (Err fault) eq = absurd (cc)
-        last (Err fault) s eq = absurd (cc)
-    found (Err fault) clean same = absurd (cc)
-units_part (Err fault) gives one two says each is = absurd (cc)
+-- those of a file, and of its supplementary file
+both_clean : (all more : List UnitSays) → AllSayClean all → AllSayClean more → AllSayClean (all ++ more)
+both_clean [] more clean other = other
+both_clean (says ∷ all) more clean other = (clean.0, both_clean all more clean.1 other)
 
-dwarf_clean : (given : Result (List UnitSays) (Located DwarfKind)) → Holds AllSayClean given → Holds AllSayClean (as_dwarf given)
-dwarf_clean (Ok units) clean = clean
+also_holds : {A B F : Type 0} (P : A → Type 0) (Q : B → Type 0) (first : Result A F) (next : A → Result B F) → Holds P first → ((x : A) → P x → Holds Q (next x)) → Holds Q (first >>= next)
+also_holds P Q (Ok x) next holds each = each x holds
+also_holds P Q (Err fault) next holds each = tt
+
+abbrev FileClean : FileSays → Type 0
+FileClean says = AllSayClean says.units
+
+file_clean : (sections : DebugSections) → Holds FileClean (file_says sections)
+unfolding file_says
+file_clean sections =
+    then_holds FileClean (units_in sections.info) _ (λ headers.
+    made_holds AllSayClean FileClean (each_of (unit_says sections) (read_units headers)) (λ units. record { headers = headers; units = units }) (units_clean sections (read_units headers)) (λ units clean. clean))
+
+dwarf_clean : (given : Result FileSays (Located DwarfKind)) → Holds FileClean given → Holds FileClean (as_dwarf given)
+dwarf_clean (Ok says) clean = clean
 dwarf_clean (Err fault) clean = tt
 
-said_clean : (image : ImageParts) (says : DebugSays) → debug_says image ≡ Ok says → AllSayClean says.units
+sup_clean : (given : Result FileSays (Located DwarfKind)) → Holds FileClean given → Holds FileClean (as_sup given)
+sup_clean (Ok says) clean = clean
+sup_clean (Err fault) clean = tt
+
+abbrev BothClean : BothSays → Type 0
+BothClean says = AllSayClean says.units
+
+units_of_both : (image : ImageParts) → Holds BothClean (both_says image)
+unfolding both_says
+units_of_both image =
+    also_holds FileClean BothClean (as_dwarf (file_says (sections_of image))) _ (dwarf_clean (file_says (sections_of image)) (file_clean (sections_of image))) (λ own clean.
+    also_holds FileClean BothClean (as_sup (file_says (sup_sections_of image.sup))) _ (sup_clean (file_says (sup_sections_of image.sup)) (file_clean (sup_sections_of image.sup))) (λ sup other.
+    both_clean own.units sup.units clean other))
+
+abbrev DebugClean : DebugSays → Type 0
+DebugClean says = AllSayClean says.units
+
+image_clean : (image : ImageParts) → Holds DebugClean (debug_says image)
 unfolding debug_says
-said_clean image says is =
-    units_part (as_dwarf (units_in image.info.bytes)) (λ headers. as_dwarf (each_of (unit_says (sections_of image)) (read_units headers)))
-    (as_frame (frame_entries image.eh_frame.bytes image.eh_frame.address EhFrame)) (as_frame (frame_entries image.debug_frame.bytes image.debug_frame.address DebugFrame))
-    says (λ headers. dwarf_clean (each_of (unit_says (sections_of image)) (read_units headers)) (units_clean (sections_of image) (read_units headers))) is
+image_clean image =
+    also_holds BothClean DebugClean (both_says image) _ (units_of_both image) (λ both clean.
+    then_holds DebugClean (as_frame (frame_entries image.eh_frame.bytes image.eh_frame.address EhFrame)) _ (λ first.
+    then_holds DebugClean (as_frame (frame_entries image.debug_frame.bytes image.debug_frame.address DebugFrame)) _ (λ second. clean)))
+
+said_clean : (image : ImageParts) (says : DebugSays) → debug_says image ≡ Ok says → AllSayClean says.units
+said_clean image says is = subst (λ (r : Result DebugSays DebugFault). Holds DebugClean r) is (image_clean image)
 
 pub read_clean : (image : ImageParts) (read : DebugRead) → IsDebugRead image read → HaveCleanPaths read.units
 read_clean image read is = let k = kept image read is in all_clean image.code k.says.units read.units (said_clean image k.says k.says_is) k.units

@@ -25,7 +25,7 @@ pub record IsAlike (code : List Range) (a : ℕ) (e : SaidEntry) (c : Covering) 
   pub place : said_place e ≡ kept_place c
   pub held : holds_any c.spans a ≡ in_pairs code e.pairs a
 
-match_append : {A B : Type 0} (R : A → B → Type 0) (xs us : List A) (ys vs : List B) → Match R xs ys → Match R us vs → Match R (xs ++ us) (ys ++ vs)
+pub match_append : {A B : Type 0} (R : A → B → Type 0) (xs us : List A) (ys vs : List B) → Match R xs ys → Match R us vs → Match R (xs ++ us) (ys ++ vs)
 match_append R [] us [] vs first later = later
 match_append R [] us (y ∷ ys) vs first later = absurd first
 match_append R (x ∷ xs) us [] vs first later = absurd first

@@ -1,6 +1,7 @@
 -- The set of an entry.
-use Rattle.std.proofs.Common.{◌≡◌, ℕ, suc, ◌+◌, ◌<◌, Bool, true, false, List, [], ◌∷◌, ◌++◌, drop, length, get_or, Option, Some, Result, Ok, Err, refl, sym, ap, subst, ◌∙◌, add-one, length-append, arith}
+use Rattle.std.proofs.Common.{◌≡◌, ℕ, suc, ◌+◌, ◌<◌, Bool, true, false, List, [], ◌∷◌, ◌++◌, drop, length, replicate, get_or, Option, Some, Result, Ok, Err, refl, sym, ap, subst, ◌∙◌, add-one, length-append, arith}
 use Rattle.std.proofs.lemmas.Bool.Decides.{nat_tests}
+use Rattle.std.proofs.lemmas.List.{replicate-append-replicate}
 use Rattle.std.proofs.lemmas.Option.{slice_get-get_or}
 use Rattle.std.specs.List.{slice_get}
 use Rattle.abbrev_units.specs.declared.unit.Unit.{Unit}
@@ -17,6 +18,7 @@ use Rattle.abbrev_units.specs.declared.fault.DwarfKind.{DwarfKind}
 use Rattle.range_set.specs.Members.{holds_any}
 use Rattle.range_lists.specs.EntryRanges.{in_pairs, in_ranges, IsRanges, pairs_of, pairs_at}
 use Rattle.debug_read.specs.Each.{each_of, Match, Says}
+use Rattle.debug_read.specs.UnitSays.{no_pairs}
 use Rattle.debug_read.specs.UnitsRead.{IsSet}
 use Rattle.debug_read.proofs.EachLemmas.{Going, going_begins, going_more, going_ends, going_stops}
 
@@ -124,3 +126,15 @@ holds_first range ranges some = grind (arith, nat_tests)
 pub no_address : (set : List Range) → IsCanonical set → ((a : ℕ) → holds_any set a ≡ false) → set ≡ []
 no_address [] canonical none = refl
 no_address (range ∷ ranges) canonical none = absurd (true_is_not_false (sym (holds_first range ranges canonical.0) ∙ none range.start))
+
+-- entries without addresses
+pub none_more : (n : ℕ) (sets more : List (List Range)) → sets ≡ replicate n [] → more ≡ sets ++ [] ∷ [] → more ≡ replicate (n + 1) []
+none_more n sets more are grown = grown ∙ ap (λ (s : List (List Range)). s ++ [] ∷ []) are ∙ replicate-append-replicate n 1 []
+
+pub none_sets : (code : List Range) (dies : List DieFields) → Match (IsSet code) (no_pairs dies) (replicate (length dies) [])
+none_sets code [] = tt
+none_sets code (die ∷ dies) = (record { canonical = tt; each = λ a. refl }, none_sets code dies)
+
+pub all_none : (dies : List DieFields) (n : ℕ) (sets : List (List Range)) → n ≡ length dies → sets ≡ replicate n [] → (code : List Range) → Match (IsSet code) (no_pairs dies) sets
+all_none dies n sets end are code =
+    subst (Match (IsSet code) (no_pairs dies)) (sym (are ∙ ap (λ (k : ℕ). replicate k []) end)) (none_sets code dies)

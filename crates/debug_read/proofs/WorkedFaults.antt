@@ -8,14 +8,15 @@ use Rattle.sym_edges.specs.Addresses.{Range}
 use Rattle.sym_edges.specs.Results.{◌>>=◌}
 use Rattle.sym_edges.specs.declared.part.Sect.{Sect}
 use Rattle.sym_edges.specs.declared.part.Sect.TheVariants as section
-use Rattle.elf_sections.specs.Image.{ImageParts, SectionPart}
+use Rattle.elf_sections.specs.Image.{ImageParts, SectionPart, DebugSections as ImageDebug}
+use Rattle.elf_sections.specs.SupLinks.LinkPart.{Missing}
 use Rattle.abbrev_units.specs.declared.fault.DwarfKind.{DwarfKind}
 use Rattle.abbrev_units.specs.declared.fault.DwarfKind.TheVariants as is
 use Rattle.frame_entries.specs.declared.fault.FrameKind.TheVariants as frame
 use Rattle.line_program.specs.LineAt.{Lines}
 use Rattle.die_walk.specs.EntryTable.{DieFields}
 use Rattle.debug_read.specs.declared.fault.DebugFault.{DebugFault}
-use Rattle.debug_read.specs.declared.fault.DebugFault.TheVariants.{Dwarf, Frame}
+use Rattle.debug_read.specs.declared.fault.DebugFault.TheVariants.{Dwarf, Sup, Frame}
 use Rattle.debug_read.specs.UnitSays.{UnitSays}
 use Rattle.debug_read.specs.UnitsRead.{has_function}
 use Rattle.debug_read.specs.DebugSays.{DebugSays, debug_says}
@@ -52,7 +53,30 @@ image info line eh_frame debug_frame = record {
   build_id = None;
   identity = [];
   symbols = [];
+  altlink = Missing;
+  debug_sup = Missing;
+  sup = None;
 }
+
+-- the same with a supplementary file whose `.debug_info` is that, and whose abbreviations are the same
+unfoldable with_info : List ℕ → ImageDebug
+unfolding abbrevs
+with_info info = record {
+  info = at_0 info;
+  abbrevs = at_0 abbrevs;
+  line = at_0 [];
+  line_str = at_0 [];
+  str = at_0 [];
+  str_offsets = at_0 [];
+  addr = at_0 [];
+  ranges = at_0 [];
+  rnglists = at_0 [];
+  debug_frame = at_0 [];
+}
+
+unfoldable both : List ℕ → List ℕ → String → ImageParts
+unfolding image with_info
+both info sup eh_frame = record (image info "" eh_frame "") { sup = Some (with_info sup) }
 
 -- a unit of version 4 whose abbreviations stand at a place, with one entry of four bytes
 unfoldable old : ℕ → List ℕ
@@ -80,11 +104,11 @@ abbrev in_frames : Sect → Option DebugFault
 in_frames which = Some (Frame (record { kind = frame.Length; section = which; at = 0 }))
 
 unfoldable worked : ⊤
-unfolding debug_read_computes hex little abbrevs image old unit fault_of
+unfolding debug_read_computes hex little abbrevs image with_info both old unit fault_of
 worked = tt
 
 -- a file without units
-no_units : debug_says (image [] "" "" "") ≡ Ok (record { headers = []; units = []; first = []; second = [] })
+no_units : debug_says (image [] "" "" "") ≡ Ok (record { headers = []; sup_headers = []; units = []; first = []; second = [] })
 unfolding worked
 no_units = refl
 
@@ -199,3 +223,26 @@ two_units : seen_in (others ++ (unit "03 00000000 04 0010000000000000 10 06" ++ 
     ≡ Ok (record { places = 0x28 ∷ 0x2d ∷ 0x37 ∷ []; pairs = [] ∷ (record { start = 0x1000; end = 0x1010 } ∷ []) ∷ [] ∷ []; function = true; lines = Some 1 } ∷ record { places = 0x44 ∷ 0x45 ∷ []; pairs = [] ∷ [] ∷ []; function = false; lines = None } ∷ [])
 unfolding worked others seen seen_in
 two_units = refl
+
+-- a supplementary file: its faults come behind those of the file's units, and before those of frames
+sup_fault : fault (debug_says (both (old 8) (old 0) "ff000000")) ≡ Some (Sup (record { kind = is.Ends; section = section.Info; at = 0xc }))
+unfolding worked
+sup_fault = refl
+
+own_fault_first : fault (debug_says (both (old 0) (old 0x100) "")) ≡ in_info is.Ends 0xc
+unfolding worked
+own_fault_first = refl
+
+frames_last : fault (debug_says (both (old 8) (old 8) "ff000000")) ≡ in_frames section.EhFrame
+unfolding worked
+frames_last = refl
+
+-- its ranges and line tables are not read, whatever they are, and the places of its entries come behind all others
+unfoldable seen_both : List ℕ → List ℕ → Result (List Seen) DebugFault
+unfolding both seen
+seen_both info sup = debug_says (both info sup "") >>= λ says. Ok (map seen says.units)
+
+sup_units : seen_both (unit "05 06") (unit "03 ffffff00 02 00 10")
+    ≡ Ok (record { places = 0xc ∷ 0xd ∷ []; pairs = [] ∷ [] ∷ []; function = false; lines = None } ∷ record { places = 0x2000000c ∷ 0x20000011 ∷ []; pairs = [] ∷ [] ∷ []; function = true; lines = None } ∷ [])
+unfolding worked seen seen_both
+sup_units = refl

@@ -5,5 +5,6 @@ pub mod UnitsRead
 pub mod SaidOwners
 pub mod SaidNames
 pub mod SameUnits
+pub mod SupUnits
 pub mod DebugSays
 pub mod internal

@@ -1,5 +1,5 @@
 -- What a unit of `.debug_info` says: its entries, their addresses, and its line table; or its first fault.
-use Rattle.std.specs.Prelude.{ℕ, List, [], Option, None, Some, unwrap_or, Result, Ok}
+use Rattle.std.specs.Prelude.{ℕ, if◌then◌else◌, List, [], map, Option, None, Some, unwrap_or, Result, Ok}
 use Rattle.sym_edges.specs.Addresses.{Range}
 use Rattle.sym_edges.specs.Results.{◌>>=◌}
 use Rattle.sym_edges.specs.declared.located.Located.{Located}
@@ -7,7 +7,7 @@ use Rattle.abbrev_units.specs.declared.fault.DwarfKind.{DwarfKind}
 use Rattle.abbrev_units.specs.declared.unit.Unit.{Unit}
 use Rattle.abbrev_units.specs.DebugSections.{DebugSections}
 use Rattle.abbrev_units.specs.Abbreviations.{abbrevs_of}
-use Rattle.die_walk.specs.EntryTable.{RootFields, EntryTable, entry_table}
+use Rattle.die_walk.specs.EntryTable.{DieFields, RootFields, EntryTable, entry_table}
 use Rattle.range_lists.specs.EntryRanges.{unit_base, pairs_of}
 use Rattle.line_program.specs.LineAt.{Lines}
 use Rattle.line_program.specs.LineTables.{unit_lines}
@@ -27,13 +27,23 @@ lines_by sections root (Some offset) = unit_lines sections offset root.at (unwra
 unfoldable pub root_lines : DebugSections → RootFields → Result (Option Lines) (Located DwarfKind)
 root_lines sections root = lines_by sections root root.stmt_list
 
--- what a unit says, or its first fault: of its abbreviations, its entries, the base of its range lists, the ranges entry by entry, its
--- line table
+-- no addresses of each entry
+abbrev pub no_pairs : List DieFields → List (List Range)
+no_pairs dies = map (λ die. []) dies
+
+-- the pairs of addresses that the entries of a unit give: the base of its range lists, and then the ranges entry by entry; the entries of a
+-- supplementary file have none (DWARF 5, 7.3.6)
+abbrev pub own_pairs : DebugSections → Unit → EntryTable → Result (List (List Range)) (Located DwarfKind)
+own_pairs sections unit table = unit_base sections table.root >>= λ base. each_of (pairs_of sections unit table.root base) table.dies
+
+unfoldable pub unit_pairs : DebugSections → Unit → EntryTable → Result (List (List Range)) (Located DwarfKind)
+unit_pairs sections unit table = if sections.is_sup then Ok (no_pairs table.dies) else own_pairs sections unit table
+
+-- what a unit says, or its first fault: of its abbreviations, its entries, their addresses, its line table
 unfoldable pub unit_says : DebugSections → Unit → Result UnitSays (Located DwarfKind)
 unit_says sections unit =
     abbrevs_of sections unit >>= λ abbrevs.
     entry_table sections unit abbrevs >>= λ table.
-    unit_base sections table.root >>= λ base.
-    each_of (pairs_of sections unit table.root base) table.dies >>= λ pairs.
+    unit_pairs sections unit table >>= λ pairs.
     root_lines sections table.root >>= λ lines.
     Ok (record { table = table; pairs = pairs; lines = lines })

@@ -3,3 +3,5 @@ pub mod Sharing
 pub mod Jobs
 pub mod Owing
 pub mod Stops
+pub mod Files
+pub mod Targets

@@ -3,25 +3,24 @@ ghost use Rattle.std.specs.Prelude.{◌≡◌, ◌≤◌, Err};
 ghost use Rattle.sym_edges.specs.Outside.{MatchStop};
 ghost use Rattle.debug_read.specs.DebugSays.{debug_says, IsDebugRead};
 
-use crate::fault::{DebugFault, dwarf_stop, frame_stop};
+use crate::fault::{DebugFault, frame_stop};
 use crate::found::DebugRead;
-use crate::sections::sections_of;
-use crate::units::read_all_units;
-use abbrev_units::units;
+use crate::units::{BothRead, read_both};
 use elf_sections::Image;
 use frame_entries::entries;
 use std::alloc::Global;
 use std::thread::Threads;
-use sym_edges::{FILE_LIMIT, Sect, Stop};
+use sym_edges::{Sect, Stop};
 use unit_workers::Gate;
 
 /// All debugging information of an image, by `workers` workers, 1 to 64: the headers of the units of `.debug_info`, the units
-/// that are read, in their order, and the entries of `.eh_frame` and of `.debug_frame`. `gate` is told of each unit before it
-/// is read, by its number among those that are read.
+/// that are read, in their order, and the entries of `.eh_frame` and of `.debug_frame`. `gate` is told of each unit of the file
+/// before it is read, by its number among those that are read. Where the image has the sections of a supplementary file
+/// (DWARF 5, 7.3.6), its units stand behind those of the file; their entries have no addresses, and they no lines.
 ///
 /// Where there is a fault, the answer is the first one, in this order: of the unit headers (DWARF 5, 7.5.1); of the units, one
 /// after the other, each with its abbreviations (7.5.3), its entries (7.5.2), the base of its range lists (3.1.1), the ranges
-/// entry by entry (2.17), its line table (6.2); of `.eh_frame`; of `.debug_frame` (6.4.1). The number of workers changes
+/// entry by entry (2.17), its line table (6.2); of the supplementary file's unit headers, and of its units; of `.eh_frame`; of `.debug_frame` (6.4.1). The number of workers changes
 /// nothing. A `.debug_info` of more than 2^29 bytes, which no file that is dumped has, wants more memory than there is.
 #[tactic(auto, unfolding(crate::specs::DebugSays::debug_says))]
 pub fn read_debug<'a, R: Threads + Sync, G: Gate + Sync>(
@@ -37,26 +36,9 @@ pub fn read_debug<'a, R: Threads + Sync, G: Gate + Sync>(
         (λ fault. debug_says image.now ≡ Err fault)
         (Prim.Unit {0}) }
 {
-    let sections = sections_of(image);
-    if sections.info.len() > FILE_LIMIT {
-        return Err(Stop::NoMemory);
-    }
-    let headers = match units(alloc, sections.info) {
-        Ok(headers) => headers,
-        Err(stop) => return Err(dwarf_stop(stop)),
-    };
-    let code = image.code();
-    let units = match read_all_units(
-        rt,
-        alloc,
-        &sections,
-        headers.as_slice(),
-        code,
-        gate,
-        workers,
-    ) {
-        Ok(units) => units,
-        Err(stop) => return Err(dwarf_stop(stop)),
+    let both = match read_both(rt, alloc, image, gate, workers) {
+        Ok(both) => both,
+        Err(stop) => return Err(stop),
     };
     let first = match entries(alloc, image.section(Sect::EhFrame), Sect::EhFrame) {
         Ok(first) => first,
@@ -66,8 +48,14 @@ pub fn read_debug<'a, R: Threads + Sync, G: Gate + Sync>(
         Ok(second) => second,
         Err(stop) => return Err(frame_stop(stop)),
     };
+    let BothRead {
+        headers,
+        sup_headers,
+        units,
+    } = both;
     Ok(DebugRead {
         headers,
+        sup_headers,
         units,
         first,
         second,

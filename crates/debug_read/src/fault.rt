@@ -1,6 +1,6 @@
 //! Why the debugging information of a file is refused.
 ghost use Rattle.std.specs.Prelude.{◌≡◌};
-ghost use Rattle.debug_read.specs.internal.Stops.{dwarf_stop, frame_stop};
+ghost use Rattle.debug_read.specs.internal.Stops.{dwarf_stop, sup_stop, frame_stop};
 
 use abbrev_units::DwarfFault;
 use frame_entries::FrameFault;
@@ -10,6 +10,9 @@ use sym_edges::Stop;
 pub enum DebugFault {
     /// In `.debug_info`, or in a section to which it leads.
     Dwarf(DwarfFault),
+
+    /// In one of these sections of the supplementary file (DWARF 5, 7.3.6).
+    Sup(DwarfFault),
 
     /// In `.eh_frame` or `.debug_frame`.
     Frame(FrameFault),
@@ -21,6 +24,16 @@ pub fn dwarf_stop(stop: Stop<DwarfFault>) -> Stop<DebugFault>
 {
     match stop {
         Stop::Fault(fault) => Stop::Fault(DebugFault::Dwarf(fault)),
+        Stop::NoMemory => Stop::NoMemory,
+    }
+}
+
+/// A fault of debugging information of the supplementary file.
+pub fn sup_stop(stop: Stop<DwarfFault>) -> Stop<DebugFault>
+    ensures { result ≡ sup_stop stop }
+{
+    match stop {
+        Stop::Fault(fault) => Stop::Fault(DebugFault::Sup(fault)),
         Stop::NoMemory => Stop::NoMemory,
     }
 }

@@ -23,8 +23,10 @@
 //! (`unit_workers`); what they found is then joined with the line tables in the order of the units. All units are read, also
 //! after one that is refused. Abbreviations that several units name are read before, once.
 //!
+//! [`SupTargets`] says to which units of a supplementary file (DWARF 5, 7.3.6) the entries of the file lead.
+//!
 //! To read: `specs/UnitSays.antt`, `UnitsRead.antt` and `DebugSays.antt`; then `units` with `shared_abbrevs` and `ranges`; `lines`,
-//! `named_tables` and `unit_tables`; and `debug`.
+//! `named_tables` and `unit_tables`; `debug`; and `sup_targets`.
 #![tactic(auto)]
 
 mod debug;
@@ -36,9 +38,12 @@ mod named_tables;
 mod ranges;
 mod sections;
 mod shared_abbrevs;
+mod sup_targets;
 mod unit_tables;
 mod units;
 
 pub use crate::debug::read_debug;
 pub use crate::fault::DebugFault;
 pub use crate::found::DebugRead;
+pub use crate::sections::sections_of;
+pub use crate::sup_targets::SupTargets;

@@ -4,13 +4,14 @@ ghost use Rattle.sym_edges.specs.Addresses.{Range};
 ghost use Rattle.sym_edges.specs.Outside.{MatchStop};
 ghost use Rattle.range_lists.specs.EntryRanges.{pairs_of, pairs_at, listed_at};
 ghost use Rattle.debug_read.specs.Each.{each_of, Match, Says};
+ghost use Rattle.debug_read.specs.UnitSays.{no_pairs, unit_pairs};
 ghost use Rattle.debug_read.specs.UnitsRead.{IsSet};
 
 use abbrev_units::{DwarfFault, Sections, Unit};
 use debug_units::SpanSets;
 use die_walk::DieTable;
 use range_lists::laws::lists_at_one_place;
-use range_lists::{counts_at, listed_at, ranges_of};
+use range_lists::{counts_at, listed_at, ranges_of, unit_base};
 use range_set::{Enclosing, RangeSet};
 use std::alloc::Global;
 use std::collections::BTreeMap;
@@ -133,7 +134,7 @@ fn find_earlier(
 }
 
 /// The addresses of all entries, or the first fault, entry by entry. A list that several entries share is read once.
-pub fn read_sets(
+fn read_sets(
     alloc: Global,
     sections: &Sections<'_>,
     unit: &Unit,
@@ -166,4 +167,42 @@ pub fn read_sets(
     }
     sets.shrink();
     Ok(sets)
+}
+
+/// No addresses of each entry.
+fn no_sets(alloc: Global, table: &DieTable<'_>) -> Result<SpanSets, OutOfMemory>
+    requires { length table.now.dies < 2 ^ 32 }
+    ensures { (code : List Range) → IfOk result (λ sets. Match (IsSet code) (no_pairs table.now.dies) sets) }
+{
+    let count = table.dies().len();
+    let mut sets = SpanSets::with_room(alloc, count)?;
+    'entries: for _entry in 0..count {
+        sets.push_none()?;
+    }
+    Ok(sets)
+}
+
+/// The addresses of all entries of a unit, or the first fault, that of the base of its range lists first. The entries of a
+/// supplementary file have none (DWARF 5, 7.3.6).
+#[tactic(auto, unfolding(crate::specs::UnitSays::unit_pairs))]
+pub fn read_pairs(
+    alloc: Global,
+    sections: &Sections<'_>,
+    unit: &Unit,
+    table: &DieTable<'_>,
+    code: &Enclosing,
+) -> Result<SpanSets, Stop<DwarfFault>>
+    requires { length table.now.dies < 2 ^ 32 }
+    ensures { MatchStop result
+        (λ sets. Says (Match (IsSet code.now)) (unit_pairs sections.now unit.now table.now) sets)
+        (λ fault. unit_pairs sections.now unit.now table.now ≡ Err fault)
+        (Prim.Unit {0}) }
+{
+    if sections.is_sup {
+        return Ok(no_sets(alloc, table)?);
+    }
+    match unit_base(sections, unit, table) {
+        Ok(base) => read_sets(alloc, sections, unit, table, base, code),
+        Err(fault) => Err(Stop::Fault(fault)),
+    }
 }

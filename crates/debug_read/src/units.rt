@@ -6,6 +6,9 @@ ghost use Rattle.sym_edges.specs.Outside.{MatchStop};
 ghost use Rattle.line_program.specs.LineMaps.{EncloseAlike};
 ghost use Rattle.debug_read.specs.Each.{Says, each_of, Match};
 ghost use Rattle.debug_read.specs.UnitSays.{unit_says};
+ghost use Rattle.debug_units.specs.UnitEntries.{AreRead};
+ghost use Rattle.debug_read.specs.DebugSays.{file_says, both_says};
+ghost use Rattle.debug_read.specs.internal.Files.{IsFileRead, IsBothRead};
 ghost use Rattle.debug_read.specs.UnitsRead.{IsUnitRead};
 ghost use Rattle.debug_read.specs.internal.Jobs.{IsReader};
 ghost use Rattle.debug_read.specs.internal.Sharing.{IsRead};
@@ -13,21 +16,23 @@ ghost use Rattle.abbrev_units.specs.Abbreviations.{abbrevs_of};
 ghost use Rattle.debug_read.specs.internal.Owing.{HoldsUnit, IsOwing, ReaderGives};
 ghost use Rattle.abbrev_units.specs.Units.{units_in};
 
+use crate::fault::{DebugFault, dwarf_stop, sup_stop};
 use crate::lines::has_function;
-use crate::ranges::read_sets;
+use crate::ranges::read_pairs;
+use crate::sections::{sections_of, sup_sections_of};
 use crate::shared_abbrevs::{SharedAbbrevs, read_shared, unit_at};
 use crate::unit_tables::{UnitFound, settle_units};
-use abbrev_units::{AbbrevScratch, Abbrevs, DwarfFault, Sections, Unit, UnitPart};
-use debug_units::Units;
+use abbrev_units::{AbbrevScratch, Abbrevs, DwarfFault, Sections, Unit, UnitList, UnitPart, units};
+use debug_units::{UnitRead, Units};
 use die_walk::walk;
+use elf_sections::Image;
 use range_lists::laws::code_by_what_it_encloses;
-use range_lists::unit_base;
 use range_set::Enclosing;
 use std::alloc::Global;
 use std::marker::Model;
 use std::thread::Threads;
-use sym_edges::{OutOfMemory, Span, Stop};
-use unit_workers::{Gate, UnitJob, run_all};
+use sym_edges::{FILE_LIMIT, OutOfMemory, Span, Stop};
+use unit_workers::{Gate, NoGate, UnitJob, run_all};
 
 /// Adds a unit that is read.
 fn add_read(read: &mut Vec<Unit>, unit: &Unit) -> Result<(), OutOfMemory>
@@ -51,7 +56,7 @@ fn pick_read(alloc: Global, units: &[Unit]) -> Result<Vec<Unit>, OutOfMemory>
     Ok(read)
 }
 
-/// Reads a unit by its abbreviations, all but its line table: its entries, the base of its range lists, the ranges entry by entry.
+/// Reads a unit by its abbreviations, all but its line table: its entries, and their addresses.
 #[tactic(auto, unfolding(crate::specs::UnitSays::unit_says))]
 fn read_entries<'a>(
     alloc: Global,
@@ -73,11 +78,7 @@ fn read_entries<'a>(
         Ok(die) => die,
         Err(stop) => return Err(stop),
     };
-    let base = match unit_base(sections, unit, &die) {
-        Ok(base) => base,
-        Err(fault) => return Err(Stop::Fault(fault)),
-    };
-    let spans = match read_sets(alloc, sections, unit, &die, base, code) {
+    let spans = match read_pairs(alloc, sections, unit, &die, code) {
         Ok(spans) => spans,
         Err(stop) => return Err(stop),
     };
@@ -238,7 +239,7 @@ fn find_all<'a, R: Threads + Sync, G: Gate + Sync>(
 }
 
 /// The units that are read, or the fault of the first one that has one.
-pub fn read_all_units<'a, R: Threads + Sync, G: Gate + Sync>(
+fn read_parts<'a, R: Threads + Sync, G: Gate + Sync>(
     rt: &R,
     alloc: Global,
     sections: &Sections<'a>,
@@ -246,18 +247,106 @@ pub fn read_all_units<'a, R: Threads + Sync, G: Gate + Sync>(
     code: &[Span],
     gate: &G,
     workers: usize,
-) -> Result<Units<'a>, Stop<DwarfFault>>
+) -> Result<Vec<UnitRead<'a>>, Stop<DwarfFault>>
     requires workers { (1 ≤ workers) × (workers ≤ 64) }
     requires small { length sections.now.info ≤ 2 ^ 29 }
     requires headers { units_in sections.now.info ≡ Ok headers.now }
     ensures { MatchStop result
-        (λ units. Says (Match (IsUnitRead code.now)) (each_of (unit_says sections.now) (read_units headers.now)) units)
+        (λ parts. Says (Match (IsUnitRead code.now)) (each_of (unit_says sections.now) (read_units headers.now)) parts.items)
         (λ fault. each_of (unit_says sections.now) (read_units headers.now) ≡ Err fault)
         (Prim.Unit {0}) }
 {
     let found = find_all(rt, alloc, sections, headers, code, gate, workers)?;
-    match settle_units(rt, alloc, sections, code, found, workers) {
-        Ok(parts) => Ok(Units::of(parts)),
+    settle_units(rt, alloc, sections, code, found, workers)
+}
+
+/// The headers of the units of a file, and the units that are read.
+#[derive(Drop)]
+pub(crate) struct FileRead<'a> {
+    pub headers: UnitList,
+    pub parts: Vec<UnitRead<'a>>,
+}
+
+/// The units of a file, or its first fault.
+#[tactic(auto, using(crate::proofs::FileLemmas::file_made, crate::proofs::FileLemmas::headers_fault, crate::proofs::FileLemmas::units_fault))]
+fn read_file<'a, R: Threads + Sync, G: Gate + Sync>(
+    rt: &R,
+    alloc: Global,
+    sections: &Sections<'a>,
+    code: &[Span],
+    gate: &G,
+    workers: usize,
+) -> Result<FileRead<'a>, Stop<DwarfFault>>
+    requires { (1 ≤ workers) × (workers ≤ 64) }
+    ensures says { MatchStop result
+        (λ file. Says (IsFileRead code.now) (file_says sections.now) file)
+        (λ fault. file_says sections.now ≡ Err fault)
+        (Prim.Unit {0}) }
+    ensures small { OnOk result (length sections.now.info ≤ 2 ^ 29) }
+{
+    if sections.info.len() > FILE_LIMIT {
+        return Err(Stop::NoMemory);
+    }
+    let headers = match units(alloc, sections.info) {
+        Ok(headers) => headers,
+        Err(stop) => return Err(stop),
+    };
+    match read_parts(rt, alloc, sections, headers.as_slice(), code, gate, workers) {
+        Ok(parts) => Ok(FileRead { headers, parts }),
         Err(stop) => Err(stop),
     }
+}
+
+/// The headers of the units of a file and of its supplementary file, and the units of both that are read, first those of the file.
+#[derive(Drop)]
+pub struct BothRead<'a> {
+    pub headers: UnitList,
+    pub sup_headers: UnitList,
+    pub units: Units<'a>,
+}
+
+/// The units of a file, and behind them those of its supplementary file.
+fn join_files<'a>(
+    parts: Vec<UnitRead<'a>>,
+    others: Vec<UnitRead<'a>>,
+) -> Result<Units<'a>, OutOfMemory>
+    requires { AreRead (parts.items ++ others.items) }
+    ensures { IfOk result (λ units. units ≡ parts.entry.items ++ others.entry.items) }
+{
+    let mut all = parts;
+    let mut more = others;
+    all.append(&mut more)?;
+    Ok(Units::of(all))
+}
+
+/// The units of an image and of its supplementary file, or the first fault.
+pub fn read_both<'a, R: Threads + Sync, G: Gate + Sync>(
+    rt: &R,
+    alloc: Global,
+    image: &Image<'a>,
+    gate: &G,
+    workers: usize,
+) -> Result<BothRead<'a>, Stop<DebugFault>>
+    requires { (1 ≤ workers) × (workers ≤ 64) }
+    ensures { MatchStop result
+        (λ both. Says (IsBothRead image.now.code) (both_says image.now) both)
+        (λ fault. both_says image.now ≡ Err fault)
+        (Prim.Unit {0}) }
+{
+    let own = sections_of(image);
+    let file = match read_file(rt, alloc, &own, image.code(), gate, workers) {
+        Ok(file) => file,
+        Err(stop) => return Err(dwarf_stop(stop)),
+    };
+    let sup = sup_sections_of(image.sup());
+    let other = match read_file(rt, alloc, &sup, image.code(), &NoGate, workers) {
+        Ok(other) => other,
+        Err(stop) => return Err(sup_stop(stop)),
+    };
+    let units = join_files(file.parts, other.parts)?;
+    Ok(BothRead {
+        headers: file.headers,
+        sup_headers: other.headers,
+        units,
+    })
 }

@@ -1,9 +1,10 @@
--- The tables of a section's units are units that can be put together.
-use Rattle.std.proofs.Common.{◌≡◌, ◌<◌, ◌≤◌, ◌+◌, ◌^◌, ℕ, List, [], ◌∷◌, ◌++◌, map, length, Ok, arith}
+-- The tables of the units of a file, and of its supplementary file, are units that can be put together.
+use Rattle.std.proofs.Common.{◌≡◌, ◌<◌, ◌≤◌, ◌+◌, ◌^◌, ℕ, true, false, List, [], ◌∷◌, ◌++◌, map, length, length-append, Ok, refl, sym, ap, subst, ◌∙◌, arith}
+use Rattle.std.proofs.lemmas.List.{append_assoc}
 use Rattle.abbrev_units.specs.declared.unit.Unit.{Unit}
 use Rattle.abbrev_units.specs.declared.unit.UnitPart.{UnitPart}
 use Rattle.abbrev_units.specs.declared.unit.UnitPart.TheVariants.{Read, Passed, Skipped}
-use Rattle.abbrev_units.specs.DebugSections.{DebugSections}
+use Rattle.abbrev_units.specs.DebugSections.{DebugSections, first_place}
 use Rattle.abbrev_units.specs.Units.{units_in}
 use Rattle.die_walk.specs.EntryTable.{DieFields}
 use Rattle.sym_edges.specs.Rising.{RisesFrom}
@@ -34,21 +35,23 @@ rises_count low high (x ∷ xs) below rise =
     omega arith
 
 -- the entries of all units, after a place
-unit_rises : (sections : DebugSections) (unit : Unit) (which : UnitPart) (later : List Unit) (parts : List UnitRead) (low high : ℕ) → low ≤ unit.start → unit.end ≤ high → high ≤ length sections.info → BodyInside unit which → AreTables sections (with_read unit which later) parts → ((rest : List UnitRead) → AreTables sections later rest → RisesTo (unit.end + 1) high (places rest)) → unit.start < unit.end → RisesTo (low + 1) high (places parts)
-unit_rises sections unit Read later [] low high start last small body tables rise some = absurd tables
-unit_rises sections unit Read later (part ∷ parts) low high start last small body tables rise some =
+unit_rises : (s : ℕ) (sections : DebugSections) (unit : Unit) (which : UnitPart) (later : List Unit) (parts : List UnitRead) (low high : ℕ) → s ≡ first_place sections.is_sup → low ≤ unit.start → unit.end ≤ high → high ≤ length sections.info → BodyInside unit which → AreTables sections (with_read unit which later) parts → ((rest : List UnitRead) → AreTables sections later rest → RisesTo (s + unit.end + 1) (s + high) (places rest)) → unit.start < unit.end → RisesTo (s + low + 1) (s + high) (places parts)
+unit_rises s sections unit Read later [] low high is start last small body tables rise some = absurd tables
+unit_rises s sections unit Read later (part ∷ parts) low high is start last small body tables rise some =
     let behind : unit.start < unit.body = body.0 in
-    let own : RisesTo unit.body unit.end (map (λ (d : DieFields). d.at) part.die.dies) = places_rise sections unit tables.0.abbrevs part.die body.1 (omega arith) tables.0.table in
-    rises_append (low + 1) unit.end high (map (λ (d : DieFields). d.at) part.die.dies) (places parts) (omega arith) last
-    (rises_lower (low + 1) unit.body unit.end (map (λ (d : DieFields). d.at) part.die.dies) (omega arith) own) (rise parts tables.1)
-unit_rises sections unit Passed later parts low high start last small body tables rise some = rises_lower (low + 1) (unit.end + 1) high (places parts) (omega arith) (rise parts tables)
-unit_rises sections unit Skipped later parts low high start last small body tables rise some = rises_lower (low + 1) (unit.end + 1) high (places parts) (omega arith) (rise parts tables)
+    let own : RisesTo (s + unit.body) (s + unit.end) (map (λ (d : DieFields). d.at) part.die.dies) =
+    subst (λ k. RisesTo (k + unit.body) (k + unit.end) (map (λ (d : DieFields). d.at) part.die.dies)) (sym is)
+    (places_rise sections unit tables.0.abbrevs part.die body.1 (omega arith) tables.0.table) in
+    rises_append (s + low + 1) (s + unit.end) (s + high) (map (λ (d : DieFields). d.at) part.die.dies) (places parts) (omega arith) (omega arith)
+    (rises_lower (s + low + 1) (s + unit.body) (s + unit.end) (map (λ (d : DieFields). d.at) part.die.dies) (omega arith) own) (rise parts tables.1)
+unit_rises s sections unit Passed later parts low high is start last small body tables rise some = rises_lower (s + low + 1) (s + unit.end + 1) (s + high) (places parts) (omega arith) (rise parts tables)
+unit_rises s sections unit Skipped later parts low high is start last small body tables rise some = rises_lower (s + low + 1) (s + unit.end + 1) (s + high) (places parts) (omega arith) (rise parts tables)
 
-parts_rise : (sections : DebugSections) (units : List Unit) (parts : List UnitRead) (low high : ℕ) → high ≤ length sections.info → Follow low high units → AreTables sections (read_units units) parts → RisesTo (low + 1) high (places parts)
-parts_rise sections [] [] low high small follow tables = tt
-parts_rise sections [] (part ∷ parts) low high small follow tables = absurd tables
-parts_rise sections (unit ∷ units) parts low high small follow tables =
-    unit_rises sections unit unit.part (read_units units) parts low high follow.0 follow.2 small follow.3 tables (λ rest later. parts_rise sections units rest unit.end high small follow.4 later) follow.1
+parts_rise : (s : ℕ) (sections : DebugSections) (units : List Unit) (parts : List UnitRead) (low high : ℕ) → s ≡ first_place sections.is_sup → high ≤ length sections.info → Follow low high units → AreTables sections (read_units units) parts → RisesTo (s + low + 1) (s + high) (places parts)
+parts_rise s sections [] [] low high is small follow tables = tt
+parts_rise s sections [] (part ∷ parts) low high is small follow tables = absurd tables
+parts_rise s sections (unit ∷ units) parts low high is small follow tables =
+    unit_rises s sections unit unit.part (read_units units) parts low high is follow.0 follow.2 small follow.3 tables (λ rest later. parts_rise s sections units rest unit.end high is small follow.4 later) follow.1
 
 -- no more units than bytes
 unit_few : (sections : DebugSections) (unit : Unit) (which : UnitPart) (later : List Unit) (parts : List UnitRead) (low high : ℕ) → low ≤ unit.start → unit.start < unit.end → AreTables sections (with_read unit which later) parts → ((rest : List UnitRead) → AreTables sections later rest → length rest + unit.end ≤ high) → length parts + low ≤ high
@@ -69,15 +72,55 @@ parts_few sections [] (part ∷ parts) low high inside follow tables = absurd ta
 parts_few sections (unit ∷ units) parts low high inside follow tables =
     unit_few sections unit unit.part (read_units units) parts low high follow.0 follow.1 tables (λ rest later. parts_few sections units rest unit.end high follow.2 follow.4 later)
 
-pub are_read : (sections : DebugSections) (units : List Unit) (parts : List UnitRead) → length sections.info ≤ 2 ^ 29 → units_in sections.info ≡ Ok units → AreTables sections (read_units units) parts → ArePairs parts → AreRead parts
-are_read sections units parts small is tables pairs =
+-- the units of one file: its entries stand between these places, and there are no more of them and of the units than bytes
+record RiseIn (low high : ℕ) (parts : List UnitRead) : Type 0 where
+  few : length parts ≤ high
+  rise : RisesTo (low + 1) (low + high) (places parts)
+
+rise_in : (s : ℕ) (sections : DebugSections) (units : List Unit) (parts : List UnitRead) → s ≡ first_place sections.is_sup → units_in sections.info ≡ Ok units → AreTables sections (read_units units) parts → RiseIn s (length sections.info) parts
+rise_in s sections units parts first is tables =
     let follow = units_follow sections.info units is in
-    let rise : RisesTo 1 (length sections.info) (places parts) = parts_rise sections units parts 0 (length sections.info) (omega arith) follow tables in
     let few : length parts + 0 ≤ length sections.info = parts_few sections units parts 0 (length sections.info) (omega arith) follow tables in
-    let count : length (places parts) + 1 ≤ length sections.info + 1 = rises_count 1 (length sections.info) (places parts) (omega arith) rise in
     record {
-      few = omega (arith, small);
-      few_entries = omega (arith, small);
-      paired = pairs;
-      rising = rises_from 0 (length sections.info) (places parts) (rises_lower 0 1 (length sections.info) (places parts) (omega arith) rise);
+      few = omega (arith, few);
+      rise = rises_lower (s + 1) (s + 0 + 1) (s + length sections.info) (places parts) (omega arith) (parts_rise s sections units parts 0 (length sections.info) first (omega arith) follow tables);
     }
+
+rises_higher : (low high more : ℕ) (xs : List ℕ) → high ≤ more → RisesTo low high xs → RisesTo low more xs
+rises_higher low high more [] above rise = tt
+rises_higher low high more (x ∷ xs) above rise =
+    let most : x ≤ high = rise.1 in
+    (rise.0, omega arith, rises_higher (x + 1) high more xs above rise.2)
+
+both_places : (parts more : List UnitRead) → places (parts ++ more) ≡ places parts ++ places more
+both_places [] more = refl
+both_places (part ∷ parts) more =
+    ap (λ (later : List ℕ). map (λ (d : DieFields). d.at) part.die.dies ++ later) (both_places parts more)
+    ∙ sym (append_assoc (map (λ (d : DieFields). d.at) part.die.dies) (places parts) (places more))
+
+-- the units of a file and those of its supplementary file behind them, by how many bytes each may have
+both_rise : (most own other : ℕ) (parts more : List UnitRead) → own ≤ most → other ≤ most → RiseIn 0 own parts → RiseIn most other more → RisesTo 1 (most + other) (places (parts ++ more))
+both_rise most own other parts more small others first second =
+    subst (RisesTo 1 (most + other)) (sym (both_places parts more))
+    (rises_append 1 most (most + other) (places parts) (places more) (omega arith) (omega arith)
+    (rises_lower 1 (0 + 1) most (places parts) (omega arith) (rises_higher (0 + 1) (0 + own) most (places parts) (omega (arith, small)) first.rise)) second.rise)
+
+read_by : (most own other : ℕ) (parts more : List UnitRead) → most ≡ 2 ^ 29 → own ≤ most → other ≤ most → RiseIn 0 own parts → RiseIn most other more → ArePairs (parts ++ more) → AreRead (parts ++ more)
+read_by most own other parts more is small others first second pairs =
+    let rise : RisesTo 1 (most + other) (places (parts ++ more)) = both_rise most own other parts more small others first second in
+    let count : length (places (parts ++ more)) + 1 ≤ most + other + 1 = rises_count 1 (most + other) (places (parts ++ more)) (omega arith) rise in
+    let few : length (parts ++ more) ≡ length parts + length more = length-append parts more in
+    let one = first.few in
+    let two = second.few in
+    record {
+      few = omega (arith, few, one, two, is, small, others);
+      few_entries = omega (arith, count, is, others);
+      paired = pairs;
+      rising = rises_from 0 (most + other) (places (parts ++ more)) (rises_lower 0 1 (most + other) (places (parts ++ more)) (omega arith) rise);
+    }
+
+pub are_read : (own sup : DebugSections) (units others : List Unit) (parts more : List UnitRead) → own.is_sup ≡ false → sup.is_sup ≡ true → length own.info ≤ 2 ^ 29 → length sup.info ≤ 2 ^ 29 → units_in own.info ≡ Ok units → units_in sup.info ≡ Ok others
+    → AreTables own (read_units units) parts → AreTables sup (read_units others) more → ArePairs (parts ++ more) → AreRead (parts ++ more)
+are_read own sup units others parts more here there small other_small is other_is tables other_tables pairs =
+    read_by (2 ^ 29) (length own.info) (length sup.info) parts more refl small other_small
+    (rise_in 0 own units parts (ap first_place (sym here)) is tables) (rise_in (2 ^ 29) sup others more (ap first_place (sym there)) other_is other_tables) pairs

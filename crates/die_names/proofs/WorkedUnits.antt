@@ -1,5 +1,5 @@
 -- Worked rows: the names of entries, from the bytes of `.debug_info` and `.debug_abbrev`.
-use Rattle.std.proofs.Common.{◌≡◌, ℕ, List, [], ◌∷◌, map, codes, Result, Ok, refl}
+use Rattle.std.proofs.Common.{◌≡◌, ℕ, false, None, List, [], ◌∷◌, map, codes, Result, Ok, refl}
 use Prim.Native.String.{String}
 use Rattle.sym_edges.proofs.Hex.{hex}
 use Rattle.sym_edges.specs.Results.{◌>>=◌}
@@ -32,6 +32,8 @@ sections info = record {
   addr = [];
   ranges = [];
   rnglists = [];
+  sup_strs = None;
+  is_sup = false;
 }
 
 unfoldable part : EntryTable → UnitRead

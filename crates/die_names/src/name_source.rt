@@ -47,7 +47,7 @@ fn follow_link(
         Some(place) => place,
         None => die.spec()?,
     };
-    find_entry(units.as_slice(), unit, place, guesses)
+    find_entry(units.as_slice(), unit, u64::from(place), guesses)
 }
 
 /// The name that the entry gives.

@@ -11,7 +11,7 @@ use Rattle.abbrev_units.specs.SpecFields.{Abbrev}
 use Rattle.abbrev_units.specs.declared.fault.DwarfKind.{DwarfKind}
 use Rattle.abbrev_units.specs.declared.value.Given.{Given}
 use Rattle.abbrev_units.specs.declared.unit.Unit.{Unit}
-use Rattle.abbrev_units.specs.DebugSections.{DebugSections}
+use Rattle.abbrev_units.specs.DebugSections.{DebugSections, first_place}
 use Rattle.abbrev_units.specs.Abbreviations.{abbrev_of}
 use Rattle.abbrev_units.specs.Faults.{read_in}
 use Rattle.die_walk.specs.Marks.{Mark, read_values_at, entry_by, mark_by, mark_at, next_mark, marks_at}
@@ -134,34 +134,35 @@ rises_lower low other high (x ∷ xs) below rise =
 abbrev kept_places : DebugSections → Unit → Option ℕ → List Kept → List ℕ
 kept_places sections unit base kepts = map (λ (d : DieFields). d.at) (map (die_of sections unit base) kepts)
 
-one_rises : (sections : DebugSections) (unit : Unit) (base : Option ℕ) (kept : Kept) (later : List Kept) (low high : ℕ) (keeps : Bool) → low ≤ kept.item.at → kept.item.at ≤ high → RisesTo (kept.item.at + 1) high (kept_places sections unit base later) → RisesTo low high (kept_places sections unit base (cond keeps (kept ∷ []) [] ++ later))
+one_rises : (sections : DebugSections) (unit : Unit) (base : Option ℕ) (kept : Kept) (later : List Kept) (low high : ℕ) (keeps : Bool) → low ≤ kept.item.at → kept.item.at ≤ high → RisesTo (first_place sections.is_sup + kept.item.at + 1) (first_place sections.is_sup + high) (kept_places sections unit base later) → RisesTo (first_place sections.is_sup + low) (first_place sections.is_sup + high) (kept_places sections unit base (cond keeps (kept ∷ []) [] ++ later))
 unfolding die_of
-one_rises sections unit base kept later low high true above below rise = (above, below, rise)
+one_rises sections unit base kept later low high true above below rise = (omega (arith, above), omega (arith, below), rise)
 one_rises sections unit base kept later low high false above below rise =
-    rises_lower low (kept.item.at + 1) high (kept_places sections unit base later) (omega (arith, above)) rise
+    rises_lower (first_place sections.is_sup + low) (first_place sections.is_sup + kept.item.at + 1) (first_place sections.is_sup + high) (kept_places sections unit base later) (omega (arith, above)) rise
 
-kept_rise : (sections : DebugSections) (unit : Unit) (base : Option ℕ) (earlier items : List Item) (low high : ℕ) → ItemsRise low high items → RisesTo low high (kept_places sections unit base (kept_from earlier items))
+kept_rise : (sections : DebugSections) (unit : Unit) (base : Option ℕ) (earlier items : List Item) (low high : ℕ) → ItemsRise low high items → RisesTo (first_place sections.is_sup + low) (first_place sections.is_sup + high) (kept_places sections unit base (kept_from earlier items))
 unfolding kept_from
 kept_rise sections unit base earlier [] low high rise = tt
 kept_rise sections unit base earlier (item ∷ items) low high rise =
     one_rises sections unit base (record { item = item; parent = ancestor item.depth earlier }) (kept_from (item ∷ earlier) items) low high (is_kept item earlier) rise.0 rise.1
-    (kept_rise sections unit base (item ∷ earlier) items (item.at + 1) high rise.2)
+    (rises_lower (first_place sections.is_sup + item.at + 1) (first_place sections.is_sup + (item.at + 1)) (first_place sections.is_sup + high) (kept_places sections unit base (kept_from (item ∷ earlier) items)) (omega arith)
+    (kept_rise sections unit base (item ∷ earlier) items (item.at + 1) high rise.2))
 
-by_rises : (sections : DebugSections) (unit : Unit) (items : List Item) (low high : ℕ) → ItemsRise low high items → RisesTo low high (table_places (table_by sections unit items))
+by_rises : (sections : DebugSections) (unit : Unit) (items : List Item) (low high : ℕ) → ItemsRise low high items → RisesTo (first_place sections.is_sup + low) (first_place sections.is_sup + high) (table_places (table_by sections unit items))
 by_rises sections unit [] low high rise = tt
 by_rises sections unit (first ∷ items) low high rise = kept_rise sections unit (base_of first.values) [] (first ∷ items) low high rise
 
 -- the kept entries of a unit rise from its body on, up to its end
-table_rises : (sections : DebugSections) (unit : Unit) (reading : Result (List Mark × Ahead) (Located DwarfKind)) (table : EntryTable) (high : ℕ) → unit.body ≤ high → ListRises unit.body high reading → ((reading >>= λ marks. Ok marks.0) >>= λ marks. Ok (table_of sections unit marks)) ≡ Ok table → RisesTo unit.body high (table_places table)
+table_rises : (sections : DebugSections) (unit : Unit) (reading : Result (List Mark × Ahead) (Located DwarfKind)) (table : EntryTable) (high : ℕ) → unit.body ≤ high → ListRises unit.body high reading → ((reading >>= λ marks. Ok marks.0) >>= λ marks. Ok (table_of sections unit marks)) ≡ Ok table → RisesTo (first_place sections.is_sup + unit.body) (first_place sections.is_sup + high) (table_places table)
 unfolding table_of
 table_rises sections unit (Ok marks) table high inside rise is =
     let same : table_by sections unit (rooted unit.body (items_from 0 marks.0)) ≡ table = cc in
-    subst (λ (t : EntryTable). RisesTo unit.body high (table_places t)) same
+    subst (λ (t : EntryTable). RisesTo (first_place sections.is_sup + unit.body) (first_place sections.is_sup + high) (table_places t)) same
     (by_rises sections unit (rooted unit.body (items_from 0 marks.0)) unit.body high
     (rooted_rise unit.body high (items_from 0 marks.0) inside (items_rise 0 unit.body high marks.0 rise)))
 table_rises sections unit (Err fault) table high inside rise is = absurd (grind (arith, is))
 
-pub places_rise : (sections : DebugSections) (unit : Unit) (abbrevs : List Abbrev) (table : EntryTable) → unit.body ≤ unit.end → unit.end ≤ length sections.info → entry_table sections unit abbrevs ≡ Ok table → RisesTo unit.body unit.end (table_places table)
+pub places_rise : (sections : DebugSections) (unit : Unit) (abbrevs : List Abbrev) (table : EntryTable) → unit.body ≤ unit.end → unit.end ≤ length sections.info → entry_table sections unit abbrevs ≡ Ok table → RisesTo (first_place sections.is_sup + unit.body) (first_place sections.is_sup + unit.end) (table_places table)
 unfolding entry_table marks_at list_at
 places_rise sections unit abbrevs table ordered inside is =
     let c : Ahead = entries_ahead sections unit in

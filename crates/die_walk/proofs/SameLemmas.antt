@@ -1,12 +1,12 @@
 -- What is picked says what the list of values gives.
-use Rattle.std.proofs.Common.{◌≡◌, ℕ, List, Option, None, Some, option_and_then, refl}
+use Rattle.std.proofs.Common.{◌≡◌, ◌+◌, ℕ, List, Option, None, Some, option_and_then, refl}
 use Rattle.abbrev_units.specs.declared.unit.Unit.{Unit}
 use Rattle.abbrev_units.specs.declared.value.Value.{Value}
 use Rattle.abbrev_units.specs.declared.value.Value.TheVariants as value
 use Rattle.abbrev_units.specs.declared.value.Given.{Given}
-use Rattle.abbrev_units.specs.DebugSections.{DebugSections}
+use Rattle.abbrev_units.specs.DebugSections.{DebugSections, first_place}
 use Rattle.abbrev_units.specs.Texts.{text_of}
-use Rattle.abbrev_units.specs.Attributes.{first_of, as_place, as_reference, as_flag, as_number, is_elsewhere, text_in_entry}
+use Rattle.abbrev_units.specs.Attributes.{entry_text, first_of, as_place, as_reference, as_flag, as_number, is_elsewhere, text_in_entry}
 use Rattle.abbrev_units.specs.Picks.{as_count, as_link, as_said, as_offset, as_text, picks_of}
 use Rattle.die_walk.specs.EntryTable.{base_of, die_of, root_of}
 use Rattle.die_walk.specs.Picking.{text_by, base_by, die_by, root_by}
@@ -15,11 +15,11 @@ use Rattle.die_walk.specs.Steps.{kept_at, root_at}
 -- a value says the same through what a slot keeps of it
 record Same (sections : DebugSections) (unit : Unit) (base : Option ℕ) (x : Option Value) : Type 0 where
   said : option_and_then as_flag (option_and_then as_said x) ≡ option_and_then as_flag x
-  link : option_and_then (as_reference unit) (option_and_then as_link x) ≡ option_and_then (as_reference unit) x
+  link : option_and_then (as_reference sections unit) (option_and_then as_link x) ≡ option_and_then (as_reference sections unit) x
   count : option_and_then as_number (option_and_then as_count x) ≡ option_and_then as_number x
   offset : option_and_then as_place (option_and_then as_offset x) ≡ option_and_then as_place x
-  text : text_by sections unit base (option_and_then as_text x) ≡ option_and_then (text_of sections sections.info unit.wide base) x
-  elsewhere : is_elsewhere (option_and_then as_text x) ≡ is_elsewhere x
+  text : text_by sections unit base (option_and_then as_text x) ≡ option_and_then (entry_text sections unit base) x
+  elsewhere : is_elsewhere sections (option_and_then as_text x) ≡ is_elsewhere sections x
 
 same_value : (sections : DebugSections) (unit : Unit) (base : Option ℕ) (x : Option Value) → Same sections unit base x
 unfolding text_of
@@ -37,6 +37,7 @@ same_value sections unit base (Some (value.StrIndex n)) = record { said = refl; 
 same_value sections unit base (Some (value.AddrIndex n)) = record { said = refl; link = refl; count = refl; offset = refl; text = refl; elsewhere = refl }
 same_value sections unit base (Some (value.UnitRef n)) = record { said = refl; link = refl; count = refl; offset = refl; text = refl; elsewhere = refl }
 same_value sections unit base (Some (value.InfoRef n)) = record { said = refl; link = refl; count = refl; offset = refl; text = refl; elsewhere = refl }
+same_value sections unit base (Some (value.SupRefAt n)) = record { said = refl; link = refl; count = refl; offset = refl; text = refl; elsewhere = refl }
 same_value sections unit base (Some (value.SecOffset n)) = record { said = refl; link = refl; count = refl; offset = refl; text = refl; elsewhere = refl }
 same_value sections unit base (Some (value.ListIndex n)) = record { said = refl; link = refl; count = refl; offset = refl; text = refl; elsewhere = refl }
 same_value sections unit base (Some value.Other) = record { said = refl; link = refl; count = refl; offset = refl; text = refl; elsewhere = refl }
@@ -47,7 +48,7 @@ same sections unit base values attribute = same_value sections unit base (first_
 pub base_same : (sections : DebugSections) (unit : Unit) (values : List Given) → base_by (picks_of values) ≡ base_of values
 base_same sections unit values = (same sections unit None values 0x72).offset
 
-pub die_same : (sections : DebugSections) (unit : Unit) (base : Option ℕ) (at : ℕ) (parent : Option ℕ) (tag : ℕ) (values : List Given) → die_by sections unit base at parent tag (picks_of values) ≡ die_of sections unit base (kept_at at parent tag values)
+pub die_same : (sections : DebugSections) (unit : Unit) (base : Option ℕ) (at : ℕ) (parent : Option ℕ) (tag : ℕ) (values : List Given) → die_by sections unit base (first_place sections.is_sup + at) parent tag (picks_of values) ≡ die_of sections unit base (kept_at at parent tag values)
 unfolding die_by die_of text_in_entry
 die_same sections unit base at parent tag values =
     let declared = (same sections unit base values 0x3c).said in

@@ -12,7 +12,7 @@ use Rattle.abbrev_units.specs.declared.fault.DwarfKind.{DwarfKind}
 use Rattle.abbrev_units.specs.declared.fault.FormFault.{FormFault}
 use Rattle.abbrev_units.specs.declared.unit.Unit.{Unit}
 use Rattle.abbrev_units.specs.declared.value.Given.{Given}
-use Rattle.abbrev_units.specs.DebugSections.{DebugSections}
+use Rattle.abbrev_units.specs.DebugSections.{DebugSections, first_place}
 use Rattle.abbrev_units.specs.Values.{values_at, behind_values, only_ahead}
 use Rattle.die_walk.specs.Marks.{value_fault, in_entry, read_values_at}
 use Rattle.abbrev_units.specs.KeptTags.{is_kept_tag}
@@ -63,7 +63,7 @@ entered_same : (sections : DebugSections) (unit : Unit) (w : Walked) (at tag : �
 unfolding entered_by entered
 entered_same sections unit w at tag values =
     ap (λ (first : Walked). cond (nat_eq (length w.dies) 0) first (cond (is_kept_tag tag) (added_by sections unit w at tag (picks_of values)) w))
-    (ap (λ (base : Option ℕ). record w { dies = die_by sections unit base at (innermost w.open_levels) tag (picks_of values) ∷ []; root = root_by sections unit at (picks_of values) }) (base_same sections unit values)
+    (ap (λ (base : Option ℕ). record w { dies = die_by sections unit base (first_place sections.is_sup + at) (innermost w.open_levels) tag (picks_of values) ∷ []; root = root_by sections unit at (picks_of values) }) (base_same sections unit values)
     ∙ ap (λ (die : DieFields). record w { dies = die ∷ []; root = root_by sections unit at (picks_of values) }) (die_same sections unit (base_of values) at (innermost w.open_levels) tag values)
     ∙ ap (λ (root : RootFields). record w { dies = die_of sections unit (base_of values) (kept_at at (innermost w.open_levels) tag values) ∷ []; root = root }) (root_same sections unit at values))
     ∙ ap (λ (die : DieFields). cond (nat_eq (length w.dies) 0) (begun sections unit w at tag values) (cond (is_kept_tag tag) (record w { dies = w.dies ++ die ∷ [] }) w))
@@ -75,7 +75,7 @@ unfolding root_by
 begun_is (Err fault) sections unit w v root at tag picks none is added = tt
 begun_is (Ok done) sections unit w v root at tag picks none is added =
     added ∙ ap (λ (r : RootFields). added_by sections unit (record w { root = r }) at tag picks) is
-    ∙ ap (λ (dies : List DieFields). record w { dies = dies; root = root_by sections unit at picks }) (first_alone w.dies (die_by sections unit (base_by picks) at (innermost w.open_levels) tag picks) none)
+    ∙ ap (λ (dies : List DieFields). record w { dies = dies; root = root_by sections unit at picks }) (first_alone w.dies (die_by sections unit (base_by picks) (first_place sections.is_sup + at) (innermost w.open_levels) tag picks) none)
 
 pub begun_none : (sections : DebugSections) (unit : Unit) (w : Walked) (at tag : ℕ) → begun_by sections unit w at tag no_picks ≡ begun sections unit w at tag []
 unfolding die_by root_by die_of root_of text_in_entry first_of

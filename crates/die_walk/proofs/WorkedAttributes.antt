@@ -22,6 +22,8 @@ sections = record {
   addr = [];
   ranges = [];
   rnglists = [];
+  sup_strs = None;
+  is_sup = false;
 }
 
 unfoldable unit : Unit
@@ -36,6 +38,17 @@ die values = die_of sections unit (Some 4) (record { item = record { at = 0x2b; 
 
 unfoldable root : List Given → RootFields
 root values = root_of sections unit (record { at = 0x2b; depth = 0; tag = 0x11; values = values })
+
+-- the same in a file whose supplementary file has the texts `xy` and `z`, of which the last is cut, and in a supplementary file
+unfoldable with_sup : DebugSections
+unfolding hex sections
+with_sup = record sections { sup_strs = Some (hex "7879 00 7a") }
+
+unfoldable die_with_sup : List Given → DieFields
+die_with_sup values = die_of with_sup unit (Some 4) (record { item = record { at = 0x2b; depth = 0; tag = 0x2e; values = values }; parent = None })
+
+unfoldable die_in_sup : List Given → DieFields
+die_in_sup values = die_of (record sections { is_sup = true }) unit (Some 4) (record { item = record { at = 0x2b; depth = 0; tag = 0x2e; values = values }; parent = None })
 
 -- each attribute in each of its classes, in another, and twice: the first counts
 low : (die (given 0x11 (value.Addr 0x1000) ∷ [])).low ≡ Some (value.Addr 0x1000)
@@ -107,9 +120,18 @@ origin_beyond_u64 : (die (given 0x31 (value.UnitRef 0xffffffffffffffe0) ∷ []))
 unfolding die_walk_computes die unit sections
 origin_beyond_u64 = refl
 
-the_last_place : (die (given 0x31 (value.UnitRef 0xffffffffffffffdf) ∷ [])).origin ≡ Some 0xffffffffffffffff
+-- a file has 2^29 bytes at most: what leads past them leads to no entry
+past_the_file : (die (given 0x31 (value.UnitRef 0xffffffffffffffdf) ∷ [])).origin ≡ Some 0x80000000
+unfolding die_walk_computes die unit sections
+past_the_file = refl
+
+the_last_place : (die (given 0x31 (value.InfoRef 0x20000000) ∷ [])).origin ≡ Some 0x20000000
 unfolding die_walk_computes die unit sections
 the_last_place = refl
+
+behind_the_last_place : (die (given 0x31 (value.InfoRef 0x20000001) ∷ [])).origin ≡ Some 0x80000000
+unfolding die_walk_computes die unit sections
+behind_the_last_place = refl
 
 origin_of_another_class : (die (given 0x31 (value.Num 3) ∷ given 0x31 (value.UnitRef 3) ∷ [])).origin ≡ None
 unfolding die_walk_computes die unit sections
@@ -256,3 +278,62 @@ base_of_lists = refl
 base_of_texts : (root (given 0x72 (value.SecOffset 4) ∷ given 0x72 (value.SecOffset 8) ∷ [])).str_offsets_base ≡ Some 4
 unfolding die_walk_computes root unit sections
 base_of_texts = refl
+
+-- references into a supplementary file: one that was not read, one that was, and what is not in it; the supplementary file has none itself
+sup_reference_alone : (die (given 0x31 (value.SupRefAt 0x10) ∷ [])).origin ≡ None
+unfolding die_walk_computes die unit sections
+sup_reference_alone = refl
+
+sup_reference : (die_with_sup (given 0x31 (value.SupRefAt 0x10) ∷ [])).origin ≡ Some 0x20000010
+unfolding die_walk_computes die_with_sup with_sup unit sections
+sup_reference = refl
+
+sup_declaration : (die_with_sup (given 0x47 (value.SupRefAt 0x10) ∷ [])).spec ≡ Some 0x20000010
+unfolding die_walk_computes die_with_sup with_sup unit sections
+sup_declaration = refl
+
+past_the_sup_file : (die_with_sup (given 0x31 (value.SupRefAt 0x20000001) ∷ [])).origin ≡ Some 0x80000000
+unfolding die_walk_computes die_with_sup with_sup unit sections
+past_the_sup_file = refl
+
+own_reference_with_sup : (die_with_sup (given 0x31 (value.UnitRef 0x10) ∷ [])).origin ≡ Some 0x30
+unfolding die_walk_computes die_with_sup with_sup unit sections
+own_reference_with_sup = refl
+
+sup_reference_in_sup : (die_in_sup (given 0x31 (value.SupRefAt 0x10) ∷ [])).origin ≡ None
+unfolding die_walk_computes die_in_sup unit sections
+sup_reference_in_sup = refl
+
+own_reference_in_sup : (die_in_sup (given 0x31 (value.UnitRef 0x10) ∷ [])).origin ≡ Some 0x20000030
+unfolding die_walk_computes die_in_sup unit sections
+own_reference_in_sup = refl
+
+-- places are counted through both files
+place_in_sup : (die_in_sup []).at ≡ 0x2000002b
+unfolding die_walk_computes die_in_sup unit sections
+place_in_sup = refl
+
+place_with_sup : (die_with_sup []).at ≡ 0x2b
+unfolding die_walk_computes die_with_sup with_sup unit sections
+place_with_sup = refl
+
+-- names in a supplementary file that was read
+sup_name : (die_with_sup (given 0x03 (value.SupStrAt 1) ∷ [])).name ≡ Some (codes "y")
+unfolding die_walk_computes die_with_sup with_sup unit sections
+sup_name = refl
+
+sup_name_is_here : (die_with_sup (given 0x03 (value.SupStrAt 1) ∷ [])).name_elsewhere ≡ false
+unfolding die_walk_computes die_with_sup with_sup unit sections
+sup_name_is_here = refl
+
+sup_name_cut : (die_with_sup (given 0x03 (value.SupStrAt 3) ∷ [])).name ≡ None
+unfolding die_walk_computes die_with_sup with_sup unit sections
+sup_name_cut = refl
+
+sup_linkage : (die_with_sup (given 0x6e (value.SupStrAt 0) ∷ [])).linkage ≡ Some (codes "xy")
+unfolding die_walk_computes die_with_sup with_sup unit sections
+sup_linkage = refl
+
+sup_name_in_sup : (die_in_sup (given 0x03 (value.SupStrAt 0) ∷ [])).name_elsewhere ≡ true
+unfolding die_walk_computes die_in_sup unit sections
+sup_name_in_sup = refl

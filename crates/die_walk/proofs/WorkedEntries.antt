@@ -1,5 +1,5 @@
 -- Worked rows: the entries of a unit, their parents, and the first fault (DWARF 5, 7.5.2).
-use Rattle.std.proofs.Common.{◌≡◌, ℕ, List, [], ◌∷◌, map, Option, Some, None, codes, Result, Ok, Err, refl}
+use Rattle.std.proofs.Common.{◌≡◌, ℕ, false, List, [], ◌∷◌, map, Option, Some, None, codes, Result, Ok, Err, refl}
 use Prim.Native.String.{String}
 use Rattle.sym_edges.proofs.Hex.{hex}
 use Rattle.sym_edges.specs.Results.{◌>>=◌}
@@ -27,6 +27,8 @@ sections info abbrevs = record {
   addr = [];
   ranges = [];
   rnglists = [];
+  sup_strs = None;
+  is_sup = false;
 }
 
 -- the table of the first unit

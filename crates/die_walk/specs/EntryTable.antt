@@ -1,5 +1,5 @@
 -- The root and the kept entries of a unit, with their attributes (DWARF 5, 7.5.2 to 7.5.6).
-use Rattle.std.specs.Prelude.{ℕ, Bool, List, [], ◌∷◌, map, take, drop, Option, Result, Ok}
+use Rattle.std.specs.Prelude.{ℕ, ◌+◌, Bool, List, [], ◌∷◌, map, take, drop, if◌then◌else◌, Option, None, Result, Ok}
 use Rattle.sym_edges.specs.Results.{◌>>=◌}
 use Rattle.sym_edges.specs.declared.located.Located.{Located}
 use Rattle.leb_cursor.specs.Ahead.{Ahead}
@@ -7,13 +7,14 @@ use Rattle.abbrev_units.specs.SpecFields.{Abbrev}
 use Rattle.abbrev_units.specs.declared.fault.DwarfKind.{DwarfKind}
 use Rattle.abbrev_units.specs.declared.unit.Unit.{Unit}
 use Rattle.abbrev_units.specs.declared.value.Value.{Value}
-use Rattle.abbrev_units.specs.DebugSections.{DebugSections}
+use Rattle.abbrev_units.specs.DebugSections.{DebugSections, first_place}
 use Rattle.abbrev_units.specs.declared.value.Given.{Given}
 use Rattle.die_walk.specs.Marks.{Mark, marks_at}
 use Rattle.die_walk.specs.EntryTree.{Item, Kept, items_from, kept_from, rooted}
 use Rattle.abbrev_units.specs.Attributes.{first_of, picked, as_low, as_high, as_ranges, as_place, as_reference, as_flag, as_number, is_elsewhere, is_yes, line_of, or_else, text_in_entry}
 
--- a kept entry: `parent` is the number of its nearest kept ancestor, and `name_elsewhere` says that its name stands in another file
+-- a kept entry: `at` is its place, counted through both files; `parent` is the number of its nearest kept ancestor; `name_elsewhere` says that
+-- its name stands in a supplementary file that was not read
 pub record DieFields : Type 0 where
   pub at : ℕ
   pub tag : ℕ
@@ -55,17 +56,17 @@ linkage_of sections unit base values = or_else (text_in_entry sections unit base
 -- the attributes of a kept entry, by their names DW_AT_ in the comments
 unfoldable pub die_of : DebugSections → Unit → Option ℕ → Kept → DieFields
 die_of sections unit base kept = record {
-  at = kept.item.at;
+  at = first_place sections.is_sup + kept.item.at;
   tag = kept.item.tag;
   parent = kept.parent;
   declaration = is_yes (picked as_flag 0x3c kept.item.values);  -- declaration
   low = picked as_low 0x11 kept.item.values;  -- low_pc
   high = picked as_high 0x12 kept.item.values;  -- high_pc
   ranges = picked as_ranges 0x55 kept.item.values;  -- ranges
-  origin = picked (as_reference unit) 0x31 kept.item.values;  -- abstract_origin
-  spec = picked (as_reference unit) 0x47 kept.item.values;  -- specification
+  origin = picked (as_reference sections unit) 0x31 kept.item.values;  -- abstract_origin
+  spec = picked (as_reference sections unit) 0x47 kept.item.values;  -- specification
   name = text_in_entry sections unit base 0x03 kept.item.values;  -- name
-  name_elsewhere = is_elsewhere (first_of 0x03 kept.item.values);
+  name_elsewhere = is_elsewhere sections (first_of 0x03 kept.item.values);
   linkage = linkage_of sections unit base kept.item.values;
   call_file = picked as_number 0x58 kept.item.values;  -- call_file
   call_line = line_of (picked as_number 0x59 kept.item.values);  -- call_line
@@ -75,7 +76,7 @@ unfoldable pub root_of : DebugSections → Unit → Item → RootFields
 root_of sections unit item = record {
   at = item.at;
   low = picked as_low 0x11 item.values;  -- low_pc
-  stmt_list = picked as_place 0x10 item.values;  -- stmt_list
+  stmt_list = if sections.is_sup then None else picked as_place 0x10 item.values;  -- stmt_list: line tables of a supplementary file are not read
   comp_dir = text_in_entry sections unit (base_of item.values) 0x1b item.values;  -- comp_dir
   str_offsets_base = base_of item.values;
   addr_base = picked as_place 0x73 item.values;  -- addr_base

@@ -1,16 +1,15 @@
 -- No public clause cites this: a kept entry and a root from what is kept of its values.
-use Rattle.std.specs.Prelude.{ℕ, List, Option, option_and_then}
+use Rattle.std.specs.Prelude.{ℕ, if◌then◌else◌, List, Option, None, option_and_then}
 use Rattle.abbrev_units.specs.declared.value.Value.{Value}
 use Rattle.abbrev_units.specs.declared.unit.Unit.{Unit}
 use Rattle.abbrev_units.specs.DebugSections.{DebugSections}
 use Rattle.abbrev_units.specs.Picks.{PickFields}
-use Rattle.abbrev_units.specs.Texts.{text_of}
-use Rattle.abbrev_units.specs.Attributes.{as_place, as_reference, as_flag, as_number, is_elsewhere, is_yes, line_of, or_else}
+use Rattle.abbrev_units.specs.Attributes.{entry_text, as_place, as_reference, as_flag, as_number, is_elsewhere, is_yes, line_of, or_else}
 use Rattle.die_walk.specs.EntryTable.{DieFields, RootFields}
 
 -- the text of a value
 abbrev pub text_by : DebugSections → Unit → Option ℕ → Option Value → Option (List ℕ)
-text_by sections unit base value = option_and_then (text_of sections sections.info unit.wide base) value
+text_by sections unit base value = option_and_then (entry_text sections unit base) value
 
 abbrev pub base_by : PickFields → Option ℕ
 base_by picks = option_and_then as_place picks.str_offsets_base
@@ -24,10 +23,10 @@ die_by sections unit base at parent tag picks = record {
   low = picks.low;
   high = picks.high;
   ranges = picks.ranges;
-  origin = option_and_then (as_reference unit) picks.origin;
-  spec = option_and_then (as_reference unit) picks.spec;
+  origin = option_and_then (as_reference sections unit) picks.origin;
+  spec = option_and_then (as_reference sections unit) picks.spec;
   name = text_by sections unit base picks.name;
-  name_elsewhere = is_elsewhere picks.name;
+  name_elsewhere = is_elsewhere sections picks.name;
   linkage = or_else (text_by sections unit base picks.linkage) (text_by sections unit base picks.old_linkage);
   call_file = option_and_then as_number picks.call_file;
   call_line = line_of (option_and_then as_number picks.call_line);
@@ -37,7 +36,7 @@ unfoldable pub root_by : DebugSections → Unit → ℕ → PickFields → RootF
 root_by sections unit at picks = record {
   at = at;
   low = picks.low;
-  stmt_list = option_and_then as_place picks.stmt_list;
+  stmt_list = if sections.is_sup then None else option_and_then as_place picks.stmt_list;
   comp_dir = text_by sections unit (base_by picks) picks.comp_dir;
   str_offsets_base = base_by picks;
   addr_base = option_and_then as_place picks.addr_base;

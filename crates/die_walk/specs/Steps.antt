@@ -10,7 +10,7 @@ use Rattle.abbrev_units.specs.SpecFields.{Abbrev}
 use Rattle.abbrev_units.specs.declared.fault.DwarfKind.{DwarfKind}
 use Rattle.abbrev_units.specs.declared.unit.Unit.{Unit}
 use Rattle.abbrev_units.specs.declared.value.Given.{Given}
-use Rattle.abbrev_units.specs.DebugSections.{DebugSections}
+use Rattle.abbrev_units.specs.DebugSections.{DebugSections, first_place}
 use Rattle.abbrev_units.specs.KeptTags.{is_kept_tag}
 use Rattle.die_walk.specs.Marks.{Mark, read_values_at, next_mark, marks_at}
 use Rattle.die_walk.specs.Marks.Mark.{Close, Entry}
@@ -68,13 +68,13 @@ entered sections unit w at tag values =
 -- the same from what was picked
 abbrev pub begun_by : DebugSections → Unit → Walked → ℕ → ℕ → PickFields → Walked
 begun_by sections unit w at tag picks = record w {
-  dies = die_by sections unit (base_by picks) at (innermost w.open_levels) tag picks ∷ [];
+  dies = die_by sections unit (base_by picks) (first_place sections.is_sup + at) (innermost w.open_levels) tag picks ∷ [];
   root = root_by sections unit at picks;
 }
 
 abbrev pub added_by : DebugSections → Unit → Walked → ℕ → ℕ → PickFields → Walked
 added_by sections unit w at tag picks = record w {
-  dies = w.dies ++ die_by sections unit w.root.str_offsets_base at (innermost w.open_levels) tag picks ∷ [];
+  dies = w.dies ++ die_by sections unit w.root.str_offsets_base (first_place sections.is_sup + at) (innermost w.open_levels) tag picks ∷ [];
 }
 
 unfoldable pub entered_by : DebugSections → Unit → Walked → ℕ → ℕ → PickFields → Walked

@@ -66,6 +66,7 @@ fn text_at_home<'a>(texts: &Texts<'a>, home: Home, place: u32) -> Option<&'a [u8
         Home::Strs => Some(text_from(texts.strs, place)),
         Home::LineStrs => Some(text_from(texts.line_strs, place)),
         Home::Info => Some(text_from(texts.info, place)),
+        Home::SupStrs => Some(text_from(texts.sup_strs, place)),
     }
 }
 
@@ -79,13 +80,13 @@ fn is_text_home(home: Home) -> bool
 
 /// The target of a head, where it is of this kind.
 #[inline(always)]
-fn target_of(head: &Head, link: u8) -> Option<u64>
+fn target_of(head: &Head, link: u8) -> Option<u32>
     ensures { result ≡ where_said (link_of head.now == link) head.now.target }
 {
     if head.link() != link {
         return None;
     }
-    Some(u64::from(head.target))
+    Some(head.target)
 }
 
 /// The value of a class and a number.
@@ -104,7 +105,7 @@ impl<'t, 'a> Die<'t, 'a> {
         Die { parts, head }
     }
 
-    /// The place of the entry in `.debug_info`.
+    /// The place of the entry in `.debug_info`, counted through both files: those of the supplementary file (DWARF 5, 7.3.6) come from 2^29 on.
     #[inline]
     pub fn at(&self) -> u32
         ensures { result ≡ self.now.at }
@@ -210,9 +211,9 @@ impl<'t, 'a> Die<'t, 'a> {
         }
     }
 
-    /// The place in `.debug_info` of the abstract entry.
+    /// The place in `.debug_info` of the abstract entry, counted through both files: 2^31 where it leaves its file.
     #[inline]
-    pub fn origin(&self) -> Option<u64>
+    pub fn origin(&self) -> Option<u32>
         ensures { result ≡ self.now.origin }
     {
         match wide_of(self.parts, self.head) {
@@ -221,9 +222,9 @@ impl<'t, 'a> Die<'t, 'a> {
         }
     }
 
-    /// The place in `.debug_info` of the declaration.
+    /// The place of the declaration, in the same way.
     #[inline]
-    pub fn spec(&self) -> Option<u64>
+    pub fn spec(&self) -> Option<u32>
         ensures { result ≡ self.now.spec }
     {
         match wide_of(self.parts, self.head) {
@@ -246,7 +247,7 @@ impl<'t, 'a> Die<'t, 'a> {
         text_at_home(&self.parts.texts, self.head.name_in, self.head.name)
     }
 
-    /// Whether the name stands in the supplementary file (DWARF 5, 7.3.6), where it is not looked for.
+    /// Whether the name stands in a supplementary file (DWARF 5, 7.3.6) that was not read.
     #[inline]
     pub fn is_named_elsewhere(&self) -> bool
         ensures { result ≡ self.now.name_elsewhere }

@@ -1,5 +1,6 @@
 //! Heads and sites from the values that were picked.
-ghost use Rattle.std.specs.Prelude.{◌≡◌, ◌≤◌, ◌<◌, ◌^◌, ◌++◌, ◌∷◌, [], ℕ, List, Option, None, true, false, IfOk, IfSome, OnOk, is_some, length, option_and_then};
+ghost use Rattle.std.specs.Prelude.{◌≡◌, ◌≤◌, ◌<◌, ◌^◌, ◌++◌, ◌∷◌, [], ℕ, List, Option, None, true, false, IfOk, IfSome, OnOk, is_none, is_some, length, option_and_then};
+ghost use Rattle.abbrev_units.specs.DebugSections.{first_place, place_in};
 ghost use Rattle.abbrev_units.specs.Attributes.{as_reference, as_flag, as_number, is_elsewhere, is_yes, line_of, or_else};
 ghost use Rattle.abbrev_units.specs.Picks.{value_in};
 ghost use Rattle.abbrev_units.specs.Texts.{text_in, text_place};
@@ -10,7 +11,7 @@ ghost use Rattle.die_walk.specs.internal.Sites.{Homes};
 use crate::heads::{EntryList, Head, Home, ORIGIN, SPECIFICATION, Site, Wide, flags_of};
 use crate::root::Root;
 use abbrev_units::{Class, Pick, Picks, Sections, Slot, Unit, text_in, text_place};
-use sym_edges::OutOfMemory;
+use sym_edges::{FILE_LIMIT, OutOfMemory};
 
 /// Where a text stands: the section, and the place in it.
 #[derive(Clone, Copy)]
@@ -31,11 +32,11 @@ pub struct Names {
     pub linkage: Named,
 }
 
-/// The places in `.debug_info` to which an entry leads.
+/// The places to which an entry leads, counted through both files.
 #[derive(Clone, Copy)]
 pub struct Links {
-    pub origin: Option<u64>,
-    pub spec: Option<u64>,
+    pub origin: Option<u32>,
+    pub spec: Option<u32>,
 }
 
 /// What of them fits into a head: 0 nothing, `ORIGIN` or `SPECIFICATION`, and the place.
@@ -112,13 +113,29 @@ fn at_home(home: Home, place: Option<u32>) -> Named
     }
 }
 
+/// Where a text of the supplementary file stands.
+#[inline(never)]
+fn sup_home(sections: &Sections<'_>, place: u64) -> Named
+    requires { AreSmall (homes_of sections.now) }
+    ensures text { text_at_home (homes_of sections.now) result.home result.place ≡ option_and_then (λ strs. text_in strs place) sections.now.sup_strs }
+    ensures elsewhere { is_elsewhere_home result.home ≡ is_none sections.now.sup_strs }
+{
+    match sections.sup_strs {
+        Some(strs) => at_home(Home::SupStrs, place_in(strs, place)),
+        None => Named {
+            home: Home::Elsewhere,
+            place: 0,
+        },
+    }
+}
+
 /// Where the text of a pick stands; `base` is the unit's str_offsets_base.
 #[inline(always)]
 #[tactic(auto, unfolding(abbrev_units::specs::Texts::text_of))]
 fn text_home(sections: &Sections<'_>, unit: &Unit, base: Option<u64>, pick: Pick) -> Named
     requires { AreSmall (homes_of sections.now) }
     ensures text { text_at_home (homes_of sections.now) result.home result.place ≡ text_by sections.now unit.now base (value_in pick.class pick.number) }
-    ensures elsewhere { is_elsewhere_home result.home ≡ is_elsewhere (value_in pick.class pick.number) }
+    ensures elsewhere { is_elsewhere_home result.home ≡ is_elsewhere sections.now (value_in pick.class pick.number) }
 {
     match pick.class {
         Class::StrAt => at_home(Home::Strs, place_in(sections.strs, pick.number)),
@@ -128,22 +145,19 @@ fn text_home(sections: &Sections<'_>, unit: &Unit, base: Option<u64>, pick: Pick
         ),
         Class::LineStrAt => at_home(Home::LineStrs, place_in(sections.line_str, pick.number)),
         Class::InlineText => at_home(Home::Info, place_in(sections.info, pick.number)),
-        Class::SupStrAt => Named {
-            home: Home::Elsewhere,
-            place: 0,
-        },
+        Class::SupStrAt => sup_home(sections, pick.number),
         _ => NO_NAME,
     }
 }
 
-/// One name, or else another where none stands in this file.
+/// One name, or else another where none stands there.
 #[inline(always)]
 fn either(first: Named, second: Named) -> Named
     ensures { (texts : Homes) → text_at_home texts result.home result.place ≡ or_else (text_at_home texts first.home first.place) (text_at_home texts second.home second.place) }
 {
     match first.home {
         Home::Missing | Home::Elsewhere => second,
-        Home::Strs | Home::LineStrs | Home::Info => first,
+        Home::Strs | Home::LineStrs | Home::Info | Home::SupStrs => first,
     }
 }
 
@@ -152,7 +166,7 @@ fn either(first: Named, second: Named) -> Named
 fn names_of(sections: &Sections<'_>, unit: &Unit, base: Option<u64>, picks: &Picks) -> Names
     requires { AreSmall (homes_of sections.now) }
     ensures name { text_at_home (homes_of sections.now) result.name.home result.name.place ≡ text_by sections.now unit.now base picks.now.name }
-    ensures elsewhere { is_elsewhere_home result.name.home ≡ is_elsewhere picks.now.name }
+    ensures elsewhere { is_elsewhere_home result.name.home ≡ is_elsewhere sections.now picks.now.name }
     ensures linkage { text_at_home (homes_of sections.now) result.linkage.home result.linkage.place ≡ or_else (text_by sections.now unit.now base picks.now.linkage) (text_by sections.now unit.now base picks.now.old_linkage) }
 {
     Names {
@@ -164,45 +178,58 @@ fn names_of(sections: &Sections<'_>, unit: &Unit, base: Option<u64>, picks: &Pic
     }
 }
 
+/// The places of the supplementary file come behind those of a file.
+pub const FIRST_OF_SUP: u32 = FILE_LIMIT as u32;
+
+/// The first place of `.debug_info`, counted through both files.
+#[inline(always)]
+pub fn first_place(is_sup: bool) -> u32
+    ensures { result ≡ first_place is_sup }
+{
+    if is_sup { FIRST_OF_SUP } else { 0 }
+}
+
+/// A place of `.debug_info`, counted through both files: one that leaves its file is that of no entry.
+#[inline(always)]
+#[tactic(auto, unfolding(abbrev_units::specs::DebugSections::place_in))]
+fn count_place(is_sup: bool, place: u64) -> u32
+    ensures { result ≡ place_in is_sup place }
+{
+    if place > u64::from(FIRST_OF_SUP) {
+        return 1 << 31;
+    }
+    first_place(is_sup) + place as u32
+}
+
 /// The place to which a reference leads.
 #[inline(always)]
-fn place_of(unit: &Unit, pick: Pick) -> Option<u64>
-    ensures { result ≡ option_and_then (as_reference unit.now) (value_in pick.class pick.number) }
+fn place_of(sections: &Sections<'_>, unit: &Unit, pick: Pick) -> Option<u32>
+    ensures { result ≡ option_and_then (as_reference sections.now unit.now) (value_in pick.class pick.number) }
 {
     match pick.class {
-        Class::UnitRef => unit.start.checked_add(pick.number),
-        Class::InfoRef => Some(pick.number),
+        Class::UnitRef => match unit.start.checked_add(pick.number) {
+            Some(place) => Some(count_place(sections.is_sup, place)),
+            None => None,
+        },
+        Class::InfoRef => Some(count_place(sections.is_sup, pick.number)),
+        Class::SupRefAt if sections.sup_strs.is_some() => Some(count_place(true, pick.number)),
         _ => None,
     }
 }
 
 /// The places to which an entry leads.
 #[inline(always)]
-fn links_of(unit: &Unit, picks: &Picks) -> Links
-    ensures origin { result.origin ≡ option_and_then (as_reference unit.now) picks.now.origin }
-    ensures spec { result.spec ≡ option_and_then (as_reference unit.now) picks.now.spec }
+fn links_of(sections: &Sections<'_>, unit: &Unit, picks: &Picks) -> Links
+    ensures origin { result.origin ≡ option_and_then (as_reference sections.now unit.now) picks.now.origin }
+    ensures spec { result.spec ≡ option_and_then (as_reference sections.now unit.now) picks.now.spec }
 {
     Links {
-        origin: place_of(unit, picks.pick(Slot::Origin)),
-        spec: place_of(unit, picks.pick(Slot::Specification)),
+        origin: place_of(sections, unit, picks.pick(Slot::Origin)),
+        spec: place_of(sections, unit, picks.pick(Slot::Specification)),
     }
 }
 
-/// A target, where its place is below 2^32.
-#[inline(always)]
-fn fit_target(link: u8, place: u64) -> Option<Target>
-    ensures { IfSome result (λ target. (target.link ≡ link) × (target.place ≡ place)) }
-{
-    if place > u64::from(u32::MAX) {
-        return None;
-    }
-    Some(Target {
-        link,
-        place: place as u32,
-    })
-}
-
-/// The target of an entry, where one fits into a head.
+/// The target of an entry, where it has one at most.
 #[inline(always)]
 fn fit_links(links: Links) -> Option<Target>
     ensures target { IfSome result (λ target. IsTarget target.link target.place links) }
@@ -210,8 +237,14 @@ fn fit_links(links: Links) -> Option<Target>
 {
     match (links.origin, links.spec) {
         (None, None) => Some(NO_TARGET),
-        (Some(origin), None) => fit_target(ORIGIN, origin),
-        (None, Some(spec)) => fit_target(SPECIFICATION, spec),
+        (Some(place), None) => Some(Target {
+            link: ORIGIN,
+            place,
+        }),
+        (None, Some(place)) => Some(Target {
+            link: SPECIFICATION,
+            place,
+        }),
         (Some(_), Some(_)) => None,
     }
 }
@@ -339,7 +372,7 @@ fn make_wide(tag: u64, links: Links, picks: &Picks) -> Wide
     }
 }
 
-/// Where an entry stands, and the number of the kept entry around it.
+/// Where an entry stands, counted through both files, and the number of the kept entry around it.
 #[derive(Clone, Copy)]
 pub struct Frame {
     pub at: u32,
@@ -372,7 +405,7 @@ pub fn parts_of(
         frame,
         declaration: says_yes(picks.pick(Slot::Declaration)),
         names: names_of(sections, unit, root.str_offsets_base, picks),
-        links: links_of(unit, picks),
+        links: links_of(sections, unit, picks),
     }
 }
 

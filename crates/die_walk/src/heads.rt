@@ -12,13 +12,15 @@ use std::alloc::Global;
 use std::marker::Model;
 use sym_edges::OutOfMemory;
 
-/// Where a text stands: in a section, in the supplementary file (DWARF 5, 7.3.6), or nowhere.
+/// Where a text stands: in a section of this file or of the supplementary one (DWARF 5, 7.3.6), in a supplementary file that was not
+/// read, or nowhere.
 #[derive(Clone, Copy)]
 pub enum Home {
     Missing,
     Strs,
     LineStrs,
     Info,
+    SupStrs,
     Elsewhere,
 }
 
@@ -159,8 +161,8 @@ impl Site {
 #[derive(Drop)]
 pub struct Wide {
     pub tag: u64,
-    pub origin: Option<u64>,
-    pub spec: Option<u64>,
+    pub origin: Option<u32>,
+    pub spec: Option<u32>,
     pub low: Pick,
     pub high: Pick,
     pub ranges: Pick,
@@ -194,6 +196,7 @@ pub struct Texts<'a> {
     pub info: &'a [u8],
     pub strs: &'a [u8],
     pub line_strs: &'a [u8],
+    pub sup_strs: &'a [u8],
 }
 
 impl<'a> Model for Texts<'a> {
@@ -201,7 +204,7 @@ impl<'a> Model for Texts<'a> {
 
     ghost Value = { Homes };
 
-    ghost view = { λ t. record { info = t.info.now; strs = t.strs.now; line_strs = t.line_strs.now } };
+    ghost view = { λ t. record { info = t.info.now; strs = t.strs.now; line_strs = t.line_strs.now; sup_strs = t.sup_strs.now } };
 }
 
 /// The sections that have the texts of entries, and what does not fit into heads.
@@ -269,6 +272,7 @@ impl<'a> EntryList<'a> {
                     info: sections.info,
                     strs: sections.strs,
                     line_strs: sections.line_str,
+                    sup_strs: sections.sup_strs.unwrap_or(&[]),
                 },
                 sites: Vec::with_capacity(alloc, (room / 4).max(8).min(64))?,
                 wides: Vec::new(alloc),

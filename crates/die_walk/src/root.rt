@@ -5,11 +5,11 @@ ghost use Rattle.abbrev_units.specs.Attributes.{as_place};
 ghost use Rattle.abbrev_units.specs.Picks.{value_in};
 ghost use Rattle.die_walk.specs.Picking.{root_by, text_by};
 
-use abbrev_units::{Class, Pick, Picks, Sections, Slot, Unit, Value, read_text};
+use abbrev_units::{Class, Pick, Picks, Sections, Slot, Unit, Value, read_text, text_in};
 use std::marker::Model;
 
 /// What the root of a unit says of the whole unit: the place of the root, the address at which lists
-/// begin to count, the place of the line table, the folder of the compilation, and the bases in
+/// begin to count, the place of the line table, where it is to be read, the folder of the compilation, and the bases in
 /// `.debug_str_offsets`, `.debug_addr` and `.debug_rnglists`.
 #[derive(Debug, Drop)]
 pub struct Root<'a> {
@@ -59,6 +59,7 @@ fn text_of<'a>(
     ensures { option_copied result ≡ text_by sections.now unit.now base value }
 {
     match value {
+        Some(Value::SupStrAt(place)) => text_in(sections.sup_strs?, place),
         Some(value) => read_text(sections, sections.info, unit.wide, base, value),
         None => None,
     }
@@ -73,7 +74,11 @@ pub fn make_root<'a>(sections: &Sections<'a>, unit: &Unit, at: u32, picks: &Pick
     Root {
         at: u64::from(at),
         low: picks.pick(Slot::Low).value(),
-        stmt_list: place_of(picks.pick(Slot::StmtList)),
+        stmt_list: if sections.is_sup {
+            None
+        } else {
+            place_of(picks.pick(Slot::StmtList))
+        },
         comp_dir: text_of(sections, unit, base, picks.pick(Slot::CompDir).value()),
         str_offsets_base: base,
         addr_base: place_of(picks.pick(Slot::AddrBase)),

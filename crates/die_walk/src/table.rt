@@ -171,6 +171,7 @@ pub fn walk<'a>(
     if sections.info.len() > FILE_LIMIT
         || sections.strs.len() > FILE_LIMIT
         || sections.line_str.len() > FILE_LIMIT
+        || sections.sup_strs.unwrap_or(&[]).len() > FILE_LIMIT
     {
         return Err(Stop::NoMemory);
     }

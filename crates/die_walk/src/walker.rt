@@ -1,5 +1,6 @@
 //! The walk over the entries of a unit.
-ghost use Rattle.std.specs.Prelude.{◌≡◌, ◌<◌, ◌≤◌, ◌-◌, ◌^◌, ◌==◌, if◌then◌else◌, Some, true, false, [], length, OnOk, IfOk};
+ghost use Rattle.std.specs.Prelude.{◌≡◌, ◌<◌, ◌≤◌, ◌-◌, ◌+◌, ◌^◌, ◌==◌, if◌then◌else◌, Some, true, false, [], length, OnOk, IfOk};
+ghost use Rattle.abbrev_units.specs.DebugSections.{first_place};
 ghost use Rattle.abbrev_units.specs.KeptTags.{is_kept_tag};
 ghost use Rattle.abbrev_units.specs.Picks.{no_picks};
 ghost use Rattle.die_walk.specs.Marks.{value_fault};
@@ -7,7 +8,7 @@ ghost use Rattle.die_walk.specs.Marks.Mark.{Close};
 ghost use Rattle.die_walk.specs.Steps.{innermost, keeps, opened, begun_by, added_by, entered_by, moved, rounded, entered_at, moved_at, step_at, Steps, Moves, IsShort, table_in};
 ghost use Rattle.die_walk.specs.internal.Heads.{AreSmall, Says, homes_of};
 
-use crate::entry_heads::{Frame, Parts, parts_of, push_fit, push_wide};
+use crate::entry_heads::{Frame, Parts, first_place, parts_of, push_fit, push_wide};
 use crate::heads::EntryList;
 use crate::root::{Root, make_root};
 use crate::scopes::list_scopes;
@@ -117,13 +118,15 @@ impl<'w, 'a> Walker<'w, 'a> {
         Ok(DieTable::of(root, dies, near))
     }
 
-    /// Where an entry stands.
+    /// Where an entry stands that begins at this place of its section.
     #[inline(always)]
     fn frame(&self, at: u32) -> Frame
-        ensures { result ≡ record { at = at; parent = innermost self.now.open_levels } }
+        requires { at ≤ 2 ^ 29 }
+        ensures { result ≡ record { at = first_place self.now.own.sections.is_sup + at; parent = innermost self.now.open_levels } }
     {
+        let sections = self.sections;
         Frame {
-            at,
+            at: first_place(sections.is_sup) + at,
             parent: innermost(self.open_levels.as_slice()),
         }
     }
@@ -140,6 +143,7 @@ impl<'w, 'a> Walker<'w, 'a> {
     /// Adds a kept entry by what was picked, where it fits into a head and a site; false where it does not, and nothing is added.
     #[inline(always)]
     fn add_fit(&mut self, picks: &Picks, at: u32, tag: u64) -> Result<bool, OutOfMemory>
+        requires { at ≤ 2 ^ 29 }
         ensures added { IfOk result (λ fits. fits ≡ true → self.new ≡ added_by self.old.own.sections self.old.own.unit self.old at tag picks.now) }
         ensures same { IfOk result (λ fits. fits ≡ false → self.new ≡ self.old) }
     {
@@ -150,6 +154,7 @@ impl<'w, 'a> Walker<'w, 'a> {
     /// Adds a kept entry by what was picked, whatever it may be. It stands alone, since few are so.
     #[inline(never)]
     fn add_wide(&mut self, picks: &Picks, at: u32, tag: u64) -> Result<(), OutOfMemory>
+        requires { at ≤ 2 ^ 29 }
         ensures { OnOk result (self.new ≡ added_by self.old.own.sections self.old.own.unit self.old at tag picks.now) }
     {
         let parts = self.parts(picks, self.frame(at));
@@ -159,6 +164,7 @@ impl<'w, 'a> Walker<'w, 'a> {
     /// Adds a kept entry by what was picked.
     #[inline(always)]
     fn add(&mut self, picks: &Picks, at: u32, tag: u64) -> Result<(), OutOfMemory>
+        requires { at ≤ 2 ^ 29 }
         ensures { OnOk result (self.new ≡ added_by self.old.own.sections self.old.own.unit self.old at tag picks.now) }
     {
         if self.add_fit(picks, at, tag)? {
@@ -171,7 +177,8 @@ impl<'w, 'a> Walker<'w, 'a> {
     #[inline(never)]
     #[tactic(auto, using(crate::proofs::StepLemmas::begun_is))]
     fn begin(&mut self, picks: &Picks, at: u32, tag: u64) -> Result<(), OutOfMemory>
-        requires { length self.old.dies ≡ 0 }
+        requires first { length self.old.dies ≡ 0 }
+        requires small { at ≤ 2 ^ 29 }
         ensures { OnOk result (self.new ≡ begun_by self.old.own.sections self.old.own.unit self.old at tag picks.now) }
     {
         self.root = make_root(self.sections, self.unit, at, picks);
@@ -181,7 +188,7 @@ impl<'w, 'a> Walker<'w, 'a> {
     /// Makes a root where the unit has no entry.
     #[tactic(auto, using(crate::proofs::StepLemmas::begun_none), unfolding(crate::specs::Steps::rounded))]
     pub fn round(&mut self) -> Result<(), OutOfMemory>
-        requires { self.old.own.unit.body < 2 ^ 32 }
+        requires { self.old.own.unit.body ≤ 2 ^ 29 }
         ensures { OnOk result (self.new ≡ rounded self.old.own.sections self.old.own.unit self.old) }
     {
         if !self.dies.is_empty() {
@@ -198,6 +205,7 @@ impl<'w, 'a> Walker<'w, 'a> {
     fn add_picked(&mut self, picks: &mut Picks, at: u32, tag: u64) -> Result<(), OutOfMemory>
         requires kept { is_kept_tag tag ≡ true }
         requires later { (length self.old.dies == 0) ≡ false }
+        requires small { at ≤ 2 ^ 29 }
         ensures added { OnOk result (self.new ≡ entered_by self.old.own.sections self.old.own.unit self.old at tag picks.old) }
         ensures cleared { picks.new ≡ no_picks }
     {
@@ -210,6 +218,7 @@ impl<'w, 'a> Walker<'w, 'a> {
     #[tactic(auto, unfolding(crate::specs::Steps::entered_by))]
     fn add_any(&mut self, picks: &mut Picks, at: u32, tag: u64) -> Result<(), OutOfMemory>
         requires kept { keeps self.old tag ≡ true }
+        requires small { at ≤ 2 ^ 29 }
         ensures added { OnOk result (self.new ≡ entered_by self.old.own.sections self.old.own.unit self.old at tag picks.old) }
         ensures cleared { picks.new ≡ no_picks }
     {
@@ -248,6 +257,7 @@ impl<'w, 'a> Walker<'w, 'a> {
         at: u32,
         found: &Abbrev<'_>,
     ) -> Result<bool, Stop<DwarfFault>>
+        requires { at ≤ 2 ^ 29 }
         ensures moves { Moves result self.new cursor.new (entered_at self.old.own.sections self.old.own.unit self.old at found.now cursor.old) }
         ensures kept { IfOk result (λ kept. kept ≡ keeps self.old found.now.tag) }
         ensures cleared { OnOk result (picks.new ≡ no_picks) }
@@ -276,6 +286,7 @@ impl<'w, 'a> Walker<'w, 'a> {
         at: u32,
         found: &Abbrev<'_>,
     ) -> Result<bool, Stop<DwarfFault>>
+        requires { at ≤ 2 ^ 29 }
         ensures moves { Moves result self.new cursor.new (entered_at self.old.own.sections self.old.own.unit self.old at found.now cursor.old) }
         ensures kept { IfOk result (λ kept. kept ≡ keeps self.old found.now.tag) }
         ensures cleared { OnOk result (picks.new ≡ no_picks) }
@@ -298,6 +309,7 @@ impl<'w, 'a> Walker<'w, 'a> {
         found: &Abbrev<'_>,
     ) -> Result<bool, Stop<DwarfFault>>
         requires picks { picks.old ≡ no_picks }
+        requires small { at ≤ 2 ^ 29 }
         ensures moves { Moves result self.new cursor.new (entered_at self.old.own.sections self.old.own.unit self.old at found.now cursor.old) }
         ensures kept { IfOk result (λ kept. kept ≡ keeps self.old found.now.tag) }
         ensures cleared { OnOk result (picks.new ≡ no_picks) }
@@ -342,6 +354,7 @@ impl<'w, 'a> Walker<'w, 'a> {
     ) -> Result<(), Stop<DwarfFault>>
         requires few { length self.old.dies < 2 ^ 32 }
         requires picks { picks.old ≡ no_picks }
+        requires small { at ≤ 2 ^ 29 }
         ensures moves { Moves result self.new cursor.new (moved_at self.old.own.sections self.old.own.unit self.old at found.now cursor.old) }
         ensures cleared { OnOk result (picks.new ≡ no_picks) }
     {

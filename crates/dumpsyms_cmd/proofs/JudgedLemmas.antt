@@ -1,5 +1,5 @@
 -- Judgements, from the parts of an image up to the words.
-use Rattle.std.proofs.Common.{◌≡◌, inl, inr, ℕ, ◌<◌, Bool, true, false, List, [], ◌∷◌, ◌++◌, Option, Some, None, IsSome, Ok, Err, Result, length, nat_lt, refl, sym, ◌∙◌, ap, arith, append-nil, subst}
+use Rattle.std.proofs.Common.{◌≡◌, ℕ, ◌<◌, Bool, true, false, List, [], ◌∷◌, ◌++◌, Option, Some, None, IsSome, Ok, Err, Result, length, nat_lt, refl, sym, ◌∙◌, ap, arith, append-nil, subst}
 use Rattle.std.proofs.lemmas.Bool.Decides.{nat_tests}
 use Rattle.sym_edges.specs.Outside.{Files, Tells, MatchStop}
 use Rattle.sym_edges.specs.WholeFile.{AsksOnce, HoldsFile, IsWhole, IsLonger, ReadAll}
@@ -12,8 +12,7 @@ use Rattle.elf_sections.specs.Image.{ImageParts}
 use Rattle.full_image.specs.FullImage.{any_image}
 use Rattle.elf_sections.specs.declared.fault.ElfFault.{ElfFault}
 use Rattle.abbrev_units.specs.declared.unit.Unit.{Unit}
-use Rattle.debug_read.specs.DebugSays.{DebugSays, debug_says, IsDebugRead}
-use Rattle.debug_read.specs.ImageSections.{sections_of}
+use Rattle.debug_read.specs.DebugSays.{DebugSays, debug_says, IsKept, IsDebugRead}
 use Rattle.debug_read.specs.declared.fault.DebugFault.{DebugFault}
 use Rattle.debug_read.specs.declared.found.DebugRead.{DebugRead}
 use Rattle.sym_records.specs.Canon.{canon_text}
@@ -22,18 +21,20 @@ use Rattle.sym_records.specs.declared.line.SymLine.{SymLine}
 use Rattle.rule_postfix.specs.declared.omission.Omission.{Omission}
 use Rattle.rule_postfix.specs.Written.{omitted}
 use Rattle.dumpsyms_cmd.specs.Words.{Asked, dump, stacks, files_of, last_name, module_name, usage_line}
-use Rattle.dumpsyms_cmd.specs.ElfInput.{ElfSource, or_refused, unless_longer, file_image, given_image}
-use Rattle.dumpsyms_cmd.specs.Refusals.{debug_line, units_text, omitted_text, too_long_line, unread_lines}
+use Rattle.dumpsyms_cmd.specs.ElfInput.{ElfSource, Untold, or_refused, unless_longer, file_by, file_image, given_image}
+use Rattle.dumpsyms_cmd.specs.Refusals.{debug_line, too_long_line, unread_lines}
 use Rattle.dumpsyms_cmd.specs.Verdict.{Verdict, refused, LIMIT}
 use Rattle.dumpsyms_cmd.specs.commands.Dump.{IsDebugVerdict, IsPartsVerdict, IsGivenVerdict}
 use Rattle.dumpsyms_cmd.specs.Answers.{IsVerdict}
+use Rattle.dumpsyms_cmd.specs.internal.LeftOut.{left_of}
 use Rattle.dumpsyms_cmd.specs.internal.Spelled.{DumpsRead}
 use Rattle.dumpsyms_cmd.specs.Observed.{Asks, AsksRow, AreFurther}
 use Rattle.dumpsyms_cmd.specs.Judgement.{out_bytes, err_bytes, judgement_verdict, RefusesOrGives, Judges}
 use Rattle.dumpsyms_cmd.specs.internal.Judged.{Refuses, JudgesParts, JudgesGiven, IsJudged, AnswersCommand, AnswersImage, AnswersStop}
 use Rattle.dumpsyms_cmd.specs.commands.Dump.{DumpsParts, Assembles, DumpsGiven, ImagePromises, DumpPromises}
 use Rattle.dumpsyms_cmd.specs.Answers.{IsUsage}
-use Rattle.debug_read.proofs.KeptLemmas.{kept}
+use Rattle.debug_read.proofs.KeptLemmas.{Kept, kept}
+use Rattle.dumpsyms_cmd.proofs.LeftLemmas.{left_said}
 use Rattle.dumpsyms_cmd.specs.declared.judgement.Output.{Output}
 use Rattle.dumpsyms_cmd.specs.declared.judgement.Output.TheVariants.{Nothing, Text, Bytes, Records}
 use Rattle.dumpsyms_cmd.specs.declared.judgement.Judgement.{Judgement}
@@ -91,8 +92,11 @@ found_told full parts name lines text dumps =
     subst (λ (r : Result DebugSays DebugFault). IsDebugVerdict full r parts name (given 0 (canon_text lines) text)) (sym dumps.found_is)
     (record { lines = lines; canon = dumps.canon; is = ap (given 0 (canon_text lines)) dumps.text_is })
 
+kept_is : (parts : ImageParts) (read : DebugRead) (k : Kept parts read) → IsKept parts.code k.says read
+kept_is parts read k = record { headers = k.headers; sup_headers = k.sup_headers; units = k.units; first = k.first; second = k.second }
+
 -- the records of a file by what was read of it
-pub dumps_parts : (full : Bool) (parts : ImageParts) (name text : List ℕ) (read : DebugRead) (lines : List SymLine) (left : List Omission) → IsDebugRead parts read → DumpsRead parts name read lines left → text ≡ units_text full (sections_of parts) read.headers ++ omitted_text left → DumpsParts full parts name lines text
+pub dumps_parts : (full : Bool) (parts : ImageParts) (name text : List ℕ) (read : DebugRead) (lines : List SymLine) (left : List Omission) → IsDebugRead parts read → DumpsRead parts name read lines left → text ≡ left_of full parts read left → DumpsParts full parts name lines text
 dumps_parts full parts name text read lines left says dumps is =
     let k = kept parts read says in
     let same : k.says ≡ dumps.found = said (sym k.says_is ∙ dumps.found_is) in
@@ -100,7 +104,7 @@ dumps_parts full parts name text read lines left says dumps is =
       found = dumps.found;
       found_is = dumps.found_is;
       canon = dumps.canon;
-      text_is = is ∙ ap (λ (us : List Unit). units_text full (sections_of parts) us ++ omitted_text left) (k.headers ∙ ap (λ (f : DebugSays). f.headers) same) ∙ ap (λ (l : List Omission). units_text full (sections_of parts) dumps.found.headers ++ omitted_text l) dumps.left_is;
+      text_is = is ∙ left_said full parts dumps.found read left (subst (λ (f : DebugSays). IsKept parts.code f read) same (kept_is parts read k)) dumps.left_is;
       reads = dumps.reads;
       frames = dumps.frames;
       means = dumps.means;
@@ -112,7 +116,7 @@ dumps_parts full parts name text read lines left says dumps is =
     said is = cc
 
 -- the same with their number
-pub assembles : (full : Bool) (parts : ImageParts) (name text : List ℕ) (read : DebugRead) (lines : List SymLine) (left : List Omission) (count : ℕ) → IsDebugRead parts read → DumpsRead parts name read lines left → text ≡ units_text full (sections_of parts) read.headers ++ omitted_text left → count ≡ length left → Assembles full parts name lines text count
+pub assembles : (full : Bool) (parts : ImageParts) (name text : List ℕ) (read : DebugRead) (lines : List SymLine) (left : List Omission) (count : ℕ) → IsDebugRead parts read → DumpsRead parts name read lines left → text ≡ left_of full parts read left → count ≡ length left → Assembles full parts name lines text count
 assembles full parts name text read lines left count says dumps is number =
     record {
       dumps = dumps_parts full parts name text read lines left says dumps is;
@@ -142,19 +146,22 @@ given_refused j source text line given is same refuses =
     (subst (λ (r : Result ImageParts Verdict). IsGivenVerdict source r (refused text)) (sym is) (ap refused same))
 
 -- what a store that tells its files tells of the image of a file that was read, and of one that is longer
-pub held_image : (full : Bool) (line : ElfFault → List ℕ) (files : Option Files) (path bytes : List ℕ) → HoldsFile files path (λ whole. IsWhole whole bytes LIMIT) → Tells files (λ f. file_image full line path (f path) ≡ or_refused line (any_image full bytes))
-held_image full line None path bytes holds = tt
-held_image full line (Some files) path bytes holds =
+pub held_by : (image : List ℕ → Result ImageParts ElfFault) (full : Bool) (line : ElfFault → List ℕ) (files : Option Files) (path bytes : List ℕ) → HoldsFile files path (λ whole. IsWhole whole bytes LIMIT) → Tells files (λ f. file_by full image line path (f path) ≡ or_refused line (image bytes))
+held_by image full line None path bytes holds = tt
+held_by image full line (Some files) path bytes holds =
     let few = holds.2.1 in
     let no : nat_lt LIMIT (length bytes) ≡ false = grind (arith, nat_tests) in
-    ap (file_image full line path) (holds.1 ∙ ap Some holds.2.0) ∙ ap (λ (b : Bool). unless_longer b (or_refused line (any_image full bytes))) no
+    ap (file_by full image line path) (holds.1 ∙ ap Some holds.2.0) ∙ ap (λ (b : Bool). unless_longer b (or_refused line (image bytes))) no
 
-longer_image : (full : Bool) (line : ElfFault → List ℕ) (files : Option Files) (path : List ℕ) → HoldsFile files path (λ whole. IsLonger whole LIMIT) → Tells files (λ f. file_image full line path (f path) ≡ Err (refused too_long_line))
-longer_image full line None path holds = tt
-longer_image full line (Some files) path holds =
+pub held_image : (full : Bool) (line : ElfFault → List ℕ) (files : Option Files) (path bytes : List ℕ) → HoldsFile files path (λ whole. IsWhole whole bytes LIMIT) → Tells files (λ f. file_image full line path (f path) ≡ or_refused line (any_image full bytes))
+held_image full line files path bytes holds = held_by (any_image full) full line files path bytes holds
+
+pub longer_image : (image : List ℕ → Result ImageParts ElfFault) (full : Bool) (line : ElfFault → List ℕ) (files : Option Files) (path : List ℕ) → HoldsFile files path (λ whole. IsLonger whole LIMIT) → Tells files (λ f. file_by full image line path (f path) ≡ Err (refused too_long_line))
+longer_image image full line None path holds = tt
+longer_image image full line (Some files) path holds =
     let more = holds.2 in
     let yes : nat_lt LIMIT (length holds.0) ≡ true = grind (arith, nat_tests) in
-    ap (file_image full line path) holds.1 ∙ ap (λ (b : Bool). unless_longer b (or_refused line (any_image full holds.0))) yes
+    ap (file_by full image line path) holds.1 ∙ ap (λ (b : Bool). unless_longer b (or_refused line (image holds.0))) yes
 
 -- a judgement on the image that is given is one on the files, where these give it
 pub given_promised : (j : Judgement) (given_by : Files → Result ImageParts Verdict) (source : ElfSource) (files : Option Files) (image_given : Result ImageParts Verdict) → Tells files (λ f. given_by f ≡ image_given) → JudgesGiven j source image_given → ImagePromises given_by source files j
@@ -231,20 +238,20 @@ pub unread_last : (full : Bool) (line name : List ℕ) (before after : List (Lis
 unread_last full line name before after is asked = is ∙ sym (ap (unread_lines full) (ap last_name asked ∙ last_is before name))
 
 -- where a file could not be read whole, the files give no image
-pub stop_image : (answer : Answer) (end : Stop ReadEnd) (line : ElfFault → List ℕ) (given_by : Files → Result ImageParts Verdict) (path text : List ℕ) (source : ElfSource) (files : Option Files) (left left_after : Option (List ℕ)) (asked asked_after : List (List ℕ)) (before after : ℕ) → ((f : Files) (ended : Verdict) → file_image source.full line path (f path) ≡ Err ended → given_by f ≡ Err ended)
+pub stop_image : (answer : Answer) (end : Stop ReadEnd) (image : List ℕ → Result ImageParts ElfFault) (line : ElfFault → List ℕ) (given_by : Files → Result ImageParts Verdict) (path text : List ℕ) (source : ElfSource) (files : Option Files) (left left_after : Option (List ℕ)) (asked asked_after : List (List ℕ)) (before after : ℕ) → ((f : Files) (ended : Verdict) → file_by source.full image line path (f path) ≡ Err ended → given_by f ≡ Err ended)
     → ReadAll (Err end) files path LIMIT left left_after before after → AsksOnce (Err end) asked path asked_after → text ≡ unread_lines source.full path → AnswersStop answer text end → AnswersImage answer given_by source files asked_after before after
-stop_image (Judged j) (Fault CantOpen) line given_by path text source files left left_after asked asked_after before after follows read once is says = absurd says
-stop_image (Judged j) (Fault CantRead) line given_by path text source files left left_after asked asked_after before after follows read once is says = absurd says
-stop_image (Judged j) (Fault TooLong) line given_by path text source files left left_after asked asked_after before after follows read once is says =
+stop_image (Judged j) (Fault CantOpen) image line given_by path text source files left left_after asked asked_after before after follows read once is says = absurd says
+stop_image (Judged j) (Fault CantRead) image line given_by path text source files left left_after asked asked_after before after follows read once is says = absurd says
+stop_image (Judged j) (Fault TooLong) image line given_by path text source files left left_after asked asked_after before after follows read once is says =
     given_promised j given_by source files (Err (refused too_long_line))
-    (told (λ f. file_image source.full line path (f path) ≡ Err (refused too_long_line)) (λ f. given_by f ≡ Err (refused too_long_line)) files (λ f is. follows f (refused too_long_line) is) (longer_image source.full line files path read))
+    (told (λ f. file_by source.full image line path (f path) ≡ Err (refused too_long_line)) (λ f. given_by f ≡ Err (refused too_long_line)) files (λ f is. follows f (refused too_long_line) is) (longer_image image source.full line files path read))
     (longer_judged j source text says)
-stop_image (Judged j) stop.NoMemory line given_by path text source files left left_after asked asked_after before after follows read once is says = absurd says
-stop_image (Unread m) (Fault CantOpen) line given_by path text source files left left_after asked asked_after before after follows read once is says = (read.0, unread_last source.full (err_bytes m) path asked asked_after (says ∙ is) once)
-stop_image (Unread m) (Fault CantRead) line given_by path text source files left left_after asked asked_after before after follows read once is says = (read.0, unread_last source.full (err_bytes m) path asked asked_after (says ∙ is) once)
-stop_image (Unread m) (Fault TooLong) line given_by path text source files left left_after asked asked_after before after follows read once is says = absurd says
-stop_image (Unread m) stop.NoMemory line given_by path text source files left left_after asked asked_after before after follows read once is says = absurd says
-stop_image NoMemory end line given_by path text source files left left_after asked asked_after before after follows read once is says = tt
+stop_image (Judged j) stop.NoMemory image line given_by path text source files left left_after asked asked_after before after follows read once is says = absurd says
+stop_image (Unread m) (Fault CantOpen) image line given_by path text source files left left_after asked asked_after before after follows read once is says = (read.0, unread_last source.full (err_bytes m) path asked asked_after (says ∙ is) once)
+stop_image (Unread m) (Fault CantRead) image line given_by path text source files left left_after asked asked_after before after follows read once is says = (read.0, unread_last source.full (err_bytes m) path asked asked_after (says ∙ is) once)
+stop_image (Unread m) (Fault TooLong) image line given_by path text source files left left_after asked asked_after before after follows read once is says = absurd says
+stop_image (Unread m) stop.NoMemory image line given_by path text source files left left_after asked asked_after before after follows read once is says = absurd says
+stop_image NoMemory end image line given_by path text source files left left_after asked asked_after before after follows read once is says = tt
 
 -- the usage line
 none_some : (o : Option Asked) → o ≡ None → IsSome o → ⊥
@@ -269,12 +276,16 @@ no_further : (command : Option Asked) → AreFurther command []
 no_further (Some (stacks core folder)) = (tt, tt)
 no_further command = refl
 
-pub row_asked : (command : Option Asked) (files : Option Files) (id : List ℕ) (before after : List (List ℕ)) → Asks (files_of command files id) before after → AsksRow command files before after
-row_asked command files id before after asked =
-    record { id = id; further = []; are = no_further command; asks = subst (λ names. Asks names before after) (sym (append-nil (files_of command files id))) asked }
+pub row_asked : (command : Option Asked) (files : Option Files) (untold : Untold) (before after : List (List ℕ)) → Asks (files_of command files untold) before after → AsksRow command files before after
+row_asked command files untold before after asked =
+    record { untold = untold; further = []; are = no_further command; asks = subst (λ names. Asks names before after) (sym (append-nil (files_of command files untold))) asked }
 
-pub asks_row : (command : Option Asked) (files : Option Files) (before after : List (List ℕ)) → Asks (files_of command files []) before after → AsksRow command files before after
-asks_row command files before after asked = row_asked command files [] before after asked
+-- nothing is known of what is not told
+abbrev pub nothing : Untold
+nothing = record { id = []; link = None }
+
+pub asks_row : (command : Option Asked) (files : Option Files) (before after : List (List ℕ)) → Asks (files_of command files nothing) before after → AsksRow command files before after
+asks_row command files before after asked = row_asked command files nothing before after asked
 
 pub asks_none : (files : Option Files) (before after : List (List ℕ)) → after ≡ before → AsksRow None files before after
-asks_none files before after same = row_asked None files [] before after (0, omega arith, same ∙ sym (append-nil before))
+asks_none files before after same = row_asked None files nothing before after (0, omega arith, same ∙ sym (append-nil before))

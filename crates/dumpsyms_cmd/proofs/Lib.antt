@@ -16,5 +16,7 @@ pub mod WalkLemmas
 pub mod SampleLemmas
 pub mod JudgeLemmas
 pub mod SourceLemmas
+pub mod SupLemmas
 pub mod SplitLemmas
 pub mod StacksLemmas
+pub mod LeftLemmas

@@ -24,7 +24,7 @@ use Rattle.dumpsyms_cmd.specs.commands.Dump.{Assembles}
 use Rattle.dumpsyms_cmd.specs.commands.Sample.{counts_line, IsCountsVerdict, IsImageCounts}
 use Rattle.dumpsyms_cmd.specs.internal.Judged.{Refuses, AnswersCommand, AnswersJudged}
 use Rattle.dumpsyms_cmd.specs.internal.Counting.{CountsParts, CountsBytes, CountsSample}
-use Rattle.dumpsyms_cmd.proofs.JudgedLemmas.{always, row_asked}
+use Rattle.dumpsyms_cmd.proofs.JudgedLemmas.{always, asks_row}
 use Rattle.dumpsyms_cmd.proofs.AnswerLemmas.{refuses_verdict}
 use Rattle.dumpsyms_cmd.specs.declared.judgement.Judgement.{Judgement}
 use Rattle.dumpsyms_cmd.specs.declared.judgement.Answer.{Answer}
@@ -88,4 +88,4 @@ sample_answered answer (Ok j) units workers is says files asked before after =
     (record { low = omega arith; row = λ some. low; told = always (λ f. IsVerdict (Some (sample units workers)) f [] (judgement_verdict j)) files (λ f. says); kept = says })
 
 pub asks_nothing : (units workers : ℕ) (files : Option Files) (before after : List (List ℕ)) → after ≡ before → AsksRow (Some (sample units workers)) files before after
-asks_nothing units workers files before after same = row_asked (Some (sample units workers)) files [] before after (0, omega arith, same ∙ sym (append-nil before))
+asks_nothing units workers files before after same = asks_row (Some (sample units workers)) files before after (0, omega arith, same ∙ sym (append-nil before))

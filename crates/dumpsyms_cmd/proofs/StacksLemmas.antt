@@ -39,6 +39,7 @@ use Rattle.dumpsyms_cmd.specs.declared.judgement.Judgement.{Judgement}
 use Rattle.dumpsyms_cmd.specs.declared.judgement.Answer.{Answer}
 use Rattle.dumpsyms_cmd.specs.declared.judgement.Answer.TheVariants.{Judged, Unread, NoMemory}
 use Rattle.dumpsyms_cmd.proofs.AnswerLemmas.{refuses_verdict, answered, judges_refused, rose_later}
+use Rattle.dumpsyms_cmd.proofs.JudgedLemmas.{nothing}
 
 -- ---- the names that were asked for
 
@@ -237,7 +238,7 @@ stacks_stopped NoMemory stopped text name folder files before asked faults now r
 
 row : (name folder : List ℕ) (files : Option Files) (before mid after : List (List ℕ)) → mid ≡ before ++ name ∷ [] → AsksSymbols folder mid after → AsksRow (Some (stacks name folder)) files before after
 row name folder files before mid after first asks = record {
-  id = [];
+  untold = nothing;
   further = asks.0;
   are = asks.1.1;
   asks = (suc (length asks.0), omega arith, asks.1.0 ∙ ap (λ l. l ++ asks.0) first ∙ append_assoc before (name ∷ []) asks.0 ∙ ap (λ l. before ++ name ∷ l) (sym (take_all (length asks.0) asks.0 (omega arith))));
@@ -249,4 +250,4 @@ asks_behind read name folder files before mid after first asks = row name folder
 pub asks_core : (stopped : Stop ReadEnd) (name folder : List ℕ) (files : Option Files) (before after : List (List ℕ)) → AsksOnce (Err stopped) before name after → AsksRow (Some (stacks name folder)) files before after
 asks_core (Fault f) name folder files before after asked = row name folder files before after after asked (nothing_asked folder after after refl)
 asks_core stop.NoMemory name folder files before after (inl asked) = row name folder files before after after asked (nothing_asked folder after after refl)
-asks_core stop.NoMemory name folder files before after (inr same) = record { id = []; further = []; are = (tt, tt); asks = (0, omega arith, same ∙ sym (append-nil before)) }
+asks_core stop.NoMemory name folder files before after (inr same) = record { untold = nothing; further = []; are = (tt, tt); asks = (0, omega arith, same ∙ sym (append-nil before)) }

@@ -1,15 +1,22 @@
--- The image that is dumped, or the verdict where the files give none: of one ELF file, or of a stripped binary and its separate debug file.
-use Rattle.std.specs.Prelude.{ℕ, nat_lt, Bool, true, false, List, [], ◌∷◌, Option, Some, None, Result, Ok, Err, length}
+-- The image that is dumped, or the verdict where the files give none: of one ELF file, or of a stripped binary and its separate debug file; and with
+-- the supplementary file to which that of them links which has the debugging information (DWARF 5, 7.3.6).
+use Rattle.std.specs.Prelude.{ℕ, nat_lt, Bool, true, false, if◌then◌else◌, List, [], ◌∷◌, Option, Some, None, Result, Ok, Err, length}
 use Rattle.std.specs.Option.{option_to_list}
 use Rattle.sym_edges.specs.Outside.{Files}
 use Rattle.sym_edges.specs.Results.{◌>>=◌}
 use Rattle.elf_sections.specs.Image.{ImageParts}
 use Rattle.elf_sections.specs.declared.fault.ElfFault.{ElfFault}
+use Rattle.elf_sections.specs.Supplement.{with_sup}
 use Rattle.full_image.specs.FullImage.{any_image}
+use Rattle.full_image.specs.SupImage.{sup_image}
 use Rattle.debug_pair.specs.DebugPath.{debug_path}
 use Rattle.debug_pair.specs.Pairing.{pair_of}
+use Rattle.debug_pair.specs.SupLink.{SupLink, sup_link, is_of_link}
+use Rattle.debug_pair.specs.SupPath.{sup_path}
 use Rattle.debug_pair.specs.declared.fault.PairFault.TheVariants.{NoBuildId}
-use Rattle.dumpsyms_cmd.specs.Refusals.{elf_line, debug_elf_line, pair_line, short_id_line, too_long_line}
+use Rattle.debug_pair.specs.declared.fault.SupFault.{SupFault}
+use Rattle.debug_pair.specs.declared.fault.SupFault.TheVariants.{Link, BuildId}
+use Rattle.dumpsyms_cmd.specs.Refusals.{elf_line, debug_elf_line, pair_line, short_id_line, sup_elf_line, sup_line, too_long_line}
 use Rattle.dumpsyms_cmd.specs.Verdict.{Verdict, refused, unread_file, LIMIT}
 
 -- where the separate debug file of a binary is: at a path, or below a root by the binary's build id
@@ -33,10 +40,14 @@ abbrev pub unless_longer : Bool → Result ImageParts Verdict → Result ImagePa
 unless_longer true read = Err (refused too_long_line)
 unless_longer false read = read
 
--- the image of the file of a name, which may not be there; with its compressed sections where `full`
+-- what is read of the file of a name, which may not be there
+abbrev pub file_by : Bool → (List ℕ → Result ImageParts ElfFault) → (ElfFault → List ℕ) → List ℕ → Option (List ℕ) → Result ImageParts Verdict
+file_by full image line name None = Err (unread_file full name)
+file_by full image line name (Some bytes) = unless_longer (nat_lt LIMIT (length bytes)) (or_refused line (image bytes))
+
+-- its image, with its compressed sections where `full`
 abbrev pub file_image : Bool → (ElfFault → List ℕ) → List ℕ → Option (List ℕ) → Result ImageParts Verdict
-file_image full line name None = Err (unread_file full name)
-file_image full line name (Some bytes) = unless_longer (nat_lt LIMIT (length bytes)) (or_refused line (any_image full bytes))
+file_image full line name file = file_by full (any_image full) line name file
 
 -- the image of the ELF file alone
 abbrev pub elf_image : ElfSource → Files → Result ImageParts Verdict
@@ -56,21 +67,66 @@ abbrev pub path_of : DebugFile → ImageParts → Result (List ℕ) Verdict
 path_of (at_path path) binary = Ok path
 path_of (below_root root) binary = path_below root binary.build_id
 
--- the image of a binary and its debug file
-abbrev pub with_file : Bool → ImageParts → List ℕ → Option (List ℕ) → Result ImageParts Verdict
-with_file full binary path file = file_image full debug_elf_line path file >>= (λ debug. or_refused pair_line (pair_of binary debug))
+-- the root below which debug files are looked for, where it is given
+abbrev pub root_of : Option DebugFile → Option (List ℕ)
+root_of None = None
+root_of (Some (at_path path)) = None
+root_of (Some (below_root root)) = Some root
 
--- by the path of the debug file, and by the binary
-abbrev pub then_file : Bool → ImageParts → Result (List ℕ) Verdict → Files → Result ImageParts Verdict
-then_file full binary found files = found >>= (λ path. with_file full binary path (files path))
+-- the path of the supplementary file to which the file of a name links
+abbrev pub or_nowhere : Option (List ℕ) → Result (List ℕ) Verdict
+or_nowhere None = Err (refused (sup_line Link))
+or_nowhere (Some path) = Ok path
+
+abbrev pub sup_place : Option DebugFile → List ℕ → SupLink → Result (List ℕ) Verdict
+sup_place debug name link = or_nowhere (sup_path (root_of debug) name link.path)
+
+-- the image with that of a supplementary file, which has the id of the link
+abbrev pub joined : ImageParts → SupLink → ImageParts → Result ImageParts Verdict
+joined image link sup = if is_of_link link sup then Ok (with_sup image sup) else Err (refused (sup_line BuildId))
+
+-- by the file at a path
+abbrev pub with_sup_file : Bool → ImageParts → SupLink → List ℕ → Files → Result ImageParts Verdict
+with_sup_file full image link path files = file_by full sup_image sup_elf_line path (files path) >>= joined image link
+
+-- what a path leads to, where there is one
+abbrev pub then_path : (List ℕ → Files → Result ImageParts Verdict) → Result (List ℕ) Verdict → Files → Result ImageParts Verdict
+then_path reads found files = found >>= (λ path. reads path files)
+
+-- by the link of the file of a name: an image without one stands alone
+abbrev pub with_link : ElfSource → List ℕ → ImageParts → Result (Option SupLink) SupFault → Files → Result ImageParts Verdict
+with_link source name image (Ok None) files = Ok image
+with_link source name image (Ok (Some link)) files = then_path (with_sup_file source.full image link) (sup_place source.debug name link) files
+with_link source name image (Err fault) files = Err (refused (sup_line fault))
+
+-- links are followed where `full`
+abbrev pub then_sup : ElfSource → List ℕ → ImageParts → Files → Result ImageParts Verdict
+then_sup source name image files = if source.full then with_link source name image (sup_link image) files else Ok image
+
+-- by an image that may not be there
+abbrev pub then_link : ElfSource → List ℕ → Result ImageParts Verdict → Files → Result ImageParts Verdict
+then_link source name read files = read >>= (λ image. then_sup source name image files)
+
+-- the image of a binary and its debug file
+abbrev pub then_pair : ImageParts → Result ImageParts Verdict → Result ImageParts Verdict
+then_pair binary read = read >>= (λ debug. or_refused pair_line (pair_of binary debug))
+
+abbrev pub debug_given : ImageParts → Result ImageParts ElfFault → Result ImageParts Verdict
+debug_given binary read = then_pair binary (or_refused debug_elf_line read)
+
+abbrev pub file_pair : ElfSource → ImageParts → List ℕ → Files → Result ImageParts Verdict
+file_pair source binary path files = then_pair binary (file_image source.full debug_elf_line path (files path))
+
+abbrev pub with_file : ElfSource → ImageParts → List ℕ → Files → Result ImageParts Verdict
+with_file source binary path files = then_link source path (file_pair source binary path files) files
 
 -- a binary has a debug file, or stands alone
-abbrev pub with_debug : Bool → Option DebugFile → ImageParts → Files → Result ImageParts Verdict
-with_debug full None binary files = Ok binary
-with_debug full (Some debug) binary files = then_file full binary (path_of debug binary) files
+abbrev pub with_debug : ElfSource → Option DebugFile → ImageParts → Files → Result ImageParts Verdict
+with_debug source None binary files = then_sup source source.elf binary files
+with_debug source (Some debug) binary files = then_path (with_file source binary) (path_of debug binary) files
 
 abbrev pub then_debug : ElfSource → Result ImageParts Verdict → Files → Result ImageParts Verdict
-then_debug source read files = read >>= (λ binary. with_debug source.full source.debug binary files)
+then_debug source read files = read >>= (λ binary. with_debug source source.debug binary files)
 
 -- by the files, in the order in which they are read: the first step that gives nothing ends it
 abbrev pub given_image : ElfSource → Files → Result ImageParts Verdict
@@ -81,26 +137,57 @@ abbrev pub path_names : Result (List ℕ) Verdict → List (List ℕ)
 path_names (Ok path) = path ∷ []
 path_names (Err ended) = []
 
--- the names that are asked for behind that of the binary
-abbrev pub debug_names : Option DebugFile → ImageParts → List (List ℕ)
-debug_names None binary = []
-debug_names (Some debug) binary = path_names (path_of debug binary)
+-- the name that is asked for behind that of the file of an image: that of its supplementary file
+abbrev pub link_names : ElfSource → List ℕ → Result (Option SupLink) SupFault → List (List ℕ)
+link_names source name (Ok None) = []
+link_names source name (Ok (Some link)) = path_names (sup_place source.debug name link)
+link_names source name (Err fault) = []
 
-abbrev pub names_behind : Option DebugFile → Result ImageParts Verdict → List (List ℕ)
-names_behind debug (Ok binary) = debug_names debug binary
-names_behind debug (Err ended) = []
+abbrev pub sup_names : ElfSource → List ℕ → ImageParts → List (List ℕ)
+sup_names source name image = if source.full then link_names source name (sup_link image) else []
 
--- the path of the debug file of a binary with a build id that is not told
-abbrev pub untold_names : Option DebugFile → List ℕ → List (List ℕ)
-untold_names None id = []
-untold_names (Some (at_path path)) id = path ∷ []
-untold_names (Some (below_root root)) id = option_to_list (debug_path root id)
+abbrev pub read_names : ElfSource → List ℕ → Result ImageParts Verdict → List (List ℕ)
+read_names source name (Ok image) = sup_names source name image
+read_names source name (Err ended) = []
+
+-- those behind that of a binary
+abbrev pub pair_names : ElfSource → ImageParts → Result (List ℕ) Verdict → Files → List (List ℕ)
+pair_names source binary (Ok path) files = path ∷ read_names source path (file_pair source binary path files)
+pair_names source binary (Err ended) files = []
+
+abbrev pub debug_names : ElfSource → Option DebugFile → ImageParts → Files → List (List ℕ)
+debug_names source None binary files = sup_names source source.elf binary
+debug_names source (Some debug) binary files = pair_names source binary (path_of debug binary) files
+
+abbrev pub names_behind : ElfSource → Result ImageParts Verdict → Files → List (List ℕ)
+names_behind source (Ok binary) files = debug_names source source.debug binary files
+names_behind source (Err ended) files = []
+
+-- what is not told: the build id of a binary, and the path to which the debugging information links, where it does
+pub record Untold : Type 0 where
+  pub id : List ℕ
+  pub link : Option (List ℕ)
+
+-- the name of a supplementary file by such a path
+abbrev pub untold_sup : ElfSource → List ℕ → Option (List ℕ) → List (List ℕ)
+untold_sup source name None = []
+untold_sup source name (Some link) = if source.full then option_to_list (sup_path (root_of source.debug) name link) else []
+
+abbrev pub untold_file : ElfSource → Untold → Option (List ℕ) → List (List ℕ)
+untold_file source untold None = []
+untold_file source untold (Some path) = path ∷ untold_sup source path untold.link
+
+-- the path of the debug file of a binary with a build id that is not told, and behind it the name of a supplementary file
+abbrev pub untold_names : ElfSource → Option DebugFile → Untold → List (List ℕ)
+untold_names source None untold = untold_sup source source.elf untold.link
+untold_names source (Some (at_path path)) untold = untold_file source untold (Some path)
+untold_names source (Some (below_root root)) untold = untold_file source untold (debug_path root untold.id)
 
 -- those names where the store tells its files or tells nothing
-abbrev pub debug_told : Option Files → ElfSource → List ℕ → List (List ℕ)
-debug_told None source id = untold_names source.debug id
-debug_told (Some files) source id = names_behind source.debug (elf_image source files)
+abbrev pub debug_told : Option Files → ElfSource → Untold → List (List ℕ)
+debug_told None source untold = untold_names source source.debug untold
+debug_told (Some files) source untold = names_behind source (elf_image source files) files
 
 -- all names that are asked for in the order in which they are read
-abbrev pub elf_names : Option Files → ElfSource → List ℕ → List (List ℕ)
-elf_names files source id = source.elf ∷ debug_told files source id
+abbrev pub elf_names : Option Files → ElfSource → Untold → List (List ℕ)
+elf_names files source untold = source.elf ∷ debug_told files source untold

@@ -1,5 +1,6 @@
 pub mod SplitUnits
 pub mod Refusals
+pub mod SupUnits
 pub mod Verdict
 pub mod ElfInput
 pub mod Words

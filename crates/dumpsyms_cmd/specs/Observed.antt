@@ -6,6 +6,7 @@ use Rattle.sym_edges.specs.Outside.{Files, Rose, AddsFront, append_told}
 use Rattle.dumpsyms_cmd.specs.Verdict.{Verdict}
 use Rattle.debug_pair.specs.SymbolPath.{symbol_path}
 use Rattle.module_stacks.specs.SymbolFiles.{Counted}
+use Rattle.dumpsyms_cmd.specs.ElfInput.{Untold}
 use Rattle.dumpsyms_cmd.specs.Words.{Asked, files_of, stacks}
 
 -- a store: its files, where it tells them; the names that it was asked for, and its count of faults, before and after
@@ -79,12 +80,13 @@ abbrev pub AreFurther : Option Asked → List (List ℕ) → Type 0
 AreFurther (Some (stacks core folder)) names = AreOnce names × AllByRecursion (IsSymbolFile folder) names
 AreFurther command names = names ≡ []
 
--- a front of the names of a command's files was asked for: where the store tells nothing, that of a debug file by some build id
+-- a front of the names of a command's files was asked for: where the store tells nothing, that of a debug file by some build id, and that of a
+-- supplementary file by some link
 pub record AsksRow (command : Option Asked) (files : Option Files) (before after : List (List ℕ)) : Type 0 where
-  pub id : List ℕ
+  pub untold : Untold
   pub further : List (List ℕ)
   pub are : AreFurther command further
-  pub asks : Asks (files_of command files id ++ further) before after
+  pub asks : Asks (files_of command files untold ++ further) before after
 
 abbrev pub AsksFor : StoreSeen → Option Asked → Type 0
 AsksFor store command = AsksRow command store.files store.asked store.asked_after

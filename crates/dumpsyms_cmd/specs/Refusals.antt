@@ -7,8 +7,9 @@ use Rattle.elf_sections.specs.declared.fault.ElfFault.{ElfFault}
 use Rattle.elf_sections.specs.FaultWords.{fault_word}
 use Rattle.core_file.specs.FaultWords.{fault_word as core_fault_word}
 use Rattle.core_file.specs.declared.fault.CoreFault.{CoreFault}
-use Rattle.debug_pair.specs.FaultWords.{pair_word, short_id_word}
+use Rattle.debug_pair.specs.FaultWords.{pair_word, short_id_word, sup_word}
 use Rattle.debug_pair.specs.declared.fault.PairFault.{PairFault}
+use Rattle.debug_pair.specs.declared.fault.SupFault.{SupFault}
 use Rattle.abbrev_units.specs.declared.fault.DwarfKind.{DwarfKind}
 use Rattle.abbrev_units.specs.FaultWords.{dwarf_word}
 use Rattle.abbrev_units.specs.DebugSections.{DebugSections}
@@ -19,7 +20,7 @@ use Rattle.frame_entries.specs.declared.fault.FrameKind.{FrameKind}
 use Rattle.frame_entries.specs.FaultWords.{kind_word}
 use Rattle.sym_edges.specs.declared.located.Located.{Located}
 use Rattle.debug_read.specs.declared.fault.DebugFault.{DebugFault}
-use Rattle.debug_read.specs.declared.fault.DebugFault.TheVariants.{Dwarf, Frame}
+use Rattle.debug_read.specs.declared.fault.DebugFault.TheVariants.{Dwarf, Sup, Frame}
 use Rattle.sym_rules.specs.FaultWords.{text_word}
 use Rattle.sym_rules.specs.declared.text_fault.TextFault.{TextFault}
 use Rattle.state_file.specs.StateWords.{state_word}
@@ -51,6 +52,14 @@ pair_line fault = line (spaced (codes "refused pair") (pair_word fault ∷ []))
 abbrev pub short_id_line : List ℕ
 short_id_line = line (spaced (codes "refused pair") (short_id_word ∷ []))
 
+-- the image of a supplementary file has a fault
+abbrev pub sup_elf_line : ElfFault → List ℕ
+sup_elf_line fault = line (codes "refused sup " ++ fault_word fault)
+
+-- a file is not read with the supplementary file to which it links
+abbrev pub sup_line : SupFault → List ℕ
+sup_line fault = line (spaced (codes "refused sup") (sup_word fault ∷ []))
+
 -- the file passes the limit
 abbrev pub too_long_line : List ℕ
 too_long_line = line (codes "refused input too-long")
@@ -75,6 +84,10 @@ located_line refused kind section at = line (spaced refused (kind ∷ section_wo
 abbrev pub dwarf_line : Located DwarfKind → List ℕ
 dwarf_line fault = located_line (codes "refused dwarf") (dwarf_word fault.kind) fault.section fault.at
 
+-- that of the supplementary file has one
+abbrev pub sup_dwarf_line : Located DwarfKind → List ℕ
+sup_dwarf_line fault = located_line (codes "refused sup-dwarf") (dwarf_word fault.kind) fault.section fault.at
+
 -- a section of frame entries has a fault
 abbrev pub frame_line : Located FrameKind → List ℕ
 frame_line fault = located_line (codes "refused frame") (kind_word fault.kind) fault.section fault.at
@@ -82,6 +95,7 @@ frame_line fault = located_line (codes "refused frame") (kind_word fault.kind) f
 -- the file has a fault after its image
 abbrev pub debug_line : DebugFault → List ℕ
 debug_line (Dwarf fault) = dwarf_line fault
+debug_line (Sup fault) = sup_dwarf_line fault
 debug_line (Frame fault) = frame_line fault
 
 -- an entry is left out: its section, its place in hexadecimal, and the reason
@@ -107,6 +121,10 @@ skipped_of unit = skipped_by unit unit.part
 -- the units that are skipped, in order
 unfoldable pub skipped_text : List Unit → List ℕ
 skipped_text units = flat_map skipped_of units
+
+-- a unit of the supplementary file is skipped: its place in hexadecimal, and its version
+abbrev pub sup_skipped_line : Unit → List ℕ
+sup_skipped_line unit = line (spaced (codes "skipped sup_info") (hex unit.start ∷ codes "version" ∷ decimal unit.version ∷ []))
 
 -- the entries of a unit stand in another file: its place in hexadecimal
 abbrev pub split_line : Unit → List ℕ

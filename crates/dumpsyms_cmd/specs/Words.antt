@@ -1,5 +1,5 @@
 -- The words of the program, and what they ask for.
-use Rattle.std.specs.Prelude.{◌≡◌, ℕ, ◌≤◌, ◌==◌, ◌^◌, ◌&&◌, Bool, true, false, not, nat_le, nat_lt, length, List, [], ◌∷◌, ◌++◌, Option, Some, None, Result, Ok, Err, codes, if◌then◌else◌}
+use Rattle.std.specs.Prelude.{◌≡◌, ℕ, ◌≤◌, ◌==◌, ◌^◌, ◌&&◌, Bool, true, false, not, nat_le, length, List, [], ◌∷◌, ◌++◌, Option, Some, None, Result, Ok, Err, codes, if◌then◌else◌}
 use Rattle.std.specs.List.{after_last, list_all}
 use Rattle.std.specs.Option.{option_map}
 use Rattle.std.specs.Str.{bytes_eq}
@@ -16,7 +16,7 @@ use Rattle.sym_records.specs.declared.line.SymLine.{SymLine}
 use Rattle.stack_text.specs.Lines.{line}
 use Rattle.dumpsyms_cmd.specs.Refusals.{unread_lines}
 use Rattle.dumpsyms_cmd.specs.Verdict.{Verdict}
-use Rattle.dumpsyms_cmd.specs.ElfInput.{DebugFile, at_path, below_root, ElfSource, given_image, elf_names}
+use Rattle.dumpsyms_cmd.specs.ElfInput.{DebugFile, at_path, below_root, ElfSource, Untold, given_image, elf_names}
 use Rattle.dumpsyms_cmd.specs.declared.words.Command.{Command}
 use Rattle.dumpsyms_cmd.specs.declared.words.Command.TheVariants.{Dump, Symbols, States, Sample, Judge, Stacks}
 use Rattle.dumpsyms_cmd.specs.declared.words.ElfPlace.{ElfPlace}
@@ -259,18 +259,19 @@ dumped_told None source name = name ∷ []
 dumped_told (Some files) source name = if_image (given_image source files) name
 
 -- the files that a command asks for, in the order in which they are read, where the store tells its files or tells nothing; then the debug
--- file below a root is that of some build id. Those of `stacks` behind its core file are found out as it goes
-abbrev pub files_of : Option Asked → Option Files → List ℕ → List (List ℕ)
-files_of None files id = []
-files_of (Some (dump source workers)) files id = elf_names files source id
-files_of (Some (check sym)) files id = sym ∷ []
-files_of (Some (lookup sym address)) files id = sym ∷ []
-files_of (Some (frame sym address state)) files id = sym ∷ second_told files sym state
-files_of (Some (sample units workers)) files id = []
-files_of (Some (walk sym state)) files id = sym ∷ second_told files sym state
-files_of (Some (judge source sym)) files id = elf_names files source id ++ dumped_told files source sym
-files_of (Some (names sym)) files id = sym ∷ []
-files_of (Some (stacks core folder)) files id = core ∷ []
+-- file below a root is that of some build id, and a supplementary file that of some link. Those of `stacks` behind its core file are found out as
+-- it goes
+abbrev pub files_of : Option Asked → Option Files → Untold → List (List ℕ)
+files_of None files untold = []
+files_of (Some (dump source workers)) files untold = elf_names files source untold
+files_of (Some (check sym)) files untold = sym ∷ []
+files_of (Some (lookup sym address)) files untold = sym ∷ []
+files_of (Some (frame sym address state)) files untold = sym ∷ second_told files sym state
+files_of (Some (sample units workers)) files untold = []
+files_of (Some (walk sym state)) files untold = sym ∷ second_told files sym state
+files_of (Some (judge source sym)) files untold = elf_names files source untold ++ dumped_told files source sym
+files_of (Some (names sym)) files untold = sym ∷ []
+files_of (Some (stacks core folder)) files untold = core ∷ []
 
 -- the byte is a slash
 abbrev pub is_slash : ℕ → Bool

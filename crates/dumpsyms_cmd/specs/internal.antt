@@ -4,3 +4,4 @@ pub mod Writes
 pub mod Judged
 pub mod Counting
 pub mod HeldTable
+pub mod LeftOut

@@ -5,7 +5,7 @@ ghost use Rattle.std.specs.String.{string_bytes};
 ghost use Rattle.dumpsyms_cmd.specs.Words.{source_view, command_of, module_name, dump, sample};
 ghost use Rattle.debug_read.specs.DebugSays.{IsDebugRead};
 ghost use Rattle.dumpsyms_cmd.specs.Judgement.{err_bytes};
-ghost use Rattle.dumpsyms_cmd.specs.internal.Judged.{Refuses, JudgesParts, AnswersStop, AnswersCommand, AnswersWords, IsSteadyAnswer};
+ghost use Rattle.dumpsyms_cmd.specs.internal.Judged.{Refuses, JudgesParts, AnswersMade, AnswersStop, AnswersCommand, AnswersWords, IsSteadyAnswer};
 ghost use Rattle.dumpsyms_cmd.specs.Observed.{AsksRow};
 
 use crate::dump::assemble;
@@ -20,9 +20,10 @@ use crate::symbol_input::{answer_judged, answer_symbols};
 use crate::words::{Command, ElfPlace, USAGE, name_of, parse_words};
 use debug_read::{DebugRead, read_debug};
 use elf_sections::Image;
-use std::alloc::Global;
+use std::alloc::{AllocError, Global};
 use std::thread::Threads;
 use sym_edges::{OutOfMemory, ReadEnd, Stop, Store};
+use sym_records::ByteText;
 use unit_workers::Gate;
 
 /// A refusal with a line.
@@ -75,6 +76,16 @@ pub(crate) fn judge_image<R: Threads + Sync, G: Gate + Sync>(
         Ok(debug) => judge_records(rt, alloc, image, &debug, source, workers),
         Err(Stop::Fault(fault)) => Ok(refuse(Message::Made(debug_line(alloc, fault)?))),
         Err(Stop::NoMemory) => Err(OutOfMemory),
+    }
+}
+
+/// The answer by a line that refuses.
+pub fn answer_line(made: Result<ByteText, AllocError>) -> Answer
+    ensures { AnswersMade result made }
+{
+    match made {
+        Ok(text) => Answer::Judged(refuse(Message::Made(text))),
+        Err(_) => Answer::NoMemory,
     }
 }
 

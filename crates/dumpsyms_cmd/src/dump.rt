@@ -191,13 +191,7 @@ pub fn assemble<R: Threads + Sync>(
 {
     let text = dump_file(rt, alloc, image, name, debug, workers)?;
     let FileText { file, omitted } = text;
-    let err = list_left_out(
-        alloc,
-        full,
-        image,
-        debug.headers.as_slice(),
-        omitted.as_slice(),
-    )?;
+    let err = list_left_out(alloc, full, image, debug, omitted.as_slice())?;
     Ok(Dumped {
         file,
         err,

@@ -1,5 +1,5 @@
-//! The files of a dump: an ELF file, and perhaps its separate debug file.
-ghost use Rattle.std.specs.Prelude.{◌≡◌, ◌≤◌, [], ◌∷◌, Ok, Err, IfOk, codes};
+//! The files of a dump: an ELF file, and perhaps its separate debug file; `sup_input` has the supplementary file behind them.
+ghost use Rattle.std.specs.Prelude.{◌≡◌, ◌≤◌, [], ◌∷◌, Ok, Err, codes};
 ghost use Rattle.std.specs.String.{string_bytes};
 ghost use Rattle.sym_edges.specs.Outside.{MatchStop};
 ghost use Rattle.full_image.specs.FullImage.{any_image, outcomes_of};
@@ -9,21 +9,20 @@ ghost use Rattle.stack_text.specs.Lines.{line};
 ghost use Rattle.dumpsyms_cmd.specs.Refusals.{elf_line, pair_line};
 ghost use Rattle.dumpsyms_cmd.specs.Verdict.{refused};
 ghost use Rattle.dumpsyms_cmd.specs.Words.{debug_view, source_view};
-ghost use Rattle.dumpsyms_cmd.specs.ElfInput.{or_refused, path_below, path_of, path_names, names_behind, debug_names, given_image, with_file, then_file, with_debug, then_debug};
-ghost use Rattle.dumpsyms_cmd.specs.internal.Judged.{JudgesGiven, JudgesPair, AnswersImage, AnswersMade, AsksAll, AsksBehind, AsksSource, IsSteadyAnswer};
+ghost use Rattle.dumpsyms_cmd.specs.ElfInput.{or_refused, path_below, path_of, read_names, given_image, debug_given, with_file, then_path, then_link, with_debug, then_debug};
+ghost use Rattle.dumpsyms_cmd.specs.internal.Judged.{AnswersImage, AsksAll, AsksFile, AsksPath, AsksDebug, AsksBehind, AsksSource, IsSteadyAnswer};
 
-use crate::commands::{answer_stop, judge_image, refuse};
-use crate::judgement::{Answer, Judgement, Message};
+use crate::commands::{answer_line, answer_stop};
+use crate::judgement::Answer;
 use crate::refusals::{debug_fault_line, fault_line, pair_line, unread_line};
-use crate::symbol_input::answer_judged;
+use crate::sup_input::answer_image;
 use crate::words::{DebugPlace, ElfPlace};
 use debug_pair::{PairFault, debug_path, pair};
 use elf_sections::{ElfFault, Image};
 use full_image::{Inflations, PackedImage, inflate_sections, read_packed};
-use std::alloc::{AllocError, Global};
+use std::alloc::Global;
 use std::thread::Threads;
-use sym_edges::{FILE_LIMIT, OutOfMemory, Stop, Store, read_all};
-use sym_records::ByteText;
+use sym_edges::{FILE_LIMIT, Stop, Store, read_all};
 use unit_workers::Gate;
 
 /// A file whose tables were read, and what its compressed sections give.
@@ -31,6 +30,13 @@ use unit_workers::Gate;
 struct Opened<'a> {
     packed: PackedImage<'a>,
     inflated: Inflations,
+}
+
+/// A binary and its debug file.
+#[derive(Clone, Copy)]
+struct Images<'i, 'b, 'd> {
+    binary: &'i Image<'b>,
+    debug: &'i Image<'d>,
 }
 
 /// Reads the tables of a file, and its compressed sections where `full`.
@@ -50,70 +56,6 @@ fn open_file<'a, R: Threads + Sync>(
             Ok(Opened { packed, inflated })
         }
         Err(stop) => Err(stop),
-    }
-}
-
-/// A dump of a binary with its debug file.
-#[tactic(auto, using(crate::proofs::SourceLemmas::both_judged, crate::proofs::SourceLemmas::pair_refused))]
-fn judge_both<R: Threads + Sync, G: Gate + Sync>(
-    rt: &R,
-    alloc: Global,
-    binary: &Image<'_>,
-    debug: &Image<'_>,
-    source: &ElfPlace<'_>,
-    gate: &G,
-    workers: usize,
-) -> Result<Judgement, OutOfMemory>
-    requires workers { (1 ≤ workers) × (workers ≤ 64) }
-    ensures { IfOk result (λ j. JudgesGiven j (source_view source.now) (or_refused pair_line (pair_of binary.now debug.now))) }
-{
-    match pair(alloc, binary, debug) {
-        Ok(both) => judge_image(rt, alloc, &both, source, gate, workers),
-        Err(Stop::Fault(fault)) => Ok(refuse(Message::Made(pair_line(alloc, fault.word())?))),
-        Err(Stop::NoMemory) => Err(OutOfMemory),
-    }
-}
-
-/// The same by the debug file, whose tables were read.
-#[tactic(auto, using(crate::proofs::SourceLemmas::debug_judged, crate::proofs::SourceLemmas::debug_refused))]
-fn judge_opened<R: Threads + Sync, G: Gate + Sync>(
-    rt: &R,
-    alloc: Global,
-    binary: &Image<'_>,
-    opened: Opened<'_>,
-    source: &ElfPlace<'_>,
-    gate: &G,
-    workers: usize,
-) -> Result<Judgement, OutOfMemory>
-    requires inflated { opened.inflated ≡ outcomes_of opened.packed }
-    requires workers { (1 ≤ workers) × (workers ≤ 64) }
-    ensures { IfOk result (λ j. JudgesPair j (source_view source.now) binary.now opened.entry.packed.full opened.entry.packed.file) }
-{
-    let Opened { packed, inflated } = opened;
-    match packed.unpack(&inflated) {
-        Ok(debug) => judge_both(rt, alloc, binary, &debug, source, gate, workers),
-        Err(fault) => Ok(refuse(Message::Made(debug_fault_line(alloc, fault)?))),
-    }
-}
-
-/// The same over the bytes of the debug file.
-#[tactic(auto, using(crate::proofs::SourceLemmas::opened_judged, crate::proofs::SourceLemmas::debug_refused))]
-fn judge_debug<R: Threads + Sync, G: Gate + Sync>(
-    rt: &R,
-    alloc: Global,
-    binary: &Image<'_>,
-    bytes: &[u8],
-    source: &ElfPlace<'_>,
-    gate: &G,
-    workers: usize,
-) -> Result<Judgement, OutOfMemory>
-    requires workers { (1 ≤ workers) × (workers ≤ 64) }
-    ensures { IfOk result (λ j. JudgesPair j (source_view source.now) binary.now source.now.full bytes.now) }
-{
-    match open_file(rt, alloc, bytes, source.full, workers) {
-        Ok(opened) => judge_opened(rt, alloc, binary, opened, source, gate, workers),
-        Err(Stop::Fault(fault)) => Ok(refuse(Message::Made(debug_fault_line(alloc, fault)?))),
-        Err(Stop::NoMemory) => Err(OutOfMemory),
     }
 }
 
@@ -152,19 +94,103 @@ fn find_debug(
     }
 }
 
-/// The answer by a line that refuses.
-fn answer_line(made: Result<ByteText, AllocError>) -> Answer
-    ensures { AnswersMade result made }
+/// The answer by a binary and the image of its debug file, which stands at a path.
+#[tactic(auto, using(crate::proofs::SourceLemmas::pair_answered, crate::proofs::SourceLemmas::pair_asked, crate::proofs::SourceLemmas::pair_refused, crate::proofs::SourceLemmas::no_pair_asked, crate::proofs::SourceLemmas::none_asked, crate::proofs::SteadyLemmas::any_steady))]
+fn answer_pair<R: Threads + Sync, S: Store, G: Gate + Sync>(
+    rt: &R,
+    alloc: Global,
+    images: Images<'_, '_, '_>,
+    path: &str,
+    source: &ElfPlace<'_>,
+    workers: usize,
+    store: &mut S,
+    gate: &G,
+) -> Answer
+    requires workers { (1 ≤ workers) × (workers ≤ 64) }
+    ensures asked { AsksAll result (read_names (source_view source.now) path.now (or_refused pair_line (pair_of images.entry.binary.now images.entry.debug.now))) (S.asked store.old) (S.asked store.new) }
+    ensures files { S.files store.new ≡ S.files store.old }
+    ensures faults { S.faults store.old ≤ S.faults store.new }
+    ensures steady { IsSteadyAnswer result (S.faults store.old) (S.faults store.new) }
+    ensures answered { AnswersImage result (then_link (source_view source.now) path.now (or_refused pair_line (pair_of images.entry.binary.now images.entry.debug.now))) (source_view source.now) (S.files store.old) (S.asked store.new) (S.faults store.old) (S.faults store.new) }
 {
-    match made {
-        Ok(text) => Answer::Judged(refuse(Message::Made(text))),
-        Err(_) => Answer::NoMemory,
+    match pair(alloc, images.binary, images.debug) {
+        Ok(both) => answer_image(rt, alloc, both, path, source, workers, store, gate),
+        Err(Stop::Fault(fault)) => answer_line(pair_line(alloc, fault.word())),
+        Err(Stop::NoMemory) => Answer::NoMemory,
+    }
+}
+/// The same by a debug file whose tables were read.
+#[tactic(auto, using(crate::proofs::SourceLemmas::debug_answered, crate::proofs::SourceLemmas::debug_asked, crate::proofs::SourceLemmas::debug_refused, crate::proofs::SourceLemmas::no_debug_asked, crate::proofs::SteadyLemmas::any_steady))]
+fn answer_unpacked<R: Threads + Sync, S: Store, G: Gate + Sync>(
+    rt: &R,
+    alloc: Global,
+    binary: &Image<'_>,
+    opened: Opened<'_>,
+    path: &str,
+    source: &ElfPlace<'_>,
+    workers: usize,
+    store: &mut S,
+    gate: &G,
+) -> Answer
+    requires inflated { opened.inflated ≡ outcomes_of opened.packed }
+    requires workers { (1 ≤ workers) × (workers ≤ 64) }
+    ensures asked { AsksAll result (read_names (source_view source.now) path.now (debug_given binary.now (any_image opened.entry.packed.full opened.entry.packed.file))) (S.asked store.old) (S.asked store.new) }
+    ensures files { S.files store.new ≡ S.files store.old }
+    ensures faults { S.faults store.old ≤ S.faults store.new }
+    ensures steady { IsSteadyAnswer result (S.faults store.old) (S.faults store.new) }
+    ensures answered { AnswersImage result (then_link (source_view source.now) path.now (debug_given binary.now (any_image opened.entry.packed.full opened.entry.packed.file))) (source_view source.now) (S.files store.old) (S.asked store.new) (S.faults store.old) (S.faults store.new) }
+{
+    let Opened { packed, inflated } = opened;
+    match packed.unpack(&inflated) {
+        Ok(debug) => answer_pair(
+            rt,
+            alloc,
+            Images {
+                binary,
+                debug: &debug,
+            },
+            path,
+            source,
+            workers,
+            store,
+            gate,
+        ),
+        Err(fault) => answer_line(debug_fault_line(alloc, fault)),
+    }
+}
+
+/// The same over the bytes of the debug file.
+#[tactic(auto, using(crate::proofs::SourceLemmas::debug_opened, crate::proofs::SourceLemmas::debug_opened_asked, crate::proofs::SourceLemmas::debug_refused, crate::proofs::SourceLemmas::no_debug_asked, crate::proofs::SourceLemmas::none_asked, crate::proofs::SteadyLemmas::any_steady))]
+fn answer_debug<R: Threads + Sync, S: Store, G: Gate + Sync>(
+    rt: &R,
+    alloc: Global,
+    binary: &Image<'_>,
+    bytes: &[u8],
+    path: &str,
+    source: &ElfPlace<'_>,
+    workers: usize,
+    store: &mut S,
+    gate: &G,
+) -> Answer
+    requires workers { (1 ≤ workers) × (workers ≤ 64) }
+    ensures asked { AsksAll result (read_names (source_view source.now) path.now (debug_given binary.now (any_image source.now.full bytes.now))) (S.asked store.old) (S.asked store.new) }
+    ensures files { S.files store.new ≡ S.files store.old }
+    ensures faults { S.faults store.old ≤ S.faults store.new }
+    ensures steady { IsSteadyAnswer result (S.faults store.old) (S.faults store.new) }
+    ensures answered { AnswersImage result (then_link (source_view source.now) path.now (debug_given binary.now (any_image source.now.full bytes.now))) (source_view source.now) (S.files store.old) (S.asked store.new) (S.faults store.old) (S.faults store.new) }
+{
+    match open_file(rt, alloc, bytes, source.full, workers) {
+        Ok(opened) => answer_unpacked(
+            rt, alloc, binary, opened, path, source, workers, store, gate,
+        ),
+        Err(Stop::Fault(fault)) => answer_line(debug_fault_line(alloc, fault)),
+        Err(Stop::NoMemory) => Answer::NoMemory,
     }
 }
 
 /// The answer by a debug file that is still to be read. The line for a file that cannot be read is made before, since no memory is
 /// taken after a file failed.
-#[tactic(auto, using(crate::proofs::SourceLemmas::debug_read, crate::proofs::SourceLemmas::debug_stopped, crate::proofs::SourceLemmas::all_asked, crate::proofs::SourceLemmas::stop_asked, crate::proofs::SourceLemmas::none_asked, crate::proofs::SteadyLemmas::stop_steady, crate::proofs::SteadyLemmas::any_steady))]
+#[tactic(auto, using(crate::proofs::SourceLemmas::file_unread, crate::proofs::SteadyLemmas::stop_steady, crate::proofs::SteadyLemmas::steady_behind, crate::proofs::SteadyLemmas::any_steady))]
 fn answer_file<R: Threads + Sync, S: Store, G: Gate + Sync>(
     rt: &R,
     alloc: Global,
@@ -176,31 +202,33 @@ fn answer_file<R: Threads + Sync, S: Store, G: Gate + Sync>(
     gate: &G,
 ) -> Answer
     requires workers { (1 ≤ workers) × (workers ≤ 64) }
-    ensures asked { AsksAll result (path.now ∷ []) (S.asked store.old) (S.asked store.new) }
+    ensures asked { AsksFile result (source_view source.now) binary.now path.now (S.files store.old) (S.asked store.old) (S.asked store.new) }
     ensures files { S.files store.new ≡ S.files store.old }
     ensures faults { S.faults store.old ≤ S.faults store.new }
     ensures steady { IsSteadyAnswer result (S.faults store.old) (S.faults store.new) }
-    ensures answered { AnswersImage result (λ f. with_file source.now.full binary.now path.now (f path.now)) (source_view source.now) (S.files store.old) (S.asked store.new) (S.faults store.old) (S.faults store.new) }
+    ensures answered { AnswersImage result (with_file (source_view source.now) binary.now path.now) (source_view source.now) (S.files store.old) (S.asked store.new) (S.faults store.old) (S.faults store.new) }
 {
     let Ok(unread) = unread_line(alloc, source.full, path.as_bytes()) else {
         return Answer::NoMemory;
     };
     match read_all(alloc, store, path, FILE_LIMIT) {
-        Ok(bytes) => answer_judged(judge_debug(
+        Ok(bytes) => answer_debug(
             rt,
             alloc,
             binary,
             bytes.as_slice(),
+            path,
             source,
-            gate,
             workers,
-        )),
+            store,
+            gate,
+        ),
         Err(stop) => answer_stop(stop, unread),
     }
 }
 
 /// The answer by a binary whose debug file is still to be found.
-#[tactic(auto, using(crate::proofs::SourceLemmas::path_answered, crate::proofs::SourceLemmas::path_asked, crate::proofs::SourceLemmas::path_refused, crate::proofs::SourceLemmas::no_path_asked, crate::proofs::SourceLemmas::none_asked, crate::proofs::SteadyLemmas::any_steady))]
+#[tactic(auto, using(crate::proofs::SourceLemmas::file_answered, crate::proofs::SourceLemmas::file_asked, crate::proofs::SourceLemmas::file_refused, crate::proofs::SourceLemmas::no_file_asked, crate::proofs::SourceLemmas::path_unknown, crate::proofs::SteadyLemmas::any_steady))]
 fn answer_place<R: Threads + Sync, S: Store, G: Gate + Sync>(
     rt: &R,
     alloc: Global,
@@ -212,11 +240,11 @@ fn answer_place<R: Threads + Sync, S: Store, G: Gate + Sync>(
     gate: &G,
 ) -> Answer
     requires workers { (1 ≤ workers) × (workers ≤ 64) }
-    ensures asked { AsksAll result (path_names (path_of (debug_view debug.entry) binary.now)) (S.asked store.old) (S.asked store.new) }
+    ensures asked { AsksPath result (source_view source.now) binary.now (path_of (debug_view debug.entry) binary.now) (S.files store.old) (S.asked store.old) (S.asked store.new) }
     ensures files { S.files store.new ≡ S.files store.old }
     ensures faults { S.faults store.old ≤ S.faults store.new }
     ensures steady { IsSteadyAnswer result (S.faults store.old) (S.faults store.new) }
-    ensures answered { AnswersImage result (then_file source.now.full binary.now (path_of (debug_view debug.entry) binary.now)) (source_view source.now) (S.files store.old) (S.asked store.new) (S.faults store.old) (S.faults store.new) }
+    ensures answered { AnswersImage result (then_path (with_file (source_view source.now) binary.now) (path_of (debug_view debug.entry) binary.now)) (source_view source.now) (S.files store.old) (S.asked store.new) (S.faults store.old) (S.faults store.new) }
 {
     match find_debug(alloc, debug, binary) {
         Ok(path) => answer_file(
@@ -235,26 +263,26 @@ fn answer_place<R: Threads + Sync, S: Store, G: Gate + Sync>(
 }
 
 /// The answer by the image of the ELF file.
-#[tactic(auto, using(crate::proofs::SourceLemmas::alone_answered, crate::proofs::SourceLemmas::none_asked, crate::proofs::SourceLemmas::some_asked, crate::proofs::SteadyLemmas::any_steady))]
+#[tactic(auto, using(crate::proofs::SourceLemmas::none_answered, crate::proofs::SourceLemmas::none_named, crate::proofs::SourceLemmas::some_answered, crate::proofs::SourceLemmas::some_asked))]
 fn answer_binary<R: Threads + Sync, S: Store, G: Gate + Sync>(
     rt: &R,
     alloc: Global,
-    binary: &Image<'_>,
+    binary: Image<'_>,
     source: &ElfPlace<'_>,
     workers: usize,
     store: &mut S,
     gate: &G,
 ) -> Answer
     requires workers { (1 ≤ workers) × (workers ≤ 64) }
-    ensures asked { AsksAll result (debug_names (source_view source.now).debug binary.now) (S.asked store.old) (S.asked store.new) }
+    ensures asked { AsksDebug result (source_view source.now) (source_view source.now).debug binary.entry (S.files store.old) (S.asked store.old) (S.asked store.new) }
     ensures files { S.files store.new ≡ S.files store.old }
     ensures faults { S.faults store.old ≤ S.faults store.new }
     ensures steady { IsSteadyAnswer result (S.faults store.old) (S.faults store.new) }
-    ensures answered { AnswersImage result (with_debug source.now.full (source_view source.now).debug binary.now) (source_view source.now) (S.files store.old) (S.asked store.new) (S.faults store.old) (S.faults store.new) }
+    ensures answered { AnswersImage result (with_debug (source_view source.now) (source_view source.now).debug binary.entry) (source_view source.now) (S.files store.old) (S.asked store.new) (S.faults store.old) (S.faults store.new) }
 {
     match source.debug {
-        None => answer_judged(judge_image(rt, alloc, binary, source, gate, workers)),
-        Some(debug) => answer_place(rt, alloc, binary, debug, source, workers, store, gate),
+        None => answer_image(rt, alloc, binary, source.elf, source, workers, store, gate),
+        Some(debug) => answer_place(rt, alloc, &binary, debug, source, workers, store, gate),
     }
 }
 
@@ -271,7 +299,7 @@ fn answer_opened<R: Threads + Sync, S: Store, G: Gate + Sync>(
 ) -> Answer
     requires inflated { opened.inflated ≡ outcomes_of opened.packed }
     requires workers { (1 ≤ workers) × (workers ≤ 64) }
-    ensures asked { AsksBehind result (source_view source.now) (or_refused elf_line (any_image opened.entry.packed.full opened.entry.packed.file)) (S.asked store.old) (S.asked store.new) }
+    ensures asked { AsksBehind result (source_view source.now) (or_refused elf_line (any_image opened.entry.packed.full opened.entry.packed.file)) (S.files store.old) (S.asked store.old) (S.asked store.new) }
     ensures files { S.files store.new ≡ S.files store.old }
     ensures faults { S.faults store.old ≤ S.faults store.new }
     ensures steady { IsSteadyAnswer result (S.faults store.old) (S.faults store.new) }
@@ -279,7 +307,7 @@ fn answer_opened<R: Threads + Sync, S: Store, G: Gate + Sync>(
 {
     let Opened { packed, inflated } = opened;
     match packed.unpack(&inflated) {
-        Ok(binary) => answer_binary(rt, alloc, &binary, source, workers, store, gate),
+        Ok(binary) => answer_binary(rt, alloc, binary, source, workers, store, gate),
         Err(fault) => answer_line(fault_line(alloc, fault)),
     }
 }
@@ -296,7 +324,7 @@ fn answer_bytes<R: Threads + Sync, S: Store, G: Gate + Sync>(
     gate: &G,
 ) -> Answer
     requires workers { (1 ≤ workers) × (workers ≤ 64) }
-    ensures asked { AsksBehind result (source_view source.now) (or_refused elf_line (any_image source.now.full bytes.now)) (S.asked store.old) (S.asked store.new) }
+    ensures asked { AsksBehind result (source_view source.now) (or_refused elf_line (any_image source.now.full bytes.now)) (S.files store.old) (S.asked store.old) (S.asked store.new) }
     ensures files { S.files store.new ≡ S.files store.old }
     ensures faults { S.faults store.old ≤ S.faults store.new }
     ensures steady { IsSteadyAnswer result (S.faults store.old) (S.faults store.new) }

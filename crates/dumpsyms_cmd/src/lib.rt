@@ -30,6 +30,7 @@ mod omissions;
 mod read_back;
 mod sample;
 mod split_units;
+mod sup_input;
 
 // `judge`.
 mod judge;

@@ -1,10 +1,18 @@
 //! What is left out of a dump: units that are skipped, and frame entries.
-ghost use Rattle.std.specs.Prelude.{◌≡◌, ◌++◌, OnOk, IfOk};
-ghost use Rattle.debug_read.specs.ImageSections.{sections_of};
+ghost use Rattle.std.specs.Prelude.{◌≡◌, ◌++◌, ◌∷◌, [], length, codes, decimal, OnOk, IfOk};
+ghost use Rattle.std.specs.List.{flat_map, list_any};
+ghost use Rattle.abbrev_units.specs.UnitPlaces.{read_units};
+ghost use Rattle.sym_records.specs.Canon.{spaced};
+ghost use Rattle.sym_records.specs.Fields.{hex};
+ghost use Rattle.stack_text.specs.Lines.{line};
 ghost use Rattle.dumpsyms_cmd.specs.Refusals.{omitted_line, omitted_text, skipped_of, skipped_text, split_line, unit_left, units_left_text, units_text};
+ghost use Rattle.debug_read.specs.ImageSections.{sections_of};
+ghost use Rattle.dumpsyms_cmd.specs.SupUnits.{sup_skipped_text};
+ghost use Rattle.dumpsyms_cmd.specs.internal.LeftOut.{is_skipped, kept_entries, left_of, sup_left};
 
 use crate::split_units::Splits;
 use abbrev_units::{Unit, UnitPart};
+use debug_read::{DebugRead, SupTargets};
 use elf_sections::Image;
 use itoa::Buffer;
 use rule_postfix::Omission;
@@ -13,6 +21,20 @@ use std::alloc::{AllocError, Global};
 use sym_edges::OutOfMemory;
 use sym_records::{ByteText, HexText};
 
+/// Adds a line of these words, and of the place of a unit and its version.
+fn add_version(text: &mut Vec<u8>, words: &[u8], unit: &Unit) -> Result<(), AllocError>
+    ensures { OnOk result (text.new.items ≡ text.old.items ++ line (spaced words.now (hex unit.now.start ∷ codes "version" ∷ decimal unit.now.version ∷ []))) }
+{
+    let at = HexText::of(unit.start);
+    let mut buffer = Buffer::new();
+    let more = [
+        at.as_slice(),
+        b"version",
+        buffer.format(unit.version).as_bytes(),
+    ];
+    add_line(text, words, &more)
+}
+
 /// Adds the line of a unit, where it is skipped.
 fn add_skipped(text: &mut Vec<u8>, unit: &Unit) -> Result<(), AllocError>
     ensures { OnOk result (text.new.items ≡ text.old.items ++ skipped_of unit.now) }
@@ -20,16 +42,7 @@ fn add_skipped(text: &mut Vec<u8>, unit: &Unit) -> Result<(), AllocError>
     match unit.part {
         UnitPart::Read => Ok(()),
         UnitPart::Passed => Ok(()),
-        UnitPart::Skipped => {
-            let at = HexText::of(unit.start);
-            let mut buffer = Buffer::new();
-            let words = [
-                at.as_slice(),
-                b"version",
-                buffer.format(unit.version).as_bytes(),
-            ];
-            add_line(text, b"skipped debug_info", &words)
-        }
+        UnitPart::Skipped => add_version(text, b"skipped debug_info", unit),
     }
 }
 
@@ -81,6 +94,88 @@ fn add_units_left(
     Ok(())
 }
 
+/// Whether some of the units are skipped.
+fn has_skipped(units: &[Unit]) -> bool
+    ensures { result ≡ list_any is_skipped units.now }
+{
+    units.iter().any(|unit| unit.part == UnitPart::Skipped)
+}
+
+/// How many of the units are read.
+fn count_read(units: &[Unit]) -> usize
+    ensures { result ≡ length (read_units units.now) }
+{
+    let mut count = 0;
+    'units: for unit in units {
+        if unit.part == UnitPart::Read {
+            count += 1;
+        }
+    }
+    count
+}
+
+/// Adds the line of a unit of the supplementary file, where it is skipped and an entry leads into it.
+fn add_sup_skipped(text: &mut Vec<u8>, targets: &SupTargets, unit: &Unit) -> Result<(), AllocError>
+    ensures { OnOk result (text.new.items ≡ text.old.items ++ sup_left targets.now unit.now) }
+{
+    match unit.part {
+        UnitPart::Read => Ok(()),
+        UnitPart::Passed => Ok(()),
+        UnitPart::Skipped => {
+            if targets.leads_into(unit) {
+                add_version(text, b"skipped sup_info", unit)?;
+            }
+            Ok(())
+        }
+    }
+}
+
+/// Adds the lines of such units.
+fn add_sup_lines(text: &mut Vec<u8>, targets: &SupTargets, units: &[Unit]) -> Result<(), AllocError>
+    ensures { OnOk result (text.new.items ≡ text.old.items ++ flat_map (sup_left targets.now) units.now) }
+{
+    'lines: for unit in units {
+        add_sup_skipped(text, targets, unit)?;
+    }
+    Ok(())
+}
+
+/// Adds the lines of the units of the supplementary file that are skipped and into which entries of the file lead.
+fn add_sup_units(
+    text: &mut Vec<u8>,
+    alloc: Global,
+    debug: &DebugRead<'_>,
+) -> Result<(), OutOfMemory>
+    ensures { OnOk result (text.new.items ≡ text.old.items ++ sup_skipped_text (kept_entries debug.now) debug.now.sup_headers) }
+{
+    let units = debug.sup_headers.as_slice();
+    if !has_skipped(units) {
+        return Ok(());
+    }
+    let count = count_read(debug.headers.as_slice());
+    let targets = SupTargets::of(alloc, &debug.units, count)?;
+    add_sup_lines(text, &targets, units)?;
+    Ok(())
+}
+
+/// Adds the lines of the former, and where `full` of both.
+fn add_own_units(
+    text: &mut Vec<u8>,
+    alloc: Global,
+    full: bool,
+    image: &Image<'_>,
+    units: &[Unit],
+) -> Result<(), OutOfMemory>
+    ensures { OnOk result (text.new.items ≡ text.old.items ++ units_text full (sections_of image.now) units.now) }
+{
+    if full {
+        add_units_left(text, &mut Splits::of(alloc, image), units)?;
+    } else {
+        add_units(text, units)?;
+    }
+    Ok(())
+}
+
 /// Adds the line of an entry that is left out.
 fn add_omission(text: &mut Vec<u8>, omission: &Omission) -> Result<(), AllocError>
     ensures { OnOk result (text.new.items ≡ text.old.items ++ omitted_line omission.now) }
@@ -105,23 +200,20 @@ fn add_omissions(text: &mut Vec<u8>, omissions: &[Omission]) -> Result<(), Alloc
     Ok(())
 }
 
-/// The lines of the units that are skipped, where `full` also of those whose entries stand in another file, and then of the frame
-/// entries that are left out.
+/// The lines of the units that are skipped, where `full` also of those whose entries stand in another file; of the units of the
+/// supplementary file (DWARF 5, 7.3.6) that are skipped and needed; and then of the frame entries that are left out.
 pub fn list_left_out(
     alloc: Global,
     full: bool,
     image: &Image<'_>,
-    units: &[Unit],
+    debug: &DebugRead<'_>,
     omissions: &[Omission],
 ) -> Result<ByteText, OutOfMemory>
-    ensures { IfOk result (λ text. text ≡ units_text full (sections_of image.now) units.now ++ omitted_text omissions.now) }
+    ensures { IfOk result (λ text. text ≡ left_of full image.now debug.now omissions.now) }
 {
     let mut text = Vec::new(alloc);
-    if full {
-        add_units_left(&mut text, &mut Splits::of(alloc, image), units)?;
-    } else {
-        add_units(&mut text, units)?;
-    }
+    add_own_units(&mut text, alloc, full, image, debug.headers.as_slice())?;
+    add_sup_units(&mut text, alloc, debug)?;
     add_omissions(&mut text, omissions)?;
     Ok(ByteText::of(text))
 }

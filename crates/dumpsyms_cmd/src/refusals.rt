@@ -2,15 +2,17 @@
 ghost use Rattle.std.specs.Prelude.{◌≡◌, ◌++◌, ◌∷◌, [], codes, IfOk};
 ghost use Rattle.sym_records.specs.Canon.{spaced};
 ghost use Rattle.elf_sections.specs.FaultWords.{fault_word};
+ghost use Rattle.abbrev_units.specs.FaultWords.{dwarf_word};
 ghost use Rattle.core_file.specs.FaultWords.{joined_word};
 ghost use Rattle.dumpsyms_cmd.specs.Judgement.{err_bytes};
 ghost use Rattle.stack_text.specs.Lines.{line};
-ghost use Rattle.dumpsyms_cmd.specs.Refusals.{core_line, unread_lines, elf_line, debug_elf_line, dwarf_line, frame_line, debug_line, located_line, fault_at, text_line, state_line};
+ghost use Rattle.dumpsyms_cmd.specs.Refusals.{core_line, unread_lines, elf_line, debug_elf_line, frame_line, sup_elf_line, sup_line, debug_line, located_line, fault_at, text_line, state_line};
 
 use crate::judgement::Message;
 use abbrev_units::DwarfFault;
 use clean_names::add_cleaned;
 use core_file::CoreFault;
+use debug_pair::SupFault;
 use debug_read::DebugFault;
 use elf_sections::ElfFault;
 use frame_entries::FrameFault;
@@ -97,6 +99,23 @@ pub fn debug_fault_line(alloc: Global, fault: ElfFault) -> Result<ByteText, Allo
     image_line(alloc, b"refused debug ", fault)
 }
 
+/// The line that names the fault of the image of a supplementary file.
+pub fn sup_fault_line(alloc: Global, fault: ElfFault) -> Result<ByteText, AllocError>
+    ensures { IfOk result (λ text. text ≡ sup_elf_line fault) }
+{
+    image_line(alloc, b"refused sup ", fault)
+}
+
+/// The line that says why a file is not read with the supplementary file to which it links.
+pub fn sup_line(alloc: Global, fault: SupFault) -> Result<ByteText, AllocError>
+    ensures { IfOk result (λ text. text ≡ sup_line fault) }
+{
+    let words = [fault.word()];
+    let mut text = Vec::new(alloc);
+    add_line(&mut text, b"refused sup", &words)?;
+    Ok(ByteText::of(text))
+}
+
 /// The line that says by a word why a binary and a debug file are no pair.
 pub fn pair_line(alloc: Global, word: &'static [u8]) -> Result<ByteText, AllocError>
     ensures { IfOk result (λ text. text ≡ line (spaced (codes "refused pair") (word.now ∷ []))) }
@@ -124,17 +143,15 @@ fn located_line(
     Ok(ByteText::of(text))
 }
 
-/// The line that names a fault of debugging information.
-fn dwarf_line(alloc: Global, fault: DwarfFault) -> Result<ByteText, AllocError>
-    ensures { IfOk result (λ text. text ≡ dwarf_line fault) }
+/// The line that names a fault of debugging information, behind what is refused.
+fn dwarf_line(
+    alloc: Global,
+    refused: &'static [u8],
+    fault: DwarfFault,
+) -> Result<ByteText, AllocError>
+    ensures { IfOk result (λ text. text ≡ located_line refused.now (dwarf_word fault.kind) fault.section fault.at) }
 {
-    located_line(
-        alloc,
-        b"refused dwarf",
-        fault.kind.word(),
-        fault.section,
-        fault.at,
-    )
+    located_line(alloc, refused, fault.kind.word(), fault.section, fault.at)
 }
 
 /// The line that names a fault of a section of frame entries.
@@ -185,7 +202,8 @@ pub fn debug_line(alloc: Global, fault: DebugFault) -> Result<ByteText, AllocErr
     ensures { IfOk result (λ text. text ≡ debug_line fault) }
 {
     match fault {
-        DebugFault::Dwarf(fault) => dwarf_line(alloc, fault),
+        DebugFault::Dwarf(fault) => dwarf_line(alloc, b"refused dwarf", fault),
+        DebugFault::Sup(fault) => dwarf_line(alloc, b"refused sup-dwarf", fault),
         DebugFault::Frame(fault) => frame_line(alloc, fault),
     }
 }

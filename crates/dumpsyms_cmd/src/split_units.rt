@@ -10,34 +10,18 @@ ghost use Rattle.dumpsyms_cmd.specs.SplitUnits.{length_width, unit_type, names_f
 ghost use Rattle.dumpsyms_cmd.specs.internal.HeldTable.{IsHeld};
 
 use abbrev_units::{Abbrev, AbbrevScratch, Sections, Unit, UnitPart};
+use debug_read::sections_of;
 use elf_sections::Image;
 use leb_cursor::Cursor;
 use std::alloc::Global;
 use std::marker::Model;
-use sym_edges::{OutOfMemory, Sect, Stop};
+use sym_edges::{OutOfMemory, Stop};
 
 /// DW_UT_skeleton (DWARF 5, table 7.2).
 const SKELETON: u8 = 4;
 
 /// DW_AT_GNU_dwo_name, of GNU's split DWARF.
 const DWO_NAME: u64 = 0x2130;
-
-/// The sections of debugging information in an image.
-fn sections_of<'a>(image: &Image<'a>) -> Sections<'a>
-    ensures { result ≡ sections_of image.now }
-{
-    Sections {
-        info: image.section(Sect::Info).bytes,
-        abbrevs: image.section(Sect::Abbrev).bytes,
-        line: image.section(Sect::Line).bytes,
-        line_str: image.section(Sect::LineStr).bytes,
-        strs: image.section(Sect::Str).bytes,
-        str_offsets: image.section(Sect::StrOffsets).bytes,
-        addr: image.section(Sect::Addr).bytes,
-        ranges: image.section(Sect::Ranges).bytes,
-        rnglists: image.section(Sect::Rnglists).bytes,
-    }
-}
 
 /// The bytes of a unit's length and of its version.
 fn type_offset(wide: bool) -> usize

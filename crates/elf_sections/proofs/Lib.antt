@@ -13,3 +13,4 @@ mod WorkedImage
 mod WorkedFaults
 mod WorkedNotes
 mod WorkedPair
+mod WorkedLinks

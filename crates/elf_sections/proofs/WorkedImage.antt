@@ -3,6 +3,7 @@ use Rattle.std.proofs.Common.{◌≡◌, ◌+◌, ℕ, List, [], ◌∷◌, map,
 use Rattle.std.specs.Prelude.{slice_set}
 use Rattle.elf_sections.specs.Symbols.{SymbolParts, symbols}
 use Rattle.elf_sections.specs.Programs.{base, code}
+use Rattle.elf_sections.specs.SupLinks.{Missing}
 use Rattle.elf_sections.specs.Image.{SectionPart, image, identity_of, part_named}
 use Rattle.elf_sections.proofs.Elf.{Symbol}
 use Rattle.sym_edges.proofs.Hex.{bytes}
@@ -38,6 +39,9 @@ small_image : image small ≡ Ok (record {
   build_id = Some id20;
   identity = bytes (codes "000102030405060708090a0b0c0d0e0f");
   symbols = record { address = 0x1000; name = codes "main" } ∷ [];
+  altlink = Missing;
+  debug_sup = Missing;
+  sup = None;
 })
 unfolding elf_sections_computes elf_builds
 small_image = refl

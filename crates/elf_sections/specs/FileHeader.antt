@@ -53,14 +53,25 @@ has_sections header len =
     (nat_lt 0 header.section_table && (nat_lt 0 header.section_count && nat_lt header.section_count shn_loreserve))
     && ((header.section_size == section_header_size) && nat_le (header.section_table + section_header_size * header.section_count) len)
 
--- the first fault of the header before its tables
-unfoldable pub ident_fault : List ℕ → Option ElfFault
-ident_fault file = fault_if (is_not_elf file) NotElf
+-- the first fault of the header before the type of the file
+unfoldable pub machine_fault : List ℕ → Option ElfFault
+machine_fault file = fault_if (is_not_elf file) NotElf
     (fault_if (not (slice_index file ei_class == elfclass64)) Class
     (fault_if (not (slice_index file ei_data == elfdata2lsb)) Order
-    (fault_if (not (machine_of file == em_x86_64)) Machine
-    (fault_if (is_other_kind file) Kind None))))
+    (fault_if (not (machine_of file == em_x86_64)) Machine None)))
+
+-- the first fault of the header before its tables
+unfoldable pub ident_fault : List ℕ → Option ElfFault
+ident_fault file = option_or (machine_fault file) (fault_if (is_other_kind file) Kind None)
+
+-- there is no section header table
+unfoldable pub section_table_fault : List ℕ → Option ElfFault
+section_table_fault file = fault_if (not (has_sections (header_of file) (length file))) SectionTable None
 
 -- the first fault of the file header
 unfoldable pub header_fault : List ℕ → Option ElfFault
-header_fault file = option_or (ident_fault file) (fault_if (not (has_sections (header_of file) (length file))) SectionTable None)
+header_fault file = option_or (ident_fault file) (section_table_fault file)
+
+-- the first fault of the file header of a supplementary file, which may be of any type: it is mostly relocatable
+unfoldable pub sup_header_fault : List ℕ → Option ElfFault
+sup_header_fault file = option_or (machine_fault file) (section_table_fault file)

@@ -12,6 +12,7 @@ use Rattle.elf_sections.specs.Programs.{program_fault, base, code}
 use Rattle.elf_sections.specs.Notes.{build_id}
 use Rattle.elf_sections.specs.Identity.{folded, front16}
 use Rattle.elf_sections.specs.Symbols.{SymbolParts, symbols, symbols_fault}
+use Rattle.elf_sections.specs.SupLinks.{LinkPart, link_section, altlink_name, debug_sup_name}
 use Rattle.elf_sections.specs.declared.section.SectionHeader.{SectionHeader}
 use Rattle.elf_sections.specs.declared.fault.ElfFault.{ElfFault}
 use Rattle.elf_sections.specs.declared.fault.ElfFault.TheVariants.{NoIdentity}
@@ -71,7 +72,21 @@ unfoldable pub image_fault : List ℕ → Option ElfFault
 image_fault file = option_or (header_fault file) (option_or (names_fault file) (option_or (bytes_fault file)
     (option_or (compressed_fault file) (loaded_fault file))))
 
--- what an image is: its sections by name, base, code, build id, identity and function symbols
+-- the sections of debugging information
+pub record DebugSections : Type 0 where
+  pub info : SectionPart
+  pub abbrevs : SectionPart
+  pub line : SectionPart
+  pub line_str : SectionPart
+  pub str : SectionPart
+  pub str_offsets : SectionPart
+  pub addr : SectionPart
+  pub ranges : SectionPart
+  pub rnglists : SectionPart
+  pub debug_frame : SectionPart
+
+-- what an image is: its sections by name, base, code, build id, identity and function symbols, and what belongs to a supplementary file:
+-- the sections by which it leads to one or is one, and the sections of the one that was read with it
 pub record ImageParts : Type 0 where
   pub info : SectionPart
   pub abbrevs : SectionPart
@@ -90,6 +105,9 @@ pub record ImageParts : Type 0 where
   pub build_id : Option (List ℕ)
   pub identity : List ℕ
   pub symbols : List SymbolParts
+  pub altlink : LinkPart
+  pub debug_sup : LinkPart
+  pub sup : Option DebugSections
 
 -- the parts of a file
 unfoldable pub parts_of : List ℕ → ImageParts
@@ -111,6 +129,9 @@ parts_of file = record {
   build_id = build_id file;
   identity = identity_of (part_named file (name_of Text)).bytes (build_id file);
   symbols = symbols file;
+  altlink = link_section file altlink_name;
+  debug_sup = link_section file debug_sup_name;
+  sup = None;
 }
 
 abbrev pub image_by : Option ElfFault → ImageParts → Result ImageParts ElfFault
@@ -120,19 +141,6 @@ image_by (Some fault) parts = Err fault
 -- the image of a file: its first fault, or its parts
 unfoldable pub image : List ℕ → Result ImageParts ElfFault
 image file = image_by (image_fault file) (parts_of file)
-
--- the sections of debugging information
-pub record DebugSections : Type 0 where
-  pub info : SectionPart
-  pub abbrevs : SectionPart
-  pub line : SectionPart
-  pub line_str : SectionPart
-  pub str : SectionPart
-  pub str_offsets : SectionPart
-  pub addr : SectionPart
-  pub ranges : SectionPart
-  pub rnglists : SectionPart
-  pub debug_frame : SectionPart
 
 -- the same image with these sections in place of its own
 unfoldable pub with_sections : DebugSections → ImageParts → ImageParts
@@ -154,6 +162,9 @@ with_sections debug i = record {
   build_id = i.build_id;
   identity = i.identity;
   symbols = i.symbols;
+  altlink = i.altlink;
+  debug_sup = i.debug_sup;
+  sup = i.sup;
 }
 
 -- a section of an image

@@ -7,9 +7,11 @@ pub mod Programs
 pub mod Notes
 pub mod Identity
 pub mod Symbols
+pub mod SupLinks
 pub mod Image
 pub mod DebugView
 pub mod Pair
+pub mod Supplement
 pub mod Kept
 pub mod FaultWords
 pub mod internal

@@ -36,4 +36,7 @@ paired binary debug = record {
   build_id = binary.build_id;
   identity = binary.identity;
   symbols = symbols_in binary.code (first_symbols binary.symbols debug.symbols);
+  altlink = debug.altlink;
+  debug_sup = debug.debug_sup;
+  sup = debug.sup;
 }

@@ -72,6 +72,9 @@ impl<'a> Image<'a> {
             build_id: self.build_id,
             identity: self.identity,
             symbols,
+            altlink: debug.altlink,
+            debug_sup: debug.debug_sup,
+            sup: debug.sup,
         })
     }
 }

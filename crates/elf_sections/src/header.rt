@@ -1,6 +1,6 @@
 //! The file header (ELF64).
 ghost use Rattle.std.specs.Prelude.{◌≡◌, ◌≤◌, ◌+◌, ◌*◌, ℕ, nat_le, None, Some, length, MatchResult, IfOk, OnOk, IsTrue};
-ghost use Rattle.elf_sections.specs.FileHeader.{header_of, header_fault, ident_fault, has_sections};
+ghost use Rattle.elf_sections.specs.FileHeader.{header_of, header_fault, sup_header_fault, machine_fault, ident_fault, section_table_fault, has_sections};
 ghost use Rattle.elf_sections.specs.ElfNumbers.{file_header_size, section_header_size};
 
 use crate::constants::{
@@ -41,6 +41,32 @@ pub fn read_header(file: &[u8]) -> Result<FileHeader, ElfFault>
     if let Some(fault) = find_ident_fault(file) {
         return Err(fault);
     }
+    header_with_sections(file)
+}
+
+/// The file header of a supplementary file: as `read_header`, of any type of file.
+#[tactic(auto, unfolding(crate::specs::FileHeader::sup_header_fault))]
+pub fn read_sup_header(file: &[u8]) -> Result<FileHeader, ElfFault>
+    ensures read { MatchResult result
+        (λ header. (sup_header_fault file.now ≡ None) × (header ≡ header_of file.now))
+        (λ fault. sup_header_fault file.now ≡ Some fault) }
+    ensures fits { IfOk result (λ header. header.section_table + section_header_size * header.section_count ≤ length file.now) }
+{
+    if let Some(fault) = find_machine_fault(file) {
+        return Err(fault);
+    }
+    header_with_sections(file)
+}
+
+/// The fields of a file header whose section header table lies in the file.
+#[tactic(auto, unfolding(crate::specs::FileHeader::section_table_fault))]
+fn header_with_sections(file: &[u8]) -> Result<FileHeader, ElfFault>
+    requires { file_header_size ≤ length file.now }
+    ensures read { MatchResult result
+        (λ header. (section_table_fault file.now ≡ None) × (header ≡ header_of file.now))
+        (λ fault. section_table_fault file.now ≡ Some fault) }
+    ensures fits { IfOk result (λ header. header.section_table + section_header_size * header.section_count ≤ length file.now) }
+{
     let header = header_in(file);
     if section_table_fits(&header, file.len()) {
         Ok(header)
@@ -49,9 +75,24 @@ pub fn read_header(file: &[u8]) -> Result<FileHeader, ElfFault>
     }
 }
 
-#[tactic(auto, unfolding(crate::specs::FileHeader::ident_fault, crate::specs::FileHeader::is_not_elf, crate::specs::FileHeader::is_other_kind, crate::specs::FileHeader::type_of, crate::specs::FileHeader::machine_of))]
+#[tactic(auto, unfolding(crate::specs::FileHeader::ident_fault, crate::specs::FileHeader::is_other_kind, crate::specs::FileHeader::type_of))]
 fn find_ident_fault(file: &[u8]) -> Option<ElfFault>
     ensures first { result ≡ ident_fault file.now }
+    ensures long { result ≡ None → file_header_size ≤ length file.now }
+{
+    if let Some(fault) = find_machine_fault(file) {
+        return Some(fault);
+    }
+    let kind = read_u16(file, 16);
+    if !(kind == ET_EXEC || kind == ET_DYN) {
+        return Some(ElfFault::Kind);
+    }
+    None
+}
+
+#[tactic(auto, unfolding(crate::specs::FileHeader::machine_fault, crate::specs::FileHeader::is_not_elf, crate::specs::FileHeader::machine_of))]
+fn find_machine_fault(file: &[u8]) -> Option<ElfFault>
+    ensures first { result ≡ machine_fault file.now }
     ensures long { result ≡ None → file_header_size ≤ length file.now }
 {
     if file.len() < FILE_HEADER || file.split_at(4).0 != b"\x7fELF".as_slice() {
@@ -65,10 +106,6 @@ fn find_ident_fault(file: &[u8]) -> Option<ElfFault>
     }
     if read_u16(file, 18) != EM_X86_64 {
         return Some(ElfFault::Machine);
-    }
-    let kind = read_u16(file, 16);
-    if !(kind == ET_EXEC || kind == ET_DYN) {
-        return Some(ElfFault::Kind);
     }
     None
 }

@@ -1,11 +1,14 @@
 //! The image: what the rest of the program reads of an ELF file.
 ghost use Rattle.std.specs.Prelude.{◌≡◌, ◌≤◌, [], length, unwrap_or, map};
-ghost use Rattle.std.specs.Option.{option_copied};
+ghost use Rattle.std.specs.Option.{option_copied, option_map};
 ghost use Rattle.range_set.specs.Starts.{AllFrom};
 ghost use Rattle.elf_sections.specs.Symbols.{symbol_view};
 ghost use Rattle.elf_sections.specs.Image.{part_view, section_of, with_sections};
 ghost use Rattle.elf_sections.specs.DebugView.{debug_view};
+ghost use Rattle.elf_sections.specs.SupLinks.{link_view};
+ghost use Rattle.elf_sections.specs.Supplement.{debug_sections_of, with_sup};
 
+use crate::links::LinkSection;
 use crate::symbols::Symbol;
 use std::marker::Model;
 use sym_edges::{Part, Sect, Span};
@@ -30,14 +33,19 @@ pub struct Image<'a> {
     pub(crate) build_id: Option<&'a [u8]>,
     pub(crate) identity: [u8; 16],
     pub(crate) symbols: Vec<Symbol<'a>>,
+    pub(crate) altlink: LinkSection<'a>,
+    pub(crate) debug_sup: LinkSection<'a>,
+    pub(crate) sup: Option<DebugParts<'a>>,
 }
 
 impl<'a> Model for Image<'a> {
     ghost use Rattle.std.specs.Prelude.{◌≤◌, [], length, map, unwrap_or};
-    ghost use Rattle.std.specs.Option.{option_copied};
+    ghost use Rattle.std.specs.Option.{option_copied, option_map};
     ghost use Rattle.range_set.specs.Starts.{AllFrom};
     ghost use Rattle.elf_sections.specs.Symbols.{symbol_view};
+    ghost use Rattle.elf_sections.specs.SupLinks.{link_view};
     ghost use Rattle.elf_sections.specs.Image.{ImageParts, part_view};
+    ghost use Rattle.elf_sections.specs.DebugView.{debug_view};
 
     ghost Value = { ImageParts };
 
@@ -59,6 +67,9 @@ impl<'a> Model for Image<'a> {
       build_id = option_copied i.build_id;
       identity = i.identity;
       symbols = map symbol_view i.symbols.items;
+      altlink = link_view i.altlink;
+      debug_sup = link_view i.debug_sup;
+      sup = option_map debug_view i.sup;
     } };
 
     ghost invariant = { λ i. (length (unwrap_or (option_copied i.build_id) []) ≤ 64) × AllFrom i.base i.code.items };
@@ -103,6 +114,54 @@ impl<'a> Image<'a> {
             build_id: self.build_id,
             identity: self.identity,
             symbols: self.symbols,
+            altlink: self.altlink,
+            debug_sup: self.debug_sup,
+            sup: self.sup,
+        }
+    }
+
+    /// The same image with what its segments, its code and its symbols say.
+    pub(crate) fn with_loaded(
+        mut self,
+        base: u64,
+        code: Vec<Span>,
+        identity: [u8; 16],
+        symbols: Vec<Symbol<'a>>,
+    ) -> Image<'a>
+        requires { AllFrom base code.items }
+        ensures { result ≡ record self.entry { base = base; code = code.items; identity = identity; symbols = map symbol_view symbols.entry.items } }
+    {
+        self.base = base;
+        self.code = code;
+        self.identity = identity;
+        self.symbols = symbols;
+        self
+    }
+
+    /// The same image, read together with that of its supplementary file.
+    #[tactic(auto, unfolding(crate::specs::Supplement::with_sup))]
+    pub fn with_sup(mut self, sup: &Image<'a>) -> Image<'a>
+        ensures { result ≡ with_sup self.entry sup.now }
+    {
+        self.sup = Some(sup.debug_parts());
+        self
+    }
+
+    /// The sections of debugging information.
+    pub fn debug_parts(&self) -> DebugParts<'a>
+        ensures { debug_view result ≡ debug_sections_of self.now }
+    {
+        DebugParts {
+            info: self.info,
+            abbrevs: self.abbrevs,
+            line: self.line,
+            line_str: self.line_str,
+            strs: self.strs,
+            str_offsets: self.str_offsets,
+            addr: self.addr,
+            ranges: self.ranges,
+            rnglists: self.rnglists,
+            debug_frame: self.debug_frame,
         }
     }
 
@@ -161,5 +220,26 @@ impl<'a> Image<'a> {
         ensures { map symbol_view result.now ≡ self.now.symbols }
     {
         self.symbols.as_slice()
+    }
+
+    /// The content of `.gnu_debugaltlink`, by which the file leads to its supplementary file (a GNU extension).
+    pub fn altlink(&self) -> LinkSection<'a>
+        ensures { link_view result ≡ self.now.altlink }
+    {
+        self.altlink
+    }
+
+    /// The content of `.debug_sup`, by which the file leads to its supplementary file, or says that it is one (DWARF 5, 7.3.6).
+    pub fn debug_sup(&self) -> LinkSection<'a>
+        ensures { link_view result ≡ self.now.debug_sup }
+    {
+        self.debug_sup
+    }
+
+    /// The sections of the supplementary file that was read with this one.
+    pub fn sup(&self) -> Option<DebugParts<'a>>
+        ensures { option_map debug_view result ≡ self.now.sup }
+    {
+        self.sup
     }
 }

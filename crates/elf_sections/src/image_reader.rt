@@ -1,25 +1,26 @@
 //! The image of a file, or its first fault.
-ghost use Rattle.std.specs.Prelude.{◌≡◌, ◌++◌, ◌∷◌, [], Ok, Err, Some, None, map, find, drop, nat_eq};
-ghost use Rattle.std.specs.List.{starts_with};
+ghost use Rattle.std.specs.Prelude.{◌≡◌, ◌++◌, ◌∷◌, [], Ok, Err, Some, None, IfOk, map};
 ghost use Rattle.std.specs.Option.{option_copied};
 ghost use Rattle.sym_edges.specs.Outside.{MatchStop};
 ghost use Rattle.elf_sections.specs.Programs.{code};
 ghost use Rattle.elf_sections.specs.Symbols.{symbol_view, symbols, symbols_fault};
 ghost use Rattle.elf_sections.specs.Image.{part_view, part_named, name_of, loaded_fault, parts_of, image};
+ghost use Rattle.elf_sections.specs.Supplement.{sup_parts_of};
 ghost use Rattle.elf_sections.specs.internal.Steps.{ReadsIdentity};
 
 use crate::code::read_code;
 use crate::fault::ElfFault;
 use crate::image::Image;
+use crate::links::{find_altlink, find_debug_sup};
 use crate::notes::find_build_id;
 use crate::program::read_base;
-use crate::section::{SectionHeader, begins, read_content};
+use crate::section::{find_named, read_content};
 use crate::strings::StringTable;
 use crate::symbols::{Symbol, find_linked, find_symbol_table, read_functions};
 use crate::tables::{Tables, read_tables};
 use crate::text_identity::{fold_text, pad_id};
 use std::alloc::Global;
-use sym_edges::{Part, Sect, Span, Stop};
+use sym_edges::{OutOfMemory, Part, Sect, Span, Stop};
 
 /// How many bytes of `.text` give the identity of a file without a build id.
 const IDENTITY_BYTES: usize = 4096;
@@ -42,18 +43,6 @@ fn ended_name(which: Sect) -> &'static [u8]
         Sect::EhFrame => b".eh_frame\0",
         Sect::Text => b".text\0",
     }
-}
-
-fn find_named<'s>(
-    sections: &'s [SectionHeader],
-    names: &[u8],
-    ended: &[u8],
-) -> Option<&'s SectionHeader>
-    ensures { option_copied result ≡ find (λ s. starts_with nat_eq (drop s.name names.now) ended.now) sections.now }
-{
-    sections
-        .iter()
-        .find(|section| begins(names, section.name, ended))
 }
 
 /// The first section of that name.
@@ -116,25 +105,13 @@ fn find_identity(text: &[u8], build_id: Option<&[u8]>) -> Option<[u8; 16]>
     }
 }
 
-/// The image of a file whose sections have no fault, as far as none of them is compressed: its first fault behind those of the
-/// sections, or its parts.
-#[tactic(auto, unfolding(crate::specs::Image::loaded_fault, crate::specs::Image::parts_of, crate::specs::Image::identity_fault, crate::specs::Programs::code, crate::specs::Notes::build_id))]
-pub fn read_loaded<'a>(alloc: Global, tables: &Tables<'a>) -> Result<Image<'a>, Stop<ElfFault>>
-    ensures read { MatchStop result
-        (λ i. (loaded_fault tables.now ≡ None) × (i ≡ parts_of tables.now))
-        (λ fault. loaded_fault tables.now ≡ Some fault) (Unit {0}) }
+/// The image of a supplementary file, as far as none of its sections is compressed: its sections by name, its build id, and the sections
+/// by which it says what it is.
+#[tactic(auto, unfolding(crate::specs::Supplement::sup_parts_of, crate::specs::Image::parts_of, crate::specs::Notes::build_id))]
+pub fn read_sup_parts<'a>(alloc: Global, tables: &Tables<'a>) -> Result<Image<'a>, OutOfMemory>
+    ensures { IfOk result (λ i. i ≡ sup_parts_of tables.now) }
 {
-    let base = match read_base(tables) {
-        Ok(base) => base,
-        Err(fault) => return Err(Stop::Fault(fault)),
-    };
-    let code = read_code(alloc, base, tables.sections())?;
-    let symbols = find_symbols(alloc, tables, &code)?;
-    let text = find_part(tables, Sect::Text);
     let build_id = find_build_id(alloc, tables.file(), tables.sections())?;
-    let Some(identity) = find_identity(text.bytes, build_id) else {
-        return Err(Stop::Fault(ElfFault::NoIdentity));
-    };
     Ok(Image {
         info: find_part(tables, Sect::Info),
         abbrevs: find_part(tables, Sect::Abbrev),
@@ -147,13 +124,37 @@ pub fn read_loaded<'a>(alloc: Global, tables: &Tables<'a>) -> Result<Image<'a>, 
         rnglists: find_part(tables, Sect::Rnglists),
         debug_frame: find_part(tables, Sect::DebugFrame),
         eh_frame: find_part(tables, Sect::EhFrame),
-        text,
-        base,
-        code,
+        text: find_part(tables, Sect::Text),
+        base: 0,
+        code: Vec::new(alloc),
         build_id,
-        identity,
-        symbols,
+        identity: [0; 16],
+        symbols: Vec::new(alloc),
+        altlink: find_altlink(tables),
+        debug_sup: find_debug_sup(tables),
+        sup: None,
     })
+}
+
+/// The image of a file whose sections have no fault, as far as none of them is compressed: its first fault behind those of the
+/// sections, or its parts.
+#[tactic(auto, unfolding(crate::specs::Image::loaded_fault, crate::specs::Image::parts_of, crate::specs::Supplement::sup_parts_of, crate::specs::Image::identity_fault, crate::specs::Programs::code, crate::specs::Notes::build_id))]
+pub fn read_loaded<'a>(alloc: Global, tables: &Tables<'a>) -> Result<Image<'a>, Stop<ElfFault>>
+    ensures read { MatchStop result
+        (λ i. (loaded_fault tables.now ≡ None) × (i ≡ parts_of tables.now))
+        (λ fault. loaded_fault tables.now ≡ Some fault) (Unit {0}) }
+{
+    let base = match read_base(tables) {
+        Ok(base) => base,
+        Err(fault) => return Err(Stop::Fault(fault)),
+    };
+    let code = read_code(alloc, base, tables.sections())?;
+    let symbols = find_symbols(alloc, tables, &code)?;
+    let parts = read_sup_parts(alloc, tables)?;
+    let Some(identity) = find_identity(parts.section(Sect::Text).bytes, parts.build_id()) else {
+        return Err(Stop::Fault(ElfFault::NoIdentity));
+    };
+    Ok(parts.with_loaded(base, code, identity, symbols))
 }
 
 /// The image of an ELF file, or the first of the twelve faults in the order of `ElfFault`.

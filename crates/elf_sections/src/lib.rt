@@ -7,6 +7,9 @@
 //!
 //! What a reader of compressed sections needs is public too: the [`Tables`] of a file, [`read_loaded`], which reads all but the sections
 //! of debugging information, and [`Image::with_sections`], which puts these in.
+//!
+//! A file may share entries and strings with other files in a supplementary file (DWARF 5, 7.3.6). The image keeps the sections by which it
+//! leads to that file, [`read_sup_tables`] and [`read_sup_parts`] read the file, and [`Image::with_sup`] puts its sections into the image.
 #![tactic(auto)]
 
 mod code;
@@ -16,6 +19,7 @@ mod fault;
 mod header;
 mod image;
 mod image_reader;
+mod links;
 mod notes;
 mod numbers;
 mod program;
@@ -27,7 +31,8 @@ mod text_identity;
 
 pub use fault::ElfFault;
 pub use image::{DebugParts, Image};
-pub use image_reader::{read_image, read_loaded};
+pub use image_reader::{read_image, read_loaded, read_sup_parts};
+pub use links::LinkSection;
 pub use section::{SectionHeader, begins, is_section_read, read_content};
 pub use symbols::Symbol;
-pub use tables::{Tables, read_tables};
+pub use tables::{Tables, read_sup_tables, read_tables};

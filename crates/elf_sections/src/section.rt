@@ -1,5 +1,5 @@
 //! Section headers (ELF64).
-ghost use Rattle.std.specs.Prelude.{◌≡◌, ◌+◌, ◌≤◌, length, drop, nat_eq};
+ghost use Rattle.std.specs.Prelude.{◌≡◌, ◌+◌, ◌≤◌, length, find, drop, nat_eq};
 ghost use Rattle.std.specs.Option.{option_copied};
 ghost use Rattle.std.specs.List.{starts_with};
 ghost use Rattle.elf_sections.specs.Sections.{section_at, content, is_empty_kind, is_read_kind, is_read, leaves_file, is_compressed, has_flag};
@@ -74,6 +74,19 @@ pub fn begins(table: &[u8], at: u32, front: &[u8]) -> bool
         let none: &[u8] = &[];
         none.starts_with(front)
     }
+}
+
+/// The first section whose name is this zero-ended one.
+pub fn find_named<'s>(
+    sections: &'s [SectionHeader],
+    names: &[u8],
+    ended: &[u8],
+) -> Option<&'s SectionHeader>
+    ensures { option_copied result ≡ find (λ s. starts_with nat_eq (drop s.name names.now) ended.now) sections.now }
+{
+    sections
+        .iter()
+        .find(|section| begins(names, section.name, ended))
 }
 
 #[tactic(auto, unfolding(crate::specs::Sections::is_read_kind))]

@@ -1,17 +1,17 @@
 //! The file header, the section headers and their names, as they were read.
-ghost use Rattle.std.specs.Prelude.{◌≡◌, ◌+◌, ◌*◌, ◌≤◌, ◌<◌, ◌^◌, not, ℕ, List, Some, None, IfOk, length, position, drop, option_and_then, slice_get, nat_le, nat_eq, is_none, find, ◌==◌};
-ghost use Rattle.std.specs.List.{list_any, starts_with};
-ghost use Rattle.std.specs.Option.{option_copied, option_map, option_or};
+ghost use Rattle.std.specs.Prelude.{◌≡◌, ◌+◌, ◌*◌, ◌≤◌, ◌<◌, ◌^◌, not, ℕ, List, Some, None, IfOk, length, position, option_and_then, slice_get, nat_le, is_none};
+ghost use Rattle.std.specs.List.{list_any};
+ghost use Rattle.std.specs.Option.{option_copied, option_or};
 ghost use Rattle.sym_edges.specs.Outside.{MatchStop};
-ghost use Rattle.elf_sections.specs.FileHeader.{header_fault, header_of, has_sections};
+ghost use Rattle.elf_sections.specs.FileHeader.{header_fault, sup_header_fault, header_of};
 ghost use Rattle.elf_sections.specs.Strings.{string_at};
-ghost use Rattle.elf_sections.specs.Sections.{sections_from, sections, content, is_named, leaves_file, is_compressed, names, names_fault, bytes_fault, compressed_fault};
+ghost use Rattle.elf_sections.specs.Sections.{sections_from, sections, content, leaves_file, is_compressed, names, names_fault, bytes_fault, compressed_fault};
 ghost use Rattle.elf_sections.specs.ElfNumbers.{section_header_size};
 ghost use Rattle.elf_sections.specs.declared.fault.ElfFault.TheVariants.{SectionBytes, Compressed};
 
 use crate::constants::SECTION_HEADER;
 use crate::fault::ElfFault;
-use crate::header::{FileHeader, read_header};
+use crate::header::{FileHeader, read_header, read_sup_header};
 use crate::section::{
     SectionHeader, begins, does_leave, is_compressed_section, read_content, read_section,
 };
@@ -41,16 +41,41 @@ impl<'a> Model for Tables<'a> {
 }
 
 /// The tables of a file, or the first fault of its header, its section table and its names.
-#[tactic(auto, using(crate::proofs::TableLemmas::length_sections), unfolding(crate::specs::Sections::sections, crate::specs::Sections::name_table, crate::specs::Sections::names, crate::specs::Sections::names_fault))]
 pub fn read_tables(alloc: Global, file: &[u8]) -> Result<Tables<'_>, Stop<ElfFault>>
     ensures read { MatchStop result
         (λ tables. (option_or (header_fault file.now) (names_fault file.now) ≡ None) × (tables ≡ file.now))
         (λ fault. option_or (header_fault file.now) (names_fault file.now) ≡ Some fault) (Unit {0}) }
 {
-    let header = match read_header(file) {
-        Ok(header) => header,
-        Err(fault) => return Err(Stop::Fault(fault)),
-    };
+    match read_header(file) {
+        Ok(header) => tables_behind(alloc, file, header),
+        Err(fault) => Err(Stop::Fault(fault)),
+    }
+}
+
+/// The same of a supplementary file, which may be of any type.
+pub fn read_sup_tables(alloc: Global, file: &[u8]) -> Result<Tables<'_>, Stop<ElfFault>>
+    ensures read { MatchStop result
+        (λ tables. (option_or (sup_header_fault file.now) (names_fault file.now) ≡ None) × (tables ≡ file.now))
+        (λ fault. option_or (sup_header_fault file.now) (names_fault file.now) ≡ Some fault) (Unit {0}) }
+{
+    match read_sup_header(file) {
+        Ok(header) => tables_behind(alloc, file, header),
+        Err(fault) => Err(Stop::Fault(fault)),
+    }
+}
+
+/// The tables of a file with this file header, or the fault of its names.
+#[tactic(auto, using(crate::proofs::TableLemmas::length_sections), unfolding(crate::specs::Sections::sections, crate::specs::Sections::name_table, crate::specs::Sections::names, crate::specs::Sections::names_fault))]
+fn tables_behind(
+    alloc: Global,
+    file: &[u8],
+    header: FileHeader,
+) -> Result<Tables<'_>, Stop<ElfFault>>
+    requires header { header ≡ header_of file.now }
+    requires fits { header.section_table + section_header_size * header.section_count ≤ length file.now }
+    ensures read { MatchStop result
+        (λ tables. (names_fault file.now ≡ None) × (tables ≡ file.now)) (λ fault. names_fault file.now ≡ Some fault) (Unit {0}) }
+{
     let table = header.section_table as usize;
     let sections = read_sections(alloc, file, table, header.section_count as usize)?;
     match content_at(file, &sections, header.names_index as usize) {

@@ -1,7 +1,6 @@
 -- The first fault, before and after what is compressed is inflated.
-use Rattle.std.proofs.Common.{◌≡◌, ◌<◌, ◌^◌, ℕ, length, is_none, arith, Bool, true, false, List, [], Option, None, Some, Result, Ok, Err, map, refl, sym, ap, ◌∙◌}
-use Rattle.std.specs.List.{position}
-use Rattle.std.specs.Option.{option_or, option_map}
+use Rattle.std.proofs.Common.{◌≡◌, ◌<◌, ◌^◌, ℕ, length, arith, Bool, true, false, List, Option, None, Some, Result, Ok, Err, map, MatchResult, refl, sym, ap, subst, ◌∙◌}
+use Rattle.std.specs.Option.{option_or}
 use Rattle.std.proofs.lemmas.List.{length-map}
 use Rattle.sym_edges.specs.Outside.{MatchStop}
 use Rattle.sym_edges.specs.declared.fault.Stop.{Stop}
@@ -11,10 +10,10 @@ use Rattle.elf_sections.specs.FileHeader.{header_fault}
 use Rattle.elf_sections.specs.Sections.{names_fault, bytes_fault, compressed_fault}
 use Rattle.elf_sections.specs.Image.{ImageParts, loaded_fault, image_fault, parts_of, image_by, image, with_sections}
 use Rattle.elf_sections.specs.declared.fault.ElfFault.{ElfFault}
-use Rattle.elf_sections.specs.declared.fault.ElfFault.TheVariants.{InflatedTooLong, Inflate}
+use Rattle.elf_sections.specs.declared.fault.ElfFault.TheVariants.{InflatedTooLong}
 use Rattle.full_image.specs.Compressed.{Stream}
-use Rattle.full_image.specs.FullImage.{sections_fault, are_too_long, streams, streams_by, outcome_of, outcomes_of, inflate_fault, full_fault, full_sections, full_image, any_image}
-use Rattle.full_image.specs.internal.Front.{tables_fault, front_fault, parts_by}
+use Rattle.full_image.specs.FullImage.{Packed, sections_fault, are_too_long, streams, streams_by, outcome_of, outcomes_of, inflate_fault, full_fault, full_sections, full_image, any_image}
+use Rattle.full_image.specs.internal.Front.{tables_fault, front_fault}
 
 -- a later fault changes nothing
 later : {F : Type 0} (h n s l t i : Option F) (fault : F) → option_or h (option_or n (option_or s (option_or l t))) ≡ Some fault → option_or h (option_or n (option_or s (option_or l (option_or t i)))) ≡ Some fault
@@ -64,16 +63,24 @@ unfolding image
 plain_image file is = ap (λ f. image_by f (parts_of file)) (plain_front file ∙ is)
 
 -- what is compressed was inflated
-opened : (file : List ℕ) (outcomes : List (Option (List ℕ))) → front_fault true file ≡ None → outcomes ≡ outcomes_of (record { full = true; file = file })
+opened_image : (file : List ℕ) (outcomes : List (Option (List ℕ))) → front_fault true file ≡ None → outcomes ≡ outcomes_of (record { full = true; file = file })
     → any_image true file ≡ image_by (inflate_fault outcomes) (with_sections (full_sections file) (parts_of file))
 unfolding full_image
-opened file outcomes is are = ap (λ f. image_by f (with_sections (full_sections file) (parts_of file))) (full_last file is ∙ ap inflate_fault (sym are))
+opened_image file outcomes is are = ap (λ f. image_by f (with_sections (full_sections file) (parts_of file))) (full_last file is ∙ ap inflate_fault (sym are))
 
-pub bad_image : (file : List ℕ) (outcomes : List (Option (List ℕ))) (index : ℕ) → front_fault true file ≡ None → outcomes ≡ outcomes_of (record { full = true; file = file }) → position is_none outcomes ≡ Some index → any_image true file ≡ Err (Inflate index)
-bad_image file outcomes index is are at = opened file outcomes is are ∙ ap (λ p. image_by (option_map Inflate p) (with_sections (full_sections file) (parts_of file))) at
+-- an answer by one image is an answer by the same image
+pub same_answer : (one other : Result ImageParts ElfFault) (answer : Result ImageParts ElfFault) → one ≡ other → MatchResult answer (λ i. other ≡ Ok i) (λ fault. other ≡ Err fault) → MatchResult answer (λ i. one ≡ Ok i) (λ fault. one ≡ Err fault)
+same_answer one other answer is says = subst (λ (r : Result ImageParts ElfFault). MatchResult answer (λ i. r ≡ Ok i) (λ fault. r ≡ Err fault)) (sym is) says
 
-pub inflated_image : (file : List ℕ) (outcomes : List (Option (List ℕ))) → front_fault true file ≡ None → outcomes ≡ outcomes_of (record { full = true; file = file }) → position is_none outcomes ≡ None → any_image true file ≡ Ok (with_sections (full_sections file) (parts_of file))
-inflated_image file outcomes is are none = opened file outcomes is are ∙ ap (λ p. image_by (option_map Inflate p) (with_sections (full_sections file) (parts_of file))) none
+pub unpacked : (self : Packed) (full : Bool) (file : List ℕ) (plain : ImageParts) (outcomes : List (Option (List ℕ))) (answer : Result ImageParts ElfFault) → record { full = full; file = file } ≡ self → full ≡ true → front_fault full file ≡ None → plain ≡ parts_of file → outcomes ≡ outcomes_of self
+    → MatchResult answer (λ i. image_by (inflate_fault outcomes) (with_sections (full_sections file) plain) ≡ Ok i) (λ fault. image_by (inflate_fault outcomes) (with_sections (full_sections file) plain) ≡ Err fault)
+    → MatchResult answer (λ i. any_image self.full self.file ≡ Ok i) (λ fault. any_image self.full self.file ≡ Err fault)
+unpacked self full file plain outcomes answer view is front loaded are says =
+    let outs : outcomes ≡ outcomes_of (record { full = true; file = file }) = are ∙ sym (ap outcomes_of view) ∙ ap (λ b. outcomes_of (record { full = b; file = file })) is in
+    same_answer (any_image self.full self.file) (image_by (inflate_fault outcomes) (with_sections (full_sections file) plain)) answer
+    (sym (ap (λ (p : Packed). any_image p.full p.file) view) ∙ ap (λ b. any_image b file) is
+    ∙ opened_image file outcomes (sym (ap (λ b. front_fault b file) is) ∙ front) outs
+    ∙ ap (λ (p : ImageParts). image_by (inflate_fault outcomes) (with_sections (full_sections file) p)) (sym loaded)) says
 
 pub few_outcomes : (full : Bool) (file : List ℕ) (outcomes : List (Option (List ℕ))) (found : List (Option Stream)) → outcomes ≡ outcomes_of (record { full = full; file = file }) → found ≡ streams_by full file → length found < 2 ^ 16 → length outcomes < 2 ^ 16
 unfolding outcomes_of

@@ -1,5 +1,5 @@
 -- Sections by their names and places.
-use Rattle.std.proofs.Common.{◌≡◌, ℕ, ◌<◌, ◌≤◌, Bool, true, false, cond, List, [], ◌∷◌, length, get_or, map, Option, None, Some, unwrap_or, refl, sym, ap, ◌∙◌, arith}
+use Rattle.std.proofs.Common.{◌≡◌, ℕ, ◌≤◌, Bool, true, false, cond, List, [], length, get_or, map, Option, None, Some, unwrap_or, refl, sym, ap, ◌∙◌, arith}
 use Rattle.std.specs.List.{find, position, position_or_len, slice_get}
 use Rattle.std.specs.Option.{option_map}
 use Rattle.std.proofs.lemmas.Bool.Decides.{nat_tests}
@@ -10,7 +10,7 @@ use Rattle.elf_sections.specs.Sections.{sections, names, bytes_of}
 use Rattle.elf_sections.specs.declared.section.SectionHeader.{SectionHeader}
 use Rattle.sym_edges.specs.declared.part.Sect.{Sect}
 use Rattle.full_image.specs.Compressed.{Stream, is_called, is_packed, stream_in, stream_of}
-use Rattle.full_image.specs.FullImage.{Packed, streams, outcome_of, outcomes_of, full_bytes, full_part_of, full_part}
+use Rattle.full_image.specs.FullImage.{streams, outcome_of, outcomes_of, full_bytes, full_part_of, full_part}
 use Rattle.full_image.specs.internal.Front.{bytes_by}
 
 found_at : {X : Type 0} (p : X → Bool) (xs : List X) (i : ℕ) → position p xs ≡ Some i → find p xs ≡ slice_get xs i

@@ -1,9 +1,9 @@
 -- Files with compressed sections, and what is read of them.
-use Rattle.std.proofs.Common.{◌≡◌, ◌++◌, true, false, ℕ, List, [], ◌∷◌, codes, Option, Some, None, Result, Ok, Err, refl}
-use Rattle.elf_sections.specs.Image.{ImageParts, SectionPart}
+use Rattle.std.proofs.Common.{◌≡◌, ◌++◌, true, false, ℕ, List, [], ◌∷◌, codes, Result, Ok, Err, refl}
+use Rattle.elf_sections.specs.Image.{ImageParts}
 use Rattle.elf_sections.specs.declared.fault.ElfFault.{ElfFault}
-use Rattle.elf_sections.specs.declared.fault.ElfFault.TheVariants.{SectionBytes, Compressed, NoIdentity, InflatedTooLong, Inflate}
-use Rattle.elf_sections.proofs.Elf.{Section, plain, code_at, file_of, note, elf_builds}
+use Rattle.elf_sections.specs.declared.fault.ElfFault.TheVariants.{Compressed, InflatedTooLong, Inflate}
+use Rattle.elf_sections.proofs.Elf.{Section, plain, code_at, file_of, elf_builds}
 use Rattle.sym_edges.proofs.Hex.{bytes}
 use Rattle.full_image.specs.FullImage.{any_image}
 use Rattle.full_image.proofs.Computing.{full_image_computes}

@@ -1,5 +1,5 @@
 -- The image of a file whose sections of debugging information may be compressed: that of `elf_sections` with these changes.
-use Rattle.std.specs.Prelude.{ℕ, ◌^◌, ◌&&◌, ◌||◌, Bool, true, false, List, [], Option, Some, None, Result, map, find, position, is_none, nat_lt, unwrap_or, if◌then◌else◌}
+use Rattle.std.specs.Prelude.{ℕ, ◌^◌, ◌&&◌, Bool, true, false, List, [], Option, Some, None, Result, map, find, position, is_none, nat_lt, unwrap_or, if◌then◌else◌}
 use Rattle.std.specs.List.{sum_by}
 use Rattle.std.specs.Option.{option_map, option_or}
 use Rattle.sym_edges.specs.Results.{fault_if}

@@ -1,4 +1,5 @@
 pub mod Compressed
 pub mod StreamView
 pub mod FullImage
+pub mod SupImage
 pub mod internal

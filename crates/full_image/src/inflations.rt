@@ -1,11 +1,12 @@
 //! The compressed sections, inflated by several workers.
-ghost use Rattle.std.specs.Prelude.{◌≡◌, ◌≤◌, ◌<◌, ◌^◌, ◌++◌, ◌-◌, None, Some, map, length, slice_index_or, take, drop, IfOk};
+ghost use Rattle.std.specs.Prelude.{◌≡◌, ◌≤◌, ◌<◌, ◌^◌, ◌++◌, ◌-◌, true, None, Some, map, length, slice_index_or, take, drop, IfOk};
 ghost use Rattle.std.specs.Option.{option_map};
 ghost use Rattle.full_image.specs.StreamView.{stream_view};
 ghost use Rattle.full_image.specs.FullImage.{outcome_of, outcomes_of};
 
 use crate::packed::PackedImage;
 use crate::stream::Stream;
+use crate::supplement::PackedSup;
 use inflate::inflate;
 use std::alloc::{AllocError, Global};
 use std::marker::Model;
@@ -131,7 +132,27 @@ fn turned_back(
     Ok(ordered)
 }
 
+/// Inflates data of sections, the longest first.
+fn inflate_streams<R: Threads + Sync>(
+    rt: &R,
+    alloc: Global,
+    streams: &[Option<Stream<'_>>],
+    workers: usize,
+) -> Result<Inflations, OutOfMemory>
+    requires few { length streams.now < 2 ^ 16 }
+    requires workers { (1 ≤ workers) × (workers ≤ 64) }
+    ensures { IfOk result (λ i. i ≡ map outcome_of (map (option_map stream_view) streams.now)) }
+{
+    let first = longest(streams);
+    let turned = turned(alloc, streams, first)?;
+    let inflater = Inflater::of(&turned);
+    let outs = run_all(rt, alloc, &inflater, &NoGate, turned.len(), workers)?;
+    let place = outs.len() - first;
+    Ok(Inflations::of(turned_back(outs, place)?))
+}
+
 /// Inflates the compressed sections of a file by `workers` workers, 1 to 64, the longest first.
+#[tactic(auto, unfolding(crate::specs::FullImage::outcomes_of))]
 pub fn inflate_sections<R: Threads + Sync>(
     rt: &R,
     alloc: Global,
@@ -141,11 +162,19 @@ pub fn inflate_sections<R: Threads + Sync>(
     requires workers { (1 ≤ workers) × (workers ≤ 64) }
     ensures { IfOk result (λ i. i ≡ outcomes_of packed.now) }
 {
-    let streams = packed.streams();
-    let first = longest(streams);
-    let turned = turned(alloc, streams, first)?;
-    let inflater = Inflater::of(&turned);
-    let outs = run_all(rt, alloc, &inflater, &NoGate, turned.len(), workers)?;
-    let place = outs.len() - first;
-    Ok(Inflations::of(turned_back(outs, place)?))
+    inflate_streams(rt, alloc, packed.streams(), workers)
+}
+
+/// The same for a supplementary file.
+#[tactic(auto, unfolding(crate::specs::FullImage::outcomes_of))]
+pub fn inflate_supplement<R: Threads + Sync>(
+    rt: &R,
+    alloc: Global,
+    packed: &PackedSup<'_>,
+    workers: usize,
+) -> Result<Inflations, OutOfMemory>
+    requires workers { (1 ≤ workers) × (workers ≤ 64) }
+    ensures { IfOk result (λ i. i ≡ outcomes_of (record { full = true; file = packed.now })) }
+{
+    inflate_streams(rt, alloc, packed.streams(), workers)
 }

@@ -5,15 +5,20 @@
 //! [`PackedImage::unpack`] makes the image, whose parts are slices of the file and of what was inflated. Together they answer the image of
 //! `specs/FullImage.antt`, or its first fault. Where a caller does not ask for compressed sections, they answer what `read_image` answers.
 //!
-//! To read: `names`, `stream`, `tables`, `packed`, and last `inflations`.
+//! [`read_packed_sup`], [`inflate_supplement`] and [`PackedSup::unpack`] do the same for a supplementary file (DWARF 5, 7.3.6), which has
+//! neither segments nor code; its image is that of `specs/SupImage.antt`.
+//!
+//! To read: `names`, `stream`, `tables`, `packed`, `supplement`, and last `inflations`.
 #![tactic(auto)]
 
 mod inflations;
 mod names;
 mod packed;
 mod stream;
+mod supplement;
 mod tables;
 
-pub use inflations::{Inflations, inflate_sections};
+pub use inflations::{Inflations, inflate_sections, inflate_supplement};
 pub use packed::{PackedImage, read_packed};
 pub use stream::Stream;
+pub use supplement::{PackedSup, read_packed_sup};

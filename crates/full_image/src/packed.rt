@@ -1,15 +1,15 @@
 //! A file before its compressed sections are inflated, and the image that it gives then.
-ghost use Rattle.std.specs.Prelude.{◌≡◌, ◌^◌, ◌<◌, true, Some, None, Ok, Err, map, find, length, slice_get, unwrap_or, position, is_none, MatchResult};
-ghost use Rattle.std.specs.Option.{option_copied, option_map, option_or};
+ghost use Rattle.std.specs.Prelude.{◌≡◌, ◌^◌, ◌<◌, true, Some, None, Ok, Err, map, length, position, is_none, MatchResult};
+ghost use Rattle.std.specs.Option.{option_map, option_or};
 ghost use Rattle.elf_sections.specs.FileHeader.{header_fault};
 ghost use Rattle.sym_edges.specs.Outside.{MatchStop};
 ghost use Rattle.elf_sections.specs.Sections.{sections, names, names_fault};
-ghost use Rattle.elf_sections.specs.Image.{part_view, parts_of};
+ghost use Rattle.elf_sections.specs.Image.{part_view, image_by, with_sections};
 ghost use Rattle.elf_sections.specs.DebugView.{debug_view};
 ghost use Rattle.full_image.specs.Compressed.{is_called};
 ghost use Rattle.full_image.specs.StreamView.{stream_view};
-ghost use Rattle.full_image.specs.FullImage.{Packed, any_image, streams_by, outcomes_of, outcome_of, full_part, full_sections, full_bytes};
-ghost use Rattle.full_image.specs.internal.Front.{front_fault, bytes_by, IsFront};
+ghost use Rattle.full_image.specs.FullImage.{Packed, any_image, streams_by, outcomes_of, inflate_fault, full_part, full_sections};
+ghost use Rattle.full_image.specs.internal.Front.{bytes_by, IsFront};
 
 use crate::inflations::Inflations;
 use crate::names::{is_called, is_packed};
@@ -122,17 +122,16 @@ fn first_bad(inflated: &Inflations) -> Option<usize>
 }
 
 /// The image of a file whose compressed sections were inflated.
-#[tactic(auto, using(crate::proofs::FrontLemmas::inflated_image))]
-fn inflate_parts<'a>(
+pub fn inflate_parts<'a>(
     tables: &Tables<'a>,
     plain: Image<'a>,
     inflated: &'a Inflations,
 ) -> Result<Image<'a>, ElfFault>
-    requires front { front_fault true tables.now ≡ None }
-    requires loaded { plain ≡ parts_of tables.now }
     requires outcomes { inflated.now ≡ outcomes_of (record { full = true; file = tables.now }) }
     requires few { length inflated.now < 2 ^ 16 }
-    ensures exact { MatchResult result (λ i. any_image true tables.now ≡ Ok i) (λ fault. any_image true tables.now ≡ Err fault) }
+    ensures exact { MatchResult result
+        (λ i. image_by (inflate_fault inflated.now) (with_sections (full_sections tables.now) plain.entry) ≡ Ok i)
+        (λ fault. image_by (inflate_fault inflated.now) (with_sections (full_sections tables.now) plain.entry) ≡ Err fault) }
 {
     match first_bad(inflated) {
         Some(index) => Err(ElfFault::Inflate {

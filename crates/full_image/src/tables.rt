@@ -1,6 +1,6 @@
 //! What is found in the section headers before anything is inflated.
-ghost use Rattle.std.specs.Prelude.{◌≡◌, ◌^◌, ◌<◌, Bool, position, map, length, IfOk};
-ghost use Rattle.std.specs.Option.{option_map, option_or};
+ghost use Rattle.std.specs.Prelude.{◌≡◌, ◌^◌, ◌<◌, position, map, length, IfOk};
+ghost use Rattle.std.specs.Option.{option_map};
 ghost use Rattle.full_image.specs.Compressed.{stream_of};
 ghost use Rattle.full_image.specs.StreamView.{stream_view};
 ghost use Rattle.full_image.specs.FullImage.{is_cut, is_refused, sections_fault, are_too_long, streams, streams_by};
@@ -48,7 +48,7 @@ fn first_refused(file: &[u8], table: &[u8], sections: &[SectionHeader]) -> Optio
 
 /// The lowest section that is read and leaves the file, else the lowest that is compressed and not inflated.
 #[tactic(auto, unfolding(crate::specs::FullImage::sections_fault))]
-fn find_section_fault(tables: &Tables<'_>) -> Option<ElfFault>
+pub fn find_section_fault(tables: &Tables<'_>) -> Option<ElfFault>
     ensures { result ≡ sections_fault tables.now }
 {
     let file = tables.file();
@@ -95,7 +95,7 @@ fn collect_streams<'a>(
 
 /// The data of each section that is compressed.
 #[tactic(auto, unfolding(crate::specs::FullImage::streams))]
-fn find_streams<'a>(
+pub fn find_streams<'a>(
     alloc: Global,
     tables: &Tables<'a>,
 ) -> Result<Vec<Option<Stream<'a>>>, AllocError>

@@ -1,5 +1,5 @@
 -- Line tables for worked rows, field by field.
-use Rattle.std.proofs.Common.{ℕ, nat_lt, ◌==◌, cond, List, [], ◌∷◌, ◌++◌, length, map, codes, Option, Result, Ok}
+use Rattle.std.proofs.Common.{ℕ, false, None, nat_lt, ◌==◌, cond, List, [], ◌∷◌, ◌++◌, length, map, codes, Option, Result, Ok}
 use Rattle.std.specs.Prelude.{⊤}
 use Prim.Native.String.{String}
 use Rattle.std.specs.Option.{option_map}
@@ -55,6 +55,8 @@ sections line = record {
   addr = [];
   ranges = [];
   rnglists = [];
+  sup_strs = None;
+  is_sup = false;
 }
 
 -- the table at an offset, of a unit whose root stands at b

@@ -28,4 +28,5 @@ mod WorkedStacks
 mod WorkedNames
 mod WorkedPairs
 mod WorkedFull
+mod WorkedSupplements
 mod WorkedPacked

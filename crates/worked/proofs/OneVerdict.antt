@@ -1,5 +1,5 @@
 -- Words and files have one verdict.
-use Rattle.std.proofs.Common.{◌≡◌, ℕ, Bool, true, false, List, [], ◌++◌, Option, None, Some, Result, Ok, Err, length, nat_lt, refl, sym, ap, subst, ◌∙◌, zero, suc, inl, inr, arith}
+use Rattle.std.proofs.Common.{◌≡◌, ℕ, Bool, true, false, List, [], ◌++◌, Option, None, Some, Result, Ok, Err, length, nat_lt, if◌then◌else◌, refl, sym, ap, subst, ◌∙◌, zero, suc, inl, inr, arith}
 use Rattle.sym_edges.specs.Outside.{Files}
 use Rattle.sym_edges.specs.Results.{◌>>=◌}
 use Rattle.elf_sections.specs.Image.{ImageParts, parts_of, image_fault, image_by, image, with_sections}
@@ -7,9 +7,14 @@ use Rattle.elf_sections.specs.Programs.{base, code}
 use Rattle.elf_sections.specs.Sections.{sections}
 use Rattle.elf_sections.specs.declared.fault.ElfFault.{ElfFault}
 use Rattle.elf_sections.specs.Pair.{paired}
+use Rattle.elf_sections.specs.Supplement.{with_sup}
 use Rattle.full_image.specs.FullImage.{full_sections, full_fault, full_image, any_image}
+use Rattle.full_image.specs.SupImage.{sup_image}
 use Rattle.debug_pair.specs.Pairing.{pair_fault, pair_by, pair_of}
+use Rattle.debug_pair.specs.SupLink.{SupLink, sup_link, is_of_link}
 use Rattle.debug_pair.specs.declared.fault.PairFault.{PairFault}
+use Rattle.debug_pair.specs.declared.fault.SupFault.{SupFault}
+use Rattle.debug_pair.specs.declared.fault.SupFault.TheVariants.{BuildId}
 use Rattle.sym_records.specs.Canon.{canon_text}
 use Rattle.sym_records.specs.declared.line.SymLine.{SymLine}
 use Rattle.debug_read.specs.declared.fault.DebugFault.{DebugFault}
@@ -17,9 +22,9 @@ use Rattle.debug_read.specs.DebugSays.{DebugSays, debug_says}
 use Rattle.debug_read.specs.Each.{Match}
 use Rattle.dumpsyms_cmd.specs.Words.{Asked, dump, command_of, module_name, sample, judge}
 use Rattle.dumpsyms_cmd.specs.commands.Dump.{identity_lines, public_lines, frame_lines, CanonFile}
-use Rattle.dumpsyms_cmd.specs.Verdict.{Verdict, LIMIT}
-use Rattle.dumpsyms_cmd.specs.Refusals.{elf_line, debug_elf_line, pair_line}
-use Rattle.dumpsyms_cmd.specs.ElfInput.{DebugFile, ElfSource, or_refused, unless_longer, file_image, elf_image, path_of, with_file, with_debug, given_image}
+use Rattle.dumpsyms_cmd.specs.Verdict.{Verdict, refused, LIMIT}
+use Rattle.dumpsyms_cmd.specs.Refusals.{elf_line, debug_elf_line, pair_line, sup_elf_line, sup_line}
+use Rattle.dumpsyms_cmd.specs.ElfInput.{DebugFile, ElfSource, or_refused, unless_longer, file_by, file_image, elf_image, path_of, sup_place, joined, with_sup_file, then_path, with_link, then_link, file_pair, with_file, with_debug, then_debug, given_image}
 use Rattle.dumpsyms_cmd.specs.commands.Dump.{left_out, GivesText, IsDebugVerdict, IsDumpVerdict, IsSourceVerdict}
 use Rattle.dumpsyms_cmd.specs.commands.Sample.{counts_line, IsCountsVerdict, IsImageCounts}
 use Rattle.dumpsyms_cmd.specs.commands.Judge.{ruling_verdict, IsReadVerdict, IsSymVerdict, IsTextVerdict, IsDumpedVerdict, IsJudgeVerdict}
@@ -119,22 +124,58 @@ debug_ends : (read : Result ImageParts Verdict) (binary parts : ImageParts) → 
 debug_ends (Ok debug) binary parts below is = fault_ends (pair_fault binary.build_id debug.build_id) binary debug parts below is
 debug_ends (Err ended) binary parts below is = absurd (cc)
 
-path_ends : (full : Bool) (found : Result (List ℕ) Verdict) (binary : ImageParts) (files : Files) (parts : ImageParts) → EndBelow binary.code → (found >>= (λ path. with_file full binary path (files path))) ≡ Ok parts → EndBelow parts.code
-path_ends full (Ok path) binary files parts below is = debug_ends (file_image full debug_elf_line path (files path)) binary parts below is
-path_ends full (Err ended) binary files parts below is = absurd (cc)
+pair_ends : (source : ElfSource) (binary : ImageParts) (path : List ℕ) (files : Files) (parts : ImageParts) → EndBelow binary.code → file_pair source binary path files ≡ Ok parts → EndBelow parts.code
+pair_ends source binary path files parts below is = debug_ends (file_image source.full debug_elf_line path (files path)) binary parts below is
 
-with_ends : (full : Bool) (debug : Option DebugFile) (binary : ImageParts) (files : Files) (parts : ImageParts) → EndBelow binary.code → with_debug full debug binary files ≡ Ok parts → EndBelow parts.code
-with_ends full None binary files parts below is = (let same : binary ≡ parts = cc in subst (λ (p : ImageParts). EndBelow p.code) same below)
-with_ends full (Some debug) binary files parts below is = path_ends full (path_of debug binary) binary files parts below is
+-- a supplementary file has no code
+sup_ends : (image sup : ImageParts) → EndBelow image.code → EndBelow (with_sup image sup).code
+unfolding with_sup
+sup_ends image sup below = below
 
-binary_ends : (read : Result ImageParts Verdict) (full : Bool) (debug : Option DebugFile) (files : Files) (parts : ImageParts) → ((p : ImageParts) → read ≡ Ok p → EndBelow p.code) → (read >>= (λ binary. with_debug full debug binary files)) ≡ Ok parts → EndBelow parts.code
-binary_ends (Ok binary) full debug files parts below is = with_ends full debug binary files parts (below binary refl) is
-binary_ends (Err ended) full debug files parts below is = absurd (cc)
+same_ends : (image parts : ImageParts) → EndBelow image.code → ◌≡◌ {A = Result ImageParts Verdict} (Ok image) (Ok parts) → EndBelow parts.code
+same_ends image parts below is = (let same : image ≡ parts = cc in subst (λ (p : ImageParts). EndBelow p.code) same below)
+
+joined_by : (linked : Bool) (image sup parts : ImageParts) → EndBelow image.code → (if linked then Ok (with_sup image sup) else Err (refused (sup_line BuildId))) ≡ Ok parts → EndBelow parts.code
+joined_by true image sup parts below is = same_ends (with_sup image sup) parts (sup_ends image sup below) is
+joined_by false image sup parts below is = absurd (cc)
+
+joined_ends : (read : Result ImageParts Verdict) (image : ImageParts) (link : SupLink) (parts : ImageParts) → EndBelow image.code → (read >>= joined image link) ≡ Ok parts → EndBelow parts.code
+joined_ends (Ok sup) image link parts below is = joined_by (is_of_link link sup) image sup parts below is
+joined_ends (Err ended) image link parts below is = absurd (cc)
+
+sup_file_ends : (full : Bool) (found : Result (List ℕ) Verdict) (image : ImageParts) (link : SupLink) (files : Files) (parts : ImageParts) → EndBelow image.code → then_path (with_sup_file full image link) found files ≡ Ok parts → EndBelow parts.code
+sup_file_ends full (Ok path) image link files parts below is = joined_ends (file_by full sup_image sup_elf_line path (files path)) image link parts below is
+sup_file_ends full (Err ended) image link files parts below is = absurd (cc)
+
+link_ends : (source : ElfSource) (name : List ℕ) (image : ImageParts) (link : Result (Option SupLink) SupFault) (files : Files) (parts : ImageParts) → EndBelow image.code → with_link source name image link files ≡ Ok parts → EndBelow parts.code
+link_ends source name image (Ok None) files parts below is = same_ends image parts below is
+link_ends source name image (Ok (Some link)) files parts below is = sup_file_ends source.full (sup_place source.debug name link) image link files parts below is
+link_ends source name image (Err fault) files parts below is = absurd (cc)
+
+followed_ends : (full : Bool) (source : ElfSource) (name : List ℕ) (image : ImageParts) (files : Files) (parts : ImageParts) → EndBelow image.code → (if full then with_link source name image (sup_link image) files else Ok image) ≡ Ok parts → EndBelow parts.code
+followed_ends true source name image files parts below is = link_ends source name image (sup_link image) files parts below is
+followed_ends false source name image files parts below is = same_ends image parts below is
+
+then_ends : (read : Result ImageParts Verdict) (source : ElfSource) (name : List ℕ) (files : Files) (parts : ImageParts) → ((p : ImageParts) → read ≡ Ok p → EndBelow p.code) → then_link source name read files ≡ Ok parts → EndBelow parts.code
+then_ends (Ok image) source name files parts below is = followed_ends source.full source name image files parts (below image refl) is
+then_ends (Err ended) source name files parts below is = absurd (cc)
+
+path_ends : (source : ElfSource) (found : Result (List ℕ) Verdict) (binary : ImageParts) (files : Files) (parts : ImageParts) → EndBelow binary.code → then_path (with_file source binary) found files ≡ Ok parts → EndBelow parts.code
+path_ends source (Ok path) binary files parts below is = then_ends (file_pair source binary path files) source path files parts (λ p. pair_ends source binary path files p below) is
+path_ends source (Err ended) binary files parts below is = absurd (cc)
+
+with_ends : (source : ElfSource) (debug : Option DebugFile) (binary : ImageParts) (files : Files) (parts : ImageParts) → EndBelow binary.code → with_debug source debug binary files ≡ Ok parts → EndBelow parts.code
+with_ends source None binary files parts below is = followed_ends source.full source source.elf binary files parts below is
+with_ends source (Some debug) binary files parts below is = path_ends source (path_of debug binary) binary files parts below is
+
+binary_ends : (read : Result ImageParts Verdict) (source : ElfSource) (files : Files) (parts : ImageParts) → ((p : ImageParts) → read ≡ Ok p → EndBelow p.code) → then_debug source read files ≡ Ok parts → EndBelow parts.code
+binary_ends (Ok binary) source files parts below is = with_ends source source.debug binary files parts (below binary refl) is
+binary_ends (Err ended) source files parts below is = absurd (cc)
 
 pub one_source : (source : ElfSource) (files : Files) (v w : Verdict) → IsSourceVerdict source files v → IsSourceVerdict source files w → v ≡ w
 one_source source files v w p q =
     one_given source.full (given_image source files) (module_name source.elf) v w
-    (λ parts is. binary_ends (elf_image source files) source.full source.debug files parts (file_ends source.full elf_line source.elf (files source.elf)) is) p q
+    (λ parts is. binary_ends (elf_image source files) source files parts (file_ends source.full elf_line source.elf (files source.elf)) is) p q
 
 -- the counts of a made file
 abbrev counted : ImageParts → DebugSays → List SymLine → Verdict

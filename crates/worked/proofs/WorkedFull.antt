@@ -136,7 +136,7 @@ judge_full_below_a_root = refl
 -- what standard error says of the units of these sections
 abbrev sections : List ℕ → String → DebugSections
 sections info abbreviations =
-    record { info = info; abbrevs = hex abbreviations; line = []; line_str = []; strs = []; str_offsets = []; addr = []; ranges = []; rnglists = [] }
+    record { info = info; abbrevs = hex abbreviations; line = []; line_str = []; strs = []; str_offsets = []; addr = []; ranges = []; rnglists = []; sup_strs = None; is_sup = false }
 
 abbrev text_of : Bool → DebugSections → Result (List Unit) (Located DwarfKind) → String
 text_of all own (Ok units) = shown (units_text all own units)

@@ -16,6 +16,7 @@ ghost use Rattle.dumpsyms_cmd.specs.ElfInput.{DebugFile, ElfSource, path_of};
 ghost use Rattle.dumpsyms_cmd.specs.Verdict.{Verdict};
 ghost use Rattle.dumpsyms_cmd.specs.Answers.{IsVerdict};
 ghost use Rattle.dumpsyms_cmd.specs.Program.{Run, Promises};
+ghost use Rattle.worked.specs.OwnLink.{LeadsAlike};
 ghost use Rattle.worked.specs.Runs.{RunAlike, EndAlike};
 ghost use Rattle.dumpsyms_cmd.specs.commands.Judge.{JudgePromises};
 ghost use Rattle.dumpsyms_cmd.specs.declared.judgement.Judgement.{Judgement};
@@ -35,10 +36,11 @@ pub fn judging_runs_end_alike()
     ensures { (one other : Run) → Promises one → Promises other → RunAlike one other → one.status < 3 → other.status < 3 → EndAlike one other }
 {}
 
-/// Where the debug file of a binary is the binary itself, and that has a build id, the verdict is that of the binary alone.
+/// Where the debug file of a binary is the binary itself, and that has a build id, the verdict is that of the binary alone: also with a
+/// supplementary file (DWARF 5, 7.3.6), where its link leads from both names to the same place.
 pub fn own_debug_files_change_nothing()
     ensures { (full : Bool) (elf file path : List ℕ) (debug : DebugFile) (workers : ℕ) (files : Files) (missed : List (List ℕ)) (parts : ImageParts) (v : Verdict) →
-        files elf ≡ Some file → any_image full file ≡ Ok parts → IsSome parts.build_id → path_of debug parts ≡ Ok path → files path ≡ Some file →
+        files elf ≡ Some file → any_image full file ≡ Ok parts → IsSome parts.build_id → path_of debug parts ≡ Ok path → files path ≡ Some file → LeadsAlike full elf path debug parts →
         IsVerdict (Some (dump (record { full = full; elf = elf; debug = Some debug }) workers)) files missed v ↔
         IsVerdict (Some (dump (record { full = full; elf = elf; debug = None }) workers)) files missed v }
 {}

@@ -18,7 +18,7 @@ use Rattle.abbrev_units.specs.declared.unit.Unit.{Unit}
 
 -- the sections in which texts stand
 abbrev pub homes_of : DebugSections → Homes
-homes_of sections = record { info = sections.info; strs = sections.strs; line_strs = sections.line_str }
+homes_of sections = record { info = sections.info; strs = sections.strs; line_strs = sections.line_str; sup_strs = unwrap_or sections.sup_strs [] }
 
 -- the text at a place, which has an end
 abbrev pub text_from : List ℕ → ℕ → Option (List ℕ)
@@ -30,6 +30,7 @@ text_at_home homes home.Missing place = None
 text_at_home homes home.Strs place = text_from homes.strs place
 text_at_home homes home.LineStrs place = text_from homes.line_strs place
 text_at_home homes home.Info place = text_from homes.info place
+text_at_home homes home.SupStrs place = text_from homes.sup_strs place
 text_at_home homes home.Elsewhere place = None
 
 abbrev pub is_text_home : Home → Bool
@@ -37,6 +38,7 @@ is_text_home home.Missing = false
 is_text_home home.Strs = true
 is_text_home home.LineStrs = true
 is_text_home home.Info = true
+is_text_home home.SupStrs = true
 is_text_home home.Elsewhere = false
 
 abbrev pub is_elsewhere_home : Home → Bool
@@ -44,6 +46,7 @@ is_elsewhere_home home.Missing = false
 is_elsewhere_home home.Strs = false
 is_elsewhere_home home.LineStrs = false
 is_elsewhere_home home.Info = false
+is_elsewhere_home home.SupStrs = false
 is_elsewhere_home home.Elsewhere = true
 
 abbrev pub no_site : SiteFields
@@ -140,6 +143,7 @@ pub record AreSmall (homes : Homes) : Type 0 where
   pub info : length homes.info ≤ 2 ^ 29
   pub strs : length homes.strs ≤ 2 ^ 29
   pub line_strs : length homes.line_strs ≤ 2 ^ 29
+  pub sup_strs : length homes.sup_strs ≤ 2 ^ 29
 
 -- the place of a text in a section, where there is one
 abbrev pub FitsPlace : List ℕ → Option ℕ → Option (List ℕ) → Type 0
@@ -171,10 +175,10 @@ pub record IsWhole (head : Head) (parts : Parts) (tag : ℕ) : Type 0 where
 pub record Says (sections : DebugSections) (unit : Unit) (base : Option ℕ) (picks : PickFields) (parts : Parts) : Type 0 where
   pub declared : parts.declaration ≡ is_yes (option_and_then as_flag picks.declaration)
   pub name : text_at_home (homes_of sections) parts.names.name.home parts.names.name.place ≡ text_by sections unit base picks.name
-  pub elsewhere : is_elsewhere_home parts.names.name.home ≡ is_elsewhere picks.name
+  pub elsewhere : is_elsewhere_home parts.names.name.home ≡ is_elsewhere sections picks.name
   pub linkage : text_at_home (homes_of sections) parts.names.linkage.home parts.names.linkage.place ≡ or_else (text_by sections unit base picks.linkage) (text_by sections unit base picks.old_linkage)
-  pub origin : parts.links.origin ≡ option_and_then (as_reference unit) picks.origin
-  pub spec : parts.links.spec ≡ option_and_then (as_reference unit) picks.spec
+  pub origin : parts.links.origin ≡ option_and_then (as_reference sections unit) picks.origin
+  pub spec : parts.links.spec ≡ option_and_then (as_reference sections unit) picks.spec
 
 -- an entry was added: it is the one that was picked, where its parts say so
 abbrev pub IsAdded : HeldEntries → HeldEntries → Parts → ℕ → PickFields → Type 0

@@ -23,6 +23,7 @@ pub record Homes : Type 0 where
   pub info : List ℕ
   pub strs : List ℕ
   pub line_strs : List ℕ
+  pub sup_strs : List ℕ
 
 -- kept entries, and the sections that have their names
 pub record HeldEntries : Type 0 where

@@ -28,6 +28,7 @@ use Rattle.debug_read.specs.DebugSays.{DebugSays, debug_says}
 use Rattle.debug_read.specs.declared.fault.DebugFault.{DebugFault}
 use Rattle.dumpsyms_cmd.specs.Words.{module_name}
 use Rattle.dumpsyms_cmd.specs.Refusals.{debug_line, omitted_text, units_text}
+use Rattle.dumpsyms_cmd.specs.SupUnits.{own_entries, sup_skipped_text}
 use Rattle.dumpsyms_cmd.specs.Verdict.{Verdict, refused}
 use Rattle.dumpsyms_cmd.specs.ElfInput.{ElfSource, given_image}
 use Rattle.dumpsyms_cmd.specs.Judgement.{Judges}
@@ -77,10 +78,11 @@ pub record CanonFile (image : ImageParts) (name : List ℕ) (found : DebugSays) 
   pub functions_are : AreFuncRecords image.base units pieces functions
   pub whole : lines ≡ identity_lines image name ++ (functions ++ (public_lines image pieces ++ frame_lines image found))
 
--- what standard error gets of a file without fault: the units that are skipped, where `full` also those whose entries stand in another file, and
--- then the frame entries that are left out
+-- what standard error gets of a file without fault: the units that are skipped, where `full` also those whose entries stand in another file; those
+-- of the supplementary file that are skipped and needed; and then the frame entries that are left out
 abbrev pub left_out : Bool → ImageParts → DebugSays → List ℕ
-left_out full parts found = units_text full (sections_of parts) found.headers ++ omitted_text (omitted parts.code found.first found.second)
+left_out full parts found =
+    units_text full (sections_of parts) found.headers ++ (sup_skipped_text (own_entries found) found.sup_headers ++ omitted_text (omitted parts.code found.first found.second))
 
 -- the verdict of a dump of a file without fault: out has the records, and err what is left out
 pub record GivesText (full : Bool) (parts : ImageParts) (name : List ℕ) (found : DebugSays) (v : Verdict) : Type 0 where

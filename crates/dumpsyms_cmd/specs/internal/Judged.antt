@@ -1,7 +1,7 @@
 -- What the functions that judge say of their judgements and answers.
 use Rattle.std.specs.List.{AllByRecursion, list_any}
 use Rattle.std.specs.Str.{bytes_eq}
-use Rattle.std.specs.Prelude.{◌≡◌, ℕ, ◌<◌, Bool, true, false, List, [], ◌++◌, Option, Some, IsSome, Result, Ok, Err}
+use Rattle.std.specs.Prelude.{◌≡◌, ℕ, ◌<◌, Bool, true, false, List, [], ◌∷◌, ◌++◌, Option, Some, None, IsSome, Result, Ok, Err}
 use Rattle.sym_edges.specs.Outside.{Files, Tells, Rose}
 use Rattle.sym_edges.specs.declared.fault.Stop.{Stop}
 use Rattle.sym_edges.specs.declared.fault.Stop.TheVariants.{Fault}
@@ -10,16 +10,16 @@ use Rattle.sym_edges.specs.declared.whole_file.ReadEnd.{ReadEnd}
 use Rattle.sym_edges.specs.declared.whole_file.ReadEnd.TheVariants.{CantOpen, CantRead, TooLong}
 use Rattle.sym_edges.specs.Results.{◌>>=◌}
 use Rattle.elf_sections.specs.Image.{ImageParts}
-use Rattle.full_image.specs.FullImage.{any_image}
-use Rattle.debug_pair.specs.Pairing.{pair_of}
+use Rattle.elf_sections.specs.declared.fault.ElfFault.{ElfFault}
+use Rattle.debug_pair.specs.SupLink.{SupLink}
 use Rattle.sym_records.specs.declared.line.SymLine.{SymLine}
 use Rattle.sym_grammar.specs.declared.refusal.SymEnd.{SymEnd}
 use Rattle.sym_grammar.specs.declared.refusal.SymEnd.TheVariants as end
 use Rattle.state_file.specs.declared.state.State.{State}
 use Rattle.dumpsyms_cmd.specs.Words.{Asked, ReadsFiles, last_name, not_read_line}
-use Rattle.dumpsyms_cmd.specs.Refusals.{debug_elf_line, pair_line, too_long_line, unread_line, unread_lines}
+use Rattle.dumpsyms_cmd.specs.Refusals.{sup_elf_line, too_long_line, unread_line, unread_lines}
 use Rattle.dumpsyms_cmd.specs.Verdict.{Verdict, refused, unread_by, no_memory}
-use Rattle.dumpsyms_cmd.specs.ElfInput.{ElfSource, or_refused, names_behind, elf_names}
+use Rattle.dumpsyms_cmd.specs.ElfInput.{DebugFile, ElfSource, Untold, or_refused, joined, file_pair, path_of, sup_names, read_names, elf_names}
 use Rattle.dumpsyms_cmd.specs.Observed.{StoreSeen, Asks, AreOnce, IsSymbolFile, Misses, IsSteady}
 use Rattle.dumpsyms_cmd.specs.Judgement.{err_bytes, is_some_output, judgement_verdict, Judges}
 use Rattle.dumpsyms_cmd.specs.SymbolInput.{refusal_line}
@@ -71,10 +71,9 @@ JudgesParts j full name parts = Judges j (λ err. IsPartsVerdict full parts name
 abbrev pub JudgesGiven : Judgement → ElfSource → Result ImageParts Verdict → Type 0
 JudgesGiven j source given = Judges j (λ err. IsGivenVerdict source given (refused err)) (DumpsGiven source given)
 
--- one on a binary and the bytes of its debug file
-abbrev pub JudgesPair : Judgement → ElfSource → ImageParts → Bool → List ℕ → Type 0
-JudgesPair j source binary full bytes =
-    JudgesGiven j source (or_refused debug_elf_line (any_image full bytes) >>= (λ debug. or_refused pair_line (pair_of binary debug)))
+-- one on an image and the bytes of the file to which it links
+abbrev pub JudgesSup : Judgement → ElfSource → ImageParts → SupLink → Result ImageParts ElfFault → Type 0
+JudgesSup j source image link read = JudgesGiven j source (or_refused sup_elf_line read >>= joined image link)
 
 -- what is known of a judgement: it has status 0, 1 or 2, the last for invalid arguments alone; it is the verdict where the store
 -- tells its files; and it keeps the command's promises
@@ -134,12 +133,27 @@ HasNoText (Judged j) = IsNoText j.out
 HasNoText (Unread line) = Unit {0}
 HasNoText NoMemory = Unit {0}
 
--- the names behind that of the ELF file, by its image; where it has none nothing is asked for, and there is no text
-abbrev pub AsksBehind : Answer → ElfSource → Result ImageParts Verdict → List (List ℕ) → List (List ℕ) → Type 0
-AsksBehind answer source (Ok binary) before after = AsksAll answer (names_behind source.debug (Ok binary)) before after
-AsksBehind answer source (Err ended) before after = (after ≡ before) × HasNoText answer
+-- the names behind a debug file's own, by what is read of it, which is what files that are told give
+pub record AsksFile (answer : Answer) (source : ElfSource) (binary : ImageParts) (path : List ℕ) (files : Option Files) (before after : List (List ℕ)) : Type 0 where
+  pub read : Result ImageParts Verdict
+  pub told : Tells files (λ f. file_pair source binary path f ≡ read)
+  pub asks : AsksAll answer (path ∷ read_names source path read) before after
 
--- the names of a source, by some build id: all of them where there is a text, and else a front
+-- the same by its path, where it has one
+abbrev pub AsksPath : Answer → ElfSource → ImageParts → Result (List ℕ) Verdict → Option Files → List (List ℕ) → List (List ℕ) → Type 0
+AsksPath answer source binary (Ok path) files before after = AsksFile answer source binary path files before after
+AsksPath answer source binary (Err ended) files before after = AsksAll answer [] before after
+
+abbrev pub AsksDebug : Answer → ElfSource → Option DebugFile → ImageParts → Option Files → List (List ℕ) → List (List ℕ) → Type 0
+AsksDebug answer source None binary files before after = AsksAll answer (sup_names source source.elf binary) before after
+AsksDebug answer source (Some debug) binary files before after = AsksPath answer source binary (path_of debug binary) files before after
+
+-- the names behind that of the ELF file, by its image; where it has none nothing is asked for, and there is no text
+abbrev pub AsksBehind : Answer → ElfSource → Result ImageParts Verdict → Option Files → List (List ℕ) → List (List ℕ) → Type 0
+AsksBehind answer source (Ok binary) files before after = AsksDebug answer source source.debug binary files before after
+AsksBehind answer source (Err ended) files before after = (after ≡ before) × HasNoText answer
+
+-- the names of a source, by what is not told: all of them where there is a text, and else a front
 abbrev pub AsksBy : Output → List (List ℕ) → List (List ℕ) → List (List ℕ) → Type 0
 AsksBy Nothing names before after = Asks names before after
 AsksBy (Text lines) names before after = after ≡ before ++ names
@@ -152,8 +166,8 @@ AsksNames (Unread line) names before after = Asks names before after
 AsksNames NoMemory names before after = Asks names before after
 
 pub record AsksSource (answer : Answer) (source : ElfSource) (files : Option Files) (before after : List (List ℕ)) : Type 0 where
-  pub id : List ℕ
-  pub asks : AsksNames answer (elf_names files source id) before after
+  pub untold : Untold
+  pub asks : AsksNames answer (elf_names files source untold) before after
 
 -- the names that are asked for behind a dump: none where it gave no text
 abbrev pub AsksThen : Output → List (List ℕ) → List (List ℕ) → List (List ℕ) → Type 0

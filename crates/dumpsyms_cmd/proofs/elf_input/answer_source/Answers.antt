@@ -5,7 +5,7 @@ use Rattle.dumpsyms_cmd.proofs.SourceLemmas.{elf_read, elf_asked, elf_stopped, e
 use Rattle.dumpsyms_cmd.proofs.elf_input.answer_source.Goals as goal
 
 pub returns-in-Ok-read_all-clause-asked : goal.returns-in-Ok-read_all-clause-asked
-returns-in-Ok-read_all-clause-asked g c = elf_asked _ (source_view c.args.source.now) _ _ _ _ _ _ c.in-Ok-read_all.ensures.read c.as_slice.ensures c.in-Ok-read_all.ensures.asked c.answer_bytes.ensures.asked
+returns-in-Ok-read_all-clause-asked g c = elf_asked _ (source_view c.args.source.now) _ _ _ _ _ _ _ c.in-Ok-read_all.ensures.read c.as_slice.ensures c.in-Ok-read_all.ensures.files c.in-Ok-read_all.ensures.asked c.answer_bytes.ensures.asked
 
 pub returns-in-Ok-read_all-clause-answered : goal.returns-in-Ok-read_all-clause-answered
 returns-in-Ok-read_all-clause-answered g c =

@@ -1,4 +1,4 @@
-use Rattle.std.proofs.Common.{◌≡◌, ◌∙◌, sym, ap, get_or}
+use Rattle.std.proofs.Common.{◌∙◌, sym, ap, get_or}
 use Rattle.std.specs.List.{position}
 use Rattle.elf_sections.specs.Sections.{sections}
 use Rattle.elf_sections.specs.declared.section.SectionHeader.{SectionHeader}

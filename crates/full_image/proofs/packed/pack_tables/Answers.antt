@@ -1,4 +1,4 @@
-use Rattle.std.proofs.Common.{◌≡◌, sym, ◌∙◌}
+use Rattle.std.proofs.Common.{sym, ◌∙◌}
 use Rattle.full_image.proofs.FrontLemmas.{refused_sections, loaded_stopped}
 use Rattle.full_image.proofs.packed.pack_tables.Goals as goal
 

@@ -1,4 +1,3 @@
-use Rattle.std.proofs.Common.{◌≡◌}
 use Rattle.full_image.proofs.FrontLemmas.{tables_stopped}
 use Rattle.full_image.proofs.packed.read_packed.Goals as goal
 

@@ -1,0 +1,262 @@
+//! The supplementary file to which the file with the debugging information links (DWARF 5, 7.3.6). It is read where `full`.
+ghost use Rattle.std.specs.Prelude.{◌≡◌, ◌≤◌, ◌∷◌, [], true, Ok, Err, IfOk};
+ghost use Rattle.std.specs.Option.{option_copied, option_map};
+ghost use Rattle.std.specs.String.{string_bytes};
+ghost use Rattle.sym_edges.specs.Outside.{MatchStop};
+ghost use Rattle.full_image.specs.FullImage.{outcomes_of};
+ghost use Rattle.full_image.specs.SupImage.{sup_image};
+ghost use Rattle.debug_pair.specs.SupLinkView.{sup_link_view};
+ghost use Rattle.dumpsyms_cmd.specs.Refusals.{sup_line};
+ghost use Rattle.dumpsyms_cmd.specs.Verdict.{refused};
+ghost use Rattle.dumpsyms_cmd.specs.Words.{debug_view, source_view};
+ghost use Rattle.dumpsyms_cmd.specs.ElfInput.{joined, root_of, sup_place, with_sup_file, then_path, then_sup, path_names, sup_names};
+ghost use Rattle.dumpsyms_cmd.specs.internal.Judged.{JudgesGiven, JudgesSup, AnswersImage, AsksAll, IsSteadyAnswer};
+
+use crate::commands::{answer_line, answer_stop, judge_image, refuse};
+use crate::judgement::{Answer, Judgement, Message};
+use crate::refusals::{sup_fault_line, sup_line, unread_line};
+use crate::symbol_input::answer_judged;
+use crate::words::{DebugPlace, ElfPlace};
+use debug_pair::{SupFault, SupLink, find_sup_link, is_linked, sup_path};
+use elf_sections::{ElfFault, Image};
+use full_image::{Inflations, PackedSup, inflate_supplement, read_packed_sup};
+use std::alloc::Global;
+use std::thread::Threads;
+use sym_edges::{FILE_LIMIT, OutOfMemory, Stop, Store, read_all};
+use unit_workers::Gate;
+
+/// An image, and the link to its supplementary file.
+#[derive(Drop)]
+struct Linked<'a> {
+    image: Image<'a>,
+    link: SupLink<'a>,
+}
+
+/// A supplementary file whose tables were read, and what its compressed sections give.
+#[derive(Drop)]
+struct OpenedSup<'a> {
+    packed: PackedSup<'a>,
+    inflated: Inflations,
+}
+
+/// Reads the tables of a supplementary file, and its compressed sections.
+fn open_sup<'a, R: Threads + Sync>(
+    rt: &R,
+    alloc: Global,
+    bytes: &'a [u8],
+    workers: usize,
+) -> Result<OpenedSup<'a>, Stop<ElfFault>>
+    requires workers { (1 ≤ workers) × (workers ≤ 64) }
+    ensures { MatchStop result (λ o. (o.packed ≡ bytes.now) × (o.inflated ≡ outcomes_of (record { full = true; file = o.packed }))) (λ fault. sup_image bytes.now ≡ Err fault) (Unit {0}) }
+{
+    match read_packed_sup(alloc, bytes) {
+        Ok(packed) => {
+            let inflated = inflate_supplement(rt, alloc, &packed, workers)?;
+            Ok(OpenedSup { packed, inflated })
+        }
+        Err(stop) => Err(stop),
+    }
+}
+
+/// A dump of an image with that of its supplementary file.
+#[tactic(auto, using(crate::proofs::SupLemmas::joined_judged, crate::proofs::SupLemmas::joined_refused))]
+fn judge_joined<R: Threads + Sync, G: Gate + Sync>(
+    rt: &R,
+    alloc: Global,
+    linked: Linked<'_>,
+    sup: &Image<'_>,
+    source: &ElfPlace<'_>,
+    gate: &G,
+    workers: usize,
+) -> Result<Judgement, OutOfMemory>
+    requires workers { (1 ≤ workers) × (workers ≤ 64) }
+    ensures { IfOk result (λ j. JudgesGiven j (source_view source.now) (joined linked.entry.image (sup_link_view linked.entry.link) sup.now)) }
+{
+    let Linked { image, link } = linked;
+    if is_linked(&link, sup) {
+        judge_image(rt, alloc, &image.with_sup(sup), source, gate, workers)
+    } else {
+        Ok(refuse(Message::Made(sup_line(alloc, SupFault::BuildId)?)))
+    }
+}
+
+/// The same by a supplementary file whose tables were read.
+#[tactic(auto, using(crate::proofs::SupLemmas::sup_judged, crate::proofs::SupLemmas::sup_refused))]
+fn judge_opened<R: Threads + Sync, G: Gate + Sync>(
+    rt: &R,
+    alloc: Global,
+    linked: Linked<'_>,
+    opened: OpenedSup<'_>,
+    source: &ElfPlace<'_>,
+    gate: &G,
+    workers: usize,
+) -> Result<Judgement, OutOfMemory>
+    requires inflated { opened.inflated ≡ outcomes_of (record { full = true; file = opened.packed }) }
+    requires workers { (1 ≤ workers) × (workers ≤ 64) }
+    ensures { IfOk result (λ j. JudgesSup j (source_view source.now) linked.entry.image (sup_link_view linked.entry.link) (sup_image opened.entry.packed)) }
+{
+    let OpenedSup { packed, inflated } = opened;
+    match packed.unpack(&inflated) {
+        Ok(sup) => judge_joined(rt, alloc, linked, &sup, source, gate, workers),
+        Err(fault) => Ok(refuse(Message::Made(sup_fault_line(alloc, fault)?))),
+    }
+}
+
+/// The same over the bytes of the supplementary file.
+#[tactic(auto, using(crate::proofs::SupLemmas::sup_opened, crate::proofs::SupLemmas::sup_refused))]
+fn judge_sup<R: Threads + Sync, G: Gate + Sync>(
+    rt: &R,
+    alloc: Global,
+    linked: Linked<'_>,
+    bytes: &[u8],
+    source: &ElfPlace<'_>,
+    gate: &G,
+    workers: usize,
+) -> Result<Judgement, OutOfMemory>
+    requires workers { (1 ≤ workers) × (workers ≤ 64) }
+    ensures { IfOk result (λ j. JudgesSup j (source_view source.now) linked.entry.image (sup_link_view linked.entry.link) (sup_image bytes.now)) }
+{
+    match open_sup(rt, alloc, bytes, workers) {
+        Ok(opened) => judge_opened(rt, alloc, linked, opened, source, gate, workers),
+        Err(Stop::Fault(fault)) => Ok(refuse(Message::Made(sup_fault_line(alloc, fault)?))),
+        Err(Stop::NoMemory) => Err(OutOfMemory),
+    }
+}
+
+/// The root below which debug files are looked for, where it is given.
+fn given_root<'w>(debug: Option<DebugPlace<'w>>) -> Option<&'w str>
+    ensures { option_copied result ≡ root_of (option_map debug_view debug.entry) }
+{
+    match debug {
+        None => None,
+        Some(DebugPlace::File { path: _ }) => None,
+        Some(DebugPlace::Root { root }) => Some(root),
+    }
+}
+
+/// The path of the supplementary file to which the file of a name links.
+#[tactic(auto, using(crate::proofs::SupLemmas::placed, crate::proofs::SupLemmas::nowhere))]
+fn find_sup(
+    alloc: Global,
+    source: &ElfPlace<'_>,
+    name: &str,
+    link: &SupLink<'_>,
+) -> Result<String, Stop<SupFault>>
+    ensures { MatchStop result
+        (λ path. sup_place (source_view source.now).debug name.now (sup_link_view link.now) ≡ Ok (string_bytes path))
+        (λ fault. sup_place (source_view source.now).debug name.now (sup_link_view link.now) ≡ Err (refused (sup_line fault)))
+        (Unit {0}) }
+{
+    sup_path(alloc, given_root(source.debug), name, link.path)
+}
+
+/// The answer by a supplementary file that is still to be read. The line for a file that cannot be read is made before, since no
+/// memory is taken after a file failed.
+#[tactic(auto, using(crate::proofs::SupLemmas::sup_read, crate::proofs::SupLemmas::sup_stopped, crate::proofs::SourceLemmas::all_asked, crate::proofs::SourceLemmas::stop_asked, crate::proofs::SourceLemmas::none_asked, crate::proofs::SteadyLemmas::stop_steady, crate::proofs::SteadyLemmas::any_steady))]
+fn answer_sup_file<R: Threads + Sync, S: Store, G: Gate + Sync>(
+    rt: &R,
+    alloc: Global,
+    linked: Linked<'_>,
+    path: &str,
+    source: &ElfPlace<'_>,
+    workers: usize,
+    store: &mut S,
+    gate: &G,
+) -> Answer
+    requires workers { (1 ≤ workers) × (workers ≤ 64) }
+    ensures asked { AsksAll result (path.now ∷ []) (S.asked store.old) (S.asked store.new) }
+    ensures files { S.files store.new ≡ S.files store.old }
+    ensures faults { S.faults store.old ≤ S.faults store.new }
+    ensures steady { IsSteadyAnswer result (S.faults store.old) (S.faults store.new) }
+    ensures answered { AnswersImage result (with_sup_file source.now.full linked.entry.image (sup_link_view linked.entry.link) path.now) (source_view source.now) (S.files store.old) (S.asked store.new) (S.faults store.old) (S.faults store.new) }
+{
+    let Ok(unread) = unread_line(alloc, source.full, path.as_bytes()) else {
+        return Answer::NoMemory;
+    };
+    match read_all(alloc, store, path, FILE_LIMIT) {
+        Ok(bytes) => answer_judged(judge_sup(
+            rt,
+            alloc,
+            linked,
+            bytes.as_slice(),
+            source,
+            gate,
+            workers,
+        )),
+        Err(stop) => answer_stop(stop, unread),
+    }
+}
+
+/// The answer by an image whose supplementary file is still to be found.
+#[tactic(auto, using(crate::proofs::SupLemmas::place_answered, crate::proofs::SourceLemmas::path_asked, crate::proofs::SupLemmas::place_refused, crate::proofs::SourceLemmas::no_path_asked, crate::proofs::SourceLemmas::none_asked, crate::proofs::SteadyLemmas::any_steady))]
+fn answer_link<R: Threads + Sync, S: Store, G: Gate + Sync>(
+    rt: &R,
+    alloc: Global,
+    linked: Linked<'_>,
+    name: &str,
+    source: &ElfPlace<'_>,
+    workers: usize,
+    store: &mut S,
+    gate: &G,
+) -> Answer
+    requires workers { (1 ≤ workers) × (workers ≤ 64) }
+    ensures asked { AsksAll result (path_names (sup_place (source_view source.now).debug name.now (sup_link_view linked.entry.link))) (S.asked store.old) (S.asked store.new) }
+    ensures files { S.files store.new ≡ S.files store.old }
+    ensures faults { S.faults store.old ≤ S.faults store.new }
+    ensures steady { IsSteadyAnswer result (S.faults store.old) (S.faults store.new) }
+    ensures answered { AnswersImage result (then_path (with_sup_file source.now.full linked.entry.image (sup_link_view linked.entry.link)) (sup_place (source_view source.now).debug name.now (sup_link_view linked.entry.link))) (source_view source.now) (S.files store.old) (S.asked store.new) (S.faults store.old) (S.faults store.new) }
+{
+    match find_sup(alloc, source, name, &linked.link) {
+        Ok(path) => answer_sup_file(
+            rt,
+            alloc,
+            linked,
+            path.as_str(),
+            source,
+            workers,
+            store,
+            gate,
+        ),
+        Err(Stop::Fault(fault)) => answer_line(sup_line(alloc, fault)),
+        Err(Stop::NoMemory) => Answer::NoMemory,
+    }
+}
+
+/// The answer by the image that has the debugging information, which is read from the file of a name. Where that links to a
+/// supplementary file, it is read too.
+#[tactic(auto, using(crate::proofs::SupLemmas::plain_answered, crate::proofs::SupLemmas::plain_asked, crate::proofs::SupLemmas::alone_answered, crate::proofs::SupLemmas::alone_asked, crate::proofs::SupLemmas::link_answered, crate::proofs::SupLemmas::link_asked, crate::proofs::SupLemmas::link_refused, crate::proofs::SupLemmas::bad_link_asked, crate::proofs::SteadyLemmas::any_steady))]
+pub fn answer_image<R: Threads + Sync, S: Store, G: Gate + Sync>(
+    rt: &R,
+    alloc: Global,
+    image: Image<'_>,
+    name: &str,
+    source: &ElfPlace<'_>,
+    workers: usize,
+    store: &mut S,
+    gate: &G,
+) -> Answer
+    requires workers { (1 ≤ workers) × (workers ≤ 64) }
+    ensures asked { AsksAll result (sup_names (source_view source.now) name.now image.entry) (S.asked store.old) (S.asked store.new) }
+    ensures files { S.files store.new ≡ S.files store.old }
+    ensures faults { S.faults store.old ≤ S.faults store.new }
+    ensures steady { IsSteadyAnswer result (S.faults store.old) (S.faults store.new) }
+    ensures answered { AnswersImage result (then_sup (source_view source.now) name.now image.entry) (source_view source.now) (S.files store.old) (S.asked store.new) (S.faults store.old) (S.faults store.new) }
+{
+    if !source.full {
+        return answer_judged(judge_image(rt, alloc, &image, source, gate, workers));
+    }
+    match find_sup_link(&image) {
+        Ok(None) => answer_judged(judge_image(rt, alloc, &image, source, gate, workers)),
+        Ok(Some(link)) => answer_link(
+            rt,
+            alloc,
+            Linked { image, link },
+            name,
+            source,
+            workers,
+            store,
+            gate,
+        ),
+        Err(fault) => answer_line(sup_line(alloc, fault)),
+    }
+}
