@@ -7,17 +7,19 @@ of `stacks` of modules without records.
 
   scripts/broken_files.py PROGRAM      in an empty folder; a line for each command and file, `WORDS: FILE: N cut, M changed, F failed`
 
-The files are the made file of one unit (made_elf.py), its text, and a state; and a core file (made_cores.py).
+The files are the made file of one unit (made_elf.py), its text, and a state; a file and its supplementary file (made_supplements.py); and a core
+file (made_cores.py).
 """
 import concurrent.futures
 import os
 import re
+import shutil
 import subprocess
 import sys
 
 HERE = os.path.dirname(os.path.abspath(__file__))
 program = sys.argv[1]
-LEFT_OUT = re.compile(rb"((skipped|omitted) [^\n]*\n)*\Z")
+LEFT_OUT = re.compile(rb"((skipped|split|omitted) [^\n]*\n)*\Z")
 LACKS = re.compile(rb"((missing|refused) [^\n]*\n)*\Z")
 REFUSED = re.compile(rb"refused [^\n]*\n\Z")
 
@@ -32,27 +34,30 @@ def is_good(words, status, out, err):
     return bool(REFUSED.match(err))
 
 
-def run(words, name, bytes_, number):
-    """Runs the words over these bytes in the place of a file of theirs."""
-    path = f"{number}.{os.path.basename(name)}"
-    with open(path, "wb") as file:
+def run(words, name, bytes_, number, beside):
+    """Runs the words over these bytes in the place of a file, with another one beside it."""
+    folder = f"{number}.broken"
+    os.mkdir(folder)
+    with open(f"{folder}/{name}", "wb") as file:
         file.write(bytes_)
+    if beside:
+        shutil.copy(beside, folder)
     try:
-        ran = subprocess.run([program, *[path if word == name else word for word in words]], stdin=subprocess.DEVNULL, capture_output=True, timeout=60)
+        ran = subprocess.run([program, *[f"{folder}/{word}" if word in (name, beside) else word for word in words]], stdin=subprocess.DEVNULL, capture_output=True, timeout=60)
         return is_good(words, ran.returncode, ran.stdout, ran.stderr) or (ran.returncode, ran.stdout[:80], ran.stderr[:80])
     except subprocess.TimeoutExpired:
         return "did not end"
     finally:
-        os.remove(path)
+        shutil.rmtree(folder)
 
 
-def broken(words, name):
+def broken(words, name, beside=None):
     with open(name, "rb") as file:
         whole = file.read()
     cut = [whole[:length] for length in range(len(whole))]
     changed = [whole[:at] + bytes([whole[at] ^ 0xFF]) + whole[at + 1 :] for at in range(len(whole))]
     with concurrent.futures.ThreadPoolExecutor(4) as pool:
-        answers = list(pool.map(lambda k: run(words, name, (cut + changed)[k], k), range(len(cut) + len(changed))))
+        answers = list(pool.map(lambda k: run(words, name, (cut + changed)[k], k, beside), range(len(cut) + len(changed))))
     bad = [(k, it) for k, it in enumerate(answers) if it is not True]
     for k, it in bad[:3]:
         print(f"{' '.join(words)}: {name}: {'cut at' if k < len(cut) else 'changed'} {k if k < len(cut) else k - len(cut)}: {it}")
@@ -72,6 +77,9 @@ def main():
         broken(words, "text")
     for words in (["frame", "text", at, "state"], ["walk", "text", "state"]):
         broken(words, "state")
+    subprocess.run([sys.executable, f"{HERE}/made_supplements.py", "--link", "lent", "linking", "lent"], check=True)
+    broken(["dump", "--full", "linking"], "linking", "lent")
+    broken(["dump", "--full", "linking"], "lent", "linking")
     subprocess.run([sys.executable, f"{HERE}/made_cores.py", "--whole", "core", "store"], check=True)
     broken(["stacks", "core", "store"], "core")
 

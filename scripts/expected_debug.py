@@ -22,6 +22,9 @@ LINES = 1 << 32
 RANGES = 16384
 SCOPES = {b"class_type", b"structure_type", b"union_type", b"namespace"}
 KEPT = SCOPES | {b"inlined_subroutine", b"subprogram"}
+# What these forms say stands in a supplementary file.
+SUP_TEXTS = {b"GNU_strp_alt", b"strp_sup"}
+SUP_PLACES = {b"GNU_ref_alt", b"ref_sup4", b"ref_sup8"}
 # Of version 5 these types of units are read, and the others passed over.
 READ_TYPES = {1, 3, 4}
 
@@ -37,7 +40,10 @@ def number(value):
 
 
 class Entry:
-    """An entry that is kept, or a unit's root: for each attribute its form and its value as readelf shows it."""
+    """An entry that is kept, or a unit's root: for each attribute its form and its value as readelf shows it.
+
+    A text of the supplementary file is that text, or None where it is not known.
+    """
 
     def __init__(self, unit, place, tag, parent):
         self.unit, self.place, self.tag, self.parent = unit, place, tag, parent
@@ -49,10 +55,22 @@ class Entry:
     def number(self, name):
         return number(self.value(name)) if name in self.attributes else None
 
+    def links(self):
+        """The files, and the places in their sections, that an origin and a specification name."""
+        for name in b"abstract_origin", b"specification":
+            form, value = self.attributes.get(name, (b"", None))
+            if value and (form not in SUP_PLACES or self.unit.strings is not None):
+                yield "supplement" if form in SUP_PLACES else self.unit.file, int(re.match(rb"<?(\w+)", value).group(1), 16)
+
     def link(self):
-        """The place in the section that an origin names, else a specification."""
-        value = self.value(b"abstract_origin") or self.value(b"specification")
-        return int(re.match(rb"<?(\w+)", value).group(1), 16) if value else None
+        """The first of these."""
+        return next(self.links(), None)
+
+    def around(self):
+        """What a scope adds in front of the names in it."""
+        form, value = self.attributes.get(b"name", (b"", None))
+        is_unknown = form in SUP_TEXTS and self.unit.strings is None
+        return value if value is not None else clean(b"") if is_unknown else b"(anonymous)"
 
     def is_function(self):
         return self.tag == b"subprogram" and self.value(b"declaration") != b"1"
@@ -69,8 +87,8 @@ class Entry:
 
 
 class Unit:
-    def __init__(self, place):
-        self.place, self.version, self.kind, self.entries = place, 0, 1, []
+    def __init__(self, file, place, strings):
+        self.file, self.place, self.strings, self.version, self.kind, self.entries = file, place, strings, 0, 1, []
 
     def is_skipped(self):
         return self.version not in (4, 5)
@@ -79,20 +97,33 @@ class Unit:
         return self.version == 4 or (self.version == 5 and self.kind in READ_TYPES)
 
 
-def read_units(path):
-    """The units of .debug_info, with their roots and the entries that are kept."""
+def in_supplement(form, value, place, info, strings):
+    """What stands in the supplementary file: a text of it, or None, and the place of an entry; other values are as readelf shows them.
+
+    These are read from the bytes, in the 32-bit format: readelf adds the unit's place to some.
+    """
+    if form not in SUP_TEXTS | SUP_PLACES:
+        return value
+    start = Bytes(info, place).fixed(8 if form == b"ref_sup8" else 4)
+    end = -1 if strings is None else strings.find(b"\0", start)
+    return b"<0x%x>" % start if form in SUP_PLACES else strings[start:end] if end >= 0 else None
+
+
+def read_units(path, data, file="debug", strings=None):
+    """The units of .debug_info, with their roots and the entries that are kept; `strings` are those of the supplementary file, if it is read."""
+    info = bytes_named(read_sections(path), b".debug_info", data)
     units, entry, around, here = [], None, [], False
     unit_head = re.compile(rb"^  Compilation Unit @ offset (\w+):")
     field = re.compile(rb"^   (Version|Unit Type): +(?:DW_UT_\w+ \()?(\d+)")
     entry_head = re.compile(rb"^ <(\w+)><(\w+)>: Abbrev Number: \d+(?: \(DW_TAG_(\w+)\))?")
-    attribute = re.compile(rb"^ +<\w+> +DW_AT_(\w+) *: (?:\((\w+)\) )?(?:\([^()]*offset: \w+\): )?(.*)$")
+    attribute = re.compile(rb"^ +<(\w+)> +DW_AT_(\w+) *: (?:\((\w+)\) )?(?:\([^()]*offset: \w+\): )?(.*)$")
     for line in shown("info", path):
         if line.startswith(b"Contents of the "):
             here = line.startswith(b"Contents of the .debug_info ")
         elif not here:
             continue
         elif found := unit_head.match(line):
-            units.append(Unit(int(found.group(1), 0)))
+            units.append(Unit(file, int(found.group(1), 0), strings))
             entry, around = None, []
         elif found := entry_head.match(line):
             depth, entry = int(found.group(1), 16), None
@@ -107,7 +138,8 @@ def read_units(path):
         elif found := field.match(line):
             setattr(units[-1], {b"Version": "version", b"Unit Type": "kind"}[found.group(1)], int(found.group(2)))
         elif entry and (found := attribute.match(line)):
-            entry.attributes.setdefault(found.group(1), (found.group(2), found.group(3)))
+            place, name, form, value = found.groups()
+            entry.attributes.setdefault(name, (form, in_supplement(form, value, int(place, 16), info, strings)))
     return units
 
 
@@ -127,8 +159,7 @@ def name_of(entry, places):
             name, scope = step.value(b"name"), step.parent
             while scope:
                 if scope.tag in SCOPES:
-                    around = scope.value(b"name")
-                    name = (b"(anonymous)" if around is None else around) + b"::" + name
+                    name = scope.around() + b"::" + name
                 scope = scope.parent
             return clean(name)
     return clean(b"")
@@ -319,15 +350,21 @@ def met(runs, start, end):
 class Debug:
     """What the debugging information says: `functions` with their pairs in code, and `pieces` with their lines."""
 
-    def __init__(self, path, sections, base, data):
+    def __init__(self, path, sections, base, data, supplement=None):
         self.base, self.code = base, read_code(sections, base)
-        self.units = read_units(path)
+        strings, above = None, []
+        if supplement:
+            with open(supplement, "rb") as file:
+                lent = file.read()
+            strings, above = bytes_named(read_sections(supplement), b".debug_str", lent), read_units(supplement, lent, "supplement")
+        self.units = read_units(path, data, "debug", strings)
         self.ranges, self.tables = read_ranges(path), read_tables(path)
         self.rnglists, self.addresses = (bytes_named(sections, name, data) for name in (b".debug_rnglists", b".debug_addr"))
         check_rows(self.tables, path)
-        entries = [entry for unit in self.units if unit.is_read() for entry in unit.entries]
+        entries, lent = ([entry for unit in units if unit.is_read() for entry in unit.entries] for units in (self.units, above))
+        self.above, self.leads = above, {link for entry in entries if entry.tag in KEPT for link in entry.links()}
         self.known, self.copies = {}, {}
-        places, functions = {entry.place: entry for entry in entries if entry.tag in KEPT}, []
+        places, functions = {(entry.unit.file, entry.place): entry for entry in entries + lent if entry.tag in KEPT}, []
         for entry in entries:
             if entry.is_copy():
                 self.copies.setdefault(entry.inside(), []).append((entry, name_of(entry, places), self.pairs(entry)))
@@ -375,7 +412,12 @@ class Debug:
         return any(start <= address < end for start, end, _, _ in self.pieces)
 
     def skipped(self):
-        return [b"skipped debug_info %x version %d" % (unit.place, unit.version) for unit in self.units if unit.is_skipped()]
+        """The units that are skipped, and behind them those of the supplementary file into which an entry leads."""
+        own = [b"skipped debug_info %x version %d" % (unit.place, unit.version) for unit in self.units if unit.is_skipped()]
+        starts = [unit.place for unit in self.above]
+        asked = {bisect.bisect(starts, place) - 1 for file, place in self.leads if file == "supplement"}
+        return own + [b"skipped sup_info %x version %d" % (unit.place, unit.version)
+                      for k, unit in enumerate(self.above) if k in asked and unit.is_skipped()]
 
     def table_of(self, entry):
         """The line table of the entry's unit, or None, and the directory of the compilation."""

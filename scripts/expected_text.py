@@ -1,5 +1,5 @@
 #!/usr/bin/env python3
-"""What `dumpsyms dump FILE` must answer, derived from what readelf says of FILE.
+"""What `dumpsyms dump FILE` must answer, derived from what readelf says of FILE; with SUPPLEMENT, the supplementary file of FILE, `dump --full FILE`.
 
 Writes the text to standard output and the err line to standard error, and ends with the status. It knows the refusals
 that the usual tools can make, and ends with status 9 where it can say nothing. The frame records at the end of the text and
@@ -118,7 +118,7 @@ def public_lines(functions, base):
         yield b"PUBLIC %s%x 0 %s" % (several, address - base, names[address][0])
 
 
-def expected(path, data):
+def expected(path, data, supplement=None):
     check_header(path, data)
     sections = read_sections(path)
     check_sections(sections)
@@ -133,7 +133,7 @@ def expected(path, data):
     base = read_base(path)
     functions, skipped = read_functions(path, sections, base, data), []
     if bytes_named(sections, b".debug_info", data):
-        debug = Debug(path, sections, base, data)
+        debug = Debug(path, sections, base, data, supplement)
         lines.extend(debug.records())
         functions, skipped = [pair for pair in functions if not debug.covers(pair[0])], debug.skipped()
     lines.extend(public_lines(functions, base))
@@ -141,14 +141,14 @@ def expected(path, data):
 
 
 def main():
-    if len(sys.argv) != 2:
-        print("usage: expected_text.py FILE", file=sys.stderr)
+    if len(sys.argv) not in (2, 3):
+        print("usage: expected_text.py FILE [SUPPLEMENT]", file=sys.stderr)
         return 9
-    path = os.fsencode(sys.argv[1])
+    path, *supplement = map(os.fsencode, sys.argv[1:])
     try:
         with open(path, "rb") as file:
             data = file.read()
-        text, skipped = expected(path, data)
+        text, skipped = expected(path, data, *supplement)
         sys.stdout.buffer.write(text)
         sys.stderr.buffer.write(skipped)
     except OSError:
