@@ -280,6 +280,8 @@ def skipped():
         text(OMITTED), "skipped sup_info 0 version 3\nskipped sup_info 24 version 3\n")
     yield "of-version-3-by-a-parameter-alone", dumped(parameter=0x24 + f_place()), supplement(unit(lent_entries()) + three), text(more=LAST)
     yield "of-a-type-unit", dumped(), supplement(unit(bytes(12) + lent_entries(), 5, kind=2)), text(OMITTED)
+    # A file has no byte at 2^29: a place of its own there is none of the supplementary file.
+    yield "of-version-3-beside-an-own-place-behind-the-file", dumped(forms=(SECTION_PLACE, 0x1F21), f=2**29, instance=2**29), supplement(three), text(OMITTED)
 
 
 def bad_links():

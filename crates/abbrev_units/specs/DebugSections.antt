@@ -1,4 +1,4 @@
-use Rattle.std.specs.Prelude.{ℕ, ◌+◌, ◌^◌, nat_le, Bool, if◌then◌else◌, List, Option}
+use Rattle.std.specs.Prelude.{ℕ, ◌+◌, ◌^◌, nat_lt, Bool, if◌then◌else◌, List, Option}
 
 -- the bytes of the sections of debugging information, by their names: a missing one has none. Names and entries that several files share may
 -- stand in a supplementary file (DWARF 5, 7.3.6): `sup_strs` is its `.debug_str`, where that file was read too, and `is_sup` says that these
@@ -22,4 +22,4 @@ first_place sup = if sup then 2 ^ 29 else 0
 
 -- the place to which a reference into one of them leads: one that leaves the file leads to no entry of either
 unfoldable pub place_in : Bool → ℕ → ℕ
-place_in sup n = if nat_le n (2 ^ 29) then first_place sup + n else 2 ^ 31
+place_in sup n = if nat_lt n (2 ^ 29) then first_place sup + n else 2 ^ 31

@@ -125,13 +125,17 @@ past_the_file : (die (given 0x31 (value.UnitRef 0xffffffffffffffdf) ∷ [])).ori
 unfolding die_walk_computes die unit sections
 past_the_file = refl
 
-the_last_place : (die (given 0x31 (value.InfoRef 0x20000000) ∷ [])).origin ≡ Some 0x20000000
+the_last_place : (die (given 0x31 (value.InfoRef 0x1fffffff) ∷ [])).origin ≡ Some 0x1fffffff
 unfolding die_walk_computes die unit sections
 the_last_place = refl
 
-behind_the_last_place : (die (given 0x31 (value.InfoRef 0x20000001) ∷ [])).origin ≡ Some 0x80000000
+behind_the_last_place : (die (given 0x31 (value.InfoRef 0x20000000) ∷ [])).origin ≡ Some 0x80000000
 unfolding die_walk_computes die unit sections
 behind_the_last_place = refl
+
+behind_the_last_place_by_the_unit : (die (given 0x31 (value.UnitRef 0x1fffffe0) ∷ [])).origin ≡ Some 0x80000000
+unfolding die_walk_computes die unit sections
+behind_the_last_place_by_the_unit = refl
 
 origin_of_another_class : (die (given 0x31 (value.Num 3) ∷ given 0x31 (value.UnitRef 3) ∷ [])).origin ≡ None
 unfolding die_walk_computes die unit sections
@@ -292,9 +296,13 @@ sup_declaration : (die_with_sup (given 0x47 (value.SupRefAt 0x10) ∷ [])).spec 
 unfolding die_walk_computes die_with_sup with_sup unit sections
 sup_declaration = refl
 
-past_the_sup_file : (die_with_sup (given 0x31 (value.SupRefAt 0x20000001) ∷ [])).origin ≡ Some 0x80000000
+past_the_sup_file : (die_with_sup (given 0x31 (value.SupRefAt 0x20000000) ∷ [])).origin ≡ Some 0x80000000
 unfolding die_walk_computes die_with_sup with_sup unit sections
 past_the_sup_file = refl
+
+past_the_file_beside_a_sup_file : (die_with_sup (given 0x31 (value.InfoRef 0x20000000) ∷ [])).origin ≡ Some 0x80000000
+unfolding die_walk_computes die_with_sup with_sup unit sections
+past_the_file_beside_a_sup_file = refl
 
 own_reference_with_sup : (die_with_sup (given 0x31 (value.UnitRef 0x10) ∷ [])).origin ≡ Some 0x30
 unfolding die_walk_computes die_with_sup with_sup unit sections

@@ -195,7 +195,7 @@ pub fn first_place(is_sup: bool) -> u32
 fn count_place(is_sup: bool, place: u64) -> u32
     ensures { result ≡ place_in is_sup place }
 {
-    if place > u64::from(FIRST_OF_SUP) {
+    if place >= u64::from(FIRST_OF_SUP) {
         return 1 << 31;
     }
     first_place(is_sup) + place as u32
