@@ -3,8 +3,6 @@ use Rattle.std.proofs.Common.{◌≡◌, ◌<◌, ◌≤◌, ℕ, ◌+◌, ◌^�
 use Rattle.std.proofs.lemmas.Bool.{lt-ltb, le-ltb}
 use Rattle.std.proofs.lemmas.List.{take_all}
 use Rattle.sym_edges.specs.Addresses.{Range}
-use Rattle.sym_edges.specs.declared.fault.Stop.{Stop}
-use Rattle.sym_edges.specs.Outside.{MatchStop}
 use Rattle.sym_edges.specs.declared.part.Sect.TheVariants.{Info}
 use Rattle.leb_cursor.specs.Ahead.{Ahead}
 use Rattle.range_set.specs.Enclosing.{encloses}
@@ -24,23 +22,20 @@ offset_outside sections offset place comp_dir out =
     ap (λ t. cond t (Err (record { kind = OffsetOutside; section = Info; at = place })) (lines_at sections comp_dir (record { bytes = drop offset sections.line; at = offset }))) (lt-ltb (length sections.line) offset out)
 
 -- what a cursor from the offset on reads
-offset_inside : (sections : DebugSections) (offset place : ℕ) (comp_dir : List ℕ) (c : Ahead) → offset ≤ length sections.line → c ≡ record { bytes = drop offset (take (length sections.line) sections.line); at = offset } → unit_lines sections offset place comp_dir ≡ lines_at sections comp_dir c
+pub offset_inside : (sections : DebugSections) (offset place : ℕ) (comp_dir : List ℕ) (c : Ahead) → offset ≤ length sections.line → c ≡ record { bytes = drop offset (take (length sections.line) sections.line); at = offset } → unit_lines sections offset place comp_dir ≡ lines_at sections comp_dir c
 unfolding unit_lines
 offset_inside sections offset place comp_dir c inside at =
     ap (λ t. cond t (Err (record { kind = OffsetOutside; section = Info; at = place })) (lines_at sections comp_dir (record { bytes = drop offset sections.line; at = offset }))) (le-ltb (length sections.line) offset inside)
     ∙ sym (ap (lines_at sections comp_dir) (at ∙ ap (λ (l : List ℕ). (let from : Ahead = record { bytes = drop offset l; at = offset } in from)) (take_all (length sections.line) sections.line (omega arith))))
 
-pub inside_reads : (sections : DebugSections) (offset place : ℕ) (comp_dir : List ℕ) (c : Ahead) (code : List Range) (result : Result LineMap (Stop Fault)) → offset ≤ length sections.line → c ≡ record { bytes = drop offset (take (length sections.line) sections.line); at = offset }
-    → MatchStop result (λ table. (spans : List Range) → EncloseAlike code spans → Says (encloses spans) (lines_at sections comp_dir c) table) (λ fault. lines_at sections comp_dir c ≡ Err fault) (Unit {0})
-    → MatchStop result (λ table. (spans : List Range) → EncloseAlike code spans → Says (encloses spans) (unit_lines sections offset place comp_dir) table) (λ fault. unit_lines sections offset place comp_dir ≡ Err fault) (Unit {0})
-inside_reads sections offset place comp_dir c code result inside at reads =
-    subst (λ (read : Result Lines Fault). MatchStop result (λ table. (spans : List Range) → EncloseAlike code spans → Says (encloses spans) read table) (λ fault. read ≡ Err fault) (Unit {0}))
-    (sym (offset_inside sections offset place comp_dir c inside at)) reads
-
 -- what was read of kept rows
-pub refused_kept : (read : Result Lines Fault) (fault : Fault) → Err fault ≡ or_kept_lines read → read ≡ Err fault
+refused_kept : (read : Result Lines Fault) (fault : Fault) → Err fault ≡ or_kept_lines read → read ≡ Err fault
 refused_kept (Ok lines) fault is = cc
 refused_kept (Err other) fault is = cc
+
+pub inside_refused : (sections : DebugSections) (offset place : ℕ) (comp_dir : List ℕ) (c : Ahead) (fault : Fault) → offset ≤ length sections.line → c ≡ record { bytes = drop offset (take (length sections.line) sections.line); at = offset }
+    → Err fault ≡ or_kept_lines (lines_at sections comp_dir c) → unit_lines sections offset place comp_dir ≡ Err fault
+inside_refused sections offset place comp_dir c fault inside at is = offset_inside sections offset place comp_dir c inside at ∙ refused_kept (lines_at sections comp_dir c) fault is
 
 -- a table that says the lines of the kept rows says what was read
 pub says_of : (code : List Range) (read : Result Lines Fault) (lines : Lines) (table : LineMap) → Ok lines ≡ or_kept_lines read → SaysLines (encloses code) lines table → lines.first + length lines.files < 2 ^ 32 → (spans : List Range) → EncloseAlike code spans → Says (encloses spans) read table

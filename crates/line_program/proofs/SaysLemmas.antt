@@ -140,12 +140,13 @@ pub says_read : (code : List Range) (read : Result Lines Fault) (lines : Lines) 
 says_read code read lines table is says spans alike = subst (λ r. Says (encloses spans) r table) (sym is) (says_alike (encloses code) (encloses spans) lines table alike says)
 
 -- the same, where both lists were seen as slices
-pub of_says : (code : ℕ → ℕ → Bool) (sequences : List Sequence) (first : ℕ) (texts : List (List ℕ)) (firsts numbers numbers_slice : List ℕ) (lines : Stepping PathLine)
-    → numbers_slice ≡ numbers → picked texts firsts ≡ distinct_paths texts → AreNumbered (picked texts firsts) numbers texts → ((a : ℕ) → a < 2 ^ 64 → value_at no_line lines a ≡ numbered_at code sequences first numbers_slice a)
-    → SaysLines code (record { sequences = sequences; first = first; files = texts }) (record { lines = lines; paths = picked texts firsts; first = first; files = numbers })
-of_says code sequences first texts firsts numbers numbers_slice lines is_numbers paths are by_lines =
-    says_lines code sequences first texts firsts numbers lines paths are
-    (subst (λ l. (a : ℕ) → a < 2 ^ 64 → value_at no_line lines a ≡ numbered_at code sequences first l a) is_numbers by_lines)
+pub of_says : (code : ℕ → ℕ → Bool) (sequences : List Sequence) (first : ℕ) (texts : List (List ℕ)) (firsts numbers numbers_slice : List ℕ) (lines : Stepping PathLine) (read : Lines)
+    → record { sequences = sequences; first = first; files = texts } ≡ read → numbers_slice ≡ numbers → picked texts firsts ≡ distinct_paths texts → AreNumbered (picked texts firsts) numbers texts → ((a : ℕ) → a < 2 ^ 64 → value_at no_line lines a ≡ numbered_at code sequences first numbers_slice a)
+    → SaysLines code read (record { lines = lines; paths = picked texts firsts; first = first; files = numbers })
+of_says code sequences first texts firsts numbers numbers_slice lines read is_read is_numbers paths are by_lines =
+    subst (λ (l : Lines). SaysLines code l (record { lines = lines; paths = picked texts firsts; first = first; files = numbers })) is_read
+    (says_lines code sequences first texts firsts numbers lines paths are
+    (subst (λ l. (a : ℕ) → a < 2 ^ 64 → value_at no_line lines a ≡ numbered_at code sequences first l a) is_numbers by_lines))
 
 pub of_map : (code : ℕ → ℕ → Bool) (sequences : List Sequence) (first : ℕ) (texts : List (List ℕ)) (firsts numbers numbers_slice : List ℕ) (lines : Stepping PathLine)
     → numbers_slice ≡ numbers → AllBelow (length texts) firsts → AreDistinct (picked texts firsts) → AreNumbered (picked texts firsts) numbers texts → ((a : ℕ) → a < 2 ^ 64 → value_at no_line lines a ≡ numbered_at code sequences first numbers_slice a)

@@ -15,9 +15,17 @@ use std::alloc::Global;
 use step_maps::{FirstItem, StepMap};
 use sym_edges::OutOfMemory;
 
+/// The sequences that are painted, and the numbers of the files' paths; files are numbered from `first`.
+#[derive(Drop)]
+pub struct RowPainter<'k> {
+    pub kept: &'k [CountedSequence],
+    pub first: u32,
+    pub numbers: &'k [u32],
+}
+
 /// A line, and the address from which on it holds.
 #[derive(Clone, Copy)]
-struct RowPainter {
+struct HeldLine {
     from: u64,
     line: PathLine,
 }
@@ -51,7 +59,7 @@ fn rows_above<'a>(rows: &'a [Row], first: u32, numbers: &[u32], start: u64) -> (
 fn paint_line(
     painted: &mut StepMap<PathLine>,
     now: PathLine,
-    next: RowPainter,
+    next: HeldLine,
 ) -> Result<(), OutOfMemory>
     requires last { last_from 0 painted.old.stops ≤ next.from }
     requires now { (a : ℕ) → next.from ≤ a → value_at no_line painted.old a ≡ now }
@@ -80,10 +88,10 @@ fn paint_rows(
 {
     let (line, above) = rows_above(rows, first, numbers, start);
     painted.set(start, line)?;
-    let mut now = RowPainter { from: start, line };
+    let mut now = HeldLine { from: start, line };
     let mut rest = above;
     'rows: while let Some((row, after)) = rest.split_first() {
-        let next = RowPainter {
+        let next = HeldLine {
             from: row.address,
             line: line_of(first, numbers, *row),
         };
@@ -104,12 +112,10 @@ fn covering(kept: &[CountedSequence], item: Option<FirstItem>) -> Option<&Counte
     }
 }
 
-/// Paints the sequence that covers a piece, or no line, from an address on and up to an end.
+/// Sets the lines of the sequence that covers a piece, from its address up to its end; where none covers it, no line.
 fn paint_piece(
+    painter: &RowPainter<'_>,
     painted: &mut StepMap<PathLine>,
-    kept: &[CountedSequence],
-    first: u32,
-    numbers: &[u32],
     item: Option<FirstItem>,
     start: u64,
     end: Option<u64>,
@@ -117,10 +123,10 @@ fn paint_piece(
     requires last { last_from 0 painted.old.stops ≤ start }
     requires end { UpToEnd start end }
     ensures before { OnOk result ((a : ℕ) → a < start → value_at no_line painted.new a ≡ value_at no_line painted.old a) }
-    ensures at { OnOk result ((a : ℕ) → start ≤ a → BelowEnd a end → value_at no_line painted.new a ≡ numbered_line_of first numbers.now (row_by (covering kept.now item) a)) }
+    ensures at { OnOk result ((a : ℕ) → start ≤ a → BelowEnd a end → value_at no_line painted.new a ≡ numbered_line_of painter.now.first painter.now.numbers.now (row_by (covering painter.now.kept.now item) a)) }
     ensures last { OnOk result (UpToEnd (last_from 0 painted.new.stops) end) }
 {
-    match covering(kept, item) {
+    match covering(painter.kept, item) {
         None => {
             painted.set(start, NO_LINE)?;
             Ok(())
@@ -129,11 +135,12 @@ fn paint_piece(
             let rows = sequence.rows.as_slice();
             match end {
                 None => {
-                    paint_rows(painted, rows, first, numbers, start)?;
+                    paint_rows(painted, rows, painter.first, painter.numbers, start)?;
                     Ok(())
                 }
                 Some(end) => {
-                    paint_rows(painted, rows_below(rows, end), first, numbers, start)?;
+                    let below = rows_below(rows, end);
+                    paint_rows(painted, below, painter.first, painter.numbers, start)?;
                     Ok(())
                 }
             }
@@ -146,37 +153,32 @@ fn next_stop(stops: &[u64], place: usize) -> Option<u64>
     requires { place < length stops.now }
     ensures { result ≡ slice_get stops.now (place + 1) }
 {
-    match stops.get(place + 1) {
-        Some(stop) => Some(*stop),
-        None => None,
+    stops.get(place + 1).copied()
+}
+
+/// How many lines there are at the most: one for each row, and none behind each sequence.
+fn line_count(kept: &[CountedSequence]) -> usize {
+    let mut count = kept.len();
+    for sequence in kept {
+        count = count.saturating_add(sequence.rows.len());
     }
+    count
 }
 
 /// Paints each piece of the addresses that sequences cover.
 pub fn paint_all(
     alloc: Global,
-    room: usize,
-    kept: &[CountedSequence],
+    painter: &RowPainter<'_>,
     stops: &[u64],
     items: &[Option<FirstItem>],
-    first: u32,
-    numbers: &[u32],
 ) -> Result<StepMap<PathLine>, OutOfMemory>
     requires { IsStepping stops.now items.now }
-    ensures { IfOk result (λ painted. (a : ℕ) → value_at no_line painted a ≡ numbered_line_of first numbers.now (row_by (covering kept.now (held_from None stops.now items.now a)) a)) }
+    ensures { IfOk result (λ painted. (a : ℕ) → value_at no_line painted a ≡ numbered_line_of painter.now.first painter.now.numbers.now (row_by (covering painter.now.kept.now (held_from None stops.now items.now a)) a)) }
 {
-    let mut painted = StepMap::with_room(alloc, room)?;
+    let mut painted = StepMap::with_room(alloc, line_count(painter.kept))?;
     for place in 0..stops.len() {
         let end = next_stop(stops, place);
-        paint_piece(
-            &mut painted,
-            kept,
-            first,
-            numbers,
-            items[place],
-            stops[place],
-            end,
-        )?;
+        paint_piece(painter, &mut painted, items[place], stops[place], end)?;
     }
     painted.shrink();
     Ok(painted)

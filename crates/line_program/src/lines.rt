@@ -1,45 +1,25 @@
 //! A line table of `.debug_line`, whole (DWARF 5, 6.2).
-ghost use Rattle.std.specs.Prelude.{◌≡◌, ◌+◌, ◌<◌, ◌^◌, List, length, IfOk, Err};
+ghost use Rattle.std.specs.Prelude.{◌≡◌, List, IfOk, Err};
 ghost use Rattle.sym_edges.specs.Addresses.{Range};
 ghost use Rattle.sym_edges.specs.Outside.{MatchStop};
 ghost use Rattle.range_set.specs.Enclosing.{encloses};
-ghost use Rattle.line_program.specs.LineMaps.{EncloseAlike, SaysLines};
+ghost use Rattle.line_program.specs.LineMaps.{EncloseAlike};
 ghost use Rattle.line_program.specs.LineTables.{lines_of, program_lines, lines_at, unit_lines, Says};
 ghost use Rattle.line_program.specs.internal.KeptRows.{or_kept_lines};
 
 use crate::fault::{LineFault, Reading};
 use crate::header::{Header, read_table};
-use crate::machine::{LineSequence, Machine};
+use crate::machine::Machine;
 use crate::paths::Directories;
-use crate::program::Program;
 use crate::program_run::run_program;
 use crate::scratch::LineScratch;
-use crate::table::LineTable;
+use crate::table::{LineTable, Lines};
 use crate::tables::{Tables, read_tables};
 use abbrev_units::{DwarfFault, DwarfKind, Sections};
-use flat_lists::FlatLists;
 use leb_cursor::Cursor;
 use range_set::Enclosing;
 use std::alloc::Global;
-use std::marker::Model;
-use std::mem::replace;
 use sym_edges::{Located, OutOfMemory, Sect, Stop};
-
-/// What a line table says: its sequences, the number of its first file, and the files' paths.
-#[derive(Drop)]
-struct Lines {
-    sequences: Vec<LineSequence>,
-    first: u32,
-    files: FlatLists<u8>,
-}
-
-impl Model for Lines {
-    ghost use Rattle.line_program.specs.LineAt.{Lines};
-
-    ghost Value = { Lines };
-
-    ghost view = { λ l. record { sequences = l.sequences.items; first = l.first; files = l.files } };
-}
 
 /// The paths of the files in the header's tables, and of those that the program defined after them.
 #[tactic(auto, unfolding(crate::specs::LineTables::lines_of))]
@@ -80,15 +60,18 @@ fn read_rows<'a>(
     alloc: Global,
     scratch: &mut LineScratch,
     comp_dir: &[u8],
-    program: &Program<'a>,
+    header: Header<'a>,
     tables: Tables<'a>,
-    opcodes: Cursor<'a>,
 ) -> Reading<Lines>
-    ensures { IfOk result (λ read. read ≡ or_kept_lines (program_lines comp_dir.now program.now tables.entry opcodes.entry)) }
+    ensures { IfOk result (λ read. read ≡ or_kept_lines (program_lines comp_dir.now header.entry.program tables.entry header.entry.opcodes)) }
 {
-    let rows = replace(&mut scratch.rows, Vec::new(alloc));
-    let sequences = replace(&mut scratch.sequences, Vec::new(alloc));
-    let machine = match run_program(alloc, rows, sequences, &mut scratch.spare, program, opcodes)? {
+    let Header {
+        program,
+        wide: _,
+        tables: _,
+        opcodes,
+    } = header;
+    let machine = match run_program(alloc, scratch, &program, opcodes)? {
         Ok(machine) => machine,
         Err(fault) => return Ok(Err(fault)),
     };
@@ -116,56 +99,8 @@ fn read_ahead<'a>(
         Ok(tables) => tables,
         Err(fault) => return Ok(Err(fault)),
     };
-    let Header {
-        program,
-        wide: _,
-        tables: _,
-        opcodes,
-    } = header;
-    let lines = read_rows(alloc, scratch, comp_dir, &program, tables, opcodes)?;
+    let lines = read_rows(alloc, scratch, comp_dir, header, tables)?;
     Ok(lines)
-}
-
-/// The table of what was read.
-fn table_of(
-    alloc: Global,
-    scratch: &mut LineScratch,
-    code: &Enclosing,
-    lines: Lines,
-) -> Result<LineTable, OutOfMemory>
-    ensures says { IfOk result (λ table. SaysLines (encloses code.now) lines table) }
-    ensures few { IfOk result (λ table. lines.first + length lines.files < 2 ^ 32) }
-{
-    let Lines {
-        sequences,
-        first,
-        files,
-    } = lines;
-    LineTable::of(alloc, scratch, code, sequences, first, files)
-}
-
-/// Reads the table that stands ahead, and paints its lines.
-#[tactic(auto, using(crate::proofs::LinesLemmas::refused_kept))]
-fn read_at(
-    alloc: Global,
-    scratch: &mut LineScratch,
-    sections: &Sections<'_>,
-    comp_dir: &[u8],
-    cursor: Cursor<'_>,
-    code: &Enclosing,
-) -> Result<LineTable, Stop<DwarfFault>>
-    ensures { MatchStop result
-        (λ table. (spans : List Range) → EncloseAlike code.now spans → Says (encloses spans) (lines_at sections.now comp_dir.now cursor.entry) table)
-        (λ fault. lines_at sections.now comp_dir.now cursor.entry ≡ Err fault)
-        (Unit {0}) }
-{
-    match read_ahead(alloc, scratch, sections, comp_dir, cursor)? {
-        Ok(lines) => {
-            let table = table_of(alloc, scratch, code, lines)?;
-            Ok(table)
-        }
-        Err(fault) => Err(Stop::Fault(fault.into_fault())),
-    }
 }
 
 /// Reads the line table at an offset in `.debug_line`: the offset of a unit whose root stands at `place` of `.debug_info`.
@@ -176,7 +111,7 @@ fn read_at(
 /// `place`. At the table's start: `Ends` where the length leaves the section, `Reserved`, `LineVersion`, and `LineHeader` where a field
 /// of the header cannot be, the program begins after the table, or a count is above the bytes that are left. At their
 /// own places: `Ends`, `LebLong`, `NoZero`, `UnknownForm` and `LineOpcode`.
-#[tactic(auto, using(crate::proofs::LinesLemmas::offset_outside, crate::proofs::LinesLemmas::inside_reads))]
+#[tactic(auto, using(crate::proofs::LinesLemmas::offset_outside, crate::proofs::LinesLemmas::inside_refused))]
 pub fn read_lines(
     alloc: Global,
     scratch: &mut LineScratch,
@@ -199,5 +134,11 @@ pub fn read_lines(
         }));
     }
     let cursor = Cursor::new(sections.line, offset as usize, sections.line.len());
-    read_at(alloc, scratch, sections, comp_dir, cursor, code)
+    match read_ahead(alloc, scratch, sections, comp_dir, cursor)? {
+        Ok(lines) => {
+            let table = LineTable::of(alloc, scratch, code, lines)?;
+            Ok(table)
+        }
+        Err(fault) => Err(Stop::Fault(fault.into_fault())),
+    }
 }

@@ -5,14 +5,13 @@ ghost use Rattle.range_set.specs.Enclosing.{encloses};
 ghost use Rattle.sym_edges.specs.Rising.{RisesFrom};
 ghost use Rattle.step_maps.specs.Stepping.{value_at};
 ghost use Rattle.line_program.specs.LineMaps.{no_line, shown, numbered_line, numbered_file, AreDistinct, SaysLines};
-ghost use Rattle.line_program.specs.internal.Numbered.{numbered_line_of, numbered_at};
+ghost use Rattle.line_program.specs.internal.Numbered.{numbered_line_of};
 ghost use Rattle.line_program.specs.internal.Painting.{counted_row};
 
-use crate::line_map::paint_all;
+use crate::line_map::{RowPainter, paint_all};
 use crate::machine::LineSequence;
-use crate::path_line::{NO_LINE, PathLine, number_of};
+use crate::path_line::{NO_LINE, PathLine};
 use crate::path_numbers::{Numbering, number_paths};
-use crate::row_order::CountedSequence;
 use crate::scratch::LineScratch;
 use crate::stretches::{count_sequences, keep_lists, put_stretches};
 use flat_lists::FlatLists;
@@ -59,91 +58,59 @@ fn shown(at: PathLine) -> Option<(u32, u32)>
     Some((at.path, at.line))
 }
 
-/// How many lines there are at the most: one for each row, and none behind each sequence.
-fn line_count(kept: &[CountedSequence]) -> usize {
-    let mut count = kept.len();
-    for sequence in kept {
-        count = count.saturating_add(sequence.rows.len());
-    }
-    count
+/// What a line table says: its sequences, the number of its first file, and the files' paths.
+#[derive(Drop)]
+pub(crate) struct Lines {
+    pub sequences: Vec<LineSequence>,
+    pub first: u32,
+    pub files: FlatLists<u8>,
+}
+
+impl Model for Lines {
+    ghost use Rattle.line_program.specs.LineAt.{Lines};
+
+    ghost Value = { Lines };
+
+    ghost view = { λ l. record { sequences = l.sequences.items; first = l.first; files = l.files } };
 }
 
 /// The lines of one sequence.
-fn paint_one(
-    alloc: Global,
-    counted: &[CountedSequence],
-    first: u32,
-    numbers: &[u32],
-) -> Result<StepMap<PathLine>, OutOfMemory>
-    requires { length counted.now ≡ 1 }
-    ensures { IfOk result (λ lines. (a : ℕ) → a < 2 ^ 64 → value_at no_line lines a ≡ numbered_line_of first numbers.now (counted_row counted.now a)) }
+fn paint_one(alloc: Global, painter: &RowPainter<'_>) -> Result<StepMap<PathLine>, OutOfMemory>
+    requires { length painter.now.kept.now ≡ 1 }
+    ensures { IfOk result (λ lines. (a : ℕ) → a < 2 ^ 64 → value_at no_line lines a ≡ numbered_line_of painter.now.first painter.now.numbers.now (counted_row painter.now.kept.now a)) }
 {
-    let sequence = &counted[0];
+    let sequence = &painter.kept[0];
     let item = Some(FirstItem {
         index: 0,
         class: 0,
         shared: false,
     });
-    let room = line_count(counted);
     if sequence.last == u64::MAX {
-        let stops = [sequence.first];
-        let items = [item];
-        let lines = paint_all(alloc, room, counted, &stops, &items, first, numbers)?;
+        let lines = paint_all(alloc, painter, &[sequence.first], &[item])?;
         return Ok(lines);
     }
     let stops = [sequence.first, sequence.last + 1];
-    let items = [item, None];
-    let lines = paint_all(alloc, room, counted, &stops, &items, first, numbers)?;
+    let lines = paint_all(alloc, painter, &stops, &[item, None])?;
     Ok(lines)
 }
 
 /// The lines of sequences that count.
 fn paint_counted(
     alloc: Global,
+    painter: &RowPainter<'_>,
     stretches: &mut Vec<Stretch>,
-    counted: &[CountedSequence],
-    first: u32,
-    numbers: &[u32],
 ) -> Result<StepMap<PathLine>, OutOfMemory>
-    ensures { IfOk result (λ lines. (a : ℕ) → a < 2 ^ 64 → value_at no_line lines a ≡ numbered_line_of first numbers.now (counted_row counted.now a)) }
+    ensures { IfOk result (λ lines. (a : ℕ) → a < 2 ^ 64 → value_at no_line lines a ≡ numbered_line_of painter.now.first painter.now.numbers.now (counted_row painter.now.kept.now a)) }
 {
-    if counted.len() == 1 {
-        return paint_one(alloc, counted, first, numbers);
+    if painter.kept.len() == 1 {
+        return paint_one(alloc, painter);
     }
-    if counted.len() as u64 >= 1 << 32 {
+    if painter.kept.len() as u64 >= 1 << 32 {
         return Err(OutOfMemory);
     }
-    put_stretches(stretches, counted)?;
+    put_stretches(stretches, painter.kept)?;
     let covers = first_items(alloc, stretches.as_slice())?;
-    let lines = paint_all(
-        alloc,
-        line_count(counted),
-        counted,
-        covers.stops(),
-        covers.values(),
-        first,
-        numbers,
-    )?;
-    Ok(lines)
-}
-
-/// The lines of these sequences; files are numbered from `first`, and each has the number of its path.
-fn paint_lines(
-    alloc: Global,
-    scratch: &mut LineScratch,
-    code: &Enclosing,
-    sequences: Vec<LineSequence>,
-    first: u32,
-    numbers: &[u32],
-) -> Result<StepMap<PathLine>, OutOfMemory>
-    ensures { IfOk result (λ lines. (a : ℕ) → a < 2 ^ 64 → value_at no_line lines a ≡ numbered_at (encloses code.now) sequences.items first numbers.now a) }
-{
-    let mut left = sequences;
-    count_sequences(code, &mut left, &mut scratch.counted)?;
-    scratch.sequences = left;
-    let counted = scratch.counted.as_slice();
-    let lines = paint_counted(alloc, &mut scratch.stretches, counted, first, numbers)?;
-    keep_lists(&mut scratch.counted, &mut scratch.spare)?;
+    let lines = paint_all(alloc, painter, covers.stops(), covers.values())?;
     Ok(lines)
 }
 
@@ -161,24 +128,35 @@ impl LineTable {
         }
     }
 
-    /// The table of these sequences, and of files with these paths, which are numbered from `first`.
+    /// The table of what was read.
     pub(crate) fn of(
         alloc: Global,
         scratch: &mut LineScratch,
         code: &Enclosing,
-        sequences: Vec<LineSequence>,
-        first: u32,
-        texts: FlatLists<u8>,
+        lines: Lines,
     ) -> Result<LineTable, OutOfMemory>
-        ensures says { IfOk result (λ table. SaysLines (encloses code.now) (record { sequences = sequences.items; first = first; files = texts }) table) }
-        ensures few { IfOk result (λ table. first + length texts < 2 ^ 32) }
+        ensures says { IfOk result (λ table. SaysLines (encloses code.now) lines table) }
+        ensures few { IfOk result (λ table. lines.first + length lines.files < 2 ^ 32) }
     {
+        let Lines {
+            mut sequences,
+            first,
+            files: texts,
+        } = lines;
         let count = texts.len() as u64;
         if count >= 1 << 32 || count + u64::from(first) >= 1 << 32 {
             return Err(OutOfMemory);
         }
         let Numbering { firsts, files } = number_paths(alloc, &texts)?;
-        let lines = paint_lines(alloc, scratch, code, sequences, first, files.as_slice())?;
+        count_sequences(code, &mut sequences, &mut scratch.counted)?;
+        scratch.sequences = sequences;
+        let painter = RowPainter {
+            kept: scratch.counted.as_slice(),
+            first,
+            numbers: files.as_slice(),
+        };
+        let lines = paint_counted(alloc, &painter, &mut scratch.stretches)?;
+        keep_lists(&mut scratch.counted, &mut scratch.spare)?;
         Ok(LineTable {
             lines,
             texts,
@@ -243,9 +221,8 @@ impl LineTable {
         if index < u64::from(self.first) {
             return None;
         }
-        match self.files.get((index - u64::from(self.first)) as usize) {
-            Some(number) => Some(*number),
-            None => None,
-        }
+        self.files
+            .get((index - u64::from(self.first)) as usize)
+            .copied()
     }
 }

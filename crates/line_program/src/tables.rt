@@ -2,7 +2,7 @@
 ghost use Rattle.std.specs.Prelude.{◌≡◌, ◌==◌, ◌||◌, false, IfOk, OnOk};
 ghost use Rattle.leb_cursor.specs.Ahead.{gave_as};
 ghost use Rattle.leb_cursor.specs.Lists.{list_at};
-ghost use Rattle.line_program.specs.FileTables.{old_entry_at, old_tables_at, pair_at, pairs_at, entry_at, counted_at, entries_at, new_tables_at, tables_at};
+ghost use Rattle.line_program.specs.FileTables.{old_entry_at, old_tables_at, pair_at, pairs_at, counted_at, entries_at, new_tables_at, tables_at};
 ghost use Rattle.line_program.specs.Lists.{several_at};
 ghost use Rattle.line_program.specs.internal.Needed.{needed};
 
@@ -36,6 +36,16 @@ impl FormatLists {
             needed: Vec::new(alloc),
         }
     }
+}
+
+/// What entries of version 5 are read with: the sections that have their paths, the place at which the line table starts, and
+/// whether its format is the 64-bit one.
+#[derive(Drop)]
+struct EntrySource<'s, 'a> {
+    alloc: Global,
+    sections: &'s Sections<'a>,
+    start: usize,
+    wide: bool,
 }
 
 /// Both tables.
@@ -126,19 +136,23 @@ fn keep_needed(kept: &mut Vec<EntryFormat>, pairs: &[EntryFormat]) -> Result<(),
     Ok(())
 }
 
-/// Reads so many entries of version 5.
-#[tactic(auto, using(crate::proofs::EntryLemmas::entries_begin, crate::proofs::EntryLemmas::entries_one, crate::proofs::EntryLemmas::entries_done, crate::proofs::EntryLemmas::entries_cut))]
-fn read_some_entries<'a>(
-    alloc: Global,
+/// Reads so many entries of version 5, of which there are no more than bytes.
+#[tactic(auto, using(crate::proofs::EntryLemmas::entries_begin, crate::proofs::EntryLemmas::entries_one, crate::proofs::EntryLemmas::entries_done, crate::proofs::EntryLemmas::entries_cut), unfolding(crate::specs::FileTables::counted_at))]
+fn read_counted<'a>(
+    source: &EntrySource<'_, 'a>,
     cursor: &mut Cursor<'a>,
-    sections: &Sections<'a>,
     pairs: &[EntryFormat],
-    wide: bool,
-    count: usize,
+    count: u64,
 ) -> Reading<Vec<FileEntry<'a>>>
-    ensures { IfOk result (λ read. gave_as (λ entries. entries.items) read cursor.new ≡ several_at (entry_at sections.now pairs.now wide) count cursor.old) }
+    ensures { IfOk result (λ read. gave_as (λ entries. entries.items) read cursor.new ≡ counted_at source.now.sections.now source.now.start pairs.now source.now.wide count cursor.old) }
 {
-    let mut entries = Vec::with_capacity(alloc, count.min(USUAL))?;
+    let left = (cursor.end() - cursor.at()) as u64;
+    if left < count {
+        return Ok(Err(LineFault::at(DwarfKind::LineHeader, source.start)));
+    }
+    let sections = source.sections;
+    let wide = source.wide;
+    let mut entries = Vec::with_capacity(source.alloc, (count as usize).min(USUAL))?;
     'entries: for turn in 0..count {
         match read_entry(cursor, sections, pairs, wide) {
             Ok(entry) => entries.push(entry)?,
@@ -148,37 +162,14 @@ fn read_some_entries<'a>(
     Ok(Ok(entries))
 }
 
-/// Reads so many entries of version 5, of which there are no more than bytes.
-#[tactic(auto, unfolding(crate::specs::FileTables::counted_at))]
-fn read_counted<'a>(
-    alloc: Global,
-    cursor: &mut Cursor<'a>,
-    sections: &Sections<'a>,
-    start: usize,
-    pairs: &[EntryFormat],
-    wide: bool,
-    count: u64,
-) -> Reading<Vec<FileEntry<'a>>>
-    ensures { IfOk result (λ read. gave_as (λ entries. entries.items) read cursor.new ≡ counted_at sections.now start pairs.now wide count cursor.old) }
-{
-    let left = (cursor.end() - cursor.at()) as u64;
-    if left < count {
-        return Ok(Err(LineFault::at(DwarfKind::LineHeader, start)));
-    }
-    read_some_entries(alloc, cursor, sections, pairs, wide, count as usize)
-}
-
 /// Reads a table of version 5.
 #[tactic(auto, using(crate::proofs::NeededLemmas::counted_same), unfolding(crate::specs::FileTables::entries_at))]
 fn read_entries<'a>(
-    alloc: Global,
+    source: &EntrySource<'_, 'a>,
     formats: &mut FormatLists,
     cursor: &mut Cursor<'a>,
-    sections: &Sections<'a>,
-    start: usize,
-    wide: bool,
 ) -> Reading<Vec<FileEntry<'a>>>
-    ensures { IfOk result (λ read. gave_as (λ entries. entries.items) read cursor.new ≡ entries_at sections.now start wide cursor.old) }
+    ensures { IfOk result (λ read. gave_as (λ entries. entries.items) read cursor.new ≡ entries_at source.now.sections.now source.now.start source.now.wide cursor.old) }
 {
     match read_pairs(cursor, &mut formats.pairs)? {
         Ok(()) => {}
@@ -186,10 +177,7 @@ fn read_entries<'a>(
     }
     keep_needed(&mut formats.needed, formats.pairs.as_slice())?;
     match cursor.uleb() {
-        Ok(count) => {
-            let pairs = formats.needed.as_slice();
-            read_counted(alloc, cursor, sections, start, pairs, wide, count)
-        }
+        Ok(count) => read_counted(source, cursor, formats.needed.as_slice(), count),
         Err(fault) => Ok(Err(fault.into())),
     }
 }
@@ -212,20 +200,17 @@ fn read_old_tables<'a>(alloc: Global, mut cursor: Cursor<'a>) -> Reading<Tables<
 /// Reads the tables of version 5.
 #[tactic(auto, unfolding(crate::specs::FileTables::new_tables_at))]
 fn read_new_tables<'a>(
-    alloc: Global,
+    source: &EntrySource<'_, 'a>,
     formats: &mut FormatLists,
     mut cursor: Cursor<'a>,
-    sections: &Sections<'a>,
-    start: usize,
-    wide: bool,
 ) -> Reading<Tables<'a>>
-    ensures { IfOk result (λ read. read ≡ new_tables_at sections.now start wide cursor.entry) }
+    ensures { IfOk result (λ read. read ≡ new_tables_at source.now.sections.now source.now.start source.now.wide cursor.entry) }
 {
-    let directories = match read_entries(alloc, formats, &mut cursor, sections, start, wide)? {
+    let directories = match read_entries(source, formats, &mut cursor)? {
         Ok(directories) => directories,
         Err(fault) => return Ok(Err(fault)),
     };
-    match read_entries(alloc, formats, &mut cursor, sections, start, wide)? {
+    match read_entries(source, formats, &mut cursor)? {
         Ok(files) => Ok(Ok(Tables { directories, files })),
         Err(fault) => Ok(Err(fault)),
     }
@@ -243,9 +228,14 @@ pub fn read_tables<'a>(
     ensures { IfOk result (λ read. read ≡ tables_at sections.now start header.now) }
 {
     let cursor = header.tables.fork();
-    if header.program.version == 5 {
-        read_new_tables(alloc, formats, cursor, sections, start, header.wide)
-    } else {
-        read_old_tables(alloc, cursor)
+    if header.program.version != 5 {
+        return read_old_tables(alloc, cursor);
     }
+    let source = EntrySource {
+        alloc,
+        sections,
+        start,
+        wide: header.wide,
+    };
+    read_new_tables(&source, formats, cursor)
 }
